@@ -1,0 +1,54 @@
+-- What every machine keeps: the rules of its text, said of the machine itself.
+use Rattle.std.specs.Prelude.{◌≡◌, ◌≢◌, ℕ, ◌+◌, ◌≤◌, ◌<◌, length, Some, All, AllPairs, Contains, IsTrue, ℤ, pos, negsuc, ◌≤ℤ◌, ◌<ℤ◌, map}
+use Rattle.tp_machine.specs.Rules.{do_names_rise, feeder_names}
+use Rattle.tp_machine.specs.Using.{action_at, begin_of, end_of}
+use Rattle.tp_machine.specs.declared.parts.Action.{Action}
+use Rattle.tp_machine.specs.declared.parts.HoldRule.{HoldRule}
+use Rattle.tp_machine.specs.declared.parts.LocId.{LocId}
+use Rattle.tp_machine.specs.declared.whole.Machine.{Machine}
+
+abbrev pub IsLocation : Machine → LocId → Type 0
+IsLocation machine place = place.0 < length machine.locations
+
+-- a location at which nothing is put away: neither a tray nor a purge tray
+abbrev pub IsOpenPlace : Machine → LocId → Type 0
+IsOpenPlace machine place = (¬ Contains machine.trays place) × (¬ Contains machine.purges place)
+
+-- an action leads from a location that is no tray or purge tray to one that is no feeder
+pub record IsWay (machine : Machine) (a : Action) : Type 0 where
+  pub module_known : a.module.0 < length machine.modules
+  pub from_known : IsLocation machine a.from
+  pub to_known : IsLocation machine a.to
+  pub leaves : IsOpenPlace machine a.from
+  pub no_feeder : ¬ Contains (map (λ f. f.loc) machine.feeders) a.to
+
+-- for each duration of its action the hold is not empty and begins at or after the action's start
+abbrev pub IsSoundRule : Action → HoldRule → Type 0
+IsSoundRule a rule = (start end : ℕ) → start + a.least ≤ end → end ≤ start + a.most → (begin_of rule start end <ℤ end_of rule start end) × (pos start ≤ℤ begin_of rule start end)
+
+abbrev pub IsOffset : ℤ → Type 0
+IsOffset z = (negsuc 8191 ≤ℤ z) × (z ≤ℤ pos 8192)
+
+pub record IsMachine (machine : Machine) : Type 0 where
+  pub lead : machine.lead ≤ 4096
+  pub window : (1 ≤ machine.window) × (machine.window ≤ 32768)
+  pub budget : (1 ≤ machine.budget) × (machine.budget ≤ 200000)
+  pub locations : (1 ≤ length machine.locations) × (length machine.locations ≤ 256)
+  pub modules : (1 ≤ length machine.modules) × (length machine.modules ≤ 64)
+  pub resources : length machine.resources ≤ 256
+  pub actions : (1 ≤ length machine.actions) × (length machine.actions ≤ 512)
+  pub some_tray : 1 ≤ length machine.trays
+  pub trays : All (IsLocation machine) machine.trays
+  pub purges : All (λ p. IsLocation machine p × ¬ Contains machine.trays p) machine.purges
+  pub some_feeder : 1 ≤ length machine.feeders
+  pub feeders : All (λ f. IsLocation machine f.loc × IsOpenPlace machine f.loc) machine.feeders
+  pub feeders_rise : IsTrue (do_names_rise (feeder_names machine.locations machine.feeders))
+  pub resources_rise : IsTrue (do_names_rise (map (λ r. r.name) machine.resources))
+  pub resource_modules : All (λ r. r.module.0 < length machine.modules) machine.resources
+  pub ways : (n : ℕ) (a : Action) → action_at machine n ≡ Some a → IsWay machine a
+  pub lasts : (n : ℕ) (a : Action) → action_at machine n ≡ Some a → 1 ≤ a.least
+  pub in_range : (n : ℕ) (a : Action) → action_at machine n ≡ Some a → (a.least ≤ a.most) × (a.most ≤ 4096)
+  pub known : (n : ℕ) (a : Action) → action_at machine n ≡ Some a → (rule : HoldRule) → Contains a.holds rule → rule.resource.0 < length machine.resources
+  pub offsets : (n : ℕ) (a : Action) → action_at machine n ≡ Some a → (rule : HoldRule) → Contains a.holds rule → IsOffset rule.begin_off × IsOffset rule.end_off
+  pub sound : (n : ℕ) (a : Action) → action_at machine n ≡ Some a → (rule : HoldRule) → Contains a.holds rule → IsSoundRule a rule
+  pub differ : (n : ℕ) (a : Action) → action_at machine n ≡ Some a → AllPairs (λ h k. h.resource.0 ≢ k.resource.0) a.holds
