@@ -1,0 +1,5 @@
+//! Worked rows of the script, the log, jobs and turns: a crate of tests alone.
+#![tactic(auto)]
+
+#[cfg(test)]
+mod scripts;

@@ -1,0 +1,25 @@
+-- A whole script: its lines, and the events that they give.
+use Rattle.std.specs.Prelude.{ℕ, ◌==◌, List, [], ◌∷◌, Option, Some, None, unwrap_or, if◌then◌else◌}
+use Rattle.std.specs.List.{filter_map}
+use Rattle.tp_script.specs.declared.event.Event.{Event}
+use Rattle.tp_script.specs.declared.event.Event.TheVariants.{Bad}
+use Rattle.tp_script.specs.Reading.{event_of}
+use Rattle.tp_script.specs.Script.{is_passed, words_of_line}
+
+-- the byte before the first line, or a line of its own where there is none
+abbrev pub onto_line : ℕ → List (List ℕ) → List (List ℕ)
+onto_line byte [] = (byte ∷ []) ∷ []
+onto_line byte (line ∷ lines) = (byte ∷ line) ∷ lines
+
+-- the lines of a script. Each ends with its LF, which the last may lack; behind a last LF stands no line
+abbrev pub lines_of : List ℕ → List (List ℕ)
+lines_of [] = []
+lines_of (byte ∷ text) = if byte == 10 then (10 ∷ []) ∷ lines_of text else onto_line byte (lines_of text)
+
+-- the event of a line: none for a blank line or a comment, and `Bad` off the grammar
+abbrev pub line_event : List ℕ → Option Event
+line_event line = if is_passed (words_of_line line) then None else Some (unwrap_or (event_of (words_of_line line)) Bad)
+
+-- the events of a script, in the order of its lines
+abbrev pub events_of : List ℕ → List Event
+events_of script = filter_map line_event (lines_of script)

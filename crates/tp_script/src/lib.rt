@@ -1,0 +1,18 @@
+//! The lines of a script, read and printed.
+#![tactic(auto)]
+
+mod echo;
+mod event;
+mod fault;
+mod group;
+mod laws;
+mod printing;
+mod reading;
+mod verb;
+
+pub use echo::read_printed;
+pub use event::{Event, Group};
+pub use fault::LineFault;
+pub use laws::{one_reading, one_text, printed_is_read, reading_is_grammar};
+pub use printing::print_event;
+pub use reading::read_line;

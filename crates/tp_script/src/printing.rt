@@ -1,0 +1,78 @@
+ghost use Rattle.std.specs.Prelude.{◌≡◌, ◌++◌, ◌∷◌, OnOk, OnErr, map};
+ghost use Rattle.std.specs.List.{flat_map};
+ghost use Rattle.tp_script.specs.Script.{group_text, event_text};
+
+use crate::event::{Event, Group};
+use crate::group::put_group;
+use tp_base::{Memory, Name};
+use tp_words::put_number;
+
+/// Writes a space and the word.
+fn put_word(out: &mut Vec<u8>, word: &[u8]) -> Result<(), Memory>
+    ensures { OnOk result (out.new.items ≡ out.old.items ++ 32 ∷ word.now) }
+{
+    out.push(b' ')?;
+    out.extend_from_slice(word)?;
+    Ok(())
+}
+
+fn put_groups(out: &mut Vec<u8>, groups: &[Group]) -> Result<(), Memory>
+    ensures { OnOk result (out.new.items ≡ out.old.items ++ flat_map (λ word. 32 ∷ word) (map group_text groups.now)) }
+{
+    for group in groups {
+        out.push(b' ')?;
+        put_group(out, group)?;
+    }
+    Ok(())
+}
+
+/// Writes the words of the event, with one space between each two.
+fn put_event(out: &mut Vec<u8>, event: &Event) -> Result<(), Memory>
+    ensures { OnOk result (out.new.items ≡ out.old.items ++ event_text event.now) }
+{
+    match event {
+        Event::Bad => out.push(b'?')?,
+        Event::Job {
+            name,
+            tray,
+            media,
+            groups,
+        } => {
+            out.extend_from_slice(b"job")?;
+            put_word(out, name.as_bytes())?;
+            put_word(out, tray.as_bytes())?;
+            put_word(out, media.as_bytes())?;
+            put_groups(out, groups.as_slice())?;
+        }
+        Event::Clock { to } => {
+            out.extend_from_slice(b"clock ")?;
+            put_number(out, *to)?;
+        }
+        Event::Jam { module } => {
+            out.extend_from_slice(b"jam")?;
+            put_word(out, module.as_bytes())?;
+        }
+        Event::Off { module } => {
+            out.extend_from_slice(b"off")?;
+            put_word(out, module.as_bytes())?;
+        }
+        Event::On { module } => {
+            out.extend_from_slice(b"on")?;
+            put_word(out, module.as_bytes())?;
+        }
+    }
+    Ok(())
+}
+
+/// Appends the event's text, without an LF: its words with one space between, numbers without
+/// leading zeros, a group of count 1 as its sheet alone, and `?` for a bad line. After `Memory` the
+/// buffer is as before.
+pub fn print_event(event: &Event, out: &mut Vec<u8>) -> Result<(), Memory>
+    ensures printed { OnOk result (out.new.items ≡ out.old.items ++ event_text event.now) }
+    ensures memory { OnErr result (out.new.items ≡ out.old.items) }
+{
+    let mut text = Vec::new(*out.allocator());
+    put_event(&mut text, event)?;
+    out.extend_from_slice(&text)?;
+    Ok(())
+}
