@@ -1,0 +1,16 @@
+pub mod Timetables
+pub mod Routes
+pub mod Plans
+pub mod Holding
+pub mod Legality
+pub mod Spots
+pub mod Times
+pub mod Answers
+pub mod Choices
+pub mod Spending
+pub mod Completions
+pub mod Living
+pub mod Planning
+pub use Rattle.tp_machine.specs.Steps
+pub use Rattle.tp_machine.specs.Using
+pub use Rattle.tp_base.specs.NameText
