@@ -1,0 +1,100 @@
+ghost use Rattle.std.specs.Prelude.{◌≡◌, ℕ, ◌+◌, ◌<◌, ◌≤◌, ◌≤ℤ◌, pos, negsuc, ◌↔◌, [], length, slice_index, OnOk, OnErr, IfOk, IsErr};
+ghost use Rattle.tp_base.specs.Net.{Net, HasLeast, HasNoSolution, IsEarliest, empty_net, with_point, with_edge, with_low};
+
+use crate::edges::{Edge, PointId, Proof};
+use crate::refusals::{Full, Late};
+use crate::undo::Undo;
+
+/// Points in time with a lower and an upper bound each, in ticks, and edges between them. It keeps a solution: each
+/// change that would leave none is refused.
+pub trait Network: Undo {
+    ghost use Rattle.tp_base.specs.Refute.{Refutes};
+
+    /// The points and edges.
+    ghost net: { Self → Net };
+
+    /// What is kept of the last refusal shows that this net has no solution.
+    ghost refutes: { Self → Net → Type 0 };
+
+    /// How many points there can be.
+    ghost point_room: { Self → ℕ };
+
+    /// How many edges there can be.
+    ghost edge_room: { Self → ℕ };
+
+    /// Leaves no point, no edge and no mark in force.
+    fn clear(&mut self)
+        ensures net { net self.new ≡ empty_net }
+        ensures past { Self.past self.new ≡ [] }
+        ensures marks { Self.mark_room self.new ≡ Self.mark_room self.old }
+        ensures points { point_room self.new ≡ point_room self.old }
+        ensures edges { edge_room self.new ≡ edge_room self.old };
+
+    /// Adds a point, which gets the next number.
+    fn point(&mut self, low: u32, cap: u32) -> Result<PointId, Full>
+        requires { low ≤ cap }
+        ensures full { IsErr result ↔ (length (net self.old).lows ≡ point_room self.old) }
+        ensures number { IfOk result (λ p. p.0 ≡ length (net self.old).lows) }
+        ensures added { OnOk result (net self.new ≡ with_point (net self.old) low cap) }
+        ensures solved { OnOk result (HasLeast (net self.new)) }
+        ensures kept { OnErr result (Self.content self.new ≡ Self.content self.old) }
+        ensures past { Self.past self.new ≡ Self.past self.old }
+        ensures marks { Self.mark_room self.new ≡ Self.mark_room self.old }
+        ensures points { point_room self.new ≡ point_room self.old }
+        ensures edges { edge_room self.new ≡ edge_room self.old };
+
+    fn spare_edges(&self) -> u32
+        ensures { result + length (net self.now).edges ≡ edge_room self.now };
+
+    /// Adds an edge, or leaves the content where no solution would be left.
+    fn require(&mut self, edge: Edge) -> Result<(), Late>
+        requires from { edge.from.0 < length (net self.old).lows }
+        requires to { edge.to.0 < length (net self.old).lows }
+        requires spare { length (net self.old).edges < edge_room self.old }
+        requires least { negsuc 999999 ≤ℤ edge.weight }
+        requires most { edge.weight ≤ℤ pos 1000000 }
+        ensures added { OnOk result (net self.new ≡ with_edge (net self.old) edge) }
+        ensures solved { OnOk result (HasLeast (net self.new)) }
+        ensures late { OnErr result (HasNoSolution (with_edge (net self.old) edge)) }
+        ensures kept { OnErr result (Self.content self.new ≡ Self.content self.old) }
+        ensures refused { OnErr result (refutes self.new (with_edge (net self.old) edge)) }
+        ensures past { Self.past self.new ≡ Self.past self.old }
+        ensures marks { Self.mark_room self.new ≡ Self.mark_room self.old }
+        ensures points { point_room self.new ≡ point_room self.old }
+        ensures edges { edge_room self.new ≡ edge_room self.old };
+
+    /// Raises the lower bound of a point, or leaves the content where no solution would be left.
+    fn raise(&mut self, point: PointId, low: u32) -> Result<(), Late>
+        requires known { point.0 < length (net self.old).lows }
+        requires more { slice_index (net self.old).lows point.0 ≤ low }
+        ensures raised { OnOk result (net self.new ≡ with_low (net self.old) point.0 low) }
+        ensures solved { OnOk result (HasLeast (net self.new)) }
+        ensures late { OnErr result (HasNoSolution (with_low (net self.old) point.0 low)) }
+        ensures kept { OnErr result (Self.content self.new ≡ Self.content self.old) }
+        ensures refused { OnErr result (refutes self.new (with_low (net self.old) point.0 low)) }
+        ensures past { Self.past self.new ≡ Self.past self.old }
+        ensures marks { Self.mark_room self.new ≡ Self.mark_room self.old }
+        ensures points { point_room self.new ≡ point_room self.old }
+        ensures edges { edge_room self.new ≡ edge_room self.old };
+
+    /// The point's time in the least solution.
+    fn earliest(&self, point: PointId) -> u32
+        requires { point.0 < length (net self.now).lows }
+        ensures { IsEarliest (net self.now) point.0 result };
+
+    /// Why the last change was refused. `mark` and `undo_to` leave it as it is.
+    fn proof(&self) -> Proof<'_>
+        requires { (late : Net) × refutes self.now late }
+        ensures { (late : Net) → refutes self.now late → Refutes late result };
+
+    /// What a mark keeps is the net.
+    ghost net_by_content: { (a b : Self) → Self.content a ≡ Self.content b → net a ≡ net b };
+
+    /// What marks leave alone has what is kept of the last refusal,
+    ghost refutes_by_aside: { (a b : Self) (late : Net) → Self.aside a ≡ Self.aside b → refutes a late → refutes b late };
+
+    /// and the numbers that the network was made for.
+    ghost points_by_aside: { (a b : Self) → Self.aside a ≡ Self.aside b → point_room a ≡ point_room b };
+
+    ghost edges_by_aside: { (a b : Self) → Self.aside a ≡ Self.aside b → edge_room a ≡ edge_room b };
+}

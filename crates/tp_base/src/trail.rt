@@ -1,0 +1,78 @@
+ghost use Rattle.std.specs.Prelude.{◌≡◌, ℕ, ◌<◌, ◌≤◌, ◌↔◌, List, [], ◌∷◌, ◌++◌, length, take, slice_get, Some, IfOk, IsErr, OnOk, OnErr};
+
+use crate::errors::Memory;
+use crate::refusals::Full;
+use std::alloc::Global;
+use std::marker::Model;
+
+/// A list that grows and is cut at its end, within the room that it was made with.
+#[derive(Drop)]
+pub struct Trail<T: Copy> {
+    items: Vec<T>,
+    room: u32,
+}
+
+// Clauses see the list and its room.
+impl<T: Copy> Model for Trail<T> {
+    ghost use Rattle.std.specs.Prelude.{ℕ, ◌<◌, ◌≤◌, ◌^◌, length, vec_capacity};
+    ghost use Rattle.tp_base.specs.Trails.{Trailed};
+
+    ghost Value = { Trailed T };
+
+    ghost view = { λ s. record { items = s.items.items; room = s.room } };
+
+    ghost invariant = { λ s. (length s.items.items ≤ s.room) × (s.room ≤ vec_capacity s.items) × (s.room < 2 ^ 32) };
+}
+
+impl<T: Copy> Trail<T> {
+    /// Takes all the memory that the trail will ever hold.
+    pub fn new(alloc: Global, room: u32) -> Result<Trail<T>, Memory>
+        ensures items { IfOk result (λ t. t.items ≡ []) }
+        ensures room { IfOk result (λ t. t.room ≡ room) }
+    {
+        let items = Vec::with_capacity(alloc, room as usize)?;
+        Ok(Trail { items, room })
+    }
+
+    pub fn push(&mut self, item: T) -> Result<(), Full>
+        ensures full { IsErr result ↔ (length self.old.items ≡ self.old.room) }
+        ensures ok { OnOk result (self.new ≡ record { items = self.old.items ++ item ∷ []; room = self.old.room }) }
+        ensures stays { OnErr result (self.new ≡ self.old) }
+    {
+        if self.items.len() == self.room as usize {
+            return Err(Full);
+        }
+        let Ok(()) = self.items.push(item) else {
+            unreachable!()
+        };
+        Ok(())
+    }
+
+    pub fn len(&self) -> u32
+        ensures len { result ≡ length self.now.items }
+        ensures within { result ≤ self.now.room }
+    {
+        self.items.len() as u32
+    }
+
+    pub fn get(&self, at: u32) -> T
+        requires { at < length self.now.items }
+        ensures { slice_get self.now.items at ≡ Some result }
+    {
+        self.items[at as usize]
+    }
+
+    /// Leaves the first `len` items.
+    pub fn cut_to(&mut self, len: u32)
+        requires { len ≤ length self.old.items }
+        ensures { self.new ≡ record { items = take len self.old.items; room = self.old.room } }
+    {
+        self.items.truncate(len as usize);
+    }
+
+    pub fn as_slice(&self) -> &[T]
+        ensures { result.now ≡ self.now.items }
+    {
+        self.items.as_slice()
+    }
+}

@@ -1,0 +1,42 @@
+ghost use Rattle.std.specs.Prelude.{◌≡◌, ℕ, ◌+◌, ◌<◌, ◌≤◌, List, [], ◌∷◌, ◌++◌, length, take, slice_get, Some};
+
+/// The number of a mark in force, counted from the oldest.
+#[derive(Clone, Copy, Debug, PartialEq, Eq)]
+pub struct Mark(pub u32);
+
+/// An object with content that changes, and that `undo_to` takes back to a mark.
+pub trait Undo {
+    /// What a mark keeps.
+    ghost Content: { Type 0 };
+
+    /// What marks leave alone, as sizes that never change.
+    ghost Aside: { Type 0 };
+
+    ghost content: { Self → Content };
+
+    ghost aside: { Self → Aside };
+
+    /// The content at each mark in force, the oldest first.
+    ghost past: { Self → List Content };
+
+    /// How many marks can be in force.
+    ghost mark_room: { Self → ℕ };
+
+    fn spare_marks(&self) -> u32
+        ensures { result + length (past self.now) ≡ mark_room self.now };
+
+    fn mark(&mut self) -> Mark
+        requires { length (past self.old) < mark_room self.old }
+        ensures number { result.0 ≡ length (past self.old) }
+        ensures past { past self.new ≡ past self.old ++ content self.old ∷ [] }
+        ensures content { content self.new ≡ content self.old }
+        ensures aside { aside self.new ≡ aside self.old }
+        ensures room { mark_room self.new ≡ mark_room self.old };
+
+    fn undo_to(&mut self, mark: Mark)
+        requires { mark.0 < length (past self.old) }
+        ensures content { slice_get (past self.old) mark.0 ≡ Some (content self.new) }
+        ensures past { past self.new ≡ take mark.0 (past self.old) }
+        ensures aside { aside self.new ≡ aside self.old }
+        ensures room { mark_room self.new ≡ mark_room self.old };
+}
