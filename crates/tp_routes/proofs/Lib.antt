@@ -1,0 +1,6 @@
+pub mod QueueFacts
+pub mod NumberFacts
+pub mod LowerFacts
+pub mod RoomFacts
+pub mod SpreadFacts
+pub mod StartFacts

@@ -1,0 +1,35 @@
+-- A table of rooms by the numbers of states.
+use Rattle.std.specs.Prelude.{◌≡◌, ℕ, ◌<◌, List, length, slice_index_or, Option, None, MatchOption}
+use Rattle.tp_machine.specs.declared.parts.State.{State}
+use Rattle.tp_machine.specs.declared.whole.Machine.{Machine}
+use Rattle.tp_schedule.specs.Routes.{IsRoom, HasNoRoom}
+use Rattle.tp_schedule.specs.declared.parts.Ask.{Ask}
+use Rattle.tp_schedule.specs.declared.parts.Origin.{Origin}
+use Rattle.tp_schedule.specs.declared.parts.Origin.TheVariants.{Feeder as FromFeeder, Front as FromFront}
+use Rattle.tp_routes.specs.Numbers.{number_of}
+
+-- what clauses see of rooms: the numbers of the machine that they were made for, and a sum for each state, if it has one
+pub record RoomTable : Type 0 where
+  pub locations : ℕ
+  pub resources : ℕ
+  pub window : ℕ
+  pub sums : List (Option ℕ)
+
+-- the table was made for a machine with these numbers
+pub record IsMadeFor (table : RoomTable) (machine : Machine) : Type 0 where
+  pub locations : table.locations ≡ length machine.locations
+  pub resources : table.resources ≡ length machine.resources
+  pub window : table.window ≡ machine.window
+
+abbrev pub sum_at : List (Option ℕ) → ℕ → Option ℕ
+sum_at sums n = slice_index_or sums n None
+
+-- the table has the room of each state, and nothing exactly where a state has no room
+abbrev pub AreRooms : Machine → Ask → List (Option ℕ) → Type 0
+AreRooms machine ask sums = (s : State) → s.loc.0 < length machine.locations →
+    MatchOption (sum_at sums (number_of s)) (HasNoRoom machine ask s) (IsRoom machine ask s)
+
+-- the front's state of an ask in flight is at a location of the machine
+abbrev pub IsKnownOrigin : Machine → Origin → Type 0
+IsKnownOrigin machine FromFeeder = Unit {0}
+IsKnownOrigin machine (FromFront state end count) = state.loc.0 < length machine.locations

@@ -1,0 +1,111 @@
+ghost use Rattle.std.specs.Prelude.{◌≡◌, ℕ, ◌+◌, ◌*◌, ◌<◌, ◌≤◌, [], Some, None, IsTrue, IfSome, length, vec_capacity};
+ghost use Rattle.tp_machine.specs.Using.{action_at};
+ghost use Rattle.tp_schedule.specs.Routes.{IsStart, is_act_allowed};
+ghost use Rattle.tp_routes.specs.Numbers.{number_of, state_at};
+ghost use Rattle.tp_routes.specs.Tables.{sum_at, IsKnownOrigin};
+ghost use Rattle.tp_routes.specs.Filling.{IsFilling, IsSpreadTo, IsStepIn, IsSum, HasAtMost, Lowers, filled, left_to_fill};
+
+use crate::numbering::{number_of, state_at};
+use crate::queueing::lower;
+use tp_machine::{ActId, Machine, State, allowed, step};
+use tp_schedule::Ask;
+
+/// Gives a state this sum, where it is lower than the one that stands.
+pub(crate) fn offer(
+    machine: &Machine,
+    ask: &Ask,
+    sums: &mut [Option<u32>],
+    waiting: &mut Vec<u32>,
+    state: State,
+    sum: u32,
+)
+    requires filling { IsFilling machine.now ask.now sums.old waiting.old.items }
+    requires known { state.loc.0 < length machine.now.locations }
+    requires is_sum { IsSum machine.now ask.now state sum }
+    requires small { sum ≤ 4096 * (filled sums.old + 1) }
+    requires room { length sums.old ≤ vec_capacity waiting.old }
+    ensures filling { IsFilling machine.now ask.entry.now sums.new waiting.new.items }
+    ensures lowers { Lowers sums.old sums.new }
+    ensures there { HasAtMost sums.new state sum }
+    ensures spread { (busy count : ℕ) → IsSpreadTo machine.now ask.entry.now sums.old waiting.old.items busy count → IsSpreadTo machine.now ask.entry.now sums.new waiting.new.items busy count }
+    ensures busy { (n v : ℕ) → v ≤ sum → sum_at sums.old n ≡ Some v → sum_at sums.new n ≡ Some v }
+    ensures room { length sums.new ≤ vec_capacity waiting.new }
+    ensures nearer { left_to_fill sums.new waiting.new.items ≤ left_to_fill sums.old waiting.old.items }
+{
+    lower(sums, waiting, number_of(state), sum);
+}
+
+/// Puts the step of an action from a state with this sum into the table, where it is allowed.
+fn step_on(
+    machine: &Machine,
+    ask: &Ask,
+    sums: &mut [Option<u32>],
+    waiting: &mut Vec<u32>,
+    act: ActId,
+    number: u32,
+    sum: u32,
+)
+    requires act { act.0 < length machine.now.actions }
+    requires filling { IsFilling machine.now ask.now sums.old waiting.old.items }
+    requires spread { IsSpreadTo machine.now ask.now sums.old waiting.old.items number act.0 }
+    requires known { number < length sums.old }
+    requires busy { sum_at sums.old number ≡ Some sum }
+    requires room { length sums.old ≤ vec_capacity waiting.old }
+    ensures filling { IsFilling machine.now ask.entry.now sums.new waiting.new.items }
+    ensures spread { IsSpreadTo machine.now ask.entry.now sums.new waiting.new.items number (act.0 + 1) }
+    ensures busy { sum_at sums.new number ≡ Some sum }
+    ensures lowers { Lowers sums.old sums.new }
+    ensures room { length sums.new ≤ vec_capacity waiting.new }
+    ensures nearer { left_to_fill sums.new waiting.new.items ≤ left_to_fill sums.old waiting.old.items }
+{
+    if !allowed(machine, ask.outs, act) {
+        return;
+    }
+    let action = machine.actions.get(act.0 as u32);
+    if let Some(next) = step(action, &ask.want, state_at(number)) {
+        offer(machine, ask, sums, waiting, next, sum + action.least);
+    }
+}
+
+/// Puts all steps from a state with this sum into the table.
+fn spread(
+    machine: &Machine,
+    ask: &Ask,
+    sums: &mut [Option<u32>],
+    waiting: &mut Vec<u32>,
+    number: u32,
+    sum: u32,
+)
+    requires filling { IsFilling machine.now ask.now sums.old waiting.old.items }
+    requires spread { IsSpreadTo machine.now ask.now sums.old waiting.old.items number 0 }
+    requires known { number < length sums.old }
+    requires busy { sum_at sums.old number ≡ Some sum }
+    requires room { length sums.old ≤ vec_capacity waiting.old }
+    ensures filling { IsFilling machine.now ask.entry.now sums.new waiting.new.items }
+    ensures spread { IsSpreadTo machine.now ask.entry.now sums.new waiting.new.items number (length machine.now.actions) }
+    ensures lowers { Lowers sums.old sums.new }
+    ensures room { length sums.new ≤ vec_capacity waiting.new }
+    ensures nearer { left_to_fill sums.new waiting.new.items ≤ left_to_fill sums.old waiting.old.items }
+{
+    'actions: for at in 0..machine.actions.len() {
+        step_on(machine, ask, sums, waiting, ActId(at as u16), number, sum);
+    }
+}
+
+/// Takes the states that wait, the least sums first, and puts their steps into the table.
+pub(crate) fn settle(machine: &Machine, ask: &Ask, sums: &mut [Option<u32>], waiting: &mut Vec<u32>)
+    requires filling { IsFilling machine.now ask.now sums.old waiting.old.items }
+    requires spread { (busy : ℕ) → IsSpreadTo machine.now ask.now sums.old waiting.old.items busy (length machine.now.actions) }
+    requires room { length sums.old ≤ vec_capacity waiting.old }
+    ensures filling { IsFilling machine.now ask.entry.now sums.new waiting.new.items }
+    ensures spread { (busy : ℕ) → IsSpreadTo machine.now ask.entry.now sums.new waiting.new.items busy (length machine.now.actions) }
+    ensures lowers { Lowers sums.old sums.new }
+    ensures rest { waiting.new.items ≡ [] }
+    ensures room { length sums.new ≤ vec_capacity waiting.new }
+{
+    'states: while let Some(number) = waiting.pop() {
+        if let Some(sum) = sums[number as usize] {
+            spread(machine, ask, sums, waiting, number, sum);
+        }
+    }
+}

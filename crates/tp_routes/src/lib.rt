@@ -1,0 +1,12 @@
+//! How little time a sheet needs to reach a state.
+#![tactic(auto)]
+
+mod filling;
+mod laws;
+mod numbering;
+mod queueing;
+mod rooms;
+mod starting;
+
+pub use laws::room_law;
+pub use rooms::Rooms;

@@ -1,0 +1,93 @@
+ghost use Rattle.std.specs.Prelude.{◌≡◌, ◌+◌, ◌*◌, ◌<◌, ◌≤◌, None, length, replicate, vec_capacity, IfOk};
+ghost use Rattle.tp_routes.specs.Numbers.{number_of};
+ghost use Rattle.tp_routes.specs.Tables.{sum_at, IsMadeFor, AreRooms, IsKnownOrigin};
+
+use crate::filling::settle;
+use crate::numbering::number_of;
+use crate::starting::start;
+use std::alloc::Global;
+use std::marker::Model;
+use tp_base::{Memory, Tick};
+use tp_machine::{Machine, State};
+use tp_schedule::Ask;
+
+/// For each state of a sheet the least time that any way from a start state takes: its room, in
+/// ticks. One table by state, which `fill` makes anew for an ask.
+#[derive(Drop)]
+pub struct Rooms {
+    locations: u32,
+    resources: u32,
+    window: Tick,
+    sums: Vec<Option<u32>>,
+    waiting: Vec<u32>,
+}
+
+// Clauses see the table, and the numbers of the machine that it was made for.
+impl Model for Rooms {
+    ghost use Rattle.std.specs.Prelude.{◌≡◌, ◌*◌, ◌≤◌, length, vec_capacity};
+    ghost use Rattle.tp_routes.specs.Tables.{RoomTable};
+
+    ghost Value = { RoomTable };
+
+    ghost view = { λ r. record { locations = r.locations; resources = r.resources; window = r.window; sums = r.sums.items } };
+
+    ghost invariant = { λ r. (length r.sums.items ≡ 8 * r.locations) × (8 * r.locations ≤ vec_capacity r.waiting) };
+}
+
+impl Rooms {
+    /// A table for machines with as many locations and resources and the window of this one. It
+    /// takes all the memory that the table will ever need. No state has room before `fill`.
+    pub fn new(alloc: Global, machine: &Machine) -> Result<Rooms, Memory>
+        ensures made { IfOk result (λ rooms. IsMadeFor rooms machine.now) }
+        ensures empty { IfOk result (λ rooms. rooms.sums ≡ replicate (8 * length machine.now.locations) None) }
+    {
+        let locations = machine.locations.len();
+        let states = locations as usize * 8;
+        Ok(Rooms {
+            locations,
+            resources: machine.resources.len(),
+            window: machine.window,
+            sums: vec![in alloc; None; states]?,
+            waiting: Vec::with_capacity(alloc, states)?,
+        })
+    }
+
+    /// Finds the room of every state for the ask. Each state is settled once, by rising sums, and
+    /// looks at each action once.
+    pub fn fill(&mut self, machine: &Machine, ask: &Ask)
+        requires made { IsMadeFor self.old machine.now }
+        requires origin { IsKnownOrigin machine.now ask.now.origin }
+        ensures rooms { AreRooms machine.now ask.entry.now self.new.sums }
+        ensures made { IsMadeFor self.new machine.now }
+    {
+        fill_table(machine, ask, &mut self.sums, &mut self.waiting);
+    }
+
+    /// The room of a state for the last ask, or None where no list of allowed actions leads there.
+    pub fn room(&self, state: State) -> Option<u32>
+        requires { state.loc.0 < self.now.locations }
+        ensures { result ≡ sum_at self.now.sums (number_of state) }
+    {
+        self.sums[number_of(state) as usize]
+    }
+}
+
+fn fill_table(machine: &Machine, ask: &Ask, sums: &mut [Option<u32>], waiting: &mut Vec<u32>)
+    requires states { length sums.old ≡ 8 * length machine.now.locations }
+    requires room { length sums.old ≤ vec_capacity waiting.old }
+    requires origin { IsKnownOrigin machine.now ask.now.origin }
+    ensures rooms { AreRooms machine.now ask.entry.now sums.new }
+    ensures states { length sums.new ≡ 8 * length machine.now.locations }
+    ensures room { length sums.new ≤ vec_capacity waiting.new }
+{
+    clear(sums);
+    waiting.clear();
+    start(machine, ask, sums, waiting);
+    settle(machine, ask, sums, waiting);
+}
+
+fn clear(sums: &mut [Option<u32>])
+    ensures { sums.new ≡ replicate (length sums.old) None }
+{
+    sums.fill(None);
+}

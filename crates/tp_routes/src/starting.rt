@@ -1,0 +1,55 @@
+ghost use Rattle.std.specs.Prelude.{◌≡◌, ℕ, ◌*◌, ◌<◌, ◌≤◌, None, length, replicate, vec_capacity, [], slice_get, Some, ◌↔◌, IsTrue};
+ghost use Rattle.tp_routes.specs.Tables.{IsKnownOrigin};
+ghost use Rattle.tp_routes.specs.Filling.{IsFilling, IsSpreadTo, StartsAreIn, StartsUpTo};
+ghost use Rattle.tp_schedule.specs.Routes.{fresh};
+
+use crate::filling::offer;
+use tp_machine::{Face, Feeder, Machine, State};
+use tp_schedule::{Ask, Origin};
+
+/// Puts the start states of the ask into an empty table, with the sum 0.
+pub(crate) fn start(machine: &Machine, ask: &Ask, sums: &mut [Option<u32>], waiting: &mut Vec<u32>)
+    requires states { length sums.old ≡ 8 * length machine.now.locations }
+    requires empty { sums.old ≡ replicate (length sums.old) None }
+    requires none { waiting.old.items ≡ [] }
+    requires room { length sums.old ≤ vec_capacity waiting.old }
+    requires origin { IsKnownOrigin machine.now ask.now.origin }
+    ensures filling { IsFilling machine.now ask.entry.now sums.new waiting.new.items }
+    ensures spread { (busy : ℕ) → IsSpreadTo machine.now ask.entry.now sums.new waiting.new.items busy (length machine.now.actions) }
+    ensures starts { StartsAreIn machine.now ask.entry.now sums.new }
+    ensures room { length sums.new ≤ vec_capacity waiting.new }
+{
+    match ask.origin {
+        Origin::Front { state, .. } => offer(machine, ask, sums, waiting, state, 0),
+        Origin::Feeder => start_fresh(machine, ask, sums, waiting),
+    }
+}
+
+/// Puts a new sheet at each feeder of the ask's media into the table.
+fn start_fresh(machine: &Machine, ask: &Ask, sums: &mut [Option<u32>], waiting: &mut Vec<u32>)
+    requires filling { IsFilling machine.now ask.now sums.old waiting.old.items }
+    requires spread { (busy : ℕ) → IsSpreadTo machine.now ask.now sums.old waiting.old.items busy (length machine.now.actions) }
+    requires room { length sums.old ≤ vec_capacity waiting.old }
+    requires fresh { ask.now.origin ≡ Origin.Feeder }
+    ensures filling { IsFilling machine.now ask.entry.now sums.new waiting.new.items }
+    ensures spread { (busy : ℕ) → IsSpreadTo machine.now ask.entry.now sums.new waiting.new.items busy (length machine.now.actions) }
+    ensures starts { StartsAreIn machine.now ask.entry.now sums.new }
+    ensures room { length sums.new ≤ vec_capacity waiting.new }
+{
+    'feeders: for feeder in machine.feeders.as_slice() {
+        if feeder.media == ask.want.media {
+            offer(machine, ask, sums, waiting, fresh_at(feeder), 0);
+        }
+    }
+}
+
+fn fresh_at(feeder: &Feeder) -> State
+    ensures { result ≡ fresh feeder.now.loc }
+{
+    State {
+        loc: feeder.loc,
+        up: Face::Front,
+        front_done: false,
+        back_done: false,
+    }
+}
