@@ -1,0 +1,16 @@
+pub mod Pairs
+pub mod Membership
+pub mod CopyFacts
+pub mod PlanOrder
+pub mod TickLists
+pub mod SlotOrder
+pub mod Covering
+pub mod HeldCount
+pub mod LegalOrders
+pub mod LegalFacts
+pub mod RoomFacts
+pub mod PutFacts
+pub mod ChangeFacts
+pub mod LawFacts
+pub mod AllowedFacts
+pub mod RunFacts

@@ -11,6 +11,7 @@ pub mod Spending
 pub mod Completions
 pub mod Living
 pub mod Planning
+pub mod Laws
 pub use Rattle.tp_machine.specs.Steps
 pub use Rattle.tp_machine.specs.Using
 pub use Rattle.tp_base.specs.NameText
