@@ -14,3 +14,5 @@ pub mod ChangeFacts
 pub mod LawFacts
 pub mod AllowedFacts
 pub mod RunFacts
+pub mod SortFacts
+pub mod OrderFacts

@@ -12,6 +12,7 @@ pub mod Completions
 pub mod Living
 pub mod Planning
 pub mod Laws
+pub mod Sorting
 pub use Rattle.tp_machine.specs.Steps
 pub use Rattle.tp_machine.specs.Using
 pub use Rattle.tp_base.specs.NameText

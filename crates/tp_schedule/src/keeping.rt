@@ -2,7 +2,8 @@ ghost use Rattle.std.specs.Prelude.{◌≡◌, ◌+◌, ◌^◌, ◌<◌, ◌≤
 
 use crate::copies::{copy_place, place_of, plan_in, write_plan};
 use crate::holding::{count_holders, count_live};
-use crate::parts::{Plan, SheetId};
+use crate::ordering::holds_by_time;
+use crate::parts::{Hold, Plan, SheetId};
 use crate::series::Points;
 use std::alloc::Global;
 use std::marker::Model;
@@ -31,7 +32,9 @@ impl Model for Schedule {
 impl Schedule {
     ghost use Rattle.tp_schedule.specs.Plans.{IsFormed, is_same_copy, plan_of, put_plan, change_plan, with_points, with_released};
     ghost use Rattle.tp_schedule.specs.Holding.{held};
+    ghost use Rattle.tp_schedule.specs.Legality.{IsLegal};
     ghost use Rattle.tp_schedule.specs.Living.{live_count};
+    ghost use Rattle.tp_schedule.specs.Spots.{order_of};
 
     pub fn new(alloc: Global) -> Schedule
         ensures empty { result.plans ≡ [] }
@@ -50,6 +53,16 @@ impl Schedule {
     {
         self.plans.reserve(1)?;
         Ok(())
+    }
+
+    pub fn copy(&self, alloc: Global) -> Result<Schedule, Memory>
+        ensures { IfOk result (λ copy. copy.plans ≡ self.now.plans) }
+    {
+        let mut plans = Vec::with_capacity(alloc, self.plans.len())?;
+        for plan in &self.plans {
+            plans.push(plan.copy())?;
+        }
+        Ok(Schedule { plans })
     }
 
     pub fn len(&self) -> u32
@@ -129,6 +142,19 @@ impl Schedule {
             holders += count_holders(machine, resource, at, plan.acts.as_slice(), points);
         }
         holders <= 1
+    }
+
+    /// The holds on the resource by their times. Takes time by the square of their number.
+    pub fn order_of(
+        &self,
+        alloc: Global,
+        machine: &Machine,
+        resource: ResId,
+    ) -> Result<Vec<Hold>, Memory>
+        requires legal { IsLegal machine.now self.now.plans }
+        ensures { IfOk result (λ holds. holds.items ≡ order_of machine.now self.now.plans resource.0) }
+    {
+        holds_by_time(alloc, machine, resource, self.plans.as_slice())
     }
 
     /// How many plans are live: a point or a hold's end of them is above the moment.

@@ -5,6 +5,7 @@ mod copies;
 mod holding;
 mod keeping;
 mod laws;
+mod ordering;
 mod parts;
 mod planning;
 mod recording;

@@ -1,0 +1,13 @@
+-- The sorted holds are the order.
+use Rattle.std.proofs.Common.{◌≡◌, ap, subst, sym}
+use Rattle.std.specs.Prelude.{IfOk, List}
+use Rattle.tp_schedule.specs.declared.parts.Hold.{Hold}
+use Rattle.tp_schedule.specs.Spots.{order_of}
+use Rattle.tp_schedule.proofs.OrderFacts.{sorted-order}
+use Rattle.tp_schedule.proofs.keeping.Schedule.order_of.Goals as goal
+
+pub returns : goal.returns
+returns c =
+    let order = sorted-order c.args.machine.now c.args.self.now.plans c.args.resource.0 c.requires.legal in
+    let plans : c.as_slice.result.now ≡ c.args.self.now.plans = rw c.as_slice.ensures.value (ap (λ s. s.plans) c.self.view_is) in
+    rw (← order) (rw plans at c.holds_by_time.ensures)
