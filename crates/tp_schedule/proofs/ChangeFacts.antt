@@ -1,5 +1,5 @@
 -- A plan is changed by a write at its place.
-use Rattle.std.proofs.Common.{◌≡◌, ℕ, suc, ◌+◌, ◌<◌, ◌≤◌, Bool, true, false, cond, List, [], ◌∷◌, set, get_or, length, position, Some, None, Option, IsSome, IsSomeAnd, All, refl, ap, arith, sym, ◌∙◌, subst}
+use Rattle.std.proofs.Common.{◌≡◌, ℕ, suc, ◌<◌, ◌≤◌, Bool, true, false, cond, List, [], ◌∷◌, set, get_or, length, position, Some, None, Option, IsSome, IsSomeAnd, All, refl, ap, arith, sym, ◌∙◌, subst}
 use Rattle.std.specs.List.{position_or_len}
 use Rattle.std.proofs.lemmas.Bool.Decides.{nat_tests}
 use Rattle.std.proofs.Math.Numerals.{one-add}
@@ -8,6 +8,13 @@ use Rattle.tp_schedule.specs.declared.parts.SheetId.{SheetId}
 use Rattle.tp_schedule.specs.Plans.{is_same_copy, change_plan, plan_of, with_points, with_released, IsFormed}
 use Rattle.std.proofs.lemmas.List.Elements.{All-cons, All-head, All-tail}
 use Rattle.tp_schedule.proofs.CopyFacts.{same_copy-is}
+use Rattle.std.specs.Prelude.{AllPairs}
+use Rattle.std.proofs.lemmas.List.Elements.{All-nil}
+use Rattle.tp_schedule.specs.Plans.{is_before, put_plan, IsEarlier}
+use Rattle.tp_schedule.specs.Timetables.{IsOrdered}
+use Rattle.tp_schedule.proofs.CopyFacts.{NotOf}
+use Rattle.tp_schedule.proofs.Pairs.{AllPairs-head, AllPairs-tail, AllPairs-cons}
+use Rattle.tp_schedule.proofs.PlanOrder.{All-put_plan, InOrder-put_plan}
 
 abbrev is_of : SheetId → Plan → Bool
 is_of copy p = is_same_copy p.sheet copy
@@ -86,12 +93,47 @@ change_plan-there copy f plans p is same =
     let sheet : (f p).sheet ≡ copy = same ∙ plan_of-sheet copy plans p is in
     ap (λ c. change_plan c (λ _. f p) plans) sheet ∙ change_plan-same copy f plans p is
 
-pub All-change_plan : (P : Plan → Type 0) (copy : SheetId) (plans : List Plan) (q : Plan) → All P plans → P q → All P (change_plan copy (λ _. q) plans)
+All-change_plan : (P : Plan → Type 0) (copy : SheetId) (plans : List Plan) (q : Plan) → All P plans → ((p : Plan) → is_same_copy p.sheet copy ≡ true → P p → P q) → All P (change_plan copy (λ _. q) plans)
 All-change_plan P copy [] q all one = all
-All-change_plan P copy (p ∷ plans) q all one = go (is_same_copy p.sheet copy) (All-change_plan P copy plans q (All-tail P p plans all) one) where
-  go : (b : Bool) → All P (change_plan copy (λ _. q) plans) → All P (cond b (q ∷ plans) (p ∷ change_plan copy (λ _. q) plans))
-  go true rest = All-cons P q plans one (All-tail P p plans all)
-  go false rest = All-cons P p (change_plan copy (λ _. q) plans) (All-head P p plans all) rest
+All-change_plan P copy (p ∷ plans) q all one = go (is_same_copy p.sheet copy) refl (All-change_plan P copy plans q (All-tail P p plans all) one) where
+  go : (b : Bool) → is_same_copy p.sheet copy ≡ b → All P (change_plan copy (λ _. q) plans) → All P (cond b (q ∷ plans) (p ∷ change_plan copy (λ _. q) plans))
+  go true e rest = All-cons P q plans (one p e (All-head P p plans all)) (All-tail P p plans all)
+  go false e rest = All-cons P p (change_plan copy (λ _. q) plans) (All-head P p plans all) rest
+
+in_order-change_plan : (plans : List Plan) (q : Plan) → AllPairs IsEarlier plans → AllPairs IsEarlier (change_plan q.sheet (λ _. q) plans)
+in_order-change_plan [] q in_order = in_order
+in_order-change_plan (p ∷ plans) q in_order = go (is_same_copy p.sheet q.sheet) refl (in_order-change_plan plans q (AllPairs-tail IsEarlier p plans in_order)) where
+  same : (r s : Plan) → is_same_copy r.sheet q.sheet ≡ true → IsEarlier s r → IsEarlier s q
+  same r s e before = subst (λ (c : SheetId). is_before s.sheet c ≡ true) (same_copy-is r.sheet q.sheet e) before
+
+  go : (b : Bool) → is_same_copy p.sheet q.sheet ≡ b → AllPairs IsEarlier (change_plan q.sheet (λ _. q) plans) → AllPairs IsEarlier (cond b (q ∷ plans) (p ∷ change_plan q.sheet (λ _. q) plans))
+  go true e rest =
+      AllPairs-cons IsEarlier q plans (λ k d within. subst (λ (c : SheetId). is_before c (get_or plans k d).sheet ≡ true) (same_copy-is p.sheet q.sheet e) (AllPairs-head IsEarlier p plans in_order k d within))
+      (AllPairs-tail IsEarlier p plans in_order)
+  go false e rest =
+      AllPairs-cons IsEarlier p (change_plan q.sheet (λ _. q) plans)
+      (All-change_plan (IsEarlier p) q.sheet plans q (AllPairs-head IsEarlier p plans in_order) (λ r e' before. same r p e' before)) rest
+
+-- a change of one plan to another in its form keeps the order of copies
+pub IsOrdered-change_plan : (plans : List Plan) (q : Plan) → IsOrdered plans → IsFormed q → IsOrdered (change_plan q.sheet (λ _. q) plans)
+IsOrdered-change_plan plans q ordered one = record {
+  formed = All-change_plan IsFormed q.sheet plans q ordered.formed (λ p e h. one);
+  in_order = in_order-change_plan plans q ordered.in_order;
+}
+
+not_of : (copy : SheetId) (plans : List Plan) → plan_of copy plans ≡ None → All (NotOf copy) plans
+not_of copy [] none = All-nil (NotOf copy)
+not_of copy (p ∷ plans) none = go (is_same_copy p.sheet copy) refl none (not_of copy plans) where
+  go : (b : Bool) → is_same_copy p.sheet copy ≡ b → cond b (Some p) (plan_of copy plans) ≡ None → (plan_of copy plans ≡ None → All (NotOf copy) plans) → All (NotOf copy) (p ∷ plans)
+  go true e none' rest = absurd (cc)
+  go false e none' rest = All-cons (NotOf copy) p plans e (rest none')
+
+-- one more plan in its form, in its copy's place, keeps the order of copies
+pub IsOrdered-put_plan : (plans : List Plan) (p : Plan) → IsOrdered plans → IsFormed p → plan_of p.sheet plans ≡ None → IsOrdered (put_plan p plans)
+IsOrdered-put_plan plans p ordered one none = record {
+  formed = All-put_plan IsFormed p plans one ordered.formed;
+  in_order = InOrder-put_plan p plans ordered.in_order (not_of p.sheet plans none);
+}
 
 -- the plan of a copy is one of the plans
 pub All-plan_of : (P : Plan → Type 0) (copy : SheetId) (plans : List Plan) (p : Plan) → All P plans → plan_of copy plans ≡ Some p → P p

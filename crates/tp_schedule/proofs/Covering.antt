@@ -1,9 +1,8 @@
 -- Sound holds lie apart, pair by pair, exactly where they cover no tick twice.
-use Rattle.std.proofs.Common.{◌≡◌, ◌⊎◌, inl, inr, ℕ, zero, suc, ◌≤◌, ◌<◌, Bool, true, false, cond, List, [], ◌∷◌, length, filter, refl, sym, arith, Contains, All, AllPairs, ◌∙◌, subst, get_or}
-use Rattle.std.specs.Prelude.{IsPermutation, ℤ, pos, negsuc, int_lt, int_le, ◌≤ℤ◌, ◌<ℤ◌, ◌&&◌}
-use Rattle.std.proofs.lemmas.Int.{ints, by_lt_z}
-use Rattle.std.proofs.lemmas.List.Elements.{All-cons, All-head, All-tail, All-nil, All-contains}
-use Rattle.std.proofs.lemmas.List.Sorted.{IsPermutation-refl, IsPermutation-cons, IsPermutation-trans, IsPermutation-middle, IsPermutation-sym, Contains-permutation}
+use Rattle.std.proofs.Common.{◌≡◌, inl, inr, ℕ, zero, suc, ◌≤◌, ◌<◌, Bool, true, false, cond, List, [], ◌∷◌, length, filter, refl, sym, arith, All, AllPairs, subst, get_or}
+use Rattle.std.specs.Prelude.{ℤ, pos, negsuc, int_lt, int_le, ◌≤ℤ◌, ◌<ℤ◌, ◌&&◌}
+use Rattle.std.proofs.lemmas.Int.{ints}
+use Rattle.std.proofs.lemmas.List.Elements.{All-head, All-tail}
 use Rattle.tp_machine.specs.Using.{covers}
 use Rattle.tp_schedule.proofs.Pairs.{AllPairs-head, AllPairs-tail, AllPairs-nil, AllPairs-cons}
 use Rattle.tp_schedule.specs.Spots.{Ticks, Slot, begin_at, end_at, AreApart, IsSoundSlot}

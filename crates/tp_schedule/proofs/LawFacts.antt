@@ -1,14 +1,9 @@
 -- The laws of orders and holders, from what the files on slots say of any list of them.
-use Rattle.std.proofs.Common.{◌≡◌, ◌↔◌, ◌⊎◌, inl, inr, ℕ, ◌+◌, ◌≤◌, ◌<◌, Bool, true, false, not, ◌&&◌, ◌||◌, ◌==◌, cond, List, [], ◌∷◌, length, filter, refl, ap, sym, arith, All, AllPairs, ◌∙◌, subst, Some, None, Option, IsTrue, IsFalse, slice_get}
-use Rattle.std.specs.Prelude.{IsPermutation}
-use Rattle.tp_machine.specs.declared.whole.Machine.{Machine}
-use Rattle.tp_schedule.specs.declared.parts.Plan.{Plan}
-use Rattle.tp_schedule.specs.Plans.{IsTimedPlan, IsEarlier}
-use Rattle.tp_schedule.specs.Holding.{held}
-use Rattle.tp_schedule.specs.Spots.{Ticks, Slot, IsApart, AreApart, IsRow, IsSoundSlot, slots, ticks_of}
+use Rattle.std.proofs.Common.{List, [], ◌∷◌, sym, arith, AllPairs, subst}
+use Rattle.tp_schedule.specs.Spots.{Ticks, Slot, IsApart, IsRow, slots, ticks_of}
 use Rattle.tp_schedule.specs.Laws.{OrderIsOnly, OneHolderIsApart, RowIsApart}
 use Rattle.tp_machine.proofs.MachineFacts.{is_machine}
-use Rattle.tp_schedule.proofs.Covering.{covered, AllPairs-from_covered, covered-from_AllPairs}
+use Rattle.tp_schedule.proofs.Covering.{AllPairs-from_covered, covered-from_AllPairs}
 use Rattle.tp_schedule.proofs.HeldCount.{length-held}
 use Rattle.tp_schedule.proofs.LegalOrders.{IsTimedBy-plans, LastsBy-plans, sound_plans, apart_order, legal_apart}
 use Rattle.tp_schedule.proofs.Pairs.{AllPairs-tail}

@@ -1,10 +1,6 @@
 -- Lists whose elements stand in a relation pair by pair.
-use Rattle.std.proofs.Common.{ℕ, zero, suc, List, [], ◌∷◌, insert, arith, All, AllPairs, Some, ◌≡◌, ◌⊎◌, inl, inr, ◌+◌, ◌<◌, Bool, true, false, cond, not, map, length, filter, refl, ap, sym, Contains, subst, get_or, slice_index, IsTrue}
-use Rattle.std.proofs.lemmas.List.Elements.{All-cons, All-head, All-tail, All-nil, All-contains, Contains-get_or}
-use Rattle.std.proofs.lemmas.Bool.Decides.{nat_tests}
-use Rattle.tp_schedule.specs.Plans.{without}
-use Rattle.tp_schedule.specs.declared.parts.Plan.{Plan}
-use Rattle.tp_schedule.specs.declared.parts.SheetId.{SheetId}
+use Rattle.std.proofs.Common.{ℕ, zero, suc, List, [], ◌∷◌, insert, arith, All, AllPairs, map, Contains, get_or}
+use Rattle.std.proofs.lemmas.List.Elements.{All-cons, All-head, All-tail, All-nil, Contains-get_or}
 
 pub AllPairs-head : {X : Type 0} (R : X → X → Type 0) (x : X) (xs : List X) → AllPairs R (x ∷ xs) → All (R x) xs
 AllPairs-head R x xs all k d within = all 0 (suc k) d (omega arith) (omega arith)

@@ -1,7 +1,6 @@
 -- A plan put in its place keeps the order of copies, and what is known of earlier and later plans.
-use Rattle.std.proofs.Common.{Some, ◌≡◌, ◌⊎◌, inl, inr, ℕ, zero, suc, ◌+◌, ◌<◌, Bool, true, false, cond, not, List, [], ◌∷◌, map, length, filter, refl, ap, sym, arith, Contains, All, AllPairs, subst, get_or, slice_index, IsTrue}
-use Rattle.std.proofs.lemmas.Bool.Decides.{nat_tests}
-use Rattle.std.proofs.lemmas.List.Elements.{All-cons, All-head, All-tail, All-nil, All-contains, Contains-get_or}
+use Rattle.std.proofs.Common.{Some, ◌≡◌, ◌⊎◌, inl, inr, Bool, true, false, cond, not, List, [], ◌∷◌, refl, ap, arith, Contains, All, AllPairs, subst, get_or, IsTrue}
+use Rattle.std.proofs.lemmas.List.Elements.{All-cons, All-head, All-tail, All-nil, All-contains}
 use Rattle.tp_schedule.proofs.CopyFacts.{before-not_same', same_copy-is, InOrder, before-asym, NotOf, before-trans, before-other}
 use Rattle.tp_schedule.proofs.Pairs.{AllPairs-head, AllPairs-tail, AllPairs-cons}
 use Rattle.tp_schedule.specs.Plans.{change_plan, plan_of, without, put_plan, is_same_copy, is_before}

@@ -1,10 +1,6 @@
 -- The ticks of a plan as a list.
-use Rattle.std.proofs.Common.{Some, ◌≡◌, ◌⊎◌, inl, inr, ℕ, zero, suc, ◌+◌, ◌<◌, Bool, true, false, cond, not, List, [], ◌∷◌, map, length, filter, refl, ap, sym, arith, Contains, All, AllPairs, subst, get_or, slice_index, IsTrue}
-use Rattle.std.proofs.lemmas.Bool.Decides.{nat_tests}
-use Rattle.std.proofs.lemmas.List.Elements.{All-cons, All-head, All-tail, All-nil, All-contains, Contains-get_or}
+use Rattle.std.proofs.Common.{◌≡◌, ℕ, zero, suc, ◌+◌, ◌<◌, length, refl, ap, arith, slice_index}
 use Rattle.tp_schedule.specs.Times.{ticks_from}
-use Rattle.tp_schedule.specs.declared.parts.Plan.{Plan}
-use Rattle.tp_schedule.specs.declared.parts.SheetId.{SheetId}
 
 pub length-ticks_from : (f : ℕ → ℕ) (i n : ℕ) → length (ticks_from f i n) ≡ n
 length-ticks_from f i zero = refl

@@ -12,7 +12,7 @@ use Rattle.tp_schedule.specs.Routes.{IsRoom, is_act_allowed}
 use Rattle.tp_schedule.specs.Plans.{IsTimedPlan, IsEarlier, without, end_of_plan}
 use Rattle.tp_schedule.specs.Holding.{held}
 use Rattle.tp_schedule.specs.Legality.{IsLegal}
-use Rattle.tp_schedule.specs.Spots.{Spot, Ticks, Slot, IsApart, AreApart, IsRow, IsSoundSlot, slots, slot_order, ticks_of}
+use Rattle.tp_schedule.specs.Spots.{Ticks, Slot, IsApart, AreApart, IsRow, IsSoundSlot, slots, slot_order, ticks_of}
 use Rattle.tp_schedule.specs.Spots.Spot.{own}
 use Rattle.tp_schedule.specs.Answers.{IsEarliest}
 use Rattle.tp_schedule.specs.Choices.{ChoiceList, IsChoiceList, IsFirstState, HasTimes, OpensTo}

@@ -1,6 +1,6 @@
-pub mod Timetables
 pub mod Routes
 pub mod Plans
+pub mod Timetables
 pub mod Holding
 pub mod Legality
 pub mod Spots

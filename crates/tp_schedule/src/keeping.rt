@@ -18,18 +18,18 @@ pub struct Schedule {
 
 // Clauses see the plans, and for how many more there is memory.
 impl Model for Schedule {
-    ghost use Rattle.std.specs.Prelude.{◌-◌, ◌<◌, ◌^◌, min, All, vec_len, vec_capacity};
-    ghost use Rattle.tp_schedule.specs.Timetables.{Timetable};
-    ghost use Rattle.tp_schedule.specs.Plans.{IsFormed};
+    ghost use Rattle.std.specs.Prelude.{◌-◌, ◌<◌, ◌^◌, min, vec_len, vec_capacity};
+    ghost use Rattle.tp_schedule.specs.Timetables.{IsOrdered, Timetable};
 
     ghost Value = { Timetable };
 
     ghost view = { λ s. record { plans = s.plans.items; spare = min (vec_capacity s.plans) (2 ^ 32 - 1) - vec_len s.plans } };
 
-    ghost invariant = { λ s. (vec_len s.plans < 2 ^ 32) × All IsFormed s.plans.items };
+    ghost invariant = { λ s. (vec_len s.plans < 2 ^ 32) × IsOrdered s.plans.items };
 }
 
 impl Schedule {
+    ghost use Rattle.tp_schedule.specs.Timetables.{IsOrdered};
     ghost use Rattle.tp_schedule.specs.Plans.{IsFormed, is_same_copy, plan_of, put_plan, change_plan, with_points, with_released};
     ghost use Rattle.tp_schedule.specs.Holding.{held};
     ghost use Rattle.tp_schedule.specs.Legality.{IsLegal};
@@ -63,6 +63,14 @@ impl Schedule {
             plans.push(plan.copy())?;
         }
         Ok(Schedule { plans })
+    }
+
+    /// Every schedule has its plans in the order of copies, each in its form. The call does nothing.
+    pub fn ordered(&self)
+        ensures ordered { IsOrdered self.now.plans }
+        ensures fits { length self.now.plans < 2 ^ 32 }
+    {
+        let _ = &self.plans;
     }
 
     pub fn len(&self) -> u32

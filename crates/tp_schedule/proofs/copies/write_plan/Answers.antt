@@ -1,5 +1,5 @@
 -- The write stands at the copy's place.
-use Rattle.std.proofs.Common.{◌≡◌, sym, ◌∙◌, Some, None, position}
+use Rattle.std.proofs.Common.{◌≡◌, sym, ◌∙◌, Some, position}
 use Rattle.tp_schedule.specs.Plans.{is_same_copy}
 use Rattle.tp_schedule.proofs.ChangeFacts.{change_plan-at, planned-has_place}
 use Rattle.tp_schedule.proofs.copies.write_plan.Goals as goal

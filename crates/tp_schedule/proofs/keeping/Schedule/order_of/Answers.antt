@@ -1,8 +1,5 @@
 -- The sorted holds are the order.
-use Rattle.std.proofs.Common.{◌≡◌, ap, subst, sym}
-use Rattle.std.specs.Prelude.{IfOk, List}
-use Rattle.tp_schedule.specs.declared.parts.Hold.{Hold}
-use Rattle.tp_schedule.specs.Spots.{order_of}
+use Rattle.std.proofs.Common.{◌≡◌, ap}
 use Rattle.tp_schedule.proofs.OrderFacts.{sorted-order}
 use Rattle.tp_schedule.proofs.keeping.Schedule.order_of.Goals as goal
 
