@@ -1,5 +1,5 @@
 -- Which copies hold a resource at a tick.
-use Rattle.std.specs.Prelude.{◌≡◌, ℕ, ◌+◌, Bool, ◌&&◌, ◌==◌, List, [], ◌∷◌, map, filter, flat_map, Option, Some, None}
+use Rattle.std.specs.Prelude.{ℕ, ◌+◌, Bool, ◌&&◌, ◌==◌, List, [], ◌∷◌, map, filter, flat_map, Option, Some, None}
 use Rattle.std.specs.List.{list_any}
 use Rattle.tp_machine.specs.Using.{action_at, covers}
 use Rattle.tp_machine.specs.declared.parts.ActId.{ActId}

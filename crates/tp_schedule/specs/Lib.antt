@@ -1,6 +1,6 @@
-pub mod Timetables
 pub mod Routes
 pub mod Plans
+pub mod Timetables
 pub mod Holding
 pub mod Legality
 pub mod Spots
@@ -11,6 +11,8 @@ pub mod Spending
 pub mod Completions
 pub mod Living
 pub mod Planning
+pub mod Laws
+pub mod Sorting
 pub use Rattle.tp_machine.specs.Steps
 pub use Rattle.tp_machine.specs.Using
 pub use Rattle.tp_base.specs.NameText

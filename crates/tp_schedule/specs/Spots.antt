@@ -1,6 +1,6 @@
 -- The points of plans and of choices, ticks for them, the holds that lie between two of them, and the order of the
 -- holds on a resource by their times.
-use Rattle.std.specs.Prelude.{ℕ, suc, ◌==◌, List, [], ◌∷◌, ◌++◌, flat_map, map, ℤ, int_lt, ◌≤ℤ◌, Option, Some, None, if◌then◌else◌}
+use Rattle.std.specs.Prelude.{ℕ, suc, ◌==◌, List, [], ◌∷◌, ◌++◌, flat_map, map, ℤ, pos, int_lt, ◌≤ℤ◌, ◌<ℤ◌, ◌⊎◌, Option, Some, None, if◌then◌else◌}
 use Rattle.tp_machine.specs.Using.{action_at, begin_of, end_of}
 use Rattle.tp_machine.specs.declared.parts.ActId.{ActId}
 use Rattle.tp_machine.specs.declared.parts.HoldRule.{HoldRule}
@@ -36,6 +36,21 @@ end_at t s = end_of s.rule (t s.from) (t s.to)
 -- at these ticks the first hold ends by the begin of the second
 abbrev pub IsApart : Ticks → Slot → Slot → Type 0
 IsApart t x y = end_at t x ≤ℤ begin_at t y
+
+-- whichever is earlier ends by the begin of the other
+abbrev pub AreApart : Ticks → Slot → Slot → Type 0
+AreApart t x y = IsApart t x y ⊎ IsApart t y x
+
+-- a row: each hold ends by the begin of the next
+abbrev pub IsRow : Ticks → List Slot → Type 0
+IsRow t [] = Unit {0}
+IsRow t (x ∷ []) = Unit {0}
+IsRow t (x ∷ y ∷ ys) = IsApart t x y × IsRow t (y ∷ ys)
+
+-- a hold that is not empty and does not begin before the first tick
+pub record IsSoundSlot (t : Ticks) (s : Slot) : Type 0 where
+  pub long : begin_at t s <ℤ end_at t s
+  pub late : pos 0 ≤ℤ begin_at t s
 
 -- the holds on a resource among the rules of an action that runs from one point to another
 abbrev pub slots_by : ℕ → Spot → Spot → List HoldRule → List Slot

@@ -1,15 +1,22 @@
 //! Plans of copies, schedules of plans, and the meaning of answers to asks.
 #![tactic(auto)]
 
+mod copies;
+mod holding;
 mod keeping;
+mod laws;
+mod ordering;
 mod parts;
 mod planning;
 mod recording;
 mod series;
+mod starting;
 
 pub use keeping::Schedule;
+pub use laws::{action_law, legal_law, order_law, room_law, unique_law};
 pub use parts::{Ask, Goal, Halt, Hold, Kind, Origin, Plan, Reply, SheetId};
 pub use planning::Planner;
 pub use recording::{Cause, Record, SheetName};
 pub use series::{Acts, Points};
+pub use starting::is_start;
 pub use tp_machine;

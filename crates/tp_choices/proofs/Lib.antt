@@ -1,0 +1,16 @@
+pub mod Lists
+pub mod PlansOf
+pub mod Leaving
+pub mod OwnSlots
+pub mod Completing
+pub mod TimedSlots
+pub mod Placing
+pub mod SamePlaces
+pub mod Unmoved
+pub mod AskedFront
+pub mod CompleteAnswers
+pub mod AnswerOpens
+pub mod Frontier
+pub mod LeastAnswers
+pub mod Retiming
+pub mod Searching

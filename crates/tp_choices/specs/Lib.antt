@@ -1,0 +1,15 @@
+pub mod Answering
+pub mod Parents
+pub mod Frontiers
+pub mod Searches
+pub mod Retimings
+pub use Rattle.tp_schedule.specs.Routes
+pub use Rattle.tp_schedule.specs.Plans
+pub use Rattle.tp_schedule.specs.Legality
+pub use Rattle.tp_schedule.specs.Spots
+pub use Rattle.tp_schedule.specs.Times
+pub use Rattle.tp_schedule.specs.Answers
+pub use Rattle.tp_schedule.specs.Choices
+pub use Rattle.tp_schedule.specs.Spending
+pub use Rattle.tp_schedule.specs.Completions
+pub use Rattle.tp_schedule.specs.Living

@@ -1,0 +1,56 @@
+ghost use Rattle.std.specs.Prelude.{◌≡◌, ◌<◌, length, position, unwrap_or, vec_len, vec_capacity, IfSome, IsSome, Some};
+ghost use Rattle.tp_schedule.specs.Plans.{change_plan, is_before, is_same_copy, plan_of};
+
+use crate::parts::{Plan, SheetId};
+
+fn is_earlier(one: SheetId, other: SheetId) -> bool
+    ensures { result ≡ is_before one other }
+{
+    one.job < other.job
+        || (one.job == other.job
+            && (one.number < other.number || (one.number == other.number && one.copy < other.copy)))
+}
+
+fn first_later(plans: &[Plan], copy: SheetId) -> Option<usize>
+    ensures { result ≡ position (λ q. is_before copy q.sheet) plans.now }
+{
+    plans.iter().position(|other| is_earlier(copy, other.sheet))
+}
+
+/// Where a plan of the copy goes in the order of copies.
+pub(crate) fn place_of(plans: &[Plan], copy: SheetId) -> usize
+    ensures { result ≡ unwrap_or (position (λ q. is_before copy q.sheet) plans.now) (length plans.now) }
+{
+    first_later(plans, copy).unwrap_or(plans.len())
+}
+
+/// The place of the plan of the copy.
+pub(crate) fn copy_place(plans: &[Plan], copy: SheetId) -> Option<usize>
+    ensures place { result ≡ position (λ p. is_same_copy p.sheet copy) plans.now }
+    ensures within { IfSome result (λ at. at < length plans.now) }
+{
+    plans.iter().position(|plan| plan.sheet == copy)
+}
+
+/// The plan of the copy.
+pub(crate) fn plan_in(plans: &[Plan], copy: SheetId) -> &Plan
+    requires { IsSome (plan_of copy plans.now) }
+    ensures { plan_of copy plans.now ≡ Some result.now }
+{
+    match copy_place(plans, copy) {
+        Some(at) => &plans[at],
+        None => unreachable!(),
+    }
+}
+
+/// The plan takes the place of its copy's plan.
+pub(crate) fn write_plan(plans: &mut Vec<Plan>, plan: Plan)
+    requires { IsSome (plan_of plan.sheet plans.old.items) }
+    ensures plans { plans.new.items ≡ change_plan plan.sheet (λ _. plan) plans.old.items }
+    ensures len { vec_len plans.new ≡ vec_len plans.old }
+    ensures capacity { vec_capacity plans.new ≡ vec_capacity plans.old }
+{
+    if let Some(at) = copy_place(plans.as_slice(), plan.sheet) {
+        plans[at] = plan;
+    }
+}

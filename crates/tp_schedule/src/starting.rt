@@ -1,0 +1,34 @@
+ghost use Rattle.std.specs.Prelude.{◌≡◌, ◌↔◌, Any, IsTrue};
+ghost use Rattle.std.specs.List.{list_any};
+ghost use Rattle.tp_schedule.specs.Routes.{IsStart, fresh};
+
+use crate::parts::{Ask, Origin};
+use tp_machine::{Face, Feeder, LocId, Machine, Sheet, State};
+
+/// A new sheet at a location.
+fn new_sheet(loc: LocId) -> State
+    ensures { result ≡ fresh loc }
+{
+    State {
+        loc,
+        up: Face::Front,
+        front_done: false,
+        back_done: false,
+    }
+}
+
+fn is_at_feeder(feeders: &[Feeder], sheet: &Sheet, state: State) -> bool
+    ensures { IsTrue result ↔ Any (λ f. (f.media ≡ sheet.now.media) × (state ≡ fresh f.loc)) feeders.now }
+{
+    feeders.iter().any(|feeder| feeder.media == sheet.media && state == new_sheet(feeder.loc))
+}
+
+/// Whether the state is a start state of the ask.
+pub fn is_start(machine: &Machine, ask: &Ask, state: State) -> bool
+    ensures { IsTrue result ↔ IsStart machine.now ask.entry.now state }
+{
+    match ask.origin {
+        Origin::Feeder => is_at_feeder(machine.feeders.as_slice(), &ask.want, state),
+        Origin::Front { state: front, .. } => state == front,
+    }
+}
