@@ -1,0 +1,9 @@
+pub mod WalkFacts
+pub mod SettleFacts
+pub mod SavedFacts
+pub mod StackFacts
+pub mod LinkFacts
+pub mod KeepFacts
+pub mod PastFacts
+pub mod UndoFacts
+pub mod PlainFacts
