@@ -1,5 +1,4 @@
-pub mod WalkFacts
-pub mod SettleFacts
+pub mod RoundFacts
 pub mod SavedFacts
 pub mod StackFacts
 pub mod LinkFacts

@@ -1,4 +1,3 @@
-pub mod Kept
 pub mod Saved
 pub mod Marks
 pub mod Working

@@ -3,8 +3,8 @@ use Rattle.std.specs.Prelude.{ℕ, List, ◌≡◌}
 use Rattle.std.proofs.Common.{subst}
 use Rattle.tp_base.specs.declared.edges.Edge.{Edge}
 use Rattle.tp_base.specs.Net.{Net}
-use Rattle.tp_stn_core.specs.declared.kept.Kept.{Kept}
-use Rattle.tp_stn_core.specs.Kept.{KeptRefutes}
+use Rattle.tp_base.specs.declared.kept.Kept.{Kept}
+use Rattle.tp_base.specs.Kept.{KeptRefutes}
 
 -- the net, the nets at the marks in force, what the network was made for, and what is kept of a refusal
 pub record PlainState : Type 0 where

@@ -1,15 +1,14 @@
-use crate::kept::Kept;
 use crate::plain::PlainNet;
 use crate::saving::save;
 use crate::solving::solve;
 use std::mem;
-use tp_base::{Edge, Full, Late, Network, PointId, Proof, Tick};
+use tp_base::{Edge, Full, Kept, Late, Network, PointId, Proof, Tick};
 
 impl Network for PlainNet {
     ghost use Rattle.std.specs.Prelude.{ℕ, List, ◌≡◌};
     ghost use Rattle.std.proofs.Common.{ap};
     ghost use Rattle.tp_base.specs.Net.{Net};
-    ghost use Rattle.tp_stn_core.specs.Kept.{KeptRefutes};
+    ghost use Rattle.tp_base.specs.Kept.{KeptRefutes};
     ghost use Rattle.tp_stn_core.specs.PlainState.{PlainState, PlainAside, refutes_by};
 
     ghost net = { λ n. n.net };

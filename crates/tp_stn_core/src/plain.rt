@@ -1,13 +1,12 @@
 ghost use Rattle.std.specs.Prelude.{◌≡◌, [], IfOk};
 ghost use Rattle.tp_base.specs.Net.{empty_net};
 
-use crate::kept::Kept;
 use crate::marks::PlainMark;
 use crate::saving::SavedLow;
 use crate::solving::Working;
 use std::alloc::{AllocError, Global};
 use std::marker::Model;
-use tp_base::{Edge, Memory};
+use tp_base::{Edge, Kept, Memory};
 
 /// A network that works out its least solution from scratch at each change. With n points and m edges a change takes at
 /// most (n + m) steps for each round, and one round for each edge in a row that stands against the order of the edges.

@@ -2,46 +2,11 @@ ghost use Rattle.std.specs.Prelude.{◌≡◌, ℕ, ◌<◌, ◌≤◌, length, 
 ghost use Rattle.std.specs.List.{All, Contains};
 ghost use Rattle.tp_base.specs.Net.{Keeps, IsLeast};
 ghost use Rattle.tp_base.specs.Grows.{IsKnown, Rises, PassesCap, AreWithin, slack, cause_of};
-ghost use Rattle.tp_stn_core.specs.Kept.{net_of, KeptRefutes};
+ghost use Rattle.tp_base.specs.Kept.{net_of, KeptRefutes};
 
-use crate::kept::Kept;
-use crate::walking::trace;
-use tp_base::{Edge, PointId};
+use tp_base::{Edge, Kept, PointId, raise_end, trace_causes};
 
-/// Raises the end of an edge to what the edge asks for. Says whether that was more; or, where it passes the upper bound,
-/// which point that is.
-pub fn step(
-    caps: &[u32],
-    edge: &Edge,
-    times: &mut [u32],
-    causes: &mut [Option<Edge>],
-) -> Result<bool, PointId>
-    requires known { IsKnown (length times.old) edge.now }
-    requires caps { length caps.now ≡ length times.old }
-    requires causes { length causes.old ≡ length times.old }
-    requires within { AreWithin caps.now times.old }
-    ensures rises { OnOk result ((edges : _) → Contains edges edge.now → Rises edges times.old causes.old times.new causes.new) }
-    ensures within { AreWithin caps.now times.new }
-    ensures keeps { result ≡ Ok false → Keeps (slice_index times.new) edge.now }
-    ensures same { result ≡ Ok false → times.new ≡ times.old }
-    ensures less { result ≡ Ok true → slack caps.now times.new < slack caps.now times.old }
-    ensures late { IfErr result (λ p. (edges : _) → Contains edges edge.now → PassesCap caps.now edges times.old causes.old causes.new p.0) }
-{
-    let from = edge.from.0 as usize;
-    let to = edge.to.0 as usize;
-    let reach = i64::from(times[from]) + edge.weight;
-    if reach <= i64::from(times[to]) {
-        return Ok(false);
-    }
-    causes[to] = Some(*edge);
-    if reach > i64::from(caps[to]) {
-        return Err(edge.to);
-    }
-    times[to] = reach as u32;
-    Ok(true)
-}
-
-/// One step along each edge. Gives the point that rose last, if any did; or the one that has to pass its upper bound.
+/// Raises the end of each edge, one after another. Gives the point that rose last, if any did; or the one that has to pass its upper bound.
 fn round(
     caps: &[u32],
     edges: &[Edge],
@@ -61,7 +26,7 @@ fn round(
 {
     let mut last = None;
     'edges: for edge in edges {
-        let rose = match step(caps, edge, times, causes) {
+        let rose = match raise_end(caps, edge, times, causes) {
             Ok(rose) => rose,
             Err(point) => return Err(point),
         };
@@ -100,12 +65,12 @@ pub(crate) fn settle(
         match round(caps, edges, times, causes) {
             Ok(None) => return Ok(()),
             Ok(Some(point)) => {
-                if trace(causes, point, path, places).is_none() {
+                if trace_causes(causes, point, path, places).is_none() {
                     return Err(Kept::Circle);
                 }
             }
             Err(point) => {
-                return match trace(causes, point, path, places) {
+                return match trace_causes(causes, point, path, places) {
                     Some(first) => Err(Kept::Chain(first)),
                     None => Err(Kept::Circle),
                 };

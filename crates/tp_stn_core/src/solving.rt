@@ -2,13 +2,12 @@ ghost use Rattle.std.specs.Prelude.{◌≡◌, ℕ, ◌<◌, ◌≤◌, length, 
 ghost use Rattle.std.specs.List.{All};
 ghost use Rattle.tp_base.specs.Net.{IsLeast, HasNoSolution};
 ghost use Rattle.tp_base.specs.Grows.{IsKnown, AreWithin, cause_of};
-ghost use Rattle.tp_stn_core.specs.Kept.{net_of, KeptRefutes};
+ghost use Rattle.tp_base.specs.Kept.{net_of, KeptRefutes};
 ghost use Rattle.tp_stn_core.specs.Working.{HasWorkingRoom};
 
-use crate::kept::Kept;
 use crate::rounds::settle;
 use std::alloc::{AllocError, Global};
-use tp_base::Edge;
+use tp_base::{Edge, Kept};
 
 /// Where a solution is worked out: the times, the edge that each was raised along last, and room for a path of them.
 #[derive(Drop)]

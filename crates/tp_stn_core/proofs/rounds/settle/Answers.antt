@@ -2,8 +2,9 @@ use Rattle.std.proofs.Common.{Ok, arith, ◌∙◌, ap, subst, length}
 use Rattle.tp_base.specs.Grows.{Rises, PassesCap}
 use Rattle.tp_base.proofs.GrowsFacts.{Rises-trans, PassesCap-after}
 use Rattle.tp_base.proofs.LeastFacts.{settled_least}
-use Rattle.tp_stn_core.specs.Kept.{net_of}
-use Rattle.tp_stn_core.proofs.SettleFacts.{risen_causes, risen_circle, passed_causes, passed_chain, passed_circle, none_of}
+use Rattle.tp_base.specs.Kept.{net_of}
+use Rattle.tp_base.proofs.RisenFacts.{risen_causes, risen_circle, passed_causes, passed_chain, passed_circle}
+use Rattle.tp_stn_core.proofs.RoundFacts.{none_of}
 use Rattle.tp_stn_core.proofs.rounds.settle.Goals as goal
 use Rattle.tp_stn_core.proofs.rounds.settle.Goals.{In-Ok-None, In-Ok-Some, In-Err}
 
@@ -26,28 +27,28 @@ returns-in-Ok-None-clause-least c =
     (subst (λ ts. Rises c.args.edges.now ts c.args.causes.now c.round.new.times c.round.new.causes) c.requires.start rises)
     c.in-Ok-None.ensures.within (c.in-Ok-None.ensures.keeps (ap Ok c.in-Ok-None.field-0-is))
 
-pub trace-requires-clause-causes : goal.trace-requires-clause-causes
-trace-requires-clause-causes k =
-    let c = (goal.at.trace-requires-clause-causes k).In-Ok-Some in
+pub trace_causes-requires-clause-causes : goal.trace_causes-requires-clause-causes
+trace_causes-requires-clause-causes k =
+    let c = (goal.at.trace_causes-requires-clause-causes k).In-Ok-Some in
     risen_causes c.args.lows.now c.args.edges.now c.args.causes.now c.round.new.causes c.round.new.times c.requires.causeless (c.round.auto.causes ∙ c.rounds.auto.causes ∙ c.requires.causes) (risen c)
 
 pub returns-then-is_none-clause-refuted : goal.returns-then-is_none-clause-refuted
 returns-then-is_none-clause-refuted k =
     let c = (goal.at.returns-then-is_none-clause-refuted k).In-Ok-Some in
     risen_circle c.args.lows.now c.args.edges.now c.args.causes.now c.round.new.causes c.round.new.times c.requires.causeless (c.round.auto.causes ∙ c.rounds.auto.causes ∙ c.requires.causes)
-    c.args.caps.now k.trace.new.path.items (risen c) (none_of k.trace.result _ k.trace.ensures.circle k.if-is_none.ensures)
+    c.args.caps.now k.trace_causes.new.path.items (risen c) (none_of k.trace_causes.result _ k.trace_causes.ensures.circle k.if-is_none.ensures)
 
 pub rounds-preserved : goal.rounds-preserved
 rounds-preserved c = record {
   rises = Rises-trans c.args.edges.now c.args.times.now c.rounds.times c.round.new.times c.args.causes.now c.rounds.causes c.round.new.causes c.rounds.auto.times c.rounds.invariant.rises c.in-Ok-Some.ensures.rises;
   within = c.in-Ok-Some.ensures.within;
-  path_kept = omega (arith, c.trace.ensures.path_kept, c.rounds.invariant.path_kept);
-  places_kept = omega (arith, c.trace.ensures.places_kept, c.rounds.invariant.places_kept);
+  path_kept = omega (arith, c.trace_causes.ensures.path_kept, c.rounds.invariant.path_kept);
+  places_kept = omega (arith, c.trace_causes.ensures.places_kept, c.rounds.invariant.places_kept);
 }
 
-pub trace-requires-in-Err-clause-causes : goal.trace-requires-in-Err-clause-causes
-trace-requires-in-Err-clause-causes k =
-    let c = (goal.at.trace-requires-in-Err-clause-causes k).In-Err in
+pub trace_causes-requires-in-Err-clause-causes : goal.trace_causes-requires-in-Err-clause-causes
+trace_causes-requires-in-Err-clause-causes k =
+    let c = (goal.at.trace_causes-requires-in-Err-clause-causes k).In-Err in
     passed_causes c.args.lows.now c.args.caps.now c.args.edges.now c.args.causes.now c.round.new.causes c.in-Err.point.0 c.requires.causeless (c.round.auto.causes ∙ c.rounds.auto.causes ∙ c.requires.causes) (passed c)
 
 pub returns-in-Some-clause-refuted : goal.returns-in-Some-clause-refuted

@@ -1,5 +1,5 @@
-use Rattle.tp_stn_core.specs.Kept.{net_of}
-use Rattle.tp_stn_core.proofs.SettleFacts.{refuted_none}
+use Rattle.tp_base.specs.Kept.{net_of}
+use Rattle.tp_base.proofs.RisenFacts.{refuted_none}
 use Rattle.tp_stn_core.proofs.solving.solve.Goals as goal
 
 pub returns-clause-none : goal.returns-clause-none

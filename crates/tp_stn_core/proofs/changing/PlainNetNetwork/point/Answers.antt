@@ -5,7 +5,7 @@ use Rattle.tp_base.specs.Net.{IsLeast}
 use Rattle.tp_base.proofs.LeastFacts.{point_within, point_known, point_least}
 use Rattle.tp_stn_core.specs.Marks.{past_of}
 use Rattle.tp_stn_core.specs.Sound.{IsSound}
-use Rattle.tp_stn_core.specs.Kept.{net_of}
+use Rattle.tp_base.specs.Kept.{net_of}
 use Rattle.tp_stn_core.specs.PlainState.{PlainState}
 use Rattle.tp_stn_core.proofs.StackFacts.{stacked_grown}
 use Rattle.tp_stn_core.proofs.KeepFacts.{saved_pointed}

@@ -2,7 +2,7 @@ use Rattle.std.proofs.Common.{arith, ◌≡◌, ◌<◌, pos, ◌+ℤ◌, slice_
 use Rattle.std.proofs.lemmas.Int.{ints}
 use Rattle.tp_base.specs.Grows.{cause_of}
 use Rattle.tp_base.proofs.GrowsFacts.{Grows-step, Changes-set, Changes-changed, changed, slack-set, nat_abs-is, nat_abs-above, nat_abs-at_most}
-use Rattle.tp_stn_core.proofs.rounds.step.Goals as goal
+use Rattle.tp_base.proofs.steps.raise_end.Goals as goal
 
 pub returns-then-reach-from-2-clause-late : goal.returns-then-reach-from-2-clause-late
 returns-then-reach-from-2-clause-late c edges in_list =

@@ -1,7 +1,7 @@
 use Rattle.std.proofs.Common.{◌≤◌, ◌-◌, length, vec_capacity}
 use Rattle.tp_base.proofs.TraceFacts.{IsWayBack}
-use Rattle.tp_stn_core.proofs.WalkFacts.{AreMarked}
-use Rattle.tp_stn_core.proofs.walking.trace.Given as goal
+use Rattle.tp_base.proofs.WalkFacts.{AreMarked}
+use Rattle.tp_base.proofs.walking.trace_causes.Given as goal
 
 abbrev pub invariant-back : goal.invariant-back
 invariant-back l = record {

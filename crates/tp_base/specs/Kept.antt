@@ -1,8 +1,8 @@
 -- What a network keeps of a refusal.
 use Rattle.std.specs.Prelude.{ℕ, List}
 use Rattle.tp_base.specs.declared.edges.Edge.{Edge}
-use Rattle.tp_stn_core.specs.declared.kept.Kept.{Kept}
-use Rattle.tp_stn_core.specs.declared.kept.Kept.TheVariants.{Nothing, Chain, Circle}
+use Rattle.tp_base.specs.declared.kept.Kept.{Kept}
+use Rattle.tp_base.specs.declared.kept.Kept.TheVariants.{Nothing, Chain, Circle}
 use Rattle.tp_base.specs.Net.{Net}
 use Rattle.tp_base.specs.Refute.{IsLateChain, IsLateCircle}
 

@@ -1,4 +1,4 @@
-use tp_base::PointId;
+use crate::edges::PointId;
 
 /// What is kept of a refusal, beside its edges.
 #[derive(Clone, Copy, Debug)]

@@ -1,7 +1,7 @@
 use Rattle.std.proofs.Common.{arith, ◌≡◌, ◌<◌, ◌+◌, ◌-◌, length, ap, ◌∙◌, take}
 use Rattle.tp_base.proofs.TraceFacts.{WayBack-short, WayBack-push, WayBack-chain, WayBack-circle}
-use Rattle.tp_stn_core.proofs.WalkFacts.{AreMarked-push, free_at, held_at, place_within}
-use Rattle.tp_stn_core.proofs.walking.trace.Goals as goal
+use Rattle.tp_base.proofs.WalkFacts.{AreMarked-push, free_at, held_at, place_within}
+use Rattle.tp_base.proofs.walking.trace_causes.Goals as goal
 
 pub overflow_sub-len : goal.overflow_sub-len
 overflow_sub-len c =

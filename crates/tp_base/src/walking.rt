@@ -1,12 +1,12 @@
 ghost use Rattle.std.specs.Prelude.{◌≡◌, ℕ, ◌<◌, ◌≤◌, length, IfSome, IfNone, vec_capacity};
 ghost use Rattle.tp_base.specs.Refute.{AreCauses, IsCauseChain, IsCauseCircle};
 
-use tp_base::{Edge, PointId};
+use crate::edges::{Edge, PointId};
 
 /// Writes the causes that lead to a point, the first first. Gives the point that they begin at, which has none; or
 /// `None` where they lead round, and then the path is the way round. `places` is working space. Takes time for the
 /// points, not for the edges.
-pub fn trace(
+pub fn trace_causes(
     causes: &[Option<Edge>],
     from: PointId,
     path: &mut Vec<Edge>,
