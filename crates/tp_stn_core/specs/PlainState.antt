@@ -1,0 +1,31 @@
+-- What a plain network is seen as.
+use Rattle.std.specs.Prelude.{ℕ, List, ◌≡◌}
+use Rattle.std.proofs.Common.{subst}
+use Rattle.tp_base.specs.declared.edges.Edge.{Edge}
+use Rattle.tp_base.specs.Net.{Net}
+use Rattle.tp_base.specs.declared.kept.Kept.{Kept}
+use Rattle.tp_base.specs.Kept.{KeptRefutes}
+
+-- the net, the nets at the marks in force, what the network was made for, and what is kept of a refusal
+pub record PlainState : Type 0 where
+  pub net : Net
+  pub past : List Net
+  pub point_room : ℕ
+  pub edge_room : ℕ
+  pub mark_room : ℕ
+  pub kept : Kept
+  pub path : List Edge
+
+-- what marks leave alone
+pub record PlainAside : Type 0 where
+  pub points : ℕ
+  pub edges : ℕ
+  pub kept : Kept
+  pub path : List Edge
+
+abbrev pub aside_of : PlainState → PlainAside
+aside_of n = record { points = n.point_room; edges = n.edge_room; kept = n.kept; path = n.path }
+
+-- what is kept of a refusal is left alone with the rest
+pub refutes_by : (a b : PlainState) (late : Net) → aside_of a ≡ aside_of b → KeptRefutes late a.kept a.path → KeptRefutes late b.kept b.path
+refutes_by a b late e h = subst (λ (x : PlainAside). KeptRefutes late x.kept x.path) e h

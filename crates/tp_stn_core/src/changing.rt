@@ -1,0 +1,121 @@
+use crate::plain::PlainNet;
+use crate::saving::save;
+use crate::solving::solve;
+use std::mem;
+use tp_base::{Edge, Full, Kept, Late, Network, PointId, Proof, Tick};
+
+impl Network for PlainNet {
+    ghost use Rattle.std.specs.Prelude.{ℕ, List, ◌≡◌};
+    ghost use Rattle.std.proofs.Common.{ap};
+    ghost use Rattle.tp_base.specs.Net.{Net};
+    ghost use Rattle.tp_base.specs.Kept.{KeptRefutes};
+    ghost use Rattle.tp_stn_core.specs.PlainState.{PlainState, PlainAside, refutes_by};
+
+    ghost net = { λ n. n.net };
+
+    ghost refutes = { λ n late. KeptRefutes late n.kept n.path };
+
+    ghost point_room = { λ n. n.point_room };
+
+    ghost edge_room = { λ n. n.edge_room };
+
+    ghost net_by_content = { λ a b e. e };
+
+    ghost refutes_by_aside = { refutes_by };
+
+    ghost points_by_aside = { λ a b e. ap (λ (x : PlainAside). x.points) e };
+
+    ghost edges_by_aside = { λ a b e. ap (λ (x : PlainAside). x.edges) e };
+
+    fn clear(&mut self) {
+        self.lows.clear();
+        self.caps.clear();
+        self.edges.clear();
+        self.times.clear();
+        self.saved.clear();
+        self.newest.clear();
+        self.marks.clear();
+    }
+
+    fn point(&mut self, low: Tick, cap: Tick) -> Result<PointId, Full> {
+        if self.lows.len() == self.point_room as usize {
+            return Err(Full);
+        }
+        let number = self.lows.len() as u32;
+        let Ok(()) = self.lows.push(low) else {
+            unreachable!()
+        };
+        let Ok(()) = self.caps.push(cap) else {
+            unreachable!()
+        };
+        let Ok(()) = self.times.push(low) else {
+            unreachable!()
+        };
+        let Ok(()) = self.newest.push(0) else {
+            unreachable!()
+        };
+        Ok(PointId(number))
+    }
+
+    fn spare_edges(&self) -> u32 {
+        self.edge_room - self.edges.len() as u32
+    }
+
+    fn require(&mut self, edge: Edge) -> Result<(), Late> {
+        let Ok(()) = self.edges.push(edge) else {
+            unreachable!()
+        };
+        match solve(&self.lows, &self.caps, &self.edges, &mut self.working) {
+            Ok(()) => {
+                mem::swap(&mut self.times, &mut self.working.times);
+                Ok(())
+            }
+            Err(kept) => {
+                let count = self.edges.len() - 1;
+                self.edges.truncate(count);
+                mem::swap(&mut self.path, &mut self.working.path);
+                self.kept = kept;
+                Err(Late)
+            }
+        }
+    }
+
+    fn raise(&mut self, point: PointId, low: Tick) -> Result<(), Late> {
+        let at = point.0 as usize;
+        if low > self.caps[at] {
+            self.path.clear();
+            self.kept = Kept::Chain(point);
+            return Err(Late);
+        }
+        let old = self.lows[at];
+        self.lows[at] = low;
+        match solve(&self.lows, &self.caps, &self.edges, &mut self.working) {
+            Ok(()) => {
+                save(&mut self.saved, &mut self.newest, &self.marks, point, old);
+                mem::swap(&mut self.times, &mut self.working.times);
+                Ok(())
+            }
+            Err(kept) => {
+                self.lows[at] = old;
+                mem::swap(&mut self.path, &mut self.working.path);
+                self.kept = kept;
+                Err(Late)
+            }
+        }
+    }
+
+    fn earliest(&self, point: PointId) -> Tick {
+        self.times[point.0 as usize]
+    }
+
+    fn proof(&self) -> Proof<'_> {
+        match self.kept {
+            Kept::Nothing => unreachable!(),
+            Kept::Chain(first) => Proof::Chain {
+                first,
+                edges: &self.path,
+            },
+            Kept::Circle => Proof::Circle { edges: &self.path },
+        }
+    }
+}

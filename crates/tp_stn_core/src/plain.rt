@@ -1,0 +1,74 @@
+ghost use Rattle.std.specs.Prelude.{◌≡◌, [], IfOk};
+ghost use Rattle.tp_base.specs.Net.{empty_net};
+
+use crate::marks::PlainMark;
+use crate::saving::SavedLow;
+use crate::solving::Working;
+use std::alloc::{AllocError, Global};
+use std::marker::Model;
+use tp_base::{Edge, Kept, Memory};
+
+/// A network that works out its least solution from scratch at each change. With n points and m edges a change takes at
+/// most (n + m) steps for each round, and one round for each edge in a row that stands against the order of the edges.
+/// A mark takes constant time, and going back takes a step for each lower bound that was saved since, and one solution.
+#[derive(Drop)]
+pub struct PlainNet {
+    pub(crate) point_room: u32,
+    pub(crate) edge_room: u32,
+    pub(crate) mark_room: u32,
+    pub(crate) lows: Vec<u32>,
+    pub(crate) caps: Vec<u32>,
+    pub(crate) edges: Vec<Edge>,
+    /// The least solution.
+    pub(crate) times: Vec<u32>,
+    pub(crate) working: Working,
+    pub(crate) kept: Kept,
+    /// The edges that show why the last refused change was refused.
+    pub(crate) path: Vec<Edge>,
+    pub(crate) saved: Vec<SavedLow>,
+    /// For each point where its last saved lower bound stands, counted from 1, or 0.
+    pub(crate) newest: Vec<usize>,
+    pub(crate) marks: Vec<PlainMark>,
+}
+
+// Clauses see the net, the nets at the marks in force, and what the network was made for.
+impl Model for PlainNet {
+    ghost use Rattle.tp_stn_core.specs.PlainState.{PlainState};
+
+    ghost Value = { PlainState };
+
+    ghost use Rattle.tp_stn_core.specs.Plain.{state_of, IsPlain};
+
+    ghost view = { state_of };
+
+    ghost invariant = { IsPlain };
+}
+
+impl PlainNet {
+    /// Takes all the memory that the network will ever hold. Of that 16 bytes for each point and mark are for lower bounds
+    /// that change: 330 marks on 16,642 points take 88 MB, which the system hands over as they are used.
+    pub fn new(alloc: Global, points: u32, edges: u32, marks: u32) -> Result<PlainNet, Memory>
+        ensures net { IfOk result (λ n. n.net ≡ empty_net) }
+        ensures past { IfOk result (λ n. n.past ≡ []) }
+        ensures points { IfOk result (λ n. n.point_room ≡ points) }
+        ensures edges { IfOk result (λ n. n.edge_room ≡ edges) }
+        ensures marks { IfOk result (λ n. n.mark_room ≡ marks) }
+    {
+        let room = points as usize;
+        Ok(PlainNet {
+            point_room: points,
+            edge_room: edges,
+            mark_room: marks,
+            lows: Vec::with_capacity(alloc, room)?,
+            caps: Vec::with_capacity(alloc, room)?,
+            edges: Vec::with_capacity(alloc, edges as usize)?,
+            times: Vec::with_capacity(alloc, room)?,
+            working: Working::new(alloc, room)?,
+            kept: Kept::Nothing,
+            path: Vec::with_capacity(alloc, room)?,
+            saved: Vec::with_capacity(alloc, room * marks as usize)?,
+            newest: Vec::with_capacity(alloc, room)?,
+            marks: Vec::with_capacity(alloc, marks as usize)?,
+        })
+    }
+}
