@@ -40,3 +40,8 @@ pub ruleset seen = (list_all-map, list_any-map, map-map, length-map, values_seen
 -- a test of each key of a table
 pub keys_pass : (p : List ℕ → Bool) (m : BTreeMap (String Global) Value) → list_all (λ k. p (string_bytes k)) (map_keys m.entries) ≡ list_all p (keys_of (table_view m))
 keys_pass p m = sym (ap (list_all p) (keys_seen m.entries) ∙ list_all-map p string_bytes (map_keys m.entries))
+
+-- a test of each value that the code sees, and the same test of what it sees
+pub all_seen : {A D : Type 0} (see : A → D) (p q : D → Bool) (vs : List A) (ds : List D) → ((d : D) → p d ≡ q d) → map see vs ≡ ds → list_all (λ v. p (see v)) vs ≡ list_all q ds
+all_seen see p q [] ds same seen = rw (← seen)
+all_seen see p q (v ∷ vs) ds same seen = rw (← seen, same (see v)) (ap (λ b. q (see v) && b) (all_seen see p q vs (map see vs) same refl))

@@ -1,8 +1,8 @@
 -- The rules on the keys, the format and the three numbers, and on locations, modules, trays and purge trays.
-use Rattle.std.specs.Prelude.{ℕ, ℤ, pos, Bool, not, ◌&&◌, nat_le, List, [], ◌∷◌, length, codes}
+use Rattle.std.specs.Prelude.{ℕ, ℤ, pos, Bool, ◌&&◌, nat_le, List, [], ◌∷◌, length, codes}
 use Rattle.std.specs.List.{list_all}
 use Rattle.toml.specs.Data.{Data, Members, get_member}
-use Rattle.tp_machine_text.specs.Words.{keys_of, elements_at, is_there, is_fit, is_array, is_whole, is_among, is_one_of, are_names, are_from}
+use Rattle.tp_machine_text.specs.Words.{keys_of, elements_at, is_there, is_fit, is_array, is_whole, is_among, is_apart, are_names, are_from}
 use Rattle.tp_machine_text.specs.Keys.{top_keys, locations, trays}
 
 -- every key of the top table is known
@@ -41,7 +41,7 @@ has_trays t = nat_le 1 (length (elements_at (codes "trays") t)) && are_from (loc
 abbrev pub has_purges : Members → Bool
 has_purges t =
     is_fit is_array (get_member (codes "purge") t) && are_from (locations t) (elements_at (codes "purge") t)
-    && list_all (λ d. not (is_one_of (trays t) d)) (elements_at (codes "purge") t)
+    && list_all (is_apart (trays t)) (elements_at (codes "purge") t)
 
 abbrev pub number_rules : Members → List Bool
 number_rules t = has_known_keys t ∷ has_format t ∷ has_lead t ∷ has_window t ∷ has_budget t ∷ []

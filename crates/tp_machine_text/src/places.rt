@@ -1,11 +1,14 @@
-ghost use Rattle.std.specs.Prelude.{◌≡◌, not, map};
+ghost use Rattle.std.specs.Prelude.{◌≡◌, map};
 ghost use Rattle.std.specs.List.{list_all};
 ghost use Rattle.toml.specs.View.{table_view, view};
-ghost use Rattle.tp_machine_text.specs.Words.{text_of, is_one_of as is_text_of};
+ghost use Rattle.tp_machine_text.specs.Words.{text_of, is_apart};
+ghost use Rattle.tp_machine_text.specs.Keys.{trays};
 ghost use Rattle.tp_machine_text.specs.Order.{first_from};
 ghost use Rattle.tp_machine_text.specs.TopRules.{has_locations, has_modules, has_trays, has_purges, place_rules};
 
-use crate::looking::{are_from, are_names, is_one_of, value_at, values_at};
+use crate::looking::{
+    are_from, are_names, is_array_or_absent, is_one_of, value_at, values_at, values_in,
+};
 use toml::{Table, Value};
 
 /// The first of the rules 6 to 9 that is broken.
@@ -51,19 +54,21 @@ fn has_trays(table: &Table) -> bool
 fn has_purges(table: &Table) -> bool
     ensures { result ≡ has_purges (table_view table.now) }
 {
-    let is_array = match value_at(table, "purge") {
-        Some(value) => value.is_array(),
-        None => true,
-    };
-    let purges = values_at(table, "purge");
-    is_array
-        && are_from(values_at(table, "locations"), purges)
-        && are_none_of(values_at(table, "trays"), purges)
+    let purge = value_at(table, "purge");
+    let purges = values_in(purge);
+    let known = are_from(values_at(table, "locations"), purges);
+    is_array_or_absent(purge) && known && are_no_trays(table, purges)
+}
+
+fn are_no_trays(table: &Table, purges: &[Value]) -> bool
+    ensures { result ≡ list_all (is_apart (trays (table_view table.now))) (map view purges.now) }
+{
+    are_none_of(values_at(table, "trays"), purges)
 }
 
 /// Whether none of the values is one of these texts.
 fn are_none_of(texts: &[Value], values: &[Value]) -> bool
-    ensures { result ≡ list_all (λ v. not (is_text_of (map text_of (map view texts.now)) (view v))) values.now }
+    ensures { result ≡ list_all (λ v. is_apart (map text_of (map view texts.now)) (view v)) values.now }
 {
     values.iter().all(|value| !is_one_of(texts, value))
 }
