@@ -1,1 +1,4 @@
 pub mod Seen
+pub mod Kept
+pub mod Fresh
+pub mod Sorted

@@ -22,13 +22,13 @@ abbrev pub has_point : List ℕ → Data → Bool
 has_point key h = is_point (elements_in (get key h))
 
 -- a table with exactly the keys resource, begin and end, the resource being one that there is
-abbrev pub is_hold : List (List ℕ) → Data → Bool
+unfoldable pub is_hold : List (List ℕ) → Data → Bool
 is_hold resources h =
     is_table h && are_keys_among hold_keys h && is_there (is_one_of resources) (get (codes "resource") h)
     && has_point (codes "begin") h && has_point (codes "end") h
 
 -- `holds`, where it is there, is an array of at most 4 holds, and their resources differ within the action
-abbrev pub has_holds : List (List ℕ) → Data → Bool
+unfoldable pub has_holds : List (List ℕ) → Data → Bool
 has_holds resources a =
     is_fit is_array (get (codes "holds") a) && nat_le (length (holds a)) 4 && list_all (is_hold resources) (holds a)
     && are_different (map (text_at (codes "resource")) (holds a))
@@ -65,7 +65,7 @@ abbrev pub most_of : Data → ℕ
 most_of a = number_of (whole_at (codes "most") a)
 
 -- each hold begins at or after its action's start for every duration
-abbrev pub begins_in_action : ℕ → Data → Bool
+unfoldable pub begins_in_action : ℕ → Data → Bool
 begins_in_action least h = begins_within least (anchor_at (codes "begin") h) (offset_at (codes "begin") h)
 
 abbrev pub begins_all : Data → Bool
@@ -75,7 +75,7 @@ abbrev pub has_hold_begins : Members → Bool
 has_hold_begins t = list_all begins_all (actions t)
 
 -- no hold can be empty: it begins before it ends, whatever the duration
-abbrev pub is_filled : ℕ → ℕ → Data → Bool
+unfoldable pub is_filled : ℕ → ℕ → Data → Bool
 is_filled least most h =
     is_never_empty least most (anchor_at (codes "begin") h) (offset_at (codes "begin") h) (anchor_at (codes "end") h) (offset_at (codes "end") h)
 

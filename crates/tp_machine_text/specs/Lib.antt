@@ -6,3 +6,5 @@ pub mod SupplyRules
 pub mod ActionRules
 pub mod HoldRules
 pub mod Broken
+pub mod Kept
+pub mod TheMachine

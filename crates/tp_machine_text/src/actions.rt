@@ -111,6 +111,7 @@ fn are_named(actions: &[Value]) -> bool
     actions.iter().all(is_named)
 }
 
+#[tactic(auto, unfolding(crate::specs::ActionRules::is_named))]
 fn is_named(action: &Value) -> bool
     ensures { result ≡ is_named (view action.now) }
 {
@@ -132,6 +133,7 @@ fn have_modules(modules: &[Value], actions: &[Value]) -> bool
     actions.iter().all(|action| is_of_module(modules, action))
 }
 
+#[tactic(auto, unfolding(crate::specs::ActionRules::is_of_module))]
 fn is_of_module(modules: &[Value], action: &Value) -> bool
     ensures { result ≡ is_of_module (map text_of (map view modules.now)) (view action.now) }
 {
@@ -153,6 +155,7 @@ fn have_ends(locations: &[Value], actions: &[Value]) -> bool
     actions.iter().all(|action| has_ends(locations, action))
 }
 
+#[tactic(auto, unfolding(crate::specs::ActionRules::has_ends))]
 fn has_ends(locations: &[Value], action: &Value) -> bool
     ensures { result ≡ has_ends (map text_of (map view locations.now)) (view action.now) }
 {
@@ -179,6 +182,7 @@ fn are_ways(trays: &[Value], purges: &[Value], feeders: Option<&Table>, actions:
         .all(|action| is_way(trays, purges, feeders, action))
 }
 
+#[tactic(auto, unfolding(crate::specs::ActionRules::is_way))]
 fn is_way(trays: &[Value], purges: &[Value], feeders: Option<&Table>, action: &Value) -> bool
     ensures { result ≡ is_way (map text_of (map view trays.now)) (map text_of (map view purges.now)) (keys_of (members_of (option_map (λ m. table_view m.now) feeders.entry))) (view action.now) }
 {
@@ -199,6 +203,7 @@ fn have_durations(actions: &[Value]) -> bool
     actions.iter().all(has_durations)
 }
 
+#[tactic(auto, unfolding(crate::specs::ActionRules::has_durations))]
 fn has_durations(action: &Value) -> bool
     ensures { result ≡ has_durations (view action.now) }
 {
@@ -220,7 +225,7 @@ fn have_prints(actions: &[Value]) -> bool
     actions.iter().all(has_prints)
 }
 
-#[tactic(auto, using(crate::proofs::Seen::seen))]
+#[tactic(auto, using(crate::proofs::Seen::seen), unfolding(crate::specs::ActionRules::has_prints))]
 fn has_prints(action: &Value) -> bool
     ensures { result ≡ has_prints (view action.now) }
 {

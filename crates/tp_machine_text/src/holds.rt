@@ -53,7 +53,7 @@ fn have_holds(resources: Option<&Table>, actions: &[Value]) -> bool
     actions.iter().all(|action| has_holds(resources, action))
 }
 
-#[tactic(auto, using(crate::proofs::Seen::seen))]
+#[tactic(auto, using(crate::proofs::Seen::seen), unfolding(crate::specs::HoldRules::has_holds))]
 fn has_holds(resources: Option<&Table>, action: &Value) -> bool
     ensures { result ≡ has_holds (keys_of (members_of (option_map (λ m. table_view m.now) resources.entry))) (view action.now) }
 {
@@ -70,6 +70,7 @@ fn are_holds(resources: Option<&Table>, holds: &[Value]) -> bool
     holds.iter().all(|hold| is_hold(resources, hold))
 }
 
+#[tactic(auto, unfolding(crate::specs::HoldRules::is_hold))]
 fn is_hold(resources: Option<&Table>, hold: &Value) -> bool
     ensures { result ≡ is_hold (keys_of (members_of (option_map (λ m. table_view m.now) resources.entry))) (view hold.now) }
 {
@@ -213,6 +214,7 @@ fn begin_in_action(least: u64, holds: &[Value]) -> bool
     holds.iter().all(|hold| begins_in_action(least, hold))
 }
 
+#[tactic(auto, unfolding(crate::specs::HoldRules::begins_in_action))]
 fn begins_in_action(least: u64, hold: &Value) -> bool
     ensures { result ≡ begins_in_action least (view hold.now) }
 {
@@ -254,6 +256,7 @@ fn are_filled(least: u64, most: u64, holds: &[Value]) -> bool
     holds.iter().all(|hold| is_filled(least, most, hold))
 }
 
+#[tactic(auto, unfolding(crate::specs::HoldRules::is_filled))]
 fn is_filled(least: u64, most: u64, hold: &Value) -> bool
     ensures { result ≡ is_filled least most (view hold.now) }
 {
