@@ -1,4 +1,4 @@
-ghost use Rattle.std.specs.Prelude.{◌≡◌, ◌≤◌, true, IfOk, length, map, option_map, codes};
+ghost use Rattle.std.specs.Prelude.{◌≡◌, ◌≤◌, ◌≤ℤ◌, pos, negsuc, true, IfOk, length, map, option_map, codes};
 ghost use Rattle.std.specs.List.{list_all};
 ghost use Rattle.toml.specs.View.{table_view, view};
 ghost use Rattle.tp_machine_text.specs.Words.{text_of, keys_of, members_of};
@@ -25,20 +25,29 @@ fn resource_of(resources: Option<&Table>, text: &str) -> ResId
     }
 }
 
+/// An offset in the range of a hold's offsets.
+fn narrow(offset: i64) -> i32
+    requires low { negsuc 8191 ≤ℤ offset }
+    requires high { offset ≤ℤ pos 8192 }
+    ensures { result ≡ offset }
+{
+    offset as i32
+}
+
 #[tactic(auto, unfolding(crate::specs::TheMachine::hold_of))]
 fn hold_of(resources: Option<&Table>, hold: &Value) -> HoldRule
     requires few { length (keys_of (members_of (option_map (λ m. table_view m.now) resources))) ≤ 256 }
     requires kept { is_hold (keys_of (members_of (option_map (λ m. table_view m.now) resources))) (view hold.now) ≡ true }
     ensures { result ≡ hold_of (keys_of (members_of (option_map (λ m. table_view m.now) resources.entry))) (view hold.now) }
 {
-    let (begin, begin_off) = point_at(hold, "begin");
-    let (end, end_off) = point_at(hold, "end");
+    let begin = point_at(hold, "begin");
+    let end = point_at(hold, "end");
     HoldRule {
         resource: resource_of(resources, text_at(hold, "resource")),
-        begin,
-        begin_off: begin_off as i32,
-        end,
-        end_off: end_off as i32,
+        begin: begin.0,
+        begin_off: narrow(begin.1),
+        end: end.0,
+        end_off: narrow(end.1),
     }
 }
 
