@@ -5,3 +5,7 @@ pub mod Sorted
 pub mod HoldFacts
 pub mod PlaceFacts
 pub mod TextFacts
+pub mod NumberFacts
+pub mod SupplyFacts
+pub mod ActionFacts
+pub mod HoldsFacts
