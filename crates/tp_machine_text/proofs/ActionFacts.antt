@@ -25,10 +25,10 @@ pub same_differ : (names : List (List ℕ)) → machine.do_names_differ names �
 same_differ [] = refl
 same_differ (n ∷ names) = ap (λ b. not (is_among names n) && b) (same_differ names)
 
-pub action_names : (locations modules resources : List (List ℕ)) (ads : List Data) → map (λ a. a.name) (map (action_of locations modules resources) ads) ≡ map (text_at (codes "name")) ads
+pub action_names : (locations modules resources : List (List ℕ)) (deeds : List Data) → map (λ a. a.name) (map (action_of locations modules resources) deeds) ≡ map (text_at (codes "name")) deeds
 unfolding action_of
 action_names locations modules resources [] = refl
-action_names locations modules resources (a ∷ ads) = ap (λ t. text_at (codes "name") a ∷ t) (action_names locations modules resources ads)
+action_names locations modules resources (a ∷ deeds) = ap (λ t. text_at (codes "name") a ∷ t) (action_names locations modules resources deeds)
 
 -- ---- ways
 
@@ -49,15 +49,15 @@ module _ (locations modules resources trays purges : List (List ℕ)) (ms : Memb
           loc_among locations trays (text_at (codes "from") a) kt from, no_tray, loc_among locations purges (text_at (codes "from") a) kp from, no_purge,
           feeder_locs locations ms, loc_among locations (keys_of ms) (text_at (codes "to") a) kf to, no_feeder)
 
-  pub sound_ways : (ads : List Data) → list_all (is_among locations) trays ≡ true → list_all (is_among locations) purges ≡ true → list_all (is_among locations) (keys_of ms) ≡ true
-      → list_all (is_of_module modules) ads ≡ true → list_all (has_ends locations) ads ≡ true → list_all (is_way trays purges (keys_of ms)) ads ≡ true
-      → machine.are_ways locations modules (map (loc_of locations) trays) (map (loc_of locations) purges) (feeders_of locations ms) (map (action_of locations modules resources) ads) ≡ true
+  pub sound_ways : (deeds : List Data) → list_all (is_among locations) trays ≡ true → list_all (is_among locations) purges ≡ true → list_all (is_among locations) (keys_of ms) ≡ true
+      → list_all (is_of_module modules) deeds ≡ true → list_all (has_ends locations) deeds ≡ true → list_all (is_way trays purges (keys_of ms)) deeds ≡ true
+      → machine.are_ways locations modules (map (loc_of locations) trays) (map (loc_of locations) purges) (feeders_of locations ms) (map (action_of locations modules resources) deeds) ≡ true
   sound_ways [] kt kp kf of_module ends way = refl
-  sound_ways (a ∷ ads) kt kp kf of_module ends way =
-      let (m, ms_rest) = and_parts (is_of_module modules a) (list_all (is_of_module modules) ads) of_module in
-      let (e, es_rest) = and_parts (has_ends locations a) (list_all (has_ends locations) ads) ends in
-      let (w, ws_rest) = and_parts (is_way trays purges (keys_of ms) a) (list_all (is_way trays purges (keys_of ms)) ads) way in
-      rw (way_of a kt kp kf m e w) (sound_ways ads kt kp kf ms_rest es_rest ws_rest)
+  sound_ways (a ∷ deeds) kt kp kf of_module ends way =
+      let (m, ms_rest) = and_parts (is_of_module modules a) (list_all (is_of_module modules) deeds) of_module in
+      let (e, es_rest) = and_parts (has_ends locations a) (list_all (has_ends locations) deeds) ends in
+      let (w, ws_rest) = and_parts (is_way trays purges (keys_of ms) a) (list_all (is_way trays purges (keys_of ms)) deeds) way in
+      rw (way_of a kt kp kf m e w) (sound_ways deeds kt kp kf ms_rest es_rest ws_rest)
 
 -- ---- durations
 
@@ -78,8 +78,8 @@ pub duration_of : (locations modules resources : List (List ℕ)) (a : Data) →
 unfolding has_durations action_of
 duration_of locations modules resources a test = order_of (whole_at (codes "least") a) (whole_at (codes "most") a) test
 
-pub sound_durations : (locations modules resources : List (List ℕ)) (ads : List Data) → list_all has_durations ads ≡ true → machine.have_durations (map (action_of locations modules resources) ads) ≡ true
+pub sound_durations : (locations modules resources : List (List ℕ)) (deeds : List Data) → list_all has_durations deeds ≡ true → machine.have_durations (map (action_of locations modules resources) deeds) ≡ true
 sound_durations locations modules resources [] test = refl
-sound_durations locations modules resources (a ∷ ads) test =
-    let (here, rest) = and_parts (has_durations a) (list_all has_durations ads) test in
-    rw (duration_of locations modules resources a here) (sound_durations locations modules resources ads rest)
+sound_durations locations modules resources (a ∷ deeds) test =
+    let (here, rest) = and_parts (has_durations a) (list_all has_durations deeds) test in
+    rw (duration_of locations modules resources a here) (sound_durations locations modules resources deeds rest)

@@ -60,11 +60,11 @@ module _ (locations modules : List (List ℕ)) (ms : Members) where
       let (few, all) = and_parts (is_fit is_array (get (codes "holds") a) && nat_le (length (holds a)) 4) (list_all (is_hold (keys_of ms)) (holds a)) most in
       rw (sound_holds locations modules ms a (holds a) all begins filled, holds_differ (keys_of ms) (holds a) all, differ)
 
-  pub actions_held : (ads : List Data) → list_all (has_holds (keys_of ms)) ads ≡ true → list_all begins_all ads ≡ true → list_all fills_all ads ≡ true
-      → machine.have_holds (resources_of modules ms) (map (action_of locations modules (keys_of ms)) ads) ≡ true
+  pub actions_held : (deeds : List Data) → list_all (has_holds (keys_of ms)) deeds ≡ true → list_all begins_all deeds ≡ true → list_all fills_all deeds ≡ true
+      → machine.have_holds (resources_of modules ms) (map (action_of locations modules (keys_of ms)) deeds) ≡ true
   actions_held [] hold begins filled = refl
-  actions_held (a ∷ ads) hold begins filled =
-      let (hold_here, hold_rest) = and_parts (has_holds (keys_of ms) a) (list_all (has_holds (keys_of ms)) ads) hold in
-      let (begins_here, begins_rest) = and_parts (begins_all a) (list_all begins_all ads) begins in
-      let (filled_here, filled_rest) = and_parts (fills_all a) (list_all fills_all ads) filled in
-      rw (action_held a hold_here begins_here filled_here) (actions_held ads hold_rest begins_rest filled_rest)
+  actions_held (a ∷ deeds) hold begins filled =
+      let (hold_here, hold_rest) = and_parts (has_holds (keys_of ms) a) (list_all (has_holds (keys_of ms)) deeds) hold in
+      let (begins_here, begins_rest) = and_parts (begins_all a) (list_all begins_all deeds) begins in
+      let (filled_here, filled_rest) = and_parts (fills_all a) (list_all fills_all deeds) filled in
+      rw (action_held a hold_here begins_here filled_here) (actions_held deeds hold_rest begins_rest filled_rest)

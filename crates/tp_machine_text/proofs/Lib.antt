@@ -9,3 +9,6 @@ pub mod NumberFacts
 pub mod SupplyFacts
 pub mod ActionFacts
 pub mod HoldsFacts
+pub mod KeptFacts
+pub mod Sound
+pub mod Given

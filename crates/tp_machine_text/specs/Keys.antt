@@ -1,7 +1,7 @@
 -- The keys and words of a machine text.
 use Rattle.std.specs.Prelude.{ℕ, List, [], ◌∷◌, codes, map}
 use Rattle.toml.specs.Data.{Data, Members}
-use Rattle.tp_machine_text.specs.Words.{elements_at, text_of, keys_of, members_at}
+use Rattle.tp_machine_text.specs.Words.{elements_at, text_of, text_at, keys_of, members_at}
 
 abbrev pub top_keys : List (List ℕ)
 top_keys = codes "format" ∷ codes "lead" ∷ codes "window" ∷ codes "budget" ∷ codes "locations" ∷ codes "modules" ∷ codes "trays" ∷ codes "purge" ∷ codes "feeders" ∷ codes "resources" ∷ codes "actions" ∷ []
@@ -44,3 +44,7 @@ resources t = keys_of (members_at (codes "resources") t)
 
 abbrev pub actions : Members → List Data
 actions t = elements_at (codes "actions") t
+
+-- the name of an action
+abbrev pub action_name : Data → List ℕ
+action_name a = text_at (codes "name") a

@@ -6,6 +6,7 @@ mod actions;
 mod building;
 mod holds;
 mod looking;
+mod machine;
 mod numbers;
 mod places;
 mod rules;
