@@ -45,9 +45,18 @@ module _ (locations modules resources trays purges : List (List ℕ)) (ms : Memb
       let no_tray : is_among trays (text_at (codes "from") a) ≡ false = grind arith in
       let no_purge : is_among purges (text_at (codes "from") a) ≡ false = grind arith in
       let no_feeder : is_among (keys_of ms) (text_at (codes "to") a) ≡ false = grind arith in
-      rw (place_known modules (text_at (codes "module") a) m, place_known locations (text_at (codes "from") a) from, place_known locations (text_at (codes "to") a) to,
-          loc_among locations trays (text_at (codes "from") a) kt from, no_tray, loc_among locations purges (text_at (codes "from") a) kp from, no_purge,
-          feeder_locs locations ms, loc_among locations (keys_of ms) (text_at (codes "to") a) kf to, no_feeder)
+      rw (
+        place_known modules (text_at (codes "module") a) m,
+        place_known locations (text_at (codes "from") a) from,
+        place_known locations (text_at (codes "to") a) to,
+        loc_among locations trays (text_at (codes "from") a) kt from,
+        no_tray,
+        loc_among locations purges (text_at (codes "from") a) kp from,
+        no_purge,
+        feeder_locs locations ms,
+        loc_among locations (keys_of ms) (text_at (codes "to") a) kf to,
+        no_feeder,
+      )
 
   pub sound_ways : (deeds : List Data) → list_all (is_among locations) trays ≡ true → list_all (is_among locations) purges ≡ true → list_all (is_among locations) (keys_of ms) ≡ true
       → list_all (is_of_module modules) deeds ≡ true → list_all (has_ends locations) deeds ≡ true → list_all (is_way trays purges (keys_of ms)) deeds ≡ true

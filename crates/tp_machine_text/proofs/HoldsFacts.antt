@@ -42,8 +42,10 @@ unfolding hold_of
 same_any resources h [] hold rest = refl
 same_any resources h (k ∷ hs) hold rest =
     let (here, more) = and_parts (is_hold resources k) (list_all (is_hold resources) hs) rest in
-    rw (same_place resources (text_at (codes "resource") k) (text_at (codes "resource") h) (known_resource resources k here) (known_resource resources h hold),
-        same_any resources h hs hold more)
+    rw (
+      same_place resources (text_at (codes "resource") k) (text_at (codes "resource") h) (known_resource resources k here) (known_resource resources h hold),
+      same_any resources h hs hold more,
+    )
 
 holds_differ : (resources : List (List ℕ)) (hs : List Data) → list_all (is_hold resources) hs ≡ true → machine.do_holds_differ (map (hold_of resources) hs) ≡ are_different (map (text_at (codes "resource")) hs)
 holds_differ resources [] hold = refl

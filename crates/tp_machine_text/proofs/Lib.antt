@@ -12,3 +12,4 @@ pub mod HoldsFacts
 pub mod KeptFacts
 pub mod Sound
 pub mod Given
+pub mod OneTable

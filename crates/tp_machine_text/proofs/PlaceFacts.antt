@@ -18,8 +18,8 @@ place_known (n ∷ names) text known =
     elim (cases_Bool (bytes_eq text n)) [
       | inl same ↦ rw same (grind (arith, nat_tests))
       | inr other ↦
-        let rest = place_known names text (grind arith) in
-        rw other (grind (arith, nat_tests))
+          let rest = place_known names text (grind arith) in
+          rw other (grind (arith, nat_tests))
     ]
 
 same_text : (a b : List ℕ) → bytes_eq a b ≡ true → a ≡ b
@@ -39,20 +39,20 @@ same_place [] a b ka kb = cc
 same_place (n ∷ names) a b ka kb =
     elim (cases_Bool (bytes_eq a n)) [
       | inl at_a ↦
-        let e : bytes_eq b a ≡ bytes_eq b n = nat_list_eq_equiv.symm b a ∙ nat_list_eq_equiv.congr a n b at_a ∙ nat_list_eq_equiv.symm n b in
-        elim (cases_Bool (bytes_eq b n)) [
-          | inl at_b ↦ rw (at_a, at_b, e, at_b)
-          | inr off_b ↦ rw (at_a, off_b, e, off_b) (grind (arith, nat_tests))
-        ]
+          let e : bytes_eq b a ≡ bytes_eq b n = nat_list_eq_equiv.symm b a ∙ nat_list_eq_equiv.congr a n b at_a ∙ nat_list_eq_equiv.symm n b in
+          elim (cases_Bool (bytes_eq b n)) [
+            | inl at_b ↦ rw (at_a, at_b, e, at_b)
+            | inr off_b ↦ rw (at_a, off_b, e, off_b) (grind (arith, nat_tests))
+          ]
       | inr off_a ↦
-        elim (cases_Bool (bytes_eq b n)) [
-          | inl at_b ↦
-            let e : bytes_eq b a ≡ bytes_eq a n = nat_list_eq_equiv.congr b n a at_b ∙ nat_list_eq_equiv.symm n a in
-            rw (off_a, at_b, e, off_a) (grind (arith, nat_tests))
-          | inr off_b ↦
-            let rest = same_place names a b (grind arith) (grind arith) in
-            rw (off_a, off_b, ← rest) (grind (arith, nat_tests))
-        ]
+          elim (cases_Bool (bytes_eq b n)) [
+            | inl at_b ↦
+                let e : bytes_eq b a ≡ bytes_eq a n = nat_list_eq_equiv.congr b n a at_b ∙ nat_list_eq_equiv.symm n a in
+                rw (off_a, at_b, e, off_a) (grind (arith, nat_tests))
+            | inr off_b ↦
+                let rest = same_place names a b (grind arith) (grind arith) in
+                rw (off_a, off_b, ← rest) (grind (arith, nat_tests))
+          ]
     ]
 
 pub loc_among : (names xs : List (List ℕ)) (y : List ℕ) → list_all (is_among names) xs ≡ true → is_among names y ≡ true → machine.is_among (map (loc_of names) xs) (loc_of names y) ≡ is_among xs y

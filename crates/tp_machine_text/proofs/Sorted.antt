@@ -58,7 +58,7 @@ pub few_among : (names xs : List (List ℕ)) → are_different xs ≡ true → l
 unfolding named_twice
 few_among names xs differ known =
     let fits = length-le_from_keys nat_list_eq_equiv xs (named_twice names) (distinct xs differ)
-      (λ q some. is_some-lookup (bytes_eq q) (named_twice names) ∙ ap (list_any (bytes_eq q)) (keys_named names) ∙ known_any names xs q known some) in
+    (λ q some. is_some-lookup (bytes_eq q) (named_twice names) ∙ ap (list_any (bytes_eq q)) (keys_named names) ∙ known_any names xs q known some) in
     let e : length (named_twice names) ≡ length names = length-map names (λ n. (n, 0)) in
     grind arith
 

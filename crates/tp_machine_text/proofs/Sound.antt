@@ -33,17 +33,27 @@ resource_table t = members_at (codes "resources") t
 module _ (t : Members) (k : KeepsRules t) where
   pub numbers : machine.are_numbers (number_or 0 (get_member (codes "lead") t)) (number_or 2000 (get_member (codes "window") t)) (number_or 20000 (get_member (codes "budget") t)) ≡ true
   numbers =
-      rw (low_end (number_or 0 (get_member (codes "lead") t)) 4096 (number_between 0 4096 0 (get_member (codes "lead") t) k.lead refl),
-          number_between 1 32768 2000 (get_member (codes "window") t) k.window refl,
-          number_between 1 200000 20000 (get_member (codes "budget") t) k.budget refl)
+      rw (
+        low_end (number_or 0 (get_member (codes "lead") t)) 4096 (number_between 0 4096 0 (get_member (codes "lead") t) k.lead refl),
+        number_between 1 32768 2000 (get_member (codes "window") t) k.window refl,
+        number_between 1 200000 20000 (get_member (codes "budget") t) k.budget refl,
+      )
 
   pub counts : machine.are_counts (text.locations t) (text.modules t) (resources_of (text.modules t) (resource_table t)) (map (action_of (text.locations t) (text.modules t) (text.resources t)) (text.actions t)) ≡ true
   counts =
       let places = names_parts 256 (elements_at (codes "locations") t) k.locations in
       let parts = names_parts 64 (elements_at (codes "modules") t) k.modules in
-      rw (length_texts (elements_at (codes "locations") t), places.some, places.few, length_texts (elements_at (codes "modules") t), parts.some, parts.few,
-          length_resources (text.modules t) (resource_table t), few_resources_test t k,
-          length-map (text.actions t) (action_of (text.locations t) (text.modules t) (text.resources t)))
+      rw (
+        length_texts (elements_at (codes "locations") t),
+        places.some,
+        places.few,
+        length_texts (elements_at (codes "modules") t),
+        parts.some,
+        parts.few,
+        length_resources (text.modules t) (resource_table t),
+        few_resources_test t k,
+        length-map (text.actions t) (action_of (text.locations t) (text.modules t) (text.resources t)),
+      )
       (actions_counted t k)
 
   pub trays : machine.are_trays (text.locations t) (map (loc_of (text.locations t)) (text.trays t)) ≡ true
@@ -61,9 +71,13 @@ module _ (t : Members) (k : KeepsRules t) where
   pub feeders : machine.do_names_rise (text.feeders t) ≡ true
       → machine.are_feeders (text.locations t) (map (loc_of (text.locations t)) (text.trays t)) (map (loc_of (text.locations t)) (text.purges t)) (feeders_of (text.locations t) (feeder_table t)) ≡ true
   feeders rise =
-      rw (length_feeders (text.locations t) (feeder_table t), some_feeder t k,
-          feeder_places (text.locations t) (text.trays t) (text.purges t) (feeder_table t) trays_known purges_known (feeders_open t k),
-          feeder_names_are (text.locations t) (feeder_table t) (feeders_known t k), rise)
+      rw (
+        length_feeders (text.locations t) (feeder_table t),
+        some_feeder t k,
+        feeder_places (text.locations t) (text.trays t) (text.purges t) (feeder_table t) trays_known purges_known (feeders_open t k),
+        feeder_names_are (text.locations t) (feeder_table t) (feeders_known t k),
+        rise,
+      )
 
   pub resources : machine.do_names_rise (text.resources t) ≡ true → machine.are_resources (text.modules t) (resources_of (text.modules t) (resource_table t)) ≡ true
   resources rise = sound_resources (text.modules t) (resource_table t) k.resource_modules rise

@@ -8,3 +8,4 @@ pub mod HoldRules
 pub mod Broken
 pub mod Kept
 pub mod TheMachine
+pub mod Texts

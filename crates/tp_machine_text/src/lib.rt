@@ -12,5 +12,7 @@ mod places;
 mod rules;
 mod supplies;
 mod supplying;
+mod text;
 
 pub use rules::first_broken;
+pub use text::{MachineFault, read_machine, read_table};

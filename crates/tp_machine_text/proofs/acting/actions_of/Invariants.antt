@@ -14,7 +14,7 @@ invariant-actions l = record {
   lasting : list_all has_durations (map view l.rest) ≡ true;
   held : list_all (has_holds (keys_of (members_of (option_map (λ m. table_view m.now) l.resources)))) (map view l.rest) ≡ true;
   whole : l.made ++ map (action_of (map text_of (map view l.locations)) (map text_of (map view l.modules)) (keys_of (members_of (option_map (λ m. table_view m.now) l.resources)))) (map view l.rest)
-    ≡ map (action_of (map text_of (map view l.locations)) (map text_of (map view l.modules)) (keys_of (members_of (option_map (λ m. table_view m.now) l.resources)))) (map view l.fn.actions);
+      ≡ map (action_of (map text_of (map view l.locations)) (map text_of (map view l.modules)) (keys_of (members_of (option_map (λ m. table_view m.now) l.resources)))) (map view l.fn.actions);
 }
 
 abbrev pub decreases-actions : goal.decreases-actions
