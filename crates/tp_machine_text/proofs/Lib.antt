@@ -1,0 +1,15 @@
+pub mod Seen
+pub mod Kept
+pub mod Fresh
+pub mod Sorted
+pub mod HoldFacts
+pub mod PlaceFacts
+pub mod TextFacts
+pub mod NumberFacts
+pub mod SupplyFacts
+pub mod ActionFacts
+pub mod HoldsFacts
+pub mod KeptFacts
+pub mod Sound
+pub mod Given
+pub mod OneTable

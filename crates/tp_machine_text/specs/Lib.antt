@@ -1,0 +1,11 @@
+pub mod Words
+pub mod Keys
+pub mod Order
+pub mod TopRules
+pub mod SupplyRules
+pub mod ActionRules
+pub mod HoldRules
+pub mod Broken
+pub mod Kept
+pub mod TheMachine
+pub mod Texts

@@ -1,0 +1,28 @@
+-- What a machine text is, and what is wrong with a text that is none.
+use Rattle.std.specs.Prelude.{◌≡◌, ℕ, List, Some, None, IsUtf8}
+use Rattle.toml.specs.Data.{Members}
+use Rattle.toml.specs.Parse.{parse_document}
+use Rattle.tp_machine.specs.declared.whole.Machine.{Machine}
+use Rattle.tp_machine_text.specs.Broken.{first_broken}
+use Rattle.tp_machine_text.specs.TheMachine.{IsMachineOf}
+
+-- the bytes are the TOML text of the table
+pub record IsToml (text : List ℕ) (t : Members) : Type 0 where
+  pub utf8 : IsUtf8 text
+  pub parses : parse_document text ≡ Some t
+
+-- the bytes are no TOML text
+abbrev pub IsNotToml : List ℕ → Type 0
+IsNotToml text = (t : Members) → ¬ IsToml text t
+
+-- the text is TOML, and the nth rule is the first that it breaks
+abbrev pub IsBrokenAt : ℕ → List ℕ → Type 0
+IsBrokenAt n text = (t : Members) × IsToml text t × (first_broken t ≡ Some n)
+
+-- the text is TOML, it breaks no rule, and the machine is that of its table
+abbrev pub IsMachineText : List ℕ → Machine → Type 0
+IsMachineText text machine = (t : Members) × IsToml text t × (first_broken t ≡ None) × IsMachineOf t machine
+
+-- the text is TOML and breaks no rule
+abbrev pub IsSound : List ℕ → Type 0
+IsSound text = (¬ IsNotToml text) × ((n : ℕ) → ¬ IsBrokenAt n text)

@@ -1,0 +1,18 @@
+//! Machine texts: TOML both ways.
+#![tactic(auto)]
+
+mod acting;
+mod actions;
+mod building;
+mod holds;
+mod looking;
+mod machine;
+mod numbers;
+mod places;
+mod rules;
+mod supplies;
+mod supplying;
+mod text;
+
+pub use rules::first_broken;
+pub use text::{MachineFault, read_machine, read_table};

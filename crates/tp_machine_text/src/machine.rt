@@ -1,0 +1,113 @@
+ghost use Rattle.std.specs.Prelude.{IsTrue, IfOk, ◌≡◌, map, codes};
+ghost use Rattle.toml.specs.View.{table_view};
+ghost use Rattle.tp_machine.specs.Rules.{do_names_rise};
+ghost use Rattle.tp_machine_text.specs.Words.{members_at};
+ghost use Rattle.tp_machine_text.specs.Keys as text;
+ghost use Rattle.tp_machine_text.specs.Kept.{KeepsRules};
+ghost use Rattle.tp_machine_text.specs.TheMachine.{IsMachineOf, loc_of, feeders_of, resources_of, action_of};
+
+use crate::acting::actions_of;
+use crate::building::{locs_of, names_of, number_at};
+use crate::looking::{table_in, value_at, values_at};
+use crate::supplying::{feeders_of, resources_of};
+use std::alloc::Global;
+use toml::Table;
+use tp_base::{Items, Memory};
+use tp_machine::{Action, Feeder, LocId, Machine, Names, Resource};
+
+/// The machine of a table that keeps the rules.
+pub(crate) fn machine_of(alloc: Global, table: &Table) -> Result<Machine, Memory>
+    requires { KeepsRules (table_view table.now) }
+    ensures { IfOk result (IsMachineOf (table_view table.now)) }
+{
+    let locations = locations(alloc, table)?;
+    let modules = modules(alloc, table)?;
+    let trays = trays(alloc, table)?;
+    let purges = purges(alloc, table)?;
+    let feeders = feeders(alloc, table)?;
+    let resources = resources(alloc, table)?;
+    let actions = actions(alloc, table)?;
+    Ok(Machine {
+        lead: number_at(table, "lead", 0),
+        window: number_at(table, "window", 2000),
+        budget: number_at(table, "budget", 20_000),
+        locations,
+        modules,
+        trays,
+        purges,
+        feeders,
+        resources,
+        actions,
+    })
+}
+
+fn locations(alloc: Global, table: &Table) -> Result<Names, Memory>
+    requires { KeepsRules (table_view table.now) }
+    ensures { IfOk result (λ names. names ≡ text.locations (table_view table.now)) }
+{
+    names_of(alloc, values_at(table, "locations"))
+}
+
+fn modules(alloc: Global, table: &Table) -> Result<Names, Memory>
+    requires { KeepsRules (table_view table.now) }
+    ensures { IfOk result (λ names. names ≡ text.modules (table_view table.now)) }
+{
+    names_of(alloc, values_at(table, "modules"))
+}
+
+fn trays(alloc: Global, table: &Table) -> Result<Items<LocId>, Memory>
+    requires { KeepsRules (table_view table.now) }
+    ensures { IfOk result (λ locs. locs ≡ map (loc_of (text.locations (table_view table.now))) (text.trays (table_view table.now))) }
+{
+    locs_of(
+        alloc,
+        values_at(table, "locations"),
+        values_at(table, "trays"),
+    )
+}
+
+fn purges(alloc: Global, table: &Table) -> Result<Items<LocId>, Memory>
+    requires { KeepsRules (table_view table.now) }
+    ensures { IfOk result (λ locs. locs ≡ map (loc_of (text.locations (table_view table.now))) (text.purges (table_view table.now))) }
+{
+    locs_of(
+        alloc,
+        values_at(table, "locations"),
+        values_at(table, "purge"),
+    )
+}
+
+fn feeders(alloc: Global, table: &Table) -> Result<Items<Feeder>, Memory>
+    requires { KeepsRules (table_view table.now) }
+    ensures feeders { IfOk result (λ feeders. feeders ≡ feeders_of (text.locations (table_view table.now)) (members_at (codes "feeders") (table_view table.now))) }
+    ensures rise { IfOk result (λ _. IsTrue (do_names_rise (text.feeders (table_view table.now)))) }
+{
+    match table_in(value_at(table, "feeders")) {
+        Some(feeders) => feeders_of(alloc, values_at(table, "locations"), feeders),
+        None => Ok(Items::new(alloc)),
+    }
+}
+
+fn resources(alloc: Global, table: &Table) -> Result<Items<Resource>, Memory>
+    requires { KeepsRules (table_view table.now) }
+    ensures resources { IfOk result (λ resources. resources ≡ resources_of (text.modules (table_view table.now)) (members_at (codes "resources") (table_view table.now))) }
+    ensures rise { IfOk result (λ _. IsTrue (do_names_rise (text.resources (table_view table.now)))) }
+{
+    match table_in(value_at(table, "resources")) {
+        Some(resources) => resources_of(alloc, values_at(table, "modules"), resources),
+        None => Ok(Items::new(alloc)),
+    }
+}
+
+fn actions(alloc: Global, table: &Table) -> Result<Items<Action>, Memory>
+    requires { KeepsRules (table_view table.now) }
+    ensures { IfOk result (λ actions. actions ≡ map (action_of (text.locations (table_view table.now)) (text.modules (table_view table.now)) (text.resources (table_view table.now))) (text.actions (table_view table.now))) }
+{
+    actions_of(
+        alloc,
+        values_at(table, "locations"),
+        values_at(table, "modules"),
+        table_in(value_at(table, "resources")),
+        values_at(table, "actions"),
+    )
+}

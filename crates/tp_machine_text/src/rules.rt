@@ -1,0 +1,30 @@
+ghost use Rattle.std.specs.Prelude.{◌≡◌};
+ghost use Rattle.toml.specs.View.{table_view};
+ghost use Rattle.tp_machine_text.specs.Broken.{first_broken};
+
+use crate::actions::first_broken_action;
+use crate::holds::first_broken_hold;
+use crate::numbers::first_broken_number;
+use crate::places::first_broken_place;
+use crate::supplies::first_broken_supply;
+use toml::Table;
+
+/// The number of the first rule that the table breaks. A rule is looked at only where those before
+/// it hold.
+pub fn first_broken(table: &Table) -> Option<u8>
+    ensures { result ≡ first_broken (table_view table.now) }
+{
+    if let Some(rule) = first_broken_number(table) {
+        return Some(rule);
+    }
+    if let Some(rule) = first_broken_place(table) {
+        return Some(rule);
+    }
+    if let Some(rule) = first_broken_supply(table) {
+        return Some(rule);
+    }
+    if let Some(rule) = first_broken_action(table) {
+        return Some(rule);
+    }
+    first_broken_hold(table)
+}
