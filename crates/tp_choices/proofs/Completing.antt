@@ -2,7 +2,8 @@
 use Rattle.std.proofs.Common.{◌≡◌, inl, inr, ℕ, zero, suc, ◌+◌, ◌≤◌, ◌<◌, true, List, [], ◌∷◌, ◌++◌, length, refl, ap, sym, arith, ◌∙◌, subst, Option, Some, None, slice_get, IsSomeAnd, IsTrue, add-one}
 use Rattle.std.proofs.lemmas.Option.{slice_get_within}
 use Rattle.std.proofs.lemmas.Bool.{cases_lt}
-use Rattle.tp_choices.proofs.Leaving.{walk_first, LastsWithin-least}
+use Rattle.tp_choices.proofs.Leaving.{LastsWithin-least}
+use Rattle.tp_schedule.proofs.Walks.{walk_first}
 use Rattle.tp_machine.specs.Machines.{IsMachine}
 use Rattle.tp_machine.specs.Using.{action_at}
 use Rattle.tp_schedule.proofs.CopyFacts.{same_copy-is}

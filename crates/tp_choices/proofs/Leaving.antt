@@ -3,6 +3,7 @@
 use Rattle.std.proofs.Common.{◌≡◌, inl, inr, ℕ, suc, ◌+◌, ◌≤◌, Bool, true, false, cond, List, [], ◌∷◌, ◌++◌, insert, length, refl, sym, arith, AllPairs, subst, Option, Some, None, option_and_then, IsTrue, IsSomeAnd, ◌==◌}
 use Rattle.std.proofs.lemmas.List.Elements.{Contains-push_cases}
 use Rattle.tp_machine.specs.Using.{action_at}
+use Rattle.tp_schedule.proofs.Walks.{walk_first, walk_on, least_sum-push, AreAllowed-head, AreAllowed-tail, AreAllowed-push}
 use Rattle.tp_schedule.proofs.Pairs.{AllPairs-insert_out}
 use Rattle.tp_schedule.specs.Choices.{Choice, ChoiceList, acts_of, put_places, HasTimes, OpensTo, going, stopping}
 use Rattle.tp_schedule.specs.Plans.{LastsWithin}
@@ -32,45 +33,12 @@ AllPairs-put_places_out R resource from to (rule ∷ rules) (place ∷ places) o
       go true all' = AllPairs-insert_out R order place (record { rule = rule; from = from; to = to }) all'
       go false all' = all'
 
-option_walk : {X Y : Type 0} (f : X → Option Y) (o : Option X) (y : Y) → option_and_then f o ≡ Some y → (x : X) × (o ≡ Some x) × (f x ≡ Some y)
-option_walk f None y e = absurd (cc)
-option_walk f (Some x) y e = (x, refl, e)
-
--- the state after the first action of a walk
-pub walk_first : (machine : Machine) (sheet : Sheet) (act : ActId) (acts : List ActId) (s goal : State) → walk machine sheet (act ∷ acts) s ≡ Some goal → (s' : State) × (step_by machine sheet act s ≡ Some s') × (walk machine sheet acts s' ≡ Some goal)
-walk_first machine sheet act acts s goal e = option_walk (walk machine sheet acts) (step_by machine sheet act s) goal e
-
--- a walk goes on by one action
-pub walk_on : (machine : Machine) (sheet : Sheet) (acts : List ActId) (act : ActId) (s s' s'' : State) → walk machine sheet acts s ≡ Some s' → step_by machine sheet act s' ≡ Some s'' → walk machine sheet (acts ++ act ∷ []) s ≡ Some s''
-walk_on machine sheet [] act s s' s'' e f =
-    let same : s ≡ s' = cc in subst (λ r. walk machine sheet (act ∷ []) r ≡ Some s'') (sym same) (rw f refl)
-walk_on machine sheet (a ∷ acts) act s s' s'' e f =
-    let first = walk_first machine sheet a acts s s' e in
-    rw first.1 (walk_on machine sheet acts act first.0 s' s'' first.2 f)
-
-pub least_sum-push : (machine : Machine) (acts : List ActId) (act : ActId) → least_sum machine (acts ++ act ∷ []) ≡ least_sum machine acts + least_of machine act
-least_sum-push machine [] act = omega arith
-least_sum-push machine (a ∷ acts) act = omega (arith, least_sum-push machine acts act)
-
 lasts_least : (o : Option Action) (start end : ℕ) → IsSomeAnd o (λ a. (start + a.least ≤ end) × (end ≤ start + a.most)) → start + least_in o ≤ end
 lasts_least None start end h = absurd h
 lasts_least (Some a) start end h = h.0
 
 pub LastsWithin-least : (machine : Machine) (act : ActId) (start end : ℕ) → LastsWithin machine act start end → start + least_of machine act ≤ end
 LastsWithin-least machine act start end h = lasts_least (action_at machine act.0) start end h
-
-pub AreAllowed-tail : (machine : Machine) (outs : Outs) (act : ActId) (acts : List ActId) → AreAllowed machine outs (act ∷ acts) → AreAllowed machine outs acts
-AreAllowed-tail machine outs act acts all a in' = all a (suc in'.0, omega (arith, in'.1), in'.2)
-
-pub AreAllowed-head : (machine : Machine) (outs : Outs) (act : ActId) (acts : List ActId) → AreAllowed machine outs (act ∷ acts) → IsTrue (is_act_allowed machine outs act)
-AreAllowed-head machine outs act acts all = all act (0, omega arith, refl)
-
-pub AreAllowed-push : (machine : Machine) (outs : Outs) (acts : List ActId) (act : ActId) → AreAllowed machine outs acts → IsTrue (is_act_allowed machine outs act) → AreAllowed machine outs (acts ++ act ∷ [])
-AreAllowed-push machine outs acts act all one a in' =
-    elim (Contains-push_cases acts act a in') [
-      | inl before ↦ all a before
-      | inr e ↦ subst (λ x. IsTrue (is_act_allowed machine outs x)) e one
-    ]
 
 -- the ticks of a list are ticks of its parent, with the least duration more of room
 pub HasTimes-without : (machine : Machine) (plans : List Plan) (ask : Ask) (goal : State) (c : Choice) (choices : List Choice) (room : ℕ) (t : Ticks)

@@ -4,3 +4,5 @@ pub mod LowerFacts
 pub mod RoomFacts
 pub mod SpreadFacts
 pub mod StartFacts
+pub mod IndexFacts
+pub mod AlongFacts

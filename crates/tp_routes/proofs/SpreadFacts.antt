@@ -19,7 +19,7 @@ use Rattle.tp_schedule.specs.Routes.{is_act_allowed}
 use Rattle.tp_schedule.specs.declared.parts.Ask.{Ask}
 use Rattle.tp_routes.specs.Numbers.{state_at}
 use Rattle.tp_routes.specs.Tables.{sum_at}
-use Rattle.tp_routes.specs.Filling.{is_lower, lowered, Waits, IsQueue, HasAtMost, IsStepIn, IsSpreadTo, IsFilling, Lowers, filled, one_if_some, left_to_fill}
+use Rattle.tp_routes.specs.Filling.{is_lower, lowered, Waits, IsQueue, HasAtMost, IsStepIn, IsSpreadTo, IsFilling, Lowers, filled, one_if_some}
 use Rattle.tp_routes.proofs.LowerFacts.{lowered-from, Lowers-lowered, length-lowered}
 
 -- steps that are in the table stay in it
@@ -111,15 +111,6 @@ sums-small machine ask sums waiting filling =
 
 pub least-small : (machine : Machine) (n : ℕ) (a : Action) → action_at machine n ≡ Some a → a.least ≤ 4096
 least-small machine n a at = (let k = (is_machine machine).in_range n a at in omega (arith, k.0, k.1))
-
--- how far the steps of the busy state are in the table
-pub record SpreadSoFar (machine : Machine) (ask : Ask) (before : List (Option ℕ)) (waited : List ℕ) (sums : List (Option ℕ)) (waiting : List ℕ) (busy sum count capacity : ℕ) : Type 0 where
-  pub filling : IsFilling machine ask sums waiting
-  pub spread : IsSpreadTo machine ask sums waiting busy count
-  pub stands : sum_at sums busy ≡ Some sum
-  pub lowers : Lowers before sums
-  pub room : length sums ≤ capacity
-  pub nearer : left_to_fill sums waiting ≤ left_to_fill before waited
 
 pub Lowers-refl : (sums : List (Option ℕ)) → Lowers sums sums
 Lowers-refl sums = record { same = refl; falls = λ s sum h. h }

@@ -1,6 +1,7 @@
 ghost use Rattle.std.specs.Prelude.{◌≡◌, ℕ, ◌+◌, ◌*◌, ◌<◌, ◌≤◌, [], Some, None, IsTrue, IfSome, length, vec_capacity};
 ghost use Rattle.tp_machine.specs.Using.{action_at};
 ghost use Rattle.tp_schedule.specs.Routes.{IsStart, is_act_allowed};
+ghost use Rattle.tp_routes.specs.Index.{IsIndexOf};
 ghost use Rattle.tp_routes.specs.Numbers.{number_of, state_at};
 ghost use Rattle.tp_routes.specs.Tables.{sum_at, IsKnownOrigin};
 ghost use Rattle.tp_routes.specs.Filling.{IsFilling, IsSpreadTo, IsStepIn, IsSum, HasAtMost, Lowers, filled, left_to_fill};
@@ -67,15 +68,18 @@ fn step_on(
     }
 }
 
-/// Puts all steps from a state with this sum into the table.
+/// Puts all steps from a state with this sum into the table, along the actions from its location.
 fn spread(
     machine: &Machine,
     ask: &Ask,
+    firsts: &[Option<u16>],
+    nexts: &[Option<u16>],
     sums: &mut [Option<u32>],
     waiting: &mut Vec<u32>,
     number: u32,
     sum: u32,
 )
+    requires index { IsIndexOf machine.now firsts.now nexts.now }
     requires filling { IsFilling machine.now ask.now sums.old waiting.old.items }
     requires spread { IsSpreadTo machine.now ask.now sums.old waiting.old.items number 0 }
     requires known { number < length sums.old }
@@ -87,13 +91,23 @@ fn spread(
     ensures room { length sums.new ≤ vec_capacity waiting.new }
     ensures nearer { left_to_fill sums.new waiting.new.items ≤ left_to_fill sums.old waiting.old.items }
 {
-    'actions: for at in 0..machine.actions.len() {
-        step_on(machine, ask, sums, waiting, ActId(at as u16), number, sum);
+    let mut cursor = firsts[number as usize / 8];
+    'actions: while let Some(at) = cursor {
+        step_on(machine, ask, sums, waiting, ActId(at), number, sum);
+        cursor = nexts[at as usize];
     }
 }
 
 /// Takes the states that wait, the least sums first, and puts their steps into the table.
-pub(crate) fn settle(machine: &Machine, ask: &Ask, sums: &mut [Option<u32>], waiting: &mut Vec<u32>)
+pub(crate) fn settle(
+    machine: &Machine,
+    ask: &Ask,
+    firsts: &[Option<u16>],
+    nexts: &[Option<u16>],
+    sums: &mut [Option<u32>],
+    waiting: &mut Vec<u32>,
+)
+    requires index { IsIndexOf machine.now firsts.now nexts.now }
     requires filling { IsFilling machine.now ask.now sums.old waiting.old.items }
     requires spread { (busy : ℕ) → IsSpreadTo machine.now ask.now sums.old waiting.old.items busy (length machine.now.actions) }
     requires room { length sums.old ≤ vec_capacity waiting.old }
@@ -105,7 +119,7 @@ pub(crate) fn settle(machine: &Machine, ask: &Ask, sums: &mut [Option<u32>], wai
 {
     'states: while let Some(number) = waiting.pop() {
         if let Some(sum) = sums[number as usize] {
-            spread(machine, ask, sums, waiting, number, sum);
+            spread(machine, ask, firsts, nexts, sums, waiting, number, sum);
         }
     }
 }

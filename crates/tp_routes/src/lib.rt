@@ -2,6 +2,7 @@
 #![tactic(auto)]
 
 mod filling;
+mod index;
 mod laws;
 mod numbering;
 mod queueing;

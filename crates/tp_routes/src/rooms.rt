@@ -1,8 +1,10 @@
 ghost use Rattle.std.specs.Prelude.{◌≡◌, ◌+◌, ◌*◌, ◌<◌, ◌≤◌, None, length, replicate, vec_capacity, IfOk};
+ghost use Rattle.tp_routes.specs.Index.{IsIndexOf};
 ghost use Rattle.tp_routes.specs.Numbers.{number_of};
 ghost use Rattle.tp_routes.specs.Tables.{sum_at, IsMadeFor, AreRooms, IsKnownOrigin};
 
 use crate::filling::settle;
+use crate::index::index_actions;
 use crate::numbering::number_of;
 use crate::starting::start;
 use std::alloc::Global;
@@ -10,6 +12,9 @@ use std::marker::Model;
 use tp_base::{Memory, Tick};
 use tp_machine::{Machine, State};
 use tp_schedule::Ask;
+
+/// A machine has at most so many actions.
+const MOST_ACTIONS: usize = 512;
 
 /// For each state of a sheet the least time that any way from a start state takes: its room, in
 /// ticks. One table by state, which `fill` makes anew for an ask.
@@ -20,6 +25,8 @@ pub struct Rooms {
     window: Tick,
     sums: Vec<Option<u32>>,
     waiting: Vec<u32>,
+    firsts: Vec<Option<u16>>,
+    nexts: Vec<Option<u16>>,
 }
 
 // Clauses see the table, and the numbers of the machine that it was made for.
@@ -31,7 +38,7 @@ impl Model for Rooms {
 
     ghost view = { λ r. record { locations = r.locations; resources = r.resources; window = r.window; sums = r.sums.items } };
 
-    ghost invariant = { λ r. (length r.sums.items ≡ 8 * r.locations) × (8 * r.locations ≤ vec_capacity r.waiting) };
+    ghost invariant = { λ r. (length r.sums.items ≡ 8 * r.locations) × (8 * r.locations ≤ vec_capacity r.waiting) × (length r.firsts.items ≡ r.locations) × (length r.nexts.items ≡ 512) };
 }
 
 impl Rooms {
@@ -49,18 +56,28 @@ impl Rooms {
             window: machine.window,
             sums: vec![in alloc; None; states]?,
             waiting: Vec::with_capacity(alloc, states)?,
+            firsts: vec![in alloc; None; locations as usize]?,
+            nexts: vec![in alloc; None; MOST_ACTIONS]?,
         })
     }
 
-    /// Finds the room of every state for the ask. Each state is settled once, by rising sums, and
-    /// looks at each action once.
+    /// Finds the room of every state for the ask, by rising sums. It takes one pass over the actions,
+    /// and looks again only at the actions from the location of each state that it settles.
     pub fn fill(&mut self, machine: &Machine, ask: &Ask)
         requires made { IsMadeFor self.old machine.now }
         requires origin { IsKnownOrigin machine.now ask.now.origin }
         ensures rooms { AreRooms machine.now ask.entry.now self.new.sums }
         ensures made { IsMadeFor self.new machine.now }
     {
-        fill_table(machine, ask, &mut self.sums, &mut self.waiting);
+        index_actions(machine, &mut self.firsts, &mut self.nexts);
+        fill_table(
+            machine,
+            ask,
+            &self.firsts,
+            &self.nexts,
+            &mut self.sums,
+            &mut self.waiting,
+        );
     }
 
     /// The room of a state for the last ask, or None where no list of allowed actions leads there.
@@ -72,7 +89,15 @@ impl Rooms {
     }
 }
 
-fn fill_table(machine: &Machine, ask: &Ask, sums: &mut [Option<u32>], waiting: &mut Vec<u32>)
+fn fill_table(
+    machine: &Machine,
+    ask: &Ask,
+    firsts: &[Option<u16>],
+    nexts: &[Option<u16>],
+    sums: &mut [Option<u32>],
+    waiting: &mut Vec<u32>,
+)
+    requires index { IsIndexOf machine.now firsts.now nexts.now }
     requires states { length sums.old ≡ 8 * length machine.now.locations }
     requires room { length sums.old ≤ vec_capacity waiting.old }
     requires origin { IsKnownOrigin machine.now ask.now.origin }
@@ -83,7 +108,7 @@ fn fill_table(machine: &Machine, ask: &Ask, sums: &mut [Option<u32>], waiting: &
     clear(sums);
     waiting.clear();
     start(machine, ask, sums, waiting);
-    settle(machine, ask, sums, waiting);
+    settle(machine, ask, firsts, nexts, sums, waiting);
 }
 
 fn clear(sums: &mut [Option<u32>])

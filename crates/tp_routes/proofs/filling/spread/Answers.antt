@@ -1,48 +1,47 @@
--- Each turn puts the steps of one action into the table.
-use Rattle.std.proofs.Common.{◌≡◌, length, arith, subst}
-use Rattle.tp_routes.specs.Filling.{IsSpreadTo}
+-- Each turn puts the steps of the next action from the busy state's location into the table.
+use Rattle.std.proofs.Common.{◌+◌, ◌/◌, ◌<◌, length, arith}
 use Rattle.tp_routes.proofs.SpreadFacts.{Lowers-refl, Lowers-then}
+use Rattle.tp_routes.proofs.AlongFacts.{along-here, along-end, next-there, ahead-smaller}
+use Rattle.tp_routes.proofs.SpreadFacts.{none_there}
+use Rattle.tp_routes.specs.Index.{number_at}
 use Rattle.tp_routes.proofs.filling.spread.Goals as goal
 
 pub actions-init : goal.actions-init
-actions-init c = record {
-  filling = c.requires.filling;
-  spread = c.requires.spread;
-  stands = c.requires.busy;
-  lowers = Lowers-refl c.args.sums.now;
-  room = c.requires.room;
-  nearer = omega arith;
-}
+actions-init c =
+    let place : c.args.number / 8 < length c.args.firsts.now = (let small = c.requires.filling.states in let known = c.requires.known in omega (arith, c.requires.index.places)) in
+    record {
+      filling = c.requires.filling;
+      along = record { low = 0; next = c.requires.index.indexed.first (c.args.number / 8) place; spread = c.requires.spread };
+      stands = c.requires.busy;
+      lowers = Lowers-refl c.args.sums.now;
+      room = c.requires.room;
+      nearer = omega arith;
+    }
 
-pub step_on-requires-clause-filling : goal.step_on-requires-clause-filling
-step_on-requires-clause-filling c = c.actions.invariant.filling
+pub step_on-requires-clause-act : goal.step_on-requires-clause-act
+step_on-requires-clause-act c = (along-here c.args.machine.now c.args.ask.now c.actions.sums c.actions.waiting.items c.args.number c.in-Some.at c.actions.cursor c.in-Some.is c.actions.invariant.along).1
 
 pub step_on-requires-clause-spread : goal.step_on-requires-clause-spread
-step_on-requires-clause-spread c = c.actions.invariant.spread
+step_on-requires-clause-spread c = (along-here c.args.machine.now c.args.ask.now c.actions.sums c.actions.waiting.items c.args.number c.in-Some.at c.actions.cursor c.in-Some.is c.actions.invariant.along).0
 
-pub step_on-requires-clause-busy : goal.step_on-requires-clause-busy
-step_on-requires-clause-busy c = c.actions.invariant.stands
-
-pub step_on-requires-clause-room : goal.step_on-requires-clause-room
-step_on-requires-clause-room c = c.actions.invariant.room
+pub actions-smaller : goal.actions-smaller
+actions-smaller c =
+    let here = along-here c.args.machine.now c.args.ask.now c.actions.sums c.actions.waiting.items c.args.number c.in-Some.at c.actions.cursor c.in-Some.is c.actions.invariant.along in
+    let next = next-there c.args.machine.now c.args.firsts.now c.args.nexts.now (c.args.number / 8) c.in-Some.at c.requires.index.indexed here.1 here.2 in
+    rw c.in-Some.is (ahead-smaller c.args.machine.now.actions (c.args.number / 8) c.in-Some.at (number_at c.args.nexts.now c.in-Some.at) here.1 next)
 
 pub actions-preserved : goal.actions-preserved
-actions-preserved c = record {
-  filling = c.step_on.ensures.filling;
-  spread = c.step_on.ensures.spread;
-  stands = c.step_on.ensures.busy;
-  lowers = Lowers-then c.args.sums.now c.actions.sums c.step_on.new.sums c.actions.invariant.lowers c.step_on.ensures.lowers;
-  room = c.step_on.ensures.room;
-  nearer = omega (arith, c.step_on.ensures.nearer, c.actions.invariant.nearer);
-}
-
-pub returns : goal.returns
-returns c =
-    let all : c.actions.at ≡ length c.args.machine.now.actions = omega (arith, c.actions.auto.at-end, c.actions-test.false, c.len-at-end.ensures.len) in
+actions-preserved c =
+    let before = c.actions.invariant in
+    let here = along-here c.args.machine.now c.args.ask.now c.actions.sums c.actions.waiting.items c.args.number c.in-Some.at c.actions.cursor c.in-Some.is before.along in
     record {
-      filling = c.actions.invariant.filling;
-      spread = subst (IsSpreadTo c.args.machine.now c.args.ask.now c.actions.sums c.actions.waiting.items c.args.number) all c.actions.invariant.spread;
-      lowers = c.actions.invariant.lowers;
-      room = c.actions.invariant.room;
-      nearer = c.actions.invariant.nearer;
+      filling = c.step_on.ensures.filling;
+      along = record { low = c.in-Some.at + 1; next = next-there c.args.machine.now c.args.firsts.now c.args.nexts.now (c.args.number / 8) c.in-Some.at c.requires.index.indexed here.1 here.2; spread = c.step_on.ensures.spread };
+      stands = c.step_on.ensures.busy;
+      lowers = Lowers-then c.args.sums.now c.actions.sums c.step_on.new.sums before.lowers c.step_on.ensures.lowers;
+      room = c.step_on.ensures.room;
+      nearer = omega (arith, c.step_on.ensures.nearer, before.nearer);
     }
+
+pub returns-clause-spread : goal.returns-clause-spread
+returns-clause-spread c = along-end c.args.machine.now c.args.ask.now c.actions.sums c.actions.waiting.items c.args.number c.actions.cursor (none_there c.actions.cursor c.in_default.not-Some) c.actions.invariant.along
