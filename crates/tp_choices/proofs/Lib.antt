@@ -20,3 +20,6 @@ pub mod Parts
 pub mod SameTicks
 pub mod PastFacts
 pub mod LiveOrders
+pub mod LiveSlots
+pub mod PointFacts
+pub mod WholeAnswers
