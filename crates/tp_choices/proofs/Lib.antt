@@ -23,3 +23,4 @@ pub mod LiveOrders
 pub mod LiveSlots
 pub mod PointFacts
 pub mod WholeAnswers
+pub mod LiveAnswers

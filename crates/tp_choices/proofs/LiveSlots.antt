@@ -15,7 +15,7 @@ use Rattle.tp_schedule.specs.declared.parts.Plan.{Plan}
 use Rattle.tp_schedule.specs.declared.parts.SheetId.{SheetId}
 use Rattle.tp_schedule.specs.Legality.{IsLegal}
 use Rattle.tp_schedule.specs.Plans.{IsEarlier, IsTimedPlan, LastsWithin, plan_of, point, end_of_plan, is_fixed}
-use Rattle.tp_schedule.specs.Spots.{Spot, Ticks, Slot, begin_at, end_at, slots, slots_of, ticks_of}
+use Rattle.tp_schedule.specs.Spots.{Spot, Ticks, Slot, begin_at, end_at, slots, slots_of, slots_from, ticks_of}
 use Rattle.tp_schedule.specs.Spots.Spot.{kept, own}
 use Rattle.tp_schedule.proofs.CopyFacts.{plan_of-itself}
 use Rattle.tp_schedule.proofs.Membership.{Contains-cons_cases, Contains-here, Contains-later}
@@ -38,6 +38,29 @@ pub slot_of : (machine : Machine) (resource : ℕ) (p : Plan) (s : Slot) → Con
 slot_of machine resource p s in' =
     All-contains (IsSlotOf machine p) (slots_of machine resource p) s
     (each_from (IsSlotOf machine p) machine resource p.sheet 0 p.acts (λ i j e act at a is rule has. let same : j ≡ i = omega arith in record { i = i; act = act; at = at; action = a; is = is; has = has; from = ap (kept p.sheet) same; to = ap (λ n. kept p.sheet (suc n)) same })) in'
+
+-- the numbers of a point
+pub number_of : Spot → ℕ
+number_of (kept c i) = i
+number_of (own n) = n
+
+pub copy_of : SheetId → Spot → SheetId
+copy_of d (kept c i) = c
+copy_of d (own n) = d
+
+pub same_number_at : (c d : SheetId) (i j : ℕ) → kept c i ≡ kept d j → i ≡ j
+unfolding number_of
+same_number_at c d i j e = ap number_of e
+
+pub same_copy_at : (c d : SheetId) (i j : ℕ) → kept c i ≡ kept d j → c ≡ d
+unfolding copy_of
+same_copy_at c d i j e = ap (copy_of c) e
+
+-- where the actions begin at point n, so do their slots
+pub slot_from : (machine : Machine) (resource : ℕ) (copy : SheetId) (n : ℕ) (acts : List ActId) (s : Slot) → Contains (slots_from machine resource copy n acts) s → (i : ℕ) × (s.from ≡ kept copy (n + i))
+slot_from machine resource copy n acts s in' =
+    All-contains (λ x. (i : ℕ) × (x.from ≡ kept copy (n + i))) (slots_from machine resource copy n acts) s
+    (each_from (λ x. (i : ℕ) × (x.from ≡ kept copy (n + i))) machine resource copy n acts (λ i j e act at a is rule has. (i, ap (kept copy) e))) in'
 
 -- a slot of the schedule is a slot of one of its plans
 pub slots-in : (machine : Machine) (resource : ℕ) (plans : List Plan) (s : Slot) → Contains (slots machine resource plans) s → (p : Plan) × Contains plans p × Contains (slots_of machine resource p) s
