@@ -24,3 +24,4 @@ pub mod LiveSlots
 pub mod PointFacts
 pub mod WholeAnswers
 pub mod LiveAnswers
+pub mod LiveTimes
