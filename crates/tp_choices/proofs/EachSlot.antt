@@ -1,10 +1,9 @@
 -- Each slot of a schedule is the hold by a rule of one of its plans' actions, between two points of this plan. So it
 -- begins at or after its action's start.
-use Rattle.std.proofs.Common.{◌≡◌, ℕ, suc, ◌+◌, ◌<◌, ◌≤◌, Bool, true, false, cond, ◌==◌, List, [], ◌∷◌, ◌++◌, length, refl, arith, Contains, All, get_or, Option, Some, None, slice_get, IsSomeAnd}
+use Rattle.std.proofs.Common.{◌≡◌, ℕ, suc, ◌+◌, ◌≤◌, Bool, true, false, cond, ◌==◌, List, [], ◌∷◌, refl, arith, Contains, All, get_or, Option, Some, None, slice_get}
 use Rattle.std.specs.Prelude.{pos, ◌≤ℤ◌, ◌<ℤ◌}
 use Rattle.std.proofs.lemmas.List.Elements.{All-append, All-cons, All-head, All-tail, All-nil, Contains-get_or}
 use Rattle.tp_machine.proofs.MachineFacts.{is_machine}
-use Rattle.tp_machine.specs.Machines.{IsMachine}
 use Rattle.tp_machine.specs.Using.{action_at}
 use Rattle.tp_machine.specs.declared.parts.ActId.{ActId}
 use Rattle.tp_machine.specs.declared.parts.Action.{Action}

@@ -25,3 +25,4 @@ pub mod PointFacts
 pub mod WholeAnswers
 pub mod LiveAnswers
 pub mod LiveTimes
+pub mod Joining

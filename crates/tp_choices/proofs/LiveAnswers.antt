@@ -1,8 +1,7 @@
 -- From the live part to the whole schedule: an alternative on the live part, joined with what is forgotten, is one on the
 -- whole. Old slots stand or lie ahead, and those of the asked copy's new actions lie ahead.
-use Rattle.std.proofs.Common.{◌≡◌, ◌⊎◌, inl, inr, ℕ, zero, suc, ◌+◌, ◌≤◌, ◌<◌, Bool, true, false, cond, not, ◌&&◌, List, [], ◌∷◌, ◌++◌, map, length, filter, refl, ap, sym, arith, Contains, All, AllPairs, ◌∙◌, subst, get_or, Some, None, Option, IsTrue, slice_get, append_assoc}
-use Rattle.std.specs.Prelude.{nat_lt, nat_le, pos, ◌≤ℤ◌}
-use Rattle.std.proofs.lemmas.Bool.Decides.{nat_tests}
+use Rattle.std.proofs.Common.{◌≡◌, ◌⊎◌, inl, inr, ℕ, suc, ◌+◌, ◌≤◌, ◌<◌, Bool, true, false, not, ◌&&◌, List, [], ◌∷◌, ◌++◌, map, length, filter, refl, ap, sym, arith, Contains, AllPairs, ◌∙◌, subst, Some, None, Option, IsTrue}
+use Rattle.std.specs.Prelude.{nat_lt}
 use Rattle.std.proofs.lemmas.Int.{ints}
 use Rattle.std.proofs.lemmas.List.{length-append}
 use Rattle.std.proofs.lemmas.List.Elements.{All-contains, Contains-append_cases}
@@ -13,27 +12,26 @@ use Rattle.tp_schedule.specs.declared.parts.Origin.{Origin}
 use Rattle.tp_schedule.specs.declared.parts.Origin.TheVariants.{Feeder as FromFeeder, Front as FromFront}
 use Rattle.tp_schedule.specs.declared.parts.Plan.{Plan}
 use Rattle.tp_schedule.specs.declared.parts.SheetId.{SheetId}
-use Rattle.tp_schedule.specs.Answers.{unmoved, acts_in, kept_acts, kept_of, kept_from, follows_front, is_new, is_new_spot, KeepsFixed, KeepsFloors, KeepsHorizon, IsAlternative, AnswersAsk, IsAsked, IsAskedFrom}
-use Rattle.tp_schedule.specs.Legality.{IsLegal, EndsBefore}
-use Rattle.tp_schedule.specs.Plans.{plan_of, without, point, end_of_plan, is_same_copy, is_before, is_fixed, is_front, is_delivered_to, goes_to, IsTimedPlan, IsEarlier}
-use Rattle.tp_schedule.specs.Spots.{Spot, Slot, slots, slots_of, slots_from, slot_order, ticks_of, begin_at}
+use Rattle.tp_schedule.specs.Answers.{unmoved, acts_in, kept_acts, kept_of, kept_from, follows_front, is_new, is_new_spot, KeepsFixed, KeepsFloors, KeepsHorizon, IsAlternative, IsAskedFrom}
+use Rattle.tp_schedule.specs.Legality.{EndsBefore}
+use Rattle.tp_schedule.specs.Plans.{plan_of, without, point, end_of_plan, is_same_copy, is_before, is_front, is_delivered_to, goes_to, IsTimedPlan, IsEarlier}
+use Rattle.tp_schedule.specs.Spots.{Spot, Slot, slots, slots_of, slots_from}
 use Rattle.tp_schedule.specs.Spots.Spot.{kept, own}
-use Rattle.tp_schedule.proofs.CopyFacts.{plan_of-itself, same_copy-is, same_copy-refl, before-asym}
+use Rattle.tp_schedule.proofs.CopyFacts.{plan_of-itself, same_copy-is, before-asym}
 use Rattle.std.proofs.lemmas.List.Kept.{AllPairs-filter}
 use Rattle.tp_schedule.proofs.Pairs.{AllPairs-map}
 use Rattle.tp_schedule.proofs.Membership.{Contains-filter, Contains-filter_from}
-use Rattle.tp_choices.specs.LiveParts.{less, only, MayForget, MayAskBeside, IsJoined, EndsAhead, LiveAnswers}
+use Rattle.tp_choices.specs.LiveParts.{less, only, MayForget, MayAskBeside, EndsAhead, LiveAnswers}
 use Rattle.tp_choices.proofs.AskedFront.{IsKept, kept-by}
 use Rattle.tp_choices.proofs.LiveOrders.{others_of, IsOld, IsAhead, Joins, joined-legal, joined-orders}
-use Rattle.tp_choices.proofs.LiveSlots.{IsSlotOf, slot_of, slot_from, same_number_at, same_copy_at, slots-in, classify, slot-within, slot-ticks, slot-after}
+use Rattle.tp_choices.proofs.LiveSlots.{IsSlotOf, slot_of, slot_from, same_number_at, same_copy_at, slots-in, classify, slot-within, slot-after}
 use Rattle.tp_choices.proofs.OwnSlots.{slots_from-append}
-use Rattle.tp_choices.proofs.Parts.{not_true, parts-equal}
+use Rattle.tp_choices.proofs.Parts.{parts-equal}
 use Rattle.tp_choices.proofs.PlansOf.{plan_of-contains}
 use Rattle.tp_choices.proofs.PointFacts.{point-le, fixed-by, past-fixed, past-released, end-cases}
 use Rattle.tp_choices.proofs.PastFacts.{past_points}
-use Rattle.tp_choices.proofs.Staying.{staying, stays, on_copy, plan_of-staying, without-staying, unmoved-staying}
+use Rattle.tp_choices.proofs.Staying.{staying, on_copy, plan_of-staying, without-staying, unmoved-staying}
 use Rattle.tp_choices.proofs.Unmoved.{ordered_pair, unmoved-found}
-use Rattle.tp_choices.proofs.WholeAnswers.{unmoved-without, without-gone}
 use Rattle.tp_choices.proofs.Lists.{slice_get-left}
 
 module _ (machine : Machine) (plans new : List Plan) (ask : Ask) (gone : SheetId → Bool) (f : MayForget machine ask.now plans gone) (b : MayAskBeside machine plans ask gone)

@@ -1,13 +1,12 @@
 -- A schedule of live plans joined with plans that are past: it is legal, and its orders less fresh slots are those of the
 -- whole schedule before. A slot of a live plan either stands as it stood, or begins after the moment, when all slots
 -- of past plans have ended.
-use Rattle.std.proofs.Common.{◌≡◌, ◌⊎◌, inl, inr, ℕ, suc, ◌+◌, ◌≤◌, ◌<◌, Bool, true, false, cond, not, List, [], ◌∷◌, length, filter, refl, ap, sym, arith, Contains, All, AllPairs, ◌∙◌, subst, get_or, Some, IsTrue}
+use Rattle.std.proofs.Common.{◌≡◌, ◌⊎◌, inl, inr, ℕ, suc, ◌<◌, Bool, true, false, cond, not, List, [], ◌∷◌, filter, refl, ap, sym, arith, Contains, All, AllPairs, ◌∙◌, subst, IsTrue}
 use Rattle.std.specs.Prelude.{pos, ◌≤ℤ◌, ◌<ℤ◌}
 use Rattle.std.proofs.lemmas.Int.{ints}
-use Rattle.std.proofs.lemmas.List.Elements.{All-contains, Contains-get_or}
+use Rattle.std.proofs.lemmas.List.Elements.{All-contains}
 use Rattle.std.proofs.lemmas.List.Kept.{AllPairs-filter}
 use Rattle.tp_machine.proofs.MachineFacts.{is_machine}
-use Rattle.tp_machine.specs.declared.parts.HoldRule.{HoldRule}
 use Rattle.tp_machine.specs.declared.whole.Machine.{Machine}
 use Rattle.tp_schedule.specs.declared.parts.Plan.{Plan}
 use Rattle.tp_schedule.specs.declared.parts.SheetId.{SheetId}
@@ -22,9 +21,9 @@ use Rattle.tp_schedule.proofs.Membership.{Contains-filter, Contains-filter_from,
 use Rattle.tp_schedule.proofs.Pairs.{AllPairs-each}
 use Rattle.tp_choices.proofs.EachSlot.{by_plan}
 use Rattle.tp_choices.proofs.Lists.{filter-all}
-use Rattle.tp_choices.proofs.Parts.{AllPairs-by_part, AllPairs-both_parts, AllPairs-either, filter-swap, not_true, parts-equal}
+use Rattle.tp_choices.proofs.Parts.{AllPairs-by_part, AllPairs-both_parts, AllPairs-either, filter-swap, parts-equal}
 use Rattle.tp_choices.proofs.PastFacts.{past_slots}
-use Rattle.tp_choices.proofs.SameTicks.{IsSameAt, same-back, begin-same, end-same, apart-same, both-apart-same, same-staying, in-slots, in-order, order-staying, sound-slots}
+use Rattle.tp_choices.proofs.SameTicks.{IsSameAt, same-back, end-same, apart-same, both-apart-same, same-staying, in-slots, in-order, order-staying, sound-slots}
 use Rattle.tp_choices.proofs.Staying.{staying, stays, slots-staying, ticks-staying}
 use Rattle.tp_choices.proofs.TimedSlots.{All-slots}
 use Rattle.tp_choices.proofs.Unmoved.{ordered_pair}
@@ -113,8 +112,11 @@ module _ (machine : Machine) (now : ℕ) (gone : SheetId → Bool) (plans new : 
         past_slots machine now (ticks_of plans) resource p (All-contains (IsTimedBy (ticks_of plans)) plans p (IsTimedBy-plans machine plans h.legal.in_order h.legal.timed) from.0) (h.past p from.0 from.1))
 
   is-gone : (resource : ℕ) (s : Slot) → Contains (slots machine resource plans) s → stays false gone s ≡ true → IsGone s
-  is-gone resource s in' e = record { same = All-contains (λ x. stays false gone x ≡ true → IsSameAt (ticks_of plans) (ticks_of new) x) (slots machine resource plans) s
-      (All-slots (λ x. stays false gone x ≡ true → IsSameAt (ticks_of plans) (ticks_of new) x) machine resource plans (λ p _ i within rule f. record { from = gone-ticks p.sheet i f; to = gone-ticks p.sheet (suc i) f })) in' e; ended = ended-slot resource s in' e }
+  is-gone resource s in' e = record {
+    same = All-contains (λ x. stays false gone x ≡ true → IsSameAt (ticks_of plans) (ticks_of new) x) (slots machine resource plans) s
+        (All-slots (λ x. stays false gone x ≡ true → IsSameAt (ticks_of plans) (ticks_of new) x) machine resource plans (λ p _ i within rule f. record { from = gone-ticks p.sheet i f; to = gone-ticks p.sheet (suc i) f })) in' e;
+    ended = ended-slot resource s in' e;
+  }
 
   gone-in : (resource : ℕ) (s : Slot) → Contains (slots machine resource new) s → stays false gone s ≡ true → Contains (slots machine resource plans) s
   gone-in resource s in' e = (Contains-filter_from (stays false gone) (slots machine resource plans) s (subst (λ xs. Contains xs s) (gone-slots resource) (Contains-filter (stays false gone) (slots machine resource new) s in' e))).0

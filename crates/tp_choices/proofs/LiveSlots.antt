@@ -1,27 +1,24 @@
 -- The slots of a new schedule beside those of an old one: a slot of a released action stands as it stood, and one of an
 -- unreleased action lies ahead of the moment in both.
-use Rattle.std.proofs.Common.{◌≡◌, ◌≢◌, ◌⊎◌, inl, inr, ℕ, zero, suc, ◌+◌, ◌≤◌, ◌<◌, Bool, true, false, cond, not, List, [], ◌∷◌, ◌++◌, length, filter, refl, ap, sym, arith, Contains, All, AllPairs, ◌∙◌, subst, get_or, Some, None, Option, IsTrue, slice_get, add-one}
-use Rattle.std.specs.Prelude.{pos, ◌≤ℤ◌, ◌<ℤ◌}
+use Rattle.std.proofs.Common.{◌≡◌, ◌⊎◌, inl, inr, ℕ, zero, suc, ◌+◌, ◌≤◌, ◌<◌, List, [], ◌∷◌, length, refl, ap, sym, arith, Contains, AllPairs, ◌∙◌, subst, Some, slice_get, add-one}
+use Rattle.std.specs.Prelude.{pos, ◌≤ℤ◌}
 use Rattle.std.proofs.lemmas.Int.{ints}
-use Rattle.std.proofs.lemmas.Bool.Decides.{nat_tests}
 use Rattle.std.proofs.lemmas.Bool.{cases_lt}
-use Rattle.std.proofs.lemmas.List.Elements.{All-contains, Contains-get_or, Contains-append_cases, Contains-append_left, Contains-append_right}
+use Rattle.std.proofs.lemmas.List.Elements.{All-contains, Contains-append_cases, Contains-append_left, Contains-append_right}
 use Rattle.tp_machine.specs.Using.{action_at}
 use Rattle.tp_machine.specs.declared.parts.ActId.{ActId}
 use Rattle.tp_machine.specs.declared.parts.Action.{Action}
-use Rattle.tp_machine.specs.declared.parts.HoldRule.{HoldRule}
 use Rattle.tp_machine.specs.declared.whole.Machine.{Machine}
 use Rattle.tp_schedule.specs.declared.parts.Plan.{Plan}
 use Rattle.tp_schedule.specs.declared.parts.SheetId.{SheetId}
 use Rattle.tp_schedule.specs.Legality.{IsLegal}
-use Rattle.tp_schedule.specs.Plans.{IsEarlier, IsTimedPlan, LastsWithin, plan_of, point, end_of_plan, is_fixed}
-use Rattle.tp_schedule.specs.Spots.{Spot, Ticks, Slot, begin_at, end_at, slots, slots_of, slots_from, ticks_of}
+use Rattle.tp_schedule.specs.Plans.{IsEarlier, IsTimedPlan, LastsWithin, plan_of, point}
+use Rattle.tp_schedule.specs.Spots.{Spot, Slot, begin_at, slots, slots_of, slots_from, ticks_of}
 use Rattle.tp_schedule.specs.Spots.Spot.{kept, own}
 use Rattle.tp_schedule.proofs.CopyFacts.{plan_of-itself}
 use Rattle.tp_schedule.proofs.Membership.{Contains-cons_cases, Contains-here, Contains-later}
-use Rattle.tp_choices.proofs.EachSlot.{each_from, later_slot, IsLater}
+use Rattle.tp_choices.proofs.EachSlot.{each_from, later_slot}
 use Rattle.tp_choices.proofs.LiveOrders.{IsAhead, IsOld}
-use Rattle.tp_choices.proofs.SameTicks.{IsSameAt}
 
 -- the slot is the hold of the plan's action i
 pub record IsSlotOf (machine : Machine) (p : Plan) (s : Slot) : Type 0 where

@@ -1,19 +1,19 @@
 -- Schedules that differ in ticks alone, and least ones, of the whole schedule and of its live part. What is forgotten has
 -- fixed points alone, so it is nowhere later.
-use Rattle.std.proofs.Common.{◌≡◌, ◌⊎◌, inl, inr, ℕ, zero, suc, ◌+◌, ◌≤◌, ◌<◌, Bool, true, false, cond, not, List, [], ◌∷◌, map, length, filter, refl, ap, sym, arith, Contains, All, AllPairs, ◌∙◌, subst, get_or, Some, None, Option, IsTrue, slice_get}
+use Rattle.std.proofs.Common.{◌≡◌, ◌⊎◌, inl, inr, ℕ, suc, ◌≤◌, ◌<◌, Bool, true, false, not, List, [], map, length, filter, refl, ap, sym, arith, Contains, AllPairs, ◌∙◌, subst, Some, IsTrue}
 use Rattle.std.proofs.lemmas.List.Elements.{All-contains}
 use Rattle.tp_machine.specs.declared.whole.Machine.{Machine}
 use Rattle.tp_schedule.specs.declared.parts.Plan.{Plan}
 use Rattle.tp_schedule.specs.declared.parts.SheetId.{SheetId}
-use Rattle.tp_schedule.specs.Answers.{unmoved, IsRetimed, IsLeast, KeepsFixed, KeepsFloors, KeepsHorizon}
-use Rattle.tp_schedule.specs.Legality.{IsLegal, EndsBefore}
-use Rattle.tp_schedule.specs.Plans.{plan_of, point, end_of_plan, is_before, is_fixed, is_delivered_to, with_points, IsTimedPlan, IsEarlier}
+use Rattle.tp_schedule.specs.Answers.{unmoved, IsRetimed, KeepsFixed}
+use Rattle.tp_schedule.specs.Legality.{EndsBefore}
+use Rattle.tp_schedule.specs.Plans.{plan_of, point, end_of_plan, is_before, is_delivered_to, IsTimedPlan, IsEarlier}
 use Rattle.tp_schedule.specs.Spots.{Slot, slots, slots_of, slot_order, ticks_of}
 use Rattle.tp_schedule.specs.Spots.Spot.{kept}
 use Rattle.tp_schedule.proofs.CopyFacts.{plan_of-itself, before-asym}
 use Rattle.tp_schedule.proofs.Membership.{Contains-filter, Contains-filter_from, All-from_contains}
 use Rattle.tp_schedule.proofs.Pairs.{AllPairs-map}
-use Rattle.tp_choices.specs.LiveParts.{less, only, MayForget, IsJoined, HaveReleased, LiveRetimes, WholeIsLeast, LiveIsLeast}
+use Rattle.tp_choices.specs.LiveParts.{less, only, MayForget, HaveReleased, LiveRetimes, WholeIsLeast}
 use Rattle.tp_choices.specs.Retimings.{IgnoresPoints}
 use Rattle.tp_choices.proofs.Lists.{filter-all}
 use Rattle.tp_choices.proofs.LiveOrders.{others_of, IsOld, IsAhead, Joins, joined-legal, joined-orders}
@@ -21,7 +21,7 @@ use Rattle.tp_choices.proofs.LiveSlots.{slots-in, classify}
 use Rattle.tp_choices.proofs.Parts.{parts-equal}
 use Rattle.tp_choices.proofs.PointFacts.{point-le, fixed-by, past-fixed, past-released, end-cases}
 use Rattle.tp_choices.proofs.PastFacts.{past_points}
-use Rattle.tp_choices.proofs.Staying.{staying, plan_of-staying, ticks-staying, unmoved-staying}
+use Rattle.tp_choices.proofs.Staying.{plan_of-staying, ticks-staying, unmoved-staying}
 use Rattle.tp_choices.proofs.Unmoved.{ordered_pair, unmoved-found}
 use Rattle.tp_choices.proofs.WholeAnswers.{whole_retimes}
 

@@ -1,6 +1,6 @@
 -- Lists by parts: what passes a test, and what does not. Pairs within the parts and across them are all pairs, and lists
 -- that rise and have equal parts are equal.
-use Rattle.std.proofs.Common.{◌≡◌, ◌⊎◌, inl, inr, ℕ, zero, suc, ◌+◌, ◌<◌, Bool, true, false, cond, not, List, [], ◌∷◌, filter, length, refl, ap, sym, arith, Contains, All, AllPairs, subst, get_or}
+use Rattle.std.proofs.Common.{◌≡◌, ◌⊎◌, inl, inr, Bool, true, false, cond, not, List, [], ◌∷◌, filter, refl, ap, sym, arith, Contains, AllPairs, subst}
 use Rattle.std.proofs.lemmas.List.Elements.{All-contains}
 use Rattle.tp_schedule.proofs.Membership.{Contains-cons_cases, Contains-here, Contains-later, All-from_contains, Contains-filter, Contains-filter_from}
 use Rattle.tp_schedule.proofs.Pairs.{AllPairs-head, AllPairs-tail, AllPairs-nil, AllPairs-cons}

@@ -1,6 +1,6 @@
 -- A plan that is not live: all its points are past, and so are the ends of its slots.
-use Rattle.std.proofs.Common.{◌≡◌, ℕ, zero, suc, ◌+◌, ◌≤◌, ◌<◌, Bool, true, false, cond, not, ◌||◌, ◌==◌, List, [], ◌∷◌, ◌++◌, length, refl, ap, sym, arith, All, ◌∙◌, get_or, slice_index, Option, Some, None}
-use Rattle.std.specs.Prelude.{pos, int_lt, ◌≤ℤ◌, ◌<ℤ◌, ℤ, nat_lt}
+use Rattle.std.proofs.Common.{◌≡◌, ℕ, zero, suc, ◌+◌, ◌≤◌, Bool, true, false, cond, ◌||◌, ◌==◌, List, [], ◌∷◌, length, refl, arith, All, slice_index}
+use Rattle.std.specs.Prelude.{pos, int_lt, ◌≤ℤ◌, ℤ, nat_lt}
 use Rattle.std.specs.List.{list_any}
 use Rattle.std.proofs.lemmas.Bool.Decides.{nat_tests}
 use Rattle.std.proofs.lemmas.Int.{ints}

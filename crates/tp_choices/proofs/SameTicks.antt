@@ -1,19 +1,17 @@
 -- Slots at ticks that agree on their points, and the order of a schedule less the plans of some copies.
-use Rattle.std.proofs.Common.{◌≡◌, ◌⊎◌, inl, inr, ℕ, suc, ◌+◌, ◌≤◌, ◌<◌, Bool, true, false, cond, not, List, [], ◌∷◌, length, filter, refl, ap, sym, arith, Contains, All, AllPairs, ◌∙◌, subst, get_or}
-use Rattle.std.specs.Prelude.{IsPermutation, pos, ◌≤ℤ◌, ◌<ℤ◌}
+use Rattle.std.proofs.Common.{◌≡◌, inl, inr, ℕ, suc, Bool, true, List, filter, refl, sym, arith, Contains, All, AllPairs, subst, get_or}
+use Rattle.std.specs.Prelude.{◌<ℤ◌}
 use Rattle.std.proofs.lemmas.List.Elements.{All-contains, Contains-get_or}
 use Rattle.std.proofs.lemmas.List.Kept.{AllPairs-filter}
 use Rattle.std.proofs.lemmas.List.Sorted.{Contains-permutation, IsPermutation-sym}
 use Rattle.tp_machine.proofs.MachineFacts.{is_machine}
-use Rattle.tp_machine.specs.declared.parts.HoldRule.{HoldRule}
 use Rattle.tp_machine.specs.declared.whole.Machine.{Machine}
 use Rattle.tp_schedule.specs.declared.parts.Plan.{Plan}
 use Rattle.tp_schedule.specs.declared.parts.SheetId.{SheetId}
 use Rattle.tp_schedule.specs.Legality.{IsLegal}
 use Rattle.tp_schedule.specs.Plans.{IsEarlier, IsTimedPlan}
 use Rattle.std.proofs.lemmas.Int.{ints}
-use Rattle.tp_schedule.specs.Spots.{Spot, Ticks, Slot, IsApart, AreApart, IsSoundSlot, begin_at, end_at, slots, slot_order, ticks_of}
-use Rattle.tp_schedule.specs.Spots.Spot.{kept, own}
+use Rattle.tp_schedule.specs.Spots.{Ticks, Slot, IsApart, AreApart, IsSoundSlot, begin_at, end_at, slots, slot_order, ticks_of}
 use Rattle.tp_schedule.proofs.LegalOrders.{legal_apart, LastsBy-plans, sound_plans}
 use Rattle.tp_schedule.proofs.Membership.{Contains-filter, Contains-filter_from}
 use Rattle.tp_schedule.proofs.Pairs.{AllPairs-each}
@@ -74,9 +72,9 @@ pub order-staying : (b : Bool) (f : SheetId → Bool) (machine : Machine) (plans
 order-staying b f machine plans resource legal =
     let legal' = legal-staying f machine plans legal in
     let apart : AllPairs (IsApart (ticks_of (staying f plans))) (filter (stays b f) (slot_order machine plans resource)) =
-        AllPairs-each (IsApart (ticks_of plans)) (IsApart (ticks_of (staying f plans))) (filter (stays b f) (slot_order machine plans resource))
-        (AllPairs-filter (IsApart (ticks_of plans)) (stays b f) (slot_order machine plans resource) (legal_apart machine plans (is_machine machine) legal resource))
-        (λ x y in-x in-y h. apart-same (ticks_of plans) (ticks_of (staying f plans)) x y (same x in-x) (same y in-y) h) in
+    AllPairs-each (IsApart (ticks_of plans)) (IsApart (ticks_of (staying f plans))) (filter (stays b f) (slot_order machine plans resource))
+    (AllPairs-filter (IsApart (ticks_of plans)) (stays b f) (slot_order machine plans resource) (legal_apart machine plans (is_machine machine) legal resource))
+    (λ x y in-x in-y h. apart-same (ticks_of plans) (ticks_of (staying f plans)) x y (same x in-x) (same y in-y) h) in
     order-by-elements (ticks_of (staying f plans)) (slot_order machine (staying f plans) resource) (filter (stays b f) (slot_order machine plans resource))
     (λ s in'. sound-slots machine (staying f plans) resource s legal'.in_order legal'.timed (in-slots machine (staying f plans) resource s in'))
     (legal_apart machine (staying f plans) (is_machine machine) legal' resource) apart there back where

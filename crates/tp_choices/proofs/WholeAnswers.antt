@@ -1,21 +1,20 @@
 -- From the whole schedule to its live part: filters of plans, orders and slots. What is forgotten stays, since all its
 -- points are fixed.
-use Rattle.std.proofs.Common.{◌≡◌, ℕ, suc, ◌+◌, ◌≤◌, ◌<◌, Bool, true, false, cond, not, List, [], ◌∷◌, ◌++◌, map, length, filter, refl, ap, sym, arith, Contains, All, ◌∙◌, subst, get_or, Some, None, Option}
+use Rattle.std.proofs.Common.{◌≡◌, ℕ, Bool, true, false, not, List, ◌++◌, map, length, filter, refl, ap, sym, Contains, ◌∙◌, subst, Some}
 use Rattle.std.proofs.lemmas.List.Elements.{All-contains}
 use Rattle.tp_machine.specs.declared.whole.Machine.{Machine}
-use Rattle.tp_schedule.specs.declared.parts.Ask.{Ask}
 use Rattle.tp_schedule.specs.declared.parts.Plan.{Plan}
 use Rattle.tp_schedule.specs.declared.parts.SheetId.{SheetId}
-use Rattle.tp_schedule.specs.Answers.{unmoved, acts_in, kept_acts, is_new, IsAlternative, AnswersAsk, IsRetimed, KeepsFixed}
+use Rattle.tp_schedule.specs.Answers.{unmoved, acts_in, is_new, KeepsFixed}
 use Rattle.tp_schedule.specs.Legality.{IsLegal}
-use Rattle.tp_schedule.specs.Plans.{plan_of, without, point, is_same_copy, is_fixed, IsTimedPlan}
-use Rattle.tp_schedule.specs.Spots.{Slot, slot_order}
+use Rattle.tp_schedule.specs.Plans.{plan_of, without, is_same_copy, IsTimedPlan}
+use Rattle.tp_schedule.specs.Spots.{slot_order}
 use Rattle.tp_schedule.proofs.CopyFacts.{plan_of-itself, same_copy-is}
-use Rattle.tp_schedule.proofs.Membership.{Contains-filter, Contains-filter_from, All-from_contains}
-use Rattle.tp_choices.specs.LiveParts.{less, only, MayForget, IsJoined, WholeAnswers, WholeRetimes}
+use Rattle.tp_schedule.proofs.Membership.{Contains-filter_from, All-from_contains}
+use Rattle.tp_choices.specs.LiveParts.{only, MayForget, WholeAnswers, WholeRetimes}
 use Rattle.tp_choices.proofs.Lists.{filter-all}
 use Rattle.tp_choices.proofs.LiveOrders.{others_of}
-use Rattle.tp_choices.proofs.Parts.{filter-swap, not_true}
+use Rattle.tp_choices.proofs.Parts.{filter-swap}
 use Rattle.tp_choices.proofs.PointFacts.{past-fixed, same-by_points, points-equal}
 use Rattle.tp_choices.proofs.SameTicks.{order-staying}
 use Rattle.tp_choices.proofs.Staying.{staying, stays, plan_of-staying, without-staying, unmoved-staying, legal-staying}
@@ -56,33 +55,36 @@ past-stays machine now plans new gone f legal same fixed = same-by_points (only 
 pub whole_answers : WholeAnswers
 whole_answers machine plans new ask gone f stays-asked a = (
   record { in_order = a.legal.in_order; live_part = refl; past_part = past-stays machine ask.now plans new gone f a.legal past-unmoved a.fixed },
-  (record {
-    legal_before = legal-staying (others_of gone) machine plans a.legal_before;
-    legal = legal-staying (others_of gone) machine new a.legal;
-    others = unmoved-without (others_of gone) ask.sheet plans new a.others;
-    plan = a.plan;
-    planned = plan_of-staying (others_of gone) ask.sheet new asked-stays ∙ a.planned;
-    answers = record {
-      sheet = a.answers.sheet;
-      name = a.answers.name;
-      want = a.answers.want;
-      goal = a.answers.goal;
-      whole = a.answers.whole;
-      route = a.answers.route;
-      acts = a.answers.acts ∙ ap (λ o. acts_in o ++ a.answers.route) (sym (plan_of-staying (others_of gone) ask.sheet plans asked-stays));
-      is_route = a.answers.is_route;
-      allowed = a.answers.allowed;
-      released = a.answers.released;
-    };
-    fixed = fixed-staying (others_of gone) plans new a.fixed;
-    orders = λ resource.
-        ap (filter (λ s. not (is_new ask s))) (order-staying true (others_of gone) machine new resource a.legal)
-        ∙ filter-swap (λ s. not (is_new ask s)) (stays true (others_of gone)) (slot_order machine new resource)
-        ∙ ap (filter (stays true (others_of gone))) (a.orders resource)
-        ∙ sym (order-staying true (others_of gone) machine plans resource a.legal_before);
-    floors = λ p in'. a.floors p (Contains-filter_from (λ q. not (gone q.sheet)) new p in').0;
-    horizon = λ p in'. a.horizon p (Contains-filter_from (λ q. not (gone q.sheet)) new p in').0;
-  }, refl),
+  (
+    record {
+      legal_before = legal-staying (others_of gone) machine plans a.legal_before;
+      legal = legal-staying (others_of gone) machine new a.legal;
+      others = unmoved-without (others_of gone) ask.sheet plans new a.others;
+      plan = a.plan;
+      planned = plan_of-staying (others_of gone) ask.sheet new asked-stays ∙ a.planned;
+      answers = record {
+        sheet = a.answers.sheet;
+        name = a.answers.name;
+        want = a.answers.want;
+        goal = a.answers.goal;
+        whole = a.answers.whole;
+        route = a.answers.route;
+        acts = a.answers.acts ∙ ap (λ o. acts_in o ++ a.answers.route) (sym (plan_of-staying (others_of gone) ask.sheet plans asked-stays));
+        is_route = a.answers.is_route;
+        allowed = a.answers.allowed;
+        released = a.answers.released;
+      };
+      fixed = fixed-staying (others_of gone) plans new a.fixed;
+      orders = λ resource.
+          ap (filter (λ s. not (is_new ask s))) (order-staying true (others_of gone) machine new resource a.legal)
+          ∙ filter-swap (λ s. not (is_new ask s)) (stays true (others_of gone)) (slot_order machine new resource)
+          ∙ ap (filter (stays true (others_of gone))) (a.orders resource)
+          ∙ sym (order-staying true (others_of gone) machine plans resource a.legal_before);
+      floors = λ p in'. a.floors p (Contains-filter_from (λ q. not (gone q.sheet)) new p in').0;
+      horizon = λ p in'. a.horizon p (Contains-filter_from (λ q. not (gone q.sheet)) new p in').0;
+    },
+    refl,
+  ),
 ) where
   asked-stays : not (gone ask.sheet) ≡ true
   asked-stays = rw stays-asked refl
