@@ -14,3 +14,15 @@ pub mod Frontier
 pub mod LeastAnswers
 pub mod Retiming
 pub mod Searching
+pub mod EachSlot
+pub mod Staying
+pub mod Parts
+pub mod SameTicks
+pub mod PastFacts
+pub mod LiveOrders
+pub mod LiveSlots
+pub mod PointFacts
+pub mod WholeAnswers
+pub mod LiveAnswers
+pub mod LiveTimes
+pub mod Joining

@@ -3,6 +3,7 @@ pub mod Parents
 pub mod Frontiers
 pub mod Searches
 pub mod Retimings
+pub mod LiveParts
 pub use Rattle.tp_schedule.specs.Routes
 pub use Rattle.tp_schedule.specs.Plans
 pub use Rattle.tp_schedule.specs.Legality

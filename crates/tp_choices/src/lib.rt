@@ -4,6 +4,7 @@
 
 ghost use Rattle.tp_choices.specs.Answering.{AnswerOpens, CompleteAnswers, TicksFixPlaces};
 ghost use Rattle.tp_choices.specs.Frontiers.{FrontierBegins, FrontierBounds, FrontierEnds, FrontierGoesOn, TakenIsEarliest};
+ghost use Rattle.tp_choices.specs.LiveParts.{JoinExists, LiveAnswers, LiveIsLeast, LiveRetimes, WholeAnswers, WholeIsLeast, WholeRetimes};
 ghost use Rattle.tp_choices.specs.Parents.{ParentBound, ParentOpens};
 ghost use Rattle.tp_choices.specs.Retimings.{LeastAnswers, RetimedTicks, TicksRetime};
 ghost use Rattle.tp_choices.specs.Searches.{FullSpends, SearchBelow, SearchFronts, SearchReaches};
@@ -51,4 +52,19 @@ pub fn searches_know_open_lists()
     ensures fronts { SearchFronts }
     ensures below { SearchBelow }
     ensures spends { FullSpends }
+{}
+
+/// The alternatives of a schedule are those of its live part, joined with what was forgotten.
+pub fn live_answers_are_enough()
+    ensures whole { WholeAnswers }
+    ensures live { LiveAnswers }
+    ensures joined { JoinExists }
+{}
+
+/// The least times of a schedule are those of its live part.
+pub fn live_times_are_enough()
+    ensures whole { WholeRetimes }
+    ensures live { LiveRetimes }
+    ensures whole_least { WholeIsLeast }
+    ensures live_least { LiveIsLeast }
 {}

@@ -1,0 +1,83 @@
+-- The live part of a schedule is enough: plans that are past constrain nothing that may still move.
+use Rattle.std.specs.Prelude.{◌≡◌, ℕ, ◌<◌, ◌≤◌, Bool, not, List, length, filter, Contains, AllPairs, IsTrue, IsFalse}
+use Rattle.tp_machine.specs.declared.whole.Machine.{Machine}
+use Rattle.tp_schedule.specs.Answers.{IsAlternative, IsRetimed, IsLeast, IsAsked}
+use Rattle.tp_schedule.specs.Legality.{IsLegal}
+use Rattle.tp_schedule.specs.Living.{is_live}
+use Rattle.tp_schedule.specs.Plans.{IsEarlier, point, is_before, is_delivered_to, goes_to}
+use Rattle.tp_schedule.specs.declared.parts.Ask.{Ask}
+use Rattle.tp_schedule.specs.declared.parts.Origin.{Origin}
+use Rattle.tp_schedule.specs.declared.parts.Origin.TheVariants.{Feeder as FromFeeder, Front as FromFront}
+use Rattle.tp_schedule.specs.declared.parts.Plan.{Plan}
+use Rattle.tp_schedule.specs.declared.parts.SheetId.{SheetId}
+use Rattle.tp_choices.specs.Retimings.{IgnoresPoints}
+
+-- a schedule less the plans of some copies, and those plans
+abbrev pub less : (SheetId → Bool) → List Plan → List Plan
+less gone plans = filter (λ p. not (gone p.sheet)) plans
+
+abbrev pub only : (SheetId → Bool) → List Plan → List Plan
+only gone plans = filter (λ p. gone p.sheet) plans
+
+-- these copies may be forgotten, as a move of the clock leaves the schedule: it is legal, their plans are not live at the
+-- moment, and each unreleased start is above it
+pub record MayForget (machine : Machine) (now : ℕ) (plans : List Plan) (gone : SheetId → Bool) : Type 0 where
+  pub legal : IsLegal machine plans
+  pub past : (p : Plan) → Contains plans p → IsTrue (gone p.sheet) → IsFalse (is_live machine now p)
+  pub ahead : (p : Plan) → Contains plans p → (i : ℕ) → p.released ≤ i → i < length p.acts → now < point p i
+
+-- the live plans, changed, joined with those that were forgotten, in the order of copies
+pub record IsJoined (gone : SheetId → Bool) (plans live new : List Plan) : Type 0 where
+  pub in_order : AllPairs IsEarlier new
+  pub live_part : less gone new ≡ live
+  pub past_part : only gone new ≡ only gone plans
+
+-- the front of an asked copy in flight ends after the moment
+abbrev pub EndsAhead : ℕ → Origin → Type 0
+EndsAhead now FromFeeder = Unit {0}
+EndsAhead now (FromFront state end count) = now < end
+
+-- the asked copy is not forgotten, its front ends after the moment, and forgotten plans to its tray are of earlier copies
+pub record MayAskBeside (machine : Machine) (plans : List Plan) (ask : Ask) (gone : SheetId → Bool) : Type 0 where
+  pub asked : IsAsked machine plans ask
+  pub stays : IsFalse (gone ask.sheet)
+  pub ends_ahead : EndsAhead ask.now ask.origin
+  pub earlier : (p : Plan) → Contains plans p → IsTrue (gone p.sheet) → (tray : ℕ) → IsTrue (goes_to ask.goal tray) → IsTrue (is_delivered_to p tray) → IsTrue (is_before p.sheet ask.sheet)
+
+-- an alternative on the whole schedule leaves what is forgotten, and less that it is an alternative on the live part
+abbrev pub WholeAnswers : Type 0
+WholeAnswers = (machine : Machine) (plans new : List Plan) (ask : Ask) (gone : SheetId → Bool) → MayForget machine ask.now plans gone → IsFalse (gone ask.sheet)
+    → (a : IsAlternative machine plans ask new)
+    → IsJoined gone plans (less gone new) new × ((b : IsAlternative machine (less gone plans) ask (less gone new)) × (b.plan ≡ a.plan))
+
+-- an alternative on the live part, joined with what is forgotten, is one on the whole schedule
+abbrev pub LiveAnswers : Type 0
+LiveAnswers = (machine : Machine) (plans live new : List Plan) (ask : Ask) (gone : SheetId → Bool) → MayForget machine ask.now plans gone → MayAskBeside machine plans ask gone
+    → IsJoined gone plans live new → (a : IsAlternative machine (less gone plans) ask live) → (b : IsAlternative machine plans ask new) × (b.plan ≡ a.plan)
+
+-- the same of schedules that differ in ticks alone
+abbrev pub WholeRetimes : Type 0
+WholeRetimes = (machine : Machine) (now : ℕ) (exempt : Plan → Bool) (plans new : List Plan) (gone : SheetId → Bool) → MayForget machine now plans gone
+    → IsRetimed machine now exempt plans new → IsJoined gone plans (less gone new) new × IsRetimed machine now exempt (less gone plans) (less gone new)
+
+-- a plan that is exempt from the floors has a released action
+abbrev pub HaveReleased : (Plan → Bool) → List Plan → Type 0
+HaveReleased exempt plans = (p : Plan) → Contains plans p → IsTrue (exempt p) → 0 < p.released
+
+abbrev pub LiveRetimes : Type 0
+LiveRetimes = (machine : Machine) (now : ℕ) (exempt : Plan → Bool) (plans live new : List Plan) (gone : SheetId → Bool) → MayForget machine now plans gone → IgnoresPoints exempt → HaveReleased exempt plans
+    → IsJoined gone plans live new → IsRetimed machine now exempt (less gone plans) live → IsRetimed machine now exempt plans new
+
+-- so a schedule is least where its live part is, and the reverse
+abbrev pub WholeIsLeast : Type 0
+WholeIsLeast = (machine : Machine) (now : ℕ) (exempt : Plan → Bool) (plans : List Plan) (gone : SheetId → Bool) → MayForget machine now plans gone
+    → IsLeast machine now exempt (less gone plans) → IsLeast machine now exempt plans
+
+abbrev pub LiveIsLeast : Type 0
+LiveIsLeast = (machine : Machine) (now : ℕ) (exempt : Plan → Bool) (plans : List Plan) (gone : SheetId → Bool) → MayForget machine now plans gone → IgnoresPoints exempt → HaveReleased exempt plans
+    → IsLeast machine now exempt plans → IsLeast machine now exempt (less gone plans)
+
+-- live plans in the order of copies, none of them forgotten, can be joined
+abbrev pub JoinExists : Type 0
+JoinExists = (gone : SheetId → Bool) (plans live : List Plan) → AllPairs IsEarlier plans → AllPairs IsEarlier live → ((p : Plan) → Contains live p → IsFalse (gone p.sheet))
+    → (new : List Plan) × IsJoined gone plans live new
