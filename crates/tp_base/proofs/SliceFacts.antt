@@ -1,6 +1,7 @@
 -- Elements of lists, by `slice_get`.
-use Rattle.std.proofs.Common.{suc, zero, ◌≡◌, ℕ, ◌+◌, ◌<◌, List, [], ◌∷◌, ◌++◌, length, take, drop, map, set, Some, refl, ap, ◌∙◌, subst, arith, ◌⊎◌, inl, inr}
+use Rattle.std.proofs.Common.{suc, zero, ◌≡◌, ℕ, ◌+◌, ◌<◌, ◌≤◌, List, [], ◌∷◌, ◌++◌, length, take, drop, map, set, Some, sym, refl, ap, ◌∙◌, subst, arith, ◌⊎◌, inl, inr}
 use Rattle.std.proofs.lemmas.Option.{none-some, same_Some, slice_get_within, get_or_from_slice_get}
+use Rattle.std.proofs.lemmas.List.{length-append, take_at, take-take}
 use Rattle.std.specs.List.{All, slice_get}
 
 -- functions that agree on the elements
@@ -53,3 +54,9 @@ take_set zero xs k x = refl
 take_set (suc n) [] k x = refl
 take_set (suc n) (y ∷ xs) zero x = refl
 take_set (suc n) (y ∷ xs) (suc k) x = ap (λ ys. y ∷ ys) (take_set n xs k x)
+
+-- the front of a list, once its last element is taken off
+pub take_popped : {X : Type 0} (all xs ys : List X) (x : X) → ys ≡ xs ++ x ∷ [] → ys ≡ take (length ys) all → xs ≡ take (length xs) all
+take_popped all xs ys x e h =
+    let l : length ys ≡ length xs + 1 = ap length e ∙ length-append xs (x ∷ []) in
+    sym (take_at xs (x ∷ []) (length xs) refl) ∙ ap (take (length xs)) (sym e ∙ h) ∙ take-take (length xs) (length ys) all (omega arith)

@@ -134,8 +134,3 @@ restored-pop to xs ys s lows e h = sym (ap (λ zs. restored (drop to zs) lows) e
 
 pub relinked-pop : (to : ℕ) (xs ys : List SavedLow) (s : SavedLow) (newest : List ℕ) → ys ≡ xs ++ s ∷ [] → to ≤ length xs → relinked (drop to xs) (set newest s.point.0 s.older) ≡ relinked (drop to ys) newest
 relinked-pop to xs ys s newest e h = sym (ap (λ zs. relinked (drop to zs) newest) e ∙ ap (λ zs. relinked zs newest) (drop-append-le to xs (s ∷ []) h) ∙ relinked-append (drop to xs) (s ∷ []) newest)
-
-pub take-pop : (all xs ys : List SavedLow) (s : SavedLow) → ys ≡ xs ++ s ∷ [] → ys ≡ take (length ys) all → xs ≡ take (length xs) all
-take-pop all xs ys s e h =
-    let l : length ys ≡ length xs + 1 = ap length e ∙ length-append xs (s ∷ []) in
-    sym (take_at xs (s ∷ []) (length xs) refl) ∙ ap (take (length xs)) (sym e ∙ h) ∙ take-take (length xs) (length ys) all (omega arith)

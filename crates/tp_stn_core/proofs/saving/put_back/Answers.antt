@@ -1,7 +1,8 @@
 use Rattle.std.proofs.Common.{arith, ◌≡◌, ◌≤◌, ◌∙◌, ap, sym, length, drop}
 use Rattle.std.proofs.lemmas.List.{set_past, length_push}
+use Rattle.tp_base.proofs.SliceFacts.{take_popped}
 use Rattle.tp_stn_core.specs.Saved.{restored, relinked}
-use Rattle.tp_stn_core.proofs.SavedFacts.{restored-pop, relinked-pop, take-pop}
+use Rattle.tp_stn_core.proofs.SavedFacts.{restored-pop, relinked-pop}
 use Rattle.tp_stn_core.proofs.saving.put_back.Goals as goal
 
 pub back-preserved-then-at-lows : goal.back-preserved-then-at-lows
@@ -14,7 +15,7 @@ back-preserved-then-at-lows c =
     let ok = c.back.saved.ok.0 in
     let to : c.args.to ≤ length xs = omega arith in
     record {
-      saved = take-pop c.args.saved.now.items xs c.back.saved.items c.in-Some.last e c.back.invariant.saved;
+      saved = take_popped c.args.saved.now.items xs c.back.saved.items c.in-Some.last e c.back.invariant.saved;
       to = to;
       lows = restored-pop c.args.to xs c.back.saved.items c.in-Some.last c.back.lows e to ∙ c.back.invariant.lows;
       newest = relinked-pop c.args.to xs c.back.saved.items c.in-Some.last c.back.newest e to ∙ c.back.invariant.newest;
@@ -34,7 +35,7 @@ back-preserved c =
     let out = c.if-at-lows.false in
     let same : length c.back.newest ≡ length c.back.lows = omega (arith, c.back.auto.lows, c.back.auto.newest, c.requires.len) in
     record {
-      saved = take-pop c.args.saved.now.items xs c.back.saved.items s e c.back.invariant.saved;
+      saved = take_popped c.args.saved.now.items xs c.back.saved.items s e c.back.invariant.saved;
       to = to;
       lows = ap (restored (drop c.args.to xs)) (sym (set_past c.back.lows s.point.0 s.low out)) ∙ restored-pop c.args.to xs c.back.saved.items s c.back.lows e to ∙ c.back.invariant.lows;
       newest = ap (relinked (drop c.args.to xs)) (sym (set_past c.back.newest s.point.0 s.older (omega arith))) ∙ relinked-pop c.args.to xs c.back.saved.items s c.back.newest e to ∙ c.back.invariant.newest;

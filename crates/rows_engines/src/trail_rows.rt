@@ -1,0 +1,16 @@
+use std::test::Fail;
+use tp_base::{Full, Trail, proofs_refute};
+
+#[test]
+fn trail_rows(rt: HostRuntime) -> Result<(), Fail> {
+    let mut trail = Trail::new(rt.alloc(), 2)?;
+    assert_eq!(rt; trail.push(7), Ok(()));
+    assert_eq!(rt; trail.push(8), Ok(()));
+    assert_eq!(rt; trail.push(9), Err(Full));
+    assert_eq!(rt; trail.len(), 2);
+    assert_eq!(rt; trail.get(1), 8);
+    trail.cut_to(1);
+    assert_eq!(rt; trail.as_slice(), [7].as_slice());
+    proofs_refute();
+    Ok(())
+}

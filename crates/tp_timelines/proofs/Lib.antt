@@ -1,0 +1,4 @@
+pub mod InsertFacts
+pub mod OrderFacts
+pub mod VectorFacts
+pub mod MarkFacts

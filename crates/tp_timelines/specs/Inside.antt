@@ -1,0 +1,29 @@
+-- What timelines keep true of their fields.
+use Rattle.std.specs.Prelude.{◌≡◌, ℕ, ◌<◌, ◌≤◌, ◌^◌, List, length, drop, map, slice_get, Some, vec_capacity}
+use Rattle.tp_timelines.specs.declared.timelines.Timelines.TheInside.{Inside}
+use Rattle.tp_timelines.specs.Orders.{Orders, numbers_of, total, HaveRoom}
+use Rattle.tp_timelines.specs.Inserts.{taken_back, StandAt}
+
+abbrev pub orders_in : Inside → Orders
+orders_in a = record {
+  orders = numbers_of a.orders.items;
+  past = map (λ n. taken_back (drop n a.inserted.items) (numbers_of a.orders.items)) a.marks.items;
+  hold_room = a.hold_room;
+  mark_room = a.mark_room;
+}
+
+-- marks stand at inserts that are there, and at no less than the marks before them
+pub record AreMarks (marks : List ℕ) (inserts : ℕ) : Type 0 where
+  pub below : (k n : ℕ) → slice_get marks k ≡ Some n → n ≤ inserts
+  pub rise : (j k m n : ℕ) → j < k → slice_get marks j ≡ Some m → slice_get marks k ≡ Some n → m ≤ n
+
+pub record IsTimelines (a : Inside) : Type 0 where
+  pub all : total (numbers_of a.orders.items) ≡ length a.inserted.items
+  pub stand : StandAt (numbers_of a.orders.items) a.inserted.items
+  pub at_marks : AreMarks a.marks.items (length a.inserted.items)
+  pub holds : length a.inserted.items ≤ a.hold_room
+  pub marks : length a.marks.items ≤ a.mark_room
+  pub fits : a.hold_room < 2 ^ 32
+  pub room : HaveRoom a.hold_room a.orders.items
+  pub insert_room : a.hold_room ≤ vec_capacity a.inserted
+  pub mark_space : a.mark_room ≤ vec_capacity a.marks
