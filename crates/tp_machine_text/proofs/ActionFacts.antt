@@ -1,20 +1,18 @@
 -- Names, ways and durations of the actions of a table that keeps the rules.
-use Rattle.std.proofs.Common.{◌≡◌, ℕ, ℤ, pos, negsuc, Bool, true, false, not, ◌&&◌, List, [], ◌∷◌, length, map, Option, Some, None, refl, ap, sym, ◌∙◌, arith}
-use Rattle.std.specs.Prelude.{nat_lt, nat_le, int_le, codes}
+use Rattle.std.proofs.Common.{◌≡◌, ℕ, ℤ, pos, negsuc, true, false, not, ◌&&◌, List, [], ◌∷◌, map, Option, Some, None, refl, ap, arith}
+use Rattle.std.specs.Prelude.{nat_le, int_le, codes}
 use Rattle.std.specs.List.{list_all}
 use Rattle.std.proofs.lemmas.Bool.{and_parts}
 use Rattle.std.proofs.lemmas.Bool.Decides.{nat_tests}
 use Rattle.std.proofs.lemmas.Int.{ints}
 use Rattle.toml.specs.Data.{Data, Members, get}
 use Rattle.tp_machine.specs.Rules as machine
-use Rattle.tp_machine.specs.declared.parts.Action.{Action}
-use Rattle.tp_machine_text.specs.Words.{keys_of, text_of, text_in, text_at, whole_at, is_there, is_among, is_one_of, are_different}
+use Rattle.tp_machine_text.specs.Words.{keys_of, text_in, text_at, whole_at, is_there, is_among, is_one_of, are_different}
 use Rattle.tp_machine_text.specs.ActionRules.{is_of_module, has_ends, is_way, has_durations}
-use Rattle.tp_machine_text.specs.HoldRules.{number_of, least_of, most_of}
+use Rattle.tp_machine_text.specs.HoldRules.{number_of}
 use Rattle.tp_machine_text.specs.TheMachine.{loc_of, action_of, feeders_of}
 use Rattle.tp_machine_text.proofs.PlaceFacts.{place_known, loc_among}
 use Rattle.tp_machine_text.proofs.TextFacts.{one_of}
-use Rattle.tp_machine_text.proofs.NumberFacts.{number_order}
 use Rattle.tp_machine_text.proofs.SupplyFacts.{feeder_locs}
 
 pub there_known : (names : List (List ℕ)) (o : Option Data) → is_there (is_one_of names) o ≡ true → is_among names (text_in o) ≡ true

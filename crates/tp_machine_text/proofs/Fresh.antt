@@ -1,10 +1,8 @@
 -- Names that are added one by one stay different.
-use Rattle.std.proofs.Common.{◌≡◌, ℕ, Bool, true, false, not, ◌&&◌, ◌||◌, List, [], ◌∷◌, ◌++◌, refl, ap, sym, ◌∙◌, arith}
-use Rattle.std.specs.List.{list_any}
+use Rattle.std.proofs.Common.{◌≡◌, ℕ, Bool, true, false, not, ◌&&◌, List, [], ◌∷◌, ◌++◌, refl, ◌∙◌, arith}
 use Rattle.std.specs.Str.{bytes_eq}
 use Rattle.std.specs.Cmp.Lexicographic.{nat_list_eq_equiv}
-use Rattle.std.proofs.lemmas.List.Folds.{list_any-append}
-use Rattle.tp_machine_text.specs.Words.{is_among, are_different}
+use Rattle.tp_machine_text.specs.Words.{is_among}
 
 -- none of the texts is among the names
 abbrev pub are_new : List (List ℕ) → List (List ℕ) → Bool

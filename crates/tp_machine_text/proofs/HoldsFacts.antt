@@ -1,6 +1,6 @@
 -- The holds of a table that keeps the rules.
-use Rattle.std.proofs.Common.{◌≡◌, ℕ, ℤ, pos, negsuc, Bool, true, false, not, ◌&&◌, ◌==◌, List, [], ◌∷◌, length, map, refl, ap, sym, ◌∙◌, arith}
-use Rattle.std.specs.Prelude.{nat_lt, nat_le, int_le, codes}
+use Rattle.std.proofs.Common.{◌≡◌, ℕ, true, ◌&&◌, ◌==◌, List, [], ◌∷◌, length, map, refl}
+use Rattle.std.specs.Prelude.{nat_le, codes}
 use Rattle.std.specs.List.{list_all, list_any}
 use Rattle.std.proofs.lemmas.Bool.{and_parts}
 use Rattle.toml.specs.Data.{Data, Members, get}
@@ -9,7 +9,7 @@ use Rattle.tp_machine_text.specs.Words.{keys_of, text_at, is_fit, is_array, is_a
 use Rattle.tp_machine_text.specs.HoldRules.{holds, is_hold, has_holds, begins_in_action, begins_all, is_filled, fills_all, least_of, most_of}
 use Rattle.tp_machine_text.specs.TheMachine.{hold_of, action_of, resources_of}
 use Rattle.tp_machine_text.proofs.PlaceFacts.{place_known, same_place}
-use Rattle.tp_machine_text.proofs.HoldFacts.{IsHeld, held, offset_test}
+use Rattle.tp_machine_text.proofs.HoldFacts.{held, offset_test}
 use Rattle.tp_machine_text.proofs.ActionFacts.{there_known}
 use Rattle.tp_machine_text.proofs.NumberFacts.{length_resources}
 

@@ -1,7 +1,5 @@
 -- Where no rule is the first broken one, each is kept.
-use Rattle.std.proofs.Common.{◌≡◌, ℕ, suc, Bool, true, false, ◌&&◌, cond, List, [], ◌∷◌, Option, Some, None, refl}
-use Rattle.std.specs.List.{list_all}
-use Rattle.std.proofs.lemmas.Bool.{and_parts}
+use Rattle.std.proofs.Common.{◌≡◌, ℕ, suc, Bool, true, false, List, [], ◌∷◌, Option, Some, None, refl}
 use Rattle.toml.specs.Data.{Members}
 use Rattle.tp_machine_text.specs.Order.{first_from, or_else}
 use Rattle.tp_machine_text.specs.TopRules.{number_rules, place_rules}

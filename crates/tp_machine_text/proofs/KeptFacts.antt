@@ -1,17 +1,17 @@
 -- What a table that keeps the rules has, as the building of its machine asks it.
-use Rattle.std.proofs.Common.{◌≡◌, ℕ, ◌≤◌, pos, Bool, true, false, ◌&&◌, List, [], ◌∷◌, length, map, refl, arith}
+use Rattle.std.proofs.Common.{◌≡◌, ℕ, ◌≤◌, true, ◌&&◌, List, length, map, arith}
 use Rattle.std.specs.Prelude.{nat_le, codes}
 use Rattle.std.specs.List.{list_all}
 use Rattle.std.proofs.lemmas.Bool.{and_parts}
 use Rattle.std.proofs.lemmas.Bool.Decides.{nat_tests}
 use Rattle.tp_base.specs.NameText.{is_name_text}
 use Rattle.toml.specs.Data.{Data, Members, get_member}
-use Rattle.tp_machine_text.specs.Words.{elements_at, keys_of, data_of, members_at, text_of, is_fit, is_array, is_table, is_whole, is_name, is_among, is_one_of, is_apart, is_count, are_names, are_from, are_different}
+use Rattle.tp_machine_text.specs.Words.{elements_at, text_of, is_fit, is_array, is_table, is_name, is_among, is_one_of, is_apart, is_count, are_names, are_from, are_different}
 use Rattle.tp_machine_text.specs.Keys as text
 use Rattle.tp_machine_text.specs.SupplyRules.{is_open_place}
 use Rattle.tp_machine_text.specs.ActionRules.{is_named}
 use Rattle.tp_machine_text.specs.Kept.{KeepsRules}
-use Rattle.tp_machine_text.proofs.NumberFacts.{wider, length_texts}
+use Rattle.tp_machine_text.proofs.NumberFacts.{length_texts}
 use Rattle.tp_machine_text.proofs.TextFacts.{all_one_of}
 use Rattle.tp_machine_text.proofs.SupplyFacts.{keys_known}
 use Rattle.tp_machine_text.proofs.Sorted.{few_among}

@@ -1,12 +1,12 @@
 -- The three numbers and the four counts of a table that keeps the rules.
-use Rattle.std.proofs.Common.{◌≡◌, ℕ, ℤ, pos, negsuc, Bool, true, false, ◌&&◌, List, [], ◌∷◌, length, map, Option, Some, None, refl, ap, sym, ◌∙◌, arith}
-use Rattle.std.specs.Prelude.{nat_le, int_le, codes}
+use Rattle.std.proofs.Common.{◌≡◌, ℕ, ℤ, pos, negsuc, true, List, length, map, Option, Some, None, refl, arith}
+use Rattle.std.specs.Prelude.{nat_le, int_le}
 use Rattle.std.proofs.lemmas.Bool.{and_parts}
 use Rattle.std.proofs.lemmas.Bool.Decides.{nat_tests}
 use Rattle.std.proofs.lemmas.Int.{ints}
 use Rattle.std.proofs.lemmas.List.{length-map}
 use Rattle.tp_base.specs.NameText.{is_between}
-use Rattle.toml.specs.Data.{Data, string, integer, float, boolean, datetime, array, table, Members, no_members, member, get_member}
+use Rattle.toml.specs.Data.{Data, string, integer, float, boolean, datetime, array, table, Members, no_members, member}
 use Rattle.tp_machine_text.specs.Words.{keys_of, is_whole, is_fit, text_of}
 use Rattle.tp_machine_text.specs.HoldRules.{number_of}
 use Rattle.tp_machine_text.specs.TheMachine.{number_or, feeders_of, resources_of}

@@ -1,12 +1,12 @@
 -- Slices, arrays and tables of the code beside the lists that the rules look at.
-use Rattle.std.proofs.Common.{◌≡◌, ℕ, Bool, ◌&&◌, ◌||◌, List, [], ◌∷◌, length, map, String, Global, BTreeMap, Vec, Option, Some, None, option_map, Bor, string_bytes, refl, ap, sym, ◌∙◌}
+use Rattle.std.proofs.Common.{◌≡◌, ℕ, Bool, ◌&&◌, ◌||◌, List, [], ◌∷◌, map, String, Global, BTreeMap, string_bytes, refl, ap, sym, ◌∙◌}
 use Rattle.std.specs.List.{list_all, list_any}
 use Rattle.std.specs.Map.{keys_of as map_keys, values_of as map_values}
 use Rattle.std.proofs.lemmas.List.{length-map}
-use Rattle.toml.specs.Data.{Data, as_array, Items, get_member}
-use Rattle.toml.specs.View.{view, items_of, items_view, array_view, members_view, table_view}
+use Rattle.toml.specs.Data.{Data}
+use Rattle.toml.specs.View.{view, items_of, items_view, members_view, table_view}
 use Rattle.toml.specs.declared.value.Value.{Value}
-use Rattle.tp_machine_text.specs.Words.{values_of, keys_of, data_of, elements, is_among}
+use Rattle.tp_machine_text.specs.Words.{values_of, keys_of, data_of}
 
 pub list_all-map : {X Y : Type 0} (p : X → Bool) (h : Y → X) (ys : List Y) → list_all p (map h ys) ≡ list_all (λ y. p (h y)) ys
 list_all-map p h [] = refl

@@ -1,12 +1,12 @@
 -- The keys of a table stand in order. So they differ, and there are no more of them than of the names that they are among.
-use Rattle.std.proofs.Common.{◌≡◌, ℕ, suc, ◌+◌, zero-add, ◌≤◌, Bool, true, false, not, ◌&&◌, ◌||◌, List, [], ◌∷◌, length, map, String, Global, Less, string_bytes, nat_cmp, IsSome, refl, ap, sym, ◌∙◌, arith}
+use Rattle.std.proofs.Common.{◌≡◌, ℕ, suc, ◌+◌, zero-add, ◌≤◌, true, false, List, [], ◌∷◌, length, map, String, Global, Less, string_bytes, refl, ap, sym, ◌∙◌, arith}
 use Rattle.std.specs.List.{list_all, list_any, AllByRecursion, IsDistinct}
 use Rattle.std.specs.List.Sorted.{IsStrictlySortedBy}
-use Rattle.std.specs.Map.{keys_of as map_keys, lookup}
+use Rattle.std.specs.Map.{keys_of as map_keys}
 use Rattle.std.specs.Ordering.{is_eq, is_lt}
 use Rattle.std.specs.Str.{bytes_eq}
 use Rattle.std.specs.String.{string_cmp}
-use Rattle.std.specs.Cmp.Lexicographic.{slice_cmp, nat_list_eq_equiv}
+use Rattle.std.specs.Cmp.Lexicographic.{nat_list_eq_equiv}
 use Rattle.std.proofs.lemmas.Map.Text.{is_eq-slice_cmp}
 use Rattle.std.proofs.lemmas.Map.Steps.{length-le_from_keys}
 use Rattle.std.proofs.lemmas.Map.Made.{is_some-lookup}

@@ -1,22 +1,18 @@
 -- The machine of a table that keeps the rules has what every machine has.
-use Rattle.std.proofs.Common.{◌≡◌, ℕ, ◌≤◌, pos, Bool, true, false, ◌&&◌, List, [], ◌∷◌, length, map, Option, Some, None, refl, ap, sym, ◌∙◌, arith}
+use Rattle.std.proofs.Common.{◌≡◌, ℕ, true, map, refl, ◌∙◌}
 use Rattle.std.specs.Prelude.{nat_le, codes}
 use Rattle.std.specs.List.{list_all}
 use Rattle.std.proofs.lemmas.Bool.{and_parts}
-use Rattle.std.proofs.lemmas.Bool.Decides.{nat_tests}
 use Rattle.std.proofs.lemmas.List.{length-map}
 use Rattle.tp_base.specs.NameText.{is_between}
-use Rattle.toml.specs.Data.{Data, Members, get_member}
-use Rattle.toml.specs.View.{view}
-use Rattle.toml.specs.declared.value.Value.{Value}
+use Rattle.toml.specs.Data.{Members, get_member}
 use Rattle.tp_machine.specs.Rules as machine
-use Rattle.tp_machine_text.specs.Words.{elements_at, members_at, members_of, table_in, keys_of, data_of, text_of, is_name, is_among}
+use Rattle.tp_machine_text.specs.Words.{elements_at, members_at, is_among}
 use Rattle.tp_machine_text.specs.Keys as text
 use Rattle.tp_machine_text.specs.Kept.{KeepsRules}
 use Rattle.tp_machine_text.specs.TheMachine.{number_or, loc_of, feeders_of, resources_of, action_of}
 use Rattle.tp_machine_text.proofs.NumberFacts.{number_between, length_texts, length_resources, length_feeders}
-use Rattle.tp_machine_text.proofs.TextFacts.{all_one_of}
-use Rattle.tp_machine_text.proofs.KeptFacts.{AreNames, names_parts, few_locations, few_from, trays_from, purges_from, purges_apart, some_feeder, feeders_open, feeders_known, few_resources_test, actions_counted, actions_differ, texts_known}
+use Rattle.tp_machine_text.proofs.KeptFacts.{names_parts, trays_from, purges_from, purges_apart, some_feeder, feeders_open, feeders_known, few_resources_test, actions_counted, actions_differ, texts_known}
 use Rattle.tp_machine_text.proofs.SupplyFacts.{sound_trays, sound_purges, feeder_places, feeder_names_are, sound_resources}
 use Rattle.tp_machine_text.proofs.ActionFacts.{same_differ, action_names, sound_ways, sound_durations}
 use Rattle.tp_machine_text.proofs.HoldsFacts.{actions_held}

@@ -1,12 +1,11 @@
 -- Trays, purge trays, feeders and resources of a table that keeps the rules.
-use Rattle.std.proofs.Common.{◌≡◌, ℕ, Bool, true, false, not, ◌&&◌, List, [], ◌∷◌, length, map, Some, refl, ap, sym, ◌∙◌, arith}
+use Rattle.std.proofs.Common.{◌≡◌, ℕ, true, false, not, ◌&&◌, List, [], ◌∷◌, length, map, refl, ap, ◌∙◌, arith}
 use Rattle.std.specs.Prelude.{nat_lt, nat_le}
 use Rattle.std.specs.List.{list_all}
 use Rattle.std.proofs.lemmas.Bool.{and_parts}
 use Rattle.std.proofs.lemmas.List.{length-map}
 use Rattle.toml.specs.Data.{Data, Members, no_members, member}
 use Rattle.tp_machine.specs.Rules as machine
-use Rattle.tp_machine.specs.declared.parts.Feeder.{Feeder}
 use Rattle.tp_machine_text.specs.Words.{keys_of, data_of, text_of, is_among, is_one_of, is_apart, are_different, are_from}
 use Rattle.tp_machine_text.specs.SupplyRules.{is_open_place}
 use Rattle.tp_machine_text.specs.TheMachine.{loc_of, feeders_of, resources_of}

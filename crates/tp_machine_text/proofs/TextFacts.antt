@@ -1,9 +1,8 @@
 -- What the tests of values say of their texts.
-use Rattle.std.proofs.Common.{◌≡◌, ℕ, Bool, true, false, not, ◌&&◌, List, [], ◌∷◌, length, map, refl, arith}
+use Rattle.std.proofs.Common.{◌≡◌, ℕ, true, not, List, [], ◌∷◌, map, refl, arith}
 use Rattle.std.specs.List.{list_all}
-use Rattle.tp_base.specs.NameText.{is_name_text}
 use Rattle.toml.specs.Data.{Data, string, integer, float, boolean, datetime, array, table}
-use Rattle.tp_machine_text.specs.Words.{text_of, is_among, is_one_of, is_apart, is_name}
+use Rattle.tp_machine_text.specs.Words.{text_of, is_among, is_one_of, is_apart}
 
 pub one_of : (names : List (List ℕ)) (d : Data) → is_one_of names d ≡ true → is_among names (text_of d) ≡ true
 one_of names (string s) known = known

@@ -1,5 +1,5 @@
 -- The machine of a table. Where a rule says that a value is there, what stands here for its absence is never used.
-use Rattle.std.specs.Prelude.{◌≡◌, ℕ, suc, ℤ, Bool, false, if◌then◌else◌, List, [], ◌∷◌, map, Option, Some, None, codes}
+use Rattle.std.specs.Prelude.{◌≡◌, ℕ, suc, Bool, false, if◌then◌else◌, List, [], ◌∷◌, map, Option, Some, None, codes}
 use Rattle.std.specs.Str.{bytes_eq}
 use Rattle.toml.specs.Data.{Data, boolean, Members, no_members, member, get_member, get}
 use Rattle.tp_machine.specs.declared.parts.Action.{Action}

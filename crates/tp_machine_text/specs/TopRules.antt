@@ -1,7 +1,7 @@
 -- The rules on the keys, the format and the three numbers, and on locations, modules, trays and purge trays.
-use Rattle.std.specs.Prelude.{ℕ, ℤ, pos, Bool, ◌&&◌, nat_le, List, [], ◌∷◌, length, codes}
+use Rattle.std.specs.Prelude.{pos, Bool, ◌&&◌, nat_le, List, [], ◌∷◌, length, codes}
 use Rattle.std.specs.List.{list_all}
-use Rattle.toml.specs.Data.{Data, Members, get_member}
+use Rattle.toml.specs.Data.{Members, get_member}
 use Rattle.tp_machine_text.specs.Words.{keys_of, elements_at, is_there, is_fit, is_array, is_whole, is_among, is_apart, are_names, are_from}
 use Rattle.tp_machine_text.specs.Keys.{top_keys, locations, trays}
 

@@ -1,4 +1,4 @@
-use Rattle.std.proofs.Common.{map, ap, sym, ◌∙◌, option_map}
+use Rattle.std.proofs.Common.{map, ◌∙◌, option_map}
 use Rattle.toml.specs.View.{view, table_view}
 use Rattle.tp_machine_text.specs.Words.{text_of, keys_of, members_of}
 use Rattle.tp_machine_text.specs.Keys.{trays, purges, feeders}

@@ -1,4 +1,4 @@
-use Rattle.std.proofs.Common.{arith, rules}
+use Rattle.std.proofs.Common.{arith}
 use Rattle.std.proofs.lemmas.Grind.{common_steps}
 use Rattle.tp_machine_text.proofs.Fresh.{fresh}
 use Rattle.tp_machine_text.proofs.building.names_of.Goals as goal

@@ -1,4 +1,4 @@
-use Rattle.std.proofs.Common.{map, ap, sym, ◌∙◌}
+use Rattle.std.proofs.Common.{◌∙◌}
 use Rattle.toml.specs.View.{view}
 use Rattle.tp_machine_text.specs.HoldRules.{begins_in_action, least_of}
 use Rattle.tp_machine_text.proofs.Seen.{all_seen}

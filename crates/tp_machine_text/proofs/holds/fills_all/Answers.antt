@@ -1,4 +1,4 @@
-use Rattle.std.proofs.Common.{map, ap, sym, ◌∙◌}
+use Rattle.std.proofs.Common.{◌∙◌}
 use Rattle.toml.specs.View.{view}
 use Rattle.tp_machine_text.specs.HoldRules.{is_filled, least_of, most_of}
 use Rattle.tp_machine_text.proofs.Seen.{all_seen}

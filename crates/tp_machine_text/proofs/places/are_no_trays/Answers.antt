@@ -1,4 +1,4 @@
-use Rattle.std.proofs.Common.{map, ap, sym, ◌∙◌, refl}
+use Rattle.std.proofs.Common.{map, ap, ◌∙◌, refl}
 use Rattle.toml.specs.View.{view, table_view}
 use Rattle.tp_machine_text.specs.Words.{text_of, is_apart}
 use Rattle.tp_machine_text.specs.Keys.{trays}

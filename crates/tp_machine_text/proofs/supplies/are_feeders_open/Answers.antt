@@ -1,4 +1,4 @@
-use Rattle.std.proofs.Common.{map, ap, sym, ◌∙◌, string_bytes}
+use Rattle.std.proofs.Common.{map, sym, ◌∙◌, string_bytes}
 use Rattle.toml.specs.View.{view, table_view}
 use Rattle.tp_machine_text.specs.Words.{text_of}
 use Rattle.tp_machine_text.specs.Keys.{locations, trays, purges}

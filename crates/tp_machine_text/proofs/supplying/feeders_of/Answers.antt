@@ -1,6 +1,5 @@
-use Rattle.std.proofs.Common.{◌≤◌, length, map, arith}
+use Rattle.std.proofs.Common.{map, arith}
 use Rattle.std.proofs.lemmas.List.{length-map}
-use Rattle.toml.specs.Data.{Data}
 use Rattle.toml.specs.View.{view}
 use Rattle.tp_machine_text.specs.Words.{text_of}
 use Rattle.tp_machine_text.proofs.Sorted.{few_keys, keys_rise, length_keys}

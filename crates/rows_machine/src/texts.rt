@@ -1,0 +1,139 @@
+// Machine texts that are read, and those that are refused.
+use crate::machines::DUO;
+use std::alloc::Global;
+use std::test::Fail;
+use tp_machine_text::{MachineFault, read_machine};
+
+/// The text with the first `old` made `new`.
+fn edited(alloc: Global, text: &str, old: &str, new: &str) -> Result<String, Fail> {
+    let Some((before, after)) = text.split_once(old) else {
+        return Err(Fail::from("an edit of what isn't there"));
+    };
+    let mut all = String::from_str(alloc, before)?;
+    all.push_str(new)?;
+    all.push_str(after)?;
+    Ok(all)
+}
+
+/// The edit of DUO that breaks a rule alone. The texts for rule 14 stand in `no_actions`.
+fn edit_of(rule: u8) -> (&'static str, &'static str) {
+    match rule {
+        1 => ("[feeders]", "speed = 3\n\n[feeders]"),
+        2 => ("format = 1", "format = 2"),
+        3 => ("lead = 2", "lead = 4097"),
+        4 => ("window = 200", "window = 0"),
+        5 => ("[feeders]", "budget = 0\n\n[feeders]"),
+        6 => ("locations = [\"f\",", "locations = [\"f\", \"f\","),
+        7 => ("\"DUMP\"]", "\"DUMP\", \"OUT\"]"),
+        8 => ("trays = [\"t\"]", "trays = []"),
+        9 => ("purge = [\"p\"]", "purge = [\"t\"]"),
+        10 => ("f = \"plain\"", "t = \"plain\""),
+        11 => ("\"plain\"", "\"pl ain\""),
+        12 => ("rt = \"OUT\"", "\"r t\" = \"OUT\""),
+        13 => ("r1 = \"ENG1\"", "r1 = \"ENG9\""),
+        15 => ("name = \"dump\"", "name = \"dump\"\nspeed = 1"),
+        16 => ("name = \"dump\"", "name = \"out\""),
+        17 => ("module = \"DUMP\"", "module = \"DUMPER\""),
+        18 => ("to = \"p\"", "to = \"x\""),
+        19 => ("from = \"b\"\nto = \"t\"", "from = \"t\"\nto = \"t\""),
+        20 => ("least = 3\nmost = 30", "least = 31\nmost = 30"),
+        21 => ("prints = [\"mono\"]", "prints = [\"mono\", \"mono\"]"),
+        22 => ("resource = \"rt\"", "resource = \"rx\""),
+        23 => ("begin = [\"end\", -1]", "begin = [\"end\", -5]"),
+        _ => ("end = [\"start\", 2]", "end = [\"start\", 0]"),
+    }
+}
+
+fn fault_of(alloc: Global, text: &str) -> Option<MachineFault> {
+    read_machine(alloc, text.as_bytes()).err()
+}
+
+#[test]
+fn each_rule_alone_and_with_the_next(rt: HostRuntime) -> Result<(), Fail> {
+    let alloc = rt.alloc();
+    for rule in 1u8..25 {
+        if rule == 14 {
+            continue;
+        }
+        let (old, new) = edit_of(rule);
+        let alone = edited(alloc, DUO, old, new)?;
+        assert_eq!(rt;
+            fault_of(alloc, alone.as_str()),
+            Some(MachineFault::Rule(rule)),
+            "{rule}"
+        );
+        let later = if rule == 13 { 15 } else { rule + 1 };
+        if later < 25 && later != 14 {
+            let (old, new) = edit_of(later);
+            let both = edited(alloc, alone.as_str(), old, new)?;
+            assert_eq!(rt;
+                fault_of(alloc, both.as_str()),
+                Some(MachineFault::Rule(rule)),
+                "{rule} and {later}"
+            );
+        }
+    }
+    Ok(())
+}
+
+const NO_ACTIONS: &str = r#"format = 1
+locations = ["f", "t"]
+modules = ["M"]
+trays = ["t"]
+actions = []
+[feeders]
+f = "plain"
+"#;
+
+#[test]
+fn texts_that_are_refused(rt: HostRuntime) -> Result<(), Fail> {
+    let alloc = rt.alloc();
+    let no_table = edited(alloc, NO_ACTIONS, "[]", "[3, { speed = 1 }]")?;
+    let empty = edited(alloc, DUO, "end = [\"start\", 2]", "end = [\"start\", 0]")?;
+    let early = edited(
+        alloc,
+        DUO,
+        "begin = [\"start\", 0], end = [\"start\", 2]",
+        "begin = [\"end\", -5], end = [\"end\", 0]",
+    )?;
+    let rows = [
+        ("lead = ", MachineFault::NotToml),
+        ("", MachineFault::Rule(2)),
+        (NO_ACTIONS, MachineFault::Rule(14)),
+        (no_table.as_str(), MachineFault::Rule(14)),
+        (empty.as_str(), MachineFault::Rule(24)),
+        (early.as_str(), MachineFault::Rule(23)),
+    ];
+    for (text, wanted) in rows {
+        assert_eq!(rt; fault_of(alloc, text), Some(wanted), "{text}");
+    }
+    assert_eq!(rt;
+        read_machine(alloc, b"lead = \"\xFF\"").err(),
+        Some(MachineFault::NotToml)
+    );
+    Ok(())
+}
+
+/// A text that begins as a machine's, with so many locations.
+fn with_locations(alloc: Global, count: u32) -> Result<String, Fail> {
+    let mut text = String::from_str(alloc, "format = 1\nlocations = [")?;
+    for n in 0..count {
+        let name = format!(in alloc; "\"l{n}\", ")?;
+        text.push_str(name.as_str())?;
+    }
+    text.push_str("]\n")?;
+    Ok(text)
+}
+
+#[test]
+fn many_locations(rt: HostRuntime) -> Result<(), Fail> {
+    for (count, rule) in [(0, 6), (1, 7), (256, 7), (257, 6)] {
+        let text = with_locations(rt.alloc(), count)?;
+        assert_eq!(rt;
+            fault_of(rt.alloc(), text.as_str()),
+            Some(MachineFault::Rule(rule)),
+            "{count}"
+        );
+    }
+    Ok(())
+}
