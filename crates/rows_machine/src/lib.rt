@@ -1,7 +1,6 @@
-//! Worked rows of machine texts: a crate of tests alone.
+//! Worked rows of machines: a crate of tests, and the machine texts of all rows.
 #![tactic(auto)]
 
-#[cfg(test)]
-mod machines;
+pub mod machines;
 #[cfg(test)]
 mod texts;

@@ -1,6 +1,6 @@
 // The machines of the rows, as the files of machines/ have them.
 
-pub(crate) const DUO: &str = r#"format = 1
+pub const DUO: &str = r#"format = 1
 lead = 2
 window = 200
 locations = ["f", "a", "b", "t", "p"]
@@ -64,7 +64,7 @@ least = 3
 most = 3
 "#;
 
-pub(crate) const LINE: &str = r#"format = 1
+pub const LINE: &str = r#"format = 1
 lead = 2
 window = 2000
 locations = ["f", "a", "b", "t", "p"]
@@ -117,7 +117,7 @@ least = 3
 most = 3
 "#;
 
-pub(crate) const TWIN: &str = r#"format = 1
+pub const TWIN: &str = r#"format = 1
 lead = 2
 window = 200
 locations = ["f", "a", "t"]
@@ -158,7 +158,7 @@ most = 20
 holds = [{ resource = "rr", begin = ["start", 0], end = ["end", 0] }]
 "#;
 
-pub(crate) const TAIL: &str = r#"format = 1
+pub const TAIL: &str = r#"format = 1
 lead = 2
 window = 15
 locations = ["f", "a", "t"]
@@ -191,7 +191,7 @@ most = 3
 holds = [{ resource = "rt", begin = ["end", -1], end = ["end", 0] }]
 "#;
 
-pub(crate) const LOOP: &str = r#"format = 1
+pub const LOOP: &str = r#"format = 1
 lead = 2
 window = 200
 locations = ["f", "a", "t"]
