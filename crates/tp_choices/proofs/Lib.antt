@@ -26,3 +26,6 @@ pub mod WholeAnswers
 pub mod LiveAnswers
 pub mod LiveTimes
 pub mod Joining
+pub mod Shifting
+pub mod ShiftedPlaces
+pub mod UnshiftedPlaces

@@ -1,7 +1,12 @@
 -- The live part of a schedule is enough: plans that are past constrain nothing that may still move.
-use Rattle.std.specs.Prelude.{◌≡◌, ℕ, ◌<◌, ◌≤◌, Bool, not, List, length, filter, Contains, AllPairs, IsTrue, IsFalse}
+use Rattle.std.specs.Prelude.{◌≡◌, ℕ, ◌+◌, ◌<◌, ◌≤◌, Bool, not, List, [], ◌∷◌, length, map, filter, Contains, AllPairs, IsTrue, IsFalse}
+use Rattle.tp_machine.specs.Using.{action_at}
+use Rattle.tp_machine.specs.declared.parts.HoldRule.{HoldRule}
 use Rattle.tp_machine.specs.declared.whole.Machine.{Machine}
 use Rattle.tp_schedule.specs.Answers.{IsAlternative, IsRetimed, IsLeast, IsAsked}
+use Rattle.tp_schedule.specs.Choices.{Choice, ChoiceList, OpensTo}
+use Rattle.tp_schedule.specs.Holding.{holds_of_act}
+use Rattle.tp_schedule.specs.Spots.{slot_order}
 use Rattle.tp_schedule.specs.Legality.{IsLegal}
 use Rattle.tp_schedule.specs.Living.{is_live}
 use Rattle.tp_schedule.specs.Plans.{IsEarlier, point, is_before, is_delivered_to, goes_to}
@@ -81,3 +86,29 @@ LiveIsLeast = (machine : Machine) (now : ℕ) (exempt : Plan → Bool) (plans : 
 abbrev pub JoinExists : Type 0
 JoinExists = (gone : SheetId → Bool) (plans live : List Plan) → AllPairs IsEarlier plans → AllPairs IsEarlier live → ((p : Plan) → Contains live p → IsFalse (gone p.sheet))
     → (new : List Plan) × IsJoined gone plans live new
+
+-- how many forgotten holds a resource has
+abbrev pub forgotten_on : Machine → List Plan → (SheetId → Bool) → ℕ → ℕ
+forgotten_on machine plans gone resource = length (slot_order machine (only gone plans) resource)
+
+-- places further by so many as a count of their resources tells
+abbrev pub shift_places : (ℕ → ℕ) → List HoldRule → List ℕ → List ℕ
+shift_places count [] places = places
+shift_places count (rule ∷ rules) [] = []
+shift_places count (rule ∷ rules) (place ∷ places) = (place + count rule.resource.0) ∷ shift_places count rules places
+
+abbrev pub shift_choice : Machine → (ℕ → ℕ) → Choice → Choice
+shift_choice machine count c = record { act = c.act; places = shift_places count (holds_of_act (action_at machine c.act.0)) c.places }
+
+abbrev pub shifted : Machine → (ℕ → ℕ) → ChoiceList → ChoiceList
+shifted machine count list = record { goal = list.goal; choices = map (shift_choice machine count) list.choices; stopped = list.stopped }
+
+-- a list that opens on the live part opens on the whole schedule to the same end, its places behind the forgotten holds
+abbrev pub LiveOpens : Type 0
+LiveOpens = (machine : Machine) (plans : List Plan) (ask : Ask) (gone : SheetId → Bool) (list : ChoiceList) (end : ℕ) → MayForget machine ask.now plans gone → MayAskBeside machine plans ask gone
+    → OpensTo machine (less gone plans) ask list end → OpensTo machine plans ask (shifted machine (forgotten_on machine plans gone) list) end
+
+-- and each list that opens on the whole schedule is such a one
+abbrev pub WholeOpens : Type 0
+WholeOpens = (machine : Machine) (plans : List Plan) (ask : Ask) (gone : SheetId → Bool) (list : ChoiceList) (end : ℕ) → MayForget machine ask.now plans gone → MayAskBeside machine plans ask gone
+    → OpensTo machine plans ask list end → (small : ChoiceList) × (list ≡ shifted machine (forgotten_on machine plans gone) small) × OpensTo machine (less gone plans) ask small end
