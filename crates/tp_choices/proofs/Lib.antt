@@ -29,3 +29,5 @@ pub mod Joining
 pub mod Shifting
 pub mod ShiftedPlaces
 pub mod UnshiftedPlaces
+pub mod ShiftedLists
+pub mod WholeLists
