@@ -31,3 +31,5 @@ pub mod ShiftedPlaces
 pub mod UnshiftedPlaces
 pub mod ShiftedLists
 pub mod WholeLists
+pub mod LiveLists
+pub mod LiveBounds

@@ -105,3 +105,8 @@ counted machine plans gone legal resource = ap length (order-staying false gone 
 -- the order of the live part
 pub live-order : (machine : Machine) (plans : List Plan) (gone : SheetId → Bool) → IsLegal machine plans → (resource : ℕ) → filter (keeping gone) (slot_order machine plans resource) ≡ slot_order machine (less gone plans) resource
 live-order machine plans gone legal resource = sym (filter-same (stays true (others_of gone)) (keeping gone) (slot_order machine plans resource) (stays-others gone)) ∙ sym (order-staying true (others_of gone) machine plans resource legal)
+
+-- choices last as long at ticks that agree on own points
+pub own-lasts : (machine : Machine) (t t' : Ticks) (choices : List Choice) → ((n : ℕ) → t' (own n) ≡ t (own n)) → ChoicesLast machine t choices → ChoicesLast machine t' choices
+own-lasts machine t t' [] same lasts = tt
+own-lasts machine t t' (c ∷ choices) same lasts = (rw (same (suc (length choices)), same (length choices)) lasts.0, own-lasts machine t t' choices same lasts.1)

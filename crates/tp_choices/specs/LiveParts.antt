@@ -1,10 +1,10 @@
 -- The live part of a schedule is enough: plans that are past constrain nothing that may still move.
-use Rattle.std.specs.Prelude.{◌≡◌, ℕ, ◌+◌, ◌<◌, ◌≤◌, Bool, not, List, [], ◌∷◌, length, map, filter, Contains, AllPairs, IsTrue, IsFalse}
+use Rattle.std.specs.Prelude.{◌≡◌, ◌↔◌, ℕ, ◌+◌, ◌<◌, ◌≤◌, Bool, not, List, [], ◌∷◌, length, map, filter, Contains, AllPairs, IsTrue, IsFalse}
 use Rattle.tp_machine.specs.Using.{action_at}
 use Rattle.tp_machine.specs.declared.parts.HoldRule.{HoldRule}
 use Rattle.tp_machine.specs.declared.whole.Machine.{Machine}
-use Rattle.tp_schedule.specs.Answers.{IsAlternative, IsRetimed, IsLeast, IsAsked}
-use Rattle.tp_schedule.specs.Choices.{Choice, ChoiceList, OpensTo}
+use Rattle.tp_schedule.specs.Answers.{IsAlternative, IsEarliest, NoneBefore, IsRetimed, IsLeast, IsAsked}
+use Rattle.tp_schedule.specs.Choices.{Choice, ChoiceList, OpensTo, IsBound}
 use Rattle.tp_schedule.specs.Holding.{holds_of_act}
 use Rattle.tp_schedule.specs.Spots.{slot_order}
 use Rattle.tp_schedule.specs.Legality.{IsLegal}
@@ -112,3 +112,22 @@ LiveOpens = (machine : Machine) (plans : List Plan) (ask : Ask) (gone : SheetId 
 abbrev pub WholeOpens : Type 0
 WholeOpens = (machine : Machine) (plans : List Plan) (ask : Ask) (gone : SheetId → Bool) (list : ChoiceList) (end : ℕ) → MayForget machine ask.now plans gone → MayAskBeside machine plans ask gone
     → OpensTo machine plans ask list end → (small : ChoiceList) × (list ≡ shifted machine (forgotten_on machine plans gone) small) × OpensTo machine (less gone plans) ask small end
+
+-- so they have the same bounds
+abbrev pub LiveBounds : Type 0
+LiveBounds = (machine : Machine) (plans : List Plan) (ask : Ask) (gone : SheetId → Bool) (list : ChoiceList) (bound : ℕ) → MayForget machine ask.now plans gone → MayAskBeside machine plans ask gone
+    → IsBound machine (less gone plans) ask list bound ↔ IsBound machine plans ask (shifted machine (forgotten_on machine plans gone) list) bound
+
+-- an earliest answer on the live part, joined with what is forgotten, is an earliest one on the whole schedule
+abbrev pub LiveIsEarliest : Type 0
+LiveIsEarliest = (machine : Machine) (plans live new : List Plan) (ask : Ask) (gone : SheetId → Bool) → MayForget machine ask.now plans gone → MayAskBeside machine plans ask gone
+    → IsJoined gone plans live new → IsEarliest machine (less gone plans) ask live → IsEarliest machine plans ask new
+
+-- no alternative on the live part ends before a tick, or none exists: so it is on the whole schedule
+abbrev pub LiveBoundsAnswers : Type 0
+LiveBoundsAnswers = (machine : Machine) (plans : List Plan) (ask : Ask) (gone : SheetId → Bool) (bound : ℕ) → MayForget machine ask.now plans gone → IsFalse (gone ask.sheet)
+    → NoneBefore machine (less gone plans) ask bound → NoneBefore machine plans ask bound
+
+abbrev pub LiveHasNone : Type 0
+LiveHasNone = (machine : Machine) (plans : List Plan) (ask : Ask) (gone : SheetId → Bool) → MayForget machine ask.now plans gone → IsFalse (gone ask.sheet)
+    → ((other : List Plan) → ¬ IsAlternative machine (less gone plans) ask other) → (other : List Plan) → ¬ IsAlternative machine plans ask other
