@@ -33,3 +33,4 @@ pub mod ShiftedLists
 pub mod WholeLists
 pub mod LiveLists
 pub mod LiveBounds
+pub mod LiveSpent

@@ -1,12 +1,11 @@
 -- Bounds and earliest ends of the live part are those of the whole schedule, since each list and each alternative of one is
 -- one of the other with the same end. Shifting places back and forth gives the list again.
-use Rattle.std.proofs.Common.{◌≡◌, ℕ, suc, ◌+◌, ◌≤◌, Bool, List, [], ◌∷◌, map, length, refl, ap, sym, arith, ◌∙◌, subst}
+use Rattle.std.proofs.Common.{◌≡◌, ℕ, ◌+◌, ◌≤◌, List, [], ◌∷◌, map, refl, ap, sym, arith, ◌∙◌, subst}
 use Rattle.tp_machine.specs.Using.{action_at}
 use Rattle.tp_machine.specs.declared.parts.ActId.{ActId}
 use Rattle.tp_machine.specs.declared.parts.HoldRule.{HoldRule}
 use Rattle.tp_machine.specs.declared.whole.Machine.{Machine}
-use Rattle.tp_schedule.specs.declared.parts.SheetId.{SheetId}
-use Rattle.tp_schedule.specs.Choices.{Choice, ChoiceList, OpensTo, IsBound}
+use Rattle.tp_schedule.specs.Choices.{Choice, ChoiceList, OpensTo}
 use Rattle.tp_schedule.specs.Holding.{holds_of_act}
 use Rattle.tp_schedule.specs.Plans.{end_of_plan}
 use Rattle.tp_choices.specs.LiveParts.{less, shift_places, shift_choice, shifted, forgotten_on, LiveBounds, LiveIsEarliest, LiveBoundsAnswers, LiveHasNone}
@@ -46,7 +45,7 @@ choice-one : (machine : Machine) (counts : ℕ → ℕ) (a : ActId) (ks : List �
 choice-one machine counts a ks d e =
     let act : a ≡ d.act = ap (λ (c : Choice). c.act) e in
     let places : shift_places counts (holds_of_act (action_at machine a.0)) ks ≡ shift_places counts (holds_of_act (action_at machine a.0)) d.places =
-        ap (λ (c : Choice). c.places) e ∙ ap (λ (b : ActId). shift_places counts (holds_of_act (action_at machine b.0)) d.places) (sym act) in
+    ap (λ (c : Choice). c.places) e ∙ ap (λ (b : ActId). shift_places counts (holds_of_act (action_at machine b.0)) d.places) (sym act) in
     let same = places-one counts (holds_of_act (action_at machine a.0)) ks d.places places in
     λ i. record { act = act i; places = same i }
 

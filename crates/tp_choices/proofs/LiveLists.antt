@@ -1,7 +1,6 @@
 -- A list that opens on the live part opens on the whole schedule: its kept ticks make a schedule that is joined with what is
 -- forgotten, and the places are further on by the forgotten holds.
-use Rattle.std.proofs.Common.{◌≡◌, ◌⊎◌, inl, inr, ℕ, suc, ◌+◌, ◌≤◌, ◌<◌, Bool, true, false, cond, not, List, [], ◌∷◌, ◌++◌, map, filter, length, refl, ap, sym, arith, Contains, All, AllPairs, ◌∙◌, subst, get_or, Some, IsTrue, IsFalse}
-use Rattle.std.specs.Prelude.{◌<ℤ◌}
+use Rattle.std.proofs.Common.{◌≡◌, ℕ, suc, ◌+◌, ◌≤◌, ◌<◌, Bool, true, false, not, List, ◌++◌, map, filter, length, refl, sym, arith, Contains, All, AllPairs, subst, get_or, Some, IsTrue}
 use Rattle.std.proofs.lemmas.List.{length-map}
 use Rattle.std.proofs.lemmas.List.Elements.{All-contains, All-append, Contains-get_or}
 use Rattle.std.proofs.lemmas.List.Sorted.{All-permutation}
@@ -11,16 +10,16 @@ use Rattle.tp_schedule.specs.declared.parts.Ask.{Ask}
 use Rattle.tp_schedule.specs.declared.parts.Plan.{Plan}
 use Rattle.tp_schedule.specs.declared.parts.SheetId.{SheetId}
 use Rattle.tp_schedule.specs.Answers.{IsRetimed}
-use Rattle.tp_schedule.specs.Choices.{Choice, ChoiceList, acts_of, placed, HavePlaces, ChoicesLast, IsChoiceList, HasTimes, OpensTo, KeepsLine, start_floor}
-use Rattle.tp_schedule.specs.Plans.{point, plan_of, is_before, is_delivered_to, goes_to}
+use Rattle.tp_schedule.specs.Choices.{ChoiceList, acts_of, placed, ChoicesLast, OpensTo, KeepsLine, start_floor}
+use Rattle.tp_schedule.specs.Plans.{plan_of, is_before}
 use Rattle.tp_schedule.specs.Routes.{walk, AreAllowed, least_sum}
-use Rattle.tp_schedule.specs.Spots.{Spot, Ticks, Slot, IsApart, IsSoundSlot, begin_at, end_at, slots, slot_order, ticks_of}
+use Rattle.tp_schedule.specs.Spots.{Spot, Ticks, Slot, IsApart, IsSoundSlot, slots, slot_order, ticks_of}
 use Rattle.tp_schedule.specs.Spots.Spot.{kept, own}
 use Rattle.tp_schedule.specs.Times.{KeepsTimes, KeepsOrders, timed_by, at}
 use Rattle.tp_schedule.proofs.CopyFacts.{plan_of-itself, before-asym}
 use Rattle.tp_schedule.proofs.Membership.{Contains-filter, Contains-filter_from, Contains-map, Contains-map_from}
 use Rattle.tp_schedule.proofs.Pairs.{AllPairs-each}
-use Rattle.tp_choices.specs.LiveParts.{less, only, MayForget, MayAskBeside, IsJoined, shift_choice, shifted, forgotten_on, LiveOpens}
+use Rattle.tp_choices.specs.LiveParts.{less, MayForget, MayAskBeside, IsJoined, shift_choice, shifted, forgotten_on, LiveOpens}
 use Rattle.tp_choices.proofs.Completing.{point-timed_by}
 use Rattle.tp_choices.proofs.Joining.{join_exists}
 use Rattle.tp_choices.proofs.LiveOrders.{others_of}
@@ -33,8 +32,8 @@ use Rattle.tp_choices.proofs.Retiming.{ticks_retime, retimed_ticks}
 use Rattle.tp_choices.proofs.SamePlaces.{kept-sound, own-sound}
 use Rattle.tp_choices.proofs.SameTicks.{IsSameAt, begin-same, end-same, apart-same, in-slots}
 use Rattle.tp_choices.proofs.ShiftedLists.{acts-shifted, lasts-shifted, can_stop-as, apart-base, after-floor, keeping, are-own, keep-own_slots, ended-at, counted, live-order, own-lasts}
-use Rattle.tp_choices.proofs.ShiftedPlaces.{IsParted, IsEnded, BesideAt, Placed, placed-beside}
-use Rattle.tp_choices.proofs.Staying.{legal-staying, stays}
+use Rattle.tp_choices.proofs.ShiftedPlaces.{IsParted, IsEnded, BesideAt, placed-beside}
+use Rattle.tp_choices.proofs.Staying.{legal-staying}
 use Rattle.tp_choices.proofs.TimedSlots.{All-slots, All-own_slots}
 
 -- ticks of kept points from one, and of own points from another

@@ -1,36 +1,33 @@
 -- A list whose places are further on has the same actions and the same own points, so it lasts as long, and begins and stops
 -- where the list does. At ticks that keep a schedule's times, forgotten slots have ended by the moment.
-use Rattle.std.proofs.Common.{◌≡◌, ◌≢◌, ◌⊎◌, inl, inr, ℕ, zero, suc, ◌+◌, ◌≤◌, ◌<◌, Bool, true, false, cond, not, List, [], ◌∷◌, ◌++◌, map, filter, length, refl, ap, sym, arith, Contains, All, AllPairs, ◌∙◌, subst, get_or, Some, None, Option, IsTrue, slice_index}
-use Rattle.std.specs.Prelude.{pos, ◌≤ℤ◌, ◌<ℤ◌}
-use Rattle.std.proofs.lemmas.Int.{ints}
+use Rattle.std.proofs.Common.{◌≡◌, ℕ, suc, ◌+◌, ◌≤◌, ◌<◌, Bool, true, false, not, List, [], ◌∷◌, map, filter, length, refl, ap, sym, arith, Contains, All, AllPairs, ◌∙◌, subst, Some, slice_index}
+use Rattle.std.specs.Prelude.{pos, ◌≤ℤ◌}
 use Rattle.std.proofs.lemmas.List.{length-map}
-use Rattle.std.proofs.lemmas.List.Elements.{All-contains, All-append}
-use Rattle.std.proofs.lemmas.List.Sorted.{All-permutation, Contains-permutation, IsPermutation-sym}
-use Rattle.tp_machine.proofs.MachineFacts.{is_machine}
+use Rattle.std.proofs.lemmas.List.Elements.{All-contains}
 use Rattle.tp_machine.specs.declared.whole.Machine.{Machine}
 use Rattle.tp_schedule.specs.declared.parts.Ask.{Ask}
 use Rattle.tp_schedule.specs.declared.parts.Origin.{Origin}
 use Rattle.tp_schedule.specs.declared.parts.Origin.TheVariants.{Feeder as FromFeeder, Front as FromFront}
 use Rattle.tp_schedule.specs.declared.parts.Plan.{Plan}
 use Rattle.tp_schedule.specs.declared.parts.SheetId.{SheetId}
-use Rattle.tp_schedule.specs.Choices.{Choice, ChoiceList, acts_of, placed, HavePlaces, ChoicesLast, CanStop, IsFirstState, start_floor}
+use Rattle.tp_schedule.specs.Choices.{Choice, ChoiceList, acts_of, placed, ChoicesLast, CanStop, start_floor}
 use Rattle.tp_schedule.specs.Legality.{IsLegal}
-use Rattle.tp_schedule.specs.Plans.{point, IsTimedPlan}
+use Rattle.tp_schedule.specs.Plans.{IsTimedPlan}
 use Rattle.tp_schedule.specs.Routes.{walk}
-use Rattle.tp_schedule.specs.Spots.{Spot, Ticks, Slot, IsApart, IsSoundSlot, begin_at, end_at, slots, slots_of, slot_order, ticks_of}
+use Rattle.tp_schedule.specs.Spots.{Ticks, Slot, IsSoundSlot, end_at, slots, slots_of, slot_order}
 use Rattle.tp_schedule.specs.Spots.Spot.{kept, own}
 use Rattle.tp_schedule.specs.Times.{KeepsTimes}
 use Rattle.tp_schedule.proofs.HeldCount.{IsTimedBy}
-use Rattle.tp_choices.specs.LiveParts.{less, only, MayForget, EndsAhead, shift_choice, forgotten_on}
+use Rattle.tp_choices.specs.LiveParts.{less, MayForget, EndsAhead, shift_choice, forgotten_on}
 use Rattle.tp_choices.proofs.Completing.{ChoicesLast-rise}
 use Rattle.tp_choices.proofs.Leaving.{AllPairs-put_places_out}
 use Rattle.tp_choices.proofs.LiveOrders.{others_of, filter-same, stays-others}
 use Rattle.tp_choices.proofs.LiveSlots.{slots-in, slot_of}
-use Rattle.tp_choices.proofs.OwnSlots.{own_slots, IsPermutation-placed}
+use Rattle.tp_choices.proofs.OwnSlots.{own_slots}
 use Rattle.tp_choices.proofs.PastFacts.{past_slots}
 use Rattle.tp_choices.proofs.PointFacts.{past-fixed}
-use Rattle.tp_choices.proofs.SamePlaces.{kept-sound, own-sound}
-use Rattle.tp_choices.proofs.SameTicks.{in-slots, in-order, order-staying}
+use Rattle.tp_choices.proofs.SamePlaces.{kept-sound}
+use Rattle.tp_choices.proofs.SameTicks.{in-order, order-staying}
 use Rattle.tp_choices.proofs.ShiftedPlaces.{IsEnded, AreOwn}
 use Rattle.tp_choices.proofs.Staying.{stays, on_copy}
 use Rattle.tp_choices.proofs.TimedSlots.{All-own_slots}
@@ -86,8 +83,11 @@ ended-at machine now plans gone exempt t f keeps resource s in' e =
     let of = slot_of machine resource from.0 s from.2 in
     let is-gone : gone from.0.sheet ≡ true = not-false (gone from.0.sheet) (subst (λ x. not (on_copy false gone x) ≡ false) of.to e) in
     let one = All-contains (IsTimedPlan machine) plans from.0 f.legal.timed from.1 in
-    let timed : IsTimedBy t from.0 = (one.one_more, λ i j is within. subst (λ n. t (kept from.0.sheet n) ≡ slice_index from.0.points i) (let back : i ≡ j = omega arith in back)
-        (keeps.fixed from.0 from.1 i (past-fixed machine now plans gone f from.0 from.1 is-gone i (let more = one.one_more in omega arith)) (let more = one.one_more in omega arith))) in
+    let timed : IsTimedBy t from.0 = (
+      one.one_more,
+      λ i j is within. subst (λ n. t (kept from.0.sheet n) ≡ slice_index from.0.points i) (let back : i ≡ j = omega arith in back)
+          (keeps.fixed from.0 from.1 i (past-fixed machine now plans gone f from.0 from.1 is-gone i (let more = one.one_more in omega arith)) (let more = one.one_more in omega arith)),
+    ) in
     let past = All-contains (λ x. end_at t x ≤ℤ pos now) (slots_of machine resource from.0) s (past_slots machine now t resource from.0 timed (f.past from.0 from.1 is-gone)) from.2 in
     let sound = All-contains (IsSoundSlot t) (slot_order machine plans resource) s (kept-sound machine now exempt plans t keeps resource) (in-order machine plans resource s in') in
     record { long = sound.long; ended = past } where

@@ -1,6 +1,6 @@
 -- Choices placed in the orders of a schedule, and in those of its live part: since their holds begin after the moment by
 -- which the forgotten ones have ended, the places differ by the number of these.
-use Rattle.std.proofs.Common.{◌≡◌, ℕ, zero, suc, ◌+◌, ◌-◌, ◌≤◌, ◌<◌, Bool, true, false, cond, not, ◌==◌, List, [], ◌∷◌, ◌++◌, insert, map, filter, length, refl, ap, sym, arith, Contains, All, AllPairs, ◌∙◌, subst, get_or, Option, Some, None}
+use Rattle.std.proofs.Common.{◌≡◌, ℕ, suc, ◌+◌, ◌≤◌, Bool, true, false, cond, not, ◌==◌, List, [], ◌∷◌, insert, map, length, refl, ap, sym, arith, Contains, All, AllPairs, ◌∙◌, subst, get_or, Option, Some, None}
 use Rattle.std.specs.Prelude.{pos, ◌≤ℤ◌, ◌<ℤ◌}
 use Rattle.std.proofs.lemmas.Bool.{eqb-true}
 use Rattle.std.proofs.lemmas.Int.{ints}
@@ -18,11 +18,11 @@ use Rattle.tp_schedule.specs.Choices.{Choice, put_places, placed, AreWithin, Hav
 use Rattle.tp_schedule.specs.Holding.{holds_of_act}
 use Rattle.tp_schedule.specs.Plans.{LastsWithin}
 use Rattle.tp_schedule.specs.Spots.{Spot, Ticks, Slot, IsApart, begin_at, end_at}
-use Rattle.tp_schedule.specs.Spots.Spot.{kept, own}
+use Rattle.tp_schedule.specs.Spots.Spot.{own}
 use Rattle.tp_choices.specs.LiveParts.{shift_places, shift_choice}
-use Rattle.tp_choices.proofs.EachSlot.{later_slot, IsLater}
+use Rattle.tp_choices.proofs.EachSlot.{later_slot}
 use Rattle.tp_choices.proofs.Leaving.{AllPairs-put_places_out}
-use Rattle.tp_choices.proofs.Shifting.{Beside, IsOut, insert-beside, insert-out}
+use Rattle.tp_choices.proofs.Shifting.{Beside, insert-beside}
 
 -- a hold that is forgotten is not empty, and has ended by the moment
 pub record IsEnded (t : Ticks) (now : ℕ) (s : Slot) : Type 0 where
@@ -86,9 +86,9 @@ put-beside t now keep resource olds counts from to (h ∷ rules) (place ∷ plac
 
       go : (c : Bool) → (h.resource.0 == resource) ≡ c → AllPairs (IsParted t now keep) (put_places resource from to rules places (cond c (insert ys place (record { rule = h; from = from; to = to })) ys))
           → ((zs ws : List Slot) → length (orders resource) ≤ length ws → BesideAt t now keep olds zs ws → AllPairs (IsParted t now keep) (put_places resource from to rules places ws)
-            → BesideAt t now keep olds (put_places resource from to rules (shift_places counts rules places) zs) (put_places resource from to rules places ws))
+          → BesideAt t now keep olds (put_places resource from to rules (shift_places counts rules places) zs) (put_places resource from to rules places ws))
           → BesideAt t now keep olds (put_places resource from to rules (shift_places counts rules places) (cond c (insert xs (place + counts h.resource.0) (record { rule = h; from = from; to = to })) xs))
-            (put_places resource from to rules places (cond c (insert ys place (record { rule = h; from = from; to = to })) ys))
+          (put_places resource from to rules places (cond c (insert ys place (record { rule = h; from = from; to = to })) ys))
       go false e apart' rest = rest xs ys le b apart'
       go true e apart' rest =
           let same : h.resource.0 ≡ resource = eqb-true h.resource.0 resource e in
@@ -97,8 +97,8 @@ put-beside t now keep resource olds counts from to (h ∷ rules) (place ∷ plac
           let one = All-head (λ rule. IsOwn t now keep (record { rule = rule; from = from; to = to })) h rules all in
           let out = AllPairs-put_places_out (IsParted t now keep) resource from to rules places (insert ys place (record { rule = h; from = from; to = to })) apart' in
           let put = insert-beside keep (IsParted t now keep) (IsLate t now) (never t now keep) olds xs ys place (record { rule = h; from = from; to = to }) b one.stays fits out
-              (λ y r. late-behind t now keep (record { rule = h; from = from; to = to }) y one r)
-              (λ g gone in'. parted g gone (ended g (subst (λ zs. Contains zs g) b.gone (Contains-filter (λ z. not (keep z)) xs g in' (rw gone refl)))) one) in
+          (λ y r. late-behind t now keep (record { rule = h; from = from; to = to }) y one r)
+          (λ g gone in'. parted g gone (ended g (subst (λ zs. Contains zs g) b.gone (Contains-filter (λ z. not (keep z)) xs g in' (rw gone refl)))) one) in
           let longer = length-insert ys place (record { rule = h; from = from; to = to }) fits in
           subst (λ n. BesideAt t now keep olds (put_places resource from to rules (shift_places counts rules places) (insert xs (place + n) (record { rule = h; from = from; to = to }))) (put_places resource from to rules places (insert ys place (record { rule = h; from = from; to = to })))) (sym counted)
           (rest (insert xs (place + length olds) (record { rule = h; from = from; to = to })) (insert ys place (record { rule = h; from = from; to = to })) (omega arith) put apart')

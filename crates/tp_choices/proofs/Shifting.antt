@@ -1,11 +1,11 @@
 -- A list with two parts, those that stay and those that are gone, and an element put among the ones that stay: where all
 -- behind it lies ahead of the gone ones, it is put into the whole list at its place and as many places further as are gone.
-use Rattle.std.proofs.Common.{◌≡◌, ◌⊎◌, inl, inr, ℕ, zero, suc, ◌+◌, ◌-◌, ◌≤◌, ◌<◌, Bool, true, false, cond, not, List, [], ◌∷◌, ◌++◌, insert, take, drop, filter, length, refl, ap, sym, arith, Contains, All, AllPairs, ◌∙◌, subst, get_or}
+use Rattle.std.proofs.Common.{◌≡◌, ℕ, zero, suc, ◌+◌, ◌-◌, ◌≤◌, Bool, true, false, cond, not, List, [], ◌∷◌, ◌++◌, insert, take, drop, filter, length, refl, ap, sym, arith, Contains, All, AllPairs, ◌∙◌, subst, get_or}
 use Rattle.std.proofs.lemmas.List.{length-append, take-append-drop, append-nil, length-take-le}
 use Rattle.std.proofs.lemmas.List.Elements.{Contains-append_left}
-use Rattle.std.proofs.lemmas.List.Elements.{All-append, All-cons, All-head, All-tail, All-nil, All-contains, filter-append}
+use Rattle.std.proofs.lemmas.List.Elements.{All-cons, All-head, All-tail, All-nil, All-contains, filter-append}
 use Rattle.std.proofs.lemmas.List.Filters.{length-filter_both}
-use Rattle.tp_schedule.proofs.Membership.{Contains-here, Contains-later, All-from_contains, Contains-filter}
+use Rattle.tp_schedule.proofs.Membership.{All-from_contains, Contains-filter}
 use Rattle.tp_schedule.proofs.Pairs.{AllPairs-head, AllPairs-tail, AllPairs-cons}
 use Rattle.tp_choices.proofs.Lists.{filter-all, AllPairs-append_right, AllPairs-across}
 

@@ -1,13 +1,11 @@
 -- The reverse: choices placed in the orders of a schedule stand behind all forgotten holds, so they have places in the
 -- orders of the live part.
-use Rattle.std.proofs.Common.{◌≡◌, ◌≢◌, ℕ, zero, suc, ◌+◌, ◌-◌, ◌≤◌, ◌<◌, Bool, true, false, cond, not, ◌==◌, List, [], ◌∷◌, ◌++◌, insert, map, filter, length, refl, ap, sym, arith, Contains, All, AllPairs, ◌∙◌, subst, get_or, Option, Some, None}
-use Rattle.std.specs.Prelude.{pos, ◌≤ℤ◌, ◌<ℤ◌}
+use Rattle.std.proofs.Common.{◌≡◌, ℕ, suc, ◌+◌, ◌-◌, ◌≤◌, Bool, true, false, cond, not, ◌==◌, List, [], ◌∷◌, insert, map, filter, length, refl, ap, sym, arith, All, AllPairs, ◌∙◌, Option, Some, None}
 use Rattle.std.proofs.lemmas.Bool.{eqb-true}
 use Rattle.std.proofs.lemmas.Int.{ints}
 use Rattle.std.proofs.lemmas.List.{length-map}
 use Rattle.std.proofs.lemmas.List.Edits.{length-insert}
-use Rattle.std.proofs.lemmas.List.Elements.{All-head, All-tail, All-nil}
-use Rattle.std.proofs.lemmas.List.Kept.{AllPairs-filter}
+use Rattle.std.proofs.lemmas.List.Elements.{All-head, All-tail}
 use Rattle.tp_machine.proofs.MachineFacts.{is_machine}
 use Rattle.tp_machine.specs.Using.{action_at}
 use Rattle.tp_machine.specs.declared.parts.Action.{Action}
@@ -17,12 +15,12 @@ use Rattle.tp_schedule.proofs.HeldCount.{Differ, NotOn, others_not_on}
 use Rattle.tp_schedule.proofs.Pairs.{AllPairs-head, AllPairs-tail, AllPairs-nil, AllPairs-insert_out}
 use Rattle.tp_schedule.specs.Choices.{Choice, put_places, placed, AreWithin, HavePlaces, ChoicesLast}
 use Rattle.tp_schedule.specs.Holding.{holds_of_act}
-use Rattle.tp_schedule.specs.Spots.{Spot, Ticks, Slot, begin_at, end_at}
+use Rattle.tp_schedule.specs.Spots.{Spot, Ticks, Slot}
 use Rattle.tp_schedule.specs.Spots.Spot.{own}
 use Rattle.tp_choices.specs.LiveParts.{shift_places, shift_choice}
 use Rattle.tp_choices.proofs.Leaving.{AllPairs-put_places_out}
 use Rattle.tp_choices.proofs.Placing.{put_places-none, same_number}
-use Rattle.tp_choices.proofs.ShiftedPlaces.{IsParted, IsLate, IsOwn, IsEnded, AreOwn, never, own-rules}
+use Rattle.tp_choices.proofs.ShiftedPlaces.{IsParted, IsLate, IsOwn, AreOwn, never, own-rules}
 use Rattle.tp_choices.proofs.Shifting.{IsOut, insert-out}
 
 -- places nearer by so many
@@ -57,10 +55,10 @@ module _ (t : Ticks) (now : ℕ) (keep : Slot → Bool) (counts : ℕ → ℕ) w
       go (h.resource.0 == resource) refl apart (λ zs. put-out resource olds from to rules ks orders zs is (All-tail (λ rule. IsOwn t now keep (record { rule = rule; from = from; to = to })) h rules all) within.1) where
         go : (c : Bool) → (h.resource.0 == resource) ≡ c → AllPairs (IsParted t now keep) (put_places resource from to rules ks (cond c (insert xs k (record { rule = h; from = from; to = to })) xs))
             → ((zs : List Slot) → length (orders resource) ≤ length zs → filter (λ y. not (keep y)) zs ≡ olds → AllPairs (IsParted t now keep) (put_places resource from to rules ks zs)
-              → (filter keep (put_places resource from to rules ks zs) ≡ put_places resource from to rules (unshift_places counts rules ks) (filter keep zs)) × (filter (λ y. not (keep y)) (put_places resource from to rules ks zs) ≡ olds))
+            → (filter keep (put_places resource from to rules ks zs) ≡ put_places resource from to rules (unshift_places counts rules ks) (filter keep zs)) × (filter (λ y. not (keep y)) (put_places resource from to rules ks zs) ≡ olds))
             → (filter keep (put_places resource from to rules ks (cond c (insert xs k (record { rule = h; from = from; to = to })) xs))
-                ≡ put_places resource from to rules (unshift_places counts rules ks) (cond c (insert (filter keep xs) (k - counts h.resource.0) (record { rule = h; from = from; to = to })) (filter keep xs)))
-              × (filter (λ y. not (keep y)) (put_places resource from to rules ks (cond c (insert xs k (record { rule = h; from = from; to = to })) xs)) ≡ olds)
+            ≡ put_places resource from to rules (unshift_places counts rules ks) (cond c (insert (filter keep xs) (k - counts h.resource.0) (record { rule = h; from = from; to = to })) (filter keep xs)))
+            × (filter (λ y. not (keep y)) (put_places resource from to rules ks (cond c (insert xs k (record { rule = h; from = from; to = to })) xs)) ≡ olds)
         go false e apart' rest = rest xs le gone apart'
         go true e apart' rest =
             let same : h.resource.0 ≡ resource = eqb-true h.resource.0 resource e in

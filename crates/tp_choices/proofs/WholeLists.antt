@@ -1,30 +1,28 @@
 -- A list that opens on the whole schedule opens on its live part: the ticks are the same, and the places nearer by the
 -- forgotten holds, which all stand before the choices'.
-use Rattle.std.proofs.Common.{◌≡◌, ◌⊎◌, inl, inr, ℕ, suc, ◌+◌, ◌≤◌, ◌<◌, Bool, true, false, cond, not, List, [], ◌∷◌, ◌++◌, map, filter, length, refl, ap, sym, arith, Contains, All, AllPairs, ◌∙◌, subst, get_or, Some, IsTrue}
+use Rattle.std.proofs.Common.{◌≡◌, inl, inr, ℕ, ◌+◌, ◌≤◌, Bool, true, false, not, List, ◌++◌, map, filter, length, refl, ap, arith, Contains, AllPairs, ◌∙◌, subst, Some}
 use Rattle.std.proofs.lemmas.List.{length-map}
 use Rattle.std.proofs.lemmas.List.Elements.{All-contains, All-append, Contains-append_cases}
 use Rattle.std.proofs.lemmas.List.Kept.{AllPairs-filter}
 use Rattle.std.proofs.lemmas.List.Sorted.{All-permutation, Contains-permutation, IsPermutation-sym}
 use Rattle.tp_machine.proofs.MachineFacts.{is_machine}
 use Rattle.tp_machine.specs.declared.whole.Machine.{Machine}
-use Rattle.tp_schedule.specs.declared.parts.Ask.{Ask}
 use Rattle.tp_schedule.specs.declared.parts.Plan.{Plan}
 use Rattle.tp_schedule.specs.declared.parts.SheetId.{SheetId}
-use Rattle.tp_schedule.specs.Answers.{kept_of}
-use Rattle.tp_schedule.specs.Choices.{Choice, ChoiceList, acts_of, placed, HavePlaces, ChoicesLast, IsChoiceList, IsFirstState, HasTimes, OpensTo, start_floor}
+use Rattle.tp_schedule.specs.Choices.{Choice, ChoiceList, acts_of, placed, HavePlaces, ChoicesLast, OpensTo, start_floor}
 use Rattle.tp_schedule.specs.Routes.{walk, AreAllowed, least_sum}
-use Rattle.tp_schedule.specs.Spots.{Spot, Ticks, Slot, IsApart, IsSoundSlot, slots, slot_order, ticks_of}
+use Rattle.tp_schedule.specs.Spots.{Ticks, Slot, IsApart, IsSoundSlot, slot_order}
 use Rattle.tp_schedule.specs.Spots.Spot.{own}
 use Rattle.tp_schedule.specs.Times.{KeepsTimes, EndsBeforeAt}
 use Rattle.tp_schedule.proofs.Membership.{Contains-filter_from}
 use Rattle.tp_schedule.proofs.Pairs.{AllPairs-each}
-use Rattle.tp_choices.specs.LiveParts.{less, only, MayForget, MayAskBeside, shift_choice, shifted, forgotten_on, WholeOpens}
+use Rattle.tp_choices.specs.LiveParts.{less, MayForget, shift_choice, shifted, forgotten_on, WholeOpens}
 use Rattle.tp_choices.proofs.OwnSlots.{own_slots, IsPermutation-placed}
 use Rattle.tp_choices.proofs.SamePlaces.{kept-sound, own-sound}
 use Rattle.tp_choices.proofs.SameTicks.{in-slots}
 use Rattle.tp_choices.proofs.ShiftedLists.{acts-shifted, can_stop-as, keeping, are-own, keep-own_slots, ended-at, counted, live-order}
 use Rattle.tp_choices.proofs.ShiftedPlaces.{IsParted, IsEnded}
-use Rattle.tp_choices.proofs.UnshiftedPlaces.{Nearer, placed-out}
+use Rattle.tp_choices.proofs.UnshiftedPlaces.{placed-out}
 
 -- ticks that keep the times of a schedule keep those of its live part
 pub keeps-less : (machine : Machine) (now : ℕ) (exempt : Plan → Bool) (plans : List Plan) (gone : SheetId → Bool) (t : Ticks) → KeepsTimes machine now exempt plans t → KeepsTimes machine now exempt (less gone plans) t
@@ -53,9 +51,9 @@ placed-parted machine now exempt plans gone t choices f keeps lasts places resou
       ended : (s : Slot) → Contains all s → keeping gone s ≡ false → IsEnded t now s
       ended s in' e = elim (Contains-append_cases (own_slots machine resource choices) (slot_order machine plans resource) s
           (Contains-permutation all (own_slots machine resource choices ++ slot_order machine plans resource) s (IsPermutation-sym (own_slots machine resource choices ++ slot_order machine plans resource) all (IsPermutation-placed machine resource (slot_order machine plans) choices places)) in')) [
-        | inl own' ↦ absurd (let stays = All-contains (λ x. keeping gone x ≡ true) (own_slots machine resource choices) s (keep-own_slots machine gone resource choices) own' in cc)
-        | inr old ↦ ended-at machine now plans gone exempt t f keeps resource s (in-slots machine plans resource s old) e
-      ]
+            | inl own' ↦ absurd (let stays = All-contains (λ x. keeping gone x ≡ true) (own_slots machine resource choices) s (keep-own_slots machine gone resource choices) own' in cc)
+            | inr old ↦ ended-at machine now plans gone exempt t f keeps resource s (in-slots machine plans resource s old) e
+          ]
 
 pub whole_opens : WholeOpens
 whole_opens machine plans ask gone list end f b o =

@@ -6,6 +6,7 @@ use Rattle.tp_machine.specs.declared.whole.Machine.{Machine}
 use Rattle.tp_schedule.specs.Answers.{IsAlternative, IsEarliest, NoneBefore, IsRetimed, IsLeast, IsAsked}
 use Rattle.tp_schedule.specs.Choices.{Choice, ChoiceList, OpensTo, IsBound}
 use Rattle.tp_schedule.specs.Holding.{holds_of_act}
+use Rattle.tp_schedule.specs.Spending.{IsSpent}
 use Rattle.tp_schedule.specs.Spots.{slot_order}
 use Rattle.tp_schedule.specs.Legality.{IsLegal}
 use Rattle.tp_schedule.specs.Living.{is_live}
@@ -131,3 +132,8 @@ LiveBoundsAnswers = (machine : Machine) (plans : List Plan) (ask : Ask) (gone : 
 abbrev pub LiveHasNone : Type 0
 LiveHasNone = (machine : Machine) (plans : List Plan) (ask : Ask) (gone : SheetId → Bool) → MayForget machine ask.now plans gone → IsFalse (gone ask.sheet)
     → ((other : List Plan) → ¬ IsAlternative machine (less gone plans) ask other) → (other : List Plan) → ¬ IsAlternative machine plans ask other
+
+-- a budget that is spent on the live part is spent on the whole schedule
+abbrev pub LiveSpends : Type 0
+LiveSpends = (machine : Machine) (plans : List Plan) (ask : Ask) (gone : SheetId → Bool) (budget bound : ℕ) → MayForget machine ask.now plans gone → MayAskBeside machine plans ask gone
+    → IsSpent machine (less gone plans) ask budget bound → IsSpent machine plans ask budget bound

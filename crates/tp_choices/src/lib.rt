@@ -4,7 +4,7 @@
 
 ghost use Rattle.tp_choices.specs.Answering.{AnswerOpens, CompleteAnswers, TicksFixPlaces};
 ghost use Rattle.tp_choices.specs.Frontiers.{FrontierBegins, FrontierBounds, FrontierEnds, FrontierGoesOn, TakenIsEarliest};
-ghost use Rattle.tp_choices.specs.LiveParts.{JoinExists, LiveAnswers, LiveBounds, LiveBoundsAnswers, LiveHasNone, LiveIsEarliest, LiveIsLeast, LiveOpens, LiveRetimes, WholeAnswers, WholeIsLeast, WholeOpens, WholeRetimes};
+ghost use Rattle.tp_choices.specs.LiveParts.{JoinExists, LiveAnswers, LiveBounds, LiveBoundsAnswers, LiveHasNone, LiveIsEarliest, LiveIsLeast, LiveOpens, LiveRetimes, LiveSpends, WholeAnswers, WholeIsLeast, WholeOpens, WholeRetimes};
 ghost use Rattle.tp_choices.specs.Parents.{ParentBound, ParentOpens};
 ghost use Rattle.tp_choices.specs.Retimings.{LeastAnswers, RetimedTicks, TicksRetime};
 ghost use Rattle.tp_choices.specs.Searches.{FullSpends, SearchBelow, SearchFronts, SearchReaches};
@@ -69,6 +69,7 @@ pub fn live_lists_are_enough()
     ensures whole { WholeOpens }
     ensures live { LiveOpens }
     ensures bounds { LiveBounds }
+    ensures spends { LiveSpends }
 {}
 
 /// The least times of a schedule are those of its live part.
