@@ -26,3 +26,11 @@ pub mod WholeAnswers
 pub mod LiveAnswers
 pub mod LiveTimes
 pub mod Joining
+pub mod Shifting
+pub mod ShiftedPlaces
+pub mod UnshiftedPlaces
+pub mod ShiftedLists
+pub mod WholeLists
+pub mod LiveLists
+pub mod LiveBounds
+pub mod LiveSpent

@@ -53,7 +53,7 @@ pub record Joins (machine : Machine) (now : ℕ) (gone : SheetId → Bool) (plan
   pub lines : (p q : Plan) → Contains new p → Contains new q → gone p.sheet ≡ false → gone q.sheet ≡ true → (tray : ℕ) → IsTrue (is_delivered_to p tray) → IsTrue (is_delivered_to q tray)
       → (is_before p.sheet q.sheet ≡ true → end_of_plan p < end_of_plan q) × (is_before q.sheet p.sheet ≡ true → end_of_plan q < end_of_plan p)
 
-filter-same : {X : Type 0} (p q : X → Bool) (xs : List X) → ((x : X) → p x ≡ q x) → filter p xs ≡ filter q xs
+pub filter-same : {X : Type 0} (p q : X → Bool) (xs : List X) → ((x : X) → p x ≡ q x) → filter p xs ≡ filter q xs
 filter-same p q [] each = refl
 filter-same {X} p q (x ∷ xs) each = rw (each x) (go (q x) (filter-same p q xs each)) where
   go : (b : Bool) → filter p xs ≡ filter q xs → cond b (x ∷ filter p xs) (filter p xs) ≡ cond b (x ∷ filter q xs) (filter q xs)
@@ -61,7 +61,7 @@ filter-same {X} p q (x ∷ xs) each = rw (each x) (go (q x) (filter-same p q xs 
   go false e = e
 
 -- a slot stays exactly where its copy is not gone
-stays-others : (gone : SheetId → Bool) (s : Slot) → stays true (others_of gone) s ≡ not (stays false gone s)
+pub stays-others : (gone : SheetId → Bool) (s : Slot) → stays true (others_of gone) s ≡ not (stays false gone s)
 stays-others gone s = go s.to where
   go : (x : Spot) → stays true (others_of gone) (record { rule = s.rule; from = s.from; to = x }) ≡ not (stays false gone (record { rule = s.rule; from = s.from; to = x }))
   go (kept c i) = refl

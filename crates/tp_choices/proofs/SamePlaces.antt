@@ -92,7 +92,7 @@ one_places t from to (h ∷ rules) (k ∷ ks) (n ∷ ns) orders differ sound p q
       same-at r true e _ = put_places-none r from to rules ks (orders r) (none r e) ∙ sym (put_places-none r from to rules ns (orders r) (none r e))
       same-at r false e eq = eq
 
-own-sound : (machine : Machine) → IsMachine machine → (t : Ticks) (resource : ℕ) (choices : List Choice) → ChoicesLast machine t choices → All (IsSoundSlot t) (own_slots machine resource choices)
+pub own-sound : (machine : Machine) → IsMachine machine → (t : Ticks) (resource : ℕ) (choices : List Choice) → ChoicesLast machine t choices → All (IsSoundSlot t) (own_slots machine resource choices)
 own-sound machine rules t resource [] lasts = All-nil (IsSoundSlot t)
 own-sound machine rules t resource (c ∷ choices) lasts =
     All-append (IsSoundSlot t) (slots_by resource (own (suc (length choices))) (own (length choices)) (holds_of_act (action_at machine c.act.0))) (own_slots machine resource choices)

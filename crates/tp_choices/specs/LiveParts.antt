@@ -1,7 +1,13 @@
 -- The live part of a schedule is enough: plans that are past constrain nothing that may still move.
-use Rattle.std.specs.Prelude.{◌≡◌, ℕ, ◌<◌, ◌≤◌, Bool, not, List, length, filter, Contains, AllPairs, IsTrue, IsFalse}
+use Rattle.std.specs.Prelude.{◌≡◌, ◌↔◌, ℕ, ◌+◌, ◌<◌, ◌≤◌, Bool, not, List, [], ◌∷◌, length, map, filter, Contains, AllPairs, IsTrue, IsFalse}
+use Rattle.tp_machine.specs.Using.{action_at}
+use Rattle.tp_machine.specs.declared.parts.HoldRule.{HoldRule}
 use Rattle.tp_machine.specs.declared.whole.Machine.{Machine}
-use Rattle.tp_schedule.specs.Answers.{IsAlternative, IsRetimed, IsLeast, IsAsked}
+use Rattle.tp_schedule.specs.Answers.{IsAlternative, IsEarliest, NoneBefore, IsRetimed, IsLeast, IsAsked}
+use Rattle.tp_schedule.specs.Choices.{Choice, ChoiceList, OpensTo, IsBound}
+use Rattle.tp_schedule.specs.Holding.{holds_of_act}
+use Rattle.tp_schedule.specs.Spending.{IsSpent}
+use Rattle.tp_schedule.specs.Spots.{slot_order}
 use Rattle.tp_schedule.specs.Legality.{IsLegal}
 use Rattle.tp_schedule.specs.Living.{is_live}
 use Rattle.tp_schedule.specs.Plans.{IsEarlier, point, is_before, is_delivered_to, goes_to}
@@ -81,3 +87,53 @@ LiveIsLeast = (machine : Machine) (now : ℕ) (exempt : Plan → Bool) (plans : 
 abbrev pub JoinExists : Type 0
 JoinExists = (gone : SheetId → Bool) (plans live : List Plan) → AllPairs IsEarlier plans → AllPairs IsEarlier live → ((p : Plan) → Contains live p → IsFalse (gone p.sheet))
     → (new : List Plan) × IsJoined gone plans live new
+
+-- how many forgotten holds a resource has
+abbrev pub forgotten_on : Machine → List Plan → (SheetId → Bool) → ℕ → ℕ
+forgotten_on machine plans gone resource = length (slot_order machine (only gone plans) resource)
+
+-- places further by so many as a count of their resources tells
+abbrev pub shift_places : (ℕ → ℕ) → List HoldRule → List ℕ → List ℕ
+shift_places count [] places = places
+shift_places count (rule ∷ rules) [] = []
+shift_places count (rule ∷ rules) (place ∷ places) = (place + count rule.resource.0) ∷ shift_places count rules places
+
+abbrev pub shift_choice : Machine → (ℕ → ℕ) → Choice → Choice
+shift_choice machine count c = record { act = c.act; places = shift_places count (holds_of_act (action_at machine c.act.0)) c.places }
+
+abbrev pub shifted : Machine → (ℕ → ℕ) → ChoiceList → ChoiceList
+shifted machine count list = record { goal = list.goal; choices = map (shift_choice machine count) list.choices; stopped = list.stopped }
+
+-- a list that opens on the live part opens on the whole schedule to the same end, its places behind the forgotten holds
+abbrev pub LiveOpens : Type 0
+LiveOpens = (machine : Machine) (plans : List Plan) (ask : Ask) (gone : SheetId → Bool) (list : ChoiceList) (end : ℕ) → MayForget machine ask.now plans gone → MayAskBeside machine plans ask gone
+    → OpensTo machine (less gone plans) ask list end → OpensTo machine plans ask (shifted machine (forgotten_on machine plans gone) list) end
+
+-- and each list that opens on the whole schedule is such a one
+abbrev pub WholeOpens : Type 0
+WholeOpens = (machine : Machine) (plans : List Plan) (ask : Ask) (gone : SheetId → Bool) (list : ChoiceList) (end : ℕ) → MayForget machine ask.now plans gone → MayAskBeside machine plans ask gone
+    → OpensTo machine plans ask list end → (small : ChoiceList) × (list ≡ shifted machine (forgotten_on machine plans gone) small) × OpensTo machine (less gone plans) ask small end
+
+-- so they have the same bounds
+abbrev pub LiveBounds : Type 0
+LiveBounds = (machine : Machine) (plans : List Plan) (ask : Ask) (gone : SheetId → Bool) (list : ChoiceList) (bound : ℕ) → MayForget machine ask.now plans gone → MayAskBeside machine plans ask gone
+    → IsBound machine (less gone plans) ask list bound ↔ IsBound machine plans ask (shifted machine (forgotten_on machine plans gone) list) bound
+
+-- an earliest answer on the live part, joined with what is forgotten, is an earliest one on the whole schedule
+abbrev pub LiveIsEarliest : Type 0
+LiveIsEarliest = (machine : Machine) (plans live new : List Plan) (ask : Ask) (gone : SheetId → Bool) → MayForget machine ask.now plans gone → MayAskBeside machine plans ask gone
+    → IsJoined gone plans live new → IsEarliest machine (less gone plans) ask live → IsEarliest machine plans ask new
+
+-- no alternative on the live part ends before a tick, or none exists: so it is on the whole schedule
+abbrev pub LiveBoundsAnswers : Type 0
+LiveBoundsAnswers = (machine : Machine) (plans : List Plan) (ask : Ask) (gone : SheetId → Bool) (bound : ℕ) → MayForget machine ask.now plans gone → IsFalse (gone ask.sheet)
+    → NoneBefore machine (less gone plans) ask bound → NoneBefore machine plans ask bound
+
+abbrev pub LiveHasNone : Type 0
+LiveHasNone = (machine : Machine) (plans : List Plan) (ask : Ask) (gone : SheetId → Bool) → MayForget machine ask.now plans gone → IsFalse (gone ask.sheet)
+    → ((other : List Plan) → ¬ IsAlternative machine (less gone plans) ask other) → (other : List Plan) → ¬ IsAlternative machine plans ask other
+
+-- a budget that is spent on the live part is spent on the whole schedule
+abbrev pub LiveSpends : Type 0
+LiveSpends = (machine : Machine) (plans : List Plan) (ask : Ask) (gone : SheetId → Bool) (budget bound : ℕ) → MayForget machine ask.now plans gone → MayAskBeside machine plans ask gone
+    → IsSpent machine (less gone plans) ask budget bound → IsSpent machine plans ask budget bound

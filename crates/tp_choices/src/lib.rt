@@ -4,7 +4,7 @@
 
 ghost use Rattle.tp_choices.specs.Answering.{AnswerOpens, CompleteAnswers, TicksFixPlaces};
 ghost use Rattle.tp_choices.specs.Frontiers.{FrontierBegins, FrontierBounds, FrontierEnds, FrontierGoesOn, TakenIsEarliest};
-ghost use Rattle.tp_choices.specs.LiveParts.{JoinExists, LiveAnswers, LiveIsLeast, LiveRetimes, WholeAnswers, WholeIsLeast, WholeRetimes};
+ghost use Rattle.tp_choices.specs.LiveParts.{JoinExists, LiveAnswers, LiveBounds, LiveBoundsAnswers, LiveHasNone, LiveIsEarliest, LiveIsLeast, LiveOpens, LiveRetimes, LiveSpends, WholeAnswers, WholeIsLeast, WholeOpens, WholeRetimes};
 ghost use Rattle.tp_choices.specs.Parents.{ParentBound, ParentOpens};
 ghost use Rattle.tp_choices.specs.Retimings.{LeastAnswers, RetimedTicks, TicksRetime};
 ghost use Rattle.tp_choices.specs.Searches.{FullSpends, SearchBelow, SearchFronts, SearchReaches};
@@ -59,6 +59,17 @@ pub fn live_answers_are_enough()
     ensures whole { WholeAnswers }
     ensures live { LiveAnswers }
     ensures joined { JoinExists }
+    ensures earliest { LiveIsEarliest }
+    ensures none_before { LiveBoundsAnswers }
+    ensures none { LiveHasNone }
+{}
+
+/// The open lists of a schedule are those of its live part, with places behind the forgotten holds, and the same bounds.
+pub fn live_lists_are_enough()
+    ensures whole { WholeOpens }
+    ensures live { LiveOpens }
+    ensures bounds { LiveBounds }
+    ensures spends { LiveSpends }
 {}
 
 /// The least times of a schedule are those of its live part.
