@@ -1,10 +1,11 @@
 //! Rows worked by hand, for the networks and the timelines.
 #![tactic(auto)]
 
-pub mod probing;
-
+#[cfg(test)]
+mod long_chain_rows;
 #[cfg(test)]
 mod network_rows;
+pub mod probing;
 #[cfg(test)]
 mod timelines_rows;
 #[cfg(test)]

@@ -9,7 +9,9 @@ use tp_base::{Edge, Full, Late, Network, PointId, Proof, Undo};
 use tp_stn_core::PlainNet;
 
 const A: PointId = PointId(0);
+
 const B: PointId = PointId(1);
+
 const C: PointId = PointId(2);
 
 fn edge(from: PointId, to: PointId, weight: i64) -> Edge

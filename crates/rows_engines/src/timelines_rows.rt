@@ -4,6 +4,7 @@ use tp_machine::ResId;
 use tp_timelines::Timelines;
 
 const FIRST: ResId = ResId(0);
+
 const SECOND: ResId = ResId(1);
 
 #[test]
