@@ -1,5 +1,5 @@
 -- The network of the rows.
-use Rattle.std.specs.Prelude.{ℕ, List, [], ◌∷◌, ℤ, pos}
+use Rattle.std.specs.Prelude.{ℕ, [], ◌∷◌, ℤ, pos}
 use Rattle.tp_base.specs.declared.edges.Edge.{Edge}
 use Rattle.tp_base.specs.Net.{Net}
 

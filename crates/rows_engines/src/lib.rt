@@ -1,6 +1,8 @@
-//! Rows worked by hand, for the networks and the timelines.
+//! Rows worked by hand, for the networks, the timelines and the rooms.
 #![tactic(auto)]
 
+#[cfg(test)]
+mod long_chain_rows;
 #[cfg(test)]
 mod network_rows;
 pub mod probing;

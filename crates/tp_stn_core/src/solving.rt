@@ -43,14 +43,12 @@ fn fill(lows: &[u32], times: &mut Vec<u32>, causes: &mut Vec<Option<Edge>>)
 {
     times.clear();
     causes.clear();
-    for low in lows {
-        let Ok(()) = times.push(*low) else {
-            unreachable!()
-        };
-        let Ok(()) = causes.push(None) else {
-            unreachable!()
-        };
-    }
+    let Ok(()) = times.extend_from_slice(lows) else {
+        unreachable!()
+    };
+    let Ok(()) = causes.resize(lows.len(), None) else {
+        unreachable!()
+    };
 }
 
 /// Works out the least times, or the edges that show that there are none. Takes no memory.

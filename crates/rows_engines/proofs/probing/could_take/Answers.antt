@@ -1,5 +1,4 @@
 use Rattle.std.proofs.Common.{◌∙◌}
-use Rattle.tp_base.specs.Net.{HasNoSolution, with_edge}
 use Rattle.tp_base.proofs.MarkFacts.{last_mark}
 use Rattle.rows_engines.proofs.probing.could_take.Goals as goal
 
