@@ -114,3 +114,7 @@ total-without i orders known there =
 
 pub length-without : (i : Insert) (orders : List (List ℕ)) → length (without i orders) ≡ length orders
 length-without i orders = length-set orders i.resource.0 (remove (order_on orders i.resource.0) i.place)
+
+pub length-taken_back : (is : List Insert) (orders : List (List ℕ)) → length (taken_back is orders) ≡ length orders
+length-taken_back [] orders = refl
+length-taken_back (i ∷ is) orders = length-without i (taken_back is orders) ∙ length-taken_back is orders

@@ -10,6 +10,14 @@ pub record Orders : Type 0 where
   pub hold_room : ℕ
   pub mark_room : ℕ
 
+-- what marks leave alone
+pub record Sizes : Type 0 where
+  pub resources : ℕ
+  pub hold_room : ℕ
+
+abbrev pub sizes_of : Orders → Sizes
+sizes_of o = record { resources = length o.orders; hold_room = o.hold_room }
+
 abbrev pub order_on : List (List ℕ) → ℕ → List ℕ
 order_on orders resource = slice_index_or orders resource []
 

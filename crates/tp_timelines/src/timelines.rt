@@ -126,15 +126,15 @@ impl Timelines {
 
 impl Undo for Timelines {
     ghost use Rattle.std.specs.Prelude.{ℕ, List};
-    ghost use Rattle.tp_timelines.specs.Orders.{Orders};
+    ghost use Rattle.tp_timelines.specs.Orders.{Orders, Sizes, sizes_of};
 
     ghost Content = { List (List ℕ) };
 
-    ghost Aside = { ℕ };
+    ghost Aside = { Sizes };
 
     ghost content = { λ t. t.orders };
 
-    ghost aside = { λ t. t.hold_room };
+    ghost aside = { sizes_of };
 
     ghost past = { λ t. t.past };
 

@@ -3,8 +3,9 @@ use Rattle.std.proofs.lemmas.List.{length-map, length-take-le}
 use Rattle.std.proofs.lemmas.Option.{slice_get-map, slice_get_read}
 use Rattle.std.specs.List.{slice_get}
 use Rattle.std.specs.Option.{option_map}
-use Rattle.tp_timelines.specs.Orders.{Orders, numbers_of}
+use Rattle.tp_timelines.specs.Orders.{Orders, numbers_of, Sizes, sizes_of}
 use Rattle.tp_timelines.specs.Inserts.{taken_back}
+use Rattle.tp_timelines.proofs.InsertFacts.{length-taken_back}
 use Rattle.tp_timelines.proofs.MarkFacts.{marks_undone, past_undone}
 use Rattle.tp_timelines.proofs.timelines.TimelinesUndo.undo_to.Goals as goal
 use Rattle.tp_timelines.proofs.timelines.TimelinesUndo.undo_to.Goals.{After-take_back}
@@ -57,3 +58,10 @@ returns-clause-past c =
     ∙ ap (λ ns. map (λ m. taken_back (drop m (take c.index.result.now a.inserted.items)) ns) (take c.args.mark.0 a.marks.items)) c.take_back.ensures.numbers
     ∙ past_undone a.marks.items os a.inserted.items c.args.mark.0 c.index.result.now (at_mark c) c.self.invariant.at_marks
     ∙ ap (λ (o : Orders). take c.args.mark.0 o.past) c.self.view_is
+
+pub returns-clause-aside : goal.returns-clause-aside
+returns-clause-aside c =
+    let a = c.self.inside in
+    let os = numbers_of a.orders.items in
+    ap {B = Sizes} (λ n. record { resources = n; hold_room = a.hold_room }) (ap length c.take_back.ensures.numbers ∙ length-taken_back (drop c.index.result.now a.inserted.items) os)
+    ∙ ap sizes_of c.self.view_is
