@@ -13,3 +13,4 @@ pub mod KeptFacts
 pub mod Sound
 pub mod Given
 pub mod OneTable
+pub mod Put

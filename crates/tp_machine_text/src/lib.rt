@@ -7,6 +7,7 @@ mod building;
 mod holds;
 mod looking;
 mod machine;
+mod making;
 mod numbers;
 mod places;
 mod rules;

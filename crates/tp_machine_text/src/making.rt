@@ -1,0 +1,106 @@
+ghost use Rattle.std.specs.Prelude.{◌≡◌, ◌<◌, true, IsTrue, IfOk, OnOk, length, map, nat_lt};
+ghost use Rattle.std.specs.List.{list_all};
+ghost use Rattle.toml.specs.Data.{string, table as data_table};
+ghost use Rattle.toml.specs.View.{table_view, view, array_view, items_of};
+ghost use Rattle.tp_machine.specs.Rules.{do_names_rise, feeder_names};
+ghost use Rattle.tp_machine_text.specs.Printed.{put_member, name_at, texts_data, loc_names, feeder_members, resource_members, resource_names};
+
+use std::alloc::Global;
+use toml::value::Array;
+use toml::{Table, Value};
+use tp_base::{Memory, Name};
+use tp_machine::{Feeder, LocId, Names, Resource};
+
+/// Puts a value at a key of a table.
+#[tactic(auto, using(crate::proofs::Put::puts))]
+pub(crate) fn put(alloc: Global, table: &mut Table, key: &str, value: Value) -> Result<(), Memory>
+    ensures { OnOk result (table_view table.new ≡ put_member key.now (view value) (table_view table.old)) }
+{
+    table.insert(String::from_str(alloc, key)?, value)?;
+    Ok(())
+}
+
+/// The name as a text.
+pub(crate) fn text_of_name(name: &Name) -> &str
+    ensures { result.now ≡ name.now }
+{
+    match std::str::from_utf8(name.as_bytes()) {
+        Ok(text) => text,
+        Err(_) => unreachable!(),
+    }
+}
+
+pub(crate) fn name_value(alloc: Global, name: &Name) -> Result<Value, Memory>
+    ensures { IfOk result (λ value. view value ≡ string name.now) }
+{
+    Ok(Value::string(alloc, text_of_name(name))?)
+}
+
+/// An array of all the names.
+pub(crate) fn names_value(alloc: Global, names: &Names) -> Result<Value, Memory>
+    ensures { IfOk result (λ value. view value ≡ texts_data names.now) }
+{
+    let mut array = Array::new(alloc);
+    'names: for at in 0..names.len() {
+        array.push(name_value(alloc, &names.get(at as u16))?)?;
+    }
+    Ok(Value::from(array))
+}
+
+/// An array of the names of some locations.
+pub(crate) fn locs_value(alloc: Global, names: &Names, locs: &[LocId]) -> Result<Value, Memory>
+    requires { list_all (λ l. nat_lt l.0 (length names.now)) locs.now ≡ true }
+    ensures { IfOk result (λ value. view value ≡ texts_data (loc_names names.now locs.now)) }
+{
+    let mut array = Array::new(alloc);
+    let mut rest = locs;
+    'locs: while let [loc, others @ ..] = rest {
+        array.push(name_value(alloc, &names.get(loc.0))?)?;
+        rest = others;
+    }
+    Ok(Value::from(array))
+}
+
+/// The table of feeders. It is filled from its end, so that each new key stands first.
+pub(crate) fn feeders_table(
+    alloc: Global,
+    names: &Names,
+    feeders: &[Feeder],
+) -> Result<Table, Memory>
+    requires known { list_all (λ f. nat_lt f.loc.0 (length names.now)) feeders.now ≡ true }
+    requires rise { do_names_rise (feeder_names names.now feeders.now) ≡ true }
+    ensures { IfOk result (λ table. table_view table ≡ feeder_members names.now feeders.now) }
+{
+    match feeders {
+        [feeder, rest @ ..] => {
+            let mut table = feeders_table(alloc, names, rest)?;
+            let place = names.get(feeder.loc.0);
+            let media = name_value(alloc, &feeder.media)?;
+            put(alloc, &mut table, text_of_name(&place), media)?;
+            Ok(table)
+        }
+        [] => Ok(Table::new(alloc)),
+    }
+}
+
+/// The table of resources, filled in the same way.
+pub(crate) fn resources_table(
+    alloc: Global,
+    modules: &Names,
+    resources: &[Resource],
+) -> Result<Table, Memory>
+    requires known { list_all (λ r. nat_lt r.module.0 (length modules.now)) resources.now ≡ true }
+    requires rise { do_names_rise (resource_names resources.now) ≡ true }
+    ensures { IfOk result (λ table. table_view table ≡ resource_members modules.now resources.now) }
+{
+    match resources {
+        [resource, rest @ ..] => {
+            let mut table = resources_table(alloc, modules, rest)?;
+            let module = modules.get(u16::from(resource.module.0));
+            let value = name_value(alloc, &module)?;
+            put(alloc, &mut table, text_of_name(&resource.name), value)?;
+            Ok(table)
+        }
+        [] => Ok(Table::new(alloc)),
+    }
+}
