@@ -14,3 +14,5 @@ pub mod Sound
 pub mod Given
 pub mod OneTable
 pub mod Put
+pub mod NameBytes
+pub mod Built

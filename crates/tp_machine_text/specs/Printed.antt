@@ -1,5 +1,5 @@
 -- The table that is printed for a machine.
-use Rattle.std.specs.Prelude.{◌≡◌, ℕ, pos, ℤ, Bool, if◌then◌else◌, List, [], ◌∷◌, ◌++◌, map, slice_get, codes}
+use Rattle.std.specs.Prelude.{◌≡◌, ℕ, pos, ℤ, Bool, if◌then◌else◌, List, [], ◌∷◌, ◌++◌, map, slice_get, codes, nat_lt}
 use Rattle.std.specs.Ordering.{match_ordering, nat_cmp}
 use Rattle.std.specs.Cmp.Lexicographic.{slice_cmp}
 use Rattle.toml.specs.Data.{Data, string, integer, boolean, array, table, Items, no_items, item, Members, no_members, member}
@@ -18,6 +18,10 @@ use Rattle.tp_machine.specs.declared.whole.Machine.{Machine}
 abbrev pub put_member : List ℕ → Data → Members → Members
 put_member k d no_members = member k d no_members
 put_member k d (member l e ms) = match_ordering (slice_cmp nat_cmp k l) (member k d (member l e ms)) (member l d ms) (member l e (put_member k d ms))
+
+-- a place among n names
+unfoldable pub is_place : ℕ → LocId → Bool
+is_place n loc = nat_lt loc.0 n
 
 -- the name at a place
 abbrev pub name_at : List (List ℕ) → ℕ → List ℕ

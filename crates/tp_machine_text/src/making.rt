@@ -1,15 +1,15 @@
-ghost use Rattle.std.specs.Prelude.{◌≡◌, ◌<◌, true, IsTrue, IfOk, OnOk, length, map, nat_lt};
+ghost use Rattle.std.specs.Prelude.{◌≡◌, ◌<◌, ◌≤◌, true, IsTrue, IfOk, OnOk, length, map, nat_lt, codes, pos};
 ghost use Rattle.std.specs.List.{list_all};
-ghost use Rattle.toml.specs.Data.{string, table as data_table};
+ghost use Rattle.toml.specs.Data.{string, integer, boolean, array as array_data, table as data_table, no_members, member};
 ghost use Rattle.toml.specs.View.{table_view, view, array_view, items_of};
 ghost use Rattle.tp_machine.specs.Rules.{do_names_rise, feeder_names};
-ghost use Rattle.tp_machine_text.specs.Printed.{put_member, name_at, texts_data, loc_names, feeder_members, resource_members, resource_names};
+ghost use Rattle.tp_machine_text.specs.Printed.{put_member, is_place, texts_data, loc_names, feeder_members, resource_members, resource_names, anchor_text, point_data, hold_data, kind_words, action_data, table_of};
 
 use std::alloc::Global;
 use toml::value::Array;
 use toml::{Table, Value};
 use tp_base::{Memory, Name};
-use tp_machine::{Feeder, LocId, Names, Resource};
+use tp_machine::{Action, Anchor, Feeder, HoldRule, LocId, Machine, Names, Resource};
 
 /// Puts a value at a key of a table.
 #[tactic(auto, using(crate::proofs::Put::puts))]
@@ -38,6 +38,7 @@ pub(crate) fn name_value(alloc: Global, name: &Name) -> Result<Value, Memory>
 
 /// An array of all the names.
 pub(crate) fn names_value(alloc: Global, names: &Names) -> Result<Value, Memory>
+    requires { length names.now ≤ 256 }
     ensures { IfOk result (λ value. view value ≡ texts_data names.now) }
 {
     let mut array = Array::new(alloc);
@@ -48,8 +49,9 @@ pub(crate) fn names_value(alloc: Global, names: &Names) -> Result<Value, Memory>
 }
 
 /// An array of the names of some locations.
+#[tactic(auto, unfolding(crate::specs::Printed::is_place))]
 pub(crate) fn locs_value(alloc: Global, names: &Names, locs: &[LocId]) -> Result<Value, Memory>
-    requires { list_all (λ l. nat_lt l.0 (length names.now)) locs.now ≡ true }
+    requires { list_all (is_place (length names.now)) locs.now ≡ true }
     ensures { IfOk result (λ value. view value ≡ texts_data (loc_names names.now locs.now)) }
 {
     let mut array = Array::new(alloc);
@@ -103,4 +105,51 @@ pub(crate) fn resources_table(
         }
         [] => Ok(Table::new(alloc)),
     }
+}
+
+fn anchor_text(anchor: Anchor) -> &'static str
+    ensures { result.now ≡ anchor_text anchor }
+{
+    match anchor {
+        Anchor::Start => "start",
+        Anchor::End => "end",
+    }
+}
+
+fn point_value(alloc: Global, anchor: Anchor, offset: i32) -> Result<Value, Memory>
+    ensures { IfOk result (λ value. view value ≡ point_data anchor offset) }
+{
+    let mut array = Array::new(alloc);
+    array.push(Value::string(alloc, anchor_text(anchor))?)?;
+    array.push(Value::from(offset))?;
+    Ok(Value::from(array))
+}
+
+#[tactic(auto, unfolding(crate::specs::Printed::hold_data), using(crate::proofs::Built::built))]
+fn hold_value(alloc: Global, resources: &[Resource], hold: &HoldRule) -> Result<Value, Memory>
+    requires { hold.now.resource.0 < length resources.now }
+    ensures { IfOk result (λ value. view value ≡ hold_data (resource_names resources.now) hold.now) }
+{
+    let mut table = Table::new(alloc);
+    let begin = point_value(alloc, hold.begin, hold.begin_off)?;
+    put(alloc, &mut table, "begin", begin)?;
+    let end = point_value(alloc, hold.end, hold.end_off)?;
+    put(alloc, &mut table, "end", end)?;
+    let held = &resources[usize::from(hold.resource.0)];
+    let resource = name_value(alloc, &held.name)?;
+    put(alloc, &mut table, "resource", resource)?;
+    Ok(Value::from(table))
+}
+
+fn kinds_value(alloc: Global, mono: bool, colour: bool) -> Result<Value, Memory>
+    ensures { IfOk result (λ value. view value ≡ texts_data (kind_words mono colour)) }
+{
+    let mut array = Array::new(alloc);
+    if mono {
+        array.push(Value::string(alloc, "mono")?)?;
+    }
+    if colour {
+        array.push(Value::string(alloc, "colour")?)?;
+    }
+    Ok(Value::from(array))
 }
