@@ -16,3 +16,4 @@ pub mod OneTable
 pub mod Put
 pub mod NameBytes
 pub mod Built
+pub mod Fitting

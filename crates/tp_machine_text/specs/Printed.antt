@@ -1,5 +1,6 @@
 -- The table that is printed for a machine.
-use Rattle.std.specs.Prelude.{◌≡◌, ℕ, pos, ℤ, Bool, if◌then◌else◌, List, [], ◌∷◌, ◌++◌, map, slice_get, codes, nat_lt}
+use Rattle.std.specs.Prelude.{◌≡◌, ℕ, pos, ℤ, Bool, if◌then◌else◌, List, [], ◌∷◌, ◌++◌, ◌&&◌, map, slice_get, codes, nat_lt}
+use Rattle.std.specs.List.{list_all}
 use Rattle.std.specs.Ordering.{match_ordering, nat_cmp}
 use Rattle.std.specs.Cmp.Lexicographic.{slice_cmp}
 use Rattle.toml.specs.Data.{Data, string, integer, boolean, array, table, Items, no_items, item, Members, no_members, member}
@@ -22,6 +23,15 @@ put_member k d (member l e ms) = match_ordering (slice_cmp nat_cmp k l) (member 
 -- a place among n names
 unfoldable pub is_place : ℕ → LocId → Bool
 is_place n loc = nat_lt loc.0 n
+
+-- a hold of one of n resources
+unfoldable pub is_of_resource : ℕ → HoldRule → Bool
+is_of_resource n h = nat_lt h.resource.0 n
+
+-- an action that knows its module, its locations and its resources, of which there are so many
+unfoldable pub is_known : ℕ → ℕ → ℕ → Action → Bool
+is_known locations modules resources a =
+    nat_lt a.module.0 modules && nat_lt a.from.0 locations && nat_lt a.to.0 locations && list_all (is_of_resource resources) a.holds
 
 -- the name at a place
 abbrev pub name_at : List (List ℕ) → ℕ → List ℕ

@@ -13,6 +13,7 @@ mod places;
 mod rules;
 mod supplies;
 mod supplying;
+mod tables;
 mod text;
 
 pub use rules::first_broken;

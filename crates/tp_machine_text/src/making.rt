@@ -1,15 +1,15 @@
-ghost use Rattle.std.specs.Prelude.{◌≡◌, ◌<◌, ◌≤◌, true, IsTrue, IfOk, OnOk, length, map, nat_lt, codes, pos};
+ghost use Rattle.std.specs.Prelude.{◌≡◌, ◌<◌, ◌≤◌, true, IsTrue, IfOk, OnOk, length, nat_lt};
 ghost use Rattle.std.specs.List.{list_all};
-ghost use Rattle.toml.specs.Data.{string, integer, boolean, array as array_data, table as data_table, no_members, member};
-ghost use Rattle.toml.specs.View.{table_view, view, array_view, items_of};
+ghost use Rattle.toml.specs.Data.{string};
+ghost use Rattle.toml.specs.View.{table_view, view};
 ghost use Rattle.tp_machine.specs.Rules.{do_names_rise, feeder_names};
-ghost use Rattle.tp_machine_text.specs.Printed.{put_member, is_place, texts_data, loc_names, feeder_members, resource_members, resource_names, anchor_text, point_data, hold_data, kind_words, action_data, table_of};
+ghost use Rattle.tp_machine_text.specs.Printed.{put_member, is_place, texts_data, loc_names, feeder_members, resource_members, resource_names, anchor_text, point_data, hold_data, kind_words};
 
 use std::alloc::Global;
 use toml::value::Array;
 use toml::{Table, Value};
 use tp_base::{Memory, Name};
-use tp_machine::{Action, Anchor, Feeder, HoldRule, LocId, Machine, Names, Resource};
+use tp_machine::{Anchor, Feeder, HoldRule, LocId, Names, Resource};
 
 /// Puts a value at a key of a table.
 #[tactic(auto, using(crate::proofs::Put::puts))]
@@ -125,15 +125,26 @@ fn point_value(alloc: Global, anchor: Anchor, offset: i32) -> Result<Value, Memo
     Ok(Value::from(array))
 }
 
-#[tactic(auto, unfolding(crate::specs::Printed::hold_data), using(crate::proofs::Built::built))]
-fn hold_value(alloc: Global, resources: &[Resource], hold: &HoldRule) -> Result<Value, Memory>
+fn begin_value(alloc: Global, hold: &HoldRule) -> Result<Value, Memory>
+    ensures { IfOk result (λ value. view value ≡ point_data hold.now.begin hold.now.begin_off) }
+{
+    point_value(alloc, hold.begin, hold.begin_off)
+}
+
+fn end_value(alloc: Global, hold: &HoldRule) -> Result<Value, Memory>
+    ensures { IfOk result (λ value. view value ≡ point_data hold.now.end hold.now.end_off) }
+{
+    point_value(alloc, hold.end, hold.end_off)
+}
+
+pub(crate) fn hold_value(alloc: Global, resources: &[Resource], hold: &HoldRule) -> Result<Value, Memory>
     requires { hold.now.resource.0 < length resources.now }
     ensures { IfOk result (λ value. view value ≡ hold_data (resource_names resources.now) hold.now) }
 {
     let mut table = Table::new(alloc);
-    let begin = point_value(alloc, hold.begin, hold.begin_off)?;
+    let begin = begin_value(alloc, hold)?;
     put(alloc, &mut table, "begin", begin)?;
-    let end = point_value(alloc, hold.end, hold.end_off)?;
+    let end = end_value(alloc, hold)?;
     put(alloc, &mut table, "end", end)?;
     let held = &resources[usize::from(hold.resource.0)];
     let resource = name_value(alloc, &held.name)?;
@@ -141,7 +152,7 @@ fn hold_value(alloc: Global, resources: &[Resource], hold: &HoldRule) -> Result<
     Ok(Value::from(table))
 }
 
-fn kinds_value(alloc: Global, mono: bool, colour: bool) -> Result<Value, Memory>
+pub(crate) fn kinds_value(alloc: Global, mono: bool, colour: bool) -> Result<Value, Memory>
     ensures { IfOk result (λ value. view value ≡ texts_data (kind_words mono colour)) }
 {
     let mut array = Array::new(alloc);
