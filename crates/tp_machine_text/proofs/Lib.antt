@@ -17,3 +17,4 @@ pub mod Put
 pub mod NameBytes
 pub mod Built
 pub mod Fitting
+pub mod Back
