@@ -18,3 +18,5 @@ pub mod NameBytes
 pub mod Built
 pub mod Fitting
 pub mod Back
+pub mod Depth
+pub mod PrintedBack

@@ -1,0 +1,23 @@
+ghost use Rattle.std.specs.Prelude.{IfOk};
+ghost use Rattle.tp_machine_text.specs.Texts.{IsMachineText};
+
+use crate::rules::first_broken;
+use crate::tables::table_of;
+use std::alloc::Global;
+use tp_base::Memory;
+use tp_machine::Machine;
+
+/// A text that is read as an equal machine. Each key has a line of its own, and the feeders, the
+/// resources, each action and each hold stand under a header.
+pub fn print_machine(alloc: Global, machine: &Machine) -> Result<Vec<u8>, Memory>
+    ensures { IfOk result (λ text. IsMachineText text.items machine.now) }
+{
+    let table = table_of(alloc, machine)?;
+    if first_broken(&table).is_some() {
+        return Err(Memory);
+    }
+    match toml::table_to_string(alloc, &table) {
+        Ok(text) => Ok(text.into_bytes()),
+        Err(_) => Err(Memory),
+    }
+}
