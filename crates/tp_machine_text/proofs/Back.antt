@@ -151,9 +151,16 @@ pub action_back : (ls ms rs : List (List ℕ)) (a : Action) → are_different ls
 unfolding action_of action_data
 action_back ls ms rs a dl dm dr known =
     let k = knows (length ls) (length ms) (length rs) a known in
-    rw (place_back ms a.module.0 dm k.of_module, place_back ls a.from.0 dl k.from, place_back ls a.to.0 dl k.to,
-        texts_back (kind_words a.mono a.colour), mono_back a.mono a.colour, colour_back a.mono a.colour,
-        values_of-items (map (hold_data rs) a.holds), holds_back rs a.holds dr k.holds)
+    rw (
+      place_back ms a.module.0 dm k.of_module,
+      place_back ls a.from.0 dl k.from,
+      place_back ls a.to.0 dl k.to,
+      texts_back (kind_words a.mono a.colour),
+      mono_back a.mono a.colour,
+      colour_back a.mono a.colour,
+      values_of-items (map (hold_data rs) a.holds),
+      holds_back rs a.holds dr k.holds,
+    )
 
 pub actions_back : (ls ms rs : List (List ℕ)) (deeds : List Action) → are_different ls ≡ true → are_different ms ≡ true → are_different rs ≡ true → list_all (is_known (length ls) (length ms) (length rs)) deeds ≡ true
     → map (action_of ls ms rs) (map (action_data ls ms rs) deeds) ≡ deeds

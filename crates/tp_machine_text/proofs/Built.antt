@@ -81,7 +81,7 @@ pub machine_built : (m : Machine) (t0 t1 t2 t3 : Members) → t0 ≡ no_members
     → t1 ≡ put_member (codes "budget") (integer (pos m.budget)) (put_member (codes "window") (integer (pos m.window)) (put_member (codes "lead") (integer (pos m.lead)) (put_member (codes "format") (integer (pos 1)) t0)))
     → t2 ≡ put_member (codes "purge") (texts_data (loc_names m.locations m.purges)) (put_member (codes "trays") (texts_data (loc_names m.locations m.trays)) (put_member (codes "modules") (texts_data m.modules) (put_member (codes "locations") (texts_data m.locations) t1)))
     → t3 ≡ put_member (codes "actions") (array (items_of (map (action_data m.locations m.modules (resource_names m.resources)) m.actions)))
-      (put_member (codes "resources") (table (resource_members m.modules m.resources)) (put_member (codes "feeders") (table (feeder_members m.locations m.feeders)) t2))
+    (put_member (codes "resources") (table (resource_members m.modules m.resources)) (put_member (codes "feeders") (table (feeder_members m.locations m.feeders)) t2))
     → t3 ≡ table_of m
 unfolding table_of
 machine_built m t0 t1 t2 t3 none numbers places parts = rw (parts, places, numbers, none)

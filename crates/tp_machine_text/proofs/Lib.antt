@@ -20,3 +20,4 @@ pub mod Fitting
 pub mod Back
 pub mod Depth
 pub mod PrintedBack
+pub mod PrintedText

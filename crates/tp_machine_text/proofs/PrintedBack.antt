@@ -68,8 +68,8 @@ printed_back m dl dm =
       feeders = rw (texts_back m.locations) (sym (feeders_back m.locations m.feeders dl (feeders_fit m.locations m.trays m.purges m.feeders m.good_feeders)));
       resources = rw (texts_back m.modules) (sym (resources_back m.modules m.resources dm rk));
       actions =
-        rw (texts_back m.locations, texts_back m.modules, resource_keys m.modules m.resources, values_of-items (map (action_data m.locations m.modules (resource_names m.resources)) m.actions))
-        (sym (actions_back m.locations m.modules (resource_names m.resources) m.actions dl dm dr
+          rw (texts_back m.locations, texts_back m.modules, resource_keys m.modules m.resources, values_of-items (map (action_data m.locations m.modules (resource_names m.resources)) m.actions))
+          (sym (actions_back m.locations m.modules (resource_names m.resources) m.actions dl dm dr
           (resource_count m (actions_fit m.locations m.modules m.trays m.purges m.feeders m.resources m.actions m.ways m.holds))));
     }
 

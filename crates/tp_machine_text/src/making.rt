@@ -137,7 +137,11 @@ fn end_value(alloc: Global, hold: &HoldRule) -> Result<Value, Memory>
     point_value(alloc, hold.end, hold.end_off)
 }
 
-pub(crate) fn hold_value(alloc: Global, resources: &[Resource], hold: &HoldRule) -> Result<Value, Memory>
+pub(crate) fn hold_value(
+    alloc: Global,
+    resources: &[Resource],
+    hold: &HoldRule,
+) -> Result<Value, Memory>
     requires { hold.now.resource.0 < length resources.now }
     ensures { IfOk result (λ value. view value ≡ hold_data (resource_names resources.now) hold.now) }
 {

@@ -1,4 +1,4 @@
-ghost use Rattle.std.specs.Prelude.{IfOk};
+ghost use Rattle.std.specs.Prelude.{◌≡◌, IfOk, IsUtf8, string_bytes};
 ghost use Rattle.tp_machine_text.specs.Texts.{IsMachineText};
 
 use crate::rules::first_broken;
@@ -17,7 +17,15 @@ pub fn print_machine(alloc: Global, machine: &Machine) -> Result<Vec<u8>, Memory
         return Err(Memory);
     }
     match toml::table_to_string(alloc, &table) {
-        Ok(text) => Ok(text.into_bytes()),
+        Ok(text) => Ok(bytes_of(text)),
         Err(_) => Err(Memory),
     }
+}
+
+fn bytes_of(text: String) -> Vec<u8>
+    ensures bytes { result.items ≡ string_bytes text }
+    ensures utf8 { IsUtf8 (string_bytes text) }
+{
+    let _shown = text.as_str();
+    text.into_bytes()
 }
