@@ -1,14 +1,14 @@
 -- The names of a machine's numbers lead back to the numbers.
-use Rattle.std.proofs.Common.{◌≡◌, ℕ, zero, suc, ◌<◌, Bool, true, false, not, ◌&&◌, Ordering, Less, Equal, Greater, List, [], ◌∷◌, ◌++◌, length, map, refl, ap, sym, ◌∙◌, arith}
+use Rattle.std.proofs.Common.{◌≡◌, ℕ, zero, suc, ◌<◌, Bool, true, false, Ordering, Less, Equal, Greater, List, [], ◌∷◌, length, map, refl, ap, sym, ◌∙◌, arith}
 use Rattle.std.specs.Prelude.{nat_lt, codes}
-use Rattle.std.specs.List.{list_all, list_any}
+use Rattle.std.specs.List.{list_all}
 use Rattle.std.specs.Ordering.{is_lt, is_eq, nat_cmp}
 use Rattle.std.specs.Str.{bytes_eq}
 use Rattle.std.specs.Cmp.Lexicographic.{slice_cmp, nat_list_eq_equiv, nat_list_cmp_total}
 use Rattle.std.proofs.lemmas.Bool.{and_parts}
 use Rattle.std.proofs.lemmas.Bool.Decides.{nat_tests}
 use Rattle.std.proofs.lemmas.Map.Text.{is_eq-slice_cmp}
-use Rattle.toml.specs.Data.{Data, string, Members}
+use Rattle.toml.specs.Data.{string}
 use Rattle.toml.specs.View.{items_of}
 use Rattle.tp_machine.specs.Rules.{do_names_rise, is_below}
 use Rattle.tp_machine.specs.declared.parts.Action.{Action}
@@ -20,9 +20,9 @@ use Rattle.tp_machine.specs.declared.parts.LocId.{LocId}
 use Rattle.tp_machine.specs.declared.parts.Resource.{Resource}
 use Rattle.tp_machine_text.specs.Words.{text_of, values_of, keys_of, is_among, are_different}
 use Rattle.tp_machine_text.specs.HoldRules.{anchor_of}
-use Rattle.tp_machine_text.specs.TheMachine.{place_in, loc_of, feeders_of, resources_of, hold_of, action_of, prints_word}
+use Rattle.tp_machine_text.specs.TheMachine.{place_in, loc_of, feeders_of, resources_of, hold_of, action_of}
 use Rattle.tp_machine_text.specs.Printed.{is_place, is_of_resource, is_known, name_at, loc_names, feeder_members, resource_members, resource_names, anchor_text, kind_words, hold_data, action_data}
-use Rattle.tp_machine_text.proofs.Fitting.{Knows, knows}
+use Rattle.tp_machine_text.proofs.Fitting.{knows}
 use Rattle.tp_machine_text.proofs.Seen.{values_of-items}
 
 -- ---- a name that stands at a place

@@ -1,10 +1,10 @@
 -- One step of building an array or a table of values.
-use Rattle.std.proofs.Common.{◌≡◌, ℕ, zero, suc, ◌+◌, Bool, true, false, ◌&&◌, Ordering, Less, Equal, Greater, List, [], ◌∷◌, ◌++◌, map, take, length, get_or, ◌<◌, String, Global, Some, None, slice_get, refl, ap, sym, ◌∙◌, arith, add-one}
+use Rattle.std.proofs.Common.{◌≡◌, ℕ, zero, suc, ◌+◌, true, Ordering, Less, Equal, Greater, List, [], ◌∷◌, ◌++◌, map, take, length, get_or, ◌<◌, String, Global, Some, slice_get, refl, ap, sym, arith}
 use Rattle.std.specs.Prelude.{codes, pos}
-use Rattle.std.specs.Ordering.{is_lt, match_ordering, nat_cmp}
+use Rattle.std.specs.Ordering.{is_lt, nat_cmp}
 use Rattle.std.specs.Cmp.Lexicographic.{slice_cmp}
 use Rattle.std.proofs.lemmas.Bool.{and_parts}
-use Rattle.toml.specs.Data.{Data, string, integer, boolean, array, table, Members, no_members, member}
+use Rattle.toml.specs.Data.{Data, string, integer, boolean, array, table, Members, no_members}
 use Rattle.toml.specs.View.{view, items_of, members_view}
 use Rattle.toml.specs.declared.value.Value.{Value}
 use Rattle.tp_machine.specs.Rules.{do_names_rise, feeder_names, is_below}

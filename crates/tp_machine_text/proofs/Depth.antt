@@ -1,7 +1,6 @@
 -- The table of a machine is not deep.
-use Rattle.std.proofs.Common.{◌≡◌, ℕ, suc, max, ◌≤◌, List, [], ◌∷◌, map, refl, ap, arith}
-use Rattle.std.specs.Prelude.{codes}
-use Rattle.toml.specs.Data.{Data, string, Members, depth, items_depth, members_depth}
+use Rattle.std.proofs.Common.{ℕ, max, ◌≤◌, List, [], ◌∷◌, map, arith}
+use Rattle.toml.specs.Data.{string, depth, items_depth, members_depth}
 use Rattle.toml.specs.View.{items_of}
 use Rattle.tp_machine.specs.declared.parts.Action.{Action}
 use Rattle.tp_machine.specs.declared.parts.Feeder.{Feeder}

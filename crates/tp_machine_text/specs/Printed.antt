@@ -1,9 +1,9 @@
 -- The table that is printed for a machine.
-use Rattle.std.specs.Prelude.{◌≡◌, ℕ, pos, ℤ, Bool, if◌then◌else◌, List, [], ◌∷◌, ◌++◌, ◌&&◌, map, slice_get, codes, nat_lt}
+use Rattle.std.specs.Prelude.{ℕ, pos, ℤ, Bool, if◌then◌else◌, List, [], ◌∷◌, ◌++◌, ◌&&◌, map, slice_get, codes, nat_lt}
 use Rattle.std.specs.List.{list_all}
 use Rattle.std.specs.Ordering.{match_ordering, nat_cmp}
 use Rattle.std.specs.Cmp.Lexicographic.{slice_cmp}
-use Rattle.toml.specs.Data.{Data, string, integer, boolean, array, table, Items, no_items, item, Members, no_members, member}
+use Rattle.toml.specs.Data.{Data, string, integer, boolean, array, table, no_items, item, Members, no_members, member}
 use Rattle.toml.specs.View.{items_of}
 use Rattle.tp_machine.specs.Rules.{name_in}
 use Rattle.tp_machine.specs.declared.parts.Action.{Action}

@@ -9,6 +9,9 @@ use tp_machine::Machine;
 
 /// A text that is read as an equal machine. Each key has a line of its own, and the feeders, the
 /// resources, each action and each hold stand under a header.
+///
+/// The table is looked through once more before it is written. A machine keeps the rules of its
+/// text, so nothing is found there, and Memory is answered where memory ran out.
 pub fn print_machine(alloc: Global, machine: &Machine) -> Result<Vec<u8>, Memory>
     ensures { IfOk result (λ text. IsMachineText text.items machine.now) }
 {

@@ -1,6 +1,6 @@
 use Rattle.std.proofs.Common.{ap, ◌∙◌}
 use Rattle.std.specs.Prelude.{codes}
-use Rattle.toml.specs.View.{view, table_view}
+use Rattle.toml.specs.View.{view}
 use Rattle.tp_machine_text.specs.Printed.{put_member, resource_names}
 use Rattle.tp_machine_text.proofs.Built.{hold_built, resource_there, no_entries}
 use Rattle.tp_machine_text.proofs.making.hold_value.Goals as goal

@@ -1,5 +1,4 @@
-use Rattle.std.proofs.Common.{ap, sym, ◌∙◌}
-use Rattle.std.specs.Prelude.{is_some}
+use Rattle.std.proofs.Common.{sym, ◌∙◌}
 use Rattle.toml.specs.View.{table_view}
 use Rattle.tp_machine_text.proofs.PrintedText.{none_there, printed}
 use Rattle.tp_machine_text.proofs.printing.print_machine.Goals as goal
