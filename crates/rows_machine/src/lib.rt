@@ -3,4 +3,6 @@
 
 pub mod machines;
 #[cfg(test)]
+mod prints;
+#[cfg(test)]
 mod texts;

@@ -13,3 +13,11 @@ pub mod KeptFacts
 pub mod Sound
 pub mod Given
 pub mod OneTable
+pub mod Put
+pub mod NameBytes
+pub mod Built
+pub mod Fitting
+pub mod Back
+pub mod Depth
+pub mod PrintedBack
+pub mod PrintedText

@@ -9,3 +9,4 @@ pub mod Broken
 pub mod Kept
 pub mod TheMachine
 pub mod Texts
+pub mod Printed

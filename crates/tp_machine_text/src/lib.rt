@@ -7,12 +7,16 @@ mod building;
 mod holds;
 mod looking;
 mod machine;
+mod making;
 mod numbers;
 mod places;
+mod printing;
 mod rules;
 mod supplies;
 mod supplying;
+mod tables;
 mod text;
 
+pub use printing::print_machine;
 pub use rules::first_broken;
 pub use text::{MachineFault, read_machine, read_table};

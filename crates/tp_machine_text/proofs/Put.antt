@@ -1,0 +1,19 @@
+-- What a table shows after a value was put in it.
+use Rattle.std.proofs.Common.{◌≡◌, Ordering, Less, Equal, Greater, List, [], ◌∷◌, String, Global, string_bytes, refl, ◌∙◌}
+use Rattle.std.specs.BTreeMap.{insert_entry}
+use Rattle.std.specs.String.{string_cmp}
+use Rattle.std.specs.Ordering.{match_ordering}
+use Rattle.toml.specs.View.{view, members_view}
+use Rattle.toml.specs.declared.value.Value.{Value}
+use Rattle.tp_machine_text.specs.Printed.{put_member}
+
+match_members : (o : Ordering) (a b c : List (String Global × Value)) → members_view (match_ordering o a b c) ≡ match_ordering o (members_view a) (members_view b) (members_view c)
+match_members Less a b c = refl
+match_members Equal a b c = refl
+match_members Greater a b c = refl
+
+pub put_seen : (es : List (String Global × Value)) (k : String Global) (v : Value) → members_view (insert_entry string_cmp es k v) ≡ put_member (string_bytes k) (view v) (members_view es)
+put_seen [] k v = refl
+put_seen (e ∷ es) k v = match_members (string_cmp k e.0) ((k, v) ∷ e ∷ es) ((e.0, v) ∷ es) (e ∷ insert_entry string_cmp es k v) ∙ rw (put_seen es k v)
+
+pub ruleset puts = (put_seen)
