@@ -1,0 +1,5 @@
+//! The program over its outside.
+#![tactic(auto)]
+
+mod route;
+mod table;
