@@ -1,2 +1,5 @@
 pub mod TableFacts
 pub mod Leasts
+pub mod Places
+pub mod WayFacts
+pub mod RowFacts
