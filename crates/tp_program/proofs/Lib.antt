@@ -3,3 +3,5 @@ pub mod Leasts
 pub mod Places
 pub mod WayFacts
 pub mod RowFacts
+pub mod LegFacts
+pub mod FollowFacts

@@ -7,6 +7,8 @@ use Rattle.tp_machine.specs.declared.parts.Face.{Face}
 use Rattle.tp_machine.specs.declared.parts.Face.TheVariants.{Front, Back}
 use Rattle.tp_machine.specs.declared.parts.Sheet.{Sheet}
 use Rattle.tp_machine.specs.declared.parts.State.{State}
+use Rattle.tp_machine.specs.declared.whole.Machine.{Machine}
+use Rattle.tp_program.specs.declared.table.Table.{Table}
 
 abbrev pub bit : Bool → ℕ
 bit true = 1
@@ -66,3 +68,9 @@ row_of actions sheet size goal (suc count) = next_row actions sheet (row_of acti
 -- the rows below this number
 pub record AreRows (actions : List Action) (sheet : Sheet) (size : ℕ) (goal : State) (count : ℕ) (rows : List (List (Option ℕ))) : Type 0 where
   pub are : rows ≡ map (row_of actions sheet size goal) (range_with_len 0 count)
+
+abbrev pub rows_in : Table → List (List (Option ℕ))
+rows_in table = map (λ row. row.items) table.rows.items
+
+abbrev pub IsTable : Machine → Sheet → ℕ → Table → Type 0
+IsTable machine sheet count table = AreRows machine.actions sheet (8 * length machine.locations) table.goal count (rows_in table)

@@ -1,14 +1,13 @@
 // The trip with the least sum, and its actions in turn.
-ghost use Rattle.std.specs.Prelude.{◌≡◌, ◌+◌, ◌<◌, ◌≤◌, ◌^◌, ℕ, List, None, Some, fold, filter, map, length, slice_get, option_map, option_and_then};
-ghost use Rattle.std.specs.List.{range_with_len};
-ghost use Rattle.std.specs.Str.{bytes_eq};
-ghost use Rattle.tp_schedule.specs.Routes.{fresh};
-ghost use Rattle.tp_program.specs.Tables.{lesser};
-ghost use Rattle.tp_program.specs.Trips.{trip_at, soonest_from, soonest};
+ghost use Rattle.std.specs.Prelude.{◌≡◌, ◌+◌, ◌<◌, ◌≤◌, ◌^◌, ◌*◌, ℕ, List, None, Some, IfSome, IsSome, fold, filter, map, length, slice_get, position};
+ghost use Rattle.tp_schedule.specs.Routes.{fresh, walk, step_by, least_of, least_sum};
+ghost use Rattle.tp_program.specs.Tables.{lesser, entry, least_by, least_from};
+ghost use Rattle.tp_program.specs.Trips.{HasTrip, trip_at, soonest_from, soonest, has_sum, first_with, leg_by, leg_at, first_leg};
 
-use crate::table::{Row, place_of};
+use crate::table::{Row, Table, least_by, place_of};
 use tp_base::Name;
-use tp_machine::{Face, Feeder, LocId, State};
+use tp_machine::{ActId, Action, Face, Feeder, LocId, Machine, Sheet, State, machine_law, step};
+use tp_schedule::Acts;
 
 /// A trip from a state by so many actions, with the sum of their least durations.
 #[derive(Clone, Copy, PartialEq, Eq, Debug)]
@@ -66,4 +65,98 @@ pub(crate) fn soonest(rows: &[Row], most: usize, feeders: &[Feeder], media: Name
         .fold(None, |best, feeder| {
             sooner(best, soonest_from(rows, most, fresh_at(feeder.loc)))
         })
+}
+
+/// The first action of a trip, the state after it, and the sum that is left.
+#[derive(Clone, Copy, PartialEq, Eq, Debug)]
+struct Leg {
+    act: ActId,
+    next: State,
+    rest: u32,
+}
+
+fn has_sum(found: Option<u32>, sum: u32) -> bool
+    ensures { result ≡ has_sum found sum }
+{
+    match found {
+        Some(other) => other == sum,
+        None => false,
+    }
+}
+
+/// The place of the first action by which the sum is reached.
+#[tactic(auto, unfolding(crate::specs::Trips::first_with))]
+fn first_with(
+    actions: &[Action],
+    sheet: &Sheet,
+    row: &[Option<u32>],
+    from: State,
+    sum: u32,
+) -> Option<usize>
+    ensures { result ≡ first_with actions.now sheet.now row.now from sum }
+{
+    actions
+        .iter()
+        .position(|action| has_sum(least_by(action, sheet, row, from), sum))
+}
+
+/// The first action of a way with the least sum, by the row of the ways of one action less.
+fn first_leg(
+    machine: &Machine,
+    sheet: &Sheet,
+    row: &[Option<u32>],
+    from: State,
+    sum: u32,
+) -> Option<Leg>
+    ensures { result ≡ first_leg machine.now.actions sheet.now row.now from sum }
+{
+    let at = first_with(machine.actions.as_slice(), sheet, row, from, sum)?;
+    leg_at(machine, sheet, row, from, at)
+}
+
+fn leg_at(
+    machine: &Machine,
+    sheet: &Sheet,
+    row: &[Option<u32>],
+    from: State,
+    at: usize,
+) -> Option<Leg>
+    ensures { result ≡ leg_at machine.now.actions sheet.now row.now from at }
+{
+    machine_law(machine);
+    let action = machine.actions.as_slice().get(at)?;
+    leg_by(row, ActId(at as u16), step(action, sheet, from)?)
+}
+
+fn leg_by(row: &[Option<u32>], act: ActId, next: State) -> Option<Leg>
+    ensures { result ≡ leg_by row.now act.0 next }
+{
+    let rest = (*row.get(place_of(next))?)?;
+    Some(Leg { act, next, rest })
+}
+
+/// The actions of a trip to the table's goal.
+pub(crate) fn follow(machine: &Machine, sheet: &Sheet, table: &Table, trip: Trip) -> Acts
+    requires trip { HasTrip machine.now sheet.now table.now trip }
+    requires few { trip.count ≤ 64 }
+    ensures leads { walk machine.now sheet.now result trip.from ≡ Some table.now.goal }
+    ensures total { least_sum machine.now result ≡ trip.sum }
+    ensures counted { length result ≡ trip.count }
+{
+    let mut acts = Acts::new();
+    let mut from = trip.from;
+    let mut sum = trip.sum;
+    let mut count = trip.count;
+    'legs: while count > 0 {
+        count -= 1;
+        match first_leg(machine, sheet, &table.rows[count], from, sum) {
+            Some(leg) => {
+                acts.push(leg.act);
+                from = leg.next;
+                sum = leg.rest;
+            }
+            None => unreachable!(),
+        }
+    }
+    acts
 }

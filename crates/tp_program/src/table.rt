@@ -1,13 +1,20 @@
 // The least sums of least durations by state and number of actions up to the goal state.
 ghost use Rattle.std.specs.Prelude.{◌≡◌, ◌*◌, ◌+◌, ◌<◌, ◌≤◌, ◌^◌, ℕ, List, [], None, Some, fold, map, length, IfOk, slice_get, option_map};
 ghost use Rattle.std.specs.List.{range_with_len};
-ghost use Rattle.tp_program.specs.Tables.{index_of, state_of, entry, lesser, least_by, least_from, first_row, next_row, row_of, AreRows};
+ghost use Rattle.tp_program.specs.Tables.{index_of, state_of, entry, lesser, least_by, least_from, first_row, next_row, row_of, AreRows, IsTable};
 
 use std::alloc::{AllocError, Global};
 use tp_machine::{Action, Face, LocId, Machine, Sheet, State, machine_law, step};
 
 /// For each state the least sum of the ways of so many actions from it, where there is one.
 pub(crate) type Row = Vec<Option<u32>>;
+
+/// The least sums of the ways to a goal state: a row for each number of actions from none on.
+#[derive(Drop)]
+pub(crate) struct Table {
+    pub(crate) goal: State,
+    pub(crate) rows: Vec<Row>,
+}
 
 /// The place of a state in a row: eight for each location.
 pub(crate) fn place_of(state: State) -> usize
@@ -99,8 +106,23 @@ fn next_row(
         .collect(alloc)
 }
 
-/// A row for each number of actions from none to `most`.
-pub(crate) fn rows_to(
+/// The table of the ways of at most `most` actions.
+pub(crate) fn table_to(
+    alloc: Global,
+    machine: &Machine,
+    sheet: &Sheet,
+    goal: State,
+    most: usize,
+) -> Result<Table, AllocError>
+    requires { most < 2 ^ 16 }
+    ensures rows { IfOk result (λ table. IsTable machine.now sheet.now (most + 1) table) }
+    ensures goal { IfOk result (λ table. table.goal ≡ goal) }
+{
+    let rows = rows_to(alloc, machine, sheet, goal, most)?;
+    Ok(Table { goal, rows })
+}
+
+fn rows_to(
     alloc: Global,
     machine: &Machine,
     sheet: &Sheet,
