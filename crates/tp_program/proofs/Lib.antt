@@ -5,3 +5,8 @@ pub mod WayFacts
 pub mod RowFacts
 pub mod LegFacts
 pub mod FollowFacts
+pub mod PointFacts
+pub mod AloneFacts
+pub mod FreeFacts
+pub mod TripFacts
+pub mod BoundFacts

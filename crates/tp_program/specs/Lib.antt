@@ -1,3 +1,4 @@
 pub mod Tables
 pub mod Trips
 pub mod Ways
+pub mod Firsts

@@ -1,5 +1,5 @@
 -- The trips that the planner chooses from, and the first action of one.
-use Rattle.std.specs.Prelude.{◌≡◌, ℕ, ◌*◌, ◌<◌, length, Bool, true, false, ◌==◌, List, map, filter, fold, slice_get, Option, Some, None, option_map, option_and_then, position}
+use Rattle.std.specs.Prelude.{◌≡◌, ℕ, ◌*◌, ◌<◌, length, Bool, true, false, ◌==◌, List, map, fold, if◌then◌else◌, slice_get, Option, Some, None, option_map, option_and_then, position}
 use Rattle.std.specs.List.{range_with_len}
 use Rattle.std.specs.Str.{bytes_eq}
 use Rattle.tp_machine.specs.Steps.{step_of}
@@ -23,9 +23,12 @@ trip_at rows from count = option_and_then (λ row. option_map (trip_of from coun
 abbrev pub soonest_from : List (List (Option ℕ)) → ℕ → State → Option Trip
 soonest_from rows most from = fold (λ best count. lesser (λ trip. trip.sum) best (trip_at rows from count)) None (range_with_len 1 most)
 
+abbrev pub soonest_by : List (List (Option ℕ)) → ℕ → List ℕ → Feeder → Option Trip
+soonest_by rows most media f = if bytes_eq f.media media then soonest_from rows most (fresh f.loc) else None
+
 abbrev pub soonest : List (List (Option ℕ)) → ℕ → List Feeder → List ℕ → Option Trip
 soonest rows most feeders media =
-    fold (λ best f. lesser (λ trip. trip.sum) best (soonest_from rows most (fresh f.loc))) None (filter (λ f. bytes_eq f.media media) feeders)
+    fold (λ best f. lesser (λ trip. trip.sum) best (soonest_by rows most media f)) None feeders
 
 abbrev pub has_sum : Option ℕ → ℕ → Bool
 has_sum None sum = false

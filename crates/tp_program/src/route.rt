@@ -1,8 +1,8 @@
 // The trip with the least sum, and its actions in turn.
-ghost use Rattle.std.specs.Prelude.{◌≡◌, ◌+◌, ◌<◌, ◌≤◌, ◌^◌, ◌*◌, ℕ, List, None, Some, IfSome, IsSome, fold, filter, map, length, slice_get, position};
+ghost use Rattle.std.specs.Prelude.{◌≡◌, ◌+◌, ◌<◌, ◌≤◌, ◌^◌, ◌*◌, ℕ, List, None, Some, IfSome, IsSome, map, length};
 ghost use Rattle.tp_schedule.specs.Routes.{fresh, walk, step_by, least_of, least_sum};
 ghost use Rattle.tp_program.specs.Tables.{lesser, entry, least_by, least_from};
-ghost use Rattle.tp_program.specs.Trips.{HasTrip, trip_at, soonest_from, soonest, has_sum, first_with, leg_by, leg_at, first_leg};
+ghost use Rattle.tp_program.specs.Trips.{HasTrip, trip_at, soonest_from, soonest_by, soonest, has_sum, first_with, leg_by, leg_at, first_leg};
 
 use crate::table::{Row, Table, least_by, place_of};
 use tp_base::Name;
@@ -54,17 +54,26 @@ fn fresh_at(loc: LocId) -> State
     }
 }
 
+/// The soonest trip from the feeder, where it has the media.
+fn soonest_by(rows: &[Row], most: usize, feeder: &Feeder, media: Name) -> Option<Trip>
+    requires { most < 2 ^ 16 }
+    ensures { result ≡ soonest_by (map (λ row. row.items) rows.now) most media feeder.now }
+{
+    if feeder.media == media {
+        soonest_from(rows, most, fresh_at(feeder.loc))
+    } else {
+        None
+    }
+}
+
 /// The soonest trip from a feeder of the media.
 pub(crate) fn soonest(rows: &[Row], most: usize, feeders: &[Feeder], media: Name) -> Option<Trip>
     requires { most < 2 ^ 16 }
     ensures { result ≡ soonest (map (λ row. row.items) rows.now) most feeders.now media }
 {
-    feeders
-        .iter()
-        .filter(|feeder| feeder.media == media)
-        .fold(None, |best, feeder| {
-            sooner(best, soonest_from(rows, most, fresh_at(feeder.loc)))
-        })
+    feeders.iter().fold(None, |best, feeder| {
+        sooner(best, soonest_by(rows, most, feeder, media))
+    })
 }
 
 /// The first action of a trip, the state after it, and the sum that is left.
