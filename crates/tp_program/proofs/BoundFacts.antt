@@ -27,7 +27,7 @@ pub record IsBounded (machine : Machine) (job : Job) (plans : List Plan) (plan :
   pub later : (i : ℕ) → i ≤ length plan.acts → slice_index (least_points machine (machine.lead + 1) plan.acts) i ≤ point plan i
   pub in_time : end_of_plan plan ≤ machine.window
 
-first_of : {X : Type 0} (x : X) → Contains (x ∷ []) x
+pub first_of : {X : Type 0} (x : X) → Contains (x ∷ []) x
 first_of x = (0, omega arith, refl)
 
 -- the only plan, unreleased, is timed, and no point is before the least points

@@ -10,3 +10,5 @@ pub mod AloneFacts
 pub mod FreeFacts
 pub mod TripFacts
 pub mod BoundFacts
+pub mod AnswerFacts
+pub mod ChosenFacts
