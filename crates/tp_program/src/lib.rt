@@ -3,5 +3,7 @@
 
 mod first;
 mod job;
+mod output;
 mod route;
+mod script;
 mod table;
