@@ -12,3 +12,5 @@ pub mod TripFacts
 pub mod BoundFacts
 pub mod AnswerFacts
 pub mod ChosenFacts
+pub mod ScriptFacts
+pub mod WayTextFacts

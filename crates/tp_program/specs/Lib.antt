@@ -4,3 +4,6 @@ pub mod Ways
 pub mod Firsts
 pub mod Scripts
 pub mod Outputs
+pub mod Words
+pub mod Statuses
+pub mod Causes

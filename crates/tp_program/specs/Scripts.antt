@@ -1,5 +1,5 @@
 -- The script: one line for a job of one sheet.
-use Rattle.std.specs.Prelude.{◌≡◌, ℕ, ◌≤◌, Bool, ◌&&◌, List, [], ◌∷◌, ◌++◌, length, position, Option, Some, None, option_and_then, if◌then◌else◌}
+use Rattle.std.specs.Prelude.{◌≡◌, ℕ, ◌≤◌, ◌==◌, Bool, ◌&&◌, List, [], ◌∷◌, ◌++◌, length, position, Option, Some, None, option_and_then, if◌then◌else◌}
 use Rattle.std.specs.List.{list_any}
 use Rattle.std.specs.Str.{bytes_eq}
 use Rattle.tp_machine.specs.Rules.{is_among}
@@ -7,6 +7,7 @@ use Rattle.tp_machine.specs.declared.whole.Machine.{Machine}
 use Rattle.tp_script.specs.Form.{GroupForm}
 use Rattle.tp_script.specs.Script.{event_text}
 use Rattle.tp_script.specs.Printed.{IsWhole}
+use Rattle.tp_script.specs.declared.event.Event.{Event}
 use Rattle.tp_script.specs.declared.event.Event.TheVariants.{Job as JobEvent}
 use Rattle.tp_program.specs.declared.job.Job.{Job}
 
@@ -32,6 +33,14 @@ job_at machine name media group at =
 
 abbrev pub job_of : Machine → List ℕ → List ℕ → List ℕ → GroupForm → Option Job
 job_of machine name tray media group = option_and_then (job_at machine name media group) (position (bytes_eq tray) machine.locations)
+
+abbrev pub one_job : Machine → List ℕ → List ℕ → List ℕ → GroupForm → Option Job
+one_job machine name tray media group = if group.count == 1 then job_of machine name tray media group else None
+
+-- the job of an event that is one of one sheet
+abbrev pub job_in : Machine → Event → Option Job
+job_in machine (JobEvent name tray media (group ∷ [])) = one_job machine name tray media group
+job_in machine _ = None
 
 -- the script asks for the job: its TRAY is a tray of the machine, and its MEDIA is some feeder's
 pub record IsScript (machine : Machine) (text : List ℕ) (job : Job) : Type 0 where

@@ -5,5 +5,11 @@ mod first;
 mod job;
 mod output;
 mod route;
+mod run;
 mod script;
+mod status;
 mod table;
+mod words;
+
+pub use run::printer_main;
+pub use status::{Long, Status};

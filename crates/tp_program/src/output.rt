@@ -51,7 +51,7 @@ fn put_action(out: &mut Vec<u8>, machine: &Machine, act: ActId) -> Result<(), Me
 
 /// A point and the action that starts there, each after a space.
 fn put_leg(out: &mut Vec<u8>, machine: &Machine, point: u32, act: ActId) -> Result<(), Memory>
-    ensures { OnOk result (out.new.items ≡ out.old.items ++ 32 ∷ decimal point ++ 32 ∷ action_name (action_at machine.now act.0)) }
+    ensures { OnOk result (out.new.items ≡ out.old.items ++ (32 ∷ decimal point ++ 32 ∷ action_name (action_at machine.now act.0))) }
 {
     out.push(b' ')?;
     put_number(out, point)?;
@@ -67,7 +67,8 @@ fn put_way(out: &mut Vec<u8>, machine: &Machine, acts: &Acts, points: &Points) -
         put_leg(out, machine, points.get(at), acts.get(at))?;
     }
     out.push(b' ')?;
-    put_number(out, points.get(acts.len()))
+    put_number(out, points.get(acts.len()))?;
+    Ok(())
 }
 
 /// Writes the record of the job's answer.

@@ -1,10 +1,9 @@
 // The script's one line.
-ghost use Rattle.std.specs.Prelude.{◌≡◌, ◌<◌, ◌≤◌, ◌^◌, ℕ, List, length, IfOk, IfSome, MatchOption};
+ghost use Rattle.std.specs.Prelude.{◌≡◌, ◌≢◌, ◌≤◌, ℕ, List, [], ◌∷◌, ◌++◌, length, IfOk, IfSome, IfNone, MatchOption};
 ghost use Rattle.std.specs.List.{list_any};
 ghost use Rattle.std.specs.Str.{bytes_eq};
 ghost use Rattle.tp_machine.specs.Rules.{is_among};
-ghost use Rattle.tp_script.specs.Form.{GroupForm};
-ghost use Rattle.tp_program.specs.Scripts.{IsJobLine, IsScript, IsOffForm, is_fed, job_at, job_of};
+ghost use Rattle.tp_program.specs.Scripts.{IsScript, IsOffForm, is_fed, job_at, one_job, job_in};
 
 use crate::job::Job;
 use std::alloc::Global;
@@ -15,15 +14,6 @@ use tp_script::{Event, Group, LineFault, one_text, read_printed};
 /// The most bytes of a script: a line of 4,096 and its LF.
 pub(crate) const SCRIPT_BYTES: usize = 4097;
 
-/// A job as its line spells it.
-#[derive(Clone, Copy, PartialEq, Eq, Debug)]
-struct JobLine {
-    name: Name,
-    tray: Name,
-    media: Name,
-    group: Group,
-}
-
 /// The job that the script asks for, if it asks for one of the machine.
 pub(crate) fn read_script(
     alloc: Global,
@@ -33,32 +23,72 @@ pub(crate) fn read_script(
     requires { length text.now ≤ 4097 }
     ensures { IfOk result (λ found. MatchOption found (IsOffForm machine.now text.now) (IsScript machine.now text.now)) }
 {
-    match read_job_line(alloc, text)? {
-        Some(line) => Ok(find_job(machine, &line)),
-        None => Ok(None),
+    one_text();
+    let Some(line) = without_line_feed(text) else {
+        return Ok(None);
+    };
+    match read_printed(alloc, line) {
+        Ok(event) => Ok(job_in(machine, &event)),
+        Err(LineFault::Syntax) => Ok(None),
+        Err(LineFault::Memory) => Err(Memory),
     }
 }
 
-fn find_job(machine: &Machine, line: &JobLine) -> Option<Job>
-    ensures { result ≡ job_of machine.now line.now.name line.now.tray line.now.media line.now.group }
+fn without_line_feed(text: &[u8]) -> Option<&[u8]>
+    ensures some { IfSome result (λ line. text.now ≡ line.now ++ 10 ∷ []) }
+    ensures none { IfNone result ((line : List ℕ) → text.now ≢ line ++ 10 ∷ []) }
 {
-    let at = machine.locations.find(&line.tray)?;
-    job_at(machine, line, at)
+    match text {
+        [line @ .., last] if *last == b'\n' => Some(line),
+        _ => None,
+    }
 }
 
-fn job_at(machine: &Machine, line: &JobLine, at: u16) -> Option<Job>
-    ensures { result ≡ job_at machine.now line.now.name line.now.media line.now.group at }
+fn job_in(machine: &Machine, event: &Event) -> Option<Job>
+    ensures { result ≡ job_in machine.now event.now }
 {
-    let tray = LocId(at);
-    if !is_tray(machine, tray) || !is_fed(machine, line.media) {
+    match event {
+        Event::Job {
+            name,
+            tray,
+            media,
+            groups,
+        } => match groups.as_slice() {
+            [group] => one_job(machine, *name, *tray, *media, *group),
+            _ => None,
+        },
+        _ => None,
+    }
+}
+
+fn one_job(
+    machine: &Machine,
+    name: Name,
+    tray: Name,
+    media: Name,
+    group: Group,
+) -> Option<Job>
+    ensures { result ≡ one_job machine.now name tray media group }
+{
+    if group.count != 1 {
         return None;
     }
-    let group = line.group;
+    let at = machine.locations.find(&tray)?;
+    job_at(machine, name, media, group, at)
+}
+
+fn job_at(machine: &Machine, name: Name, media: Name, group: Group, at: u16) -> Option<Job>
+    ensures { result ≡ job_at machine.now name media group at }
+{
+    let tray = LocId(at);
+    if !is_tray(machine, tray) || !is_fed(machine, media) {
+        return None;
+    }
     Some(Job {
-        name: line.name,
+        name,
         tray,
         sheet: Sheet {
-            media: line.media,
+            media,
             front: group.front,
             back: group.back,
             face: group.face,
@@ -80,35 +110,4 @@ fn is_fed(machine: &Machine, media: Name) -> bool
         .as_slice()
         .iter()
         .any(|feeder| feeder.media == media)
-}
-
-fn read_job_line(alloc: Global, text: &[u8]) -> Result<Option<JobLine>, Memory>
-    requires { length text.now ≤ 4097 }
-    ensures some { IfOk result (λ found. MatchOption found ((name tray media : List ℕ) (group : GroupForm) → ¬ IsJobLine text.now name tray media group)
-        (λ line. IsJobLine text.now line.name line.tray line.media line.group)) }
-    ensures only { IfOk result (λ found. IfSome found (λ line. (name tray media : List ℕ) (group : GroupForm) → IsJobLine text.now name tray media group
-        → (name ≡ line.name) × (tray ≡ line.tray) × (media ≡ line.media) × (group ≡ line.group))) }
-{
-    one_text();
-    let [line @ .., b'\n'] = text else {
-        return Ok(None);
-    };
-    match read_printed(alloc, line) {
-        Ok(Event::Job {
-            name,
-            tray,
-            media,
-            groups,
-        }) => match groups.as_slice() {
-            [group] if group.count == 1 => Ok(Some(JobLine {
-                name,
-                tray,
-                media,
-                group: *group,
-            })),
-            _ => Ok(None),
-        },
-        Ok(_) | Err(LineFault::Syntax) => Ok(None),
-        Err(LineFault::Memory) => Err(Memory),
-    }
 }
