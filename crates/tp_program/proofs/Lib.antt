@@ -14,3 +14,4 @@ pub mod AnswerFacts
 pub mod ChosenFacts
 pub mod ScriptFacts
 pub mod WayTextFacts
+pub mod RunFacts

@@ -76,9 +76,13 @@ pub fn printer_main<H: Shelf, S: Source, K: Sink>(
     // The outside failed.
     ensures shelf { result ≡ Status.Shelf → Rises (H.faults shelf.old) (H.faults shelf.new) }
     ensures amiss { result ≡ Status.Shelf → IfSome (H.told shelf.old) (λ files. IfSome (run_arg (map string_bytes words.now)) (λ name. IsSome (file_at files name) → Rises (H.amiss shelf.old) (H.amiss shelf.new))) }
-    ensures source { result ≡ Status.Source → Rises (S.faults source.old) (S.faults source.new) × OfText (map string_bytes words.now) (H.told shelf.old) IsPlain }
-    ensures sink { result ≡ Status.Sink → Rises (K.faults sink.old) (K.faults sink.new)
-        × OfText (map string_bytes words.now) (H.told shelf.old) (Answers (S.left source.old) (λ text. IfSome (K.taken sink.old) (IsCutShort text (K.taken sink.new)))) }
+    ensures source { result ≡ Status.Source → Rises (S.faults source.old) (S.faults source.new) }
+    ensures sink { result ≡ Status.Sink → Rises (K.faults sink.old) (K.faults sink.new) }
+
+    // The source failed after the machine text was read, and the sink in the echo or the record.
+    ensures after_machine { result ≡ Status.Source → OfText (map string_bytes words.now) (H.told shelf.old) IsPlain }
+    ensures part { result ≡ Status.Sink → OfText (map string_bytes words.now) (H.told shelf.old) (Answers (S.left source.old)
+        (λ text. IfSome (K.taken sink.old) (IsCutShort text (K.taken sink.new)))) }
 
     // The source was read to its end, and the sink took the echo and the record.
     ensures done { result ≡ Status.Done → OfText (map string_bytes words.now) (H.told shelf.old) (Answers (S.left source.old)
@@ -98,7 +102,8 @@ pub fn printer_main<H: Shelf, S: Source, K: Sink>(
     let machine = match read_machine(alloc, &text) {
         Ok(machine) => machine,
         Err(MachineFault::Memory) => return Status::Memory,
-        Err(fault) => return Status::Machine(fault),
+        Err(MachineFault::NotToml) => return Status::Machine(MachineFault::NotToml),
+        Err(MachineFault::Rule(n)) => return Status::Machine(MachineFault::Rule(n)),
     };
     if has_hold(&machine) {
         return Status::NotBuilt;
