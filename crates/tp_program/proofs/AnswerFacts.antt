@@ -54,7 +54,7 @@ pub lasts_least : (machine : Machine) → IsMachine machine → (job : Job) (tri
 lasts_least machine rules job trip acts start r i act at =
     let (a, known) = known_act machine job.sheet acts trip.from (finished job.sheet job.tray) r.leads i act at in
     let step : slice_index (least_points machine start acts) (i + 1) ≡ slice_index (least_points machine start acts) i + least_of machine act =
-      ap (slice_index (least_points machine start acts)) (add-one i) ∙ least_step machine start acts i act at in
+    ap (slice_index (least_points machine start acts)) (add-one i) ∙ least_step machine start acts i act at in
     lasts_at machine rules act a (action_at machine act.0) (slice_index (least_points machine start acts) i) (slice_index (least_points machine start acts) (i + 1)) known refl step
 
 pub timed_plan : (machine : Machine) → IsMachine machine → (job : Job) (trip : Trip) (acts : List ActId) → IsFirstRoute machine job trip acts → IsTimedPlan machine (first_plan machine job acts)
@@ -150,13 +150,13 @@ answers machine rules free job trip acts r in_time = record {
   fixed = λ p p' (k, within, is). absurd (omega arith);
   orders = λ resource. ap (filter (λ s. not (is_new (first_ask job) s))) (no_order machine free resource (first_plan machine job acts ∷ [])) ∙ sym (no_order machine free resource []);
   floors = λ p in_plans exempt i released within.
-    (let P : Plan → Type 0 = λ q. i < length q.acts → 0 + machine.lead < point q i in
-    subst P (sym (only_one (first_plan machine job acts) p in_plans))
-    (λ h. let b = least_between machine (machine.lead + 1) acts i (omega arith) in omega (arith, b.0)) within);
+      (let P : Plan → Type 0 = λ q. i < length q.acts → 0 + machine.lead < point q i in
+      subst P (sym (only_one (first_plan machine job acts) p in_plans))
+      (λ h. let b = least_between machine (machine.lead + 1) acts i (omega arith) in omega (arith, b.0)) within);
   horizon = λ p in_plans i within unfixed.
-    (let P : Plan → Type 0 = λ q. i ≤ length q.acts → point q i ≤ 0 + machine.window in
-    subst P (sym (only_one (first_plan machine job acts) p in_plans))
-    (λ h. let b = least_between machine (machine.lead + 1) acts i h in omega (arith, b.1, r.total, in_time)) within);
+      (let P : Plan → Type 0 = λ q. i ≤ length q.acts → point q i ≤ 0 + machine.window in
+      subst P (sym (only_one (first_plan machine job acts) p in_plans))
+      (λ h. let b = least_between machine (machine.lead + 1) acts i h in omega (arith, b.1, r.total, in_time)) within);
 }
 
 -- no alternative ends sooner
@@ -167,10 +167,10 @@ unfolding answers
 earliest machine rules free job trip acts r soonest in_time = record {
   alternative = answers machine rules free job trip acts r in_time;
   first = λ plans a.
-    (let t = trip_of_answer machine job plans a in
-    let s = soonest t.trip t.between in
-    let e = least_last machine (machine.lead + 1) acts in
-    omega (arith, t.ends, s, e, r.total));
+      (let t = trip_of_answer machine job plans a in
+      let s = soonest t.trip t.between in
+      let e = least_last machine (machine.lead + 1) acts in
+      omega (arith, t.ends, s, e, r.total));
 }
 
 same_sheet : (sheet : _) → is_same_copy sheet sheet ≡ true

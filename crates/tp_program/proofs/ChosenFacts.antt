@@ -26,7 +26,7 @@ soonest_is machine rules job there table goal is rows feeders o rows_are feeders
     let P : State → Type 0 = λ g. AreRows machine.actions job.sheet (8 * length machine.locations) g 65 (map (λ row. row.items) table.rows.items) in
     let Q : Option Trip → Type 0 = λ t. IsSoonest machine job t in
     let same = e ∙ ap (λ rs. soonest (map (λ row. row.items) rs) 64 feeders job.sheet.media) rows_are
-      ∙ ap (λ fs. soonest (map (λ row. row.items) table.rows.items) 64 fs job.sheet.media) feeders_are in
+    ∙ ap (λ fs. soonest (map (λ row. row.items) table.rows.items) 64 fs job.sheet.media) feeders_are in
     subst Q (sym same) (soonest_least machine rules job.sheet (goal_of job) there (map (λ row. row.items) table.rows.items) 64 refl (subst P goal is))
 
 entry_is : (P : ℕ → Type 0) (o : Option ℕ) (n : ℕ) → IsLeastOf itself P o → P n → ((m : ℕ) → P m → n ≤ m) → o ≡ Some n
@@ -39,7 +39,7 @@ trip_there machine rules job there table goal is trip best =
     let row = λ (g : State). row_of machine.actions job.sheet (8 * length machine.locations) g trip.count in
     let P = λ (sum : ℕ). HasWay machine job.sheet (goal_of job) trip.count trip.from sum in
     let here = entry_is P (entry (row (goal_of job)) trip.from) trip.sum
-      (row_least machine rules job.sheet (goal_of job) there trip.count best.0.few trip.from) best.0.way
-      (λ m way. best.1 (record { from = trip.from; count = trip.count; sum = m }) (record { starts = best.0.starts; some = best.0.some; few = best.0.few; way = way })) in
+    (row_least machine rules job.sheet (goal_of job) there trip.count best.0.few trip.from) best.0.way
+    (λ m way. best.1 (record { from = trip.from; count = trip.count; sum = m }) (record { starts = best.0.starts; some = best.0.some; few = best.0.few; way = way })) in
     let few = best.0.few in
     record { count = 65; table_is = is; within = omega arith; here = ap (λ g. entry (row g) trip.from) goal ∙ here }

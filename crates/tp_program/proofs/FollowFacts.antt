@@ -120,6 +120,7 @@ Continues-end machine sheet size goal start s whole sum count acts none here h =
     let P : ℕ → Type 0 = λ n. entry (row_of machine.actions sheet size goal n) s ≡ Some sum in
     let (same, nothing) = entry-first machine.actions sheet size goal s sum (subst P zero_is here) in
     let leads : walk machine sheet (acts ++ []) start ≡ Some goal = h.leads [] (ap Some same) in
-    let total = h.total [] in
-    (ap (λ list. walk machine sheet list start) (sym (append-nil acts)) ∙ leads,
-    ap (least_sum machine) (sym (append-nil acts)) ∙ omega (arith, total, nothing))
+    let total = h.total [] in (
+      ap (λ list. walk machine sheet list start) (sym (append-nil acts)) ∙ leads,
+      ap (least_sum machine) (sym (append-nil acts)) ∙ omega (arith, total, nothing),
+    )

@@ -30,7 +30,7 @@ fold_from : {A X : Type 0} (f : X → ℕ) (g : A → Option X) (best : Option X
 fold_from f g best [] x e = inl e
 fold_from f g best (a ∷ xs) x e =
     elim (fold_from f g (lesser f best (g a)) xs x e) [
-      inl h ↦ elim (lesser_from f best (g a) x h) [ inl b ↦ inl b | inr n ↦ inr (among_first (λ a y. g a ≡ Some y) a xs x n) ]
+      | inl h ↦ elim (lesser_from f best (g a) x h) [ inl b ↦ inl b | inr n ↦ inr (among_first (λ a y. g a ≡ Some y) a xs x n) ]
       | inr m ↦ inr (among_later (λ a y. g a ≡ Some y) a xs x m)
     ]
 
@@ -97,15 +97,16 @@ pub record IsLeg (machine : Machine) (sheet : Sheet) (row : List (Option ℕ)) (
 leg_found : (machine : Machine) (sheet : Sheet) (row : List (Option ℕ)) (s : State) (sum at : ℕ) (a : Action) → slice_get machine.actions at ≡ Some a → LeadsBy sheet row s a sum
     → (leg : Leg) × (leg_at machine.actions sheet row s at ≡ Some leg) × IsLeg machine sheet row s sum leg
 leg_found machine sheet row s sum at a here by =
-    let leg : Leg = record { act = record { 0 = at }; next = by.next; rest = by.rest } in
-    (leg,
-    ap (λ o. option_and_then (λ a. option_and_then (leg_by row at) (step_of a sheet s)) o) here ∙ ap (option_and_then (leg_by row at)) by.steps
-    ∙ ap (option_map (λ rest. record { act = record { 0 = at }; next = by.next; rest = rest })) by.entry_is,
-    record {
-      steps = ap (option_and_then (λ a. step_of a sheet s)) here ∙ by.steps;
-      entry_is = by.entry_is;
-      total = by.total ∙ sym (ap (λ o. least_in o + by.rest) here);
-    })
+    let leg : Leg = record { act = record { 0 = at }; next = by.next; rest = by.rest } in (
+      leg,
+      ap (λ o. option_and_then (λ a. option_and_then (leg_by row at) (step_of a sheet s)) o) here ∙ ap (option_and_then (leg_by row at)) by.steps
+          ∙ ap (option_map (λ rest. record { act = record { 0 = at }; next = by.next; rest = rest })) by.entry_is,
+      record {
+        steps = ap (option_and_then (λ a. step_of a sheet s)) here ∙ by.steps;
+        entry_is = by.entry_is;
+        total = by.total ∙ sym (ap (λ o. least_in o + by.rest) here);
+      },
+    )
 
 by_place : (machine : Machine) (sheet : Sheet) (row : List (Option ℕ)) (s : State) (sum : ℕ) (o : Option ℕ) → least_from machine.actions sheet row s ≡ Some sum
     → position (λ a. has_sum (least_by sheet row s a) sum) machine.actions ≡ o

@@ -36,13 +36,14 @@ by_rest machine sheet goal s next k a None steps fits h = λ sum by.
     h by.rest (subst P e by.way)
 by_rest machine sheet goal s next k a (Some rest) steps fits h =
     let P = λ (o : Option ℕ). IsLeastOf itself (ByAction machine sheet goal k s a) o in
-    subst P (sym (within_sum (a.least + rest) (nat_lt (a.least + rest) (2 ^ 32)) refl (fits rest h.0)))
-    (record { next = next; steps = steps; rest = rest; way = h.0; total = refl },
-    λ sum by.
-    let e : by.next ≡ next = cc (by.steps) in
-    let Q : State → Type 0 = λ t. HasWay machine sheet goal k t by.rest in
-    let m = h.1 by.rest (subst Q e by.way) in
-    omega (arith, m, by.total))
+    subst P (sym (within_sum (a.least + rest) (nat_lt (a.least + rest) (2 ^ 32)) refl (fits rest h.0))) (
+      record { next = next; steps = steps; rest = rest; way = h.0; total = refl },
+      λ sum by.
+          let e : by.next ≡ next = cc (by.steps) in
+          let Q : State → Type 0 = λ t. HasWay machine sheet goal k t by.rest in
+          let m = h.1 by.rest (subst Q e by.way) in
+          omega (arith, m, by.total),
+    )
 
 by_step : (machine : Machine) (sheet : Sheet) (goal s : State) (k : ℕ) (a : Action) (row : List (Option ℕ)) (o : Option State) → step_of a sheet s ≡ o
     → ((next : State) (rest : ℕ) → HasWay machine sheet goal k next rest → a.least + rest < 2 ^ 32)
@@ -93,11 +94,11 @@ row_first machine sheet goal there s =
     let n = length machine.locations in
     let P : Option ℕ → Type 0 = IsLeastOf itself (HasWay machine sheet goal 0 s) in
     elim (below_or_past s.loc.0 n) [
-      inl h ↦ subst P (sym (entry-within (first_entry goal) (8 * n) s (index_within s n h))) (first_by machine sheet goal s (nat_eq (index_of s) (index_of goal)) refl)
+      | inl h ↦ subst P (sym (entry-within (first_entry goal) (8 * n) s (index_within s n h))) (first_by machine sheet goal s (nat_eq (index_of s) (index_of goal)) refl)
       | inr h ↦ subst P (sym (entry-past (first_entry goal) (8 * n) s (index_past s n h)))
-        (λ sum way.
-        let same : s.loc.0 ≡ goal.loc.0 = ap (λ t. t.loc.0) (no_action machine sheet goal s way.acts sum way.counted way.leads) in
-        absurd (omega arith))
+          (λ sum way.
+          let same : s.loc.0 ≡ goal.loc.0 = ap (λ t. t.loc.0) (no_action machine sheet goal s way.acts sum way.counted way.leads) in
+          absurd (omega arith))
     ]
 
 from_place : (a : Action) (sheet : Sheet) (s next : State) (b : Bool) → can_step a sheet s ≡ b → cond b (Some (after a s)) None ≡ Some next → s.loc.0 ≡ a.from.0
@@ -118,13 +119,13 @@ row_next machine rules sheet goal k row few long h s =
     let f : ℕ → Option ℕ = λ place. least_from machine.actions sheet row (state_of place) in
     let P : Option ℕ → Type 0 = IsLeastOf itself (HasWay machine sheet goal (suc k) s) in
     elim (below_or_past s.loc.0 n) [
-      inl b ↦ subst P (sym (entry-within f (length row) s (omega (arith, index_within s n b, long))))
-        (subst P (sym (ap (least_from machine.actions sheet row) (state_of-index_of s))) (from_row machine rules sheet goal s k row few h))
+      | inl b ↦ subst P (sym (entry-within f (length row) s (omega (arith, index_within s n b, long))))
+          (subst P (sym (ap (least_from machine.actions sheet row) (state_of-index_of s))) (from_row machine rules sheet goal s k row few h))
       | inr b ↦ subst P (sym (entry-past f (length row) s (omega (arith, index_past s n b, long))))
-        (λ sum way.
-        let among = way_split machine sheet goal s k sum way in
-        let from = step_from machine rules sheet s among.has.next among.at among.item among.here among.has.steps in
-        absurd (omega (arith, from)))
+          (λ sum way.
+          let among = way_split machine sheet goal s k sum way in
+          let from = step_from machine rules sheet s among.has.next among.at among.item among.here among.has.steps in
+          absurd (omega (arith, from)))
     ]
 
 -- each row of the table has the least sums of the ways of its number of actions

@@ -63,7 +63,7 @@ way_join machine sheet goal s k sum h =
       acts = record { 0 = h.at } ∷ b.way.acts;
       counted = ap suc b.way.counted;
       leads = ap (λ o. option_and_then (walk machine sheet b.way.acts) (option_and_then (λ a. step_of a sheet s) o)) h.here
-      ∙ ap (option_and_then (walk machine sheet b.way.acts)) b.steps ∙ b.way.leads;
+          ∙ ap (option_and_then (walk machine sheet b.way.acts)) b.steps ∙ b.way.leads;
       total = ap (λ o. least_in o + least_sum machine b.way.acts) h.here ∙ ap (λ n. h.item.least + n) b.way.total ∙ sym b.total;
     }
 

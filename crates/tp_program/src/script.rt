@@ -61,13 +61,7 @@ fn job_in(machine: &Machine, event: &Event) -> Option<Job>
     }
 }
 
-fn one_job(
-    machine: &Machine,
-    name: Name,
-    tray: Name,
-    media: Name,
-    group: Group,
-) -> Option<Job>
+fn one_job(machine: &Machine, name: Name, tray: Name, media: Name, group: Group) -> Option<Job>
     ensures { result ≡ one_job machine.now name tray media group }
 {
     if group.count != 1 {

@@ -25,8 +25,12 @@ returns-in-Err-TooLong-read_all-clause-not_built g c = λ _.
     let named = sym c.run_arg.ensures ∙ ap (option_map (λ n. n.now)) c.in-Some.is in
     let free = sym c.has_hold.ensures ∙ c.if-has_hold.false in
     of_text _ _ _ c.in-Ok.text.items c.in-Some.name.now named c.in-Ok.ensures.bytes c.in-Ok.ensures.fits
-    (inr (record { machine = c.in-Ok-read_machine.machine; is_text = is_text; free = free;
-      off_form = long_off c.in-Ok-read_machine.machine _ _ (c.in-Err-TooLong-read_all.ensures.too_long (ap Err c.in-Err-TooLong-read_all.field-0-is)) })))
+    (inr (record {
+      machine = c.in-Ok-read_machine.machine;
+      is_text = is_text;
+      free = free;
+      off_form = long_off c.in-Ok-read_machine.machine _ _ (c.in-Err-TooLong-read_all.ensures.too_long (ap Err c.in-Err-TooLong-read_all.field-0-is));
+    })))
 
 pub returns-in-Ok-None-clause-not_built : goal.returns-in-Ok-None-clause-not_built
 returns-in-Ok-None-clause-not_built g c = λ _.
@@ -34,9 +38,13 @@ returns-in-Ok-None-clause-not_built g c = λ _.
     let named = sym c.run_arg.ensures ∙ ap (option_map (λ n. n.now)) c.in-Some.is in
     let free = sym c.has_hold.ensures ∙ c.if-has_hold.false in
     of_text _ _ _ c.in-Ok.text.items c.in-Some.name.now named c.in-Ok.ensures.bytes c.in-Ok.ensures.fits
-    (inr (record { machine = c.in-Ok-read_machine.machine; is_text = is_text; free = free;
+    (inr (record {
+      machine = c.in-Ok-read_machine.machine;
+      is_text = is_text;
+      free = free;
       off_form = off_left c.in-Ok-read_machine.machine _ c.in-Ok-read_all.script.items c.in-Ok-read_all.ensures.bytes
-        (rw (← c.deref-2.ensures.value) (rw c.in-Ok-None.field-0-is at c.in-Ok-None.ensures.off_form)) })))
+          (rw (← c.deref-2.ensures.value) (rw c.in-Ok-None.field-0-is at c.in-Ok-None.ensures.off_form));
+    })))
 
 pub returns-in-Ok-write_all-clause-done : goal.returns-in-Ok-write_all-clause-done
 returns-in-Ok-write_all-clause-done g c = λ _.
@@ -44,10 +52,16 @@ returns-in-Ok-write_all-clause-done g c = λ _.
     let named = sym c.run_arg.ensures ∙ ap (option_map (λ n. n.now)) c.in-Some.is in
     let free = sym c.has_hold.ensures ∙ c.if-has_hold.false in
     of_text _ _ _ c.in-Ok.text.items c.in-Some.name.now named c.in-Ok.ensures.bytes c.in-Ok.ensures.fits
-    (record { machine = c.in-Ok-read_machine.machine; is_text = is_text; free = free; script = c.in-Ok-read_all.script.items; is_script = c.in-Ok-read_all.ensures.bytes;
+    (record {
+      machine = c.in-Ok-read_machine.machine;
+      is_text = is_text;
+      free = free;
+      script = c.in-Ok-read_all.script.items;
+      is_script = c.in-Ok-read_all.ensures.bytes;
       output = c.in-Ok-Some.text.items;
       is_output = rw (← c.deref-2.ensures.value) (rw c.in-Ok-Some.field-0-is at c.in-Ok-Some.ensures.off_form);
-      has = rw (← c.deref-3.ensures.value) c.in-Ok-write_all.ensures.whole }))
+      has = rw (← c.deref-3.ensures.value) c.in-Ok-write_all.ensures.whole;
+    }))
 
 pub returns-clause-part : goal.returns-clause-part
 returns-clause-part g c = λ _.
@@ -55,8 +69,13 @@ returns-clause-part g c = λ _.
     let named = sym c.run_arg.ensures ∙ ap (option_map (λ n. n.now)) c.in-Some.is in
     let free = sym c.has_hold.ensures ∙ c.if-has_hold.false in
     of_text _ _ _ c.in-Ok.text.items c.in-Some.name.now named c.in-Ok.ensures.bytes c.in-Ok.ensures.fits
-    (record { machine = c.in-Ok-read_machine.machine; is_text = is_text; free = free; script = c.in-Ok-read_all.script.items; is_script = c.in-Ok-read_all.ensures.bytes;
+    (record {
+      machine = c.in-Ok-read_machine.machine;
+      is_text = is_text;
+      free = free;
+      script = c.in-Ok-read_all.script.items;
+      is_script = c.in-Ok-read_all.ensures.bytes;
       output = c.in-Ok-Some.text.items;
       is_output = rw (← c.deref-2.ensures.value) (rw c.in-Ok-Some.field-0-is at c.in-Ok-Some.ensures.off_form);
-      has = rw (← c.deref-3.ensures.value) c.in-Err-write_all.ensures.part }))
-
+      has = rw (← c.deref-3.ensures.value) c.in-Err-write_all.ensures.part;
+    }))

@@ -19,7 +19,7 @@ pub rows-preserved : goal.rows-preserved
 rows-preserved c = record {
   rows = rw (c.in_ok-push.ensures.items, map-append) (AreRows-more _ _ _ _ c.rows._count _ _ c.rows.invariant.rows c.rows.invariant.row);
   row = c.in_ok-next.ensures ∙ ap (next_row c.args.machine.now.actions c.args.sheet.now) (c.deref.ensures.value ∙ c.rows.invariant.row)
-    ∙ sym (row_of-next _ _ _ _ c.rows._count) ∙ ap (row_of c.args.machine.now.actions c.args.sheet.now (8 * length c.args.machine.now.locations) c.args.goal) (sym (add-one c.rows._count));
+      ∙ sym (row_of-next _ _ _ _ c.rows._count) ∙ ap (row_of c.args.machine.now.actions c.args.sheet.now (8 * length c.args.machine.now.locations) c.args.goal) (sym (add-one c.rows._count));
 }
 
 pub returns : goal.returns
