@@ -1,0 +1,5 @@
+//! Worked rows of the product: a crate of tests alone.
+#![tactic(auto)]
+
+#[cfg(test)]
+mod first;

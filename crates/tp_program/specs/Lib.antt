@@ -1,0 +1,9 @@
+pub mod Tables
+pub mod Trips
+pub mod Ways
+pub mod Firsts
+pub mod Scripts
+pub mod Outputs
+pub mod Words
+pub mod Statuses
+pub mod Causes
