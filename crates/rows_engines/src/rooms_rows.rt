@@ -1,9 +1,10 @@
 // Rooms on the machines of the rows: how soon a sheet can be where it is.
-ghost use Rattle.std.specs.Prelude.{◌≡◌};
+ghost use Rattle.std.specs.Prelude.{◌≡◌, ◌<◌, IfOk, length};
 ghost use Rattle.tp_routes.specs.Tables.{IsMadeFor};
 
 use rows_machine::machines::{DUO, LOOP};
 use std::alloc::Global;
+use std::process::Abort;
 use std::test::Fail;
 use tp_base::Name;
 use tp_machine::{Face, LocId, Machine, Outs, Sheet, State, Want};
@@ -22,17 +23,28 @@ fn name_of(text: &[u8]) -> Result<Name, Fail> {
     Ok(Name::read(text).ok_or("no name")?)
 }
 
-/// The ask for a sheet with these prints on plain media.
-fn ask_for(back: Want, origin: Origin, outs: u64) -> Result<Ask, Fail> {
-    Ok(Ask {
+fn rooms_for(alloc: Global, machine: &Machine) -> Result<Rooms, Fail>
+    ensures { IfOk result (λ rooms. IsMadeFor rooms machine.now) }
+{
+    match Rooms::new(alloc, machine) {
+        Ok(rooms) => Ok(rooms),
+        Err(_) => Err(Fail::from("memory")),
+    }
+}
+
+/// The ask for a sheet with mono on its front, this on its back, and plain media.
+fn ask_for(name: Name, media: Name, back: Want, origin: Origin, outs: u64) -> Ask
+    ensures { result.origin ≡ origin }
+{
+    Ask {
         sheet: SheetId {
             job: 0,
             number: 1,
             copy: 1,
         },
-        name: name_of(b"j1")?,
+        name,
         want: Sheet {
-            media: name_of(b"plain")?,
+            media,
             front: Want::Mono,
             back,
             face: Face::Front,
@@ -41,7 +53,36 @@ fn ask_for(back: Want, origin: Origin, outs: u64) -> Result<Ask, Fail> {
         origin,
         outs: Outs(outs),
         now: 0,
-    })
+    }
+}
+
+/// The rooms for a new copy.
+fn fill_new(rooms: &mut Rooms, machine: &Machine, back: Want, outs: u64) -> Result<(), Fail>
+    requires { IsMadeFor rooms.old machine.now }
+    ensures { IsMadeFor rooms.new machine.now }
+{
+    let (name, media) = (name_of(b"j1")?, name_of(b"plain")?);
+    let ask = ask_for(name, media, back, Origin::Feeder, outs);
+    rooms.fill(machine, &ask);
+    Ok(())
+}
+
+/// The rooms for a copy whose front ends at location b with its front done.
+fn fill_in_flight(rooms: &mut Rooms, machine: &Machine) -> Result<(), Fail>
+    requires made { IsMadeFor rooms.old machine.now }
+    requires known { 2 < length machine.now.locations }
+    ensures { IsMadeFor rooms.new machine.now }
+{
+    let (name, media) = (name_of(b"j1")?, name_of(b"plain")?);
+    let state = state_at(2, true, false);
+    let origin = Origin::Front {
+        state,
+        end: 11,
+        kept: 2,
+    };
+    let ask = ask_for(name, media, Want::Blank, origin, 0);
+    rooms.fill(machine, &ask);
+    Ok(())
 }
 
 /// The state at a location, front up, with these sides done.
@@ -65,39 +106,46 @@ fn room_of(rooms: &Rooms, machine: &Machine, state: State) -> Result<Option<u32>
     Ok(rooms.room(state))
 }
 
-#[test]
-fn new_copies(rt: HostRuntime) -> Result<(), Fail> {
-    room_law();
-    let machine = machine_of(rt.alloc(), DUO)?;
-    let mut rooms = Rooms::new(rt.alloc(), &machine).ok().ok_or("memory")?;
-    let rows = [
-        (0u64, [Some(0), Some(2), Some(8), Some(11), Some(11)]),
-        (1 << 2, [Some(0), Some(2), Some(11), Some(14), Some(14)]),
-        (1 << 3, [Some(0), Some(2), Some(8), None, Some(11)]),
-    ];
-    for (outs, wanted) in rows {
-        rooms.fill(&machine, &ask_for(Want::Blank, Origin::Feeder, outs)?);
-        for (loc, room) in [0u16, 1, 2, 3, 4].into_iter().zip(wanted) {
-            let given = room_of(&rooms, &machine, state_at(loc, loc > 1, false))?;
-            assert_eq!(rt; given, room, "location {loc} with {outs} out");
-        }
+/// The rooms of a new copy's states from location to location, where these modules are out.
+fn look_at(
+    rt: &impl Abort,
+    rooms: &mut Rooms,
+    machine: &Machine,
+    outs: u64,
+    wanted: [Option<u32>; 5],
+) -> Result<(), Fail>
+    requires { IsMadeFor rooms.old machine.now }
+    ensures { IsMadeFor rooms.new machine.now }
+{
+    fill_new(rooms, machine, Want::Blank, outs)?;
+    for (loc, room) in [0u16, 1, 2, 3, 4].into_iter().zip(wanted) {
+        let given = room_of(rooms, machine, state_at(loc, loc > 1, false))?;
+        assert_eq!(rt; given, room, "location {loc} with {outs} out");
     }
     Ok(())
 }
 
 #[test]
+fn new_copies(rt: HostRuntime) -> Result<(), Fail> {
+    room_law();
+    let machine = machine_of(rt.alloc(), DUO)?;
+    let mut rooms = rooms_for(rt.alloc(), &machine)?;
+    let all = [Some(0), Some(2), Some(8), Some(11), Some(11)];
+    look_at(&rt, &mut rooms, &machine, 0, all)?;
+    let without_engine = [Some(0), Some(2), Some(11), Some(14), Some(14)];
+    look_at(&rt, &mut rooms, &machine, 1 << 2, without_engine)?;
+    let without_out = [Some(0), Some(2), Some(8), None, Some(11)];
+    look_at(&rt, &mut rooms, &machine, 1 << 3, without_out)
+}
+
+#[test]
 fn copy_in_flight(rt: HostRuntime) -> Result<(), Fail> {
     let machine = machine_of(rt.alloc(), DUO)?;
-    let mut rooms = Rooms::new(rt.alloc(), &machine).ok().ok_or("memory")?;
+    let mut rooms = rooms_for(rt.alloc(), &machine)?;
     if machine.locations.len() < 5 {
         return Err(Fail::from("a location is lost"));
     }
-    let origin = Origin::Front {
-        state: state_at(2, true, false),
-        end: 11,
-        kept: 2,
-    };
-    rooms.fill(&machine, &ask_for(Want::Blank, origin, 0)?);
+    fill_in_flight(&mut rooms, &machine)?;
     for (loc, room) in [(1, None), (2, Some(0)), (3, Some(3))] {
         let given = room_of(&rooms, &machine, state_at(loc, loc > 1, false))?;
         assert_eq!(rt; given, room, "location {loc}");
@@ -108,8 +156,8 @@ fn copy_in_flight(rt: HostRuntime) -> Result<(), Fail> {
 #[test]
 fn both_sides(rt: HostRuntime) -> Result<(), Fail> {
     let machine = machine_of(rt.alloc(), LOOP)?;
-    let mut rooms = Rooms::new(rt.alloc(), &machine).ok().ok_or("memory")?;
-    rooms.fill(&machine, &ask_for(Want::Mono, Origin::Feeder, 0)?);
+    let mut rooms = rooms_for(rt.alloc(), &machine)?;
+    fill_new(&mut rooms, &machine, Want::Mono, 0)?;
     let given = room_of(&rooms, &machine, state_at(2, true, true))?;
     // Feed, print, print and out: room looks at durations alone, not at the resource that both
     // prints hold.
