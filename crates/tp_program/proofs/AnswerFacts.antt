@@ -173,9 +173,6 @@ earliest machine rules free job trip acts r soonest in_time = record {
       omega (arith, t.ends, s, e, r.total));
 }
 
-same_sheet : (sheet : _) → is_same_copy sheet sheet ≡ true
-same_sheet sheet = grind (arith, nat_tests)
-
 no_unmoved : (p : Plan) (plans : List Plan) (q : Plan) → map unmoved (p ∷ plans) ≡ map unmoved (q ∷ []) → (unmoved p ≡ unmoved q) × (plans ≡ [])
 no_unmoved p [] q e = (cc, refl)
 no_unmoved p (x ∷ plans) q e = cc

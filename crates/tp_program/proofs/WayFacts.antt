@@ -80,7 +80,3 @@ sum_bound machine rules (act ∷ acts) =
 
 pub way_bound : (machine : Machine) → IsMachine machine → (sheet : Sheet) (goal s : State) (k sum : ℕ) → HasWay machine sheet goal k s sum → sum ≤ 4096 * k
 way_bound machine rules sheet goal s k sum h = let b = sum_bound machine rules h.acts in omega (arith, h.counted, h.total)
-
-within_sum : (n : ℕ) (b : Bool) → nat_lt n (2 ^ 32) ≡ b → n < 2 ^ 32 → cond b (Some n) None ≡ Some n
-within_sum n true e h = refl
-within_sum n false e h = absurd (grind (arith, nat_tests))
