@@ -84,8 +84,7 @@ type Row = (u32, &'static str, &'static [u8], Status, &'static [u8]);
 #[test]
 fn plans_and_refusals(rt: HostRuntime) -> Result<(), Fail> {
     let job: &[u8] = b"job j1 t plain M-:F\n";
-    let planned: &[u8] =
-        b"> job j1 t plain M-:F\nplan j1.1.1 t 3 feed 5 print2 11 out 14\n";
+    let planned: &[u8] = b"> job j1 t plain M-:F\nplan j1.1.1 t 3 feed 5 print2 11 out 14\n";
     let rows: [Row; 14] = [
         (200, DUO, job, Status::Done, planned),
         (14, DUO, job, Status::Done, planned),
@@ -115,7 +114,7 @@ fn plans_and_refusals(rt: HostRuntime) -> Result<(), Fail> {
             LOOP,
             b"job j1 t plain MM:F\n",
             Status::Done,
-            b"> job j1 t plain MM:F\nplan j1.1.1 t 3 feed 5 print 7 turn 11 print 13 out 16\n",
+            b"> job j1 t plain MM:F\nplan j1.1.1 t 3 feed 5 print 7 print 9 out 12\n",
         ),
         (200, DUO, b"", Status::NotBuilt, b""),
         (200, DUO, b"job j1 t plain M-:F", Status::NotBuilt, b""),
@@ -164,11 +163,7 @@ fn faults_of_the_outside(rt: HostRuntime) -> Result<(), Fail> {
             b"",
         ),
         (Failing { sink: &[1], ..NONE }, Status::Sink, b""),
-        (
-            Failing { sink: &[5], ..NONE },
-            Status::Sink,
-            b"> jo",
-        ),
+        (Failing { sink: &[5], ..NONE }, Status::Sink, b"> jo"),
     ];
     for (failing, status, wanted) in rows {
         let (given, taken) = run(alloc, text.as_bytes(), job, failing)?;
