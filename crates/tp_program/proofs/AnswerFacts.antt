@@ -1,34 +1,30 @@
 -- The plan of the soonest trip is the earliest answer, and no point of it could be earlier.
-use Rattle.std.proofs.Common.{◌≡◌, ◌≢◌, ℕ, zero, suc, ◌+◌, ◌-◌, ◌*◌, ◌<◌, ◌≤◌, Bool, true, false, cond, not, List, [], ◌∷◌, ◌++◌, length, map, filter, slice_get, get_or, Option, Some, None, All, AllPairs, IsTrue, IsFalse, refl, sym, ap, subst, ◌∙◌, arith, add-one}
+use Rattle.std.proofs.Common.{◌≡◌, ◌≢◌, ℕ, zero, suc, ◌+◌, ◌<◌, ◌≤◌, Bool, true, false, cond, not, List, [], ◌∷◌, length, map, filter, slice_get, get_or, Option, Some, None, All, refl, sym, ap, subst, ◌∙◌, arith, add-one}
 use Rattle.std.specs.Prelude.{slice_index, Contains, IsSomeAnd, nat_lt, unwrap_or, option_map, ◌&&◌, ◌==◌}
-use Rattle.std.proofs.lemmas.Bool.Decides.{nat_tests}
 use Rattle.std.proofs.lemmas.Nat.Bits.{bit_at-zero}
-use Rattle.std.specs.List.{list_any, list_all}
-use Rattle.std.specs.Int.{bit_at}
-use Rattle.std.proofs.lemmas.List.Elements.{All-cons, All-nil, All-head}
+use Rattle.std.specs.List.{list_all}
+use Rattle.std.proofs.lemmas.List.Elements.{All-cons, All-nil}
 use Rattle.std.proofs.lemmas.Option.{slice_get-get_or}
 use Rattle.tp_machine.specs.Machines.{IsMachine}
 use Rattle.tp_machine.specs.Using.{action_at, is_allowed, is_out, is_held_out}
 use Rattle.tp_machine.specs.declared.parts.ActId.{ActId}
 use Rattle.tp_machine.specs.declared.parts.Action.{Action}
 use Rattle.tp_machine.specs.declared.parts.HoldRule.{HoldRule}
-use Rattle.tp_machine.specs.declared.parts.State.{State}
 use Rattle.tp_machine.specs.declared.whole.Machine.{Machine}
-use Rattle.tp_schedule.specs.Routes.{walk, least_in, least_of, least_sum, finished, IsFreshStart, is_act_allowed, AreAllowed}
-use Rattle.tp_schedule.specs.Plans.{IsTimedPlan, LastsWithin, IsEarlier, point, end_of_plan, plan_of, is_same_copy}
-use Rattle.tp_schedule.specs.Holding.{held, holds_of_act}
-use Rattle.tp_schedule.specs.Legality.{IsLegal, EndsBefore}
-use Rattle.tp_schedule.specs.Spots.{slot_order, ticks_of, point_in}
+use Rattle.tp_schedule.specs.Routes.{walk, least_in, least_of, least_sum, finished, is_act_allowed, AreAllowed}
+use Rattle.tp_schedule.specs.Plans.{IsTimedPlan, LastsWithin, point, plan_of, is_same_copy}
+use Rattle.tp_schedule.specs.Holding.{holds_of_act}
+use Rattle.tp_schedule.specs.Legality.{IsLegal}
+use Rattle.tp_schedule.specs.Spots.{ticks_of, point_in}
 use Rattle.tp_schedule.specs.Spots.Spot.{kept}
-use Rattle.tp_schedule.specs.Answers.{IsAlternative, IsEarliest, IsRetimed, IsLeast, KeepsFloors, KeepsHorizon, follows_front, unmoved, is_new}
+use Rattle.tp_schedule.specs.Answers.{IsAlternative, IsEarliest, IsRetimed, IsLeast, KeepsFloors, follows_front, unmoved, is_new}
 use Rattle.tp_schedule.specs.declared.parts.Plan.{Plan}
-use Rattle.tp_program.specs.Firsts.{has_hold, first_ask, first_plan, least_points, IsAnswered}
-use Rattle.tp_program.specs.Ways.{IsLeastOf}
+use Rattle.tp_program.specs.Firsts.{has_hold, first_ask, first_plan, least_points}
 use Rattle.tp_program.specs.declared.job.Job.{Job}
 use Rattle.tp_program.specs.declared.route.Trip.{Trip}
 use Rattle.tp_program.proofs.FreeFacts.{no_holds, nothing_held, no_order, known_act}
-use Rattle.tp_program.proofs.PointFacts.{length-least_points, least_first, least_step, least_last, least_between, get_at}
-use Rattle.tp_program.proofs.TripFacts.{sum_of, IsTripBetween}
+use Rattle.tp_program.proofs.PointFacts.{length-least_points, least_step, least_last, least_between, get_at}
+use Rattle.tp_program.proofs.TripFacts.{IsTripBetween}
 use Rattle.tp_program.proofs.BoundFacts.{floors_all, timed_below, bounded, trip_of_answer}
 
 -- a route of the first copy in time

@@ -1,19 +1,15 @@
 -- An alternative on the empty schedule ends no sooner than its route's least points, and so gives a trip within the horizon.
-use Rattle.std.proofs.Common.{◌≡◌, ◌≢◌, ℕ, zero, suc, ◌+◌, ◌-◌, ◌*◌, ◌<◌, ◌≤◌, Bool, true, false, cond, List, [], ◌∷◌, ◌++◌, length, map, slice_get, Option, Some, None, All, AllPairs, IsTrue, IsFalse, refl, sym, ap, subst, ◌∙◌, arith}
+use Rattle.std.proofs.Common.{◌≡◌, ◌≢◌, ℕ, ◌+◌, ◌≤◌, Bool, true, false, List, [], ◌∷◌, length, Some, All, refl, ap, subst, ◌∙◌, arith}
 use Rattle.std.specs.Prelude.{slice_index, Contains, ◌&&◌, ◌||◌, nat_lt, nat_le}
 use Rattle.std.proofs.lemmas.List.Elements.{All-head}
-use Rattle.tp_machine.specs.Machines.{IsMachine}
-use Rattle.tp_machine.specs.declared.parts.ActId.{ActId}
 use Rattle.tp_machine.specs.declared.parts.State.{State}
 use Rattle.tp_machine.specs.declared.whole.Machine.{Machine}
-use Rattle.tp_schedule.specs.Routes.{walk, least_sum, finished, IsRoute}
+use Rattle.tp_schedule.specs.Routes.{walk, least_sum, finished}
 use Rattle.tp_schedule.specs.Plans.{is_same_copy, is_front, is_fixed, IsTimedPlan, point, end_of_plan}
-use Rattle.tp_schedule.specs.Legality.{IsLegal}
 use Rattle.tp_schedule.specs.Answers.{IsAlternative, KeepsFloors, KeepsHorizon, follows_front}
 use Rattle.tp_schedule.specs.declared.parts.Kind.TheVariants.{Whole}
 use Rattle.tp_schedule.specs.declared.parts.Plan.{Plan}
 use Rattle.tp_program.specs.Firsts.{first_ask, least_points}
-use Rattle.tp_program.specs.Ways.{HasWay}
 use Rattle.tp_program.specs.declared.job.Job.{Job}
 use Rattle.tp_program.specs.declared.route.Trip.{Trip}
 use Rattle.tp_program.proofs.AloneFacts.{alone}

@@ -1,5 +1,5 @@
 -- The soonest trip of the table, as the planner uses it.
-use Rattle.std.proofs.Common.{◌≡◌, ℕ, ◌+◌, ◌*◌, ◌<◌, ◌≤◌, List, length, map, Option, Some, None, refl, sym, ap, subst, ◌∙◌, arith}
+use Rattle.std.proofs.Common.{◌≡◌, ℕ, ◌*◌, ◌<◌, ◌≤◌, List, length, map, Option, Some, None, refl, sym, ap, subst, ◌∙◌, arith}
 use Rattle.tp_machine.specs.Machines.{IsMachine}
 use Rattle.tp_machine.specs.declared.parts.Feeder.{Feeder}
 use Rattle.tp_machine.specs.declared.parts.State.{State}

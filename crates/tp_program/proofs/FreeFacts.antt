@@ -1,22 +1,19 @@
 -- On a machine without holds nothing is held, and every action that the machine has is allowed.
-use Rattle.std.proofs.Common.{◌≡◌, ◌≢◌, ℕ, zero, suc, ◌+◌, ◌<◌, ◌≤◌, Bool, true, false, cond, not, ◌&&◌, ◌||◌, List, [], ◌∷◌, ◌++◌, length, map, filter, Option, Some, None, IsTrue, slice_get, refl, sym, ap, subst, ◌∙◌, arith}
-use Rattle.std.specs.Prelude.{nat_eq, nat_lt, option_and_then, option_map, unwrap_or, Contains, flat_map, slice_index_or}
-use Rattle.std.specs.List.{list_any, list_all}
-use Rattle.std.specs.Int.{bit_at}
+use Rattle.std.proofs.Common.{◌≡◌, ℕ, zero, suc, Bool, false, cond, List, [], ◌∷◌, ◌++◌, length, map, filter, Option, Some, None, slice_get, refl, sym, ap, ◌∙◌, arith}
+use Rattle.std.specs.Prelude.{nat_lt, option_and_then}
+use Rattle.std.specs.List.{list_any}
 use Rattle.std.proofs.lemmas.Bool.Decides.{nat_tests}
-use Rattle.std.proofs.lemmas.Option.{slice_get-get_or}
 use Rattle.tp_machine.specs.Steps.{step_of}
-use Rattle.tp_machine.specs.Using.{action_at, is_allowed, is_out, is_held_out}
+use Rattle.tp_machine.specs.Using.{action_at}
 use Rattle.tp_machine.specs.declared.parts.ActId.{ActId}
 use Rattle.tp_machine.specs.declared.parts.Action.{Action}
-use Rattle.tp_machine.specs.declared.parts.Outs.{Outs}
 use Rattle.tp_machine.specs.declared.parts.Sheet.{Sheet}
 use Rattle.tp_machine.specs.declared.parts.State.{State}
 use Rattle.tp_machine.specs.declared.whole.Machine.{Machine}
-use Rattle.tp_schedule.specs.Holding.{Run, runs, runs_of, holds_of_act, holds_at, held, hold_of}
-use Rattle.tp_schedule.specs.Spots.{Spot, Ticks, Slot, slots_by, slots_from, slots_of, slots, by_begin, slot_order, ticks_of}
+use Rattle.tp_schedule.specs.Holding.{runs, holds_of_act, holds_at, held, hold_of}
+use Rattle.tp_schedule.specs.Spots.{slots_by, slots_from, slots, by_begin, slot_order, ticks_of}
 use Rattle.tp_schedule.specs.Spots.Spot.{kept}
-use Rattle.tp_schedule.specs.Routes.{walk, step_by, is_act_allowed, AreAllowed}
+use Rattle.tp_schedule.specs.Routes.{walk, step_by}
 use Rattle.tp_schedule.specs.declared.parts.Plan.{Plan}
 use Rattle.tp_schedule.specs.declared.parts.SheetId.{SheetId}
 use Rattle.tp_program.specs.Firsts.{has_hold}

@@ -1,7 +1,6 @@
 -- Each entry of the table is the least sum of the ways from its state.
-use Rattle.std.proofs.Common.{◌≡◌, ◌≢◌, ◌⊎◌, inl, inr, ℕ, zero, suc, ◌+◌, ◌*◌, ◌^◌, ◌<◌, ◌≤◌, Bool, true, false, cond, List, [], ◌∷◌, length, map, fold, slice_get, Option, Some, None, option_and_then, refl, sym, ap, subst, ◌∙◌, arith}
-use Rattle.std.specs.Prelude.{nat_lt, nat_eq, if◌then◌else◌, ◌==◌}
-use Rattle.std.specs.List.{range_with_len}
+use Rattle.std.proofs.Common.{◌≡◌, ◌⊎◌, inl, inr, ℕ, zero, suc, ◌+◌, ◌*◌, ◌^◌, ◌<◌, ◌≤◌, Bool, true, false, cond, List, [], ◌∷◌, length, Option, Some, None, option_and_then, refl, sym, ap, subst, arith}
+use Rattle.std.specs.Prelude.{nat_lt, nat_eq}
 use Rattle.std.proofs.lemmas.Bool.Decides.{nat_tests}
 use Rattle.tp_machine.specs.Steps.{step_of, can_step, after}
 use Rattle.tp_machine.specs.Using.{action_at}
@@ -10,7 +9,7 @@ use Rattle.tp_machine.specs.declared.parts.Action.{Action}
 use Rattle.tp_machine.specs.declared.parts.Sheet.{Sheet}
 use Rattle.tp_machine.specs.declared.parts.State.{State}
 use Rattle.tp_machine.specs.declared.whole.Machine.{Machine}
-use Rattle.tp_schedule.specs.Routes.{walk, least_sum}
+use Rattle.tp_schedule.specs.Routes.{walk}
 use Rattle.tp_program.specs.Tables.{index_of, state_of, entry, sum_within, least_by, least_from, first_entry, first_row, next_row, row_of}
 use Rattle.tp_program.specs.Ways.{HasWay, IsLeastOf}
 use Rattle.tp_program.proofs.Leasts.{Among, least_like, least_over}

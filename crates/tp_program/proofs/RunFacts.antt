@@ -1,16 +1,14 @@
 -- What the top call knows of what it read and answered.
-use Rattle.std.proofs.Common.{◌≡◌, ℕ, ◌+◌, ◌<◌, ◌≤◌, List, [], ◌∷◌, length, Option, Some, None, sym, subst, arith}
+use Rattle.std.proofs.Common.{◌≡◌, ℕ, ◌+◌, ◌<◌, ◌≤◌, List, [], length, Option, Some, None, sym, subst, arith}
 use Rattle.std.specs.Prelude.{IfSome}
 use Rattle.std.proofs.lemmas.List.Elements.{All-head}
 use Rattle.tp_outside.specs.Outside.{Files, file_at}
 use Rattle.tp_machine.specs.declared.whole.Machine.{Machine}
-use Rattle.tp_schedule.specs.Answers.{IsAlternative}
-use Rattle.tp_schedule.specs.Legality.{IsLegal}
 use Rattle.tp_schedule.specs.Plans.{IsTimedPlan}
 use Rattle.tp_schedule.specs.declared.parts.Plan.{Plan}
 use Rattle.tp_program.specs.Causes.{OfText}
 use Rattle.tp_program.specs.Firsts.{IsAnswered, first_ask}
-use Rattle.tp_program.specs.Scripts.{IsScript, IsOffForm}
+use Rattle.tp_program.specs.Scripts.{IsOffForm}
 use Rattle.tp_program.specs.Words.{run_arg}
 use Rattle.tp_program.specs.declared.job.Job.{Job}
 

@@ -1,5 +1,5 @@
 -- What a script's line asks for.
-use Rattle.std.proofs.Common.{◌≡◌, ◌≢◌, ◌⊎◌, inl, inr, ℕ, ◌+◌, ◌≤◌, Bool, true, false, cond, List, [], ◌∷◌, ◌++◌, length, take, length-append, Option, Some, None, refl, sym, ap, subst, ◌∙◌, arith}
+use Rattle.std.proofs.Common.{◌≡◌, inl, inr, ℕ, ◌≤◌, Bool, true, false, cond, List, [], ◌∷◌, ◌++◌, length, Option, Some, None, refl, sym, ap, ◌∙◌, arith}
 use Rattle.std.specs.Prelude.{MatchOption, nat_eq}
 use Rattle.std.proofs.lemmas.Bool.Decides.{nat_tests}
 use Rattle.std.proofs.lemmas.List.{append_cancel_right}
@@ -9,7 +9,7 @@ use Rattle.tp_script.specs.Script.{event_text}
 use Rattle.tp_script.specs.Printed.{IsWhole, IsEchoed}
 use Rattle.tp_script.specs.declared.event.Event.{Event}
 use Rattle.tp_script.specs.declared.event.Event.TheVariants.{Bad, Job as JobEvent, Clock, Jam, Off, On}
-use Rattle.tp_program.specs.Scripts.{IsJobLine, IsScript, IsOffForm, job_of, one_job, job_in}
+use Rattle.tp_program.specs.Scripts.{IsScript, IsOffForm, job_of, job_in}
 use Rattle.tp_program.specs.declared.job.Job.{Job}
 
 -- no two events have one text

@@ -1,6 +1,6 @@
 -- The soonest trip is the least of the ways from the feeders of the media to the goal.
-use Rattle.std.proofs.Common.{◌≡◌, ℕ, ◌-◌, ◌*◌, ◌<◌, ◌≤◌, Bool, true, false, cond, List, length, map, slice_get, get_or, Option, Some, None, option_and_then, refl, sym, ap, subst, ◌∙◌, arith}
-use Rattle.std.specs.Prelude.{option_map, Any}
+use Rattle.std.proofs.Common.{◌≡◌, ℕ, ◌-◌, ◌*◌, ◌<◌, ◌≤◌, Bool, true, false, cond, List, length, map, slice_get, Option, Some, None, option_and_then, refl, sym, ap, subst, ◌∙◌, arith}
+use Rattle.std.specs.Prelude.{option_map}
 use Rattle.std.specs.List.{range_with_len}
 use Rattle.std.specs.Str.{bytes_eq}
 use Rattle.std.specs.Cmp.Lexicographic.{bytes_decides}
@@ -12,7 +12,7 @@ use Rattle.tp_machine.specs.declared.parts.Sheet.{Sheet}
 use Rattle.tp_machine.specs.declared.parts.State.{State}
 use Rattle.tp_machine.specs.declared.whole.Machine.{Machine}
 use Rattle.tp_schedule.specs.Routes.{fresh, IsFreshStart}
-use Rattle.tp_program.specs.Tables.{entry, lesser, row_of, AreRows}
+use Rattle.tp_program.specs.Tables.{entry, row_of, AreRows}
 use Rattle.tp_program.specs.Trips.{trip_of, trip_at, soonest_from, soonest_by, soonest}
 use Rattle.tp_program.specs.Ways.{HasWay, IsLeastOf}
 use Rattle.tp_program.specs.declared.route.Trip.{Trip}

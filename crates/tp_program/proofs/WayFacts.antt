@@ -1,7 +1,5 @@
 -- The rows of the table have the least sums of ways.
-use Rattle.std.proofs.Common.{◌≡◌, ◌≢◌, ◌⊎◌, inl, inr, ℕ, zero, suc, ◌+◌, ◌*◌, ◌^◌, ◌<◌, ◌≤◌, Bool, true, false, cond, List, [], ◌∷◌, length, map, fold, slice_get, Option, Some, None, option_and_then, refl, sym, ap, subst, ◌∙◌, arith}
-use Rattle.std.specs.Prelude.{nat_lt, nat_eq}
-use Rattle.std.proofs.lemmas.Bool.Decides.{nat_tests}
+use Rattle.std.proofs.Common.{◌≡◌, ℕ, suc, ◌+◌, ◌*◌, ◌≤◌, List, [], ◌∷◌, length, Option, Some, None, option_and_then, refl, sym, ap, ◌∙◌, arith}
 use Rattle.tp_machine.specs.Steps.{step_of}
 use Rattle.tp_machine.specs.Using.{action_at}
 use Rattle.tp_machine.specs.Machines.{IsMachine}
@@ -10,10 +8,9 @@ use Rattle.tp_machine.specs.declared.parts.Action.{Action}
 use Rattle.tp_machine.specs.declared.parts.Sheet.{Sheet}
 use Rattle.tp_machine.specs.declared.parts.State.{State}
 use Rattle.tp_machine.specs.declared.whole.Machine.{Machine}
-use Rattle.tp_schedule.specs.Routes.{walk, step_by, least_in, least_of, least_sum}
-use Rattle.tp_program.specs.Tables.{index_of, state_of, entry, sum_within, least_by, least_from, row_of}
-use Rattle.tp_program.specs.Ways.{HasWay, IsLeastOf}
-use Rattle.tp_program.proofs.Leasts.{Among, least_like, least_over}
+use Rattle.tp_schedule.specs.Routes.{walk, least_in, least_sum}
+use Rattle.tp_program.specs.Ways.{HasWay}
+use Rattle.tp_program.proofs.Leasts.{Among}
 
 -- a way that begins with this action
 pub record ByAction (machine : Machine) (sheet : Sheet) (goal : State) (k : ℕ) (s : State) (a : Action) (sum : ℕ) : Type 0 where

@@ -1,5 +1,5 @@
 -- The table that the planner keeps: for each number of actions a row, with an entry for each state.
-use Rattle.std.specs.Prelude.{◌≡◌, ℕ, zero, suc, ◌+◌, ◌*◌, ◌/◌, ◌%◌, ◌^◌, ◌<◌, ◌≤◌, Bool, true, false, ◌&&◌, ◌==◌, nat_lt, if◌then◌else◌, List, length, map, fold, slice_get, Option, Some, None, option_and_then, Vec}
+use Rattle.std.specs.Prelude.{◌≡◌, ℕ, zero, suc, ◌+◌, ◌*◌, ◌/◌, ◌%◌, ◌^◌, Bool, true, false, ◌==◌, nat_lt, if◌then◌else◌, List, length, map, fold, slice_get, Option, Some, None, option_and_then}
 use Rattle.std.specs.List.{range_with_len}
 use Rattle.tp_machine.specs.Steps.{step_of}
 use Rattle.tp_machine.specs.declared.parts.Action.{Action}

@@ -1,5 +1,5 @@
 -- The trips that the planner chooses from, and the first action of one.
-use Rattle.std.specs.Prelude.{◌≡◌, ℕ, ◌*◌, ◌<◌, length, Bool, true, false, ◌==◌, List, map, fold, if◌then◌else◌, slice_get, Option, Some, None, option_map, option_and_then, position}
+use Rattle.std.specs.Prelude.{◌≡◌, ℕ, ◌*◌, ◌<◌, length, Bool, false, ◌==◌, List, fold, if◌then◌else◌, slice_get, Option, Some, None, option_map, option_and_then, position}
 use Rattle.std.specs.List.{range_with_len}
 use Rattle.std.specs.Str.{bytes_eq}
 use Rattle.tp_machine.specs.Steps.{step_of}

@@ -1,4 +1,4 @@
-use Rattle.std.proofs.Common.{rules, arith, length, length-append}
+use Rattle.std.proofs.Common.{arith, length-append}
 use Rattle.tp_program.proofs.PointFacts.{points_more, time_more}
 use Rattle.tp_program.proofs.first.least_points.Goals as goal
 

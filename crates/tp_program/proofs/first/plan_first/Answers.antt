@@ -1,8 +1,6 @@
-use Rattle.std.proofs.Common.{rules, arith, ◌≡◌, ◌+◌, ◌≤◌, ◌<◌, Option, Some, None, refl, sym, ap, subst, ◌∙◌}
-use Rattle.tp_schedule.specs.Routes.{walk, least_sum}
-use Rattle.tp_program.specs.Firsts.{first_ask, first_plan, IsAnswered}
+use Rattle.std.proofs.Common.{arith, ◌+◌, ◌≤◌, Option, Some, ap, subst, ◌∙◌}
 use Rattle.tp_program.specs.declared.route.Trip.{Trip}
-use Rattle.tp_program.proofs.ChosenFacts.{IsSoonest, goal_of, soonest_is, trip_there}
+use Rattle.tp_program.proofs.ChosenFacts.{IsSoonest, soonest_is, trip_there}
 use Rattle.tp_program.proofs.AnswerFacts.{IsFirstRoute, earliest, least, no_answer}
 use Rattle.tp_program.proofs.first.plan_first.Goals as goal
 

@@ -1,6 +1,5 @@
-use Rattle.std.proofs.Common.{rules, arith, ◌≡◌, ℕ, suc, ◌+◌, ◌-◌, ◌*◌, ◌<◌, length, length-append, Some, map, sym, ap, subst, ◌∙◌}
-use Rattle.tp_program.specs.Tables.{entry, row_of, least_from}
-use Rattle.tp_program.proofs.LegFacts.{first_leg_found, IsLeg}
+use Rattle.std.proofs.Common.{arith, ◌≡◌, suc, ◌-◌, ◌<◌, length-append, sym, ap, ◌∙◌}
+use Rattle.tp_program.specs.Tables.{entry}
 use Rattle.tp_program.proofs.FollowFacts.{Continues-none, Continues-more, Continues-end, leg_is, no_leg, row_count, row_there}
 use Rattle.tp_program.proofs.route.follow.Goals as goal
 

@@ -1,5 +1,5 @@
 -- The machine text that was read is told with each answer that comes after it.
-use Rattle.std.proofs.Common.{◌≡◌, ◌∙◌, sym, ap, inl, inr, Err, option_map}
+use Rattle.std.proofs.Common.{◌∙◌, sym, ap, inl, inr, Err, option_map}
 use Rattle.tp_program.proofs.RunFacts.{of_text, long_off, off_left}
 use Rattle.tp_program.proofs.run.printer_main.Goals as goal
 

@@ -1,7 +1,7 @@
-use Rattle.std.proofs.Common.{rules, arith, ◌≡◌, ◌*◌, length, ap, subst, sym, ◌∙◌, add-one}
+use Rattle.std.proofs.Common.{arith, ◌*◌, length, ap, sym, ◌∙◌, add-one}
 use Rattle.std.proofs.lemmas.List.{map-append}
 use Rattle.tp_program.proofs.TableFacts.{row_of-first, row_of-next, length-row_of, AreRows-none, AreRows-more, AreRows-to}
-use Rattle.tp_program.specs.Tables.{row_of, first_row, next_row, AreRows}
+use Rattle.tp_program.specs.Tables.{row_of, first_row, next_row}
 use Rattle.tp_program.proofs.table.rows_to.Goals as goal
 
 pub rows-init : goal.rows-init
