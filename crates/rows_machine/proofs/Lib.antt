@@ -1,0 +1,2 @@
+mod MachineRows
+mod OrderRows
