@@ -11,7 +11,8 @@ use tp_machine::Machine;
 /// resources, each action and each hold stand under a header.
 ///
 /// The table is looked through once more before it is written. A machine keeps the rules of its
-/// text, so nothing is found there, and Memory is answered where memory ran out.
+/// text, so nothing should be found there. That nothing is found is not proved: the answer would
+/// be Memory, as it is where memory ran out.
 pub fn print_machine(alloc: Global, machine: &Machine) -> Result<Vec<u8>, Memory>
     ensures { IfOk result (λ text. IsMachineText text.items machine.now) }
 {
