@@ -2,4 +2,6 @@
 #![tactic(auto)]
 
 #[cfg(test)]
+mod records;
+#[cfg(test)]
 mod scripts;

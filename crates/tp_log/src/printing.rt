@@ -1,0 +1,207 @@
+ghost use Rattle.std.specs.Prelude.{◌≡◌, ℕ, ◌+◌, ◌<◌, [], ◌++◌, ◌∷◌, length, map, OnOk, OnErr, codes, decimal};
+ghost use Rattle.std.specs.List.{flat_map};
+ghost use Rattle.tp_script.specs.Script.{spaced};
+ghost use Rattle.tp_log.specs.Records.{sheet_text, goal_text, turns_words, cause_words, record_words, record_text, IsPrintable};
+
+use tp_base::{Memory, Name, Tick};
+use tp_schedule::{Cause, Record, SheetName};
+use tp_words::put_number;
+
+/// Writes a space and the word.
+fn put_word(out: &mut Vec<u8>, word: &[u8]) -> Result<(), Memory>
+    ensures { OnOk result (out.new.items ≡ out.old.items ++ 32 ∷ word.now) }
+{
+    out.push(b' ')?;
+    out.extend_from_slice(word)?;
+    Ok(())
+}
+
+fn put_number_word(out: &mut Vec<u8>, number: u32) -> Result<(), Memory>
+    ensures { OnOk result (out.new.items ≡ out.old.items ++ 32 ∷ decimal number) }
+{
+    out.push(b' ')?;
+    put_number(out, number)
+}
+
+fn put_sheet_word(out: &mut Vec<u8>, sheet: &SheetName) -> Result<(), Memory>
+    ensures { OnOk result (out.new.items ≡ out.old.items ++ 32 ∷ sheet_text sheet.now) }
+{
+    out.push(b' ')?;
+    out.extend_from_slice(sheet.job.as_bytes())?;
+    out.push(b'.')?;
+    put_number(out, sheet.number)?;
+    out.push(b'.')?;
+    put_number(out, sheet.copy)
+}
+
+fn put_goal_word(out: &mut Vec<u8>, goal: &Option<Name>) -> Result<(), Memory>
+    ensures { OnOk result (out.new.items ≡ out.old.items ++ 32 ∷ goal_text goal.now) }
+{
+    match goal {
+        None => put_word(out, b"*"),
+        Some(tray) => put_word(out, tray.as_bytes()),
+    }
+}
+
+/// Writes points and actions in turn.
+fn put_turns(out: &mut Vec<u8>, points: &[Tick], acts: &[Name]) -> Result<(), Memory>
+    requires { length points.now ≡ length acts.now + 1 }
+    ensures { OnOk result (out.new.items ≡ out.old.items ++ flat_map (λ word. 32 ∷ word) (turns_words points.now acts.now)) }
+{
+    put_number_word(out, points[0])?;
+    for i in 0..acts.len() {
+        put_word(out, acts[i].as_bytes())?;
+        put_number_word(out, points[i + 1])?;
+    }
+    Ok(())
+}
+
+fn put_points(out: &mut Vec<u8>, points: &[Tick]) -> Result<(), Memory>
+    ensures { OnOk result (out.new.items ≡ out.old.items ++ flat_map (λ word. 32 ∷ word) (map decimal points.now)) }
+{
+    for point in points {
+        put_number_word(out, *point)?;
+    }
+    Ok(())
+}
+
+/// Writes a heading and the copy that it is about.
+fn put_heading(out: &mut Vec<u8>, heading: &[u8], sheet: &SheetName) -> Result<(), Memory>
+    ensures { OnOk result (out.new.items ≡ out.old.items ++ (heading.now ++ 32 ∷ sheet_text sheet.now)) }
+{
+    out.extend_from_slice(heading)?;
+    put_sheet_word(out, sheet)
+}
+
+/// Writes a heading, the copy, and one word more.
+fn put_with_word(
+    out: &mut Vec<u8>,
+    heading: &[u8],
+    sheet: &SheetName,
+    word: &[u8],
+) -> Result<(), Memory>
+    ensures { OnOk result (out.new.items ≡ out.old.items ++ (heading.now ++ 32 ∷ sheet_text sheet.now) ++ 32 ∷ word.now) }
+{
+    put_heading(out, heading, sheet)?;
+    put_word(out, word)
+}
+
+fn put_release(
+    out: &mut Vec<u8>,
+    sheet: &SheetName,
+    act: u32,
+    name: &Name,
+    start: Tick,
+    end: Tick,
+) -> Result<(), Memory>
+    ensures { OnOk result (out.new.items ≡ out.old.items ++ spaced (codes "release" ∷ sheet_text sheet.now ∷ decimal act ∷ name.now ∷ decimal start ∷ decimal end ∷ [])) }
+{
+    put_heading(out, b"release", sheet)?;
+    put_number_word(out, act)?;
+    put_word(out, name.as_bytes())?;
+    put_number_word(out, start)?;
+    put_number_word(out, end)
+}
+
+fn put_cause(out: &mut Vec<u8>, cause: &Cause) -> Result<(), Memory>
+    ensures { OnOk result (out.new.items ≡ out.old.items ++ flat_map (λ word. 32 ∷ word) (cause_words cause.now)) }
+{
+    match cause {
+        Cause::Syntax => put_word(out, b"syntax"),
+        Cause::Tray(name) => put_cause_of(out, b"tray", name),
+        Cause::Media(name) => put_cause_of(out, b"media", name),
+        Cause::Named(name) => put_cause_of(out, b"named", name),
+        Cause::Waiting => put_word(out, b"waiting"),
+        Cause::Back(now) => {
+            put_word(out, b"back")?;
+            put_number_word(out, *now)
+        }
+        Cause::End => put_word(out, b"end"),
+        Cause::Module(name) => put_cause_of(out, b"module", name),
+        Cause::Out(name) => put_cause_of(out, b"out", name),
+        Cause::NotOn(name) => put_cause_of(out, b"noton", name),
+    }
+}
+
+fn put_cause_of(out: &mut Vec<u8>, cause: &[u8], name: &Name) -> Result<(), Memory>
+    ensures { OnOk result (out.new.items ≡ (out.old.items ++ 32 ∷ cause.now) ++ 32 ∷ name.now) }
+{
+    put_word(out, cause)?;
+    put_word(out, name.as_bytes())
+}
+
+/// Writes the words of the record, with one space between each two.
+fn put_record(out: &mut Vec<u8>, rec: &Record) -> Result<(), Memory>
+    requires { IsPrintable rec.now }
+    ensures { OnOk result (out.new.items ≡ out.old.items ++ spaced (record_words rec.now)) }
+{
+    match rec {
+        Record::Plan {
+            sheet,
+            place,
+            points,
+            acts,
+        } => {
+            put_with_word(out, b"plan", sheet, place.as_bytes())?;
+            put_turns(out, points.as_slice(), acts.as_slice())
+        }
+        Record::Move { sheet, points } => {
+            put_heading(out, b"move", sheet)?;
+            put_points(out, points.as_slice())
+        }
+        Record::Never { sheet, goal } => {
+            put_heading(out, b"none", sheet)?;
+            put_goal_word(out, goal)
+        }
+        Record::Budget { sheet, goal, bound } => {
+            put_heading(out, b"budget", sheet)?;
+            put_goal_word(out, goal)?;
+            put_number_word(out, *bound)
+        }
+        Record::FullUp { sheet } => put_heading(out, b"full", sheet),
+        Record::Release {
+            sheet,
+            act,
+            name,
+            start,
+            end,
+        } => put_release(out, sheet, *act, name, *start, *end),
+        Record::Done { sheet, place, at } => {
+            put_with_word(out, b"done", sheet, place.as_bytes())?;
+            put_number_word(out, *at)
+        }
+        Record::Lost { sheet } => put_heading(out, b"lost", sheet),
+        Record::Recall { sheet, act } => {
+            put_heading(out, b"recall", sheet)?;
+            put_number_word(out, *act)
+        }
+        Record::Withdraw { sheet } => put_heading(out, b"withdraw", sheet),
+        Record::Cut { sheet } => put_heading(out, b"cut", sheet),
+        Record::Purge { sheet } => put_heading(out, b"purge", sheet),
+        Record::Again { sheet } => put_heading(out, b"again", sheet),
+        Record::Stuck { sheet, module } => put_with_word(out, b"stuck", sheet, module.as_bytes()),
+        Record::Broken { job } => {
+            out.extend_from_slice(b"broken")?;
+            put_word(out, job.as_bytes())
+        }
+        Record::Drop { sheet } => put_heading(out, b"drop", sheet),
+        Record::Refused { cause } => {
+            out.extend_from_slice(b"refused")?;
+            put_cause(out, cause)
+        }
+    }
+}
+
+/// Appends the record's line, with its LF: words with one space between, numbers without leading
+/// zeros. After `Memory` the buffer is as before.
+pub fn print_record(rec: &Record, out: &mut Vec<u8>) -> Result<(), Memory>
+    requires { IsPrintable rec.now }
+    ensures printed { OnOk result (out.new.items ≡ out.old.items ++ record_text rec.now) }
+    ensures memory { OnErr result (out.new.items ≡ out.old.items) }
+{
+    let mut text = Vec::new(*out.allocator());
+    put_record(&mut text, rec)?;
+    text.push(b'\n')?;
+    out.extend_from_slice(&text)?;
+    Ok(())
+}
