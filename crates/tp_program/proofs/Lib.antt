@@ -15,3 +15,4 @@ pub mod ChosenFacts
 pub mod ScriptFacts
 pub mod WayTextFacts
 pub mod RunFacts
+pub mod InOrderFacts

@@ -7,3 +7,4 @@ pub mod Outputs
 pub mod Words
 pub mod Statuses
 pub mod Causes
+pub mod InOrder

@@ -3,6 +3,7 @@
 
 mod first;
 mod job;
+mod order;
 mod output;
 mod route;
 mod run;
@@ -11,5 +12,6 @@ mod status;
 mod table;
 mod words;
 
+pub use order::runs_in_order_are_answered;
 pub use run::printer_main;
 pub use status::{Long, Status};
