@@ -1,0 +1,65 @@
+//! A schedule as difference constraints: its rules, what each step of a board adds to them, and the network that keeps
+//! them. Each call does nothing: its contract is the law.
+#![tactic(auto)]
+
+ghost use Rattle.tp_constraints.specs.Hops.{ActionHops, GoalHops, PlaceHops, StopHops};
+ghost use Rattle.tp_constraints.specs.Laws.{ActionLaw, GapsLaw, GoalLaw, PlaceLaw, RoomLaw, StopLaw, SuffixLaw};
+ghost use Rattle.tp_constraints.specs.Leasts.{BoundLaw, CommitLaw, SettleLaw};
+ghost use Rattle.tp_constraints.specs.Nets.{ActionNet, BoardLate, BoardLeast, BoardSolutions, GoalNet, LoadNet, LoadedSolutions, PlaceNet, StopNet};
+ghost use Rattle.tp_constraints.specs.Numbers.{TableLaw};
+
+/// Ticks keep a schedule's shape and its orders exactly where they keep bounds and gaps. Neighbours in an order are
+/// enough, since no hold is empty.
+pub fn schedules_are_gaps()
+    ensures { GapsLaw }
+{}
+
+/// The same with choices, of which the newest may have its first places alone. With true rooms their ticks are those of
+/// the choice list.
+pub fn suffixes_are_gaps()
+    ensures times { SuffixLaw }
+    ensures rooms { RoomLaw }
+{}
+
+/// A goal that is opened, an action, a place and the stop are each the gaps and bounds that they add.
+pub fn steps_add_gaps()
+    ensures goal { GoalLaw }
+    ensures action { ActionLaw }
+    ensures place { PlaceLaw }
+    ensures stop { StopLaw }
+{}
+
+/// The solutions of a network whose points stand for those of a board are the board's ticks, and its least solution is
+/// the least of them.
+pub fn solutions_are_ticks()
+    ensures board { BoardSolutions }
+    ensures loaded { LoadedSolutions }
+    ensures late { BoardLate }
+    ensures least { BoardLeast }
+{}
+
+/// Such a network is made of a schedule's points and gaps, and goes on by the points and edges that each step adds.
+pub fn steps_add_edges()
+    ensures table { TableLaw }
+    ensures load { LoadNet }
+    ensures goal { GoalNet }
+    ensures action { ActionNet }
+    ensures place { PlaceNet }
+    ensures stop { StopNet }
+{}
+
+/// The least solution makes a least schedule: the alternative of a complete list, whose end is the list's bound, or the
+/// schedule settled.
+pub fn least_solutions_are_least_schedules()
+    ensures commit { CommitLaw }
+    ensures bound { BoundLaw }
+    ensures settle { SettleLaw }
+{}
+
+/// Each gap that a step adds, and each that stays, is a hop that a reason may cite.
+pub fn gaps_are_hops()
+    ensures goal { GoalHops }
+    ensures action { ActionHops }
+    ensures place { PlaceHops }
+    ensures stop { StopHops }
+{}
