@@ -1,1 +1,2 @@
 pub mod TryFacts
+pub mod PastFacts

@@ -1,10 +1,8 @@
 -- Several edges at once.
-use Rattle.std.specs.Prelude.{ℕ, ◌<◌, ◌≤◌, List, ◌++◌, length, take, ◌≤ℤ◌, negsuc, pos}
+use Rattle.std.specs.Prelude.{ℕ, ◌<◌, ◌≤◌, List, length, take, ◌≤ℤ◌, negsuc, pos}
 use Rattle.tp_base.specs.declared.edges.Edge.{Edge}
 use Rattle.tp_base.specs.Net.{Net}
-
-abbrev pub with_edges : Net → List Edge → Net
-with_edges net es = record { lows = net.lows; caps = net.caps; edges = net.edges ++ es }
+use Rattle.tp_constraints.specs.Numbers.{with_edges}
 
 -- the edge may be asked of a network with so many points
 pub record CanRequire (points : ℕ) (e : Edge) : Type 0 where

@@ -1,4 +1,10 @@
 //! A schedule as a network with timelines, to which the choices for one sheet are added and taken back.
 #![tactic(auto)]
 
+mod board;
+mod parts;
 mod trying;
+mod undoing;
+
+pub use board::Board;
+pub use parts::MadeFor;

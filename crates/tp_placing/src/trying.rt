@@ -1,7 +1,8 @@
 //! Several changes of a network at once, or none of them.
 ghost use Rattle.std.specs.Prelude.{◌≡◌, ◌+◌, ◌<◌, ◌≤◌, length, All, OnOk, OnErr};
 ghost use Rattle.tp_base.specs.Net.{HasLeast, HasNoSolution, with_point};
-ghost use Rattle.tp_placing.specs.Trying.{with_edges, CanRequire, IsRefused};
+ghost use Rattle.tp_constraints.specs.Numbers.{with_edges};
+ghost use Rattle.tp_placing.specs.Trying.{CanRequire, IsRefused};
 
 use tp_base::{Edge, Late, Network, Tick};
 
