@@ -74,7 +74,6 @@ stop_net machine plans ask x table net es asked can going is in' gaps =
 
 pub place_net : PlaceNet
 place_net machine plans ask x c choices rule place table net es is next le is_net in' gaps =
-    let same : (cs : List Choice) → length (place_first place cs) ≡ length cs = lengths in
     subst (λ n. IsNetFor (IsPoint plans (suc n)) (suffix_low machine plans ask x) (suffix_cap machine plans ask) (SuffixTimes machine plans ask (with_place place x)) table (with_edges net es)) (sym (lengths x.choices))
     (edges-step (IsSuffixPoint plans x) (suffix_low machine plans ask x) (suffix_cap machine plans ask) (SuffixTimes machine plans ask x) (SuffixTimes machine plans ask (with_place place x)) table net es is_net in'
     (λ t. let g = place_law machine plans ask x c choices rule place t is next le in (

@@ -12,6 +12,7 @@ use Rattle.tp_schedule.specs.Times.{KeepsTimes, at}
 use Rattle.tp_constraints.specs.Gaps.{IsPoint, low_in, cap_in, low_at, cap_at, Within, low_of, cap_of}
 use Rattle.tp_schedule.proofs.CopyFacts.{InOrder, plan_of-itself}
 
+-- tests of numbers, and what they say
 le-from : (a b : ℕ) → nat_le a b ≡ true → a ≤ b
 le-from a b e = grind (arith, nat_tests)
 

@@ -17,6 +17,7 @@ use Rattle.tp_constraints.specs.Suffixes.{choice_gaps}
 use Rattle.tp_schedule.proofs.LegalOrders.{LastsBy}
 use Rattle.tp_constraints.proofs.Lists.{All-split}
 
+-- one action between two points
 pub range-from_gaps : (t : Ticks) (o : Option Action) (from to : Spot) → IsSome o → KeepsGaps t (range_gaps o from to) → IsSomeAnd o (λ a. (t from + a.least ≤ t to) × (t to ≤ t from + a.most))
 range-from_gaps t None from to known keeps = absurd cc
 range-from_gaps t (Some a) from to known keeps =
@@ -39,6 +40,7 @@ some-from_lasts t (Some a) from to fits = refl
 abbrev pub ActsKnown : Machine → List ActId → Type 0
 ActsKnown machine acts = (i : ℕ) (act : ActId) → slice_get acts i ≡ Some act → IsSome (action_at machine act.0)
 
+-- the actions of a copy
 pub acts-from_gaps : (machine : Machine) (t : Ticks) (copy : SheetId) (n : ℕ) (acts : List ActId) → ActsKnown machine acts → KeepsGaps t (acts_gaps machine copy n acts) → LastsBy machine t copy n acts
 acts-from_gaps machine t copy n [] known keeps i j act e is = absurd (cc)
 acts-from_gaps machine t copy n (a ∷ acts) known keeps zero j act e is =
@@ -58,6 +60,7 @@ gaps-from_acts machine t copy n (a ∷ acts) lasts =
     (gaps-from_range t (action_at machine a.0) (kept copy n) (kept copy (suc n)) (lasts 0 n a (omega arith) refl))
     (gaps-from_acts machine t copy (suc n) acts (λ i j b e is. lasts (suc i) j b (omega arith) is))
 
+-- gaps that are kept plan by plan
 pub each-from_flat : {X : Type 0} (t : Ticks) (f : X → List Gap) (xs : List X) → KeepsGaps t (flat_map f xs) → All (λ x. KeepsGaps t (f x)) xs
 each-from_flat t f [] keeps = All-nil (λ x. KeepsGaps t (f x))
 each-from_flat t f (x ∷ xs) keeps = let r = All-split (KeepsGap t) (f x) (flat_map f xs) keeps in All-cons (λ x. KeepsGaps t (f x)) x xs r.0 (each-from_flat t f xs r.1)

@@ -31,6 +31,7 @@ edges-step known low cap times times' table net es is in' more = record {
   );
 }
 
+-- one own point more
 known-more : (plans : List Plan) (count : ℕ) (s : Spot) → IsPoint plans count s → IsPoint plans (suc count) s
 known-more plans count (kept c i) h = h
 known-more plans count (own n) h = omega arith
@@ -67,7 +68,6 @@ gaps-same table more (e ∷ es) all =
     let b = gaps-same table more es (All-tail (IsEdgeOf table) e es all) in
     λ i. a i ∷ b i
 
--- one own point more
 pub point-step : (plans : List Plan) (count : ℕ) (low low' cap : Spot → ℕ) (times times' : Ticks → Type 0) (table : List Spot) (net : Net) (l c : ℕ) → IsNetFor (IsPoint plans count) low cap times table net
     → ((s : Spot) → IsPoint plans count s → low' s ≡ low s) → low' (own count) ≡ l → cap (own count) ≡ c
     → ((t : Ticks) → times' t ↔ (times t × (l ≤ t (own count)) × (t (own count) ≤ c)))

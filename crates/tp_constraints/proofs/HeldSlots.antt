@@ -1,4 +1,5 @@
--- The holds of a schedule and of choices are of the machine's resources, and are sound where their actions last within their durations.
+-- The holds of a schedule and of choices are of the machine's resources, and are sound where their actions last within
+-- their durations.
 use Rattle.std.proofs.Common.{◌≡◌, ℕ, suc, ◌+◌, ◌≤◌, ◌<◌, Bool, true, false, cond, ◌==◌, List, [], ◌∷◌, length, refl, arith, All, Contains, get_or, insert, Option, Some, None, IsSomeAnd}
 use Rattle.std.specs.Prelude.{slice_get}
 use Rattle.std.proofs.lemmas.List.Elements.{All-nil, All-cons, All-head, All-tail, All-append, Contains-get_or}

@@ -59,6 +59,7 @@ same_line-trans p q r a b =
     let same : y.0 ≡ x.0 = one-tray p.goal y.0 x.0 (second-of_both (not (is_front p.kind)) (goes_to p.goal y.0) y.1) (second-of_both (not (is_front p.kind)) (goes_to p.goal x.0) x.1) in
     same-to q r x.0 x.2 (subst (λ tray. is_delivered_to r tray ≡ true) same y.2)
 
+-- the gap to the next plan of a line gives all later ones, since later ends rise
 line-head : (t : Ticks) (p : Plan) (plans : List Plan) → KeepsGaps t (line_gap p (find (is_same_line p) plans)) → AllPairs (Ends t) plans → All (Ends t p) plans
 line-head t p [] keeps pairs = All-nil (Ends t p)
 line-head t p (q ∷ plans) keeps pairs = go (is_same_line p q) refl keeps (line-head t p plans) where
@@ -89,6 +90,7 @@ gaps-from_ends : (t : Ticks) (plans : List Plan) → AllPairs (Ends t) plans →
 gaps-from_ends t [] pairs = All-nil (KeepsGap t)
 gaps-from_ends t (p ∷ plans) pairs = All-append (KeepsGap t) (line_gap p (find (is_same_line p) plans)) (line_gaps plans) (first-gap t p plans (AllPairs-head (Ends t) p plans pairs)) (gaps-from_ends t plans (AllPairs-tail (Ends t) p plans pairs))
 
+-- the same, tray by tray
 ends-is : (t : Ticks) (p q : Plan) → Ends t p q → EndsBeforeAt t p q
 ends-is t p q ends tray a b = ends (same-to p q tray a b)
 

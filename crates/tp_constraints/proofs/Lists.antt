@@ -11,9 +11,11 @@ All-split P (x ∷ xs) ys all =
     let r = All-split P xs ys (All-tail P x (xs ++ ys) all) in
     (All-cons P x xs (All-head P x (xs ++ ys) all) r.0, r.1)
 
+-- what holds of a list holds of one whose elements it has
 pub all-by : {X : Type 0} (P : X → Type 0) (xs ys : List X) → All (Contains ys) xs → All P ys → All P xs
 all-by P xs ys there all k d within = All-contains P ys (get_or xs k d) all (there k d within)
 
+-- elements by their numbers
 pub get-there : {X : Type 0} (xs : List X) (i : ℕ) → i < length xs → (x : X) × (slice_get xs i ≡ Some x)
 get-there [] i within = absurd (omega (arith, within))
 get-there (x ∷ xs) zero within = (x, refl)
@@ -34,10 +36,12 @@ index-map f [] i x e = absurd cc
 index-map f (y ∷ xs) zero x e = let same : y ≡ x = cc in ap f same
 index-map f (y ∷ xs) (suc i) x e = index-map f xs i x e
 
+-- functions that agree on a list
 pub map-each : {X Y : Type 0} (f g : X → Y) (xs : List X) → All (λ x. f x ≡ g x) xs → map f xs ≡ map g xs
 map-each f g [] all = refl
 map-each f g (x ∷ xs) all = let a = All-head (λ x. f x ≡ g x) x xs all in let b = map-each f g xs (All-tail (λ x. f x ≡ g x) x xs all) in λ i. a i ∷ b i
 
+-- pairs within two lists, and across them
 pub AllPairs-append : {X : Type 0} (R : X → X → Type 0) (xs ys : List X) → AllPairs R xs → AllPairs R ys → All (λ x. All (R x) ys) xs → AllPairs R (xs ++ ys)
 AllPairs-append R [] ys a b all = b
 AllPairs-append R (x ∷ xs) ys a b all =

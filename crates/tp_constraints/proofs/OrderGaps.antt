@@ -32,6 +32,7 @@ apart-from_gap t x y keeps =
     let e : (pos (t (anchor_spot x.rule.end x.from x.to)) +ℤ x.rule.end_off) ≤ℤ (pos (t (anchor_spot y.rule.begin y.from y.to)) +ℤ y.rule.begin_off) = omega (arith, ints) in
     rw (a, b) e
 
+-- neighbours
 pub gaps-from_row : (t : Ticks) (xs : List Slot) → IsRow t xs → KeepsGaps t (chain_gaps xs)
 gaps-from_row t [] row = All-nil (KeepsGap t)
 gaps-from_row t (x ∷ []) row = All-nil (KeepsGap t)

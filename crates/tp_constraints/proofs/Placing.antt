@@ -43,6 +43,7 @@ gaps-from_insert t (x ∷ y ∷ ys) (suc zero) s le row =
     All-cons (KeepsGap t) (slot_gap x s) (slot_gap s y ∷ []) (gap-from_apart t x s row.0) (All-cons (KeepsGap t) (slot_gap s y) [] (gap-from_apart t s y row.1.0) (All-nil (KeepsGap t)))
 gaps-from_insert t (x ∷ y ∷ ys) (suc (suc i)) s le row = gaps-from_insert t (y ∷ ys) (suc i) s (omega arith) row.1
 
+-- one place more puts one hold in
 pub put_places-push : (resource : ℕ) (from to : Spot) (rules : List HoldRule) (places : List ℕ) (place : ℕ) (rule : HoldRule) (order : List Slot) → slice_get rules (length places) ≡ Some rule
     → put_places resource from to rules (places ++ place ∷ []) order
     ≡ cond (rule.resource.0 == resource) (insert (put_places resource from to rules places order) place (record { rule = rule; from = from; to = to })) (put_places resource from to rules places order)

@@ -75,7 +75,7 @@ table-differ (p ∷ plans) order =
     let before : is_before p.sheet b.0.sheet ≡ true = All-contains (λ q. is_before p.sheet q.sheet ≡ true) plans b.0 (AllPairs-head (λ x y. IsTrue (is_before x.sheet y.sheet)) p plans order) b.1 in
     let copies : p.sheet ≡ b.0.sheet = kept-copy p.sheet b.0.sheet a.at b.2.at (sym a.is ∙ same ∙ b.2.is) in
     let itself = before-not_same p.sheet p.sheet (subst (λ c. is_before p.sheet c ≡ true) (sym copies) before) in
-    let yes' = same_copy-refl p.sheet in
+    let same_one = same_copy-refl p.sheet in
     absurd cc)
 
 pub table_law : TableLaw

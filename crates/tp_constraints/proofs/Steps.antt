@@ -18,6 +18,7 @@ use Rattle.tp_constraints.proofs.DurationGaps.{range-from_gaps, gaps-from_range,
 use Rattle.tp_constraints.proofs.EndLine.{line-from_gap, gap-from_line, front-tick}
 use Rattle.tp_constraints.proofs.Rooms.{room-first, room-later}
 
+-- a choice without places leaves the orders
 pub put_places-none : (resource : ℕ) (from to : Spot) (rules : List HoldRule) (order : List Slot) → put_places resource from to rules [] order ≡ order
 put_places-none resource from to [] order = refl
 put_places-none resource from to (rule ∷ rules) order = refl

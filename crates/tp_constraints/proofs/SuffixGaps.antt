@@ -100,7 +100,7 @@ module _ (machine : Machine) (plans : List Plan) (ask : Ask) (x : Suffix) (t : T
         line = λ p in' tray to-tray p-to. line-from_gap ask t p (All-contains (λ q. KeepsGaps t (end_gap ask q)) plans p (each-from_flat t (end_gap ask) plans d.0) in') tray to-tray p-to;
         apart = λ r. apart-from_gaps t (order_in machine plans x r) (placed-sound machine t r plans x.choices times.lasts lasts)
             (apart-all machine ask.now (λ _. false) plans t load (order_in machine plans x) on-all e.1 r);
-        stopped = λ yes'. stopped-from times (lows (length x.choices) (omega arith)) e.0 yes';
+        stopped = λ is_stopped. stopped-from times (lows (length x.choices) (omega arith)) e.0 is_stopped;
       }
 
 pub suffix_law : SuffixLaw
