@@ -83,11 +83,13 @@ marks-push marks steps held m s h a = record {
   steps_below = λ k n z. elim (slice_get_end marks m k n z) [ inl q ↦ a.steps_below k n q | inr q ↦ (let e = ap (λ (x : BoardMark). x.steps) q.1 in omega arith) ];
   held_below = λ k n z. elim (slice_get_end marks m k n z) [ inl q ↦ a.held_below k n q | inr q ↦ (let e = ap (λ (x : BoardMark). x.held) q.1 in omega arith) ];
   steps_rise = λ j k n o l y z. elim (slice_get_end marks m k o z) [
-      inl q ↦ (elim (slice_get_end marks m j n y) [ inl p ↦ a.steps_rise j k n o l p q | inr p ↦ absurd (let w = slice_get_within marks k o q in omega (arith, p.0)) ])
-    | inr q ↦ (let e = ap (λ (x : BoardMark). x.steps) q.1 in elim (slice_get_end marks m j n y) [ inl p ↦ (let b = a.steps_below j n p in omega arith) | inr p ↦ absurd (omega (arith, p.0, q.0)) ]) ];
+    | inl q ↦ (elim (slice_get_end marks m j n y) [ inl p ↦ a.steps_rise j k n o l p q | inr p ↦ absurd (let w = slice_get_within marks k o q in omega (arith, p.0)) ])
+    | inr q ↦ (let e = ap (λ (x : BoardMark). x.steps) q.1 in elim (slice_get_end marks m j n y) [ inl p ↦ (let b = a.steps_below j n p in omega arith) | inr p ↦ absurd (omega (arith, p.0, q.0)) ])
+  ];
   held_rise = λ j k n o l y z. elim (slice_get_end marks m k o z) [
-      inl q ↦ (elim (slice_get_end marks m j n y) [ inl p ↦ a.held_rise j k n o l p q | inr p ↦ absurd (let w = slice_get_within marks k o q in omega (arith, p.0)) ])
-    | inr q ↦ (let e = ap (λ (x : BoardMark). x.held) q.1 in elim (slice_get_end marks m j n y) [ inl p ↦ (let b = a.held_below j n p in omega arith) | inr p ↦ absurd (omega (arith, p.0, q.0)) ]) ];
+    | inl q ↦ (elim (slice_get_end marks m j n y) [ inl p ↦ a.held_rise j k n o l p q | inr p ↦ absurd (let w = slice_get_within marks k o q in omega (arith, p.0)) ])
+    | inr q ↦ (let e = ap (λ (x : BoardMark). x.held) q.1 in elim (slice_get_end marks m j n y) [ inl p ↦ (let b = a.held_below j n p in omega arith) | inr p ↦ absurd (omega (arith, p.0, q.0)) ])
+  ];
 }
 
 pub marks-undone : (marks : List BoardMark) (steps held k : ℕ) (m : BoardMark) → slice_get marks k ≡ Some m → AreMarks marks steps held → AreMarks (take k marks) m.steps m.held

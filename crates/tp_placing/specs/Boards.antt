@@ -9,7 +9,8 @@ use Rattle.tp_placing.specs.declared.parts.BoardMark.{BoardMark}
 use Rattle.tp_placing.specs.declared.parts.Held.{Held}
 use Rattle.tp_placing.specs.declared.parts.MadeFor.{MadeFor}
 use Rattle.tp_placing.specs.declared.parts.Step.{Step}
-use Rattle.tp_placing.specs.declared.parts.Step.TheVariants.{Goal, Action, Place, Stop}
+use Rattle.tp_placing.specs.declared.parts.Change.{Change}
+use Rattle.tp_placing.specs.declared.parts.Change.TheVariants.{Goal, Action, Place, Stop}
 
 -- the network, the orders of the holds by their numbers, the live plans, the ask and the steps since they were loaded
 pub record BoardValue (N : Type 0) : Type 0 where
@@ -26,20 +27,20 @@ pub record BoardValue (N : Type 0) : Type 0 where
   pub marks : List BoardMark
   pub made_for : MadeFor
 
--- the suffix after a step
-abbrev pub after_step : Option Suffix → Step → Option Suffix
-after_step None (Goal room) = Some (with_goal room)
-after_step None (Action act room start) = None
-after_step None (Place place) = None
-after_step None Stop = None
-after_step (Some x) (Goal room) = Some x
-after_step (Some x) (Action act room start) = Some (with_action act room x)
-after_step (Some x) (Place place) = Some (with_place place x)
-after_step (Some x) Stop = Some (with_stop x)
+-- the suffix after a change
+abbrev pub after_change : Option Suffix → Change → Option Suffix
+after_change None (Goal room) = Some (with_goal room)
+after_change None (Action act room) = None
+after_change None (Place place) = None
+after_change None Stop = None
+after_change (Some x) (Goal room) = Some x
+after_change (Some x) (Action act room) = Some (with_action act room x)
+after_change (Some x) (Place place) = Some (with_place place x)
+after_change (Some x) Stop = Some (with_stop x)
 
 -- the suffix so far, if a goal is open
 abbrev pub suffix_after : List Step → Option Suffix
-suffix_after steps = fold after_step None steps
+suffix_after steps = fold (λ x s. after_change x s.change) None steps
 
 abbrev pub suffix_of : {N : Type 0} → BoardValue N → Option Suffix
 suffix_of b = suffix_after b.steps

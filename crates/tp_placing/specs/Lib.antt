@@ -1,3 +1,4 @@
 pub mod Boards
 pub mod Inside
 pub mod Trying
+pub mod Standing

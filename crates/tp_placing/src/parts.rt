@@ -17,21 +17,25 @@ pub(crate) struct Held {
     pub(crate) end: PointId,
 }
 
-/// What was done to a board since it was loaded.
+/// What is done to a board that was loaded.
 #[derive(Clone, Copy)]
-pub(crate) enum Step {
-    /// A goal was opened, to be reached with so much room.
+pub(crate) enum Change {
+    /// A goal is opened, to be reached with so much room.
     Goal { room: u32 },
-    /// An action was opened before the others, with so much room before it. Its start is this point.
-    Action {
-        act: ActId,
-        room: u32,
-        start: PointId,
-    },
-    /// The next hold of the newest action was placed.
+    /// An action is opened before the others, with so much room before it.
+    Action { act: ActId, room: u32 },
+    /// The next hold of the newest action is placed.
     Place { place: u32 },
-    /// The list was stopped.
+    /// The list is stopped.
     Stop,
+}
+
+/// A change, and what stands after it: the newest action, if there is one, and the first own point.
+#[derive(Clone, Copy)]
+pub(crate) struct Step {
+    pub(crate) change: Change,
+    pub(crate) newest: Option<ActId>,
+    pub(crate) first: PointId,
 }
 
 /// How many steps and holds there were at a mark.

@@ -59,4 +59,4 @@ returns-clause-past g c =
     let a = c.self.inside in
     let i = c.self.invariant.marked in
     rw (← c.self.view_is, c.mark-mark.ensures.past, c.mark-line_mark.ensures.past, c.in-Ok.ensures.items)
-      (side-push a.held.items a.steps.items (g.N.Undo.past a.net) a.lines.past a.marks.items (g.N.Undo.content a.net) a.lines.orders _ i.line_marks i.board_marks (c.len-2.ensures ∙ a.held.ok.0) (c.len.ensures ∙ a.steps.ok.0))
+    (side-push a.held.items a.steps.items (g.N.Undo.past a.net) a.lines.past a.marks.items (g.N.Undo.content a.net) a.lines.orders _ i.line_marks i.board_marks (c.len-2.ensures ∙ a.held.ok.0) (c.len.ensures ∙ a.steps.ok.0))

@@ -93,7 +93,7 @@ returns-clause-content g c =
     let i4 = i.board_marks in
     let at = slice_get_read a.marks.items (length a.marks.items) k c.index-counts.result.now refl (omega arith) c.index-counts.ensures in
     rw (← c.self.view_is, c.truncate.ensures.items, c.truncate-2.ensures.items)
-      (side-get a.held.items a.steps.items (g.N.Undo.past a.net) a.lines.past a.marks.items k _ _ c.index-counts.result.now c.undo_to.ensures.content c.undo_to-2.ensures.content at)
+    (side-get a.held.items a.steps.items (g.N.Undo.past a.net) a.lines.past a.marks.items k _ _ c.index-counts.result.now c.undo_to.ensures.content c.undo_to-2.ensures.content at)
 
 pub returns-clause-past : goal.returns-clause-past
 returns-clause-past g c =
@@ -104,5 +104,5 @@ returns-clause-past g c =
     let i4 = i.board_marks in
     let at = slice_get_read a.marks.items (length a.marks.items) k c.index-counts.result.now refl (omega arith) c.index-counts.ensures in
     rw (← c.self.view_is, c.truncate.ensures.items, c.truncate-2.ensures.items, c.truncate-3.ensures.items, c.undo_to.ensures.past, c.undo_to-2.ensures.past)
-      (side-take a.held.items a.steps.items (g.N.Undo.past a.net) a.lines.past a.marks.items k c.index-counts.result.now.held c.index-counts.result.now.steps
-      (λ j m l z. (i.at_marks.held_rise j k m _ l z at, i.at_marks.steps_rise j k m _ l z at)))
+    (side-take a.held.items a.steps.items (g.N.Undo.past a.net) a.lines.past a.marks.items k c.index-counts.result.now.held c.index-counts.result.now.steps
+    (λ j m l z. (i.at_marks.held_rise j k m _ l z at, i.at_marks.steps_rise j k m _ l z at)))
