@@ -2,6 +2,9 @@
 #![tactic(auto)]
 
 mod board;
+mod edges;
+mod finding;
+mod opening;
 mod parts;
 mod trying;
 mod undoing;
