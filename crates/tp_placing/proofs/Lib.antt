@@ -5,3 +5,6 @@ pub mod StepFacts
 pub mod StopFacts
 pub mod StandFacts
 pub mod BoardFacts
+pub mod SlotFacts
+pub mod NeighbourFacts
+pub mod PlaceFacts

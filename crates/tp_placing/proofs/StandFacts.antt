@@ -61,6 +61,7 @@ module _ {N C : Type 0} (net : N → Net) (content : N → C) (past : N → List
     asked = s.asked;
     floor = s.floor;
     horizon = s.horizon;
+    small_horizon = s.small_horizon;
     loadable = s.loadable;
     origin = s.origin;
     last = s.last;
@@ -79,6 +80,7 @@ module _ {N C : Type 0} (net : N → Net) (content : N → C) (past : N → List
     asked = s.asked;
     floor = s.floor;
     horizon = s.horizon;
+    small_horizon = s.small_horizon;
     loadable = s.loadable;
     origin = s.origin;
     last = s.last;

@@ -1,8 +1,13 @@
 -- What the calls of a board say.
-use Rattle.std.specs.Prelude.{◌≡◌, List, Option, IsSomeAnd}
+use Rattle.std.specs.Prelude.{◌≡◌, ℕ, ◌≤◌, List, ◌∷◌, length, slice_get, Option, Some, IsSomeAnd}
+use Rattle.tp_machine.specs.Using.{action_at}
+use Rattle.tp_machine.specs.declared.parts.HoldRule.{HoldRule}
 use Rattle.tp_machine.specs.declared.whole.Machine.{Machine}
+use Rattle.tp_schedule.specs.Choices.{Choice}
+use Rattle.tp_schedule.specs.Holding.{holds_of_act}
+use Rattle.tp_schedule.specs.declared.parts.Plan.{Plan}
 use Rattle.tp_schedule.specs.Spots.{Ticks}
-use Rattle.tp_constraints.specs.Suffixes.{Suffix, SuffixTimes}
+use Rattle.tp_constraints.specs.Suffixes.{Suffix, SuffixTimes, order_in}
 use Rattle.tp_placing.specs.Boards.{BoardValue}
 
 -- the loaded plans and the suffix have times under the loaded ask, or they have none
@@ -17,3 +22,13 @@ pub record IsSameLoad {N : Type 0} (b b' : BoardValue N) : Type 0 where
   pub made_for : b'.made_for ≡ b.made_for
   pub plans : b'.plans ≡ b.plans
   pub ask : b'.ask ≡ b.ask
+
+-- the hold is the first of the newest choice that isn't placed, and the order of its resource has the place
+pub record CanPlace (machine : Machine) (plans : List Plan) (x : Suffix) (hold place : ℕ) : Type 0 where
+  pub choice : Choice
+  pub choices : List Choice
+  pub newest : x.choices ≡ choice ∷ choices
+  pub next : hold ≡ length choice.places
+  pub rule : HoldRule
+  pub is_rule : slice_get (holds_of_act (action_at machine choice.act.0)) hold ≡ Some rule
+  pub within : place ≤ length (order_in machine plans x rule.resource.0)

@@ -1,5 +1,5 @@
 -- The edges of a board's network, as the gaps that they stand for.
-use Rattle.std.specs.Prelude.{ℕ, List, [], ◌∷◌, ◌-◌, ℤ, pos, neg_ℤ, ◌-ℤ◌, Option, Some, None, slice_get}
+use Rattle.std.specs.Prelude.{ℕ, zero, suc, List, [], ◌∷◌, ◌-◌, ℤ, pos, neg_ℤ, ◌-ℤ◌, Option, Some, None, slice_get}
 use Rattle.tp_base.specs.declared.edges.Edge.{Edge}
 use Rattle.tp_base.specs.declared.edges.PointId.{PointId}
 use Rattle.tp_machine.specs.declared.parts.Action.{Action}
@@ -29,3 +29,15 @@ edge_after (Some x) h = hold_edge x h ∷ []
 abbrev pub edge_until : Held → Option Held → List Edge
 edge_until h None = []
 edge_until h (Some y) = hold_edge h y ∷ []
+
+-- the holds that stand before and behind a place of an order
+abbrev pub held_of : List Held → Option ℕ → Option Held
+held_of held None = None
+held_of held (Some id) = slice_get held id
+
+abbrev pub held_before : List Held → List ℕ → ℕ → Option Held
+held_before held order zero = None
+held_before held order (suc place) = held_of held (slice_get order place)
+
+abbrev pub held_behind : List Held → List ℕ → ℕ → Option Held
+held_behind held order place = held_of held (slice_get order place)

@@ -4,6 +4,7 @@
 mod board;
 mod edges;
 mod finding;
+mod neighbours;
 mod opening;
 mod parts;
 mod trying;

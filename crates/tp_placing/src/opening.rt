@@ -1,16 +1,19 @@
 ghost use Rattle.std.specs.Prelude.{◌≡◌, ℕ, IsSomeAnd, IsFalse, OnOk, OnErr, Some};
 ghost use Rattle.tp_machine.specs.declared.whole.Machine.{Machine};
-ghost use Rattle.tp_constraints.specs.Suffixes.{IsInFlight, with_stop};
+ghost use Rattle.tp_constraints.specs.Suffixes.{IsInFlight, with_place, with_stop};
 ghost use Rattle.tp_placing.specs.Boards.{content_of, past_of, suffix_of};
-ghost use Rattle.tp_placing.specs.Calls.{HasNoTimes, HasTimes, IsSameLoad};
+ghost use Rattle.tp_placing.specs.Calls.{CanPlace, HasNoTimes, HasTimes, IsSameLoad};
 ghost use Rattle.tp_placing.specs.Standing.{Stands};
 
 use crate::board::Board;
 use crate::edges::edge_between;
 use crate::finding::point_of;
-use crate::parts::{Change, Step};
-use tp_base::{Late, Network};
+use crate::neighbours::neighbour_edges;
+use crate::parts::{Change, Held, Step};
+use crate::trying::require_all;
+use tp_base::{Late, Network, PointId};
 use tp_constraints::{gaps_are_hops, solutions_are_ticks, steps_add_edges};
+use tp_machine::Machine;
 use tp_schedule::Origin;
 
 impl<N: Network> Board<N> {
@@ -43,6 +46,57 @@ impl<N: Network> Board<N> {
         }
         let step = Step {
             change: Change::Stop,
+            newest: newest.newest,
+            first: newest.first,
+        };
+        let Ok(()) = self.steps.push(step) else {
+            unreachable!()
+        };
+        Ok(())
+    }
+
+    /// Places the next hold of the newest action at a place of its resource's order, or answers Late where no times are
+    /// left.
+    pub fn place(&mut self, machine: &Machine, hold: u32, place: u32) -> Result<(), Late>
+        requires stands { Stands N.net N.content N.past self.old machine.now }
+        requires next { IsSomeAnd (suffix_of self.old) (λ x. CanPlace machine.now self.old.plans x hold place) }
+        ensures suffix { OnOk result (IsSomeAnd (suffix_of self.old) (λ x. suffix_of self.new ≡ Some (with_place place x))) }
+        ensures times { OnOk result (IsSomeAnd (suffix_of self.new) (HasTimes machine.now self.new)) }
+        ensures late { OnErr result (IsSomeAnd (suffix_of self.old) (λ x. HasNoTimes machine.now self.old (with_place place x))) }
+        ensures same { OnErr result (content_of N.content self.new ≡ content_of N.content self.old) }
+        ensures stands { Stands N.net N.content N.past self.new machine.now }
+        ensures past { past_of N.past self.new ≡ past_of N.past self.old }
+        ensures loaded { IsSameLoad self.old self.new }
+        ensures marks { N.mark_room self.new.net ≡ N.mark_room self.old.net }
+    {
+        gaps_are_hops();
+        solutions_are_ticks();
+        steps_add_edges();
+        let newest = self.steps[self.steps.len() - 1];
+        let Some(act) = newest.newest else {
+            unreachable!()
+        };
+        let holds = &machine.actions.get(act.0 as u32).holds;
+        let _within = holds.len();
+        let new = Held {
+            rule: *holds.get(hold),
+            start: newest.first,
+            end: PointId(newest.first.0 - 1),
+        };
+        neighbour_edges(&mut self.edges, &self.lines, &self.held, &new, place);
+        match require_all(&mut self.net, &self.edges) {
+            Ok(()) => {}
+            Err(Late) => return Err(Late),
+        }
+        let id = self.held.len() as u32;
+        let Ok(()) = self.lines.insert(new.rule.resource, place, id) else {
+            unreachable!()
+        };
+        let Ok(()) = self.held.push(new) else {
+            unreachable!()
+        };
+        let step = Step {
+            change: Change::Place { place },
             newest: newest.newest,
             first: newest.first,
         };
