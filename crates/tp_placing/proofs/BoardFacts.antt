@@ -53,7 +53,7 @@ board-step pasts mark_room point_room edge_room lines held plans firsts steps ma
       };
     }
 
-choices-room : (choices : List Choice) → newest_places choices ≤ 4 → choice_steps choices ≤ 5 * length choices
+pub choices-room : (choices : List Choice) → newest_places choices ≤ 4 → choice_steps choices ≤ 5 * length choices
 choices-room [] h = omega arith
 choices-room (c ∷ choices) h = omega arith
 

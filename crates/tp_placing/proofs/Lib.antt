@@ -8,3 +8,5 @@ pub mod BoardFacts
 pub mod SlotFacts
 pub mod NeighbourFacts
 pub mod PlaceFacts
+pub mod LowFacts
+pub mod ActionFacts

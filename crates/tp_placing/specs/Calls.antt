@@ -1,10 +1,12 @@
 -- What the calls of a board say.
-use Rattle.std.specs.Prelude.{◌≡◌, ℕ, ◌≤◌, List, ◌∷◌, length, slice_get, Option, Some, IsSomeAnd}
+use Rattle.std.specs.Prelude.{◌≡◌, ℕ, ◌+◌, ◌<◌, ◌≤◌, IsFalse, List, ◌∷◌, length, slice_get, Option, Some, IsSomeAnd}
 use Rattle.tp_machine.specs.Using.{action_at}
 use Rattle.tp_machine.specs.declared.parts.HoldRule.{HoldRule}
 use Rattle.tp_machine.specs.declared.whole.Machine.{Machine}
+use Rattle.tp_schedule.specs.Answers.{kept_of}
 use Rattle.tp_schedule.specs.Choices.{Choice}
 use Rattle.tp_schedule.specs.Holding.{holds_of_act}
+use Rattle.tp_schedule.specs.declared.parts.Ask.{Ask}
 use Rattle.tp_schedule.specs.declared.parts.Plan.{Plan}
 use Rattle.tp_schedule.specs.Spots.{Ticks}
 use Rattle.tp_constraints.specs.Suffixes.{Suffix, SuffixTimes, order_in}
@@ -22,6 +24,11 @@ pub record IsSameLoad {N : Type 0} (b b' : BoardValue N) : Type 0 where
   pub made_for : b'.made_for ≡ b.made_for
   pub plans : b'.plans ≡ b.plans
   pub ask : b'.ask ≡ b.ask
+
+-- one action more may come before the suffix: it isn't stopped, and its actions and the kept ones are fewer than 64
+pub record CanGoOn (ask : Ask) (x : Suffix) : Type 0 where
+  pub going : IsFalse x.stopped
+  pub fewer : kept_of ask + length x.choices < 64
 
 -- the hold is the first of the newest choice that isn't placed, and the order of its resource has the place
 pub record CanPlace (machine : Machine) (plans : List Plan) (x : Suffix) (hold place : ℕ) : Type 0 where

@@ -1,19 +1,19 @@
-ghost use Rattle.std.specs.Prelude.{◌≡◌, ℕ, IsSomeAnd, IsFalse, OnOk, OnErr, Some};
+ghost use Rattle.std.specs.Prelude.{◌≡◌, ℕ, ◌<◌, length, IsSomeAnd, IsFalse, OnOk, OnErr, Some};
 ghost use Rattle.tp_machine.specs.declared.whole.Machine.{Machine};
-ghost use Rattle.tp_constraints.specs.Suffixes.{IsInFlight, with_place, with_stop};
+ghost use Rattle.tp_constraints.specs.Suffixes.{IsInFlight, with_action, with_place, with_stop};
 ghost use Rattle.tp_placing.specs.Boards.{content_of, past_of, suffix_of};
-ghost use Rattle.tp_placing.specs.Calls.{CanPlace, HasNoTimes, HasTimes, IsSameLoad};
+ghost use Rattle.tp_placing.specs.Calls.{CanGoOn, CanPlace, HasNoTimes, HasTimes, IsSameLoad};
 ghost use Rattle.tp_placing.specs.Standing.{Stands};
 
 use crate::board::Board;
-use crate::edges::edge_between;
+use crate::edges::{edge_between, lasting, lowest};
 use crate::finding::point_of;
 use crate::neighbours::neighbour_edges;
 use crate::parts::{Change, Held, Step};
-use crate::trying::require_all;
+use crate::trying::{extend_all, require_all};
 use tp_base::{Late, Network, PointId};
 use tp_constraints::{gaps_are_hops, solutions_are_ticks, steps_add_edges};
-use tp_machine::Machine;
+use tp_machine::{ActId, Machine};
 use tp_schedule::Origin;
 
 impl<N: Network> Board<N> {
@@ -99,6 +99,43 @@ impl<N: Network> Board<N> {
             change: Change::Place { place },
             newest: newest.newest,
             first: newest.first,
+        };
+        let Ok(()) = self.steps.push(step) else {
+            unreachable!()
+        };
+        Ok(())
+    }
+
+    /// Opens an action before the others, to start with so much room after the start floor, or answers Late where no times
+    /// are left.
+    pub fn open_action(&mut self, machine: &Machine, act: ActId, room: u32) -> Result<(), Late>
+        requires stands { Stands N.net N.content N.past self.old machine.now }
+        requires known { act.0 < length machine.now.actions }
+        requires ready { IsSomeAnd self.old.ask (λ ask. IsSomeAnd (suffix_of self.old) (CanGoOn ask)) }
+        ensures suffix { OnOk result (IsSomeAnd (suffix_of self.old) (λ x. suffix_of self.new ≡ Some (with_action act room x))) }
+        ensures times { OnOk result (IsSomeAnd (suffix_of self.new) (HasTimes machine.now self.new)) }
+        ensures late { OnErr result (IsSomeAnd (suffix_of self.old) (λ x. HasNoTimes machine.now self.old (with_action act room x))) }
+        ensures same { OnErr result (content_of N.content self.new ≡ content_of N.content self.old) }
+        ensures stands { Stands N.net N.content N.past self.new machine.now }
+        ensures past { past_of N.past self.new ≡ past_of N.past self.old }
+        ensures loaded { IsSameLoad self.old self.new }
+        ensures marks { N.mark_room self.new.net ≡ N.mark_room self.old.net }
+    {
+        gaps_are_hops();
+        solutions_are_ticks();
+        steps_add_edges();
+        let newest = self.steps[self.steps.len() - 1];
+        let start = PointId(newest.first.0 + 1);
+        let low = lowest(self.floor, room, self.horizon);
+        let edges = lasting(machine.actions.get(act.0 as u32), start, newest.first);
+        match extend_all(&mut self.net, low, self.horizon, &edges) {
+            Ok(()) => {}
+            Err(Late) => return Err(Late),
+        }
+        let step = Step {
+            change: Change::Action { act, room },
+            newest: Some(act),
+            first: start,
         };
         let Ok(()) = self.steps.push(step) else {
             unreachable!()

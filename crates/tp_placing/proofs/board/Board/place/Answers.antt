@@ -60,7 +60,6 @@ newest-here g c =
     let last : slice_get a.steps.items (length a.steps.items - 1) ≡ Some c.index-newest.result.now = ap (slice_get a.steps.items) (sym k) ∙ at in
     has-newest g.N.Network.net g.N.Undo.content g.N.Undo.past (board g c) c.args.machine.now (standing g c).0 c.index-newest.result.now c.args.hold c.args.place (standing g c).1 next last
 
-
 abbrev Newest : (g : _) → After-index-newest g → Type 0
 Newest g c = HasNewest g.N.Network.net (board g c) c.args.machine.now (standing g c).0 c.index-newest.result.now c.args.hold c.args.place
 
@@ -266,8 +265,10 @@ returns-clause-stands g k =
     let x = suffix g c k.in-Some.act k.get-2.result.now r in
     let added = rw (k.deref-2.ensures.value, k.neighbour_edges.ensures.edges, k.deref.ensures.value) at k.in-Ok.ensures.added in
     let at = after g c k.in-Some.act k.get-2.result.now r (g.N.Network.net k.require_all.new.net) k.insert.new.self.orders k.push.new.self.items k.push-2.new.self.items _ added k.in-Ok.ensures.solved
-    (line-is g c k.get-2.result.now k.insert.new.self.orders k.len-id.result k.in-Ok-insert.ensures.ok (k.len-id.ensures ∙ k.self.inside.held.ok.0)) k.in-Ok-push.ensures.items k.in-Ok-push-2.ensures.items refl refl in
-    ((standing g c).0, stands-after g.N.Network.net g.N.Undo.content g.N.Undo.past (board g c) k.require_all.new.net k.insert.new.self k.push.new.self.items k.push-2.new.self.items c.args.machine.now (standing g c).0 (with_place c.args.place x) (standing g c).1
-    (rw (k.in-Ok.ensures.past, k.in-Ok-insert.ensures.past, k.in-Ok-push-2.ensures.items, k.in-Ok-push.ensures.items)
-      (side-more a.held.items (_ ∷ []) a.steps.items (_ ∷ []) (g.N.Undo.past a.net) a.lines.past a.marks.items (λ j n z. (i.held_below j n z, i.steps_below j n z))))
-    (suffix-now g c x k.push-2.new.self.items _ r.places.suffix k.in-Ok-push-2.ensures.items refl) at)
+    (line-is g c k.get-2.result.now k.insert.new.self.orders k.len-id.result k.in-Ok-insert.ensures.ok (k.len-id.ensures ∙ k.self.inside.held.ok.0)) k.in-Ok-push.ensures.items k.in-Ok-push-2.ensures.items refl refl in (
+      (standing g c).0,
+      stands-after g.N.Network.net g.N.Undo.content g.N.Undo.past (board g c) k.require_all.new.net k.insert.new.self k.push.new.self.items k.push-2.new.self.items c.args.machine.now (standing g c).0 (with_place c.args.place x) (standing g c).1
+          (rw (k.in-Ok.ensures.past, k.in-Ok-insert.ensures.past, k.in-Ok-push-2.ensures.items, k.in-Ok-push.ensures.items)
+          (side-more a.held.items (_ ∷ []) a.steps.items (_ ∷ []) (g.N.Undo.past a.net) a.lines.past a.marks.items (λ j n z. (i.held_below j n z, i.steps_below j n z))))
+          (suffix-now g c x k.push-2.new.self.items _ r.places.suffix k.in-Ok-push-2.ensures.items refl) at,
+    )
