@@ -10,3 +10,5 @@ pub mod NeighbourFacts
 pub mod PlaceFacts
 pub mod LowFacts
 pub mod ActionFacts
+pub mod LineFacts
+pub mod GoalFacts

@@ -19,13 +19,13 @@ pub length-points : (copy : SheetId) (i n : ℕ) → length (points_from copy i 
 length-points copy i zero = refl
 length-points copy i (suc n) = ap suc (length-points copy (suc i) n)
 
-points-get : (copy : SheetId) (i n j : ℕ) → j ≤ n → slice_get (points_from copy i n) j ≡ Some (kept copy (i + j))
+pub points-get : (copy : SheetId) (i n j : ℕ) → j ≤ n → slice_get (points_from copy i n) j ≡ Some (kept copy (i + j))
 points-get copy i zero zero h = let e : i + 0 ≡ i = omega arith in ap (λ k. Some (kept copy k)) (sym e)
 points-get copy i zero (suc j) h = absurd (omega arith)
 points-get copy i (suc n) zero h = let e : i + 0 ≡ i = omega arith in ap (λ k. Some (kept copy k)) (sym e)
 points-get copy i (suc n) (suc j) h = let e : suc i + j ≡ i + suc j = omega arith in points-get copy (suc i) n j (omega arith) ∙ ap (λ k. Some (kept copy k)) e
 
-get-right : {X : Type 0} (xs ys : List X) (k : ℕ) → slice_get (xs ++ ys) (length xs + k) ≡ slice_get ys k
+pub get-right : {X : Type 0} (xs ys : List X) (k : ℕ) → slice_get (xs ++ ys) (length xs + k) ≡ slice_get ys k
 get-right [] ys k = let e : 0 + k ≡ k = omega arith in ap (λ n. slice_get ys n) e
 get-right (x ∷ xs) ys k = let e : suc (length xs) + k ≡ suc (length xs + k) = omega arith in ap (λ n. slice_get (x ∷ (xs ++ ys)) n) e ∙ get-right xs ys k
 

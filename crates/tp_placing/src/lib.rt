@@ -4,6 +4,7 @@
 mod board;
 mod edges;
 mod finding;
+mod lining;
 mod neighbours;
 mod opening;
 mod parts;

@@ -1,6 +1,6 @@
-ghost use Rattle.std.specs.Prelude.{◌≡◌, ℕ, ◌<◌, length, IsSomeAnd, IsFalse, OnOk, OnErr, Some};
+ghost use Rattle.std.specs.Prelude.{◌≡◌, ℕ, ◌<◌, length, IsSomeAnd, IsFalse, OnOk, OnErr, Some, None};
 ghost use Rattle.tp_machine.specs.declared.whole.Machine.{Machine};
-ghost use Rattle.tp_constraints.specs.Suffixes.{IsInFlight, with_action, with_place, with_stop};
+ghost use Rattle.tp_constraints.specs.Suffixes.{IsInFlight, with_action, with_goal, with_place, with_stop};
 ghost use Rattle.tp_placing.specs.Boards.{content_of, past_of, suffix_of};
 ghost use Rattle.tp_placing.specs.Calls.{CanGoOn, CanPlace, HasNoTimes, HasTimes, IsSameLoad};
 ghost use Rattle.tp_placing.specs.Standing.{Stands};
@@ -8,6 +8,7 @@ ghost use Rattle.tp_placing.specs.Standing.{Stands};
 use crate::board::Board;
 use crate::edges::{edge_between, lasting, lowest};
 use crate::finding::point_of;
+use crate::lining::line_edges;
 use crate::neighbours::neighbour_edges;
 use crate::parts::{Change, Held, Step};
 use crate::trying::{extend_all, require_all};
@@ -136,6 +137,40 @@ impl<N: Network> Board<N> {
             change: Change::Action { act, room },
             newest: Some(act),
             first: start,
+        };
+        let Ok(()) = self.steps.push(step) else {
+            unreachable!()
+        };
+        Ok(())
+    }
+
+    /// Opens a goal that wants so much room after the start floor, or answers Late where no times are left.
+    pub fn open_goal(&mut self, room: u32) -> Result<(), Late>
+        requires stands { (m : Machine) × Stands N.net N.content N.past self.old m }
+        requires closed { suffix_of self.old ≡ None }
+        ensures suffix { OnOk result (suffix_of self.new ≡ Some (with_goal room)) }
+        ensures times { OnOk result ((m : Machine) → Stands N.net N.content N.past self.old m → HasTimes m self.new (with_goal room)) }
+        ensures late { OnErr result ((m : Machine) → Stands N.net N.content N.past self.old m → HasNoTimes m self.old (with_goal room)) }
+        ensures same { OnErr result (content_of N.content self.new ≡ content_of N.content self.old) }
+        ensures stands { (m : Machine) → Stands N.net N.content N.past self.old m → Stands N.net N.content N.past self.new m }
+        ensures past { past_of N.past self.new ≡ past_of N.past self.old }
+        ensures loaded { IsSameLoad self.old self.new }
+        ensures marks { N.mark_room self.new.net ≡ N.mark_room self.old.net }
+    {
+        gaps_are_hops();
+        solutions_are_ticks();
+        steps_add_edges();
+        let Some(ask) = self.ask else { unreachable!() };
+        let low = lowest(self.floor, room, self.horizon);
+        line_edges(&mut self.edges, &self.plans, &self.firsts, &ask, self.last);
+        match extend_all(&mut self.net, low, self.horizon, &self.edges) {
+            Ok(()) => {}
+            Err(Late) => return Err(Late),
+        }
+        let step = Step {
+            change: Change::Goal { room },
+            newest: None,
+            first: self.last,
         };
         let Ok(()) = self.steps.push(step) else {
             unreachable!()
