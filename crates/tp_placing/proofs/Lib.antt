@@ -12,3 +12,5 @@ pub mod LowFacts
 pub mod ActionFacts
 pub mod LineFacts
 pub mod GoalFacts
+pub mod ReadFacts
+pub mod MarkFacts

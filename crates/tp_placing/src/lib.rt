@@ -4,12 +4,15 @@
 mod board;
 mod edges;
 mod finding;
+mod laws;
 mod lining;
 mod neighbours;
 mod opening;
 mod parts;
+mod reading;
 mod trying;
 mod undoing;
 
 pub use board::Board;
+pub use laws::marks_keep_boards;
 pub use parts::MadeFor;
