@@ -6,6 +6,7 @@ mod edges;
 mod finding;
 mod laws;
 mod lining;
+mod making;
 mod neighbours;
 mod opening;
 mod parts;
