@@ -14,3 +14,5 @@ pub mod LineFacts
 pub mod GoalFacts
 pub mod ReadFacts
 pub mod MarkFacts
+pub mod WriteTimes
+pub mod WritePlans

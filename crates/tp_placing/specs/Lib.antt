@@ -6,3 +6,4 @@ pub mod Ticks
 pub mod Trying
 pub mod Laws
 pub mod Standing
+pub mod Writing

@@ -13,6 +13,7 @@ mod parts;
 mod reading;
 mod trying;
 mod undoing;
+mod writing;
 
 pub use board::Board;
 pub use laws::marks_keep_boards;

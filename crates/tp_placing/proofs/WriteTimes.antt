@@ -1,0 +1,72 @@
+-- The times of the least solution, point after point.
+use Rattle.std.proofs.Common.{◌≡◌, ℕ, zero, suc, ◌+◌, ◌<◌, ◌≤◌, List, [], ◌∷◌, ◌++◌, length, refl, ap, sym, ◌∙◌, arith}
+use Rattle.tp_base.specs.Net.{Net, IsLeast, IsEarliest}
+use Rattle.std.proofs.Common.{AllPairs, get_or, Some}
+use Rattle.std.specs.List.{slice_get}
+use Rattle.std.proofs.lemmas.Option.{slice_get_read, slice_get-get_or}
+use Rattle.tp_base.specs.Net.{HasLeast}
+use Rattle.tp_base.specs.declared.edges.PointId.{PointId}
+use Rattle.tp_schedule.specs.Plans.{IsEarlier}
+use Rattle.tp_schedule.specs.Spots.{Spot, Ticks}
+use Rattle.tp_schedule.specs.Spots.Spot.{kept}
+use Rattle.tp_schedule.specs.Times.{at, ticks_from}
+use Rattle.tp_schedule.specs.declared.parts.Plan.{Plan}
+use Rattle.tp_constraints.specs.Numbers.{table_of, ticks_by}
+use Rattle.tp_constraints.proofs.Numbering.{number-at}
+use Rattle.tp_constraints.proofs.PointTable.{table_law}
+use Rattle.tp_placing.specs.Standing.{AreFirsts}
+use Rattle.tp_placing.specs.Writing.{AreLeastTicks}
+use Rattle.tp_placing.proofs.TableFacts.{begins-at, length-firsts}
+
+-- all least solutions agree
+pub earliest-is : (net : Net) (sol : ℕ → ℕ) (p t : ℕ) → IsLeast net sol → p < length net.lows → IsEarliest net p t → t ≡ sol p
+earliest-is net sol p t l within e =
+    let a = l.least e.0 e.1.solution p within in
+    let b = e.1.least sol l.solution p within in
+    let c = e.2 in
+    omega arith
+
+pub ticks-push : (f : ℕ → ℕ) (i n : ℕ) → ticks_from f i (suc n) ≡ ticks_from f i n ++ f (i + n) ∷ []
+ticks-push f i zero = let e : i + 0 ≡ i = omega arith in ap (λ k. f k ∷ []) (sym e)
+ticks-push f i (suc n) = let e : suc i + n ≡ i + suc n = omega arith in ap (λ ts. f i ∷ ts) (ticks-push f (suc i) n ∙ ap (λ k. ticks_from f (suc i) n ++ f k ∷ []) e)
+
+pub ticks-more : (f : ℕ → ℕ) (i n : ℕ) → ticks_from f i (n + 1) ≡ ticks_from f i n ++ f (i + n) ∷ []
+ticks-more f i n = let e : n + 1 ≡ suc n = omega arith in ap (λ k. ticks_from f i k) e ∙ ticks-push f i n
+
+pub ticks-append : (f : ℕ → ℕ) (i m n : ℕ) → ticks_from f i (m + n) ≡ ticks_from f i m ++ ticks_from f (i + m) n
+ticks-append f i zero n = let e : 0 + n ≡ n = omega arith in let d : i + 0 ≡ i = omega arith in ap (λ k. ticks_from f i k) e ∙ ap (λ k. ticks_from f k n) (sym d)
+ticks-append f i (suc m) n =
+    let e : suc m + n ≡ suc (m + n) = omega arith in
+    let d : suc i + m ≡ i + suc m = omega arith in
+    ap (λ k. ticks_from f i k) e ∙ ap (λ ts. f i ∷ ts) (ticks-append f (suc i) m n ∙ ap (λ k. ticks_from f (suc i) m ++ ticks_from f k n) d)
+
+-- numbers that agree place by place
+pub ticks-same : (f g : ℕ → ℕ) (i j n : ℕ) → ((k : ℕ) → k < n → f (i + k) ≡ g (j + k)) → ticks_from f i n ≡ ticks_from g j n
+ticks-same f g i j zero h = refl
+ticks-same f g i j (suc n) h =
+    let a : i + 0 ≡ i = omega arith in
+    let b : j + 0 ≡ j = omega arith in
+    let first : f i ≡ g j = ap f (sym a) ∙ h 0 (omega arith) ∙ ap g b in
+    let rest = ticks-same f g (suc i) (suc j) n (λ k within.
+    let c : suc i + k ≡ i + suc k = omega arith in
+    let d : suc j + k ≡ j + suc k = omega arith in
+    ap f c ∙ h (suc k) (omega arith) ∙ ap g (sym d)) in
+    λ q. first q ∷ rest q
+
+-- the times of a loaded plan's points are its ticks
+pub plan-ticks : (net : Net) (plans : List Plan) (firsts : List PointId) (k : ℕ) (p : Plan) (d : PointId) (t : Ticks) (n : ℕ) → AreFirsts 0 plans firsts → k < length plans → p ≡ get_or plans k p → (a : AreLeastTicks net (table_of plans) t)
+    → n ≤ suc (length p.acts) → ticks_from a.solution (get_or firsts k d).0 n ≡ ticks_from (at t p) 0 n
+plan-ticks net plans firsts k p d t n are within read a few =
+    let l = length-firsts 0 plans firsts are in
+    let there = slice_get_read plans (length plans) k p refl within read in
+    let b = begins-at 0 plans firsts k p (get_or firsts k d) are there (slice_get-get_or firsts k d (omega arith)) in
+    let first = b.1 in
+    ticks-same a.solution (at t p) (get_or firsts k d).0 0 n (λ i less.
+        let e : (get_or firsts k d).0 + i ≡ b.0 + i = omega arith in
+        let z : i ≡ 0 + i = omega arith in
+        ap a.solution e ∙ sym (a.there (b.0 + i) (kept p.sheet i) (b.2.get i (omega arith))) ∙ ap (at t p) z)
+
+-- there are such ticks
+pub ticks-exist : (net : Net) (plans : List Plan) → HasLeast net → AllPairs IsEarlier plans → (t : Ticks) × AreLeastTicks net (table_of plans) t
+ticks-exist net plans least in_order =
+    (ticks_by (table_of plans) least.0, record { solution = least.0; least = least.1; there = λ i s e. ap least.0 (number-at (table_of plans) (table_law plans in_order).differ i s e) })

@@ -1,0 +1,65 @@
+//! The times of a network's least solution, written into a schedule.
+ghost use Rattle.std.specs.Prelude.{◌≡◌, ℕ, suc, ◌+◌, ◌^◌, ◌<◌, ◌≤◌, All, AllPairs, length, map, Some};
+ghost use Rattle.tp_base.specs.Net.{HasLeast, IsLeast};
+ghost use Rattle.tp_schedule.specs.Plans.{IsEarlier, IsFormed, change_plan, plan_of, with_points};
+ghost use Rattle.tp_schedule.specs.Spots.{Ticks};
+ghost use Rattle.tp_schedule.specs.Times.{ticks_from};
+ghost use Rattle.tp_constraints.specs.Numbers.{table_of};
+ghost use Rattle.tp_placing.specs.Standing.{AreFirsts};
+ghost use Rattle.tp_placing.specs.Writing.{AreLeastTicks, retimed_in};
+
+use tp_base::{Network, PointId};
+use tp_schedule::{Plan, Points, Schedule};
+
+/// The least times of so many points from one on.
+pub(crate) fn times_from<N: Network>(net: &N, first: PointId, count: u32) -> Points
+    requires few { count ≤ 65 }
+    requires known { first.0 + count ≤ length (N.net net.now).lows }
+    requires fits { first.0 + count < 2 ^ 32 }
+    ensures times { (sol : ℕ → ℕ) → IsLeast (N.net net.now) sol → result ≡ ticks_from sol first.0 count }
+    ensures count { length result ≡ count }
+{
+    let mut points = Points::new();
+    for at in 0..count {
+        points.push(net.earliest(PointId(first.0 + at)));
+    }
+    points
+}
+
+/// Gives a plan of the schedule its least times. Writes nothing where it has them.
+fn write_points<N: Network>(net: &N, plan: &Plan, first: PointId, schedule: &mut Schedule)
+    requires formed { IsFormed plan.now }
+    requires planned { plan_of plan.now.sheet schedule.old.plans ≡ Some plan.now }
+    requires known { first.0 + length plan.now.acts < length (N.net net.now).lows }
+    requires fits { first.0 + length plan.now.acts + 1 < 2 ^ 32 }
+    ensures plans { (sol : ℕ → ℕ) → IsLeast (N.net net.now) sol → schedule.new.plans ≡ change_plan plan.now.sheet (with_points (ticks_from sol first.0 (suc (length plan.now.acts)))) schedule.old.plans }
+    ensures spare { schedule.new.spare ≡ schedule.old.spare }
+{
+    let points = times_from(net, first, plan.acts.len() + 1);
+    if points.as_slice() != plan.points.as_slice() {
+        schedule.set_points(plan.sheet, &points);
+    }
+}
+
+/// Gives each of the loaded plans its least times in the schedule.
+pub(crate) fn write_times<N: Network>(
+    net: &N,
+    plans: &[Plan],
+    firsts: &[PointId],
+    schedule: &mut Schedule,
+)
+    requires firsts { AreFirsts 0 plans.now firsts.now }
+    requires known { length (table_of plans.now) ≤ length (N.net net.now).lows }
+    requires fits { length (table_of plans.now) < 2 ^ 32 }
+    requires formed { All IsFormed plans.now }
+    requires in_order { AllPairs IsEarlier plans.now }
+    requires schedule { AllPairs IsEarlier schedule.old.plans }
+    requires planned { All (λ p. plan_of p.sheet schedule.old.plans ≡ Some p) plans.now }
+    requires solved { HasLeast (N.net net.now) }
+    ensures times { (t : Ticks) → AreLeastTicks (N.net net.now) (table_of plans.now) t → schedule.new.plans ≡ map (retimed_in plans.now t) schedule.old.plans }
+    ensures spare { schedule.new.spare ≡ schedule.old.spare }
+{
+    for (at, plan) in plans.iter().enumerate() {
+        write_points(net, plan, firsts[at], schedule);
+    }
+}
