@@ -16,3 +16,5 @@ pub mod ReadFacts
 pub mod MarkFacts
 pub mod WriteTimes
 pub mod WritePlans
+pub mod WriteAsked
+pub mod WritePoints

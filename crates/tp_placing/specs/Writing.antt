@@ -1,5 +1,5 @@
 -- What a board writes into a schedule.
-use Rattle.std.specs.Prelude.{◌≡◌, ℕ, ◌<◌, Bool, List, [], ◌∷◌, ◌++◌, length, filter, slice_get, Some, if◌then◌else◌}
+use Rattle.std.specs.Prelude.{◌≡◌, ℕ, ◌-◌, ◌<◌, Bool, List, [], ◌∷◌, length, filter, flat_map, reverse, slice_get, Some, if◌then◌else◌}
 use Rattle.std.specs.List.{list_any}
 use Rattle.tp_base.specs.Net.{Net, IsLeast}
 use Rattle.tp_machine.specs.declared.parts.ActId.{ActId}
@@ -41,6 +41,10 @@ pub record AreLeastTicks (net : Net) (table : List Spot) (t : Ticks) : Type 0 wh
   pub least : IsLeast net solution
   pub there : (i : ℕ) (s : Spot) → slice_get table i ≡ Some s → t s ≡ solution i
 
+-- times counted back from a point
+abbrev pub back_from : (ℕ → ℕ) → ℕ → ℕ → ℕ
+back_from times point i = times (point - i)
+
 -- the copy is among the loaded plans
 abbrev pub is_loaded : List Plan → SheetId → Bool
 is_loaded live copy = list_any (λ q. is_same_copy q.sheet copy) live
@@ -57,5 +61,4 @@ opened_by (Place place) = []
 opened_by Stop = []
 
 abbrev pub opened : List Step → List ActId
-opened [] = []
-opened (s ∷ steps) = opened steps ++ opened_by s.change
+opened steps = flat_map (λ s. opened_by s.change) (reverse steps)

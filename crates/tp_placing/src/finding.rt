@@ -7,7 +7,7 @@ ghost use Rattle.tp_placing.specs.Standing.{AreFirsts};
 use tp_base::PointId;
 use tp_schedule::{Plan, SheetId};
 
-fn copy_place(plans: &[Plan], copy: SheetId) -> Option<usize>
+pub(crate) fn copy_place(plans: &[Plan], copy: SheetId) -> Option<usize>
     ensures place { result ≡ position (λ p. is_same_copy p.sheet copy) plans.now }
     ensures within { IfSome result (λ at. at < length plans.now) }
 {

@@ -1,6 +1,7 @@
 //! A schedule as a network with timelines, to which the choices for one sheet are added and taken back.
 #![tactic(auto)]
 
+mod asked;
 mod board;
 mod edges;
 mod finding;

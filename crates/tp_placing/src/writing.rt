@@ -1,7 +1,7 @@
 //! The times of a network's least solution, written into a schedule.
-ghost use Rattle.std.specs.Prelude.{◌≡◌, ℕ, suc, ◌+◌, ◌^◌, ◌<◌, ◌≤◌, All, AllPairs, length, map, Some};
+ghost use Rattle.std.specs.Prelude.{◌≡◌, ℕ, suc, ◌+◌, ◌^◌, ◌<◌, ◌≤◌, All, AllPairs, length, map, Some, None};
 ghost use Rattle.tp_base.specs.Net.{HasLeast, IsLeast};
-ghost use Rattle.tp_schedule.specs.Plans.{IsEarlier, IsFormed, change_plan, plan_of, with_points};
+ghost use Rattle.tp_schedule.specs.Plans.{IsEarlier, IsFormed, change_plan, plan_of, put_plan, with_points, without};
 ghost use Rattle.tp_schedule.specs.Spots.{Ticks};
 ghost use Rattle.tp_schedule.specs.Times.{ticks_from};
 ghost use Rattle.tp_constraints.specs.Numbers.{table_of};
@@ -61,5 +61,20 @@ pub(crate) fn write_times<N: Network>(
 {
     for (at, plan) in plans.iter().enumerate() {
         write_points(net, plan, firsts[at], schedule);
+    }
+}
+
+/// Puts the plan into the schedule, in place of its copy's plan where there is one.
+pub(crate) fn write_plan(schedule: &mut Schedule, plan: Plan)
+    requires formed { IsFormed plan }
+    requires room { plan_of plan.sheet schedule.old.plans ≡ None → 0 < schedule.old.spare }
+    ensures plans { schedule.new.plans ≡ put_plan plan (without plan.sheet schedule.old.plans) }
+    ensures in_order { AllPairs IsEarlier schedule.new.plans }
+    ensures spare { schedule.old.spare ≤ schedule.new.spare + 1 }
+{
+    schedule.ordered();
+    match schedule.find(plan.sheet) {
+        Some(_) => schedule.replace(plan),
+        None => schedule.put(plan),
     }
 }
