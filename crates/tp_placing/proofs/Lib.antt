@@ -18,3 +18,5 @@ pub mod WriteTimes
 pub mod WritePlans
 pub mod WriteAsked
 pub mod WritePoints
+pub mod WriteLive
+pub mod WriteWhole

@@ -53,11 +53,11 @@ same-turn a b e = go (is_same_copy b a) refl where
   go true f = let is = same_copy-is b a f in let bad : is_same_copy a b ≡ true = subst (λ c. is_same_copy a c ≡ true) (sym is) (same_copy-refl a) in cc
   go false f = refl
 
-or-true : (b : Bool) → (b || true) ≡ true
+pub or-true : (b : Bool) → (b || true) ≡ true
 or-true true = refl
 or-true false = refl
 
-or-false : (b : Bool) → (b || false) ≡ b
+pub or-false : (b : Bool) → (b || false) ≡ b
 or-false true = refl
 or-false false = refl
 
