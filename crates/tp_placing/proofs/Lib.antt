@@ -20,3 +20,4 @@ pub mod WriteAsked
 pub mod WritePoints
 pub mod WriteLive
 pub mod WriteWhole
+pub mod WriteJoined
