@@ -21,3 +21,4 @@ pub mod WritePoints
 pub mod WriteLive
 pub mod WriteWhole
 pub mod WriteJoined
+pub mod WriteCommit

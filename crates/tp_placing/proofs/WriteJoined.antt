@@ -115,9 +115,6 @@ module _ (machine : Machine) (plans : List Plan) (ask : Ask) (can : CanAsk machi
   others : map (timed_by settled) (without ask.sheet live) ≡ map (timed_by t) (without ask.sheet live)
   others = map-agree (timed_by settled) (timed_by t) (without ask.sheet live) (λ p in'. settled-other ask (total_of ask choices) t p (not-true (is_same_copy p.sheet ask.sheet) (Contains-filter_from (λ q. not (is_same_copy q.sheet ask.sheet)) live p in').1))
 
-  rest : List Plan
-  rest = without ask.sheet (map (retimed_in live t) plans)
-
   rest-live : less ended (without ask.sheet (map (retimed_in live t) plans)) ≡ map (timed_by settled) (without ask.sheet live)
   rest-live =
       filter-swap (λ p. not (ended p.sheet)) (λ p. not (is_same_copy p.sheet ask.sheet)) (map (retimed_in live t) plans)

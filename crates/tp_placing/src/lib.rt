@@ -3,6 +3,7 @@
 
 mod asked;
 mod board;
+mod committing;
 mod edges;
 mod finding;
 mod laws;

@@ -1,0 +1,44 @@
+ghost use Rattle.std.specs.Prelude.{◌≡◌, ◌+◌, ◌<◌, ◌≤◌, IsSomeAnd, None};
+ghost use Rattle.tp_schedule.specs.Answers.{IsAlternative, IsLeast, follows_front};
+ghost use Rattle.tp_schedule.specs.Plans.{end_of_plan, plan_of};
+ghost use Rattle.tp_schedule.specs.Spots.Spot.{own};
+ghost use Rattle.tp_placing.specs.Boards.{suffix_of};
+ghost use Rattle.tp_placing.specs.Standing.{Stands};
+ghost use Rattle.tp_placing.specs.Ticks.{HasLeastTick};
+ghost use Rattle.tp_placing.specs.Writing.{CanCommit, IsLoadedFrom};
+
+use crate::asked::plan_by_steps;
+use crate::board::Board;
+use crate::writing::{write_plan, write_times};
+use tp_base::Network;
+use tp_machine::Machine;
+use tp_schedule::Schedule;
+
+impl<N: Network> Board<N> {
+    /// Writes the asked copy's plan and the times of all loaded plans into the schedule that the board was loaded from. Takes
+    /// one spare plan for a new copy, and no memory.
+    pub fn commit(&self, machine: &Machine, schedule: &mut Schedule)
+        requires stands { Stands N.net N.content N.past self.now machine.now }
+        requires loaded { IsSomeAnd self.now.ask (λ ask. IsLoadedFrom machine.now schedule.old.plans ask self.now.plans) }
+        requires complete { IsSomeAnd self.now.ask (λ ask. IsSomeAnd (suffix_of self.now) (CanCommit machine.now self.now.plans ask)) }
+        requires spare { IsSomeAnd self.now.ask (λ ask. plan_of ask.sheet schedule.old.plans ≡ None → 0 < schedule.old.spare) }
+        ensures alternative { IsSomeAnd self.now.ask (λ ask. (a : IsAlternative machine.now schedule.old.plans ask schedule.new.plans) × HasLeastTick machine.now self.now (own 0) (end_of_plan a.plan)) }
+        ensures least { IsSomeAnd self.now.ask (λ ask. IsLeast machine.now ask.now (follows_front ask) schedule.new.plans) }
+        ensures spare { schedule.old.spare ≤ schedule.new.spare + 1 }
+    {
+        let Some(ask) = self.ask else { unreachable!() };
+        let newest = self.steps[self.steps.len() - 1];
+        let count = newest.first.0 - self.last.0;
+        write_times(&self.net, &self.plans, &self.firsts, schedule);
+        let plan = plan_by_steps(
+            &self.net,
+            &self.plans,
+            &self.firsts,
+            &ask,
+            &self.steps,
+            newest.first,
+            count,
+        );
+        write_plan(schedule, plan);
+    }
+}
