@@ -22,3 +22,4 @@ pub mod WriteLive
 pub mod WriteWhole
 pub mod WriteJoined
 pub mod WriteCommit
+pub mod WriteReady

@@ -1,5 +1,5 @@
 -- The asked copy's plan by the steps.
-use Rattle.std.proofs.Common.{◌≡◌, ℕ, zero, suc, ◌+◌, ◌<◌, ◌≤◌, Bool, true, false, cond, not, List, [], ◌∷◌, ◌++◌, length, map, take, reverse, flat_map, refl, ap, sym, ◌∙◌, subst, arith, Some, None, Option, IsSome, position, AllPairs}
+use Rattle.std.proofs.Common.{◌≡◌, ℕ, ◌+◌, ◌<◌, Bool, true, false, cond, not, List, [], ◌∷◌, ◌++◌, length, take, reverse, flat_map, refl, ap, sym, ◌∙◌, subst, arith, Some, None, Option, IsSome, position, AllPairs}
 use Rattle.std.specs.List.{fold}
 use Rattle.std.proofs.Math.Seq.{take-append-add, take-append_seam}
 use Rattle.std.proofs.lemmas.Grind.{common_steps, flat_map-append}

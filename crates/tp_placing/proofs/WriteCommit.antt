@@ -1,5 +1,5 @@
 -- What is written is an alternative that ends at the least tick of the asked copy's end, and is least.
-use Rattle.std.proofs.Common.{◌≡◌, ℕ, ◌<◌, Bool, false, List, [], length, filter, map, refl, ap, sym, ◌∙◌, subst, AllPairs}
+use Rattle.std.proofs.Common.{◌≡◌, ℕ, false, List, filter, map, ap, sym, ◌∙◌, subst, AllPairs}
 use Rattle.tp_base.specs.Net.{Net, IsLeast as IsLeastSolution}
 use Rattle.tp_machine.specs.declared.whole.Machine.{Machine}
 use Rattle.tp_schedule.specs.Answers.{IsAlternative, IsAsked, IsLeast, follows_front}
@@ -12,7 +12,6 @@ use Rattle.tp_schedule.specs.Spots.Spot.{own}
 use Rattle.tp_schedule.specs.Times.{timed_by}
 use Rattle.tp_schedule.specs.declared.parts.Ask.{Ask}
 use Rattle.tp_schedule.specs.declared.parts.Plan.{Plan}
-use Rattle.tp_choices.specs.LiveParts.{less}
 use Rattle.tp_choices.proofs.LiveAnswers.{live_answers}
 use Rattle.tp_choices.proofs.LiveTimes.{whole_is_least}
 use Rattle.tp_constraints.specs.Laws.{IsLoadable}
@@ -21,8 +20,9 @@ use Rattle.tp_constraints.specs.Numbers.{number, ticks_by}
 use Rattle.tp_constraints.specs.Suffixes.{Suffix}
 use Rattle.tp_constraints.proofs.LeastSolutions.{commit_law}
 use Rattle.tp_placing.specs.Writing.{CanCommit, IsLoadedFrom, retimed_in}
-use Rattle.tp_placing.proofs.WriteJoined.{joined, written}
+use Rattle.tp_placing.proofs.WriteJoined.{joined}
 use Rattle.tp_placing.proofs.WriteLive.{gone, may-ask, may-forget}
+use Rattle.tp_placing.proofs.WritePlans.{in_order-retimed}
 use Rattle.tp_placing.proofs.WriteWhole.{forget-new, less-live}
 
 -- the schedule that is written for what was loaded, at these ticks
@@ -60,3 +60,13 @@ commits machine plans ask x table net sol can load asked is complete l before in
 
 pub committed : (machine : Machine) (plans live : List Plan) (ask : Ask) (x : Suffix) (table : List Spot) (net : Net) (sol : ℕ → ℕ) → IsLoadedFrom machine plans ask live → Commits machine plans ask x table net sol live
 committed machine plans live ask x table net sol from = subst (Commits machine plans ask x table net sol) (sym from.live_part) (commits machine plans ask x table net sol from.can_ask)
+
+-- the same of a schedule that was made so, step by step
+pub written-is : (machine : Machine) (plans live : List Plan) (ask : Ask) (x : Suffix) (table : List Spot) (net : Net) (sol : ℕ → ℕ) → IsLoadedFrom machine plans ask live
+    → IsLoadable machine ask.now (λ _. false) live → IsAsked machine live ask → IsBoardNet machine live ask x table net → CanCommit machine live ask x → IsLeastSolution net sol
+    → (mid new : List Plan) (p : Plan) → mid ≡ map (retimed_in live (ticks_by table sol)) plans → p ≡ timed_by (settled_ticks ask (total_of ask x.choices) (ticks_by table sol)) (asked_plan live ask x.choices)
+    → p.sheet ≡ ask.sheet → new ≡ put_plan p (without p.sheet mid) → AllPairs IsEarlier new → IsWritten machine plans ask (sol (number table (own 0))) new
+written-is machine plans live ask x table net sol from load asked is complete l mid new p times plan sheet made in_order =
+    let e : new ≡ written_for plans live ask x (ticks_by table sol) = made ∙ (λ i. put_plan (plan i) (without (sheet i) (times i))) in
+    subst (IsWritten machine plans ask (sol (number table (own 0)))) (sym e)
+    (committed machine plans live ask x table net sol from load asked is complete l (in_order-retimed live (ticks_by table sol) plans from.can_ask.plan_on.legal.in_order) (subst (AllPairs IsEarlier) e in_order))

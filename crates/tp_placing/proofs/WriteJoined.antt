@@ -1,6 +1,6 @@
 -- The schedule that is written: the answered live part, joined with the plans that are not live.
-use Rattle.std.proofs.Common.{◌≡◌, ℕ, suc, Bool, true, false, cond, not, ◌&&◌, List, [], ◌∷◌, length, filter, map, refl, ap, sym, ◌∙◌, subst, All, AllPairs, Contains, get_or}
-use Rattle.std.proofs.lemmas.List.Elements.{All-contains, All-head, All-tail}
+use Rattle.std.proofs.Common.{◌≡◌, ℕ, suc, Bool, true, false, cond, not, List, [], ◌∷◌, length, filter, map, refl, ap, sym, ◌∙◌, All, AllPairs, Contains}
+use Rattle.std.proofs.lemmas.List.Elements.{All-contains, All-head}
 use Rattle.std.proofs.lemmas.List.Kept.{AllPairs-filter}
 use Rattle.tp_machine.specs.declared.whole.Machine.{Machine}
 use Rattle.tp_schedule.specs.Choices.{Choice}
@@ -9,18 +9,17 @@ use Rattle.tp_schedule.specs.Living.{is_live}
 use Rattle.tp_schedule.specs.Planning.{CanAsk}
 use Rattle.tp_schedule.specs.Plans.{IsEarlier, is_before, is_same_copy, put_plan, with_points, without}
 use Rattle.tp_schedule.specs.Spots.{Ticks}
-use Rattle.tp_schedule.specs.Times.{at, ticks_from, timed_by}
+use Rattle.tp_schedule.specs.Times.{at, timed_by}
 use Rattle.tp_schedule.specs.declared.parts.Ask.{Ask}
 use Rattle.tp_schedule.specs.declared.parts.Plan.{Plan}
 use Rattle.tp_schedule.specs.declared.parts.SheetId.{SheetId}
 use Rattle.tp_schedule.proofs.CopyFacts.{before-trans, same_copy-is}
 use Rattle.tp_schedule.proofs.Membership.{All-from_contains, Contains-filter_from, Contains-here, Contains-later}
 use Rattle.tp_schedule.proofs.Pairs.{AllPairs-head, AllPairs-tail}
-use Rattle.tp_schedule.proofs.PlanOrder.{All-without}
 use Rattle.tp_choices.specs.LiveParts.{IsJoined, less, only}
 use Rattle.tp_choices.proofs.Lists.{filter-all}
 use Rattle.tp_choices.proofs.Parts.{filter-swap}
-use Rattle.tp_placing.specs.Writing.{IsLoadedFrom, is_loaded, retimed_in}
+use Rattle.tp_placing.specs.Writing.{retimed_in}
 use Rattle.tp_placing.proofs.WriteLive.{gone, may-forget, stays}
 use Rattle.tp_placing.proofs.WriteTimes.{ticks-same}
 use Rattle.tp_placing.proofs.WritePlans.{retimed-is, retimed-not, retimed-sheet}

@@ -1,17 +1,15 @@
 -- The copies whose plans are not live any more, and that an ask beside them is one on the live part.
-use Rattle.std.proofs.Common.{◌≡◌, ℕ, zero, suc, ◌+◌, ◌<◌, ◌≤◌, Bool, true, false, cond, not, ◌||◌, ◌&&◌, ◌==◌, List, [], ◌∷◌, length, filter, refl, ap, sym, ◌∙◌, subst, arith, Some, None, Option, Contains}
+use Rattle.std.proofs.Common.{◌≡◌, ℕ, zero, suc, ◌<◌, Bool, true, false, not, ◌||◌, ◌==◌, List, [], ◌∷◌, length, refl, ap, sym, ◌∙◌, arith, Some, None, Option, Contains}
 use Rattle.std.specs.Prelude.{nat_lt, slice_index}
 use Rattle.std.specs.List.{list_any}
 use Rattle.std.proofs.lemmas.Bool.Decides.{nat_tests}
-use Rattle.std.proofs.lemmas.Option.{same_Some}
 use Rattle.std.proofs.lemmas.List.Elements.{All-contains}
 use Rattle.tp_machine.specs.declared.whole.Machine.{Machine}
-use Rattle.tp_schedule.specs.Answers.{IsAlternative, IsAskedFrom, follows_front, kept_from, kept_of}
-use Rattle.tp_schedule.specs.Legality.{IsLegal}
+use Rattle.tp_schedule.specs.Answers.{IsAskedFrom}
 use Rattle.tp_schedule.specs.Living.{is_held_after, is_live}
 use Rattle.tp_schedule.specs.Holding.{runs_of}
 use Rattle.tp_schedule.specs.Planning.{CanAsk, HasTimeFrom, IsOpenGoal}
-use Rattle.tp_schedule.specs.Plans.{IsEarlier, IsTimedPlan, end_of_plan, goes_to, is_before, is_delivered_to, is_same_copy, plan_of, point}
+use Rattle.tp_schedule.specs.Plans.{IsTimedPlan, goes_to, is_before, is_delivered_to, is_same_copy, plan_of, point}
 use Rattle.tp_schedule.specs.declared.parts.Ask.{Ask}
 use Rattle.tp_schedule.specs.declared.parts.Goal.{Goal}
 use Rattle.tp_schedule.specs.declared.parts.Goal.TheVariants.{Tray, Purge}
@@ -19,12 +17,10 @@ use Rattle.tp_schedule.specs.declared.parts.Origin.{Origin}
 use Rattle.tp_schedule.specs.declared.parts.Origin.TheVariants.{Feeder as FromFeeder, Front as FromFront}
 use Rattle.tp_schedule.specs.declared.parts.Plan.{Plan}
 use Rattle.tp_schedule.specs.declared.parts.SheetId.{SheetId}
-use Rattle.tp_schedule.proofs.CopyFacts.{before-other, plan_of-itself, same_copy-is, same_copy-refl}
-use Rattle.tp_schedule.proofs.Membership.{Contains-here, Contains-later}
+use Rattle.tp_schedule.proofs.CopyFacts.{before-other, plan_of-itself, same_copy-is}
 use Rattle.tp_choices.proofs.PlansOf.{plan_of-contains}
-use Rattle.tp_choices.specs.LiveParts.{EndsAhead, MayAskBeside, MayForget, less}
+use Rattle.tp_choices.specs.LiveParts.{EndsAhead, MayAskBeside, MayForget}
 use Rattle.tp_placing.proofs.WritePlans.{or-true}
-use Rattle.tp_placing.specs.Writing.{IsLoadedFrom, is_loaded}
 
 -- a plan with a point above the moment is live
 above-in : (now : ℕ) (points : List ℕ) (i : ℕ) → i < length points → now < slice_index points i → list_any (nat_lt now) points ≡ true

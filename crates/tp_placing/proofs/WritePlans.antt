@@ -1,14 +1,13 @@
 -- Plans that get other points.
-use Rattle.std.proofs.Common.{◌≡◌, ℕ, zero, suc, ◌+◌, ◌<◌, ◌≤◌, Bool, true, false, cond, not, ◌||◌, List, [], ◌∷◌, ◌++◌, length, map, take, refl, ap, sym, ◌∙◌, subst, arith, Some, None, All, AllPairs, get_or}
+use Rattle.std.proofs.Common.{◌≡◌, ℕ, zero, suc, Bool, true, false, cond, not, ◌||◌, List, [], ◌∷◌, ◌++◌, length, map, take, refl, ap, sym, ◌∙◌, subst, Some, None, All, AllPairs, get_or}
 use Rattle.std.specs.Prelude.{nat_eq, slice_get}
-use Rattle.std.specs.List.{list_any}
 use Rattle.std.specs.Cmp.Lexicographic.{pointwise}
 use Rattle.std.proofs.lemmas.Bool.Decides.{Decides-eqb}
 use Rattle.std.proofs.lemmas.List.Elements.{All-head, All-tail}
 use Rattle.std.proofs.lemmas.Slice.Eq.{slice_eq-Decides}
 use Rattle.tp_base.proofs.SliceFacts.{All-at}
 use Rattle.tp_schedule.proofs.CopyFacts.{NotOf, before-not_same, before-not_same', same_copy-is, same_copy-refl}
-use Rattle.tp_schedule.proofs.Pairs.{AllPairs-head, AllPairs-tail}
+use Rattle.tp_schedule.proofs.Pairs.{AllPairs-head, AllPairs-map, AllPairs-tail}
 use Rattle.tp_schedule.specs.Spots.{Ticks}
 use Rattle.tp_schedule.specs.Times.{at, ticks_from, timed_by}
 use Rattle.tp_schedule.specs.Plans.{IsEarlier, change_plan, is_before, is_same_copy, plan_of, with_points}
@@ -130,3 +129,17 @@ not-before (suc k) (q ∷ live) p in_order there =
 pub retimed-none : (t : Ticks) (plans : List Plan) → plans ≡ map (retimed_in [] t) plans
 retimed-none t [] = refl
 retimed-none t (p ∷ plans) = ap (λ ps. p ∷ ps) (retimed-none t plans)
+
+pub in_order-retimed : (live : List Plan) (t : Ticks) (plans : List Plan) → AllPairs IsEarlier plans → AllPairs IsEarlier (map (retimed_in live t) plans)
+in_order-retimed live t plans in_order =
+    AllPairs-map IsEarlier IsEarlier (λ _. Unit {0}) (retimed_in live t) plans (λ k d within. tt) in_order
+    (λ x y _ _ before. subst (λ c. is_before c (retimed_in live t y).sheet ≡ true) (sym (retimed-sheet live t x)) (subst (λ c. is_before x.sheet c ≡ true) (sym (retimed-sheet live t y)) before))
+
+-- a copy that has no plan then had none before
+pub none-before : (live : List Plan) (t : Ticks) (plans : List Plan) (copy : SheetId) → plan_of copy (map (retimed_in live t) plans) ≡ None → plan_of copy plans ≡ None
+none-before live t [] copy none = refl
+none-before live t (q ∷ plans) copy none =
+    go (is_same_copy q.sheet copy) (subst (λ (c : SheetId). cond (is_same_copy c copy) (Some (retimed_in live t q)) (plan_of copy (map (retimed_in live t) plans)) ≡ None) (retimed-sheet live t q) none) (none-before live t plans copy) where
+      go : (b : Bool) → cond b (Some (retimed_in live t q)) (plan_of copy (map (retimed_in live t) plans)) ≡ None → (plan_of copy (map (retimed_in live t) plans) ≡ None → plan_of copy plans ≡ None) → cond b (Some q) (plan_of copy plans) ≡ None
+      go true e rest = absurd cc
+      go false e rest = rest e

@@ -1,13 +1,12 @@
 -- The times of the least solution, point after point.
 use Rattle.std.proofs.Common.{◌≡◌, ℕ, zero, suc, ◌+◌, ◌<◌, ◌≤◌, List, [], ◌∷◌, ◌++◌, length, refl, ap, sym, ◌∙◌, arith}
 use Rattle.tp_base.specs.Net.{Net, IsLeast, IsEarliest}
-use Rattle.std.proofs.Common.{AllPairs, get_or, Some}
-use Rattle.std.specs.List.{slice_get}
+use Rattle.std.proofs.Common.{AllPairs, get_or}
 use Rattle.std.proofs.lemmas.Option.{slice_get_read, slice_get-get_or}
 use Rattle.tp_base.specs.Net.{HasLeast}
 use Rattle.tp_base.specs.declared.edges.PointId.{PointId}
 use Rattle.tp_schedule.specs.Plans.{IsEarlier}
-use Rattle.tp_schedule.specs.Spots.{Spot, Ticks}
+use Rattle.tp_schedule.specs.Spots.{Ticks}
 use Rattle.tp_schedule.specs.Spots.Spot.{kept}
 use Rattle.tp_schedule.specs.Times.{at, ticks_from}
 use Rattle.tp_schedule.specs.declared.parts.Plan.{Plan}

@@ -1,12 +1,10 @@
 -- An answer on the live part, joined with the plans that are not live, may forget them as before.
-use Rattle.std.proofs.Common.{◌≡◌, ℕ, ◌+◌, ◌<◌, ◌≤◌, Bool, true, false, cond, not, ◌||◌, ◌&&◌, List, [], ◌∷◌, length, filter, refl, ap, sym, ◌∙◌, subst, arith, Some, None, Option, Contains, inl, inr}
+use Rattle.std.proofs.Common.{◌≡◌, ℕ, ◌<◌, ◌≤◌, Bool, true, false, cond, not, ◌||◌, ◌&&◌, List, [], ◌∷◌, length, filter, refl, ap, sym, ◌∙◌, subst, arith, Some, Contains, All, inl, inr}
 use Rattle.std.specs.Prelude.{nat_lt}
-use Rattle.std.specs.List.{list_any}
-use Rattle.std.proofs.lemmas.Bool.Decides.{nat_tests}
 use Rattle.std.proofs.lemmas.List.Elements.{All-contains}
 use Rattle.std.proofs.lemmas.Option.{same_Some}
 use Rattle.tp_machine.specs.declared.whole.Machine.{Machine}
-use Rattle.tp_schedule.specs.Answers.{IsAlternative, IsAskedFrom, IsLeast, follows_front, kept_from, kept_of}
+use Rattle.tp_schedule.specs.Answers.{IsAlternative, IsAskedFrom, follows_front, kept_from, kept_of}
 use Rattle.tp_schedule.specs.Living.{is_live}
 use Rattle.tp_schedule.specs.Planning.{CanAsk, HasTimeFrom}
 use Rattle.tp_schedule.specs.Plans.{IsTimedPlan, is_same_copy, plan_of, point}
@@ -16,7 +14,7 @@ use Rattle.tp_schedule.specs.declared.parts.Origin.TheVariants.{Feeder as FromFe
 use Rattle.tp_schedule.specs.declared.parts.Plan.{Plan}
 use Rattle.tp_schedule.specs.declared.parts.SheetId.{SheetId}
 use Rattle.tp_schedule.proofs.CopyFacts.{plan_of-itself, same_copy-is, same_copy-refl}
-use Rattle.tp_schedule.proofs.Membership.{Contains-cons_cases, Contains-filter, Contains-filter_from, Contains-here, Contains-later}
+use Rattle.tp_schedule.proofs.Membership.{All-from_contains, Contains-cons_cases, Contains-filter, Contains-filter_from, Contains-here, Contains-later}
 use Rattle.tp_choices.proofs.PlansOf.{plan_of-contains}
 use Rattle.tp_choices.proofs.PointFacts.{point-le}
 use Rattle.tp_choices.specs.LiveParts.{IsJoined, MayForget, less, only}
@@ -101,3 +99,10 @@ module _ (machine : Machine) (plans : List Plan) (ask : Ask) (can : CanAsk machi
         (may-forget machine plans ask can).past p (Contains-filter_from (λ q. gone machine plans ask can q.sheet) plans p here).0 is;
     ahead = still-ahead new b;
   }
+
+  -- the loaded plans are plans of the schedule
+  live-planned : All (λ p. plan_of p.sheet plans ≡ Some p) (filter (is_live machine ask.now) plans)
+  live-planned = All-from_contains (λ (p : Plan). plan_of p.sheet plans ≡ Some p) (filter (is_live machine ask.now) plans) (λ p in'. plan_of-itself plans p can.plan_on.legal.in_order (Contains-filter_from (is_live machine ask.now) plans p in').0)
+
+pub loaded-planned : (machine : Machine) (plans : List Plan) (ask : Ask) (live : List Plan) → IsLoadedFrom machine plans ask live → All (λ p. plan_of p.sheet plans ≡ Some p) live
+loaded-planned machine plans ask live from = subst (All (λ (p : Plan). plan_of p.sheet plans ≡ Some p)) (sym from.live_part) (live-planned machine plans ask from.can_ask)

@@ -1,4 +1,4 @@
-use Rattle.std.proofs.Common.{◌≡◌, ◌++◌, take, flat_map, map}
+use Rattle.std.proofs.Common.{◌≡◌, ◌++◌, take, flat_map}
 use Rattle.tp_placing.specs.Writing.{opened_by}
 use Rattle.tp_placing.proofs.asked.add_opened.Given as goal
 

@@ -1,4 +1,4 @@
-use Rattle.std.proofs.Common.{◌≡◌, ℕ, suc, ◌+◌, ◌<◌, ◌≤◌, length, refl, ap, sym, ◌∙◌, arith, None, Some, get_or}
+use Rattle.std.proofs.Common.{◌≡◌, length, ap, sym, ◌∙◌, arith, Some}
 use Rattle.tp_schedule.specs.Answers.{acts_in}
 use Rattle.tp_schedule.specs.Plans.{plan_of}
 use Rattle.tp_schedule.specs.Spots.Spot.{kept}

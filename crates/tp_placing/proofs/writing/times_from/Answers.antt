@@ -1,6 +1,5 @@
-use Rattle.std.proofs.Common.{◌≡◌, ℕ, ◌+◌, ◌<◌, ◌++◌, ◌∷◌, [], length, ap, sym, ◌∙◌, arith}
+use Rattle.std.proofs.Common.{◌≡◌, ◌+◌, ◌++◌, ◌∷◌, [], length, ap, sym, ◌∙◌, arith}
 use Rattle.std.proofs.lemmas.List.{length-append}
-use Rattle.tp_base.specs.Net.{IsLeast}
 use Rattle.tp_schedule.specs.Times.{ticks_from}
 use Rattle.tp_placing.proofs.WriteTimes.{earliest-is, ticks-more}
 use Rattle.tp_placing.proofs.writing.times_from.Goals as goal

@@ -1,4 +1,4 @@
-use Rattle.std.proofs.Common.{◌≡◌, ℕ, ◌+◌, ◌≤◌, length}
+use Rattle.std.proofs.Common.{◌≡◌, ℕ, length}
 use Rattle.tp_base.specs.Net.{IsLeast}
 use Rattle.tp_schedule.specs.Times.{ticks_from}
 use Rattle.tp_placing.proofs.writing.times_from.Given as goal

@@ -1,6 +1,4 @@
-use Rattle.tp_placing.proofs.WriteCommit.{committed}
-use Rattle.std.proofs.Common.{◌≡◌, ap, sym, ◌∙◌, subst, AllPairs}
-use Rattle.tp_placing.proofs.WriteCommit.{committed}
+use Rattle.std.proofs.Common.{ap, sym, ◌∙◌, subst, AllPairs}
 use Rattle.tp_schedule.specs.Plans.{IsEarlier, put_plan}
 use Rattle.tp_schedule.proofs.ChangeFacts.{IsOrdered-change_plan, IsOrdered-put_plan}
 use Rattle.tp_placing.proofs.WriteAsked.{none-planned, place-planned, put-in_place, without-none}

@@ -1,5 +1,4 @@
-use Rattle.std.proofs.Common.{◌≡◌, ℕ, suc, ◌+◌, List, length, ap, sym, ◌∙◌, subst, arith, Some, IsSomeAnd, Option, true, false}
-use Rattle.tp_base.specs.Net.{IsLeast}
+use Rattle.std.proofs.Common.{◌≡◌, suc, ◌+◌, length, ap, sym, ◌∙◌, subst, arith, IsSomeAnd, Option}
 use Rattle.tp_schedule.specs.Plans.{change_plan, with_points}
 use Rattle.tp_schedule.specs.Times.{ticks_from}
 use Rattle.tp_schedule.specs.declared.parts.Plan.{Plan}

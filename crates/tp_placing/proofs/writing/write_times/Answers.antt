@@ -1,14 +1,11 @@
-use Rattle.std.proofs.Common.{◌≡◌, ℕ, suc, ◌+◌, ◌<◌, ◌≤◌, List, ◌++◌, ◌∷◌, [], length, map, take, ap, sym, refl, ◌∙◌, subst, arith, Some, false, get_or}
-use Rattle.std.specs.List.{slice_get}
+use Rattle.std.proofs.Common.{◌≡◌, suc, ◌+◌, ◌++◌, ◌∷◌, [], length, map, take, ap, sym, refl, ◌∙◌, arith, Some, get_or}
 use Rattle.std.proofs.lemmas.List.{take_all, take_more}
 use Rattle.std.proofs.lemmas.Option.{slice_get_read}
 use Rattle.tp_base.proofs.SliceFacts.{All-at}
-use Rattle.tp_schedule.specs.Plans.{IsFormed, change_plan, plan_of, with_points}
-use Rattle.tp_schedule.specs.Spots.{Ticks}
+use Rattle.tp_schedule.specs.Plans.{change_plan, plan_of, with_points}
 use Rattle.tp_schedule.specs.Times.{ticks_from}
 use Rattle.tp_schedule.specs.declared.parts.Plan.{Plan}
-use Rattle.tp_constraints.specs.Numbers.{table_of}
-use Rattle.tp_placing.specs.Writing.{AreLeastTicks, is_loaded, retimed_in}
+use Rattle.tp_placing.specs.Writing.{retimed_in}
 use Rattle.tp_placing.proofs.LineFacts.{end-fits}
 use Rattle.tp_placing.proofs.TableFacts.{length-firsts}
 use Rattle.tp_placing.proofs.WritePlans.{change-next, not-before, planned-still, retimed-none}

@@ -1,0 +1,193 @@
+use Rattle.std.proofs.Common.{arith, sym, refl, ap, ◌∙◌, subst, ◌≡◌, ℕ, ◌+◌, ◌-◌, ◌<◌, ◌≤◌, List, length, map, Some, None, IsSome, IsSomeAnd, All, AllPairs}
+use Rattle.std.specs.List.{slice_get}
+use Rattle.std.proofs.lemmas.Option.{slice_get_read}
+use Rattle.tp_schedule.specs.Completions.{asked_plan, settled_ticks, total_of}
+use Rattle.tp_schedule.specs.Times.{timed_by}
+use Rattle.tp_schedule.specs.Plans.{IsEarlier, end_of_plan, plan_of, put_plan, without}
+use Rattle.tp_schedule.specs.Spots.{Ticks}
+use Rattle.tp_schedule.specs.Spots.Spot.{own}
+use Rattle.tp_schedule.specs.declared.parts.Ask.{Ask}
+use Rattle.tp_schedule.specs.declared.parts.Plan.{Plan}
+use Rattle.tp_constraints.specs.Numbers.{number, table_of, ticks_by}
+use Rattle.tp_constraints.specs.Suffixes.{Suffix}
+use Rattle.tp_placing.specs.declared.parts.Step.{Step}
+use Rattle.tp_placing.specs.Boards.{BoardValue, suffix_after}
+use Rattle.tp_placing.specs.Inside.{board_of}
+use Rattle.tp_placing.specs.Standing.{StandsOn, board_table}
+use Rattle.tp_placing.specs.Ticks.{HasLeastTick}
+use Rattle.tp_placing.specs.Writing.{AreLeastTicks, CanCommit, IsLoadedFrom, retimed_in}
+use Rattle.tp_placing.proofs.StandFacts.{and-some, some-and, stands-ask}
+use Rattle.tp_placing.proofs.StepFacts.{some-steps}
+use Rattle.tp_constraints.proofs.Numbering.{number-at}
+use Rattle.tp_placing.proofs.ReadFacts.{end-point, least-tick}
+use Rattle.tp_placing.proofs.WriteCommit.{IsWritten, written-is}
+use Rattle.tp_placing.proofs.WritePlans.{none-before}
+use Rattle.tp_placing.proofs.WritePoints.{least-of_plans}
+use Rattle.tp_placing.proofs.WriteReady.{IsReady, ready, ready-ticks}
+use Rattle.tp_placing.proofs.WriteWhole.{loaded-planned}
+use Rattle.tp_placing.proofs.board.Board.commit.Goals as goal
+use Rattle.tp_placing.proofs.board.Board.commit.Goals.{After-index-newest, After-plan_by_steps-plan, After-write_plan, After-write_times}
+
+-- the board as its fields show it
+abbrev board : (g : _) → After-index-newest g → BoardValue g.row.N.Denot
+board g c =
+    let a = c.self.inside in
+    board_of a.net a.lines a.held.items a.plans.items a.firsts.items a.last a.floor a.horizon a.ask a.steps.items a.marks.items a.made_for
+
+stands-here : (g : _) (c : After-index-newest g) → StandsOn g.N.Network.net g.N.Undo.content g.N.Undo.past (board g c) c.args.machine.now c.in-Some.ask
+stands-here g c = stands-ask g.N.Network.net g.N.Undo.content g.N.Undo.past (board g c) c.args.machine.now c.in-Some.ask (rw (← c.self.view_is) at c.requires.stands) c.in-Some.is
+
+loaded-here : (g : _) (c : After-index-newest g) → IsLoadedFrom c.args.machine.now c.args.schedule.now.plans c.in-Some.ask c.self.inside.plans.items
+loaded-here g c =
+    let loaded = rw (← c.self.view_is) at c.requires.loaded in
+    subst (λ o. IsSomeAnd o (λ (ask : Ask). IsLoadedFrom c.args.machine.now c.args.schedule.now.plans ask c.self.inside.plans.items)) c.in-Some.is loaded
+
+complete-here : (g : _) (c : After-index-newest g) → IsSomeAnd (suffix_after c.self.inside.steps.items) (CanCommit c.args.machine.now c.self.inside.plans.items c.in-Some.ask)
+complete-here g c =
+    let complete = rw (← c.self.view_is) at c.requires.complete in
+    subst (λ o. IsSomeAnd o (λ (ask : Ask). IsSomeAnd (suffix_after c.self.inside.steps.items) (CanCommit c.args.machine.now c.self.inside.plans.items ask))) c.in-Some.is complete
+
+here : (g : _) (c : After-index-newest g) → IsReady g.N.Network.net (board g c) c.args.machine.now c.in-Some.ask c.index-newest.result.now
+here g c =
+    let a = c.self.inside in
+    let y = some-and (suffix_after a.steps.items) (CanCommit c.args.machine.now a.plans.items c.in-Some.ask) (complete-here g c) in
+    let some = some-steps a.steps.items y.0 y.1 in
+    let count : c.len.result ≡ length a.steps.items = c.len.ensures ∙ a.steps.ok.0 in
+    let k : c.len.result - 1 ≡ length a.steps.items - 1 = ap (λ n. n - 1) count in
+    let at = slice_get_read a.steps.items (length a.steps.items) (c.len.result - 1) c.index-newest.result.now refl (omega arith) c.index-newest.ensures in
+    let last : slice_get a.steps.items (length a.steps.items - 1) ≡ Some c.index-newest.result.now = ap (slice_get a.steps.items) (sym k) ∙ at in
+    ready g.N.Network.net g.N.Undo.content g.N.Undo.past (board g c) c.args.machine.now c.in-Some.ask c.index-newest.result.now (stands-here g c) (complete-here g c) last
+
+pub overflow_sub-count : goal.overflow_sub-count
+overflow_sub-count g k =
+    let c = (goal.at.overflow_sub-count g k).After-index-newest in
+    let first = (here g c).first in
+    let last = (stands-here g c).last in
+    omega arith
+
+-- how many actions were opened
+count-here : (g : _) (c : After-index-newest g) → c.index-newest.result.now.first.0 - c.self.inside.last.0 ≡ length (here g c).x.choices
+count-here g c =
+    let first = (here g c).first in
+    let last = (stands-here g c).last in
+    omega arith
+
+pub write_times-requires-clause-known : goal.write_times-requires-clause-known
+write_times-requires-clause-known g k =
+    let c = (goal.at.write_times-requires-clause-known g k).After-index-newest in
+    let lows = (here g c).lows in
+    subst (λ ps. length (table_of ps) ≤ length (g.N.Network.net c.self.inside.net).lows) (sym k.deref.ensures.value) (omega arith)
+
+pub write_times-requires-clause-planned : goal.write_times-requires-clause-planned
+write_times-requires-clause-planned g k =
+    let c = (goal.at.write_times-requires-clause-planned g k).After-index-newest in
+    subst (All (λ (p : Plan). plan_of p.sheet c.args.schedule.now.plans ≡ Some p)) (sym k.deref.ensures.value) (loaded-planned c.args.machine.now c.args.schedule.now.plans c.in-Some.ask c.self.inside.plans.items (loaded-here g c))
+
+pub plan_by_steps-plan-requires-clause-few : goal.plan_by_steps-plan-requires-clause-few
+plan_by_steps-plan-requires-clause-few g k =
+    let c = (goal.at.plan_by_steps-plan-requires-clause-few g k).After-index-newest in
+    let few = (here g c).complete.is_list.at_most in
+    let count = count-here g c in
+    omega arith
+
+pub plan_by_steps-plan-requires-clause-some : goal.plan_by_steps-plan-requires-clause-some
+plan_by_steps-plan-requires-clause-some g k =
+    let c = (goal.at.plan_by_steps-plan-requires-clause-some g k).After-index-newest in
+    let some = (here g c).complete.some in
+    let count = count-here g c in
+    omega arith
+
+pub plan_by_steps-plan-requires-clause-opened : goal.plan_by_steps-plan-requires-clause-opened
+plan_by_steps-plan-requires-clause-opened g k =
+    let c = (goal.at.plan_by_steps-plan-requires-clause-opened g k).After-index-newest in
+    let n = c.index-newest.result.now.first.0 - c.self.inside.last.0 in
+    let h = here g c in
+    subst (λ ss. IsSomeAnd (suffix_after ss) (λ x. length x.choices ≡ c.index-newest.result.now.first.0 - c.self.inside.last.0)) (sym k.deref-5.ensures.value) (and-some (suffix_after c.self.inside.steps.items) h.x _ h.suffix (sym (count-here g c)))
+
+pub plan_by_steps-plan-requires-clause-first : goal.plan_by_steps-plan-requires-clause-first
+plan_by_steps-plan-requires-clause-first g k =
+    let c = (goal.at.plan_by_steps-plan-requires-clause-first g k).After-index-newest in
+    let first = (here g c).first in
+    let last = (stands-here g c).last in
+    subst (λ ps. c.index-newest.result.now.first.0 ≡ length (table_of ps) + (c.index-newest.result.now.first.0 - c.self.inside.last.0)) (sym k.deref-3.ensures.value) (omega arith)
+
+pub plan_by_steps-plan-requires-clause-known : goal.plan_by_steps-plan-requires-clause-known
+plan_by_steps-plan-requires-clause-known g k =
+    let c = (goal.at.plan_by_steps-plan-requires-clause-known g k).After-index-newest in
+    let first = (here g c).first in
+    let lows = (here g c).lows in
+    omega arith
+
+-- the least ticks
+ticks-here : (g : _) (c : After-index-newest g) → AreLeastTicks (g.N.Network.net c.self.inside.net) (board_table c.self.inside.plans.items (Some (here g c).x)) (ticks_by (board_table c.self.inside.plans.items (Some (here g c).x)) (here g c).at.solved.0)
+ticks-here g c =
+    let a = c.self.inside in
+    ready-ticks c.args.machine.now a.plans.items c.in-Some.ask (here g c).x a.steps.items (g.N.Network.net a.net) a.lines.orders a.held.items (here g c).at
+
+abbrev Ticks-here : (g : _) → After-index-newest g → Ticks
+Ticks-here g c = ticks_by (board_table c.self.inside.plans.items (Some (here g c).x)) (here g c).at.solved.0
+
+times-now : (g : _) (k : After-write_times g) → (t : Ticks) → AreLeastTicks (g.N.Network.net k.self.inside.net) (table_of k.self.inside.plans.items) t → k.write_times.new.schedule.plans ≡ map (retimed_in k.self.inside.plans.items t) k.args.schedule.now.plans
+times-now g k =
+    subst (λ ps. (t : Ticks) → AreLeastTicks (g.N.Network.net k.self.inside.net) (table_of ps) t → k.write_times.new.schedule.plans ≡ map (retimed_in ps t) k.args.schedule.now.plans) k.deref.ensures.value k.write_times.ensures.times
+
+pub write_plan-requires-clause-room : goal.write_plan-requires-clause-room
+write_plan-requires-clause-room g k none =
+    let at = goal.at.write_plan-requires-clause-room g k in
+    let c = at.After-index-newest in
+    let a = c.self.inside in
+    let times = times-now g at.After-write_times (Ticks-here g c) (least-of_plans (g.N.Network.net a.net) a.plans.items (here g c).x (Ticks-here g c) (ticks-here g c)) in
+    let spare = rw (← c.self.view_is) at c.requires.spare in
+    let own_spare = subst (λ o. IsSomeAnd o (λ (ask : Ask). plan_of ask.sheet c.args.schedule.now.plans ≡ None → 0 < c.args.schedule.now.spare)) c.in-Some.is spare in
+    let none' : plan_of c.in-Some.ask.sheet (map (retimed_in a.plans.items (Ticks-here g c)) c.args.schedule.now.plans) ≡ None = sym (λ i. plan_of (k.plan_by_steps-plan.ensures.sheet i) (times i)) ∙ none in
+    let more = own_spare (none-before a.plans.items (Ticks-here g c) c.args.schedule.now.plans c.in-Some.ask.sheet none') in
+    let same = k.write_times.ensures.spare in
+    omega arith
+
+-- the asked plan, at these ticks
+plan-now : (g : _) (k : After-plan_by_steps-plan g) → (t : Ticks) (x : Suffix) → suffix_after k.self.inside.steps.items ≡ Some x → AreLeastTicks (g.N.Network.net k.self.inside.net) (board_table k.self.inside.plans.items (Some x)) t
+    → k.plan_by_steps-plan.result ≡ timed_by (settled_ticks k.in-Some.ask (total_of k.in-Some.ask x.choices) t) (asked_plan k.self.inside.plans.items k.in-Some.ask x.choices)
+plan-now g k =
+    let P : List Plan → List Step → Type 0 = λ ps ss. (t : Ticks) (x : Suffix) → suffix_after ss ≡ Some x → AreLeastTicks (g.N.Network.net k.self.inside.net) (board_table ps (Some x)) t
+    → k.plan_by_steps-plan.result ≡ timed_by (settled_ticks k.in-Some.ask (total_of k.in-Some.ask x.choices) t) (asked_plan ps k.in-Some.ask x.choices) in
+    subst (λ ss. P k.self.inside.plans.items ss) k.deref-5.ensures.value (subst (λ ps. P ps k.deref-5.result.now) k.deref-3.ensures.value k.plan_by_steps-plan.ensures.plan)
+
+-- the schedule that these steps make
+written-here : (g : _) (c : After-index-newest g) (mid new : List Plan) (p : Plan)
+    → ((t : Ticks) → AreLeastTicks (g.N.Network.net c.self.inside.net) (table_of c.self.inside.plans.items) t → mid ≡ map (retimed_in c.self.inside.plans.items t) c.args.schedule.now.plans)
+    → ((t : Ticks) (x : Suffix) → suffix_after c.self.inside.steps.items ≡ Some x → AreLeastTicks (g.N.Network.net c.self.inside.net) (board_table c.self.inside.plans.items (Some x)) t
+    → p ≡ timed_by (settled_ticks c.in-Some.ask (total_of c.in-Some.ask x.choices) t) (asked_plan c.self.inside.plans.items c.in-Some.ask x.choices))
+    → p.sheet ≡ c.in-Some.ask.sheet → new ≡ put_plan p (without p.sheet mid) → AllPairs IsEarlier new
+    → IsWritten c.args.machine.now c.args.schedule.now.plans c.in-Some.ask ((here g c).at.solved.0 (number (board_table c.self.inside.plans.items (Some (here g c).x)) (own 0))) new
+written-here g c mid new p times plan sheet made in_order =
+    let a = c.self.inside in
+    let h = here g c in
+    let s = stands-here g c in
+    written-is c.args.machine.now c.args.schedule.now.plans a.plans.items c.in-Some.ask h.x (board_table a.plans.items (Some h.x)) (g.N.Network.net a.net) h.at.solved.0 (loaded-here g c) s.loadable s.origin h.at.net h.complete h.at.solved.1 mid new p
+    (times (Ticks-here g c) (least-of_plans (g.N.Network.net a.net) a.plans.items h.x (Ticks-here g c) (ticks-here g c))) (plan (Ticks-here g c) h.x h.suffix (ticks-here g c)) sheet made in_order
+
+-- its end is the least tick of the asked copy's end
+end-here : (g : _) (c : After-index-newest g) (end : ℕ) → end ≡ (here g c).at.solved.0 (number (board_table c.self.inside.plans.items (Some (here g c).x)) (own 0)) → HasLeastTick c.args.machine.now (board g c) (own 0) end
+end-here g c end e =
+    let a = c.self.inside in
+    let h = here g c in
+    let s = stands-here g c in
+    let is_open : IsSome (suffix_after a.steps.items) = subst IsSome (sym h.suffix) refl in
+    let there = end-point a.plans.items (suffix_after a.steps.items) is_open a.last.0 s.last in
+    let number-is : number (board_table a.plans.items (Some h.x)) (own 0) ≡ a.last.0 = number-at (board_table a.plans.items (Some h.x)) h.at.net.is_table.differ a.last.0 (own 0) (end-point a.plans.items (Some h.x) refl a.last.0 s.last) in
+    and-some a.ask c.in-Some.ask _ s.asked
+    (least-tick c.args.machine.now a.plans.items c.in-Some.ask (suffix_after a.steps.items) a.steps.items (g.N.Network.net a.net) a.lines.orders a.held.items s.now a.last.0 (own 0) there end (h.at.solved.0, h.at.solved.1, e ∙ ap h.at.solved.0 number-is))
+
+pub returns-clause-least : goal.returns-clause-least
+returns-clause-least g k =
+    let at = goal.at.returns-clause-least g k in
+    let c = at.After-index-newest in
+    let w = written-here g c k.write_times.new.schedule.plans k.write_plan.new.schedule.plans k.plan_by_steps-plan.result (times-now g at.After-write_times) (plan-now g at.After-plan_by_steps-plan) k.plan_by_steps-plan.ensures.sheet k.write_plan.ensures.plans k.write_plan.ensures.in_order in
+    rw (← k.self.view_is) (and-some k.self.inside.ask k.in-Some.ask _ k.in-Some.is w.least)
+
+pub returns-clause-alternative : goal.returns-clause-alternative
+returns-clause-alternative g k =
+    let at = goal.at.returns-clause-alternative g k in
+    let c = at.After-index-newest in
+    let w = written-here g c k.write_times.new.schedule.plans k.write_plan.new.schedule.plans k.plan_by_steps-plan.result (times-now g at.After-write_times) (plan-now g at.After-plan_by_steps-plan) k.plan_by_steps-plan.ensures.sheet k.write_plan.ensures.plans k.write_plan.ensures.in_order in
+    rw (← k.self.view_is) (and-some k.self.inside.ask k.in-Some.ask _ k.in-Some.is (w.answer, end-here g c (end_of_plan w.answer.plan) w.ends))
