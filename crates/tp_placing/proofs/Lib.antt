@@ -1,2 +1,3 @@
 pub mod TryFacts
 pub mod PastFacts
+pub mod LoadEdges

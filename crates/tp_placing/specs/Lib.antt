@@ -1,4 +1,6 @@
 pub mod Boards
+pub mod Edges
 pub mod Inside
+pub mod Loading
 pub mod Trying
 pub mod Standing

@@ -1,7 +1,9 @@
 -- What holds of a loaded board: its network and its orders are those of the live plans with the suffix so far.
 use Rattle.std.specs.Prelude.{◌≡◌, ℕ, zero, suc, ◌+◌, ◌-◌, ◌*◌, ◌<◌, ◌≤◌, Bool, true, false, List, [], ◌∷◌, ◌++◌, length, map, slice_get, Option, Some, None, All, Contains, IsTrue, if◌then◌else◌}
 use Rattle.tp_base.specs.Net.{Net, HasLeast}
+use Rattle.tp_machine.specs.Machines.{IsOffset}
 use Rattle.tp_machine.specs.declared.parts.ActId.{ActId}
+use Rattle.tp_machine.specs.declared.parts.HoldRule.{HoldRule}
 use Rattle.tp_machine.specs.declared.whole.Machine.{Machine}
 use Rattle.tp_schedule.specs.Answers.{IsAsked, kept_of}
 use Rattle.tp_schedule.specs.Choices.{Choice, start_floor}
@@ -81,12 +83,16 @@ abbrev pub choice_steps : List Choice → ℕ
 choice_steps [] = 0
 choice_steps (c ∷ choices) = 1 + length c.places + 5 * length choices
 
+abbrev pub newest_places : List Choice → ℕ
+newest_places [] = 0
+newest_places (c ∷ choices) = length c.places
+
 abbrev pub stop_steps : Bool → ℕ
 stop_steps stopped = if stopped then 1 else 0
 
 abbrev pub AreFewSteps : ℕ → Option Suffix → ℕ → Type 0
 AreFewSteps kept None steps = (steps ≡ 0) × (kept ≤ 64)
-AreFewSteps kept (Some x) steps = (steps ≤ 1 + choice_steps x.choices + stop_steps x.stopped) × (kept + length x.choices ≤ 64)
+AreFewSteps kept (Some x) steps = (steps ≤ 1 + choice_steps x.choices + stop_steps x.stopped) × (kept + length x.choices ≤ 64) × (newest_places x.choices ≤ 4)
 
 -- how many edges and holds a loaded schedule can have, and how many edges the steps add
 abbrev pub loaded_edges : ℕ
@@ -99,17 +105,22 @@ abbrev pub step_edges : List Step → ℕ
 step_edges [] = 0
 step_edges (s ∷ steps) = 257 + 2 * length steps
 
--- the network and the orders are those of the plans with the suffix after the steps
-pub record IsAt (machine : Machine) (plans : List Plan) (ask : Ask) (steps : List Step) (n : Net) (lines : List (List ℕ)) (holds : List Held) : Type 0 where
-  pub net : IsNetOf machine plans ask (suffix_after steps) n
+-- the offsets of a hold's rule are in their range
+abbrev pub HasSmallOffsets : HoldRule → Type 0
+HasSmallOffsets rule = IsOffset rule.begin_off × IsOffset rule.end_off
+
+-- the network and the orders are those of the plans with this suffix, if a goal is open, after these steps
+pub record IsAtWith (machine : Machine) (plans : List Plan) (ask : Ask) (x : Option Suffix) (steps : List Step) (n : Net) (lines : List (List ℕ)) (holds : List Held) : Type 0 where
+  pub net : IsNetOf machine plans ask x n
   pub solved : HasLeast n
-  pub hops : All (IsHopOf machine plans ask (suffix_after steps)) (map (gap_by (board_table plans (suffix_after steps))) n.edges)
-  pub orders : (resource : ℕ) → resource < length machine.resources → AreSlots (board_table plans (suffix_after steps)) holds (order_on lines resource) (order_after machine plans (suffix_after steps) resource)
-  pub at_hand : (s : Step) → slice_get steps (length steps - 1) ≡ Some s → IsAtHand (length (table_of plans)) (suffix_after steps) s
-  pub few_steps : AreFewSteps (kept_of ask) (suffix_after steps) (length steps)
+  pub hops : All (IsHopOf machine plans ask x) (map (gap_by (board_table plans x)) n.edges)
+  pub orders : (resource : ℕ) → resource < length machine.resources → AreSlots (board_table plans x) holds (order_on lines resource) (order_after machine plans x resource)
+  pub at_hand : (s : Step) → slice_get steps (length steps - 1) ≡ Some s → IsAtHand (length (table_of plans)) x s
+  pub few_steps : AreFewSteps (kept_of ask) x (length steps)
   pub few_edges : length n.edges ≤ loaded_edges + step_edges steps
   pub few_holds : length holds ≤ loaded_holds + length steps
   pub all_held : total lines ≡ length holds
+  pub small : All (λ h. HasSmallOffsets h.rule) holds
 
 -- the first points of the plans, one plan after another from a number on
 abbrev pub AreFirsts : ℕ → List Plan → List PointId → Type 0
@@ -117,6 +128,9 @@ AreFirsts n [] [] = Unit {0}
 AreFirsts n [] (f ∷ firsts) = ⊥
 AreFirsts n (p ∷ plans) [] = ⊥
 AreFirsts n (p ∷ plans) (f ∷ firsts) = (f.0 ≡ n) × AreFirsts (n + suc (length p.acts)) plans firsts
+
+abbrev pub IsAt : Machine → List Plan → Ask → List Step → Net → List (List ℕ) → List Held → Type 0
+IsAt machine plans ask steps n lines holds = IsAtWith machine plans ask (suffix_after steps) steps n lines holds
 
 -- the board stands on a machine and an ask: it was loaded with them, and is right for the steps so far and at each mark
 pub record StandsOn {N C : Type 0} (net : N → Net) (content : N → C) (past : N → List C) (b : BoardValue N) (machine : Machine) (ask : Ask) : Type 0 where

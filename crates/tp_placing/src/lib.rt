@@ -2,6 +2,8 @@
 #![tactic(auto)]
 
 mod board;
+mod edges;
+mod kept_edges;
 mod parts;
 mod trying;
 mod undoing;
