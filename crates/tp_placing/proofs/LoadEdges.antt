@@ -1,6 +1,6 @@
 -- Edges that a solution keeps, added in parts.
-use Rattle.std.proofs.Common.{◌≡◌, ℕ, ◌+◌, ◌≤◌, List, [], ◌∷◌, ◌++◌, length, refl, ap, sym, arith, ◌∙◌, subst}
-use Rattle.std.proofs.lemmas.List.{append_assoc, append-nil, length-append}
+use Rattle.std.proofs.Common.{◌≡◌, ℕ, ◌+◌, ◌<◌, ◌≤◌, List, [], ◌∷◌, ◌++◌, length, drop, get_or, refl, ap, sym, arith, ◌∙◌, subst}
+use Rattle.std.proofs.lemmas.List.{append_assoc, append-nil, length-append, drop_more}
 use Rattle.std.specs.List.{All}
 use Rattle.tp_base.specs.Net.{Net, IsSolution, HasLeast, HasNoSolution, Keeps}
 use Rattle.tp_base.specs.declared.edges.Edge.{Edge}
@@ -62,3 +62,7 @@ whole-of net next whole es fs all is added same = ap (λ n. with_edges n fs) add
 -- the room of a net that has not changed
 pub same-room : (room room' : ℕ) (net : Net) (es : List Edge) → room' ≡ room → AreAddable room net es → AreAddable room' net es
 same-room room room' net es e a = subst (λ n. AreAddable n net es) (sym e) a
+
+-- the element that a loop reads is the first of what is left
+pub drop-read : {X : Type 0} (xs : List X) (i : ℕ) (x : X) → i < length xs → x ≡ get_or xs i x → drop i xs ≡ x ∷ drop (i + 1) xs
+drop-read xs i x within read = drop_more xs i x within ∙ ap (λ y. y ∷ drop (i + 1) xs) (sym read)
