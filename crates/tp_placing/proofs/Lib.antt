@@ -1,3 +1,4 @@
 pub mod TryFacts
 pub mod PastFacts
 pub mod LoadEdges
+pub mod LoadChains

@@ -1,5 +1,5 @@
 -- The network of a loaded schedule: its points one plan after another, and an edge for each of its gaps.
-use Rattle.std.specs.Prelude.{ℕ, zero, suc, ◌+◌, ◌≤◌, Bool, false, List, [], ◌∷◌, ◌++◌, flat_map, length, pos, Option, Some, None, All, if◌then◌else◌}
+use Rattle.std.specs.Prelude.{ℕ, zero, suc, ◌+◌, ◌<◌, ◌≤◌, Bool, false, List, [], ◌∷◌, ◌++◌, flat_map, length, pos, Option, Some, None, slice_get, All, if◌then◌else◌}
 use Rattle.tp_base.specs.Net.{Net, IsSolution, HasLeast}
 use Rattle.tp_base.specs.declared.edges.Edge.{Edge}
 use Rattle.tp_base.specs.declared.edges.PointId.{PointId}
@@ -11,6 +11,7 @@ use Rattle.tp_schedule.specs.Times.{ticks_from}
 use Rattle.tp_schedule.specs.declared.parts.Plan.{Plan}
 use Rattle.tp_constraints.specs.Gaps.{low_of, cap_of, is_same_line}
 use Rattle.tp_constraints.specs.Numbers.{with_edges}
+use Rattle.tp_timelines.specs.Orders.{order_on}
 use Rattle.tp_placing.specs.declared.parts.Held.{Held}
 use Rattle.tp_placing.specs.Edges.{edge_of, duration_edges, hold_edge}
 use Rattle.tp_placing.specs.Trying.{CanRequire}
@@ -66,6 +67,23 @@ line_edge end (Some next) = edge_of end next (pos 1) ∷ []
 abbrev pub lines_edges : ℕ → List Plan → List Edge
 lines_edges n [] = []
 lines_edges n (p ∷ plans) = line_edge (point_id (n + length p.acts)) (next_end p (n + length p.acts + 1) plans) ++ lines_edges (n + length p.acts + 1) plans
+
+-- the holds of these numbers
+abbrev pub with_hold : Option Held → List Held → List Held
+with_hold None hs = hs
+with_hold (Some h) hs = h ∷ hs
+
+abbrev pub holds_in : List Held → List ℕ → List Held
+holds_in held [] = []
+holds_in held (id ∷ ids) = with_hold (slice_get held id) (holds_in held ids)
+
+-- the holds of each resource's order
+abbrev pub holds_on : List Held → List (List ℕ) → ℕ → List Held
+holds_on held lines resource = holds_in held (order_on lines resource)
+
+-- each number is that of a hold
+abbrev pub AreIds : List Held → List ℕ → Type 0
+AreIds held ids = All (λ id. id < length held) ids
 
 -- each hold of an order ends by the begin of the next
 abbrev pub chain_edges : List Held → List Edge

@@ -138,6 +138,7 @@ pub record StandsOn {N C : Type 0} (net : N → Net) (content : N → C) (past :
   pub asked : b.ask ≡ Some ask
   pub floor : b.floor ≡ start_floor machine ask.now ask.origin
   pub horizon : b.horizon ≡ ask.now + machine.window
+  pub small_horizon : b.horizon < 2147483648
   pub loadable : IsLoadable machine ask.now (λ _. false) b.plans
   pub origin : IsAsked machine b.plans ask
   pub last : b.last.0 ≡ length (table_of b.plans)

@@ -13,7 +13,7 @@ use tp_machine::{ActId, Machine};
 use tp_schedule::{Goal, Kind, Plan};
 
 /// Requires edges that a solution keeps.
-fn add_kept<N: Network>(net: &mut N, edges: &[Edge])
+pub(crate) fn add_kept<N: Network>(net: &mut N, edges: &[Edge])
     requires can { AreAddable (N.edge_room net.old) (N.net net.old) edges.now }
     ensures added { N.net net.new ≡ with_edges (N.net net.old) edges.now }
     ensures solved { HasLeast (N.net net.new) }

@@ -3,6 +3,7 @@
 
 mod board;
 mod edges;
+mod kept_chains;
 mod kept_edges;
 mod parts;
 mod trying;
