@@ -2,3 +2,4 @@ pub mod TryFacts
 pub mod PastFacts
 pub mod LoadEdges
 pub mod LoadChains
+pub mod LoadPoints

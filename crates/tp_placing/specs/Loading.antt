@@ -7,6 +7,7 @@ use Rattle.tp_machine.specs.Using.{action_at}
 use Rattle.tp_machine.specs.declared.parts.ActId.{ActId}
 use Rattle.tp_machine.specs.declared.parts.Action.{Action}
 use Rattle.tp_machine.specs.declared.whole.Machine.{Machine}
+use Rattle.tp_schedule.specs.Plans.{IsFormed}
 use Rattle.tp_schedule.specs.Times.{ticks_from}
 use Rattle.tp_schedule.specs.declared.parts.Plan.{Plan}
 use Rattle.tp_constraints.specs.Gaps.{low_of, cap_of, is_same_line}
@@ -36,9 +37,17 @@ lows_of floor p = ticks_from (low_of floor (λ _. false) p) 0 (suc (length p.act
 abbrev pub caps_of : ℕ → Plan → List ℕ
 caps_of horizon p = ticks_from (cap_of horizon p) 0 (suc (length p.acts))
 
--- the net with the points of plans more
+-- each of its points has a tick between its least and its greatest
+pub record HasBounds (floor horizon : ℕ) (p : Plan) : Type 0 where
+  pub formed : IsFormed p
+  pub bounded : (i : ℕ) → i ≤ length p.acts → low_of floor (λ _. false) p i ≤ cap_of horizon p i
+
+-- the net with points more, and with those of plans
+abbrev pub with_bounds : List ℕ → List ℕ → Net → Net
+with_bounds lows caps net = record { lows = net.lows ++ lows; caps = net.caps ++ caps; edges = net.edges }
+
 abbrev pub with_plans : ℕ → ℕ → List Plan → Net → Net
-with_plans floor horizon plans net = record { lows = net.lows ++ flat_map (lows_of floor) plans; caps = net.caps ++ flat_map (caps_of horizon) plans; edges = net.edges }
+with_plans floor horizon plans net = with_bounds (flat_map (lows_of floor) plans) (flat_map (caps_of horizon) plans) net
 
 -- the durations of actions, the first of which starts at point n
 abbrev pub act_edges : Option Action → ℕ → List Edge
