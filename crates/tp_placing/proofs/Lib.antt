@@ -3,3 +3,5 @@ pub mod PastFacts
 pub mod LoadEdges
 pub mod LoadChains
 pub mod LoadPoints
+pub mod LoadHolds
+pub mod PutHolds

@@ -69,3 +69,8 @@ chain-read held ids place i j d e known from a b is =
     let x = slice_get-get_or held i d (All-at (λ id. id < length held) ids (place - 1) i known a) in
     let y = slice_get-get_or held j d (All-at (λ id. id < length held) ids place j known b) in
     chain-more held ids place i j (get_or held i d) (get_or held j d) known from a b x y ∙ ap (λ z. z ∷ chain_edges (drop (place + 1 - 1) (holds_in held ids))) (sym is)
+
+-- the hold that a number reads stands at the number's place
+pub holds-read : (held : List Held) (ids : List ℕ) (place id : ℕ) (d : Held) → AreIds held ids → slice_get ids place ≡ Some id → slice_get (holds_in held ids) place ≡ Some (get_or held id d)
+holds-read held ids place id d known at =
+    holds-get held ids place id (get_or held id d) known at (slice_get-get_or held id d (All-at (λ i. i < length held) ids place id known at))

@@ -2,5 +2,6 @@ pub mod Boards
 pub mod Edges
 pub mod Inside
 pub mod Loading
+pub mod LoadedHolds
 pub mod Trying
 pub mod Standing

@@ -5,6 +5,7 @@ mod board;
 mod edges;
 mod kept_chains;
 mod kept_edges;
+mod kept_holds;
 mod kept_points;
 mod parts;
 mod trying;
