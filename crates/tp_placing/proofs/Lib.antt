@@ -5,3 +5,4 @@ pub mod LoadChains
 pub mod LoadPoints
 pub mod LoadHolds
 pub mod PutHolds
+pub mod LoadTable
