@@ -6,3 +6,4 @@ pub mod LoadPoints
 pub mod LoadHolds
 pub mod PutHolds
 pub mod LoadTable
+pub mod LoadGaps
