@@ -7,3 +7,4 @@ pub mod LoadHolds
 pub mod PutHolds
 pub mod LoadTable
 pub mod LoadGaps
+pub mod LoadOrders
