@@ -8,3 +8,4 @@ pub mod PutHolds
 pub mod LoadTable
 pub mod LoadGaps
 pub mod LoadOrders
+pub mod LoadedNet

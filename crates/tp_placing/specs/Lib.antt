@@ -5,3 +5,4 @@ pub mod Loading
 pub mod LoadedHolds
 pub mod Trying
 pub mod Standing
+pub mod Loaded
