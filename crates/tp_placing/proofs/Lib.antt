@@ -9,3 +9,4 @@ pub mod LoadTable
 pub mod LoadGaps
 pub mod LoadOrders
 pub mod LoadedNet
+pub mod LiveFacts

@@ -69,20 +69,21 @@ fn add_plan<N: Network>(net: &mut N, plan: &Plan, floor: Tick, horizon: Tick)
     }
 }
 
-/// Adds the points of plans, one plan after another, and the first points to the list.
+/// Adds the points of plans, one plan after another, and the first points to the list. Answers how many points there are.
 pub(crate) fn add_points<N: Network>(
     net: &mut N,
     firsts: &mut Vec<PointId>,
     plans: &[Plan],
     floor: Tick,
     horizon: Tick,
-)
+) -> u32
     requires bounds { All (HasBounds floor horizon) plans.now }
     requires room { length (N.net net.old).lows + point_count plans.now ≤ N.point_room net.old }
     requires space { vec_len firsts.old + length plans.now ≤ vec_capacity firsts.old }
     requires few { point_count plans.now < 2 ^ 32 }
     requires fits { floor + 1 < 2 ^ 32 }
     requires least { HasLeast (N.net net.old) }
+    ensures count { result ≡ point_count plans.now }
     ensures added { N.net net.new ≡ with_plans floor horizon plans.now (N.net net.old) }
     ensures firsts { firsts.new.items ≡ firsts.old.items ++ firsts_from 0 plans.now }
     ensures space { vec_capacity firsts.old ≤ vec_capacity firsts.new }
@@ -101,4 +102,5 @@ pub(crate) fn add_points<N: Network>(
         }
         first = first + plan.acts.len() + 1;
     }
+    first
 }

@@ -7,6 +7,7 @@ mod kept_chains;
 mod kept_edges;
 mod kept_holds;
 mod kept_points;
+mod loading;
 mod parts;
 mod trying;
 mod undoing;
