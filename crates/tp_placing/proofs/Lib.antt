@@ -10,3 +10,5 @@ pub mod LoadGaps
 pub mod LoadOrders
 pub mod LoadedNet
 pub mod LiveFacts
+pub mod LivePlans
+pub mod LoadedBoard

@@ -6,6 +6,7 @@ mod edges;
 mod kept_chains;
 mod kept_edges;
 mod kept_holds;
+mod kept_plans;
 mod kept_points;
 mod loading;
 mod parts;

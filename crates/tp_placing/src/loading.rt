@@ -1,101 +1,56 @@
-//! A schedule's live plans as a network with orders.
-ghost use Rattle.std.specs.Prelude.{◌≡◌, ℕ, ◌+◌, ◌<◌, ◌≤◌, ◌^◌, [], length, filter, vec_capacity};
-ghost use Rattle.tp_base.specs.Net.{HasLeast};
+ghost use Rattle.std.specs.Prelude.{◌≡◌, ◌+◌, ◌<◌, ◌^◌, [], length, filter, Some};
+ghost use Rattle.tp_schedule.specs.Choices.{start_floor};
 ghost use Rattle.tp_schedule.specs.Living.{is_live};
-ghost use Rattle.tp_timelines.specs.Orders.{order_on};
-ghost use Rattle.tp_constraints.specs.Numbers.{with_edges};
-ghost use Rattle.tp_placing.specs.Inside.{most_edges, most_holds, most_plans, most_points};
-ghost use Rattle.tp_placing.specs.Loaded.{CanLoad, IsLoaded, all_edges};
-ghost use Rattle.tp_placing.specs.Loading.{AreAddable, AreIds, point_count};
+ghost use Rattle.tp_schedule.specs.Planning.{CanAsk};
+ghost use Rattle.tp_placing.specs.Boards.{past_of};
+ghost use Rattle.tp_placing.specs.Standing.{IsMadeFor, Stands};
 
-use crate::kept_chains::add_chains;
-use crate::kept_edges::{add_durations, add_lines};
-use crate::kept_holds::put_plans;
-use crate::kept_points::add_points;
-use crate::parts::Held;
-use tp_base::{Network, PointId, Tick, Undo};
+use crate::board::Board;
+use crate::kept_plans::{keep_live, load_plans};
+use tp_base::{Network, PointId, Tick};
 use tp_machine::Machine;
-use tp_schedule::{Plan, Schedule, is_plan_live};
-use tp_timelines::Timelines;
+use tp_schedule::{Ask, Origin, Schedule};
 
-/// Copies the plans that are live at the moment.
-pub(crate) fn keep_live(plans: &mut Vec<Plan>, machine: &Machine, schedule: &Schedule, now: Tick)
-    requires space { length (filter (is_live machine.now now) schedule.now.plans) ≤ vec_capacity plans.old }
-    ensures plans { plans.new.items ≡ filter (is_live machine.now now) schedule.now.plans }
-    ensures space { vec_capacity plans.old ≤ vec_capacity plans.new }
+/// The least tick of the first own point: above now and the lead, or the end of the front.
+fn start_floor(machine: &Machine, ask: &Ask) -> Tick
+    requires can { ask.now.now + machine.now.lead + 1 < 2 ^ 32 }
+    ensures { result ≡ start_floor machine.now ask.entry.now.now ask.entry.now.origin }
 {
-    plans.clear();
-    for at in 0..schedule.len() {
-        let plan = schedule.plan_at(at);
-        if is_plan_live(machine, now, plan) {
-            match plans.push(plan.copy()) {
-                Ok(()) => {}
-                Err(_) => unreachable!(),
-            }
-        }
+    match ask.origin {
+        Origin::Feeder => ask.now + machine.lead + 1,
+        Origin::Front { end, .. } => end,
     }
 }
 
-/// Adds an edge for each gap of the plans.
-fn add_edges<N: Network>(
-    net: &mut N,
-    lines: &Timelines,
-    held: &[Held],
-    machine: &Machine,
-    plans: &[Plan],
-)
-    requires can { AreAddable (N.edge_room net.old) (N.net net.old) (all_edges machine.now plans.now lines.now.orders held.now) }
-    requires fits { point_count plans.now < 2 ^ 32 }
-    requires resources { length lines.now.orders ≡ length machine.now.resources }
-    requires ids { (resource : ℕ) → resource < length lines.now.orders → AreIds held.now (order_on lines.now.orders resource) }
-    ensures added { N.net net.new ≡ with_edges (N.net net.old) (all_edges machine.now plans.now lines.now.orders held.now) }
-    ensures solved { HasLeast (N.net net.new) }
-    ensures past { N.past net.new ≡ N.past net.old }
-    ensures marks { N.mark_room net.new ≡ N.mark_room net.old }
-    ensures points { N.point_room net.new ≡ N.point_room net.old }
-    ensures edges { N.edge_room net.new ≡ N.edge_room net.old }
-{
-    add_durations(net, machine, plans);
-    add_lines(net, plans);
-    add_chains(net, lines, held, machine.resources.len());
-}
-
-/// Leaves nothing but the live plans in the network and the orders. Answers how many points there are.
-pub(crate) fn load_plans<N: Network>(
-    net: &mut N,
-    lines: &mut Timelines,
-    held: &mut Vec<Held>,
-    firsts: &mut Vec<PointId>,
-    plans: &[Plan],
-    machine: &Machine,
-    now: Tick,
-) -> u32
-    requires can { CanLoad machine.now now plans.now }
-    requires points { most_points ≤ N.point_room net.old }
-    requires edges { most_edges ≤ N.edge_room net.old }
-    requires resources { length lines.old.orders ≡ length machine.now.resources }
-    requires holds { most_holds ≤ lines.old.hold_room }
-    requires hold_space { most_holds ≤ vec_capacity held.old }
-    requires first_space { most_plans ≤ vec_capacity firsts.old }
-    ensures loaded { IsLoaded machine.now now plans.now (N.net net.new) lines.new.orders held.new.items firsts.new.items }
-    ensures count { result ≡ point_count plans.now }
-    ensures past { N.past net.new ≡ [] }
-    ensures marks { N.mark_room net.new ≡ N.mark_room net.old }
-    ensures points { N.point_room net.new ≡ N.point_room net.old }
-    ensures edges { N.edge_room net.new ≡ N.edge_room net.old }
-    ensures resources { length lines.new.orders ≡ length lines.old.orders }
-    ensures line_past { lines.new.past ≡ [] }
-    ensures line_holds { lines.new.hold_room ≡ lines.old.hold_room }
-    ensures line_marks { lines.new.mark_room ≡ lines.old.mark_room }
-    ensures hold_space { vec_capacity held.old ≤ vec_capacity held.new }
-    ensures first_space { vec_capacity firsts.old ≤ vec_capacity firsts.new }
-{
-    net.clear();
-    lines.clear();
-    held.clear();
-    firsts.clear();
-    let points = add_points(net, firsts, plans, now + machine.lead, now + machine.window);
-    put_plans(lines, held, plans, machine, points);
-    add_edges(net, lines, held.as_slice(), machine, plans);
-    points
+impl<N: Network> Board<N> {
+    /// Holds the schedule's live plans from now on, to be asked this. Costs in proportion to their points and holds, but
+    /// that each hold looks at those which begin no later than it. Takes no memory.
+    pub fn load(&mut self, machine: &Machine, schedule: &Schedule, ask: &Ask)
+        requires made { IsMadeFor self.old.made_for machine.now }
+        requires can_ask { CanAsk machine.now schedule.now.plans ask.now }
+        ensures made { self.new.made_for ≡ self.old.made_for }
+        ensures plans { self.new.plans ≡ filter (is_live machine.now ask.entry.now.now) schedule.now.plans }
+        ensures asked { self.new.ask ≡ Some ask.entry.now }
+        ensures closed { self.new.steps ≡ [] }
+        ensures stands { Stands N.net N.content N.past self.new machine.now }
+        ensures past { past_of N.past self.new ≡ [] }
+        ensures marks { N.mark_room self.new.net ≡ N.mark_room self.old.net }
+    {
+        keep_live(&mut self.plans, machine, schedule, ask.now);
+        let points = load_plans(
+            &mut self.net,
+            &mut self.lines,
+            &mut self.held,
+            &mut self.firsts,
+            self.plans.as_slice(),
+            machine,
+            ask.now,
+        );
+        self.last = PointId(points);
+        self.floor = start_floor(machine, ask);
+        self.horizon = ask.now + machine.window;
+        self.ask = Some(*ask);
+        self.steps.clear();
+        self.marks.clear();
+    }
 }

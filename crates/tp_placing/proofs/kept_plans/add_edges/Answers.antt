@@ -1,7 +1,7 @@
 use Rattle.std.proofs.Common.{◌++◌, ◌∙◌, length, sym}
 use Rattle.tp_placing.specs.Loading.{plans_edges, lines_edges, chains_edges, holds_on}
 use Rattle.tp_placing.proofs.LoadEdges.{first-addable, rest-addable, same-room}
-use Rattle.tp_placing.proofs.loading.add_edges.Goals as goal
+use Rattle.tp_placing.proofs.kept_plans.add_edges.Goals as goal
 
 pub add_durations-requires-clause-can : goal.add_durations-requires-clause-can
 add_durations-requires-clause-can g c =

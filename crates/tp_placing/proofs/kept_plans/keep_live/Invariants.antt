@@ -1,6 +1,6 @@
 use Rattle.std.proofs.Common.{◌≡◌, ◌≤◌, ◌++◌, drop, filter, vec_capacity}
 use Rattle.tp_schedule.specs.Living.{is_live}
-use Rattle.tp_placing.proofs.loading.keep_live.Given as goal
+use Rattle.tp_placing.proofs.kept_plans.keep_live.Given as goal
 
 abbrev pub invariant-loop-at : goal.invariant-loop-at
 invariant-loop-at l = record {
