@@ -1,5 +1,5 @@
 -- The live plans of a schedule, kept one after another.
-use Rattle.std.proofs.Common.{◌≡◌, ℕ, zero, suc, ◌+◌, ◌*◌, ◌<◌, ◌≤◌, Bool, true, false, cond, List, [], ◌∷◌, ◌++◌, length, drop, filter, refl, ap, sym, ◌∙◌, arith, Some, All}
+use Rattle.std.proofs.Common.{◌≡◌, ℕ, ◌+◌, ◌*◌, ◌<◌, ◌≤◌, Bool, true, false, cond, List, [], ◌∷◌, ◌++◌, length, drop, filter, ap, sym, ◌∙◌, arith, Some, All}
 use Rattle.std.specs.Prelude.{slice_get}
 use Rattle.std.proofs.lemmas.List.{append_assoc, length-append}
 use Rattle.std.proofs.lemmas.List.Elements.{All-nil, All-head, All-tail}
@@ -28,10 +28,13 @@ module _ {X : Type 0} (test : X → Bool) (kept xs whole : List X) (at : ℕ) (x
 
 -- a network without points has a least solution
 pub empty-least : HasLeast empty_net
-empty-least = (λ i. 0, record {
-  solution = record { above_low = λ i below. absurd (omega (arith, below)); below_cap = λ i below. absurd (omega (arith, below)); keeps = All-nil (λ e. _) };
-  least = λ y s i below. absurd (omega (arith, below));
-})
+empty-least = (
+  λ i. 0,
+  record {
+    solution = record { above_low = λ i below. absurd (omega (arith, below)); below_cap = λ i below. absurd (omega (arith, below)); keeps = All-nil (λ e. _) };
+    least = λ y s i below. absurd (omega (arith, below));
+  },
+)
 
 -- how many points there can be
 pub points-few : (plans : List Plan) → All (λ p. length p.acts ≤ 64) plans → point_count plans ≤ 65 * length plans

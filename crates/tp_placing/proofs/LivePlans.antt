@@ -1,8 +1,7 @@
 -- The live part of a schedule that can be asked can be loaded.
-use Rattle.std.proofs.Common.{◌≡◌, ℕ, zero, suc, ◌+◌, ◌*◌, ◌<◌, ◌≤◌, Bool, true, false, cond, not, List, [], ◌∷◌, ◌++◌, length, map, filter, refl, ap, sym, ◌∙◌, subst, arith, Option, Some, None, All, AllPairs, Contains, IsTrue}
-use Rattle.std.specs.Prelude.{count_by}
+use Rattle.std.proofs.Common.{◌≡◌, ◌+◌, ◌≤◌, Bool, true, false, cond, not, List, [], ◌∷◌, ◌++◌, length, map, filter, refl, ap, ◌∙◌, subst, arith, Some, None, All, IsTrue}
 use Rattle.std.proofs.lemmas.List.{length-append, length-map}
-use Rattle.std.proofs.lemmas.List.Elements.{All-nil, All-cons, All-head, All-tail, All-filter, All-contains, All-weaker, filter-append}
+use Rattle.std.proofs.lemmas.List.Elements.{All-filter, All-weaker, filter-append}
 use Rattle.std.proofs.lemmas.List.Kept.{AllPairs-filter}
 use Rattle.std.proofs.lemmas.List.Sums.{length-filter}
 use Rattle.tp_machine.specs.declared.whole.Machine.{Machine}
@@ -11,12 +10,12 @@ use Rattle.tp_schedule.proofs.CopyFacts.{InOrder, same_copy-is, before-not_same'
 use Rattle.tp_schedule.proofs.LegalFacts.{length-filter-flat_map-filter}
 use Rattle.tp_schedule.proofs.Membership.{Contains-filter_from}
 use Rattle.tp_schedule.proofs.Pairs.{AllPairs-head, AllPairs-tail}
-use Rattle.tp_schedule.specs.Answers.{IsAsked, IsAskedFrom, IsFrontOf, kept_of, kept_from}
+use Rattle.tp_schedule.specs.Answers.{IsAskedFrom, kept_from}
 use Rattle.tp_schedule.specs.Holding.{runs, runs_of, hold_of, holds_at}
 use Rattle.tp_schedule.specs.Legality.{IsLegal, EndsBefore}
-use Rattle.tp_schedule.specs.Living.{is_live, live_count}
+use Rattle.tp_schedule.specs.Living.{is_live}
 use Rattle.tp_schedule.specs.Planning.{CanAsk, HasTimeFrom}
-use Rattle.tp_schedule.specs.Plans.{IsTimedPlan, IsEarlier, plan_of, without, is_same_copy, is_before, point, end_of_plan}
+use Rattle.tp_schedule.specs.Plans.{IsTimedPlan, IsEarlier, plan_of, without, is_same_copy, is_before}
 use Rattle.tp_schedule.specs.declared.parts.Ask.{Ask}
 use Rattle.tp_schedule.specs.declared.parts.Origin.{Origin}
 use Rattle.tp_schedule.specs.declared.parts.Origin.TheVariants.{Feeder as FromFeeder, Front as FromFront}
@@ -138,7 +137,7 @@ module _ (machine : Machine) (plans : List Plan) (ask : Ask) (can : CanAsk machi
   others-points =
       let few = others-few in
       let all = points-few (filter (is_live machine ask.now) (without ask.sheet plans))
-          (All-filter (is_live machine ask.now) (λ p. length p.acts ≤ 64) (without ask.sheet plans) (All-filter (λ p. not (is_same_copy p.sheet ask.sheet)) (λ p. length p.acts ≤ 64) plans acts-few)) in
+      (All-filter (is_live machine ask.now) (λ p. length p.acts ≤ 64) (without ask.sheet plans) (All-filter (λ p. not (is_same_copy p.sheet ask.sheet)) (λ p. length p.acts ≤ 64) plans acts-few)) in
       omega arith
 
   -- the live plans are few, and so are their points

@@ -1,6 +1,6 @@
 -- The edges of plans are their gaps, and may be required.
-use Rattle.std.proofs.Common.{◌≡◌, ℕ, zero, suc, ◌+◌, ◌*◌, ◌<◌, ◌≤◌, Bool, true, false, cond, List, [], ◌∷◌, ◌++◌, length, map, refl, ap, sym, ◌∙◌, subst, arith, Option, Some, None, All, Contains}
-use Rattle.std.specs.Prelude.{slice_get, pos, neg_ℤ, negsuc, ◌≤ℤ◌}
+use Rattle.std.proofs.Common.{◌≡◌, ℕ, suc, ◌+◌, ◌*◌, ◌≤◌, Bool, true, false, cond, List, [], ◌∷◌, ◌++◌, length, map, refl, ap, ◌∙◌, arith, Option, Some, None, All}
+use Rattle.std.specs.Prelude.{slice_get, pos, neg_ℤ}
 use Rattle.std.specs.List.{find}
 use Rattle.std.proofs.lemmas.Int.{ints}
 use Rattle.std.proofs.lemmas.List.{map-append, length-append}
@@ -14,7 +14,7 @@ use Rattle.tp_machine.specs.declared.parts.Action.{Action}
 use Rattle.tp_machine.specs.declared.whole.Machine.{Machine}
 use Rattle.tp_machine.proofs.MachineFacts.{is_machine}
 use Rattle.tp_schedule.specs.Spots.{Spot}
-use Rattle.tp_schedule.specs.Spots.Spot.{kept, own}
+use Rattle.tp_schedule.specs.Spots.Spot.{kept}
 use Rattle.tp_schedule.specs.declared.parts.Plan.{Plan}
 use Rattle.tp_schedule.specs.declared.parts.SheetId.{SheetId}
 use Rattle.tp_constraints.specs.Gaps.{Gap, gap, range_gaps, acts_gaps, duration_gaps, line_gap, line_gaps, is_same_line, end_spot}
@@ -69,10 +69,12 @@ acts-gaps machine table n copy first (act ∷ acts) at =
     let b : slice_get table (n + 1) ≡ Some (kept copy (suc first)) = at.get 1 (omega arith) ∙ ap (λ k. Some (kept copy k)) f1 in
     gaps-append table (act_edges (action_at machine act.0) n) (acts_edges machine (n + 1) acts) (range_gaps (action_at machine act.0) (kept copy first) (kept copy (suc first))) (acts_gaps machine copy (suc first) acts)
     (range-gaps machine table act.0 n (kept copy first) (kept copy (suc first)) (action_at machine act.0) refl a b)
-    (acts-gaps machine table (n + 1) copy (suc first) acts (record { get = λ i h. (
-        let e : n + 1 + i ≡ n + suc i = omega arith in
-        let f : first + suc i ≡ suc first + i = omega arith in
-        ap (λ k. slice_get table k) e ∙ at.get (suc i) (omega arith) ∙ ap (λ k. Some (kept copy k)) f) }))
+    (acts-gaps machine table (n + 1) copy (suc first) acts (record {
+      get = λ i h. (
+          let e : n + 1 + i ≡ n + suc i = omega arith in
+          let f : first + suc i ≡ suc first + i = omega arith in
+          ap (λ k. slice_get table k) e ∙ at.get (suc i) (omega arith) ∙ ap (λ k. Some (kept copy k)) f);
+    }))
 
 pub durations-gaps : (machine : Machine) (table : List Spot) (n : ℕ) (plans : List Plan) → AreNumbered table n plans → AreGaps table (plans_edges machine n plans) (duration_gaps machine plans)
 durations-gaps machine table n [] at = gaps-none table

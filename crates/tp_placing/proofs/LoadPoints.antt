@@ -1,6 +1,6 @@
 -- The points of plans, added one after another.
-use Rattle.std.proofs.Common.{◌≡◌, ℕ, zero, suc, ◌+◌, ◌<◌, ◌≤◌, false, List, [], ◌∷◌, ◌++◌, length, refl, ap, sym, arith, ◌∙◌, subst}
-use Rattle.std.proofs.lemmas.List.{append_assoc, append-nil, length-append}
+use Rattle.std.proofs.Common.{◌≡◌, ℕ, zero, suc, ◌+◌, false, List, [], ◌∷◌, ◌++◌, length, refl, ap, sym, arith, ◌∙◌}
+use Rattle.std.proofs.lemmas.List.{append_assoc, length-append}
 use Rattle.std.specs.List.{flat_map}
 use Rattle.tp_base.specs.Net.{Net, with_point}
 use Rattle.tp_schedule.proofs.TickLists.{length-ticks_from}

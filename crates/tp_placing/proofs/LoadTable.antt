@@ -1,5 +1,5 @@
 -- The points of plans in their table, one plan after another: their numbers, bounds and ticks.
-use Rattle.std.proofs.Common.{◌≡◌, ℕ, zero, suc, ◌+◌, ◌-◌, ◌<◌, ◌≤◌, List, [], ◌∷◌, ◌++◌, length, map, refl, ap, sym, ◌∙◌, subst, arith, Some, inl, inr, Contains, All}
+use Rattle.std.proofs.Common.{◌≡◌, ℕ, zero, suc, ◌+◌, ◌-◌, ◌≤◌, List, [], ◌∷◌, ◌++◌, length, map, refl, ap, sym, ◌∙◌, subst, arith, Some, inl, inr, Contains}
 use Rattle.std.specs.Prelude.{slice_get, slice_index}
 use Rattle.std.specs.List.{flat_map}
 use Rattle.std.proofs.lemmas.Bool.{cases_lt}
@@ -7,9 +7,9 @@ use Rattle.std.proofs.lemmas.List.{append_assoc, length-append, map-append, get_
 use Rattle.tp_base.proofs.SliceFacts.{slice_get_left}
 use Rattle.tp_schedule.proofs.CopyFacts.{InOrder, plan_of-itself}
 use Rattle.tp_schedule.proofs.Membership.{Contains-here, Contains-later}
-use Rattle.tp_schedule.specs.Plans.{plan_of, point}
+use Rattle.tp_schedule.specs.Plans.{plan_of}
 use Rattle.tp_schedule.specs.Spots.{Spot, ticks_of, point_in}
-use Rattle.tp_schedule.specs.Spots.Spot.{kept, own}
+use Rattle.tp_schedule.specs.Spots.Spot.{kept}
 use Rattle.tp_schedule.specs.Times.{ticks_from}
 use Rattle.tp_schedule.specs.declared.parts.Plan.{Plan}
 use Rattle.tp_schedule.specs.declared.parts.SheetId.{SheetId}
@@ -51,16 +51,18 @@ AreNumbered table n (p ∷ plans) = StandsAt table n p.sheet 0 (length p.acts) �
 pub numbered-behind : (before : List Spot) (plans : List Plan) → AreNumbered (before ++ table_of plans) (length before) plans
 numbered-behind before [] = tt
 numbered-behind before (p ∷ plans) = (
-  record { get = λ i h. (
-      let l = length-from p.sheet 0 (length p.acts) in
-      get-behind before (table_of (p ∷ plans)) i ∙ slice_get_left (points_from p.sheet 0 (length p.acts)) (table_of plans) i (omega arith) ∙ from-get p.sheet 0 (length p.acts) i h) },
+  record {
+    get = λ i h. (
+        let l = length-from p.sheet 0 (length p.acts) in
+        get-behind before (table_of (p ∷ plans)) i ∙ slice_get_left (points_from p.sheet 0 (length p.acts)) (table_of plans) i (omega arith) ∙ from-get p.sheet 0 (length p.acts) i h);
+  },
   (
-    let points = points_from p.sheet 0 (length p.acts) in
-    let l = length-from p.sheet 0 (length p.acts) in
-    let m = length-append before (points_from p.sheet 0 (length p.acts)) in
-    let e : length (before ++ points) ≡ length before + length p.acts + 1 = omega arith in
-    subst (λ table. AreNumbered table (length before + length p.acts + 1) plans) (append_assoc before points (table_of plans))
-    (subst (λ n. AreNumbered ((before ++ points) ++ table_of plans) n plans) e (numbered-behind (before ++ points) plans))),
+      let points = points_from p.sheet 0 (length p.acts) in
+      let l = length-from p.sheet 0 (length p.acts) in
+      let m = length-append before (points_from p.sheet 0 (length p.acts)) in
+      let e : length (before ++ points) ≡ length before + length p.acts + 1 = omega arith in
+      subst (λ table. AreNumbered table (length before + length p.acts + 1) plans) (append_assoc before points (table_of plans))
+      (subst (λ n. AreNumbered ((before ++ points) ++ table_of plans) n plans) e (numbered-behind (before ++ points) plans))),
 )
 
 pub numbered : (plans : List Plan) → AreNumbered (table_of plans) 0 plans

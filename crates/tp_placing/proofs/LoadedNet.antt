@@ -1,24 +1,19 @@
 -- What is made of the live plans of a schedule is its network and its orders.
-use Rattle.std.proofs.Common.{◌≡◌, ℕ, zero, suc, ◌+◌, ◌*◌, ◌<◌, ◌≤◌, Bool, true, false, List, [], ◌∷◌, ◌++◌, length, map, take, replicate, refl, ap, sym, ◌∙◌, subst, arith, Some, All, AllPairs, Contains, get_or}
+use Rattle.std.proofs.Common.{◌≡◌, ℕ, zero, suc, ◌+◌, ◌*◌, ◌<◌, ◌≤◌, Bool, false, List, [], ◌∷◌, ◌++◌, length, map, take, replicate, refl, ap, sym, ◌∙◌, subst, arith, Some, All, Contains}
 use Rattle.std.specs.Prelude.{slice_get, slice_index}
 use Rattle.std.specs.List.{flat_map}
 use Rattle.std.proofs.lemmas.List.{length-append, length-map, length-replicate, get_or-replicate, take_more, take_all}
-use Rattle.std.proofs.lemmas.List.Elements.{All-nil, All-cons, All-head, All-tail, All-append, All-contains, All-weaker, All-contains_itself}
+use Rattle.std.proofs.lemmas.List.Elements.{All-nil, All-cons, All-head, All-tail, All-contains, All-weaker, All-contains_itself}
 use Rattle.std.proofs.lemmas.List.Sums.{sum_by-append}
-use Rattle.std.proofs.lemmas.Option.{slice_get_within}
 use Rattle.tp_base.specs.Net.{Net, IsSolution, HasLeast, Keeps, empty_net}
-use Rattle.tp_base.specs.declared.edges.Edge.{Edge}
 use Rattle.tp_base.specs.declared.edges.PointId.{PointId}
 use Rattle.tp_machine.specs.declared.whole.Machine.{Machine}
-use Rattle.tp_schedule.specs.Answers.{KeepsFixed, IsRetimed}
-use Rattle.tp_schedule.specs.Plans.{IsTimedPlan, plan_of, point, is_fixed}
-use Rattle.tp_schedule.specs.Spots.{Spot, Slot, slot_order, by_begin, slots, ticks_of}
-use Rattle.tp_schedule.specs.Spots.Spot.{kept, own}
-use Rattle.tp_schedule.specs.Times.{ticks_from}
+use Rattle.tp_schedule.specs.Plans.{IsTimedPlan, plan_of, point}
+use Rattle.tp_schedule.specs.Spots.{Spot, slot_order, by_begin, ticks_of}
 use Rattle.tp_schedule.specs.declared.parts.Plan.{Plan}
 use Rattle.tp_schedule.proofs.CopyFacts.{plan_of-itself}
 use Rattle.tp_choices.proofs.Retiming.{retimed_ticks}
-use Rattle.tp_constraints.specs.Gaps.{Gap, KeepsGap, KeepsGaps, IsPoint, low_of, cap_of, low_at, cap_at, low_in, cap_in, line_gaps, duration_gaps, all_chains}
+use Rattle.tp_constraints.specs.Gaps.{KeepsGap, KeepsGaps, IsPoint, low_of, cap_of, low_at, cap_at, low_in, cap_in, line_gaps, duration_gaps, all_chains}
 use Rattle.tp_constraints.specs.Laws.{LoadedTimes, plans_gaps, no_own}
 use Rattle.tp_constraints.specs.Numbers.{table_of, gap_by, spot_at, spot_in, IsTable, IsEdgeOf, with_edges}
 use Rattle.tp_schedule.proofs.Membership.{All-from_contains}
@@ -32,7 +27,7 @@ use Rattle.tp_placing.specs.declared.parts.Held.{Held}
 use Rattle.tp_placing.specs.Inside.{most_edges}
 use Rattle.tp_placing.specs.Loaded.{CanLoad, IsLoaded, all_edges}
 use Rattle.tp_placing.specs.Loading.{AreAddable, AreIds, HasBounds, chain_edges, chains_edges, firsts_from, holds_in, holds_on, lines_edges, lows_of, caps_of, plans_edges, point_count, with_plans}
-use Rattle.tp_placing.specs.LoadedHolds.{ArePut, AreHolds, IsHeldWithin, held_plans, put_all, ticks_in}
+use Rattle.tp_placing.specs.LoadedHolds.{ArePut, IsHeldWithin, held_plans, put_all, ticks_in}
 use Rattle.tp_placing.specs.Standing.{AreFirsts, AreSlots, HasSmallOffsets}
 use Rattle.tp_placing.specs.Trying.{CanRequire}
 use Rattle.tp_placing.proofs.LoadChains.{length-holds}
@@ -134,12 +129,12 @@ module _ (machine : Machine) (now : ℕ) (plans : List Plan) (can : CanLoad mach
         gaps-append (table_of plans) (plans_edges machine 0 plans) (lines_edges 0 plans ++ chains_edges (holds_on held lines.orders) (length machine.resources)) (duration_gaps machine plans) (line_gaps plans ++ chains)
         (durations-gaps machine (table_of plans) 0 plans (numbered plans))
         (gaps-append (table_of plans) (lines_edges 0 plans) (chains_edges (holds_on held lines.orders) (length machine.resources)) (line_gaps plans) chains
-            (lines-gaps (table_of plans) 0 plans (numbered plans))
-            (chains-gaps (table_of plans) (holds_on held lines.orders) (slot_order machine plans) (length machine.resources) (λ r below. (
-              sorted r below,
-              holds-All (IsHeldWithin (length (table_of plans))) held (order_on lines.orders r) (ids r below) within,
-              holds-All (λ h. HasSmallOffsets h.rule) held (order_on lines.orders r) (ids r below) put.holds.small,
-            ))))
+        (lines-gaps (table_of plans) 0 plans (numbered plans))
+        (chains-gaps (table_of plans) (holds_on held lines.orders) (slot_order machine plans) (length machine.resources) (λ r below. (
+          sorted r below,
+          holds-All (IsHeldWithin (length (table_of plans))) held (order_on lines.orders r) (ids r below) within,
+          holds-All (λ h. HasSmallOffsets h.rule) held (order_on lines.orders r) (ids r below) put.holds.small,
+        ))))
 
     count : length (all_edges machine plans lines.orders held) ≤ 98600
     count =

@@ -1,5 +1,5 @@
 -- What plans must keep to be loaded, and what a network and orders are once they are.
-use Rattle.std.specs.Prelude.{ℕ, ◌<◌, ◌≤◌, ◌+◌, ◌≡◌, Bool, false, List, ◌++◌, length, map, All, Contains}
+use Rattle.std.specs.Prelude.{ℕ, ◌<◌, ◌≤◌, ◌≡◌, false, List, ◌++◌, length, map, All, Contains}
 use Rattle.tp_base.specs.Net.{Net, HasLeast}
 use Rattle.tp_base.specs.declared.edges.Edge.{Edge}
 use Rattle.tp_base.specs.declared.edges.PointId.{PointId}

@@ -1,5 +1,5 @@
 -- The network of a loaded schedule: its points one plan after another, and an edge for each of its gaps.
-use Rattle.std.specs.Prelude.{ℕ, zero, suc, ◌+◌, ◌<◌, ◌≤◌, Bool, false, List, [], ◌∷◌, ◌++◌, flat_map, length, pos, Option, Some, None, slice_get, All, if◌then◌else◌}
+use Rattle.std.specs.Prelude.{ℕ, zero, suc, ◌+◌, ◌<◌, ◌≤◌, false, List, [], ◌∷◌, ◌++◌, flat_map, length, pos, Option, Some, None, slice_get, All, if◌then◌else◌}
 use Rattle.tp_base.specs.Net.{Net, IsSolution, HasLeast}
 use Rattle.tp_base.specs.declared.edges.Edge.{Edge}
 use Rattle.tp_base.specs.declared.edges.PointId.{PointId}

@@ -1,10 +1,10 @@
-ghost use Rattle.std.specs.Prelude.{◌≡◌, ◌≤◌, ◌++◌, length, vec_capacity};
+ghost use Rattle.std.specs.Prelude.{◌≡◌, ◌+◌, ◌<◌, min};
 ghost use Rattle.tp_machine.specs.Machines.{IsOffset};
 ghost use Rattle.tp_placing.specs.Edges.{anchor_point, duration_edges, edge_of, hold_edge, edge_after, edge_until};
 ghost use Rattle.tp_placing.specs.Standing.{HasSmallOffsets};
 
 use crate::parts::Held;
-use tp_base::{Edge, PointId};
+use tp_base::{Edge, PointId, Tick};
 use tp_machine::{Action, Anchor};
 
 /// The time of `to` is at least that of `from` plus the weight.
@@ -49,4 +49,13 @@ pub(crate) fn following(before: &Held, after: &Held) -> Edge
         to,
         before.rule.end_off as i64 - after.rule.begin_off as i64,
     )
+}
+
+/// The least tick of a point that has so much room after the floor: their sum, or the first tick after the horizon where it
+/// is later.
+pub(crate) fn lowest(floor: Tick, room: u32, horizon: Tick) -> Tick
+    requires { horizon < 2147483648 }
+    ensures { result ≡ min (floor + room) (horizon + 1) }
+{
+    (floor as u64 + room as u64).min(horizon as u64 + 1) as u32
 }

@@ -32,12 +32,7 @@ fn add_chain<N: Network>(net: &mut N, lines: &Timelines, held: &[Held], resource
 }
 
 /// Adds the same of all resources below a number.
-pub(crate) fn add_chains<N: Network>(
-    net: &mut N,
-    lines: &Timelines,
-    held: &[Held],
-    resources: u32,
-)
+pub(crate) fn add_chains<N: Network>(net: &mut N, lines: &Timelines, held: &[Held], resources: u32)
     requires can { AreAddable (N.edge_room net.old) (N.net net.old) (chains_edges (holds_on held.now lines.now.orders) resources) }
     requires known { resources ≤ length lines.now.orders }
     requires few { resources ≤ 256 }

@@ -1,7 +1,6 @@
-use Rattle.std.proofs.Common.{◌∙◌, ◌≡◌, ◌-◌, ◌∷◌, [], sym, ap, subst, arith, drop}
+use Rattle.std.proofs.Common.{◌∙◌, sym, ap, arith}
 use Rattle.tp_timelines.specs.Orders.{order_on}
 use Rattle.tp_constraints.specs.Numbers.{with_edges}
-use Rattle.tp_placing.specs.Loading.{chain_edges, holds_on}
 use Rattle.tp_placing.proofs.LoadEdges.{first-of, rest-of, whole-of, same-room}
 use Rattle.tp_placing.proofs.LoadChains.{chain-read, chain-none}
 use Rattle.tp_placing.proofs.TryFacts.{no-edges}

@@ -1,4 +1,4 @@
-use Rattle.std.proofs.Common.{◌≡◌, ◌≤◌, None, length, sym, ap, subst, arith}
+use Rattle.std.proofs.Common.{◌≡◌, None, length, sym, ap, arith}
 use Rattle.std.proofs.lemmas.Option.{slice_get_past}
 use Rattle.tp_machine.specs.Using.{action_at}
 use Rattle.tp_placing.proofs.TryFacts.{no-edges}

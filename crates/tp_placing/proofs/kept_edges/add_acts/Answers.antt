@@ -1,12 +1,7 @@
-use Rattle.std.proofs.Common.{◌≡◌, ◌+◌, ◌∙◌, sym, ap, drop, arith, slice_index_or, List, ◌++◌, ◌∷◌}
-use Rattle.std.proofs.lemmas.List.{at_drop_more, at_drop_all}
-use Rattle.tp_base.specs.declared.edges.Edge.{Edge}
-use Rattle.tp_machine.specs.Using.{action_at}
-use Rattle.tp_machine.specs.declared.parts.ActId.{ActId}
-use Rattle.tp_machine.specs.declared.whole.Machine.{Machine}
-use Rattle.tp_placing.specs.Loading.{act_edges, acts_edges}
+use Rattle.std.proofs.Common.{◌∙◌, arith}
+use Rattle.std.proofs.lemmas.List.{at_drop_more}
+use Rattle.tp_placing.specs.Loading.{acts_edges}
 use Rattle.tp_placing.proofs.LoadEdges.{first-of, rest-of, whole-of, same-room}
-use Rattle.tp_placing.proofs.TryFacts.{no-edges}
 use Rattle.tp_placing.proofs.kept_edges.add_acts.Goals as goal
 
 pub add_act-requires-clause-can : goal.add_act-requires-clause-can

@@ -1,5 +1,5 @@
-use Rattle.std.proofs.Common.{◌≡◌, ◌+◌, ◌∙◌, sym, ap, drop, arith, length, List, ◌++◌, ◌∷◌}
-use Rattle.tp_placing.specs.Loading.{acts_edges, plans_edges, point_count}
+use Rattle.std.proofs.Common.{◌∙◌, ap, arith}
+use Rattle.tp_placing.specs.Loading.{plans_edges, point_count}
 use Rattle.tp_placing.proofs.LoadEdges.{first-of, rest-of, whole-of, same-room, drop-read}
 use Rattle.tp_placing.proofs.kept_edges.add_durations.Goals as goal
 

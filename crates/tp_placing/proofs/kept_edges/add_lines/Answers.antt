@@ -1,4 +1,4 @@
-use Rattle.std.proofs.Common.{◌≡◌, ◌+◌, ◌∙◌, sym, ap, drop, arith, length, List, ◌++◌, ◌∷◌}
+use Rattle.std.proofs.Common.{◌+◌, ◌∙◌, ap, arith}
 use Rattle.std.proofs.lemmas.List.{take_rest}
 use Rattle.tp_placing.specs.Loading.{lines_edges, point_count}
 use Rattle.tp_placing.proofs.LoadEdges.{first-of, rest-of, whole-of, same-room, drop-read}

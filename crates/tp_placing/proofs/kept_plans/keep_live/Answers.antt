@@ -1,4 +1,4 @@
-use Rattle.std.proofs.Common.{◌≡◌, ◌∙◌, true, false, sym, arith, ap, length}
+use Rattle.std.proofs.Common.{◌∙◌, sym, arith}
 use Rattle.tp_schedule.specs.Living.{is_live}
 use Rattle.tp_placing.proofs.LiveFacts.{keep-passed, keep-failed, keep-fits}
 use Rattle.tp_placing.proofs.kept_plans.keep_live.Goals as goal

@@ -1,5 +1,5 @@
-use Rattle.std.proofs.Common.{◌≡◌, ◌∙◌, ◌+◌, ◌*◌, ◌++◌, [], List, length, replicate, sym, ap, subst, arith}
-use Rattle.tp_base.specs.Net.{Net, HasLeast, empty_net}
+use Rattle.std.proofs.Common.{◌∙◌, ◌+◌, ◌*◌, ◌++◌, [], List, length, replicate, sym, ap, subst, arith}
+use Rattle.tp_base.specs.Net.{Net, HasLeast}
 use Rattle.tp_base.specs.declared.edges.PointId.{PointId}
 use Rattle.tp_placing.specs.declared.parts.Held.{Held}
 use Rattle.tp_placing.specs.Loading.{with_plans, firsts_from}

@@ -1,4 +1,4 @@
-use Rattle.std.proofs.Common.{◌≡◌, ◌∙◌, ◌+◌, suc, length, refl, sym, ap, subst, arith, false}
+use Rattle.std.proofs.Common.{◌≡◌, ◌∙◌, suc, length, refl, ap, arith, false}
 use Rattle.tp_schedule.specs.Times.{ticks_from}
 use Rattle.tp_constraints.specs.Gaps.{low_of, cap_of}
 use Rattle.tp_placing.specs.Loading.{with_bounds}

@@ -1,8 +1,4 @@
-use Rattle.std.proofs.Common.{◌≡◌, ◌≤◌, ◌∙◌, [], List, length, filter, sym, ap, subst, refl, arith}
-use Rattle.tp_schedule.specs.Living.{is_live}
-use Rattle.tp_schedule.specs.declared.parts.Plan.{Plan}
-use Rattle.tp_placing.specs.Loaded.{CanLoad, IsLoaded}
-use Rattle.tp_placing.specs.Loading.{point_count}
+use Rattle.std.proofs.Common.{refl, arith}
 use Rattle.tp_placing.proofs.LivePlans.{live-few, live-loads}
 use Rattle.tp_placing.proofs.LoadedBoard.{stands-loaded}
 use Rattle.tp_placing.proofs.board.Board.load.Goals as goal
