@@ -12,3 +12,4 @@ pub mod LoadedNet
 pub mod LiveFacts
 pub mod LivePlans
 pub mod LoadedBoard
+pub mod LoadTicks

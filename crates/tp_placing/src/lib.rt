@@ -8,6 +8,7 @@ mod kept_edges;
 mod kept_holds;
 mod kept_plans;
 mod kept_points;
+mod kept_ticks;
 mod loading;
 mod parts;
 mod trying;
