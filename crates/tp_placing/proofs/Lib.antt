@@ -13,3 +13,7 @@ pub mod LiveFacts
 pub mod LivePlans
 pub mod LoadedBoard
 pub mod LoadTicks
+pub mod PutAll
+pub mod LivePart
+pub mod LoadSlots
+pub mod LoadedTicks

@@ -1,5 +1,5 @@
 -- The tick of a point in the plan that has it.
-use Rattle.std.proofs.Common.{◌≡◌, ℕ, zero, suc, ◌+◌, ◌-◌, ◌<◌, ◌≤◌, List, [], ◌∷◌, ◌++◌, length, take, refl, ap, sym, ◌∙◌, subst, arith, get_or, All, Some, inl, inr}
+use Rattle.std.proofs.Common.{◌≡◌, ℕ, zero, suc, ◌+◌, ◌-◌, ◌<◌, ◌≤◌, List, [], ◌∷◌, length, take, refl, ap, sym, ◌∙◌, subst, arith, get_or, All, Some, inl, inr}
 use Rattle.std.specs.Prelude.{slice_index, slice_get}
 use Rattle.std.specs.List.{flat_map, AllWithin}
 use Rattle.std.specs.List.Sorted.{IsNonDecreasingBy}
@@ -13,7 +13,7 @@ use Rattle.tp_schedule.specs.declared.parts.Plan.{Plan}
 use Rattle.tp_placing.specs.Loading.{HasPoints, firsts_from, point_count, point_id}
 use Rattle.tp_placing.specs.LoadedHolds.{ticks_in}
 use Rattle.tp_placing.proofs.LoadTable.{length-ticks}
-use Rattle.tp_placing.proofs.PutHolds.{count-back, count-within}
+use Rattle.tp_placing.proofs.LoadPoints.{count-back, count-within}
 
 pub length-firsts-from : (n : ℕ) (plans : List Plan) → length (firsts_from n plans) ≡ length plans
 length-firsts-from n [] = refl

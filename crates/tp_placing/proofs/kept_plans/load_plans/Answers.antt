@@ -5,7 +5,8 @@ use Rattle.tp_placing.specs.declared.parts.Held.{Held}
 use Rattle.tp_placing.specs.Loading.{with_plans, firsts_from}
 use Rattle.tp_placing.specs.LoadedHolds.{ArePut, held_plans, ticks_in}
 use Rattle.tp_placing.proofs.LiveFacts.{empty-least, points-few}
-use Rattle.tp_placing.proofs.LoadedNet.{few-acts, ticks-count, addable, loaded}
+use Rattle.tp_placing.proofs.LoadedTicks.{few-acts, ticks-count}
+use Rattle.tp_placing.proofs.LoadedNet.{addable, loaded}
 use Rattle.tp_placing.proofs.kept_plans.load_plans.Goals as goal
 
 pub add_points-points-requires-clause-room : goal.add_points-points-requires-clause-room

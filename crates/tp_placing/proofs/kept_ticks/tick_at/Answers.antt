@@ -1,4 +1,4 @@
-use Rattle.std.proofs.Common.{◌≡◌, ◌≤◌, ◌<◌, ◌-◌, ◌∙◌, Fits, w64, length, sym, arith, rules}
+use Rattle.std.proofs.Common.{arith, rules}
 use Rattle.tp_placing.proofs.LoadTicks.{firsts-rise, count-few, some-before, in-plan, tick-read}
 use Rattle.tp_placing.proofs.kept_ticks.tick_at.Goals as goal
 
