@@ -14,3 +14,15 @@ pub mod LineFacts
 pub mod GoalFacts
 pub mod ReadFacts
 pub mod MarkFacts
+pub mod LoadEdges
+pub mod LoadChains
+pub mod LoadPoints
+pub mod LoadHolds
+pub mod PutHolds
+pub mod LoadTable
+pub mod LoadGaps
+pub mod LoadOrders
+pub mod LoadedNet
+pub mod LiveFacts
+pub mod LivePlans
+pub mod LoadedBoard

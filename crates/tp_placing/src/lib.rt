@@ -4,8 +4,14 @@
 mod board;
 mod edges;
 mod finding;
+mod kept_chains;
+mod kept_edges;
+mod kept_holds;
+mod kept_plans;
+mod kept_points;
 mod laws;
 mod lining;
+mod loading;
 mod making;
 mod neighbours;
 mod opening;
