@@ -107,3 +107,14 @@ marks-more marks steps held steps' held' s h a = record {
   steps_rise = a.steps_rise;
   held_rise = a.held_rise;
 }
+
+pub side-steps : {C : Type 0} (held : List Held) (steps more_steps : List Step) (cs : List C) (os : List Lines) (ms : List BoardMark) → ((k : ℕ) (m : BoardMark) → slice_get ms k ≡ Some m → m.steps ≤ length steps)
+    → side_by_side held (steps ++ more_steps) cs os ms ≡ side_by_side held steps cs os ms
+side-steps held steps more_steps [] os ms f = refl
+side-steps held steps more_steps (c ∷ cs) [] ms f = refl
+side-steps held steps more_steps (c ∷ cs) (o ∷ os) [] f = refl
+side-steps {C} held steps more_steps (c ∷ cs) (o ∷ os) (m ∷ ms) f =
+    let g : take m.steps (steps ++ more_steps) ≡ take m.steps steps = take-append-le m.steps steps more_steps (f 0 m refl) in
+    let same : at_mark held (steps ++ more_steps) c o m ≡ at_mark held steps c o m = (λ i. record { net = c; orders = o; held = take m.held held; steps = g i }) in
+    let rest = side-steps held steps more_steps cs os ms (λ k n z. f (suc k) n z) in
+    λ i. same i ∷ rest i
