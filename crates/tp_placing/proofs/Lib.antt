@@ -26,3 +26,5 @@ pub mod LoadedNet
 pub mod LiveFacts
 pub mod LivePlans
 pub mod LoadedBoard
+pub mod PartFacts
+pub mod ReasonFacts

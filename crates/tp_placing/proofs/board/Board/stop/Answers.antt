@@ -23,7 +23,7 @@ use Rattle.tp_placing.specs.Boards.{after_change, side_by_side}
 use Rattle.tp_placing.proofs.BoardFacts.{board-step, steps-room}
 use Rattle.tp_placing.proofs.StandFacts.{has-times, some-and, stands-ask, stands-after, stands-still, length-lows, edge-room, and-some}
 use Rattle.tp_placing.proofs.StepFacts.{suffix-push, some-steps}
-use Rattle.tp_placing.proofs.StopFacts.{StopsHere, stops-here, stop-solved, stop-refused}
+use Rattle.tp_placing.proofs.StopFacts.{StopsHere, stops-here, stop-solved, stop-reason, stop-refused}
 use Rattle.tp_placing.proofs.board.Board.stop.Goals as goal
 use Rattle.tp_placing.proofs.board.Board.stop.Goals.{After-edge_between, In-Ok-push}
 
@@ -96,6 +96,15 @@ returns-in-Err-clause-late g k m st =
     let none : HasNoSolution (with_edge (g.N.Network.net c.self.inside.net) (edge_of c.index-newest.result.now.first c.point_of-end.result (pos 0))) = rw (← c.edge_between.ensures) k.in-Err.ensures.late in
     rw (← c.self.view_is) (and-some (suffix_of (board g c)) h.x _ h.suffix (and-some (board g c).ask c.in-Some.ask _ s.asked
     (stop-refused g.N.Network.net (board g c) m c.in-Some.ask c.index-newest.result.now c.point_of-end.result h c.steps_add_edges.ensures.stop c.solutions_are_ticks.ensures.late s.origin none)))
+
+pub returns-in-Err-clause-shown : goal.returns-in-Err-clause-shown
+returns-in-Err-clause-shown g k m st =
+    let c = (goal.at.returns-in-Err-clause-shown g k).After-edge_between in
+    let s = stands-here g c m st in
+    let h = here g c m s in
+    let shown : g.N.Network.refutes k.require.new.self (with_edge (g.N.Network.net c.self.inside.net) (edge_of c.index-newest.result.now.first c.point_of-end.result (pos 0))) = rw (← c.edge_between.ensures) k.in-Err.ensures.refused in
+    rw (← c.self.view_is) (and-some (suffix_of (board g c)) h.x _ h.suffix (and-some (board g c).ask c.in-Some.ask _ s.asked
+    (stop-reason g.N.Network.net (board g c) m c.in-Some.ask c.index-newest.result.now c.point_of-end.result h g.N.Network.refutes k.require.new.self c.steps_add_edges.ensures.stop c.gaps_are_hops.ensures.stop s.origin shown)))
 
 pub returns-in-Err-clause-stands : goal.returns-in-Err-clause-stands
 returns-in-Err-clause-stands g k m st =
