@@ -28,3 +28,8 @@ pub mod LivePlans
 pub mod LoadedBoard
 pub mod PartFacts
 pub mod ReasonFacts
+pub mod LoadTicks
+pub mod PutAll
+pub mod LivePart
+pub mod LoadSlots
+pub mod LoadedTicks

@@ -1,6 +1,6 @@
 -- The points of plans, added one after another.
-use Rattle.std.proofs.Common.{◌≡◌, ℕ, zero, suc, ◌+◌, false, List, [], ◌∷◌, ◌++◌, length, refl, ap, sym, arith, ◌∙◌}
-use Rattle.std.proofs.lemmas.List.{append_assoc, length-append}
+use Rattle.std.proofs.Common.{subst, ◌≡◌, ℕ, zero, suc, ◌+◌, false, List, [], ◌∷◌, ◌++◌, length, refl, ap, sym, arith, ◌∙◌, take, drop, get_or, ◌-◌, ◌<◌, ◌≤◌}
+use Rattle.std.proofs.lemmas.List.{append_assoc, length-append, take_more, take-append-drop}
 use Rattle.std.specs.List.{flat_map}
 use Rattle.tp_base.specs.Net.{Net, with_point}
 use Rattle.tp_schedule.proofs.TickLists.{length-ticks_from}
@@ -8,7 +8,8 @@ use Rattle.tp_schedule.specs.Times.{ticks_from}
 use Rattle.tp_schedule.specs.declared.parts.Plan.{Plan}
 use Rattle.tp_base.specs.declared.edges.PointId.{PointId}
 use Rattle.tp_constraints.specs.Gaps.{low_of, cap_of}
-use Rattle.tp_placing.specs.Loading.{with_bounds, with_plans, lows_of, caps_of, firsts_from, point_id}
+use Rattle.tp_placing.specs.Loading.{with_bounds, with_plans, lows_of, caps_of, firsts_from, point_id, point_count}
+use Rattle.tp_placing.specs.Standing.{AreFirsts}
 
 ticks-push : (f : ℕ → ℕ) (i n : ℕ) → ticks_from f i (suc n) ≡ ticks_from f i n ++ f (i + n) ∷ []
 ticks-push f i zero = let e : i + 0 ≡ i = omega arith in ap (λ k. f k ∷ []) (sym e)
@@ -44,3 +45,24 @@ plan-count floor horizon p net next is = bounds-count net next (low_of floor (λ
 
 pub firsts-more : (before : List PointId) (n : ℕ) (p : Plan) (plans : List Plan) → (before ++ point_id n ∷ []) ++ firsts_from (n + length p.acts + 1) plans ≡ before ++ firsts_from n (p ∷ plans)
 firsts-more before n p plans = append_assoc before (point_id n ∷ []) (firsts_from (n + length p.acts + 1) plans)
+
+pub firsts-right : (n : ℕ) (plans : List Plan) → AreFirsts n plans (firsts_from n plans)
+firsts-right n [] = tt
+firsts-right n (p ∷ plans) =
+    let e : n + length p.acts + 1 ≡ n + suc (length p.acts) = omega arith in
+    (refl, subst (λ k. AreFirsts k plans (firsts_from (n + length p.acts + 1) plans)) e (firsts-right (n + length p.acts + 1) plans))
+
+pub count-append : (ps qs : List Plan) → point_count (ps ++ qs) ≡ point_count ps + point_count qs
+count-append [] qs = omega arith
+count-append (p ∷ ps) qs = let e = count-append ps qs in omega arith
+
+-- the points of the plans before a place
+pub count-back : (at : ℕ) (plans : List Plan) (d : Plan) → 0 < at → at ≤ length plans → point_count (take at plans) ≡ point_count (take (at - 1) plans) + (length (get_or plans (at - 1) d).acts + 1)
+count-back at plans d some within =
+    let e : at ≡ at - 1 + 1 = omega arith in
+    let one : point_count (get_or plans (at - 1) d ∷ []) ≡ length (get_or plans (at - 1) d).acts + 1 = omega arith in
+    ap (λ k. point_count (take k plans)) e ∙ ap point_count (take_more plans (at - 1) d (omega arith))
+    ∙ count-append (take (at - 1) plans) (get_or plans (at - 1) d ∷ []) ∙ ap (λ n. point_count (take (at - 1) plans) + n) one
+
+pub count-within : (at : ℕ) (plans : List Plan) → point_count (take at plans) ≤ point_count plans
+count-within at plans = let e = ap point_count (take-append-drop at plans) in let a = count-append (take at plans) (drop at plans) in omega arith

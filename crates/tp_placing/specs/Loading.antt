@@ -1,5 +1,5 @@
 -- The network of a loaded schedule: its points one plan after another, and an edge for each of its gaps.
-use Rattle.std.specs.Prelude.{ℕ, zero, suc, ◌+◌, ◌<◌, ◌≤◌, false, List, [], ◌∷◌, ◌++◌, flat_map, length, pos, Option, Some, None, slice_get, All, if◌then◌else◌}
+use Rattle.std.specs.Prelude.{◌≡◌, ℕ, zero, suc, ◌+◌, ◌<◌, ◌≤◌, false, List, [], ◌∷◌, ◌++◌, flat_map, length, pos, Option, Some, None, slice_get, All, if◌then◌else◌}
 use Rattle.tp_base.specs.Net.{Net, IsSolution, HasLeast}
 use Rattle.tp_base.specs.declared.edges.Edge.{Edge}
 use Rattle.tp_base.specs.declared.edges.PointId.{PointId}
@@ -24,6 +24,10 @@ point_id n = record { 0 = n }
 abbrev pub point_count : List Plan → ℕ
 point_count [] = 0
 point_count (p ∷ plans) = length p.acts + 1 + point_count plans
+
+-- a plan has one point more than actions
+abbrev pub HasPoints : Plan → Type 0
+HasPoints p = length p.points ≡ length p.acts + 1
 
 -- the first points of the plans, one plan after another from a number on
 abbrev pub firsts_from : ℕ → List Plan → List PointId

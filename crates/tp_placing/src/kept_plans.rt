@@ -95,7 +95,7 @@ pub(crate) fn load_plans<N: Network>(
     held.clear();
     firsts.clear();
     let points = add_points(net, firsts, plans, now + machine.lead, now + machine.window);
-    put_plans(lines, held, plans, machine, points);
+    put_plans(lines, held, plans, firsts.as_slice(), machine, points);
     add_edges(net, lines, held.as_slice(), machine, plans);
     points
 }

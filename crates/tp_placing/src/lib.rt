@@ -9,6 +9,7 @@ mod kept_edges;
 mod kept_holds;
 mod kept_plans;
 mod kept_points;
+mod kept_ticks;
 mod laws;
 mod lining;
 mod loading;

@@ -1,8 +1,8 @@
 use Rattle.std.proofs.Common.{◌∙◌, sym, arith}
 use Rattle.tp_schedule.specs.Living.{is_live}
 use Rattle.tp_placing.proofs.LiveFacts.{keep-passed, keep-failed, keep-fits}
-use Rattle.tp_placing.proofs.kept_plans.keep_live.Goals as goal
 use Rattle.tp_placing.proofs.kept_plans.keep_live.Goals.{then-is_plan_live+in-Ok, else-is_plan_live}
+use Rattle.tp_placing.proofs.kept_plans.keep_live.Goals as goal
 
 pub unreachable-requires : goal.unreachable-requires
 unreachable-requires c =

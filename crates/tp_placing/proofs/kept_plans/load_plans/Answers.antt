@@ -5,7 +5,8 @@ use Rattle.tp_placing.specs.declared.parts.Held.{Held}
 use Rattle.tp_placing.specs.Loading.{with_plans, firsts_from}
 use Rattle.tp_placing.specs.LoadedHolds.{ArePut, held_plans, ticks_in}
 use Rattle.tp_placing.proofs.LiveFacts.{empty-least, points-few}
-use Rattle.tp_placing.proofs.LoadedNet.{few-acts, ticks-count, addable, loaded}
+use Rattle.tp_placing.proofs.LoadedTicks.{few-acts, ticks-count}
+use Rattle.tp_placing.proofs.LoadedNet.{addable, loaded}
 use Rattle.tp_placing.proofs.kept_plans.load_plans.Goals as goal
 
 pub add_points-points-requires-clause-room : goal.add_points-points-requires-clause-room
@@ -40,7 +41,7 @@ add_edges-requires-clause-can g c =
     let a = c.requires.edges in
     let b = c.clear.ensures.edges in
     let d = c.add_points-points.ensures.edges in
-    rw c.as_slice.ensures.value (addable machine now plans c.requires.can (g.N.Network.edge_room c.add_points-points.new.net) (omega arith) (g.N.Network.net c.add_points-points.new.net) added c.add_points-points.ensures.solved c.clear-2.new.self c.put_plans.new.lines c.put_plans.new.held.items cleared put)
+    rw c.as_slice-2.ensures.value (addable machine now plans c.requires.can (g.N.Network.edge_room c.add_points-points.new.net) (omega arith) (g.N.Network.net c.add_points-points.new.net) added c.add_points-points.ensures.solved c.clear-2.new.self c.put_plans.new.lines c.put_plans.new.held.items cleared put)
 
 pub returns-clause-loaded : goal.returns-clause-loaded
 returns-clause-loaded g c =
@@ -53,7 +54,7 @@ returns-clause-loaded g c =
     let a = c.requires.edges in
     let b = c.clear.ensures.edges in
     let d = c.add_points-points.ensures.edges in
-    let edges = rw c.as_slice.ensures.value at c.add_edges.ensures.added in
+    let edges = rw c.as_slice-2.ensures.value at c.add_edges.ensures.added in
     let firsts = c.add_points-points.ensures.firsts ∙ ap (λ (fs : List PointId). fs ++ firsts_from 0 plans) c.clear-4.ensures.items in
     loaded machine now plans c.requires.can (g.N.Network.edge_room c.add_points-points.new.net) (omega arith) (g.N.Network.net c.add_points-points.new.net) added c.add_points-points.ensures.solved c.clear-2.new.self c.put_plans.new.lines c.put_plans.new.held.items cleared put
     (g.N.Network.net c.add_edges.new.net) c.add_points-points.new.firsts.items edges c.add_edges.ensures.solved firsts
