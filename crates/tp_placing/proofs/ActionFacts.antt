@@ -1,10 +1,10 @@
 -- An action that is opened.
-use Rattle.std.proofs.Common.{◌≡◌, ℕ, zero, suc, ◌+◌, ◌-◌, ◌*◌, ◌<◌, ◌≤◌, min, List, [], ◌∷◌, ◌++◌, length, map, refl, ap, sym, ◌∙◌, subst, arith, Option, Some, None, All, IsFalse, IsSome, IsSomeAnd, pos, neg_ℤ, negsuc, false}
+use Rattle.std.proofs.Common.{◌≡◌, ℕ, suc, ◌+◌, ◌-◌, ◌<◌, ◌≤◌, min, List, [], ◌∷◌, ◌++◌, length, map, refl, ap, sym, ◌∙◌, subst, arith, Some, All, IsSome, IsSomeAnd, pos, neg_ℤ, false}
 use Rattle.std.specs.List.{slice_get}
 use Rattle.std.proofs.lemmas.Int.{ints}
 use Rattle.std.proofs.lemmas.Option.{slice_get_within}
 use Rattle.std.proofs.lemmas.List.{length-append, length-map, map-append, append-nil}
-use Rattle.std.proofs.lemmas.List.Elements.{All-append, All-cons, All-nil}
+use Rattle.std.proofs.lemmas.List.Elements.{All-cons, All-nil}
 use Rattle.tp_base.specs.declared.edges.Edge.{Edge}
 use Rattle.tp_base.specs.declared.edges.PointId.{PointId}
 use Rattle.tp_base.specs.Net.{Net, HasLeast, HasNoSolution, with_point}
@@ -20,15 +20,13 @@ use Rattle.tp_schedule.specs.Holding.{holds_of_act}
 use Rattle.tp_schedule.specs.Spots.{Spot, Slot, Ticks}
 use Rattle.tp_schedule.specs.Spots.Spot.{own}
 use Rattle.tp_schedule.specs.declared.parts.Ask.{Ask}
-use Rattle.tp_schedule.specs.declared.parts.Plan.{Plan}
 use Rattle.tp_timelines.specs.Orders.{order_on}
-use Rattle.tp_constraints.specs.Gaps.{Gap, gap, range_gaps}
+use Rattle.tp_constraints.specs.Gaps.{range_gaps}
 use Rattle.tp_constraints.specs.Hops.{IsHop, ActionHops}
 use Rattle.tp_constraints.specs.Nets.{ActionNet, BoardLate, IsBoardNet}
 use Rattle.tp_constraints.specs.Numbers.{gap_by, table_of, IsEdgeOf, with_edges}
 use Rattle.tp_constraints.specs.Suffixes.{Suffix, SuffixTimes, order_in, suffix_cap, suffix_low, with_action}
 use Rattle.tp_constraints.proofs.Growing.{gaps-same}
-use Rattle.tp_placing.specs.declared.parts.Held.{Held}
 use Rattle.tp_placing.specs.declared.parts.Step.{Step}
 use Rattle.tp_placing.specs.Boards.{BoardValue, suffix_after}
 use Rattle.tp_placing.specs.Calls.{CanGoOn}

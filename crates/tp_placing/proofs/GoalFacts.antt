@@ -1,7 +1,7 @@
 -- A goal that is opened.
-use Rattle.std.proofs.Common.{◌≡◌, ℕ, zero, suc, ◌+◌, ◌*◌, ◌<◌, ◌≤◌, min, List, [], ◌∷◌, ◌++◌, length, map, refl, ap, sym, ◌∙◌, subst, arith, Option, Some, None, All, Contains, false}
+use Rattle.std.proofs.Common.{◌≡◌, ℕ, ◌+◌, ◌≤◌, min, List, [], ◌∷◌, ◌++◌, length, map, refl, ap, sym, ◌∙◌, subst, arith, Some, None, All, false}
 use Rattle.std.proofs.lemmas.List.{append-nil, length-append, length-map, map-append}
-use Rattle.std.proofs.lemmas.List.Elements.{All-append, All-contains}
+use Rattle.std.proofs.lemmas.List.Elements.{All-append}
 use Rattle.tp_base.specs.declared.edges.Edge.{Edge}
 use Rattle.tp_base.specs.declared.edges.PointId.{PointId}
 use Rattle.tp_base.specs.Net.{Net, HasLeast, HasNoSolution, with_point}
@@ -11,21 +11,19 @@ use Rattle.tp_schedule.specs.Spots.{Spot, Ticks, slot_order}
 use Rattle.tp_schedule.specs.Spots.Spot.{own}
 use Rattle.tp_schedule.specs.Answers.{kept_of}
 use Rattle.tp_schedule.specs.declared.parts.Ask.{Ask}
-use Rattle.tp_schedule.specs.declared.parts.Plan.{Plan}
 use Rattle.tp_timelines.specs.Orders.{order_on}
-use Rattle.tp_constraints.specs.Gaps.{Gap, low_at, cap_at}
+use Rattle.tp_constraints.specs.Gaps.{low_at, cap_at}
 use Rattle.tp_constraints.specs.Hops.{IsHop, GoalHops}
 use Rattle.tp_constraints.specs.Laws.{plans_gaps, no_own}
 use Rattle.tp_constraints.specs.Nets.{GoalNet, BoardLate, IsBoardNet}
-use Rattle.tp_constraints.specs.Numbers.{gap_by, table_of, IsEdgeOf, with_edges}
+use Rattle.tp_constraints.specs.Numbers.{gap_by, table_of, with_edges}
 use Rattle.tp_constraints.specs.Suffixes.{SuffixTimes, end_gaps, with_goal}
 use Rattle.tp_constraints.proofs.Growing.{gaps-same}
 use Rattle.tp_constraints.proofs.Lists.{All-split, all-by}
-use Rattle.tp_placing.specs.declared.parts.Held.{Held}
 use Rattle.tp_placing.specs.declared.parts.Step.{Step}
 use Rattle.tp_placing.specs.Boards.{BoardValue, suffix_after}
 use Rattle.tp_placing.specs.Edges.{end_edges}
-use Rattle.tp_placing.specs.Standing.{IsAtWith, IsAt, IsAtHand, AreSlots, AreFewSteps, StandsOn, table_with, step_edges}
+use Rattle.tp_placing.specs.Standing.{IsAtWith, AreSlots, AreFewSteps, StandsOn, table_with, step_edges}
 use Rattle.tp_placing.specs.Reasons.{IsReason}
 use Rattle.tp_placing.specs.Trying.{CanRequire, IsRefused}
 use Rattle.tp_placing.proofs.PartFacts.{shown-point}

@@ -1,18 +1,17 @@
 -- What refutes a part of a network refutes the network.
-use Rattle.std.proofs.Common.{◌≡◌, ℕ, zero, suc, ◌+◌, ◌<◌, ◌≤◌, min, List, [], ◌∷◌, ◌++◌, length, take, map, refl, ap, sym, ◌∙◌, subst, arith, pos, All, Contains, Option, Some}
-use Rattle.std.specs.Prelude.{slice_get, slice_index, ◌<ℤ◌}
+use Rattle.std.proofs.Common.{ℕ, zero, suc, ◌≤◌, List, [], ◌∷◌, ◌++◌, take, refl, arith, All, Contains}
+use Rattle.std.specs.Prelude.{slice_index}
 use Rattle.std.proofs.lemmas.Int.{ints}
 use Rattle.std.proofs.lemmas.List.{length-append}
 use Rattle.std.proofs.lemmas.List.Elements.{All-append, All-take, All-contains_itself, Contains-append_left, Contains-append_right}
 use Rattle.tp_base.specs.declared.edges.Edge.{Edge}
-use Rattle.tp_base.specs.declared.edges.PointId.{PointId}
 use Rattle.tp_base.specs.declared.edges.Proof.{Proof}
 use Rattle.tp_base.specs.declared.edges.Proof.TheVariants.{Chain, Circle}
-use Rattle.tp_base.specs.Net.{Net, IsSolution, HasNoSolution, Keeps, with_edge, with_point}
+use Rattle.tp_base.specs.Net.{Net, with_point}
 use Rattle.tp_base.specs.Refute.{Refutes}
 use Rattle.tp_constraints.specs.Numbers.{with_edges}
 use Rattle.tp_constraints.proofs.Lists.{all-by}
-use Rattle.tp_placing.specs.Reasons.{IsPart, IsShown, with_limit}
+use Rattle.tp_placing.specs.Reasons.{IsPart, IsShown}
 use Rattle.tp_placing.specs.Trying.{IsRefused}
 
 pub part-refutes : (part whole : Net) → IsPart part whole → (p : Proof) → Refutes part p → Refutes whole p

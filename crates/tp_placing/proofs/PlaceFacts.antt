@@ -1,8 +1,7 @@
 -- A hold that is placed.
-use Rattle.std.proofs.Common.{◌≡◌, ℕ, zero, suc, ◌+◌, ◌-◌, ◌*◌, ◌<◌, ◌≤◌, Bool, true, false, cond, List, [], ◌∷◌, ◌++◌, length, map, set, get_or, refl, ap, sym, ◌∙◌, subst, arith, Option, Some, None, All, IsSomeAnd, inl, inr}
+use Rattle.std.proofs.Common.{◌≡◌, ℕ, suc, ◌+◌, ◌-◌, ◌<◌, ◌≤◌, Bool, true, false, cond, List, [], ◌∷◌, ◌++◌, length, map, refl, ap, sym, ◌∙◌, subst, arith, Option, Some, None, All, IsSomeAnd}
 use Rattle.std.specs.Prelude.{◌==◌, slice_set}
 use Rattle.std.specs.List.{slice_get, insert}
-use Rattle.std.proofs.lemmas.Bool.{cases_lt}
 use Rattle.std.proofs.lemmas.Bool.Decides.{nat_tests}
 use Rattle.std.proofs.lemmas.List.{length-append, length-map, map-append, get_or-set_same, get_or-set_other}
 use Rattle.std.proofs.lemmas.List.Edits.{length-insert}
@@ -44,7 +43,7 @@ use Rattle.tp_placing.proofs.StandFacts.{some-and, at-suffix}
 use Rattle.tp_placing.proofs.NeighbourFacts.{two-neighbours, can-neighbours, slots-known}
 use Rattle.tp_placing.proofs.SlotFacts.{length-slots, neighbour-gaps, slots-grown-held, slots-insert}
 use Rattle.tp_placing.proofs.StepFacts.{at-hand-push, edges-more, some-steps}
-use Rattle.tp_placing.proofs.TableFacts.{table-own, length-table}
+use Rattle.tp_placing.proofs.TableFacts.{table-own}
 
 -- ---- orders with one number more
 pub order-same : (lines : List (List ℕ)) (r : ℕ) (ids : List ℕ) → r < length lines → order_on (slice_set lines r ids) r ≡ ids

@@ -1,5 +1,5 @@
 -- A list that is stopped.
-use Rattle.std.proofs.Common.{rules, suc, pos, ◌≡◌, ℕ, ◌+◌, ◌<◌, ◌≤◌, List, [], ◌∷◌, ◌++◌, length, map, refl, ap, sym, ◌∙◌, subst, arith, Some, All, IsFalse, IsSomeAnd, true, false, ◌-◌}
+use Rattle.std.proofs.Common.{rules, suc, pos, ◌≡◌, ℕ, ◌+◌, ◌<◌, List, [], ◌∷◌, ◌++◌, length, map, refl, ap, sym, ◌∙◌, subst, arith, Some, All, IsFalse, IsSomeAnd, true, false, ◌-◌}
 use Rattle.std.proofs.lemmas.List.{length-append, map-append}
 use Rattle.std.proofs.lemmas.List.Elements.{All-nil, All-cons}
 use Rattle.tp_base.specs.declared.edges.Edge.{Edge}
@@ -15,7 +15,7 @@ use Rattle.tp_schedule.specs.declared.parts.Ask.{Ask}
 use Rattle.tp_schedule.specs.declared.parts.Plan.{Plan}
 use Rattle.tp_constraints.specs.Gaps.{gap}
 use Rattle.tp_constraints.specs.Hops.{IsHop}
-use Rattle.tp_constraints.specs.Numbers.{gap_by, table_of, IsEdgeOf, with_edges}
+use Rattle.tp_constraints.specs.Numbers.{gap_by, table_of, IsEdgeOf}
 use Rattle.tp_constraints.specs.Nets.{StopNet, BoardLate}
 use Rattle.tp_constraints.specs.Hops.{StopHops}
 use Rattle.tp_constraints.specs.Suffixes.{Suffix, SuffixTimes, IsInFlight, stop_gaps, with_stop}

@@ -1,6 +1,5 @@
 use Rattle.std.proofs.Common.{◌≡◌, ◌∙◌, ap, subst, pos, length}
-use Rattle.tp_base.specs.Net.{HasLeast, with_edge, with_point}
-use Rattle.tp_base.specs.declared.edges.PointId.{PointId}
+use Rattle.tp_base.specs.Net.{HasLeast, with_edge}
 use Rattle.tp_base.proofs.MarkFacts.{last_mark}
 use Rattle.tp_placing.specs.Edges.{edge_of}
 use Rattle.tp_placing.specs.Reasons.{with_limit}

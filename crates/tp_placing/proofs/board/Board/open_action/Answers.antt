@@ -1,4 +1,4 @@
-use Rattle.std.proofs.Common.{rules, arith, sym, refl, ap, ◌∙◌, subst, ◌≡◌, ℕ, suc, ◌+◌, ◌-◌, ◌<◌, ◌≤◌, ◌^◌, min, length, Some, IsSomeAnd, All, List, ◌++◌, ◌∷◌, []}
+use Rattle.std.proofs.Common.{rules, arith, sym, refl, ap, ◌∙◌, subst, ◌≡◌, ℕ, suc, ◌+◌, ◌-◌, ◌<◌, ◌≤◌, ◌^◌, min, length, Some, IsSomeAnd, List, ◌++◌, ◌∷◌, []}
 use Rattle.std.specs.List.{slice_get}
 use Rattle.std.proofs.lemmas.Option.{slice_get_read}
 use Rattle.std.proofs.lemmas.List.{length-append}
@@ -8,10 +8,8 @@ use Rattle.tp_machine.specs.Using.{action_at}
 use Rattle.tp_machine.specs.declared.parts.Action.{Action}
 use Rattle.tp_schedule.specs.Answers.{kept_of}
 use Rattle.tp_schedule.specs.Choices.{start_floor}
-use Rattle.tp_schedule.specs.Spots.{Ticks}
-use Rattle.tp_schedule.specs.declared.parts.Ask.{Ask}
 use Rattle.tp_constraints.specs.Numbers.{table_of, with_edges}
-use Rattle.tp_constraints.specs.Suffixes.{Suffix, SuffixTimes, with_action}
+use Rattle.tp_constraints.specs.Suffixes.{Suffix, with_action}
 use Rattle.tp_placing.specs.declared.parts.Change.TheVariants.{Action as ActionOpened}
 use Rattle.tp_placing.specs.declared.parts.Step.{Step}
 use Rattle.tp_placing.specs.Boards.{BoardValue, after_change, suffix_after, suffix_of}
@@ -23,7 +21,7 @@ use Rattle.tp_placing.specs.Trying.{IsRefused}
 use Rattle.tp_placing.proofs.ActionFacts.{OpensHere, opens-here, can-open, open-reason, open-refused, open-at}
 use Rattle.tp_placing.proofs.BoardFacts.{board-step, steps-room}
 use Rattle.tp_placing.proofs.PastFacts.{side-steps}
-use Rattle.tp_placing.proofs.StandFacts.{has-times, some-and, and-some, stands-after, stands-still, length-lows, edge-room}
+use Rattle.tp_placing.proofs.StandFacts.{has-times, some-and, and-some, stands-after, stands-still, length-lows}
 use Rattle.tp_placing.proofs.StepFacts.{suffix-push, some-steps}
 use Rattle.tp_placing.proofs.board.Board.open_action.Goals as goal
 use Rattle.tp_placing.proofs.board.Board.open_action.Goals.{After-index-newest}

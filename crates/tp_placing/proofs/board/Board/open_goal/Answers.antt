@@ -1,4 +1,4 @@
-use Rattle.std.proofs.Common.{arith, sym, refl, ap, ◌∙◌, subst, ◌≡◌, ℕ, ◌+◌, ◌<◌, ◌≤◌, ◌^◌, min, length, Some, None, List, ◌++◌, ◌∷◌, []}
+use Rattle.std.proofs.Common.{arith, sym, refl, ap, ◌∙◌, subst, ◌≡◌, ℕ, ◌+◌, min, length, Some, None, List, ◌++◌, ◌∷◌, []}
 use Rattle.std.proofs.lemmas.List.{length-append}
 use Rattle.tp_base.specs.declared.edges.Edge.{Edge}
 use Rattle.tp_base.specs.Net.{Net, HasNoSolution, HasLeast, with_point}
@@ -6,17 +6,17 @@ use Rattle.tp_machine.specs.declared.whole.Machine.{Machine}
 use Rattle.tp_schedule.specs.Choices.{start_floor}
 use Rattle.tp_base.specs.declared.edges.PointId.{PointId}
 use Rattle.tp_schedule.specs.declared.parts.Plan.{Plan}
-use Rattle.tp_constraints.specs.Numbers.{table_of, with_edges}
-use Rattle.tp_constraints.specs.Suffixes.{Suffix, with_goal}
+use Rattle.tp_constraints.specs.Numbers.{with_edges}
+use Rattle.tp_constraints.specs.Suffixes.{with_goal}
 use Rattle.tp_placing.specs.declared.parts.Change.TheVariants.{Goal}
 use Rattle.tp_placing.specs.declared.parts.Step.{Step}
-use Rattle.tp_placing.specs.Boards.{BoardValue, after_change, suffix_after, suffix_of}
+use Rattle.tp_placing.specs.Boards.{BoardValue, after_change, suffix_after}
 use Rattle.tp_placing.specs.Edges.{end_edges}
 use Rattle.tp_placing.specs.Inside.{board_of}
 use Rattle.tp_placing.specs.Standing.{Stands, StandsOn, IsAtWith}
 use Rattle.tp_placing.specs.Trying.{IsRefused}
 use Rattle.tp_placing.proofs.BoardFacts.{board-step}
-use Rattle.tp_placing.proofs.GoalFacts.{at-none, empty, lows-loaded, can-open, few-edges, goal-reason, goal-refused, goal-at}
+use Rattle.tp_placing.proofs.GoalFacts.{empty, can-open, few-edges, goal-reason, goal-refused, goal-at}
 use Rattle.tp_placing.proofs.PastFacts.{side-steps}
 use Rattle.tp_placing.proofs.StandFacts.{has-times, and-some, stands-ask, stands-after, stands-still}
 use Rattle.tp_placing.proofs.StepFacts.{suffix-push}

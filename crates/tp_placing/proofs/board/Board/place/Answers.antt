@@ -1,40 +1,34 @@
-use Rattle.std.proofs.Common.{arith, sym, refl, ap, ◌∙◌, subst, ◌≡◌, ℕ, suc, ◌+◌, ◌-◌, ◌<◌, ◌≤◌, length, pos, Some, IsSomeAnd, All, List, ◌++◌, ◌∷◌, [], take}
+use Rattle.std.proofs.Common.{arith, sym, refl, ap, ◌∙◌, subst, ◌≡◌, ℕ, ◌+◌, ◌-◌, ◌<◌, ◌≤◌, length, Some, All, List, ◌++◌, ◌∷◌, []}
 use Rattle.std.specs.List.{slice_get, insert}
 use Rattle.std.specs.Prelude.{slice_set}
 use Rattle.std.proofs.lemmas.Option.{slice_get_read, slice_get_within, same_Some}
 use Rattle.std.proofs.lemmas.List.{length-append, length-set}
-use Rattle.std.proofs.lemmas.List.Elements.{All-nil}
-use Rattle.tp_base.proofs.SliceFacts.{All-at}
 use Rattle.tp_base.specs.declared.edges.Edge.{Edge}
 use Rattle.tp_base.specs.Net.{Net, HasNoSolution, HasLeast}
 use Rattle.tp_machine.specs.declared.parts.ActId.{ActId}
 use Rattle.tp_machine.specs.declared.parts.Action.{Action}
 use Rattle.tp_machine.specs.declared.parts.HoldRule.{HoldRule}
 use Rattle.tp_constraints.proofs.Lists.{contains-get}
-use Rattle.tp_machine.specs.declared.whole.Machine.{Machine}
 use Rattle.tp_machine.proofs.MachineFacts.{is_machine}
 use Rattle.tp_schedule.specs.Answers.{kept_of}
-use Rattle.tp_schedule.specs.declared.parts.Ask.{Ask}
 use Rattle.tp_timelines.specs.Orders.{order_on}
-use Rattle.tp_constraints.specs.Numbers.{table_of, with_edges}
+use Rattle.tp_constraints.specs.Numbers.{with_edges}
 use Rattle.tp_constraints.specs.Suffixes.{Suffix, SuffixTimes, with_place}
 use Rattle.tp_schedule.specs.Spots.{Ticks}
 use Rattle.tp_placing.specs.declared.parts.Change.TheVariants.{Place}
 use Rattle.tp_placing.specs.declared.parts.Held.{Held}
 use Rattle.tp_placing.specs.declared.parts.Step.{Step}
-use Rattle.tp_placing.specs.Boards.{BoardValue, after_change, suffix_after, suffix_of, side_by_side}
+use Rattle.tp_placing.specs.Boards.{BoardValue, after_change, suffix_after, suffix_of}
 use Rattle.tp_placing.specs.Calls.{CanPlace}
 use Rattle.tp_placing.specs.Edges.{edge_after, edge_until, held_before, held_behind}
 use Rattle.tp_placing.specs.Inside.{board_of}
-use Rattle.tp_placing.specs.Standing.{Stands, StandsOn, IsAtWith, HasSmallOffsets, table_with}
+use Rattle.tp_placing.specs.Standing.{Stands, IsAtWith, HasSmallOffsets}
 use Rattle.tp_placing.specs.Reasons.{IsReason}
 use Rattle.tp_placing.specs.Trying.{CanRequire, IsRefused}
 use Rattle.tp_placing.proofs.BoardFacts.{board-step, steps-room}
-use Rattle.tp_placing.proofs.NeighbourFacts.{can-neighbours, slots-known}
 use Rattle.tp_placing.proofs.PastFacts.{side-more}
 use Rattle.tp_placing.proofs.PlaceFacts.{HasNewest, has-newest, newest-act, act-known, hold-known, PlacesHere, places-here, numbers-here, can-here, fits-here, refused-here, reason-here, placed-here, two-here}
-use Rattle.tp_placing.proofs.SlotFacts.{length-slots}
-use Rattle.tp_placing.proofs.StandFacts.{has-times, some-and, and-some, stands-after, stands-still, length-lows, edge-room}
+use Rattle.tp_placing.proofs.StandFacts.{has-times, some-and, and-some, stands-after, stands-still}
 use Rattle.tp_placing.proofs.StepFacts.{suffix-push, some-steps}
 use Rattle.tp_placing.proofs.board.Board.place.Goals as goal
 use Rattle.tp_placing.proofs.board.Board.place.Goals.{After-index-newest}

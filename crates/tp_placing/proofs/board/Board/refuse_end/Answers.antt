@@ -1,4 +1,4 @@
-use Rattle.std.proofs.Common.{sym, subst, length}
+use Rattle.std.proofs.Common.{sym, subst}
 use Rattle.tp_placing.specs.Boards.{suffix_after}
 use Rattle.tp_placing.specs.Inside.{board_of}
 use Rattle.tp_placing.specs.Reasons.{with_limit}

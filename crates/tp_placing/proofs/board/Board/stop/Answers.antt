@@ -1,18 +1,16 @@
-use Rattle.std.proofs.Common.{arith, sym, refl, ap, ◌∙◌, subst, ◌≡◌, ◌+◌, ◌-◌, ◌<◌, ◌≤◌, ◌⊎◌, length, pos, Some, IsSomeAnd, IsFalse, suc, List, ◌++◌, ◌∷◌, []}
+use Rattle.std.proofs.Common.{arith, sym, refl, ap, ◌∙◌, subst, ◌≡◌, ◌+◌, ◌-◌, ◌≤◌, length, pos, Some, IsFalse, suc, List, ◌++◌, ◌∷◌, []}
 use Rattle.std.specs.List.{slice_get}
 use Rattle.std.proofs.lemmas.Option.{slice_get_read, slice_get_within}
 use Rattle.std.proofs.lemmas.List.{length-append}
 use Rattle.tp_base.specs.Net.{Net, HasNoSolution, with_edge, HasLeast}
 use Rattle.tp_placing.specs.declared.parts.Step.{Step}
 use Rattle.tp_machine.specs.declared.whole.Machine.{Machine}
-use Rattle.tp_schedule.specs.declared.parts.Ask.{Ask}
 use Rattle.tp_base.specs.declared.edges.Edge.{Edge}
 use Rattle.tp_schedule.specs.Spots.Spot.{kept}
 use Rattle.tp_placing.specs.Edges.{edge_of}
 use Rattle.tp_constraints.specs.Numbers.{table_of}
 use Rattle.tp_constraints.specs.Suffixes.{with_stop}
-use Rattle.tp_placing.specs.Boards.{BoardValue, suffix_after, suffix_of, past_of}
-use Rattle.tp_placing.specs.Calls.{HasTimes}
+use Rattle.tp_placing.specs.Boards.{BoardValue, suffix_after, suffix_of}
 use Rattle.tp_placing.specs.Inside.{board_of}
 use Rattle.tp_placing.specs.Standing.{Stands, StandsOn, IsAtWith}
 use Rattle.tp_placing.proofs.PastFacts.{side-steps}
