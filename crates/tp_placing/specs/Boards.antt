@@ -1,5 +1,5 @@
 -- What a board holds: live plans and an ask, and the steps that were taken since they were loaded.
-use Rattle.std.specs.Prelude.{ℕ, zero, suc, Bool, List, [], ◌∷◌, ◌++◌, length, map, take, fold, Option, Some, None}
+use Rattle.std.specs.Prelude.{ℕ, List, [], ◌∷◌, take, fold, Option, Some, None}
 use Rattle.tp_timelines.specs.Orders.{Orders, Sizes, sizes_of}
 use Rattle.tp_schedule.specs.declared.parts.Ask.{Ask}
 use Rattle.tp_schedule.specs.declared.parts.Plan.{Plan}

@@ -3,7 +3,11 @@ pub mod Calls
 pub mod Edges
 pub mod Inside
 pub mod Ticks
+pub mod Loading
+pub mod LoadedHolds
 pub mod Trying
 pub mod Laws
 pub mod Standing
 pub mod Writing
+pub mod Loaded
+pub mod Reasons

@@ -12,7 +12,9 @@ use tp_timelines::Timelines;
 
 /// How many live plans, steps, and holds there can be, and how many marks the orders take.
 const PLANS: usize = 257;
+
 const STEPS: usize = 330;
+
 const HOLDS: u32 = 66000;
 
 impl<N: Network + Drop> Board<N> {

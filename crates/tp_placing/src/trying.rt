@@ -7,7 +7,7 @@ ghost use Rattle.tp_placing.specs.Trying.{CanRequire, IsRefused};
 use tp_base::{Edge, Late, Network, Tick};
 
 /// Requires one edge after another, up to the first that is refused.
-fn add_each<N: Network>(net: &mut N, edges: &[Edge]) -> Result<(), Late>
+pub(crate) fn add_each<N: Network>(net: &mut N, edges: &[Edge]) -> Result<(), Late>
     requires can { All (CanRequire (length (N.net net.old).lows)) edges.now }
     requires spare { length (N.net net.old).edges + length edges.now ≤ N.edge_room net.old }
     requires least { HasLeast (N.net net.old) }
