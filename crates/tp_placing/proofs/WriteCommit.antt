@@ -48,12 +48,12 @@ commits machine plans ask x table net sol can load asked is complete l before in
     let law = commit_law machine (filter (is_live machine ask.now) plans) ask x complete.goal complete.first table net sol load asked is complete.rooms complete.starts complete.is_list complete.complete complete.some l in
     let j = joined machine plans ask can x.choices (ticks_by table sol) before in_order in
     let P : List Plan → Type 0 = λ ps. (a : IsAlternative machine ps ask (answered (filter (is_live machine ask.now) plans) ask x.choices (ticks_by table sol))) × (end_of_plan a.plan ≡ sol (number table (own 0))) in
-    let small = subst P (sym (less-live machine plans ask can)) law.0 in
-    let whole = live_answers machine plans (answered (filter (is_live machine ask.now) plans) ask x.choices (ticks_by table sol)) (written_for plans (filter (is_live machine ask.now) plans) ask x (ticks_by table sol)) ask (gone machine plans ask can) (may-forget machine plans ask can) (may-ask machine plans ask can) j small.0 in
+    let small = subst P (sym (less-live machine plans ask.now can.plan_on)) law.0 in
+    let whole = live_answers machine plans (answered (filter (is_live machine ask.now) plans) ask x.choices (ticks_by table sol)) (written_for plans (filter (is_live machine ask.now) plans) ask x (ticks_by table sol)) ask (gone machine plans ask.now can.plan_on) (may-forget machine plans ask.now can.plan_on) (may-ask machine plans ask can) j small.0 in
     record {
       answer = whole.0;
       ends = ap end_of_plan whole.1 ∙ small.1;
-      least = whole_is_least machine ask.now (follows_front ask) (written_for plans (filter (is_live machine ask.now) plans) ask x (ticks_by table sol)) (gone machine plans ask can)
+      least = whole_is_least machine ask.now (follows_front ask) (written_for plans (filter (is_live machine ask.now) plans) ask x (ticks_by table sol)) (gone machine plans ask.now can.plan_on)
           (forget-new machine plans ask can (answered (filter (is_live machine ask.now) plans) ask x.choices (ticks_by table sol)) (written_for plans (filter (is_live machine ask.now) plans) ask x (ticks_by table sol)) j whole.0)
           (subst (IsLeast machine ask.now (follows_front ask)) (sym j.live_part) law.1);
     }

@@ -6,7 +6,7 @@ use Rattle.tp_machine.specs.declared.whole.Machine.{Machine}
 use Rattle.tp_schedule.specs.Choices.{Choice}
 use Rattle.tp_schedule.specs.Completions.{answered, asked_plan, settled_ticks, total_of}
 use Rattle.tp_schedule.specs.Living.{is_live}
-use Rattle.tp_schedule.specs.Planning.{CanAsk}
+use Rattle.tp_schedule.specs.Planning.{CanAsk, CanPlanOn}
 use Rattle.tp_schedule.specs.Plans.{IsEarlier, is_before, is_same_copy, put_plan, with_points, without}
 use Rattle.tp_schedule.specs.Spots.{Ticks}
 use Rattle.tp_schedule.specs.Times.{at, timed_by}
@@ -22,7 +22,7 @@ use Rattle.tp_choices.proofs.Parts.{filter-swap}
 use Rattle.tp_placing.specs.Writing.{retimed_in}
 use Rattle.tp_placing.proofs.WriteLive.{gone, may-forget, stays}
 use Rattle.tp_placing.proofs.WriteTimes.{ticks-same}
-use Rattle.tp_placing.proofs.WritePlans.{retimed-is, retimed-not, retimed-sheet}
+use Rattle.tp_placing.proofs.WritePlans.{in_order-retimed, retimed-is, retimed-not, retimed-sheet}
 use Rattle.tp_placing.proofs.WriteWhole.{less-live, loaded-here, loaded-is}
 
 pub map-agree : {X Y : Type 0} (f g : X → Y) (xs : List X) → ((x : X) → Contains xs x → f x ≡ g x) → map f xs ≡ map g xs
@@ -94,12 +94,33 @@ not-true false e = refl
 settled-other : (ask : Ask) (total : ℕ) (t : Ticks) (p : Plan) → is_same_copy p.sheet ask.sheet ≡ false → timed_by (settled_ticks ask total t) p ≡ timed_by t p
 settled-other ask total t p other = ap (λ ts. with_points ts p) (ticks-same (at (settled_ticks ask total t) p) (at t p) 0 0 (suc (length p.acts)) (λ k within. rw other refl))
 
+-- the live part at ticks, and the rest as it was
+module _ (machine : Machine) (plans : List Plan) (now : ℕ) (can : CanPlanOn machine now plans) (t : Ticks) where
+  abbrev lively : List Plan
+  lively = filter (is_live machine now) plans
+
+  pub retimed-live : less (gone machine plans now can) (map (retimed_in lively t) plans) ≡ map (timed_by t) lively
+  retimed-live =
+      filter-map (λ c. not (gone machine plans now can c)) (retimed_in lively t) plans (retimed-sheet lively t)
+      ∙ ap (map (retimed_in lively t)) (less-live machine plans now can)
+      ∙ map-agree (retimed_in lively t) (timed_by t) lively (λ p in'. retimed-is lively t p (loaded-here lively p in'))
+
+  pub retimed-past : only (gone machine plans now can) (map (retimed_in lively t) plans) ≡ only (gone machine plans now can) plans
+  retimed-past = filter-map (gone machine plans now can) (retimed_in lively t) plans (retimed-sheet lively t) ∙ map-same (retimed_in lively t) (only (gone machine plans now can) plans) stay where
+    stay : (p : Plan) → Contains (only (gone machine plans now can) plans) p → retimed_in lively t p ≡ p
+    stay p in' =
+        let from = Contains-filter_from (λ q. gone machine plans now can q.sheet) plans p in' in
+        retimed-not lively t p (loaded-is machine plans now can p from.0 ((may-forget machine plans now can).past p from.0 from.1))
+
+  pub joined-times : IsJoined (gone machine plans now can) plans (map (timed_by t) lively) (map (retimed_in lively t) plans)
+  joined-times = record { in_order = in_order-retimed lively t plans can.legal.in_order; live_part = retimed-live; past_part = retimed-past }
+
 module _ (machine : Machine) (plans : List Plan) (ask : Ask) (can : CanAsk machine plans ask) (choices : List Choice) (t : Ticks) where
   abbrev live : List Plan
   live = filter (is_live machine ask.now) plans
 
   abbrev ended : SheetId → Bool
-  ended = gone machine plans ask can
+  ended = gone machine plans ask.now can.plan_on
 
   abbrev settled : Ticks
   settled = settled_ticks ask (total_of ask choices) t
@@ -108,29 +129,21 @@ module _ (machine : Machine) (plans : List Plan) (ask : Ask) (can : CanAsk machi
   abbrev pub written : List Plan
   written = put_plan (timed_by settled (asked_plan live ask choices)) (without ask.sheet (map (retimed_in live t) plans))
 
-  retimed-live : map (retimed_in live t) live ≡ map (timed_by t) live
-  retimed-live = map-agree (retimed_in live t) (timed_by t) live (λ p in'. retimed-is live t p (loaded-here live p in'))
-
   others : map (timed_by settled) (without ask.sheet live) ≡ map (timed_by t) (without ask.sheet live)
   others = map-agree (timed_by settled) (timed_by t) (without ask.sheet live) (λ p in'. settled-other ask (total_of ask choices) t p (not-true (is_same_copy p.sheet ask.sheet) (Contains-filter_from (λ q. not (is_same_copy q.sheet ask.sheet)) live p in').1))
 
   rest-live : less ended (without ask.sheet (map (retimed_in live t) plans)) ≡ map (timed_by settled) (without ask.sheet live)
   rest-live =
       filter-swap (λ p. not (ended p.sheet)) (λ p. not (is_same_copy p.sheet ask.sheet)) (map (retimed_in live t) plans)
-      ∙ ap (without ask.sheet) (filter-map (λ c. not (ended c)) (retimed_in live t) plans (retimed-sheet live t) ∙ ap (map (retimed_in live t)) (less-live machine plans ask can) ∙ retimed-live)
+      ∙ ap (without ask.sheet) (retimed-live machine plans ask.now can.plan_on t)
       ∙ filter-map (λ c. not (is_same_copy c ask.sheet)) (timed_by t) live (λ p. refl)
       ∙ sym others
 
   rest-past : only ended (without ask.sheet (map (retimed_in live t) plans)) ≡ only ended plans
   rest-past =
       filter-swap (λ p. ended p.sheet) (λ p. not (is_same_copy p.sheet ask.sheet)) (map (retimed_in live t) plans)
-      ∙ ap (without ask.sheet) (filter-map ended (retimed_in live t) plans (retimed-sheet live t) ∙ map-same (retimed_in live t) (only ended plans) stay)
+      ∙ ap (without ask.sheet) (retimed-past machine plans ask.now can.plan_on t)
       ∙ filter-all (λ p. not (is_same_copy p.sheet ask.sheet)) (only ended plans) (All-from_contains (λ p. not (is_same_copy p.sheet ask.sheet) ≡ true) (only ended plans) other) where
-        stay : (p : Plan) → Contains (only ended plans) p → retimed_in live t p ≡ p
-        stay p in' =
-            let from = Contains-filter_from (λ q. ended q.sheet) plans p in' in
-            retimed-not live t p (loaded-is machine plans ask can p from.0 ((may-forget machine plans ask can).past p from.0 from.1))
-
         other : (p : Plan) → Contains (only ended plans) p → not (is_same_copy p.sheet ask.sheet) ≡ true
         other p in' = pick (is_same_copy p.sheet ask.sheet) refl where
           pick : (b : Bool) → is_same_copy p.sheet ask.sheet ≡ b → not b ≡ true

@@ -8,7 +8,7 @@ use Rattle.tp_machine.specs.declared.whole.Machine.{Machine}
 use Rattle.tp_schedule.specs.Answers.{IsAskedFrom}
 use Rattle.tp_schedule.specs.Living.{is_held_after, is_live}
 use Rattle.tp_schedule.specs.Holding.{runs_of}
-use Rattle.tp_schedule.specs.Planning.{CanAsk, HasTimeFrom, IsOpenGoal}
+use Rattle.tp_schedule.specs.Planning.{CanAsk, CanPlanOn, HasTimeFrom, IsOpenGoal}
 use Rattle.tp_schedule.specs.Plans.{IsTimedPlan, goes_to, is_before, is_delivered_to, is_same_copy, plan_of, point}
 use Rattle.tp_schedule.specs.declared.parts.Ask.{Ask}
 use Rattle.tp_schedule.specs.declared.parts.Goal.{Goal}
@@ -42,26 +42,30 @@ ended machine now (Some p) = not (is_live machine now p)
 abbrev pub gone_at : Machine → ℕ → List Plan → SheetId → Bool
 gone_at machine now plans copy = ended machine now (plan_of copy plans)
 
-module _ (machine : Machine) (plans : List Plan) (ask : Ask) (can : CanAsk machine plans ask) where
+module _ (machine : Machine) (plans : List Plan) (now : ℕ) (can : CanPlanOn machine now plans) where
   abbrev pub gone : SheetId → Bool
-  gone = gone_at machine ask.now plans
+  gone = gone_at machine now plans
 
-  pub gone-of : (p : Plan) → Contains plans p → gone p.sheet ≡ not (is_live machine ask.now p)
-  gone-of p in' = ap (ended machine ask.now) (plan_of-itself plans p can.plan_on.legal.in_order in')
+  pub gone-of : (p : Plan) → Contains plans p → gone p.sheet ≡ not (is_live machine now p)
+  gone-of p in' = ap (ended machine now) (plan_of-itself plans p can.legal.in_order in')
 
-  pub may-forget : MayForget machine ask.now plans gone
+  pub may-forget : MayForget machine now plans gone
   may-forget = record {
-    legal = can.plan_on.legal;
-    past = λ p in' is. (let e = sym (gone-of p in') ∙ is in go (is_live machine ask.now p) e);
-    ahead = λ p in' i le within. (let f = can.plan_on.floors p in' refl i le within in omega arith);
+    legal = can.legal;
+    past = λ p in' is. (let e = sym (gone-of p in') ∙ is in go (is_live machine now p) e);
+    ahead = λ p in' i le within. (let f = can.floors p in' refl i le within in omega arith);
   } where
     go : (b : Bool) → not b ≡ true → b ≡ false
     go true e = absurd cc
     go false e = refl
 
-  pub stays : gone ask.sheet ≡ false
+module _ (machine : Machine) (plans : List Plan) (ask : Ask) (can : CanAsk machine plans ask) where
+  abbrev gone' : SheetId → Bool
+  gone' = gone machine plans ask.now can.plan_on
+
+  pub stays : gone' ask.sheet ≡ false
   stays = by ask.origin can.asked can.has_time where
-    by : (o : Origin) → IsAskedFrom machine plans ask o → HasTimeFrom plans ask.now o → gone ask.sheet ≡ false
+    by : (o : Origin) → IsAskedFrom machine plans ask o → HasTimeFrom plans ask.now o → gone' ask.sheet ≡ false
     by FromFeeder none time = ap (ended machine ask.now) none
     by (FromFront state end count) (p, planned, front) time =
         let timed = All-contains (IsTimedPlan machine) plans p can.plan_on.legal.timed (plan_of-contains ask.sheet plans p planned).0 in
@@ -75,15 +79,15 @@ module _ (machine : Machine) (plans : List Plan) (ask : Ask) (can : CanAsk machi
     by FromFeeder time = tt
     by (FromFront state end count) time = time
 
-  before-asked : (p : Plan) → Contains plans p → gone p.sheet ≡ true → (tray : ℕ) → goes_to ask.goal tray ≡ true → is_delivered_to p tray ≡ true → is_before p.sheet ask.sheet ≡ true
+  before-asked : (p : Plan) → Contains plans p → gone' p.sheet ≡ true → (tray : ℕ) → goes_to ask.goal tray ≡ true → is_delivered_to p tray ≡ true → is_before p.sheet ask.sheet ≡ true
   before-asked p in' is tray goal there = by ask.goal can.open_goal goal where
     dead : is_live machine ask.now p ≡ false
-    dead = may-forget.past p in' is
+    dead = (may-forget machine plans ask.now can.plan_on).past p in' is
 
     other : is_same_copy p.sheet ask.sheet ≡ false
     other = pick (is_same_copy p.sheet ask.sheet) refl where
       pick : (b : Bool) → is_same_copy p.sheet ask.sheet ≡ b → b ≡ false
-      pick true e = let s = same_copy-is p.sheet ask.sheet e in let bad : gone p.sheet ≡ false = ap gone s ∙ stays in cc
+      pick true e = let s = same_copy-is p.sheet ask.sheet e in let bad : gone' p.sheet ≡ false = ap gone' s ∙ stays in cc
       pick false e = refl
 
     by : (g : Goal) → IsOpenGoal machine plans ask g → goes_to g tray ≡ true → is_before p.sheet ask.sheet ≡ true
@@ -96,5 +100,5 @@ module _ (machine : Machine) (plans : List Plan) (ask : Ask) (can : CanAsk machi
       pick true e = absurd (let alive = open_goal.1 p in' (ap (is_delivered_to p) to ∙ there) e in let d = dead in cc)
       pick false e = before-other ask.sheet p.sheet e other
 
-  pub may-ask : MayAskBeside machine plans ask gone
+  pub may-ask : MayAskBeside machine plans ask gone'
   may-ask = record { asked = can.asked; stays = stays; ends_ahead = ends_ahead; earlier = before-asked }

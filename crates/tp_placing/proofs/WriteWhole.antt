@@ -6,7 +6,7 @@ use Rattle.std.proofs.lemmas.Option.{same_Some}
 use Rattle.tp_machine.specs.declared.whole.Machine.{Machine}
 use Rattle.tp_schedule.specs.Answers.{IsAlternative, IsAskedFrom, follows_front, kept_from, kept_of}
 use Rattle.tp_schedule.specs.Living.{is_live}
-use Rattle.tp_schedule.specs.Planning.{CanAsk, HasTimeFrom}
+use Rattle.tp_schedule.specs.Planning.{CanAsk, CanPlanOn, HasTimeFrom}
 use Rattle.tp_schedule.specs.Plans.{IsTimedPlan, is_same_copy, plan_of, point}
 use Rattle.tp_schedule.specs.declared.parts.Ask.{Ask}
 use Rattle.tp_schedule.specs.declared.parts.Origin.{Origin}
@@ -49,26 +49,31 @@ loaded-from (q ∷ live) copy e = go (is_same_copy q.sheet copy) refl e (loaded-
   go true s e' rest = (q, Contains-here q live, s)
   go false s e' rest = let r = rest e' in (r.0, Contains-later q live r.0 r.1, r.2)
 
-module _ (machine : Machine) (plans : List Plan) (ask : Ask) (can : CanAsk machine plans ask) where
+module _ (machine : Machine) (plans : List Plan) (now : ℕ) (can : CanPlanOn machine now plans) where
   -- the live part is what was loaded
-  pub less-live : less (gone machine plans ask can) plans ≡ filter (is_live machine ask.now) plans
-  less-live = filter-agree (λ p. not (gone machine plans ask can p.sheet)) (is_live machine ask.now) plans (λ p in'. ap not (gone-of machine plans ask can p in') ∙ twice (is_live machine ask.now p)) where
+  pub less-live : less (gone machine plans now can) plans ≡ filter (is_live machine now) plans
+  less-live = filter-agree (λ p. not (gone machine plans now can p.sheet)) (is_live machine now) plans (λ p in'. ap not (gone-of machine plans now can p in') ∙ twice (is_live machine now p)) where
     twice : (b : Bool) → not (not b) ≡ b
     twice true = refl
     twice false = refl
 
-  pub loaded-is : (p : Plan) → Contains plans p → is_live machine ask.now p ≡ false → is_loaded (filter (is_live machine ask.now) plans) p.sheet ≡ false
-  loaded-is p in' dead = go (is_loaded (filter (is_live machine ask.now) plans) p.sheet) refl where
-    go : (b : Bool) → is_loaded (filter (is_live machine ask.now) plans) p.sheet ≡ b → b ≡ false
+  pub loaded-is : (p : Plan) → Contains plans p → is_live machine now p ≡ false → is_loaded (filter (is_live machine now) plans) p.sheet ≡ false
+  loaded-is p in' dead = go (is_loaded (filter (is_live machine now) plans) p.sheet) refl where
+    go : (b : Bool) → is_loaded (filter (is_live machine now) plans) p.sheet ≡ b → b ≡ false
     go false e = refl
     go true e =
-        let q = loaded-from (filter (is_live machine ask.now) plans) p.sheet e in
-        let from = Contains-filter_from (is_live machine ask.now) plans q.0 q.1 in
+        let q = loaded-from (filter (is_live machine now) plans) p.sheet e in
+        let from = Contains-filter_from (is_live machine now) plans q.0 q.1 in
         let sheet = same_copy-is q.0.sheet p.sheet q.2 in
-        let is : q.0 ≡ p = same_Some q.0 p (sym (plan_of-itself plans q.0 can.plan_on.legal.in_order from.0) ∙ ap (λ c. plan_of c plans) sheet ∙ plan_of-itself plans p can.plan_on.legal.in_order in') in
-        let alive : is_live machine ask.now p ≡ true = ap (is_live machine ask.now) (sym is) ∙ from.1 in
+        let is : q.0 ≡ p = same_Some q.0 p (sym (plan_of-itself plans q.0 can.legal.in_order from.0) ∙ ap (λ c. plan_of c plans) sheet ∙ plan_of-itself plans p can.legal.in_order in') in
+        let alive : is_live machine now p ≡ true = ap (is_live machine now) (sym is) ∙ from.1 in
         cc
 
+  -- the loaded plans are plans of the schedule
+  pub live-planned : All (λ p. plan_of p.sheet plans ≡ Some p) (filter (is_live machine now) plans)
+  live-planned = All-from_contains (λ (p : Plan). plan_of p.sheet plans ≡ Some p) (filter (is_live machine now) plans) (λ p in'. plan_of-itself plans p can.legal.in_order (Contains-filter_from (is_live machine now) plans p in').0)
+
+module _ (machine : Machine) (plans : List Plan) (ask : Ask) (can : CanAsk machine plans ask) where
   -- the new schedule's unreleased starts are above the moment
   still-ahead : (new : List Plan) (b : IsAlternative machine plans ask new) (p : Plan) → Contains new p → (i : ℕ) → p.released ≤ i → i < length p.acts → ask.now < point p i
   still-ahead new b p in' i le within = by (follows_front ask p) refl where
@@ -91,18 +96,14 @@ module _ (machine : Machine) (plans : List Plan) (ask : Ask) (can : CanAsk machi
     by false e = let f = b.floors p in' e i le within in omega arith
     by true e = front-ahead ask.origin refl can.asked can.has_time (both (is_same_copy p.sheet ask.sheet) (nat_lt 0 (kept_of ask)) e)
 
-  pub forget-new : (live new : List Plan) → IsJoined (gone machine plans ask can) plans live new → IsAlternative machine plans ask new → MayForget machine ask.now new (gone machine plans ask can)
+  pub forget-new : (live new : List Plan) → IsJoined (gone machine plans ask.now can.plan_on) plans live new → IsAlternative machine plans ask new → MayForget machine ask.now new (gone machine plans ask.now can.plan_on)
   forget-new live new joined b = record {
     legal = b.legal;
     past = λ p in' is.
-        let here : Contains (only (gone machine plans ask can) plans) p = subst (λ ps. Contains ps p) joined.past_part (Contains-filter (λ q. gone machine plans ask can q.sheet) new p in' is) in
-        (may-forget machine plans ask can).past p (Contains-filter_from (λ q. gone machine plans ask can q.sheet) plans p here).0 is;
+        let here : Contains (only (gone machine plans ask.now can.plan_on) plans) p = subst (λ ps. Contains ps p) joined.past_part (Contains-filter (λ q. gone machine plans ask.now can.plan_on q.sheet) new p in' is) in
+        (may-forget machine plans ask.now can.plan_on).past p (Contains-filter_from (λ q. gone machine plans ask.now can.plan_on q.sheet) plans p here).0 is;
     ahead = still-ahead new b;
   }
 
-  -- the loaded plans are plans of the schedule
-  live-planned : All (λ p. plan_of p.sheet plans ≡ Some p) (filter (is_live machine ask.now) plans)
-  live-planned = All-from_contains (λ (p : Plan). plan_of p.sheet plans ≡ Some p) (filter (is_live machine ask.now) plans) (λ p in'. plan_of-itself plans p can.plan_on.legal.in_order (Contains-filter_from (is_live machine ask.now) plans p in').0)
-
 pub loaded-planned : (machine : Machine) (plans : List Plan) (ask : Ask) (live : List Plan) → IsLoadedFrom machine plans ask live → All (λ p. plan_of p.sheet plans ≡ Some p) live
-loaded-planned machine plans ask live from = subst (All (λ (p : Plan). plan_of p.sheet plans ≡ Some p)) (sym from.live_part) (live-planned machine plans ask from.can_ask)
+loaded-planned machine plans ask live from = subst (All (λ (p : Plan). plan_of p.sheet plans ≡ Some p)) (sym from.live_part) (live-planned machine plans ask.now from.can_ask.plan_on)
