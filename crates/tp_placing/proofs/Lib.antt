@@ -42,3 +42,4 @@ pub mod PutAll
 pub mod LivePart
 pub mod LoadSlots
 pub mod LoadedTicks
+pub mod WriteSettle

@@ -1,5 +1,5 @@
 -- The asked copy's plan by the steps.
-use Rattle.std.proofs.Common.{◌≡◌, ℕ, ◌+◌, ◌<◌, Bool, true, false, cond, not, List, [], ◌∷◌, ◌++◌, length, take, reverse, flat_map, refl, ap, sym, ◌∙◌, subst, arith, Some, None, Option, IsSome, position, AllPairs}
+use Rattle.std.proofs.Common.{◌≡◌, ℕ, ◌+◌, ◌<◌, List, [], ◌∷◌, ◌++◌, length, take, reverse, flat_map, refl, ap, sym, ◌∙◌, subst, arith, Some, None, Option, IsSome, position, AllPairs}
 use Rattle.std.specs.List.{fold}
 use Rattle.std.proofs.Math.Seq.{take-append-add, take-append_seam}
 use Rattle.std.proofs.lemmas.Grind.{common_steps, flat_map-append}
@@ -37,14 +37,6 @@ place-planned copy plans k place = go (position (λ p. is_same_copy p.sheet copy
       let within : j < length plans = grind (arith, common_steps) in
       let p = found plans j within in
       rw (plan_of-at copy plans j p.0 (sym e) within (sym (get_or_from_slice_get plans j p.0 p.0 p.1))) refl
-
--- the plans without that of a copy that has none
-pub without-none : (copy : SheetId) (plans : List Plan) → plan_of copy plans ≡ None → without copy plans ≡ plans
-without-none copy [] none = refl
-without-none copy (p ∷ plans) none = go (is_same_copy p.sheet copy) none (without-none copy plans) where
-  go : (b : Bool) → cond b (Some p) (plan_of copy plans) ≡ None → (plan_of copy plans ≡ None → without copy plans ≡ plans) → cond (not b) (p ∷ without copy plans) (without copy plans) ≡ p ∷ plans
-  go true none' rest = absurd cc
-  go false none' rest = ap (λ ps. p ∷ ps) (rest none')
 
 some-plan : (o : Option Plan) → IsSome o → (p : Plan) × (o ≡ Some p)
 some-plan None h = absurd cc

@@ -75,7 +75,7 @@ retimed-other live t p q other =
 
 retimed-others : (live : List Plan) (t : Ticks) (p : Plan) (plans : List Plan) → All (NotOf p.sheet) plans → map (retimed_in live t) plans ≡ map (retimed_in (live ++ p ∷ []) t) plans
 retimed-others live t p [] others = refl
-retimed-others live t p (q ∷ plans) others = 
+retimed-others live t p (q ∷ plans) others =
     let one = retimed-other live t p q (All-head (NotOf p.sheet) q plans others) in
     let rest = retimed-others live t p plans (All-tail (NotOf p.sheet) q plans others) in
     λ i. one i ∷ rest i
@@ -111,10 +111,10 @@ planned-still live t [] copy p planned not_yet = planned
 planned-still live t (q ∷ plans) copy p planned not_yet =
     let P : SheetId → Type 0 = λ c. cond (is_same_copy c copy) (Some (retimed_in live t q)) (plan_of copy (map (retimed_in live t) plans)) ≡ Some p in
     subst P (sym (retimed-sheet live t q)) (go (is_same_copy q.sheet copy) refl planned (planned-still live t plans copy p)) where
-  go : (b : Bool) → is_same_copy q.sheet copy ≡ b → cond b (Some q) (plan_of copy plans) ≡ Some p → (plan_of copy plans ≡ Some p → is_loaded live copy ≡ false → plan_of copy (map (retimed_in live t) plans) ≡ Some p)
-      → cond b (Some (retimed_in live t q)) (plan_of copy (map (retimed_in live t) plans)) ≡ Some p
-  go true e is-q rest = ap Some (retimed-not live t q (subst (λ c. is_loaded live c ≡ false) (sym (same_copy-is q.sheet copy e)) not_yet)) ∙ is-q
-  go false e planned' rest = rest planned' not_yet
+      go : (b : Bool) → is_same_copy q.sheet copy ≡ b → cond b (Some q) (plan_of copy plans) ≡ Some p → (plan_of copy plans ≡ Some p → is_loaded live copy ≡ false → plan_of copy (map (retimed_in live t) plans) ≡ Some p)
+          → cond b (Some (retimed_in live t q)) (plan_of copy (map (retimed_in live t) plans)) ≡ Some p
+      go true e is-q rest = ap Some (retimed-not live t q (subst (λ c. is_loaded live c ≡ false) (sym (same_copy-is q.sheet copy e)) not_yet)) ∙ is-q
+      go false e planned' rest = rest planned' not_yet
 
 -- a plan is not among those before it
 pub not-before : (k : ℕ) (live : List Plan) (p : Plan) → AllPairs IsEarlier live → slice_get live k ≡ Some p → is_loaded (take k live) p.sheet ≡ false

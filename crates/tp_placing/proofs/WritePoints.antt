@@ -39,9 +39,9 @@ plan-points net plans ask x t a first count is many =
     let f : ℕ → ℕ = λ i. settled_ticks ask (total_of ask x.choices) t (kept ask.sheet i) in
     let before = ticks-same (λ i. t (kept ask.sheet i)) f 0 0 (kept_of ask) (λ k within. (let within' : 0 + k < kept_of ask = omega arith in sym (settled-kept ask (total_of ask x.choices) t (0 + k) within'))) in
     let behind = ticks-same (back_from a.solution first) f 0 (0 + kept_of ask) (suc count) (λ k within.
-        let le : kept_of ask ≤ (0 + kept_of ask) + k = omega arith in
-        let n : length (table_of plans) + (total_of ask x.choices - ((0 + kept_of ask) + k)) ≡ first - (0 + k) = omega arith in
-        let some = a.there (length (table_of plans) + (total_of ask x.choices - ((0 + kept_of ask) + k))) (own (total_of ask x.choices - ((0 + kept_of ask) + k))) (table-own plans (own_points (Some x)) (total_of ask x.choices - ((0 + kept_of ask) + k)) (omega arith)) in
-        ap a.solution (sym n) ∙ sym some ∙ sym (settled-own ask (total_of ask x.choices) t ((0 + kept_of ask) + k) le)) in
+    let le : kept_of ask ≤ (0 + kept_of ask) + k = omega arith in
+    let n : length (table_of plans) + (total_of ask x.choices - ((0 + kept_of ask) + k)) ≡ first - (0 + k) = omega arith in
+    let some = a.there (length (table_of plans) + (total_of ask x.choices - ((0 + kept_of ask) + k))) (own (total_of ask x.choices - ((0 + kept_of ask) + k))) (table-own plans (own_points (Some x)) (total_of ask x.choices - ((0 + kept_of ask) + k)) (omega arith)) in
+    ap a.solution (sym n) ∙ sym some ∙ sym (settled-own ask (total_of ask x.choices) t ((0 + kept_of ask) + k) le)) in
     let n : kept_of ask + suc count ≡ suc (kept_of ask + count) = omega arith in
     (λ i. before i ++ behind i) ∙ sym (ticks-append f 0 (kept_of ask) (suc count)) ∙ ap (λ k. ticks_from f 0 k) n

@@ -61,9 +61,9 @@ plan-ticks net plans firsts k p d t n are within read a few =
     let b = begins-at 0 plans firsts k p (get_or firsts k d) are there (slice_get-get_or firsts k d (omega arith)) in
     let first = b.1 in
     ticks-same a.solution (at t p) (get_or firsts k d).0 0 n (λ i less.
-        let e : (get_or firsts k d).0 + i ≡ b.0 + i = omega arith in
-        let z : i ≡ 0 + i = omega arith in
-        ap a.solution e ∙ sym (a.there (b.0 + i) (kept p.sheet i) (b.2.get i (omega arith))) ∙ ap (at t p) z)
+    let e : (get_or firsts k d).0 + i ≡ b.0 + i = omega arith in
+    let z : i ≡ 0 + i = omega arith in
+    ap a.solution e ∙ sym (a.there (b.0 + i) (kept p.sheet i) (b.2.get i (omega arith))) ∙ ap (at t p) z)
 
 -- there are such ticks
 pub ticks-exist : (net : Net) (plans : List Plan) → HasLeast net → AllPairs IsEarlier plans → (t : Ticks) × AreLeastTicks net (table_of plans) t

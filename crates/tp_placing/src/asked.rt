@@ -30,12 +30,7 @@ fn acts_so_far(plans: &[Plan], copy: SheetId) -> Acts
 }
 
 /// The least times of their starts.
-fn starts_so_far<N: Network>(
-    net: &N,
-    plans: &[Plan],
-    firsts: &[PointId],
-    copy: SheetId,
-) -> Points
+fn starts_so_far<N: Network>(net: &N, plans: &[Plan], firsts: &[PointId], copy: SheetId) -> Points
     requires firsts { AreFirsts 0 plans.now firsts.now }
     requires known { length (table_of plans.now) ≤ length (N.net net.now).lows }
     requires fits { length (table_of plans.now) < 2 ^ 32 }

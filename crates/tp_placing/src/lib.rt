@@ -21,6 +21,7 @@ mod opening;
 mod parts;
 mod reading;
 mod reasons;
+mod settling;
 mod trying;
 mod undoing;
 mod writing;

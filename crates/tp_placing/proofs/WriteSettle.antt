@@ -1,0 +1,80 @@
+-- The live plans at their least ticks are a settled schedule with the plans that are not live.
+use Rattle.std.proofs.Common.{◌≡◌, ℕ, ◌<◌, ◌≤◌, false, List, length, filter, map, refl, ap, sym, ◌∙◌, subst, arith, Contains}
+use Rattle.std.proofs.lemmas.List.Elements.{All-weaker}
+use Rattle.std.proofs.lemmas.List.Sums.{length-filter}
+use Rattle.tp_base.specs.Net.{Net, IsLeast as IsLeastSolution}
+use Rattle.tp_machine.specs.declared.whole.Machine.{Machine}
+use Rattle.tp_schedule.specs.Answers.{IsLeast, IsRetimed}
+use Rattle.tp_schedule.specs.Living.{is_live}
+use Rattle.tp_schedule.specs.Planning.{CanSettle, IsSettled, none_exempt}
+use Rattle.tp_schedule.specs.Plans.{IsTimedPlan}
+use Rattle.tp_schedule.specs.Spots.{Spot, Ticks}
+use Rattle.tp_schedule.specs.Times.{timed_by}
+use Rattle.tp_schedule.specs.declared.parts.Plan.{Plan}
+use Rattle.tp_schedule.proofs.Membership.{Contains-filter, Contains-filter_from}
+use Rattle.tp_choices.specs.LiveParts.{MayForget, only}
+use Rattle.tp_choices.proofs.LiveTimes.{live_retimes, whole_is_least}
+use Rattle.tp_constraints.specs.Nets.{IsLoadedNet}
+use Rattle.tp_constraints.specs.Numbers.{table_of, ticks_by}
+use Rattle.tp_constraints.proofs.LeastSolutions.{settle_law}
+use Rattle.tp_constraints.proofs.Numbering.{number-at}
+use Rattle.tp_placing.specs.Loaded.{CanLoad, IsLoaded}
+use Rattle.tp_placing.specs.Loading.{point_count}
+use Rattle.tp_placing.specs.Writing.{AreLeastTicks, retimed_in}
+use Rattle.tp_placing.proofs.LiveFacts.{points-few}
+use Rattle.tp_placing.proofs.LoadTable.{length-table-of}
+use Rattle.tp_placing.proofs.LivePart.{legal-filter}
+use Rattle.tp_placing.proofs.WriteJoined.{joined-times}
+use Rattle.tp_placing.proofs.WriteLive.{gone, may-forget}
+use Rattle.tp_placing.proofs.WriteWhole.{less-live}
+
+-- the live plans can be loaded
+pub live-settles : (machine : Machine) (now : ℕ) (plans : List Plan) → CanSettle machine now plans → CanLoad machine now (filter (is_live machine now) plans)
+live-settles machine now plans can = record {
+  now_at_most = can.plan_on.now_at_most;
+  loadable = record {
+    legal = legal-filter (is_live machine now) machine plans can.plan_on.legal;
+    floors = λ p in'. can.plan_on.floors p (Contains-filter_from (is_live machine now) plans p in').0;
+  };
+  horizon = λ p in'. can.plan_on.horizon p (Contains-filter_from (is_live machine now) plans p in').0;
+  few = let few = can.few_live in let l = length-filter (is_live machine now) plans in omega arith;
+}
+
+pub settled : (machine : Machine) (now : ℕ) (plans : List Plan) (can : CanSettle machine now plans) (table : List Spot) (net : Net) (sol : ℕ → ℕ) → IsLoadedNet machine now (λ _. false) (filter (is_live machine now) plans) table net → IsLeastSolution net sol
+    → IsSettled machine now plans (map (retimed_in (filter (is_live machine now) plans) (ticks_by table sol)) plans)
+settled machine now plans can table net sol is l =
+    let t : Ticks = ticks_by table sol in
+    let j = joined-times machine plans now can.plan_on (ticks_by table sol) in
+    let law = settle_law machine now none_exempt (filter (is_live machine now) plans) table net sol (live-settles machine now plans can).loadable (λ p points. refl) is l in
+    let small = subst (λ ps. IsRetimed machine now none_exempt ps (map (timed_by (ticks_by table sol)) (filter (is_live machine now) plans))) (sym (less-live machine plans now can.plan_on)) law.0 in
+    let whole = live_retimes machine now none_exempt plans (map (timed_by (ticks_by table sol)) (filter (is_live machine now) plans)) (map (retimed_in (filter (is_live machine now) plans) (ticks_by table sol)) plans) (gone machine plans now can.plan_on) (may-forget machine plans now can.plan_on) (λ p points. refl) (λ p in' e. absurd cc) j small in
+    record {
+      retimed = whole;
+      least = whole_is_least machine now none_exempt (map (retimed_in (filter (is_live machine now) plans) (ticks_by table sol)) plans) (gone machine plans now can.plan_on) (forget whole)
+          (subst (IsLeast machine now none_exempt) (sym j.live_part) law.1);
+    } where
+      forget : IsRetimed machine now none_exempt plans (map (retimed_in (filter (is_live machine now) plans) (ticks_by table sol)) plans) → MayForget machine now (map (retimed_in (filter (is_live machine now) plans) (ticks_by table sol)) plans) (gone machine plans now can.plan_on)
+      forget r = record {
+        legal = r.legal;
+        past = λ p in' is.
+            let here : Contains (only (gone machine plans now can.plan_on) plans) p = subst (λ ps. Contains ps p) (joined-times machine plans now can.plan_on (ticks_by table sol)).past_part (Contains-filter (λ q. gone machine plans now can.plan_on q.sheet) (map (retimed_in (filter (is_live machine now) plans) (ticks_by table sol)) plans) p in' is) in
+            (may-forget machine plans now can.plan_on).past p (Contains-filter_from (λ q. gone machine plans now can.plan_on q.sheet) plans p here).0 is;
+        ahead = λ p in' i le within. (let f = r.floors p in' refl i le within in omega arith);
+      }
+
+-- the schedule that the times make
+pub settled-is : (machine : Machine) (now : ℕ) (plans live new : List Plan) (lines : _) (held : _) (firsts : _) (net : Net) → CanSettle machine now plans → live ≡ filter (is_live machine now) plans → IsLoaded machine now live net lines held firsts
+    → ((t : Ticks) → AreLeastTicks net (table_of live) t → new ≡ map (retimed_in live t) plans) → IsSettled machine now plans new
+settled-is machine now plans live new lines held firsts net can part l times =
+    let P : List Plan → Type 0 = λ ps. IsLoadedNet machine now (λ _. false) ps (table_of live) net in
+    let e = times (ticks_by (table_of live) l.solved.0) (record { solution = l.solved.0; least = l.solved.1; there = λ i s at. ap l.solved.0 (number-at (table_of live) l.net.is_table.differ i s at) }) in
+    subst (IsSettled machine now plans) (sym (e ∙ ap (λ ps. map (retimed_in ps (ticks_by (table_of live) l.solved.0)) plans) part)) (settled machine now plans can (table_of live) net l.solved.0 (subst P part l.net) l.solved.1)
+
+pub settled-few : (machine : Machine) (now : ℕ) (plans live : List Plan) → CanSettle machine now plans → live ≡ filter (is_live machine now) plans → length (table_of live) < 4294967296
+settled-few machine now plans live can part =
+    let load = live-settles machine now plans can in
+    let acts = All-weaker (IsTimedPlan machine) (λ p. length p.acts ≤ 64) (λ p t. t.at_most) (filter (is_live machine now) plans) load.loadable.legal.timed in
+    let points = points-few (filter (is_live machine now) plans) acts in
+    let few = load.few in
+    let count = length-table-of live ∙ ap point_count part in
+    omega arith

@@ -1,0 +1,43 @@
+ghost use Rattle.std.specs.Prelude.{◌≡◌, [], None};
+ghost use Rattle.tp_schedule.specs.Planning.{CanSettle, IsSettled};
+ghost use Rattle.tp_placing.specs.Boards.{past_of};
+ghost use Rattle.tp_placing.specs.Standing.{IsMadeFor};
+
+use crate::board::Board;
+use crate::kept_plans::{keep_live, load_plans};
+use crate::writing::write_times;
+use tp_base::{Network, PointId, Tick};
+use tp_machine::Machine;
+use tp_schedule::Schedule;
+
+impl<N: Network> Board<N> {
+    /// Gives each point of the schedule its least tick for the orders that stand. Loads the plans that are live at the
+    /// moment to be asked nothing, and takes no memory.
+    pub fn settle(&mut self, machine: &Machine, schedule: &mut Schedule, now: Tick)
+        requires made { IsMadeFor self.old.made_for machine.now }
+        requires can_settle { CanSettle machine.now now schedule.old.plans }
+        ensures settled { IsSettled machine.now now schedule.old.plans schedule.new.plans }
+        ensures spare { schedule.new.spare ≡ schedule.old.spare }
+        ensures made { self.new.made_for ≡ self.old.made_for }
+        ensures asked { self.new.ask ≡ None }
+        ensures closed { self.new.steps ≡ [] }
+        ensures past { past_of N.past self.new ≡ [] }
+        ensures marks { N.mark_room self.new.net ≡ N.mark_room self.old.net }
+    {
+        keep_live(&mut self.plans, machine, schedule, now);
+        let points = load_plans(
+            &mut self.net,
+            &mut self.lines,
+            &mut self.held,
+            &mut self.firsts,
+            self.plans.as_slice(),
+            machine,
+            now,
+        );
+        self.last = PointId(points);
+        self.ask = None;
+        self.steps.clear();
+        self.marks.clear();
+        write_times(&self.net, &self.plans, &self.firsts, schedule);
+    }
+}
