@@ -1,1 +1,7 @@
 mod Turns
+pub mod WordFacts
+pub mod Forms
+pub mod PlanFacts
+pub mod CauseFacts
+pub mod RecordFacts
+pub mod LineFacts
