@@ -5,3 +5,4 @@ pub mod PlanFacts
 pub mod CauseFacts
 pub mod RecordFacts
 pub mod LineFacts
+pub mod LogFacts

@@ -48,6 +48,12 @@ no_echo : (event : List ℕ) → record_of (parts_at 32 (62 ∷ 32 ∷ event)) �
 unfolding record_of
 no_echo event = refl
 
+pub not_told : (event : List ℕ) (told : Record) → IsRecord told → 62 ∷ 32 ∷ event ≢ spaced (record_words told)
+not_told event told good same =
+    let again = text_again told good in
+    let none : record_of (parts_at 32 (spaced (record_words told))) ≡ None = ap (λ t. record_of (parts_at 32 t)) (sym same) ∙ no_echo event in
+    cc
+
 -- ---- what a reader answers
 same_front : (a b : List ℕ) → a ++ 10 ∷ [] ≡ b ++ 10 ∷ [] → a ≡ b
 same_front a b e = append_cancel_right a b (10 ∷ []) e
@@ -78,8 +84,4 @@ echo_fault line text event Syntax is front h = off
     behind a b e = cc
     off : (item : Item) → IsItem item → line ≢ item_text item
     off (Event event') echoed same = h event' echoed (behind event (event_text event') (sym front ∙ same_front text (62 ∷ 32 ∷ event_text event') (sym is ∙ same)))
-    off (Note told) good same =
-        let whole : text ≡ spaced (record_words told) = same_front text (spaced (record_words told)) (sym is ∙ same) in
-        let again : record_of (parts_at 32 text) ≡ Some told = ap (λ t. record_of (parts_at 32 t)) whole ∙ text_again told good in
-        let none : record_of (parts_at 32 text) ≡ None = ap (λ t. record_of (parts_at 32 t)) front ∙ no_echo event in
-        cc
+    off (Note told) good same = not_told event told good (sym front ∙ same_front text (spaced (record_words told)) (sym is ∙ same))

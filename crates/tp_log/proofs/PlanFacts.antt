@@ -39,7 +39,7 @@ turns_take [] t e = absurd cc
 turns_take (point ∷ []) t e =
     let x = and_then_some (number_of point) (λ x. Some (x ∷ [], [])) t e in
     let p = number_spells.takes point x.0 x.1 in
-    subst (λ t. TurnsTake (point ∷ []) t) (same_Some _ _ x.2) (record { text = ap (λ w. w ∷ []) p.0; more = refl; numbers = (p.1, tt); names = tt })
+    subst (λ t. TurnsTake (point ∷ []) t) (same_Some (x.0 ∷ [], []) t x.2) (record { text = ap (λ w. w ∷ []) p.0; more = refl; numbers = (p.1, tt); names = tt })
 turns_take (point ∷ act ∷ words) t e =
     let x = and_then_some (number_of point) (λ x. option_and_then (λ n. option_and_then (λ others. Some (x ∷ others.0, n ∷ others.1)) (turns_of words)) (name_of act)) t e in
     let n = and_then_some (name_of act) (λ n. option_and_then (λ others. Some (x.0 ∷ others.0, n ∷ others.1)) (turns_of words)) t x.2 in
@@ -47,7 +47,7 @@ turns_take (point ∷ act ∷ words) t e =
     let p = number_spells.takes point x.0 x.1 in
     let a = name_spells.takes act n.0 n.1 in
     let h = turns_take words o.0 o.1 in
-    subst (λ t. TurnsTake (point ∷ act ∷ words) t) (same_Some _ _ o.2) (record {
+    subst (λ t. TurnsTake (point ∷ act ∷ words) t) (same_Some (x.0 ∷ o.0.0, n.0 ∷ o.0.1) t o.2) (record {
       text = same_two point act (decimal x.0) n.0 words (turns_words o.0.0 o.0.1) p.0 a.0 h.text;
       more = omega (arith, h.more);
       numbers = (p.1, h.numbers);
@@ -82,7 +82,7 @@ plan_takes (a ∷ b ∷ turns) r e =
     let h = turns_take turns t.0 t.1 in
     subst (λ r. Tells record_words IsRecord (heading_text headings.Plan ∷ a ∷ b ∷ turns) r) k.1
       (ap (λ ws. heading_text headings.Plan ∷ ws) (same_two a b (sheet_text s.0) l.0 turns (turns_words t.0.0 t.0.1) sheet.0 place.0 h.text),
-        ((sheet.1, place.1, h.numbers, h.names), (h.more, ltb-true _ _ k.0)))
+        ((sheet.1, place.1, h.numbers, h.names), (h.more, ltb-true 0 (length t.0.1) k.0)))
 
 pub plan_again : (sheet : SheetName) (place : List ℕ) (points : List ℕ) (acts : List (List ℕ)) → IsRecord (Plan sheet place points acts) → plan_of (sheet_text sheet ∷ place ∷ turns_words points acts) ≡ Some (Plan sheet place points acts)
 unfolding plan_of plan_with
@@ -101,7 +101,7 @@ move_takes (a ∷ points) r e =
     let l = list_takes number_spells points p.0 p.1 in
     let many : length points ≡ length p.0 = ap length l.0 ∙ length-map p.0 decimal in
     let two : 1 < length points = ltb-true 1 (length points) g.0 in
-    subst (λ r. Tells record_words IsRecord (heading_text headings.Move ∷ a ∷ points) r) (same_Some _ _ p.2)
+    subst (λ r. Tells record_words IsRecord (heading_text headings.Move ∷ a ∷ points) r) (same_Some (Move s.0 p.0) r p.2)
       (same_after (heading_text headings.Move) a (sheet_text s.0) points (map decimal p.0) sheet.0 l.0, ((sheet.1, l.1), omega (arith, many, two)))
   where
     cond_some_of : (b : Bool) (o : Option Record) (y : Record) → cond b o None ≡ Some y → (b ≡ true) × (o ≡ Some y)

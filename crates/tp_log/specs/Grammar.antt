@@ -11,6 +11,8 @@ use Rattle.tp_script.specs.Script.{IsName, event_text}
 use Rattle.tp_script.specs.Lines.{lines_of}
 use Rattle.tp_script.specs.declared.fault.LineFault.{LineFault}
 use Rattle.tp_script.specs.declared.fault.LineFault.TheVariants.{Memory, Syntax}
+use Rattle.tp_log.specs.declared.fault.LogFault.{LogFault}
+use Rattle.tp_log.specs.declared.fault.LogFault.TheVariants.{Bad, Memory as OutOfMemory}
 use Rattle.tp_log.specs.declared.item.Item.{Item}
 use Rattle.tp_log.specs.declared.item.Item.TheVariants.{Event, Note}
 use Rattle.tp_log.specs.Records.{record_text, IsPrintable}
@@ -81,17 +83,17 @@ ReadsLine line (Err Memory) = Unit {0}
 
 -- ---- logs
 
-abbrev pub IsEvent : Item → Type 0
-IsEvent (Event event) = Unit {0}
-IsEvent (Note told) = ⊥
+abbrev pub IsEcho : Item → Type 0
+IsEcho (Event event) = Unit {0}
+IsEcho (Note told) = ⊥
 
-abbrev pub BeginsWithEvent : List Item → Type 0
-BeginsWithEvent [] = Unit {0}
-BeginsWithEvent (first ∷ others) = IsEvent first
+abbrev pub BeginsWithEcho : List Item → Type 0
+BeginsWithEcho [] = Unit {0}
+BeginsWithEcho (first ∷ others) = IsEcho first
 
 -- the first item, if there is one, is an event
 abbrev pub IsLog : List Item → Type 0
-IsLog items = BeginsWithEvent items × AllByRecursion IsItem items
+IsLog items = BeginsWithEcho items × AllByRecursion IsItem items
 
 abbrev pub log_text : List Item → List ℕ
 log_text items = flat_map item_text items
@@ -106,3 +108,20 @@ pub record IsFirstOff (n : ℕ) (text : List ℕ) : Type 0 where
   pub there : n ≤ length (lines_of text)
   pub before : AreLog (take (n - 1) (lines_of text))
   pub off : AreLog (take n (lines_of text)) → ⊥
+
+-- what holds of the line that a fault tells
+abbrev pub IfBad : LogFault → (ℕ → Type 0) → Type 0
+IfBad (Bad n) P = P n
+IfBad OutOfMemory P = Unit {0}
+
+-- ---- one line of a log, by its number
+
+-- line n may be the item's
+abbrev pub StandsAt : ℕ → Item → Type 0
+StandsAt n item = IsItem item × (n ≡ 1 → IsEcho item)
+
+-- what reading line n answers
+abbrev pub ReadsNth : ℕ → List ℕ → Result Item LogFault → Type 0
+ReadsNth n line (Ok item) = StandsAt n item × (line ≡ item_text item)
+ReadsNth n line (Err (Bad m)) = (m ≡ n) × ((item : Item) → StandsAt n item → line ≢ item_text item)
+ReadsNth n line (Err OutOfMemory) = Unit {0}

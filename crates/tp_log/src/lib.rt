@@ -1,4 +1,4 @@
-//! The lines of a log.
+//! The lines of a log, printed and read.
 #![tactic(auto)]
 
 mod causes;
@@ -6,13 +6,17 @@ mod fault;
 mod fields;
 mod heading;
 mod item;
+mod laws;
 mod line;
 mod plans;
 mod printing;
+mod reading;
 mod reason;
 mod records;
 
 pub use fault::LogFault;
 pub use item::Item;
+pub use laws::{one_item, one_log};
 pub use line::read_log_line;
 pub use printing::print_record;
+pub use reading::read_log;
