@@ -5,4 +5,7 @@ pub mod PlanFacts
 pub mod CauseFacts
 pub mod RecordFacts
 pub mod LineFacts
+pub mod EventWords
+pub mod TextLines
+pub mod LogLines
 pub mod LogFacts

@@ -82,6 +82,7 @@ echo_fault line text event Syntax is front h = off
   where
     behind : (a b : List ℕ) → 62 ∷ 32 ∷ a ≡ 62 ∷ 32 ∷ b → a ≡ b
     behind a b e = cc
+
     off : (item : Item) → IsItem item → line ≢ item_text item
     off (Event event') echoed same = h event' echoed (behind event (event_text event') (sym front ∙ same_front text (62 ∷ 32 ∷ event_text event') (sym is ∙ same)))
     off (Note told) good same = not_told event told good (sym front ∙ same_front text (spaced (record_words told)) (sym is ∙ same))

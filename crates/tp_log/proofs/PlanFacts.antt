@@ -80,9 +80,10 @@ plan_takes (a ∷ b ∷ turns) r e =
     let sheet = sheet_spells.takes a s.0 s.1 in
     let place = name_spells.takes b l.0 l.1 in
     let h = turns_take turns t.0 t.1 in
-    subst (λ r. Tells record_words IsRecord (heading_text headings.Plan ∷ a ∷ b ∷ turns) r) k.1
-      (ap (λ ws. heading_text headings.Plan ∷ ws) (same_two a b (sheet_text s.0) l.0 turns (turns_words t.0.0 t.0.1) sheet.0 place.0 h.text),
-        ((sheet.1, place.1, h.numbers, h.names), (h.more, ltb-true 0 (length t.0.1) k.0)))
+    subst (λ r. Tells record_words IsRecord (heading_text headings.Plan ∷ a ∷ b ∷ turns) r) k.1 (
+      ap (λ ws. heading_text headings.Plan ∷ ws) (same_two a b (sheet_text s.0) l.0 turns (turns_words t.0.0 t.0.1) sheet.0 place.0 h.text),
+      ((sheet.1, place.1, h.numbers, h.names), (h.more, ltb-true 0 (length t.0.1) k.0)),
+    )
 
 pub plan_again : (sheet : SheetName) (place : List ℕ) (points : List ℕ) (acts : List (List ℕ)) → IsRecord (Plan sheet place points acts) → plan_of (sheet_text sheet ∷ place ∷ turns_words points acts) ≡ Some (Plan sheet place points acts)
 unfolding plan_of plan_with
@@ -102,11 +103,12 @@ move_takes (a ∷ points) r e =
     let many : length points ≡ length p.0 = ap length l.0 ∙ length-map p.0 decimal in
     let two : 1 < length points = ltb-true 1 (length points) g.0 in
     subst (λ r. Tells record_words IsRecord (heading_text headings.Move ∷ a ∷ points) r) (same_Some (Move s.0 p.0) r p.2)
-      (same_after (heading_text headings.Move) a (sheet_text s.0) points (map decimal p.0) sheet.0 l.0, ((sheet.1, l.1), omega (arith, many, two)))
+    (same_after (heading_text headings.Move) a (sheet_text s.0) points (map decimal p.0) sheet.0 l.0, ((sheet.1, l.1), omega (arith, many, two)))
   where
     cond_some_of : (b : Bool) (o : Option Record) (y : Record) → cond b o None ≡ Some y → (b ≡ true) × (o ≡ Some y)
     cond_some_of true o y e = (refl, e)
     cond_some_of false o y e = absurd cc
+
     same_after : (h a a' : List ℕ) (ws ws' : List (List ℕ)) → a ≡ a' → ws ≡ ws' → h ∷ a ∷ ws ≡ h ∷ a' ∷ ws'
     same_after h a a' ws ws' i j = cc
 

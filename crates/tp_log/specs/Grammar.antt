@@ -1,6 +1,6 @@
 -- What a log is, what its text is, and which line is the first that is off the grammar.
 use Rattle.std.specs.Prelude.{◌≡◌, ◌≢◌, ℕ, ◌-◌, ◌≤◌, ◌<◌, ◌^◌, List, [], ◌∷◌, ◌++◌, length, map, take, Option, Some, None, Result, Ok, Err}
-use Rattle.std.specs.List.{AllByRecursion, flat_map}
+use Rattle.std.specs.List.{All, AllByRecursion, flat_map}
 use Rattle.tp_schedule.specs.declared.recording.Cause.{Cause}
 use Rattle.tp_schedule.specs.declared.recording.Cause.TheVariants.{Syntax as SyntaxCause, Tray, Media, Named, Waiting, Back, End, «Module», Out, NotOn}
 use Rattle.tp_schedule.specs.declared.recording.Record.{Record}
@@ -9,6 +9,7 @@ use Rattle.tp_schedule.specs.declared.recording.SheetName.{SheetName}
 use Rattle.tp_script.specs.Printed.{IsEchoed}
 use Rattle.tp_script.specs.Script.{IsName, event_text}
 use Rattle.tp_script.specs.Lines.{lines_of}
+use Rattle.tp_script.specs.declared.event.Event.{Event as AnyEvent}
 use Rattle.tp_script.specs.declared.fault.LineFault.{LineFault}
 use Rattle.tp_script.specs.declared.fault.LineFault.TheVariants.{Memory, Syntax}
 use Rattle.tp_log.specs.declared.fault.LogFault.{LogFault}
@@ -70,9 +71,13 @@ abbrev pub IsItem : Item → Type 0
 IsItem (Event event) = IsEchoed event
 IsItem (Note told) = IsRecord told
 
--- the line of an item, with its LF. An event's is `> ` and the event as printed
+-- the line of an event, with its LF: `> ` and the event as printed
+abbrev pub echo_text : AnyEvent → List ℕ
+echo_text event = 62 ∷ 32 ∷ (event_text event ++ 10 ∷ [])
+
+-- the line of an item
 abbrev pub item_text : Item → List ℕ
-item_text (Event event) = 62 ∷ 32 ∷ (event_text event ++ 10 ∷ [])
+item_text (Event event) = echo_text event
 item_text (Note told) = record_text told
 
 -- what reading a line answers
@@ -93,7 +98,7 @@ BeginsWithEcho (first ∷ others) = IsEcho first
 
 -- the first item, if there is one, is an event
 abbrev pub IsLog : List Item → Type 0
-IsLog items = BeginsWithEcho items × AllByRecursion IsItem items
+IsLog items = BeginsWithEcho items × All IsItem items
 
 abbrev pub log_text : List Item → List ℕ
 log_text items = flat_map item_text items

@@ -17,6 +17,6 @@ mod records;
 pub use fault::LogFault;
 pub use item::Item;
 pub use laws::{one_item, one_log};
-pub use line::read_log_line;
+pub use line::{print_echo, read_log_line};
 pub use printing::print_record;
 pub use reading::read_log;

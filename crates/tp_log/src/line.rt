@@ -1,16 +1,31 @@
 // One line of a log.
-ghost use Rattle.std.specs.Prelude.{◌≡◌, ◌≢◌, ◌+◌, ◌<◌, ◌^◌, ℕ, List, [], ◌∷◌, ◌++◌, length, MatchOption};
+ghost use Rattle.std.specs.Prelude.{◌≡◌, ◌≢◌, ◌+◌, ◌<◌, ◌^◌, ℕ, List, [], ◌∷◌, ◌++◌, length, MatchOption, OnOk, OnErr};
 ghost use Rattle.tp_words.specs.Parts.{parts_at};
 ghost use Rattle.tp_script.specs.Reading.{Gives};
 ghost use Rattle.tp_log.specs.Reading.{record_of};
-ghost use Rattle.tp_log.specs.Grammar.{ReadsLine};
+ghost use Rattle.tp_log.specs.Grammar.{echo_text, ReadsLine};
 
 use crate::item::Item;
 use crate::records::read_record;
 use std::alloc::Global;
+use tp_base::Memory;
 use tp_schedule::Record;
-use tp_script::{LineFault, read_printed};
+use tp_script::{Event, LineFault, print_event, read_printed};
 use tp_words::parts;
+
+/// Appends the echo of an event: a line of `> ` and the event as printed, with its LF. After `Memory`
+/// the buffer is as before.
+pub fn print_echo(event: &Event, out: &mut Vec<u8>) -> Result<(), Memory>
+    ensures printed { OnOk result (out.new.items ≡ out.old.items ++ echo_text event.now) }
+    ensures memory { OnErr result (out.new.items ≡ out.old.items) }
+{
+    let mut text = Vec::new(*out.allocator());
+    text.extend_from_slice(b"> ")?;
+    print_event(event, &mut text)?;
+    text.push(b'\n')?;
+    out.extend_from_slice(&text)?;
+    Ok(())
+}
 
 /// What stands before the LF at the end.
 fn without_newline(line: &[u8]) -> Option<&[u8]>

@@ -58,8 +58,5 @@ impl Reason {
 fn first_named(reasons: &[Reason], word: &[u8]) -> Option<Reason>
     ensures { result ≡ find (λ reason. bytes_eq (reason_text reason) word.now) reasons.now }
 {
-    reasons
-        .iter()
-        .copied()
-        .find(|reason| reason.text() == word)
+    reasons.iter().copied().find(|reason| reason.text() == word)
 }

@@ -127,9 +127,7 @@ fn read_after(alloc: Global, heading: Heading, words: &[&[u8]]) -> Result<Record
         Heading::Move => read_move(alloc, words),
         Heading::Never => some_record(read_never(words)),
         Heading::Budget => some_record(read_budget(words)),
-        Heading::FullUp => {
-            some_record(only_sheet(words).map(|sheet| Record::FullUp { sheet }))
-        }
+        Heading::FullUp => { some_record(only_sheet(words).map(|sheet| Record::FullUp { sheet })) }
         Heading::Release => some_record(read_release(words)),
         Heading::Done => some_record(read_done(words)),
         Heading::Lost => some_record(only_sheet(words).map(|sheet| Record::Lost { sheet })),

@@ -1,4 +1,4 @@
-use Rattle.tp_log.proofs.LogFacts.{one_item}
+use Rattle.tp_log.proofs.LogLines.{one_item}
 use Rattle.tp_log.proofs.laws.one_item.Goals as goal
 
 pub returns : goal.returns

@@ -1,5 +1,5 @@
 use Rattle.std.proofs.Common.{sym}
-use Rattle.tp_log.proofs.LogFacts.{lines_cut, lines_uncut}
+use Rattle.tp_log.proofs.TextLines.{lines_cut, lines_uncut}
 use Rattle.tp_log.proofs.reading.first_line.Goals as goal
 
 pub returns-in-Some-clause-lines : goal.returns-in-Some-clause-lines
