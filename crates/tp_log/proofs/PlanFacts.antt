@@ -18,7 +18,7 @@ use Rattle.tp_script.specs.Script.{IsName}
 use Rattle.tp_log.specs.declared.heading.Heading.TheVariants as headings
 use Rattle.tp_log.specs.Headings.{heading_text}
 use Rattle.tp_log.specs.Records.{sheet_text, turns_words, record_words}
-use Rattle.tp_log.specs.Grammar.{IsNumber, IsRecord}
+use Rattle.tp_log.specs.Grammar.{IsNumber, IsSheet, IsRecord}
 use Rattle.tp_log.specs.Reading.{sheet_of, turns_of, plan_with, plan_of, move_with, move_of}
 use Rattle.tp_log.proofs.WordFacts.{AllVisible, sheet_spells, name_visible, number_visible}
 use Rattle.tp_log.proofs.Forms.{Tells}
@@ -33,6 +33,14 @@ record TurnsTake (words : List (List ℕ)) (t : List ℕ × List (List ℕ)) : T
 same_two : (a b a' b' : List ℕ) (ws ws' : List (List ℕ)) → a ≡ a' → b ≡ b' → ws ≡ ws' → a ∷ b ∷ ws ≡ a' ∷ b' ∷ ws'
 same_two a b a' b' ws ws' h i j = cc
 
+one_more : (point act : List ℕ) (words : List (List ℕ)) (x : ℕ) (n : List ℕ) (o t : List ℕ × List (List ℕ)) → Some (x ∷ o.0, n ∷ o.1) ≡ Some t → (point ≡ decimal x) × IsNumber x → (act ≡ n) × IsName n → TurnsTake words o → TurnsTake (point ∷ act ∷ words) t
+one_more point act words x n o t is p a h = subst (λ t. TurnsTake (point ∷ act ∷ words) t) (same_Some (x ∷ o.0, n ∷ o.1) t is) (record {
+  text = same_two point act (decimal x) n words (turns_words o.0 o.1) p.0 a.0 h.text;
+  more = omega (arith, h.more);
+  numbers = (p.1, h.numbers);
+  names = (a.1, h.names);
+})
+
 turns_take : (words : List (List ℕ)) (t : List ℕ × List (List ℕ)) → turns_of words ≡ Some t → TurnsTake words t
 unfolding turns_of
 turns_take [] t e = absurd cc
@@ -44,15 +52,7 @@ turns_take (point ∷ act ∷ words) t e =
     let x = and_then_some (number_of point) (λ x. option_and_then (λ n. option_and_then (λ others. Some (x ∷ others.0, n ∷ others.1)) (turns_of words)) (name_of act)) t e in
     let n = and_then_some (name_of act) (λ n. option_and_then (λ others. Some (x.0 ∷ others.0, n ∷ others.1)) (turns_of words)) t x.2 in
     let o = and_then_some (turns_of words) (λ others. Some (x.0 ∷ others.0, n.0 ∷ others.1)) t n.2 in
-    let p = number_spells.takes point x.0 x.1 in
-    let a = name_spells.takes act n.0 n.1 in
-    let h = turns_take words o.0 o.1 in
-    subst (λ t. TurnsTake (point ∷ act ∷ words) t) (same_Some (x.0 ∷ o.0.0, n.0 ∷ o.0.1) t o.2) (record {
-      text = same_two point act (decimal x.0) n.0 words (turns_words o.0.0 o.0.1) p.0 a.0 h.text;
-      more = omega (arith, h.more);
-      numbers = (p.1, h.numbers);
-      names = (a.1, h.names);
-    })
+    one_more point act words x.0 n.0 o.0 t o.2 (number_spells.takes point x.0 x.1) (name_spells.takes act n.0 n.1) (turns_take words o.0 o.1)
 
 turns_again : (points : List ℕ) (acts : List (List ℕ)) → length points ≡ length acts + 1 → AllByRecursion IsNumber points → AllByRecursion IsName acts → turns_of (turns_words points acts) ≡ Some (points, acts)
 unfolding turns_of
@@ -68,6 +68,14 @@ turns_visible (x ∷ points) [] numbers names = (number_visible x numbers.0, tt)
 turns_visible (x ∷ points) (n ∷ acts) numbers names = (number_visible x numbers.0, (name_visible n names.0, turns_visible points acts numbers.1 names.1))
 
 -- ---- plans
+plan_made : (a b : List ℕ) (turns : List (List ℕ)) (s : SheetName) (l : List ℕ) (t : List ℕ × List (List ℕ)) (r : Record) → cond (ltb 0 (length t.1)) (Some (Plan s l t.0 t.1)) None ≡ Some r → (a ≡ sheet_text s) × IsSheet s → (b ≡ l) × IsName l → TurnsTake turns t → Tells record_words IsRecord (heading_text headings.Plan ∷ a ∷ b ∷ turns) r
+plan_made a b turns s l t r is sheet place h =
+    let k = cond_some (ltb 0 (length t.1)) (Plan s l t.0 t.1) r is in
+    subst (λ r. Tells record_words IsRecord (heading_text headings.Plan ∷ a ∷ b ∷ turns) r) k.1 (
+      ap (λ ws. heading_text headings.Plan ∷ ws) (same_two a b (sheet_text s) l turns (turns_words t.0 t.1) sheet.0 place.0 h.text),
+      ((sheet.1, place.1, h.numbers, h.names), (h.more, ltb-true 0 (length t.1) k.0)),
+    )
+
 pub plan_takes : (words : List (List ℕ)) (r : Record) → plan_of words ≡ Some r → Tells record_words IsRecord (heading_text headings.Plan ∷ words) r
 unfolding plan_of plan_with
 plan_takes [] r e = absurd cc
@@ -76,14 +84,7 @@ plan_takes (a ∷ b ∷ turns) r e =
     let s = and_then_some (sheet_of a) (λ s. option_and_then (λ l. option_and_then (λ t. cond (ltb 0 (length t.1)) (Some (Plan s l t.0 t.1)) None) (turns_of turns)) (name_of b)) r e in
     let l = and_then_some (name_of b) (λ l. option_and_then (λ t. cond (ltb 0 (length t.1)) (Some (Plan s.0 l t.0 t.1)) None) (turns_of turns)) r s.2 in
     let t = and_then_some (turns_of turns) (λ t. cond (ltb 0 (length t.1)) (Some (Plan s.0 l.0 t.0 t.1)) None) r l.2 in
-    let k = cond_some (ltb 0 (length t.0.1)) (Plan s.0 l.0 t.0.0 t.0.1) r t.2 in
-    let sheet = sheet_spells.takes a s.0 s.1 in
-    let place = name_spells.takes b l.0 l.1 in
-    let h = turns_take turns t.0 t.1 in
-    subst (λ r. Tells record_words IsRecord (heading_text headings.Plan ∷ a ∷ b ∷ turns) r) k.1 (
-      ap (λ ws. heading_text headings.Plan ∷ ws) (same_two a b (sheet_text s.0) l.0 turns (turns_words t.0.0 t.0.1) sheet.0 place.0 h.text),
-      ((sheet.1, place.1, h.numbers, h.names), (h.more, ltb-true 0 (length t.0.1) k.0)),
-    )
+    plan_made a b turns s.0 l.0 t.0 r t.2 (sheet_spells.takes a s.0 s.1) (name_spells.takes b l.0 l.1) (turns_take turns t.0 t.1)
 
 pub plan_again : (sheet : SheetName) (place : List ℕ) (points : List ℕ) (acts : List (List ℕ)) → IsRecord (Plan sheet place points acts) → plan_of (sheet_text sheet ∷ place ∷ turns_words points acts) ≡ Some (Plan sheet place points acts)
 unfolding plan_of plan_with
@@ -91,6 +92,15 @@ plan_again sheet place points acts ((s, l, numbers, names), (more, some)) =
     rw (sheet_spells.again sheet s, name_spells.again place l, turns_again points acts more numbers names, lt-ltb 0 (length acts) some) refl
 
 -- ---- moves
+move_made : (a : List ℕ) (words : List (List ℕ)) (s : SheetName) (points : List ℕ) (r : Record) → 1 < length words → Some (Move s points) ≡ Some r → (a ≡ sheet_text s) × IsSheet s → (words ≡ map decimal points) × AllByRecursion IsNumber points → Tells record_words IsRecord (heading_text headings.Move ∷ a ∷ words) r
+move_made a words s points r two is sheet l =
+    let many : length words ≡ length points = ap length l.0 ∙ length-map points decimal in
+    subst (λ r. Tells record_words IsRecord (heading_text headings.Move ∷ a ∷ words) r) (same_Some (Move s points) r is)
+    (same_after (heading_text headings.Move) a (sheet_text s) words (map decimal points) sheet.0 l.0, ((sheet.1, l.1), omega (arith, many, two)))
+  where
+    same_after : (h a a' : List ℕ) (ws ws' : List (List ℕ)) → a ≡ a' → ws ≡ ws' → h ∷ a ∷ ws ≡ h ∷ a' ∷ ws'
+    same_after h a a' ws ws' i j = cc
+
 pub move_takes : (words : List (List ℕ)) (r : Record) → move_of words ≡ Some r → Tells record_words IsRecord (heading_text headings.Move ∷ words) r
 unfolding move_of move_with
 move_takes [] r e = absurd cc
@@ -98,19 +108,11 @@ move_takes (a ∷ points) r e =
     let g = cond_some_of (ltb 1 (length points)) (option_and_then (λ s. option_and_then (λ ps. Some (Move s ps)) (each_read number_of points)) (sheet_of a)) r e in
     let s = and_then_some (sheet_of a) (λ s. option_and_then (λ ps. Some (Move s ps)) (each_read number_of points)) r g.1 in
     let p = and_then_some (each_read number_of points) (λ ps. Some (Move s.0 ps)) r s.2 in
-    let sheet = sheet_spells.takes a s.0 s.1 in
-    let l = list_takes number_spells points p.0 p.1 in
-    let many : length points ≡ length p.0 = ap length l.0 ∙ length-map p.0 decimal in
-    let two : 1 < length points = ltb-true 1 (length points) g.0 in
-    subst (λ r. Tells record_words IsRecord (heading_text headings.Move ∷ a ∷ points) r) (same_Some (Move s.0 p.0) r p.2)
-    (same_after (heading_text headings.Move) a (sheet_text s.0) points (map decimal p.0) sheet.0 l.0, ((sheet.1, l.1), omega (arith, many, two)))
+    move_made a points s.0 p.0 r (ltb-true 1 (length points) g.0) p.2 (sheet_spells.takes a s.0 s.1) (list_takes number_spells points p.0 p.1)
   where
     cond_some_of : (b : Bool) (o : Option Record) (y : Record) → cond b o None ≡ Some y → (b ≡ true) × (o ≡ Some y)
     cond_some_of true o y e = (refl, e)
     cond_some_of false o y e = absurd cc
-
-    same_after : (h a a' : List ℕ) (ws ws' : List (List ℕ)) → a ≡ a' → ws ≡ ws' → h ∷ a ∷ ws ≡ h ∷ a' ∷ ws'
-    same_after h a a' ws ws' i j = cc
 
 pub move_again : (sheet : SheetName) (points : List ℕ) → IsRecord (Move sheet points) → move_of (sheet_text sheet ∷ map decimal points) ≡ Some (Move sheet points)
 unfolding move_of move_with
