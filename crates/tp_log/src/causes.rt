@@ -1,34 +1,14 @@
-// Why an event is refused.
-ghost use Rattle.std.specs.Prelude.{◌≡◌};
+// Why an event is refused, read and written.
+ghost use Rattle.std.specs.Prelude.{◌≡◌, ◌++◌, ◌∷◌, OnOk};
+ghost use Rattle.std.specs.List.{flat_map};
 ghost use Rattle.tp_words.specs.Parts.{shown};
-ghost use Rattle.tp_words.specs.Fields.{name_of};
-ghost use Rattle.tp_words.specs.Numbers.{number_of};
-ghost use Rattle.tp_log.specs.Reading.{one_of, bare_of, cause_after, cause_of};
+ghost use Rattle.tp_log.specs.Records.{cause_words};
+ghost use Rattle.tp_log.specs.Reading.{bare_of, cause_after, cause_of};
 
+use crate::fields::{only_name, only_number, put_number_word, put_word};
 use crate::reason::Reason;
-use tp_base::Name;
+use tp_base::{Memory, Name};
 use tp_schedule::Cause;
-use tp_words::{read_name, read_number};
-
-#[tactic(auto, unfolding(crate::specs::Reading::one_of))]
-pub fn only_name(words: &[&[u8]]) -> Option<Name>
-    ensures { result ≡ one_of name_of (shown words.now) }
-{
-    let [name] = words else {
-        return None;
-    };
-    read_name(name)
-}
-
-#[tactic(auto, unfolding(crate::specs::Reading::one_of))]
-fn only_number(words: &[&[u8]]) -> Option<u32>
-    ensures { result ≡ one_of number_of (shown words.now) }
-{
-    let [number] = words else {
-        return None;
-    };
-    read_number(number)
-}
 
 /// The cause, if no word follows.
 #[tactic(auto, unfolding(crate::specs::Reading::bare_of))]
@@ -67,4 +47,31 @@ pub fn read_cause(words: &[&[u8]]) -> Option<Cause>
         None => None,
         Some(reason) => read_after(reason, others),
     }
+}
+
+pub fn put_cause(out: &mut Vec<u8>, cause: &Cause) -> Result<(), Memory>
+    ensures { OnOk result (out.new.items ≡ out.old.items ++ flat_map (λ word. 32 ∷ word) (cause_words cause.now)) }
+{
+    match cause {
+        Cause::Syntax => put_word(out, b"syntax"),
+        Cause::Tray(name) => put_cause_of(out, b"tray", name),
+        Cause::Media(name) => put_cause_of(out, b"media", name),
+        Cause::Named(name) => put_cause_of(out, b"named", name),
+        Cause::Waiting => put_word(out, b"waiting"),
+        Cause::Back(now) => {
+            put_word(out, b"back")?;
+            put_number_word(out, *now)
+        }
+        Cause::End => put_word(out, b"end"),
+        Cause::Module(name) => put_cause_of(out, b"module", name),
+        Cause::Out(name) => put_cause_of(out, b"out", name),
+        Cause::NotOn(name) => put_cause_of(out, b"noton", name),
+    }
+}
+
+fn put_cause_of(out: &mut Vec<u8>, cause: &[u8], name: &Name) -> Result<(), Memory>
+    ensures { OnOk result (out.new.items ≡ (out.old.items ++ 32 ∷ cause.now) ++ 32 ∷ name.now) }
+{
+    put_word(out, cause)?;
+    put_word(out, name.as_bytes())
 }

@@ -1,14 +1,16 @@
-// Plans and moves.
-ghost use Rattle.std.specs.Prelude.{◌≡◌, ◌+◌, ◌<◌, ◌^◌, length};
+// Plans and moves, read and written.
+ghost use Rattle.std.specs.Prelude.{◌≡◌, ◌+◌, ◌<◌, ◌^◌, ◌++◌, ◌∷◌, length, map, OnOk, decimal};
+ghost use Rattle.std.specs.List.{flat_map};
 ghost use Rattle.tp_words.specs.Parts.{shown};
 ghost use Rattle.tp_words.specs.Each.{each_read};
 ghost use Rattle.tp_words.specs.Numbers.{number_of};
 ghost use Rattle.tp_script.specs.Reading.{Gives};
+ghost use Rattle.tp_log.specs.Records.{turns_words};
 ghost use Rattle.tp_log.specs.Reading.{turns_of, plan_with, plan_of, move_with, move_of};
 
-use crate::fields::read_sheet;
+use crate::fields::{put_number_word, put_word, read_sheet};
 use std::alloc::Global;
-use tp_base::{Items, Name, Tick};
+use tp_base::{Items, Memory, Name, Tick};
 use tp_schedule::Record;
 use tp_script::LineFault;
 use tp_words::{read_name, read_number};
@@ -115,4 +117,26 @@ pub fn read_move(alloc: Global, words: &[&[u8]]) -> Result<Record, LineFault>
         [sheet, points @ ..] if points.len() > 1 => read_move_parts(alloc, sheet, points),
         _ => Err(LineFault::Syntax),
     }
+}
+
+/// Writes points and actions in turn.
+pub fn put_turns(out: &mut Vec<u8>, points: &[Tick], acts: &[Name]) -> Result<(), Memory>
+    requires { length points.now ≡ length acts.now + 1 }
+    ensures { OnOk result (out.new.items ≡ out.old.items ++ flat_map (λ word. 32 ∷ word) (turns_words points.now acts.now)) }
+{
+    put_number_word(out, points[0])?;
+    for i in 0..acts.len() {
+        put_word(out, acts[i].as_bytes())?;
+        put_number_word(out, points[i + 1])?;
+    }
+    Ok(())
+}
+
+pub fn put_points(out: &mut Vec<u8>, points: &[Tick]) -> Result<(), Memory>
+    ensures { OnOk result (out.new.items ≡ out.old.items ++ flat_map (λ word. 32 ∷ word) (map decimal points.now)) }
+{
+    for point in points {
+        put_number_word(out, *point)?;
+    }
+    Ok(())
 }

@@ -1,5 +1,5 @@
 // A whole log.
-ghost use Rattle.std.specs.Prelude.{◌≡◌, ◌+◌, ◌<◌, ◌≤◌, ◌^◌, ℕ, List, ◌∷◌, ◌++◌, All, length, IfOk, IfErr, MatchResult};
+ghost use Rattle.std.specs.Prelude.{◌≡◌, ◌+◌, ◌<◌, ◌^◌, List, ◌∷◌, ◌++◌, All, length, IfOk, IfErr, MatchResult};
 ghost use Rattle.tp_script.specs.Lines.{lines_of};
 ghost use Rattle.tp_log.specs.declared.fault.LogFault.TheVariants.{Memory};
 ghost use Rattle.tp_log.specs.declared.item.Item.{Item};

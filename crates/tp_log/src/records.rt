@@ -1,29 +1,19 @@
-// The record that the words of a line tell.
+// Records read: what the words of a line tell.
 ghost use Rattle.std.specs.Prelude.{◌≡◌, ◌+◌, ◌<◌, ◌^◌, length};
 ghost use Rattle.tp_words.specs.Parts.{shown};
 ghost use Rattle.tp_words.specs.Fields.{name_of, two_of, five_of};
 ghost use Rattle.tp_words.specs.Numbers.{number_of};
 ghost use Rattle.tp_script.specs.Reading.{Gives};
-ghost use Rattle.tp_log.specs.Reading.{sheet_of, goal_of, one_of, three_of, record_after, record_of};
+ghost use Rattle.tp_log.specs.Reading.{sheet_of, goal_of, three_of, record_after, record_of};
 
-use crate::causes::{only_name, read_cause};
-use crate::fields::{read_goal, read_sheet};
+use crate::causes::read_cause;
+use crate::fields::{only_name, only_sheet, read_goal, read_sheet};
 use crate::heading::Heading;
 use crate::plans::{read_move, read_plan};
 use std::alloc::Global;
-use tp_schedule::{Record, SheetName};
+use tp_schedule::Record;
 use tp_script::LineFault;
 use tp_words::{read_name, read_number};
-
-#[tactic(auto, unfolding(crate::specs::Reading::one_of))]
-fn only_sheet(words: &[&[u8]]) -> Option<SheetName>
-    ensures { result ≡ one_of sheet_of (shown words.now) }
-{
-    let [sheet] = words else {
-        return None;
-    };
-    read_sheet(sheet)
-}
 
 #[tactic(auto, unfolding(tp_words::specs::Fields::two_of))]
 fn read_never(words: &[&[u8]]) -> Option<Record>
