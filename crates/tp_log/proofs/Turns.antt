@@ -1,13 +1,17 @@
 -- Points and actions in turn, read two words at a time.
 use denote.Ref.{Bor}
 use Rattle.std.proofs.Common.{◌≡◌, ℕ, zero, suc, ◌+◌, ◌<◌, ◌≤◌, List, [], ◌∷◌, ◌++◌, length, get_or, take, drop, Option, Some, None, refl, sym, ap, ◌∙◌, append_assoc, add-one, arith, decimal}
-use Rattle.std.specs.Prelude.{option_and_then}
+use Rattle.std.specs.Prelude.{option_and_then, option_map}
 use Rattle.std.proofs.lemmas.List.{append-nil}
 use Rattle.tp_words.specs.Numbers.{number_of}
 use Rattle.tp_words.specs.Parts.{shown}
 use Rattle.tp_words.specs.Fields.{name_of}
 use Rattle.tp_log.specs.Records.{turns_words}
-use Rattle.tp_log.specs.Reading.{turns_of, behind}
+use Rattle.tp_log.specs.Reading.{turns_of}
+
+-- the turns behind what was read so far
+abbrev pub behind : List ℕ → List (List ℕ) → Option (List ℕ × List (List ℕ)) → Option (List ℕ × List (List ℕ))
+behind points acts turns = option_map (λ t. (points ++ t.0, acts ++ t.1)) turns
 
 onward : (points : List ℕ) (acts : List (List ℕ)) (x : ℕ) (n : List ℕ) (others : Option (List ℕ × List (List ℕ))) → behind points acts (option_and_then (λ t. Some (x ∷ t.0, n ∷ t.1)) others) ≡ behind (points ++ x ∷ []) (acts ++ n ∷ []) others
 onward points acts x n None = refl

@@ -1,5 +1,5 @@
 -- Reading the words of a record; `None` off the grammar.
-use Rattle.std.specs.Prelude.{ℕ, List, [], ◌∷◌, ◌++◌, length, nat_lt, Option, Some, None, option_map, codes, if◌then◌else◌}
+use Rattle.std.specs.Prelude.{ℕ, List, [], ◌∷◌, length, nat_lt, Option, Some, None, option_map, codes, if◌then◌else◌}
 use Rattle.std.specs.Str.{bytes_eq}
 use Rattle.tp_words.specs.Numbers.{number_of}
 use Rattle.tp_words.specs.Each.{each_read}
@@ -54,10 +54,6 @@ turns_of (point ∷ act ∷ words) = do
   n ← name_of act
   others ← turns_of words
   Some (x ∷ others.0, n ∷ others.1)
-
--- the turns behind what was read so far
-abbrev pub behind : List ℕ → List (List ℕ) → Option (List ℕ × List (List ℕ)) → Option (List ℕ × List (List ℕ))
-behind points acts turns = option_map (λ t. (points ++ t.0, acts ++ t.1)) turns
 
 unfoldable pub plan_with : List ℕ → List ℕ → List (List ℕ) → Option Record
 plan_with sheet place turns = do

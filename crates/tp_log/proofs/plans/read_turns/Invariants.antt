@@ -1,6 +1,7 @@
 use Rattle.std.proofs.Common.{◌≡◌, ◌+◌, ◌≤◌, length}
 use Rattle.tp_words.specs.Parts.{shown}
-use Rattle.tp_log.specs.Reading.{turns_of, behind}
+use Rattle.tp_log.specs.Reading.{turns_of}
+use Rattle.tp_log.proofs.Turns.{behind}
 use Rattle.tp_log.proofs.plans.read_turns.Given as goal
 
 abbrev pub decreases-loop-rest : goal.decreases-loop-rest
