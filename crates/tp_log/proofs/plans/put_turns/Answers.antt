@@ -4,7 +4,7 @@ use Rattle.std.proofs.lemmas.List.{append-nil}
 use Rattle.std.proofs.lemmas.List.Concat.{flat_map-append}
 use Rattle.tp_log.specs.Records.{turns_words}
 use Rattle.tp_log.proofs.Turns.{one_turn_more}
-use Rattle.tp_log.proofs.printing.put_turns.Goals as goal
+use Rattle.tp_log.proofs.plans.put_turns.Goals as goal
 
 -- what was written before, a name, and a number
 joined : (start front name number : List ℕ) → ((start ++ front) ++ 32 ∷ name) ++ 32 ∷ number ≡ start ++ (front ++ ((32 ∷ name) ++ ((32 ∷ number) ++ [])))
