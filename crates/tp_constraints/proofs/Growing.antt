@@ -53,7 +53,7 @@ table-step plans count table is = record {
   ];
 }
 
-gap-same : (table more : List Spot) (e : Edge) → IsEdgeOf table e → gap_by (table ++ more) e ≡ gap_by table e
+pub gap-same : (table more : List Spot) (e : Edge) → IsEdgeOf table e → gap_by (table ++ more) e ≡ gap_by table e
 gap-same table more e in' =
     let a = get-there table e.from.0 in'.0 in
     let b = get-there table e.to.0 in'.1 in
@@ -61,7 +61,7 @@ gap-same table more e in' =
     let b' = slice_get-left table more e.to.0 b.0 b.1 in
     rw (a.1, b.1, a', b') refl
 
-gaps-same : (table more : List Spot) (es : List Edge) → All (IsEdgeOf table) es → map (gap_by (table ++ more)) es ≡ map (gap_by table) es
+pub gaps-same : (table more : List Spot) (es : List Edge) → All (IsEdgeOf table) es → map (gap_by (table ++ more)) es ≡ map (gap_by table) es
 gaps-same table more [] all = refl
 gaps-same table more (e ∷ es) all =
     let a = gap-same table more e (All-head (IsEdgeOf table) e es all) in

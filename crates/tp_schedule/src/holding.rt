@@ -97,7 +97,7 @@ fn is_any_after(points: &[Tick], now: Tick) -> bool
 }
 
 /// Whether a point or a hold's end of the plan is above the moment.
-pub(crate) fn is_plan_live(machine: &Machine, now: Tick, plan: &Plan) -> bool
+pub fn is_plan_live(machine: &Machine, now: Tick, plan: &Plan) -> bool
     ensures { result ≡ is_live machine.now now plan.now }
 {
     let points = plan.points.as_slice();

@@ -12,6 +12,7 @@ mod recording;
 mod series;
 mod starting;
 
+pub use holding::is_plan_live;
 pub use keeping::Schedule;
 pub use laws::{action_law, legal_law, order_law, room_law, unique_law};
 pub use parts::{Ask, Goal, Halt, Hold, Kind, Origin, Plan, Reply, SheetId};

@@ -1,0 +1,62 @@
+-- A board whose parts are loaded stands on the ask.
+use Rattle.std.proofs.Common.{◌≡◌, ℕ, ◌+◌, ◌≤◌, List, [], length, filter, refl, ap, sym, ◌∙◌, subst, arith, Some, Contains}
+use Rattle.tp_base.specs.Net.{Net}
+use Rattle.tp_machine.specs.declared.whole.Machine.{Machine}
+use Rattle.tp_machine.proofs.MachineFacts.{is_machine}
+use Rattle.tp_schedule.specs.Answers.{IsAsked, kept_of}
+use Rattle.tp_schedule.specs.Choices.{start_floor}
+use Rattle.tp_schedule.specs.Living.{is_live}
+use Rattle.tp_schedule.specs.Planning.{CanAsk}
+use Rattle.tp_schedule.specs.declared.parts.Ask.{Ask}
+use Rattle.tp_schedule.specs.declared.parts.Plan.{Plan}
+use Rattle.tp_placing.specs.Boards.{BoardValue, past_of}
+use Rattle.tp_placing.specs.Loaded.{CanLoad, IsLoaded}
+use Rattle.tp_placing.specs.Loading.{point_count}
+use Rattle.tp_placing.specs.Standing.{IsAt, IsMadeFor, StandsOn}
+use Rattle.tp_placing.specs.declared.parts.Held.{Held}
+use Rattle.tp_base.specs.declared.edges.PointId.{PointId}
+use Rattle.tp_placing.proofs.LivePlans.{live-few, live-asked, live-loads}
+use Rattle.tp_placing.proofs.LoadTable.{length-table-of}
+
+at-first : (machine : Machine) (plans : List Plan) (ask : Ask) (n : Net) (lines : List (List ℕ)) (held : List Held) (firsts : List PointId) → kept_of ask ≤ 64 → IsLoaded machine ask.now plans n lines held firsts → IsAt machine plans ask [] n lines held
+at-first machine plans ask n lines held firsts few l = record {
+  net = l.net;
+  solved = l.solved;
+  hops = l.hops;
+  orders = l.orders;
+  at_hand = λ s at. absurd cc;
+  few_steps = (refl, few);
+  few_edges = let e = l.few_edges in omega arith;
+  few_holds = let h = l.few_holds in omega arith;
+  all_held = l.all_held;
+  small = l.small;
+}
+
+pub stands-loaded : {N C : Type 0} (net : N → Net) (content : N → C) (past : N → List C) (b : BoardValue N) (machine : Machine) (plans : List Plan) (ask : Ask) → CanAsk machine plans ask
+    → IsMadeFor b.made_for machine → b.ask ≡ Some ask → b.floor ≡ start_floor machine ask.now ask.origin → b.horizon ≡ ask.now + machine.window
+    → b.plans ≡ filter (is_live machine ask.now) plans → b.steps ≡ [] → b.last.0 ≡ point_count b.plans → past_of past b ≡ []
+    → IsLoaded machine ask.now b.plans (net b.net) b.orders.orders b.held b.firsts
+    → StandsOn net content past b machine ask
+stands-loaded net content past b machine plans ask can made asked floor horizon live closed last none loaded =
+    let few = live-few machine plans ask can ask.origin can.asked in
+    let kept = few.2 in
+    let length-live = few.0 in
+    let points-live = few.1 in
+    let l = ap length live in
+    let p = ap point_count live in
+    let can-load = subst (CanLoad machine ask.now) (sym live) (live-loads machine plans ask can) in
+    record {
+      made = made;
+      asked = asked;
+      floor = floor;
+      horizon = horizon;
+      small_horizon = let w = (is_machine machine).window in let now = can.plan_on.now_at_most in omega (arith, w.1);
+      loadable = can-load.loadable;
+      origin = subst (λ ps. IsAsked machine ps ask) (sym live) (live-asked machine plans ask can ask.origin can.asked can.has_time);
+      last = last ∙ sym (length-table-of b.plans);
+      firsts = loaded.at_firsts;
+      few_points = omega arith;
+      few_plans = can-load.few;
+      now = subst (λ s. IsAt machine b.plans ask s (net b.net) b.orders.orders b.held) (sym closed) (at-first machine b.plans ask (net b.net) b.orders.orders b.held b.firsts kept loaded);
+      before = λ x inside n same. (let gone = subst (λ cs. Contains cs x) none inside in absurd (omega (arith, gone.1)));
+    }

@@ -1,0 +1,158 @@
+-- What is made of the live plans of a schedule is its network and its orders.
+use Rattle.std.proofs.Common.{◌≡◌, ℕ, ◌+◌, ◌*◌, ◌<◌, ◌≤◌, false, List, [], ◌∷◌, ◌++◌, length, map, replicate, ap, sym, ◌∙◌, subst, arith, Some, All, Contains}
+use Rattle.std.specs.Prelude.{slice_get, slice_index}
+use Rattle.std.proofs.lemmas.List.{length-append, length-map, length-replicate, get_or-replicate, take_all}
+use Rattle.std.proofs.lemmas.List.Elements.{All-nil, All-cons, All-head, All-tail, All-contains, All-weaker, All-contains_itself}
+use Rattle.tp_base.specs.Net.{Net, IsSolution, HasLeast, Keeps, empty_net}
+use Rattle.tp_base.specs.declared.edges.PointId.{PointId}
+use Rattle.tp_machine.specs.declared.whole.Machine.{Machine}
+use Rattle.tp_schedule.specs.Spots.{Spot, slot_order, by_begin, ticks_of}
+use Rattle.tp_schedule.specs.declared.parts.Plan.{Plan}
+use Rattle.tp_constraints.specs.Gaps.{KeepsGap, KeepsGaps, IsPoint, low_at, cap_at, line_gaps, duration_gaps, all_chains}
+use Rattle.tp_constraints.specs.Laws.{plans_gaps, no_own}
+use Rattle.tp_constraints.specs.Numbers.{table_of, gap_by, spot_at, spot_in, IsTable, IsEdgeOf, with_edges}
+use Rattle.tp_constraints.proofs.BoardNets.{load_net}
+use Rattle.tp_constraints.proofs.Lists.{index-map, get-there, contains-get}
+use Rattle.tp_constraints.proofs.PointTable.{table_law}
+use Rattle.tp_constraints.proofs.ScheduleGaps.{gaps_law}
+use Rattle.tp_timelines.specs.Orders.{Orders, order_on, total}
+use Rattle.tp_placing.specs.declared.parts.Held.{Held}
+use Rattle.tp_placing.specs.Inside.{most_edges}
+use Rattle.tp_placing.specs.Loaded.{CanLoad, IsLoaded, all_edges}
+use Rattle.tp_placing.specs.Loading.{AreAddable, AreIds, chains_edges, firsts_from, holds_in, holds_on, lines_edges, plans_edges, with_plans}
+use Rattle.tp_placing.specs.LoadedHolds.{ArePut, IsHeldWithin, held_plans, put_all, ticks_in}
+use Rattle.tp_placing.specs.Standing.{AreFirsts, AreSlots, HasSmallOffsets}
+use Rattle.tp_placing.specs.Trying.{CanRequire}
+use Rattle.tp_placing.proofs.LoadGaps.{AreGaps, gaps-append, durations-gaps, lines-gaps, durations-count, lines-count}
+use Rattle.tp_placing.proofs.LoadSlots.{slot_by, sorted-slots, plans-slots, ids-slots}
+use Rattle.tp_placing.proofs.LoadOrders.{chains-count, chains-gaps, holds-All}
+use Rattle.tp_placing.proofs.LoadTable.{numbered, ticks-by-number, length-table-of}
+use Rattle.tp_placing.proofs.LoadedTicks.{timed, times, few-acts, ticks-count, lows-map, caps-map}
+use Rattle.tp_placing.proofs.LoadPoints.{firsts-right}
+
+from-map : {X Y : Type 0} (P : Y → Type 0) (f : X → Y) (xs : List X) → All P (map f xs) → All (λ x. P (f x)) xs
+from-map P f [] all = All-nil (λ x. P (f x))
+from-map P f (x ∷ xs) all = All-cons (λ y. P (f y)) x xs (All-head P (f x) (map f xs) all) (from-map P f xs (All-tail P (f x) (map f xs) all))
+
+module _ (machine : Machine) (now : ℕ) (plans : List Plan) (can : CanLoad machine now plans) (room : ℕ) (enough : most_edges ≤ room) (net : Net) (is : net ≡ with_plans (now + machine.lead) (now + machine.window) plans empty_net) (least : HasLeast net)
+    (empty lines : Orders) (held : List Held) (cleared : empty.orders ≡ replicate (length machine.resources) []) (put : ArePut (ticks_in plans) (λ r. held_plans machine r 0 plans) (256 * length plans) empty lines [] held) where
+  resources : length empty.orders ≡ length machine.resources
+  resources = ap length cleared ∙ length-replicate (length machine.resources) []
+
+  none-yet : (r : ℕ) → r < length machine.resources → holds_on [] empty.orders r ≡ []
+  none-yet r below = ap (λ os. holds_in [] (order_on os r)) cleared ∙ ap (holds_in []) (get_or-replicate (length machine.resources) r [] [] below)
+
+  sorted : (r : ℕ) → r < length machine.resources → map (slot_by (table_of plans)) (holds_on held lines.orders r) ≡ slot_order machine plans r
+  sorted r below =
+      let e = resources in
+      let by-number = ticks-by-number plans can.loadable.legal.in_order (λ p inside. ((timed machine now plans can) p inside).one_more) in
+      ap (map (slot_by (table_of plans))) (put.orders r (omega arith) ∙ ap (put_all (ticks_in plans) (held_plans machine r 0 plans)) (none-yet r below))
+      ∙ sorted-slots (table_of plans) (ticks_of plans) (ticks_in plans) by-number (held_plans machine r 0 plans)
+      ∙ ap (by_begin (ticks_of plans)) (plans-slots machine (table_of plans) r 0 plans (numbered plans))
+
+  within : All (IsHeldWithin (length (table_of plans))) held
+  within = subst (λ n. All (IsHeldWithin n) held) ((ticks-count machine now plans can) ∙ sym (length-table-of plans)) put.holds.within
+
+  ids : (r : ℕ) → r < length machine.resources → AreIds held (order_on lines.orders r)
+  ids r below = let e = resources in let f = put.resources in put.holds.ids r (omega arith)
+
+  gaps : AreGaps (table_of plans) (all_edges machine plans lines.orders held) (plans_gaps machine plans)
+  gaps =
+      let chains = all_chains (slot_order machine plans) (length machine.resources) in
+      gaps-append (table_of plans) (plans_edges machine 0 plans) (lines_edges 0 plans ++ chains_edges (holds_on held lines.orders) (length machine.resources)) (duration_gaps machine plans) (line_gaps plans ++ chains)
+      (durations-gaps machine (table_of plans) 0 plans (numbered plans))
+      (gaps-append (table_of plans) (lines_edges 0 plans) (chains_edges (holds_on held lines.orders) (length machine.resources)) (line_gaps plans) chains
+      (lines-gaps (table_of plans) 0 plans (numbered plans))
+      (chains-gaps (table_of plans) (holds_on held lines.orders) (slot_order machine plans) (length machine.resources) (λ r below. (
+        sorted r below,
+        holds-All (IsHeldWithin (length (table_of plans))) held (order_on lines.orders r) (ids r below) within,
+        holds-All (λ h. HasSmallOffsets h.rule) held (order_on lines.orders r) (ids r below) put.holds.small,
+      ))))
+
+  count : length (all_edges machine plans lines.orders held) ≤ 98600
+  count =
+      let d = durations-count machine 0 plans (few-acts machine now plans can) in
+      let l = lines-count 0 plans in
+      let e = resources in
+      let f = put.resources in
+      let c = chains-count held lines.orders (length machine.resources) (omega arith) ids in
+      let t = ap total (take_all (length machine.resources) lines.orders (omega arith)) in
+      let h = put.holds.all_held in
+      let n = put.count in
+      let few = can.few in
+      let a = length-append (plans_edges machine 0 plans) (lines_edges 0 plans ++ chains_edges (holds_on held lines.orders) (length machine.resources)) in
+      let b = length-append (lines_edges 0 plans) (chains_edges (holds_on held lines.orders) (length machine.resources)) in
+      omega arith
+
+  lows : net.lows ≡ map (low_at (now + machine.lead) (λ _. false) plans no_own) (table_of plans)
+  lows = ap (λ (m : Net). m.lows) is ∙ sym (lows-map machine now plans can)
+
+  caps : net.caps ≡ map (cap_at (now + machine.window) plans) (table_of plans)
+  caps = ap (λ (m : Net). m.caps) is ∙ sym (caps-map machine now plans can)
+
+  none-added : net.edges ≡ []
+  none-added = ap (λ (m : Net). m.edges) is
+
+  points : length net.lows ≡ length (table_of plans)
+  points = ap length lows ∙ length-map (table_of plans) (low_at (now + machine.lead) (λ _. false) plans no_own)
+
+  spots : IsTable (IsPoint plans 0) (table_of plans)
+  spots = table_law plans can.loadable.legal.in_order
+
+  present : ℕ → ℕ
+  present i = ticks_of plans (spot_at (table_of plans) i)
+
+  solution : IsSolution (with_edges net (all_edges machine plans lines.orders held)) (λ i. ticks_of plans (spot_at (table_of plans) i))
+  solution =
+      let constraints = (gaps_law machine now (λ _. false) plans (ticks_of plans) can.loadable).0 (times machine now plans can) in
+      let kept = subst (KeepsGaps (ticks_of plans)) (sym gaps.gaps) constraints.1 in
+      let keeps = from-map (KeepsGap (ticks_of plans)) (gap_by (table_of plans)) (all_edges machine plans lines.orders held) kept in
+      record {
+        above_low = λ i below. (
+            let p = points in
+            let s = get-there (table_of plans) i (omega arith) in
+            let bounds = constraints.0 s.0 (All-contains (IsPoint plans 0) (table_of plans) s.0 spots.only (contains-spot i s.0 s.1)) in
+            let low = ap (λ ls. slice_index ls i) lows ∙ index-map (low_at (now + machine.lead) (λ _. false) plans no_own) (table_of plans) i s.0 s.1 in
+            let tick = ap (λ o. ticks_of plans (spot_in o)) s.1 in
+            let b = bounds.0 in
+            omega arith);
+        below_cap = λ i below. (
+            let p = points in
+            let s = get-there (table_of plans) i (omega arith) in
+            let bounds = constraints.0 s.0 (All-contains (IsPoint plans 0) (table_of plans) s.0 spots.only (contains-spot i s.0 s.1)) in
+            let cap = ap (λ ls. slice_index ls i) caps ∙ index-map (cap_at (now + machine.window) plans) (table_of plans) i s.0 s.1 in
+            let tick = ap (λ o. ticks_of plans (spot_in o)) s.1 in
+            let b = bounds.1 in
+            omega arith);
+        keeps = subst (λ es. All (Keeps (λ i. ticks_of plans (spot_at (table_of plans) i))) (es ++ all_edges machine plans lines.orders held)) (sym none-added) keeps;
+      } where
+        contains-spot : (i : ℕ) (s : Spot) → slice_get (table_of plans) i ≡ Some s → Contains (table_of plans) s
+        contains-spot i s at = contains-get (table_of plans) i s at
+
+  pub addable : AreAddable room net (all_edges machine plans lines.orders held)
+  addable = record {
+    can = subst (λ n. All (CanRequire n) (all_edges machine plans lines.orders held)) (sym points) gaps.can;
+    spare = let c = count in let e = ap length none-added in omega arith;
+    solution = (λ i. ticks_of plans (spot_at (table_of plans) i), solution);
+    least = least;
+  }
+
+  pub loaded : (n : Net) (firsts : List PointId) → n ≡ with_edges net (all_edges machine plans lines.orders held) → HasLeast n → firsts ≡ firsts_from 0 plans → IsLoaded machine now plans n lines.orders held firsts
+  loaded n firsts same solved at =
+      let edges : n.edges ≡ all_edges machine plans lines.orders held = ap (λ (m : Net). m.edges) same ∙ ap (λ es. es ++ all_edges machine plans lines.orders held) none-added in
+      let mapped : map (gap_by (table_of plans)) n.edges ≡ plans_gaps machine plans = ap (map (gap_by (table_of plans))) edges ∙ gaps.gaps in
+      let hops = subst (λ gs. All (Contains (plans_gaps machine plans)) gs) (sym mapped) (All-contains_itself (plans_gaps machine plans)) in
+      record {
+        net = load_net machine now (λ _. false) plans (table_of plans) n can.loadable spots (ap (λ (m : Net). m.lows) same ∙ lows) (ap (λ (m : Net). m.caps) same ∙ caps)
+            (subst (λ es. All (IsEdgeOf (table_of plans)) es) (sym edges) (All-weaker (CanRequire (length (table_of plans))) (IsEdgeOf (table_of plans)) (λ e c. (c.from, c.to)) (all_edges machine plans lines.orders held) gaps.can))
+            (subst (λ gs. All (Contains gs) (plans_gaps machine plans)) (sym mapped) (All-contains_itself (plans_gaps machine plans)))
+            hops;
+        solved = solved;
+        hops = hops;
+        orders = λ r below. subst (AreSlots (table_of plans) held (order_on lines.orders r)) (sorted r below) (ids-slots (table_of plans) held (order_on lines.orders r) (ids r below) within);
+        few_edges = let c = count in let e = ap length edges in omega arith;
+        few_holds = let c = put.count in let few = can.few in omega arith;
+        all_held = put.holds.all_held;
+        small = put.holds.small;
+        at_firsts = subst (AreFirsts 0 plans) (sym at) (firsts-right 0 plans);
+      }

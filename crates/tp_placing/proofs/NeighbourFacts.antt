@@ -1,0 +1,93 @@
+-- The edges to the neighbours of a place may be asked of the network.
+use Rattle.std.proofs.Common.{ℕ, zero, suc, ◌<◌, ◌≤◌, List, [], ◌∷◌, ◌++◌, length, sym, subst, arith, Option, Some, None, pos, negsuc, All, ℤ, ◌-ℤ◌, ◌≤ℤ◌}
+use Rattle.std.specs.List.{slice_get}
+use Rattle.std.proofs.lemmas.Int.{ints}
+use Rattle.std.proofs.lemmas.Option.{slice_get_within}
+use Rattle.std.proofs.lemmas.List.{length-append}
+use Rattle.std.proofs.lemmas.List.Elements.{All-nil, All-cons, All-append}
+use Rattle.tp_base.proofs.SliceFacts.{All-at}
+use Rattle.tp_base.specs.declared.edges.PointId.{PointId}
+use Rattle.tp_machine.specs.Machines.{IsOffset}
+use Rattle.tp_machine.specs.declared.parts.Anchor.{Anchor}
+use Rattle.tp_machine.specs.declared.parts.Anchor.TheVariants.{Start, End}
+use Rattle.tp_schedule.specs.Spots.{Spot, Slot}
+use Rattle.tp_placing.specs.declared.parts.Held.{Held}
+use Rattle.tp_placing.specs.Edges.{anchor_point, hold_edge, edge_after, edge_until, held_of, held_before, held_behind}
+use Rattle.tp_placing.specs.Standing.{AreSlots, HasSmallOffsets}
+use Rattle.tp_placing.specs.Trying.{CanRequire}
+
+-- a hold whose points are there and whose offsets are in their range
+pub record IsSmallHold (points : ℕ) (h : Held) : Type 0 where
+  pub start : h.start.0 < points
+  pub end : h.end.0 < points
+  pub small : HasSmallOffsets h.rule
+
+anchor-within : (points : ℕ) (a : Anchor) (start end : PointId) → start.0 < points → end.0 < points → (anchor_point a start end).0 < points
+anchor-within points Start start end s e = s
+anchor-within points End start end s e = e
+
+small-weight : (a b : ℤ) → IsOffset a → IsOffset b → (negsuc 999999 ≤ℤ (a -ℤ b)) × ((a -ℤ b) ≤ℤ pos 1000000)
+small-weight a b x y = let x0 = x.0 in let x1 = x.1 in let y0 = y.0 in let y1 = y.1 in (omega (arith, ints), omega (arith, ints))
+
+pub can-hold : (points : ℕ) (h k : Held) → IsSmallHold points h → IsSmallHold points k → CanRequire points (hold_edge h k)
+can-hold points h k x y =
+    let w = small-weight h.rule.end_off k.rule.begin_off x.small.1 y.small.0 in
+    record {
+      from = anchor-within points h.rule.end h.start h.end x.start x.end;
+      to = anchor-within points k.rule.begin k.start k.end y.start y.end;
+      least = w.0;
+      most = w.1;
+    }
+
+-- a hold, if there is one
+abbrev IsSmallIf : ℕ → Option Held → Type 0
+IsSmallIf points None = Unit {0}
+IsSmallIf points (Some h) = IsSmallHold points h
+
+small-at : (table : List Spot) (held : List Held) (ids : List ℕ) (slots : List Slot) (place : ℕ) → AreSlots table held ids slots → All (λ h. HasSmallOffsets h.rule) held → IsSmallIf (length table) (held_of held (slice_get ids place))
+small-at table held [] [] place a small = tt
+small-at table held [] (s ∷ slots) place a small = absurd a
+small-at table held (id ∷ ids) [] place a small = absurd a
+small-at table held (id ∷ ids) (s ∷ slots) zero a small = subst (IsSmallIf (length table)) (sym a.0.at) (record {
+  start = slice_get_within table a.0.hold.start.0 s.from a.0.start;
+  end = slice_get_within table a.0.hold.end.0 s.to a.0.end;
+  small = All-at (λ h. HasSmallOffsets h.rule) held id a.0.hold small a.0.at;
+})
+small-at table held (id ∷ ids) (s ∷ slots) (suc place) a small = small-at table held ids slots place a.1 small
+
+small-before : (table : List Spot) (held : List Held) (ids : List ℕ) (slots : List Slot) (place : ℕ) → AreSlots table held ids slots → All (λ h. HasSmallOffsets h.rule) held → IsSmallIf (length table) (held_before held ids place)
+small-before table held ids slots zero a small = tt
+small-before table held ids slots (suc place) a small = small-at table held ids slots place a small
+
+can-after : (points : ℕ) (o : Option Held) (h : Held) → IsSmallIf points o → IsSmallHold points h → All (CanRequire points) (edge_after o h)
+can-after points None h x y = All-nil (CanRequire points)
+can-after points (Some k) h x y = All-cons (CanRequire points) (hold_edge k h) [] (can-hold points k h x y) (All-nil (CanRequire points))
+
+can-until : (points : ℕ) (o : Option Held) (h : Held) → IsSmallIf points o → IsSmallHold points h → All (CanRequire points) (edge_until h o)
+can-until points None h x y = All-nil (CanRequire points)
+can-until points (Some k) h x y = All-cons (CanRequire points) (hold_edge h k) [] (can-hold points h k y x) (All-nil (CanRequire points))
+
+pub can-neighbours : (table : List Spot) (held : List Held) (ids : List ℕ) (slots : List Slot) (place : ℕ) (h : Held) → AreSlots table held ids slots → All (λ h. HasSmallOffsets h.rule) held → IsSmallHold (length table) h
+    → All (CanRequire (length table)) (edge_after (held_before held ids place) h ++ edge_until h (held_behind held ids place))
+can-neighbours table held ids slots place h a small new =
+    All-append (CanRequire (length table)) (edge_after (held_before held ids place) h) (edge_until h (held_behind held ids place))
+    (can-after (length table) (held_before held ids place) h (small-before table held ids slots place a small) new)
+    (can-until (length table) (held_behind held ids place) h (small-at table held ids slots place a small) new)
+
+one-after : (o : Option Held) (h : Held) → length (edge_after o h) ≤ 1
+one-after None h = omega arith
+one-after (Some k) h = omega arith
+
+one-until : (o : Option Held) (h : Held) → length (edge_until h o) ≤ 1
+one-until None h = omega arith
+one-until (Some k) h = omega arith
+
+pub two-neighbours : (before behind : Option Held) (h : Held) → length (edge_after before h ++ edge_until h behind) ≤ 2
+two-neighbours before behind h = let l = length-append (edge_after before h) (edge_until h behind) in let a = one-after before h in let b = one-until behind h in omega arith
+
+-- the numbers of an order are those of holds
+pub slots-known : (table : List Spot) (held : List Held) (ids : List ℕ) (slots : List Slot) → AreSlots table held ids slots → All (λ id. id < length held) ids
+slots-known table held [] [] a = All-nil (λ id. id < length held)
+slots-known table held [] (s ∷ slots) a = absurd a
+slots-known table held (id ∷ ids) [] a = absurd a
+slots-known table held (id ∷ ids) (s ∷ slots) a = All-cons (λ id. id < length held) id ids (slice_get_within held id a.0.hold a.0.at) (slots-known table held ids slots a.1)

@@ -1,0 +1,178 @@
+use Rattle.std.proofs.Common.{arith, sym, refl, ap, ◌∙◌, subst, ◌≡◌, ◌+◌, ◌-◌, ◌≤◌, length, pos, Some, IsFalse, suc, List, ◌++◌, ◌∷◌, []}
+use Rattle.std.specs.List.{slice_get}
+use Rattle.std.proofs.lemmas.Option.{slice_get_read, slice_get_within}
+use Rattle.std.proofs.lemmas.List.{length-append}
+use Rattle.tp_base.specs.Net.{Net, HasNoSolution, with_edge, HasLeast}
+use Rattle.tp_placing.specs.declared.parts.Step.{Step}
+use Rattle.tp_machine.specs.declared.whole.Machine.{Machine}
+use Rattle.tp_base.specs.declared.edges.Edge.{Edge}
+use Rattle.tp_schedule.specs.Spots.Spot.{kept}
+use Rattle.tp_placing.specs.Edges.{edge_of}
+use Rattle.tp_constraints.specs.Numbers.{table_of}
+use Rattle.tp_constraints.specs.Suffixes.{with_stop}
+use Rattle.tp_placing.specs.Boards.{BoardValue, suffix_after, suffix_of}
+use Rattle.tp_placing.specs.Inside.{board_of}
+use Rattle.tp_placing.specs.Standing.{Stands, StandsOn, IsAtWith}
+use Rattle.tp_placing.proofs.PastFacts.{side-steps}
+use Rattle.tp_schedule.specs.Answers.{kept_of}
+use Rattle.tp_constraints.specs.Suffixes.{Suffix}
+use Rattle.tp_placing.specs.declared.parts.Change.TheVariants.{Stop}
+use Rattle.tp_placing.specs.Boards.{after_change, side_by_side}
+use Rattle.tp_placing.proofs.BoardFacts.{board-step, steps-room}
+use Rattle.tp_placing.proofs.StandFacts.{has-times, some-and, stands-ask, stands-after, stands-still, length-lows, edge-room, and-some}
+use Rattle.tp_placing.proofs.StepFacts.{suffix-push, some-steps}
+use Rattle.tp_placing.proofs.StopFacts.{StopsHere, stops-here, stop-solved, stop-reason, stop-refused}
+use Rattle.tp_placing.proofs.board.Board.stop.Goals as goal
+use Rattle.tp_placing.proofs.board.Board.stop.Goals.{After-edge_between, In-Ok-push}
+
+-- the board as its fields show it
+abbrev board : (g : _) → After-edge_between g → BoardValue g.row.N.Denot
+board g c =
+    let a = c.self.inside in
+    board_of a.net a.lines a.held.items a.plans.items a.firsts.items a.last a.floor a.horizon a.ask a.steps.items a.marks.items a.made_for
+
+-- the board on a machine that it stands on, with the ask that it keeps
+stands-here : (g : _) (c : After-edge_between g) (m : Machine) → Stands g.N.Network.net g.N.Undo.content g.N.Undo.past c.args.self.now m
+    → StandsOn g.N.Network.net g.N.Undo.content g.N.Undo.past (board g c) m c.in-Some.ask
+stands-here g c m s = stands-ask g.N.Network.net g.N.Undo.content g.N.Undo.past (board g c) m c.in-Some.ask (rw (← c.self.view_is) at s) c.in-Some.is
+
+abbrev Here : (g : _) → After-edge_between g → Machine → Type 0
+Here g c m = StopsHere g.N.Network.net (board g c) m c.in-Some.ask c.index-newest.result.now c.point_of-end.result
+
+here : (g : _) (c : After-edge_between g) (m : Machine) → StandsOn g.N.Network.net g.N.Undo.content g.N.Undo.past (board g c) m c.in-Some.ask → Here g c m
+here g c m s =
+    let a = c.self.inside in
+    let going = rw (← c.self.view_is) at c.requires.going in
+    let y = some-and (suffix_after a.steps.items) (λ x. IsFalse x.stopped) going in
+    let some = some-steps a.steps.items y.0 y.1 in
+    let count : c.len.result ≡ length a.steps.items = c.len.ensures ∙ a.steps.ok.0 in
+    let k : c.len.result - 1 ≡ length a.steps.items - 1 = ap (λ n. n - 1) count in
+    let at = slice_get_read a.steps.items (length a.steps.items) (c.len.result - 1) c.index-newest.result.now refl (omega arith) c.index-newest.ensures in
+    let last : slice_get a.steps.items (length a.steps.items - 1) ≡ Some c.index-newest.result.now = ap (slice_get a.steps.items) (sym k) ∙ at in
+    let end : slice_get (table_of a.plans.items) c.point_of-end.result.0 ≡ Some (kept c.in-Some.ask.sheet c.in-Front.kept) =
+    ap (λ ps. slice_get (table_of ps) c.point_of-end.result.0) (sym c.deref.ensures.value) ∙ c.point_of-end.ensures in
+    stops-here g.N.Network.net g.N.Undo.content g.N.Undo.past (board g c) m c.in-Some.ask c.index-newest.result.now _ _ c.in-Front.kept c.point_of-end.result s going last c.in-Front.is end
+
+-- the same on the machine that is known to stand
+known : (g : _) (c : After-edge_between g) → Here g c c.requires.stands.0
+known g c = here g c c.requires.stands.0 (stands-here g c c.requires.stands.0 c.requires.stands.1)
+
+lows-here : (g : _) (c : After-edge_between g) → length (g.N.Network.net c.self.inside.net).lows ≡ length (table_of c.self.inside.plans.items) + suc (length (known g c).x.choices)
+lows-here g c =
+    let h = known g c in
+    let a = c.self.inside in
+    length-lows c.requires.stands.0 a.plans.items c.in-Some.ask h.x a.steps.items (g.N.Network.net a.net) a.lines.orders a.held.items h.at
+
+pub require-requires-clause-from : goal.require-requires-clause-from
+require-requires-clause-from g c =
+    let h = known g c in
+    let l = lows-here g c in
+    let f = h.hand.1 in
+    let e = ap (λ (e : Edge). e.from.0) c.edge_between.ensures in
+    omega arith
+
+pub require-requires-clause-to : goal.require-requires-clause-to
+require-requires-clause-to g c =
+    let h = known g c in
+    let l = lows-here g c in
+    let w = slice_get_within (table_of c.self.inside.plans.items) c.point_of-end.result.0 _ h.end_is in
+    let e = ap (λ (e : Edge). e.to.0) c.edge_between.ensures in
+    omega arith
+
+pub require-requires-clause-spare : goal.require-requires-clause-spare
+require-requires-clause-spare g c =
+    let a = c.self.inside in
+    let r = c.self.invariant.room in
+    let room = edge-room a.steps.items (length (g.N.Network.net a.net).edges) (g.N.Network.edge_room a.net) r.steps_few (known g c).at.few_edges r.edges in
+    omega arith
+
+pub returns-in-Err-clause-late : goal.returns-in-Err-clause-late
+returns-in-Err-clause-late g k m st =
+    let c = (goal.at.returns-in-Err-clause-late g k).After-edge_between in
+    let s = stands-here g c m st in
+    let h = here g c m s in
+    let none : HasNoSolution (with_edge (g.N.Network.net c.self.inside.net) (edge_of c.index-newest.result.now.first c.point_of-end.result (pos 0))) = rw (← c.edge_between.ensures) k.in-Err.ensures.late in
+    rw (← c.self.view_is) (and-some (suffix_of (board g c)) h.x _ h.suffix (and-some (board g c).ask c.in-Some.ask _ s.asked
+    (stop-refused g.N.Network.net (board g c) m c.in-Some.ask c.index-newest.result.now c.point_of-end.result h c.steps_add_edges.ensures.stop c.solutions_are_ticks.ensures.late s.origin none)))
+
+pub returns-in-Err-clause-shown : goal.returns-in-Err-clause-shown
+returns-in-Err-clause-shown g k m st =
+    let c = (goal.at.returns-in-Err-clause-shown g k).After-edge_between in
+    let s = stands-here g c m st in
+    let h = here g c m s in
+    let shown : g.N.Network.refutes k.require.new.self (with_edge (g.N.Network.net c.self.inside.net) (edge_of c.index-newest.result.now.first c.point_of-end.result (pos 0))) = rw (← c.edge_between.ensures) k.in-Err.ensures.refused in
+    rw (← c.self.view_is) (and-some (suffix_of (board g c)) h.x _ h.suffix (and-some (board g c).ask c.in-Some.ask _ s.asked
+    (stop-reason g.N.Network.net (board g c) m c.in-Some.ask c.index-newest.result.now c.point_of-end.result h g.N.Network.refutes k.require.new.self c.steps_add_edges.ensures.stop c.gaps_are_hops.ensures.stop s.origin shown)))
+
+pub returns-in-Err-clause-stands : goal.returns-in-Err-clause-stands
+returns-in-Err-clause-stands g k m st =
+    let c = (goal.at.returns-in-Err-clause-stands g k).After-edge_between in
+    (c.in-Some.ask, stands-still g.N.Network.net g.N.Undo.content g.N.Undo.past g.met.N.Network.net_by_content _ k.require.new.self m c.in-Some.ask (stands-here g c m st) k.in-Err.ensures.kept k.in-Err.ensures.past)
+
+-- after the stop
+few-here : (g : _) (c : After-edge_between g) → length c.self.inside.steps.items + 1 ≤ 330
+few-here g c = steps-room (kept_of c.in-Some.ask) (length c.self.inside.steps.items) (known g c).x (known g c).at.few_steps
+
+pub unreachable-requires-in_default-push : goal.unreachable-requires-in_default-push
+unreachable-requires-in_default-push g k =
+    let few = few-here g (goal.at.unreachable-requires-in_default-push g k).After-edge_between in
+    let space = k.self.invariant.room.steps_space in
+    let o = k.self.inside.steps.ok.0 in
+    let full = k.in_default-push.ensures.full in
+    omega arith
+
+pub invariant_of-self-2 : goal.invariant_of-self-2
+invariant_of-self-2 g k =
+    let a = k.self.inside in
+    let few = few-here g (goal.at.invariant_of-self-2 g k).After-edge_between in
+    let len = ap length k.in-Ok-push.ensures.items ∙ length-append a.steps.items (_ ∷ []) in
+    let cap = k.in-Ok-push.ensures.capacity in
+    board-step _ _ _ _ _ _ _ _ _ _ _ _ k.self.invariant _ _ _ _ a.lines a.held k.push.new.self a.edges
+    (ap length k.in-Ok.ensures.past) k.in-Ok.ensures.marks k.in-Ok.ensures.points k.in-Ok.ensures.edges refl refl refl refl (omega arith) k.self.invariant.room.held_few (omega arith)
+    (omega arith) (omega arith) (omega arith) (omega arith)
+
+suffix-now : (g : _) (k : In-Ok-push g) (x : Suffix) → suffix_after k.self.inside.steps.items ≡ Some x → suffix_after k.push.new.self.items ≡ Some (with_stop x)
+suffix-now g k x e = ap suffix_after k.in-Ok-push.ensures.items ∙ suffix-push k.self.inside.steps.items _ ∙ ap (λ y. after_change y Stop) e
+
+pub returns-clause-suffix : goal.returns-clause-suffix
+returns-clause-suffix g k =
+    let y = some-and (suffix_of k.args.self.now) _ k.requires.going in
+    and-some (suffix_of k.args.self.now) y.0 _ y.1 (suffix-now g k y.0 (ap (λ (b : BoardValue g.row.N.Denot). suffix_after b.steps) k.self.view_is ∙ y.1))
+
+past-now : (g : _) (k : In-Ok-push g) → side_by_side k.self.inside.held.items k.push.new.self.items (g.N.Undo.past k.require.new.self) k.self.inside.lines.past k.self.inside.marks.items
+    ≡ side_by_side k.self.inside.held.items k.self.inside.steps.items (g.N.Undo.past k.self.inside.net) k.self.inside.lines.past k.self.inside.marks.items
+past-now g k =
+    let a = k.self.inside in
+    let i = k.self.invariant.marked.at_marks in
+    rw (k.in-Ok.ensures.past, k.in-Ok-push.ensures.items) (side-steps a.held.items a.steps.items (_ ∷ []) (g.N.Undo.past a.net) a.lines.past a.marks.items (λ j n z. i.steps_below j n z))
+
+pub returns-clause-past : goal.returns-clause-past
+returns-clause-past g k = rw (← k.self.view_is) (past-now g k)
+
+at-now : (g : _) (c : After-edge_between g) (m : Machine) (s : StandsOn g.N.Network.net g.N.Undo.content g.N.Undo.past (board g c) m c.in-Some.ask) (n : Net) (items : List Step) (step : Step)
+    → n ≡ with_edge (g.N.Network.net c.self.inside.net) c.edge_between.result → HasLeast n → items ≡ c.self.inside.steps.items ++ step ∷ [] → step.first ≡ c.index-newest.result.now.first → step.newest ≡ c.index-newest.result.now.newest
+    → IsAtWith m c.self.inside.plans.items c.in-Some.ask (Some (with_stop (here g c m s).x)) items n c.self.inside.lines.orders c.self.inside.held.items
+at-now g c m s n items step added solved pushed first newest =
+    let a = c.self.inside in
+    let h = here g c m s in
+    let e : n ≡ with_edge (g.N.Network.net a.net) (edge_of c.index-newest.result.now.first c.point_of-end.result (pos 0)) = added ∙ ap (with_edge (g.N.Network.net a.net)) c.edge_between.ensures in
+    let at = stop-solved g.N.Network.net (board g c) m c.in-Some.ask c.index-newest.result.now c.point_of-end.result h c.steps_add_edges.ensures.stop c.gaps_are_hops.ensures.stop s.origin (subst HasLeast e solved) step first newest in
+    let P : Net → List Step → Type 0 = λ n items. IsAtWith m a.plans.items c.in-Some.ask (Some (with_stop h.x)) items n a.lines.orders a.held.items in
+    subst (λ n. P n items) (sym e) (subst (P (with_edge (g.N.Network.net a.net) (edge_of c.index-newest.result.now.first c.point_of-end.result (pos 0)))) (sym pushed) at)
+
+pub returns-clause-times : goal.returns-clause-times
+returns-clause-times g k m st =
+    let c = (goal.at.returns-clause-times g k).After-edge_between in
+    let s = stands-here g c m st in
+    let h = here g c m s in
+    let at = at-now g c m s (g.N.Network.net k.require.new.self) k.push.new.self.items _ k.in-Ok.ensures.added k.in-Ok.ensures.solved k.in-Ok-push.ensures.items refl refl in
+    and-some (suffix_after k.push.new.self.items) (with_stop h.x) _ (suffix-now g k h.x h.suffix) (and-some k.self.inside.ask c.in-Some.ask _ c.in-Some.is
+    (has-times m k.self.inside.plans.items c.in-Some.ask (with_stop h.x) _ _ _ _ c.solutions_are_ticks.ensures.board at))
+
+pub returns-clause-stands : goal.returns-clause-stands
+returns-clause-stands g k m st =
+    let c = (goal.at.returns-clause-stands g k).After-edge_between in
+    let s = stands-here g c m st in
+    let h = here g c m s in
+    let at = at-now g c m s (g.N.Network.net k.require.new.self) k.push.new.self.items _ k.in-Ok.ensures.added k.in-Ok.ensures.solved k.in-Ok-push.ensures.items refl refl in
+    (c.in-Some.ask, stands-after g.N.Network.net g.N.Undo.content g.N.Undo.past (board g c) k.require.new.self c.self.inside.lines c.self.inside.held.items k.push.new.self.items m c.in-Some.ask (with_stop h.x) s (past-now g k) (suffix-now g k h.x h.suffix) at)

@@ -1,0 +1,8 @@
+use Rattle.tp_placing.proofs.MarkFacts.{mark_keeps, undo_keeps}
+use Rattle.tp_placing.proofs.laws.marks_keep_boards.Goals as goal
+
+pub returns : goal.returns
+returns g c = record {
+  mark = mark_keeps g.N.Network.net g.N.Undo.content g.N.Undo.past g.N.Undo.aside g.met.N.Network.net_by_content;
+  back = undo_keeps g.N.Network.net g.N.Undo.content g.N.Undo.past g.N.Undo.aside g.met.N.Network.net_by_content;
+}

@@ -1,0 +1,17 @@
+-- Marks keep what a board stands on.
+use Rattle.std.specs.Prelude.{◌≡◌, ℕ, List, [], ◌∷◌, ◌++◌, take, slice_get, Some}
+use Rattle.tp_base.specs.Net.{Net}
+use Rattle.tp_machine.specs.declared.whole.Machine.{Machine}
+use Rattle.tp_placing.specs.Boards.{BoardValue, content_of, aside_of, past_of}
+use Rattle.tp_placing.specs.Standing.{Stands}
+
+module _ {N C A : Type 0} (net : N → Net) (content : N → C) (past : N → List C) (aside : N → A) where
+  -- a board that stands on a machine stands on it after a mark
+  abbrev pub MarkKeeps : Type 0
+  MarkKeeps = (a b : BoardValue N) (machine : Machine) → content_of content b ≡ content_of content a → aside_of aside b ≡ aside_of aside a → past_of past b ≡ past_of past a ++ content_of content a ∷ []
+      → Stands net content past a machine → Stands net content past b machine
+
+  -- and when it is taken back to one
+  abbrev pub UndoKeeps : Type 0
+  UndoKeeps = (a b : BoardValue N) (machine : Machine) (k : ℕ) → slice_get (past_of past a) k ≡ Some (content_of content b) → aside_of aside b ≡ aside_of aside a → past_of past b ≡ take k (past_of past a)
+      → Stands net content past a machine → Stands net content past b machine

@@ -1,0 +1,12 @@
+pub mod Boards
+pub mod Calls
+pub mod Edges
+pub mod Inside
+pub mod Ticks
+pub mod Loading
+pub mod LoadedHolds
+pub mod Trying
+pub mod Laws
+pub mod Standing
+pub mod Loaded
+pub mod Reasons

@@ -1,0 +1,41 @@
+use crate::parts::{BoardMark, Held, MadeFor, Step};
+use std::marker::Model;
+use tp_base::{Edge, Network, PointId, Tick};
+use tp_schedule::{Ask, Plan};
+use tp_timelines::Timelines;
+
+/// A schedule as a network with an order of holds for each resource.
+#[derive(Drop)]
+pub struct Board<N: Network> {
+    pub(crate) net: N,
+    pub(crate) lines: Timelines,
+    /// The holds that stand in the orders, by their numbers.
+    pub(crate) held: Vec<Held>,
+    /// The live plans.
+    pub(crate) plans: Vec<Plan>,
+    /// The first point of each plan.
+    pub(crate) firsts: Vec<PointId>,
+    /// The first own point, the asked copy's end, once a goal is open.
+    pub(crate) last: PointId,
+    pub(crate) floor: Tick,
+    pub(crate) horizon: Tick,
+    pub(crate) ask: Option<Ask>,
+    pub(crate) steps: Vec<Step>,
+    pub(crate) marks: Vec<BoardMark>,
+    pub(crate) made_for: MadeFor,
+    /// Where the edges of one step are made.
+    pub(crate) edges: Vec<Edge>,
+}
+
+// Clauses see what is loaded, the steps since, and the network.
+impl<N: Network> Model for Board<N> {
+    ghost use Rattle.std.specs.Prelude.{length};
+    ghost use Rattle.tp_placing.specs.Boards.{BoardValue};
+    ghost use Rattle.tp_placing.specs.Inside.{board_of, IsBoard};
+
+    ghost Value = { BoardValue N };
+
+    ghost view = { λ b. board_of b.net b.lines b.held.items b.plans.items b.firsts.items b.last b.floor b.horizon b.ask b.steps.items b.marks.items b.made_for };
+
+    ghost invariant = { λ b. IsBoard (length (N.past b.net)) (N.mark_room b.net) (N.point_room b.net) (N.edge_room b.net) b.lines b.held b.plans b.firsts b.steps b.marks b.edges b.made_for };
+}

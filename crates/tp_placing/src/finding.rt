@@ -1,0 +1,28 @@
+ghost use Rattle.std.specs.Prelude.{◌≡◌, ◌^◌, ◌<◌, ◌≤◌, length, position, slice_get, Some, IfSome, IsSomeAnd};
+ghost use Rattle.tp_schedule.specs.Plans.{is_same_copy, plan_of};
+ghost use Rattle.tp_schedule.specs.Spots.Spot.{kept};
+ghost use Rattle.tp_constraints.specs.Numbers.{table_of};
+ghost use Rattle.tp_placing.specs.Standing.{AreFirsts};
+
+use tp_base::PointId;
+use tp_schedule::{Plan, SheetId};
+
+fn copy_place(plans: &[Plan], copy: SheetId) -> Option<usize>
+    ensures place { result ≡ position (λ p. is_same_copy p.sheet copy) plans.now }
+    ensures within { IfSome result (λ at. at < length plans.now) }
+{
+    plans.iter().position(|plan| plan.sheet == copy)
+}
+
+/// The point of this number of a copy's plan. Looks at the plans before it.
+pub(crate) fn point_of(plans: &[Plan], firsts: &[PointId], copy: SheetId, at: u32) -> PointId
+    requires firsts { AreFirsts 0 plans.now firsts.now }
+    requires there { IsSomeAnd (plan_of copy plans.now) (λ p. at ≤ length p.acts) }
+    requires few { length (table_of plans.now) < 2 ^ 32 }
+    ensures { slice_get (table_of plans.now) result.0 ≡ Some (kept copy at) }
+{
+    match copy_place(plans, copy) {
+        Some(place) => PointId(firsts[place].0 + at),
+        None => unreachable!(),
+    }
+}

@@ -1,0 +1,101 @@
+//! A schedule's live plans as a network with orders.
+ghost use Rattle.std.specs.Prelude.{◌≡◌, ℕ, ◌+◌, ◌<◌, ◌≤◌, ◌^◌, [], length, filter, vec_capacity};
+ghost use Rattle.tp_base.specs.Net.{HasLeast};
+ghost use Rattle.tp_schedule.specs.Living.{is_live};
+ghost use Rattle.tp_timelines.specs.Orders.{order_on};
+ghost use Rattle.tp_constraints.specs.Numbers.{with_edges};
+ghost use Rattle.tp_placing.specs.Inside.{most_edges, most_holds, most_plans, most_points};
+ghost use Rattle.tp_placing.specs.Loaded.{CanLoad, IsLoaded, all_edges};
+ghost use Rattle.tp_placing.specs.Loading.{AreAddable, AreIds, point_count};
+
+use crate::kept_chains::add_chains;
+use crate::kept_edges::{add_durations, add_lines};
+use crate::kept_holds::put_plans;
+use crate::kept_points::add_points;
+use crate::parts::Held;
+use tp_base::{Network, PointId, Tick, Undo};
+use tp_machine::Machine;
+use tp_schedule::{Plan, Schedule, is_plan_live};
+use tp_timelines::Timelines;
+
+/// Copies the plans that are live at the moment.
+pub(crate) fn keep_live(plans: &mut Vec<Plan>, machine: &Machine, schedule: &Schedule, now: Tick)
+    requires space { length (filter (is_live machine.now now) schedule.now.plans) ≤ vec_capacity plans.old }
+    ensures plans { plans.new.items ≡ filter (is_live machine.now now) schedule.now.plans }
+    ensures space { vec_capacity plans.old ≤ vec_capacity plans.new }
+{
+    plans.clear();
+    for at in 0..schedule.len() {
+        let plan = schedule.plan_at(at);
+        if is_plan_live(machine, now, plan) {
+            match plans.push(plan.copy()) {
+                Ok(()) => {}
+                Err(_) => unreachable!(),
+            }
+        }
+    }
+}
+
+/// Adds an edge for each gap of the plans.
+fn add_edges<N: Network>(
+    net: &mut N,
+    lines: &Timelines,
+    held: &[Held],
+    machine: &Machine,
+    plans: &[Plan],
+)
+    requires can { AreAddable (N.edge_room net.old) (N.net net.old) (all_edges machine.now plans.now lines.now.orders held.now) }
+    requires fits { point_count plans.now < 2 ^ 32 }
+    requires resources { length lines.now.orders ≡ length machine.now.resources }
+    requires ids { (resource : ℕ) → resource < length lines.now.orders → AreIds held.now (order_on lines.now.orders resource) }
+    ensures added { N.net net.new ≡ with_edges (N.net net.old) (all_edges machine.now plans.now lines.now.orders held.now) }
+    ensures solved { HasLeast (N.net net.new) }
+    ensures past { N.past net.new ≡ N.past net.old }
+    ensures marks { N.mark_room net.new ≡ N.mark_room net.old }
+    ensures points { N.point_room net.new ≡ N.point_room net.old }
+    ensures edges { N.edge_room net.new ≡ N.edge_room net.old }
+{
+    add_durations(net, machine, plans);
+    add_lines(net, plans);
+    add_chains(net, lines, held, machine.resources.len());
+}
+
+/// Leaves nothing but the live plans in the network and the orders. Answers how many points there are.
+pub(crate) fn load_plans<N: Network>(
+    net: &mut N,
+    lines: &mut Timelines,
+    held: &mut Vec<Held>,
+    firsts: &mut Vec<PointId>,
+    plans: &[Plan],
+    machine: &Machine,
+    now: Tick,
+) -> u32
+    requires can { CanLoad machine.now now plans.now }
+    requires points { most_points ≤ N.point_room net.old }
+    requires edges { most_edges ≤ N.edge_room net.old }
+    requires resources { length lines.old.orders ≡ length machine.now.resources }
+    requires holds { most_holds ≤ lines.old.hold_room }
+    requires hold_space { most_holds ≤ vec_capacity held.old }
+    requires first_space { most_plans ≤ vec_capacity firsts.old }
+    ensures loaded { IsLoaded machine.now now plans.now (N.net net.new) lines.new.orders held.new.items firsts.new.items }
+    ensures count { result ≡ point_count plans.now }
+    ensures past { N.past net.new ≡ [] }
+    ensures marks { N.mark_room net.new ≡ N.mark_room net.old }
+    ensures points { N.point_room net.new ≡ N.point_room net.old }
+    ensures edges { N.edge_room net.new ≡ N.edge_room net.old }
+    ensures resources { length lines.new.orders ≡ length lines.old.orders }
+    ensures line_past { lines.new.past ≡ [] }
+    ensures line_holds { lines.new.hold_room ≡ lines.old.hold_room }
+    ensures line_marks { lines.new.mark_room ≡ lines.old.mark_room }
+    ensures hold_space { vec_capacity held.old ≤ vec_capacity held.new }
+    ensures first_space { vec_capacity firsts.old ≤ vec_capacity firsts.new }
+{
+    net.clear();
+    lines.clear();
+    held.clear();
+    firsts.clear();
+    let points = add_points(net, firsts, plans, now + machine.lead, now + machine.window);
+    put_plans(lines, held, plans, firsts.as_slice(), machine, points);
+    add_edges(net, lines, held.as_slice(), machine, plans);
+    points
+}

@@ -1,0 +1,56 @@
+ghost use Rattle.std.specs.Prelude.{◌≡◌, ◌+◌, ◌<◌, ◌^◌, [], length, filter, Some};
+ghost use Rattle.tp_schedule.specs.Choices.{start_floor};
+ghost use Rattle.tp_schedule.specs.Living.{is_live};
+ghost use Rattle.tp_schedule.specs.Planning.{CanAsk};
+ghost use Rattle.tp_placing.specs.Boards.{past_of};
+ghost use Rattle.tp_placing.specs.Standing.{IsMadeFor, Stands};
+
+use crate::board::Board;
+use crate::kept_plans::{keep_live, load_plans};
+use tp_base::{Network, PointId, Tick};
+use tp_machine::Machine;
+use tp_schedule::{Ask, Origin, Schedule};
+
+/// The least tick of the first own point: above now and the lead, or the end of the front.
+fn start_floor(machine: &Machine, ask: &Ask) -> Tick
+    requires can { ask.now.now + machine.now.lead + 1 < 2 ^ 32 }
+    ensures { result ≡ start_floor machine.now ask.entry.now.now ask.entry.now.origin }
+{
+    match ask.origin {
+        Origin::Feeder => ask.now + machine.lead + 1,
+        Origin::Front { end, .. } => end,
+    }
+}
+
+impl<N: Network> Board<N> {
+    /// Holds the schedule's live plans from now on, to be asked this. Costs in proportion to their points and holds, but
+    /// that each hold looks at those which begin no later than it. Takes no memory.
+    pub fn load(&mut self, machine: &Machine, schedule: &Schedule, ask: &Ask)
+        requires made { IsMadeFor self.old.made_for machine.now }
+        requires can_ask { CanAsk machine.now schedule.now.plans ask.now }
+        ensures made { self.new.made_for ≡ self.old.made_for }
+        ensures plans { self.new.plans ≡ filter (is_live machine.now ask.entry.now.now) schedule.now.plans }
+        ensures asked { self.new.ask ≡ Some ask.entry.now }
+        ensures closed { self.new.steps ≡ [] }
+        ensures stands { Stands N.net N.content N.past self.new machine.now }
+        ensures past { past_of N.past self.new ≡ [] }
+        ensures marks { N.mark_room self.new.net ≡ N.mark_room self.old.net }
+    {
+        keep_live(&mut self.plans, machine, schedule, ask.now);
+        let points = load_plans(
+            &mut self.net,
+            &mut self.lines,
+            &mut self.held,
+            &mut self.firsts,
+            self.plans.as_slice(),
+            machine,
+            ask.now,
+        );
+        self.last = PointId(points);
+        self.floor = start_floor(machine, ask);
+        self.horizon = ask.now + machine.window;
+        self.ask = Some(*ask);
+        self.steps.clear();
+        self.marks.clear();
+    }
+}

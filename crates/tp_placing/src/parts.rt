@@ -1,0 +1,46 @@
+use tp_base::{PointId, Tick};
+use tp_machine::{ActId, HoldRule};
+
+/// The numbers of the machine that a board was made for.
+#[derive(Clone, Copy, PartialEq, Eq, Debug)]
+pub struct MadeFor {
+    pub locations: u32,
+    pub resources: u32,
+    pub window: Tick,
+}
+
+/// A hold that stands in the orders: its rule, and the points where its action starts and ends.
+#[derive(Clone, Copy)]
+pub(crate) struct Held {
+    pub(crate) rule: HoldRule,
+    pub(crate) start: PointId,
+    pub(crate) end: PointId,
+}
+
+/// What is done to a board that was loaded.
+#[derive(Clone, Copy)]
+pub(crate) enum Change {
+    /// A goal is opened, to be reached with so much room.
+    Goal { room: u32 },
+    /// An action is opened before the others, with so much room before it.
+    Action { act: ActId, room: u32 },
+    /// The next hold of the newest action is placed.
+    Place { place: u32 },
+    /// The list is stopped.
+    Stop,
+}
+
+/// A change, and what stands after it: the newest action, if there is one, and the first own point.
+#[derive(Clone, Copy)]
+pub(crate) struct Step {
+    pub(crate) change: Change,
+    pub(crate) newest: Option<ActId>,
+    pub(crate) first: PointId,
+}
+
+/// How many steps and holds there were at a mark.
+#[derive(Clone, Copy)]
+pub(crate) struct BoardMark {
+    pub(crate) steps: u32,
+    pub(crate) held: u32,
+}

@@ -1,0 +1,46 @@
+use crate::board::Board;
+use crate::parts::BoardMark;
+use tp_base::{Mark, Network, Undo};
+
+impl<N: Network> Undo for Board<N> {
+    ghost use Rattle.std.specs.Prelude.{ℕ, List, ◌-◌};
+    ghost use Rattle.tp_placing.specs.Boards.{BoardContent, BoardAside, content_of, aside_of, past_of};
+
+    ghost Content = { BoardContent N.Content };
+
+    ghost Aside = { BoardAside N.Aside };
+
+    ghost content = { content_of N.content };
+
+    ghost aside = { aside_of N.aside };
+
+    ghost past = { past_of N.past };
+
+    ghost mark_room = { λ b. N.mark_room b.net - 1 };
+
+    fn spare_marks(&self) -> u32 {
+        self.net.spare_marks() - 1
+    }
+
+    fn mark(&mut self) -> Mark {
+        let mark = self.net.mark();
+        let _line_mark = self.lines.mark();
+        let counts = BoardMark {
+            steps: self.steps.len() as u32,
+            held: self.held.len() as u32,
+        };
+        let Ok(()) = self.marks.push(counts) else {
+            unreachable!()
+        };
+        mark
+    }
+
+    fn undo_to(&mut self, mark: Mark) {
+        self.net.undo_to(mark);
+        self.lines.undo_to(mark);
+        let counts = self.marks[mark.0 as usize];
+        self.held.truncate(counts.held as usize);
+        self.steps.truncate(counts.steps as usize);
+        self.marks.truncate(mark.0 as usize);
+    }
+}
