@@ -1,5 +1,5 @@
 -- Which jobs are refused, and by which cause: the first that applies.
-use Rattle.std.specs.Prelude.{ℕ, ◌+◌, Bool, not, nat_lt, List, sum_by, length, position, Option, Some, None, Result, Ok, Err, is_some, if◌then◌else◌}
+use Rattle.std.specs.Prelude.{ℕ, ◌+◌, Bool, not, nat_lt, List, sum_by, position, Option, Some, None, Result, Ok, Err, is_some, if◌then◌else◌}
 use Rattle.std.specs.List.{list_any}
 use Rattle.std.specs.Str.{bytes_eq}
 use Rattle.tp_machine.specs.Rules.{is_among}
