@@ -1,5 +1,6 @@
 pub mod Found
 pub mod PlaceFacts
+pub mod NextFacts
 pub mod OrderFacts
 pub mod FirstCopies
 pub mod RefusalFacts

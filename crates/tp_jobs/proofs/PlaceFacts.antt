@@ -1,8 +1,7 @@
 -- Where a copy stands among those that wait, which stand in the order of copies.
-use Rattle.std.proofs.Common.{◌≡◌, ℕ, ◌≤◌, ◌<◌, suc, Bool, true, false, not, cond, inl, inr, List, [], ◌∷◌, length, get_or, slice_get, find, drop, insert, remove, Some, IsSome, All, AllPairs, refl, sym, ap, arith, subst, ◌∙◌}
+use Rattle.std.proofs.Common.{◌≡◌, ℕ, ◌≤◌, ◌<◌, suc, Bool, true, false, not, cond, inl, inr, List, [], ◌∷◌, length, get_or, slice_get, find, drop, insert, remove, Some, IsSome, All, AllPairs, refl, sym, ap, arith, subst}
 use Rattle.std.specs.Prelude.{◌&&◌}
 use Rattle.std.specs.List.{position_or_len}
-use Rattle.std.specs.Option.{option_map}
 use Rattle.std.specs.List.Sorted.{IsPartitionPoint, IsPartitionedBy}
 use Rattle.std.proofs.lemmas.Bool.{cases_lt}
 use Rattle.std.proofs.lemmas.Bool.Decides.{nat_tests}
@@ -14,9 +13,7 @@ use Rattle.tp_schedule.proofs.Pairs.{AllPairs-head, AllPairs-tail}
 use Rattle.tp_schedule.specs.Plans.{is_before, is_same_copy}
 use Rattle.tp_schedule.specs.declared.parts.SheetId.{SheetId}
 use Rattle.tp_jobs.specs.Backlogs.{WaitsBefore}
-use Rattle.tp_jobs.specs.Trying.{is_open, next_to_try}
 use Rattle.tp_jobs.specs.Waiting.{find_waiting, put_waiting, without_waiting}
-use Rattle.tp_jobs.specs.declared.parts.Job.{Job}
 use Rattle.tp_jobs.specs.declared.parts.WaitingCopy.{WaitingCopy}
 
 abbrev pub is_behind : SheetId → WaitingCopy → Bool
@@ -128,9 +125,3 @@ find-behind copy q (x ∷ xs) in_order = go (is_before copy x.sheet) refl (find-
       let all : All (λ w. is_before copy w.sheet ≡ true) xs = λ k d within. before-trans copy x.sheet (get_or xs k d).sheet e (AllPairs-head WaitsBefore x xs in_order k d within) in
       rw e (rw (all-same xs all) refl)
   go false e rest = rw (e, one-add) rest
-
--- the copies that come after the last one tried, from its place on
-pub found-from : (jobs : List Job) (marks : List Bool) (waiting : List WaitingCopy) (last : SheetId) (at : ℕ) → AllPairs WaitsBefore waiting → at ≡ position_or_len (is_behind last) waiting
-    → option_map (λ w. w.sheet) (find (is_open jobs marks) (drop at waiting)) ≡ next_to_try (record { jobs = jobs; waiting = waiting }) (Some last) marks
-found-from jobs marks waiting last at in_order is =
-    ap (λ i. option_map (λ w. w.sheet) (find (is_open jobs marks) (drop i waiting))) is ∙ ap (option_map (λ w. w.sheet)) (sym (find-behind last (is_open jobs marks) waiting in_order))

@@ -1,4 +1,4 @@
-ghost use Rattle.std.specs.Prelude.{◌≡◌, ◌+◌, ◌<◌, ◌^◌, length, slice_get, option_map, Some, None, IsSome, IsSomeAnd, IsTrue, IfOk, IfErr, OnOk, OnErr};
+ghost use Rattle.std.specs.Prelude.{◌≡◌, ◌+◌, ◌<◌, ◌^◌, length, slice_get, option_map, Some, None, IsSome, IsSomeAnd, IfSome, IfOk, IfErr, OnOk, OnErr};
 ghost use Rattle.tp_jobs.specs.Refusing.{job_refusal, refusal_in, tray_named};
 ghost use Rattle.tp_jobs.specs.Waiting.{find_waiting, put_waiting, without_waiting, sheets_of, new_job, with_job};
 
@@ -202,7 +202,9 @@ impl Lines {
     /// Goes there by a binary search, and passes over the copies of blocked lines between the two,
     /// so that a phase of asks looks once at each copy that waits.
     pub fn next_to_try(&self, after: Option<SheetId>, blocked: &Blocked) -> Option<SheetId>
-        ensures { result ≡ next_to_try self.now after blocked.now }
+        ensures next { result ≡ next_to_try self.now after blocked.now }
+        ensures waits { IfSome result (λ copy. IsSome (find_waiting copy self.now.waiting)) }
+        ensures job { IfSome result (λ copy. copy.job < length self.now.jobs) }
     {
         let waiting = self.waiting.as_slice();
         let from = match after {
