@@ -1,11 +1,12 @@
 -- The copies that wait stay in order as one is put in or taken out.
-use Rattle.std.proofs.Common.{◌≡◌, ◌+◌, Bool, true, false, cond, List, [], ◌∷◌, length, Some, None, All, AllPairs, refl, arith}
+use Rattle.std.proofs.Common.{◌≡◌, ◌+◌, Bool, true, false, not, cond, List, [], ◌∷◌, length, Some, None, All, AllPairs, refl, arith}
 use Rattle.std.proofs.lemmas.List.Elements.{All-cons, All-head, All-tail, All-nil}
 use Rattle.tp_schedule.proofs.CopyFacts.{before-trans, before-other}
 use Rattle.tp_schedule.proofs.Pairs.{AllPairs-head, AllPairs-tail, AllPairs-cons}
 use Rattle.tp_schedule.specs.Plans.{is_before, is_same_copy}
+use Rattle.tp_schedule.specs.declared.parts.SheetId.{SheetId}
 use Rattle.tp_jobs.specs.Backlogs.{WaitsBefore}
-use Rattle.tp_jobs.specs.Waiting.{find_waiting, put_waiting}
+use Rattle.tp_jobs.specs.Waiting.{find_waiting, put_waiting, without_waiting}
 use Rattle.tp_jobs.specs.declared.parts.WaitingCopy.{WaitingCopy}
 
 pub All-put_waiting : (P : WaitingCopy → Type 0) (w : WaitingCopy) (xs : List WaitingCopy) → P w → All P xs → All P (put_waiting xs w)
@@ -37,3 +38,11 @@ length-put_waiting w (x ∷ xs) = go (is_before w.sheet x.sheet) (length-put_wai
   go : (b : Bool) → length (put_waiting xs w) ≡ length xs + 1 → length (cond b (w ∷ x ∷ xs) (x ∷ put_waiting xs w)) ≡ length (x ∷ xs) + 1
   go true rest = omega arith
   go false rest = omega (arith, rest)
+
+-- a copy that was taken waits no more
+pub find-without : (copy : SheetId) (xs : List WaitingCopy) → find_waiting copy (without_waiting copy xs) ≡ None
+find-without copy [] = refl
+find-without copy (x ∷ xs) = go (is_same_copy x.sheet copy) refl (find-without copy xs) where
+  go : (b : Bool) → is_same_copy x.sheet copy ≡ b → find_waiting copy (without_waiting copy xs) ≡ None → find_waiting copy (cond (not b) (x ∷ without_waiting copy xs) (without_waiting copy xs)) ≡ None
+  go true e rest = rest
+  go false e rest = rw e rest
