@@ -24,4 +24,5 @@ pub mod PrintedBack
 pub mod PrintedPlaces
 pub mod PrintedActions
 pub mod PrintedRules
+pub mod Dateless
 pub mod PrintedText

@@ -14,7 +14,9 @@ pub fn print_machine(alloc: Global, machine: &Machine) -> Result<Vec<u8>, Memory
     let table = table_of(alloc, machine)?;
     match toml::table_to_string(alloc, &table) {
         Ok(text) => Ok(bytes_of(text)),
-        Err(_) => Err(Memory),
+        Err(toml::ser::Error::OutOfMemory) => Err(Memory),
+        // No machine's table holds a date.
+        Err(toml::ser::Error::DateInvalid) => unreachable!(),
     }
 }
 
