@@ -23,6 +23,8 @@ pub mod Depth
 pub mod PrintedBack
 pub mod PrintedPlaces
 pub mod PrintedActions
+pub mod MachineParts
+pub mod PrintedTops
 pub mod PrintedRules
 pub mod Dateless
 pub mod PrintedText
