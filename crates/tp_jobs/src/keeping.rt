@@ -1,4 +1,4 @@
-ghost use Rattle.std.specs.Prelude.{◌≡◌, ◌+◌, ◌<◌, ◌^◌, length, slice_get, option_map, Some, None, IsSome, IsSomeAnd, IfSome, IfOk, IfErr, OnOk, OnErr};
+ghost use Rattle.std.specs.Prelude.{◌≡◌, ◌+◌, ◌<◌, ◌^◌, length, slice_get, option_map, Some, None, IsSome, IsSomeAnd, IfSome, IfOk, OnOk, OnErr};
 ghost use Rattle.tp_jobs.specs.Refusing.{job_refusal, refusal_in, tray_named};
 ghost use Rattle.tp_jobs.specs.Waiting.{find_waiting, put_waiting, without_waiting, sheets_of, new_job, with_job};
 
@@ -42,7 +42,7 @@ impl Model for Lines {
 }
 
 impl Lines {
-    ghost use Rattle.tp_jobs.specs.Backlogs.{Backlog, IsBacklog, no_backlog, IsOfJob};
+    ghost use Rattle.tp_jobs.specs.Backlogs.{IsBacklog, no_backlog};
     ghost use Rattle.tp_jobs.specs.Trying.{next_to_try};
 
     /// No job. It takes no memory.

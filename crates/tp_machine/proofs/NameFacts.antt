@@ -1,17 +1,19 @@
 -- What the tests of names say.
-use Rattle.std.proofs.Common.{◌≡◌, ◌≢◌, ℕ, true, false, ◌&&◌, List, [], ◌∷◌, All, AllPairs, arith}
+use Rattle.std.proofs.Common.{◌≡◌, ◌≢◌, ℕ, true, false, ◌&&◌, List, [], ◌∷◌, All, AllPairs, arith, Some, length}
+use Rattle.std.specs.Prelude.{nat_le}
 use Rattle.std.specs.List.{list_all, list_any}
 use Rattle.std.specs.Str.{bytes_eq}
 use Rattle.std.proofs.lemmas.Bool.{and_parts}
 use Rattle.std.proofs.lemmas.Slice.Eq.{bytes_eq-Decides}
 use Rattle.tp_base.specs.NameText.{is_name_text}
 use Rattle.tp_machine.specs.Machines.{IsName}
-use Rattle.tp_machine.specs.Rules.{are_names, do_names_differ}
+use Rattle.tp_machine.specs.Rules.{are_names, are_named, do_names_differ, have_few_holds}
+use Rattle.tp_machine.specs.Using.{action_at}
 use Rattle.tp_machine.specs.declared.parts.Action.{Action}
 use Rattle.tp_machine.specs.declared.parts.Feeder.{Feeder}
 use Rattle.tp_machine.specs.declared.parts.Resource.{Resource}
 use Rattle.tp_machine.specs.declared.whole.Machine.{Machine}
-use Rattle.tp_machine.proofs.Lists.{All-from_test, All-from_none, AllPairs-nil, AllPairs-cons}
+use Rattle.tp_machine.proofs.Lists.{list_all-at, All-from_test, All-from_none, AllPairs-nil, AllPairs-cons}
 
 another : (a b : List ℕ) → bytes_eq a b ≡ false → a ≢ b
 another a b other same = let yes = (bytes_eq-Decides a b).1 same in absurd (cc)
@@ -33,6 +35,7 @@ pub record NameTests (m : Machine) : Type 0 where
   pub actions : list_all (λ a. is_name_text a.name) m.actions ≡ true
 
 pub name_tests : (m : Machine) → NameTests m
+unfolding are_named
 name_tests m =
     let media = list_all (λ f. is_name_text f.media) m.feeders in
     let resources = list_all (λ r. is_name_text r.name) m.resources in
@@ -63,3 +66,7 @@ resource_names resources test = All-from_test (λ r. is_name_text r.name) (λ r.
 
 pub media_names : (feeders : List Feeder) → list_all (λ f. is_name_text f.media) feeders ≡ true → All (λ f. IsName f.media) feeders
 media_names feeders test = All-from_test (λ f. is_name_text f.media) (λ f. IsName f.media) (λ f t. t) feeders test
+
+pub few_holds_at : (m : Machine) (n : ℕ) (a : Action) → action_at m n ≡ Some a → nat_le (length a.holds) 4 ≡ true
+unfolding have_few_holds
+few_holds_at m n a at = list_all-at (λ b. nat_le (length b.holds) 4) m.actions n a m.few_holds at

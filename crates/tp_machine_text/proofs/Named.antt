@@ -7,6 +7,7 @@ use Rattle.std.proofs.lemmas.List.{length-map}
 use Rattle.tp_base.specs.NameText.{is_name_text}
 use Rattle.toml.specs.Data.{Data, string, integer, float, boolean, datetime, array, table, Members, no_members, member, get}
 use Rattle.tp_machine.specs.Rules as machine
+use Rattle.tp_machine.specs.Rules.{have_few_holds}
 use Rattle.tp_machine_text.specs.Words.{keys_of, data_of, text_of, text_in, text_at, is_there, is_fit, is_array, is_name, are_names, are_different}
 use Rattle.tp_machine_text.specs.ActionRules.{is_named}
 use Rattle.tp_machine_text.specs.HoldRules.{holds, is_hold, has_holds}
@@ -69,6 +70,7 @@ module _ (ls ms rs : List (List ℕ)) where
       rw (length-map (holds a) (hold_of rs)) (and_parts (is_fit is_array (get (codes "holds") a)) (nat_le (length (holds a)) 4) two).1
 
   pub few_holds_sound : (deeds : List Data) → list_all (has_holds rs) deeds ≡ true → machine.have_few_holds (map (action_of ls ms rs) deeds) ≡ true
+  unfolding have_few_holds
   few_holds_sound [] held = refl
   few_holds_sound (a ∷ deeds) held =
       let (here, rest) = and_parts (has_holds rs a) (list_all (has_holds rs) deeds) held in

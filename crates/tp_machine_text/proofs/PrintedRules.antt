@@ -6,6 +6,7 @@ use Rattle.std.proofs.lemmas.List.{length-map}
 use Rattle.tp_base.specs.NameText.{is_name_text}
 use Rattle.toml.specs.Data.{Data, Members}
 use Rattle.tp_machine.specs.Rules as machine
+use Rattle.tp_machine.specs.Rules.{have_few_holds}
 use Rattle.tp_machine.specs.declared.parts.Action.{Action}
 use Rattle.tp_machine.specs.declared.parts.Feeder.{Feeder}
 use Rattle.tp_machine.specs.declared.parts.LocId.{LocId}
@@ -126,6 +127,7 @@ module _ (m : Machine) where
   -- ---- holds
 
   holds : has_action_holds (table_of m) ≡ true
+  unfolding have_few_holds
   holds =
       rw (actions_are, resources_are m)
       (each_action (machine.has_holds m.resources) (λ a. nat_le (length a.holds) 4) (has_holds (resource_names m.resources))

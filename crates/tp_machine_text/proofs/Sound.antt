@@ -7,6 +7,7 @@ use Rattle.std.proofs.lemmas.List.{length-map}
 use Rattle.tp_base.specs.NameText.{is_between}
 use Rattle.toml.specs.Data.{Members, get_member}
 use Rattle.tp_machine.specs.Rules as machine
+use Rattle.tp_machine.specs.Rules.{are_named}
 use Rattle.tp_machine_text.specs.Words.{elements_at, members_at, is_among}
 use Rattle.tp_machine_text.specs.Keys as text
 use Rattle.tp_machine_text.specs.Kept.{KeepsRules}
@@ -96,6 +97,7 @@ module _ (t : Members) (k : KeepsRules t) where
 
   pub named : machine.are_named (text.locations t) (text.modules t) (feeders_of (text.locations t) (feeder_table t)) (resources_of (text.modules t) (resource_table t))
       (map (action_of (text.locations t) (text.modules t) (text.resources t)) (text.actions t)) ≡ true
+  unfolding are_named
   named =
       rw (
         names_sound 256 (elements_at (codes "locations") t) k.locations,
