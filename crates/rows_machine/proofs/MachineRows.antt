@@ -1,9 +1,15 @@
 -- DUO and TAIL as values, for the rows of schedules.
-use Rattle.std.proofs.Common.{ℕ, Bool, true, false, List, [], ◌∷◌, refl, codes, ℤ, pos, negsuc}
+use Rattle.std.proofs.Common.{◌≡◌, ℕ, Bool, true, false, ◌&&◌, List, [], ◌∷◌, length, refl, codes, ℤ, pos, negsuc}
+use Rattle.std.specs.Prelude.{nat_le}
+use Rattle.std.specs.List.{list_all}
+use Rattle.tp_base.specs.NameText.{is_name_text}
+use Rattle.tp_machine.specs.Rules.{are_names, are_named, have_few_holds}
 use Rattle.tp_machine.specs.declared.parts.ActId.{ActId}
 use Rattle.tp_machine.specs.declared.parts.Action.{Action}
 use Rattle.tp_machine.specs.declared.parts.Anchor.{Anchor}
 use Rattle.tp_machine.specs.declared.parts.Anchor.TheVariants.{Start, End}
+use Rattle.tp_machine.specs.declared.parts.Feeder.{Feeder}
+use Rattle.tp_machine.specs.declared.parts.Resource.{Resource}
 use Rattle.tp_machine.specs.declared.parts.Face.TheVariants.{Front as FrontUp}
 use Rattle.tp_machine.specs.declared.parts.HoldRule.{HoldRule}
 use Rattle.tp_machine.specs.declared.parts.LocId.{LocId}
@@ -34,6 +40,16 @@ action name m from to least most mono colour holds = record {
   holds = holds;
 }
 
+-- tests that hold by computing, at machines that are written out
+pub named_by : (ls ms : List (List ℕ)) (fs : List Feeder) (rs : List Resource) (deeds : List Action)
+    → (are_names ls && are_names ms && list_all (λ f. is_name_text f.media) fs && list_all (λ r. is_name_text r.name) rs && list_all (λ a. is_name_text a.name) deeds) ≡ true → are_named ls ms fs rs deeds ≡ true
+unfolding are_named
+named_by ls ms fs rs deeds test = test
+
+pub few_by : (deeds : List Action) → list_all (λ a. nat_le (length a.holds) 4) deeds ≡ true → have_few_holds deeds ≡ true
+unfolding have_few_holds
+few_by deeds test = test
+
 abbrev pub duo : Machine
 duo = record {
   lead = 2;
@@ -53,6 +69,7 @@ duo = record {
       ∷ action (codes "out") 3 2 3 3 30 false false (hold 3 End (negsuc 0) End (pos 0) ∷ [])
       ∷ action (codes "dump") 4 2 4 3 3 false false []
       ∷ [];
+  named = named_by _ _ _ _ _ refl;
   numbers = refl;
   counts = refl;
   good_trays = refl;
@@ -62,6 +79,7 @@ duo = record {
   names_differ = refl;
   ways = refl;
   durations = refl;
+  few_holds = few_by _ refl;
   holds = refl;
 }
 
@@ -80,6 +98,7 @@ tail = record {
       action (codes "feed") 0 0 1 2 2 false false (hold 0 Start (pos 0) End (pos 5) ∷ [])
       ∷ action (codes "out") 1 1 2 3 3 false false (hold 1 End (negsuc 0) End (pos 0) ∷ [])
       ∷ [];
+  named = named_by _ _ _ _ _ refl;
   numbers = refl;
   counts = refl;
   good_trays = refl;
@@ -89,6 +108,7 @@ tail = record {
   names_differ = refl;
   ways = refl;
   durations = refl;
+  few_holds = few_by _ refl;
   holds = refl;
 }
 
