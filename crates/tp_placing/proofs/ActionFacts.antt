@@ -1,10 +1,10 @@
 -- An action that is opened.
-use Rattle.std.proofs.Common.{◌≡◌, ℕ, zero, suc, ◌+◌, ◌-◌, ◌*◌, ◌<◌, ◌≤◌, min, List, [], ◌∷◌, ◌++◌, length, map, refl, ap, sym, ◌∙◌, subst, arith, Option, Some, None, All, IsFalse, IsSome, IsSomeAnd, pos, neg_ℤ, negsuc, false}
+use Rattle.std.proofs.Common.{◌≡◌, ℕ, suc, ◌+◌, ◌-◌, ◌<◌, ◌≤◌, min, List, [], ◌∷◌, ◌++◌, length, map, refl, ap, sym, ◌∙◌, subst, arith, Some, All, IsSome, IsSomeAnd, pos, neg_ℤ, false}
 use Rattle.std.specs.List.{slice_get}
 use Rattle.std.proofs.lemmas.Int.{ints}
 use Rattle.std.proofs.lemmas.Option.{slice_get_within}
 use Rattle.std.proofs.lemmas.List.{length-append, length-map, map-append, append-nil}
-use Rattle.std.proofs.lemmas.List.Elements.{All-append, All-cons, All-nil}
+use Rattle.std.proofs.lemmas.List.Elements.{All-cons, All-nil}
 use Rattle.tp_base.specs.declared.edges.Edge.{Edge}
 use Rattle.tp_base.specs.declared.edges.PointId.{PointId}
 use Rattle.tp_base.specs.Net.{Net, HasLeast, HasNoSolution, with_point}
@@ -20,21 +20,21 @@ use Rattle.tp_schedule.specs.Holding.{holds_of_act}
 use Rattle.tp_schedule.specs.Spots.{Spot, Slot, Ticks}
 use Rattle.tp_schedule.specs.Spots.Spot.{own}
 use Rattle.tp_schedule.specs.declared.parts.Ask.{Ask}
-use Rattle.tp_schedule.specs.declared.parts.Plan.{Plan}
 use Rattle.tp_timelines.specs.Orders.{order_on}
-use Rattle.tp_constraints.specs.Gaps.{Gap, gap, range_gaps}
+use Rattle.tp_constraints.specs.Gaps.{range_gaps}
 use Rattle.tp_constraints.specs.Hops.{IsHop, ActionHops}
 use Rattle.tp_constraints.specs.Nets.{ActionNet, BoardLate, IsBoardNet}
 use Rattle.tp_constraints.specs.Numbers.{gap_by, table_of, IsEdgeOf, with_edges}
 use Rattle.tp_constraints.specs.Suffixes.{Suffix, SuffixTimes, order_in, suffix_cap, suffix_low, with_action}
 use Rattle.tp_constraints.proofs.Growing.{gaps-same}
-use Rattle.tp_placing.specs.declared.parts.Held.{Held}
 use Rattle.tp_placing.specs.declared.parts.Step.{Step}
 use Rattle.tp_placing.specs.Boards.{BoardValue, suffix_after}
 use Rattle.tp_placing.specs.Calls.{CanGoOn}
 use Rattle.tp_placing.specs.Edges.{duration_edges, edge_of}
 use Rattle.tp_placing.specs.Standing.{IsAtWith, IsAtHand, AreSlots, AreFewSteps, StandsOn, table_with}
-use Rattle.tp_placing.specs.Trying.{CanRequire}
+use Rattle.tp_placing.specs.Reasons.{IsReason}
+use Rattle.tp_placing.specs.Trying.{CanRequire, IsRefused}
+use Rattle.tp_placing.proofs.PartFacts.{shown-point}
 use Rattle.tp_placing.proofs.BoardFacts.{choices-room}
 use Rattle.tp_placing.proofs.LowFacts.{low-is, none-with-sum}
 use Rattle.tp_placing.proofs.SlotFacts.{slots-grown}
@@ -143,6 +143,22 @@ module _ {N : Type 0} (net : N → Net) (b : BoardValue N) (m : Machine) (ask : 
   pub open-refused : ActionNet → BoardLate → HasNoSolution (Extended (min sum (horizon + 1))) → (t : Ticks) → ¬ SuffixTimes m b.plans ask (with_action act room o.x) t
   open-refused action_net late none = (late m b.plans ask (with_action act room o.x) points (Extended sum) (board-net action_net)).0 (none-with-sum (net b.net) sum horizon es caps-lows none)
 
+  gaps-open : map (gap_by points) ((net b.net).edges ++ es) ≡ map (gap_by old) (net b.net).edges ++ range_gaps (action_at m act.0) (own (suc count)) (own count)
+  gaps-open =
+      let same : map (gap_by points) (net b.net).edges ≡ map (gap_by old) (net b.net).edges = gaps-same old (own (suc count) ∷ []) (net b.net).edges o.at.net.edges in
+      map-append (gap_by points) (net b.net).edges es ∙ (λ i. same i ++ gaps i)
+
+  hops-open : ActionHops → All (IsHop m b.plans ask (with_action act room o.x)) (map (gap_by points) ((net b.net).edges ++ es))
+  hops-open action_hops = subst (All (IsHop m b.plans ask (with_action act room o.x))) (sym gaps-open) (action_hops m b.plans ask o.x act room (map (gap_by old) (net b.net).edges) o.can.going o.at.hops)
+
+  pub open-reason : (refutes : N → Net → Type 0) (n : N) → ActionNet → ActionHops → IsRefused refutes n (with_point (net b.net) (min sum (horizon + 1)) horizon) es → IsReason refutes n m b.plans ask (with_action act room o.x)
+  open-reason refutes n action_net action_hops refused = record {
+    net = Extended sum;
+    is_net = board-net action_net;
+    hops = hops-open action_hops;
+    shown = shown-point refutes n (net b.net) (min sum (horizon + 1)) sum horizon es (omega arith) refused;
+  }
+
   orders-open : (q : ℕ) → q < length m.resources → AreSlots points b.held (order_on b.orders.orders q) (order_in m b.plans (with_action act room o.x) q)
   orders-open q known =
       let e : order_in m b.plans (with_action act room o.x) q ≡ order_in m b.plans o.x q = put-none q (own (suc count)) (own count) (holds_of_act (action_at m act.0)) (order_in m b.plans o.x q) in
@@ -160,13 +176,10 @@ module _ {N : Type 0} (net : N → Net) (b : BoardValue N) (m : Machine) (ask : 
       let fh = o.at.few_holds in
       let h = o.hand.1 in
       let f : s.first.0 ≡ length (table_of b.plans) + suc count = (let k = ap (λ (p : PointId). p.0) first_is in omega arith) in
-      let same : map (gap_by points) (net b.net).edges ≡ map (gap_by old) (net b.net).edges = gaps-same old (own (suc count) ∷ []) (net b.net).edges o.at.net.edges in
-      let all : map (gap_by points) ((net b.net).edges ++ es) ≡ map (gap_by old) (net b.net).edges ++ range_gaps (action_at m act.0) (own (suc count)) (own count) =
-      map-append (gap_by points) (net b.net).edges es ∙ (λ i. same i ++ gaps i) in
       subst (λ k. IsAtWith m b.plans ask (Some (with_action act room o.x)) (b.steps ++ s ∷ []) (Extended k) b.orders.orders b.held) (sym low) (record {
         net = board-net action_net;
         solved = subst (λ k. HasLeast (Extended k)) low solved;
-        hops = subst (All (IsHop m b.plans ask (with_action act room o.x))) (sym all) (action_hops m b.plans ask o.x act room (map (gap_by old) (net b.net).edges) o.can.going o.at.hops);
+        hops = hops-open action_hops;
         orders = orders-open;
         at_hand = at-hand-push (length (table_of b.plans)) (Some (with_action act room o.x)) b.steps s (newest_is, f);
         few_steps = subst (AreFewSteps (kept_of ask) (Some (with_action act room o.x))) (sym l) (few-action ask (length b.steps) o.x act room o.can o.at.few_steps);

@@ -26,6 +26,8 @@ pub mod LoadedNet
 pub mod LiveFacts
 pub mod LivePlans
 pub mod LoadedBoard
+pub mod PartFacts
+pub mod ReasonFacts
 pub mod LoadTicks
 pub mod PutAll
 pub mod LivePart

@@ -1,5 +1,5 @@
 -- The edges along the asked copy's line.
-use Rattle.std.proofs.Common.{◌≡◌, ℕ, zero, suc, ◌+◌, ◌<◌, ◌≤◌, Bool, true, false, cond, List, [], ◌∷◌, ◌++◌, length, map, refl, ap, sym, ◌∙◌, subst, arith, Option, Some, None, All, take, get_or, pos, negsuc}
+use Rattle.std.proofs.Common.{◌≡◌, ℕ, suc, ◌+◌, ◌<◌, ◌≤◌, Bool, true, false, cond, List, [], ◌∷◌, ◌++◌, length, map, refl, ap, sym, ◌∙◌, subst, arith, Option, Some, None, All, take, get_or, pos}
 use Rattle.std.specs.List.{slice_get}
 use Rattle.std.proofs.lemmas.Int.{ints}
 use Rattle.std.proofs.lemmas.Option.{slice_get_within, slice_get_read, slice_get-get_or}
@@ -12,13 +12,13 @@ use Rattle.tp_schedule.specs.Spots.{Spot}
 use Rattle.tp_schedule.specs.Spots.Spot.{kept, own}
 use Rattle.tp_schedule.specs.declared.parts.Ask.{Ask}
 use Rattle.tp_schedule.specs.declared.parts.Plan.{Plan}
-use Rattle.tp_constraints.specs.Gaps.{Gap, gap, end_spot, is_in_line}
+use Rattle.tp_constraints.specs.Gaps.{gap, end_spot, is_in_line}
 use Rattle.tp_constraints.specs.Numbers.{gap_by, points_from, spot_at, table_of}
 use Rattle.tp_constraints.specs.Suffixes.{end_gap, end_gaps}
 use Rattle.tp_placing.specs.Edges.{edge_of, end_edge, edge_list, plan_end, end_edges}
 use Rattle.tp_placing.specs.Standing.{AreFirsts, table_with}
 use Rattle.tp_placing.specs.Trying.{CanRequire}
-use Rattle.tp_placing.proofs.TableFacts.{BeginsAt, begins-at, get-right, length-firsts, length-points, points-get, table-own}
+use Rattle.tp_placing.proofs.TableFacts.{begins-at, get-right, length-firsts, length-points, points-get, table-own}
 use Rattle.tp_base.proofs.SliceFacts.{slice_get_left}
 
 -- one plan more

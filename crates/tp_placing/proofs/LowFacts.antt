@@ -1,10 +1,9 @@
 -- A point whose low may be after the horizon.
-use Rattle.std.proofs.Common.{◌≡◌, ℕ, zero, suc, ◌+◌, ◌<◌, ◌≤◌, min, List, [], ◌∷◌, ◌++◌, length, refl, ap, sym, ◌∙◌, subst, arith, inl, inr}
-use Rattle.std.specs.Prelude.{slice_index}
+use Rattle.std.proofs.Common.{◌≡◌, ℕ, ◌+◌, ◌<◌, min, List, [], ◌∷◌, length, refl, subst, arith, inl, inr}
 use Rattle.std.proofs.lemmas.Bool.{cases_lt}
 use Rattle.std.proofs.lemmas.List.{length-append, get_or_at}
 use Rattle.tp_base.specs.declared.edges.Edge.{Edge}
-use Rattle.tp_base.specs.Net.{Net, IsSolution, HasLeast, HasNoSolution, with_point}
+use Rattle.tp_base.specs.Net.{Net, HasLeast, HasNoSolution, with_point}
 use Rattle.tp_constraints.specs.Numbers.{with_edges}
 
 -- no solution has a point whose low is above its cap

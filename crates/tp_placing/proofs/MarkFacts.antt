@@ -1,5 +1,5 @@
 -- A board stands after a mark, and back at one.
-use Rattle.std.proofs.Common.{◌≡◌, ℕ, List, [], ◌∷◌, ◌++◌, take, length, ◌+◌, ◌<◌, ◌≤◌, false, refl, ap, sym, ◌∙◌, subst, Some, inl, inr, Contains, Option}
+use Rattle.std.proofs.Common.{◌≡◌, List, length, ◌+◌, ◌<◌, ◌≤◌, false, refl, ap, sym, ◌∙◌, subst, inl, inr, Contains}
 use Rattle.std.specs.List.{slice_get}
 use Rattle.tp_base.proofs.SliceFacts.{slice_get_end, slice_get_take}
 use Rattle.tp_base.specs.declared.edges.PointId.{PointId}
@@ -11,9 +11,6 @@ use Rattle.tp_schedule.specs.declared.parts.Plan.{Plan}
 use Rattle.tp_constraints.specs.Laws.{IsLoadable}
 use Rattle.tp_constraints.specs.Numbers.{table_of}
 use Rattle.tp_constraints.proofs.Lists.{contains-get, get-contains}
-use Rattle.tp_placing.specs.declared.parts.Held.{Held}
-use Rattle.tp_placing.specs.declared.parts.MadeFor.{MadeFor}
-use Rattle.tp_placing.specs.declared.parts.Step.{Step}
 use Rattle.tp_placing.specs.Boards.{BoardValue, BoardContent, BoardAside, content_of, aside_of, past_of}
 use Rattle.tp_placing.specs.Laws.{MarkKeeps, UndoKeeps}
 use Rattle.tp_placing.specs.Standing.{AreFirsts, IsAt, IsMadeFor, StandsOn}

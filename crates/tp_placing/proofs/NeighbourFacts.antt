@@ -1,5 +1,5 @@
 -- The edges to the neighbours of a place may be asked of the network.
-use Rattle.std.proofs.Common.{◌≡◌, ℕ, zero, suc, ◌+◌, ◌<◌, ◌≤◌, List, [], ◌∷◌, ◌++◌, length, refl, ap, sym, ◌∙◌, subst, arith, Option, Some, None, pos, negsuc, All, ℤ, ◌-ℤ◌, ◌≤ℤ◌}
+use Rattle.std.proofs.Common.{ℕ, zero, suc, ◌<◌, ◌≤◌, List, [], ◌∷◌, ◌++◌, length, sym, subst, arith, Option, Some, None, pos, negsuc, All, ℤ, ◌-ℤ◌, ◌≤ℤ◌}
 use Rattle.std.specs.List.{slice_get}
 use Rattle.std.proofs.lemmas.Int.{ints}
 use Rattle.std.proofs.lemmas.Option.{slice_get_within}
@@ -13,7 +13,7 @@ use Rattle.tp_machine.specs.declared.parts.Anchor.TheVariants.{Start, End}
 use Rattle.tp_schedule.specs.Spots.{Spot, Slot}
 use Rattle.tp_placing.specs.declared.parts.Held.{Held}
 use Rattle.tp_placing.specs.Edges.{anchor_point, hold_edge, edge_after, edge_until, held_of, held_before, held_behind}
-use Rattle.tp_placing.specs.Standing.{IsSlotOf, AreSlots, HasSmallOffsets}
+use Rattle.tp_placing.specs.Standing.{AreSlots, HasSmallOffsets}
 use Rattle.tp_placing.specs.Trying.{CanRequire}
 
 -- a hold whose points are there and whose offsets are in their range

@@ -1,7 +1,7 @@
 -- What stands at the marks of a board, as marks come and go.
-use Rattle.std.proofs.Common.{suc, zero, ◌≡◌, ℕ, ◌+◌, ◌<◌, ◌≤◌, List, [], ◌∷◌, ◌++◌, length, take, Some, sym, refl, ap, ◌∙◌, arith, inl, inr}
+use Rattle.std.proofs.Common.{suc, zero, ◌≡◌, ℕ, ◌<◌, ◌≤◌, List, [], ◌∷◌, ◌++◌, length, take, Some, refl, ap, arith, inl, inr}
 use Rattle.std.proofs.lemmas.Option.{slice_get_within}
-use Rattle.std.proofs.lemmas.List.{length-append, take_all, take-take, take-append-le}
+use Rattle.std.proofs.lemmas.List.{take_all, take-take, take-append-le}
 use Rattle.std.specs.List.{slice_get}
 use Rattle.tp_base.proofs.SliceFacts.{slice_get_end, slice_get_take}
 use Rattle.tp_placing.specs.declared.parts.BoardMark.{BoardMark}

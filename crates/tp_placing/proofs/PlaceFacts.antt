@@ -1,8 +1,7 @@
 -- A hold that is placed.
-use Rattle.std.proofs.Common.{◌≡◌, ℕ, zero, suc, ◌+◌, ◌-◌, ◌*◌, ◌<◌, ◌≤◌, Bool, true, false, cond, List, [], ◌∷◌, ◌++◌, length, map, set, get_or, refl, ap, sym, ◌∙◌, subst, arith, Option, Some, None, All, IsSomeAnd, inl, inr}
+use Rattle.std.proofs.Common.{◌≡◌, ℕ, suc, ◌+◌, ◌-◌, ◌<◌, ◌≤◌, Bool, true, false, cond, List, [], ◌∷◌, ◌++◌, length, map, refl, ap, sym, ◌∙◌, subst, arith, Option, Some, None, All, IsSomeAnd}
 use Rattle.std.specs.Prelude.{◌==◌, slice_set}
 use Rattle.std.specs.List.{slice_get, insert}
-use Rattle.std.proofs.lemmas.Bool.{cases_lt}
 use Rattle.std.proofs.lemmas.Bool.Decides.{nat_tests}
 use Rattle.std.proofs.lemmas.List.{length-append, length-map, map-append, get_or-set_same, get_or-set_other}
 use Rattle.std.proofs.lemmas.List.Edits.{length-insert}
@@ -37,12 +36,14 @@ use Rattle.tp_placing.specs.Edges.{edge_after, edge_until, held_before, held_beh
 use Rattle.tp_placing.specs.Standing.{IsAtWith, IsAtHand, IsSlotOf, AreSlots, HasSmallOffsets, AreFewSteps, StandsOn, newest_in, table_with}
 use Rattle.tp_placing.specs.Boards.{BoardValue, suffix_after}
 use Rattle.tp_placing.specs.Calls.{CanPlace}
-use Rattle.tp_placing.specs.Trying.{CanRequire}
+use Rattle.tp_placing.specs.Reasons.{IsReason}
+use Rattle.tp_placing.specs.Trying.{CanRequire, IsRefused}
+use Rattle.tp_placing.proofs.PartFacts.{shown-edges}
 use Rattle.tp_placing.proofs.StandFacts.{some-and, at-suffix}
 use Rattle.tp_placing.proofs.NeighbourFacts.{two-neighbours, can-neighbours, slots-known}
 use Rattle.tp_placing.proofs.SlotFacts.{length-slots, neighbour-gaps, slots-grown-held, slots-insert}
 use Rattle.tp_placing.proofs.StepFacts.{at-hand-push, edges-more, some-steps}
-use Rattle.tp_placing.proofs.TableFacts.{table-own, length-table}
+use Rattle.tp_placing.proofs.TableFacts.{table-own}
 
 -- ---- orders with one number more
 pub order-same : (lines : List (List ℕ)) (r : ℕ) (ids : List ℕ) → r < length lines → order_on (slice_set lines r ids) r ≡ ids
@@ -113,6 +114,14 @@ module _ (m : Machine) (plans : List Plan) (ask : Ask) (c : Choice) (choices : L
     place-refused place_net late in' none =
         let net = place_net m plans ask x c choices rule place table n es refl is_rule within at.net in' gaps in
         (late m plans ask (with_place place x) table (with_edges n es) net).0 none
+
+    pub place-reason : {N : Type 0} (refutes : N → Net → Type 0) (k : N) → PlaceNet → PlaceHops → All (IsEdgeOf table) es → IsRefused refutes k n es → IsReason refutes k m plans ask (with_place place x)
+    place-reason refutes k place_net place_hops in' refused = record {
+      net = with_edges n es;
+      is_net = place_net m plans ask x c choices rule place table n es refl is_rule within at.net in' gaps;
+      hops = subst (All (IsHop m plans ask (with_place place x))) (ap (λ gs. map (gap_by table) n.edges ++ gs) (sym gaps) ∙ sym (map-append (gap_by table) n.edges es)) (place_hops m plans ask x c choices rule place (map (gap_by table) n.edges) refl is_rule within at.hops);
+      shown = shown-edges refutes k n es refused;
+    }
 
     new-slot : IsSlotOf table (holds ++ h ∷ []) (length holds) slot
     new-slot = record { hold = h; at = slice_get_last holds h; rule = rule_is; start = start-own; end = end-own }
@@ -277,6 +286,11 @@ module _ {N : Type 0} (net : N → Net) (b : BoardValue N) (m : Machine) (ask : 
   refused-here place_net late none =
       place-refused m b.plans ask p.choice p.choices p.rooms p.stopped rule place p.is_rule b.steps (net b.net) b.orders.orders b.held h newest p.at p.hand p.some known resource p.within few-places fits-here rule_is start_is end_is
       place_net late (edges-of points edges_here can-points) none
+
+  pub reason-here : (refutes : N → Net → Type 0) (k : N) → PlaceNet → PlaceHops → IsRefused refutes k (net b.net) edges_here → IsReason refutes k m b.plans ask (with_place place suffix_here)
+  reason-here refutes k place_net place_hops refused =
+      place-reason m b.plans ask p.choice p.choices p.rooms p.stopped rule place p.is_rule b.steps (net b.net) b.orders.orders b.held h newest p.at p.hand p.some known resource p.within few-places fits-here rule_is start_is end_is
+      refutes k place_net place_hops (edges-of points edges_here can-points) refused
 
   pub placed-here : PlaceNet → PlaceHops → HasLeast (with_edges (net b.net) edges_here) → (s : Step) → s.newest ≡ newest.newest → s.first ≡ newest.first
       → IsAtWith m b.plans ask (Some (with_place place suffix_here)) (b.steps ++ s ∷ []) (with_edges (net b.net) edges_here) (slice_set b.orders.orders rule.resource.0 (insert order_here place (length b.held))) (b.held ++ h ∷ [])

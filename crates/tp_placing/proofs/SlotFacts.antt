@@ -1,16 +1,15 @@
 -- Orders of numbers as orders of slots.
-use Rattle.std.proofs.Common.{◌≡◌, ℕ, zero, suc, ◌+◌, ◌<◌, ◌≤◌, List, [], ◌∷◌, ◌++◌, length, map, take, drop, refl, ap, sym, ◌∙◌, subst, arith, Option, Some, None, pos, ◌-ℤ◌}
+use Rattle.std.proofs.Common.{◌≡◌, ℕ, zero, suc, List, [], ◌∷◌, ◌++◌, length, map, refl, ap, sym, ◌∙◌, subst, Option, Some, None, ◌-ℤ◌}
 use Rattle.std.proofs.lemmas.List.{map-append, append-nil}
 use Rattle.std.specs.List.{slice_get, insert}
 use Rattle.std.proofs.lemmas.Option.{slice_get_within}
 use Rattle.tp_base.proofs.SliceFacts.{slice_get_left}
-use Rattle.tp_base.specs.declared.edges.Edge.{Edge}
 use Rattle.tp_machine.specs.declared.parts.Anchor.{Anchor}
 use Rattle.tp_machine.specs.declared.parts.Anchor.TheVariants.{Start, End}
 use Rattle.tp_machine.specs.declared.parts.HoldRule.{HoldRule}
 use Rattle.tp_base.specs.declared.edges.PointId.{PointId}
 use Rattle.tp_schedule.specs.Spots.{Spot, Slot}
-use Rattle.tp_constraints.specs.Gaps.{Gap, gap, anchor_spot, slot_gap}
+use Rattle.tp_constraints.specs.Gaps.{gap, anchor_spot, slot_gap}
 use Rattle.tp_constraints.specs.Numbers.{spot_at, gap_by}
 use Rattle.tp_constraints.specs.Suffixes.{gap_after, gap_until, before_place, place_gaps}
 use Rattle.tp_placing.specs.declared.parts.Held.{Held}

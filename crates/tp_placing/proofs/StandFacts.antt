@@ -1,8 +1,7 @@
 -- What a board stands on, and that it stands after a step.
-use Rattle.std.proofs.Common.{◌≡◌, ℕ, suc, ◌+◌, ◌-◌, ◌*◌, ◌<◌, ◌≤◌, List, [], ◌∷◌, ◌++◌, length, map, refl, ap, sym, ◌∙◌, subst, arith, Option, Some, None, IsSomeAnd, Contains}
+use Rattle.std.proofs.Common.{◌≡◌, ℕ, suc, ◌+◌, ◌<◌, ◌≤◌, List, [], ◌∷◌, length, refl, ap, sym, ◌∙◌, subst, arith, Option, Some, None, IsSomeAnd, Contains}
 use Rattle.std.proofs.lemmas.List.{length-map}
 use Rattle.std.proofs.lemmas.Option.{same_Some}
-use Rattle.std.specs.List.{slice_get}
 use Rattle.tp_base.specs.Net.{Net}
 use Rattle.tp_machine.specs.declared.whole.Machine.{Machine}
 use Rattle.tp_schedule.specs.declared.parts.Ask.{Ask}
@@ -16,7 +15,7 @@ use Rattle.tp_placing.specs.declared.parts.Held.{Held}
 use Rattle.tp_placing.specs.declared.parts.Step.{Step}
 use Rattle.tp_placing.specs.Boards.{BoardValue, suffix_after, past_of, side_by_side}
 use Rattle.tp_placing.specs.Inside.{most_steps}
-use Rattle.tp_placing.specs.Standing.{IsAtWith, IsAtHand, IsAt, StandsOn, table_with, step_edges, loaded_edges}
+use Rattle.tp_placing.specs.Standing.{IsAtWith, IsAt, StandsOn, table_with, step_edges, loaded_edges}
 use Rattle.tp_placing.proofs.TableFacts.{length-table}
 
 pub some-and : {X : Type 0} (o : Option X) (P : X → Type 0) → IsSomeAnd o P → (x : X) × (o ≡ Some x) × P x

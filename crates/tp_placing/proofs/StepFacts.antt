@@ -1,5 +1,5 @@
 -- One step more.
-use Rattle.std.proofs.Common.{◌≡◌, ℕ, zero, suc, ◌+◌, ◌-◌, ◌*◌, ◌<◌, ◌≤◌, List, [], ◌∷◌, ◌++◌, length, refl, ap, sym, ◌∙◌, subst, arith, Option, Some, None, IsFalse, false, true}
+use Rattle.std.proofs.Common.{◌≡◌, ℕ, suc, ◌+◌, ◌-◌, ◌<◌, List, [], ◌∷◌, ◌++◌, length, refl, ap, sym, ◌∙◌, subst, arith, Option, Some, None}
 use Rattle.std.proofs.lemmas.List.{length-append}
 use Rattle.std.proofs.lemmas.List.Sums.{fold-append}
 use Rattle.std.proofs.lemmas.Option.{same_Some}
@@ -7,12 +7,12 @@ use Rattle.std.specs.List.{slice_get}
 use Rattle.tp_base.proofs.SliceFacts.{slice_get_last}
 use Rattle.std.specs.List.{fold}
 use Rattle.tp_schedule.specs.Choices.{Choice}
-use Rattle.tp_constraints.specs.Suffixes.{Suffix, place_first, with_stop}
+use Rattle.tp_constraints.specs.Suffixes.{Suffix, place_first}
 use Rattle.tp_placing.specs.declared.parts.Change.{Change}
 use Rattle.tp_placing.specs.declared.parts.Change.TheVariants.{Goal, Action, Place, Stop}
 use Rattle.tp_placing.specs.declared.parts.Step.{Step}
 use Rattle.tp_placing.specs.Boards.{after_change, suffix_after}
-use Rattle.tp_placing.specs.Standing.{IsAtHand, AreFewSteps, step_edges}
+use Rattle.tp_placing.specs.Standing.{IsAtHand, step_edges}
 
 pub suffix-push : (steps : List Step) (s : Step) → suffix_after (steps ++ s ∷ []) ≡ after_change (suffix_after steps) s.change
 suffix-push steps s = fold-append (λ x (s : Step). after_change x s.change) None steps (s ∷ [])

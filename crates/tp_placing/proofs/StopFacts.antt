@@ -1,5 +1,5 @@
 -- A list that is stopped.
-use Rattle.std.proofs.Common.{rules, suc, pos, ◌≡◌, ℕ, ◌+◌, ◌<◌, ◌≤◌, List, [], ◌∷◌, ◌++◌, length, map, refl, ap, sym, ◌∙◌, subst, arith, Some, All, IsFalse, IsSomeAnd, true, false, ◌-◌}
+use Rattle.std.proofs.Common.{rules, suc, pos, ◌≡◌, ℕ, ◌+◌, ◌<◌, List, [], ◌∷◌, ◌++◌, length, map, refl, ap, sym, ◌∙◌, subst, arith, Some, All, IsFalse, IsSomeAnd, true, false, ◌-◌}
 use Rattle.std.proofs.lemmas.List.{length-append, map-append}
 use Rattle.std.proofs.lemmas.List.Elements.{All-nil, All-cons}
 use Rattle.tp_base.specs.declared.edges.Edge.{Edge}
@@ -15,7 +15,7 @@ use Rattle.tp_schedule.specs.declared.parts.Ask.{Ask}
 use Rattle.tp_schedule.specs.declared.parts.Plan.{Plan}
 use Rattle.tp_constraints.specs.Gaps.{gap}
 use Rattle.tp_constraints.specs.Hops.{IsHop}
-use Rattle.tp_constraints.specs.Numbers.{gap_by, table_of, IsEdgeOf, with_edges}
+use Rattle.tp_constraints.specs.Numbers.{gap_by, table_of, IsEdgeOf}
 use Rattle.tp_constraints.specs.Nets.{StopNet, BoardLate}
 use Rattle.tp_constraints.specs.Hops.{StopHops}
 use Rattle.tp_constraints.specs.Suffixes.{Suffix, SuffixTimes, IsInFlight, stop_gaps, with_stop}
@@ -28,6 +28,8 @@ use Rattle.tp_base.specs.declared.edges.PointId.{PointId}
 use Rattle.tp_placing.specs.Edges.{edge_of}
 use Rattle.tp_placing.proofs.TableFacts.{table-left, table-own}
 use Rattle.tp_placing.specs.Boards.{BoardValue, suffix_after}
+use Rattle.tp_placing.specs.Reasons.{IsReason}
+use Rattle.tp_placing.proofs.PartFacts.{whole-is-part}
 use Rattle.tp_placing.proofs.StandFacts.{some-and, at-suffix}
 use Rattle.tp_placing.proofs.StepFacts.{at-hand-push, edges-more, some-steps}
 
@@ -129,3 +131,15 @@ module _ {N : Type 0} (net : N → Net) (b : BoardValue N) (m : Machine) (ask : 
       let same = stop-gap m b.plans ask here.x newest.first end here.hand.1 here.end_is in
       let n = stop_net m b.plans ask here.x table (net b.net) (edge ∷ []) asked here.flying here.going here.at.net (All-cons (IsEdgeOf table) edge [] in' (All-nil (IsEdgeOf table))) (ap (λ g. g ∷ []) same) in
       (late m b.plans ask (with_stop here.x) table (with_edge (net b.net) edge) n).0 none
+
+  pub stop-reason : (refutes : N → Net → Type 0) (n : N) → StopNet → StopHops → IsAsked m b.plans ask → refutes n (with_edge (net b.net) edge) → IsReason refutes n m b.plans ask (with_stop here.x)
+  stop-reason refutes n stop_net stop_hops asked shown =
+      let table = table_with b.plans (suc (length here.x.choices)) in
+      let in' = stop-edge m b.plans ask here.x newest.first end here.hand.1 here.end_is in
+      let gaps : map (gap_by table) (edge ∷ []) ≡ stop_gaps ask (length here.x.choices) true = ap (λ g. g ∷ []) (stop-gap m b.plans ask here.x newest.first end here.hand.1 here.end_is) in
+      record {
+        net = with_edge (net b.net) edge;
+        is_net = stop_net m b.plans ask here.x table (net b.net) (edge ∷ []) asked here.flying here.going here.at.net (All-cons (IsEdgeOf table) edge [] in' (All-nil (IsEdgeOf table))) gaps;
+        hops = subst (All (IsHop m b.plans ask (with_stop here.x))) (ap (λ gs. map (gap_by table) (net b.net).edges ++ gs) (sym gaps) ∙ sym (map-append (gap_by table) (net b.net).edges (edge ∷ []))) (stop_hops m b.plans ask here.x (map (gap_by table) (net b.net).edges) here.going here.at.hops);
+        shown = record { late = with_edge (net b.net) edge; shown = shown; part = whole-is-part (with_edge (net b.net) edge) };
+      }

@@ -9,3 +9,4 @@ pub mod Trying
 pub mod Laws
 pub mod Standing
 pub mod Loaded
+pub mod Reasons

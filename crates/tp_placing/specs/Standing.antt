@@ -1,5 +1,5 @@
 -- What holds of a loaded board: its network and its orders are those of the live plans with the suffix so far.
-use Rattle.std.specs.Prelude.{◌≡◌, ℕ, zero, suc, ◌+◌, ◌-◌, ◌*◌, ◌<◌, ◌≤◌, Bool, true, false, List, [], ◌∷◌, ◌++◌, length, map, slice_get, Option, Some, None, All, Contains, IsTrue, if◌then◌else◌}
+use Rattle.std.specs.Prelude.{◌≡◌, ℕ, zero, suc, ◌+◌, ◌-◌, ◌*◌, ◌<◌, ◌≤◌, Bool, false, List, [], ◌∷◌, ◌++◌, length, map, slice_get, Option, Some, None, All, Contains, if◌then◌else◌}
 use Rattle.tp_base.specs.Net.{Net, HasLeast}
 use Rattle.tp_machine.specs.Machines.{IsOffset}
 use Rattle.tp_machine.specs.declared.parts.ActId.{ActId}
@@ -7,7 +7,7 @@ use Rattle.tp_machine.specs.declared.parts.HoldRule.{HoldRule}
 use Rattle.tp_machine.specs.declared.whole.Machine.{Machine}
 use Rattle.tp_schedule.specs.Answers.{IsAsked, kept_of}
 use Rattle.tp_schedule.specs.Choices.{Choice, start_floor}
-use Rattle.tp_schedule.specs.Spots.{Spot, Slot, Ticks, slot_order}
+use Rattle.tp_schedule.specs.Spots.{Spot, Slot, slot_order}
 use Rattle.tp_schedule.specs.Spots.Spot.{own}
 use Rattle.tp_schedule.specs.declared.parts.Ask.{Ask}
 use Rattle.tp_schedule.specs.declared.parts.Plan.{Plan}
@@ -17,7 +17,7 @@ use Rattle.tp_constraints.specs.Hops.{IsHop}
 use Rattle.tp_constraints.specs.Laws.{IsLoadable, plans_gaps}
 use Rattle.tp_constraints.specs.Nets.{IsLoadedNet, IsBoardNet}
 use Rattle.tp_constraints.specs.Numbers.{table_of, gap_by}
-use Rattle.tp_constraints.specs.Suffixes.{Suffix, SuffixTimes, order_in}
+use Rattle.tp_constraints.specs.Suffixes.{Suffix, order_in}
 use Rattle.tp_base.specs.declared.edges.PointId.{PointId}
 use Rattle.tp_placing.specs.declared.parts.Held.{Held}
 use Rattle.tp_placing.specs.declared.parts.MadeFor.{MadeFor}

@@ -18,6 +18,7 @@ mod neighbours;
 mod opening;
 mod parts;
 mod reading;
+mod reasons;
 mod trying;
 mod undoing;
 

@@ -3,6 +3,7 @@ ghost use Rattle.tp_machine.specs.declared.whole.Machine.{Machine};
 ghost use Rattle.tp_constraints.specs.Suffixes.{IsInFlight, with_action, with_goal, with_place, with_stop};
 ghost use Rattle.tp_placing.specs.Boards.{content_of, past_of, suffix_of};
 ghost use Rattle.tp_placing.specs.Calls.{CanGoOn, CanPlace, HasNoTimes, HasTimes, IsSameLoad};
+ghost use Rattle.tp_placing.specs.Reasons.{HasReason};
 ghost use Rattle.tp_placing.specs.Standing.{Stands};
 
 use crate::board::Board;
@@ -26,6 +27,7 @@ impl<N: Network> Board<N> {
         ensures suffix { OnOk result (IsSomeAnd (suffix_of self.old) (λ x. suffix_of self.new ≡ Some (with_stop x))) }
         ensures times { OnOk result ((m : Machine) → Stands N.net N.content N.past self.old m → IsSomeAnd (suffix_of self.new) (HasTimes m self.new)) }
         ensures late { OnErr result ((m : Machine) → Stands N.net N.content N.past self.old m → IsSomeAnd (suffix_of self.old) (λ x. HasNoTimes m self.old (with_stop x))) }
+        ensures shown { OnErr result ((m : Machine) → Stands N.net N.content N.past self.old m → IsSomeAnd (suffix_of self.old) (λ x. HasReason N.refutes m self.new (with_stop x))) }
         ensures same { OnErr result (content_of N.content self.new ≡ content_of N.content self.old) }
         ensures stands { (m : Machine) → Stands N.net N.content N.past self.old m → Stands N.net N.content N.past self.new m }
         ensures past { past_of N.past self.new ≡ past_of N.past self.old }
@@ -64,6 +66,7 @@ impl<N: Network> Board<N> {
         ensures suffix { OnOk result (IsSomeAnd (suffix_of self.old) (λ x. suffix_of self.new ≡ Some (with_place place x))) }
         ensures times { OnOk result (IsSomeAnd (suffix_of self.new) (HasTimes machine.now self.new)) }
         ensures late { OnErr result (IsSomeAnd (suffix_of self.old) (λ x. HasNoTimes machine.now self.old (with_place place x))) }
+        ensures shown { OnErr result (IsSomeAnd (suffix_of self.old) (λ x. HasReason N.refutes machine.now self.new (with_place place x))) }
         ensures same { OnErr result (content_of N.content self.new ≡ content_of N.content self.old) }
         ensures stands { Stands N.net N.content N.past self.new machine.now }
         ensures past { past_of N.past self.new ≡ past_of N.past self.old }
@@ -116,6 +119,7 @@ impl<N: Network> Board<N> {
         ensures suffix { OnOk result (IsSomeAnd (suffix_of self.old) (λ x. suffix_of self.new ≡ Some (with_action act room x))) }
         ensures times { OnOk result (IsSomeAnd (suffix_of self.new) (HasTimes machine.now self.new)) }
         ensures late { OnErr result (IsSomeAnd (suffix_of self.old) (λ x. HasNoTimes machine.now self.old (with_action act room x))) }
+        ensures shown { OnErr result (IsSomeAnd (suffix_of self.old) (λ x. HasReason N.refutes machine.now self.new (with_action act room x))) }
         ensures same { OnErr result (content_of N.content self.new ≡ content_of N.content self.old) }
         ensures stands { Stands N.net N.content N.past self.new machine.now }
         ensures past { past_of N.past self.new ≡ past_of N.past self.old }
@@ -151,6 +155,7 @@ impl<N: Network> Board<N> {
         ensures suffix { OnOk result (suffix_of self.new ≡ Some (with_goal room)) }
         ensures times { OnOk result ((m : Machine) → Stands N.net N.content N.past self.old m → HasTimes m self.new (with_goal room)) }
         ensures late { OnErr result ((m : Machine) → Stands N.net N.content N.past self.old m → HasNoTimes m self.old (with_goal room)) }
+        ensures shown { OnErr result ((m : Machine) → Stands N.net N.content N.past self.old m → HasReason N.refutes m self.new (with_goal room)) }
         ensures same { OnErr result (content_of N.content self.new ≡ content_of N.content self.old) }
         ensures stands { (m : Machine) → Stands N.net N.content N.past self.old m → Stands N.net N.content N.past self.new m }
         ensures past { past_of N.past self.new ≡ past_of N.past self.old }

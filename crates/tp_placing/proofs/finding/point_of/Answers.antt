@@ -1,9 +1,7 @@
-use Rattle.std.proofs.Common.{rules, arith, sym, ◌∙◌, ◌≡◌, ◌+◌, ◌<◌, ◌≤◌, length, Some, None, IsSome, IsSomeAnd, Option, subst, refl}
+use Rattle.std.proofs.Common.{rules, arith, sym, ◌∙◌, Some, None, IsSome, IsSomeAnd, Option, refl}
 use Rattle.std.proofs.lemmas.Option.{slice_get_within}
-use Rattle.tp_schedule.specs.Plans.{plan_of}
 use Rattle.tp_schedule.specs.declared.parts.Plan.{Plan}
 use Rattle.tp_constraints.specs.Numbers.{table_of}
-use Rattle.tp_schedule.specs.Spots.Spot.{kept}
 use Rattle.tp_schedule.proofs.ChangeFacts.{planned-has_place}
 use Rattle.tp_placing.proofs.TableFacts.{length-firsts, point-found}
 use Rattle.tp_placing.proofs.finding.point_of.Goals as goal

@@ -1,8 +1,8 @@
-use Rattle.std.proofs.Common.{rules, arith, take, sym, refl, ap, ◌∙◌, subst, ◌≡◌, ◌+◌, ◌<◌, ◌≤◌, ◌^◌, length, ◌++◌, ◌∷◌, [], List, Some, None, get_or}
+use Rattle.std.proofs.Common.{rules, arith, take, sym, ap, ◌∙◌, ◌≡◌, ◌+◌, ◌<◌, ◌^◌, length, ◌++◌, None, get_or}
 use Rattle.std.specs.Prelude.{Vec, vec_capacity}
 use Rattle.std.specs.declared.alloc.Global.{Global}
 use Rattle.tp_base.specs.declared.edges.Edge.{Edge}
-use Rattle.tp_placing.specs.Edges.{edge_list, end_edge, end_edges, plan_end}
+use Rattle.tp_placing.specs.Edges.{edge_list, end_edge, plan_end}
 use Rattle.tp_placing.proofs.LineFacts.{edges-next, edges-all, end-fits, length-edges}
 use Rattle.tp_placing.proofs.TableFacts.{length-firsts}
 use Rattle.std.proofs.lemmas.List.{append-nil, length-take-le}

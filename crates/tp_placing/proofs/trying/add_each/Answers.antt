@@ -1,4 +1,4 @@
-use Rattle.std.proofs.Common.{◌+◌, subst, length}
+use Rattle.std.proofs.Common.{◌+◌, subst}
 use Rattle.std.proofs.lemmas.List.{get_or_default}
 use Rattle.tp_base.specs.Net.{HasNoSolution}
 use Rattle.tp_placing.proofs.TryFacts.{edge-at, late-fewer}

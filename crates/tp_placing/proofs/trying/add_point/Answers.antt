@@ -1,5 +1,5 @@
 use Rattle.std.proofs.Common.{◌≡◌, ◌∙◌, ap, subst, OnOk, OnErr}
-use Rattle.tp_base.specs.Net.{Net, HasNoSolution, with_point, with_low}
+use Rattle.tp_base.specs.Net.{Net, HasNoSolution, with_low}
 use Rattle.tp_placing.proofs.TryFacts.{raised-point}
 use Rattle.tp_placing.proofs.trying.add_point.Goals as goal
 

@@ -1,4 +1,3 @@
-use Rattle.std.proofs.Common.{ap, ◌∙◌}
 use Rattle.tp_schedule.specs.Spots.Spot.{own}
 use Rattle.tp_placing.specs.Boards.{suffix_after}
 use Rattle.tp_placing.proofs.ReadFacts.{end-point, known-point, least-tick}

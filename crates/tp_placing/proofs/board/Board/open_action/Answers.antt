@@ -1,4 +1,4 @@
-use Rattle.std.proofs.Common.{rules, arith, sym, refl, ap, ◌∙◌, subst, ◌≡◌, ℕ, suc, ◌+◌, ◌-◌, ◌<◌, ◌≤◌, ◌^◌, min, length, Some, IsSomeAnd, All, List, ◌++◌, ◌∷◌, []}
+use Rattle.std.proofs.Common.{rules, arith, sym, refl, ap, ◌∙◌, subst, ◌≡◌, ℕ, suc, ◌+◌, ◌-◌, ◌<◌, ◌≤◌, ◌^◌, min, length, Some, IsSomeAnd, List, ◌++◌, ◌∷◌, []}
 use Rattle.std.specs.List.{slice_get}
 use Rattle.std.proofs.lemmas.Option.{slice_get_read}
 use Rattle.std.proofs.lemmas.List.{length-append}
@@ -8,10 +8,8 @@ use Rattle.tp_machine.specs.Using.{action_at}
 use Rattle.tp_machine.specs.declared.parts.Action.{Action}
 use Rattle.tp_schedule.specs.Answers.{kept_of}
 use Rattle.tp_schedule.specs.Choices.{start_floor}
-use Rattle.tp_schedule.specs.Spots.{Ticks}
-use Rattle.tp_schedule.specs.declared.parts.Ask.{Ask}
 use Rattle.tp_constraints.specs.Numbers.{table_of, with_edges}
-use Rattle.tp_constraints.specs.Suffixes.{Suffix, SuffixTimes, with_action}
+use Rattle.tp_constraints.specs.Suffixes.{Suffix, with_action}
 use Rattle.tp_placing.specs.declared.parts.Change.TheVariants.{Action as ActionOpened}
 use Rattle.tp_placing.specs.declared.parts.Step.{Step}
 use Rattle.tp_placing.specs.Boards.{BoardValue, after_change, suffix_after, suffix_of}
@@ -19,10 +17,11 @@ use Rattle.tp_placing.specs.Calls.{CanGoOn}
 use Rattle.tp_placing.specs.Edges.{duration_edges}
 use Rattle.tp_placing.specs.Inside.{board_of}
 use Rattle.tp_placing.specs.Standing.{Stands, IsAtWith}
-use Rattle.tp_placing.proofs.ActionFacts.{OpensHere, opens-here, can-open, open-refused, open-at}
+use Rattle.tp_placing.specs.Trying.{IsRefused}
+use Rattle.tp_placing.proofs.ActionFacts.{OpensHere, opens-here, can-open, open-reason, open-refused, open-at}
 use Rattle.tp_placing.proofs.BoardFacts.{board-step, steps-room}
 use Rattle.tp_placing.proofs.PastFacts.{side-steps}
-use Rattle.tp_placing.proofs.StandFacts.{has-times, some-and, and-some, stands-after, stands-still, length-lows, edge-room}
+use Rattle.tp_placing.proofs.StandFacts.{has-times, some-and, and-some, stands-after, stands-still, length-lows}
 use Rattle.tp_placing.proofs.StepFacts.{suffix-push, some-steps}
 use Rattle.tp_placing.proofs.board.Board.open_action.Goals as goal
 use Rattle.tp_placing.proofs.board.Board.open_action.Goals.{After-index-newest}
@@ -105,6 +104,18 @@ net-asked g c a low edges low_is edges_are =
     let h = (standing g c).1.horizon in
     λ i. with_edges (with_point (g.N.Network.net c.self.inside.net) (low_sum i) (h i)) (edges_are i)
 
+-- the refusal of the point and edges that the call asks for
+point-asked : (g : _) (c : After-index-newest g) (a : Action) (low : ℕ) (edges : List Edge) (n : g.row.N.Denot) → low ≡ min (c.self.inside.floor + c.args.room) (c.self.inside.horizon + 1)
+    → edges ≡ duration_edges a (record { 0 = c.index-newest.result.now.first.0 + 1 }) c.index-newest.result.now.first
+    → IsRefused g.N.Network.refutes n (with_point (g.N.Network.net c.self.inside.net) low c.self.inside.horizon) edges
+    → IsRefused g.N.Network.refutes n (with_point (g.N.Network.net c.self.inside.net) (min (start_floor c.args.machine.now (standing g c).0.now (standing g c).0.origin + c.args.room) ((standing g c).0.now + c.args.machine.now.window + 1)) ((standing g c).0.now + c.args.machine.now.window))
+    (duration_edges a (record { 0 = c.index-newest.result.now.first.0 + 1 }) c.index-newest.result.now.first)
+point-asked g c a low edges n low_is edges_are refused =
+    let low_sum = low-is-sum g c low low_is in
+    let h = (standing g c).1.horizon in
+    let net : with_point (g.N.Network.net c.self.inside.net) low c.self.inside.horizon ≡ with_point (g.N.Network.net c.self.inside.net) (min (start_floor c.args.machine.now (standing g c).0.now (standing g c).0.origin + c.args.room) ((standing g c).0.now + c.args.machine.now.window + 1)) ((standing g c).0.now + c.args.machine.now.window) = λ i. with_point (g.N.Network.net c.self.inside.net) (low_sum i) (h i) in
+    subst (IsRefused g.N.Network.refutes n _) edges_are (subst (λ k. IsRefused g.N.Network.refutes n k edges) net refused)
+
 pub returns-in-Err-clause-late : goal.returns-in-Err-clause-late
 returns-in-Err-clause-late g k =
     let c = (goal.at.returns-in-Err-clause-late g k).After-index-newest in
@@ -113,6 +124,15 @@ returns-in-Err-clause-late g k =
     rw (← c.self.view_is) (and-some (suffix_of (board g c)) o.x _ o.suffix (and-some (board g c).ask (standing g c).0 _ (standing g c).1.asked
     (open-refused g.N.Network.net (board g c) c.args.machine.now (standing g c).0 c.index-newest.result.now o c.args.act k.get.result.now k.get.ensures c.args.room (record { 0 = c.index-newest.result.now.first.0 + 1 }) refl
     c.steps_add_edges.ensures.action c.solutions_are_ticks.ensures.late none)))
+
+pub returns-in-Err-clause-shown : goal.returns-in-Err-clause-shown
+returns-in-Err-clause-shown g k =
+    let c = (goal.at.returns-in-Err-clause-shown g k).After-index-newest in
+    let o = here g c in
+    let refused = point-asked g c k.get.result.now k.lowest-low.result k.lasting-edges.result k.extend_all.new.net k.lowest-low.ensures k.lasting-edges.ensures k.in-Err.ensures.refused in
+    rw (← c.self.view_is) (and-some (suffix_of (board g c)) o.x _ o.suffix (and-some (board g c).ask (standing g c).0 _ (standing g c).1.asked
+    (open-reason g.N.Network.net (board g c) c.args.machine.now (standing g c).0 c.index-newest.result.now o c.args.act k.get.result.now k.get.ensures c.args.room (record { 0 = c.index-newest.result.now.first.0 + 1 }) refl
+    g.N.Network.refutes k.extend_all.new.net c.steps_add_edges.ensures.action c.gaps_are_hops.ensures.action refused)))
 
 pub returns-in-Err-clause-stands : goal.returns-in-Err-clause-stands
 returns-in-Err-clause-stands g k =

@@ -1,4 +1,4 @@
-use Rattle.std.proofs.Common.{arith, sym, refl, ap, ◌∙◌, subst, ◌≡◌, ℕ, ◌+◌, ◌<◌, ◌≤◌, ◌^◌, min, length, Some, None, List, ◌++◌, ◌∷◌, []}
+use Rattle.std.proofs.Common.{arith, sym, refl, ap, ◌∙◌, subst, ◌≡◌, ℕ, ◌+◌, min, length, Some, None, List, ◌++◌, ◌∷◌, []}
 use Rattle.std.proofs.lemmas.List.{length-append}
 use Rattle.tp_base.specs.declared.edges.Edge.{Edge}
 use Rattle.tp_base.specs.Net.{Net, HasNoSolution, HasLeast, with_point}
@@ -6,16 +6,17 @@ use Rattle.tp_machine.specs.declared.whole.Machine.{Machine}
 use Rattle.tp_schedule.specs.Choices.{start_floor}
 use Rattle.tp_base.specs.declared.edges.PointId.{PointId}
 use Rattle.tp_schedule.specs.declared.parts.Plan.{Plan}
-use Rattle.tp_constraints.specs.Numbers.{table_of, with_edges}
-use Rattle.tp_constraints.specs.Suffixes.{Suffix, with_goal}
+use Rattle.tp_constraints.specs.Numbers.{with_edges}
+use Rattle.tp_constraints.specs.Suffixes.{with_goal}
 use Rattle.tp_placing.specs.declared.parts.Change.TheVariants.{Goal}
 use Rattle.tp_placing.specs.declared.parts.Step.{Step}
-use Rattle.tp_placing.specs.Boards.{BoardValue, after_change, suffix_after, suffix_of}
+use Rattle.tp_placing.specs.Boards.{BoardValue, after_change, suffix_after}
 use Rattle.tp_placing.specs.Edges.{end_edges}
 use Rattle.tp_placing.specs.Inside.{board_of}
 use Rattle.tp_placing.specs.Standing.{Stands, StandsOn, IsAtWith}
+use Rattle.tp_placing.specs.Trying.{IsRefused}
 use Rattle.tp_placing.proofs.BoardFacts.{board-step}
-use Rattle.tp_placing.proofs.GoalFacts.{at-none, empty, lows-loaded, can-open, few-edges, goal-refused, goal-at}
+use Rattle.tp_placing.proofs.GoalFacts.{empty, can-open, few-edges, goal-reason, goal-refused, goal-at}
 use Rattle.tp_placing.proofs.PastFacts.{side-steps}
 use Rattle.tp_placing.proofs.StandFacts.{has-times, and-some, stands-ask, stands-after, stands-still}
 use Rattle.tp_placing.proofs.StepFacts.{suffix-push}
@@ -71,6 +72,18 @@ net-asked g c m room s low edges low_is edges_are =
     let low_sum : low ≡ min (start_floor m c.in-Some.ask.now c.in-Some.ask.origin + room) (c.in-Some.ask.now + m.window + 1) = low_is ∙ (λ i. min (f i + room) (h i + 1)) in
     λ i. with_edges (with_point (g.N.Network.net c.self.inside.net) (low_sum i) (h i)) (edges_are i)
 
+-- the refusal of the point and edges that the call asks for
+point-asked : (g : _) (c : In-Some g) (m : Machine) (room : ℕ) (s : StandsOn g.N.Network.net g.N.Undo.content g.N.Undo.past (board g c) m c.in-Some.ask) (low : ℕ) (edges : List Edge) (n : g.row.N.Denot)
+    → low ≡ min (c.self.inside.floor + room) (c.self.inside.horizon + 1) → edges ≡ es g c
+    → IsRefused g.N.Network.refutes n (with_point (g.N.Network.net c.self.inside.net) low c.self.inside.horizon) edges
+    → IsRefused g.N.Network.refutes n (with_point (g.N.Network.net c.self.inside.net) (min (start_floor m c.in-Some.ask.now c.in-Some.ask.origin + room) (c.in-Some.ask.now + m.window + 1)) (c.in-Some.ask.now + m.window)) (es g c)
+point-asked g c m room s low edges n low_is edges_are refused =
+    let f = s.floor in
+    let h = s.horizon in
+    let low_sum : low ≡ min (start_floor m c.in-Some.ask.now c.in-Some.ask.origin + room) (c.in-Some.ask.now + m.window + 1) = low_is ∙ (λ i. min (f i + room) (h i + 1)) in
+    let net : with_point (g.N.Network.net c.self.inside.net) low c.self.inside.horizon ≡ with_point (g.N.Network.net c.self.inside.net) (min (start_floor m c.in-Some.ask.now c.in-Some.ask.origin + room) (c.in-Some.ask.now + m.window + 1)) (c.in-Some.ask.now + m.window) = λ i. with_point (g.N.Network.net c.self.inside.net) (low_sum i) (h i) in
+    subst (IsRefused g.N.Network.refutes n _) edges_are (subst (λ k. IsRefused g.N.Network.refutes n k edges) net refused)
+
 pub returns-in-Err-clause-late : goal.returns-in-Err-clause-late
 returns-in-Err-clause-late g k m st =
     let c = (goal.at.returns-in-Err-clause-late g k).In-Some in
@@ -79,6 +92,15 @@ returns-in-Err-clause-late g k m st =
     let none = subst HasNoSolution (net-asked g c m k.args.room s k.lowest-low.result _ k.lowest-low.ensures e) k.in-Err.ensures.late in
     rw (← c.self.view_is) (and-some (board g c).ask c.in-Some.ask _ c.in-Some.is
     (goal-refused g.N.Network.net g.N.Undo.content g.N.Undo.past (board g c) m c.in-Some.ask s (closed g c) k.args.room c.steps_add_edges.ensures.goal c.solutions_are_ticks.ensures.late none))
+
+pub returns-in-Err-clause-shown : goal.returns-in-Err-clause-shown
+returns-in-Err-clause-shown g k m st =
+    let c = (goal.at.returns-in-Err-clause-shown g k).In-Some in
+    let s = stands-here g c m st in
+    let e = edges-are g c _ _ _ _ k.deref.ensures.value k.deref-2.ensures.value k.deref-3.ensures.value k.line_edges.ensures.edges in
+    let refused = point-asked g c m k.args.room s k.lowest-low.result _ k.extend_all.new.net k.lowest-low.ensures e k.in-Err.ensures.refused in
+    and-some (board g c).ask c.in-Some.ask _ c.in-Some.is
+    (goal-reason g.N.Network.net g.N.Undo.content g.N.Undo.past (board g c) m c.in-Some.ask s (closed g c) k.args.room g.N.Network.refutes k.extend_all.new.net c.steps_add_edges.ensures.goal c.gaps_are_hops.ensures.goal refused)
 
 pub returns-in-Err-clause-stands : goal.returns-in-Err-clause-stands
 returns-in-Err-clause-stands g k m st =

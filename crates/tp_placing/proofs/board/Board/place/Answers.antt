@@ -1,39 +1,34 @@
-use Rattle.std.proofs.Common.{arith, sym, refl, ap, ◌∙◌, subst, ◌≡◌, ℕ, suc, ◌+◌, ◌-◌, ◌<◌, ◌≤◌, length, pos, Some, IsSomeAnd, All, List, ◌++◌, ◌∷◌, [], take}
+use Rattle.std.proofs.Common.{arith, sym, refl, ap, ◌∙◌, subst, ◌≡◌, ℕ, ◌+◌, ◌-◌, ◌<◌, ◌≤◌, length, Some, All, List, ◌++◌, ◌∷◌, []}
 use Rattle.std.specs.List.{slice_get, insert}
 use Rattle.std.specs.Prelude.{slice_set}
 use Rattle.std.proofs.lemmas.Option.{slice_get_read, slice_get_within, same_Some}
 use Rattle.std.proofs.lemmas.List.{length-append, length-set}
-use Rattle.std.proofs.lemmas.List.Elements.{All-nil}
-use Rattle.tp_base.proofs.SliceFacts.{All-at}
 use Rattle.tp_base.specs.declared.edges.Edge.{Edge}
 use Rattle.tp_base.specs.Net.{Net, HasNoSolution, HasLeast}
 use Rattle.tp_machine.specs.declared.parts.ActId.{ActId}
 use Rattle.tp_machine.specs.declared.parts.Action.{Action}
 use Rattle.tp_machine.specs.declared.parts.HoldRule.{HoldRule}
 use Rattle.tp_constraints.proofs.Lists.{contains-get}
-use Rattle.tp_machine.specs.declared.whole.Machine.{Machine}
 use Rattle.tp_machine.proofs.MachineFacts.{is_machine}
 use Rattle.tp_schedule.specs.Answers.{kept_of}
-use Rattle.tp_schedule.specs.declared.parts.Ask.{Ask}
 use Rattle.tp_timelines.specs.Orders.{order_on}
-use Rattle.tp_constraints.specs.Numbers.{table_of, with_edges}
+use Rattle.tp_constraints.specs.Numbers.{with_edges}
 use Rattle.tp_constraints.specs.Suffixes.{Suffix, SuffixTimes, with_place}
 use Rattle.tp_schedule.specs.Spots.{Ticks}
 use Rattle.tp_placing.specs.declared.parts.Change.TheVariants.{Place}
 use Rattle.tp_placing.specs.declared.parts.Held.{Held}
 use Rattle.tp_placing.specs.declared.parts.Step.{Step}
-use Rattle.tp_placing.specs.Boards.{BoardValue, after_change, suffix_after, suffix_of, side_by_side}
+use Rattle.tp_placing.specs.Boards.{BoardValue, after_change, suffix_after, suffix_of}
 use Rattle.tp_placing.specs.Calls.{CanPlace}
 use Rattle.tp_placing.specs.Edges.{edge_after, edge_until, held_before, held_behind}
 use Rattle.tp_placing.specs.Inside.{board_of}
-use Rattle.tp_placing.specs.Standing.{Stands, StandsOn, IsAtWith, HasSmallOffsets, table_with}
-use Rattle.tp_placing.specs.Trying.{CanRequire}
+use Rattle.tp_placing.specs.Standing.{Stands, IsAtWith, HasSmallOffsets}
+use Rattle.tp_placing.specs.Reasons.{IsReason}
+use Rattle.tp_placing.specs.Trying.{CanRequire, IsRefused}
 use Rattle.tp_placing.proofs.BoardFacts.{board-step, steps-room}
-use Rattle.tp_placing.proofs.NeighbourFacts.{can-neighbours, slots-known}
 use Rattle.tp_placing.proofs.PastFacts.{side-more}
-use Rattle.tp_placing.proofs.PlaceFacts.{HasNewest, has-newest, newest-act, act-known, hold-known, PlacesHere, places-here, numbers-here, can-here, fits-here, refused-here, placed-here, two-here}
-use Rattle.tp_placing.proofs.SlotFacts.{length-slots}
-use Rattle.tp_placing.proofs.StandFacts.{has-times, some-and, and-some, stands-after, stands-still, length-lows, edge-room}
+use Rattle.tp_placing.proofs.PlaceFacts.{HasNewest, has-newest, newest-act, act-known, hold-known, PlacesHere, places-here, numbers-here, can-here, fits-here, refused-here, reason-here, placed-here, two-here}
+use Rattle.tp_placing.proofs.StandFacts.{has-times, some-and, and-some, stands-after, stands-still}
 use Rattle.tp_placing.proofs.StepFacts.{suffix-push, some-steps}
 use Rattle.tp_placing.proofs.board.Board.place.Goals as goal
 use Rattle.tp_placing.proofs.board.Board.place.Goals.{After-index-newest}
@@ -148,6 +143,10 @@ module _ (g : _) (c : After-index-newest g) (act : ActId) (rule : HoldRule) (r :
   refused = refused-here g.N.Network.net (board g c) c.args.machine.now (standing g c).0 c.index-newest.result.now act rule c.args.hold c.args.place r.places (new rule c.index-newest.result.now) r.known r.resource r.four refl refl refl r.offsets
       c.steps_add_edges.ensures.place c.solutions_are_ticks.ensures.late
 
+  reason : (n : g.row.N.Denot) → IsRefused g.N.Network.refutes n (g.N.Network.net c.self.inside.net) es → IsReason g.N.Network.refutes n c.args.machine.now c.self.inside.plans.items (standing g c).0 (with_place c.args.place suffix)
+  reason n = reason-here g.N.Network.net (board g c) c.args.machine.now (standing g c).0 c.index-newest.result.now act rule c.args.hold c.args.place r.places (new rule c.index-newest.result.now) r.known r.resource r.four refl refl refl r.offsets
+      g.N.Network.refutes n c.steps_add_edges.ensures.place c.gaps_are_hops.ensures.place
+
   after : (n : Net) (lines : List (List ℕ)) (held : List Held) (steps : List Step) (step : Step) → n ≡ with_edges (g.N.Network.net c.self.inside.net) es → HasLeast n
       → lines ≡ slice_set c.self.inside.lines.orders rule.resource.0 (insert order c.args.place (length c.self.inside.held.items)) → held ≡ c.self.inside.held.items ++ new rule c.index-newest.result.now ∷ []
       → steps ≡ c.self.inside.steps.items ++ step ∷ [] → step.newest ≡ c.index-newest.result.now.newest → step.first ≡ c.index-newest.result.now.first
@@ -184,6 +183,14 @@ returns-in-Err-clause-late g k =
     let none = rw (k.deref-2.ensures.value, k.neighbour_edges.ensures.edges, k.deref.ensures.value) at k.in-Err.ensures.late in
     rw (← c.self.view_is) (and-some (suffix_of (board g c)) (suffix g c k.in-Some.act k.get-2.result.now r) _ r.places.suffix
     (and-some (board g c).ask (standing g c).0 _ (standing g c).1.asked (refused g c k.in-Some.act k.get-2.result.now r none)))
+
+pub returns-in-Err-clause-shown : goal.returns-in-Err-clause-shown
+returns-in-Err-clause-shown g k =
+    let c = (goal.at.returns-in-Err-clause-shown g k).After-index-newest in
+    let r = read g c k.in-Some.act k.get.result.now k.get-2.result.now k.in-Some.is k.get.ensures k.len-within.ensures.within k.get-2.ensures in
+    let refused = rw (k.deref-2.ensures.value, k.neighbour_edges.ensures.edges, k.deref.ensures.value) at k.in-Err.ensures.refused in
+    rw (← c.self.view_is) (and-some (suffix_of (board g c)) (suffix g c k.in-Some.act k.get-2.result.now r) _ r.places.suffix
+    (and-some (board g c).ask (standing g c).0 _ (standing g c).1.asked (reason g c k.in-Some.act k.get-2.result.now r k.require_all.new.net refused)))
 
 pub returns-in-Err-clause-stands : goal.returns-in-Err-clause-stands
 returns-in-Err-clause-stands g k =

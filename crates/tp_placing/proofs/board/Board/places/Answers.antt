@@ -1,6 +1,6 @@
-use Rattle.std.proofs.Common.{arith, ap, sym, ◌∙◌, ◌≡◌, ◌<◌, length}
+use Rattle.std.proofs.Common.{arith, ◌∙◌}
 use Rattle.tp_timelines.specs.Orders.{order_on}
-use Rattle.tp_placing.specs.Boards.{BoardValue, suffix_after}
+use Rattle.tp_placing.specs.Boards.{suffix_after}
 use Rattle.tp_placing.specs.Standing.{board_table, order_after}
 use Rattle.tp_placing.proofs.SlotFacts.{length-slots}
 use Rattle.tp_placing.proofs.board.Board.places.Goals as goal

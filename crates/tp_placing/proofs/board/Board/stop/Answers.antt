@@ -1,18 +1,16 @@
-use Rattle.std.proofs.Common.{arith, sym, refl, ap, ◌∙◌, subst, ◌≡◌, ◌+◌, ◌-◌, ◌<◌, ◌≤◌, ◌⊎◌, length, pos, Some, IsSomeAnd, IsFalse, suc, List, ◌++◌, ◌∷◌, []}
+use Rattle.std.proofs.Common.{arith, sym, refl, ap, ◌∙◌, subst, ◌≡◌, ◌+◌, ◌-◌, ◌≤◌, length, pos, Some, IsFalse, suc, List, ◌++◌, ◌∷◌, []}
 use Rattle.std.specs.List.{slice_get}
 use Rattle.std.proofs.lemmas.Option.{slice_get_read, slice_get_within}
 use Rattle.std.proofs.lemmas.List.{length-append}
 use Rattle.tp_base.specs.Net.{Net, HasNoSolution, with_edge, HasLeast}
 use Rattle.tp_placing.specs.declared.parts.Step.{Step}
 use Rattle.tp_machine.specs.declared.whole.Machine.{Machine}
-use Rattle.tp_schedule.specs.declared.parts.Ask.{Ask}
 use Rattle.tp_base.specs.declared.edges.Edge.{Edge}
 use Rattle.tp_schedule.specs.Spots.Spot.{kept}
 use Rattle.tp_placing.specs.Edges.{edge_of}
 use Rattle.tp_constraints.specs.Numbers.{table_of}
 use Rattle.tp_constraints.specs.Suffixes.{with_stop}
-use Rattle.tp_placing.specs.Boards.{BoardValue, suffix_after, suffix_of, past_of}
-use Rattle.tp_placing.specs.Calls.{HasTimes}
+use Rattle.tp_placing.specs.Boards.{BoardValue, suffix_after, suffix_of}
 use Rattle.tp_placing.specs.Inside.{board_of}
 use Rattle.tp_placing.specs.Standing.{Stands, StandsOn, IsAtWith}
 use Rattle.tp_placing.proofs.PastFacts.{side-steps}
@@ -23,7 +21,7 @@ use Rattle.tp_placing.specs.Boards.{after_change, side_by_side}
 use Rattle.tp_placing.proofs.BoardFacts.{board-step, steps-room}
 use Rattle.tp_placing.proofs.StandFacts.{has-times, some-and, stands-ask, stands-after, stands-still, length-lows, edge-room, and-some}
 use Rattle.tp_placing.proofs.StepFacts.{suffix-push, some-steps}
-use Rattle.tp_placing.proofs.StopFacts.{StopsHere, stops-here, stop-solved, stop-refused}
+use Rattle.tp_placing.proofs.StopFacts.{StopsHere, stops-here, stop-solved, stop-reason, stop-refused}
 use Rattle.tp_placing.proofs.board.Board.stop.Goals as goal
 use Rattle.tp_placing.proofs.board.Board.stop.Goals.{After-edge_between, In-Ok-push}
 
@@ -96,6 +94,15 @@ returns-in-Err-clause-late g k m st =
     let none : HasNoSolution (with_edge (g.N.Network.net c.self.inside.net) (edge_of c.index-newest.result.now.first c.point_of-end.result (pos 0))) = rw (← c.edge_between.ensures) k.in-Err.ensures.late in
     rw (← c.self.view_is) (and-some (suffix_of (board g c)) h.x _ h.suffix (and-some (board g c).ask c.in-Some.ask _ s.asked
     (stop-refused g.N.Network.net (board g c) m c.in-Some.ask c.index-newest.result.now c.point_of-end.result h c.steps_add_edges.ensures.stop c.solutions_are_ticks.ensures.late s.origin none)))
+
+pub returns-in-Err-clause-shown : goal.returns-in-Err-clause-shown
+returns-in-Err-clause-shown g k m st =
+    let c = (goal.at.returns-in-Err-clause-shown g k).After-edge_between in
+    let s = stands-here g c m st in
+    let h = here g c m s in
+    let shown : g.N.Network.refutes k.require.new.self (with_edge (g.N.Network.net c.self.inside.net) (edge_of c.index-newest.result.now.first c.point_of-end.result (pos 0))) = rw (← c.edge_between.ensures) k.in-Err.ensures.refused in
+    rw (← c.self.view_is) (and-some (suffix_of (board g c)) h.x _ h.suffix (and-some (board g c).ask c.in-Some.ask _ s.asked
+    (stop-reason g.N.Network.net (board g c) m c.in-Some.ask c.index-newest.result.now c.point_of-end.result h g.N.Network.refutes k.require.new.self c.steps_add_edges.ensures.stop c.gaps_are_hops.ensures.stop s.origin shown)))
 
 pub returns-in-Err-clause-stands : goal.returns-in-Err-clause-stands
 returns-in-Err-clause-stands g k m st =

@@ -1,12 +1,9 @@
-use Rattle.std.proofs.Common.{ap, sym, ◌∙◌, ◌≡◌, Some, Option}
+use Rattle.std.proofs.Common.{ap, sym, ◌∙◌}
 use Rattle.std.specs.List.{slice_get}
 use Rattle.tp_constraints.specs.Numbers.{table_of}
-use Rattle.tp_constraints.specs.Suffixes.{Suffix}
-use Rattle.tp_schedule.specs.Spots.{Spot}
 use Rattle.tp_schedule.specs.Spots.Spot.{kept}
-use Rattle.tp_schedule.specs.declared.parts.Plan.{Plan}
 use Rattle.tp_placing.specs.Boards.{suffix_after}
-use Rattle.tp_placing.specs.Standing.{board_table, own_points}
+use Rattle.tp_placing.specs.Standing.{own_points}
 use Rattle.tp_placing.proofs.ReadFacts.{known-point, least-tick}
 use Rattle.tp_placing.proofs.StandFacts.{and-some}
 use Rattle.tp_placing.proofs.TableFacts.{table-left}

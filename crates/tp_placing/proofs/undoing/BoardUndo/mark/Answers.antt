@@ -1,6 +1,6 @@
-use Rattle.std.proofs.Common.{arith, sym, ◌∙◌, ap, length, ◌≡◌, ◌<◌, ◌+◌, ◌++◌, ◌∷◌, [], List}
+use Rattle.std.proofs.Common.{arith, sym, ◌∙◌, ap, length, ◌∷◌, []}
 use Rattle.std.proofs.lemmas.List.{length-append}
-use Rattle.tp_timelines.specs.Orders.{Orders, Sizes}
+use Rattle.tp_timelines.specs.Orders.{Sizes}
 use Rattle.tp_placing.proofs.PastFacts.{length-side, side-push, marks-push}
 use Rattle.tp_placing.proofs.undoing.BoardUndo.mark.Goals as goal
 

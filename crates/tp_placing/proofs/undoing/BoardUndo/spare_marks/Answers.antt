@@ -1,4 +1,4 @@
-use Rattle.std.proofs.Common.{arith, sym, ◌∙◌, ap}
+use Rattle.std.proofs.Common.{arith}
 use Rattle.tp_placing.proofs.PastFacts.{length-side}
 use Rattle.tp_placing.proofs.undoing.BoardUndo.spare_marks.Goals as goal
 

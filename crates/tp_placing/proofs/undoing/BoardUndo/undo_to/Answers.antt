@@ -1,8 +1,7 @@
-use Rattle.std.proofs.Common.{arith, sym, ◌∙◌, ap, subst, length, ◌≡◌, ◌<◌, ◌≤◌, ℕ, ◌+◌, ◌++◌, ◌∷◌, [], List, take, Some, refl}
-use Rattle.std.proofs.lemmas.List.{length-append, length-take-le}
-use Rattle.std.specs.List.{slice_get}
+use Rattle.std.proofs.Common.{arith, ◌∙◌, ap, length, refl}
+use Rattle.std.proofs.lemmas.List.{length-take-le}
 use Rattle.std.proofs.lemmas.Option.{slice_get_read}
-use Rattle.tp_timelines.specs.Orders.{Orders, Sizes}
+use Rattle.tp_timelines.specs.Orders.{Sizes}
 use Rattle.tp_placing.proofs.PastFacts.{length-side, side-get, side-take, marks-undone}
 use Rattle.tp_placing.proofs.undoing.BoardUndo.undo_to.Goals as goal
 

@@ -1,0 +1,65 @@
+//! What a refusal shows.
+ghost use Rattle.std.specs.Prelude.{◌≡◌, ℕ, ◌<◌, length, IsSome, IsSomeAnd};
+ghost use Rattle.tp_base.specs.Net.{Net, HasNoSolution};
+ghost use Rattle.tp_base.specs.Refute.{Refutes};
+ghost use Rattle.tp_machine.specs.declared.whole.Machine.{Machine};
+ghost use Rattle.tp_schedule.specs.Spots.Spot.{own};
+ghost use Rattle.tp_placing.specs.Boards.{content_of, past_of, suffix_of};
+ghost use Rattle.tp_placing.specs.Calls.{IsSameLoad};
+ghost use Rattle.tp_placing.specs.Reasons.{IsEndReason, IsShown, with_limit};
+ghost use Rattle.tp_placing.specs.Standing.{Stands};
+ghost use Rattle.tp_placing.specs.Ticks.{HasLeastTick};
+
+use crate::board::Board;
+use crate::edges::edge_between;
+use tp_base::{Late, Network, PointId, Proof, Tick};
+use tp_constraints::solutions_are_ticks;
+
+/// Has the network refuse that a point comes by a tick, and leaves it as it was. Takes a mark for the time of the call.
+fn refuse_by<N: Network>(net: &mut N, point: PointId, last: Tick)
+    requires room { length (N.net net.old).lows < N.point_room net.old }
+    requires known { point.0 < length (N.net net.old).lows }
+    requires spare { length (N.net net.old).edges < N.edge_room net.old }
+    requires mark { length (N.past net.old) < N.mark_room net.old }
+    requires late { HasNoSolution (with_limit (N.net net.old) point last) }
+    ensures refused { N.refutes net.new (with_limit (N.net net.old) point last) }
+    ensures same { N.content net.new ≡ N.content net.old }
+    ensures past { N.past net.new ≡ N.past net.old }
+    ensures marks { N.mark_room net.new ≡ N.mark_room net.old }
+    ensures points { N.point_room net.new ≡ N.point_room net.old }
+    ensures edges { N.edge_room net.new ≡ N.edge_room net.old }
+{
+    let mark = net.mark();
+    let Ok(limit) = net.point(0, last) else {
+        unreachable!()
+    };
+    match net.require(edge_between(point, limit, 0)) {
+        Ok(()) => unreachable!(),
+        Err(Late) => net.undo_to(mark),
+    }
+}
+
+impl<N: Network> Board<N> {
+    /// Leaves the board as it is, but for what `reason` tells: that the end comes after a tick below `end_bound`.
+    pub fn refuse_end(&mut self, last: Tick)
+        requires below { (m : Machine) × (bound : ℕ) × Stands N.net N.content N.past self.old m × HasLeastTick m self.old (own 0) bound × (last < bound) }
+        requires open { IsSome (suffix_of self.old) }
+        ensures shown { IsSomeAnd (suffix_of self.new) (λ x. IsEndReason N.net N.refutes self.new.net self.new.plans x last) }
+        ensures same { content_of N.content self.new ≡ content_of N.content self.old }
+        ensures stands { (m : Machine) → Stands N.net N.content N.past self.old m → Stands N.net N.content N.past self.new m }
+        ensures past { past_of N.past self.new ≡ past_of N.past self.old }
+        ensures loaded { IsSameLoad self.old self.new }
+        ensures marks { N.mark_room self.new.net ≡ N.mark_room self.old.net }
+    {
+        solutions_are_ticks();
+        refuse_by(&mut self.net, self.last, last);
+    }
+
+    /// Why the last change was refused: edges of the network that it was refused for.
+    pub fn reason(&self) -> Proof<'_>
+        requires refused { (net : Net) × IsShown N.refutes self.now.net net }
+        ensures { (net : Net) → IsShown N.refutes self.now.net net → Refutes net result }
+    {
+        self.net.proof()
+    }
+}
