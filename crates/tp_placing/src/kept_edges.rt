@@ -7,10 +7,11 @@ ghost use Rattle.tp_constraints.specs.Numbers.{with_edges};
 ghost use Rattle.tp_placing.specs.Loading.{AreAddable, act_edges, acts_edges, line_edge, lines_edges, next_end, plans_edges, point_count};
 
 use crate::edges::{edge_between, lasting};
+use crate::lining::goes_along;
 use crate::trying::add_each;
 use tp_base::{Edge, Late, Network, PointId};
 use tp_machine::{ActId, Machine};
-use tp_schedule::{Goal, Kind, Plan};
+use tp_schedule::{Kind, Plan};
 
 /// Requires edges that a solution keeps.
 pub(crate) fn add_kept<N: Network>(net: &mut N, edges: &[Edge])
@@ -85,11 +86,7 @@ pub(crate) fn add_durations<N: Network>(net: &mut N, machine: &Machine, plans: &
 fn are_in_line(plan: &Plan, other: &Plan) -> bool
     ensures { result ≡ is_same_line plan.now other.now }
 {
-    let whole = plan.kind == Kind::Whole && other.kind == Kind::Whole;
-    match plan.goal {
-        Goal::Tray(tray) => whole && other.goal == Goal::Tray(tray),
-        Goal::Purge => false,
-    }
+    plan.kind == Kind::Whole && goes_along(plan.goal, other)
 }
 
 /// The end of the next plan of the plan's line, where the points of the later plans begin at a number.

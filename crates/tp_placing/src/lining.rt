@@ -10,7 +10,7 @@ use tp_base::{Edge, PointId};
 use tp_schedule::{Ask, Goal, Kind, Plan, SheetId};
 
 /// Whether the plan is whole and goes to the tray that is the goal.
-fn goes_along(goal: Goal, plan: &Plan) -> bool
+pub(crate) fn goes_along(goal: Goal, plan: &Plan) -> bool
     ensures { result ≡ is_in_line goal plan.now }
 {
     match (goal, plan.kind, plan.goal) {
