@@ -1,0 +1,117 @@
+-- A turn computed from answers that are given, and that it is a turn.
+use Rattle.std.proofs.Common.{◌≡◌, ℕ, Bool, true, false, List, [], ◌∷◌, ◌++◌, Option, Some, None, ◌&&◌}
+use Rattle.tp_machine.specs.declared.whole.Machine.{Machine}
+use Rattle.tp_script.specs.declared.event.Event.{Event}
+use Rattle.tp_script.specs.declared.event.Event.TheVariants.{Bad, Job as NewJob, Clock, Jam, Off, On}
+use Rattle.tp_schedule.specs.Planning.{Deed}
+use Rattle.tp_schedule.specs.Planning.Deed.{replied, settled}
+use Rattle.tp_schedule.specs.declared.parts.Plan.{Plan}
+use Rattle.tp_schedule.specs.declared.parts.Reply.{Reply}
+use Rattle.tp_schedule.specs.declared.recording.Cause.{Cause}
+use Rattle.tp_schedule.specs.declared.recording.Record.{Record}
+use Rattle.tp_schedule.specs.declared.recording.Record.TheVariants.{FullUp, Refused}
+use Rattle.tp_jobs.specs.declared.parts.WaitingCopy.{WaitingCopy}
+use Rattle.tp_turn.specs.States.{SessionState}
+use Rattle.tp_turn.specs.Lines.{tray_of}
+use Rattle.tp_turn.specs.Labels.{label}
+use Rattle.tp_turn.specs.Refusals.{refusal, module_of}
+use Rattle.tp_turn.specs.Clock.{clock_move}
+use Rattle.tp_turn.specs.Outages.{outage}
+use Rattle.tp_turn.specs.Answering.{Answer, told_of_reply, moves}
+use Rattle.tp_turn.specs.Loops.{next_ask, after_one}
+use Rattle.tp_turn.specs.Planners.{PlannerSteps}
+use Rattle.tp_turn.specs.Asking.{ask_waiting, is_full, is_passed_over, passed_after, state_after_reply}
+use Rattle.tp_turn.specs.Turns.{with_job, with_on}
+
+-- an answer with the schedule after it, or the schedule after a settling
+pub data Given : Type 0 where
+  answers : Reply → List Plan → Given
+  settles : List Plan → Given
+
+abbrev pub given : Deed → List Plan → Given
+given (replied ask reply) plans = answers reply plans
+given (settled now) plans = settles plans
+
+-- a planner that takes its deeds from a list
+abbrev pub listed : PlannerSteps (List Given)
+listed = record {
+  does = λ left plans deed plans' left'. left ≡ given deed plans' ∷ left';
+  stops = λ left plans what left'. (left ≡ []) × (left' ≡ []);
+}
+
+-- an outcome, what is left of the list, and whether the list served
+pub record Played : Type 0 where
+  pub records : List Record
+  pub state : SessionState
+  pub left : List Given
+  pub fits : Bool
+
+abbrev pub played : Bool → SessionState → List Given → Played
+played fits s left = record { records = []; state = s; left = left; fits = fits }
+
+abbrev pub told_first : List Record → Played → Played
+told_first records p = record { records = records ++ p.records; state = p.state; left = p.left; fits = p.fits }
+
+abbrev pub play_asks : Machine → List WaitingCopy → List ℕ → SessionState → List Given → Played
+play_asks machine [] passed s left = played true s left
+play_asks machine (w ∷ ws) passed s [] = elim (is_passed_over s passed w) [
+    true ↦ play_asks machine ws passed s []
+  | false ↦ elim (is_full machine s) [
+        true ↦ told_first (FullUp (label s.jobs w.sheet) ∷ []) (play_asks machine ws ((tray_of s.jobs w.sheet).0 ∷ passed) s [])
+      | false ↦ played false s [] ] ]
+play_asks machine (w ∷ ws) passed s (settles plans ∷ left) = elim (is_passed_over s passed w) [
+    true ↦ play_asks machine ws passed s (settles plans ∷ left)
+  | false ↦ elim (is_full machine s) [
+        true ↦ told_first (FullUp (label s.jobs w.sheet) ∷ []) (play_asks machine ws ((tray_of s.jobs w.sheet).0 ∷ passed) s (settles plans ∷ left))
+      | false ↦ played false s [] ] ]
+play_asks machine (w ∷ ws) passed s (answers reply plans ∷ left) = elim (is_passed_over s passed w) [
+    true ↦ play_asks machine ws passed s (answers reply plans ∷ left)
+  | false ↦ elim (is_full machine s) [
+        true ↦ told_first (FullUp (label s.jobs w.sheet) ∷ []) (play_asks machine ws ((tray_of s.jobs w.sheet).0 ∷ passed) s (answers reply plans ∷ left))
+      | false ↦ told_first (told_of_reply machine s.plans (ask_waiting s w) reply plans)
+          (play_asks machine ws (passed_after reply (tray_of s.jobs w.sheet).0 passed) (state_after_reply s w reply plans) left) ] ]
+
+abbrev pub answer : Reply → List Plan → Answer
+answer reply plans = record { reply = reply; plans = plans }
+
+-- the loop, and the settling at its end
+abbrev pub play_loop : Machine → SessionState → List Given → Played
+play_loop machine s [] = played false s []
+play_loop machine s (settles plans ∷ left) = elim (next_ask machine s) [
+    None ↦ told_first (moves s.plans plans) (played true (record s { plans = plans }) left)
+  | Some ask ↦ played false s [] ]
+play_loop machine s (answers reply plans ∷ left) = elim (next_ask machine s) [
+    None ↦ played false s []
+  | Some ask ↦ told_first (after_one machine s (answer reply plans)).records (play_loop machine (after_one machine s (answer reply plans)).state left) ]
+
+abbrev pub and_asks : Machine → Played → Played
+and_asks machine p =
+    let q = play_asks machine p.state.waiting [] p.state p.left in
+    record { records = p.records ++ q.records; state = q.state; left = q.left; fits = p.fits && q.fits }
+
+abbrev pub play_out : Machine → Option ℕ → Bool → SessionState → List Given → Played
+play_out machine None jam s left = played false s []
+play_out machine (Some m) jam s left = told_first (outage machine m jam s).records (play_loop machine (outage machine m jam s).state left)
+
+abbrev pub play_on : Option ℕ → SessionState → List Given → Played
+play_on None s left = played false s []
+play_on (Some m) s left = played true (with_on m s) left
+
+abbrev pub play_begin : Machine → Event → SessionState → List Given → Played
+play_begin machine Bad s left = played false s []
+play_begin machine (NewJob name tray media groups) s left = played true (with_job machine name tray media groups s) left
+play_begin machine (Clock to) s left = told_first (clock_move machine to s).records (played true (clock_move machine to s).state left)
+play_begin machine (Jam name) s left = play_out machine (module_of machine name) true s left
+play_begin machine (Off name) s left = play_out machine (module_of machine name) false s left
+play_begin machine (On name) s left = play_on (module_of machine name) s left
+
+abbrev pub play_by : Option Cause → Machine → Event → SessionState → List Given → Played
+play_by (Some cause) machine event s left = told_first (Refused cause ∷ []) (played true s left)
+play_by None machine event s left = and_asks machine (play_begin machine event s left)
+
+abbrev pub play : Machine → Event → SessionState → List Given → Played
+play machine event s left = play_by (refusal machine s event) machine event s left
+
+-- a turn that was played to its end: its records and the next state
+abbrev pub turn_played : List Record → SessionState → Played
+turn_played records s = record { records = records; state = s; left = []; fits = true }
