@@ -1,3 +1,10 @@
 pub mod Machines
 pub mod RowParts
 pub mod Replay
+pub mod ClockRows
+pub mod RefusalRows
+pub mod JamRows
+pub mod OffRows
+pub mod BreakRows
+pub mod FullRows
+pub mod DeliveryRows

@@ -55,21 +55,27 @@ told_first records p = record { records = records ++ p.records; state = p.state;
 abbrev pub play_asks : Machine → List WaitingCopy → List ℕ → SessionState → List Given → Played
 play_asks machine [] passed s left = played true s left
 play_asks machine (w ∷ ws) passed s [] = elim (is_passed_over s passed w) [
-    true ↦ play_asks machine ws passed s []
+  | true ↦ play_asks machine ws passed s []
   | false ↦ elim (is_full machine s) [
-        true ↦ told_first (FullUp (label s.jobs w.sheet) ∷ []) (play_asks machine ws ((tray_of s.jobs w.sheet).0 ∷ passed) s [])
-      | false ↦ played false s [] ] ]
+    | true ↦ told_first (FullUp (label s.jobs w.sheet) ∷ []) (play_asks machine ws ((tray_of s.jobs w.sheet).0 ∷ passed) s [])
+    | false ↦ played false s []
+  ]
+]
 play_asks machine (w ∷ ws) passed s (settles plans ∷ left) = elim (is_passed_over s passed w) [
-    true ↦ play_asks machine ws passed s (settles plans ∷ left)
+  | true ↦ play_asks machine ws passed s (settles plans ∷ left)
   | false ↦ elim (is_full machine s) [
-        true ↦ told_first (FullUp (label s.jobs w.sheet) ∷ []) (play_asks machine ws ((tray_of s.jobs w.sheet).0 ∷ passed) s (settles plans ∷ left))
-      | false ↦ played false s [] ] ]
+    | true ↦ told_first (FullUp (label s.jobs w.sheet) ∷ []) (play_asks machine ws ((tray_of s.jobs w.sheet).0 ∷ passed) s (settles plans ∷ left))
+    | false ↦ played false s []
+  ]
+]
 play_asks machine (w ∷ ws) passed s (answers reply plans ∷ left) = elim (is_passed_over s passed w) [
-    true ↦ play_asks machine ws passed s (answers reply plans ∷ left)
+  | true ↦ play_asks machine ws passed s (answers reply plans ∷ left)
   | false ↦ elim (is_full machine s) [
-        true ↦ told_first (FullUp (label s.jobs w.sheet) ∷ []) (play_asks machine ws ((tray_of s.jobs w.sheet).0 ∷ passed) s (answers reply plans ∷ left))
-      | false ↦ told_first (told_of_reply machine s.plans (ask_waiting s w) reply plans)
-          (play_asks machine ws (passed_after reply (tray_of s.jobs w.sheet).0 passed) (state_after_reply s w reply plans) left) ] ]
+    | true ↦ told_first (FullUp (label s.jobs w.sheet) ∷ []) (play_asks machine ws ((tray_of s.jobs w.sheet).0 ∷ passed) s (answers reply plans ∷ left))
+    | false ↦ told_first (told_of_reply machine s.plans (ask_waiting s w) reply plans)
+        (play_asks machine ws (passed_after reply (tray_of s.jobs w.sheet).0 passed) (state_after_reply s w reply plans) left)
+  ]
+]
 
 abbrev pub answer : Reply → List Plan → Answer
 answer reply plans = record { reply = reply; plans = plans }
@@ -78,11 +84,13 @@ answer reply plans = record { reply = reply; plans = plans }
 abbrev pub play_loop : Machine → SessionState → List Given → Played
 play_loop machine s [] = played false s []
 play_loop machine s (settles plans ∷ left) = elim (next_ask machine s) [
-    None ↦ told_first (moves s.plans plans) (played true (record s { plans = plans }) left)
-  | Some ask ↦ played false s [] ]
+  | None ↦ told_first (moves s.plans plans) (played true (record s { plans = plans }) left)
+  | Some ask ↦ played false s []
+]
 play_loop machine s (answers reply plans ∷ left) = elim (next_ask machine s) [
-    None ↦ played false s []
-  | Some ask ↦ told_first (after_one machine s (answer reply plans)).records (play_loop machine (after_one machine s (answer reply plans)).state left) ]
+  | None ↦ played false s []
+  | Some ask ↦ told_first (after_one machine s (answer reply plans)).records (play_loop machine (after_one machine s (answer reply plans)).state left)
+]
 
 abbrev pub and_asks : Machine → Played → Played
 and_asks machine p =
