@@ -8,3 +8,4 @@ pub mod OffRows
 pub mod BreakRows
 pub mod FullRows
 pub mod DeliveryRows
+pub mod LoopFacts

@@ -16,3 +16,4 @@ pub mod Logs
 pub mod Receiving
 pub mod Keeping
 pub mod Seen
+pub mod Laws
