@@ -9,3 +9,4 @@ pub mod BreakRows
 pub mod FullRows
 pub mod DeliveryRows
 pub mod LoopFacts
+pub mod LeftPlans
