@@ -1,6 +1,6 @@
 -- A schedule of which less is left: plans are gone, and others hold no more than before and are delivered as before. Such a
 -- schedule is legal where the first one is, and keeps floors and horizon.
-use Rattle.std.proofs.Common.{◌≡◌, ℕ, ◌+◌, ◌<◌, ◌≤◌, Bool, true, false, List, [], ◌∷◌, ◌++◌, length, filter, flat_map, refl, sym, arith, All, AllPairs, Contains, IsTrue, subst, rules, inl, inr}
+use Rattle.std.proofs.Common.{◌≡◌, ℕ, ◌+◌, ◌<◌, ◌≤◌, List, [], ◌∷◌, length, filter, refl, sym, arith, All, AllPairs, Contains, IsTrue, subst, inl, inr}
 use Rattle.std.specs.Prelude.{IsFalse}
 use Rattle.std.proofs.lemmas.List.{length-append, length-map}
 use Rattle.std.proofs.lemmas.List.Elements.{All-nil, All-cons, All-head, All-tail, filter-append}
@@ -11,7 +11,6 @@ use Rattle.tp_schedule.specs.Legality.{IsLegal, EndsBefore}
 use Rattle.tp_schedule.specs.Planning.{none_exempt}
 use Rattle.tp_schedule.specs.Plans.{IsTimedPlan, IsEarlier, is_before, is_fixed, is_delivered_to, end_of_plan, point}
 use Rattle.tp_schedule.specs.declared.parts.Plan.{Plan}
-use Rattle.tp_schedule.specs.declared.parts.SheetId.{SheetId}
 use Rattle.tp_schedule.proofs.Membership.{Contains-cons_cases, Contains-here, Contains-later}
 use Rattle.tp_schedule.proofs.Pairs.{AllPairs-nil, AllPairs-cons, AllPairs-head, AllPairs-tail}
 

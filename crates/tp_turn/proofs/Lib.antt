@@ -10,3 +10,4 @@ pub mod FullRows
 pub mod DeliveryRows
 pub mod LoopFacts
 pub mod LeftPlans
+pub mod CutPlans

@@ -49,6 +49,16 @@ left_of now p purged = to_purge (front_of now p) ∷ []
 left_of now p replaced = to_purge (front_of now p) ∷ []
 left_of now p dropped = []
 
+-- whether a front is left, so that the copy must have started
+abbrev pub is_cut_by : Fate → Bool
+is_cut_by stays = false
+is_cut_by lost = true
+is_cut_by withdrawn = false
+is_cut_by cut = true
+is_cut_by purged = true
+is_cut_by replaced = true
+is_cut_by dropped = false
+
 -- what waits after it
 abbrev pub waits_for : Plan → Fate → List WaitingCopy
 waits_for p stays = []
