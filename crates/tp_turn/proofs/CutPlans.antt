@@ -45,12 +45,12 @@ runs-take test sheet m (suc n) (suc k) (act ∷ acts) (start ∷ []) = fewer k w
 runs-take test sheet m (suc n) (suc zero) (act ∷ acts) (start ∷ end ∷ points) = omega arith
 runs-take test sheet m (suc n) (suc (suc k)) (act ∷ acts) (start ∷ end ∷ points) =
     go (test (record { sheet = sheet; number = m; act = act; start = start; end = end }))
-      (runs-take test sheet (m + 1) n (suc k) acts (end ∷ points)) where
-        go : (b : Bool) → length (filter test (runs_from sheet (m + 1) (take n acts) (end ∷ take k points))) ≤ length (filter test (runs_from sheet (m + 1) acts (end ∷ points)))
-            → length (cond b (record { sheet = sheet; number = m; act = act; start = start; end = end } ∷ filter test (runs_from sheet (m + 1) (take n acts) (end ∷ take k points))) (filter test (runs_from sheet (m + 1) (take n acts) (end ∷ take k points))))
-              ≤ length (cond b (record { sheet = sheet; number = m; act = act; start = start; end = end } ∷ filter test (runs_from sheet (m + 1) acts (end ∷ points))) (filter test (runs_from sheet (m + 1) acts (end ∷ points))))
-        go true fewer = omega arith
-        go false fewer = fewer
+    (runs-take test sheet (m + 1) n (suc k) acts (end ∷ points)) where
+      go : (b : Bool) → length (filter test (runs_from sheet (m + 1) (take n acts) (end ∷ take k points))) ≤ length (filter test (runs_from sheet (m + 1) acts (end ∷ points)))
+          → length (cond b (record { sheet = sheet; number = m; act = act; start = start; end = end } ∷ filter test (runs_from sheet (m + 1) (take n acts) (end ∷ take k points))) (filter test (runs_from sheet (m + 1) (take n acts) (end ∷ take k points))))
+          ≤ length (cond b (record { sheet = sheet; number = m; act = act; start = start; end = end } ∷ filter test (runs_from sheet (m + 1) acts (end ∷ points))) (filter test (runs_from sheet (m + 1) acts (end ∷ points))))
+      go true fewer = omega arith
+      go false fewer = fewer
 
 pub length-runs_from : (sheet : SheetId) (m : ℕ) (acts : List ActId) (points : List ℕ) → length points ≡ length acts + 1 → length (runs_from sheet m acts points) ≡ length acts
 length-runs_from sheet m [] points e = refl
@@ -117,7 +117,6 @@ started_range machine now p low timed =
 
 pub started-low : (now : ℕ) (p : Plan) → is_unstarted now p ≡ false → point p 0 ≤ now
 started-low now p e = grind (arith, nat_tests)
-
 
 AreLeft-one : (machine : Machine) (now : ℕ) (p : Plan) (f : Fate) (plans plans' : List Plan) → (IsTimedPlan machine p → is_cut_by f ≡ true → is_unstarted now p ≡ false)
     → AreLeft machine plans plans' → AreLeft machine (p ∷ plans) (left_of now p f ++ plans')

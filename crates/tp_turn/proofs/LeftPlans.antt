@@ -41,7 +41,7 @@ AllPairs-left machine R R' each _ _ none pairs = AllPairs-nil R'
 AllPairs-left machine R R' each _ _ (gone p plans plans' rest) pairs = AllPairs-left machine R R' each plans plans' rest (AllPairs-tail R p plans pairs)
 AllPairs-left machine R R' each _ _ (more p p' plans plans' left rest) pairs =
     AllPairs-cons R' p' plans' (All-left machine (R p) (R' p') (λ q q' left'. each p p' q q' left left') plans plans' rest (AllPairs-head R p plans pairs))
-      (AllPairs-left machine R R' each plans plans' rest (AllPairs-tail R p plans pairs))
+    (AllPairs-left machine R R' each plans plans' rest (AllPairs-tail R p plans pairs))
 
 -- where a plan comes from
 pub Contains-left : (machine : Machine) (plans plans' : List Plan) → AreLeft machine plans plans' → (p' : Plan) → Contains plans' p' → (p : Plan) × Contains plans p × IsLeft machine p p'

@@ -11,3 +11,4 @@ pub mod DeliveryRows
 pub mod LoopFacts
 pub mod LeftPlans
 pub mod CutPlans
+pub mod ReleasedPlans
