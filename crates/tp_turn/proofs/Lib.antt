@@ -12,3 +12,4 @@ pub mod LoopFacts
 pub mod LeftPlans
 pub mod CutPlans
 pub mod ReleasedPlans
+pub mod PlanOnFacts
