@@ -13,3 +13,4 @@ pub mod LeftPlans
 pub mod CutPlans
 pub mod ReleasedPlans
 pub mod PlanOnFacts
+pub mod PlannableOutages
