@@ -14,3 +14,7 @@ pub mod CutPlans
 pub mod ReleasedPlans
 pub mod PlanOnFacts
 pub mod PlannableOutages
+pub mod SameMoment
+pub mod PlannableTurns
+pub mod LawfulLogs
+pub mod RefusedTurns

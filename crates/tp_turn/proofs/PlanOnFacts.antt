@@ -58,8 +58,8 @@ first_is_first now sheet m test (act ∷ acts) (start ∷ end ∷ points) rise l
 pub running-started : (machine : Machine) (now m : ℕ) (p : Plan) → IsTimedPlan machine p → is_running_on machine now m p ≡ true → is_unstarted now p ≡ false
 running-started machine now m p timed e =
     let rise : (j : ℕ) → j < length p.acts → point p j < point p (suc j) =
-        λ j in'. let next : point p j < point p (j + 1) = timed.rise j in' in
-        let same : point p (j + 1) ≡ point p (suc j) = ap (point p) (omega arith) in omega arith in
+    λ j in'. let next : point p j < point p (j + 1) = timed.rise j in' in
+    let same : point p (j + 1) ≡ point p (suc j) = ap (point p) (omega arith) in omega arith in
     let one_more : length p.points ≡ length p.acts + 1 = timed.one_more in
     let low : point p 0 ≤ now = first_is_first now p.sheet 1 (λ run. does_use machine m run.act) p.acts p.points rise one_more e in
     grind (arith, nat_tests)
@@ -102,7 +102,7 @@ CanPlanOn-clock machine now to plans low high can =
           let from = Contains-map_from (release_until (to + machine.lead)) plans p in' in
           let timed = All-contains (IsTimedPlan machine) plans from.0 can.legal.timed from.1 in
           subst (λ q. q.released ≤ i → i < length q.acts → to + machine.lead < point q i) (sym from.2)
-            (λ r w. released-below machine (to + machine.lead) from.0 i timed r w) released within;
+          (λ r w. released-below machine (to + machine.lead) from.0 i timed r w) released within;
       horizon = λ p in' i within not_fixed.
           let below : point p i ≤ now + machine.window = before.horizon p in' i within not_fixed in omega arith;
     }

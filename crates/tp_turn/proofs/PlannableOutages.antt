@@ -53,7 +53,7 @@ plannable-later machine copy s can = CanPlanOn-befall machine (fate_in_fall_back
 pub plannable-fall_back : (machine : Machine) (s : SessionState) (d : Displaced) → IsPlannable machine s → IsPlannable machine (fall_back s d).state
 plannable-fall_back machine s d can =
     plannable-either machine (is_line_entering s d.sheet) (job_break d.sheet.job s) (and_then (next_waits d s) (later_fall_back d.sheet))
-      (plannable-job_break machine d.sheet.job s can) (plannable-later machine d.sheet (next_waits d s).state (plannable-next_waits machine d s can))
+    (plannable-job_break machine d.sheet.job s can) (plannable-later machine d.sheet (next_waits d s).state (plannable-next_waits machine d s can))
 
 pub plannable-unless_broken : (machine : Machine) (s : SessionState) (d : Displaced) → IsPlannable machine s → IsPlannable machine (fall_back_unless_broken s d).state
 plannable-unless_broken machine s d can =
@@ -70,4 +70,4 @@ outage_cuts machine m jam s p timed e = go jam (is_copy s p) (is_running_on mach
 pub plannable-outage : (machine : Machine) (m : ℕ) (jam : Bool) (s : SessionState) → IsPlannable machine s → IsPlannable machine (outage machine m jam s).state
 plannable-outage machine m jam s can =
     for_each-keeps (IsPlannable machine) fall_back_unless_broken (plannable-unless_broken machine) (displaced machine m jam s) (going_out machine m jam s).state
-      (CanPlanOn-befall machine (fate_in_outage machine m jam s) (with_out m s) (outage_cuts machine m jam s) can)
+    (CanPlanOn-befall machine (fate_in_outage machine m jam s) (with_out m s) (outage_cuts machine m jam s) can)

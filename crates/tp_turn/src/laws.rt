@@ -1,13 +1,20 @@
 // What holds of turns. The calls do nothing: their contracts are the laws.
 ghost use Rattle.std.specs.Prelude.{◌≡◌, ◌∷◌, ◌++◌, List, [], Some};
 ghost use Rattle.tp_machine.specs.declared.whole.Machine.{Machine};
+ghost use Rattle.tp_schedule.specs.Planning.{CanPlanOn};
 ghost use Rattle.tp_schedule.specs.Planning.Deed.{replied};
 ghost use Rattle.tp_schedule.specs.declared.parts.Ask.{Ask};
+ghost use Rattle.tp_schedule.specs.declared.recording.Cause.{Cause};
+ghost use Rattle.tp_schedule.specs.declared.recording.Record.{Record};
+ghost use Rattle.tp_schedule.specs.declared.recording.Record.TheVariants.{Refused};
+ghost use Rattle.tp_script.specs.declared.event.Event.{Event};
 ghost use Rattle.tp_turn.specs.Answering.{Answer};
 ghost use Rattle.tp_turn.specs.Laws.{LoopStateGoesOn, LoopRecordsGoOn};
 ghost use Rattle.tp_turn.specs.Loops.{after_answers, next_ask};
 ghost use Rattle.tp_turn.specs.Planners.{AnswersInTurn, right_steps};
-ghost use Rattle.tp_turn.specs.States.{SessionState};
+ghost use Rattle.tp_turn.specs.Refusals.{refusal};
+ghost use Rattle.tp_turn.specs.States.{SessionState, empty_state};
+ghost use Rattle.tp_turn.specs.Turns.{Turn};
 
 use tp_schedule::Planner;
 
@@ -20,4 +27,21 @@ pub fn loop_goes_on<P: Planner>()
         → next_ask machine (after_answers machine answers s).state ≡ Some ask
         → (right_steps P.spent P.steps P.stop_steps machine).does mid (after_answers machine answers s).state.plans (replied ask a.reply) a.plans last
         → AnswersInTurn (right_steps P.spent P.steps P.stop_steps machine) machine s (answers ++ a ∷ []) first last }
+{}
+
+/// A refused event gives the one record of its cause, and state and planner stay.
+pub fn refused_events_change_nothing<P: Planner>()
+    ensures { (machine : Machine) (event : Event) (s : SessionState) (planner : P) (records : List Record) (s' : SessionState) (planner' : P) (cause : Cause)
+        → refusal machine s event ≡ Some cause
+        → Turn (right_steps P.spent P.steps P.stop_steps machine) machine event s planner records s' planner'
+        → (records ≡ Refused cause ∷ []) × (s' ≡ s) × (planner' ≡ planner) }
+{}
+
+/// After each turn of a planner the schedule can be planned on again: it is legal, past included, each unreleased start is
+/// above now + lead, and each point that isn't fixed is within the horizon. It can be planned on in the empty state.
+pub fn turns_keep_planning<P: Planner>()
+    ensures empty { (machine : Machine) → CanPlanOn machine empty_state.now empty_state.plans }
+    ensures turn { (machine : Machine) (event : Event) (s : SessionState) (planner : P) (records : List Record) (s' : SessionState) (planner' : P)
+        → Turn (right_steps P.spent P.steps P.stop_steps machine) machine event s planner records s' planner'
+        → CanPlanOn machine s.now s.plans → CanPlanOn machine s'.now s'.plans }
 {}
