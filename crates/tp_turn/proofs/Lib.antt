@@ -18,3 +18,5 @@ pub mod SameMoment
 pub mod PlannableTurns
 pub mod LawfulLogs
 pub mod RefusedTurns
+pub mod Replayed
+pub mod TurnRows

@@ -101,16 +101,19 @@ no_way_to_tray = refl
 abbrev pub stuck_front : Plan
 stuck_front = purged cut_front (act 0 ∷ act 2 ∷ []) (3 ∷ 5 ∷ 11 ∷ []) 2
 
+abbrev pub all_out : SessionState
+all_out = record {
+  now = 6;
+  plans = stuck_front ∷ [];
+  lost = sheet 0 1 1 ∷ [];
+  jobs = job (codes "j1") 3 1 ∷ [];
+  waiting = waits (sheet 0 1 2) mono_sheet ∷ [];
+  outs = record { 0 = 28 };
+}
+
 pub no_way_at_all : play duo (Off (codes "DUMP")) to_dump
     (answers NoWay (stuck_front ∷ []) ∷ settles (stuck_front ∷ []) ∷ answers NoWay (stuck_front ∷ []) ∷ [])
     ≡ turn_played
     (Cut (j1 1 1) ∷ Never (j1 1 1) None ∷ Stuck (j1 1 1) (codes "ENG2") ∷ Lost (j1 1 1) ∷ Never (j1 1 2) (Some (codes "t")) ∷ [])
-    (record {
-      now = 6;
-      plans = stuck_front ∷ [];
-      lost = sheet 0 1 1 ∷ [];
-      jobs = job (codes "j1") 3 1 ∷ [];
-      waiting = waits (sheet 0 1 2) mono_sheet ∷ [];
-      outs = record { 0 = 28 };
-    })
+    all_out
 no_way_at_all = refl

@@ -5,6 +5,7 @@ use Rattle.tp_script.specs.declared.event.Event.{Event}
 use Rattle.tp_script.specs.declared.event.Event.TheVariants.{Bad, Job as NewJob, Clock, Jam, Off, On}
 use Rattle.tp_schedule.specs.Planning.{Deed}
 use Rattle.tp_schedule.specs.Planning.Deed.{replied, settled}
+use Rattle.tp_schedule.specs.declared.parts.Ask.{Ask}
 use Rattle.tp_schedule.specs.declared.parts.Plan.{Plan}
 use Rattle.tp_schedule.specs.declared.parts.Reply.{Reply}
 use Rattle.tp_schedule.specs.declared.recording.Cause.{Cause}
@@ -52,45 +53,46 @@ played fits s left = record { records = []; state = s; left = left; fits = fits 
 abbrev pub told_first : List Record → Played → Played
 told_first records p = record { records = records ++ p.records; state = p.state; left = p.left; fits = p.fits }
 
+abbrev pub told_full : SessionState → WaitingCopy → List Record
+told_full s w = FullUp (label s.jobs w.sheet) ∷ []
+
+abbrev pub pass_over : SessionState → List ℕ → WaitingCopy → List ℕ
+pass_over s passed w = (tray_of s.jobs w.sheet).0 ∷ passed
+
+-- what comes of a copy that waits: passed over, told full, or answered from the list
+abbrev pub chosen : Bool → Bool → SessionState → List Given → (List Given → Played) → (List Given → Played) → (Reply → List Plan → List Given → Played) → Played
+chosen true full s left over told asked = over left
+chosen false true s left over told asked = told left
+chosen false false s [] over told asked = played false s []
+chosen false false s (settles plans ∷ left) over told asked = played false s left
+chosen false false s (answers reply plans ∷ left) over told asked = asked reply plans left
+
+-- the phase of asks, by what follows a copy that is told full, and one that is answered
 abbrev pub play_asks : Machine → List WaitingCopy → List ℕ → SessionState → List Given → Played
 play_asks machine [] passed s left = played true s left
-play_asks machine (w ∷ ws) passed s [] = elim (is_passed_over s passed w) [
-  | true ↦ play_asks machine ws passed s []
-  | false ↦ elim (is_full machine s) [
-    | true ↦ told_first (FullUp (label s.jobs w.sheet) ∷ []) (play_asks machine ws ((tray_of s.jobs w.sheet).0 ∷ passed) s [])
-    | false ↦ played false s []
-  ]
-]
-play_asks machine (w ∷ ws) passed s (settles plans ∷ left) = elim (is_passed_over s passed w) [
-  | true ↦ play_asks machine ws passed s (settles plans ∷ left)
-  | false ↦ elim (is_full machine s) [
-    | true ↦ told_first (FullUp (label s.jobs w.sheet) ∷ []) (play_asks machine ws ((tray_of s.jobs w.sheet).0 ∷ passed) s (settles plans ∷ left))
-    | false ↦ played false s []
-  ]
-]
-play_asks machine (w ∷ ws) passed s (answers reply plans ∷ left) = elim (is_passed_over s passed w) [
-  | true ↦ play_asks machine ws passed s (answers reply plans ∷ left)
-  | false ↦ elim (is_full machine s) [
-    | true ↦ told_first (FullUp (label s.jobs w.sheet) ∷ []) (play_asks machine ws ((tray_of s.jobs w.sheet).0 ∷ passed) s (answers reply plans ∷ left))
-    | false ↦ told_first (told_of_reply machine s.plans (ask_waiting s w) reply plans)
-        (play_asks machine ws (passed_after reply (tray_of s.jobs w.sheet).0 passed) (state_after_reply s w reply plans) left)
-  ]
-]
+play_asks machine (w ∷ ws) passed s left = chosen (is_passed_over s passed w) (is_full machine s) s left
+    (play_asks machine ws passed s)
+    (λ l. told_first (told_full s w) (play_asks machine ws (pass_over s passed w) s l))
+    (λ reply plans l. told_first (told_of_reply machine s.plans (ask_waiting s w) reply plans)
+    (play_asks machine ws (passed_after reply (tray_of s.jobs w.sheet).0 passed) (state_after_reply s w reply plans) l))
 
 abbrev pub answer : Reply → List Plan → Answer
 answer reply plans = record { reply = reply; plans = plans }
 
--- the loop, and the settling at its end
+-- the loop goes on where an ask is due, and ends with the settling where none is
+abbrev pub loop_on : Option Ask → SessionState → (Ask → Played) → Played
+loop_on None s next = played false s []
+loop_on (Some ask) s next = next ask
+
+abbrev pub loop_end : Option Ask → SessionState → List Plan → List Given → Played
+loop_end None s plans left = record { records = moves s.plans plans; state = record s { plans = plans }; left = left; fits = true }
+loop_end (Some ask) s plans left = played false s []
+
 abbrev pub play_loop : Machine → SessionState → List Given → Played
 play_loop machine s [] = played false s []
-play_loop machine s (settles plans ∷ left) = elim (next_ask machine s) [
-  | None ↦ told_first (moves s.plans plans) (played true (record s { plans = plans }) left)
-  | Some ask ↦ played false s []
-]
-play_loop machine s (answers reply plans ∷ left) = elim (next_ask machine s) [
-  | None ↦ played false s []
-  | Some ask ↦ told_first (after_one machine s (answer reply plans)).records (play_loop machine (after_one machine s (answer reply plans)).state left)
-]
+play_loop machine s (settles plans ∷ left) = loop_end (next_ask machine s) s plans left
+play_loop machine s (answers reply plans ∷ left) = loop_on (next_ask machine s) s
+    (λ ask. told_first (after_one machine s (answer reply plans)).records (play_loop machine (after_one machine s (answer reply plans)).state left))
 
 abbrev pub and_asks : Machine → Played → Played
 and_asks machine p =

@@ -1,8 +1,9 @@
 -- Which events are refused, and by which cause: the first that applies.
-use Rattle.std.specs.Prelude.{ℕ, ◌+◌, Bool, false, not, nat_lt, List, [], ◌∷◌, length, sum_by, Option, Some, None, position, is_some, if◌then◌else◌}
+use Rattle.std.specs.Prelude.{ℕ, ◌+◌, Bool, false, not, nat_lt, List, [], ◌∷◌, length, sum_by, Option, Some, None, find, position, is_some, if◌then◌else◌}
 use Rattle.std.specs.List.{list_any}
 use Rattle.std.specs.Str.{bytes_eq}
 use Rattle.tp_machine.specs.Using.{is_out}
+use Rattle.tp_machine.specs.declared.parts.LocId.{LocId}
 use Rattle.tp_machine.specs.declared.parts.Outs.{Outs}
 use Rattle.tp_machine.specs.declared.whole.Machine.{Machine}
 use Rattle.tp_script.specs.Form.{GroupForm}
@@ -19,8 +20,12 @@ use Rattle.tp_turn.specs.Labels.{location_name}
 abbrev pub most_waiting : ℕ
 most_waiting = 4096
 
+-- the tray of this name
+abbrev pub tray_named : Machine → List ℕ → Option LocId
+tray_named machine name = find (λ t. bytes_eq name (location_name machine t)) machine.trays
+
 abbrev pub is_tray_name : Machine → List ℕ → Bool
-is_tray_name machine name = list_any (λ t. bytes_eq name (location_name machine t)) machine.trays
+is_tray_name machine name = is_some (tray_named machine name)
 
 abbrev pub has_media : Machine → List ℕ → Bool
 has_media machine media = list_any (λ f. bytes_eq media f.media) machine.feeders

@@ -1,7 +1,6 @@
 -- The turn of one event: its records and the next state.
-use Rattle.std.specs.Prelude.{◌≡◌, ℕ, ◌+◌, true, false, List, [], ◌∷◌, ◌++◌, length, flat_map, replicate, position, Option, Some, None}
+use Rattle.std.specs.Prelude.{◌≡◌, ℕ, ◌+◌, true, false, List, [], ◌∷◌, ◌++◌, length, flat_map, replicate, Option, Some, None}
 use Rattle.std.specs.Option.{MatchOption}
-use Rattle.std.specs.Str.{bytes_eq}
 use Rattle.tp_machine.specs.declared.parts.LocId.{LocId}
 use Rattle.tp_machine.specs.declared.parts.Sheet.{Sheet}
 use Rattle.tp_machine.specs.declared.whole.Machine.{Machine}
@@ -13,7 +12,7 @@ use Rattle.tp_schedule.specs.declared.recording.Record.TheVariants.{Refused}
 use Rattle.tp_jobs.specs.declared.parts.Job.{Job}
 use Rattle.tp_jobs.specs.declared.parts.WaitingCopy.{WaitingCopy}
 use Rattle.tp_turn.specs.States.{SessionState, put_on}
-use Rattle.tp_turn.specs.Refusals.{refusal, module_of, sheet_count}
+use Rattle.tp_turn.specs.Refusals.{refusal, module_of, sheet_count, tray_named}
 use Rattle.tp_turn.specs.Clock.{clock_move}
 use Rattle.tp_turn.specs.Planners.{PlannerSteps, GoesOut}
 use Rattle.tp_turn.specs.Asking.{Asks}
@@ -30,16 +29,12 @@ abbrev pub first_copies : ℕ → ℕ → List Sheet → List WaitingCopy
 first_copies job n [] = []
 first_copies job n (want ∷ wants) = record { sheet = record { job = job; number = n; copy = 1 }; want = want } ∷ first_copies job (n + 1) wants
 
--- the tray of this name
-abbrev pub location_in : Option ℕ → LocId
+abbrev pub location_in : Option LocId → LocId
 location_in None = record { 0 = 0 }
-location_in (Some n) = record { 0 = n }
-
-abbrev pub location_of : Machine → List ℕ → LocId
-location_of machine name = location_in (position (bytes_eq name) machine.locations)
+location_in (Some place) = place
 
 abbrev pub new_job : Machine → List ℕ → List ℕ → List GroupForm → Job
-new_job machine name tray groups = record { name = name; tray = location_of machine tray; sheets = sheet_count groups; broken = false }
+new_job machine name tray groups = record { name = name; tray = location_in (tray_named machine tray); sheets = sheet_count groups; broken = false }
 
 -- the state with a new job, whose copies wait behind all others
 abbrev pub with_job : Machine → List ℕ → List ℕ → List ℕ → List GroupForm → SessionState → SessionState
