@@ -20,3 +20,4 @@ pub mod LawfulLogs
 pub mod RefusedTurns
 pub mod Replayed
 pub mod TurnRows
+pub mod MovedClock

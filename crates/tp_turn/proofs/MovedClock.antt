@@ -1,0 +1,81 @@
+-- A move of the clock keeps lines and sheets, and no more copies are live or on their way after it.
+use Rattle.std.proofs.Common.{◌≡◌, ℕ, suc, ◌+◌, ◌<◌, ◌≤◌, Bool, true, false, cond, ◌&&◌, ◌||◌, not, List, [], ◌∷◌, ◌++◌, map, length, filter, count_by, refl, sym, ap, ◌∙◌, arith, All, AllPairs, Any, Contains, IsTrue, subst, nat_le, nat_lt}
+use Rattle.std.specs.Prelude.{IsFalse, pos, int_lt}
+use Rattle.std.specs.List.{list_any, list_all}
+use Rattle.std.proofs.lemmas.Bool.Decides.{nat_tests}
+use Rattle.std.proofs.lemmas.List.Elements.{All-nil, All-cons, All-head, All-tail, All-weaker}
+use Rattle.std.proofs.lemmas.List.Sums.{length-filter}
+use Rattle.tp_machine.specs.declared.whole.Machine.{Machine}
+use Rattle.tp_jobs.specs.declared.parts.WaitingCopy.{WaitingCopy}
+use Rattle.tp_schedule.specs.Living.{is_live, is_held_after, live_count}
+use Rattle.tp_schedule.specs.Plans.{is_front, is_same_copy}
+use Rattle.tp_schedule.specs.declared.parts.Plan.{Plan}
+use Rattle.tp_schedule.specs.declared.parts.SheetId.{SheetId}
+use Rattle.tp_turn.specs.Clock.{clock_move, released_until}
+use Rattle.tp_turn.specs.Keeping.{KeepsLines, KeepsSheets, StandsBehind, IsOlder, is_planned_among, is_of_its_job, is_sheet_of, tray_plans, open_copies, is_same_sheet, is_copy_of}
+use Rattle.tp_turn.specs.Moments.{is_tray_plan, release_until}
+use Rattle.tp_turn.specs.States.{SessionState}
+
+-- a test that does not see what a map changes keeps the same elements
+pub filter-map_same : {X : Type 0} (p : X → Bool) (f : X → X) → ((x : X) → p (f x) ≡ p x) → (xs : List X) → filter p (map f xs) ≡ map f (filter p xs)
+filter-map_same p f same [] = refl
+filter-map_same {X} p f same (x ∷ xs) = rw (same x) (go (p x) (filter-map_same p f same xs)) where
+  go : (b : Bool) → filter p (map f xs) ≡ map f (filter p xs) → cond b (f x ∷ filter p (map f xs)) (filter p (map f xs)) ≡ map f (cond b (x ∷ filter p xs) (filter p xs))
+  go true e = ap (λ l. f x ∷ l) e
+  go false e = e
+
+pub map-map_same : {X Y : Type 0} (g : X → Y) (f : X → X) → ((x : X) → g (f x) ≡ g x) → (xs : List X) → map g (map f xs) ≡ map g xs
+map-map_same g f same [] = refl
+map-map_same g f same (x ∷ xs) = rw (same x, map-map_same g f same xs) refl
+
+pub All-map_to : {X : Type 0} (P : X → Type 0) (f : X → X) → ((x : X) → P x → P (f x)) → (xs : List X) → All P xs → All P (map f xs)
+All-map_to P f each [] all = All-nil P
+All-map_to P f each (x ∷ xs) all = All-cons P (f x) (map f xs) (each x (All-head P x xs all)) (All-map_to P f each xs (All-tail P x xs all))
+
+list_any-map_same : {X : Type 0} (p : X → Bool) (f : X → X) → ((x : X) → p (f x) ≡ p x) → (xs : List X) → list_any p (map f xs) ≡ list_any p xs
+list_any-map_same p f same [] = refl
+list_any-map_same p f same (x ∷ xs) = rw (same x, list_any-map_same p f same xs) refl
+
+module _ (last : ℕ) where
+  tray_plans-released : (plans : List Plan) → tray_plans (map (release_until last) plans) ≡ map (release_until last) (tray_plans plans)
+  tray_plans-released plans = filter-map_same is_tray_plan (release_until last) (λ p. refl) plans
+
+  tray_sheets-released : (plans : List Plan) → map (λ p. p.sheet) (tray_plans (map (release_until last) plans)) ≡ map (λ p. p.sheet) (tray_plans plans)
+  tray_sheets-released plans = rw (tray_plans-released plans) (map-map_same (λ p. p.sheet) (release_until last) (λ p. refl) (tray_plans plans))
+
+  front_sheets-released : (plans : List Plan) → map (λ p. p.sheet) (filter (λ p. is_front p.kind) (map (release_until last) plans)) ≡ map (λ p. p.sheet) (filter (λ p. is_front p.kind) plans)
+  front_sheets-released plans =
+      rw (filter-map_same (λ p. is_front p.kind) (release_until last) (λ p. refl) plans) (map-map_same (λ p. p.sheet) (release_until last) (λ p. refl) (filter (λ p. is_front p.kind) plans))
+
+  planned-released : (plans : List Plan) (copy : SheetId) → is_planned_among (map (release_until last) plans) copy ≡ is_planned_among plans copy
+  planned-released plans copy = list_any-map_same (λ p. is_same_copy p.sheet copy) (release_until last) (λ p. refl) plans
+
+pub lines-clock : (machine : Machine) (to : ℕ) (s : SessionState) → KeepsLines machine s → KeepsLines machine (clock_move machine to s).state
+lines-clock machine to s keeps =
+    let last = to + machine.lead in
+    record {
+      trays = keeps.trays;
+      names = keeps.names;
+      in_order = keeps.in_order;
+      waiting_known = keeps.waiting_known;
+      unplanned = All-weaker (λ w. IsFalse (is_planned_among s.plans w.sheet)) (λ w. IsFalse (is_planned_among (released_until machine to s.plans) w.sheet))
+          (λ w un. planned-released (to + machine.lead) s.plans w.sheet ∙ un) s.waiting keeps.unplanned;
+      line = All-weaker (λ w. All (StandsBehind s.jobs w) (tray_plans s.plans)) (λ w. All (StandsBehind s.jobs w) (tray_plans (released_until machine to s.plans)))
+          (λ w all. subst (All (StandsBehind s.jobs w)) (sym (tray_plans-released (to + machine.lead) s.plans))
+            (All-map_to (StandsBehind s.jobs w) (release_until (to + machine.lead)) (λ p h. h) (tray_plans s.plans) all)) s.waiting keeps.line;
+      one = subst (λ l. AllPairs (λ a b. IsFalse (is_same_sheet a b)) (map (λ w. w.sheet) s.waiting ++ l)) (sym (tray_sheets-released (to + machine.lead) s.plans)) keeps.one;
+      plans_known = All-map_to (λ p. IsTrue (is_of_its_job s.jobs p)) (release_until (to + machine.lead)) (λ p h. h) s.plans keeps.plans_known;
+      fronts = front_sheets-released (to + machine.lead) s.plans ∙ keeps.fronts;
+    }
+
+open-clock : (machine : Machine) (to : ℕ) (s : SessionState) → open_copies (clock_move machine to s).state ≡ open_copies s
+open-clock machine to s = ap (λ l. map (λ w. w.sheet) s.waiting ++ l) (tray_sheets-released (to + machine.lead) s.plans)
+
+pub sheets-clock : (machine : Machine) (to : ℕ) (s : SessionState) → KeepsSheets s → KeepsSheets (clock_move machine to s).state
+sheets-clock machine to s keeps = record {
+  each = λ job number known whole first last. subst (Any (λ copy. IsTrue (is_copy_of job number copy))) (sym (open-clock machine to s)) (keeps.each job number known whole first last);
+  waiting_sheets = keeps.waiting_sheets;
+  planned_sheets = All-map_to (λ p. IsTrue (is_sheet_of s.jobs p.sheet)) (release_until (to + machine.lead)) (λ p h. h) s.plans keeps.planned_sheets;
+  older = subst (λ l. All (λ p. All (IsOlder p) l) (released_until machine to s.plans)) (sym (open-clock machine to s))
+      (All-map_to (λ p. All (IsOlder p) (open_copies s)) (release_until (to + machine.lead)) (λ p h. h) s.plans keeps.older);
+}
