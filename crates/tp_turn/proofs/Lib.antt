@@ -21,3 +21,4 @@ pub mod RefusedTurns
 pub mod Replayed
 pub mod TurnRows
 pub mod MovedClock
+pub mod MovedCounts

@@ -1,13 +1,9 @@
 -- A move of the clock keeps lines and sheets, and no more copies are live or on their way after it.
-use Rattle.std.proofs.Common.{◌≡◌, ℕ, suc, ◌+◌, ◌<◌, ◌≤◌, Bool, true, false, cond, ◌&&◌, ◌||◌, not, List, [], ◌∷◌, ◌++◌, map, length, filter, count_by, refl, sym, ap, ◌∙◌, arith, All, AllPairs, Any, Contains, IsTrue, subst, nat_le, nat_lt}
-use Rattle.std.specs.Prelude.{IsFalse, pos, int_lt}
-use Rattle.std.specs.List.{list_any, list_all}
-use Rattle.std.proofs.lemmas.Bool.Decides.{nat_tests}
+use Rattle.std.proofs.Common.{◌≡◌, ℕ, ◌+◌, Bool, true, false, cond, List, [], ◌∷◌, ◌++◌, map, filter, refl, sym, ap, ◌∙◌, All, AllPairs, Any, IsTrue, subst}
+use Rattle.std.specs.Prelude.{IsFalse}
+use Rattle.std.specs.List.{list_any}
 use Rattle.std.proofs.lemmas.List.Elements.{All-nil, All-cons, All-head, All-tail, All-weaker}
-use Rattle.std.proofs.lemmas.List.Sums.{length-filter}
 use Rattle.tp_machine.specs.declared.whole.Machine.{Machine}
-use Rattle.tp_jobs.specs.declared.parts.WaitingCopy.{WaitingCopy}
-use Rattle.tp_schedule.specs.Living.{is_live, is_held_after, live_count}
 use Rattle.tp_schedule.specs.Plans.{is_front, is_same_copy}
 use Rattle.tp_schedule.specs.declared.parts.Plan.{Plan}
 use Rattle.tp_schedule.specs.declared.parts.SheetId.{SheetId}
@@ -62,7 +58,7 @@ lines-clock machine to s keeps =
           (λ w un. planned-released (to + machine.lead) s.plans w.sheet ∙ un) s.waiting keeps.unplanned;
       line = All-weaker (λ w. All (StandsBehind s.jobs w) (tray_plans s.plans)) (λ w. All (StandsBehind s.jobs w) (tray_plans (released_until machine to s.plans)))
           (λ w all. subst (All (StandsBehind s.jobs w)) (sym (tray_plans-released (to + machine.lead) s.plans))
-            (All-map_to (StandsBehind s.jobs w) (release_until (to + machine.lead)) (λ p h. h) (tray_plans s.plans) all)) s.waiting keeps.line;
+          (All-map_to (StandsBehind s.jobs w) (release_until (to + machine.lead)) (λ p h. h) (tray_plans s.plans) all)) s.waiting keeps.line;
       one = subst (λ l. AllPairs (λ a b. IsFalse (is_same_sheet a b)) (map (λ w. w.sheet) s.waiting ++ l)) (sym (tray_sheets-released (to + machine.lead) s.plans)) keeps.one;
       plans_known = All-map_to (λ p. IsTrue (is_of_its_job s.jobs p)) (release_until (to + machine.lead)) (λ p h. h) s.plans keeps.plans_known;
       fronts = front_sheets-released (to + machine.lead) s.plans ∙ keeps.fronts;
