@@ -22,3 +22,5 @@ pub mod Replayed
 pub mod TurnRows
 pub mod MovedClock
 pub mod MovedCounts
+pub mod FirstCopies
+pub mod NewJob

@@ -43,7 +43,7 @@ use Rattle.tp_turn.proofs.SameMoment.{now-answers}
 use Rattle.tp_turn.proofs.ReleasedPlans.{AreLeft-change_plan, IsLeft-release, released-below}
 
 -- the first that passes is one of them, and passes
-find-Some : {X : Type 0} (p : X → Bool) (xs : List X) (x : X) → find p xs ≡ Some x → Contains xs x × (p x ≡ true)
+pub find-Some : {X : Type 0} (p : X → Bool) (xs : List X) (x : X) → find p xs ≡ Some x → Contains xs x × (p x ≡ true)
 find-Some p [] x e = absurd (cc)
 find-Some p (y ∷ xs) x e = go (p y) refl e (find-Some p xs x) where
   go : (b : Bool) → p y ≡ b → cond b (Some y) (find p xs) ≡ Some x → (find p xs ≡ Some x → Contains xs x × (p x ≡ true)) → Contains (y ∷ xs) x × (p x ≡ true)
