@@ -24,3 +24,4 @@ pub mod MovedClock
 pub mod MovedCounts
 pub mod FirstCopies
 pub mod NewJob
+pub mod NewSheets

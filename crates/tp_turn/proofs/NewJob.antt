@@ -29,10 +29,10 @@ use Rattle.tp_schedule.proofs.Pairs.{AllPairs-nil, AllPairs-cons, AllPairs-head,
 use Rattle.tp_turn.proofs.PlannableTurns.{find-Some}
 
 -- the jobs that came before are told as before
-known-within : (jobs : List Job) (copy : SheetId) → is_known jobs copy ≡ true → copy.job < length jobs
+pub known-within : (jobs : List Job) (copy : SheetId) → is_known jobs copy ≡ true → copy.job < length jobs
 known-within jobs copy e = grind (arith, nat_tests)
 
-before-same : (jobs : List Job) (j : Job) (copy : SheetId) → is_known jobs copy ≡ true → slice_get (jobs ++ j ∷ []) copy.job ≡ slice_get jobs copy.job
+pub before-same : (jobs : List Job) (j : Job) (copy : SheetId) → is_known jobs copy ≡ true → slice_get (jobs ++ j ∷ []) copy.job ≡ slice_get jobs copy.job
 before-same jobs j copy e = slice_get_left jobs (j ∷ []) copy.job (known-within jobs copy e)
 
 tray-same : (jobs : List Job) (j : Job) (copy : SheetId) → is_known jobs copy ≡ true → tray_of (jobs ++ j ∷ []) copy ≡ tray_of jobs copy
@@ -75,10 +75,10 @@ new-name : (jobs : List Job) (name : List ℕ) → is_taken jobs name ≡ false 
 new-name jobs name e =
     All-from_none (λ j. bytes_eq name j.name) (λ j. j.name ≢ name) (λ j f same. not_from_Decides (bytes_eq name j.name) (bytes_eq-Decides name j.name) f (sym same)) jobs e
 
-abbrev firsts : ℕ → List ℕ → List GroupForm → List WaitingCopy
+abbrev pub firsts : ℕ → List ℕ → List GroupForm → List WaitingCopy
 firsts n media groups = first_copies n 1 (sheets_of media groups)
 
-firsts-are : (n : ℕ) (media : List ℕ) (groups : List GroupForm) → All (IsFirstCopy n 1 (1 + sheet_count groups)) (firsts n media groups)
+pub firsts-are : (n : ℕ) (media : List ℕ) (groups : List GroupForm) → All (IsFirstCopy n 1 (1 + sheet_count groups)) (firsts n media groups)
 firsts-are n media groups =
     let many = length-sheets_of media groups in
     All-first_copies n 1 1 (1 + sheet_count groups) (sheets_of media groups) (omega arith) (omega arith)
@@ -87,7 +87,7 @@ firsts-are n media groups =
 earlier-before : (jobs : List Job) (v w : SheetId) → is_known jobs v ≡ true → w.job ≡ length jobs → is_before v w ≡ true
 earlier-before jobs v w known e = let within = known-within jobs v known in let low : v.job < w.job = omega arith in grind (arith, nat_tests)
 
-earlier-other : (jobs : List Job) (v w : SheetId) → is_known jobs v ≡ true → w.job ≡ length jobs → is_same_sheet v w ≡ false
+pub earlier-other : (jobs : List Job) (v w : SheetId) → is_known jobs v ≡ true → w.job ≡ length jobs → is_same_sheet v w ≡ false
 earlier-other jobs v w known e = let within = known-within jobs v known in let low : v.job < w.job = omega arith in grind (arith, nat_tests)
 
 later-other : (jobs : List Job) (v w : SheetId) → is_known jobs v ≡ true → w.job ≡ length jobs → is_same_sheet w v ≡ false
@@ -103,18 +103,18 @@ line-same jobs j v w known known' = rw (tray-same jobs j v known, tray-same jobs
 behind-more : (jobs : List Job) (j : Job) (w : WaitingCopy) (p : Plan) → is_known jobs w.sheet ≡ true → is_known jobs p.sheet ≡ true → StandsBehind jobs w p → StandsBehind (jobs ++ j ∷ []) w p
 behind-more jobs j w p known known' behind same = behind (sym (line-same jobs j w.sheet p.sheet known known') ∙ same)
 
-All-part : {X : Type 0} (P : X → Type 0) (q : X → Bool) (xs : List X) → All P xs → All P (filter q xs)
+pub All-part : {X : Type 0} (P : X → Type 0) (q : X → Bool) (xs : List X) → All P xs → All P (filter q xs)
 All-part P q [] all = All-nil P
 All-part {X} P q (x ∷ xs) all = go (q x) (All-part P q xs (All-tail P x xs all)) where
   go : (b : Bool) → All P (filter q xs) → All P (cond b (x ∷ filter q xs) (filter q xs))
   go true rest = All-cons P x (filter q xs) (All-head P x xs all) rest
   go false rest = rest
 
-All-both : {X : Type 0} (P Q R : X → Type 0) → ((x : X) → P x → Q x → R x) → (xs : List X) → All P xs → All Q xs → All R xs
+pub All-both : {X : Type 0} (P Q R : X → Type 0) → ((x : X) → P x → Q x → R x) → (xs : List X) → All P xs → All Q xs → All R xs
 All-both P Q R each [] p q = All-nil R
 All-both P Q R each (x ∷ xs) p q = All-cons R x xs (each x (All-head P x xs p) (All-head Q x xs q)) (All-both P Q R each xs (All-tail P x xs p) (All-tail Q x xs q))
 
-All-map_list : {X Y : Type 0} (P : Y → Type 0) (f : X → Y) (xs : List X) → All (λ x. P (f x)) xs → All P (map f xs)
+pub All-map_list : {X Y : Type 0} (P : Y → Type 0) (f : X → Y) (xs : List X) → All (λ x. P (f x)) xs → All P (map f xs)
 All-map_list P f [] all = All-nil P
 All-map_list P f (x ∷ xs) all = All-cons P (f x) (map f xs) (All-head (λ x. P (f x)) x xs all) (All-map_list P f xs (All-tail (λ x. P (f x)) x xs all))
 
@@ -123,10 +123,10 @@ AllPairs-map_list R f [] pairs = AllPairs-nil R
 AllPairs-map_list R f (x ∷ xs) pairs =
     AllPairs-cons R (f x) (map f xs) (All-map_list (R (f x)) f xs (AllPairs-head (λ x y. R (f x) (f y)) x xs pairs)) (AllPairs-map_list R f xs (AllPairs-tail (λ x y. R (f x) (f y)) x xs pairs))
 
-abbrev Known : List Job → WaitingCopy → Type 0
+abbrev pub Known : List Job → WaitingCopy → Type 0
 Known jobs w = is_known jobs w.sheet ≡ true
 
-known-plans : (jobs : List Job) (plans : List Plan) → All (λ p. IsTrue (is_of_its_job jobs p)) plans → All (λ p. is_known jobs p.sheet ≡ true) plans
+pub known-plans : (jobs : List Job) (plans : List Plan) → All (λ p. IsTrue (is_of_its_job jobs p)) plans → All (λ p. is_known jobs p.sheet ≡ true) plans
 known-plans jobs plans all = All-weaker (λ p. IsTrue (is_of_its_job jobs p)) (λ p. is_known jobs p.sheet ≡ true) (known-plan jobs) plans all
 
 -- one open copy of each sheet: the new ones are of other sheets than the old ones, and of different sheets
