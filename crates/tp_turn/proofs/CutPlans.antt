@@ -118,7 +118,7 @@ started_range machine now p low timed =
 pub started-low : (now : ℕ) (p : Plan) → is_unstarted now p ≡ false → point p 0 ≤ now
 started-low now p e = grind (arith, nat_tests)
 
-AreLeft-one : (machine : Machine) (now : ℕ) (p : Plan) (f : Fate) (plans plans' : List Plan) → (IsTimedPlan machine p → is_cut_by f ≡ true → is_unstarted now p ≡ false)
+pub AreLeft-one : (machine : Machine) (now : ℕ) (p : Plan) (f : Fate) (plans plans' : List Plan) → (IsTimedPlan machine p → is_cut_by f ≡ true → is_unstarted now p ≡ false)
     → AreLeft machine plans plans' → AreLeft machine (p ∷ plans) (left_of now p f ++ plans')
 AreLeft-one machine now p fates.stays plans plans' started rest = more p p plans plans' (IsLeft-refl machine p) rest
 AreLeft-one machine now p fates.lost plans plans' started rest =

@@ -10,7 +10,7 @@ use Rattle.tp_schedule.specs.declared.parts.Plan.{Plan}
 use Rattle.tp_schedule.proofs.Pairs.{AllPairs-nil}
 use Rattle.tp_turn.specs.Logs.{Entry, TreeClaims, right_answers, Run, IsLawful}
 use Rattle.tp_turn.specs.States.{SessionState, empty_state}
-use Rattle.tp_turn.proofs.PlanOnFacts.{IsPlannable}
+use Rattle.tp_turn.specs.Laws.{IsPlannable}
 use Rattle.tp_turn.proofs.PlannableTurns.{plannable-turn}
 
 pub plannable-empty : (machine : Machine) → IsPlannable machine empty_state

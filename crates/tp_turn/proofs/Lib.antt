@@ -25,3 +25,4 @@ pub mod MovedCounts
 pub mod FirstCopies
 pub mod NewJob
 pub mod NewSheets
+pub mod ComesBack

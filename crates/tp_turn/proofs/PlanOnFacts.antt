@@ -17,15 +17,12 @@ use Rattle.tp_schedule.proofs.Membership.{Contains-cons_cases, Contains-here, Co
 use Rattle.tp_schedule.proofs.Pairs.{AllPairs-head, AllPairs-tail}
 use Rattle.tp_turn.specs.Clock.{released_until}
 use Rattle.tp_turn.specs.Fates.{Fate, befall, left_by, is_cut_by, to_purge}
+use Rattle.tp_turn.specs.Laws.{IsPlannable, FatesKeepPlanning}
 use Rattle.tp_turn.specs.Moments.{is_unstarted, is_running, is_running_on, does_use, release_until}
 use Rattle.tp_turn.specs.States.{SessionState}
-use Rattle.tp_turn.proofs.CutPlans.{AreLeft-left_by}
-use Rattle.tp_turn.proofs.LeftPlans.{IsLeft, AreLeft, IsLegal-left, KeepsFloors-left, KeepsHorizon-left}
+use Rattle.tp_turn.proofs.CutPlans.{AreLeft-left_by, AreLeft-one}
+use Rattle.tp_turn.proofs.LeftPlans.{IsLeft, AreLeft, none, IsLegal-left, KeepsFloors-left, KeepsHorizon-left}
 use Rattle.tp_turn.proofs.ReleasedPlans.{AreLeft-released, released-below}
-
--- the state can be planned on at its moment
-abbrev pub IsPlannable : Machine → SessionState → Type 0
-IsPlannable machine s = CanPlanOn machine s.now s.plans
 
 pub CanPlanOn-left : (machine : Machine) (now : ℕ) (plans plans' : List Plan) → AreLeft machine plans plans' → CanPlanOn machine now plans → CanPlanOn machine now plans'
 CanPlanOn-left machine now plans plans' left can = record {
@@ -137,3 +134,14 @@ IsLeft-to_purge machine p is = record {
   unreleased = λ i released within. (released, within, refl);
   unfixed = λ i within not_fixed. (within, not_fixed, refl);
 }
+
+AreLeft-left_by_contained : (machine : Machine) (now : ℕ) (fate : Plan → Fate) (plans : List Plan) → ((p : Plan) → Contains plans p → is_cut_by (fate p) ≡ true → is_unstarted now p ≡ false)
+    → AreLeft machine plans (left_by fate now plans)
+AreLeft-left_by_contained machine now fate [] started = none
+AreLeft-left_by_contained machine now fate (p ∷ plans) started =
+    AreLeft-one machine now p (fate p) plans (left_by fate now plans) (λ timed. started p (Contains-here p plans))
+    (AreLeft-left_by_contained machine now fate plans (λ q in'. started q (Contains-later p plans q in')))
+
+pub fates_keep_planning : FatesKeepPlanning
+fates_keep_planning machine fate s started can =
+    CanPlanOn-left machine s.now s.plans (left_by fate s.now s.plans) (AreLeft-left_by_contained machine s.now fate s.plans started) can

@@ -11,7 +11,8 @@ use Rattle.tp_turn.specs.Fates.{is_cut_by}
 use Rattle.tp_turn.specs.FallBacks.{Displaced, is_copy, is_line_entering, job_break, next_waits, later_fall_back, fall_back, fall_back_unless_broken, fate_in_break, fate_in_fall_back}
 use Rattle.tp_turn.specs.Moments.{is_unstarted, is_running_on}
 use Rattle.tp_turn.specs.Outages.{fate_of_others, fate_in_outage, displaced, with_out, going_out, outage}
-use Rattle.tp_turn.proofs.PlanOnFacts.{IsPlannable, CanPlanOn-befall, running-started}
+use Rattle.tp_turn.proofs.PlanOnFacts.{CanPlanOn-befall, running-started}
+use Rattle.tp_turn.specs.Laws.{IsPlannable}
 
 -- what a part keeps, it keeps for each of several things
 pub for_each-keeps : {X : Type 0} (K : SessionState → Type 0) (part : SessionState → X → Outcome)

@@ -37,7 +37,8 @@ use Rattle.tp_turn.specs.Planners.{PlannerSteps, IsRight, AnswersInTurn, RunsLoo
 use Rattle.tp_turn.specs.Refusals.{refusal, clock_refusal, first_of_causes}
 use Rattle.tp_turn.specs.Turns.{Begins, Accepts, Turn}
 use Rattle.tp_turn.proofs.LeftPlans.{IsLegal-left, KeepsHorizon-left}
-use Rattle.tp_turn.proofs.PlanOnFacts.{IsPlannable, CanPlanOn-left, CanPlanOn-clock, Contains-change_plan, IsLeft-to_purge}
+use Rattle.tp_turn.proofs.PlanOnFacts.{CanPlanOn-left, CanPlanOn-clock, Contains-change_plan, IsLeft-to_purge}
+use Rattle.tp_turn.specs.Laws.{IsPlannable}
 use Rattle.tp_turn.proofs.PlannableOutages.{plannable-fall_back, plannable-outage}
 use Rattle.tp_turn.proofs.SameMoment.{now-answers}
 use Rattle.tp_turn.proofs.ReleasedPlans.{AreLeft-change_plan, IsLeft-release, released-below}

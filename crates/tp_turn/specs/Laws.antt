@@ -1,9 +1,22 @@
--- Laws of turns.
-use Rattle.std.specs.Prelude.{◌≡◌, List, [], ◌∷◌, ◌++◌}
+-- Laws of turns. A law on a planner stands with the call that carries it.
+use Rattle.std.specs.Prelude.{◌≡◌, ℕ, ◌≤◌, Bool, List, [], ◌∷◌, ◌++◌, length, None, Contains, IsTrue, IsFalse}
+use Rattle.std.specs.List.{list_all}
 use Rattle.tp_machine.specs.declared.whole.Machine.{Machine}
+use Rattle.tp_script.specs.Form.{GroupForm}
+use Rattle.tp_schedule.specs.Living.{live_count}
+use Rattle.tp_schedule.specs.Planning.{CanPlanOn, last_tick}
+use Rattle.tp_schedule.specs.declared.parts.Plan.{Plan}
 use Rattle.tp_turn.specs.States.{SessionState}
 use Rattle.tp_turn.specs.Answering.{Answer}
+use Rattle.tp_turn.specs.Clock.{clock_move, released_until}
+use Rattle.tp_turn.specs.FallBacks.{Displaced, fall_back, job_break}
+use Rattle.tp_turn.specs.Fates.{Fate, befall, is_cut_by}
+use Rattle.tp_turn.specs.Keeping.{KeepsPlans, KeepsLines, KeepsSheets, is_clear, open_count}
 use Rattle.tp_turn.specs.Loops.{after_one, after_answers}
+use Rattle.tp_turn.specs.Moments.{is_unstarted}
+use Rattle.tp_turn.specs.Outages.{outage}
+use Rattle.tp_turn.specs.Refusals.{job_refusal}
+use Rattle.tp_turn.specs.Turns.{with_job, with_on}
 
 -- one answer more at the end of the loop's list: the state after it, and what is told
 abbrev pub LoopStateGoesOn : Type 0
@@ -14,3 +27,72 @@ abbrev pub LoopRecordsGoOn : Type 0
 LoopRecordsGoOn = (machine : Machine) (answers : List Answer) (a : Answer) (s : SessionState)
     → (after_answers machine (answers ++ a ∷ []) s).records
     ≡ (after_answers machine answers s).records ++ (after_one machine (after_answers machine answers s).state a).records
+
+-- the schedule of the state can be planned on at its moment
+abbrev pub IsPlannable : Machine → SessionState → Type 0
+IsPlannable machine s = CanPlanOn machine s.now s.plans
+
+-- fates by which only started copies are cut
+abbrev pub CutsStarted : (Plan → Fate) → SessionState → Type 0
+CutsStarted fate s = (p : Plan) → Contains s.plans p → IsTrue (is_cut_by (fate p)) → IsFalse (is_unstarted s.now p)
+
+-- what befalls the copies, a break, a fall-back and an outage leave a schedule that can be planned on, at the same moment
+abbrev pub FatesKeepPlanning : Type 0
+FatesKeepPlanning = (machine : Machine) (fate : Plan → Fate) (s : SessionState) → CutsStarted fate s → IsPlannable machine s → IsPlannable machine (befall fate s)
+
+abbrev pub BreaksKeepPlanning : Type 0
+BreaksKeepPlanning = (machine : Machine) (job : ℕ) (s : SessionState) → IsPlannable machine s → IsPlannable machine (job_break job s).state
+
+abbrev pub FallBacksKeepPlanning : Type 0
+FallBacksKeepPlanning = (machine : Machine) (s : SessionState) (d : Displaced) → IsPlannable machine s → IsPlannable machine (fall_back s d).state
+
+abbrev pub OutagesKeepPlanning : Type 0
+OutagesKeepPlanning = (machine : Machine) (m : ℕ) (jam : Bool) (s : SessionState) → IsPlannable machine s → IsPlannable machine (outage machine m jam s).state
+
+abbrev pub OutagesKeepMoment : Type 0
+OutagesKeepMoment = (machine : Machine) (m : ℕ) (jam : Bool) (s : SessionState) → (outage machine m jam s).state.now ≡ s.now
+
+-- a move of the clock: the schedule can be planned on at the new moment
+abbrev pub ClockKeepsPlanning : Type 0
+ClockKeepsPlanning = (machine : Machine) (now to : ℕ) (plans : List Plan) → now ≤ to → to ≤ last_tick → CanPlanOn machine now plans → CanPlanOn machine to (released_until machine to plans)
+
+abbrev pub ClockKeepsLines : Type 0
+ClockKeepsLines = (machine : Machine) (to : ℕ) (s : SessionState) → KeepsLines machine s → KeepsLines machine (clock_move machine to s).state
+
+abbrev pub ClockKeepsSheets : Type 0
+ClockKeepsSheets = (machine : Machine) (to : ℕ) (s : SessionState) → KeepsSheets s → KeepsSheets (clock_move machine to s).state
+
+-- no more copies are live or open than before, and none is to run on a module that is out
+abbrev pub ClockKeepsFewLive : Type 0
+ClockKeepsFewLive = (machine : Machine) (to : ℕ) (s : SessionState) → s.now ≤ to
+    → live_count machine to (clock_move machine to s).state.plans ≤ live_count machine s.now s.plans
+
+abbrev pub ClockKeepsFewOpen : Type 0
+ClockKeepsFewOpen = (machine : Machine) (to : ℕ) (s : SessionState) → s.now ≤ to → open_count (clock_move machine to s).state ≤ open_count s
+
+abbrev pub ClockKeepsClear : Type 0
+ClockKeepsClear = (machine : Machine) (to : ℕ) (s : SessionState) → s.now ≤ to → IsTrue (list_all (is_clear machine s) s.plans)
+    → IsTrue (list_all (is_clear machine (clock_move machine to s).state) (clock_move machine to s).state.plans)
+
+-- a new job that is not refused
+abbrev pub JobKeepsPlans : Type 0
+JobKeepsPlans = (machine : Machine) (name tray media : List ℕ) (groups : List GroupForm) (s : SessionState)
+    → job_refusal machine s.jobs (length s.waiting) name tray media groups ≡ None → KeepsPlans machine s → KeepsPlans machine (with_job machine name tray media groups s)
+
+abbrev pub JobKeepsLines : Type 0
+JobKeepsLines = (machine : Machine) (name tray media : List ℕ) (groups : List GroupForm) (s : SessionState)
+    → job_refusal machine s.jobs (length s.waiting) name tray media groups ≡ None → KeepsLines machine s → KeepsLines machine (with_job machine name tray media groups s)
+
+abbrev pub JobKeepsSheets : Type 0
+JobKeepsSheets = (machine : Machine) (name tray media : List ℕ) (groups : List GroupForm) (s : SessionState)
+    → KeepsLines machine s → KeepsSheets s → KeepsSheets (with_job machine name tray media groups s)
+
+-- a module that comes back
+abbrev pub OnKeepsPlans : Type 0
+OnKeepsPlans = (machine : Machine) (m : ℕ) (s : SessionState) → KeepsPlans machine s → KeepsPlans machine (with_on m s)
+
+abbrev pub OnKeepsLines : Type 0
+OnKeepsLines = (machine : Machine) (m : ℕ) (s : SessionState) → KeepsLines machine s → KeepsLines machine (with_on m s)
+
+abbrev pub OnKeepsSheets : Type 0
+OnKeepsSheets = (m : ℕ) (s : SessionState) → KeepsSheets s → KeepsSheets (with_on m s)

@@ -9,7 +9,7 @@ ghost use Rattle.tp_schedule.specs.declared.recording.Record.{Record};
 ghost use Rattle.tp_schedule.specs.declared.recording.Record.TheVariants.{Refused};
 ghost use Rattle.tp_script.specs.declared.event.Event.{Event};
 ghost use Rattle.tp_turn.specs.Answering.{Answer};
-ghost use Rattle.tp_turn.specs.Laws.{LoopStateGoesOn, LoopRecordsGoOn};
+ghost use Rattle.tp_turn.specs.Laws.{LoopStateGoesOn, LoopRecordsGoOn, FatesKeepPlanning, BreaksKeepPlanning, FallBacksKeepPlanning, OutagesKeepPlanning, OutagesKeepMoment, ClockKeepsPlanning, ClockKeepsLines, ClockKeepsSheets, ClockKeepsFewLive, ClockKeepsFewOpen, ClockKeepsClear, JobKeepsPlans, JobKeepsLines, JobKeepsSheets, OnKeepsPlans, OnKeepsLines, OnKeepsSheets};
 ghost use Rattle.tp_turn.specs.Loops.{after_answers, next_ask};
 ghost use Rattle.tp_turn.specs.Planners.{AnswersInTurn, right_steps};
 ghost use Rattle.tp_turn.specs.Refusals.{refusal};
@@ -44,4 +44,38 @@ pub fn turns_keep_planning<P: Planner>()
     ensures turn { (machine : Machine) (event : Event) (s : SessionState) (planner : P) (records : List Record) (s' : SessionState) (planner' : P)
         → Turn (right_steps P.spent P.steps P.stop_steps machine) machine event s planner records s' planner'
         → CanPlanOn machine s.now s.plans → CanPlanOn machine s'.now s'.plans }
+{}
+
+/// What befalls copies, a break, a fall-back and an outage leave a schedule that can be planned on at the same moment. An
+/// outage cuts only copies that have started.
+pub fn outages_keep_planning()
+    ensures fates { FatesKeepPlanning }
+    ensures breaks { BreaksKeepPlanning }
+    ensures fall_backs { FallBacksKeepPlanning }
+    ensures outages { OutagesKeepPlanning }
+    ensures moment { OutagesKeepMoment }
+{}
+
+/// A move of the clock keeps planning, lines and sheets; no more copies are live or open after it.
+pub fn clock_keeps_state()
+    ensures planning { ClockKeepsPlanning }
+    ensures lines { ClockKeepsLines }
+    ensures sheets { ClockKeepsSheets }
+    ensures few_live { ClockKeepsFewLive }
+    ensures few_open { ClockKeepsFewOpen }
+    ensures clear { ClockKeepsClear }
+{}
+
+/// An accepted job keeps all that is kept between events: of each of its sheets exactly one copy waits.
+pub fn new_job_keeps_state()
+    ensures plans { JobKeepsPlans }
+    ensures lines { JobKeepsLines }
+    ensures sheets { JobKeepsSheets }
+{}
+
+/// A module that comes back keeps all that is kept between events.
+pub fn coming_back_keeps_state()
+    ensures plans { OnKeepsPlans }
+    ensures lines { OnKeepsLines }
+    ensures sheets { OnKeepsSheets }
 {}
