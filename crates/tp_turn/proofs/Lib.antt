@@ -26,3 +26,6 @@ pub mod FirstCopies
 pub mod NewJob
 pub mod NewSheets
 pub mod ComesBack
+pub mod AnsweredPlans
+pub mod AskedFacts
+pub mod AskedLines

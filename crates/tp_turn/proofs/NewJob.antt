@@ -118,7 +118,7 @@ pub All-map_list : {X Y : Type 0} (P : Y → Type 0) (f : X → Y) (xs : List X)
 All-map_list P f [] all = All-nil P
 All-map_list P f (x ∷ xs) all = All-cons P (f x) (map f xs) (All-head (λ x. P (f x)) x xs all) (All-map_list P f xs (All-tail (λ x. P (f x)) x xs all))
 
-AllPairs-map_list : {X Y : Type 0} (R : Y → Y → Type 0) (f : X → Y) (xs : List X) → AllPairs (λ x y. R (f x) (f y)) xs → AllPairs R (map f xs)
+pub AllPairs-map_list : {X Y : Type 0} (R : Y → Y → Type 0) (f : X → Y) (xs : List X) → AllPairs (λ x y. R (f x) (f y)) xs → AllPairs R (map f xs)
 AllPairs-map_list R f [] pairs = AllPairs-nil R
 AllPairs-map_list R f (x ∷ xs) pairs =
     AllPairs-cons R (f x) (map f xs) (All-map_list (R (f x)) f xs (AllPairs-head (λ x y. R (f x) (f y)) x xs pairs)) (AllPairs-map_list R f xs (AllPairs-tail (λ x y. R (f x) (f y)) x xs pairs))
