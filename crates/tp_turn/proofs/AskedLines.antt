@@ -1,25 +1,32 @@
--- A copy that waits is planned as the first of its line: lines and sheets are kept.
-use Rattle.std.proofs.Common.{◌≡◌, inl, inr, true, false, List, map, sym, ap, ◌∙◌, All, AllPairs, Contains, IsTrue, subst}
+-- A copy that waits is planned as the first of its line: lines are kept.
+use Rattle.std.proofs.Common.{◌≡◌, ℕ, inl, inr, true, false, ◌&&◌, ◌==◌, not, List, ◌++◌, map, sym, ap, ◌∙◌, arith, All, AllPairs, Contains, IsTrue, subst}
 use Rattle.std.specs.Prelude.{IsFalse}
-use Rattle.std.proofs.lemmas.List.Elements.{All-contains}
+use Rattle.std.specs.Str.{bytes_eq}
+use Rattle.std.proofs.lemmas.Bool.Decides.{nat_tests}
+use Rattle.std.proofs.lemmas.List.Elements.{All-filter, All-contains}
 use Rattle.std.proofs.lemmas.List.Folds.{list_any_none}
 use Rattle.std.proofs.lemmas.List.Kept.{AllPairs-filter}
 use Rattle.tp_machine.proofs.Lists.{All-from_none}
 use Rattle.tp_machine.specs.declared.whole.Machine.{Machine}
 use Rattle.tp_jobs.specs.declared.parts.WaitingCopy.{WaitingCopy}
 use Rattle.tp_schedule.specs.Plans.{IsEarlier, is_before, is_same_copy}
+use Rattle.tp_schedule.specs.declared.parts.Goal.{Goal}
+use Rattle.tp_schedule.specs.declared.parts.Goal.TheVariants.{Tray}
 use Rattle.tp_schedule.specs.declared.parts.Plan.{Plan}
+use Rattle.tp_schedule.specs.declared.parts.SheetId.{SheetId}
 use Rattle.tp_schedule.proofs.CopyFacts.{same_copy-refl}
 use Rattle.tp_schedule.proofs.Membership.{All-from_contains, Contains-map}
 use Rattle.tp_schedule.proofs.Pairs.{AllPairs-each}
 use Rattle.tp_turn.specs.Asking.{ask_waiting}
-use Rattle.tp_turn.specs.Keeping.{StandsBehind, is_planned_among, tray_plans}
-use Rattle.tp_turn.specs.Lines.{is_same_line, without_waiting}
+use Rattle.tp_turn.specs.Keeping.{KeepsLines, StandsBehind, is_planned_among, is_known, is_of_its_job, is_own_goal, tray_plans}
+use Rattle.tp_turn.specs.Labels.{job_name}
+use Rattle.tp_turn.specs.Lines.{tray_of, is_same_line, without_waiting}
 use Rattle.tp_turn.specs.Moments.{is_tray_plan}
 use Rattle.tp_turn.specs.States.{SessionState}
 use Rattle.tp_turn.proofs.AnsweredPlans.{unmoved-sheet, plan-cases}
-use Rattle.tp_turn.proofs.FirstCopies.{AllPairs-append_left, AllPairs-append_right, AllPairs-append_across}
-use Rattle.tp_turn.proofs.AskedFacts.{Apart, apart-sym, not_same-sym, before-irrefl, either-way, AllPairs-of_map, IsAskedFirst, waits-of, tray-cases}
+use Rattle.tp_turn.proofs.FirstCopies.{AllPairs-append, AllPairs-append_left, AllPairs-append_right, AllPairs-append_across}
+use Rattle.tp_turn.proofs.NewJob.{All-map_list, AllPairs-map_list}
+use Rattle.tp_turn.proofs.AskedFacts.{Apart, apart-sym, not_same-sym, before-irrefl, either-way, AllPairs-of_map, bytes_eq-same, IsAskedFirst, mine-known, waits-of, tray-cases, fronts-kept}
 
 -- what may differ: the plan's copy waits no more
 abbrev pub planned_waiting : SessionState → WaitingCopy → List Plan → SessionState
@@ -88,3 +95,42 @@ module _ (machine : Machine) (s : SessionState) (w : WaitingCopy) (plans' : List
               ]))
         ]
       ])
+
+  one-asked : AllPairs Apart (map (λ v. v.sheet) (without_waiting w.sheet s.waiting) ++ map (λ p. p.sheet) (tray_plans plans'))
+  one-asked =
+      AllPairs-append Apart (map (λ v. v.sheet) (without_waiting w.sheet s.waiting)) (map (λ p. p.sheet) (tray_plans plans'))
+      (AllPairs-map_list Apart (λ v. v.sheet) (without_waiting w.sheet s.waiting) (AllPairs-filter (λ v u. Apart v.sheet u.sheet) (λ v. not (is_same_copy v.sheet w.sheet)) s.waiting waiting-apart))
+      (AllPairs-map_list Apart (λ p. p.sheet) (tray_plans plans') trays-apart)
+      (All-map_list (λ c. All (Apart c) (map (λ p. p.sheet) (tray_plans plans'))) (λ v. v.sheet) (without_waiting w.sheet s.waiting)
+      (All-from_contains (λ v. All (Apart v.sheet) (map (λ p. p.sheet) (tray_plans plans'))) (without_waiting w.sheet s.waiting) (λ v in'.
+      let from = waits-of machine s w plans' f v in' in
+      All-map_list (Apart v.sheet) (λ p. p.sheet) (tray_plans plans') (All-from_contains (λ p. Apart v.sheet p.sheet) (tray_plans plans') (λ q in''.
+      elim (tray-cases machine s w plans' f q in'') [
+        | inl e ↦ subst (λ (p : Plan). Apart v.sheet p.sheet) (sym e) (subst (Apart v.sheet) (sym f.a.answers.sheet) (others-apart v from.0 from.1))
+        | inr other ↦ subst (Apart v.sheet) (sym (unmoved-sheet q other.0 other.2)) (across v other.0 from.0 other.1)
+      ])))))
+
+  known-asked : All (λ p. IsTrue (is_of_its_job s.jobs p)) plans'
+  known-asked = All-from_contains (λ p. IsTrue (is_of_its_job s.jobs p)) plans' (λ q in'.
+      elim (plan-cases machine s.plans (ask_waiting s w) plans' f.a q in') [
+        | inl e ↦ subst (λ (p : Plan). is_of_its_job s.jobs p ≡ true) (sym e) (mine f.a.plan.sheet f.a.plan.name f.a.plan.goal f.a.answers.sheet f.a.answers.name f.a.answers.goal)
+        | inr other ↦ ap (is_of_its_job s.jobs) other.2.is ∙ All-contains (λ p. IsTrue (is_of_its_job s.jobs p)) s.plans other.0 f.keeps.plans_known other.1
+      ]) where
+        mine : (c : SheetId) (name : List ℕ) (g : Goal) → c ≡ w.sheet → name ≡ job_name s.jobs w.sheet.job → g ≡ Tray (tray_of s.jobs w.sheet)
+            → (is_known s.jobs c && bytes_eq name (job_name s.jobs c.job) && is_own_goal g (tray_of s.jobs c).0) ≡ true
+        mine c name g e e' e'' =
+            let same : ((tray_of s.jobs w.sheet).0 == (tray_of s.jobs w.sheet).0) ≡ true = grind (arith, nat_tests) in
+            rw (e, e', e'') (rw (mine-known machine s w plans' f, bytes_eq-same (job_name s.jobs w.sheet.job)) same)
+
+  pub lines-asked : KeepsLines machine (planned_waiting s w plans')
+  lines-asked = record {
+    trays = f.keeps.trays;
+    names = f.keeps.names;
+    in_order = AllPairs-filter (λ v u. is_before v.sheet u.sheet ≡ true) (λ v. not (is_same_copy v.sheet w.sheet)) s.waiting f.keeps.in_order;
+    waiting_known = All-filter (λ v. not (is_same_copy v.sheet w.sheet)) (λ v. IsTrue (is_known s.jobs v.sheet)) s.waiting f.keeps.waiting_known;
+    unplanned = unplanned-asked;
+    line = line-asked;
+    one = one-asked;
+    plans_known = known-asked;
+    fronts = fronts-kept machine s w plans' f ∙ f.keeps.fronts;
+  }

@@ -29,3 +29,4 @@ pub mod ComesBack
 pub mod AnsweredPlans
 pub mod AskedFacts
 pub mod AskedLines
+pub mod AskedSheets
