@@ -30,3 +30,4 @@ pub mod AnsweredPlans
 pub mod AskedFacts
 pub mod AskedLines
 pub mod AskedSheets
+pub mod AskedPlans
