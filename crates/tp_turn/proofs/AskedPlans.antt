@@ -32,7 +32,7 @@ pub record IsRetimedPlan (machine : Machine) (now : ℕ) (p q : Plan) : Type 0 w
 low-fixed : (front : Bool) (released i : ℕ) → i < released → (front || (nat_lt 0 released && nat_le i released)) ≡ true
 low-fixed front released i low = grind (arith, nat_tests)
 
-low-stays : (machine : Machine) (now : ℕ) (p q : Plan) → IsRetimedPlan machine now p q → (i : ℕ) → i < length p.acts → point p i ≤ now → point q i ≡ point p i
+pub low-stays : (machine : Machine) (now : ℕ) (p q : Plan) → IsRetimedPlan machine now p q → (i : ℕ) → i < length p.acts → point p i ≤ now → point q i ≡ point p i
 low-stays machine now p q r i within low = go (nat_lt i p.released) refl where
   go : (b : Bool) → nat_lt i p.released ≡ b → point q i ≡ point p i
   go true e = r.fixed i (low-fixed (is_front p.kind) p.released i (grind (arith, nat_tests))) (omega arith)
@@ -101,7 +101,7 @@ arriving-before machine now p q r arrives = go (nat_lt now (end_of_plan p)) refl
   go false e = subst (λ x. is_to_arrive now x ≡ true) (ended-same machine now p q r (grind (arith, nat_tests))) arrives
 
 -- as many pass as before, and one more at the most
-count-unmoved : (test : Plan → Bool) (qs ps : List Plan) → map unmoved qs ≡ map unmoved ps
+pub count-unmoved : (test : Plan → Bool) (qs ps : List Plan) → map unmoved qs ≡ map unmoved ps
     → ((q p : Plan) → Contains qs q → Contains ps p → IsUnmoved q p → test q ≡ true → test p ≡ true) → length (filter test qs) ≤ length (filter test ps)
 count-unmoved test [] [] e each = omega arith
 count-unmoved test [] (p ∷ ps) e each = omega arith
@@ -110,20 +110,20 @@ count-unmoved test (q ∷ qs) (p ∷ ps) e each =
     let heads : unmoved q ≡ unmoved p = cc in
     let tails : map unmoved qs ≡ map unmoved ps = cc in
     go (test q) refl (test p) refl (each q p (Contains-here q qs) (Contains-here p ps) (record { is = heads }))
-      (count-unmoved test qs ps tails (λ q' p' in' in''. each q' p' (Contains-later q qs q' in') (Contains-later p ps p' in''))) where
-        go : (b : Bool) → test q ≡ b → (c : Bool) → test p ≡ c → (test q ≡ true → test p ≡ true) → length (filter test qs) ≤ length (filter test ps)
-            → length (cond b (q ∷ filter test qs) (filter test qs)) ≤ length (cond c (p ∷ filter test ps) (filter test ps))
-        go true f true g one rest = omega arith
-        go true f false g one rest = absurd (let h = one f in cc)
-        go false f true g one rest = omega arith
-        go false f false g one rest = rest
+    (count-unmoved test qs ps tails (λ q' p' in' in''. each q' p' (Contains-later q qs q' in') (Contains-later p ps p' in''))) where
+      go : (b : Bool) → test q ≡ b → (c : Bool) → test p ≡ c → (test q ≡ true → test p ≡ true) → length (filter test qs) ≤ length (filter test ps)
+          → length (cond b (q ∷ filter test qs) (filter test qs)) ≤ length (cond c (p ∷ filter test ps) (filter test ps))
+      go true f true g one rest = omega arith
+      go true f false g one rest = absurd (let h = one f in cc)
+      go false f true g one rest = omega arith
+      go false f false g one rest = rest
 
 without-others : (c : SheetId) (plans : List Plan) → All (λ p. is_same_copy p.sheet c ≡ false) plans → without c plans ≡ plans
 without-others c [] all = refl
 without-others c (p ∷ plans) all =
     rw (All-head (λ p. is_same_copy p.sheet c ≡ false) p plans all) (ap (λ l. p ∷ l) (without-others c plans (All-tail (λ p. is_same_copy p.sheet c ≡ false) p plans all)))
 
-one-more-than-others : (test : Plan → Bool) (c : SheetId) (plans : List Plan) → AllPairs IsEarlier plans → length (filter test plans) ≤ 1 + length (filter test (without c plans))
+pub one-more-than-others : (test : Plan → Bool) (c : SheetId) (plans : List Plan) → AllPairs IsEarlier plans → length (filter test plans) ≤ 1 + length (filter test (without c plans))
 one-more-than-others test c [] in_order = omega arith
 one-more-than-others test c (p ∷ plans) in_order =
     go (is_same_copy p.sheet c) refl (test p) refl (one-more-than-others test c plans (AllPairs-tail IsEarlier p plans in_order)) where
@@ -143,7 +143,7 @@ one-more-than-others test c (p ∷ plans) in_order =
         second true rest = omega arith
         second false rest = rest
 
-count-part : {X : Type 0} (t r : X → Bool) (xs : List X) → length (filter t (filter r xs)) ≤ length (filter t xs)
+pub count-part : {X : Type 0} (t r : X → Bool) (xs : List X) → length (filter t (filter r xs)) ≤ length (filter t xs)
 count-part t r [] = omega arith
 count-part {X} t r (x ∷ xs) = go (r x) (t x) refl (count-part t r xs) where
   go : (b c : Bool) → t x ≡ c → length (filter t (filter r xs)) ≤ length (filter t xs)
@@ -153,7 +153,7 @@ count-part {X} t r (x ∷ xs) = go (r x) (t x) refl (count-part t r xs) where
   go false true e rest = omega arith
   go false false e rest = rest
 
-one-less : {X : Type 0} (p : X → Bool) (xs : List X) (x : X) → Contains xs x → p x ≡ false → length (filter p xs) + 1 ≤ length xs
+pub one-less : {X : Type 0} (p : X → Bool) (xs : List X) (x : X) → Contains xs x → p x ≡ false → length (filter p xs) + 1 ≤ length xs
 one-less p [] x in' e = absurd (omega (arith, in'.1))
 one-less {X} p (y ∷ xs) x in' e = elim (Contains-cons_cases y xs x in') [
   | inl same ↦ let f : p y ≡ false = subst (λ z. p z ≡ false) (sym same) e in let few = length-filter-le p xs in rw f (omega arith)
@@ -170,12 +170,12 @@ one-less {X} p (y ∷ xs) x in' e = elim (Contains-cons_cases y xs x in') [
   go true few = omega arith
   go false few = omega arith
 
-find-none : {X : Type 0} (p : X → Bool) (xs : List X) → All (λ x. p x ≡ false) xs → find p xs ≡ None
+pub find-none : {X : Type 0} (p : X → Bool) (xs : List X) → All (λ x. p x ≡ false) xs → find p xs ≡ None
 find-none p [] all = refl
 find-none p (x ∷ xs) all = rw (All-head (λ x. p x ≡ false) x xs all) (find-none p xs (All-tail (λ x. p x ≡ false) x xs all))
 
 -- none that is to start uses a module that is out: the new plan by its route, the others since what has started has started
-clear-route : (now : ℕ) (test : ActId → Bool) (sheet : SheetId) (m : ℕ) (acts : List ActId) (points : List ℕ) → All (λ act. test act ≡ true) acts
+pub clear-route : (now : ℕ) (test : ActId → Bool) (sheet : SheetId) (m : ℕ) (acts : List ActId) (points : List ℕ) → All (λ act. test act ≡ true) acts
     → list_all (λ run. is_started now run || test run.act) (runs_from sheet m acts points) ≡ true
 clear-route now test sheet m [] points all = refl
 clear-route now test sheet m (act ∷ acts) [] all = refl
@@ -187,7 +187,7 @@ clear-route now test sheet m (act ∷ acts) (start ∷ end ∷ points) all =
       or-true true e = e
       or-true false e = e
 
-clear-moved : (now : ℕ) (test : ActId → Bool) (sheet sheet' : SheetId) (m m' : ℕ) (acts : List ActId) (points points' : List ℕ) → length points ≡ length acts + 1 → length points' ≡ length acts + 1
+pub clear-moved : (now : ℕ) (test : ActId → Bool) (sheet sheet' : SheetId) (m m' : ℕ) (acts : List ActId) (points points' : List ℕ) → length points ≡ length acts + 1 → length points' ≡ length acts + 1
     → ((i : ℕ) → i < length acts → slice_index points i ≤ now → slice_index points' i ≤ now)
     → list_all (λ run. is_started now run || test run.act) (runs_from sheet m acts points) ≡ true
     → list_all (λ run. is_started now run || test run.act) (runs_from sheet' m' acts points') ≡ true
@@ -198,15 +198,15 @@ clear-moved now test sheet sheet' m m' (act ∷ acts) (start ∷ end ∷ points)
 clear-moved now test sheet sheet' m m' (act ∷ acts) (start ∷ end ∷ points) (start' ∷ []) len len' each e = absurd (omega arith)
 clear-moved now test sheet sheet' m m' (act ∷ acts) (start ∷ end ∷ points) (start' ∷ end' ∷ points') len len' each e =
     go (nat_le start now) refl (test act) (nat_le start' now) refl e
-      (clear-moved now test sheet sheet' (m + 1) (m' + 1) acts (end ∷ points) (end' ∷ points') (omega arith) (omega arith) (λ i within low. each (suc i) (omega arith) low))
-      (each 0 (omega arith)) where
-        go : (b : Bool) → nat_le start now ≡ b → (t c : Bool) → nat_le start' now ≡ c
-            → ((b || t) && list_all (λ run. is_started now run || test run.act) (runs_from sheet (m + 1) acts (end ∷ points))) ≡ true
-            → (list_all (λ run. is_started now run || test run.act) (runs_from sheet (m + 1) acts (end ∷ points)) ≡ true → list_all (λ run. is_started now run || test run.act) (runs_from sheet' (m' + 1) acts (end' ∷ points')) ≡ true)
-            → (start ≤ now → start' ≤ now)
-            → ((c || t) && list_all (λ run. is_started now run || test run.act) (runs_from sheet' (m' + 1) acts (end' ∷ points'))) ≡ true
-        go true f t true g e rest low = rest e
-        go true f t false g e rest low = absurd (let at : start ≤ now = grind (arith, nat_tests) in let now' : start' ≤ now = low at in let high : now < start' = grind (arith, nat_tests) in omega arith)
-        go false f true true g e rest low = rest e
-        go false f true false g e rest low = rest e
-        go false f false c g e rest low = absurd (cc)
+    (clear-moved now test sheet sheet' (m + 1) (m' + 1) acts (end ∷ points) (end' ∷ points') (omega arith) (omega arith) (λ i within low. each (suc i) (omega arith) low))
+    (each 0 (omega arith)) where
+      go : (b : Bool) → nat_le start now ≡ b → (t c : Bool) → nat_le start' now ≡ c
+          → ((b || t) && list_all (λ run. is_started now run || test run.act) (runs_from sheet (m + 1) acts (end ∷ points))) ≡ true
+          → (list_all (λ run. is_started now run || test run.act) (runs_from sheet (m + 1) acts (end ∷ points)) ≡ true → list_all (λ run. is_started now run || test run.act) (runs_from sheet' (m' + 1) acts (end' ∷ points')) ≡ true)
+          → (start ≤ now → start' ≤ now)
+          → ((c || t) && list_all (λ run. is_started now run || test run.act) (runs_from sheet' (m' + 1) acts (end' ∷ points'))) ≡ true
+      go true f t true g e rest low = rest e
+      go true f t false g e rest low = absurd (let at : start ≤ now = grind (arith, nat_tests) in let now' : start' ≤ now = low at in let high : now < start' = grind (arith, nat_tests) in omega arith)
+      go false f true true g e rest low = rest e
+      go false f true false g e rest low = rest e
+      go false f false c g e rest low = absurd (cc)

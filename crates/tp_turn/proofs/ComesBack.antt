@@ -69,7 +69,6 @@ clear-on machine m s p e =
 pub plans-on : (machine : Machine) (m : ℕ) (s : SessionState) → KeepsPlans machine s → KeepsPlans machine (with_on m s)
 plans-on machine m s keeps = record {
   legal = keeps.legal;
-  least = keeps.least;
   floors = keeps.floors;
   horizon = keeps.horizon;
   few_live = keeps.few_live;

@@ -22,6 +22,7 @@ pub mod Replayed
 pub mod TurnRows
 pub mod MovedClock
 pub mod MovedCounts
+pub mod MovedPlans
 pub mod FirstCopies
 pub mod NewJob
 pub mod NewSheets
@@ -31,3 +32,4 @@ pub mod AskedFacts
 pub mod AskedLines
 pub mod AskedSheets
 pub mod AskedPlans
+pub mod AskedKept

@@ -156,7 +156,6 @@ pub plans-job : (machine : Machine) (name tray media : List ℕ) (groups : List 
     → KeepsPlans machine s → KeepsPlans machine (with_job machine name tray media groups s)
 plans-job machine name tray media groups s ok keeps = record {
   legal = keeps.legal;
-  least = keeps.least;
   floors = keeps.floors;
   horizon = keeps.horizon;
   few_live = keeps.few_live;

@@ -40,11 +40,10 @@ open_count s = length s.waiting + count_by (is_to_arrive s.now) s.plans
 abbrev pub is_clear : Machine → SessionState → Plan → Bool
 is_clear machine s p = list_all (λ run. is_started s.now run || is_act_allowed machine s.outs run.act) (runs_of p)
 
--- the schedule is legal and least, its unreleased starts are above now + lead and its points within the horizon, not
--- too many copies are live or open, and none is to run on a module that is out
+-- the schedule is legal, its unreleased starts are above now + lead and its points within the horizon, not too many
+-- copies are live or open, and none is to run on a module that is out
 pub record KeepsPlans (machine : Machine) (s : SessionState) : Type 0 where
   pub legal : IsLegal machine s.plans
-  pub least : IsLeast machine s.now none_exempt s.plans
   pub floors : KeepsFloors machine s.now none_exempt s.plans
   pub horizon : KeepsHorizon machine s.now s.plans
   pub few_live : live_count machine s.now s.plans ≤ most_live
@@ -111,6 +110,13 @@ pub record KeepsSheets (s : SessionState) : Type 0 where
   pub waiting_sheets : All (λ w. IsTrue (is_sheet_of s.jobs w.sheet)) s.waiting
   pub planned_sheets : All (λ p. IsTrue (is_sheet_of s.jobs p.sheet)) s.plans
   pub older : All (λ p. All (IsOlder p) (open_copies s)) s.plans
+
+-- what is kept between events: all of this, and the schedule is least
+pub record KeepsState (machine : Machine) (s : SessionState) : Type 0 where
+  pub plans : KeepsPlans machine s
+  pub least : IsLeast machine s.now none_exempt s.plans
+  pub lines : KeepsLines machine s
+  pub sheets : KeepsSheets s
 
 -- The live part: the plans that are live, and the lost copies among them.
 

@@ -1,9 +1,7 @@
 -- Laws of turns. A law on a planner stands with the call that carries it.
 use Rattle.std.specs.Prelude.{◌≡◌, ℕ, ◌≤◌, Bool, List, [], ◌∷◌, ◌++◌, length, None, Contains, IsTrue, IsFalse}
-use Rattle.std.specs.List.{list_all}
 use Rattle.tp_machine.specs.declared.whole.Machine.{Machine}
 use Rattle.tp_script.specs.Form.{GroupForm}
-use Rattle.tp_schedule.specs.Living.{live_count}
 use Rattle.tp_schedule.specs.Planning.{CanPlanOn, last_tick}
 use Rattle.tp_schedule.specs.declared.parts.Plan.{Plan}
 use Rattle.tp_turn.specs.States.{SessionState}
@@ -11,7 +9,7 @@ use Rattle.tp_turn.specs.Answering.{Answer}
 use Rattle.tp_turn.specs.Clock.{clock_move, released_until}
 use Rattle.tp_turn.specs.FallBacks.{Displaced, fall_back, job_break}
 use Rattle.tp_turn.specs.Fates.{Fate, befall, is_cut_by}
-use Rattle.tp_turn.specs.Keeping.{KeepsPlans, KeepsLines, KeepsSheets, is_clear, open_count}
+use Rattle.tp_turn.specs.Keeping.{KeepsPlans, KeepsLines, KeepsSheets}
 use Rattle.tp_turn.specs.Loops.{after_one, after_answers}
 use Rattle.tp_turn.specs.Moments.{is_unstarted}
 use Rattle.tp_turn.specs.Outages.{outage}
@@ -62,17 +60,8 @@ ClockKeepsLines = (machine : Machine) (to : ℕ) (s : SessionState) → KeepsLin
 abbrev pub ClockKeepsSheets : Type 0
 ClockKeepsSheets = (machine : Machine) (to : ℕ) (s : SessionState) → KeepsSheets s → KeepsSheets (clock_move machine to s).state
 
--- no more copies are live or open than before, and none is to run on a module that is out
-abbrev pub ClockKeepsFewLive : Type 0
-ClockKeepsFewLive = (machine : Machine) (to : ℕ) (s : SessionState) → s.now ≤ to
-    → live_count machine to (clock_move machine to s).state.plans ≤ live_count machine s.now s.plans
-
-abbrev pub ClockKeepsFewOpen : Type 0
-ClockKeepsFewOpen = (machine : Machine) (to : ℕ) (s : SessionState) → s.now ≤ to → open_count (clock_move machine to s).state ≤ open_count s
-
-abbrev pub ClockKeepsClear : Type 0
-ClockKeepsClear = (machine : Machine) (to : ℕ) (s : SessionState) → s.now ≤ to → IsTrue (list_all (is_clear machine s) s.plans)
-    → IsTrue (list_all (is_clear machine (clock_move machine to s).state) (clock_move machine to s).state.plans)
+abbrev pub ClockKeepsPlans : Type 0
+ClockKeepsPlans = (machine : Machine) (to : ℕ) (s : SessionState) → s.now ≤ to → to ≤ last_tick → KeepsPlans machine s → KeepsPlans machine (clock_move machine to s).state
 
 -- a new job that is not refused
 abbrev pub JobKeepsPlans : Type 0

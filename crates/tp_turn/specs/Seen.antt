@@ -2,6 +2,8 @@
 use Rattle.std.specs.Prelude.{ℕ, ◌+◌, ◌^◌, ◌<◌, ◌≤◌, List, map, filter, All, IsFalse}
 use Rattle.tp_machine.specs.declared.parts.Outs.{Outs}
 use Rattle.tp_machine.specs.declared.whole.Machine.{Machine}
+use Rattle.tp_schedule.specs.Answers.{IsLeast}
+use Rattle.tp_schedule.specs.Planning.{none_exempt}
 use Rattle.tp_schedule.specs.Plans.{is_front, point}
 use Rattle.tp_schedule.specs.declared.parts.Plan.{Plan}
 use Rattle.tp_schedule.specs.declared.parts.SheetId.{SheetId}
@@ -35,6 +37,7 @@ HasStarted now p = IsFalse (is_to_tray p.goal) → point p 0 ≤ now
 -- the state before a module goes out: what is kept between events, copies that can have a next one, and purges under way
 pub record CanGoOut (machine : Machine) (s : SessionState) : Type 0 where
   pub plans : KeepsPlans machine s
+  pub least : IsLeast machine s.now none_exempt s.plans
   pub lines : KeepsLines machine s
   pub next_copies : All (λ w. HasNextCopy w.sheet) s.waiting
   pub next_planned : All (λ p. HasNextCopy p.sheet) s.plans

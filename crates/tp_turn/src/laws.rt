@@ -9,7 +9,7 @@ ghost use Rattle.tp_schedule.specs.declared.recording.Record.{Record};
 ghost use Rattle.tp_schedule.specs.declared.recording.Record.TheVariants.{Refused};
 ghost use Rattle.tp_script.specs.declared.event.Event.{Event};
 ghost use Rattle.tp_turn.specs.Answering.{Answer};
-ghost use Rattle.tp_turn.specs.Laws.{LoopStateGoesOn, LoopRecordsGoOn, FatesKeepPlanning, BreaksKeepPlanning, FallBacksKeepPlanning, OutagesKeepPlanning, OutagesKeepMoment, ClockKeepsPlanning, ClockKeepsLines, ClockKeepsSheets, ClockKeepsFewLive, ClockKeepsFewOpen, ClockKeepsClear, JobKeepsPlans, JobKeepsLines, JobKeepsSheets, OnKeepsPlans, OnKeepsLines, OnKeepsSheets};
+ghost use Rattle.tp_turn.specs.Laws.{LoopStateGoesOn, LoopRecordsGoOn, FatesKeepPlanning, BreaksKeepPlanning, FallBacksKeepPlanning, OutagesKeepPlanning, OutagesKeepMoment, ClockKeepsPlanning, ClockKeepsLines, ClockKeepsSheets, ClockKeepsPlans, JobKeepsPlans, JobKeepsLines, JobKeepsSheets, OnKeepsPlans, OnKeepsLines, OnKeepsSheets};
 ghost use Rattle.tp_turn.specs.Loops.{after_answers, next_ask};
 ghost use Rattle.tp_turn.specs.Planners.{AnswersInTurn, right_steps};
 ghost use Rattle.tp_turn.specs.Refusals.{refusal};
@@ -56,14 +56,12 @@ pub fn outages_keep_planning()
     ensures moment { OutagesKeepMoment }
 {}
 
-/// A move of the clock keeps planning, lines and sheets; no more copies are live or open after it.
+/// A move of the clock keeps planning, plans, lines and sheets.
 pub fn clock_keeps_state()
     ensures planning { ClockKeepsPlanning }
     ensures lines { ClockKeepsLines }
     ensures sheets { ClockKeepsSheets }
-    ensures few_live { ClockKeepsFewLive }
-    ensures few_open { ClockKeepsFewOpen }
-    ensures clear { ClockKeepsClear }
+    ensures plans { ClockKeepsPlans }
 {}
 
 /// An accepted job keeps all that is kept between events: of each of its sheets exactly one copy waits.
