@@ -33,3 +33,6 @@ pub mod AskedLines
 pub mod AskedSheets
 pub mod AskedPlans
 pub mod AskedKept
+pub mod AskedTurns
+pub mod KeptTurns
+pub mod LeastTurns

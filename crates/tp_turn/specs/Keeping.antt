@@ -111,12 +111,14 @@ pub record KeepsSheets (s : SessionState) : Type 0 where
   pub planned_sheets : All (λ p. IsTrue (is_sheet_of s.jobs p.sheet)) s.plans
   pub older : All (λ p. All (IsOlder p) (open_copies s)) s.plans
 
--- what is kept between events: all of this, and the schedule is least
+-- what is kept between events: plans, lines and sheets, and that the schedule is least
 pub record KeepsState (machine : Machine) (s : SessionState) : Type 0 where
   pub plans : KeepsPlans machine s
-  pub least : IsLeast machine s.now none_exempt s.plans
   pub lines : KeepsLines machine s
   pub sheets : KeepsSheets s
+
+abbrev pub IsLeastAt : Machine → SessionState → Type 0
+IsLeastAt machine s = IsLeast machine s.now none_exempt s.plans
 
 -- The live part: the plans that are live, and the lost copies among them.
 

@@ -1,7 +1,9 @@
 -- Laws of turns. A law on a planner stands with the call that carries it.
-use Rattle.std.specs.Prelude.{◌≡◌, ℕ, ◌≤◌, Bool, List, [], ◌∷◌, ◌++◌, length, None, Contains, IsTrue, IsFalse}
+use Rattle.std.specs.Prelude.{◌≡◌, ℕ, ◌≤◌, Bool, true, false, List, [], ◌∷◌, ◌++◌, length, None, Contains, IsTrue, IsFalse}
 use Rattle.tp_machine.specs.declared.whole.Machine.{Machine}
 use Rattle.tp_script.specs.Form.{GroupForm}
+use Rattle.tp_script.specs.declared.event.Event.{Event}
+use Rattle.tp_script.specs.declared.event.Event.TheVariants.{Jam, Off, Clock}
 use Rattle.tp_schedule.specs.Planning.{CanPlanOn, last_tick}
 use Rattle.tp_schedule.specs.declared.parts.Plan.{Plan}
 use Rattle.tp_turn.specs.States.{SessionState}
@@ -75,6 +77,16 @@ JobKeepsLines = (machine : Machine) (name tray media : List ℕ) (groups : List 
 abbrev pub JobKeepsSheets : Type 0
 JobKeepsSheets = (machine : Machine) (name tray media : List ℕ) (groups : List GroupForm) (s : SessionState)
     → KeepsLines machine s → KeepsSheets s → KeepsSheets (with_job machine name tray media groups s)
+
+-- the events that make a module go out, and those that move the clock
+abbrev pub is_outage : Event → Bool
+is_outage (Jam name) = true
+is_outage (Off name) = true
+is_outage _ = false
+
+abbrev pub is_clock : Event → Bool
+is_clock (Clock to) = true
+is_clock _ = false
 
 -- a module that comes back
 abbrev pub OnKeepsPlans : Type 0

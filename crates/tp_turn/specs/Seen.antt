@@ -2,15 +2,13 @@
 use Rattle.std.specs.Prelude.{ℕ, ◌+◌, ◌^◌, ◌<◌, ◌≤◌, List, map, filter, All, IsFalse}
 use Rattle.tp_machine.specs.declared.parts.Outs.{Outs}
 use Rattle.tp_machine.specs.declared.whole.Machine.{Machine}
-use Rattle.tp_schedule.specs.Answers.{IsLeast}
-use Rattle.tp_schedule.specs.Planning.{none_exempt}
 use Rattle.tp_schedule.specs.Plans.{is_front, point}
 use Rattle.tp_schedule.specs.declared.parts.Plan.{Plan}
 use Rattle.tp_schedule.specs.declared.parts.SheetId.{SheetId}
 use Rattle.tp_jobs.specs.Backlogs.{Backlog}
 use Rattle.tp_turn.specs.States.{SessionState}
 use Rattle.tp_turn.specs.Moments.{is_to_tray}
-use Rattle.tp_turn.specs.Keeping.{KeepsPlans, KeepsLines}
+use Rattle.tp_turn.specs.Keeping.{KeepsPlans, KeepsLines, IsLeastAt}
 
 -- where no copy is loose, the fronts are those of the lost copies
 abbrev pub fronts_of : List Plan → List SheetId
@@ -37,7 +35,7 @@ HasStarted now p = IsFalse (is_to_tray p.goal) → point p 0 ≤ now
 -- the state before a module goes out: what is kept between events, copies that can have a next one, and purges under way
 pub record CanGoOut (machine : Machine) (s : SessionState) : Type 0 where
   pub plans : KeepsPlans machine s
-  pub least : IsLeast machine s.now none_exempt s.plans
+  pub least : IsLeastAt machine s
   pub lines : KeepsLines machine s
   pub next_copies : All (λ w. HasNextCopy w.sheet) s.waiting
   pub next_planned : All (λ p. HasNextCopy p.sheet) s.plans

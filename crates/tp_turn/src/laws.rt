@@ -1,5 +1,5 @@
 // What holds of turns. The calls do nothing: their contracts are the laws.
-ghost use Rattle.std.specs.Prelude.{◌≡◌, ◌∷◌, ◌++◌, List, [], Some};
+ghost use Rattle.std.specs.Prelude.{◌≡◌, ◌∷◌, ◌++◌, List, [], Some, IsFalse};
 ghost use Rattle.tp_machine.specs.declared.whole.Machine.{Machine};
 ghost use Rattle.tp_schedule.specs.Planning.{CanPlanOn};
 ghost use Rattle.tp_schedule.specs.Planning.Deed.{replied};
@@ -9,7 +9,8 @@ ghost use Rattle.tp_schedule.specs.declared.recording.Record.{Record};
 ghost use Rattle.tp_schedule.specs.declared.recording.Record.TheVariants.{Refused};
 ghost use Rattle.tp_script.specs.declared.event.Event.{Event};
 ghost use Rattle.tp_turn.specs.Answering.{Answer};
-ghost use Rattle.tp_turn.specs.Laws.{LoopStateGoesOn, LoopRecordsGoOn, FatesKeepPlanning, BreaksKeepPlanning, FallBacksKeepPlanning, OutagesKeepPlanning, OutagesKeepMoment, ClockKeepsPlanning, ClockKeepsLines, ClockKeepsSheets, ClockKeepsPlans, JobKeepsPlans, JobKeepsLines, JobKeepsSheets, OnKeepsPlans, OnKeepsLines, OnKeepsSheets};
+ghost use Rattle.tp_turn.specs.Keeping.{KeepsState, IsLeastAt};
+ghost use Rattle.tp_turn.specs.Laws.{LoopStateGoesOn, LoopRecordsGoOn, FatesKeepPlanning, BreaksKeepPlanning, FallBacksKeepPlanning, OutagesKeepPlanning, OutagesKeepMoment, ClockKeepsPlanning, ClockKeepsLines, ClockKeepsSheets, ClockKeepsPlans, is_outage, is_clock, JobKeepsPlans, JobKeepsLines, JobKeepsSheets, OnKeepsPlans, OnKeepsLines, OnKeepsSheets};
 ghost use Rattle.tp_turn.specs.Loops.{after_answers, next_ask};
 ghost use Rattle.tp_turn.specs.Planners.{AnswersInTurn, right_steps};
 ghost use Rattle.tp_turn.specs.Refusals.{refusal};
@@ -76,4 +77,17 @@ pub fn coming_back_keeps_state()
     ensures plans { OnKeepsPlans }
     ensures lines { OnKeepsLines }
     ensures sheets { OnKeepsSheets }
+{}
+
+/// Turns of jobs, of moves of the clock, of modules that come back and of refused events keep plans, lines and sheets. That
+/// the schedule is least stays through every turn but one that moves the clock.
+pub fn turns_keep_state<P: Planner>()
+    ensures state { (machine : Machine) (event : Event) (s : SessionState) (planner : P) (records : List Record) (s' : SessionState) (planner' : P)
+        → IsFalse (is_outage event)
+        → Turn (right_steps P.spent P.steps P.stop_steps machine) machine event s planner records s' planner'
+        → KeepsState machine s → KeepsState machine s' }
+    ensures least { (machine : Machine) (event : Event) (s : SessionState) (planner : P) (records : List Record) (s' : SessionState) (planner' : P)
+        → IsFalse (is_clock event)
+        → Turn (right_steps P.spent P.steps P.stop_steps machine) machine event s planner records s' planner'
+        → IsLeastAt machine s → IsLeastAt machine s' }
 {}
