@@ -1,9 +1,9 @@
 -- A copy that waits is planned as the first of its line.
-use Rattle.std.proofs.Common.{◌≡◌, ℕ, ◌⊎◌, inl, inr, Bool, true, false, cond, ◌&&◌, ◌==◌, not, List, [], ◌∷◌, map, filter, refl, sym, ap, ◌∙◌, arith, All, AllPairs, Contains, IsTrue, subst}
+use Rattle.std.proofs.Common.{◌≡◌, ℕ, ◌⊎◌, inl, inr, Bool, true, false, cond, ◌&&◌, ◌==◌, not, List, [], ◌∷◌, map, filter, refl, sym, ap, ◌∙◌, arith, All, Contains, IsTrue, subst}
 use Rattle.std.specs.Prelude.{IsFalse}
 use Rattle.std.specs.Str.{bytes_eq}
 use Rattle.std.proofs.lemmas.Bool.Decides.{nat_tests}
-use Rattle.std.proofs.lemmas.List.Elements.{All-nil, All-cons, All-head, All-tail, All-contains}
+use Rattle.std.proofs.lemmas.List.Elements.{All-head, All-tail, All-contains}
 use Rattle.tp_machine.proofs.Lists.{All-from_none}
 use Rattle.tp_machine.specs.declared.whole.Machine.{Machine}
 use Rattle.tp_jobs.specs.declared.parts.WaitingCopy.{WaitingCopy}
@@ -15,16 +15,15 @@ use Rattle.tp_schedule.specs.declared.parts.Kind.{Kind}
 use Rattle.tp_schedule.specs.declared.parts.Kind.TheVariants.{Whole}
 use Rattle.tp_schedule.specs.declared.parts.Plan.{Plan}
 use Rattle.tp_schedule.specs.declared.parts.SheetId.{SheetId}
-use Rattle.tp_schedule.proofs.Membership.{All-from_contains, Contains-cons_cases, Contains-filter, Contains-filter_from}
-use Rattle.tp_schedule.proofs.Pairs.{AllPairs-nil, AllPairs-cons, AllPairs-head, AllPairs-tail}
+use Rattle.tp_schedule.proofs.Membership.{All-from_contains, Contains-filter, Contains-filter_from}
 use Rattle.tp_turn.specs.Asking.{ask_waiting}
 use Rattle.tp_turn.specs.Keeping.{KeepsLines, is_planned_among, is_known, tray_plans, is_same_sheet}
 use Rattle.tp_turn.specs.Lines.{tray_of, is_same_line, without_waiting}
 use Rattle.tp_turn.specs.Moments.{is_tray_plan, is_to_tray}
 use Rattle.tp_turn.specs.States.{SessionState}
 use Rattle.tp_turn.proofs.AnsweredPlans.{IsUnmoved, unmoved-tray_plan, mine-is, plan-cases}
-use Rattle.tp_turn.proofs.MovedClock.{filter-map_same, map-map_same}
-use Rattle.tp_turn.proofs.PlannableTurns.{find-Some}
+use Rattle.tp_turn.proofs.ListFacts.{find-Some}
+use Rattle.tp_turn.proofs.TestFacts.{filter-map_same, map-map_same}
 
 abbrev pub Apart : SheetId → SheetId → Type 0
 Apart a b = IsFalse (is_same_sheet a b)
@@ -39,28 +38,6 @@ pub before-irrefl : (a b : SheetId) → a ≡ b → is_before a b ≡ true → �
 before-irrefl a b e f = let g : is_before b b ≡ true = subst (λ c. is_before c b ≡ true) e f in absurd (let none = irrefl b in cc) where
   irrefl : (c : SheetId) → is_before c c ≡ false
   irrefl c = grind (arith, nat_tests)
-
--- two different elements stand in the relation one way or the other
-pub either-way : {X : Type 0} (R : X → X → Type 0) (xs : List X) (x y : X) → AllPairs R xs → Contains xs x → Contains xs y → (x ≡ y → ⊥) → R x y ⊎ R y x
-either-way R [] x y pairs in' in'' differ = absurd (omega (arith, in'.1))
-either-way R (z ∷ xs) x y pairs in' in'' differ = elim (Contains-cons_cases z xs x in') [
-  | inl e ↦ elim (Contains-cons_cases z xs y in'') [
-    | inl f ↦ absurd (differ (sym e ∙ f))
-    | inr later ↦ inl (subst (λ v. R v y) e (All-contains (R z) xs y (AllPairs-head R z xs pairs) later))
-  ]
-  | inr later ↦ elim (Contains-cons_cases z xs y in'') [
-    | inl f ↦ inr (subst (λ v. R v x) f (All-contains (R z) xs x (AllPairs-head R z xs pairs) later))
-    | inr later' ↦ either-way R xs x y (AllPairs-tail R z xs pairs) later later' differ
-  ]
-]
-
-pub AllPairs-of_map : {X Y : Type 0} (R : Y → Y → Type 0) (f : X → Y) (xs : List X) → AllPairs R (map f xs) → AllPairs (λ x y. R (f x) (f y)) xs
-AllPairs-of_map R f [] pairs = AllPairs-nil (λ x y. R (f x) (f y))
-AllPairs-of_map {X} R f (x ∷ xs) pairs =
-    AllPairs-cons (λ x y. R (f x) (f y)) x xs (go xs (AllPairs-head R (f x) (map f xs) pairs)) (AllPairs-of_map R f xs (AllPairs-tail R (f x) (map f xs) pairs)) where
-      go : (ys : List X) → All (R (f x)) (map f ys) → All (λ y. R (f x) (f y)) ys
-      go [] all = All-nil (λ y. R (f x) (f y))
-      go (y ∷ ys) all = All-cons (λ y. R (f x) (f y)) y ys (All-head (R (f x)) (f y) (map f ys) all) (go ys (All-tail (R (f x)) (f y) (map f ys) all))
 
 -- the fronts, where no plan of the copy is one
 pub fronts-without : (c : SheetId) (plans : List Plan) → All (λ p. is_same_copy p.sheet c ≡ true → is_front p.kind ≡ false) plans

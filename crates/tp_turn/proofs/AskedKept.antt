@@ -1,8 +1,8 @@
 -- A copy that waits is planned while fewer than 256 are live: plans are kept.
-use Rattle.std.proofs.Common.{◌≡◌, ◌+◌, ◌<◌, ◌≤◌, inl, inr, Bool, true, false, ◌&&◌, ◌||◌, not, List, [], ◌∷◌, ◌++◌, length, filter, refl, sym, ap, ◌∙◌, arith, All, Contains, subst, Some, None}
+use Rattle.std.proofs.Common.{◌≡◌, ◌+◌, ◌<◌, ◌≤◌, inl, inr, Bool, true, false, ◌&&◌, ◌||◌, not, List, ◌++◌, length, filter, refl, sym, ap, ◌∙◌, arith, All, Contains, subst, Some, None}
 use Rattle.std.specs.List.{list_all}
 use Rattle.std.proofs.lemmas.Bool.Decides.{nat_tests}
-use Rattle.std.proofs.lemmas.List.Elements.{All-nil, All-cons, All-head, All-tail, All-contains}
+use Rattle.std.proofs.lemmas.List.Elements.{All-contains}
 use Rattle.std.proofs.lemmas.List.Sums.{length-filter}
 use Rattle.tp_machine.specs.declared.parts.ActId.{ActId}
 use Rattle.tp_machine.specs.declared.whole.Machine.{Machine}
@@ -23,18 +23,9 @@ use Rattle.tp_turn.specs.States.{SessionState}
 use Rattle.tp_turn.proofs.AnsweredPlans.{IsUnmoved, unmoved-sheet, plan-cases}
 use Rattle.tp_turn.proofs.AskedFacts.{IsAskedFirst, none-before}
 use Rattle.tp_turn.proofs.AskedLines.{planned_waiting}
-use Rattle.tp_turn.proofs.AskedPlans.{IsRetimedPlan, low-stays, live-before, arriving-before, count-unmoved, one-more-than-others, count-part, one-less, find-none, clear-route, clear-moved}
-
-all-of : {X : Type 0} (t : X → Bool) (xs : List X) → list_all t xs ≡ true → All (λ x. t x ≡ true) xs
-all-of t [] e = All-nil (λ x. t x ≡ true)
-all-of {X} t (x ∷ xs) e = go (t x) refl e (all-of t xs) where
-  go : (b : Bool) → t x ≡ b → (b && list_all t xs) ≡ true → (list_all t xs ≡ true → All (λ x. t x ≡ true) xs) → All (λ x. t x ≡ true) (x ∷ xs)
-  go true f e rest = All-cons (λ x. t x ≡ true) x xs f (rest e)
-  go false f e rest = absurd (cc)
-
-of-all : {X : Type 0} (t : X → Bool) (xs : List X) → All (λ x. t x ≡ true) xs → list_all t xs ≡ true
-of-all t [] all = refl
-of-all t (x ∷ xs) all = rw (All-head (λ x. t x ≡ true) x xs all) (of-all t xs (All-tail (λ x. t x ≡ true) x xs all))
+use Rattle.tp_turn.proofs.AskedPlans.{IsRetimedPlan, low-stays, live-before, arriving-before, count-unmoved, one-more-than-others, clear-route, clear-moved}
+use Rattle.tp_turn.proofs.ListFacts.{find-none}
+use Rattle.tp_turn.proofs.TestFacts.{count-part, one-less, all-of, of-all}
 
 module _ (machine : Machine) (s : SessionState) (w : WaitingCopy) (plans' : List Plan) (f : IsAskedFirst machine s w plans') (keeps : KeepsPlans machine s) where
   retimed-plan : (q p : Plan) → Contains plans' q → Contains s.plans p → IsUnmoved q p → IsRetimedPlan machine s.now p q

@@ -3,7 +3,7 @@ use Rattle.std.proofs.Common.{◌≡◌, ℕ, inl, inr, true, false, ◌&&◌, �
 use Rattle.std.specs.Prelude.{IsFalse}
 use Rattle.std.specs.Str.{bytes_eq}
 use Rattle.std.proofs.lemmas.Bool.Decides.{nat_tests}
-use Rattle.std.proofs.lemmas.List.Elements.{All-filter, All-contains}
+use Rattle.std.proofs.lemmas.List.Elements.{All-map, All-filter, All-contains}
 use Rattle.std.proofs.lemmas.List.Folds.{list_any_none}
 use Rattle.std.proofs.lemmas.List.Kept.{AllPairs-filter}
 use Rattle.tp_machine.proofs.Lists.{All-from_none}
@@ -24,9 +24,9 @@ use Rattle.tp_turn.specs.Lines.{tray_of, is_same_line, without_waiting}
 use Rattle.tp_turn.specs.Moments.{is_tray_plan}
 use Rattle.tp_turn.specs.States.{SessionState}
 use Rattle.tp_turn.proofs.AnsweredPlans.{unmoved-sheet, plan-cases}
-use Rattle.tp_turn.proofs.FirstCopies.{AllPairs-append, AllPairs-append_left, AllPairs-append_right, AllPairs-append_across}
-use Rattle.tp_turn.proofs.NewJob.{All-map_list, AllPairs-map_list}
-use Rattle.tp_turn.proofs.AskedFacts.{Apart, apart-sym, not_same-sym, before-irrefl, either-way, AllPairs-of_map, bytes_eq-same, IsAskedFirst, mine-known, waits-of, tray-cases, fronts-kept}
+use Rattle.tp_turn.proofs.NewJob.{}
+use Rattle.tp_turn.proofs.AskedFacts.{Apart, apart-sym, not_same-sym, before-irrefl, bytes_eq-same, IsAskedFirst, mine-known, waits-of, tray-cases, fronts-kept}
+use Rattle.tp_turn.proofs.ListFacts.{AllPairs-append, AllPairs-append_left, AllPairs-append_right, AllPairs-append_across, AllPairs-map_list, AllPairs-of_map, either-way}
 
 -- what may differ: the plan's copy waits no more
 abbrev pub planned_waiting : SessionState → WaitingCopy → List Plan → SessionState
@@ -101,10 +101,10 @@ module _ (machine : Machine) (s : SessionState) (w : WaitingCopy) (plans' : List
       AllPairs-append Apart (map (λ v. v.sheet) (without_waiting w.sheet s.waiting)) (map (λ p. p.sheet) (tray_plans plans'))
       (AllPairs-map_list Apart (λ v. v.sheet) (without_waiting w.sheet s.waiting) (AllPairs-filter (λ v u. Apart v.sheet u.sheet) (λ v. not (is_same_copy v.sheet w.sheet)) s.waiting waiting-apart))
       (AllPairs-map_list Apart (λ p. p.sheet) (tray_plans plans') trays-apart)
-      (All-map_list (λ c. All (Apart c) (map (λ p. p.sheet) (tray_plans plans'))) (λ v. v.sheet) (without_waiting w.sheet s.waiting)
+      (All-map (λ c. All (Apart c) (map (λ p. p.sheet) (tray_plans plans'))) (λ v. v.sheet) (without_waiting w.sheet s.waiting)
       (All-from_contains (λ v. All (Apart v.sheet) (map (λ p. p.sheet) (tray_plans plans'))) (without_waiting w.sheet s.waiting) (λ v in'.
       let from = waits-of machine s w plans' f v in' in
-      All-map_list (Apart v.sheet) (λ p. p.sheet) (tray_plans plans') (All-from_contains (λ p. Apart v.sheet p.sheet) (tray_plans plans') (λ q in''.
+      All-map (Apart v.sheet) (λ p. p.sheet) (tray_plans plans') (All-from_contains (λ p. Apart v.sheet p.sheet) (tray_plans plans') (λ q in''.
       elim (tray-cases machine s w plans' f q in'') [
         | inl e ↦ subst (λ (p : Plan). Apart v.sheet p.sheet) (sym e) (subst (Apart v.sheet) (sym f.a.answers.sheet) (others-apart v from.0 from.1))
         | inr other ↦ subst (Apart v.sheet) (sym (unmoved-sheet q other.0 other.2)) (across v other.0 from.0 other.1)

@@ -1,5 +1,5 @@
 -- A copy that waits is planned while fewer than 256 are live: plans are kept.
-use Rattle.std.proofs.Common.{◌≡◌, ℕ, suc, ◌+◌, ◌-◌, ◌<◌, ◌≤◌, inl, inr, Bool, true, false, cond, ◌&&◌, ◌||◌, not, List, [], ◌∷◌, map, length, filter, refl, sym, ap, arith, All, AllPairs, Contains, subst, None, find, nat_le, nat_lt, slice_index}
+use Rattle.std.proofs.Common.{◌≡◌, ℕ, suc, ◌+◌, ◌-◌, ◌<◌, ◌≤◌, Bool, true, false, cond, ◌&&◌, ◌||◌, not, List, [], ◌∷◌, map, length, filter, refl, sym, ap, arith, All, AllPairs, Contains, subst, nat_le, nat_lt, slice_index}
 use Rattle.std.specs.List.{list_all}
 use Rattle.std.proofs.lemmas.Bool.Decides.{nat_tests}
 use Rattle.std.proofs.lemmas.List.Elements.{All-head, All-tail, All-weaker}
@@ -15,7 +15,7 @@ use Rattle.tp_schedule.specs.declared.parts.Plan.{Plan}
 use Rattle.tp_schedule.specs.declared.parts.SheetId.{SheetId}
 use Rattle.tp_schedule.proofs.CopyFacts.{same_copy-is, before-not_same'}
 use Rattle.tp_schedule.proofs.Pairs.{AllPairs-head, AllPairs-tail}
-use Rattle.tp_schedule.proofs.Membership.{Contains-cons_cases, Contains-here, Contains-later}
+use Rattle.tp_schedule.proofs.Membership.{Contains-here, Contains-later}
 use Rattle.tp_turn.specs.Keeping.{is_to_arrive}
 use Rattle.tp_turn.specs.Moments.{is_started, is_tray_plan}
 use Rattle.tp_turn.proofs.AnsweredPlans.{IsUnmoved, unmoved-tray_plan}
@@ -142,37 +142,6 @@ one-more-than-others test c (p ∷ plans) in_order =
             → length (cond t (p ∷ filter test plans) (filter test plans)) ≤ 1 + length (cond t (p ∷ filter test (without c plans)) (filter test (without c plans)))
         second true rest = omega arith
         second false rest = rest
-
-pub count-part : {X : Type 0} (t r : X → Bool) (xs : List X) → length (filter t (filter r xs)) ≤ length (filter t xs)
-count-part t r [] = omega arith
-count-part {X} t r (x ∷ xs) = go (r x) (t x) refl (count-part t r xs) where
-  go : (b c : Bool) → t x ≡ c → length (filter t (filter r xs)) ≤ length (filter t xs)
-      → length (filter t (cond b (x ∷ filter r xs) (filter r xs))) ≤ length (cond c (x ∷ filter t xs) (filter t xs))
-  go true true e rest = rw e (omega arith)
-  go true false e rest = rw e rest
-  go false true e rest = omega arith
-  go false false e rest = rest
-
-pub one-less : {X : Type 0} (p : X → Bool) (xs : List X) (x : X) → Contains xs x → p x ≡ false → length (filter p xs) + 1 ≤ length xs
-one-less p [] x in' e = absurd (omega (arith, in'.1))
-one-less {X} p (y ∷ xs) x in' e = elim (Contains-cons_cases y xs x in') [
-  | inl same ↦ let f : p y ≡ false = subst (λ z. p z ≡ false) (sym same) e in let few = length-filter-le p xs in rw f (omega arith)
-  | inr later ↦ go (p y) (one-less p xs x later e)
-] where
-  length-filter-le : (p : X → Bool) (xs : List X) → length (filter p xs) ≤ length xs
-  length-filter-le p [] = omega arith
-  length-filter-le p (z ∷ xs) = step (p z) (length-filter-le p xs) where
-    step : (b : Bool) → length (filter p xs) ≤ length xs → length (cond b (z ∷ filter p xs) (filter p xs)) ≤ suc (length xs)
-    step true few = omega arith
-    step false few = omega arith
-
-  go : (b : Bool) → length (filter p xs) + 1 ≤ length xs → length (cond b (y ∷ filter p xs) (filter p xs)) + 1 ≤ suc (length xs)
-  go true few = omega arith
-  go false few = omega arith
-
-pub find-none : {X : Type 0} (p : X → Bool) (xs : List X) → All (λ x. p x ≡ false) xs → find p xs ≡ None
-find-none p [] all = refl
-find-none p (x ∷ xs) all = rw (All-head (λ x. p x ≡ false) x xs all) (find-none p xs (All-tail (λ x. p x ≡ false) x xs all))
 
 -- none that is to start uses a module that is out: the new plan by its route, the others since what has started has started
 pub clear-route : (now : ℕ) (test : ActId → Bool) (sheet : SheetId) (m : ℕ) (acts : List ActId) (points : List ℕ) → All (λ act. test act ≡ true) acts

@@ -18,7 +18,7 @@ use Rattle.tp_turn.specs.Keeping.{KeepsPlans, KeepsLines, KeepsSheets, is_clear}
 use Rattle.tp_turn.specs.Moments.{is_started}
 use Rattle.tp_turn.specs.States.{SessionState, put_on}
 use Rattle.tp_turn.specs.Turns.{with_on}
-use Rattle.tp_turn.proofs.MovedCounts.{list_all_mono}
+use Rattle.tp_turn.proofs.TestFacts.{list_all_mono}
 
 -- what is not out does not go out
 still-on : (outs : Outs) (m k : ℕ) → is_out outs k ≡ false → is_out (put_on outs m) k ≡ false

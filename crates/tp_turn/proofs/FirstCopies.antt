@@ -1,48 +1,19 @@
 -- The first copies of a new job's sheets, pairs in two lists together, and what an accepted job was asked with.
-use Rattle.std.proofs.Common.{◌≡◌, ℕ, suc, ◌+◌, ◌<◌, ◌≤◌, Bool, true, false, cond, not, List, [], ◌∷◌, ◌++◌, length, refl, sym, ap, arith, All, AllPairs, nat_lt, Some, None, replicate}
+use Rattle.std.proofs.Common.{◌≡◌, ℕ, suc, ◌+◌, ◌<◌, ◌≤◌, Bool, true, false, cond, not, List, [], ◌∷◌, length, refl, sym, ap, arith, All, AllPairs, nat_lt, Some, None, replicate}
 use Rattle.std.proofs.lemmas.Bool.Decides.{nat_tests}
 use Rattle.std.proofs.lemmas.List.{length-replicate, length-append}
 use Rattle.std.proofs.lemmas.List.Concat.{flat_map-cons}
 use Rattle.std.proofs.lemmas.List.Sums.{sum_by-cons}
-use Rattle.std.proofs.lemmas.List.Elements.{All-nil, All-cons, All-head, All-tail, All-append}
+use Rattle.std.proofs.lemmas.List.Elements.{All-nil, All-cons, All-weaker}
 use Rattle.tp_machine.specs.declared.parts.Sheet.{Sheet}
 use Rattle.tp_machine.specs.declared.whole.Machine.{Machine}
 use Rattle.tp_jobs.specs.declared.parts.Job.{Job}
 use Rattle.tp_jobs.specs.declared.parts.WaitingCopy.{WaitingCopy}
-use Rattle.tp_schedule.proofs.Pairs.{AllPairs-nil, AllPairs-cons, AllPairs-head, AllPairs-tail}
+use Rattle.tp_schedule.proofs.Pairs.{AllPairs-nil, AllPairs-cons}
 use Rattle.tp_script.specs.Form.{GroupForm}
 use Rattle.tp_schedule.specs.declared.recording.Cause.TheVariants.{Tray, Media, Named, Waiting}
 use Rattle.tp_turn.specs.Refusals.{first_of_causes, has_media, is_taken, is_tray_name, job_refusal, most_waiting, sheet_count}
 use Rattle.tp_turn.specs.Turns.{first_copies, sheets_of, sheet_of}
-
--- pairs in two lists together
-pub AllPairs-append : {X : Type 0} (R : X → X → Type 0) (xs ys : List X) → AllPairs R xs → AllPairs R ys → All (λ x. All (R x) ys) xs → AllPairs R (xs ++ ys)
-AllPairs-append R [] ys one other across = other
-AllPairs-append R (x ∷ xs) ys one other across =
-    AllPairs-cons R x (xs ++ ys)
-    (All-append (R x) xs ys (AllPairs-head R x xs one) (All-head (λ x. All (R x) ys) x xs across))
-    (AllPairs-append R xs ys (AllPairs-tail R x xs one) other (All-tail (λ x. All (R x) ys) x xs across))
-
-pub AllPairs-append_left : {X : Type 0} (R : X → X → Type 0) (xs ys : List X) → AllPairs R (xs ++ ys) → AllPairs R xs
-AllPairs-append_left R [] ys pairs = AllPairs-nil R
-AllPairs-append_left R (x ∷ xs) ys pairs =
-    AllPairs-cons R x xs (left xs (AllPairs-head R x (xs ++ ys) pairs)) (AllPairs-append_left R xs ys (AllPairs-tail R x (xs ++ ys) pairs)) where
-      left : (zs : List _) → All (R x) (zs ++ ys) → All (R x) zs
-      left [] all = All-nil (R x)
-      left (z ∷ zs) all = All-cons (R x) z zs (All-head (R x) z (zs ++ ys) all) (left zs (All-tail (R x) z (zs ++ ys) all))
-
-pub AllPairs-append_right : {X : Type 0} (R : X → X → Type 0) (xs ys : List X) → AllPairs R (xs ++ ys) → AllPairs R ys
-AllPairs-append_right R [] ys pairs = pairs
-AllPairs-append_right R (x ∷ xs) ys pairs = AllPairs-append_right R xs ys (AllPairs-tail R x (xs ++ ys) pairs)
-
-All-append_right : {X : Type 0} (P : X → Type 0) (xs ys : List X) → All P (xs ++ ys) → All P ys
-All-append_right P [] ys all = all
-All-append_right P (x ∷ xs) ys all = All-append_right P xs ys (All-tail P x (xs ++ ys) all)
-
-pub AllPairs-append_across : {X : Type 0} (R : X → X → Type 0) (xs ys : List X) → AllPairs R (xs ++ ys) → All (λ x. All (R x) ys) xs
-AllPairs-append_across R [] ys pairs = All-nil (λ x. All (R x) ys)
-AllPairs-append_across R (x ∷ xs) ys pairs =
-    All-cons (λ x. All (R x) ys) x xs (All-append_right (R x) xs ys (AllPairs-head R x (xs ++ ys) pairs)) (AllPairs-append_across R xs ys (AllPairs-tail R x (xs ++ ys) pairs))
 
 -- a first copy of the job, with a number from this one on
 pub record IsFirstCopy (job low high : ℕ) (w : WaitingCopy) : Type 0 where
@@ -56,10 +27,6 @@ All-first_copies job low n high (want ∷ wants) from to =
     All-cons (IsFirstCopy job low high) _ (first_copies job (n + 1) wants) (record { of_job = refl; at_least = from; below = omega arith })
     (All-first_copies job low (n + 1) high wants (omega arith) (omega arith))
 
-All-weaken : {X : Type 0} (P Q : X → Type 0) → ((x : X) → P x → Q x) → (xs : List X) → All P xs → All Q xs
-All-weaken P Q each [] all = All-nil Q
-All-weaken P Q each (x ∷ xs) all = All-cons Q x xs (each x (All-head P x xs all)) (All-weaken P Q each xs (All-tail P x xs all))
-
 -- they stand in order, and are copies of different sheets
 pub AllPairs-first_copies : (R : WaitingCopy → WaitingCopy → Type 0)
     → ((v w : WaitingCopy) → v.sheet.job ≡ w.sheet.job → v.sheet.number < w.sheet.number → R v w)
@@ -67,7 +34,7 @@ pub AllPairs-first_copies : (R : WaitingCopy → WaitingCopy → Type 0)
 AllPairs-first_copies R each job n [] = AllPairs-nil R
 AllPairs-first_copies R each job n (want ∷ wants) =
     AllPairs-cons R (record { sheet = record { job = job; number = n; copy = 1 }; want = want }) (first_copies job (n + 1) wants)
-    (All-weaken (IsFirstCopy job (n + 1) (n + 1 + length wants)) (R (record { sheet = record { job = job; number = n; copy = 1 }; want = want }))
+    (All-weaker (IsFirstCopy job (n + 1) (n + 1 + length wants)) (R (record { sheet = record { job = job; number = n; copy = 1 }; want = want }))
     (λ w is. each _ w (sym is.of_job) (omega (arith, is.at_least))) (first_copies job (n + 1) wants)
     (All-first_copies job (n + 1) (n + 1) (n + 1 + length wants) wants (omega arith) (omega arith)))
     (AllPairs-first_copies R each job (n + 1) wants)

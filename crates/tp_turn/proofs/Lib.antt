@@ -9,6 +9,8 @@ pub mod BreakRows
 pub mod FullRows
 pub mod DeliveryRows
 pub mod LoopFacts
+pub mod ListFacts
+pub mod TestFacts
 pub mod LeftPlans
 pub mod CutPlans
 pub mod ReleasedPlans

@@ -1,8 +1,7 @@
 -- A move of the clock keeps lines and sheets, and no more copies are live or on their way after it.
-use Rattle.std.proofs.Common.{◌≡◌, ℕ, ◌+◌, Bool, true, false, cond, List, [], ◌∷◌, ◌++◌, map, filter, refl, sym, ap, ◌∙◌, All, AllPairs, Any, IsTrue, subst}
+use Rattle.std.proofs.Common.{◌≡◌, ℕ, ◌+◌, List, ◌++◌, map, filter, refl, sym, ap, ◌∙◌, All, AllPairs, Any, IsTrue, subst}
 use Rattle.std.specs.Prelude.{IsFalse}
-use Rattle.std.specs.List.{list_any}
-use Rattle.std.proofs.lemmas.List.Elements.{All-nil, All-cons, All-head, All-tail, All-weaker}
+use Rattle.std.proofs.lemmas.List.Elements.{All-weaker}
 use Rattle.tp_machine.specs.declared.whole.Machine.{Machine}
 use Rattle.tp_schedule.specs.Plans.{is_front, is_same_copy}
 use Rattle.tp_schedule.specs.declared.parts.Plan.{Plan}
@@ -11,26 +10,8 @@ use Rattle.tp_turn.specs.Clock.{clock_move, released_until}
 use Rattle.tp_turn.specs.Keeping.{KeepsLines, KeepsSheets, StandsBehind, IsOlder, is_planned_among, is_of_its_job, is_sheet_of, tray_plans, open_copies, is_same_sheet, is_copy_of}
 use Rattle.tp_turn.specs.Moments.{is_tray_plan, release_until}
 use Rattle.tp_turn.specs.States.{SessionState}
-
--- a test that does not see what a map changes keeps the same elements
-pub filter-map_same : {X : Type 0} (p : X → Bool) (f : X → X) → ((x : X) → p (f x) ≡ p x) → (xs : List X) → filter p (map f xs) ≡ map f (filter p xs)
-filter-map_same p f same [] = refl
-filter-map_same {X} p f same (x ∷ xs) = rw (same x) (go (p x) (filter-map_same p f same xs)) where
-  go : (b : Bool) → filter p (map f xs) ≡ map f (filter p xs) → cond b (f x ∷ filter p (map f xs)) (filter p (map f xs)) ≡ map f (cond b (x ∷ filter p xs) (filter p xs))
-  go true e = ap (λ l. f x ∷ l) e
-  go false e = e
-
-pub map-map_same : {X Y : Type 0} (g : X → Y) (f : X → X) → ((x : X) → g (f x) ≡ g x) → (xs : List X) → map g (map f xs) ≡ map g xs
-map-map_same g f same [] = refl
-map-map_same g f same (x ∷ xs) = rw (same x, map-map_same g f same xs) refl
-
-pub All-map_to : {X : Type 0} (P : X → Type 0) (f : X → X) → ((x : X) → P x → P (f x)) → (xs : List X) → All P xs → All P (map f xs)
-All-map_to P f each [] all = All-nil P
-All-map_to P f each (x ∷ xs) all = All-cons P (f x) (map f xs) (each x (All-head P x xs all)) (All-map_to P f each xs (All-tail P x xs all))
-
-list_any-map_same : {X : Type 0} (p : X → Bool) (f : X → X) → ((x : X) → p (f x) ≡ p x) → (xs : List X) → list_any p (map f xs) ≡ list_any p xs
-list_any-map_same p f same [] = refl
-list_any-map_same p f same (x ∷ xs) = rw (same x, list_any-map_same p f same xs) refl
+use Rattle.tp_turn.proofs.ListFacts.{All-map_to}
+use Rattle.tp_turn.proofs.TestFacts.{filter-map_same, map-map_same, list_any-map_same}
 
 module _ (last : ℕ) where
   tray_plans-released : (plans : List Plan) → tray_plans (map (release_until last) plans) ≡ map (release_until last) (tray_plans plans)

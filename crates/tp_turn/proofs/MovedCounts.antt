@@ -1,5 +1,5 @@
 -- After a move of the clock no more copies are live or on their way than before, and none is to run on a module that is out.
-use Rattle.std.proofs.Common.{◌≡◌, ℕ, ◌+◌, ◌≤◌, Bool, true, false, cond, ◌&&◌, ◌||◌, List, [], ◌∷◌, map, length, filter, refl, arith, IsTrue, nat_le, nat_lt, ℤ, pos, negsuc, int_lt}
+use Rattle.std.proofs.Common.{◌≡◌, ℕ, ◌+◌, ◌≤◌, Bool, true, false, ◌&&◌, ◌||◌, List, [], ◌∷◌, map, refl, arith, IsTrue, nat_le, nat_lt, ℤ, pos, negsuc, int_lt}
 use Rattle.std.specs.List.{list_any, list_all}
 use Rattle.std.proofs.lemmas.Bool.Decides.{nat_tests}
 use Rattle.std.proofs.lemmas.List.Sums.{length-filter}
@@ -13,38 +13,7 @@ use Rattle.tp_turn.specs.Clock.{clock_move, released_until}
 use Rattle.tp_turn.specs.Keeping.{is_clear, is_to_arrive, open_count}
 use Rattle.tp_turn.specs.Moments.{is_started, is_tray_plan, release_until}
 use Rattle.tp_turn.specs.States.{SessionState}
-
-pub list_any_mono : {X : Type 0} (p q : X → Bool) → ((x : X) → p x ≡ true → q x ≡ true) → (xs : List X) → list_any p xs ≡ true → list_any q xs ≡ true
-list_any_mono p q each [] e = e
-list_any_mono {X} p q each (x ∷ xs) e = go (p x) refl e (list_any_mono p q each xs) where
-  or-first : (b c : Bool) → b ≡ true → (b || c) ≡ true
-  or-first true c e = refl
-  or-first false c e = absurd (cc)
-
-  or-second : (b c : Bool) → c ≡ true → (b || c) ≡ true
-  or-second true c e = refl
-  or-second false c e = e
-
-  go : (b : Bool) → p x ≡ b → (b || list_any p xs) ≡ true → (list_any p xs ≡ true → list_any q xs ≡ true) → (q x || list_any q xs) ≡ true
-  go true f e rest = or-first (q x) (list_any q xs) (each x f)
-  go false f e rest = or-second (q x) (list_any q xs) (rest e)
-
-pub list_all_mono : {X : Type 0} (p q : X → Bool) → ((x : X) → p x ≡ true → q x ≡ true) → (xs : List X) → list_all p xs ≡ true → list_all q xs ≡ true
-list_all_mono p q each [] e = e
-list_all_mono {X} p q each (x ∷ xs) e = go (p x) refl e (list_all_mono p q each xs) where
-  go : (b : Bool) → p x ≡ b → (b && list_all p xs) ≡ true → (list_all p xs ≡ true → list_all q xs ≡ true) → (q x && list_all q xs) ≡ true
-  go true f e rest = rw (each x f) (rest e)
-  go false f e rest = absurd (cc)
-
-pub count-map_mono : {X : Type 0} (p q : X → Bool) (f : X → X) → ((x : X) → p (f x) ≡ true → q x ≡ true) → (xs : List X) → length (filter p (map f xs)) ≤ length (filter q xs)
-count-map_mono p q f each [] = omega arith
-count-map_mono {X} p q f each (x ∷ xs) = go (p (f x)) refl (q x) refl (count-map_mono p q f each xs) where
-  go : (b : Bool) → p (f x) ≡ b → (c : Bool) → q x ≡ c → length (filter p (map f xs)) ≤ length (filter q xs)
-      → length (cond b (f x ∷ filter p (map f xs)) (filter p (map f xs))) ≤ length (cond c (x ∷ filter q xs) (filter q xs))
-  go true e true g rest = omega arith
-  go true e false g rest = absurd (let h = each x e in cc)
-  go false e true g rest = omega arith
-  go false e false g rest = rest
+use Rattle.tp_turn.proofs.TestFacts.{list_any_mono, list_all_mono, count-map_mono}
 
 later_ends : (now to : ℕ) (z : ℤ) → now ≤ to → int_lt (pos to) z ≡ true → int_lt (pos now) z ≡ true
 later_ends now to (pos n) low e = grind (arith, nat_tests)

@@ -1,10 +1,10 @@
 -- A new job keeps what is kept between events.
-use Rattle.std.proofs.Common.{◌≡◌, ◌≢◌, ℕ, ◌+◌, ◌<◌, Bool, true, false, cond, ◌&&◌, List, [], ◌∷◌, ◌++◌, map, length, filter, refl, sym, ap, ◌∙◌, arith, All, AllPairs, Contains, IsTrue, subst, Option, Some, None, slice_get}
+use Rattle.std.proofs.Common.{◌≡◌, ◌≢◌, ℕ, ◌+◌, ◌<◌, Bool, true, false, ◌&&◌, List, [], ◌∷◌, ◌++◌, map, length, refl, sym, ap, ◌∙◌, arith, All, AllPairs, Contains, IsTrue, subst, Option, Some, None, slice_get}
 use Rattle.std.specs.Prelude.{IsFalse, is_some}
 use Rattle.std.specs.Str.{bytes_eq}
 use Rattle.std.proofs.lemmas.Bool.Decides.{nat_tests, not_from_Decides}
 use Rattle.std.proofs.lemmas.List.{length-append, map-append}
-use Rattle.std.proofs.lemmas.List.Elements.{All-nil, All-cons, All-head, All-tail, All-append, All-weaker}
+use Rattle.std.proofs.lemmas.List.Elements.{All-nil, All-cons, All-append, All-filter, All-map, All-weaker}
 use Rattle.std.proofs.lemmas.List.Folds.{list_any_none}
 use Rattle.std.proofs.lemmas.Slice.Eq.{bytes_eq-Decides}
 use Rattle.tp_base.proofs.SliceFacts.{slice_get_left}
@@ -24,9 +24,9 @@ use Rattle.tp_turn.specs.Moments.{is_tray_plan}
 use Rattle.tp_turn.specs.Refusals.{is_taken, is_tray_name, tray_named, sheet_count}
 use Rattle.tp_turn.specs.States.{SessionState}
 use Rattle.tp_turn.specs.Turns.{first_copies, sheets_of, new_job, with_job, location_in}
-use Rattle.tp_turn.proofs.FirstCopies.{AllPairs-append, AllPairs-append_left, AllPairs-append_right, AllPairs-append_across, IsFirstCopy, All-first_copies, AllPairs-first_copies, length-sheets_of, IsAccepted}
-use Rattle.tp_schedule.proofs.Pairs.{AllPairs-nil, AllPairs-cons, AllPairs-head, AllPairs-tail}
-use Rattle.tp_turn.proofs.PlannableTurns.{find-Some}
+use Rattle.tp_turn.proofs.FirstCopies.{IsFirstCopy, All-first_copies, AllPairs-first_copies, length-sheets_of, IsAccepted}
+use Rattle.tp_schedule.proofs.Pairs.{AllPairs-nil, AllPairs-cons}
+use Rattle.tp_turn.proofs.ListFacts.{AllPairs-append, AllPairs-append_left, AllPairs-append_right, AllPairs-append_across, AllPairs-map_list, All-both, find-Some}
 
 -- the jobs that came before are told as before
 pub known-within : (jobs : List Job) (copy : SheetId) → is_known jobs copy ≡ true → copy.job < length jobs
@@ -103,26 +103,6 @@ line-same jobs j v w known known' = rw (tray-same jobs j v known, tray-same jobs
 behind-more : (jobs : List Job) (j : Job) (w : WaitingCopy) (p : Plan) → is_known jobs w.sheet ≡ true → is_known jobs p.sheet ≡ true → StandsBehind jobs w p → StandsBehind (jobs ++ j ∷ []) w p
 behind-more jobs j w p known known' behind same = behind (sym (line-same jobs j w.sheet p.sheet known known') ∙ same)
 
-pub All-part : {X : Type 0} (P : X → Type 0) (q : X → Bool) (xs : List X) → All P xs → All P (filter q xs)
-All-part P q [] all = All-nil P
-All-part {X} P q (x ∷ xs) all = go (q x) (All-part P q xs (All-tail P x xs all)) where
-  go : (b : Bool) → All P (filter q xs) → All P (cond b (x ∷ filter q xs) (filter q xs))
-  go true rest = All-cons P x (filter q xs) (All-head P x xs all) rest
-  go false rest = rest
-
-pub All-both : {X : Type 0} (P Q R : X → Type 0) → ((x : X) → P x → Q x → R x) → (xs : List X) → All P xs → All Q xs → All R xs
-All-both P Q R each [] p q = All-nil R
-All-both P Q R each (x ∷ xs) p q = All-cons R x xs (each x (All-head P x xs p) (All-head Q x xs q)) (All-both P Q R each xs (All-tail P x xs p) (All-tail Q x xs q))
-
-pub All-map_list : {X Y : Type 0} (P : Y → Type 0) (f : X → Y) (xs : List X) → All (λ x. P (f x)) xs → All P (map f xs)
-All-map_list P f [] all = All-nil P
-All-map_list P f (x ∷ xs) all = All-cons P (f x) (map f xs) (All-head (λ x. P (f x)) x xs all) (All-map_list P f xs (All-tail (λ x. P (f x)) x xs all))
-
-pub AllPairs-map_list : {X Y : Type 0} (R : Y → Y → Type 0) (f : X → Y) (xs : List X) → AllPairs (λ x y. R (f x) (f y)) xs → AllPairs R (map f xs)
-AllPairs-map_list R f [] pairs = AllPairs-nil R
-AllPairs-map_list R f (x ∷ xs) pairs =
-    AllPairs-cons R (f x) (map f xs) (All-map_list (R (f x)) f xs (AllPairs-head (λ x y. R (f x) (f y)) x xs pairs)) (AllPairs-map_list R f xs (AllPairs-tail (λ x y. R (f x) (f y)) x xs pairs))
-
 abbrev pub Known : List Job → WaitingCopy → Type 0
 Known jobs w = is_known jobs w.sheet ≡ true
 
@@ -148,15 +128,15 @@ sheets-more jobs news old planned are apart known known' pairs =
     (AllPairs-append Apart (map (λ w. w.sheet) old) (map (λ w. w.sheet) news)
     (AllPairs-append_left Apart (map (λ w. w.sheet) old) (map (λ p. p.sheet) planned) pairs)
     (AllPairs-map_list Apart (λ w. w.sheet) news apart)
-    (All-map_list (λ v. All (Apart v) (map (λ w. w.sheet) news)) (λ w. w.sheet) old
+    (All-map (λ v. All (Apart v) (map (λ w. w.sheet) news)) (λ w. w.sheet) old
     (All-weaker (Known jobs) (λ v. All (Apart v.sheet) (map (λ w. w.sheet) news))
-    (λ v k. All-map_list (Apart v.sheet) (λ w. w.sheet) news (All-weaker (λ w. w.sheet.job ≡ length jobs) (λ w. Apart v.sheet w.sheet) (λ w e. earlier-other jobs v.sheet w.sheet k e) news are)) old known)))
+    (λ v k. All-map (Apart v.sheet) (λ w. w.sheet) news (All-weaker (λ w. w.sheet.job ≡ length jobs) (λ w. Apart v.sheet w.sheet) (λ w e. earlier-other jobs v.sheet w.sheet k e) news are)) old known)))
     (AllPairs-append_right Apart (map (λ w. w.sheet) old) (map (λ p. p.sheet) planned) pairs)
     (All-append (λ v. All (Apart v) (map (λ p. p.sheet) planned)) (map (λ w. w.sheet) old) (map (λ w. w.sheet) news)
     (AllPairs-append_across Apart (map (λ w. w.sheet) old) (map (λ p. p.sheet) planned) pairs)
-    (All-map_list (λ v. All (Apart v) (map (λ p. p.sheet) planned)) (λ w. w.sheet) news
+    (All-map (λ v. All (Apart v) (map (λ p. p.sheet) planned)) (λ w. w.sheet) news
     (All-weaker (λ w. w.sheet.job ≡ length jobs) (λ w. All (Apart w.sheet) (map (λ p. p.sheet) planned))
-    (λ w e. All-map_list (Apart w.sheet) (λ p. p.sheet) planned (All-weaker (λ p. is_known jobs p.sheet ≡ true) (λ p. Apart w.sheet p.sheet) (λ p k. later-other jobs p.sheet w.sheet k e) planned known')) news are))))
+    (λ w e. All-map (Apart w.sheet) (λ p. p.sheet) planned (All-weaker (λ p. is_known jobs p.sheet ≡ true) (λ p. Apart w.sheet p.sheet) (λ p k. later-other jobs p.sheet w.sheet k e) planned known')) news are))))
 
 pub lines-job : (machine : Machine) (name tray media : List ℕ) (groups : List GroupForm) (s : SessionState) → IsAccepted machine s.jobs (length s.waiting) name tray groups
     → KeepsLines machine s → KeepsLines machine (with_job machine name tray media groups s)
@@ -164,7 +144,7 @@ lines-job machine name tray media groups s ok keeps =
     let firsts-of : All (λ w. w.sheet.job ≡ length s.jobs) (firsts (length s.jobs) media groups) =
     All-weaker (IsFirstCopy (length s.jobs) 1 (1 + sheet_count groups)) (λ w. w.sheet.job ≡ length s.jobs) (λ w is. is.of_job) (firsts (length s.jobs) media groups) (firsts-are (length s.jobs) media groups) in
     let plans : All (λ p. is_known s.jobs p.sheet ≡ true) s.plans = known-plans s.jobs s.plans keeps.plans_known in
-    let tray_known : All (λ p. is_known s.jobs p.sheet ≡ true) (tray_plans s.plans) = All-part (λ p. is_known s.jobs p.sheet ≡ true) is_tray_plan s.plans plans in
+    let tray_known : All (λ p. is_known s.jobs p.sheet ≡ true) (tray_plans s.plans) = All-filter is_tray_plan (λ p. is_known s.jobs p.sheet ≡ true) s.plans plans in
     record {
       trays = All-append (λ j. Contains machine.trays j.tray) s.jobs (new_job machine name tray groups ∷ []) keeps.trays
           (All-cons (λ j. Contains machine.trays j.tray) (new_job machine name tray groups) [] (new-tray machine tray ok.is_tray) (All-nil (λ j. Contains machine.trays j.tray)));

@@ -3,7 +3,7 @@ use Rattle.std.proofs.Common.{◌≡◌, ℕ, ◌+◌, ◌<◌, ◌≤◌, ◌�
 use Rattle.std.specs.Prelude.{IsFalse, ◌==◌}
 use Rattle.std.proofs.lemmas.Bool.Decides.{nat_tests}
 use Rattle.std.proofs.lemmas.List.{length-append, map-append}
-use Rattle.std.proofs.lemmas.List.Elements.{All-head, All-tail, All-append, All-weaker, All-contains, Contains-append_cases, Contains-append_left, Contains-append_right}
+use Rattle.std.proofs.lemmas.List.Elements.{All-map, All-head, All-tail, All-append, All-weaker, All-contains, Contains-append_cases, Contains-append_left, Contains-append_right}
 use Rattle.std.proofs.lemmas.List.Folds.{list_any_at}
 use Rattle.std.proofs.lemmas.List.Sums.{length-filter}
 use Rattle.tp_base.proofs.SliceFacts.{slice_get_last}
@@ -24,13 +24,8 @@ use Rattle.tp_turn.specs.Refusals.{sheet_count}
 use Rattle.tp_turn.specs.States.{SessionState}
 use Rattle.tp_turn.specs.Turns.{first_copies, sheets_of, new_job, with_job}
 use Rattle.tp_turn.proofs.FirstCopies.{IsFirstCopy, length-first_copies, length-sheets_of, IsAccepted}
-use Rattle.tp_turn.proofs.NewJob.{All-both, All-map_list, Known, before-same, earlier-other, firsts, firsts-are, known-plans}
-
-Any-contains : {X : Type 0} (P : X → Type 0) (xs : List X) → Any P xs → (x : X) × Contains xs x × P x
-Any-contains P xs (k, x, within, is, p) = (x, (k, within, is), p)
-
-contains-Any : {X : Type 0} (P : X → Type 0) (xs : List X) (x : X) → Contains xs x → P x → Any P xs
-contains-Any P xs x (k, within, is) p = (k, x, within, is, p)
+use Rattle.tp_turn.proofs.NewJob.{Known, before-same, earlier-other, firsts, firsts-are, known-plans}
+use Rattle.tp_turn.proofs.ListFacts.{All-both, Any-contains, contains-Any}
 
 -- the open copies stay open
 still-open : (old news : List WaitingCopy) (sheets : List SheetId) (copy : SheetId) → Contains (map (λ w. w.sheet) old ++ sheets) copy → Contains (map (λ w. w.sheet) (old ++ news) ++ sheets) copy
@@ -124,7 +119,7 @@ sheets-job machine name tray media groups s lines keeps =
             | inl before ↦ All-contains (IsOlder p) (open_copies s) copy old before
             | inr new ↦
                 let of : copy.job ≡ length s.jobs = All-contains (λ c. c.job ≡ length s.jobs) (map (λ w. w.sheet) (firsts (length s.jobs) media groups)) copy
-                (All-map_list (λ c. c.job ≡ length s.jobs) (λ w. w.sheet) (firsts (length s.jobs) media groups)
+                (All-map (λ c. c.job ≡ length s.jobs) (λ w. w.sheet) (firsts (length s.jobs) media groups)
                 (All-weaker (IsFirstCopy (length s.jobs) 1 (1 + sheet_count groups)) (λ w. w.sheet.job ≡ length s.jobs) (λ w is. is.of_job) (firsts (length s.jobs) media groups) firsts-of)) new in
                 λ not_tray same. absurd (let other = earlier-other s.jobs p.sheet copy known of in cc)
           ])) s.plans plans keeps.older;

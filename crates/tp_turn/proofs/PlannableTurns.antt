@@ -23,7 +23,6 @@ use Rattle.tp_schedule.specs.declared.recording.Cause.TheVariants.{Back, End}
 use Rattle.tp_schedule.specs.declared.recording.Record.{Record}
 use Rattle.tp_schedule.specs.declared.recording.Record.TheVariants.{FullUp, Refused}
 use Rattle.tp_schedule.proofs.CopyFacts.{plan_of-itself, same_copy-is}
-use Rattle.tp_schedule.proofs.Membership.{Contains-here, Contains-later}
 use Rattle.tp_turn.specs.States.{SessionState}
 use Rattle.tp_turn.specs.Lines.{tray_of}
 use Rattle.tp_turn.specs.Labels.{label}
@@ -42,14 +41,7 @@ use Rattle.tp_turn.specs.Laws.{IsPlannable}
 use Rattle.tp_turn.proofs.PlannableOutages.{plannable-fall_back, plannable-outage}
 use Rattle.tp_turn.proofs.SameMoment.{now-answers}
 use Rattle.tp_turn.proofs.ReleasedPlans.{AreLeft-change_plan, IsLeft-release, released-below}
-
--- the first that passes is one of them, and passes
-pub find-Some : {X : Type 0} (p : X → Bool) (xs : List X) (x : X) → find p xs ≡ Some x → Contains xs x × (p x ≡ true)
-find-Some p [] x e = absurd (cc)
-find-Some p (y ∷ xs) x e = go (p y) refl e (find-Some p xs x) where
-  go : (b : Bool) → p y ≡ b → cond b (Some y) (find p xs) ≡ Some x → (find p xs ≡ Some x → Contains xs x × (p x ≡ true)) → Contains (y ∷ xs) x × (p x ≡ true)
-  go true f e rest = let same : y ≡ x = cc in (subst (Contains (y ∷ xs)) same (Contains-here y xs), subst (λ z. p z ≡ true) same f)
-  go false f e rest = let later = rest e in (Contains-later y xs x later.0, later.1)
+use Rattle.tp_turn.proofs.ListFacts.{find-Some}
 
 -- the ask that is due is for a front, at this moment
 record IsAskOf (machine : Machine) (s : SessionState) (ask : Ask) : Type 0 where
