@@ -19,6 +19,7 @@ pub mod PlannableOutages
 pub mod SameMoment
 pub mod PlannableTurns
 pub mod LawfulLogs
+pub mod EmptyState
 pub mod RefusedTurns
 pub mod Replayed
 pub mod TurnRows

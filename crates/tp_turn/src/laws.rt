@@ -79,9 +79,10 @@ pub fn coming_back_keeps_state()
     ensures sheets { OnKeepsSheets }
 {}
 
-/// Turns of jobs, of moves of the clock, of modules that come back and of refused events keep plans, lines and sheets. That
-/// the schedule is least stays through every turn but one that moves the clock.
+/// Turns of jobs, of moves of the clock, of modules that come back and of refused events keep plans, lines and sheets, from
+/// the empty state on. That the schedule is least stays through every turn but one that moves the clock.
 pub fn turns_keep_state<P: Planner>()
+    ensures empty { (machine : Machine) → KeepsState machine empty_state × IsLeastAt machine empty_state }
     ensures state { (machine : Machine) (event : Event) (s : SessionState) (planner : P) (records : List Record) (s' : SessionState) (planner' : P)
         → IsFalse (is_outage event)
         → Turn (right_steps P.spent P.steps P.stop_steps machine) machine event s planner records s' planner'

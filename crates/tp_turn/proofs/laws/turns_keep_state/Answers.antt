@@ -1,7 +1,11 @@
+use Rattle.tp_turn.proofs.EmptyState.{kept-empty, least-empty}
 use Rattle.tp_turn.proofs.KeptTurns.{kept-turn}
 use Rattle.tp_turn.proofs.LeastTurns.{least-turn}
 use Rattle.tp_turn.specs.Planners.{right_steps}
 use Rattle.tp_turn.proofs.laws.turns_keep_state.Goals as goal
+
+pub returns-clause-empty : goal.returns-clause-empty
+returns-clause-empty g c machine = (kept-empty machine, least-empty machine)
 
 pub returns-clause-state : goal.returns-clause-state
 returns-clause-state g c machine event s planner records s' planner' =
