@@ -11,11 +11,11 @@ use Rattle.tp_schedule.specs.declared.recording.Cause.{Cause}
 use Rattle.tp_schedule.specs.declared.recording.Record.{Record}
 use Rattle.tp_schedule.specs.declared.recording.Record.TheVariants.{Refused}
 use Rattle.tp_turn.specs.Keeping.{KeepsState}
-use Rattle.tp_turn.specs.Laws.{is_outage}
+use Rattle.tp_turn.specs.Laws.{IsNoOutage, TurnsKeep, is_outage}
 use Rattle.tp_turn.specs.Planners.{PlannerSteps, IsRight}
 use Rattle.tp_turn.specs.Refusals.{refusal}
 use Rattle.tp_turn.specs.States.{SessionState}
-use Rattle.tp_turn.specs.Turns.{Begins, Accepts, Turn}
+use Rattle.tp_turn.specs.Turns.{Begins, Accepts}
 use Rattle.tp_turn.proofs.AskedTurns.{kept-asks, rest-all}
 use Rattle.tp_turn.proofs.ComesBack.{plans-on, lines-on, sheets-on}
 use Rattle.tp_turn.proofs.FirstCopies.{accepted-job}
@@ -49,8 +49,7 @@ module _ {P : Type 0} (steps : PlannerSteps P) (machine : Machine) (spent : P �
   kept-begins (On name) s p records s' p' calm accepted (m, known, told, is, same) kept =
       subst (KeepsState machine) (sym is) (record { plans = plans-on machine m s kept.plans; lines = lines-on machine m s kept.lines; sheets = sheets-on m s kept.sheets })
 
-  pub kept-turn : (event : Event) (s : SessionState) (p : P) (records : List Record) (s' : SessionState) (p' : P) → is_outage event ≡ false
-      → Turn steps machine event s p records s' p' → KeepsState machine s → KeepsState machine s'
+  pub kept-turn : TurnsKeep steps machine IsNoOutage (KeepsState machine)
   kept-turn event s p records s' p' calm turn kept = go (refusal machine s event) refl turn where
     go : (o : Option Cause) → refusal machine s event ≡ o
         → MatchOption o (Accepts steps machine event s p records s' p') (λ cause. (records ≡ Refused cause ∷ []) × (s' ≡ s) × (p' ≡ p)) → KeepsState machine s'

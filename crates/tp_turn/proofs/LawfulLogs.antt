@@ -31,7 +31,7 @@ module _ {T : Type 0} (claims : TreeClaims T) (shown : Bool) (spent : Machine �
   plannable-run s [] s' is can = subst (IsPlannable machine) (sym is) can
   plannable-run s (entry ∷ log) s' (mid, turn, rest) can =
       plannable-run mid log s' rest
-      (plannable-turn (right_answers claims shown spent machine) machine (λ trees. spent) (λ trees plans deed plans' trees' does. does.0) entry.event s entry.trees entry.records mid [] turn can)
+      (plannable-turn (right_answers claims shown spent machine) machine (λ trees. spent) (λ trees plans deed plans' trees' does. does.0) entry.event s entry.trees entry.records mid [] tt turn can)
 
   pub lawful-legal : (events : List Event) (log : List (Entry T)) (lawful : IsLawful claims shown spent machine events log) → IsLegal machine lawful.last.plans
   lawful-legal events log lawful = (plannable-run empty_state log lawful.last lawful.run (plannable-empty machine)).legal

@@ -20,14 +20,14 @@ use Rattle.tp_turn.specs.Answering.{told_of_reply}
 use Rattle.tp_turn.specs.Asking.{AsksInTurn, ask_waiting, is_full, is_passed_over, passed_after, state_after_reply}
 use Rattle.tp_turn.specs.Keeping.{IsLeastAt}
 use Rattle.tp_turn.specs.Labels.{label}
-use Rattle.tp_turn.specs.Laws.{is_clock}
+use Rattle.tp_turn.specs.Laws.{IsNoClock, TurnsKeep, is_clock}
 use Rattle.tp_turn.specs.Lines.{tray_of}
 use Rattle.tp_turn.specs.Loops.{after_answers}
 use Rattle.tp_turn.specs.Outages.{outage}
 use Rattle.tp_turn.specs.Planners.{PlannerSteps, IsRight, RunsLoop}
 use Rattle.tp_turn.specs.Refusals.{refusal}
 use Rattle.tp_turn.specs.States.{SessionState}
-use Rattle.tp_turn.specs.Turns.{Begins, Accepts, Turn}
+use Rattle.tp_turn.specs.Turns.{Begins, Accepts}
 use Rattle.tp_turn.proofs.AskedKept.{least-asked}
 use Rattle.tp_turn.proofs.SameMoment.{now-answers}
 
@@ -83,8 +83,7 @@ module _ {P : Type 0} (steps : PlannerSteps P) (machine : Machine) (spent : P �
   least-begins (Off name) s p records s' p' still (m, known, out) least = least-loop (outage machine m false s).state p out.rest s' p' out.loop
   least-begins (On name) s p records s' p' still (m, known, told, is, same) least = subst (IsLeastAt machine) (sym is) least
 
-  pub least-turn : (event : Event) (s : SessionState) (p : P) (records : List Record) (s' : SessionState) (p' : P) → is_clock event ≡ false
-      → Turn steps machine event s p records s' p' → IsLeastAt machine s → IsLeastAt machine s'
+  pub least-turn : TurnsKeep steps machine IsNoClock (IsLeastAt machine)
   least-turn event s p records s' p' still turn least = go (refusal machine s event) turn where
     go : (o : Option Cause) → MatchOption o (Accepts steps machine event s p records s' p') (λ cause. (records ≡ Refused cause ∷ []) × (s' ≡ s) × (p' ≡ p)) → IsLeastAt machine s'
     go None accepts =

@@ -34,10 +34,10 @@ use Rattle.tp_turn.specs.Moments.{release_until}
 use Rattle.tp_turn.specs.Outages.{outage}
 use Rattle.tp_turn.specs.Planners.{PlannerSteps, IsRight, AnswersInTurn, RunsLoop}
 use Rattle.tp_turn.specs.Refusals.{refusal, clock_refusal, first_of_causes}
-use Rattle.tp_turn.specs.Turns.{Begins, Accepts, Turn}
+use Rattle.tp_turn.specs.Turns.{Begins, Accepts}
 use Rattle.tp_turn.proofs.LeftPlans.{IsLegal-left, KeepsHorizon-left}
 use Rattle.tp_turn.proofs.PlanOnFacts.{CanPlanOn-left, CanPlanOn-clock, Contains-change_plan, IsLeft-to_purge}
-use Rattle.tp_turn.specs.Laws.{IsPlannable}
+use Rattle.tp_turn.specs.Laws.{IsAny, IsPlannable, TurnsKeep}
 use Rattle.tp_turn.proofs.PlannableOutages.{plannable-fall_back, plannable-outage}
 use Rattle.tp_turn.proofs.SameMoment.{now-answers}
 use Rattle.tp_turn.proofs.ReleasedPlans.{AreLeft-change_plan, IsLeft-release, released-below}
@@ -198,8 +198,8 @@ module _ {P : Type 0} (steps : PlannerSteps P) (machine : Machine) (spent : P �
   plannable-begins (On name) s p records s' p' accepted (m, known, told, is, same) can = subst (IsPlannable machine) (sym is) can
 
   -- a whole turn
-  pub plannable-turn : (event : Event) (s : SessionState) (p : P) (records : List Record) (s' : SessionState) (p' : P) → Turn steps machine event s p records s' p' → IsPlannable machine s → IsPlannable machine s'
-  plannable-turn event s p records s' p' turn can = go (refusal machine s event) refl turn where
+  pub plannable-turn : TurnsKeep steps machine IsAny (IsPlannable machine)
+  plannable-turn event s p records s' p' any turn can = go (refusal machine s event) refl turn where
     go : (o : Option Cause) → refusal machine s event ≡ o
         → MatchOption o (Accepts steps machine event s p records s' p') (λ cause. (records ≡ Refused cause ∷ []) × (s' ≡ s) × (p' ≡ p)) → IsPlannable machine s'
     go None e accepts =

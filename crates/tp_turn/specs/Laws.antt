@@ -1,22 +1,28 @@
 -- Laws of turns. A law on a planner stands with the call that carries it.
-use Rattle.std.specs.Prelude.{◌≡◌, ℕ, ◌≤◌, Bool, true, false, List, [], ◌∷◌, ◌++◌, length, None, Contains, IsTrue, IsFalse}
+use Rattle.std.specs.Prelude.{◌≡◌, ℕ, ◌≤◌, Bool, true, false, List, [], ◌∷◌, ◌++◌, length, Some, None, Contains, IsTrue, IsFalse}
 use Rattle.tp_machine.specs.declared.whole.Machine.{Machine}
 use Rattle.tp_script.specs.Form.{GroupForm}
 use Rattle.tp_script.specs.declared.event.Event.{Event}
 use Rattle.tp_script.specs.declared.event.Event.TheVariants.{Jam, Off, Clock}
 use Rattle.tp_schedule.specs.Planning.{CanPlanOn, last_tick}
+use Rattle.tp_schedule.specs.Planning.Deed.{replied}
+use Rattle.tp_schedule.specs.declared.parts.Ask.{Ask}
 use Rattle.tp_schedule.specs.declared.parts.Plan.{Plan}
+use Rattle.tp_schedule.specs.declared.recording.Cause.{Cause}
+use Rattle.tp_schedule.specs.declared.recording.Record.{Record}
+use Rattle.tp_schedule.specs.declared.recording.Record.TheVariants.{Refused}
 use Rattle.tp_turn.specs.States.{SessionState}
 use Rattle.tp_turn.specs.Answering.{Answer}
 use Rattle.tp_turn.specs.Clock.{clock_move, released_until}
 use Rattle.tp_turn.specs.FallBacks.{Displaced, fall_back, job_break}
 use Rattle.tp_turn.specs.Fates.{Fate, befall, is_cut_by}
 use Rattle.tp_turn.specs.Keeping.{KeepsPlans, KeepsLines, KeepsSheets}
-use Rattle.tp_turn.specs.Loops.{after_one, after_answers}
+use Rattle.tp_turn.specs.Loops.{after_one, after_answers, next_ask}
 use Rattle.tp_turn.specs.Moments.{is_unstarted}
 use Rattle.tp_turn.specs.Outages.{outage}
-use Rattle.tp_turn.specs.Refusals.{job_refusal}
-use Rattle.tp_turn.specs.Turns.{with_job, with_on}
+use Rattle.tp_turn.specs.Planners.{PlannerSteps, AnswersInTurn}
+use Rattle.tp_turn.specs.Refusals.{job_refusal, refusal}
+use Rattle.tp_turn.specs.Turns.{Turn, with_job, with_on}
 
 -- one answer more at the end of the loop's list: the state after it, and what is told
 abbrev pub LoopStateGoesOn : Type 0
@@ -97,3 +103,35 @@ OnKeepsLines = (machine : Machine) (m : ℕ) (s : SessionState) → KeepsLines m
 
 abbrev pub OnKeepsSheets : Type 0
 OnKeepsSheets = (m : ℕ) (s : SessionState) → KeepsSheets s → KeepsSheets (with_on m s)
+
+-- Laws on a planner, by what is known of its steps.
+
+module _ {P : Type 0} (planner_steps : PlannerSteps P) (machine : Machine) where
+  -- one answer more at the end of the loop's list is given to the ask that is due then
+  abbrev pub LoopGoesOn : Type 0
+  LoopGoesOn = (answers : List Answer) (a : Answer) (ask : Ask) (s : SessionState) (first mid last : P)
+      → AnswersInTurn planner_steps machine s answers first mid
+      → next_ask machine (after_answers machine answers s).state ≡ Some ask
+      → planner_steps.does mid (after_answers machine answers s).state.plans (replied ask a.reply) a.plans last
+      → AnswersInTurn planner_steps machine s (answers ++ a ∷ []) first last
+
+  -- a refused event gives the one record of its cause, and nothing changes
+  abbrev pub RefusedChangesNothing : Type 0
+  RefusedChangesNothing = (event : Event) (s : SessionState) (planner : P) (records : List Record) (s' : SessionState) (planner' : P) (cause : Cause)
+      → refusal machine s event ≡ Some cause → Turn planner_steps machine event s planner records s' planner'
+      → (records ≡ Refused cause ∷ []) × (s' ≡ s) × (planner' ≡ planner)
+
+  -- what holds before a turn of such an event holds after it
+  abbrev pub TurnsKeep : (Event → Type 0) → (SessionState → Type 0) → Type 0
+  TurnsKeep Is Keeps = (event : Event) (s : SessionState) (planner : P) (records : List Record) (s' : SessionState) (planner' : P)
+      → Is event → Turn planner_steps machine event s planner records s' planner' → Keeps s → Keeps s'
+
+-- any event, any but one that makes a module go out, and any but a move of the clock
+abbrev pub IsAny : Event → Type 0
+IsAny event = Unit {0}
+
+abbrev pub IsNoOutage : Event → Type 0
+IsNoOutage event = IsFalse (is_outage event)
+
+abbrev pub IsNoClock : Event → Type 0
+IsNoClock event = IsFalse (is_clock event)

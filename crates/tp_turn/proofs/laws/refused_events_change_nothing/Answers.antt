@@ -3,5 +3,4 @@ use Rattle.tp_turn.specs.Planners.{right_steps}
 use Rattle.tp_turn.proofs.laws.refused_events_change_nothing.Goals as goal
 
 pub returns : goal.returns
-returns g c machine event s planner records s' planner' cause =
-    turn-refused (right_steps g.P.Planner.spent g.P.Planner.steps g.P.Planner.stop_steps machine) machine event s planner records s' planner' cause
+returns g c machine = turn-refused (right_steps g.P.Planner.spent g.P.Planner.steps g.P.Planner.stop_steps machine) machine
