@@ -21,6 +21,8 @@ pub mod PlannableTurns
 pub mod LawfulLogs
 pub mod EmptyState
 pub mod RefusedTurns
+pub mod Accepted
+pub mod AcceptedTurns
 pub mod Replayed
 pub mod TurnRows
 pub mod MovedClock

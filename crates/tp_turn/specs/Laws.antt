@@ -121,6 +121,11 @@ module _ {P : Type 0} (planner_steps : PlannerSteps P) (machine : Machine) where
       → refusal machine s event ≡ Some cause → Turn planner_steps machine event s planner records s' planner'
       → (records ≡ Refused cause ∷ []) × (s' ≡ s) × (planner' ≡ planner)
 
+  -- a refusal is told of a refused event alone, with its cause
+  abbrev pub RefusalsAreTold : Type 0
+  RefusalsAreTold = (event : Event) (s : SessionState) (planner : P) (records : List Record) (s' : SessionState) (planner' : P) (cause : Cause)
+      → Turn planner_steps machine event s planner records s' planner' → Contains records (Refused cause) → refusal machine s event ≡ Some cause
+
   -- what holds before a turn of such an event holds after it
   abbrev pub TurnsKeep : (Event → Type 0) → (SessionState → Type 0) → Type 0
   TurnsKeep Is Keeps = (event : Event) (s : SessionState) (planner : P) (records : List Record) (s' : SessionState) (planner' : P)

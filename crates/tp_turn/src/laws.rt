@@ -1,7 +1,8 @@
 // What holds of turns. The calls do nothing: their contracts are the laws.
 ghost use Rattle.tp_machine.specs.declared.whole.Machine.{Machine};
 ghost use Rattle.tp_turn.specs.Keeping.{KeepsState, IsLeastAt};
-ghost use Rattle.tp_turn.specs.Laws.{LoopStateGoesOn, LoopRecordsGoOn, LoopGoesOn, RefusedChangesNothing};
+ghost use Rattle.tp_turn.specs.Laws.{LoopStateGoesOn, LoopRecordsGoOn, LoopGoesOn};
+ghost use Rattle.tp_turn.specs.Laws.{RefusedChangesNothing, RefusalsAreTold};
 ghost use Rattle.tp_turn.specs.Laws.{TurnsKeep, IsAny, IsNoOutage, IsNoClock, IsPlannable};
 ghost use Rattle.tp_turn.specs.Laws.{FatesKeepPlanning, BreaksKeepPlanning, FallBacksKeepPlanning};
 ghost use Rattle.tp_turn.specs.Laws.{OutagesKeepPlanning, OutagesKeepMoment};
@@ -21,10 +22,12 @@ pub fn loop_goes_on<P: Planner>()
         → LoopGoesOn (right_steps P.spent P.steps P.stop_steps machine) machine }
 {}
 
-/// A refused event gives the one record of its cause, and state and planner stay.
+/// A refused event gives the one record of its cause, and state and planner stay. No other event is told refused.
 pub fn refused_events_change_nothing<P: Planner>()
-    ensures { (machine : Machine)
+    ensures nothing { (machine : Machine)
         → RefusedChangesNothing (right_steps P.spent P.steps P.stop_steps machine) machine }
+    ensures told { (machine : Machine)
+        → RefusalsAreTold (right_steps P.spent P.steps P.stop_steps machine) machine }
 {}
 
 /// After each turn of a planner the schedule can be planned on again: it is legal, past included, each unreleased start is
