@@ -1,5 +1,6 @@
 -- The front of a plan is what is left of it, and what befalls the copies leaves less of a schedule.
-use Rattle.std.proofs.Common.{◌≡◌, ℕ, zero, suc, ◌+◌, ◌<◌, ◌≤◌, Bool, true, false, cond, List, [], ◌∷◌, ◌++◌, length, take, filter, refl, arith, Option, Some, None, option_and_then, slice_index, nat_le}
+use Rattle.std.proofs.Common.{◌≡◌, ℕ, zero, suc, ◌+◌, ◌<◌, ◌≤◌, Bool, true, false, cond, List, [], ◌∷◌, ◌++◌, length, take, filter, refl, arith, Option, Some, None, option_and_then, slice_index, nat_le, ◌||◌, nat_lt}
+use Rattle.std.specs.List.{list_any}
 use Rattle.std.proofs.lemmas.Bool.Decides.{nat_tests}
 use Rattle.std.proofs.lemmas.List.{get_or-take, length-take-le, length-take}
 use Rattle.std.proofs.lemmas.List.Sums.{count_by-le-length, length-filter}
@@ -9,6 +10,7 @@ use Rattle.tp_machine.specs.declared.parts.Sheet.{Sheet}
 use Rattle.tp_machine.specs.declared.parts.State.{State}
 use Rattle.tp_machine.specs.declared.whole.Machine.{Machine}
 use Rattle.tp_schedule.specs.Holding.{Run, runs_of, runs_from, holds_at}
+use Rattle.tp_schedule.specs.Living.{is_live, is_held_after}
 use Rattle.tp_schedule.specs.Plans.{IsTimedPlan, point}
 use Rattle.tp_schedule.specs.Routes.{walk, step_by}
 use Rattle.tp_schedule.specs.declared.parts.Goal.{Goal}
@@ -87,12 +89,47 @@ IsTimedPlan-cut_after machine n goal p some within timed =
       ends = tt;
     }
 
+-- a front is live only where the plan was
+any-take : (test : ℕ → Bool) (k : ℕ) (xs : List ℕ) → list_any test (take k xs) ≡ true → list_any test xs ≡ true
+any-take test zero xs e = absurd (cc)
+any-take test (suc k) [] e = e
+any-take test (suc k) (x ∷ xs) e = go (test x) e (any-take test k xs) where
+  go : (b : Bool) → (b || list_any test (take k xs)) ≡ true → (list_any test (take k xs) ≡ true → list_any test xs ≡ true) → (b || list_any test xs) ≡ true
+  go true e rest = refl
+  go false e rest = rest e
+
+any-runs : (test : Run → Bool) (runs runs' : List Run) → length (filter test runs') ≤ length (filter test runs) → list_any test runs' ≡ true → list_any test runs ≡ true
+any-runs test runs runs' few e =
+    let some = some-pass runs' e in none-pass runs (omega arith) where
+      some-pass : (runs : List Run) → list_any test runs ≡ true → 1 ≤ length (filter test runs)
+      some-pass [] e = absurd (cc)
+      some-pass (r ∷ runs) e = go (test r) e (some-pass runs) where
+        go : (b : Bool) → (b || list_any test runs) ≡ true → (list_any test runs ≡ true → 1 ≤ length (filter test runs)) → 1 ≤ length (cond b (r ∷ filter test runs) (filter test runs))
+        go true e rest = omega arith
+        go false e rest = rest e
+
+      none-pass : (runs : List Run) → 1 ≤ length (filter test runs) → list_any test runs ≡ true
+      none-pass [] some = absurd (omega arith)
+      none-pass (r ∷ runs) some = go (test r) some (none-pass runs) where
+        go : (b : Bool) → 1 ≤ length (cond b (r ∷ filter test runs) (filter test runs)) → (1 ≤ length (filter test runs) → list_any test runs ≡ true) → (b || list_any test runs) ≡ true
+        go true some rest = refl
+        go false some rest = rest some
+
+live-cut : (machine : Machine) (now n : ℕ) (goal : Goal) (p : Plan) → is_live machine now (cut_after n goal p) ≡ true → is_live machine now p ≡ true
+live-cut machine now n goal p e = go (list_any (nat_lt now) (take (n + 1) p.points)) refl (list_any (nat_lt now) p.points) refl e where
+  go : (b : Bool) → list_any (nat_lt now) (take (n + 1) p.points) ≡ b → (c : Bool) → list_any (nat_lt now) p.points ≡ c
+      → (b || list_any (is_held_after machine now) (runs_from p.sheet 1 (take n p.acts) (take (n + 1) p.points))) ≡ true → (c || list_any (is_held_after machine now) (runs_of p)) ≡ true
+  go b f true g e = refl
+  go true f false g e = absurd (let h = any-take (nat_lt now) (n + 1) p.points f in cc)
+  go false f false g e = any-runs (is_held_after machine now) (runs_of p) (runs_from p.sheet 1 (take n p.acts) (take (n + 1) p.points)) (runs-take (is_held_after machine now) p.sheet 1 n (n + 1) p.acts p.points) e
+
 pub IsLeft-cut_after : (machine : Machine) (n : ℕ) (goal : Goal) (p : Plan) → (IsTimedPlan machine p → (1 ≤ n) × (n ≤ length p.acts)) → IsLeft machine p (cut_after n goal p)
 IsLeft-cut_after machine n goal p range = record {
   sheet = refl;
   timed = λ timed. IsTimedPlan-cut_after machine n goal p (range timed).0 (range timed).1 timed;
   holds = λ resource tick. runs-take (holds_at machine resource tick) p.sheet 1 n (n + 1) p.acts p.points;
   delivered = λ tray to. absurd (cc);
+  live = λ now e. live-cut machine now n goal p e;
   unreleased = λ i released within. absurd (let count = length-take n p.acts in omega arith);
   unfixed = λ i within not_fixed. absurd (cc);
 }

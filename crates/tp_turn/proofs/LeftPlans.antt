@@ -1,13 +1,15 @@
 -- A schedule of which less is left: plans are gone, and others hold no more than before and are delivered as before. Such a
 -- schedule is legal where the first one is, and keeps floors and horizon.
-use Rattle.std.proofs.Common.{◌≡◌, ℕ, ◌+◌, ◌<◌, ◌≤◌, List, [], ◌∷◌, length, filter, refl, sym, arith, All, AllPairs, Contains, IsTrue, subst, inl, inr}
+use Rattle.std.proofs.Common.{◌≡◌, ℕ, ◌+◌, ◌<◌, ◌≤◌, List, [], ◌∷◌, length, filter, refl, sym, arith, All, AllPairs, Contains, IsTrue, subst, inl, inr, Bool, true, false, cond, ◌∙◌}
 use Rattle.std.specs.Prelude.{IsFalse}
 use Rattle.std.proofs.lemmas.List.{length-append, length-map}
 use Rattle.std.proofs.lemmas.List.Elements.{All-nil, All-cons, All-head, All-tail, filter-append}
+use Rattle.std.proofs.lemmas.List.Sums.{length-filter}
 use Rattle.tp_machine.specs.declared.whole.Machine.{Machine}
 use Rattle.tp_schedule.specs.Answers.{KeepsFloors, KeepsHorizon}
 use Rattle.tp_schedule.specs.Holding.{runs, runs_of, held, hold_of, holds_at}
 use Rattle.tp_schedule.specs.Legality.{IsLegal, EndsBefore}
+use Rattle.tp_schedule.specs.Living.{is_live, live_count}
 use Rattle.tp_schedule.specs.Planning.{none_exempt}
 use Rattle.tp_schedule.specs.Plans.{IsTimedPlan, IsEarlier, is_before, is_fixed, is_delivered_to, end_of_plan, point}
 use Rattle.tp_schedule.specs.declared.parts.Plan.{Plan}
@@ -19,6 +21,7 @@ pub record IsLeft (machine : Machine) (p p' : Plan) : Type 0 where
   pub timed : IsTimedPlan machine p → IsTimedPlan machine p'
   pub holds : (resource tick : ℕ) → length (filter (holds_at machine resource tick) (runs_of p')) ≤ length (filter (holds_at machine resource tick) (runs_of p))
   pub delivered : (tray : ℕ) → IsTrue (is_delivered_to p' tray) → IsTrue (is_delivered_to p tray) × (end_of_plan p' ≡ end_of_plan p)
+  pub live : (now : ℕ) → is_live machine now p' ≡ true → is_live machine now p ≡ true
   pub unreleased : (i : ℕ) → p'.released ≤ i → i < length p'.acts → (p.released ≤ i) × (i < length p.acts) × (point p' i ≡ point p i)
   pub unfixed : (i : ℕ) → i ≤ length p'.acts → IsFalse (is_fixed p' i) → (i ≤ length p.acts) × IsFalse (is_fixed p i) × (point p' i ≡ point p i)
 
@@ -119,6 +122,7 @@ IsLeft-refl machine p = record {
   timed = λ t. t;
   holds = λ resource tick. omega arith;
   delivered = λ tray to. (to, refl);
+  live = λ now e. e;
   unreleased = λ i released within. (released, within, refl);
   unfixed = λ i within not_fixed. (within, not_fixed, refl);
 }
@@ -126,3 +130,43 @@ IsLeft-refl machine p = record {
 pub AreLeft-refl : (machine : Machine) (plans : List Plan) → AreLeft machine plans plans
 AreLeft-refl machine [] = none
 AreLeft-refl machine (p ∷ plans) = more p p plans plans (IsLeft-refl machine p) (AreLeft-refl machine plans)
+
+-- what is left of what is left
+pub IsLeft-trans : (machine : Machine) (p q r : Plan) → IsLeft machine p q → IsLeft machine q r → IsLeft machine p r
+IsLeft-trans machine p q r left left' = record {
+  sheet = left'.sheet ∙ left.sheet;
+  timed = λ timed. left'.timed (left.timed timed);
+  holds = λ resource tick. let one = left.holds resource tick in let other = left'.holds resource tick in omega arith;
+  delivered = λ tray to. let one = left'.delivered tray to in let other = left.delivered tray one.0 in (other.0, one.1 ∙ other.1);
+  live = λ now e. left.live now (left'.live now e);
+  unreleased = λ i released within. let one = left'.unreleased i released within in let other = left.unreleased i one.0 one.1 in (other.0, other.1, one.2 ∙ other.2);
+  unfixed = λ i within not_fixed. let one = left'.unfixed i within not_fixed in let other = left.unfixed i one.0 one.1 in (other.0, other.1, one.2 ∙ other.2);
+}
+
+pub AreLeft-trans : (machine : Machine) (ps qs rs : List Plan) → AreLeft machine ps qs → AreLeft machine qs rs → AreLeft machine ps rs
+AreLeft-trans machine _ _ rs none left = left
+AreLeft-trans machine _ _ rs (gone p ps qs rest) left = gone p ps rs (AreLeft-trans machine ps qs rs rest left)
+AreLeft-trans machine _ _ _ (more p q ps qs one rest) (gone _ _ rs rest') = gone p ps rs (AreLeft-trans machine ps qs rs rest rest')
+AreLeft-trans machine _ _ _ (more p q ps qs one rest) (more _ r _ rs other rest') = more p r ps rs (IsLeft-trans machine p q r one other) (AreLeft-trans machine ps qs rs rest rest')
+
+-- no more are live
+pub live_count-left : (machine : Machine) (now : ℕ) (plans plans' : List Plan) → AreLeft machine plans plans' → live_count machine now plans' ≤ live_count machine now plans
+live_count-left machine now plans plans' left =
+    let fewer = filtered plans plans' left in
+    let one = length-filter (is_live machine now) plans in
+    let other = length-filter (is_live machine now) plans' in
+    omega arith where
+      filtered : (plans plans' : List Plan) → AreLeft machine plans plans' → length (filter (is_live machine now) plans') ≤ length (filter (is_live machine now) plans)
+      filtered _ _ none = omega arith
+      filtered _ _ (gone p plans plans' rest) = go (is_live machine now p) (filtered plans plans' rest) where
+        go : (b : Bool) → length (filter (is_live machine now) plans') ≤ length (filter (is_live machine now) plans)
+            → length (filter (is_live machine now) plans') ≤ length (cond b (p ∷ filter (is_live machine now) plans) (filter (is_live machine now) plans))
+        go true few = omega arith
+        go false few = few
+      filtered _ _ (more p p' plans plans' one rest) = go (is_live machine now p') refl (is_live machine now p) refl (filtered plans plans' rest) where
+        go : (b : Bool) → is_live machine now p' ≡ b → (c : Bool) → is_live machine now p ≡ c → length (filter (is_live machine now) plans') ≤ length (filter (is_live machine now) plans)
+            → length (cond b (p' ∷ filter (is_live machine now) plans') (filter (is_live machine now) plans')) ≤ length (cond c (p ∷ filter (is_live machine now) plans) (filter (is_live machine now) plans))
+        go true e true f few = omega arith
+        go true e false f few = absurd (let live = one.live now e in cc)
+        go false e true f few = omega arith
+        go false e false f few = few

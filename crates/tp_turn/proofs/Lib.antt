@@ -15,7 +15,7 @@ pub mod LeftPlans
 pub mod CutPlans
 pub mod ReleasedPlans
 pub mod PlanOnFacts
-pub mod PlannableOutages
+pub mod LessOutages
 pub mod SameMoment
 pub mod PlannableTurns
 pub mod LawfulLogs

@@ -38,7 +38,7 @@ use Rattle.tp_turn.specs.Turns.{Begins, Accepts}
 use Rattle.tp_turn.proofs.LeftPlans.{IsLegal-left, KeepsHorizon-left}
 use Rattle.tp_turn.proofs.PlanOnFacts.{CanPlanOn-left, CanPlanOn-clock, Contains-change_plan, IsLeft-to_purge}
 use Rattle.tp_turn.specs.Laws.{IsAny, IsPlannable, TurnsKeep}
-use Rattle.tp_turn.proofs.PlannableOutages.{plannable-fall_back, plannable-outage}
+use Rattle.tp_turn.proofs.LessOutages.{fall_backs_keep_planning, outages_keep_planning}
 use Rattle.tp_turn.proofs.SameMoment.{now-answers}
 use Rattle.tp_turn.proofs.ReleasedPlans.{AreLeft-change_plan, IsLeft-release, released-below}
 use Rattle.tp_turn.proofs.ListFacts.{find-Some}
@@ -102,10 +102,10 @@ plannable-planned machine s ask plans same can a =
 -- the copy gives its tray up, or gets stuck
 plannable-not_planned : (machine : Machine) (s : SessionState) (ask : Ask) (goal : Goal) → next_ask machine s ≡ Some ask → IsPlannable machine s → IsPlannable machine (not_planned machine ask goal s).state
 plannable-not_planned machine s ask (Tray t) e can =
-    plannable-fall_back machine (record s { plans = change_plan ask.sheet to_purge s.plans }) (record { sheet = ask.sheet; want = ask.want; again = true })
+    fall_backs_keep_planning machine (record s { plans = change_plan ask.sheet to_purge s.plans }) (record { sheet = ask.sheet; want = ask.want; again = true })
     (CanPlanOn-left machine s.now s.plans (change_plan ask.sheet to_purge s.plans)
     (AreLeft-change_plan machine ask.sheet to_purge s.plans (λ q in' same. IsLeft-to_purge machine q (asked-front machine s ask e can.legal.in_order q in' same))) can)
-plannable-not_planned machine s ask Purge e can = plannable-outage machine _ true s can
+plannable-not_planned machine s ask Purge e can = outages_keep_planning machine _ true s can
 
 asked-now : (machine : Machine) (s : SessionState) (ask : Ask) → next_ask machine s ≡ Some ask → ask.now ≡ s.now
 asked-now machine s ask e = ap (λ (a : Ask). a.now) (sym (asked machine s ask e).is)
@@ -193,8 +193,8 @@ module _ {P : Type 0} (steps : PlannerSteps P) (machine : Machine) (spent : P �
   plannable-begins (NewJob name tray media groups) s p records s' p' accepted begins can = subst (IsPlannable machine) (sym begins.1) can
   plannable-begins (Clock to) s p records s' p' accepted begins can =
       subst (IsPlannable machine) (sym begins.1) (CanPlanOn-clock machine s.now to s.plans (accepted-clock s.now to accepted).0 (accepted-clock s.now to accepted).1 can)
-  plannable-begins (Jam name) s p records s' p' accepted (m, known, out) can = plannable-loop (outage machine m true s).state p out.rest s' p' out.loop (plannable-outage machine m true s can)
-  plannable-begins (Off name) s p records s' p' accepted (m, known, out) can = plannable-loop (outage machine m false s).state p out.rest s' p' out.loop (plannable-outage machine m false s can)
+  plannable-begins (Jam name) s p records s' p' accepted (m, known, out) can = plannable-loop (outage machine m true s).state p out.rest s' p' out.loop (outages_keep_planning machine m true s can)
+  plannable-begins (Off name) s p records s' p' accepted (m, known, out) can = plannable-loop (outage machine m false s).state p out.rest s' p' out.loop (outages_keep_planning machine m false s can)
   plannable-begins (On name) s p records s' p' accepted (m, known, told, is, same) can = subst (IsPlannable machine) (sym is) can
 
   -- a whole turn

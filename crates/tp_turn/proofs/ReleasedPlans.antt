@@ -66,6 +66,7 @@ IsLeft-release machine last p = record {
   timed = λ timed. IsTimedPlan-release machine last p timed;
   holds = λ resource tick. omega arith;
   delivered = λ tray to. (to, refl);
+  live = λ now e. e;
   unreleased = λ i released within. (omega arith, within, refl);
   unfixed = λ i within e. (within, not_fixed (is_front p.kind) p.released (length (due_until last p)) i e, refl);
 }

@@ -4,6 +4,7 @@ use Rattle.tp_machine.specs.declared.whole.Machine.{Machine}
 use Rattle.tp_script.specs.Form.{GroupForm}
 use Rattle.tp_script.specs.declared.event.Event.{Event}
 use Rattle.tp_script.specs.declared.event.Event.TheVariants.{Jam, Off, Clock}
+use Rattle.tp_schedule.specs.Living.{live_count}
 use Rattle.tp_schedule.specs.Planning.{CanPlanOn, last_tick}
 use Rattle.tp_schedule.specs.Planning.Deed.{replied}
 use Rattle.tp_schedule.specs.declared.parts.Ask.{Ask}
@@ -57,6 +58,10 @@ OutagesKeepPlanning = (machine : Machine) (m : ℕ) (jam : Bool) (s : SessionSta
 
 abbrev pub OutagesKeepMoment : Type 0
 OutagesKeepMoment = (machine : Machine) (m : ℕ) (jam : Bool) (s : SessionState) → (outage machine m jam s).state.now ≡ s.now
+
+abbrev pub OutagesKeepLive : Type 0
+OutagesKeepLive = (machine : Machine) (m : ℕ) (jam : Bool) (s : SessionState)
+    → live_count machine (outage machine m jam s).state.now (outage machine m jam s).state.plans ≤ live_count machine s.now s.plans
 
 -- a move of the clock: the schedule can be planned on at the new moment
 abbrev pub ClockKeepsPlanning : Type 0

@@ -5,7 +5,7 @@ ghost use Rattle.tp_turn.specs.Laws.{LoopStateGoesOn, LoopRecordsGoOn, LoopGoesO
 ghost use Rattle.tp_turn.specs.Laws.{RefusedChangesNothing, RefusalsAreTold};
 ghost use Rattle.tp_turn.specs.Laws.{TurnsKeep, IsAny, IsNoOutage, IsNoClock, IsPlannable};
 ghost use Rattle.tp_turn.specs.Laws.{FatesKeepPlanning, BreaksKeepPlanning, FallBacksKeepPlanning};
-ghost use Rattle.tp_turn.specs.Laws.{OutagesKeepPlanning, OutagesKeepMoment};
+ghost use Rattle.tp_turn.specs.Laws.{OutagesKeepPlanning, OutagesKeepMoment, OutagesKeepLive};
 ghost use Rattle.tp_turn.specs.Laws.{ClockKeepsPlanning, ClockKeepsPlans, ClockKeepsLines, ClockKeepsSheets};
 ghost use Rattle.tp_turn.specs.Laws.{JobKeepsPlans, JobKeepsLines, JobKeepsSheets};
 ghost use Rattle.tp_turn.specs.Laws.{OnKeepsPlans, OnKeepsLines, OnKeepsSheets};
@@ -48,13 +48,15 @@ pub fn turns_keep_state<P: Planner>()
         → TurnsKeep (right_steps P.spent P.steps P.stop_steps machine) machine IsNoClock (IsLeastAt machine) }
 {}
 
-/// What befalls copies, a break, a fall-back and an outage leave a schedule that can be planned on at the same moment.
+/// What befalls copies, a break, a fall-back and an outage leave a schedule that can be planned on at the same moment. No more
+/// copies are live after an outage than before.
 pub fn outages_keep_planning()
     ensures fates { FatesKeepPlanning }
     ensures breaks { BreaksKeepPlanning }
     ensures fall_backs { FallBacksKeepPlanning }
     ensures outages { OutagesKeepPlanning }
     ensures moment { OutagesKeepMoment }
+    ensures live { OutagesKeepLive }
 {}
 
 /// A move of the clock keeps planning, plans, lines and sheets.
