@@ -65,7 +65,8 @@ OutagesKeepLive = (machine : Machine) (m : ℕ) (jam : Bool) (s : SessionState)
 
 -- a move of the clock: the schedule can be planned on at the new moment
 abbrev pub ClockKeepsPlanning : Type 0
-ClockKeepsPlanning = (machine : Machine) (now to : ℕ) (plans : List Plan) → now ≤ to → to ≤ last_tick → CanPlanOn machine now plans → CanPlanOn machine to (released_until machine to plans)
+ClockKeepsPlanning = (machine : Machine) (now to : ℕ) (plans : List Plan) → now ≤ to → to ≤ last_tick
+    → CanPlanOn machine now plans → CanPlanOn machine to (released_until machine to plans)
 
 abbrev pub ClockKeepsLines : Type 0
 ClockKeepsLines = (machine : Machine) (to : ℕ) (s : SessionState) → KeepsLines machine s → KeepsLines machine (clock_move machine to s).state
@@ -74,16 +75,19 @@ abbrev pub ClockKeepsSheets : Type 0
 ClockKeepsSheets = (machine : Machine) (to : ℕ) (s : SessionState) → KeepsSheets s → KeepsSheets (clock_move machine to s).state
 
 abbrev pub ClockKeepsPlans : Type 0
-ClockKeepsPlans = (machine : Machine) (to : ℕ) (s : SessionState) → s.now ≤ to → to ≤ last_tick → KeepsPlans machine s → KeepsPlans machine (clock_move machine to s).state
+ClockKeepsPlans = (machine : Machine) (to : ℕ) (s : SessionState) → s.now ≤ to → to ≤ last_tick
+    → KeepsPlans machine s → KeepsPlans machine (clock_move machine to s).state
 
 -- a new job that is not refused
 abbrev pub JobKeepsPlans : Type 0
 JobKeepsPlans = (machine : Machine) (name tray media : List ℕ) (groups : List GroupForm) (s : SessionState)
-    → job_refusal machine s.jobs (length s.waiting) name tray media groups ≡ None → KeepsPlans machine s → KeepsPlans machine (with_job machine name tray media groups s)
+    → job_refusal machine s.jobs (length s.waiting) name tray media groups ≡ None
+    → KeepsPlans machine s → KeepsPlans machine (with_job machine name tray media groups s)
 
 abbrev pub JobKeepsLines : Type 0
 JobKeepsLines = (machine : Machine) (name tray media : List ℕ) (groups : List GroupForm) (s : SessionState)
-    → job_refusal machine s.jobs (length s.waiting) name tray media groups ≡ None → KeepsLines machine s → KeepsLines machine (with_job machine name tray media groups s)
+    → job_refusal machine s.jobs (length s.waiting) name tray media groups ≡ None
+    → KeepsLines machine s → KeepsLines machine (with_job machine name tray media groups s)
 
 abbrev pub JobKeepsSheets : Type 0
 JobKeepsSheets = (machine : Machine) (name tray media : List ℕ) (groups : List GroupForm) (s : SessionState)
