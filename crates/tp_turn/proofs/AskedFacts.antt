@@ -67,7 +67,7 @@ negated' false e = refl
 -- a copy that waits is planned, and all others of its line that wait stand behind it
 pub record IsAskedFirst (machine : Machine) (s : SessionState) (w : WaitingCopy) (plans' : List Plan) : Type 0 where
   pub a : IsAlternative machine s.plans (ask_waiting s w) plans'
-  pub keeps : KeepsLines machine s
+  pub keeps : KeepsLines s
   pub here : Contains s.waiting w
   pub behind : (v : WaitingCopy) → Contains s.waiting v → is_same_line s.jobs v.sheet w.sheet ≡ true → is_same_copy v.sheet w.sheet ≡ false → is_before w.sheet v.sheet ≡ true
 

@@ -122,10 +122,8 @@ module _ (machine : Machine) (s : SessionState) (w : WaitingCopy) (plans' : List
             let same : ((tray_of s.jobs w.sheet).0 == (tray_of s.jobs w.sheet).0) ≡ true = grind (arith, nat_tests) in
             rw (e, e', e'') (rw (mine-known machine s w plans' f, bytes_eq-same (job_name s.jobs w.sheet.job)) same)
 
-  pub lines-asked : KeepsLines machine (planned_waiting s w plans')
+  pub lines-asked : KeepsLines (planned_waiting s w plans')
   lines-asked = record {
-    trays = f.keeps.trays;
-    names = f.keeps.names;
     in_order = AllPairs-filter (λ v u. is_before v.sheet u.sheet ≡ true) (λ v. not (is_same_copy v.sheet w.sheet)) s.waiting f.keeps.in_order;
     waiting_known = All-filter (λ v. not (is_same_copy v.sheet w.sheet)) (λ v. IsTrue (is_known s.jobs v.sheet)) s.waiting f.keeps.waiting_known;
     unplanned = unplanned-asked;

@@ -118,7 +118,7 @@ module _ {P : Type 0} (steps : PlannerSteps P) (machine : Machine) (spent : P �
       → is_passed_over s passed w ≡ false → is_full machine s ≡ false → IsRest s passed (w ∷ ws) → KeepsState machine s → KeepsState machine (planned_waiting s w plans)
   kept-planned p s passed w ws plans answer not_over free r kept =
       let f : IsAskedFirst machine s w plans = record { a = answer.0.alternative; keeps = kept.lines; here = All-head (Contains s.waiting) w ws r.wait; behind = first-of_line machine s passed w ws not_over r } in
-      record { plans = plans-asked machine s w plans f kept.plans free; lines = lines-asked machine s w plans f; sheets = sheets-asked machine s w plans f kept.sheets }
+      record { jobs = kept.jobs; plans = plans-asked machine s w plans f kept.plans free; lines = lines-asked machine s w plans f; sheets = sheets-asked machine s w plans f kept.sheets }
 
   kept-reply : (p : P) (s : SessionState) (passed : List ℕ) (w : WaitingCopy) (ws : List WaitingCopy) (reply : Reply) (plans : List Plan) → IsAnswer (spent p) machine s.plans (ask_waiting s w) reply plans
       → is_passed_over s passed w ≡ false → is_full machine s ≡ false → IsRest s passed (w ∷ ws)
@@ -165,5 +165,5 @@ module _ {P : Type 0} (steps : PlannerSteps P) (machine : Machine) (spent : P �
             λ kept. answered reply plans mid rest next step.0 (step.1 kept)
 
   -- at the beginning all that wait are to be taken
-  pub rest-all : (s : SessionState) → KeepsLines machine s → IsRest s [] s.waiting
+  pub rest-all : (s : SessionState) → KeepsLines s → IsRest s [] s.waiting
   rest-all s lines = record { wait = All-contains_itself s.waiting; in_order = lines.in_order; others = λ v in'. inl in' }

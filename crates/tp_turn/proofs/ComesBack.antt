@@ -76,10 +76,8 @@ plans-on machine m s keeps = record {
   clear = list_all_mono (is_clear machine s) (is_clear machine (with_on m s)) (clear-on machine m s) s.plans keeps.clear;
 }
 
-pub lines-on : (machine : Machine) (m : ℕ) (s : SessionState) → KeepsLines machine s → KeepsLines machine (with_on m s)
+pub lines-on : (machine : Machine) (m : ℕ) (s : SessionState) → KeepsLines s → KeepsLines (with_on m s)
 lines-on machine m s keeps = record {
-  trays = keeps.trays;
-  names = keeps.names;
   in_order = keeps.in_order;
   waiting_known = keeps.waiting_known;
   unplanned = keeps.unplanned;

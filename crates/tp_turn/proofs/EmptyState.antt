@@ -17,10 +17,12 @@ pub kept-empty : (machine : Machine) → KeepsState machine empty_state
 kept-empty machine =
     let can = plannable-empty machine in
     record {
-      plans = record { legal = can.legal; floors = can.floors; horizon = can.horizon; few_live = omega arith; few_open = omega arith; clear = refl };
-      lines = record {
+      jobs = record {
         trays = All-nil (λ (j : Job). Contains machine.trays j.tray);
         names = AllPairs-nil (λ (i j : Job). i.name ≢ j.name);
+      };
+      plans = record { legal = can.legal; floors = can.floors; horizon = can.horizon; few_live = omega arith; few_open = omega arith; clear = refl };
+      lines = record {
         in_order = AllPairs-nil (λ (v w : WaitingCopy). IsTrue (is_before v.sheet w.sheet));
         waiting_known = All-nil (λ (w : WaitingCopy). IsTrue (is_known [] w.sheet));
         unplanned = All-nil (λ (w : WaitingCopy). IsFalse (is_planned_among [] w.sheet));

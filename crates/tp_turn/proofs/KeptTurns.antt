@@ -21,7 +21,7 @@ use Rattle.tp_turn.proofs.ComesBack.{plans-on, lines-on, sheets-on}
 use Rattle.tp_turn.proofs.FirstCopies.{accepted-job}
 use Rattle.tp_turn.proofs.MovedClock.{lines-clock, sheets-clock}
 use Rattle.tp_turn.proofs.MovedPlans.{plans-clock}
-use Rattle.tp_turn.proofs.NewJob.{lines-job}
+use Rattle.tp_turn.proofs.NewJob.{jobs-job, lines-job}
 use Rattle.tp_turn.proofs.NewSheets.{plans-job, sheets-job}
 use Rattle.tp_turn.proofs.PlannableTurns.{accepted-clock}
 
@@ -33,6 +33,7 @@ module _ {P : Type 0} (steps : PlannerSteps P) (machine : Machine) (spent : P â†
   kept-begins (NewJob name tray media groups) s p records s' p' calm accepted begins kept =
       let ok = accepted-job machine s.jobs _ name tray media groups accepted in
       subst (KeepsState machine) (sym begins.1) (record {
+        jobs = jobs-job machine name tray media groups s ok kept.jobs;
         plans = plans-job machine name tray media groups s ok kept.plans;
         lines = lines-job machine name tray media groups s ok kept.lines;
         sheets = sheets-job machine name tray media groups s kept.lines kept.sheets;
@@ -40,6 +41,7 @@ module _ {P : Type 0} (steps : PlannerSteps P) (machine : Machine) (spent : P â†
   kept-begins (Clock to) s p records s' p' calm accepted begins kept =
       let range = accepted-clock s.now to accepted in
       subst (KeepsState machine) (sym begins.1) (record {
+        jobs = kept.jobs;
         plans = plans-clock machine to s range.0 range.1 kept.plans;
         lines = lines-clock machine to s kept.lines;
         sheets = sheets-clock machine to s kept.sheets;
@@ -47,7 +49,7 @@ module _ {P : Type 0} (steps : PlannerSteps P) (machine : Machine) (spent : P â†
   kept-begins (Jam name) s p records s' p' calm accepted begins kept = absurd (cc)
   kept-begins (Off name) s p records s' p' calm accepted begins kept = absurd (cc)
   kept-begins (On name) s p records s' p' calm accepted (m, known, told, is, same) kept =
-      subst (KeepsState machine) (sym is) (record { plans = plans-on machine m s kept.plans; lines = lines-on machine m s kept.lines; sheets = sheets-on m s kept.sheets })
+      subst (KeepsState machine) (sym is) (record { jobs = kept.jobs; plans = plans-on machine m s kept.plans; lines = lines-on machine m s kept.lines; sheets = sheets-on m s kept.sheets })
 
   pub kept-turn : TurnsKeep steps machine IsNoOutage (KeepsState machine)
   kept-turn event s p records s' p' calm turn kept = go (refusal machine s event) refl turn where

@@ -27,12 +27,10 @@ module _ (last : ℕ) where
   planned-released : (plans : List Plan) (copy : SheetId) → is_planned_among (map (release_until last) plans) copy ≡ is_planned_among plans copy
   planned-released plans copy = list_any-map_same (λ p. is_same_copy p.sheet copy) (release_until last) (λ p. refl) plans
 
-pub lines-clock : (machine : Machine) (to : ℕ) (s : SessionState) → KeepsLines machine s → KeepsLines machine (clock_move machine to s).state
+pub lines-clock : (machine : Machine) (to : ℕ) (s : SessionState) → KeepsLines s → KeepsLines (clock_move machine to s).state
 lines-clock machine to s keeps =
     let last = to + machine.lead in
     record {
-      trays = keeps.trays;
-      names = keeps.names;
       in_order = keeps.in_order;
       waiting_known = keeps.waiting_known;
       unplanned = All-weaker (λ w. IsFalse (is_planned_among s.plans w.sheet)) (λ w. IsFalse (is_planned_among (released_until machine to s.plans) w.sheet))

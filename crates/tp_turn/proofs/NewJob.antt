@@ -17,7 +17,7 @@ use Rattle.tp_schedule.specs.Plans.{is_before, is_same_copy}
 use Rattle.tp_schedule.specs.declared.parts.Plan.{Plan}
 use Rattle.tp_schedule.specs.declared.parts.SheetId.{SheetId}
 use Rattle.tp_script.specs.Form.{GroupForm}
-use Rattle.tp_turn.specs.Keeping.{KeepsLines, StandsBehind, is_planned_among, is_known, is_own_goal, is_of_its_job, tray_plans, is_same_sheet}
+use Rattle.tp_turn.specs.Keeping.{KeepsJobs, KeepsLines, StandsBehind, is_planned_among, is_known, is_own_goal, is_of_its_job, tray_plans, is_same_sheet}
 use Rattle.tp_turn.specs.Labels.{job_name}
 use Rattle.tp_turn.specs.Lines.{tray_of, tray_in, is_same_line}
 use Rattle.tp_turn.specs.Moments.{is_tray_plan}
@@ -139,19 +139,13 @@ sheets-more jobs news old planned are apart known known' pairs =
     (λ w e. All-map (Apart w.sheet) (λ p. p.sheet) planned (All-weaker (λ p. is_known jobs p.sheet ≡ true) (λ p. Apart w.sheet p.sheet) (λ p k. later-other jobs p.sheet w.sheet k e) planned known')) news are))))
 
 pub lines-job : (machine : Machine) (name tray media : List ℕ) (groups : List GroupForm) (s : SessionState) → IsAccepted machine s.jobs (length s.waiting) name tray groups
-    → KeepsLines machine s → KeepsLines machine (with_job machine name tray media groups s)
+    → KeepsLines s → KeepsLines (with_job machine name tray media groups s)
 lines-job machine name tray media groups s ok keeps =
     let firsts-of : All (λ w. w.sheet.job ≡ length s.jobs) (firsts (length s.jobs) media groups) =
     All-weaker (IsFirstCopy (length s.jobs) 1 (1 + sheet_count groups)) (λ w. w.sheet.job ≡ length s.jobs) (λ w is. is.of_job) (firsts (length s.jobs) media groups) (firsts-are (length s.jobs) media groups) in
     let plans : All (λ p. is_known s.jobs p.sheet ≡ true) s.plans = known-plans s.jobs s.plans keeps.plans_known in
     let tray_known : All (λ p. is_known s.jobs p.sheet ≡ true) (tray_plans s.plans) = All-filter is_tray_plan (λ p. is_known s.jobs p.sheet ≡ true) s.plans plans in
     record {
-      trays = All-append (λ j. Contains machine.trays j.tray) s.jobs (new_job machine name tray groups ∷ []) keeps.trays
-          (All-cons (λ j. Contains machine.trays j.tray) (new_job machine name tray groups) [] (new-tray machine tray ok.is_tray) (All-nil (λ j. Contains machine.trays j.tray)));
-      names = AllPairs-append (λ i j. i.name ≢ j.name) s.jobs (new_job machine name tray groups ∷ []) keeps.names
-          (AllPairs-cons (λ i j. i.name ≢ j.name) (new_job machine name tray groups) [] (All-nil (λ j. name ≢ j.name)) (AllPairs-nil (λ i j. i.name ≢ j.name)))
-          (All-weaker (λ j. j.name ≢ name) (λ j. All (λ i. j.name ≢ i.name) (new_job machine name tray groups ∷ []))
-          (λ j differ. All-cons (λ i. j.name ≢ i.name) (new_job machine name tray groups) [] differ (All-nil (λ i. j.name ≢ i.name))) s.jobs (new-name s.jobs name ok.is_new));
       in_order = AllPairs-append (λ v w. IsTrue (is_before v.sheet w.sheet)) s.waiting (firsts (length s.jobs) media groups) keeps.in_order
           (AllPairs-first_copies (λ v w. IsTrue (is_before v.sheet w.sheet)) (λ v w. before-numbers v.sheet w.sheet) (length s.jobs) 1 (sheets_of media groups))
           (All-weaker (Known s.jobs) (λ v. All (λ w. IsTrue (is_before v.sheet w.sheet)) (firsts (length s.jobs) media groups))
@@ -178,3 +172,14 @@ lines-job machine name tray media groups s ok keeps =
       plans_known = All-weaker (λ p. IsTrue (is_of_its_job s.jobs p)) (λ p. IsTrue (is_of_its_job (s.jobs ++ new_job machine name tray groups ∷ []) p)) (own-more s.jobs (new_job machine name tray groups)) s.plans keeps.plans_known;
       fronts = keeps.fronts;
     }
+
+pub jobs-job : (machine : Machine) (name tray media : List ℕ) (groups : List GroupForm) (s : SessionState) → IsAccepted machine s.jobs (length s.waiting) name tray groups
+    → KeepsJobs machine s.jobs → KeepsJobs machine (with_job machine name tray media groups s).jobs
+jobs-job machine name tray media groups s ok keeps = record {
+  trays = All-append (λ j. Contains machine.trays j.tray) s.jobs (new_job machine name tray groups ∷ []) keeps.trays
+      (All-cons (λ j. Contains machine.trays j.tray) (new_job machine name tray groups) [] (new-tray machine tray ok.is_tray) (All-nil (λ j. Contains machine.trays j.tray)));
+  names = AllPairs-append (λ i j. i.name ≢ j.name) s.jobs (new_job machine name tray groups ∷ []) keeps.names
+      (AllPairs-cons (λ i j. i.name ≢ j.name) (new_job machine name tray groups) [] (All-nil (λ j. name ≢ j.name)) (AllPairs-nil (λ i j. i.name ≢ j.name)))
+      (All-weaker (λ j. j.name ≢ name) (λ j. All (λ i. j.name ≢ i.name) (new_job machine name tray groups ∷ []))
+      (λ j differ. All-cons (λ i. j.name ≢ i.name) (new_job machine name tray groups) [] differ (All-nil (λ i. j.name ≢ i.name))) s.jobs (new-name s.jobs name ok.is_new));
+}

@@ -98,7 +98,7 @@ each-job jobs j old news sheets each new job number within whole first last = go
       let numbered : IsNumbered job number there.0 = record { of_job = there.2.of_job ∙ sym is; numbered = there.2.numbered } in
       contains-Any (λ copy. IsTrue (is_copy_of job number copy)) (map (λ w. w.sheet) (old ++ news) ++ sheets) there.0.sheet (now-open old news sheets there.0 there.1) (copy-of job number there.0 numbered)
 
-pub sheets-job : (machine : Machine) (name tray media : List ℕ) (groups : List GroupForm) (s : SessionState) → KeepsLines machine s → KeepsSheets s → KeepsSheets (with_job machine name tray media groups s)
+pub sheets-job : (machine : Machine) (name tray media : List ℕ) (groups : List GroupForm) (s : SessionState) → KeepsLines s → KeepsSheets s → KeepsSheets (with_job machine name tray media groups s)
 sheets-job machine name tray media groups s lines keeps =
     let firsts-of = firsts-are (length s.jobs) media groups in
     let plans : All (λ p. is_known s.jobs p.sheet ≡ true) s.plans = known-plans s.jobs s.plans lines.plans_known in

@@ -77,12 +77,10 @@ is_of_its_job jobs p =
 abbrev pub StandsBehind : List Job → WaitingCopy → Plan → Type 0
 StandsBehind jobs w p = IsTrue (is_same_line jobs w.sheet p.sheet) → IsTrue (is_before p.sheet w.sheet)
 
--- jobs have trays of the machine and different names; the copies that wait stand in order and have no plan; none of
--- them stands before one of its line with a whole plan to the tray; of each sheet at most one copy is open; plans are
--- of their jobs; and the fronts are those of the lost copies, so that no copy is loose
-pub record KeepsLines (machine : Machine) (s : SessionState) : Type 0 where
-  pub trays : All (λ j. Contains machine.trays j.tray) s.jobs
-  pub names : AllPairs (λ i j. i.name ≢ j.name) s.jobs
+-- the copies that wait stand in order and have no plan; none of them stands before one of its line with a whole plan to
+-- the tray; of each sheet at most one copy is open; plans are of their jobs; and the fronts are those of the lost
+-- copies, so that no copy is loose
+pub record KeepsLines (s : SessionState) : Type 0 where
   pub in_order : AllPairs (λ v w. IsTrue (is_before v.sheet w.sheet)) s.waiting
   pub waiting_known : All (λ w. IsTrue (is_known s.jobs w.sheet)) s.waiting
   pub unplanned : All (λ w. IsFalse (is_planned_among s.plans w.sheet)) s.waiting
@@ -111,10 +109,16 @@ pub record KeepsSheets (s : SessionState) : Type 0 where
   pub planned_sheets : All (λ p. IsTrue (is_sheet_of s.jobs p.sheet)) s.plans
   pub older : All (λ p. All (IsOlder p) (open_copies s)) s.plans
 
--- what is kept between events: plans, lines and sheets, and that the schedule is least
+-- jobs have trays of the machine, and different names
+pub record KeepsJobs (machine : Machine) (jobs : List Job) : Type 0 where
+  pub trays : All (λ j. Contains machine.trays j.tray) jobs
+  pub names : AllPairs (λ i j. i.name ≢ j.name) jobs
+
+-- what is kept between events: jobs, plans, lines and sheets, and that the schedule is least
 pub record KeepsState (machine : Machine) (s : SessionState) : Type 0 where
+  pub jobs : KeepsJobs machine s.jobs
   pub plans : KeepsPlans machine s
-  pub lines : KeepsLines machine s
+  pub lines : KeepsLines s
   pub sheets : KeepsSheets s
 
 abbrev pub IsLeastAt : Machine → SessionState → Type 0

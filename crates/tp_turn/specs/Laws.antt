@@ -17,7 +17,7 @@ use Rattle.tp_turn.specs.Answering.{Answer}
 use Rattle.tp_turn.specs.Clock.{clock_move, released_until}
 use Rattle.tp_turn.specs.FallBacks.{Displaced, fall_back, job_break}
 use Rattle.tp_turn.specs.Fates.{Fate, befall, is_cut_by}
-use Rattle.tp_turn.specs.Keeping.{KeepsPlans, KeepsLines, KeepsSheets}
+use Rattle.tp_turn.specs.Keeping.{KeepsJobs, KeepsPlans, KeepsLines, KeepsSheets}
 use Rattle.tp_turn.specs.Loops.{after_one, after_answers, next_ask}
 use Rattle.tp_turn.specs.Moments.{is_unstarted}
 use Rattle.tp_turn.specs.Outages.{outage}
@@ -69,7 +69,7 @@ ClockKeepsPlanning = (machine : Machine) (now to : ℕ) (plans : List Plan) → 
     → CanPlanOn machine now plans → CanPlanOn machine to (released_until machine to plans)
 
 abbrev pub ClockKeepsLines : Type 0
-ClockKeepsLines = (machine : Machine) (to : ℕ) (s : SessionState) → KeepsLines machine s → KeepsLines machine (clock_move machine to s).state
+ClockKeepsLines = (machine : Machine) (to : ℕ) (s : SessionState) → KeepsLines s → KeepsLines (clock_move machine to s).state
 
 abbrev pub ClockKeepsSheets : Type 0
 ClockKeepsSheets = (machine : Machine) (to : ℕ) (s : SessionState) → KeepsSheets s → KeepsSheets (clock_move machine to s).state
@@ -79,6 +79,11 @@ ClockKeepsPlans = (machine : Machine) (to : ℕ) (s : SessionState) → s.now �
     → KeepsPlans machine s → KeepsPlans machine (clock_move machine to s).state
 
 -- a new job that is not refused
+abbrev pub JobKeepsJobs : Type 0
+JobKeepsJobs = (machine : Machine) (name tray media : List ℕ) (groups : List GroupForm) (s : SessionState)
+    → job_refusal machine s.jobs (length s.waiting) name tray media groups ≡ None
+    → KeepsJobs machine s.jobs → KeepsJobs machine (with_job machine name tray media groups s).jobs
+
 abbrev pub JobKeepsPlans : Type 0
 JobKeepsPlans = (machine : Machine) (name tray media : List ℕ) (groups : List GroupForm) (s : SessionState)
     → job_refusal machine s.jobs (length s.waiting) name tray media groups ≡ None
@@ -87,11 +92,11 @@ JobKeepsPlans = (machine : Machine) (name tray media : List ℕ) (groups : List 
 abbrev pub JobKeepsLines : Type 0
 JobKeepsLines = (machine : Machine) (name tray media : List ℕ) (groups : List GroupForm) (s : SessionState)
     → job_refusal machine s.jobs (length s.waiting) name tray media groups ≡ None
-    → KeepsLines machine s → KeepsLines machine (with_job machine name tray media groups s)
+    → KeepsLines s → KeepsLines (with_job machine name tray media groups s)
 
 abbrev pub JobKeepsSheets : Type 0
 JobKeepsSheets = (machine : Machine) (name tray media : List ℕ) (groups : List GroupForm) (s : SessionState)
-    → KeepsLines machine s → KeepsSheets s → KeepsSheets (with_job machine name tray media groups s)
+    → KeepsLines s → KeepsSheets s → KeepsSheets (with_job machine name tray media groups s)
 
 -- the events that make a module go out, and those that move the clock
 abbrev pub is_outage : Event → Bool
@@ -108,7 +113,7 @@ abbrev pub OnKeepsPlans : Type 0
 OnKeepsPlans = (machine : Machine) (m : ℕ) (s : SessionState) → KeepsPlans machine s → KeepsPlans machine (with_on m s)
 
 abbrev pub OnKeepsLines : Type 0
-OnKeepsLines = (machine : Machine) (m : ℕ) (s : SessionState) → KeepsLines machine s → KeepsLines machine (with_on m s)
+OnKeepsLines = (machine : Machine) (m : ℕ) (s : SessionState) → KeepsLines s → KeepsLines (with_on m s)
 
 abbrev pub OnKeepsSheets : Type 0
 OnKeepsSheets = (m : ℕ) (s : SessionState) → KeepsSheets s → KeepsSheets (with_on m s)

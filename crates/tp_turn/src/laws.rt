@@ -7,7 +7,7 @@ ghost use Rattle.tp_turn.specs.Laws.{TurnsKeep, IsAny, IsNoOutage, IsNoClock, Is
 ghost use Rattle.tp_turn.specs.Laws.{FatesKeepPlanning, BreaksKeepPlanning, FallBacksKeepPlanning};
 ghost use Rattle.tp_turn.specs.Laws.{OutagesKeepPlanning, OutagesKeepMoment, OutagesKeepLive};
 ghost use Rattle.tp_turn.specs.Laws.{ClockKeepsPlanning, ClockKeepsPlans, ClockKeepsLines, ClockKeepsSheets};
-ghost use Rattle.tp_turn.specs.Laws.{JobKeepsPlans, JobKeepsLines, JobKeepsSheets};
+ghost use Rattle.tp_turn.specs.Laws.{JobKeepsJobs, JobKeepsPlans, JobKeepsLines, JobKeepsSheets};
 ghost use Rattle.tp_turn.specs.Laws.{OnKeepsPlans, OnKeepsLines, OnKeepsSheets};
 ghost use Rattle.tp_turn.specs.Planners.{right_steps};
 ghost use Rattle.tp_turn.specs.States.{empty_state};
@@ -38,8 +38,8 @@ pub fn turns_keep_planning<P: Planner>()
         → TurnsKeep (right_steps P.spent P.steps P.stop_steps machine) machine IsAny (IsPlannable machine) }
 {}
 
-/// Turns of jobs, of moves of the clock, of modules that come back and of refused events keep plans, lines and sheets, from
-/// the empty state on. That the schedule is least stays through every turn but one that moves the clock.
+/// Turns of jobs, of moves of the clock, of modules that come back and of refused events keep jobs, plans, lines and sheets,
+/// from the empty state on. That the schedule is least stays through every turn but one that moves the clock.
 pub fn turns_keep_state<P: Planner>()
     ensures empty { (machine : Machine) → KeepsState machine empty_state × IsLeastAt machine empty_state }
     ensures state { (machine : Machine)
@@ -67,8 +67,9 @@ pub fn clock_keeps_state()
     ensures sheets { ClockKeepsSheets }
 {}
 
-/// An accepted job keeps plans, lines and sheets: of each of its sheets exactly one copy waits.
+/// An accepted job keeps jobs, plans, lines and sheets: of each of its sheets exactly one copy waits.
 pub fn new_job_keeps_state()
+    ensures jobs { JobKeepsJobs }
     ensures plans { JobKeepsPlans }
     ensures lines { JobKeepsLines }
     ensures sheets { JobKeepsSheets }
