@@ -1,21 +1,16 @@
 -- DUO and TAIL as values, for the rows of schedules.
-use Rattle.std.proofs.Common.{◌≡◌, ℕ, Bool, true, false, ◌&&◌, List, [], ◌∷◌, length, refl, codes, ℤ, pos, negsuc}
-use Rattle.std.specs.Prelude.{nat_le}
-use Rattle.std.specs.List.{list_all}
-use Rattle.tp_base.specs.NameText.{is_name_text}
-use Rattle.tp_machine.specs.Rules.{are_names, are_named, have_few_holds}
+use Rattle.std.proofs.Common.{ℕ, Bool, true, false, List, [], ◌∷◌, refl, codes, ℤ, pos, negsuc}
 use Rattle.tp_machine.specs.declared.parts.ActId.{ActId}
 use Rattle.tp_machine.specs.declared.parts.Action.{Action}
 use Rattle.tp_machine.specs.declared.parts.Anchor.{Anchor}
 use Rattle.tp_machine.specs.declared.parts.Anchor.TheVariants.{Start, End}
-use Rattle.tp_machine.specs.declared.parts.Feeder.{Feeder}
-use Rattle.tp_machine.specs.declared.parts.Resource.{Resource}
 use Rattle.tp_machine.specs.declared.parts.Face.TheVariants.{Front as FrontUp}
 use Rattle.tp_machine.specs.declared.parts.HoldRule.{HoldRule}
 use Rattle.tp_machine.specs.declared.parts.LocId.{LocId}
 use Rattle.tp_machine.specs.declared.parts.Sheet.{Sheet}
 use Rattle.tp_machine.specs.declared.parts.Want.TheVariants.{Blank, Mono}
 use Rattle.tp_machine.specs.declared.whole.Machine.{Machine}
+use Rattle.tp_machine.proofs.NameFacts.{named_by, few_by}
 
 abbrev pub loc : ℕ → LocId
 loc n = record { 0 = n }
@@ -39,16 +34,6 @@ action name m from to least most mono colour holds = record {
   flip = false;
   holds = holds;
 }
-
--- tests that hold by computing, at machines that are written out
-pub named_by : (ls ms : List (List ℕ)) (fs : List Feeder) (rs : List Resource) (deeds : List Action)
-    → (are_names ls && are_names ms && list_all (λ f. is_name_text f.media) fs && list_all (λ r. is_name_text r.name) rs && list_all (λ a. is_name_text a.name) deeds) ≡ true → are_named ls ms fs rs deeds ≡ true
-unfolding are_named
-named_by ls ms fs rs deeds test = test
-
-pub few_by : (deeds : List Action) → list_all (λ a. nat_le (length a.holds) 4) deeds ≡ true → have_few_holds deeds ≡ true
-unfolding have_few_holds
-few_by deeds test = test
 
 abbrev pub duo : Machine
 duo = record {

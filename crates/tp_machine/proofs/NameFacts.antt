@@ -70,3 +70,13 @@ media_names feeders test = All-from_test (λ f. is_name_text f.media) (λ f. IsN
 pub few_holds_at : (m : Machine) (n : ℕ) (a : Action) → action_at m n ≡ Some a → nat_le (length a.holds) 4 ≡ true
 unfolding have_few_holds
 few_holds_at m n a at = list_all-at (λ b. nat_le (length b.holds) 4) m.actions n a m.few_holds at
+
+-- tests that hold by computing, at machines that are written out
+pub named_by : (ls ms : List (List ℕ)) (fs : List Feeder) (rs : List Resource) (deeds : List Action)
+    → (are_names ls && are_names ms && list_all (λ f. is_name_text f.media) fs && list_all (λ r. is_name_text r.name) rs && list_all (λ a. is_name_text a.name) deeds) ≡ true → are_named ls ms fs rs deeds ≡ true
+unfolding are_named
+named_by ls ms fs rs deeds test = test
+
+pub few_by : (deeds : List Action) → list_all (λ a. nat_le (length a.holds) 4) deeds ≡ true → have_few_holds deeds ≡ true
+unfolding have_few_holds
+few_by deeds test = test

@@ -22,10 +22,10 @@ use Rattle.tp_schedule.specs.declared.parts.Reply.TheVariants.{Planned, Never, S
 use Rattle.tp_schedule.specs.declared.recording.Cause.{Cause}
 use Rattle.tp_schedule.specs.declared.recording.Record.{Record}
 use Rattle.tp_schedule.specs.declared.recording.Record.TheVariants.{FullUp, Move, Purge as PurgeTold, Refused, Stuck}
+use Rattle.tp_jobs.specs.Backlogs.{tray_of}
 use Rattle.tp_turn.specs.declared.telling.Tell.{Tell}
 use Rattle.tp_turn.specs.declared.telling.Tell.TheVariants.{Done as TellsDone, Release as TellsRelease}
 use Rattle.tp_turn.specs.States.{SessionState}
-use Rattle.tp_turn.specs.Lines.{tray_of}
 use Rattle.tp_turn.specs.Labels.{label, module_name}
 use Rattle.tp_turn.specs.Clock.{record_of, clock_tells, release_of}
 use Rattle.tp_turn.specs.Fates.{to_purge}

@@ -16,9 +16,11 @@ use Rattle.tp_schedule.specs.declared.parts.Kind.TheVariants.{Whole}
 use Rattle.tp_schedule.specs.declared.parts.Plan.{Plan}
 use Rattle.tp_schedule.specs.declared.parts.SheetId.{SheetId}
 use Rattle.tp_schedule.proofs.Membership.{All-from_contains, Contains-filter, Contains-filter_from}
+use Rattle.tp_jobs.specs.Backlogs.{tray_of}
+use Rattle.tp_jobs.specs.Waiting.{without_waiting}
 use Rattle.tp_turn.specs.Asking.{ask_waiting}
 use Rattle.tp_turn.specs.Keeping.{KeepsLines, is_planned_among, is_known, tray_plans, is_same_sheet}
-use Rattle.tp_turn.specs.Lines.{tray_of, is_same_line, without_waiting}
+use Rattle.tp_turn.specs.Lines.{is_same_line}
 use Rattle.tp_turn.specs.Moments.{is_tray_plan, is_to_tray}
 use Rattle.tp_turn.specs.States.{SessionState}
 use Rattle.tp_turn.proofs.AnsweredPlans.{IsUnmoved, unmoved-tray_plan, mine-is, plan-cases}

@@ -17,10 +17,12 @@ use Rattle.tp_schedule.specs.declared.parts.SheetId.{SheetId}
 use Rattle.tp_schedule.proofs.CopyFacts.{same_copy-refl}
 use Rattle.tp_schedule.proofs.Membership.{All-from_contains, Contains-map}
 use Rattle.tp_schedule.proofs.Pairs.{AllPairs-each}
+use Rattle.tp_jobs.specs.Backlogs.{tray_of}
+use Rattle.tp_jobs.specs.Waiting.{without_waiting}
 use Rattle.tp_turn.specs.Asking.{ask_waiting}
 use Rattle.tp_turn.specs.Keeping.{KeepsLines, StandsBehind, is_planned_among, is_known, is_of_its_job, is_own_goal, tray_plans}
 use Rattle.tp_turn.specs.Labels.{job_name}
-use Rattle.tp_turn.specs.Lines.{tray_of, is_same_line, without_waiting}
+use Rattle.tp_turn.specs.Lines.{is_same_line}
 use Rattle.tp_turn.specs.Moments.{is_tray_plan}
 use Rattle.tp_turn.specs.States.{SessionState}
 use Rattle.tp_turn.proofs.AnsweredPlans.{unmoved-sheet, plan-cases}

@@ -8,9 +8,9 @@ use Rattle.tp_schedule.specs.declared.parts.Plan.{Plan}
 use Rattle.tp_schedule.specs.declared.parts.SheetId.{SheetId}
 use Rattle.tp_schedule.proofs.CopyFacts.{same_copy-is}
 use Rattle.tp_schedule.proofs.Membership.{All-from_contains, Contains-map, Contains-map_from, Contains-filter, Contains-filter_from}
+use Rattle.tp_jobs.specs.Waiting.{without_waiting}
 use Rattle.tp_turn.specs.Asking.{ask_waiting}
 use Rattle.tp_turn.specs.Keeping.{KeepsSheets, IsOlder, is_sheet_of, tray_plans, open_copies, is_same_sheet, is_copy_of}
-use Rattle.tp_turn.specs.Lines.{without_waiting}
 use Rattle.tp_turn.specs.Moments.{is_tray_plan}
 use Rattle.tp_turn.specs.States.{SessionState}
 use Rattle.tp_turn.proofs.AnsweredPlans.{unmoved-sheet, unmoved-tray_plan, other-to, plan-cases}

@@ -18,11 +18,13 @@ use Rattle.tp_schedule.specs.declared.recording.Record.TheVariants.{FullUp}
 use Rattle.tp_schedule.proofs.CopyFacts.{before-not_same', same_copy-refl}
 use Rattle.tp_schedule.proofs.Membership.{All-from_contains, Contains-cons_cases, Contains-filter, Contains-filter_from}
 use Rattle.tp_schedule.proofs.Pairs.{AllPairs-head, AllPairs-tail}
+use Rattle.tp_jobs.specs.Backlogs.{tray_of}
+use Rattle.tp_jobs.specs.Waiting.{without_waiting}
 use Rattle.tp_turn.specs.Answering.{told_of_reply}
 use Rattle.tp_turn.specs.Asking.{AsksInTurn, ask_waiting, is_full, is_passed_over, passed_after, state_after_reply}
 use Rattle.tp_turn.specs.Keeping.{KeepsLines, KeepsState}
 use Rattle.tp_turn.specs.Labels.{label}
-use Rattle.tp_turn.specs.Lines.{tray_of, is_same_line, without_waiting}
+use Rattle.tp_turn.specs.Lines.{is_same_line}
 use Rattle.tp_turn.specs.Planners.{PlannerSteps, IsRight}
 use Rattle.tp_turn.specs.States.{SessionState}
 use Rattle.tp_turn.proofs.AskedFacts.{IsAskedFirst}

@@ -16,12 +16,12 @@ use Rattle.tp_schedule.specs.declared.parts.Reply.TheVariants.{Planned, Never, S
 use Rattle.tp_schedule.specs.declared.recording.Cause.{Cause}
 use Rattle.tp_schedule.specs.declared.recording.Record.{Record}
 use Rattle.tp_schedule.specs.declared.recording.Record.TheVariants.{FullUp, Refused}
+use Rattle.tp_jobs.specs.Backlogs.{tray_of}
 use Rattle.tp_turn.specs.Answering.{told_of_reply}
 use Rattle.tp_turn.specs.Asking.{AsksInTurn, ask_waiting, is_full, is_passed_over, passed_after, state_after_reply}
 use Rattle.tp_turn.specs.Keeping.{IsLeastAt}
 use Rattle.tp_turn.specs.Labels.{label}
 use Rattle.tp_turn.specs.Laws.{IsNoClock, TurnsKeep, is_clock}
-use Rattle.tp_turn.specs.Lines.{tray_of}
 use Rattle.tp_turn.specs.Loops.{after_answers}
 use Rattle.tp_turn.specs.Outages.{outage}
 use Rattle.tp_turn.specs.Planners.{PlannerSteps, IsRight, RunsLoop}

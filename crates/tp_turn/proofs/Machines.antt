@@ -10,6 +10,7 @@ use Rattle.tp_machine.specs.declared.parts.LocId.{LocId}
 use Rattle.tp_machine.specs.declared.parts.Sheet.{Sheet}
 use Rattle.tp_machine.specs.declared.parts.Want.TheVariants.{Blank, Mono}
 use Rattle.tp_machine.specs.declared.whole.Machine.{Machine}
+use Rattle.tp_machine.proofs.NameFacts.{named_by, few_by}
 
 abbrev pub loc : ℕ → LocId
 loc n = record { 0 = n }
@@ -64,6 +65,8 @@ duo = record {
   ways = refl;
   durations = refl;
   holds = refl;
+  named = named_by _ _ _ _ _ refl;
+  few_holds = few_by _ refl;
 }
 
 -- two ways from the feeder to the tray t, over L and over R; no purge tray
@@ -93,6 +96,8 @@ twin = record {
   ways = refl;
   durations = refl;
   holds = refl;
+  named = named_by _ _ _ _ _ refl;
+  few_holds = few_by _ refl;
 }
 
 abbrev pub mono_sheet : Sheet

@@ -17,13 +17,16 @@ use Rattle.tp_schedule.specs.Plans.{is_before, is_same_copy}
 use Rattle.tp_schedule.specs.declared.parts.Plan.{Plan}
 use Rattle.tp_schedule.specs.declared.parts.SheetId.{SheetId}
 use Rattle.tp_script.specs.Form.{GroupForm}
+use Rattle.tp_jobs.specs.Backlogs.{tray_of, tray_in}
+use Rattle.tp_jobs.specs.Refusing.{sheet_count}
+use Rattle.tp_jobs.specs.Waiting.{first_copies, sheets_of}
 use Rattle.tp_turn.specs.Keeping.{KeepsJobs, KeepsLines, StandsBehind, is_planned_among, is_known, is_own_goal, is_of_its_job, tray_plans, is_same_sheet}
 use Rattle.tp_turn.specs.Labels.{job_name}
-use Rattle.tp_turn.specs.Lines.{tray_of, tray_in, is_same_line}
+use Rattle.tp_turn.specs.Lines.{is_same_line}
 use Rattle.tp_turn.specs.Moments.{is_tray_plan}
-use Rattle.tp_turn.specs.Refusals.{is_taken, is_tray_name, tray_named, sheet_count}
+use Rattle.tp_turn.specs.Refusals.{is_taken, is_tray_name, tray_named}
 use Rattle.tp_turn.specs.States.{SessionState}
-use Rattle.tp_turn.specs.Turns.{first_copies, sheets_of, new_job, with_job, location_in}
+use Rattle.tp_turn.specs.Turns.{new_job, with_job, location_in}
 use Rattle.tp_turn.proofs.FirstCopies.{IsFirstCopy, All-first_copies, AllPairs-first_copies, length-sheets_of, IsAccepted}
 use Rattle.tp_schedule.proofs.Pairs.{AllPairs-nil, AllPairs-cons}
 use Rattle.tp_turn.proofs.ListFacts.{AllPairs-append, AllPairs-append_left, AllPairs-append_right, AllPairs-append_across, AllPairs-map_list, All-both, find-Some}

@@ -23,8 +23,8 @@ use Rattle.tp_schedule.specs.declared.recording.Cause.TheVariants.{Back, End}
 use Rattle.tp_schedule.specs.declared.recording.Record.{Record}
 use Rattle.tp_schedule.specs.declared.recording.Record.TheVariants.{FullUp, Refused}
 use Rattle.tp_schedule.proofs.CopyFacts.{plan_of-itself, same_copy-is}
+use Rattle.tp_jobs.specs.Backlogs.{tray_of}
 use Rattle.tp_turn.specs.States.{SessionState}
-use Rattle.tp_turn.specs.Lines.{tray_of}
 use Rattle.tp_turn.specs.Labels.{label}
 use Rattle.tp_turn.specs.Answering.{Answer, told_of_reply}
 use Rattle.tp_turn.specs.Asking.{AsksInTurn, ask_waiting, is_full, is_passed_over, passed_after, state_after_reply}

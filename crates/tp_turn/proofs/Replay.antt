@@ -12,8 +12,8 @@ use Rattle.tp_schedule.specs.declared.recording.Cause.{Cause}
 use Rattle.tp_schedule.specs.declared.recording.Record.{Record}
 use Rattle.tp_schedule.specs.declared.recording.Record.TheVariants.{FullUp, Refused}
 use Rattle.tp_jobs.specs.declared.parts.WaitingCopy.{WaitingCopy}
+use Rattle.tp_jobs.specs.Backlogs.{tray_of}
 use Rattle.tp_turn.specs.States.{SessionState}
-use Rattle.tp_turn.specs.Lines.{tray_of}
 use Rattle.tp_turn.specs.Labels.{label}
 use Rattle.tp_turn.specs.Refusals.{refusal, module_of}
 use Rattle.tp_turn.specs.Clock.{clock_move}

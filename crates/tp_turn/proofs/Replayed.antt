@@ -12,8 +12,8 @@ use Rattle.tp_schedule.specs.declared.recording.Record.TheVariants.{FullUp, Refu
 use Rattle.tp_schedule.specs.declared.parts.Ask.{Ask}
 use Rattle.tp_schedule.specs.declared.parts.Plan.{Plan}
 use Rattle.tp_schedule.specs.declared.parts.Reply.{Reply}
+use Rattle.tp_jobs.specs.Backlogs.{tray_of}
 use Rattle.tp_turn.specs.States.{SessionState}
-use Rattle.tp_turn.specs.Lines.{tray_of}
 use Rattle.tp_turn.specs.Labels.{label}
 use Rattle.tp_turn.specs.Refusals.{refusal, module_of}
 use Rattle.tp_turn.specs.Answering.{told_of_reply, moves}

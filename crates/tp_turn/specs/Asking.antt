@@ -14,8 +14,9 @@ use Rattle.tp_schedule.specs.declared.parts.Reply.TheVariants.{Planned, Never, S
 use Rattle.tp_schedule.specs.declared.recording.Record.{Record}
 use Rattle.tp_schedule.specs.declared.recording.Record.TheVariants.{FullUp}
 use Rattle.tp_jobs.specs.declared.parts.WaitingCopy.{WaitingCopy}
+use Rattle.tp_jobs.specs.Backlogs.{tray_of}
+use Rattle.tp_jobs.specs.Waiting.{without_waiting}
 use Rattle.tp_turn.specs.States.{SessionState}
-use Rattle.tp_turn.specs.Lines.{tray_of, without_waiting}
 use Rattle.tp_turn.specs.Labels.{job_name, label}
 use Rattle.tp_turn.specs.Answering.{told_of_reply}
 use Rattle.tp_turn.specs.Planners.{PlannerSteps}

@@ -16,8 +16,9 @@ use Rattle.tp_schedule.specs.declared.parts.Plan.{Plan}
 use Rattle.tp_schedule.specs.declared.parts.SheetId.{SheetId}
 use Rattle.tp_jobs.specs.declared.parts.Job.{Job}
 use Rattle.tp_jobs.specs.declared.parts.WaitingCopy.{WaitingCopy}
+use Rattle.tp_jobs.specs.Backlogs.{tray_of}
 use Rattle.tp_turn.specs.States.{SessionState}
-use Rattle.tp_turn.specs.Lines.{tray_of, sheet_total, is_job_broken, is_same_line}
+use Rattle.tp_turn.specs.Lines.{sheet_total, is_job_broken, is_same_line}
 use Rattle.tp_turn.specs.Labels.{job_name}
 use Rattle.tp_turn.specs.Moments.{is_started, is_tray_plan}
 use Rattle.tp_turn.specs.Asking.{most_live}

@@ -1,19 +1,16 @@
 -- Jobs, their lines, and the copies that wait.
-use Rattle.std.specs.Prelude.{ℕ, ◌+◌, Bool, true, false, not, ◌==◌, List, [], ◌∷◌, filter, fold, slice_get, Option, Some, None, if◌then◌else◌, zero, suc}
+use Rattle.std.specs.Prelude.{ℕ, zero, suc, ◌+◌, ◌==◌, Bool, true, false, List, [], ◌∷◌, fold, slice_get, Option, Some, None}
 use Rattle.std.specs.List.{list_any}
-use Rattle.tp_machine.specs.declared.parts.LocId.{LocId}
-use Rattle.tp_schedule.specs.Plans.{is_before, is_same_copy}
+use Rattle.tp_schedule.specs.Plans.{is_same_copy}
 use Rattle.tp_schedule.specs.declared.parts.Plan.{Plan}
 use Rattle.tp_schedule.specs.declared.parts.SheetId.{SheetId}
+use Rattle.tp_jobs.specs.Backlogs.{tray_of}
+use Rattle.tp_jobs.specs.Waiting.{put_waiting}
 use Rattle.tp_jobs.specs.declared.parts.Job.{Job}
 use Rattle.tp_jobs.specs.declared.parts.WaitingCopy.{WaitingCopy}
 use Rattle.tp_turn.specs.States.{SessionState}
 
--- the tray of a job, how many sheets it has, and whether it is broken
-abbrev pub tray_in : Option Job → LocId
-tray_in None = record { 0 = 0 }
-tray_in (Some j) = j.tray
-
+-- how many sheets a job has, and whether it is broken
 abbrev pub sheets_in : Option Job → ℕ
 sheets_in None = 0
 sheets_in (Some j) = j.sheets
@@ -21,9 +18,6 @@ sheets_in (Some j) = j.sheets
 abbrev pub broken_in : Option Job → Bool
 broken_in None = false
 broken_in (Some j) = j.broken
-
-abbrev pub tray_of : List Job → SheetId → LocId
-tray_of jobs copy = tray_in (slice_get jobs copy.job)
 
 abbrev pub sheet_total : List Job → ℕ → ℕ
 sheet_total jobs job = sheets_in (slice_get jobs job)
@@ -44,16 +38,9 @@ is_same_line jobs a b = (tray_of jobs a).0 == (tray_of jobs b).0
 abbrev pub is_lost : SessionState → Plan → Bool
 is_lost s p = list_any (is_same_copy p.sheet) s.lost
 
--- the waiting copies with one more, in its place in the order
-abbrev pub put_waiting : List WaitingCopy → WaitingCopy → List WaitingCopy
-put_waiting [] w = w ∷ []
-put_waiting (v ∷ waiting) w = if is_before w.sheet v.sheet then w ∷ v ∷ waiting else (v ∷ put_waiting waiting w)
-
+-- the waiting copies with some more, each in its place in the order
 abbrev pub put_all_waiting : List WaitingCopy → List WaitingCopy → List WaitingCopy
 put_all_waiting waiting more = fold put_waiting waiting more
-
-abbrev pub without_waiting : SheetId → List WaitingCopy → List WaitingCopy
-without_waiting copy waiting = filter (λ w. not (is_same_copy w.sheet copy)) waiting
 
 abbrev pub is_of_job : ℕ → WaitingCopy → Bool
 is_of_job job w = w.sheet.job == job

@@ -1,5 +1,5 @@
 -- Which events are refused, and by which cause: the first that applies.
-use Rattle.std.specs.Prelude.{ℕ, ◌+◌, Bool, false, not, nat_lt, List, [], ◌∷◌, length, sum_by, Option, Some, None, find, position, is_some, if◌then◌else◌}
+use Rattle.std.specs.Prelude.{ℕ, ◌+◌, Bool, false, not, nat_lt, List, [], ◌∷◌, length, Option, Some, None, find, position, is_some, if◌then◌else◌}
 use Rattle.std.specs.List.{list_any}
 use Rattle.std.specs.Str.{bytes_eq}
 use Rattle.tp_machine.specs.Using.{is_out}
@@ -12,13 +12,10 @@ use Rattle.tp_script.specs.declared.event.Event.TheVariants.{Bad, Job as NewJob,
 use Rattle.tp_schedule.specs.Planning.{last_tick}
 use Rattle.tp_schedule.specs.declared.recording.Cause.{Cause}
 use Rattle.tp_schedule.specs.declared.recording.Cause.TheVariants.{Syntax, Tray, Media, Named, Waiting, Back, End, Module, Out, NotOn}
+use Rattle.tp_jobs.specs.Refusing.{has_media, most_waiting, sheet_count}
 use Rattle.tp_jobs.specs.declared.parts.Job.{Job}
 use Rattle.tp_turn.specs.States.{SessionState}
 use Rattle.tp_turn.specs.Labels.{location_name}
-
--- the most copies that may wait
-abbrev pub most_waiting : ℕ
-most_waiting = 4096
 
 -- the tray of this name
 abbrev pub tray_named : Machine → List ℕ → Option LocId
@@ -27,14 +24,8 @@ tray_named machine name = find (λ t. bytes_eq name (location_name machine t)) m
 abbrev pub is_tray_name : Machine → List ℕ → Bool
 is_tray_name machine name = is_some (tray_named machine name)
 
-abbrev pub has_media : Machine → List ℕ → Bool
-has_media machine media = list_any (λ f. bytes_eq media f.media) machine.feeders
-
 abbrev pub is_taken : List Job → List ℕ → Bool
 is_taken jobs name = list_any (λ j. bytes_eq name j.name) jobs
-
-abbrev pub sheet_count : List GroupForm → ℕ
-sheet_count groups = sum_by (λ g. g.count) groups
 
 -- the number of a module
 abbrev pub module_of : Machine → List ℕ → Option ℕ

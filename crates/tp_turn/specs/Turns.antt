@@ -1,8 +1,7 @@
 -- The turn of one event: its records and the next state.
-use Rattle.std.specs.Prelude.{◌≡◌, ℕ, ◌+◌, true, false, List, [], ◌∷◌, ◌++◌, length, flat_map, replicate, Option, Some, None}
+use Rattle.std.specs.Prelude.{◌≡◌, ℕ, true, false, List, [], ◌∷◌, ◌++◌, length, Option, Some, None}
 use Rattle.std.specs.Option.{MatchOption}
 use Rattle.tp_machine.specs.declared.parts.LocId.{LocId}
-use Rattle.tp_machine.specs.declared.parts.Sheet.{Sheet}
 use Rattle.tp_machine.specs.declared.whole.Machine.{Machine}
 use Rattle.tp_script.specs.Form.{GroupForm}
 use Rattle.tp_script.specs.declared.event.Event.{Event}
@@ -10,25 +9,15 @@ use Rattle.tp_script.specs.declared.event.Event.TheVariants.{Bad, Job as NewJob,
 use Rattle.tp_schedule.specs.declared.recording.Record.{Record}
 use Rattle.tp_schedule.specs.declared.recording.Record.TheVariants.{Refused}
 use Rattle.tp_jobs.specs.declared.parts.Job.{Job}
-use Rattle.tp_jobs.specs.declared.parts.WaitingCopy.{WaitingCopy}
+use Rattle.tp_jobs.specs.Refusing.{sheet_count}
+use Rattle.tp_jobs.specs.Waiting.{first_copies, sheets_of}
 use Rattle.tp_turn.specs.States.{SessionState, put_on}
-use Rattle.tp_turn.specs.Refusals.{refusal, module_of, sheet_count, tray_named}
+use Rattle.tp_turn.specs.Refusals.{refusal, module_of, tray_named}
 use Rattle.tp_turn.specs.Clock.{clock_move}
 use Rattle.tp_turn.specs.Planners.{PlannerSteps, GoesOut}
 use Rattle.tp_turn.specs.Asking.{Asks}
 
--- the sheets of a job, in their order
-abbrev pub sheet_of : List ℕ → GroupForm → Sheet
-sheet_of media g = record { media = media; front = g.front; back = g.back; face = g.face }
-
-abbrev pub sheets_of : List ℕ → List GroupForm → List Sheet
-sheets_of media groups = flat_map (λ g. replicate g.count (sheet_of media g)) groups
-
--- the first copy of each sheet, numbered from this number on
-abbrev pub first_copies : ℕ → ℕ → List Sheet → List WaitingCopy
-first_copies job n [] = []
-first_copies job n (want ∷ wants) = record { sheet = record { job = job; number = n; copy = 1 }; want = want } ∷ first_copies job (n + 1) wants
-
+-- a job as it comes; its tray is any location where there is none of that name
 abbrev pub location_in : Option LocId → LocId
 location_in None = record { 0 = 0 }
 location_in (Some place) = place
