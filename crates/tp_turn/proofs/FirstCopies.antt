@@ -12,9 +12,9 @@ use Rattle.tp_jobs.specs.declared.parts.WaitingCopy.{WaitingCopy}
 use Rattle.tp_schedule.proofs.Pairs.{AllPairs-nil, AllPairs-cons}
 use Rattle.tp_script.specs.Form.{GroupForm}
 use Rattle.tp_schedule.specs.declared.recording.Cause.TheVariants.{Tray, Media, Named, Waiting}
-use Rattle.tp_jobs.specs.Refusing.{has_media, sheet_count, most_waiting}
+use Rattle.tp_jobs.specs.Refusing.{has_media, sheet_count, most_waiting, is_taken, is_tray_name}
 use Rattle.tp_jobs.specs.Waiting.{first_copies, sheets_of, sheet_of}
-use Rattle.tp_turn.specs.Refusals.{first_of_causes, is_taken, is_tray_name, job_refusal}
+use Rattle.tp_turn.specs.Refusals.{first_of_causes, job_refusal}
 
 -- a first copy of the job, with a number from this one on
 pub record IsFirstCopy (job low high : ℕ) (w : WaitingCopy) : Type 0 where

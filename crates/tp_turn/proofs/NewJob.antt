@@ -1,6 +1,6 @@
 -- A new job keeps what is kept between events.
-use Rattle.std.proofs.Common.{◌≡◌, ◌≢◌, ℕ, ◌+◌, ◌<◌, Bool, true, false, ◌&&◌, List, [], ◌∷◌, ◌++◌, map, length, refl, sym, ap, ◌∙◌, arith, All, AllPairs, Contains, IsTrue, subst, Option, Some, None, slice_get}
-use Rattle.std.specs.Prelude.{IsFalse, is_some}
+use Rattle.std.proofs.Common.{◌≡◌, ◌≢◌, ℕ, suc, cond, ◌+◌, ◌<◌, Bool, true, false, ◌&&◌, List, [], ◌∷◌, ◌++◌, map, length, refl, sym, ap, ◌∙◌, arith, All, AllPairs, Contains, IsTrue, subst, Option, Some, None, slice_get}
+use Rattle.std.specs.Prelude.{IsFalse, is_some, position, ◌==◌, ◌||◌}
 use Rattle.std.specs.Str.{bytes_eq}
 use Rattle.std.proofs.lemmas.Bool.Decides.{nat_tests, not_from_Decides}
 use Rattle.std.proofs.lemmas.List.{length-append, map-append}
@@ -8,7 +8,7 @@ use Rattle.std.proofs.lemmas.List.Elements.{All-nil, All-cons, All-append, All-f
 use Rattle.std.proofs.lemmas.List.Folds.{list_any_none}
 use Rattle.std.proofs.lemmas.Slice.Eq.{bytes_eq-Decides}
 use Rattle.tp_base.proofs.SliceFacts.{slice_get_left}
-use Rattle.tp_machine.proofs.Lists.{All-from_none}
+use Rattle.tp_machine.specs.Rules.{is_among}
 use Rattle.tp_machine.specs.declared.parts.LocId.{LocId}
 use Rattle.tp_machine.specs.declared.whole.Machine.{Machine}
 use Rattle.tp_jobs.specs.declared.parts.Job.{Job}
@@ -18,18 +18,17 @@ use Rattle.tp_schedule.specs.declared.parts.Plan.{Plan}
 use Rattle.tp_schedule.specs.declared.parts.SheetId.{SheetId}
 use Rattle.tp_script.specs.Form.{GroupForm}
 use Rattle.tp_jobs.specs.Backlogs.{tray_of, tray_in}
-use Rattle.tp_jobs.specs.Refusing.{sheet_count}
-use Rattle.tp_jobs.specs.Waiting.{first_copies, sheets_of}
+use Rattle.tp_jobs.specs.Refusing.{sheet_count, is_taken, is_tray_name, tray_named, tray_at}
+use Rattle.tp_jobs.specs.Waiting.{first_copies, sheets_of, new_job, given_tray}
 use Rattle.tp_turn.specs.Keeping.{KeepsJobs, KeepsLines, StandsBehind, is_planned_among, is_known, is_own_goal, is_of_its_job, tray_plans, is_same_sheet}
 use Rattle.tp_turn.specs.Labels.{job_name}
 use Rattle.tp_turn.specs.Lines.{is_same_line}
 use Rattle.tp_turn.specs.Moments.{is_tray_plan}
-use Rattle.tp_turn.specs.Refusals.{is_taken, is_tray_name, tray_named}
 use Rattle.tp_turn.specs.States.{SessionState}
-use Rattle.tp_turn.specs.Turns.{new_job, with_job, location_in}
+use Rattle.tp_turn.specs.Turns.{with_job}
 use Rattle.tp_turn.proofs.FirstCopies.{IsFirstCopy, All-first_copies, AllPairs-first_copies, length-sheets_of, IsAccepted}
 use Rattle.tp_schedule.proofs.Pairs.{AllPairs-nil, AllPairs-cons}
-use Rattle.tp_turn.proofs.ListFacts.{AllPairs-append, AllPairs-append_left, AllPairs-append_right, AllPairs-append_across, AllPairs-map_list, All-both, find-Some}
+use Rattle.tp_turn.proofs.ListFacts.{AllPairs-append, AllPairs-append_left, AllPairs-append_right, AllPairs-append_across, AllPairs-map_list, All-both}
 
 -- the jobs that came before are told as before
 pub known-within : (jobs : List Job) (copy : SheetId) → is_known jobs copy ≡ true → copy.job < length jobs
@@ -67,16 +66,30 @@ own-more jobs j p e =
     rw (known-more jobs j p.sheet known, before-same jobs j p.sheet known) (subst (λ b. (b && bytes_eq p.name (job_name jobs p.sheet.job) && is_own_goal p.goal (tray_of jobs p.sheet).0) ≡ true) known e)
 
 -- the tray of an accepted job is one of the machine's
-new-tray : (machine : Machine) (tray : List ℕ) → is_tray_name machine tray ≡ true → Contains machine.trays (location_in (tray_named machine tray))
-new-tray machine tray e = go (tray_named machine tray) refl e where
-  go : (o : Option LocId) → tray_named machine tray ≡ o → is_some o ≡ true → Contains machine.trays (location_in o)
-  go None f e = absurd (cc)
-  go (Some t) f e = (find-Some _ machine.trays t f).0
+among-trays : (trays : List LocId) (place : LocId) → is_among trays place ≡ true → Contains trays place
+among-trays [] place e = absurd (cc)
+among-trays (t ∷ trays) place e = go (among-trays trays place) (t.0 == place.0) refl e where
+  go : (is_among trays place ≡ true → Contains trays place) → (b : Bool) → (t.0 == place.0) ≡ b → (b || is_among trays place) ≡ true → Contains (t ∷ trays) place
+  go rest true f g = let same : t.0 ≡ place.0 = grind (arith, nat_tests) in (0, omega arith, ap (λ n. record { 0 = n }) same)
+  go rest false f g = let r = rest g in (suc r.0, omega (arith, r.1), r.2)
+
+is-tray : (machine : Machine) (n : ℕ) (b : Bool) → is_among machine.trays (record { 0 = n }) ≡ b → is_some {T = LocId} (cond b (Some (record { 0 = n })) None) ≡ true → Contains machine.trays (given_tray (cond b (Some (record { 0 = n })) None))
+is-tray machine n true g h = among-trays machine.trays (record { 0 = n }) g
+is-tray machine n false g h = absurd (cc)
+
+new-tray : (machine : Machine) (tray : List ℕ) → is_tray_name machine tray ≡ true → Contains machine.trays (given_tray (tray_named machine tray))
+new-tray machine tray e = at (position (bytes_eq tray) machine.locations) e where
+  at : (o : Option ℕ) → is_some (tray_at machine o) ≡ true → Contains machine.trays (given_tray (tray_at machine o))
+  at None f = absurd (cc)
+  at (Some n) f = is-tray machine n (is_among machine.trays (record { 0 = n })) refl f
 
 -- and its name is new
 new-name : (jobs : List Job) (name : List ℕ) → is_taken jobs name ≡ false → All (λ j. j.name ≢ name) jobs
-new-name jobs name e =
-    All-from_none (λ j. bytes_eq name j.name) (λ j. j.name ≢ name) (λ j f same. not_from_Decides (bytes_eq name j.name) (bytes_eq-Decides name j.name) f (sym same)) jobs e
+new-name [] name e = All-nil (λ j. j.name ≢ name)
+new-name (j ∷ jobs) name e =
+    let other : bytes_eq name j.name ≡ false = grind arith in
+    let rest : is_taken jobs name ≡ false = grind arith in
+    All-cons (λ j. j.name ≢ name) j jobs (λ same. not_from_Decides (bytes_eq name j.name) (bytes_eq-Decides name j.name) other (sym same)) (new-name jobs name rest)
 
 abbrev pub firsts : ℕ → List ℕ → List GroupForm → List WaitingCopy
 firsts n media groups = first_copies n 1 (sheets_of media groups)

@@ -18,12 +18,12 @@ use Rattle.tp_schedule.specs.declared.parts.SheetId.{SheetId}
 use Rattle.tp_schedule.proofs.Membership.{Contains-map, Contains-here, Contains-later, All-from_contains}
 use Rattle.tp_script.specs.Form.{GroupForm}
 use Rattle.tp_jobs.specs.Refusing.{sheet_count}
-use Rattle.tp_jobs.specs.Waiting.{first_copies, sheets_of}
+use Rattle.tp_jobs.specs.Waiting.{first_copies, sheets_of, new_job}
 use Rattle.tp_turn.specs.Keeping.{KeepsPlans, KeepsLines, KeepsSheets, IsOlder, is_known, is_sheet_of, is_to_arrive, tray_plans, open_copies, is_copy_of}
 use Rattle.tp_turn.specs.Lines.{sheet_total, sheets_in, is_job_broken, broken_in}
 use Rattle.tp_turn.specs.Moments.{is_tray_plan}
 use Rattle.tp_turn.specs.States.{SessionState}
-use Rattle.tp_turn.specs.Turns.{new_job, with_job}
+use Rattle.tp_turn.specs.Turns.{with_job}
 use Rattle.tp_turn.proofs.FirstCopies.{IsFirstCopy, length-first_copies, length-sheets_of, IsAccepted}
 use Rattle.tp_turn.proofs.NewJob.{Known, before-same, earlier-other, firsts, firsts-are, known-plans}
 use Rattle.tp_turn.proofs.ListFacts.{All-both, Any-contains, contains-Any}

@@ -10,9 +10,8 @@ use Rattle.tp_schedule.specs.Legality.{IsLegal}
 use Rattle.tp_schedule.specs.declared.recording.Record.{Record}
 use Rattle.tp_schedule.specs.declared.recording.Record.TheVariants.{Done, Broken, Refused}
 use Rattle.tp_schedule.specs.declared.recording.SheetName.{SheetName}
-use Rattle.tp_jobs.specs.Refusing.{sheet_count}
+use Rattle.tp_jobs.specs.Refusing.{sheet_count, is_tray_name}
 use Rattle.tp_turn.specs.States.{SessionState}
-use Rattle.tp_turn.specs.Refusals.{is_tray_name}
 use Rattle.tp_turn.specs.Logs.{Entry}
 
 abbrev pub records_of : {T : Type 0} → List (Entry T) → List Record

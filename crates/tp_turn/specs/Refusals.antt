@@ -1,9 +1,7 @@
 -- Which events are refused, and by which cause: the first that applies.
-use Rattle.std.specs.Prelude.{ℕ, ◌+◌, Bool, false, not, nat_lt, List, [], ◌∷◌, length, Option, Some, None, find, position, is_some, if◌then◌else◌}
-use Rattle.std.specs.List.{list_any}
+use Rattle.std.specs.Prelude.{ℕ, ◌+◌, Bool, false, not, nat_lt, List, [], ◌∷◌, length, Option, Some, None, position, is_some, if◌then◌else◌}
 use Rattle.std.specs.Str.{bytes_eq}
 use Rattle.tp_machine.specs.Using.{is_out}
-use Rattle.tp_machine.specs.declared.parts.LocId.{LocId}
 use Rattle.tp_machine.specs.declared.parts.Outs.{Outs}
 use Rattle.tp_machine.specs.declared.whole.Machine.{Machine}
 use Rattle.tp_script.specs.Form.{GroupForm}
@@ -12,20 +10,9 @@ use Rattle.tp_script.specs.declared.event.Event.TheVariants.{Bad, Job as NewJob,
 use Rattle.tp_schedule.specs.Planning.{last_tick}
 use Rattle.tp_schedule.specs.declared.recording.Cause.{Cause}
 use Rattle.tp_schedule.specs.declared.recording.Cause.TheVariants.{Syntax, Tray, Media, Named, Waiting, Back, End, Module, Out, NotOn}
-use Rattle.tp_jobs.specs.Refusing.{has_media, most_waiting, sheet_count}
+use Rattle.tp_jobs.specs.Refusing.{is_tray_name, has_media, is_taken, most_waiting, sheet_count}
 use Rattle.tp_jobs.specs.declared.parts.Job.{Job}
 use Rattle.tp_turn.specs.States.{SessionState}
-use Rattle.tp_turn.specs.Labels.{location_name}
-
--- the tray of this name
-abbrev pub tray_named : Machine → List ℕ → Option LocId
-tray_named machine name = find (λ t. bytes_eq name (location_name machine t)) machine.trays
-
-abbrev pub is_tray_name : Machine → List ℕ → Bool
-is_tray_name machine name = is_some (tray_named machine name)
-
-abbrev pub is_taken : List Job → List ℕ → Bool
-is_taken jobs name = list_any (λ j. bytes_eq name j.name) jobs
 
 -- the number of a module
 abbrev pub module_of : Machine → List ℕ → Option ℕ

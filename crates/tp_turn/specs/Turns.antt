@@ -1,29 +1,18 @@
 -- The turn of one event: its records and the next state.
-use Rattle.std.specs.Prelude.{◌≡◌, ℕ, true, false, List, [], ◌∷◌, ◌++◌, length, Option, Some, None}
+use Rattle.std.specs.Prelude.{◌≡◌, ℕ, true, false, List, [], ◌∷◌, ◌++◌, length, Some}
 use Rattle.std.specs.Option.{MatchOption}
-use Rattle.tp_machine.specs.declared.parts.LocId.{LocId}
 use Rattle.tp_machine.specs.declared.whole.Machine.{Machine}
 use Rattle.tp_script.specs.Form.{GroupForm}
 use Rattle.tp_script.specs.declared.event.Event.{Event}
 use Rattle.tp_script.specs.declared.event.Event.TheVariants.{Bad, Job as NewJob, Clock, Jam, Off, On}
 use Rattle.tp_schedule.specs.declared.recording.Record.{Record}
 use Rattle.tp_schedule.specs.declared.recording.Record.TheVariants.{Refused}
-use Rattle.tp_jobs.specs.declared.parts.Job.{Job}
-use Rattle.tp_jobs.specs.Refusing.{sheet_count}
-use Rattle.tp_jobs.specs.Waiting.{first_copies, sheets_of}
+use Rattle.tp_jobs.specs.Waiting.{first_copies, new_job, sheets_of}
 use Rattle.tp_turn.specs.States.{SessionState, put_on}
-use Rattle.tp_turn.specs.Refusals.{refusal, module_of, tray_named}
+use Rattle.tp_turn.specs.Refusals.{refusal, module_of}
 use Rattle.tp_turn.specs.Clock.{clock_move}
 use Rattle.tp_turn.specs.Planners.{PlannerSteps, GoesOut}
 use Rattle.tp_turn.specs.Asking.{Asks}
-
--- a job as it comes; its tray is any location where there is none of that name
-abbrev pub location_in : Option LocId → LocId
-location_in None = record { 0 = 0 }
-location_in (Some place) = place
-
-abbrev pub new_job : Machine → List ℕ → List ℕ → List GroupForm → Job
-new_job machine name tray groups = record { name = name; tray = location_in (tray_named machine tray); sheets = sheet_count groups; broken = false }
 
 -- the state with a new job, whose copies wait behind all others
 abbrev pub with_job : Machine → List ℕ → List ℕ → List ℕ → List GroupForm → SessionState → SessionState
