@@ -2,6 +2,10 @@
 #![tactic(auto)]
 
 #[cfg(test)]
+mod jobs;
+#[cfg(test)]
+mod logs;
+#[cfg(test)]
 mod records;
 #[cfg(test)]
 mod scripts;

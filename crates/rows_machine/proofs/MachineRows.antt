@@ -10,6 +10,7 @@ use Rattle.tp_machine.specs.declared.parts.LocId.{LocId}
 use Rattle.tp_machine.specs.declared.parts.Sheet.{Sheet}
 use Rattle.tp_machine.specs.declared.parts.Want.TheVariants.{Blank, Mono}
 use Rattle.tp_machine.specs.declared.whole.Machine.{Machine}
+use Rattle.tp_machine.proofs.NameFacts.{named_by, few_by}
 
 abbrev pub loc : ℕ → LocId
 loc n = record { 0 = n }
@@ -53,6 +54,7 @@ duo = record {
       ∷ action (codes "out") 3 2 3 3 30 false false (hold 3 End (negsuc 0) End (pos 0) ∷ [])
       ∷ action (codes "dump") 4 2 4 3 3 false false []
       ∷ [];
+  named = named_by _ _ _ _ _ refl;
   numbers = refl;
   counts = refl;
   good_trays = refl;
@@ -62,6 +64,7 @@ duo = record {
   names_differ = refl;
   ways = refl;
   durations = refl;
+  few_holds = few_by _ refl;
   holds = refl;
 }
 
@@ -80,6 +83,7 @@ tail = record {
       action (codes "feed") 0 0 1 2 2 false false (hold 0 Start (pos 0) End (pos 5) ∷ [])
       ∷ action (codes "out") 1 1 2 3 3 false false (hold 1 End (negsuc 0) End (pos 0) ∷ [])
       ∷ [];
+  named = named_by _ _ _ _ _ refl;
   numbers = refl;
   counts = refl;
   good_trays = refl;
@@ -89,6 +93,7 @@ tail = record {
   names_differ = refl;
   ways = refl;
   durations = refl;
+  few_holds = few_by _ refl;
   holds = refl;
 }
 

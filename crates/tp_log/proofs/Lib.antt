@@ -1,1 +1,11 @@
 mod Turns
+pub mod WordFacts
+pub mod Forms
+pub mod PlanFacts
+pub mod CauseFacts
+pub mod RecordFacts
+pub mod LineFacts
+pub mod EventWords
+pub mod TextLines
+pub mod LogLines
+pub mod LogFacts

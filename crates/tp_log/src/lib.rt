@@ -1,6 +1,22 @@
-//! The lines of a log.
+//! The lines of a log, printed and read.
 #![tactic(auto)]
 
+mod causes;
+mod fault;
+mod fields;
+mod heading;
+mod item;
+mod laws;
+mod line;
+mod plans;
 mod printing;
+mod reading;
+mod reason;
+mod records;
 
+pub use fault::LogFault;
+pub use item::Item;
+pub use laws::{one_item, one_log};
+pub use line::{print_echo, read_log_line};
 pub use printing::print_record;
+pub use reading::read_log;

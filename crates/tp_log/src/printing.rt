@@ -1,69 +1,13 @@
-ghost use Rattle.std.specs.Prelude.{◌≡◌, ℕ, ◌+◌, ◌<◌, [], ◌++◌, ◌∷◌, length, map, OnOk, OnErr, codes, decimal};
-ghost use Rattle.std.specs.List.{flat_map};
+// Records written.
+ghost use Rattle.std.specs.Prelude.{◌≡◌, [], ◌++◌, ◌∷◌, OnOk, OnErr, codes, decimal};
 ghost use Rattle.tp_script.specs.Script.{spaced};
-ghost use Rattle.tp_log.specs.Records.{sheet_text, goal_text, turns_words, cause_words, record_words, record_text, IsPrintable};
+ghost use Rattle.tp_log.specs.Records.{sheet_text, record_words, record_text, IsPrintable};
 
+use crate::causes::put_cause;
+use crate::fields::{put_goal_word, put_number_word, put_sheet_word, put_word};
+use crate::plans::{put_points, put_turns};
 use tp_base::{Memory, Name, Tick};
-use tp_schedule::{Cause, Record, SheetName};
-use tp_words::put_number;
-
-/// Writes a space and the word.
-fn put_word(out: &mut Vec<u8>, word: &[u8]) -> Result<(), Memory>
-    ensures { OnOk result (out.new.items ≡ out.old.items ++ 32 ∷ word.now) }
-{
-    out.push(b' ')?;
-    out.extend_from_slice(word)?;
-    Ok(())
-}
-
-fn put_number_word(out: &mut Vec<u8>, number: u32) -> Result<(), Memory>
-    ensures { OnOk result (out.new.items ≡ out.old.items ++ 32 ∷ decimal number) }
-{
-    out.push(b' ')?;
-    put_number(out, number)
-}
-
-fn put_sheet_word(out: &mut Vec<u8>, sheet: &SheetName) -> Result<(), Memory>
-    ensures { OnOk result (out.new.items ≡ out.old.items ++ 32 ∷ sheet_text sheet.now) }
-{
-    out.push(b' ')?;
-    out.extend_from_slice(sheet.job.as_bytes())?;
-    out.push(b'.')?;
-    put_number(out, sheet.number)?;
-    out.push(b'.')?;
-    put_number(out, sheet.copy)
-}
-
-fn put_goal_word(out: &mut Vec<u8>, goal: &Option<Name>) -> Result<(), Memory>
-    ensures { OnOk result (out.new.items ≡ out.old.items ++ 32 ∷ goal_text goal.now) }
-{
-    match goal {
-        None => put_word(out, b"*"),
-        Some(tray) => put_word(out, tray.as_bytes()),
-    }
-}
-
-/// Writes points and actions in turn.
-fn put_turns(out: &mut Vec<u8>, points: &[Tick], acts: &[Name]) -> Result<(), Memory>
-    requires { length points.now ≡ length acts.now + 1 }
-    ensures { OnOk result (out.new.items ≡ out.old.items ++ flat_map (λ word. 32 ∷ word) (turns_words points.now acts.now)) }
-{
-    put_number_word(out, points[0])?;
-    for i in 0..acts.len() {
-        put_word(out, acts[i].as_bytes())?;
-        put_number_word(out, points[i + 1])?;
-    }
-    Ok(())
-}
-
-fn put_points(out: &mut Vec<u8>, points: &[Tick]) -> Result<(), Memory>
-    ensures { OnOk result (out.new.items ≡ out.old.items ++ flat_map (λ word. 32 ∷ word) (map decimal points.now)) }
-{
-    for point in points {
-        put_number_word(out, *point)?;
-    }
-    Ok(())
-}
+use tp_schedule::{Record, SheetName};
 
 /// Writes a heading and the copy that it is about.
 fn put_heading(out: &mut Vec<u8>, heading: &[u8], sheet: &SheetName) -> Result<(), Memory>
@@ -101,33 +45,6 @@ fn put_release(
     put_word(out, name.as_bytes())?;
     put_number_word(out, start)?;
     put_number_word(out, end)
-}
-
-fn put_cause(out: &mut Vec<u8>, cause: &Cause) -> Result<(), Memory>
-    ensures { OnOk result (out.new.items ≡ out.old.items ++ flat_map (λ word. 32 ∷ word) (cause_words cause.now)) }
-{
-    match cause {
-        Cause::Syntax => put_word(out, b"syntax"),
-        Cause::Tray(name) => put_cause_of(out, b"tray", name),
-        Cause::Media(name) => put_cause_of(out, b"media", name),
-        Cause::Named(name) => put_cause_of(out, b"named", name),
-        Cause::Waiting => put_word(out, b"waiting"),
-        Cause::Back(now) => {
-            put_word(out, b"back")?;
-            put_number_word(out, *now)
-        }
-        Cause::End => put_word(out, b"end"),
-        Cause::Module(name) => put_cause_of(out, b"module", name),
-        Cause::Out(name) => put_cause_of(out, b"out", name),
-        Cause::NotOn(name) => put_cause_of(out, b"noton", name),
-    }
-}
-
-fn put_cause_of(out: &mut Vec<u8>, cause: &[u8], name: &Name) -> Result<(), Memory>
-    ensures { OnOk result (out.new.items ≡ (out.old.items ++ 32 ∷ cause.now) ++ 32 ∷ name.now) }
-{
-    put_word(out, cause)?;
-    put_word(out, name.as_bytes())
 }
 
 /// Writes the words of the record, with one space between each two.

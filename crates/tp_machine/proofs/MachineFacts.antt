@@ -17,6 +17,7 @@ use Rattle.tp_machine.specs.declared.parts.HoldRule.{HoldRule}
 use Rattle.tp_machine.specs.declared.parts.LocId.{LocId}
 use Rattle.tp_machine.specs.declared.parts.Resource.{Resource}
 use Rattle.tp_machine.specs.declared.whole.Machine.{Machine}
+use Rattle.tp_machine.proofs.NameFacts.{action_names, all_names, few_holds_at, media_names, name_tests, names_differ, resource_names}
 use Rattle.tp_machine.proofs.Lists.{list_all-at, All-from_test, All-from_none, not_contained, AllPairs-nil, AllPairs-cons}
 
 -- a location that is not among others is not one of them
@@ -146,7 +147,14 @@ is_machine machine =
     let p = machine.good_purges in
     let f = machine.good_feeders in
     let r = machine.good_resources in
+    let names = name_tests machine in
     record {
+      location_names = (all_names machine.locations names.locations, names_differ machine.locations names.locations_differ);
+      module_names = (all_names machine.modules names.modules, names_differ machine.modules names.modules_differ);
+      media_names = media_names machine.feeders names.media;
+      resource_names = resource_names machine.resources names.resources;
+      action_names = (action_names machine.actions names.actions, names_differ (map (λ a. a.name) machine.actions) machine.names_differ);
+      few_holds = λ n a at. at_most (length a.holds) 4 (few_holds_at machine n a at);
       lead = at_most machine.lead 4096 (grind arith);
       window = within 1 32768 machine.window (grind arith);
       budget = within 1 200000 machine.budget (grind arith);

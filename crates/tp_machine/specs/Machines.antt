@@ -1,5 +1,6 @@
 -- What every machine keeps: the rules of its text, said of the machine itself.
-use Rattle.std.specs.Prelude.{◌≡◌, ◌≢◌, ℕ, ◌+◌, ◌≤◌, ◌<◌, length, Some, All, AllPairs, Contains, IsTrue, ℤ, pos, negsuc, ◌≤ℤ◌, ◌<ℤ◌, map}
+use Rattle.std.specs.Prelude.{◌≡◌, ◌≢◌, ℕ, ◌+◌, ◌≤◌, ◌<◌, List, length, Some, All, AllPairs, Contains, IsTrue, ℤ, pos, negsuc, ◌≤ℤ◌, ◌<ℤ◌, map}
+use Rattle.tp_base.specs.NameText.{is_name_text}
 use Rattle.tp_machine.specs.Rules.{do_names_rise, feeder_names}
 use Rattle.tp_machine.specs.Using.{action_at, begin_of, end_of}
 use Rattle.tp_machine.specs.declared.parts.Action.{Action}
@@ -29,6 +30,13 @@ IsSoundRule a rule = (start end : ℕ) → start + a.least ≤ end → end ≤ s
 abbrev pub IsOffset : ℤ → Type 0
 IsOffset z = (negsuc 8191 ≤ℤ z) × (z ≤ℤ pos 8192)
 
+abbrev pub IsName : List ℕ → Type 0
+IsName text = IsTrue (is_name_text text)
+
+-- no two of the names are the same
+abbrev pub AreDifferent : List (List ℕ) → Type 0
+AreDifferent names = AllPairs (λ a b. a ≢ b) names
+
 pub record IsMachine (machine : Machine) : Type 0 where
   pub lead : machine.lead ≤ 4096
   pub window : (1 ≤ machine.window) × (machine.window ≤ 32768)
@@ -37,6 +45,11 @@ pub record IsMachine (machine : Machine) : Type 0 where
   pub modules : (1 ≤ length machine.modules) × (length machine.modules ≤ 64)
   pub resources : length machine.resources ≤ 256
   pub actions : (1 ≤ length machine.actions) × (length machine.actions ≤ 512)
+  pub location_names : All IsName machine.locations × AreDifferent machine.locations
+  pub module_names : All IsName machine.modules × AreDifferent machine.modules
+  pub media_names : All (λ f. IsName f.media) machine.feeders
+  pub resource_names : All (λ r. IsName r.name) machine.resources
+  pub action_names : All (λ a. IsName a.name) machine.actions × AreDifferent (map (λ a. a.name) machine.actions)
   pub some_tray : 1 ≤ length machine.trays
   pub trays : All (IsLocation machine) machine.trays
   pub purges : All (λ p. IsLocation machine p × ¬ Contains machine.trays p) machine.purges
@@ -48,6 +61,7 @@ pub record IsMachine (machine : Machine) : Type 0 where
   pub ways : (n : ℕ) (a : Action) → action_at machine n ≡ Some a → IsWay machine a
   pub lasts : (n : ℕ) (a : Action) → action_at machine n ≡ Some a → 1 ≤ a.least
   pub in_range : (n : ℕ) (a : Action) → action_at machine n ≡ Some a → (a.least ≤ a.most) × (a.most ≤ 4096)
+  pub few_holds : (n : ℕ) (a : Action) → action_at machine n ≡ Some a → length a.holds ≤ 4
   pub known : (n : ℕ) (a : Action) → action_at machine n ≡ Some a → (rule : HoldRule) → Contains a.holds rule → rule.resource.0 < length machine.resources
   pub offsets : (n : ℕ) (a : Action) → action_at machine n ≡ Some a → (rule : HoldRule) → Contains a.holds rule → IsOffset rule.begin_off × IsOffset rule.end_off
   pub sound : (n : ℕ) (a : Action) → action_at machine n ≡ Some a → (rule : HoldRule) → Contains a.holds rule → IsSoundRule a rule

@@ -74,14 +74,14 @@ rise_differ (a ∷ b ∷ names) rise =
 
 -- ---- the parts of a machine
 
-same_texts : (xs : List (List ℕ)) → map text_of (map string xs) ≡ xs
+pub same_texts : (xs : List (List ℕ)) → map text_of (map string xs) ≡ xs
 same_texts [] = refl
 same_texts (x ∷ xs) = ap (λ t. x ∷ t) (same_texts xs)
 
 pub texts_back : (xs : List (List ℕ)) → map text_of (values_of (items_of (map string xs))) ≡ xs
 texts_back xs = ap (map text_of) (values_of-items (map string xs)) ∙ same_texts xs
 
-is_within : (n : ℕ) (l : LocId) → is_place n l ≡ true → l.0 < n
+pub is_within : (n : ℕ) (l : LocId) → is_place n l ≡ true → l.0 < n
 unfolding is_place
 is_within n l test = grind (arith, nat_tests)
 
@@ -116,11 +116,11 @@ feeder_keys names (f ∷ fs) = ap (λ t. name_at names f.loc.0 ∷ t) (feeder_ke
 
 -- ---- actions
 
-anchor_back : (a : Anchor) → anchor_of (string (anchor_text a)) ≡ a
+pub anchor_back : (a : Anchor) → anchor_of (string (anchor_text a)) ≡ a
 anchor_back Start = refl
 anchor_back End = refl
 
-of_resource : (n : ℕ) (h : HoldRule) → is_of_resource n h ≡ true → h.resource.0 < n
+pub of_resource : (n : ℕ) (h : HoldRule) → is_of_resource n h ≡ true → h.resource.0 < n
 unfolding is_of_resource
 of_resource n h test = grind (arith, nat_tests)
 
@@ -128,7 +128,7 @@ hold_back : (rs : List (List ℕ)) (h : HoldRule) → are_different rs ≡ true 
 unfolding hold_of hold_data
 hold_back rs h differ within = rw (place_back rs h.resource.0 differ within, anchor_back h.begin, anchor_back h.end)
 
-holds_back : (rs : List (List ℕ)) (hs : List HoldRule) → are_different rs ≡ true → list_all (is_of_resource (length rs)) hs ≡ true → map (hold_of rs) (map (hold_data rs) hs) ≡ hs
+pub holds_back : (rs : List (List ℕ)) (hs : List HoldRule) → are_different rs ≡ true → list_all (is_of_resource (length rs)) hs ≡ true → map (hold_of rs) (map (hold_data rs) hs) ≡ hs
 holds_back rs [] differ known = refl
 holds_back rs (h ∷ hs) differ known =
     let (here, rest) = and_parts (is_of_resource (length rs) h) (list_all (is_of_resource (length rs)) hs) known in

@@ -44,7 +44,7 @@ hold_known : (rs : List Resource) (a : Action) (h : HoldRule) → machine.is_sou
 unfolding is_of_resource
 hold_known rs a h test = grind arith
 
-all_held : (rs : List Resource) (a : Action) (hs : List HoldRule) → list_all (machine.is_sound_hold rs a) hs ≡ true → list_all (is_of_resource (length rs)) hs ≡ true
+pub all_held : (rs : List Resource) (a : Action) (hs : List HoldRule) → list_all (machine.is_sound_hold rs a) hs ≡ true → list_all (is_of_resource (length rs)) hs ≡ true
 all_held rs a [] test = refl
 all_held rs a (h ∷ hs) test =
     let (here, rest) = and_parts (machine.is_sound_hold rs a h) (list_all (machine.is_sound_hold rs a) hs) test in

@@ -47,7 +47,7 @@ same_any resources h (k ∷ hs) hold rest =
       same_any resources h hs hold more,
     )
 
-holds_differ : (resources : List (List ℕ)) (hs : List Data) → list_all (is_hold resources) hs ≡ true → machine.do_holds_differ (map (hold_of resources) hs) ≡ are_different (map (text_at (codes "resource")) hs)
+pub holds_differ : (resources : List (List ℕ)) (hs : List Data) → list_all (is_hold resources) hs ≡ true → machine.do_holds_differ (map (hold_of resources) hs) ≡ are_different (map (text_at (codes "resource")) hs)
 holds_differ resources [] hold = refl
 holds_differ resources (h ∷ hs) hold =
     let (here, rest) = and_parts (is_hold resources h) (list_all (is_hold resources) hs) hold in

@@ -10,6 +10,7 @@ pub mod SupplyFacts
 pub mod ActionFacts
 pub mod HoldsFacts
 pub mod KeptFacts
+pub mod Named
 pub mod Sound
 pub mod Given
 pub mod OneTable
@@ -20,4 +21,10 @@ pub mod Fitting
 pub mod Back
 pub mod Depth
 pub mod PrintedBack
+pub mod PrintedPlaces
+pub mod PrintedActions
+pub mod MachineParts
+pub mod PrintedTops
+pub mod PrintedRules
+pub mod Dateless
 pub mod PrintedText

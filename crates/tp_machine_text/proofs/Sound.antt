@@ -7,15 +7,17 @@ use Rattle.std.proofs.lemmas.List.{length-map}
 use Rattle.tp_base.specs.NameText.{is_between}
 use Rattle.toml.specs.Data.{Members, get_member}
 use Rattle.tp_machine.specs.Rules as machine
+use Rattle.tp_machine.specs.Rules.{are_named}
 use Rattle.tp_machine_text.specs.Words.{elements_at, members_at, is_among}
 use Rattle.tp_machine_text.specs.Keys as text
 use Rattle.tp_machine_text.specs.Kept.{KeepsRules}
 use Rattle.tp_machine_text.specs.TheMachine.{number_or, loc_of, feeders_of, resources_of, action_of}
 use Rattle.tp_machine_text.proofs.NumberFacts.{number_between, length_texts, length_resources, length_feeders}
-use Rattle.tp_machine_text.proofs.KeptFacts.{names_parts, trays_from, purges_from, purges_apart, some_feeder, feeders_open, feeders_known, few_resources_test, actions_counted, actions_differ, texts_known}
+use Rattle.tp_machine_text.proofs.KeptFacts.{names_parts, trays_from, purges_from, purges_apart, some_feeder, feeders_open, feeders_known, few_resources_test, actions_counted, actions_named, actions_differ, resources_named, texts_known}
 use Rattle.tp_machine_text.proofs.SupplyFacts.{sound_trays, sound_purges, feeder_places, feeder_names_are, sound_resources}
 use Rattle.tp_machine_text.proofs.ActionFacts.{same_differ, action_names, sound_ways, sound_durations}
 use Rattle.tp_machine_text.proofs.HoldsFacts.{actions_held}
+use Rattle.tp_machine_text.proofs.Named.{names_sound, media_sound, resource_names_sound, action_names_sound, few_holds_sound}
 
 low_end : (n high : ℕ) → is_between 0 high n ≡ true → nat_le n high ≡ true
 low_end n high test = (and_parts (nat_le 0 n) (nat_le n high) test).1
@@ -92,3 +94,18 @@ module _ (t : Members) (k : KeepsRules t) where
 
   pub holds : machine.have_holds (resources_of (text.modules t) (resource_table t)) (map (action_of (text.locations t) (text.modules t) (text.resources t)) (text.actions t)) ≡ true
   holds = actions_held (text.locations t) (text.modules t) (resource_table t) (text.actions t) k.holds k.begins k.lengths
+
+  pub named : machine.are_named (text.locations t) (text.modules t) (feeders_of (text.locations t) (feeder_table t)) (resources_of (text.modules t) (resource_table t))
+      (map (action_of (text.locations t) (text.modules t) (text.resources t)) (text.actions t)) ≡ true
+  unfolding are_named
+  named =
+      rw (
+        names_sound 256 (elements_at (codes "locations") t) k.locations,
+        names_sound 64 (elements_at (codes "modules") t) k.modules,
+        media_sound (text.locations t) (feeder_table t) k.media,
+        resource_names_sound (text.modules t) (resource_table t) (resources_named t k),
+        action_names_sound (text.locations t) (text.modules t) (text.resources t) (text.actions t) (actions_named t k),
+      )
+
+  pub few_holds : machine.have_few_holds (map (action_of (text.locations t) (text.modules t) (text.resources t)) (text.actions t)) ≡ true
+  few_holds = few_holds_sound (text.locations t) (text.modules t) (text.resources t) (text.actions t) k.holds

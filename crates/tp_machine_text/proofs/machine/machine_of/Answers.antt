@@ -27,6 +27,7 @@ invariant_of-result c =
     let rs = c.in_ok-resources.ensures in
     let ds = c.in_ok-actions.ensures in
     record {
+      named = rw (es, ms, fs.feeders, rs.resources, ds) (sound.named t k);
       numbers = rw (c.number_at.ensures, c.number_at-2.ensures, c.number_at-3.ensures) (sound.numbers t k);
       counts = rw (es, ms, rs.resources, ds) (sound.counts t k);
       good_trays = rw (es, ts) (sound.trays t k);
@@ -36,5 +37,6 @@ invariant_of-result c =
       names_differ = rw ds (sound.names t k);
       ways = rw (es, ms, ts, ps, fs.feeders, ds) (sound.ways t k);
       durations = rw ds (sound.durations t k);
+      few_holds = rw ds (sound.few_holds t k);
       holds = rw (rs.resources, ds) (sound.holds t k);
     }

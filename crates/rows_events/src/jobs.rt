@@ -1,0 +1,348 @@
+// Jobs of machines: which are refused, which of their copies wait, and which is tried next.
+ghost use Rattle.std.specs.Prelude.{◌≡◌, ◌+◌, ◌<◌, ◌≤◌, ◌^◌, length, IfOk, IsSome, OnOk};
+ghost use Rattle.tp_jobs.specs.Waiting.{find_waiting};
+
+use rows_machine::machines::DUO;
+use std::alloc::Global;
+use std::test::Fail;
+use tp_base::Name;
+use tp_jobs::{Blocked, JobFault, Lines};
+use tp_machine::{Face, LocId, Machine, Want};
+use tp_machine_text::read_machine;
+use tp_schedule::SheetId;
+use tp_script::{Event, read_line};
+
+const TWO_TRAYS: &str = r#"format = 1
+lead = 2
+window = 200
+locations = ["f", "t", "u"]
+modules = ["FEED"]
+trays = ["t", "u"]
+
+[feeders]
+f = "plain"
+
+[[actions]]
+name = "up"
+module = "FEED"
+from = "f"
+to = "t"
+least = 2
+most = 4
+
+[[actions]]
+name = "down"
+module = "FEED"
+from = "f"
+to = "u"
+least = 2
+most = 4
+"#;
+
+fn machine_of(alloc: Global, text: &str) -> Result<Machine, Fail> {
+    match read_machine(alloc, text.as_bytes()) {
+        Ok(machine) => Ok(machine),
+        Err(_) => Err(Fail::from("a machine text is refused")),
+    }
+}
+
+fn name_of(text: &[u8]) -> Result<Name, Fail> {
+    match Name::read(text) {
+        Some(name) => Ok(name),
+        None => Err(Fail::from("a name of the rows is refused")),
+    }
+}
+
+fn job_of(alloc: Global, line: &[u8]) -> Result<Event, Fail> {
+    if line.len() > 99 {
+        return Err(Fail::from("a longer line than a row has"));
+    }
+    match read_line(alloc, line) {
+        Ok(Some(event)) => Ok(event),
+        _ => Err(Fail::from("a line without an event")),
+    }
+}
+
+/// Adds the job.
+fn add(lines: &mut Lines, machine: &Machine, job: &Event) -> Result<u32, JobFault>
+    requires { length lines.old.jobs + 1 < 2 ^ 32 }
+    ensures { length lines.new.jobs ≤ length lines.old.jobs + 1 }
+{
+    match job {
+        Event::Job {
+            name,
+            tray,
+            media,
+            groups,
+        } => {
+            let _count = groups.len();
+            lines.add(machine, *name, *tray, *media, groups.as_slice())
+        }
+        _ => Err(JobFault::Memory),
+    }
+}
+
+fn put_name(out: &mut Vec<u8>, word: &[u8], name: &Name) -> Result<(), Fail> {
+    out.extend_from_slice(word)?;
+    out.extend_from_slice(name.as_bytes())?;
+    Ok(())
+}
+
+fn put_text(out: &mut Vec<u8>, text: &String) -> Result<(), Fail> {
+    out.extend_from_slice(text.as_bytes())?;
+    Ok(())
+}
+
+fn told(alloc: Global, answer: &Result<u32, JobFault>) -> Result<Vec<u8>, Fail> {
+    let mut out = Vec::new(alloc);
+    match answer {
+        Ok(job) => put_text(&mut out, &format!(in alloc; "job {job}")?)?,
+        Err(JobFault::UnknownTray(name)) => put_name(&mut out, b"tray ", name)?,
+        Err(JobFault::UnknownMedia(name)) => put_name(&mut out, b"media ", name)?,
+        Err(JobFault::TwiceNamed(name)) => put_name(&mut out, b"named ", name)?,
+        Err(JobFault::TooManyWaiting { waiting, asked }) => {
+            put_text(&mut out, &format!(in alloc; "waiting {waiting} {asked}")?)?;
+        }
+        Err(JobFault::Memory) => return Err(Fail::from("memory")),
+    }
+    Ok(out)
+}
+
+/// What is told of the second job.
+fn second_told(
+    alloc: Global,
+    machine: &Machine,
+    first: &[u8],
+    second: &[u8],
+) -> Result<Vec<u8>, Fail> {
+    let first = job_of(alloc, first)?;
+    let second = job_of(alloc, second)?;
+    let mut lines = Lines::new(alloc);
+    let _first = add(&mut lines, machine, &first);
+    told(alloc, &add(&mut lines, machine, &second))
+}
+
+#[test]
+fn refusals(rt: HostRuntime) -> Result<(), Fail> {
+    let machine = machine_of(rt.alloc(), DUO)?;
+    let rows: [(&[u8], &[u8], &[u8]); 12] = [
+        (b"job j1 t plain M-:F", b"job j2 t plain C-:F", b"job 1"),
+        (b"job j1 t plain M-:F", b"job j2 x plain M-:F", b"tray x"),
+        (b"job j1 t plain M-:F", b"job j2 p plain M-:F", b"tray p"),
+        (b"job j1 t plain M-:F", b"job j2 f plain M-:F", b"tray f"),
+        (
+            b"job j1 t plain M-:F",
+            b"job j2 t glossy M-:F",
+            b"media glossy",
+        ),
+        (b"job j1 t plain M-:F", b"job j1 t plain C-:F", b"named j1"),
+        (
+            b"job j1 t plain M-:F",
+            b"job j2 t plain 4096*M-:F",
+            b"waiting 1 4096",
+        ),
+        (
+            b"job j1 x plain M-:F",
+            b"job j2 t plain 4096*M-:F M-:F",
+            b"waiting 0 4097",
+        ),
+        (
+            b"job j1 t plain 4000*M-:F",
+            b"job j2 t plain 96*MM:F",
+            b"job 1",
+        ),
+        (
+            b"job j1 t plain M-:F",
+            b"job j1 x glossy 4096*M-:F",
+            b"tray x",
+        ),
+        (
+            b"job j1 t plain M-:F",
+            b"job j1 t glossy 4096*M-:F",
+            b"media glossy",
+        ),
+        (
+            b"job j1 t plain M-:F",
+            b"job j1 t plain 4096*M-:F",
+            b"named j1",
+        ),
+    ];
+    for (first, second, wanted) in rows {
+        let given = second_told(rt.alloc(), &machine, first, second)?;
+        assert_eq!(rt; given.as_slice(), wanted, "{second:?}");
+    }
+    Ok(())
+}
+
+fn letter(want: Want) -> &'static str {
+    match want {
+        Want::Blank => "-",
+        Want::Mono => "M",
+        Want::Colour => "C",
+    }
+}
+
+/// The copy, and what it wants.
+fn put_copy(alloc: Global, out: &mut Vec<u8>, lines: &Lines, copy: SheetId) -> Result<(), Fail>
+    requires waits { IsSome (find_waiting copy lines.now.waiting) }
+    requires job { copy.job < length lines.now.jobs }
+{
+    put_name(out, b"", &lines.name_of(copy.job))?;
+    let number = copy.number;
+    let copy_number = copy.copy;
+    let want = lines.want_of(copy);
+    let front = letter(want.front);
+    let back = letter(want.back);
+    put_text(
+        out,
+        &format!(in alloc; ".{number}.{copy_number} {front}{back} ")?,
+    )
+}
+
+/// The copies in the order in which they are tried.
+fn tried(alloc: Global, lines: &Lines, blocked: &Blocked) -> Result<Vec<u8>, Fail> {
+    let mut out = Vec::new(alloc);
+    let mut after: Option<SheetId> = None;
+    for _ in 0..lines.waiting() {
+        match lines.next_to_try(after, blocked) {
+            Some(copy) => {
+                put_copy(alloc, &mut out, lines, copy)?;
+                after = Some(copy);
+            }
+            None => return Ok(out),
+        }
+    }
+    Ok(out)
+}
+
+/// The lines after one job.
+fn one_job(alloc: Global, machine: &Machine, job: &[u8]) -> Result<Lines, Fail>
+    ensures { IfOk result (λ lines. length lines.jobs ≤ 1) }
+{
+    let job = job_of(alloc, job)?;
+    let mut lines = Lines::new(alloc);
+    let _number = add(&mut lines, machine, &job);
+    Ok(lines)
+}
+
+#[test]
+fn wants(rt: HostRuntime) -> Result<(), Fail> {
+    let machine = machine_of(rt.alloc(), DUO)?;
+    let lines = one_job(rt.alloc(), &machine, b"job j t plain 2*MM:F C-:B")?;
+    let given = tried(rt.alloc(), &lines, &Blocked::none())?;
+    assert_eq!(rt; given.as_slice(), b"j.1.1 MM j.2.1 MM j.3.1 C- ".as_slice());
+    Ok(())
+}
+
+/// Three jobs of two trays, in turn.
+fn three_jobs(alloc: Global) -> Result<Lines, Fail> {
+    let machine = machine_of(alloc, TWO_TRAYS)?;
+    let mut lines = one_job(alloc, &machine, b"job a t plain 2*M-:F")?;
+    let second = job_of(alloc, b"job b u plain 2*C-:F")?;
+    let third = job_of(alloc, b"job c t plain -M:F")?;
+    let _second = add(&mut lines, &machine, &second);
+    let _third = add(&mut lines, &machine, &third);
+    Ok(lines)
+}
+
+fn only_blocked(loc: u16) -> Blocked {
+    let mut blocked = Blocked::none();
+    if loc < 256 {
+        blocked.add(LocId(loc));
+    }
+    blocked
+}
+
+#[test]
+fn two_lines(rt: HostRuntime) -> Result<(), Fail> {
+    let lines = three_jobs(rt.alloc())?;
+    let given = tried(rt.alloc(), &lines, &Blocked::none())?;
+    assert_eq!(rt;
+        given.as_slice(),
+        b"a.1.1 M- a.2.1 M- b.1.1 C- b.2.1 C- c.1.1 -M ".as_slice()
+    );
+    let given = tried(rt.alloc(), &lines, &only_blocked(1))?;
+    assert_eq!(rt; given.as_slice(), b"b.1.1 C- b.2.1 C- ".as_slice());
+    Ok(())
+}
+
+/// Takes the copy that is tried first, and puts it back if asked to.
+fn retake(lines: &mut Lines, blocked: &Blocked, back: bool) -> Result<(), Fail> {
+    let Some(first) = lines.next_to_try(None, blocked) else {
+        return Err(Fail::from("no copy"));
+    };
+    if lines.is_broken(first.job) || lines.tray_of(first.job) != LocId(2) {
+        return Err(Fail::from("another job than the row's"));
+    }
+    let want = lines.want_of(first);
+    lines.taken(first);
+    if back && lines.waiting() < 4096 && lines.wait(first, want).is_err() {
+        return Err(Fail::from("memory"));
+    }
+    Ok(())
+}
+
+#[test]
+fn taken_and_back(rt: HostRuntime) -> Result<(), Fail> {
+    let lines = three_jobs(rt.alloc())?;
+    let mut copy = lines.copy(rt.alloc()).ok().ok_or("memory")?;
+    retake(&mut copy, &only_blocked(1), true)?;
+    let given = tried(rt.alloc(), &copy, &Blocked::none())?;
+    assert_eq!(rt;
+        given.as_slice(),
+        b"a.1.1 M- a.2.1 M- b.1.1 C- b.2.1 C- c.1.1 -M ".as_slice()
+    );
+    retake(&mut copy, &only_blocked(1), false)?;
+    let given = tried(rt.alloc(), &copy, &Blocked::none())?;
+    assert_eq!(rt;
+        given.as_slice(),
+        b"a.1.1 M- a.2.1 M- b.2.1 C- c.1.1 -M ".as_slice()
+    );
+    Ok(())
+}
+
+/// A job of one sheet, with this number in its name. Where 4,096 copies wait, the first is taken.
+fn add_numbered(
+    alloc: Global,
+    lines: &mut Lines,
+    machine: &Machine,
+    number: u32,
+) -> Result<(), Fail>
+    requires { length lines.old.jobs + 1 < 2 ^ 32 }
+    ensures { OnOk result (length lines.new.jobs ≤ length lines.old.jobs + 1) }
+{
+    if lines.waiting() == 4096
+        && let Some(first) = lines.next_to_try(None, &Blocked::none())
+    {
+        lines.taken(first);
+    }
+    let job = job_of(
+        alloc,
+        format!(in alloc; "job j{number} t plain M-:F")?.as_bytes(),
+    )?;
+    match add(lines, machine, &job) {
+        Ok(_) => Ok(()),
+        Err(_) => Err(Fail::from("a job is refused")),
+    }
+}
+
+fn ten_thousand_jobs(alloc: Global, machine: &Machine) -> Result<Lines, Fail>
+    ensures { IfOk result (λ lines. length lines.jobs ≤ 10000) }
+{
+    let mut lines = Lines::new(alloc);
+    for number in 0..10_000 {
+        add_numbered(alloc, &mut lines, machine, number)?;
+    }
+    Ok(lines)
+}
+
+#[test]
+fn ten_thousand(rt: HostRuntime) -> Result<(), Fail> {
+    let machine = machine_of(rt.alloc(), DUO)?;
+    let mut lines = ten_thousand_jobs(rt.alloc(), &machine)?;
+    assert_eq!(rt; lines.waiting(), 4096);
+    let job = job_of(rt.alloc(), b"job j77 t plain M-:F")?;
+    let given = told(rt.alloc(), &add(&mut lines, &machine, &job))?;
+    assert_eq!(rt; given.as_slice(), b"named j77".as_slice());
+    Ok(())
+}

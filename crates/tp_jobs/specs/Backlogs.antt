@@ -1,0 +1,42 @@
+-- What clauses see of the lines: the jobs and the copies that wait.
+use Rattle.std.specs.Prelude.{ℕ, ◌<◌, ◌^◌, ◌≢◌, List, [], length, map, slice_get, Option, Some, None, All, AllPairs, IsTrue}
+use Rattle.tp_machine.specs.declared.parts.LocId.{LocId}
+use Rattle.tp_schedule.specs.Plans.{is_before}
+use Rattle.tp_schedule.specs.declared.parts.SheetId.{SheetId}
+use Rattle.tp_jobs.specs.declared.parts.Job.{Job}
+use Rattle.tp_jobs.specs.declared.parts.WaitingCopy.{WaitingCopy}
+
+-- the jobs in the order of arrival, and the copies that wait, in the order of copies
+pub record Backlog : Type 0 where
+  pub jobs : List Job
+  pub waiting : List WaitingCopy
+
+abbrev pub no_backlog : Backlog
+no_backlog = record { jobs = []; waiting = [] }
+
+abbrev pub names_of : List Job → List (List ℕ)
+names_of jobs = map (λ j. j.name) jobs
+
+-- the tray of a copy's job, and so its line
+abbrev pub tray_in : Option Job → LocId
+tray_in None = record { 0 = 0 }
+tray_in (Some j) = j.tray
+
+abbrev pub tray_of : List Job → SheetId → LocId
+tray_of jobs copy = tray_in (slice_get jobs copy.job)
+
+-- a copy waits before another
+abbrev pub WaitsBefore : WaitingCopy → WaitingCopy → Type 0
+WaitsBefore v w = IsTrue (is_before v.sheet w.sheet)
+
+-- the copy is of one of the jobs
+abbrev pub IsOfJob : List Job → WaitingCopy → Type 0
+IsOfJob jobs w = w.sheet.job < length jobs
+
+-- no two jobs have one name; the copies that wait are of jobs that came, each once and in the order of copies
+pub record IsBacklog (lines : Backlog) : Type 0 where
+  pub named : AllPairs (λ i j. i.name ≢ j.name) lines.jobs
+  pub in_order : AllPairs WaitsBefore lines.waiting
+  pub of_jobs : All (IsOfJob lines.jobs) lines.waiting
+  pub few_jobs : length lines.jobs < 2 ^ 32
+  pub few_waiting : length lines.waiting < 2 ^ 32

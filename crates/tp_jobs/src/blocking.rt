@@ -1,0 +1,51 @@
+ghost use Rattle.std.specs.Prelude.{◌≡◌, ◌<◌, ◌||◌, ◌==◌, false};
+ghost use Rattle.tp_machine.specs.declared.parts.LocId.{LocId};
+ghost use Rattle.tp_jobs.specs.Trying.{is_blocked};
+
+use std::marker::Model;
+use tp_machine::LocId;
+
+/// A set of locations: the trays whose lines are passed over.
+#[derive(Drop)]
+pub struct Blocked {
+    marks: [bool; 256],
+}
+
+// Clauses see a mark for each location.
+impl Model for Blocked {
+    ghost use Rattle.std.specs.Prelude.{◌≡◌, List, Bool, length};
+
+    ghost Value = { List Bool };
+
+    ghost view = { λ b. b.marks };
+
+    ghost invariant = { λ b. length b.marks ≡ 256 };
+}
+
+impl Blocked {
+    /// No location.
+    pub fn none() -> Blocked
+        ensures { (place : LocId) → is_blocked result place ≡ false }
+    {
+        Blocked {
+            marks: [false; 256],
+        }
+    }
+
+    /// This location too.
+    pub fn add(&mut self, loc: LocId)
+        requires { loc.0 < 256 }
+        ensures { (place : LocId) → is_blocked self.new place ≡ ((place.0 == loc.0) || is_blocked self.old place) }
+    {
+        self.marks[usize::from(loc.0)] = true;
+    }
+
+    pub(crate) fn contains(&self, loc: LocId) -> bool
+        ensures { result ≡ is_blocked self.now loc }
+    {
+        match self.marks.get(usize::from(loc.0)) {
+            Some(mark) => *mark,
+            None => false,
+        }
+    }
+}

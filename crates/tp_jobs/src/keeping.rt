@@ -1,0 +1,216 @@
+ghost use Rattle.std.specs.Prelude.{◌≡◌, ◌+◌, ◌<◌, ◌^◌, length, slice_get, option_map, Some, None, IsSome, IsSomeAnd, IfSome, IfOk, OnOk, OnErr};
+ghost use Rattle.tp_jobs.specs.Refusing.{job_refusal, refusal_in, tray_named};
+ghost use Rattle.tp_jobs.specs.Waiting.{find_waiting, put_waiting, without_waiting, sheets_of, new_job, with_job};
+
+use crate::blocking::Blocked;
+use crate::fault::JobFault;
+use crate::making::make_copies;
+use crate::parts::{Job, WaitingCopy};
+use crate::queueing::{first_open, place_behind, place_of};
+use crate::refusing::{count_sheets, find_tray, has_feeder};
+use indexmap::IndexSet;
+use std::alloc::Global;
+use std::marker::Model;
+use tp_base::{Memory, Name};
+use tp_machine::{LocId, Machine, Sheet};
+use tp_schedule::SheetId;
+use tp_script::Group;
+
+const MOST_WAITING: u64 = 4096;
+
+/// The jobs that were accepted, and which of their copies wait.
+///
+/// A name is looked up by hash and a copy by a binary search, so no call but `copy` looks at all
+/// jobs. `wait` and `taken` move the copies that wait behind the one that they put in or take out.
+#[derive(Drop)]
+pub struct Lines {
+    names: IndexSet<Name>,
+    jobs: Vec<Job>,
+    waiting: Vec<WaitingCopy>,
+}
+
+// Clauses see the jobs in the order of arrival, and the copies that wait in the order of copies.
+impl Model for Lines {
+    ghost use Rattle.tp_jobs.specs.Backlogs.{Backlog};
+    ghost use Rattle.tp_jobs.specs.Keeping.{Keeps};
+
+    ghost Value = { Backlog };
+
+    ghost view = { λ l. record { jobs = l.jobs.items; waiting = l.waiting.items } };
+
+    ghost invariant = { λ l. Keeps l.names.keys l.jobs.items l.waiting.items };
+}
+
+impl Lines {
+    ghost use Rattle.tp_jobs.specs.Backlogs.{IsBacklog, no_backlog};
+    ghost use Rattle.tp_jobs.specs.Trying.{next_to_try};
+
+    /// No job. It takes no memory.
+    pub fn new(alloc: Global) -> Lines
+        ensures { result ≡ no_backlog }
+    {
+        Lines {
+            names: IndexSet::new(alloc),
+            jobs: Vec::new(alloc),
+            waiting: Vec::new(alloc),
+        }
+    }
+
+    /// Every value keeps this. The call does nothing.
+    pub fn kept(&self)
+        ensures { IsBacklog self.now }
+    {
+        let _ = self.names.len();
+    }
+
+    /// How many copies wait.
+    pub fn waiting(&self) -> u32
+        ensures { result ≡ length self.now.waiting }
+    {
+        self.waiting.len() as u32
+    }
+
+    pub fn name_of(&self, job: u32) -> Name
+        requires { job < length self.now.jobs }
+        ensures { IsSomeAnd (slice_get self.now.jobs job) (λ j. j.name ≡ result) }
+    {
+        self.jobs[job as usize].name
+    }
+
+    pub fn tray_of(&self, job: u32) -> LocId
+        requires { job < length self.now.jobs }
+        ensures { IsSomeAnd (slice_get self.now.jobs job) (λ j. j.tray ≡ result) }
+    {
+        self.jobs[job as usize].tray
+    }
+
+    pub fn is_broken(&self, job: u32) -> bool
+        requires { job < length self.now.jobs }
+        ensures { IsSomeAnd (slice_get self.now.jobs job) (λ j. j.broken ≡ result) }
+    {
+        self.jobs[job as usize].broken
+    }
+
+    /// The sheet that is wanted of a copy that waits.
+    pub fn want_of(&self, sheet: SheetId) -> Sheet
+        requires { IsSome (find_waiting sheet self.now.waiting) }
+        ensures { option_map (λ w. w.want) (find_waiting sheet self.now.waiting) ≡ Some result }
+    {
+        self.waiting[place_of(self.waiting.as_slice(), sheet)].want
+    }
+
+    /// The same lines once more. Takes the time of all jobs.
+    pub fn copy(&self, alloc: Global) -> Result<Lines, Memory>
+        ensures { IfOk result (λ copy. copy ≡ self.now) }
+    {
+        Ok(Lines {
+            names: self.names.clone()?,
+            jobs: Vec::from_slice(alloc, self.jobs.as_slice())?,
+            waiting: Vec::from_slice(alloc, self.waiting.as_slice())?,
+        })
+    }
+
+    /// Accepts a job: it gets the next number, and the first copies of its sheets wait behind all
+    /// others. Takes the time of its own sheets, however many jobs came before and copies wait.
+    pub fn add(
+        &mut self,
+        machine: &Machine,
+        name: Name,
+        tray: Name,
+        media: Name,
+        groups: &[Group],
+    ) -> Result<u32, JobFault>
+        requires jobs { length self.old.jobs + 1 < 2 ^ 32 }
+        requires groups { length groups.now < 2 ^ 32 }
+        ensures refused { refusal_in result ≡ job_refusal machine.now self.old.jobs (length self.old.waiting) name tray media groups.now }
+        ensures number { IfOk result (λ job. job ≡ length self.old.jobs) }
+        ensures added { OnOk result (self.new ≡ with_job (new_job machine.now name tray groups.now) (sheets_of media groups.now) self.old) }
+        ensures kept { OnErr result (self.new ≡ self.old) }
+    {
+        let tray = self.admit(machine, &name, &tray, &media, groups)?;
+        let sheets = count_sheets(groups) as u32;
+        let number = self.jobs.len() as u32;
+        let mut copies = make_copies(*self.jobs.allocator(), number, media, groups)?;
+        self.jobs.reserve(1)?;
+        self.waiting.reserve(copies.len())?;
+        self.names.insert(name)?;
+        let job = Job {
+            name,
+            tray,
+            sheets,
+            broken: false,
+        };
+        if self.jobs.push(job).is_err() || self.waiting.append(&mut copies).is_err() {
+            unreachable!();
+        }
+        Ok(number)
+    }
+
+    /// The tray of a job that nothing refuses.
+    fn admit(
+        &self,
+        machine: &Machine,
+        name: &Name,
+        tray: &Name,
+        media: &Name,
+        groups: &[Group],
+    ) -> Result<LocId, JobFault>
+        requires { length groups.now < 2 ^ 32 }
+        ensures refused { refusal_in result ≡ job_refusal machine.now self.now.jobs (length self.now.waiting) name.now tray.now media.now groups.now }
+        ensures tray { IfOk result (λ place. tray_named machine.now tray.now ≡ Some place) }
+    {
+        let Some(place) = find_tray(machine, tray) else {
+            return Err(JobFault::UnknownTray(*tray));
+        };
+        if !has_feeder(machine.feeders.as_slice(), media) {
+            return Err(JobFault::UnknownMedia(*media));
+        }
+        if self.names.contains(name) {
+            return Err(JobFault::TwiceNamed(*name));
+        }
+        let waiting = self.waiting();
+        let asked = count_sheets(groups);
+        if u64::from(waiting) + asked > MOST_WAITING {
+            return Err(JobFault::TooManyWaiting { waiting, asked });
+        }
+        Ok(place)
+    }
+
+    /// The copy waits with this want, in its place in the order of copies.
+    pub fn wait(&mut self, sheet: SheetId, want: Sheet) -> Result<(), Memory>
+        requires job { sheet.job < length self.old.jobs }
+        requires new_copy { find_waiting sheet self.old.waiting ≡ None }
+        requires room { length self.old.waiting + 1 < 2 ^ 32 }
+        ensures waits { OnOk result (self.new ≡ record { jobs = self.old.jobs; waiting = put_waiting self.old.waiting (record { sheet = sheet; want = want }) }) }
+        ensures memory { OnErr result (self.new ≡ self.old) }
+    {
+        let at = place_behind(self.waiting.as_slice(), sheet);
+        self.waiting.insert(at, WaitingCopy { sheet, want })?;
+        Ok(())
+    }
+
+    /// The copy waits no more.
+    pub fn taken(&mut self, sheet: SheetId)
+        requires { IsSome (find_waiting sheet self.old.waiting) }
+        ensures { self.new ≡ record { jobs = self.old.jobs; waiting = without_waiting sheet self.old.waiting } }
+    {
+        let at = place_of(self.waiting.as_slice(), sheet);
+        self.waiting.remove(at);
+    }
+
+    /// The first copy that waits behind the one that was tried last, and whose line is not blocked.
+    /// Goes there by a binary search, and passes over the copies of blocked lines between the two,
+    /// so that a phase of asks looks once at each copy that waits.
+    pub fn next_to_try(&self, after: Option<SheetId>, blocked: &Blocked) -> Option<SheetId>
+        ensures next { result ≡ next_to_try self.now after blocked.now }
+        ensures waits { IfSome result (λ copy. IsSome (find_waiting copy self.now.waiting)) }
+        ensures job { IfSome result (λ copy. copy.job < length self.now.jobs) }
+    {
+        let waiting = self.waiting.as_slice();
+        let from = match after {
+            Some(last) => place_behind(waiting, last),
+            None => 0,
+        };
+        first_open(&waiting[from..], self.jobs.as_slice(), blocked)
+    }
+}

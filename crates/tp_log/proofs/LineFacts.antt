@@ -1,0 +1,88 @@
+-- A line: what is read is spelled so, and what is spelled so is read.
+use Rattle.std.proofs.Common.{◌≡◌, ◌≢◌, ℕ, ◌<◌, false, List, [], ◌∷◌, ◌++◌, length, Some, None, Err, refl, sym, ap, ◌∙◌, arith}
+use Rattle.std.specs.List.{join_with_byte}
+use Rattle.std.proofs.lemmas.List.{append_cancel_right}
+use Rattle.tp_words.specs.Parts.{parts_at}
+use Rattle.tp_words.proofs.PartFacts.{AllLack, lacks_from, parts-join, join-parts}
+use Rattle.tp_schedule.specs.declared.recording.Record.{Record}
+use Rattle.tp_script.specs.declared.fault.LineFault.{LineFault}
+use Rattle.tp_script.specs.declared.fault.LineFault.TheVariants.{Memory, Syntax}
+use Rattle.tp_script.specs.Printed.{Echoes}
+use Rattle.tp_script.specs.Reading.{Gives}
+use Rattle.tp_script.specs.Script.{spaced, event_text}
+use Rattle.tp_script.proofs.Printed.{spaced-join}
+use Rattle.tp_log.specs.declared.item.Item.{Item}
+use Rattle.tp_log.specs.declared.item.Item.TheVariants.{Event, Note}
+use Rattle.tp_log.specs.Records.{record_words, record_text}
+use Rattle.tp_log.specs.Grammar.{IsRecord, IsItem, item_text, ReadsLine}
+use Rattle.tp_log.specs.Reading.{record_of}
+use Rattle.tp_log.proofs.WordFacts.{is_visible, AllVisible}
+use Rattle.tp_log.proofs.RecordFacts.{record_takes, record_again, record_visible}
+
+-- ---- the words of a line
+pub all_lack : (c : ℕ) → is_visible c ≡ false → (words : List (List ℕ)) → AllVisible words → AllLack c words
+all_lack c outside [] h = tt
+all_lack c outside (w ∷ ws) h = (lacks_from is_visible c w outside h.0, all_lack c outside ws h.1)
+
+parts-visible : (words : List (List ℕ)) → 0 < length words → AllVisible words → parts_at 32 (join_with_byte 32 words) ≡ words
+parts-visible [] some h = absurd (omega arith)
+parts-visible (w ∷ ws) some h = parts-join 32 w ws (lacks_from is_visible 32 w refl h.0) (all_lack 32 refl ws h.1)
+
+some_words : (words : List (List ℕ)) (r : Record) → record_of words ≡ Some r → 0 < length words
+unfolding record_of
+some_words [] r e = absurd cc
+some_words (w ∷ ws) r e = omega arith
+
+text_takes : (text : List ℕ) (r : Record) → record_of (parts_at 32 text) ≡ Some r → IsRecord r × (text ≡ spaced (record_words r))
+text_takes text r e =
+    let t = record_takes (parts_at 32 text) r e in
+    (t.1, sym (join-parts 32 text) ∙ ap (join_with_byte 32) t.0 ∙ sym (spaced-join (record_words r)))
+
+pub text_again : (r : Record) → IsRecord r → record_of (parts_at 32 (spaced (record_words r))) ≡ Some r
+text_again r h =
+    let again = record_again r h in
+    ap (λ text. record_of (parts_at 32 text)) (spaced-join (record_words r)) ∙ ap record_of (parts-visible (record_words r) (some_words (record_words r) r again) (record_visible r h)) ∙ again
+
+-- no record begins as an echo does
+no_echo : (event : List ℕ) → record_of (parts_at 32 (62 ∷ 32 ∷ event)) ≡ None
+unfolding record_of
+no_echo event = refl
+
+pub not_told : (event : List ℕ) (told : Record) → IsRecord told → 62 ∷ 32 ∷ event ≢ spaced (record_words told)
+not_told event told good same =
+    let again = text_again told good in
+    let none : record_of (parts_at 32 (spaced (record_words told))) ≡ None = ap (λ t. record_of (parts_at 32 t)) (sym same) ∙ no_echo event in
+    cc
+
+-- ---- what a reader answers
+same_front : (a b : List ℕ) → a ++ 10 ∷ [] ≡ b ++ 10 ∷ [] → a ≡ b
+same_front a b e = append_cancel_right a b (10 ∷ []) e
+
+pub note_read : (line text : List ℕ) (r : Record) → line ≡ text ++ 10 ∷ [] → record_of (parts_at 32 text) ≡ Some r → IsRecord r × (line ≡ record_text r)
+note_read line text r is e = (let t = text_takes text r e in (t.0, is ∙ ap (λ x. x ++ 10 ∷ []) t.1))
+
+pub no_newline : (line : List ℕ) → ((text : List ℕ) → line ≢ text ++ 10 ∷ []) → (item : Item) → IsItem item → line ≢ item_text item
+no_newline line h (Event event) is same = h (62 ∷ 32 ∷ event_text event) same
+no_newline line h (Note told) is same = h (spaced (record_words told)) same
+
+pub note_fault : (line text : List ℕ) (fault : LineFault) → line ≡ text ++ 10 ∷ [] → ((event : List ℕ) → text ≢ 62 ∷ 32 ∷ event) → Gives (Err fault) (record_of (parts_at 32 text)) → ReadsLine line (Err fault)
+note_fault line text Memory is other h = tt
+note_fault line text Syntax is other h = off
+  where
+    off : (item : Item) → IsItem item → line ≢ item_text item
+    off (Event event) echoed same = other (event_text event) (same_front text (62 ∷ 32 ∷ event_text event) (sym is ∙ same))
+    off (Note told) good same =
+        let front : text ≡ spaced (record_words told) = same_front text (spaced (record_words told)) (sym is ∙ same) in
+        let again : record_of (parts_at 32 text) ≡ Some told = ap (λ t. record_of (parts_at 32 t)) front ∙ text_again told good in
+        cc
+
+pub echo_fault : (line text event : List ℕ) (fault : LineFault) → line ≡ text ++ 10 ∷ [] → text ≡ 62 ∷ 32 ∷ event → Echoes event (Err fault) → ReadsLine line (Err fault)
+echo_fault line text event Memory is front h = tt
+echo_fault line text event Syntax is front h = off
+  where
+    behind : (a b : List ℕ) → 62 ∷ 32 ∷ a ≡ 62 ∷ 32 ∷ b → a ≡ b
+    behind a b e = cc
+
+    off : (item : Item) → IsItem item → line ≢ item_text item
+    off (Event event') echoed same = h event' echoed (behind event (event_text event') (sym front ∙ same_front text (62 ∷ 32 ∷ event_text event') (sym is ∙ same)))
+    off (Note told) good same = not_told event told good (sym front ∙ same_front text (spaced (record_words told)) (sym is ∙ same))

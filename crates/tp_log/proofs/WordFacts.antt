@@ -1,0 +1,104 @@
+-- Copies and goals: what is read is spelled so, and what is spelled so is read.
+use Rattle.std.proofs.Common.{◌≡◌, inl, inr, ℕ, ◌+◌, ◌<◌, ◌≤◌, Bool, false, true, not, ◌&&◌, ◌||◌, eqb, List, ◌∷◌, ◌++◌, length, Option, Some, None, refl, ap, subst, arith, decimal}
+use Rattle.std.specs.Prelude.{option_map, codes}
+use Rattle.std.specs.List.{AllByRecursion, list_all}
+use Rattle.std.specs.Str.{bytes_eq}
+use Rattle.std.specs.Char.{is_ascii_digit}
+use Rattle.std.proofs.lemmas.Slice.Eq.{bytes_eq-Decides}
+use Rattle.std.proofs.lemmas.Bool.{cases_Bool, or_right, and_from, ne_eqb}
+use Rattle.std.proofs.lemmas.Option.{same_Some}
+use Rattle.std.proofs.lemmas.List.Splits.{length-slice_split}
+use Rattle.std.proofs.lemmas.List.Sums.{count_by-le-length}
+use Rattle.tp_base.specs.NameText.{is_name_byte}
+use Rattle.tp_words.specs.Parts.{parts_at}
+use Rattle.tp_words.specs.Fields.{name_of}
+use Rattle.tp_words.proofs.Steps.{map_some}
+use Rattle.tp_words.proofs.Spelling.{Spells, name_spells, number_spells, pair_spells, either, weaker}
+use Rattle.tp_schedule.specs.declared.recording.SheetName.{SheetName}
+use Rattle.tp_script.specs.Script.{IsName}
+use Rattle.tp_log.specs.Records.{sheet_text, goal_text}
+use Rattle.tp_log.specs.Grammar.{IsNumber, IsSheet, IsGoal}
+use Rattle.tp_log.specs.Reading.{numbers_of, sheet_from, sheet_of, goal_of}
+
+-- ---- a copy
+numbers_spell : Spells numbers_of (λ nc. decimal nc.0 ++ 46 ∷ decimal nc.1) (λ nc. IsNumber nc.0 × IsNumber nc.1) (either 46 is_ascii_digit is_ascii_digit)
+numbers_spell = pair_spells 46 number_spells number_spells (λ n c. (n, c)) (λ nc. nc.0) (λ nc. nc.1) (λ nc. refl) (λ n c. refl) (λ n c. refl) refl
+
+abbrev pub sheet_byte : ℕ → Bool
+sheet_byte = either 46 is_name_byte (either 46 is_ascii_digit is_ascii_digit)
+
+pub sheet_spells : Spells sheet_of sheet_text IsSheet sheet_byte
+unfolding sheet_of
+sheet_spells = pair_spells 46 name_spells numbers_spell sheet_from (λ s. s.job) (λ s. (s.number, s.copy)) (λ s. refl) (λ j nc. refl) (λ j nc. refl) refl
+
+-- ---- a goal
+abbrev pub goal_byte : ℕ → Bool
+goal_byte b = eqb b 42 || is_name_byte b
+
+goal_byte_from : (b : ℕ) → is_name_byte b ≡ true → goal_byte b ≡ true
+goal_byte_from b h = or_right (eqb b 42) (is_name_byte b) h
+
+goal_takes : (word : List ℕ) (g : Option (List ℕ)) → goal_of word ≡ Some g → (word ≡ goal_text g) × IsGoal g
+unfolding goal_of
+goal_takes word g e =
+    elim (cases_Bool (bytes_eq word (codes "*"))) [
+      | inl h ↦
+          let k : Some None ≡ Some g = rw h at e in
+          subst (λ g. (word ≡ goal_text g) × IsGoal g) (same_Some None g k) ((bytes_eq-Decides word (codes "*")).0 h, tt)
+      | inr h ↦
+          let k : option_map (λ tray. Some tray) (name_of word) ≡ Some g = rw h at e in
+          let m = map_some (λ tray. Some tray) (name_of word) g k in
+          subst (λ g. (word ≡ goal_text g) × IsGoal g) m.2 (name_spells.takes word m.0 m.1)
+    ]
+
+goal_again : (g : Option (List ℕ)) → IsGoal g → goal_of (goal_text g) ≡ Some g
+unfolding goal_of
+goal_again None h = refl
+goal_again (Some tray) h =
+    elim (cases_Bool (bytes_eq tray (codes "*"))) [
+      | inl star ↦ (let k : IsName (codes "*") = subst IsName ((bytes_eq-Decides tray (codes "*")).0 star) h in absurd cc)
+      | inr other ↦ rw (other, name_spells.again tray h) refl
+    ]
+
+goal_bytes : (g : Option (List ℕ)) → IsGoal g → list_all goal_byte (goal_text g) ≡ true
+goal_bytes None h = refl
+goal_bytes (Some tray) h = weaker is_name_byte goal_byte goal_byte_from tray (name_spells.bytes tray h)
+
+goal_filled : (g : Option (List ℕ)) → IsGoal g → 0 < length (goal_text g)
+goal_filled None h = omega arith
+goal_filled (Some tray) h = name_spells.filled tray h
+
+pub goal_spells : Spells goal_of goal_text IsGoal goal_byte
+goal_spells = record { takes = goal_takes; again = goal_again; bytes = goal_bytes; filled = goal_filled }
+
+-- ---- words have neither a space nor a line end in them
+abbrev pub is_visible : ℕ → Bool
+is_visible b = not (eqb b 10) && not (eqb b 32)
+
+abbrev pub IsVisible : List ℕ → Type 0
+IsVisible text = list_all is_visible text ≡ true
+
+abbrev pub AllVisible : List (List ℕ) → Type 0
+AllVisible words = AllByRecursion IsVisible words
+
+other_byte : (p : ℕ → Bool) (b c : ℕ) → p c ≡ false → p b ≡ true → not (eqb b c) ≡ true
+other_byte p b c outside h = ap not (ne_eqb b c (λ e. (let both : p c ≡ true = subst (λ x. p x ≡ true) e h in cc)))
+
+visible : {X : Type 0} {read : List ℕ → Option X} {text : X → List ℕ} {Fits : X → Type 0} {byte : ℕ → Bool} → Spells read text Fits byte → byte 10 ≡ false → byte 32 ≡ false → (x : X) → Fits x → IsVisible (text x)
+visible {text = text} {byte = byte} s no_end no_space x fits = weaker byte is_visible (λ b h. and_from (not (eqb b 10)) (not (eqb b 32)) (other_byte byte b 10 no_end h) (other_byte byte b 32 no_space h)) (text x) (s.bytes x fits)
+
+pub name_visible : (name : List ℕ) → IsName name → IsVisible name
+name_visible = visible name_spells refl refl
+
+pub number_visible : (n : ℕ) → IsNumber n → IsVisible (decimal n)
+number_visible = visible number_spells refl refl
+
+pub sheet_visible : (s : SheetName) → IsSheet s → IsVisible (sheet_text s)
+sheet_visible = visible sheet_spells refl refl
+
+pub goal_visible : (g : Option (List ℕ)) → IsGoal g → IsVisible (goal_text g)
+goal_visible = visible goal_spells refl refl
+
+-- a text has at most one part more than bytes
+pub length-parts : (text : List ℕ) → length (parts_at 32 text) ≤ length text + 1
+length-parts text = omega (arith, length-slice_split (λ b. eqb b 32) text, count_by-le-length (λ b. eqb b 32) text)

@@ -1,0 +1,5 @@
+use Rattle.tp_log.proofs.LogLines.{one_log}
+use Rattle.tp_log.proofs.laws.one_log.Goals as goal
+
+pub returns : goal.returns
+returns c = one_log

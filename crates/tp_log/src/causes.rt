@@ -1,0 +1,77 @@
+// Why an event is refused, read and written.
+ghost use Rattle.std.specs.Prelude.{◌≡◌, ◌++◌, ◌∷◌, OnOk};
+ghost use Rattle.std.specs.List.{flat_map};
+ghost use Rattle.tp_words.specs.Parts.{shown};
+ghost use Rattle.tp_log.specs.Records.{cause_words};
+ghost use Rattle.tp_log.specs.Reading.{bare_of, cause_after, cause_of};
+
+use crate::fields::{only_name, only_number, put_number_word, put_word};
+use crate::reason::Reason;
+use tp_base::{Memory, Name};
+use tp_schedule::Cause;
+
+/// The cause, if no word follows.
+#[tactic(auto, unfolding(crate::specs::Reading::bare_of))]
+fn bare(cause: Cause, words: &[&[u8]]) -> Option<Cause>
+    ensures { result ≡ bare_of cause (shown words.now) }
+{
+    if words.is_empty() { Some(cause) } else { None }
+}
+
+#[tactic(auto, unfolding(crate::specs::Reading::cause_after))]
+fn read_after(reason: Reason, words: &[&[u8]]) -> Option<Cause>
+    ensures { result ≡ cause_after reason (shown words.now) }
+{
+    match reason {
+        Reason::Syntax => bare(Cause::Syntax, words),
+        Reason::Tray => only_name(words).map(Cause::Tray),
+        Reason::Media => only_name(words).map(Cause::Media),
+        Reason::Named => only_name(words).map(Cause::Named),
+        Reason::Waiting => bare(Cause::Waiting, words),
+        Reason::Back => only_number(words).map(Cause::Back),
+        Reason::End => bare(Cause::End, words),
+        Reason::Module => only_name(words).map(Cause::Module),
+        Reason::Out => only_name(words).map(Cause::Out),
+        Reason::NotOn => only_name(words).map(Cause::NotOn),
+    }
+}
+
+#[tactic(auto, unfolding(crate::specs::Reading::cause_of))]
+pub fn read_cause(words: &[&[u8]]) -> Option<Cause>
+    ensures { result ≡ cause_of (shown words.now) }
+{
+    let [first, others @ ..] = words else {
+        return None;
+    };
+    match Reason::read(first) {
+        None => None,
+        Some(reason) => read_after(reason, others),
+    }
+}
+
+pub fn put_cause(out: &mut Vec<u8>, cause: &Cause) -> Result<(), Memory>
+    ensures { OnOk result (out.new.items ≡ out.old.items ++ flat_map (λ word. 32 ∷ word) (cause_words cause.now)) }
+{
+    match cause {
+        Cause::Syntax => put_word(out, b"syntax"),
+        Cause::Tray(name) => put_cause_of(out, b"tray", name),
+        Cause::Media(name) => put_cause_of(out, b"media", name),
+        Cause::Named(name) => put_cause_of(out, b"named", name),
+        Cause::Waiting => put_word(out, b"waiting"),
+        Cause::Back(now) => {
+            put_word(out, b"back")?;
+            put_number_word(out, *now)
+        }
+        Cause::End => put_word(out, b"end"),
+        Cause::Module(name) => put_cause_of(out, b"module", name),
+        Cause::Out(name) => put_cause_of(out, b"out", name),
+        Cause::NotOn(name) => put_cause_of(out, b"noton", name),
+    }
+}
+
+fn put_cause_of(out: &mut Vec<u8>, cause: &[u8], name: &Name) -> Result<(), Memory>
+    ensures { OnOk result (out.new.items ≡ (out.old.items ++ 32 ∷ cause.now) ++ 32 ∷ name.now) }
+{
+    put_word(out, cause)?;
+    put_word(out, name.as_bytes())
+}

@@ -1,0 +1,107 @@
+// Words of records, read and written: copies, goals and numbers.
+ghost use Rattle.std.specs.Prelude.{◌≡◌, ◌++◌, ◌∷◌, OnOk, decimal};
+ghost use Rattle.tp_words.specs.Parts.{shown};
+ghost use Rattle.tp_words.specs.Fields.{name_of};
+ghost use Rattle.tp_words.specs.Numbers.{number_of};
+ghost use Rattle.tp_log.specs.Records.{sheet_text, goal_text};
+ghost use Rattle.tp_log.specs.Reading.{numbers_of, sheet_of, goal_of, one_of};
+
+use tp_base::{Memory, Name};
+use tp_schedule::SheetName;
+use tp_words::{cut, put_number, read_name, read_number};
+
+#[tactic(auto, unfolding(tp_words::specs::Fields::pair_of))]
+fn read_numbers(word: &[u8]) -> Option<(u32, u32)>
+    ensures { result ≡ numbers_of word.now }
+{
+    let (number, copy) = cut(word, b'.')?;
+    let number = read_number(number)?;
+    let copy = read_number(copy)?;
+    Some((number, copy))
+}
+
+#[tactic(auto, unfolding(crate::specs::Reading::sheet_of, tp_words::specs::Fields::pair_of))]
+pub fn read_sheet(word: &[u8]) -> Option<SheetName>
+    ensures { result ≡ sheet_of word.now }
+{
+    let (job, numbers) = cut(word, b'.')?;
+    let job = read_name(job)?;
+    let (number, copy) = read_numbers(numbers)?;
+    Some(SheetName { job, number, copy })
+}
+
+#[tactic(auto, unfolding(crate::specs::Reading::goal_of))]
+pub fn read_goal(word: &[u8]) -> Option<Option<Name>>
+    ensures { result ≡ goal_of word.now }
+{
+    if word == b"*".as_slice() {
+        return Some(None);
+    }
+    read_name(word).map(Some)
+}
+
+#[tactic(auto, unfolding(crate::specs::Reading::one_of))]
+pub fn only_sheet(words: &[&[u8]]) -> Option<SheetName>
+    ensures { result ≡ one_of sheet_of (shown words.now) }
+{
+    let [sheet] = words else {
+        return None;
+    };
+    read_sheet(sheet)
+}
+
+#[tactic(auto, unfolding(crate::specs::Reading::one_of))]
+pub fn only_name(words: &[&[u8]]) -> Option<Name>
+    ensures { result ≡ one_of name_of (shown words.now) }
+{
+    let [name] = words else {
+        return None;
+    };
+    read_name(name)
+}
+
+#[tactic(auto, unfolding(crate::specs::Reading::one_of))]
+pub fn only_number(words: &[&[u8]]) -> Option<u32>
+    ensures { result ≡ one_of number_of (shown words.now) }
+{
+    let [number] = words else {
+        return None;
+    };
+    read_number(number)
+}
+
+/// Writes a space and the word.
+pub fn put_word(out: &mut Vec<u8>, word: &[u8]) -> Result<(), Memory>
+    ensures { OnOk result (out.new.items ≡ out.old.items ++ 32 ∷ word.now) }
+{
+    out.push(b' ')?;
+    out.extend_from_slice(word)?;
+    Ok(())
+}
+
+pub fn put_number_word(out: &mut Vec<u8>, number: u32) -> Result<(), Memory>
+    ensures { OnOk result (out.new.items ≡ out.old.items ++ 32 ∷ decimal number) }
+{
+    out.push(b' ')?;
+    put_number(out, number)
+}
+
+pub fn put_sheet_word(out: &mut Vec<u8>, sheet: &SheetName) -> Result<(), Memory>
+    ensures { OnOk result (out.new.items ≡ out.old.items ++ 32 ∷ sheet_text sheet.now) }
+{
+    out.push(b' ')?;
+    out.extend_from_slice(sheet.job.as_bytes())?;
+    out.push(b'.')?;
+    put_number(out, sheet.number)?;
+    out.push(b'.')?;
+    put_number(out, sheet.copy)
+}
+
+pub fn put_goal_word(out: &mut Vec<u8>, goal: &Option<Name>) -> Result<(), Memory>
+    ensures { OnOk result (out.new.items ≡ out.old.items ++ 32 ∷ goal_text goal.now) }
+{
+    match goal {
+        None => put_word(out, b"*"),
+        Some(tray) => put_word(out, tray.as_bytes()),
+    }
+}

@@ -1,0 +1,12 @@
+use Rattle.tp_turn.proofs.LoopFacts.{state-after_one_more, told-after_one_more, in_turn-one_more}
+use Rattle.tp_turn.specs.Planners.{right_steps}
+use Rattle.tp_turn.proofs.laws.loop_goes_on.Goals as goal
+
+pub returns-clause-state : goal.returns-clause-state
+returns-clause-state g c = state-after_one_more
+
+pub returns-clause-records : goal.returns-clause-records
+returns-clause-records g c = told-after_one_more
+
+pub returns-clause-in_turn : goal.returns-clause-in_turn
+returns-clause-in_turn g c machine = in_turn-one_more (right_steps g.P.Planner.spent g.P.Planner.steps g.P.Planner.stop_steps machine) machine

@@ -1,0 +1,10 @@
+use Rattle.tp_turn.proofs.LawfulLogs.{plannable-empty}
+use Rattle.tp_turn.proofs.PlannableTurns.{plannable-turn}
+use Rattle.tp_turn.specs.Planners.{right_steps}
+use Rattle.tp_turn.proofs.laws.turns_keep_planning.Goals as goal
+
+pub returns-clause-empty : goal.returns-clause-empty
+returns-clause-empty g c = plannable-empty
+
+pub returns-clause-turn : goal.returns-clause-turn
+returns-clause-turn g c machine = plannable-turn (right_steps g.P.Planner.spent g.P.Planner.steps g.P.Planner.stop_steps machine) machine (λ p. g.P.Planner.spent p) (λ p plans deed plans' p' does. does.0)

@@ -1,0 +1,14 @@
+use Rattle.tp_turn.proofs.EmptyState.{kept-empty, least-empty}
+use Rattle.tp_turn.proofs.KeptTurns.{kept-turn}
+use Rattle.tp_turn.proofs.LeastTurns.{least-turn}
+use Rattle.tp_turn.specs.Planners.{right_steps}
+use Rattle.tp_turn.proofs.laws.turns_keep_state.Goals as goal
+
+pub returns-clause-empty : goal.returns-clause-empty
+returns-clause-empty g c machine = (kept-empty machine, least-empty machine)
+
+pub returns-clause-state : goal.returns-clause-state
+returns-clause-state g c machine = kept-turn (right_steps g.P.Planner.spent g.P.Planner.steps g.P.Planner.stop_steps machine) machine (λ p. g.P.Planner.spent p) (λ p plans deed plans' p' does. does.0)
+
+pub returns-clause-least : goal.returns-clause-least
+returns-clause-least g c machine = least-turn (right_steps g.P.Planner.spent g.P.Planner.steps g.P.Planner.stop_steps machine) machine (λ p. g.P.Planner.spent p) (λ p plans deed plans' p' does. does.0)

@@ -1,0 +1,50 @@
+-- Jobs, their lines, and the copies that wait.
+use Rattle.std.specs.Prelude.{ℕ, zero, suc, ◌+◌, ◌==◌, Bool, true, false, List, [], ◌∷◌, fold, slice_get, Option, Some, None}
+use Rattle.std.specs.List.{list_any}
+use Rattle.tp_schedule.specs.Plans.{is_same_copy}
+use Rattle.tp_schedule.specs.declared.parts.Plan.{Plan}
+use Rattle.tp_schedule.specs.declared.parts.SheetId.{SheetId}
+use Rattle.tp_jobs.specs.Backlogs.{tray_of}
+use Rattle.tp_jobs.specs.Waiting.{put_waiting}
+use Rattle.tp_jobs.specs.declared.parts.Job.{Job}
+use Rattle.tp_jobs.specs.declared.parts.WaitingCopy.{WaitingCopy}
+use Rattle.tp_turn.specs.States.{SessionState}
+
+-- how many sheets a job has, and whether it is broken
+abbrev pub sheets_in : Option Job → ℕ
+sheets_in None = 0
+sheets_in (Some j) = j.sheets
+
+abbrev pub broken_in : Option Job → Bool
+broken_in None = false
+broken_in (Some j) = j.broken
+
+abbrev pub sheet_total : List Job → ℕ → ℕ
+sheet_total jobs job = sheets_in (slice_get jobs job)
+
+abbrev pub is_job_broken : List Job → ℕ → Bool
+is_job_broken jobs job = broken_in (slice_get jobs job)
+
+abbrev pub mark_broken : ℕ → List Job → List Job
+mark_broken n [] = []
+mark_broken zero (job ∷ jobs) = record job { broken = true } ∷ jobs
+mark_broken (suc n) (job ∷ jobs) = job ∷ mark_broken n jobs
+
+-- a line is all sheets that are asked for one tray, in the order of copies
+abbrev pub is_same_line : List Job → SheetId → SheetId → Bool
+is_same_line jobs a b = (tray_of jobs a).0 == (tray_of jobs b).0
+
+-- the plan of a copy that was lost
+abbrev pub is_lost : SessionState → Plan → Bool
+is_lost s p = list_any (is_same_copy p.sheet) s.lost
+
+-- the waiting copies with some more, each in its place in the order
+abbrev pub put_all_waiting : List WaitingCopy → List WaitingCopy → List WaitingCopy
+put_all_waiting waiting more = fold put_waiting waiting more
+
+abbrev pub is_of_job : ℕ → WaitingCopy → Bool
+is_of_job job w = w.sheet.job == job
+
+-- the next copy of the sheet
+abbrev pub next_copy : SheetId → SheetId
+next_copy copy = record copy { copy = copy.copy + 1 }

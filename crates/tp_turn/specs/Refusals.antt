@@ -1,0 +1,71 @@
+-- Which events are refused, and by which cause: the first that applies.
+use Rattle.std.specs.Prelude.{ℕ, ◌+◌, Bool, false, not, nat_lt, List, [], ◌∷◌, length, Option, Some, None, position, is_some, if◌then◌else◌}
+use Rattle.std.specs.Str.{bytes_eq}
+use Rattle.tp_machine.specs.Using.{is_out}
+use Rattle.tp_machine.specs.declared.parts.Outs.{Outs}
+use Rattle.tp_machine.specs.declared.whole.Machine.{Machine}
+use Rattle.tp_script.specs.Form.{GroupForm}
+use Rattle.tp_script.specs.declared.event.Event.{Event}
+use Rattle.tp_script.specs.declared.event.Event.TheVariants.{Bad, Job as NewJob, Clock, Jam, Off, On}
+use Rattle.tp_schedule.specs.Planning.{last_tick}
+use Rattle.tp_schedule.specs.declared.recording.Cause.{Cause}
+use Rattle.tp_schedule.specs.declared.recording.Cause.TheVariants.{Syntax, Tray, Media, Named, Waiting, Back, End, Module, Out, NotOn}
+use Rattle.tp_jobs.specs.Refusing.{is_tray_name, has_media, is_taken, most_waiting, sheet_count}
+use Rattle.tp_jobs.specs.declared.parts.Job.{Job}
+use Rattle.tp_turn.specs.States.{SessionState}
+
+-- the number of a module
+abbrev pub module_of : Machine → List ℕ → Option ℕ
+module_of machine name = position (bytes_eq name) machine.modules
+
+abbrev pub is_out_at : Outs → Option ℕ → Bool
+is_out_at outs None = false
+is_out_at outs (Some m) = is_out outs m
+
+abbrev pub is_on_at : Outs → Option ℕ → Bool
+is_on_at outs None = false
+is_on_at outs (Some m) = not (is_out outs m)
+
+-- the cause where it applies; the first of several causes
+abbrev pub cause_if : Bool → Cause → Option Cause
+cause_if b cause = if b then Some cause else None
+
+abbrev pub first_of_causes : List (Option Cause) → Option Cause
+first_of_causes [] = None
+first_of_causes (Some cause ∷ causes) = Some cause
+first_of_causes (None ∷ causes) = first_of_causes causes
+
+-- why a job is refused where these jobs came and so many copies wait
+abbrev pub job_refusal : Machine → List Job → ℕ → List ℕ → List ℕ → List ℕ → List GroupForm → Option Cause
+job_refusal machine jobs waiting name tray media groups = first_of_causes (
+    cause_if (not (is_tray_name machine tray)) (Tray tray) ∷
+    cause_if (not (has_media machine media)) (Media media) ∷
+    cause_if (is_taken jobs name) (Named name) ∷
+    cause_if (nat_lt most_waiting (waiting + sheet_count groups)) Waiting ∷ [])
+
+-- why a move of the clock is refused
+abbrev pub clock_refusal : ℕ → ℕ → Option Cause
+clock_refusal now to = first_of_causes (
+    cause_if (nat_lt to now) (Back now) ∷
+    cause_if (nat_lt last_tick to) End ∷ [])
+
+-- why a jam, an off and an on are refused where these modules are out. A module that is out may jam again
+abbrev pub jam_refusal : Machine → List ℕ → Option Cause
+jam_refusal machine name = cause_if (not (is_some (module_of machine name))) (Module name)
+
+abbrev pub off_refusal : Machine → Outs → List ℕ → Option Cause
+off_refusal machine outs name = first_of_causes (
+    jam_refusal machine name ∷ cause_if (is_out_at outs (module_of machine name)) (Out name) ∷ [])
+
+abbrev pub on_refusal : Machine → Outs → List ℕ → Option Cause
+on_refusal machine outs name = first_of_causes (
+    jam_refusal machine name ∷ cause_if (is_on_at outs (module_of machine name)) (NotOn name) ∷ [])
+
+-- why the event is refused, if it is
+abbrev pub refusal : Machine → SessionState → Event → Option Cause
+refusal machine s Bad = Some Syntax
+refusal machine s (NewJob name tray media groups) = job_refusal machine s.jobs (length s.waiting) name tray media groups
+refusal machine s (Clock to) = clock_refusal s.now to
+refusal machine s (Jam name) = jam_refusal machine name
+refusal machine s (Off name) = off_refusal machine s.outs name
+refusal machine s (On name) = on_refusal machine s.outs name

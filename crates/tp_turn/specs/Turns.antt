@@ -1,0 +1,56 @@
+-- The turn of one event: its records and the next state.
+use Rattle.std.specs.Prelude.{◌≡◌, ℕ, true, false, List, [], ◌∷◌, ◌++◌, length, Some}
+use Rattle.std.specs.Option.{MatchOption}
+use Rattle.tp_machine.specs.declared.whole.Machine.{Machine}
+use Rattle.tp_script.specs.Form.{GroupForm}
+use Rattle.tp_script.specs.declared.event.Event.{Event}
+use Rattle.tp_script.specs.declared.event.Event.TheVariants.{Bad, Job as NewJob, Clock, Jam, Off, On}
+use Rattle.tp_schedule.specs.declared.recording.Record.{Record}
+use Rattle.tp_schedule.specs.declared.recording.Record.TheVariants.{Refused}
+use Rattle.tp_jobs.specs.Waiting.{first_copies, new_job, sheets_of}
+use Rattle.tp_turn.specs.States.{SessionState, put_on}
+use Rattle.tp_turn.specs.Refusals.{refusal, module_of}
+use Rattle.tp_turn.specs.Clock.{clock_move}
+use Rattle.tp_turn.specs.Planners.{PlannerSteps, GoesOut}
+use Rattle.tp_turn.specs.Asking.{Asks}
+
+-- the state with a new job, whose copies wait behind all others
+abbrev pub with_job : Machine → List ℕ → List ℕ → List ℕ → List GroupForm → SessionState → SessionState
+with_job machine name tray media groups s = record s {
+  jobs = s.jobs ++ new_job machine name tray groups ∷ [];
+  waiting = s.waiting ++ first_copies (length s.jobs) 1 (sheets_of media groups);
+}
+
+abbrev pub with_on : ℕ → SessionState → SessionState
+with_on m s = record s { outs = put_on s.outs m }
+
+module _ {P : Type 0} (planner_steps : PlannerSteps P) (machine : Machine) where
+  -- the part of an accepted event before the phase of asks
+  abbrev pub Begins : Event → SessionState → P → List Record → SessionState → P → Type 0
+  Begins Bad s planner records s' planner' = ⊥
+  Begins (NewJob name tray media groups) s planner records s' planner' =
+      (records ≡ []) × (s' ≡ with_job machine name tray media groups s) × (planner' ≡ planner)
+  Begins (Clock to) s planner records s' planner' =
+      (records ≡ (clock_move machine to s).records) × (s' ≡ (clock_move machine to s).state) × (planner' ≡ planner)
+  Begins (Jam name) s planner records s' planner' =
+      (m : ℕ) × (module_of machine name ≡ Some m) × GoesOut planner_steps machine s m true planner records s' planner'
+  Begins (Off name) s planner records s' planner' =
+      (m : ℕ) × (module_of machine name ≡ Some m) × GoesOut planner_steps machine s m false planner records s' planner'
+  Begins (On name) s planner records s' planner' =
+      (m : ℕ) × (module_of machine name ≡ Some m) × (records ≡ []) × (s' ≡ with_on m s) × (planner' ≡ planner)
+
+  -- an accepted event: its own part, and then the phase of asks
+  pub record Accepts (event : Event) (s : SessionState) (planner : P) (records : List Record) (s' : SessionState) (planner' : P) : Type 0 where
+    pub first : List Record
+    pub between : SessionState
+    pub mid : P
+    pub begins : Begins event s planner first between mid
+    pub rest : List Record
+    pub asks : Asks planner_steps machine between mid rest s' planner'
+    pub told : records ≡ first ++ rest
+
+  -- the turn of an event: one that is refused is told so and changes nothing
+  abbrev pub Turn : Event → SessionState → P → List Record → SessionState → P → Type 0
+  Turn event s planner records s' planner' = MatchOption (refusal machine s event)
+      (Accepts event s planner records s' planner')
+      (λ cause. (records ≡ Refused cause ∷ []) × (s' ≡ s) × (planner' ≡ planner))
