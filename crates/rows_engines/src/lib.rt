@@ -2,6 +2,8 @@
 #![tactic(auto)]
 
 #[cfg(test)]
+mod board_rows;
+#[cfg(test)]
 mod long_chain_rows;
 #[cfg(test)]
 mod network_rows;
