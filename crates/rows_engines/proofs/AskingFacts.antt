@@ -1,15 +1,21 @@
 -- What may be asked on an empty schedule, and what may be done on a board for a new copy.
-use Rattle.std.proofs.Common.{◌≡◌, ℕ, zero, suc, ◌+◌, ◌<◌, ◌≤◌, ◌∷◌, [], length, refl, sym, subst, arith, Option, Some, None, IsSomeAnd, IsFalse}
+use Rattle.std.proofs.Common.{◌≡◌, ℕ, ◌<◌, [], refl, ap, sym, ◌∙◌, subst, arith, List, Option, Some, None, IsSomeAnd, IsFalse}
 use Rattle.std.proofs.lemmas.List.Elements.{All-nil}
+use Rattle.std.specs.List.{slice_get}
+use Rattle.tp_machine.specs.declared.parts.ActId.{ActId}
+use Rattle.tp_machine.specs.declared.parts.Action.{Action}
+use Rattle.tp_machine.specs.declared.parts.HoldRule.{HoldRule}
 use Rattle.tp_machine.specs.declared.whole.Machine.{Machine}
 use Rattle.tp_schedule.specs.Answers.{IsAskedFrom, kept_of}
+use Rattle.tp_schedule.specs.Holding.{holds_of_act}
 use Rattle.tp_schedule.specs.Legality.{IsLegal}
 use Rattle.tp_schedule.specs.Plans.{IsTimedPlan}
 use Rattle.tp_schedule.specs.Planning.{CanAsk, IsOpenGoal, HasTimeFrom}
 use Rattle.tp_schedule.specs.declared.parts.Ask.{Ask}
 use Rattle.tp_schedule.specs.declared.parts.Origin.TheVariants.{Feeder as FromFeeder}
-use Rattle.tp_constraints.specs.Suffixes.{Suffix}
-use Rattle.tp_placing.specs.Calls.{CanGoOn}
+use Rattle.tp_schedule.specs.declared.parts.Plan.{Plan}
+use Rattle.tp_constraints.specs.Suffixes.{Suffix, with_action}
+use Rattle.tp_placing.specs.Calls.{CanGoOn, CanPlace}
 use Rattle.tp_placing.specs.Standing.{own_points}
 
 legal-none : (machine : Machine) → IsLegal machine []
@@ -35,3 +41,18 @@ pub can_go_on : (ask : Option Ask) (suffix : Option Suffix) → IsSomeAnd ask (�
 can_go_on None suffix new going few = absurd new
 can_go_on (Some ask) None new going few = absurd going
 can_go_on (Some ask) (Some x) new going few = record { going = going; fewer = omega arith }
+
+-- the first hold of an action that was opened may come first in its resource's order
+pub can_place : (machine : Machine) (plans : List Plan) (act : ActId) (room : ℕ) (before after : Option Suffix) (a : Action) (rule : HoldRule) → IsSomeAnd before (λ x. after ≡ Some (with_action act room x))
+    → slice_get machine.actions act.0 ≡ Some a → slice_get a.holds 0 ≡ Some rule → IsSomeAnd after (λ x. CanPlace machine plans x 0 0)
+can_place machine plans act room None after a rule opened at has = absurd opened
+can_place machine plans act room (Some x) after a rule opened at has =
+    subst (λ (o : Option Suffix). IsSomeAnd o (λ y. CanPlace machine plans y 0 0)) (sym opened) (record {
+      choice = record { act = act; places = [] };
+      choices = x.choices;
+      newest = refl;
+      next = refl;
+      rule = rule;
+      is_rule = ap (λ (o : Option Action). slice_get (holds_of_act o) 0) at ∙ has;
+      within = omega arith;
+    })

@@ -1,5 +1,5 @@
 // The board on the machine DUO, with an empty schedule.
-ghost use Rattle.std.specs.Prelude.{◌≡◌, [], ◌<◌, IfOk, OnOk};
+ghost use Rattle.std.specs.Prelude.{◌≡◌, ◌+◌, ◌<◌, ◌≤◌, [], length, IfOk, OnOk};
 ghost use Rattle.tp_placing.specs.Standing.{IsMadeFor};
 ghost use Rattle.tp_schedule.specs.Planning.{IsOpenGoal};
 ghost use Rattle.tp_schedule.specs.declared.parts.Ask.{Ask};
@@ -11,11 +11,19 @@ use std::alloc::Global;
 use std::process::Abort;
 use std::test::Fail;
 use tp_base::{Late, Name, Network, Tick};
-use tp_machine::{Face, Machine, Outs, Sheet, Want};
+use tp_machine::{ActId, Face, Machine, Outs, Sheet, Want};
 use tp_machine_text::read_machine;
 use tp_placing::Board;
 use tp_schedule::{Ask, Goal, Origin, Schedule, SheetId};
 use tp_stn_core::PlainNet;
+
+const FEED: ActId = ActId(0);
+
+const PRINT1: ActId = ActId(1);
+
+const PRINT2: ActId = ActId(2);
+
+const OUT: ActId = ActId(3);
 
 fn duo(alloc: Global) -> Result<Machine, Fail> {
     match read_machine(alloc, DUO.as_bytes()) {
@@ -123,12 +131,83 @@ fn open<N: Network>(board: &mut Board<N>, machine: &Machine, room: u32) -> Resul
     }
 }
 
+/// Opens an action before so many others, and places its hold first in its resource's order. Tells the bound of the end
+/// before and after the hold is placed, and how long the order is then.
+fn choose<N: Network>(
+    board: &mut Board<N>,
+    machine: &Machine,
+    act: ActId,
+    room: u32,
+    others: u32,
+) -> Result<(Tick, Tick, u32), Fail>
+    requires new { IsForNew N.net N.content N.past N.mark_room board.old machine.now }
+    requires open { IsOpen (others + 2) board.old }
+    requires few { others ≤ 50 }
+    ensures new { OnOk result (IsForNew N.net N.content N.past N.mark_room board.new machine.now) }
+    ensures open { OnOk result (IsOpen (others + 3) board.new) }
+{
+    if u32::from(act.0) >= machine.actions.len() {
+        return Err(Fail::from("the action is lost"));
+    }
+    let holds = &machine.actions.get(act.0 as u32).holds;
+    if holds.len() == 0 {
+        return Err(Fail::from("the hold is lost"));
+    }
+    let resource = holds.get(0).resource;
+    match board.open_action(machine, act, room) {
+        Ok(()) => {}
+        Err(Late) => return Err(Fail::from("the action is refused")),
+    }
+    let opened = board.end_bound();
+    match board.place(machine, 0, 0) {
+        Ok(()) => {}
+        Err(Late) => return Err(Fail::from("the place is refused")),
+    }
+    let placed = board.end_bound();
+    if u32::from(resource.0) >= machine.resources.len() {
+        return Err(Fail::from("the resource is lost"));
+    }
+    Ok((opened, placed, board.places(resource)))
+}
+
+/// The bound of the end on a way, of which the last action is told first, each with the room before it.
+fn bound_of<N: Network>(
+    alloc: Global,
+    board: &mut Board<N>,
+    machine: &Machine,
+    way: &[(ActId, u32)],
+) -> Result<Tick, Fail>
+    requires made { IsMadeFor board.old.made_for machine.now }
+    requires marks { N.mark_room board.old.net ≡ 330 }
+    requires few { length way.now ≤ 50 }
+    ensures new { OnOk result (IsForNew N.net N.content N.past N.mark_room board.new machine.now) }
+{
+    load(alloc, board, machine)?;
+    let mut bound = open(board, machine, 11)?;
+    for at in 0..way.len() {
+        let (act, room) = way[at];
+        let (opened, placed, _) = choose(board, machine, act, room, at as u32)?;
+        bound = opened.max(placed);
+    }
+    Ok(bound)
+}
+
 #[test]
-fn board_rows(rt: HostRuntime) -> Result<(), Fail> {
+fn first_plan(rt: HostRuntime) -> Result<(), Fail> {
     let machine = duo(rt.alloc())?;
     let mut board = board_for(rt.alloc(), &machine)?;
-    load(rt.alloc(), &mut board, &machine)?;
-    let bound = open(&mut board, &machine, 11)?;
+    let way = [(OUT, 8), (PRINT2, 2), (FEED, 0)];
+    let bound = bound_of(rt.alloc(), &mut board, &machine, &way)?;
     assert_eq!(rt; bound, 14);
+    Ok(())
+}
+
+#[test]
+fn other_engine(rt: HostRuntime) -> Result<(), Fail> {
+    let machine = duo(rt.alloc())?;
+    let mut board = board_for(rt.alloc(), &machine)?;
+    let way = [(OUT, 8), (PRINT1, 2)];
+    let bound = bound_of(rt.alloc(), &mut board, &machine, &way)?;
+    assert_eq!(rt; bound, 17);
     Ok(())
 }
