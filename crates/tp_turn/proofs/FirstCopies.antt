@@ -1,9 +1,6 @@
--- The first copies of a new job's sheets, pairs in two lists together, and what an accepted job was asked with.
-use Rattle.std.proofs.Common.{◌≡◌, ℕ, suc, ◌+◌, ◌<◌, ◌≤◌, Bool, true, false, cond, not, List, [], ◌∷◌, length, refl, sym, ap, arith, All, AllPairs, nat_lt, Some, None, replicate}
+-- The first copies of a new job, pair by pair, and what an accepted job was asked with.
+use Rattle.std.proofs.Common.{◌≡◌, ℕ, ◌+◌, ◌<◌, ◌≤◌, Bool, true, false, cond, not, List, [], ◌∷◌, length, refl, sym, arith, All, AllPairs, nat_lt, Some, None}
 use Rattle.std.proofs.lemmas.Bool.Decides.{nat_tests}
-use Rattle.std.proofs.lemmas.List.{length-replicate, length-append}
-use Rattle.std.proofs.lemmas.List.Concat.{flat_map-cons}
-use Rattle.std.proofs.lemmas.List.Sums.{sum_by-cons}
 use Rattle.std.proofs.lemmas.List.Elements.{All-nil, All-cons, All-weaker}
 use Rattle.tp_machine.specs.declared.parts.Sheet.{Sheet}
 use Rattle.tp_machine.specs.declared.whole.Machine.{Machine}
@@ -13,7 +10,7 @@ use Rattle.tp_schedule.proofs.Pairs.{AllPairs-nil, AllPairs-cons}
 use Rattle.tp_script.specs.Form.{GroupForm}
 use Rattle.tp_schedule.specs.declared.recording.Cause.TheVariants.{Tray, Media, Named, Waiting}
 use Rattle.tp_jobs.specs.Refusing.{has_media, sheet_count, most_waiting, is_taken, is_tray_name}
-use Rattle.tp_jobs.specs.Waiting.{first_copies, sheets_of, sheet_of}
+use Rattle.tp_jobs.specs.Waiting.{first_copies}
 use Rattle.tp_turn.specs.Refusals.{first_of_causes, job_refusal}
 
 -- a first copy of the job, with a number from this one on
@@ -39,20 +36,6 @@ AllPairs-first_copies R each job n (want ∷ wants) =
     (λ w is. each _ w (sym is.of_job) (omega (arith, is.at_least))) (first_copies job (n + 1) wants)
     (All-first_copies job (n + 1) (n + 1) (n + 1 + length wants) wants (omega arith) (omega arith)))
     (AllPairs-first_copies R each job (n + 1) wants)
-
-pub length-first_copies : (job n : ℕ) (wants : List Sheet) → length (first_copies job n wants) ≡ length wants
-length-first_copies job n [] = refl
-length-first_copies job n (want ∷ wants) = ap suc (length-first_copies job (n + 1) wants)
-
--- a job has as many sheets as its groups count
-pub length-sheets_of : (media : List ℕ) (groups : List GroupForm) → length (sheets_of media groups) ≡ sheet_count groups
-length-sheets_of media [] = refl
-length-sheets_of media (g ∷ groups) =
-    let rest = length-sheets_of media groups in
-    let sum = sum_by-cons (λ (g : GroupForm). g.count) g groups in
-    let count = length-replicate g.count (sheet_of media g) in
-    rw (flat_map-cons (λ (g : GroupForm). replicate g.count (sheet_of media g)) g groups, length-append (replicate g.count (sheet_of media g)) (sheets_of media groups))
-    (omega arith)
 
 -- what an accepted job was asked with
 pub record IsAccepted (machine : Machine) (jobs : List Job) (waiting : ℕ) (name tray : List ℕ) (groups : List GroupForm) : Type 0 where

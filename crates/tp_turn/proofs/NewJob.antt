@@ -26,7 +26,8 @@ use Rattle.tp_turn.specs.Lines.{is_same_line}
 use Rattle.tp_turn.specs.Moments.{is_tray_plan}
 use Rattle.tp_turn.specs.States.{SessionState}
 use Rattle.tp_turn.specs.Turns.{with_job}
-use Rattle.tp_turn.proofs.FirstCopies.{IsFirstCopy, All-first_copies, AllPairs-first_copies, length-sheets_of, IsAccepted}
+use Rattle.tp_jobs.proofs.FirstCopies.{length-sheets_of}
+use Rattle.tp_turn.proofs.FirstCopies.{IsFirstCopy, All-first_copies, AllPairs-first_copies, IsAccepted}
 use Rattle.tp_schedule.proofs.Pairs.{AllPairs-nil, AllPairs-cons}
 use Rattle.tp_turn.proofs.ListFacts.{AllPairs-append, AllPairs-append_left, AllPairs-append_right, AllPairs-append_across, AllPairs-map_list, All-both}
 

@@ -24,7 +24,8 @@ use Rattle.tp_turn.specs.Lines.{sheet_total, sheets_in, is_job_broken, broken_in
 use Rattle.tp_turn.specs.Moments.{is_tray_plan}
 use Rattle.tp_turn.specs.States.{SessionState}
 use Rattle.tp_turn.specs.Turns.{with_job}
-use Rattle.tp_turn.proofs.FirstCopies.{IsFirstCopy, length-first_copies, length-sheets_of, IsAccepted}
+use Rattle.tp_jobs.proofs.FirstCopies.{length-first_copies, length-sheets_of}
+use Rattle.tp_turn.proofs.FirstCopies.{IsFirstCopy, IsAccepted}
 use Rattle.tp_turn.proofs.NewJob.{Known, before-same, earlier-other, firsts, firsts-are, known-plans}
 use Rattle.tp_turn.proofs.ListFacts.{All-both, Any-contains, contains-Any}
 

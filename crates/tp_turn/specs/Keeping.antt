@@ -115,13 +115,14 @@ pub record KeepsJobs (machine : Machine) (jobs : List Job) : Type 0 where
   pub trays : All (λ j. Contains machine.trays j.tray) jobs
   pub names : AllPairs (λ i j. i.name ≢ j.name) jobs
 
--- what is kept between events: jobs, plans, lines and sheets, and that the schedule is least
+-- what is kept between events: jobs, plans, lines and sheets
 pub record KeepsState (machine : Machine) (s : SessionState) : Type 0 where
   pub jobs : KeepsJobs machine s.jobs
   pub plans : KeepsPlans machine s
   pub lines : KeepsLines s
   pub sheets : KeepsSheets s
 
+-- and that the schedule is least
 abbrev pub IsLeastAt : Machine → SessionState → Type 0
 IsLeastAt machine s = IsLeast machine s.now none_exempt s.plans
 
