@@ -2,7 +2,7 @@
 //! them. Each call does nothing: its contract is the law.
 #![tactic(auto)]
 
-ghost use Rattle.tp_constraints.specs.Hops.{ActionHops, GoalHops, PlaceHops, StopHops};
+ghost use Rattle.tp_constraints.specs.Hops.{ActionHops, GoalHops, LoadHops, PlaceHops, StopHops};
 ghost use Rattle.tp_constraints.specs.Laws.{ActionLaw, GapsLaw, GoalLaw, PlaceLaw, RoomLaw, StopLaw, SuffixLaw};
 ghost use Rattle.tp_constraints.specs.Leasts.{BoundLaw, CommitLaw, SettleLaw};
 ghost use Rattle.tp_constraints.specs.Nets.{ActionNet, BoardLate, BoardLeast, BoardSolutions, GoalNet, LoadNet, LoadedSolutions, PlaceNet, StopNet};
@@ -56,8 +56,10 @@ pub fn least_solutions_are_least_schedules()
     ensures settle { SettleLaw }
 {}
 
-/// Each gap that a step adds, and each that stays, is a hop that a reason may cite.
+/// Each gap of a schedule, each that a step adds, and each that stays is a hop that a reason may cite, of the kind that is
+/// told with it.
 pub fn gaps_are_hops()
+    ensures load { LoadHops }
     ensures goal { GoalHops }
     ensures action { ActionHops }
     ensures place { PlaceHops }
