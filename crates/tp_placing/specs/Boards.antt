@@ -5,6 +5,7 @@ use Rattle.tp_schedule.specs.declared.parts.Ask.{Ask}
 use Rattle.tp_schedule.specs.declared.parts.Plan.{Plan}
 use Rattle.tp_constraints.specs.Suffixes.{Suffix, with_goal, with_action, with_place, with_stop}
 use Rattle.tp_base.specs.declared.edges.PointId.{PointId}
+use Rattle.tp_placing.specs.declared.causes.Cause.{Cause}
 use Rattle.tp_placing.specs.declared.parts.BoardMark.{BoardMark}
 use Rattle.tp_placing.specs.declared.parts.Held.{Held}
 use Rattle.tp_placing.specs.declared.parts.MadeFor.{MadeFor}
@@ -12,7 +13,8 @@ use Rattle.tp_placing.specs.declared.parts.Step.{Step}
 use Rattle.tp_placing.specs.declared.parts.Change.{Change}
 use Rattle.tp_placing.specs.declared.parts.Change.TheVariants.{Goal, Action, Place, Stop}
 
--- the network, the orders of the holds by their numbers, the live plans, the ask and the steps since they were loaded
+-- the network, the orders of the holds by their numbers, the live plans, the ask, the steps since they were loaded, and why
+-- the network's edges stand
 pub record BoardValue (N : Type 0) : Type 0 where
   pub net : N
   pub orders : Orders
@@ -26,6 +28,8 @@ pub record BoardValue (N : Type 0) : Type 0 where
   pub steps : List Step
   pub marks : List BoardMark
   pub made_for : MadeFor
+  pub causes : List Cause
+  pub limit : Option PointId
 
 -- the suffix after a change
 abbrev pub after_change : Option Suffix → Change → Option Suffix
@@ -63,6 +67,8 @@ pub record BoardAside (A : Type 0) : Type 0 where
   pub horizon : ℕ
   pub ask : Option Ask
   pub made_for : MadeFor
+  pub causes : List Cause
+  pub limit : Option PointId
 
 abbrev pub content_of : {N C : Type 0} → (N → C) → BoardValue N → BoardContent C
 content_of content b = record { net = content b.net; orders = b.orders.orders; held = b.held; steps = b.steps }
@@ -78,6 +84,8 @@ aside_of aside b = record {
   horizon = b.horizon;
   ask = b.ask;
   made_for = b.made_for;
+  causes = b.causes;
+  limit = b.limit;
 }
 
 -- the contents at the marks: what the network and the orders were, and the first so many holds and steps

@@ -9,30 +9,35 @@ use Rattle.tp_schedule.specs.Plans.{is_before}
 use Rattle.tp_schedule.specs.declared.parts.Ask.{Ask}
 use Rattle.tp_schedule.specs.declared.parts.Plan.{Plan}
 use Rattle.tp_constraints.specs.Gaps.{is_in_line}
+use Rattle.tp_placing.specs.Causes.{forward_tag, back_tag, line_tag}
 use Rattle.tp_placing.specs.declared.parts.Held.{Held}
 
-abbrev pub edge_of : PointId → PointId → ℤ → Edge
-edge_of from to weight = record { from = from; to = to; weight = weight; tag = 0 }
+abbrev pub edge_of : PointId → PointId → ℤ → ℕ → Edge
+edge_of from to weight tag = record { from = from; to = to; weight = weight; tag = tag }
 
 -- an action lasts at least its least, and at most its most
 abbrev pub duration_edges : Action → PointId → PointId → List Edge
-duration_edges a start end = edge_of start end (pos a.least) ∷ edge_of end start (neg_ℤ (pos a.most)) ∷ []
+duration_edges a start end = edge_of start end (pos a.least) forward_tag ∷ edge_of end start (neg_ℤ (pos a.most)) back_tag ∷ []
 
 abbrev pub anchor_point : Anchor → PointId → PointId → PointId
 anchor_point Start start end = start
 anchor_point End start end = end
 
 -- a hold ends by the begin of another
-abbrev pub hold_edge : Held → Held → Edge
-hold_edge x y = edge_of (anchor_point x.rule.end x.start x.end) (anchor_point y.rule.begin y.start y.end) (x.rule.end_off -ℤ y.rule.begin_off)
+abbrev pub hold_edge : Held → Held → ℕ → Edge
+hold_edge x y tag = edge_of (anchor_point x.rule.end x.start x.end) (anchor_point y.rule.begin y.start y.end) (x.rule.end_off -ℤ y.rule.begin_off) tag
 
-abbrev pub edge_after : Option Held → Held → List Edge
-edge_after None h = []
-edge_after (Some x) h = hold_edge x h ∷ []
+abbrev pub edge_after : Option Held → Held → ℕ → List Edge
+edge_after None h tag = []
+edge_after (Some x) h tag = hold_edge x h tag ∷ []
 
-abbrev pub edge_until : Held → Option Held → List Edge
-edge_until h None = []
-edge_until h (Some y) = hold_edge h y ∷ []
+abbrev pub edge_until : Held → Option Held → ℕ → List Edge
+edge_until h None tag = []
+edge_until h (Some y) tag = hold_edge h y tag ∷ []
+
+-- both, with the two tags of a step
+abbrev pub edges_around : Option Held → Held → Option Held → ℕ → List Edge
+edges_around before h behind tag = edge_after before h tag ++ edge_until h behind (tag + 1)
 
 -- the holds that stand before and behind a place of an order
 abbrev pub held_of : List Held → Option ℕ → Option Held
@@ -49,7 +54,7 @@ held_behind held order place = held_of held (slice_get order place)
 -- the asked copy ends after the earlier plans of its line, and before the later ones
 abbrev pub end_edge : Ask → Plan → PointId → PointId → Option Edge
 end_edge ask p plan_end end =
-    if is_in_line ask.goal p then (if is_before p.sheet ask.sheet then Some (edge_of plan_end end (pos 1)) else (if is_before ask.sheet p.sheet then Some (edge_of end plan_end (pos 1)) else None)) else None
+    if is_in_line ask.goal p then (if is_before p.sheet ask.sheet then Some (edge_of plan_end end (pos 1) line_tag) else (if is_before ask.sheet p.sheet then Some (edge_of end plan_end (pos 1) line_tag) else None)) else None
 
 abbrev pub edge_list : Option Edge → List Edge
 edge_list None = []

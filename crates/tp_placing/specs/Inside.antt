@@ -6,14 +6,15 @@ use Rattle.tp_base.specs.declared.edges.PointId.{PointId}
 use Rattle.tp_timelines.specs.Orders.{Orders}
 use Rattle.tp_schedule.specs.declared.parts.Ask.{Ask}
 use Rattle.tp_schedule.specs.declared.parts.Plan.{Plan}
+use Rattle.tp_placing.specs.declared.causes.Cause.{Cause}
 use Rattle.tp_placing.specs.declared.parts.BoardMark.{BoardMark}
 use Rattle.tp_placing.specs.declared.parts.Held.{Held}
 use Rattle.tp_placing.specs.declared.parts.MadeFor.{MadeFor}
 use Rattle.tp_placing.specs.declared.parts.Step.{Step}
 use Rattle.tp_placing.specs.Boards.{BoardValue}
 
-abbrev pub board_of : {N : Type 0} → N → Orders → List Held → List Plan → List PointId → PointId → ℕ → ℕ → Option Ask → List Step → List BoardMark → MadeFor → BoardValue N
-board_of net orders held plans firsts last floor horizon ask steps marks made_for = record {
+abbrev pub board_of : {N : Type 0} → N → Orders → List Held → List Plan → List PointId → PointId → ℕ → ℕ → Option Ask → List Step → List BoardMark → MadeFor → List Cause → Option PointId → BoardValue N
+board_of net orders held plans firsts last floor horizon ask steps marks made_for causes limit = record {
   net = net;
   orders = orders;
   held = held;
@@ -26,6 +27,8 @@ board_of net orders held plans firsts last floor horizon ask steps marks made_fo
   steps = steps;
   marks = marks;
   made_for = made_for;
+  causes = causes;
+  limit = limit;
 }
 
 -- the most live plans, own points beside them, steps, holds and edges

@@ -1,5 +1,6 @@
 pub mod Boards
 pub mod Calls
+pub mod Causes
 pub mod Edges
 pub mod Inside
 pub mod Ticks

@@ -1,5 +1,5 @@
 -- What plans must keep to be loaded, and what a network and orders are once they are.
-use Rattle.std.specs.Prelude.{ℕ, ◌<◌, ◌≤◌, ◌≡◌, false, List, ◌++◌, length, map, All, Contains}
+use Rattle.std.specs.Prelude.{ℕ, ◌<◌, ◌≤◌, ◌≡◌, false, List, ◌++◌, length, All}
 use Rattle.tp_base.specs.Net.{Net, HasLeast}
 use Rattle.tp_base.specs.declared.edges.Edge.{Edge}
 use Rattle.tp_base.specs.declared.edges.PointId.{PointId}
@@ -7,11 +7,15 @@ use Rattle.tp_machine.specs.declared.whole.Machine.{Machine}
 use Rattle.tp_schedule.specs.Answers.{KeepsHorizon}
 use Rattle.tp_schedule.specs.Planning.{last_tick}
 use Rattle.tp_schedule.specs.Spots.{slot_order}
+use Rattle.tp_schedule.specs.declared.parts.Ask.{Ask}
 use Rattle.tp_schedule.specs.declared.parts.Plan.{Plan}
 use Rattle.tp_timelines.specs.Orders.{order_on, total}
-use Rattle.tp_constraints.specs.Laws.{IsLoadable, plans_gaps}
+use Rattle.tp_constraints.specs.Hops.{no_choices}
+use Rattle.tp_constraints.specs.Laws.{IsLoadable}
 use Rattle.tp_constraints.specs.Nets.{IsLoadedNet}
-use Rattle.tp_constraints.specs.Numbers.{table_of, gap_by}
+use Rattle.tp_constraints.specs.Numbers.{table_of}
+use Rattle.tp_placing.specs.Causes.{ArePlain, IsNamedHop, IsSafe, step_causes}
+use Rattle.tp_placing.specs.declared.causes.Cause.{Cause}
 use Rattle.tp_placing.specs.declared.parts.Held.{Held}
 use Rattle.tp_placing.specs.Loading.{plans_edges, lines_edges, chains_edges, holds_on}
 use Rattle.tp_placing.specs.Standing.{AreFirsts, AreSlots, HasSmallOffsets, loaded_edges, loaded_holds}
@@ -25,13 +29,15 @@ pub record CanLoad (machine : Machine) (now : ℕ) (plans : List Plan) : Type 0 
 
 -- the edges of plans and of the orders of their holds
 abbrev pub all_edges : Machine → List Plan → List (List ℕ) → List Held → List Edge
-all_edges machine plans lines held = plans_edges machine 0 plans ++ (lines_edges 0 plans ++ chains_edges (holds_on held lines) (length machine.resources))
+all_edges machine plans lines held = plans_edges machine 0 plans ++ (lines_edges 0 plans ++ chains_edges step_causes (holds_on held lines) (length machine.resources))
 
--- the network is that of the plans, and the orders are those of their holds
-pub record IsLoaded (machine : Machine) (now : ℕ) (plans : List Plan) (n : Net) (lines : List (List ℕ)) (held : List Held) (firsts : List PointId) : Type 0 where
+-- the network is that of the plans, the orders are those of their holds, and the causes those of its edges
+pub record IsLoaded (machine : Machine) (now : ℕ) (plans : List Plan) (n : Net) (lines : List (List ℕ)) (held : List Held) (firsts : List PointId) (causes : List Cause) : Type 0 where
   pub net : IsLoadedNet machine now (λ _. false) plans (table_of plans) n
   pub solved : HasLeast n
-  pub hops : All (Contains (plans_gaps machine plans)) (map (gap_by (table_of plans)) n.edges)
+  pub hops : (ask : Ask) → All (IsNamedHop machine plans ask no_choices causes) n.edges
+  pub safe : All (IsSafe 0) n.edges
+  pub plain : ArePlain causes
   pub orders : (resource : ℕ) → resource < length machine.resources → AreSlots (table_of plans) held (order_on lines resource) (slot_order machine plans resource)
   pub few_edges : length n.edges ≤ loaded_edges
   pub few_holds : length held ≤ loaded_holds

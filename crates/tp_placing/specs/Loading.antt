@@ -13,6 +13,8 @@ use Rattle.tp_schedule.specs.declared.parts.Plan.{Plan}
 use Rattle.tp_constraints.specs.Gaps.{low_of, cap_of, is_same_line}
 use Rattle.tp_constraints.specs.Numbers.{with_edges}
 use Rattle.tp_timelines.specs.Orders.{order_on}
+use Rattle.tp_placing.specs.Causes.{line_tag, cause_between}
+use Rattle.tp_placing.specs.declared.causes.Cause.{Cause}
 use Rattle.tp_placing.specs.declared.parts.Held.{Held}
 use Rattle.tp_placing.specs.Edges.{edge_of, duration_edges, hold_edge}
 use Rattle.tp_placing.specs.Trying.{CanRequire}
@@ -75,7 +77,7 @@ next_end p n (q ∷ plans) = if is_same_line p q then Some (point_id (n + length
 -- a plan ends before the next one of its line
 abbrev pub line_edge : PointId → Option PointId → List Edge
 line_edge end None = []
-line_edge end (Some next) = edge_of end next (pos 1) ∷ []
+line_edge end (Some next) = edge_of end next (pos 1) line_tag ∷ []
 
 abbrev pub lines_edges : ℕ → List Plan → List Edge
 lines_edges n [] = []
@@ -98,16 +100,25 @@ holds_on held lines resource = holds_in held (order_on lines resource)
 abbrev pub AreIds : List Held → List ℕ → Type 0
 AreIds held ids = All (λ id. id < length held) ids
 
--- each hold of an order ends by the begin of the next
-abbrev pub chain_edges : List Held → List Edge
-chain_edges [] = []
-chain_edges (x ∷ []) = []
-chain_edges (x ∷ y ∷ ys) = hold_edge x y ∷ chain_edges (y ∷ ys)
+-- why each hold of an order ends by the begin of the next, and the same of the orders of all resources below a number
+abbrev pub chain_causes : List Held → List Cause
+chain_causes [] = []
+chain_causes (x ∷ []) = []
+chain_causes (x ∷ y ∷ ys) = cause_between x y ∷ chain_causes (y ∷ ys)
 
--- the same of the orders of all resources below a number
-abbrev pub chains_edges : (ℕ → List Held) → ℕ → List Edge
-chains_edges orders zero = []
-chains_edges orders (suc n) = chain_edges (orders n) ++ chains_edges orders n
+abbrev pub chains_causes : (ℕ → List Held) → ℕ → List Cause
+chains_causes orders zero = []
+chains_causes orders (suc n) = chain_causes (orders n) ++ chains_causes orders n
+
+-- the edges for it, with tags from a number on
+abbrev pub chain_edges : ℕ → List Held → List Edge
+chain_edges tag [] = []
+chain_edges tag (x ∷ []) = []
+chain_edges tag (x ∷ y ∷ ys) = hold_edge x y tag ∷ chain_edges (suc tag) (y ∷ ys)
+
+abbrev pub chains_edges : ℕ → (ℕ → List Held) → ℕ → List Edge
+chains_edges tag orders zero = []
+chains_edges tag orders (suc n) = chain_edges tag (orders n) ++ chains_edges (tag + length (chain_causes (orders n))) orders n
 
 -- edges for which there is room, and that some solution of the net keeps
 pub record AreAddable (room : ℕ) (net : Net) (es : List Edge) : Type 0 where

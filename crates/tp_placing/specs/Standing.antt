@@ -1,5 +1,5 @@
 -- What holds of a loaded board: its network and its orders are those of the live plans with the suffix so far.
-use Rattle.std.specs.Prelude.{◌≡◌, ℕ, zero, suc, ◌+◌, ◌-◌, ◌*◌, ◌<◌, ◌≤◌, Bool, false, List, [], ◌∷◌, ◌++◌, length, map, slice_get, Option, Some, None, All, Contains, if◌then◌else◌}
+use Rattle.std.specs.Prelude.{◌≡◌, ℕ, zero, suc, ◌+◌, ◌-◌, ◌*◌, ◌<◌, ◌≤◌, Bool, false, List, [], ◌∷◌, ◌++◌, length, slice_get, Option, Some, None, All, Contains, if◌then◌else◌}
 use Rattle.tp_base.specs.Net.{Net, HasLeast}
 use Rattle.tp_machine.specs.Machines.{IsOffset}
 use Rattle.tp_machine.specs.declared.parts.ActId.{ActId}
@@ -12,13 +12,14 @@ use Rattle.tp_schedule.specs.Spots.Spot.{own}
 use Rattle.tp_schedule.specs.declared.parts.Ask.{Ask}
 use Rattle.tp_schedule.specs.declared.parts.Plan.{Plan}
 use Rattle.tp_timelines.specs.Orders.{order_on, total}
-use Rattle.tp_constraints.specs.Gaps.{Gap}
-use Rattle.tp_constraints.specs.Hops.{IsHop}
-use Rattle.tp_constraints.specs.Laws.{IsLoadable, plans_gaps}
+use Rattle.tp_constraints.specs.Hops.{no_choices}
+use Rattle.tp_constraints.specs.Laws.{IsLoadable}
 use Rattle.tp_constraints.specs.Nets.{IsLoadedNet, IsBoardNet}
-use Rattle.tp_constraints.specs.Numbers.{table_of, gap_by}
+use Rattle.tp_constraints.specs.Numbers.{table_of}
 use Rattle.tp_constraints.specs.Suffixes.{Suffix, order_in}
 use Rattle.tp_base.specs.declared.edges.PointId.{PointId}
+use Rattle.tp_placing.specs.Causes.{ArePlain, IsNamedHop, IsSafe}
+use Rattle.tp_placing.specs.declared.causes.Cause.{Cause}
 use Rattle.tp_placing.specs.declared.parts.Held.{Held}
 use Rattle.tp_placing.specs.declared.parts.MadeFor.{MadeFor}
 use Rattle.tp_placing.specs.declared.parts.Step.{Step}
@@ -45,10 +46,10 @@ abbrev pub IsNetOf : Machine → List Plan → Ask → Option Suffix → Net →
 IsNetOf machine plans ask None net = IsLoadedNet machine ask.now (λ _. false) plans (table_of plans) net
 IsNetOf machine plans ask (Some x) net = IsBoardNet machine plans ask x (table_with plans (suc (length x.choices))) net
 
--- each of its gaps may be cited as a reason
-abbrev pub IsHopOf : Machine → List Plan → Ask → Option Suffix → Gap → Type 0
-IsHopOf machine plans ask None g = Contains (plans_gaps machine plans) g
-IsHopOf machine plans ask (Some x) g = IsHop machine plans ask x g
+-- the choices so far, if a goal is open
+abbrev pub choices_of : Option Suffix → Suffix
+choices_of None = no_choices
+choices_of (Some x) = x
 
 abbrev pub order_after : Machine → List Plan → Option Suffix → ℕ → List Slot
 order_after machine plans None resource = slot_order machine plans resource
@@ -113,7 +114,6 @@ HasSmallOffsets rule = IsOffset rule.begin_off × IsOffset rule.end_off
 pub record IsAtWith (machine : Machine) (plans : List Plan) (ask : Ask) (x : Option Suffix) (steps : List Step) (n : Net) (lines : List (List ℕ)) (holds : List Held) : Type 0 where
   pub net : IsNetOf machine plans ask x n
   pub solved : HasLeast n
-  pub hops : All (IsHopOf machine plans ask x) (map (gap_by (board_table plans x)) n.edges)
   pub orders : (resource : ℕ) → resource < length machine.resources → AreSlots (board_table plans x) holds (order_on lines resource) (order_after machine plans x resource)
   pub at_hand : (s : Step) → slice_get steps (length steps - 1) ≡ Some s → IsAtHand (length (table_of plans)) x s
   pub few_steps : AreFewSteps (kept_of ask) x (length steps)
@@ -132,6 +132,11 @@ AreFirsts n (p ∷ plans) (f ∷ firsts) = (f.0 ≡ n) × AreFirsts (n + suc (le
 abbrev pub IsAt : Machine → List Plan → Ask → List Step → Net → List (List ℕ) → List Held → Type 0
 IsAt machine plans ask steps n lines holds = IsAtWith machine plans ask (suffix_after steps) steps n lines holds
 
+-- each edge of a network after these steps is a hop with its cause, over which no later step writes
+pub record AreCaused (machine : Machine) (plans : List Plan) (ask : Ask) (causes : List Cause) (steps : List Step) (n : Net) : Type 0 where
+  pub hops : All (IsNamedHop machine plans ask (choices_of (suffix_after steps)) causes) n.edges
+  pub safe : All (IsSafe (length steps)) n.edges
+
 -- the board stands on a machine and an ask: it was loaded with them, and is right for the steps so far and at each mark
 pub record StandsOn {N C : Type 0} (net : N → Net) (content : N → C) (past : N → List C) (b : BoardValue N) (machine : Machine) (ask : Ask) : Type 0 where
   pub made : IsMadeFor b.made_for machine
@@ -147,6 +152,9 @@ pub record StandsOn {N C : Type 0} (net : N → Net) (content : N → C) (past :
   pub few_plans : length b.plans ≤ 256
   pub now : IsAt machine b.plans ask b.steps (net b.net) b.orders.orders b.held
   pub before : (x : BoardContent C) → Contains (past_of past b) x → (n : N) → content n ≡ x.net → IsAt machine b.plans ask x.steps (net n) x.orders x.held
+  pub plain : ArePlain b.causes
+  pub caused : AreCaused machine b.plans ask b.causes b.steps (net b.net)
+  pub caused_before : (x : BoardContent C) → Contains (past_of past b) x → (n : N) → content n ≡ x.net → AreCaused machine b.plans ask b.causes x.steps (net n)
 
 abbrev pub Stands : {N C : Type 0} → (N → Net) → (N → C) → (N → List C) → BoardValue N → Machine → Type 0
 Stands net content past b machine = (ask : Ask) × StandsOn net content past b machine ask

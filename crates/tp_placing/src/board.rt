@@ -1,3 +1,4 @@
+use crate::causes::Causes;
 use crate::parts::{BoardMark, Held, MadeFor, Step};
 use std::marker::Model;
 use tp_base::{Edge, Network, PointId, Tick};
@@ -25,6 +26,10 @@ pub struct Board<N: Network> {
     pub(crate) made_for: MadeFor,
     /// Where the edges of one step are made.
     pub(crate) edges: Vec<Edge>,
+    /// Why the edges of the network stand, by their tags.
+    pub(crate) causes: Causes,
+    /// The point of the end that was refused last, where that was the last change that was asked for.
+    pub(crate) limit: Option<PointId>,
 }
 
 // Clauses see what is loaded, the steps since, and the network.
@@ -35,7 +40,7 @@ impl<N: Network> Model for Board<N> {
 
     ghost Value = { BoardValue N };
 
-    ghost view = { λ b. board_of b.net b.lines b.held.items b.plans.items b.firsts.items b.last b.floor b.horizon b.ask b.steps.items b.marks.items b.made_for };
+    ghost view = { λ b. board_of b.net b.lines b.held.items b.plans.items b.firsts.items b.last b.floor b.horizon b.ask b.steps.items b.marks.items b.made_for b.causes b.limit };
 
     ghost invariant = { λ b. IsBoard (length (N.past b.net)) (N.mark_room b.net) (N.point_room b.net) (N.edge_room b.net) b.lines b.held b.plans b.firsts b.steps b.marks b.edges b.made_for };
 }

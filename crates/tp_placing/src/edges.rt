@@ -3,19 +3,20 @@ ghost use Rattle.tp_machine.specs.Machines.{IsOffset};
 ghost use Rattle.tp_placing.specs.Edges.{anchor_point, duration_edges, edge_of, hold_edge, edge_after, edge_until};
 ghost use Rattle.tp_placing.specs.Standing.{HasSmallOffsets};
 
+use crate::causes::{BACK, FORWARD};
 use crate::parts::Held;
 use tp_base::{Edge, PointId, Tick};
 use tp_machine::{Action, Anchor};
 
-/// The time of `to` is at least that of `from` plus the weight.
-pub(crate) fn edge_between(from: PointId, to: PointId, weight: i64) -> Edge
-    ensures { result ≡ edge_of from to weight }
+/// The time of `to` is at least that of `from` plus the weight, for the cause of this tag.
+pub(crate) fn edge_between(from: PointId, to: PointId, weight: i64, tag: u32) -> Edge
+    ensures { result ≡ edge_of from to weight tag }
 {
     Edge {
         from,
         to,
         weight,
-        tag: 0,
+        tag,
     }
 }
 
@@ -24,8 +25,8 @@ pub(crate) fn lasting(action: &Action, start: PointId, end: PointId) -> [Edge; 2
     ensures { result ≡ duration_edges action.now start end }
 {
     [
-        edge_between(start, end, action.least as i64),
-        edge_between(end, start, -(action.most as i64)),
+        edge_between(start, end, action.least as i64, FORWARD),
+        edge_between(end, start, -(action.most as i64), BACK),
     ]
 }
 
@@ -38,9 +39,9 @@ fn anchored(anchor: Anchor, start: PointId, end: PointId) -> PointId
     }
 }
 
-/// The first hold ends by the begin of the second.
-pub(crate) fn following(before: &Held, after: &Held) -> Edge
-    ensures { result ≡ hold_edge before.now after.now }
+/// The first hold ends by the begin of the second, for the cause of this tag.
+pub(crate) fn following(before: &Held, after: &Held, tag: u32) -> Edge
+    ensures { result ≡ hold_edge before.now after.now tag }
 {
     let from = anchored(before.rule.end, before.start, before.end);
     let to = anchored(after.rule.begin, after.start, after.end);
@@ -48,6 +49,7 @@ pub(crate) fn following(before: &Held, after: &Held) -> Edge
         from,
         to,
         before.rule.end_off as i64 - after.rule.begin_off as i64,
+        tag,
     )
 }
 

@@ -1,10 +1,12 @@
-//! The orders of the resources of a schedule that is loaded, as edges between neighbours.
-ghost use Rattle.std.specs.Prelude.{◌≡◌, ℕ, ◌<◌, ◌≤◌, length};
+//! The orders of the resources of a schedule that is loaded, as edges between neighbours, with their causes.
+ghost use Rattle.std.specs.Prelude.{◌≡◌, ℕ, ◌+◌, ◌<◌, ◌≤◌, ◌++◌, length};
 ghost use Rattle.tp_base.specs.Net.{HasLeast};
 ghost use Rattle.tp_constraints.specs.Numbers.{with_edges};
 ghost use Rattle.tp_timelines.specs.Orders.{order_on};
-ghost use Rattle.tp_placing.specs.Loading.{AreAddable, AreIds, chain_edges, chains_edges, holds_in, holds_on};
+ghost use Rattle.tp_placing.specs.Causes.{most_causes};
+ghost use Rattle.tp_placing.specs.Loading.{AreAddable, AreIds, chain_causes, chain_edges, chains_causes, chains_edges, holds_in, holds_on};
 
+use crate::causes::{Causes, between};
 use crate::edges::following;
 use crate::kept_edges::add_kept;
 use crate::parts::Held;
@@ -13,11 +15,19 @@ use tp_machine::ResId;
 use tp_timelines::Timelines;
 
 /// Adds that each hold of the resource ends by the begin of the next one.
-fn add_chain<N: Network>(net: &mut N, lines: &Timelines, held: &[Held], resource: ResId)
-    requires can { AreAddable (N.edge_room net.old) (N.net net.old) (chain_edges (holds_on held.now lines.now.orders resource.0)) }
+fn add_chain<N: Network>(
+    net: &mut N,
+    causes: &mut Causes,
+    lines: &Timelines,
+    held: &[Held],
+    resource: ResId,
+)
+    requires can { AreAddable (N.edge_room net.old) (N.net net.old) (chain_edges (length causes.old) (holds_on held.now lines.now.orders resource.0)) }
+    requires few { length causes.old + length (chain_causes (holds_on held.now lines.now.orders resource.0)) ≤ most_causes }
     requires known { resource.0 < length lines.now.orders }
     requires ids { AreIds held.now (order_on lines.now.orders resource.0) }
-    ensures added { N.net net.new ≡ with_edges (N.net net.old) (chain_edges (holds_on held.now lines.now.orders resource.0)) }
+    ensures added { N.net net.new ≡ with_edges (N.net net.old) (chain_edges (length causes.old) (holds_on held.now lines.now.orders resource.0)) }
+    ensures causes { causes.new ≡ causes.old ++ chain_causes (holds_on held.now lines.now.orders resource.0) }
     ensures solved { HasLeast (N.net net.new) }
     ensures past { N.past net.new ≡ N.past net.old }
     ensures marks { N.mark_room net.new ≡ N.mark_room net.old }
@@ -27,17 +37,26 @@ fn add_chain<N: Network>(net: &mut N, lines: &Timelines, held: &[Held], resource
     for place in 1..lines.len(resource) {
         let before = lines.at(resource, place - 1) as usize;
         let after = lines.at(resource, place) as usize;
-        add_kept(net, &[following(&held[before], &held[after])]);
+        let tag = causes.push(between(&held[before], &held[after]));
+        add_kept(net, &[following(&held[before], &held[after], tag)]);
     }
 }
 
 /// Adds the same of all resources below a number.
-pub(crate) fn add_chains<N: Network>(net: &mut N, lines: &Timelines, held: &[Held], resources: u32)
-    requires can { AreAddable (N.edge_room net.old) (N.net net.old) (chains_edges (holds_on held.now lines.now.orders) resources) }
+pub(crate) fn add_chains<N: Network>(
+    net: &mut N,
+    causes: &mut Causes,
+    lines: &Timelines,
+    held: &[Held],
+    resources: u32,
+)
+    requires can { AreAddable (N.edge_room net.old) (N.net net.old) (chains_edges (length causes.old) (holds_on held.now lines.now.orders) resources) }
+    requires room { length causes.old + length (chains_causes (holds_on held.now lines.now.orders) resources) ≤ most_causes }
     requires known { resources ≤ length lines.now.orders }
     requires few { resources ≤ 256 }
     requires ids { (resource : ℕ) → resource < resources → AreIds held.now (order_on lines.now.orders resource) }
-    ensures added { N.net net.new ≡ with_edges (N.net net.old) (chains_edges (holds_on held.now lines.now.orders) resources) }
+    ensures added { N.net net.new ≡ with_edges (N.net net.old) (chains_edges (length causes.old) (holds_on held.now lines.now.orders) resources) }
+    ensures causes { causes.new ≡ causes.old ++ chains_causes (holds_on held.now lines.now.orders) resources }
     ensures solved { HasLeast (N.net net.new) }
     ensures past { N.past net.new ≡ N.past net.old }
     ensures marks { N.mark_room net.new ≡ N.mark_room net.old }
@@ -47,6 +66,6 @@ pub(crate) fn add_chains<N: Network>(net: &mut N, lines: &Timelines, held: &[Hel
     let mut left = resources;
     while left > 0 {
         left -= 1;
-        add_chain(net, lines, held, ResId(left as u16));
+        add_chain(net, causes, lines, held, ResId(left as u16));
     }
 }

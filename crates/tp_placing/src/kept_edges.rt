@@ -6,6 +6,7 @@ ghost use Rattle.tp_constraints.specs.Gaps.{is_same_line};
 ghost use Rattle.tp_constraints.specs.Numbers.{with_edges};
 ghost use Rattle.tp_placing.specs.Loading.{AreAddable, act_edges, acts_edges, line_edge, lines_edges, next_end, plans_edges, point_count};
 
+use crate::causes::LINE;
 use crate::edges::{edge_between, lasting};
 use crate::lining::goes_along;
 use crate::trying::add_each;
@@ -116,7 +117,7 @@ fn add_line<N: Network>(net: &mut N, end: PointId, next: Option<PointId>)
     ensures edges { N.edge_room net.new ≡ N.edge_room net.old }
 {
     match next {
-        Some(next) => add_kept(net, &[edge_between(end, next, 1)]),
+        Some(next) => add_kept(net, &[edge_between(end, next, 1, LINE)]),
         None => {}
     }
 }

@@ -1,13 +1,15 @@
 //! A schedule's live plans as a network with orders.
-ghost use Rattle.std.specs.Prelude.{◌≡◌, ℕ, ◌+◌, ◌<◌, ◌≤◌, ◌^◌, [], length, filter, vec_capacity};
+ghost use Rattle.std.specs.Prelude.{◌≡◌, ℕ, ◌+◌, ◌<◌, ◌≤◌, ◌^◌, ◌++◌, [], length, filter, vec_capacity};
 ghost use Rattle.tp_base.specs.Net.{HasLeast};
 ghost use Rattle.tp_schedule.specs.Living.{is_live};
 ghost use Rattle.tp_timelines.specs.Orders.{order_on};
 ghost use Rattle.tp_constraints.specs.Numbers.{with_edges};
+ghost use Rattle.tp_placing.specs.Causes.{most_causes, step_causes};
 ghost use Rattle.tp_placing.specs.Inside.{most_edges, most_holds, most_plans, most_points};
 ghost use Rattle.tp_placing.specs.Loaded.{CanLoad, IsLoaded, all_edges};
-ghost use Rattle.tp_placing.specs.Loading.{AreAddable, AreIds, point_count};
+ghost use Rattle.tp_placing.specs.Loading.{AreAddable, AreIds, chains_causes, holds_on, point_count};
 
+use crate::causes::Causes;
 use crate::kept_chains::add_chains;
 use crate::kept_edges::{add_durations, add_lines};
 use crate::kept_holds::put_plans;
@@ -39,16 +41,20 @@ pub(crate) fn keep_live(plans: &mut Vec<Plan>, machine: &Machine, schedule: &Sch
 /// Adds an edge for each gap of the plans.
 fn add_edges<N: Network>(
     net: &mut N,
+    causes: &mut Causes,
     lines: &Timelines,
     held: &[Held],
     machine: &Machine,
     plans: &[Plan],
 )
     requires can { AreAddable (N.edge_room net.old) (N.net net.old) (all_edges machine.now plans.now lines.now.orders held.now) }
+    requires causes { length causes.old ≡ step_causes }
+    requires room { step_causes + length (chains_causes (holds_on held.now lines.now.orders) (length machine.now.resources)) ≤ most_causes }
     requires fits { point_count plans.now < 2 ^ 32 }
     requires resources { length lines.now.orders ≡ length machine.now.resources }
     requires ids { (resource : ℕ) → resource < length lines.now.orders → AreIds held.now (order_on lines.now.orders resource) }
     ensures added { N.net net.new ≡ with_edges (N.net net.old) (all_edges machine.now plans.now lines.now.orders held.now) }
+    ensures causes { causes.new ≡ causes.old ++ chains_causes (holds_on held.now lines.now.orders) (length machine.now.resources) }
     ensures solved { HasLeast (N.net net.new) }
     ensures past { N.past net.new ≡ N.past net.old }
     ensures marks { N.mark_room net.new ≡ N.mark_room net.old }
@@ -57,12 +63,13 @@ fn add_edges<N: Network>(
 {
     add_durations(net, machine, plans);
     add_lines(net, plans);
-    add_chains(net, lines, held, machine.resources.len());
+    add_chains(net, causes, lines, held, machine.resources.len());
 }
 
 /// Leaves nothing but the live plans in the network and the orders. Answers how many points there are.
 pub(crate) fn load_plans<N: Network>(
     net: &mut N,
+    causes: &mut Causes,
     lines: &mut Timelines,
     held: &mut Vec<Held>,
     firsts: &mut Vec<PointId>,
@@ -77,7 +84,7 @@ pub(crate) fn load_plans<N: Network>(
     requires holds { most_holds ≤ lines.old.hold_room }
     requires hold_space { most_holds ≤ vec_capacity held.old }
     requires first_space { most_plans ≤ vec_capacity firsts.old }
-    ensures loaded { IsLoaded machine.now now plans.now (N.net net.new) lines.new.orders held.new.items firsts.new.items }
+    ensures loaded { IsLoaded machine.now now plans.now (N.net net.new) lines.new.orders held.new.items firsts.new.items causes.new }
     ensures count { result ≡ point_count plans.now }
     ensures past { N.past net.new ≡ [] }
     ensures marks { N.mark_room net.new ≡ N.mark_room net.old }
@@ -91,11 +98,12 @@ pub(crate) fn load_plans<N: Network>(
     ensures first_space { vec_capacity firsts.old ≤ vec_capacity firsts.new }
 {
     net.clear();
+    causes.clear();
     lines.clear();
     held.clear();
     firsts.clear();
     let points = add_points(net, firsts, plans, now + machine.lead, now + machine.window);
     put_plans(lines, held, plans, firsts.as_slice(), machine, points);
-    add_edges(net, lines, held.as_slice(), machine, plans);
+    add_edges(net, causes, lines, held.as_slice(), machine, plans);
     points
 }

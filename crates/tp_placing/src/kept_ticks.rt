@@ -13,7 +13,7 @@ use tp_schedule::Plan;
 use tp_timelines::Timelines;
 
 /// How many of the points are at most this one.
-fn count_to(firsts: &[PointId], point: PointId) -> usize
+pub(crate) fn count_to(firsts: &[PointId], point: PointId) -> usize
     requires { IsNonDecreasingBy (λ f. f.0) firsts.now }
     ensures within { result ≤ length firsts.now }
     ensures before { AllWithin (λ f. f.0 ≤ point.0) firsts.now 0 result }

@@ -1,10 +1,17 @@
-ghost use Rattle.tp_placing.specs.Laws.{MarkKeeps, UndoKeeps};
+ghost use Rattle.tp_placing.specs.Laws.{AsideKeepsEndReasons, AsideKeepsReasons, MarkKeeps, TablesAreNumbered, UndoKeeps};
 
 use tp_base::Network;
 
-/// A board that stands on a machine and an ask stands on them after a mark, and when it is taken back to one. The call does
-/// nothing.
+/// A board that stands on a machine and an ask stands on them after a mark, and when it is taken back to one, and what the
+/// last refusal shows stays with it. The call does nothing.
 pub fn marks_keep_boards<N: Network>()
     ensures mark { MarkKeeps N.net N.content N.past N.aside }
     ensures back { UndoKeeps N.net N.content N.past N.aside }
+    ensures reasons { AsideKeepsReasons N.aside N.refutes }
+    ensures end_reasons { AsideKeepsEndReasons N.aside N.refutes }
+{}
+
+/// The points of the plans and the own ones have the numbers by which they are named. The call does nothing.
+pub fn tables_are_numbered()
+    ensures { TablesAreNumbered }
 {}

@@ -3,6 +3,7 @@
 
 mod asked;
 mod board;
+mod causes;
 mod committing;
 mod edges;
 mod finding;
@@ -16,6 +17,8 @@ mod laws;
 mod lining;
 mod loading;
 mod making;
+mod names;
+mod naming;
 mod neighbours;
 mod opening;
 mod parts;
@@ -27,5 +30,6 @@ mod undoing;
 mod writing;
 
 pub use board::Board;
-pub use laws::marks_keep_boards;
+pub use laws::{marks_keep_boards, tables_are_numbered};
+pub use names::{Grip, Spot, Why};
 pub use parts::MadeFor;

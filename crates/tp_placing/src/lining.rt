@@ -5,6 +5,7 @@ ghost use Rattle.tp_constraints.specs.Numbers.{table_of};
 ghost use Rattle.tp_placing.specs.Edges.{end_edge, end_edges};
 ghost use Rattle.tp_placing.specs.Standing.{AreFirsts};
 
+use crate::causes::LINE;
 use crate::edges::edge_between;
 use tp_base::{Edge, PointId};
 use tp_schedule::{Ask, Goal, Kind, Plan, SheetId};
@@ -34,9 +35,9 @@ fn line_edge(ask: &Ask, plan: &Plan, plan_end: PointId, end: PointId) -> Option<
     if !goes_along(ask.goal, plan) {
         None
     } else if comes_before(plan.sheet, ask.sheet) {
-        Some(edge_between(plan_end, end, 1))
+        Some(edge_between(plan_end, end, 1, LINE))
     } else if comes_before(ask.sheet, plan.sheet) {
-        Some(edge_between(end, plan_end, 1))
+        Some(edge_between(end, plan_end, 1, LINE))
     } else {
         None
     }

@@ -39,6 +39,7 @@ impl<N: Network> Board<N> {
         keep_live(&mut self.plans, machine, schedule, ask.now);
         let points = load_plans(
             &mut self.net,
+            &mut self.causes,
             &mut self.lines,
             &mut self.held,
             &mut self.firsts,
@@ -52,5 +53,6 @@ impl<N: Network> Board<N> {
         self.ask = Some(*ask);
         self.steps.clear();
         self.marks.clear();
+        self.limit = None;
     }
 }

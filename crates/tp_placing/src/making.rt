@@ -4,6 +4,7 @@ ghost use Rattle.tp_placing.specs.Inside.{most_points, most_edges};
 ghost use Rattle.tp_placing.specs.Standing.{IsMadeFor};
 
 use crate::board::Board;
+use crate::causes::Causes;
 use crate::parts::MadeFor;
 use std::alloc::Global;
 use tp_base::{Memory, Network, PointId};
@@ -52,6 +53,8 @@ impl<N: Network + Drop> Board<N> {
             marks: Vec::with_capacity(alloc, marks as usize)?,
             made_for,
             edges: Vec::with_capacity(alloc, PLANS)?,
+            causes: Causes::new(alloc)?,
+            limit: None,
         })
     }
 }

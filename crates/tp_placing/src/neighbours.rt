@@ -1,7 +1,9 @@
-ghost use Rattle.std.specs.Prelude.{◌≡◌, ℕ, suc, ◌+◌, ◌<◌, ◌≤◌, ◌++◌, All, length, slice_get, Option, Some, vec_capacity};
+ghost use Rattle.std.specs.Prelude.{◌≡◌, ◌+◌, ◌^◌, ◌<◌, ◌≤◌, All, length, slice_get, vec_capacity};
 ghost use Rattle.tp_timelines.specs.Orders.{order_on};
-ghost use Rattle.tp_placing.specs.Edges.{edge_after, edge_until, held_before, held_behind, held_of};
+ghost use Rattle.tp_placing.specs.Causes.{causes_around, step_causes};
+ghost use Rattle.tp_placing.specs.Edges.{edges_around, held_before, held_behind, held_of};
 
+use crate::causes::{Causes, between};
 use crate::edges::following;
 use crate::parts::Held;
 use tp_base::Edge;
@@ -21,32 +23,70 @@ fn held_at(lines: &Timelines, held: &[Held], resource: ResId, place: u32) -> Opt
     }
 }
 
-/// Writes the edges from the hold before a place to a new hold, and from it to the one behind, in place of what was there.
-pub(crate) fn neighbour_edges(
-    edges: &mut Vec<Edge>,
+/// The holds before and behind a place of an order.
+pub(crate) struct Neighbours {
+    before: Option<Held>,
+    behind: Option<Held>,
+}
+
+/// The holds before and behind a place of a resource's order.
+pub(crate) fn neighbours_of(
     lines: &Timelines,
     held: &[Held],
-    new: &Held,
+    resource: ResId,
     place: u32,
+) -> Neighbours
+    requires known { resource.0 < length lines.now.orders }
+    requires numbers { All (λ id. id < length held.now) (order_on lines.now.orders resource.0) }
+    ensures before { result.before ≡ held_before held.now (order_on lines.now.orders resource.0) place }
+    ensures behind { result.behind ≡ held_behind held.now (order_on lines.now.orders resource.0) place }
+{
+    let before = if place > 0 {
+        held_at(lines, held, resource, place - 1)
+    } else {
+        None
+    };
+    Neighbours {
+        before,
+        behind: held_at(lines, held, resource, place),
+    }
+}
+
+/// Writes the edges from the hold before to a new hold, and from it to the one behind, in place of what was there.
+pub(crate) fn neighbour_edges(
+    edges: &mut Vec<Edge>,
+    neighbours: &Neighbours,
+    new: &Held,
+    tag: u32,
 )
-    requires known { new.now.rule.resource.0 < length lines.now.orders }
-    requires numbers { All (λ id. id < length held.now) (order_on lines.now.orders new.now.rule.resource.0) }
     requires room { 2 ≤ vec_capacity edges.old }
-    ensures edges { edges.new.items ≡ edge_after (held_before held.now (order_on lines.now.orders new.now.rule.resource.0) place) new.now ++ edge_until new.now (held_behind held.now (order_on lines.now.orders new.now.rule.resource.0) place) }
+    requires fits { tag + 1 < 2 ^ 32 }
+    ensures edges { edges.new.items ≡ edges_around neighbours.now.before new.now neighbours.now.behind tag }
     ensures capacity { vec_capacity edges.old ≤ vec_capacity edges.new }
 {
-    let resource = new.rule.resource;
     edges.clear();
-    if place > 0
-        && let Some(before) = held_at(lines, held, resource, place - 1)
-    {
-        let Ok(()) = edges.push(following(&before, new)) else {
+    if let Some(before) = &neighbours.before {
+        let Ok(()) = edges.push(following(before, new, tag)) else {
             unreachable!()
         };
     }
-    if let Some(behind) = held_at(lines, held, resource, place) {
-        let Ok(()) = edges.push(following(new, &behind)) else {
+    if let Some(behind) = &neighbours.behind {
+        let Ok(()) = edges.push(following(new, behind, tag + 1)) else {
             unreachable!()
         };
+    }
+}
+
+/// Writes why these edges stand.
+pub(crate) fn note_neighbours(causes: &mut Causes, neighbours: &Neighbours, new: &Held, tag: u32)
+    requires behind { 5 ≤ tag }
+    requires within { tag + 1 < step_causes }
+    ensures { causes.new ≡ causes_around neighbours.now.before new.now neighbours.now.behind tag causes.old }
+{
+    if let Some(before) = &neighbours.before {
+        causes.set(tag, between(before, new));
+    }
+    if let Some(behind) = &neighbours.behind {
+        causes.set(tag + 1, between(new, behind));
     }
 }

@@ -7,10 +7,11 @@ ghost use Rattle.tp_placing.specs.Reasons.{HasReason};
 ghost use Rattle.tp_placing.specs.Standing.{Stands};
 
 use crate::board::Board;
+use crate::causes::{STOP, step_tag};
 use crate::edges::{edge_between, lasting, lowest};
 use crate::finding::point_of;
 use crate::lining::line_edges;
-use crate::neighbours::neighbour_edges;
+use crate::neighbours::{neighbour_edges, neighbours_of, note_neighbours};
 use crate::parts::{Change, Held, Step};
 use crate::trying::{extend_all, require_all};
 use tp_base::{Late, Network, PointId};
@@ -37,13 +38,14 @@ impl<N: Network> Board<N> {
         gaps_are_hops();
         solutions_are_ticks();
         steps_add_edges();
+        self.limit = None;
         let newest = self.steps[self.steps.len() - 1];
         let Some(ask) = self.ask else { unreachable!() };
         let Origin::Front { kept, .. } = ask.origin else {
             unreachable!()
         };
         let end = point_of(&self.plans, &self.firsts, ask.sheet, kept);
-        match self.net.require(edge_between(newest.first, end, 0)) {
+        match self.net.require(edge_between(newest.first, end, 0, STOP)) {
             Ok(()) => {}
             Err(Late) => return Err(Late),
         }
@@ -76,6 +78,7 @@ impl<N: Network> Board<N> {
         gaps_are_hops();
         solutions_are_ticks();
         steps_add_edges();
+        self.limit = None;
         let newest = self.steps[self.steps.len() - 1];
         let Some(act) = newest.newest else {
             unreachable!()
@@ -87,7 +90,10 @@ impl<N: Network> Board<N> {
             start: newest.first,
             end: PointId(newest.first.0 - 1),
         };
-        neighbour_edges(&mut self.edges, &self.lines, &self.held, &new, place);
+        let neighbours = neighbours_of(&self.lines, &self.held, new.rule.resource, place);
+        let tag = step_tag(self.steps.len());
+        note_neighbours(&mut self.causes, &neighbours, &new, tag);
+        neighbour_edges(&mut self.edges, &neighbours, &new, tag);
         match require_all(&mut self.net, &self.edges) {
             Ok(()) => {}
             Err(Late) => return Err(Late),
@@ -129,6 +135,7 @@ impl<N: Network> Board<N> {
         gaps_are_hops();
         solutions_are_ticks();
         steps_add_edges();
+        self.limit = None;
         let newest = self.steps[self.steps.len() - 1];
         let start = PointId(newest.first.0 + 1);
         let low = lowest(self.floor, room, self.horizon);
@@ -165,6 +172,7 @@ impl<N: Network> Board<N> {
         gaps_are_hops();
         solutions_are_ticks();
         steps_add_edges();
+        self.limit = None;
         let Some(ask) = self.ask else { unreachable!() };
         let low = lowest(self.floor, room, self.horizon);
         line_edges(&mut self.edges, &self.plans, &self.firsts, &ask, self.last);

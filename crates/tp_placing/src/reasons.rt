@@ -6,23 +6,26 @@ ghost use Rattle.tp_machine.specs.declared.whole.Machine.{Machine};
 ghost use Rattle.tp_schedule.specs.Spots.Spot.{own};
 ghost use Rattle.tp_placing.specs.Boards.{content_of, past_of, suffix_of};
 ghost use Rattle.tp_placing.specs.Calls.{IsSameLoad};
-ghost use Rattle.tp_placing.specs.Reasons.{IsEndReason, IsShown, with_limit};
+ghost use Rattle.tp_placing.specs.Reasons.{HasEndReason, IsShown, with_limit};
 ghost use Rattle.tp_placing.specs.Standing.{Stands};
 ghost use Rattle.tp_placing.specs.Ticks.{HasLeastTick};
 
 use crate::board::Board;
+use crate::causes::LIMIT;
 use crate::edges::edge_between;
 use tp_base::{Late, Network, PointId, Proof, Tick};
 use tp_constraints::solutions_are_ticks;
 
 /// Has the network refuse that a point comes by a tick, and leaves it as it was. Takes a mark for the time of the call.
-fn refuse_by<N: Network>(net: &mut N, point: PointId, last: Tick)
+/// Answers the point of that tick.
+fn refuse_by<N: Network>(net: &mut N, point: PointId, last: Tick) -> PointId
     requires room { length (N.net net.old).lows < N.point_room net.old }
     requires known { point.0 < length (N.net net.old).lows }
     requires spare { length (N.net net.old).edges < N.edge_room net.old }
     requires mark { length (N.past net.old) < N.mark_room net.old }
     requires late { HasNoSolution (with_limit (N.net net.old) point last) }
     ensures refused { N.refutes net.new (with_limit (N.net net.old) point last) }
+    ensures limit { result ≡ record { 0 = length (N.net net.old).lows } }
     ensures same { N.content net.new ≡ N.content net.old }
     ensures past { N.past net.new ≡ N.past net.old }
     ensures marks { N.mark_room net.new ≡ N.mark_room net.old }
@@ -33,9 +36,12 @@ fn refuse_by<N: Network>(net: &mut N, point: PointId, last: Tick)
     let Ok(limit) = net.point(0, last) else {
         unreachable!()
     };
-    match net.require(edge_between(point, limit, 0)) {
+    match net.require(edge_between(point, limit, 0, LIMIT)) {
         Ok(()) => unreachable!(),
-        Err(Late) => net.undo_to(mark),
+        Err(Late) => {
+            net.undo_to(mark);
+            limit
+        }
     }
 }
 
@@ -44,7 +50,7 @@ impl<N: Network> Board<N> {
     pub fn refuse_end(&mut self, last: Tick)
         requires below { (m : Machine) × (bound : ℕ) × Stands N.net N.content N.past self.old m × HasLeastTick m self.old (own 0) bound × (last < bound) }
         requires open { IsSome (suffix_of self.old) }
-        ensures shown { IsSomeAnd (suffix_of self.new) (λ x. IsEndReason N.net N.refutes self.new.net self.new.plans x last) }
+        ensures shown { (m : Machine) → Stands N.net N.content N.past self.old m → IsSomeAnd (suffix_of self.new) (λ x. HasEndReason N.refutes m self.new x last) }
         ensures same { content_of N.content self.new ≡ content_of N.content self.old }
         ensures stands { (m : Machine) → Stands N.net N.content N.past self.old m → Stands N.net N.content N.past self.new m }
         ensures past { past_of N.past self.new ≡ past_of N.past self.old }
@@ -52,7 +58,8 @@ impl<N: Network> Board<N> {
         ensures marks { N.mark_room self.new.net ≡ N.mark_room self.old.net }
     {
         solutions_are_ticks();
-        refuse_by(&mut self.net, self.last, last);
+        let limit = refuse_by(&mut self.net, self.last, last);
+        self.limit = Some(limit);
     }
 
     /// Why the last change was refused: edges of the network that it was refused for.

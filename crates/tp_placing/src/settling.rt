@@ -27,6 +27,7 @@ impl<N: Network> Board<N> {
         keep_live(&mut self.plans, machine, schedule, now);
         let points = load_plans(
             &mut self.net,
+            &mut self.causes,
             &mut self.lines,
             &mut self.held,
             &mut self.firsts,
@@ -38,6 +39,7 @@ impl<N: Network> Board<N> {
         self.ask = None;
         self.steps.clear();
         self.marks.clear();
+        self.limit = None;
         write_times(&self.net, &self.plans, &self.firsts, schedule);
     }
 }
