@@ -14,6 +14,7 @@ pub mod Numbering
 pub mod Solutions
 pub mod Growing
 pub mod BoardNets
+pub mod Runs
 pub mod Hopping
 pub mod PlaceHops
 pub mod FirstStates
