@@ -1,5 +1,5 @@
 -- The neighbours of a schedule are hops, and stay hops when a goal is opened and when the list grows or stops.
-use Rattle.std.proofs.Common.{◌≡◌, ℕ, zero, suc, ◌+◌, ◌<◌, Bool, true, false, cond, List, [], ◌∷◌, ◌++◌, length, map, refl, sym, subst, arith, All, AllPairs, Contains, get_or, Some, IsTrue, find}
+use Rattle.std.proofs.Common.{◌≡◌, ℕ, zero, suc, ◌+◌, ◌<◌, Bool, true, false, cond, List, [], ◌∷◌, ◌++◌, length, map, refl, subst, arith, All, AllPairs, Contains, get_or, Some, IsTrue, find}
 use Rattle.std.specs.Prelude.{slice_get, pos}
 use Rattle.std.proofs.lemmas.List.Elements.{All-nil, All-cons, All-head, All-tail, All-append, All-map, All-contains_itself, Contains-get_or}
 use Rattle.tp_machine.specs.Using.{action_at}
@@ -18,8 +18,8 @@ use Rattle.tp_constraints.specs.Suffixes.{Suffix, end_gaps, order_in, with_actio
 use Rattle.tp_constraints.specs.Hops.{Hop, hop, IsHop, range_hops, duration_hops, slot_hop, chain_hops, all_chain_hops, no_choices, LoadHops, GoalHops, ActionHops, StopHops}
 use Rattle.tp_constraints.specs.Hops.HopKind.{line, stop}
 use Rattle.tp_constraints.specs.Hops.IsHop.{by_least, by_most, by_line, by_end, by_order, by_stop}
-use Rattle.tp_constraints.proofs.Runs.{KeepsActs, newest-at, acts-grow, lift-run, range-hops, durations-hops}
 use Rattle.tp_constraints.specs.Hops.IsRun.{own_run}
+use Rattle.tp_constraints.proofs.Runs.{KeepsActs, newest-at, acts-grow, lift-run, range-hops, durations-hops}
 use Rattle.tp_constraints.proofs.Steps.{put_places-none}
 
 -- each neighbour in an order stands before the next

@@ -17,6 +17,7 @@ pub mod BoardNets
 pub mod Runs
 pub mod Hopping
 pub mod PlaceHops
+pub mod HopGaps
 pub mod FirstStates
 pub mod LeastSolutions
 pub mod PointTable

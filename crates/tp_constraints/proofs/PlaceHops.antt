@@ -1,4 +1,4 @@
--- The hops of a place are hops, and what stood before another still does.
+-- What a place adds are hops, and what stood before another still does.
 use Rattle.tp_constraints.proofs.Hopping.{lift-hop, lift-hops}
 use Rattle.std.proofs.Common.{◌≡◌, ℕ, zero, suc, ◌≤◌, ◌<◌, Bool, true, false, cond, ◌==◌, List, [], ◌∷◌, ◌++◌, length, insert, refl, sym, arith, All, ◌∙◌, ap, subst, Option, Some, None}
 use Rattle.std.specs.Prelude.{slice_get}
