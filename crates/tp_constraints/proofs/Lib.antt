@@ -14,8 +14,10 @@ pub mod Numbering
 pub mod Solutions
 pub mod Growing
 pub mod BoardNets
+pub mod Runs
 pub mod Hopping
 pub mod PlaceHops
+pub mod HopGaps
 pub mod FirstStates
 pub mod LeastSolutions
 pub mod PointTable

@@ -1,5 +1,5 @@
 -- The gaps that a reason may cite, each with what it stands for, and that each step of a board leaves them so.
-use Rattle.std.specs.Prelude.{◌≡◌, ℕ, zero, suc, ◌<◌, ◌≤◌, Bool, false, List, [], ◌∷◌, ◌++◌, flat_map, length, map, reverse, All, Contains, IsTrue, IsFalse, slice_get, Option, Some, None, pos, neg_ℤ}
+use Rattle.std.specs.Prelude.{◌≡◌, ℕ, zero, suc, ◌<◌, ◌≤◌, false, List, [], ◌∷◌, ◌++◌, flat_map, length, map, reverse, All, Contains, IsTrue, IsFalse, slice_get, Option, Some, None, pos, neg_ℤ}
 use Rattle.tp_machine.specs.Using.{action_at}
 use Rattle.tp_machine.specs.declared.parts.ActId.{ActId}
 use Rattle.tp_machine.specs.declared.parts.Action.{Action}

@@ -1,0 +1,79 @@
+-- The hops of a schedule, of a place and of an action are their gaps, with kinds.
+use Rattle.std.proofs.Common.{◌≡◌, ℕ, zero, suc, List, [], ◌∷◌, ◌++◌, length, map, refl, ap, ◌∙◌, Option, Some, None}
+use Rattle.std.specs.Prelude.{slice_get}
+use Rattle.std.proofs.lemmas.List.{map-append}
+use Rattle.tp_machine.specs.Using.{action_at}
+use Rattle.tp_machine.specs.declared.parts.ActId.{ActId}
+use Rattle.tp_machine.specs.declared.parts.Action.{Action}
+use Rattle.tp_machine.specs.declared.whole.Machine.{Machine}
+use Rattle.tp_schedule.specs.Spots.{Spot, Slot, slot_order}
+use Rattle.tp_schedule.specs.Spots.Spot.{kept}
+use Rattle.tp_schedule.specs.declared.parts.Plan.{Plan}
+use Rattle.tp_schedule.specs.declared.parts.SheetId.{SheetId}
+use Rattle.tp_constraints.specs.Gaps.{Gap, range_gaps, acts_gaps, plan_gaps, duration_gaps, slot_gap, chain_gaps, all_chains, line_gaps}
+use Rattle.tp_constraints.specs.Hops.{Hop, HopKind, hop, range_hops, acts_hops, duration_hops, chain_hops, all_chain_hops, plans_hops, hop_after, hop_until, place_hops}
+use Rattle.tp_constraints.specs.Hops.HopKind.{line}
+use Rattle.tp_constraints.specs.Laws.{plans_gaps}
+use Rattle.tp_constraints.specs.Suffixes.{gap_after, gap_until, before_place, place_gaps}
+
+abbrev gaps_of : List Hop → List Gap
+gaps_of hs = map (λ (h : Hop). h.gap) hs
+
+-- two parts
+both-gaps : (xs ys : List Hop) (gs hs : List Gap) → gaps_of xs ≡ gs → gaps_of ys ≡ hs → gaps_of (xs ++ ys) ≡ gs ++ hs
+both-gaps xs ys gs hs x y = map-append (λ (h : Hop). h.gap) xs ys ∙ ap (λ zs. zs ++ gaps_of ys) x ∙ ap (λ zs. gs ++ zs) y
+
+-- all hops of one kind
+kind-gaps : (kind : HopKind) (gs : List Gap) → gaps_of (map (hop kind) gs) ≡ gs
+kind-gaps kind [] = refl
+kind-gaps kind (g ∷ gs) = ap (λ zs. g ∷ zs) (kind-gaps kind gs)
+
+-- durations
+pub range-hop-gaps : (o : Option Action) (from to : Spot) → map (λ h. h.gap) (range_hops o from to) ≡ range_gaps o from to
+range-hop-gaps None from to = refl
+range-hop-gaps (Some a) from to = refl
+
+acts-hop-gaps : (machine : Machine) (copy : SheetId) (n : ℕ) (acts : List ActId) → gaps_of (acts_hops machine copy n acts) ≡ acts_gaps machine copy n acts
+acts-hop-gaps machine copy n [] = refl
+acts-hop-gaps machine copy n (act ∷ acts) =
+    both-gaps (range_hops (action_at machine act.0) (kept copy n) (kept copy (suc n))) (acts_hops machine copy (suc n) acts) (range_gaps (action_at machine act.0) (kept copy n) (kept copy (suc n))) (acts_gaps machine copy (suc n) acts)
+    (range-hop-gaps (action_at machine act.0) (kept copy n) (kept copy (suc n))) (acts-hop-gaps machine copy (suc n) acts)
+
+duration-hop-gaps : (machine : Machine) (plans : List Plan) → gaps_of (duration_hops machine plans) ≡ duration_gaps machine plans
+duration-hop-gaps machine [] = refl
+duration-hop-gaps machine (p ∷ plans) =
+    both-gaps (acts_hops machine p.sheet 0 p.acts) (duration_hops machine plans) (plan_gaps machine p) (duration_gaps machine plans) (acts-hop-gaps machine p.sheet 0 p.acts) (duration-hop-gaps machine plans)
+
+-- orders
+chain-hop-gaps : (resource : ℕ) (xs : List Slot) → gaps_of (chain_hops resource xs) ≡ chain_gaps xs
+chain-hop-gaps resource [] = refl
+chain-hop-gaps resource (a ∷ []) = refl
+chain-hop-gaps resource (a ∷ b ∷ xs) = ap (λ zs. slot_gap a b ∷ zs) (chain-hop-gaps resource (b ∷ xs))
+
+all-chain-hop-gaps : (orders : ℕ → List Slot) (n : ℕ) → gaps_of (all_chain_hops orders n) ≡ all_chains orders n
+all-chain-hop-gaps orders zero = refl
+all-chain-hop-gaps orders (suc n) = both-gaps (chain_hops n (orders n)) (all_chain_hops orders n) (chain_gaps (orders n)) (all_chains orders n) (chain-hop-gaps n (orders n)) (all-chain-hop-gaps orders n)
+
+pub plans-hop-gaps : (machine : Machine) (plans : List Plan) → map (λ h. h.gap) (plans_hops machine plans) ≡ plans_gaps machine plans
+plans-hop-gaps machine plans =
+    both-gaps (duration_hops machine plans) (map (hop line) (line_gaps plans) ++ all_chain_hops orders n) (duration_gaps machine plans) (line_gaps plans ++ all_chains orders n) (duration-hop-gaps machine plans)
+    (both-gaps (map (hop line) (line_gaps plans)) (all_chain_hops orders n) (line_gaps plans) (all_chains orders n) (kind-gaps line (line_gaps plans)) (all-chain-hop-gaps orders n)) where
+      orders : ℕ → List Slot
+      orders resource = slot_order machine plans resource
+
+      n : ℕ
+      n = length machine.resources
+
+-- places
+after-hop-gaps : (resource : ℕ) (o : Option Slot) (s : Slot) → gaps_of (hop_after resource o s) ≡ gap_after o s
+after-hop-gaps resource None s = refl
+after-hop-gaps resource (Some a) s = refl
+
+until-hop-gaps : (resource : ℕ) (s : Slot) (o : Option Slot) → gaps_of (hop_until resource s o) ≡ gap_until s o
+until-hop-gaps resource s None = refl
+until-hop-gaps resource s (Some a) = refl
+
+pub place-hop-gaps : (resource : ℕ) (xs : List Slot) (place : ℕ) (s : Slot) → map (λ h. h.gap) (place_hops resource xs place s) ≡ place_gaps xs place s
+place-hop-gaps resource xs place s =
+    both-gaps (hop_after resource (before_place xs place) s) (hop_until resource s (slice_get xs place)) (gap_after (before_place xs place) s) (gap_until s (slice_get xs place))
+    (after-hop-gaps resource (before_place xs place) s) (until-hop-gaps resource s (slice_get xs place))
