@@ -108,18 +108,18 @@ abbrev pub IsSafe : ℕ → Edge → Type 0
 IsSafe steps e = (e.tag < step_tag steps) ⊎ (step_causes ≤ e.tag)
 
 -- the name of a copy: that of its job, with its numbers
-abbrev pub sheet_name : Plan → SheetName
-sheet_name p = record { job = p.name; number = p.sheet.number; copy = p.sheet.copy }
+abbrev pub name_of_plan : Plan → SheetName
+name_of_plan p = record { job = p.name; number = p.sheet.number; copy = p.sheet.copy }
 
 -- the name of a point: an own one by its number, and one of a plan by the copy's name and its number
 abbrev pub spot_name : List Plan → Spot → Option SpotName
-spot_name plans (kept copy i) = option_map (λ p. KeptSpot (sheet_name p) i) (plan_of copy plans)
+spot_name plans (kept copy i) = option_map (λ p. KeptSpot (name_of_plan p) i) (plan_of copy plans)
 spot_name plans (own n) = Some (OwnSpot n)
 
 -- the name of an action by the point where it starts: an own one has that point's number, and the actions of a plan are
 -- counted from 1 on
 abbrev pub grip_name : List Plan → Spot → Option Grip
-grip_name plans (kept copy i) = option_map (λ p. KeptGrip (sheet_name p) (i + 1)) (plan_of copy plans)
+grip_name plans (kept copy i) = option_map (λ p. KeptGrip (name_of_plan p) (i + 1)) (plan_of copy plans)
 grip_name plans (own n) = Some (OwnGrip n)
 
 -- the name of what a hop stands for

@@ -1,5 +1,5 @@
 //! Why the edges of the network stand. An edge's tag is the place of its cause in a table.
-ghost use Rattle.std.specs.Prelude.{◌≡◌, ◌+◌, ◌<◌, ◌≤◌, ◌++◌, ◌∷◌, [], length, take, slice_get, slice_set, Some};
+ghost use Rattle.std.specs.Prelude.{◌≡◌, ◌+◌, ◌*◌, ◌<◌, ◌≤◌, ◌++◌, ◌∷◌, [], length, take, slice_get, slice_set, Some};
 ghost use Rattle.tp_placing.specs.Causes.{cause_between, most_causes, step_causes};
 
 use crate::parts::Held;

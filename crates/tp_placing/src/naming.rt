@@ -1,8 +1,7 @@
 //! The points and edges of a board's network, and of a reason, by name.
-ghost use Rattle.std.specs.Prelude.{◌≡◌, ◌^◌, ◌<◌, ◌≤◌, length, slice_get, Some};
+ghost use Rattle.std.specs.Prelude.{◌≡◌, ◌+◌, ◌<◌, ◌≤◌, length, slice_get, Some};
 ghost use Rattle.tp_machine.specs.declared.whole.Machine.{Machine};
-ghost use Rattle.tp_constraints.specs.Numbers.{table_of};
-ghost use Rattle.tp_placing.specs.Causes.{grip_name, kind_of, named_point, numbered, spot_name, why_name};
+ghost use Rattle.tp_placing.specs.Causes.{grip_name, kind_of, name_of_plan, named_point, numbered, spot_name, why_name};
 ghost use Rattle.tp_placing.specs.Standing.{Stands};
 
 use crate::board::Board;
@@ -13,7 +12,7 @@ use tp_base::{Edge, Network, PointId};
 use tp_schedule::{Plan, SheetName};
 
 fn sheet_name(plan: &Plan) -> SheetName
-    ensures { result ≡ sheet_name plan.now }
+    ensures { result ≡ name_of_plan plan.now }
 {
     SheetName {
         job: plan.name,

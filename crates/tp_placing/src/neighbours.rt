@@ -24,6 +24,7 @@ fn held_at(lines: &Timelines, held: &[Held], resource: ResId, place: u32) -> Opt
 }
 
 /// The holds before and behind a place of an order.
+#[derive(Clone, Copy)]
 pub(crate) struct Neighbours {
     before: Option<Held>,
     behind: Option<Held>,
