@@ -1,4 +1,4 @@
-ghost use Rattle.std.specs.Prelude.{◌≡◌, ◌+◌, ◌<◌, ◌≤◌, IsSomeAnd, None};
+ghost use Rattle.std.specs.Prelude.{◌≡◌, ◌+◌, ◌<◌, ◌≤◌, IsSome, IsSomeAnd, None};
 ghost use Rattle.tp_schedule.specs.Answers.{IsAlternative, IsLeast, follows_front};
 ghost use Rattle.tp_schedule.specs.Plans.{end_of_plan, plan_of};
 ghost use Rattle.tp_schedule.specs.Spots.Spot.{own};
@@ -24,7 +24,8 @@ impl<N: Network> Board<N> {
         requires spare { IsSomeAnd self.now.ask (λ ask. plan_of ask.sheet schedule.old.plans ≡ None → 0 < schedule.old.spare) }
         ensures alternative { IsSomeAnd self.now.ask (λ ask. (a : IsAlternative machine.now schedule.old.plans ask schedule.new.plans) × HasLeastTick machine.now self.now (own 0) (end_of_plan a.plan)) }
         ensures least { IsSomeAnd self.now.ask (λ ask. IsLeast machine.now ask.now (follows_front ask) schedule.new.plans) }
-        ensures spare { schedule.old.spare ≤ schedule.new.spare + 1 }
+        ensures new_copy { IsSomeAnd self.now.ask (λ ask. plan_of ask.sheet schedule.old.plans ≡ None → schedule.new.spare + 1 ≡ schedule.old.spare) }
+        ensures in_flight { IsSomeAnd self.now.ask (λ ask. IsSome (plan_of ask.sheet schedule.old.plans) → schedule.new.spare ≡ schedule.old.spare) }
     {
         let Some(ask) = self.ask else { unreachable!() };
         let newest = self.steps[self.steps.len() - 1];

@@ -1,5 +1,5 @@
 //! The times of a network's least solution, written into a schedule.
-ghost use Rattle.std.specs.Prelude.{◌≡◌, ℕ, suc, ◌+◌, ◌^◌, ◌<◌, ◌≤◌, All, AllPairs, length, map, Some, None};
+ghost use Rattle.std.specs.Prelude.{◌≡◌, ℕ, suc, ◌+◌, ◌^◌, ◌<◌, ◌≤◌, All, AllPairs, length, map, IsSome, Some, None};
 ghost use Rattle.tp_base.specs.Net.{HasLeast, IsLeast};
 ghost use Rattle.tp_schedule.specs.Plans.{IsEarlier, IsFormed, change_plan, plan_of, put_plan, with_points, without};
 ghost use Rattle.tp_schedule.specs.Spots.{Ticks};
@@ -70,7 +70,8 @@ pub(crate) fn write_plan(schedule: &mut Schedule, plan: Plan)
     requires room { plan_of plan.sheet schedule.old.plans ≡ None → 0 < schedule.old.spare }
     ensures plans { schedule.new.plans ≡ put_plan plan (without plan.sheet schedule.old.plans) }
     ensures in_order { AllPairs IsEarlier schedule.new.plans }
-    ensures spare { schedule.old.spare ≤ schedule.new.spare + 1 }
+    ensures new_copy { plan_of plan.sheet schedule.old.plans ≡ None → schedule.new.spare + 1 ≡ schedule.old.spare }
+    ensures in_flight { IsSome (plan_of plan.sheet schedule.old.plans) → schedule.new.spare ≡ schedule.old.spare }
 {
     schedule.ordered();
     match schedule.find(plan.sheet) {
