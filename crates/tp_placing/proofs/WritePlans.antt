@@ -1,5 +1,5 @@
 -- Plans that get other points.
-use Rattle.std.proofs.Common.{◌≡◌, ℕ, zero, suc, Bool, true, false, cond, not, ◌||◌, List, [], ◌∷◌, ◌++◌, length, map, take, refl, ap, sym, ◌∙◌, subst, Some, None, All, AllPairs, get_or}
+use Rattle.std.proofs.Common.{IsSome, Option, ◌≡◌, ℕ, zero, suc, Bool, true, false, cond, not, ◌||◌, List, [], ◌∷◌, ◌++◌, length, map, take, refl, ap, sym, ◌∙◌, subst, Some, None, All, AllPairs, get_or}
 use Rattle.std.specs.Prelude.{nat_eq, slice_get}
 use Rattle.std.specs.Cmp.Lexicographic.{pointwise}
 use Rattle.std.proofs.lemmas.Bool.Decides.{Decides-eqb}
@@ -143,3 +143,19 @@ none-before live t (q ∷ plans) copy none =
       go : (b : Bool) → cond b (Some (retimed_in live t q)) (plan_of copy (map (retimed_in live t) plans)) ≡ None → (plan_of copy (map (retimed_in live t) plans) ≡ None → plan_of copy plans ≡ None) → cond b (Some q) (plan_of copy plans) ≡ None
       go true e rest = absurd cc
       go false e rest = rest e
+
+pub none-after : (live : List Plan) (t : Ticks) (plans : List Plan) (copy : SheetId) → plan_of copy plans ≡ None → plan_of copy (map (retimed_in live t) plans) ≡ None
+none-after live t [] copy none = refl
+none-after live t (q ∷ plans) copy none =
+    subst (λ (c : SheetId). cond (is_same_copy c copy) (Some (retimed_in live t q)) (plan_of copy (map (retimed_in live t) plans)) ≡ None) (sym (retimed-sheet live t q))
+    (go (is_same_copy q.sheet copy) none (none-after live t plans copy)) where
+      go : (same : Bool) → cond same (Some q) (plan_of copy plans) ≡ None → (plan_of copy plans ≡ None → plan_of copy (map (retimed_in live t) plans) ≡ None)
+          → cond same (Some (retimed_in live t q)) (plan_of copy (map (retimed_in live t) plans)) ≡ None
+      go true e later = absurd cc
+      go false e later = later e
+
+pub planned-after : (live : List Plan) (t : Ticks) (plans : List Plan) (copy : SheetId) → IsSome (plan_of copy plans) → IsSome (plan_of copy (map (retimed_in live t) plans))
+planned-after live t plans copy planned = go (plan_of copy (map (retimed_in live t) plans)) refl where
+  go : (o : Option Plan) → plan_of copy (map (retimed_in live t) plans) ≡ o → IsSome o
+  go None e = (let none = subst IsSome (none-before live t plans copy e) planned in absurd cc)
+  go (Some p) e = refl

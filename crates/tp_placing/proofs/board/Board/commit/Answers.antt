@@ -21,7 +21,7 @@ use Rattle.tp_placing.proofs.StepFacts.{some-steps}
 use Rattle.tp_constraints.proofs.Numbering.{number-at}
 use Rattle.tp_placing.proofs.ReadFacts.{end-point, least-tick}
 use Rattle.tp_placing.proofs.WriteCommit.{IsWritten, written-is}
-use Rattle.tp_placing.proofs.WritePlans.{none-before}
+use Rattle.tp_placing.proofs.WritePlans.{none-after, none-before, planned-after}
 use Rattle.tp_placing.proofs.WritePoints.{least-of_plans}
 use Rattle.tp_placing.proofs.WriteReady.{IsReady, ready, ready-ticks}
 use Rattle.tp_placing.proofs.WriteWhole.{loaded-planned}
@@ -191,3 +191,36 @@ returns-clause-alternative g k =
     let c = at.After-index-newest in
     let w = written-here g c k.write_times.new.schedule.plans k.write_plan.new.schedule.plans k.plan_by_steps-plan.result (times-now g at.After-write_times) (plan-now g at.After-plan_by_steps-plan) k.plan_by_steps-plan.ensures.sheet k.write_plan.ensures.plans k.write_plan.ensures.in_order in
     rw (← k.self.view_is) (and-some k.self.inside.ask k.in-Some.ask _ k.in-Some.is (w.answer, end-here g c (end_of_plan w.answer.plan) w.ends))
+
+-- the plans when the asked one is written are those of the schedule at other ticks
+written-before : (g : _) (k : After-write_plan g) → k.write_times.new.schedule.plans ≡ map (retimed_in k.self.inside.plans.items (Ticks-here g (goal.at.returns-clause-new_copy g k).After-index-newest)) k.args.schedule.now.plans
+written-before g k =
+    let at = goal.at.returns-clause-new_copy g k in
+    let c = at.After-index-newest in
+    times-now g at.After-write_times (Ticks-here g c) (least-of_plans (g.N.Network.net c.self.inside.net) c.self.inside.plans.items (here g c).x (Ticks-here g c) (ticks-here g c))
+
+pub returns-clause-new_copy : goal.returns-clause-new_copy
+returns-clause-new_copy g k =
+    let c = (goal.at.returns-clause-new_copy g k).After-index-newest in
+    let plans = k.self.inside.plans.items in
+    let t = Ticks-here g c in
+    let written = written-before g k in
+    let same = k.write_times.ensures.spare in
+    let spare : plan_of k.in-Some.ask.sheet k.args.schedule.now.plans ≡ None → k.write_plan.new.schedule.spare + 1 ≡ k.args.schedule.now.spare = (λ none.
+    let now : plan_of k.plan_by_steps-plan.result.sheet k.write_times.new.schedule.plans ≡ None = (λ i. plan_of (k.plan_by_steps-plan.ensures.sheet i) (written i)) ∙ none-after plans t k.args.schedule.now.plans k.in-Some.ask.sheet none in
+    let one = k.write_plan.ensures.new_copy now in
+    omega arith) in
+    rw (← k.self.view_is) (and-some k.self.inside.ask k.in-Some.ask _ k.in-Some.is spare)
+
+pub returns-clause-in_flight : goal.returns-clause-in_flight
+returns-clause-in_flight g k =
+    let c = (goal.at.returns-clause-in_flight g k).After-index-newest in
+    let plans = k.self.inside.plans.items in
+    let t = Ticks-here g c in
+    let written = written-before g k in
+    let same = k.write_times.ensures.spare in
+    let spare : IsSome (plan_of k.in-Some.ask.sheet k.args.schedule.now.plans) → k.write_plan.new.schedule.spare ≡ k.args.schedule.now.spare = (λ planned.
+    let there : plan_of k.plan_by_steps-plan.result.sheet k.write_times.new.schedule.plans ≡ plan_of k.in-Some.ask.sheet (map (retimed_in plans t) k.args.schedule.now.plans) = (λ i. plan_of (k.plan_by_steps-plan.ensures.sheet i) (written i)) in
+    let now = subst IsSome (sym there) (planned-after plans t k.args.schedule.now.plans k.in-Some.ask.sheet planned) in
+    k.write_plan.ensures.in_flight now ∙ same) in
+    rw (← k.self.view_is) (and-some k.self.inside.ask k.in-Some.ask _ k.in-Some.is spare)
