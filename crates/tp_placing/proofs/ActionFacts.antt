@@ -1,5 +1,5 @@
 -- An action that is opened.
-use Rattle.std.proofs.Common.{◌≡◌, ℕ, suc, ◌+◌, ◌-◌, ◌<◌, ◌≤◌, min, List, [], ◌∷◌, ◌++◌, length, map, refl, ap, sym, ◌∙◌, subst, arith, Some, All, IsSome, IsSomeAnd, pos, neg_ℤ, false}
+use Rattle.std.proofs.Common.{◌≡◌, ℕ, suc, ◌+◌, ◌-◌, ◌<◌, ◌≤◌, min, List, [], ◌∷◌, ◌++◌, length, map, refl, ap, sym, ◌∙◌, subst, arith, Some, None, All, IsSome, IsSomeAnd, pos, neg_ℤ, false}
 use Rattle.std.specs.List.{slice_get}
 use Rattle.std.proofs.lemmas.Int.{ints}
 use Rattle.std.proofs.lemmas.Option.{slice_get_within}
@@ -22,24 +22,26 @@ use Rattle.tp_schedule.specs.Spots.Spot.{own}
 use Rattle.tp_schedule.specs.declared.parts.Ask.{Ask}
 use Rattle.tp_timelines.specs.Orders.{order_on}
 use Rattle.tp_constraints.specs.Gaps.{range_gaps}
-use Rattle.tp_constraints.specs.Hops.{IsHop, ActionHops}
+use Rattle.tp_constraints.specs.Hops.{Hop, IsHop, ActionHops, range_hops}
 use Rattle.tp_constraints.specs.Nets.{ActionNet, BoardLate, IsBoardNet}
 use Rattle.tp_constraints.specs.Numbers.{gap_by, table_of, IsEdgeOf, with_edges}
 use Rattle.tp_constraints.specs.Suffixes.{Suffix, SuffixTimes, order_in, suffix_cap, suffix_low, with_action}
-use Rattle.tp_constraints.proofs.Growing.{gaps-same}
 use Rattle.tp_placing.specs.declared.parts.Step.{Step}
 use Rattle.tp_placing.specs.Boards.{BoardValue, suffix_after}
 use Rattle.tp_placing.specs.Calls.{CanGoOn}
+use Rattle.tp_placing.specs.Causes.{ArePlain, IsNamedHop, back_tag, forward_tag}
 use Rattle.tp_placing.specs.Edges.{duration_edges, edge_of}
-use Rattle.tp_placing.specs.Standing.{IsAtWith, IsAtHand, AreSlots, AreFewSteps, StandsOn, table_with}
+use Rattle.tp_placing.specs.Standing.{AreCaused, choices_of, IsAtWith, IsAtHand, AreSlots, AreFewSteps, StandsOn, table_with}
 use Rattle.tp_placing.specs.Reasons.{IsReason}
 use Rattle.tp_placing.specs.Trying.{CanRequire, IsRefused}
+use Rattle.tp_placing.proofs.CauseFacts.{AreMade, caused-more, hops-more}
 use Rattle.tp_placing.proofs.PartFacts.{shown-point}
 use Rattle.tp_placing.proofs.BoardFacts.{choices-room}
 use Rattle.tp_placing.proofs.LowFacts.{low-is, none-with-sum}
 use Rattle.tp_placing.proofs.SlotFacts.{slots-grown}
 use Rattle.tp_placing.proofs.StandFacts.{some-and, at-suffix}
 use Rattle.tp_placing.proofs.StepFacts.{at-hand-push, edges-more, rooms-after, some-steps}
+use Rattle.tp_placing.proofs.StepHops.{range-made}
 use Rattle.tp_placing.proofs.TableFacts.{table-own, length-table}
 
 put-none : (resource : ℕ) (from to : Spot) (rules : List HoldRule) (order : List Slot) → put_places resource from to rules [] order ≡ order
@@ -115,15 +117,15 @@ module _ {N : Type 0} (net : N → Net) (b : BoardValue N) (m : Machine) (ask : 
       let least = small.0 in
       let most = small.1 in
       let P : Edge → Type 0 = CanRequire (length (net b.net).lows + 1) in
-      let forth : P (edge_of start newest.first (pos a.least)) = record { from = omega arith; to = omega arith; least = omega (arith, ints); most = omega (arith, ints) } in
-      let back : P (edge_of newest.first start (neg_ℤ (pos a.most))) = record { from = omega arith; to = omega arith; least = omega (arith, ints); most = omega (arith, ints) } in
-      All-cons P (edge_of start newest.first (pos a.least)) (edge_of newest.first start (neg_ℤ (pos a.most)) ∷ []) forth (All-cons P (edge_of newest.first start (neg_ℤ (pos a.most))) [] back (All-nil P))
+      let forth : P (edge_of start newest.first (pos a.least) forward_tag) = record { from = omega arith; to = omega arith; least = omega (arith, ints); most = omega (arith, ints) } in
+      let back : P (edge_of newest.first start (neg_ℤ (pos a.most)) back_tag) = record { from = omega arith; to = omega arith; least = omega (arith, ints); most = omega (arith, ints) } in
+      All-cons P (edge_of start newest.first (pos a.least) forward_tag) (edge_of newest.first start (neg_ℤ (pos a.most)) back_tag ∷ []) forth (All-cons P (edge_of newest.first start (neg_ℤ (pos a.most)) back_tag) [] back (All-nil P))
 
   edges-in : All (IsEdgeOf points) es
   edges-in =
       let s = slice_get_within points start.0 _ from-own in
       let t = slice_get_within points newest.first.0 _ to-own in
-      All-cons (IsEdgeOf points) (edge_of start newest.first (pos a.least)) (edge_of newest.first start (neg_ℤ (pos a.most)) ∷ []) (s, t) (All-cons (IsEdgeOf points) (edge_of newest.first start (neg_ℤ (pos a.most))) [] (t, s) (All-nil (IsEdgeOf points)))
+      All-cons (IsEdgeOf points) (edge_of start newest.first (pos a.least) forward_tag) (edge_of newest.first start (neg_ℤ (pos a.most)) back_tag ∷ []) (s, t) (All-cons (IsEdgeOf points) (edge_of newest.first start (neg_ℤ (pos a.most)) back_tag) [] (t, s) (All-nil (IsEdgeOf points)))
 
   gaps : map (gap_by points) es ≡ range_gaps (action_at m act.0) (own (suc count)) (own count)
   gaps = rw (from-own, to-own, is_action) refl
@@ -143,21 +145,28 @@ module _ {N : Type 0} (net : N → Net) (b : BoardValue N) (m : Machine) (ask : 
   pub open-refused : ActionNet → BoardLate → HasNoSolution (Extended (min sum (horizon + 1))) → (t : Ticks) → ¬ SuffixTimes m b.plans ask (with_action act room o.x) t
   open-refused action_net late none = (late m b.plans ask (with_action act room o.x) points (Extended sum) (board-net action_net)).0 (none-with-sum (net b.net) sum horizon es caps-lows none)
 
-  gaps-open : map (gap_by points) ((net b.net).edges ++ es) ≡ map (gap_by old) (net b.net).edges ++ range_gaps (action_at m act.0) (own (suc count)) (own count)
-  gaps-open =
-      let same : map (gap_by points) (net b.net).edges ≡ map (gap_by old) (net b.net).edges = gaps-same old (own (suc count) ∷ []) (net b.net).edges o.at.net.edges in
-      map-append (gap_by points) (net b.net).edges es ∙ (λ i. same i ++ gaps i)
+  made : (steps : ℕ) → ArePlain b.causes → AreMade steps b.plans b.causes es (range_hops (action_at m act.0) (own (suc count)) (own count))
+  made steps plain = subst (λ q. AreMade steps b.plans b.causes es (range_hops q (own (suc count)) (own count))) (sym is_action)
+      (range-made steps b.plans (suc (suc count)) b.causes a start newest.first (own (suc count)) (own count) plain from-own to-own)
 
-  hops-open : ActionHops → All (IsHop m b.plans ask (with_action act room o.x)) (map (gap_by points) ((net b.net).edges ++ es))
-  hops-open action_hops = subst (All (IsHop m b.plans ask (with_action act room o.x))) (sym gaps-open) (action_hops m b.plans ask o.x act room (map (gap_by old) (net b.net).edges) o.can.going o.at.hops)
+  lift : ActionHops → (os : List Hop) → All (IsHop m b.plans ask o.x) os → All (IsHop m b.plans ask (with_action act room o.x)) (os ++ range_hops (action_at m act.0) (own (suc count)) (own count))
+  lift law os all = law m b.plans ask o.x act room os o.can.going all
 
-  pub open-reason : (refutes : N → Net → Type 0) (n : N) → ActionNet → ActionHops → IsRefused refutes n (with_point (net b.net) (min sum (horizon + 1)) horizon) es → IsReason refutes n m b.plans ask (with_action act room o.x)
-  open-reason refutes n action_net action_hops refused = record {
+  pub open-reason : (refutes : N → Net → Type 0) (n : N) → ActionNet → ActionHops → ArePlain b.causes → AreCaused m b.plans ask b.causes b.steps (net b.net)
+      → IsRefused refutes n (with_point (net b.net) (min sum (horizon + 1)) horizon) es → IsReason refutes (record b { net = n; limit = None }) m ask (with_action act room o.x)
+  open-reason refutes n action_net law plain caused refused = record {
     net = Extended sum;
     is_net = board-net action_net;
-    hops = hops-open action_hops;
+    hops = hops-more m b.plans ask o.x (with_action act room o.x) 0 b.causes (net b.net).edges es _ (subst (λ y. All (IsNamedHop m b.plans ask y b.causes) (net b.net).edges) (ap choices_of o.suffix) caused.hops) (made 0 plain) (lift law);
+    no_limit = refl;
     shown = shown-point refutes n (net b.net) (min sum (horizon + 1)) sum horizon es (omega arith) refused;
   }
+
+  pub open-caused : ActionHops → ArePlain b.causes → AreCaused m b.plans ask b.causes b.steps (net b.net) → (s : Step) → suffix_after (b.steps ++ s ∷ []) ≡ Some (with_action act room o.x)
+      → AreCaused m b.plans ask b.causes (b.steps ++ s ∷ []) (Extended (min sum (horizon + 1)))
+  open-caused law plain caused s after =
+      caused-more m b.plans ask o.x (with_action act room o.x) b.causes b.steps s (net b.net) (Extended (min sum (horizon + 1))) es _
+      (ap choices_of o.suffix) (ap choices_of after) refl caused (made (length b.steps + 1) plain) (lift law)
 
   orders-open : (q : ℕ) → q < length m.resources → AreSlots points b.held (order_on b.orders.orders q) (order_in m b.plans (with_action act room o.x) q)
   orders-open q known =
@@ -165,9 +174,9 @@ module _ {N : Type 0} (net : N → Net) (b : BoardValue N) (m : Machine) (ask : 
       let grown = slots-grown old (own (suc count) ∷ []) b.held [] (order_on b.orders.orders q) (order_in m b.plans o.x q) (o.at.orders q known) in
       subst (AreSlots points b.held (order_on b.orders.orders q)) (sym e) (subst (λ h. AreSlots points h (order_on b.orders.orders q) (order_in m b.plans o.x q)) (append-nil b.held) grown)
 
-  pub open-at : ActionNet → ActionHops → HasLeast (Extended (min sum (horizon + 1))) → (s : Step) → s.newest ≡ Some act → s.first ≡ start
+  pub open-at : ActionNet → HasLeast (Extended (min sum (horizon + 1))) → (s : Step) → s.newest ≡ Some act → s.first ≡ start
       → IsAtWith m b.plans ask (Some (with_action act room o.x)) (b.steps ++ s ∷ []) (Extended (min sum (horizon + 1))) b.orders.orders b.held
-  open-at action_net action_hops solved s newest_is first_is =
+  open-at action_net solved s newest_is first_is =
       let low : min sum (horizon + 1) ≡ sum = low-is (net b.net) sum horizon es caps-lows solved in
       let l = length-append b.steps (s ∷ []) in
       let e = edges-more b.steps s o.some in
@@ -179,7 +188,6 @@ module _ {N : Type 0} (net : N → Net) (b : BoardValue N) (m : Machine) (ask : 
       subst (λ k. IsAtWith m b.plans ask (Some (with_action act room o.x)) (b.steps ++ s ∷ []) (Extended k) b.orders.orders b.held) (sym low) (record {
         net = board-net action_net;
         solved = subst (λ k. HasLeast (Extended k)) low solved;
-        hops = hops-open action_hops;
         orders = orders-open;
         at_hand = at-hand-push (length (table_of b.plans)) (Some (with_action act room o.x)) b.steps s (newest_is, f);
         few_steps = subst (AreFewSteps (kept_of ask) (Some (with_action act room o.x))) (sym l) (few-action ask (length b.steps) o.x act room o.can o.at.few_steps);

@@ -13,25 +13,27 @@ use Rattle.tp_schedule.specs.Answers.{kept_of}
 use Rattle.tp_schedule.specs.declared.parts.Ask.{Ask}
 use Rattle.tp_timelines.specs.Orders.{order_on}
 use Rattle.tp_constraints.specs.Gaps.{low_at, cap_at}
-use Rattle.tp_constraints.specs.Hops.{IsHop, GoalHops}
-use Rattle.tp_constraints.specs.Laws.{plans_gaps, no_own}
+use Rattle.tp_constraints.specs.Hops.{GoalHops, hop, no_choices}
+use Rattle.tp_constraints.specs.Hops.HopKind.{line}
+use Rattle.tp_constraints.specs.Laws.{no_own}
 use Rattle.tp_constraints.specs.Nets.{GoalNet, BoardLate, IsBoardNet}
 use Rattle.tp_constraints.specs.Numbers.{gap_by, table_of, with_edges}
 use Rattle.tp_constraints.specs.Suffixes.{SuffixTimes, end_gaps, with_goal}
-use Rattle.tp_constraints.proofs.Growing.{gaps-same}
-use Rattle.tp_constraints.proofs.Lists.{All-split, all-by}
 use Rattle.tp_placing.specs.declared.parts.Step.{Step}
 use Rattle.tp_placing.specs.Boards.{BoardValue, suffix_after}
+use Rattle.tp_placing.specs.Causes.{IsNamedHop, line_tag}
 use Rattle.tp_placing.specs.Edges.{end_edges}
-use Rattle.tp_placing.specs.Standing.{IsAtWith, AreSlots, AreFewSteps, StandsOn, table_with, step_edges}
+use Rattle.tp_placing.specs.Standing.{AreCaused, choices_of, IsAtWith, AreSlots, AreFewSteps, StandsOn, table_with, step_edges}
 use Rattle.tp_placing.specs.Reasons.{IsReason}
 use Rattle.tp_placing.specs.Trying.{CanRequire, IsRefused}
+use Rattle.tp_placing.proofs.CauseFacts.{AreMade, caused-more, hops-more}
 use Rattle.tp_placing.proofs.PartFacts.{shown-point}
-use Rattle.tp_placing.proofs.LineFacts.{goal-can, goal-gaps, length-edges}
+use Rattle.tp_placing.proofs.LineFacts.{end-tags, goal-can, goal-gaps, length-edges}
 use Rattle.tp_placing.proofs.LowFacts.{low-is, none-with-sum}
 use Rattle.tp_placing.proofs.PlaceFacts.{edges-of}
 use Rattle.tp_placing.proofs.SlotFacts.{slots-grown}
 use Rattle.tp_placing.proofs.StepFacts.{at-hand-push}
+use Rattle.tp_placing.proofs.StepHops.{lines-made}
 use Rattle.tp_placing.proofs.TableFacts.{length-table}
 
 -- with no step yet
@@ -90,25 +92,33 @@ module _ {N C : Type 0} (net : N → Net) (content : N → C) (past : N → List
   pub goal-refused : GoalNet → BoardLate → HasNoSolution (Extended (min sum (horizon + 1))) → (t : Ticks) → ¬ SuffixTimes m b.plans ask (with_goal room) t
   goal-refused goal_net late none = (late m b.plans ask (with_goal room) points (Extended sum) (board-net goal_net)).0 (none-with-sum (net b.net) sum horizon es caps-lows none)
 
-  hops-open : GoalHops → All (IsHop m b.plans ask (with_goal room)) (map (gap_by points) ((net b.net).edges ++ es))
-  hops-open goal_hops =
-      let same : map (gap_by points) (net b.net).edges ≡ map (gap_by (table_of b.plans)) (net b.net).edges = gaps-same (table_of b.plans) (own 0 ∷ []) (net b.net).edges at-none.net.edges in
-      let all : map (gap_by points) ((net b.net).edges ++ es) ≡ map (gap_by (table_of b.plans)) (net b.net).edges ++ end_gaps ask b.plans = map-append (gap_by points) (net b.net).edges es ∙ (λ i. same i ++ gaps i) in
-      let hops = All-split (IsHop m b.plans ask (with_goal room)) (plans_gaps m b.plans) (end_gaps ask b.plans) (goal_hops m b.plans ask room s.loadable.legal) in
-      subst (All (IsHop m b.plans ask (with_goal room))) (sym all) (All-append (IsHop m b.plans ask (with_goal room)) (map (gap_by (table_of b.plans)) (net b.net).edges) (end_gaps ask b.plans)
-      (all-by (IsHop m b.plans ask (with_goal room)) (map (gap_by (table_of b.plans)) (net b.net).edges) (plans_gaps m b.plans) at-none.hops hops.0) hops.1)
+  tags : All (λ e. e.tag ≡ line_tag) es
+  tags = end-tags ask b.plans b.firsts b.last
 
-  pub goal-reason : (refutes : N → Net → Type 0) (n : N) → GoalNet → GoalHops → IsRefused refutes n (with_point (net b.net) (min sum (horizon + 1)) horizon) es → IsReason refutes n m b.plans ask (with_goal room)
-  goal-reason refutes n goal_net goal_hops refused = record {
+  made : (steps : ℕ) → AreMade steps b.plans b.causes es (map (hop line) (end_gaps ask b.plans))
+  made steps = lines-made steps b.plans 1 b.causes es (end_gaps ask b.plans) s.plain tags (edges-of points es can-points) gaps
+
+  none-chosen : choices_of (suffix_after b.steps) ≡ no_choices
+  none-chosen = ap choices_of closed
+
+  pub goal-reason : (refutes : N → Net → Type 0) (n : N) → GoalNet → GoalHops → IsRefused refutes n (with_point (net b.net) (min sum (horizon + 1)) horizon) es
+      → IsReason refutes (record b { net = n; limit = None }) m ask (with_goal room)
+  goal-reason refutes n goal_net law refused = record {
     net = Extended sum;
     is_net = board-net goal_net;
-    hops = hops-open goal_hops;
+    hops = hops-more m b.plans ask no_choices (with_goal room) 0 b.causes (net b.net).edges es _ (subst (λ y. All (IsNamedHop m b.plans ask y b.causes) (net b.net).edges) none-chosen s.caused.hops) (made 0) (λ os all. law m b.plans ask room os all);
+    no_limit = refl;
     shown = shown-point refutes n (net b.net) (min sum (horizon + 1)) sum horizon es (omega arith) refused;
   }
 
-  pub goal-at : GoalNet → GoalHops → HasLeast (Extended (min sum (horizon + 1))) → (step : Step) → step.newest ≡ None → step.first ≡ b.last
+  pub goal-caused : GoalHops → (step : Step) → suffix_after (b.steps ++ step ∷ []) ≡ Some (with_goal room) → AreCaused m b.plans ask b.causes (b.steps ++ step ∷ []) (Extended (min sum (horizon + 1)))
+  goal-caused law step after =
+      caused-more m b.plans ask no_choices (with_goal room) b.causes b.steps step (net b.net) (Extended (min sum (horizon + 1))) es _
+      none-chosen (ap choices_of after) refl s.caused (made (length b.steps + 1)) (λ os all. law m b.plans ask room os all)
+
+  pub goal-at : GoalNet → HasLeast (Extended (min sum (horizon + 1))) → (step : Step) → step.newest ≡ None → step.first ≡ b.last
       → IsAtWith m b.plans ask (Some (with_goal room)) (b.steps ++ step ∷ []) (Extended (min sum (horizon + 1))) b.orders.orders b.held
-  goal-at goal_net goal_hops solved step newest_is first_is =
+  goal-at goal_net solved step newest_is first_is =
       let low : min sum (horizon + 1) ≡ sum = low-is (net b.net) sum horizon es caps-lows solved in
       let l = length-append b.steps (step ∷ []) in
       let none = ap length empty in
@@ -121,7 +131,6 @@ module _ {N C : Type 0} (net : N → Net) (content : N → C) (past : N → List
       subst (λ k. IsAtWith m b.plans ask (Some (with_goal room)) (b.steps ++ step ∷ []) (Extended k) b.orders.orders b.held) (sym low) (record {
         net = board-net goal_net;
         solved = subst (λ k. HasLeast (Extended k)) low solved;
-        hops = hops-open goal_hops;
         orders = λ q known. subst (λ h. AreSlots points h (order_on b.orders.orders q) (slot_order m b.plans q)) (append-nil b.held) (slots-grown (table_of b.plans) (own 0 ∷ []) b.held [] (order_on b.orders.orders q) (slot_order m b.plans q) (at-none.orders q known));
         at_hand = at-hand-push (length (table_of b.plans)) (Some (with_goal room)) b.steps step (newest_is, (let f = ap (λ (p : PointId). p.0) first_is in omega arith));
         few_steps = (omega arith, omega arith, omega arith);

@@ -3,6 +3,9 @@ pub mod PastFacts
 pub mod TableFacts
 pub mod StepFacts
 pub mod StopFacts
+pub mod CauseFacts
+pub mod SlotResources
+pub mod StepHops
 pub mod StandFacts
 pub mod BoardFacts
 pub mod SlotFacts

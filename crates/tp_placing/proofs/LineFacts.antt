@@ -15,6 +15,7 @@ use Rattle.tp_schedule.specs.declared.parts.Plan.{Plan}
 use Rattle.tp_constraints.specs.Gaps.{gap, end_spot, is_in_line}
 use Rattle.tp_constraints.specs.Numbers.{gap_by, points_from, spot_at, table_of}
 use Rattle.tp_constraints.specs.Suffixes.{end_gap, end_gaps}
+use Rattle.tp_placing.specs.Causes.{line_tag}
 use Rattle.tp_placing.specs.Edges.{edge_of, end_edge, edge_list, plan_end, end_edges}
 use Rattle.tp_placing.specs.Standing.{AreFirsts, table_with}
 use Rattle.tp_placing.specs.Trying.{CanRequire}
@@ -34,7 +35,7 @@ edges-push ask (q ∷ plans) (g ∷ firsts) p f end h =
 -- an edge is the gap of the plan
 one-gap : (table : List Spot) (ask : Ask) (p : Plan) (last end : PointId) → spot_at table last.0 ≡ end_spot p → spot_at table end.0 ≡ own 0 → map (gap_by table) (edge_list (end_edge ask p last end)) ≡ end_gap ask p
 one-gap table ask p last end a b = go (is_in_line ask.goal p) (is_before p.sheet ask.sheet) (is_before ask.sheet p.sheet) where
-  go : (x y z : Bool) → map (gap_by table) (edge_list (cond x (cond y (Some (edge_of last end (pos 1))) (cond z (Some (edge_of end last (pos 1))) None)) None))
+  go : (x y z : Bool) → map (gap_by table) (edge_list (cond x (cond y (Some (edge_of last end (pos 1) line_tag)) (cond z (Some (edge_of end last (pos 1) line_tag)) None)) None))
       ≡ cond x (cond y (gap (end_spot p) (own 0) (pos 1) ∷ []) (cond z (gap (own 0) (end_spot p) (pos 1) ∷ []) [])) []
   go true true z = λ i. gap (a i) (b i) (pos 1) ∷ []
   go true false true = λ i. gap (b i) (a i) (pos 1) ∷ []
@@ -44,11 +45,29 @@ one-gap table ask p last end a b = go (is_in_line ask.goal p) (is_before p.sheet
 -- the points of the edges
 one-can : (points : ℕ) (ask : Ask) (p : Plan) (last end : PointId) → last.0 < points → end.0 < points → All (CanRequire points) (edge_list (end_edge ask p last end))
 one-can points ask p last end a b = go (is_in_line ask.goal p) (is_before p.sheet ask.sheet) (is_before ask.sheet p.sheet) where
-  go : (x y z : Bool) → All (CanRequire points) (edge_list (cond x (cond y (Some (edge_of last end (pos 1))) (cond z (Some (edge_of end last (pos 1))) None)) None))
-  go true true z = All-cons (CanRequire points) (edge_of last end (pos 1)) [] (record { from = a; to = b; least = omega (arith, ints); most = omega (arith, ints) }) (All-nil (CanRequire points))
-  go true false true = All-cons (CanRequire points) (edge_of end last (pos 1)) [] (record { from = b; to = a; least = omega (arith, ints); most = omega (arith, ints) }) (All-nil (CanRequire points))
+  go : (x y z : Bool) → All (CanRequire points) (edge_list (cond x (cond y (Some (edge_of last end (pos 1) line_tag)) (cond z (Some (edge_of end last (pos 1) line_tag)) None)) None))
+  go true true z = All-cons (CanRequire points) (edge_of last end (pos 1) line_tag) [] (record { from = a; to = b; least = omega (arith, ints); most = omega (arith, ints) }) (All-nil (CanRequire points))
+  go true false true = All-cons (CanRequire points) (edge_of end last (pos 1) line_tag) [] (record { from = b; to = a; least = omega (arith, ints); most = omega (arith, ints) }) (All-nil (CanRequire points))
   go true false false = All-nil (CanRequire points)
   go false y z = All-nil (CanRequire points)
+
+one-tag : (ask : Ask) (p : Plan) (last end : PointId) → All (λ e. e.tag ≡ line_tag) (edge_list (end_edge ask p last end))
+one-tag ask p last end = go (is_in_line ask.goal p) (is_before p.sheet ask.sheet) (is_before ask.sheet p.sheet) where
+  Tag : Edge → Type 0
+  Tag e = e.tag ≡ line_tag
+
+  go : (x y z : Bool) → All (λ e. e.tag ≡ line_tag) (edge_list (cond x (cond y (Some (edge_of last end (pos 1) line_tag)) (cond z (Some (edge_of end last (pos 1) line_tag)) None)) None))
+  go true true z = All-cons Tag (edge_of last end (pos 1) line_tag) [] refl (All-nil Tag)
+  go true false true = All-cons Tag (edge_of end last (pos 1) line_tag) [] refl (All-nil Tag)
+  go true false false = All-nil Tag
+  go false y z = All-nil Tag
+
+-- they have the tag of lines
+pub end-tags : (ask : Ask) (plans : List Plan) (firsts : List PointId) (end : PointId) → All (λ e. e.tag ≡ line_tag) (end_edges ask plans firsts end)
+end-tags ask [] firsts end = All-nil (λ (e : Edge). e.tag ≡ line_tag)
+end-tags ask (p ∷ plans) [] end = All-nil (λ (e : Edge). e.tag ≡ line_tag)
+end-tags ask (p ∷ plans) (f ∷ firsts) end =
+    All-append (λ (e : Edge). e.tag ≡ line_tag) (edge_list (end_edge ask p (plan_end p f) end)) (end_edges ask plans firsts end) (one-tag ask p (plan_end p f) end) (end-tags ask plans firsts end)
 
 one-long : (o : Option Edge) → length (edge_list o) ≤ 1
 one-long None = omega arith

@@ -1,5 +1,5 @@
 -- The edges to the neighbours of a place may be asked of the network.
-use Rattle.std.proofs.Common.{ℕ, zero, suc, ◌<◌, ◌≤◌, List, [], ◌∷◌, ◌++◌, length, sym, subst, arith, Option, Some, None, pos, negsuc, All, ℤ, ◌-ℤ◌, ◌≤ℤ◌}
+use Rattle.std.proofs.Common.{ℕ, zero, suc, ◌+◌, ◌<◌, ◌≤◌, List, [], ◌∷◌, ◌++◌, length, sym, subst, arith, Option, Some, None, pos, negsuc, All, ℤ, ◌-ℤ◌, ◌≤ℤ◌}
 use Rattle.std.specs.List.{slice_get}
 use Rattle.std.proofs.lemmas.Int.{ints}
 use Rattle.std.proofs.lemmas.Option.{slice_get_within}
@@ -12,7 +12,7 @@ use Rattle.tp_machine.specs.declared.parts.Anchor.{Anchor}
 use Rattle.tp_machine.specs.declared.parts.Anchor.TheVariants.{Start, End}
 use Rattle.tp_schedule.specs.Spots.{Spot, Slot}
 use Rattle.tp_placing.specs.declared.parts.Held.{Held}
-use Rattle.tp_placing.specs.Edges.{anchor_point, hold_edge, edge_after, edge_until, held_of, held_before, held_behind}
+use Rattle.tp_placing.specs.Edges.{anchor_point, hold_edge, edge_after, edge_until, edges_around, held_of, held_before, held_behind}
 use Rattle.tp_placing.specs.Standing.{AreSlots, HasSmallOffsets}
 use Rattle.tp_placing.specs.Trying.{CanRequire}
 
@@ -29,8 +29,8 @@ anchor-within points End start end s e = e
 small-weight : (a b : ℤ) → IsOffset a → IsOffset b → (negsuc 999999 ≤ℤ (a -ℤ b)) × ((a -ℤ b) ≤ℤ pos 1000000)
 small-weight a b x y = let x0 = x.0 in let x1 = x.1 in let y0 = y.0 in let y1 = y.1 in (omega (arith, ints), omega (arith, ints))
 
-pub can-hold : (points : ℕ) (h k : Held) → IsSmallHold points h → IsSmallHold points k → CanRequire points (hold_edge h k)
-can-hold points h k x y =
+pub can-hold : (points : ℕ) (h k : Held) (tag : ℕ) → IsSmallHold points h → IsSmallHold points k → CanRequire points (hold_edge h k tag)
+can-hold points h k tag x y =
     let w = small-weight h.rule.end_off k.rule.begin_off x.small.1 y.small.0 in
     record {
       from = anchor-within points h.rule.end h.start h.end x.start x.end;
@@ -59,31 +59,32 @@ small-before : (table : List Spot) (held : List Held) (ids : List ℕ) (slots : 
 small-before table held ids slots zero a small = tt
 small-before table held ids slots (suc place) a small = small-at table held ids slots place a small
 
-can-after : (points : ℕ) (o : Option Held) (h : Held) → IsSmallIf points o → IsSmallHold points h → All (CanRequire points) (edge_after o h)
-can-after points None h x y = All-nil (CanRequire points)
-can-after points (Some k) h x y = All-cons (CanRequire points) (hold_edge k h) [] (can-hold points k h x y) (All-nil (CanRequire points))
+can-after : (points : ℕ) (o : Option Held) (h : Held) (tag : ℕ) → IsSmallIf points o → IsSmallHold points h → All (CanRequire points) (edge_after o h tag)
+can-after points None h tag x y = All-nil (CanRequire points)
+can-after points (Some k) h tag x y = All-cons (CanRequire points) (hold_edge k h tag) [] (can-hold points k h tag x y) (All-nil (CanRequire points))
 
-can-until : (points : ℕ) (o : Option Held) (h : Held) → IsSmallIf points o → IsSmallHold points h → All (CanRequire points) (edge_until h o)
-can-until points None h x y = All-nil (CanRequire points)
-can-until points (Some k) h x y = All-cons (CanRequire points) (hold_edge h k) [] (can-hold points h k y x) (All-nil (CanRequire points))
+can-until : (points : ℕ) (o : Option Held) (h : Held) (tag : ℕ) → IsSmallIf points o → IsSmallHold points h → All (CanRequire points) (edge_until h o tag)
+can-until points None h tag x y = All-nil (CanRequire points)
+can-until points (Some k) h tag x y = All-cons (CanRequire points) (hold_edge h k tag) [] (can-hold points h k tag y x) (All-nil (CanRequire points))
 
-pub can-neighbours : (table : List Spot) (held : List Held) (ids : List ℕ) (slots : List Slot) (place : ℕ) (h : Held) → AreSlots table held ids slots → All (λ h. HasSmallOffsets h.rule) held → IsSmallHold (length table) h
-    → All (CanRequire (length table)) (edge_after (held_before held ids place) h ++ edge_until h (held_behind held ids place))
-can-neighbours table held ids slots place h a small new =
-    All-append (CanRequire (length table)) (edge_after (held_before held ids place) h) (edge_until h (held_behind held ids place))
-    (can-after (length table) (held_before held ids place) h (small-before table held ids slots place a small) new)
-    (can-until (length table) (held_behind held ids place) h (small-at table held ids slots place a small) new)
+pub can-neighbours : (table : List Spot) (held : List Held) (ids : List ℕ) (slots : List Slot) (place : ℕ) (h : Held) (tag : ℕ) → AreSlots table held ids slots → All (λ h. HasSmallOffsets h.rule) held → IsSmallHold (length table) h
+    → All (CanRequire (length table)) (edges_around (held_before held ids place) h (held_behind held ids place) tag)
+can-neighbours table held ids slots place h tag a small new =
+    All-append (CanRequire (length table)) (edge_after (held_before held ids place) h tag) (edge_until h (held_behind held ids place) (tag + 1))
+    (can-after (length table) (held_before held ids place) h tag (small-before table held ids slots place a small) new)
+    (can-until (length table) (held_behind held ids place) h (tag + 1) (small-at table held ids slots place a small) new)
 
-one-after : (o : Option Held) (h : Held) → length (edge_after o h) ≤ 1
-one-after None h = omega arith
-one-after (Some k) h = omega arith
+one-after : (o : Option Held) (h : Held) (tag : ℕ) → length (edge_after o h tag) ≤ 1
+one-after None h tag = omega arith
+one-after (Some k) h tag = omega arith
 
-one-until : (o : Option Held) (h : Held) → length (edge_until h o) ≤ 1
-one-until None h = omega arith
-one-until (Some k) h = omega arith
+one-until : (o : Option Held) (h : Held) (tag : ℕ) → length (edge_until h o tag) ≤ 1
+one-until None h tag = omega arith
+one-until (Some k) h tag = omega arith
 
-pub two-neighbours : (before behind : Option Held) (h : Held) → length (edge_after before h ++ edge_until h behind) ≤ 2
-two-neighbours before behind h = let l = length-append (edge_after before h) (edge_until h behind) in let a = one-after before h in let b = one-until behind h in omega arith
+pub two-neighbours : (before behind : Option Held) (h : Held) (tag : ℕ) → length (edges_around before h behind tag) ≤ 2
+two-neighbours before behind h tag =
+    let l = length-append (edge_after before h tag) (edge_until h behind (tag + 1)) in let a = one-after before h tag in let b = one-until behind h (tag + 1) in omega arith
 
 -- the numbers of an order are those of holds
 pub slots-known : (table : List Spot) (held : List Held) (ids : List ℕ) (slots : List Slot) → AreSlots table held ids slots → All (λ id. id < length held) ids

@@ -1,9 +1,10 @@
 -- What stands at the marks of a board, as marks come and go.
-use Rattle.std.proofs.Common.{suc, zero, ◌≡◌, ℕ, ◌<◌, ◌≤◌, List, [], ◌∷◌, ◌++◌, length, take, Some, refl, ap, arith, inl, inr}
-use Rattle.std.proofs.lemmas.Option.{slice_get_within}
-use Rattle.std.proofs.lemmas.List.{take_all, take-take, take-append-le}
+use Rattle.std.proofs.Common.{suc, zero, ◌≡◌, ℕ, ◌<◌, ◌≤◌, List, [], ◌∷◌, ◌++◌, length, take, Some, refl, ap, sym, arith, inl, inr, Contains}
+use Rattle.std.proofs.lemmas.Option.{slice_get_within, same_Some}
+use Rattle.std.proofs.lemmas.List.{length-take, take_all, take-take, take-append-le}
 use Rattle.std.specs.List.{slice_get}
 use Rattle.tp_base.proofs.SliceFacts.{slice_get_end, slice_get_take}
+use Rattle.tp_constraints.proofs.Lists.{get-contains}
 use Rattle.tp_placing.specs.declared.parts.BoardMark.{BoardMark}
 use Rattle.tp_placing.specs.declared.parts.Held.{Held}
 use Rattle.tp_placing.specs.declared.parts.Step.{Step}
@@ -118,3 +119,18 @@ side-steps {C} held steps more_steps (c ∷ cs) (o ∷ os) (m ∷ ms) f =
     let same : at_mark held (steps ++ more_steps) c o m ≡ at_mark held steps c o m = (λ i. record { net = c; orders = o; held = take m.held held; steps = g i }) in
     let rest = side-steps held steps more_steps cs os ms (λ k n z. f (suc k) n z) in
     λ i. same i ∷ rest i
+
+-- no mark has more steps than there are
+short-at : {C : Type 0} (held : List Held) (steps : List Step) (cs : List C) (os : List Lines) (ms : List BoardMark) (k : ℕ) (x : BoardContent C) → slice_get (side_by_side held steps cs os ms) k ≡ Some x → length x.steps ≤ length steps
+short-at held steps [] os ms k x at = absurd cc
+short-at held steps (c ∷ cs) [] ms k x at = absurd cc
+short-at held steps (c ∷ cs) (o ∷ os) [] k x at = absurd cc
+short-at {C} held steps (c ∷ cs) (o ∷ os) (m ∷ ms) zero x at =
+    let same : at_mark held steps c o m ≡ x = same_Some (at_mark held steps c o m) x at in
+    let l = length-take m.steps steps in
+    let e : length x.steps ≡ length (take m.steps steps) = ap (λ (y : BoardContent C). length y.steps) (sym same) in
+    omega arith
+short-at held steps (c ∷ cs) (o ∷ os) (m ∷ ms) (suc k) x at = short-at held steps cs os ms k x at
+
+pub short-past : {C : Type 0} (held : List Held) (steps : List Step) (cs : List C) (os : List Lines) (ms : List BoardMark) (x : BoardContent C) → Contains (side_by_side held steps cs os ms) x → length x.steps ≤ length steps
+short-past held steps cs os ms x c = let at = get-contains (side_by_side held steps cs os ms) x c in short-at held steps cs os ms at.0 x at.1

@@ -25,23 +25,29 @@ use Rattle.tp_schedule.specs.Spots.Spot.{own}
 use Rattle.tp_schedule.specs.declared.parts.Ask.{Ask}
 use Rattle.tp_schedule.specs.declared.parts.Plan.{Plan}
 use Rattle.tp_timelines.specs.Orders.{order_on, total}
-use Rattle.tp_constraints.specs.Hops.{IsHop, PlaceHops}
-use Rattle.tp_constraints.specs.Nets.{PlaceNet, BoardLate}
+use Rattle.tp_constraints.specs.Hops.{Hop, IsHop, PlaceHops, place_hops}
+use Rattle.tp_constraints.specs.Nets.{PlaceNet, BoardLate, IsBoardNet}
 use Rattle.tp_constraints.specs.Numbers.{gap_by, table_of, IsEdgeOf, with_edges}
 use Rattle.tp_constraints.specs.Suffixes.{Suffix, SuffixTimes, suffix_low, choice_slot, order_in, place_gaps, with_place}
 use Rattle.tp_constraints.proofs.Placing.{put_places-push}
+use Rattle.tp_placing.specs.declared.causes.Cause.{Cause}
 use Rattle.tp_placing.specs.declared.parts.Held.{Held}
 use Rattle.tp_placing.specs.declared.parts.Step.{Step}
-use Rattle.tp_placing.specs.Edges.{edge_after, edge_until, held_before, held_behind}
-use Rattle.tp_placing.specs.Standing.{IsAtWith, IsAtHand, IsSlotOf, AreSlots, HasSmallOffsets, AreFewSteps, StandsOn, newest_in, table_with}
+use Rattle.tp_placing.specs.Causes.{ArePlain, IsNamedHop, causes_around, step_tag}
+use Rattle.tp_placing.specs.Edges.{edges_around, held_before, held_behind}
+use Rattle.tp_placing.specs.Standing.{AreCaused, choices_of, IsAtWith, IsAtHand, IsSlotOf, AreSlots, HasSmallOffsets, AreFewSteps, StandsOn, newest_in, table_with}
 use Rattle.tp_placing.specs.Boards.{BoardValue, suffix_after}
 use Rattle.tp_placing.specs.Calls.{CanPlace}
 use Rattle.tp_placing.specs.Reasons.{IsReason}
 use Rattle.tp_placing.specs.Trying.{CanRequire, IsRefused}
+use Rattle.tp_placing.proofs.BoardFacts.{steps-room}
+use Rattle.tp_placing.proofs.CauseFacts.{AreMade, Keeps, caused-kept, caused-more, hops-more, keeps-around}
 use Rattle.tp_placing.proofs.PartFacts.{shown-edges}
 use Rattle.tp_placing.proofs.StandFacts.{some-and, at-suffix}
 use Rattle.tp_placing.proofs.NeighbourFacts.{two-neighbours, can-neighbours, slots-known}
 use Rattle.tp_placing.proofs.SlotFacts.{length-slots, neighbour-gaps, slots-grown-held, slots-insert}
+use Rattle.tp_placing.proofs.SlotResources.{order-in-on}
+use Rattle.tp_placing.proofs.StepHops.{place-made}
 use Rattle.tp_placing.proofs.StepFacts.{at-hand-push, edges-more, some-steps}
 use Rattle.tp_placing.proofs.TableFacts.{table-own}
 
@@ -94,7 +100,7 @@ module _ (m : Machine) (plans : List Plan) (ask : Ask) (c : Choice) (choices : L
     order = order_on lines rule.resource.0
 
     abbrev es : List Edge
-    es = edge_after (held_before holds order place) h ++ edge_until h (held_behind holds order place)
+    es = edges_around (held_before holds order place) h (held_behind holds order place) (step_tag (length steps))
 
     pub start-own : slice_get table h.start.0 ≡ Some (own (suc (length choices)))
     start-own =
@@ -108,20 +114,20 @@ module _ (m : Machine) (plans : List Plan) (ask : Ask) (c : Choice) (choices : L
         ap (λ k. slice_get table k) e ∙ table-own plans (suc (suc (length choices))) (length choices) (omega arith)
 
     gaps : map (gap_by table) es ≡ place_gaps (order_in m plans x rule.resource.0) place slot
-    gaps = neighbour-gaps table holds order (order_in m plans x rule.resource.0) place h slot (at.orders rule.resource.0 resource) rule_is start-own end-own
+    gaps = neighbour-gaps table holds order (order_in m plans x rule.resource.0) place h slot (at.orders rule.resource.0 resource) rule_is start-own end-own (step_tag (length steps))
 
     pub place-refused : PlaceNet → BoardLate → All (IsEdgeOf table) es → HasNoSolution (with_edges n es) → (t : Ticks) → ¬ SuffixTimes m plans ask (with_place place x) t
     place-refused place_net late in' none =
-        let net = place_net m plans ask x c choices rule place table n es refl is_rule within at.net in' gaps in
-        (late m plans ask (with_place place x) table (with_edges n es) net).0 none
+        (late m plans ask (with_place place x) table (with_edges n es) (place_net m plans ask x c choices rule place table n es refl is_rule within at.net in' gaps)).0 none
 
-    pub place-reason : {N : Type 0} (refutes : N → Net → Type 0) (k : N) → PlaceNet → PlaceHops → All (IsEdgeOf table) es → IsRefused refutes k n es → IsReason refutes k m plans ask (with_place place x)
-    place-reason refutes k place_net place_hops in' refused = record {
-      net = with_edges n es;
-      is_net = place_net m plans ask x c choices rule place table n es refl is_rule within at.net in' gaps;
-      hops = subst (All (IsHop m plans ask (with_place place x))) (ap (λ gs. map (gap_by table) n.edges ++ gs) (sym gaps) ∙ sym (map-append (gap_by table) n.edges es)) (place_hops m plans ask x c choices rule place (map (gap_by table) n.edges) refl is_rule within at.hops);
-      shown = shown-edges refutes k n es refused;
-    }
+    pub place-net : PlaceNet → All (IsEdgeOf table) es → IsBoardNet m plans ask (with_place place x) table (with_edges n es)
+    place-net place_net in' = place_net m plans ask x c choices rule place table n es refl is_rule within at.net in' gaps
+
+    pub place-hops : (causes : List Cause) → ArePlain causes → length steps + 1 ≤ 330 → All (IsEdgeOf table) es
+        → AreMade (length steps + 1) plans (causes_around (held_before holds order place) h (held_behind holds order place) (step_tag (length steps)) causes) es (place_hops rule.resource.0 (order_in m plans x rule.resource.0) place slot)
+    place-hops causes plain few in' =
+        place-made plans (suc (suc (length choices))) holds order (order_in m plans x rule.resource.0) place rule.resource.0 (length steps) h slot causes
+        (at.orders rule.resource.0 resource) (order-in-on m plans x rule.resource.0) refl rule_is start-own end-own (omega arith) plain.slots in'
 
     new-slot : IsSlotOf table (holds ++ h ∷ []) (length holds) slot
     new-slot = record { hold = h; at = slice_get_last holds h; rule = rule_is; start = start-own; end = end-own }
@@ -142,20 +148,19 @@ module _ (m : Machine) (plans : List Plan) (ask : Ask) (c : Choice) (choices : L
           subst (λ ids. AreSlots table (holds ++ h ∷ []) ids (order_in m plans (with_place place x) q)) (sym (get_or-set_other lines rule.resource.0 q (insert order place (length holds)) [] (λ e. ne (sym e))))
           (subst (AreSlots table (holds ++ h ∷ []) (order_on lines q)) (sym (order-else q ne)) old)
 
-    pub place-at : PlaceNet → PlaceHops → All (IsEdgeOf table) es → HasLeast (with_edges n es) → HasSmallOffsets h.rule → (s : Step) → IsAtHand (length (table_of plans)) (Some x) s
+    pub place-at : PlaceNet → All (IsEdgeOf table) es → HasLeast (with_edges n es) → HasSmallOffsets h.rule → (s : Step) → IsAtHand (length (table_of plans)) (Some x) s
         → IsAtWith m plans ask (Some (with_place place x)) (steps ++ s ∷ []) (with_edges n es) (slice_set lines rule.resource.0 (insert order place (length holds))) (holds ++ h ∷ [])
-    place-at place_net place_hops in' solved offsets s at_hand =
+    place-at place_net in' solved offsets s at_hand =
         let l = length-append steps (s ∷ []) in
         let e = edges-more steps s some in
         let ne = length-append n.edges es in
-        let two = two-neighbours (held_before holds order place) (held_behind holds order place) h in
+        let two = two-neighbours (held_before holds order place) (held_behind holds order place) h (step_tag (length steps)) in
         let hl = length-append holds (h ∷ []) in
         let fe = at.few_edges in
         let fh = at.few_holds in
         record {
-          net = place_net m plans ask x c choices rule place table n es refl is_rule within at.net in' gaps;
+          net = place-net place_net in';
           solved = solved;
-          hops = subst (All (IsHop m plans ask (with_place place x))) (ap (λ gs. map (gap_by table) n.edges ++ gs) (sym gaps) ∙ sym (map-append (gap_by table) n.edges es)) (place_hops m plans ask x c choices rule place (map (gap_by table) n.edges) refl is_rule within at.hops);
           orders = orders-after;
           at_hand = at-hand-push (length (table_of plans)) (Some (with_place place x)) steps s at_hand;
           few_steps = subst (AreFewSteps (kept_of ask) (Some (with_place place x))) (sym l) (few-place (kept_of ask) (length steps) four at.few_steps);
@@ -249,7 +254,10 @@ module _ {N : Type 0} (net : N → Net) (b : BoardValue N) (m : Machine) (ask : 
   order_here = order_on b.orders.orders rule.resource.0
 
   abbrev pub edges_here : List Edge
-  edges_here = edge_after (held_before b.held order_here place) h ++ edge_until h (held_behind b.held order_here place)
+  edges_here = edges_around (held_before b.held order_here place) h (held_behind b.held order_here place) (step_tag (length b.steps))
+
+  abbrev pub causes_here : List Cause
+  causes_here = causes_around (held_before b.held order_here place) h (held_behind b.held order_here place) (step_tag (length b.steps)) b.causes
 
   slots-here : AreSlots points b.held order_here (order_in m b.plans suffix_here rule.resource.0)
   slots-here = p.at.orders rule.resource.0 resource
@@ -273,7 +281,7 @@ module _ {N : Type 0} (net : N → Net) (b : BoardValue N) (m : Machine) (ask : 
   lows-points = ap length p.at.net.lows ∙ length-map points (suffix_low m b.plans ask suffix_here)
 
   can-points : All (CanRequire (length points)) edges_here
-  can-points = can-neighbours points b.held order_here (order_in m b.plans suffix_here rule.resource.0) place h slots-here p.at.small (record {
+  can-points = can-neighbours points b.held order_here (order_in m b.plans suffix_here rule.resource.0) place h (step_tag (length b.steps)) slots-here p.at.small (record {
     start = slice_get_within points h.start.0 _ start-here;
     end = slice_get_within points h.end.0 _ end-here;
     small = subst HasSmallOffsets (sym rule_is) offsets;
@@ -287,16 +295,47 @@ module _ {N : Type 0} (net : N → Net) (b : BoardValue N) (m : Machine) (ask : 
       place-refused m b.plans ask p.choice p.choices p.rooms p.stopped rule place p.is_rule b.steps (net b.net) b.orders.orders b.held h newest p.at p.hand p.some known resource p.within few-places fits-here rule_is start_is end_is
       place_net late (edges-of points edges_here can-points) none
 
-  pub reason-here : (refutes : N → Net → Type 0) (k : N) → PlaceNet → PlaceHops → IsRefused refutes k (net b.net) edges_here → IsReason refutes k m b.plans ask (with_place place suffix_here)
-  reason-here refutes k place_net place_hops refused =
-      place-reason m b.plans ask p.choice p.choices p.rooms p.stopped rule place p.is_rule b.steps (net b.net) b.orders.orders b.held h newest p.at p.hand p.some known resource p.within few-places fits-here rule_is start_is end_is
-      refutes k place_net place_hops (edges-of points edges_here can-points) refused
+  few-here : length b.steps + 1 ≤ 330
+  few-here = steps-room (kept_of ask) (length b.steps) suffix_here p.at.few_steps
 
-  pub placed-here : PlaceNet → PlaceHops → HasLeast (with_edges (net b.net) edges_here) → (s : Step) → s.newest ≡ newest.newest → s.first ≡ newest.first
+  pub keeps-here : Keeps (length b.steps) b.causes causes_here
+  keeps-here = let f = few-here in keeps-around (held_before b.held order_here place) (held_behind b.held order_here place) h b.causes (length b.steps) (omega arith)
+
+  made-here : ArePlain b.causes → AreMade (length b.steps + 1) b.plans causes_here edges_here (place_hops rule.resource.0 (order_in m b.plans suffix_here rule.resource.0) place (choice_slot rule (length p.choices)))
+  made-here plain =
+      place-hops m b.plans ask p.choice p.choices p.rooms p.stopped rule place p.is_rule b.steps (net b.net) b.orders.orders b.held h newest p.at p.hand p.some known resource p.within few-places fits-here rule_is start_is end_is
+      b.causes plain few-here (edges-of points edges_here can-points)
+
+  lift-here : PlaceHops → (os : List Hop) → All (IsHop m b.plans ask suffix_here) os
+      → All (IsHop m b.plans ask (with_place place suffix_here)) (os ++ place_hops rule.resource.0 (order_in m b.plans suffix_here rule.resource.0) place (choice_slot rule (length p.choices)))
+  lift-here law os all = law m b.plans ask suffix_here p.choice p.choices rule place os refl p.is_rule p.within all
+
+  kept-here : ArePlain b.causes → AreCaused m b.plans ask b.causes b.steps (net b.net) → AreCaused m b.plans ask causes_here b.steps (net b.net)
+  kept-here plain caused = caused-kept m b.plans ask (length b.steps) b.causes causes_here b.steps (net b.net) keeps-here (omega arith) caused
+
+  pub reason-here : (refutes : N → Net → Type 0) (k : N) → PlaceNet → PlaceHops → ArePlain b.causes → AreCaused m b.plans ask b.causes b.steps (net b.net) → IsRefused refutes k (net b.net) edges_here
+      → IsReason refutes (record b { net = k; causes = causes_here; limit = None }) m ask (with_place place suffix_here)
+  reason-here refutes k place_net law plain caused refused = record {
+    net = with_edges (net b.net) edges_here;
+    is_net = place-net m b.plans ask p.choice p.choices p.rooms p.stopped rule place p.is_rule b.steps (net b.net) b.orders.orders b.held h newest p.at p.hand p.some known resource p.within few-places fits-here rule_is start_is end_is
+        place_net (edges-of points edges_here can-points);
+    hops = hops-more m b.plans ask suffix_here (with_place place suffix_here) (length b.steps + 1) causes_here (net b.net).edges edges_here _
+        (subst (λ y. All (IsNamedHop m b.plans ask y causes_here) (net b.net).edges) (ap choices_of p.suffix) (kept-here plain caused).hops) (made-here plain) (lift-here law);
+    no_limit = refl;
+    shown = shown-edges refutes k (net b.net) edges_here refused;
+  }
+
+  pub caused-here : PlaceHops → ArePlain b.causes → AreCaused m b.plans ask b.causes b.steps (net b.net) → (s : Step) → suffix_after (b.steps ++ s ∷ []) ≡ Some (with_place place suffix_here)
+      → AreCaused m b.plans ask causes_here (b.steps ++ s ∷ []) (with_edges (net b.net) edges_here)
+  caused-here law plain caused s after =
+      caused-more m b.plans ask suffix_here (with_place place suffix_here) causes_here b.steps s (net b.net) (with_edges (net b.net) edges_here) edges_here _
+      (ap choices_of p.suffix) (ap choices_of after) refl (kept-here plain caused) (made-here plain) (lift-here law)
+
+  pub placed-here : PlaceNet → HasLeast (with_edges (net b.net) edges_here) → (s : Step) → s.newest ≡ newest.newest → s.first ≡ newest.first
       → IsAtWith m b.plans ask (Some (with_place place suffix_here)) (b.steps ++ s ∷ []) (with_edges (net b.net) edges_here) (slice_set b.orders.orders rule.resource.0 (insert order_here place (length b.held))) (b.held ++ h ∷ [])
-  placed-here place_net place_hops solved s a f =
+  placed-here place_net solved s a f =
       place-at m b.plans ask p.choice p.choices p.rooms p.stopped rule place p.is_rule b.steps (net b.net) b.orders.orders b.held h newest p.at p.hand p.some known resource p.within few-places fits-here rule_is start_is end_is
-      place_net place_hops (edges-of points edges_here can-points) solved (subst HasSmallOffsets (sym rule_is) offsets) s (a ∙ p.hand.0, ap (λ (q : PointId). q.0) f ∙ p.hand.1)
+      place_net (edges-of points edges_here can-points) solved (subst HasSmallOffsets (sym rule_is) offsets) s (a ∙ p.hand.0, ap (λ (q : PointId). q.0) f ∙ p.hand.1)
 
   pub two-here : length edges_here ≤ 2
-  two-here = two-neighbours (held_before b.held order_here place) (held_behind b.held order_here place) h
+  two-here = two-neighbours (held_before b.held order_here place) (held_behind b.held order_here place) h (step_tag (length b.steps))

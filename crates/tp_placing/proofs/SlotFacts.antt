@@ -1,5 +1,5 @@
 -- Orders of numbers as orders of slots.
-use Rattle.std.proofs.Common.{◌≡◌, ℕ, zero, suc, List, [], ◌∷◌, ◌++◌, length, map, refl, ap, sym, ◌∙◌, subst, Option, Some, None, ◌-ℤ◌}
+use Rattle.std.proofs.Common.{◌≡◌, ℕ, zero, suc, ◌+◌, List, [], ◌∷◌, ◌++◌, length, map, refl, ap, sym, ◌∙◌, subst, Option, Some, None, ◌-ℤ◌}
 use Rattle.std.proofs.lemmas.List.{map-append, append-nil}
 use Rattle.std.specs.List.{slice_get, insert}
 use Rattle.std.proofs.lemmas.Option.{slice_get_within}
@@ -13,7 +13,7 @@ use Rattle.tp_constraints.specs.Gaps.{gap, anchor_spot, slot_gap}
 use Rattle.tp_constraints.specs.Numbers.{spot_at, gap_by}
 use Rattle.tp_constraints.specs.Suffixes.{gap_after, gap_until, before_place, place_gaps}
 use Rattle.tp_placing.specs.declared.parts.Held.{Held}
-use Rattle.tp_placing.specs.Edges.{anchor_point, hold_edge, edge_after, edge_until, held_of, held_before, held_behind}
+use Rattle.tp_placing.specs.Edges.{anchor_point, hold_edge, edge_after, edge_until, edges_around, held_of, held_before, held_behind}
 use Rattle.tp_placing.specs.Standing.{IsSlotOf, AreSlots}
 
 -- a longer table and more holds
@@ -72,8 +72,8 @@ anchored table Start start end from to s e = rw s refl
 anchored table End start end from to s e = rw e refl
 
 pub hold-gap : (table : List Spot) (h k : Held) (s r : Slot) → h.rule ≡ s.rule → slice_get table h.start.0 ≡ Some s.from → slice_get table h.end.0 ≡ Some s.to
-    → k.rule ≡ r.rule → slice_get table k.start.0 ≡ Some r.from → slice_get table k.end.0 ≡ Some r.to → gap_by table (hold_edge h k) ≡ slot_gap s r
-hold-gap table h k s r a b c d e f =
+    → k.rule ≡ r.rule → slice_get table k.start.0 ≡ Some r.from → slice_get table k.end.0 ≡ Some r.to → (tag : ℕ) → gap_by table (hold_edge h k tag) ≡ slot_gap s r
+hold-gap table h k s r a b c d e f tag =
     let from : spot_at table (anchor_point h.rule.end h.start h.end).0 ≡ anchor_spot s.rule.end s.from s.to =
     anchored table h.rule.end h.start h.end s.from s.to b c ∙ ap (λ (q : HoldRule). anchor_spot q.end s.from s.to) a in
     let to : spot_at table (anchor_point k.rule.begin k.start k.end).0 ≡ anchor_spot r.rule.begin r.from r.to =
@@ -82,20 +82,20 @@ hold-gap table h k s r a b c d e f =
     λ i. gap (from i) (to i) (weight i)
 
 after-gap : (table : List Spot) (held : List Held) (o : Option Held) (q : Option Slot) (h : Held) (s : Slot) → AtPlace table held o q → h.rule ≡ s.rule → slice_get table h.start.0 ≡ Some s.from → slice_get table h.end.0 ≡ Some s.to
-    → map (gap_by table) (edge_after o h) ≡ gap_after q s
-after-gap table held o q h s none a b c = refl
-after-gap table held o q h s (some k r x y z) a b c = ap (λ g. g ∷ []) (hold-gap table k h r s x y z a b c)
+    → (tag : ℕ) → map (gap_by table) (edge_after o h tag) ≡ gap_after q s
+after-gap table held o q h s none a b c tag = refl
+after-gap table held o q h s (some k r x y z) a b c tag = ap (λ g. g ∷ []) (hold-gap table k h r s x y z a b c tag)
 
 until-gap : (table : List Spot) (held : List Held) (o : Option Held) (q : Option Slot) (h : Held) (s : Slot) → AtPlace table held o q → h.rule ≡ s.rule → slice_get table h.start.0 ≡ Some s.from → slice_get table h.end.0 ≡ Some s.to
-    → map (gap_by table) (edge_until h o) ≡ gap_until s q
-until-gap table held o q h s none a b c = refl
-until-gap table held o q h s (some k r x y z) a b c = ap (λ g. g ∷ []) (hold-gap table h k s r a b c x y z)
+    → (tag : ℕ) → map (gap_by table) (edge_until h o tag) ≡ gap_until s q
+until-gap table held o q h s none a b c tag = refl
+until-gap table held o q h s (some k r x y z) a b c tag = ap (λ g. g ∷ []) (hold-gap table h k s r a b c x y z tag)
 
 -- the edges to the neighbours of a place are its gaps
 pub neighbour-gaps : (table : List Spot) (held : List Held) (ids : List ℕ) (slots : List Slot) (place : ℕ) (h : Held) (s : Slot) → AreSlots table held ids slots
     → h.rule ≡ s.rule → slice_get table h.start.0 ≡ Some s.from → slice_get table h.end.0 ≡ Some s.to
-    → map (gap_by table) (edge_after (held_before held ids place) h ++ edge_until h (held_behind held ids place)) ≡ place_gaps slots place s
-neighbour-gaps table held ids slots place h s all a b c =
-    let x = after-gap table held (held_before held ids place) (before_place slots place) h s (slots-before table held ids slots place all) a b c in
-    let y = until-gap table held (held_behind held ids place) (slice_get slots place) h s (slots-at table held ids slots place all) a b c in
-    map-append (gap_by table) (edge_after (held_before held ids place) h) (edge_until h (held_behind held ids place)) ∙ (λ i. x i ++ y i)
+    → (tag : ℕ) → map (gap_by table) (edges_around (held_before held ids place) h (held_behind held ids place) tag) ≡ place_gaps slots place s
+neighbour-gaps table held ids slots place h s all a b c tag =
+    let x = after-gap table held (held_before held ids place) (before_place slots place) h s (slots-before table held ids slots place all) a b c tag in
+    let y = until-gap table held (held_behind held ids place) (slice_get slots place) h s (slots-at table held ids slots place all) a b c (tag + 1) in
+    map-append (gap_by table) (edge_after (held_before held ids place) h tag) (edge_until h (held_behind held ids place) (tag + 1)) ∙ (λ i. x i ++ y i)

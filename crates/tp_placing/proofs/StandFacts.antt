@@ -11,11 +11,15 @@ use Rattle.tp_constraints.specs.Numbers.{table_of, ticks_by}
 use Rattle.tp_constraints.specs.Nets.{BoardSolutions}
 use Rattle.tp_schedule.specs.Spots.{Ticks}
 use Rattle.tp_constraints.specs.Suffixes.{Suffix, SuffixTimes, suffix_low}
+use Rattle.tp_base.specs.declared.edges.PointId.{PointId}
+use Rattle.tp_placing.specs.declared.causes.Cause.{Cause}
 use Rattle.tp_placing.specs.declared.parts.Held.{Held}
 use Rattle.tp_placing.specs.declared.parts.Step.{Step}
 use Rattle.tp_placing.specs.Boards.{BoardValue, suffix_after, past_of, side_by_side}
 use Rattle.tp_placing.specs.Inside.{most_steps}
-use Rattle.tp_placing.specs.Standing.{IsAtWith, IsAt, StandsOn, table_with, step_edges, loaded_edges}
+use Rattle.tp_placing.specs.Standing.{AreCaused, IsAtWith, IsAt, StandsOn, table_with, step_edges, loaded_edges}
+use Rattle.tp_placing.proofs.CauseFacts.{Keeps, caused-kept, plain-kept}
+use Rattle.tp_placing.proofs.PastFacts.{short-past}
 use Rattle.tp_placing.proofs.TableFacts.{length-table}
 
 pub some-and : {X : Type 0} (o : Option X) (P : X → Type 0) → IsSomeAnd o P → (x : X) × (o ≡ Some x) × P x
@@ -48,14 +52,15 @@ module _ {N C : Type 0} (net : N → Net) (content : N → C) (past : N → List
   pub at-suffix : (b : BoardValue N) (m : Machine) (ask : Ask) (x : Suffix) → StandsOn net content past b m ask → suffix_after b.steps ≡ Some x → IsAtWith m b.plans ask (Some x) b.steps (net b.net) b.orders.orders b.held
   at-suffix b m ask x s e = subst (λ y. IsAtWith m b.plans ask y b.steps (net b.net) b.orders.orders b.held) e s.now
 
-  abbrev pub grown : BoardValue N → N → Orders → List Held → List Step → BoardValue N
-  grown b n orders held steps = record b { net = n; orders = orders; held = held; steps = steps }
+  abbrev pub grown : BoardValue N → N → Orders → List Held → List Step → List Cause → BoardValue N
+  grown b n orders held steps causes = record b { net = n; orders = orders; held = held; steps = steps; causes = causes; limit = None }
 
   -- the board stands after a change that leaves what stood at its marks
-  pub stands-after : (b : BoardValue N) (n : N) (orders : Orders) (held : List Held) (steps : List Step) (m : Machine) (ask : Ask) (x : Suffix) → StandsOn net content past b m ask
-      → past_of past (grown b n orders held steps) ≡ past_of past b → suffix_after steps ≡ Some x
-      → IsAtWith m b.plans ask (Some x) steps (net n) orders.orders held → StandsOn net content past (grown b n orders held steps) m ask
-  stands-after b n orders held steps m ask x s same e at = record {
+  pub stands-after : (b : BoardValue N) (n : N) (orders : Orders) (held : List Held) (steps : List Step) (causes : List Cause) (m : Machine) (ask : Ask) (x : Suffix) → StandsOn net content past b m ask
+      → past_of past (grown b n orders held steps causes) ≡ past_of past b → suffix_after steps ≡ Some x
+      → IsAtWith m b.plans ask (Some x) steps (net n) orders.orders held → Keeps (length b.steps) b.causes causes → AreCaused m b.plans ask causes steps (net n)
+      → StandsOn net content past (grown b n orders held steps causes) m ask
+  stands-after b n orders held steps causes m ask x s same e at keeps caused = record {
     made = s.made;
     asked = s.asked;
     floor = s.floor;
@@ -69,12 +74,17 @@ module _ {N C : Type 0} (net : N → Net) (content : N → C) (past : N → List
     few_plans = s.few_plans;
     now = subst (λ y. IsAtWith m b.plans ask y steps (net n) orders.orders held) (sym e) at;
     before = λ y c. s.before y (subst (λ xs. Contains xs y) same c);
+    plain = plain-kept (length b.steps) b.causes causes keeps s.plain;
+    caused = caused;
+    caused_before = λ y c k f. (
+        let there = subst (λ xs. Contains xs y) same c in
+        caused-kept m b.plans ask (length b.steps) b.causes causes y.steps (net k) keeps (short-past b.held b.steps (past b.net) b.orders.past b.marks y there) (s.caused_before y there k f));
   }
 
   -- and after a refusal, which leaves the network's content
-  pub stands-still : (net_by : (a b : N) → content a ≡ content b → net a ≡ net b) (b : BoardValue N) (n : N) (m : Machine) (ask : Ask) → StandsOn net content past b m ask
-      → content n ≡ content b.net → past n ≡ past b.net → StandsOn net content past (record b { net = n }) m ask
-  stands-still net_by b n m ask s same before = record {
+  pub stands-still : (net_by : (a b : N) → content a ≡ content b → net a ≡ net b) (b : BoardValue N) (n : N) (causes : List Cause) (limit : Option PointId) (m : Machine) (ask : Ask) → StandsOn net content past b m ask
+      → content n ≡ content b.net → past n ≡ past b.net → Keeps (length b.steps) b.causes causes → StandsOn net content past (record b { net = n; causes = causes; limit = limit }) m ask
+  stands-still net_by b n causes limit m ask s same before keeps = record {
     made = s.made;
     asked = s.asked;
     floor = s.floor;
@@ -88,6 +98,11 @@ module _ {N C : Type 0} (net : N → Net) (content : N → C) (past : N → List
     few_plans = s.few_plans;
     now = subst (λ k. IsAt m b.plans ask b.steps k b.orders.orders b.held) (sym (net_by n b.net same)) s.now;
     before = λ y c. s.before y (subst (λ cs. Contains (side_by_side b.held b.steps cs b.orders.past b.marks) y) before c);
+    plain = plain-kept (length b.steps) b.causes causes keeps s.plain;
+    caused = caused-kept m b.plans ask (length b.steps) b.causes causes b.steps (net n) keeps (omega arith) (subst (AreCaused m b.plans ask b.causes b.steps) (sym (net_by n b.net same)) s.caused);
+    caused_before = λ y c k f. (
+        let there = subst (λ cs. Contains (side_by_side b.held b.steps cs b.orders.past b.marks) y) before c in
+        caused-kept m b.plans ask (length b.steps) b.causes causes y.steps (net k) keeps (short-past b.held b.steps (past b.net) b.orders.past b.marks y there) (s.caused_before y there k f));
   }
 
   -- the ask that the board stands on is the one that it keeps

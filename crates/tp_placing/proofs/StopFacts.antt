@@ -1,5 +1,5 @@
 -- A list that is stopped.
-use Rattle.std.proofs.Common.{rules, suc, pos, ◌≡◌, ℕ, ◌+◌, ◌<◌, List, [], ◌∷◌, ◌++◌, length, map, refl, ap, sym, ◌∙◌, subst, arith, Some, All, IsFalse, IsSomeAnd, true, false, ◌-◌}
+use Rattle.std.proofs.Common.{rules, suc, pos, ◌≡◌, ℕ, ◌+◌, ◌<◌, List, [], ◌∷◌, ◌++◌, length, map, refl, ap, sym, ◌∙◌, subst, arith, Some, None, All, IsFalse, IsSomeAnd, true, false, ◌-◌}
 use Rattle.std.proofs.lemmas.List.{length-append, map-append}
 use Rattle.std.proofs.lemmas.List.Elements.{All-nil, All-cons}
 use Rattle.tp_base.specs.declared.edges.Edge.{Edge}
@@ -14,35 +14,38 @@ use Rattle.tp_schedule.specs.Spots.Spot.{kept, own}
 use Rattle.tp_schedule.specs.declared.parts.Ask.{Ask}
 use Rattle.tp_schedule.specs.declared.parts.Plan.{Plan}
 use Rattle.tp_constraints.specs.Gaps.{gap}
-use Rattle.tp_constraints.specs.Hops.{IsHop}
+use Rattle.tp_constraints.specs.Hops.{Hop, IsHop, StopHops, hop}
+use Rattle.tp_constraints.specs.Hops.HopKind.{stop}
 use Rattle.tp_constraints.specs.Numbers.{gap_by, table_of, IsEdgeOf}
 use Rattle.tp_constraints.specs.Nets.{StopNet, BoardLate}
-use Rattle.tp_constraints.specs.Hops.{StopHops}
 use Rattle.tp_constraints.specs.Suffixes.{Suffix, SuffixTimes, IsInFlight, stop_gaps, with_stop}
 use Rattle.tp_placing.specs.declared.parts.Held.{Held}
 use Rattle.tp_placing.specs.declared.parts.Step.{Step}
-use Rattle.tp_placing.specs.Standing.{StandsOn, IsAtWith, IsAtHand, table_with, AreFewSteps}
+use Rattle.tp_placing.specs.Standing.{AreCaused, choices_of, StandsOn, IsAtWith, IsAtHand, table_with, AreFewSteps}
 use Rattle.std.specs.List.{slice_get}
 use Rattle.std.proofs.lemmas.Option.{slice_get_within}
 use Rattle.tp_base.specs.declared.edges.PointId.{PointId}
+use Rattle.tp_placing.specs.Causes.{ArePlain, IsNamedHop, stop_tag}
 use Rattle.tp_placing.specs.Edges.{edge_of}
 use Rattle.tp_placing.proofs.TableFacts.{table-left, table-own}
 use Rattle.tp_placing.specs.Boards.{BoardValue, suffix_after}
 use Rattle.tp_placing.specs.Reasons.{IsReason}
+use Rattle.tp_placing.proofs.CauseFacts.{AreMade, caused-more, hops-more}
 use Rattle.tp_placing.proofs.PartFacts.{whole-is-part}
 use Rattle.tp_placing.proofs.StandFacts.{some-and, at-suffix}
 use Rattle.tp_placing.proofs.StepFacts.{at-hand-push, edges-more, some-steps}
+use Rattle.tp_placing.proofs.StepHops.{stop-made}
 
 few-stop : (count steps : ℕ) (x : Suffix) → IsFalse x.stopped → AreFewSteps count (Some x) steps → AreFewSteps count (Some (with_stop x)) (steps + 1)
 few-stop count steps x going few = let e : x.stopped ≡ false = search (rules, going) in let f = few.0 in let g = rw e at f in (omega arith, few.1, few.2)
 
-pub stop-at : StopNet → StopHops → (machine : Machine) (plans : List Plan) (ask : Ask) (x : Suffix) (steps : List Step) (n : Net) (lines : List (List ℕ)) (holds : List Held) (s : Step) (e : Edge)
+pub stop-at : StopNet → (machine : Machine) (plans : List Plan) (ask : Ask) (x : Suffix) (steps : List Step) (n : Net) (lines : List (List ℕ)) (holds : List Held) (s : Step) (e : Edge)
     → IsAsked machine plans ask → IsInFlight ask.origin → IsFalse x.stopped → 0 < length steps
     → IsAtWith machine plans ask (Some x) steps n lines holds
     → IsEdgeOf (table_with plans (suc (length x.choices))) e → gap_by (table_with plans (suc (length x.choices))) e ≡ gap (own (length x.choices)) (kept ask.sheet (kept_of ask)) (pos 0)
     → HasLeast (with_edge n e) → IsAtHand (length (table_of plans)) (Some x) s
     → IsAtWith machine plans ask (Some (with_stop x)) (steps ++ s ∷ []) (with_edge n e) lines holds
-stop-at stop_net stop_hops machine plans ask x steps n lines holds s e asked flying going some at in' gap solved hand =
+stop-at stop_net machine plans ask x steps n lines holds s e asked flying going some at in' gap solved hand =
     let table = table_with plans (suc (length x.choices)) in
     let gaps : map (gap_by table) (e ∷ []) ≡ stop_gaps ask (length x.choices) true = ap (λ g. g ∷ []) gap in
     let l = length-append steps (s ∷ []) in
@@ -53,7 +56,6 @@ stop-at stop_net stop_hops machine plans ask x steps n lines holds s e asked fly
     record {
       net = stop_net machine plans ask x table n (e ∷ []) asked flying going at.net (All-cons (IsEdgeOf table) e [] in' (All-nil (IsEdgeOf table))) gaps;
       solved = solved;
-      hops = subst (All (IsHop machine plans ask (with_stop x))) (ap (λ gs. map (gap_by table) n.edges ++ gs) (sym gaps) ∙ sym (map-append (gap_by table) n.edges (e ∷ []))) (stop_hops machine plans ask x (map (gap_by table) n.edges) going at.hops);
       orders = at.orders;
       at_hand = at-hand-push (length (table_of plans)) (Some (with_stop x)) steps s hand;
       few_steps = subst (AreFewSteps (kept_of ask) (Some (with_stop x))) (sym l) (few-stop (kept_of ask) (length steps) x going at.few_steps);
@@ -71,13 +73,13 @@ module _ (m : Machine) (plans : List Plan) (ask : Ask) (x : Suffix) (first end :
   to-kept : slice_get (table_with plans (suc (length x.choices))) end.0 ≡ Some (kept ask.sheet (kept_of ask))
   to-kept = table-left plans (suc (length x.choices)) end.0 (kept ask.sheet (kept_of ask)) end_is
 
-  pub stop-edge : IsEdgeOf (table_with plans (suc (length x.choices))) (edge_of first end (pos 0))
+  pub stop-edge : IsEdgeOf (table_with plans (suc (length x.choices))) (edge_of first end (pos 0) stop_tag)
   stop-edge = (
     slice_get_within (table_with plans (suc (length x.choices))) first.0 _ from-own,
     slice_get_within (table_with plans (suc (length x.choices))) end.0 _ to-kept,
   )
 
-  pub stop-gap : gap_by (table_with plans (suc (length x.choices))) (edge_of first end (pos 0)) ≡ gap (own (length x.choices)) (kept ask.sheet (kept_of ask)) (pos 0)
+  pub stop-gap : gap_by (table_with plans (suc (length x.choices))) (edge_of first end (pos 0) stop_tag) ≡ gap (own (length x.choices)) (kept ask.sheet (kept_of ask)) (pos 0)
   stop-gap = rw (from-own, to-kept) refl
 
 -- what is known where a list is stopped
@@ -115,12 +117,12 @@ stops-here net content past b m ask newest state tick count end s going last ori
 -- the network with the stop's edge is that of the stopped list
 module _ {N : Type 0} (net : N → Net) (b : BoardValue N) (m : Machine) (ask : Ask) (newest : Step) (end : PointId) (here : StopsHere net b m ask newest end) where
   abbrev edge : Edge
-  edge = edge_of newest.first end (pos 0)
+  edge = edge_of newest.first end (pos 0) stop_tag
 
-  pub stop-solved : StopNet → StopHops → IsAsked m b.plans ask → HasLeast (with_edge (net b.net) edge) → (s : Step) → s.first ≡ newest.first → s.newest ≡ newest.newest
+  pub stop-solved : StopNet → IsAsked m b.plans ask → HasLeast (with_edge (net b.net) edge) → (s : Step) → s.first ≡ newest.first → s.newest ≡ newest.newest
       → IsAtWith m b.plans ask (Some (with_stop here.x)) (b.steps ++ s ∷ []) (with_edge (net b.net) edge) b.orders.orders b.held
-  stop-solved stop_net stop_hops asked solved s f a =
-      stop-at stop_net stop_hops m b.plans ask here.x b.steps (net b.net) b.orders.orders b.held s edge asked here.flying here.going here.some here.at
+  stop-solved stop_net asked solved s f a =
+      stop-at stop_net m b.plans ask here.x b.steps (net b.net) b.orders.orders b.held s edge asked here.flying here.going here.some here.at
       (stop-edge m b.plans ask here.x newest.first end here.hand.1 here.end_is) (stop-gap m b.plans ask here.x newest.first end here.hand.1 here.end_is) solved
       (a ∙ here.hand.0, ap (λ (p : PointId). p.0) f ∙ here.hand.1)
 
@@ -132,14 +134,29 @@ module _ {N : Type 0} (net : N → Net) (b : BoardValue N) (m : Machine) (ask : 
       let n = stop_net m b.plans ask here.x table (net b.net) (edge ∷ []) asked here.flying here.going here.at.net (All-cons (IsEdgeOf table) edge [] in' (All-nil (IsEdgeOf table))) (ap (λ g. g ∷ []) same) in
       (late m b.plans ask (with_stop here.x) table (with_edge (net b.net) edge) n).0 none
 
-  pub stop-reason : (refutes : N → Net → Type 0) (n : N) → StopNet → StopHops → IsAsked m b.plans ask → refutes n (with_edge (net b.net) edge) → IsReason refutes n m b.plans ask (with_stop here.x)
-  stop-reason refutes n stop_net stop_hops asked shown =
+  made : (steps : ℕ) → ArePlain b.causes → AreMade steps b.plans b.causes (edge ∷ []) (hop stop (gap (own (length here.x.choices)) (kept ask.sheet (kept_of ask)) (pos 0)) ∷ [])
+  made steps plain = stop-made steps b.plans (suc (length here.x.choices)) b.causes newest.first end (own (length here.x.choices)) (kept ask.sheet (kept_of ask)) plain
+      (from-own m b.plans ask here.x newest.first end here.hand.1 here.end_is) (to-kept m b.plans ask here.x newest.first end here.hand.1 here.end_is)
+
+  lift : StopHops → (os : List Hop) → All (IsHop m b.plans ask here.x) os → All (IsHop m b.plans ask (with_stop here.x)) (os ++ hop stop (gap (own (length here.x.choices)) (kept ask.sheet (kept_of ask)) (pos 0)) ∷ [])
+  lift law os all = law m b.plans ask here.x os here.going all
+
+  pub stop-reason : (refutes : N → Net → Type 0) (n : N) → StopNet → StopHops → IsAsked m b.plans ask → ArePlain b.causes → AreCaused m b.plans ask b.causes b.steps (net b.net) → refutes n (with_edge (net b.net) edge)
+      → IsReason refutes (record b { net = n; limit = None }) m ask (with_stop here.x)
+  stop-reason refutes n stop_net law asked plain caused shown =
       let table = table_with b.plans (suc (length here.x.choices)) in
       let in' = stop-edge m b.plans ask here.x newest.first end here.hand.1 here.end_is in
       let gaps : map (gap_by table) (edge ∷ []) ≡ stop_gaps ask (length here.x.choices) true = ap (λ g. g ∷ []) (stop-gap m b.plans ask here.x newest.first end here.hand.1 here.end_is) in
       record {
         net = with_edge (net b.net) edge;
         is_net = stop_net m b.plans ask here.x table (net b.net) (edge ∷ []) asked here.flying here.going here.at.net (All-cons (IsEdgeOf table) edge [] in' (All-nil (IsEdgeOf table))) gaps;
-        hops = subst (All (IsHop m b.plans ask (with_stop here.x))) (ap (λ gs. map (gap_by table) (net b.net).edges ++ gs) (sym gaps) ∙ sym (map-append (gap_by table) (net b.net).edges (edge ∷ []))) (stop_hops m b.plans ask here.x (map (gap_by table) (net b.net).edges) here.going here.at.hops);
+        hops = hops-more m b.plans ask here.x (with_stop here.x) 0 b.causes (net b.net).edges (edge ∷ []) _ (subst (λ y. All (IsNamedHop m b.plans ask y b.causes) (net b.net).edges) (ap choices_of here.suffix) caused.hops) (made 0 plain) (lift law);
+        no_limit = refl;
         shown = record { late = with_edge (net b.net) edge; shown = shown; part = whole-is-part (with_edge (net b.net) edge) };
       }
+
+  pub stop-caused : StopHops → ArePlain b.causes → AreCaused m b.plans ask b.causes b.steps (net b.net) → (s : Step) → suffix_after (b.steps ++ s ∷ []) ≡ Some (with_stop here.x)
+      → AreCaused m b.plans ask b.causes (b.steps ++ s ∷ []) (with_edge (net b.net) edge)
+  stop-caused law plain caused s after =
+      caused-more m b.plans ask here.x (with_stop here.x) b.causes b.steps s (net b.net) (with_edge (net b.net) edge) (edge ∷ []) _
+      (ap choices_of here.suffix) (ap choices_of after) refl caused (made (length b.steps + 1) plain) (lift law)

@@ -1,4 +1,4 @@
-use Rattle.std.proofs.Common.{rules, arith, sym, refl, ap, ◌∙◌, subst, ◌≡◌, ℕ, suc, ◌+◌, ◌-◌, ◌<◌, ◌≤◌, ◌^◌, min, length, Some, IsSomeAnd, List, ◌++◌, ◌∷◌, []}
+use Rattle.std.proofs.Common.{rules, arith, sym, refl, ap, ◌∙◌, subst, ◌≡◌, ℕ, suc, ◌+◌, ◌-◌, ◌<◌, ◌≤◌, ◌^◌, min, length, Some, None, IsSomeAnd, List, ◌++◌, ◌∷◌, []}
 use Rattle.std.specs.List.{slice_get}
 use Rattle.std.proofs.lemmas.Option.{slice_get_read}
 use Rattle.std.proofs.lemmas.List.{length-append}
@@ -16,9 +16,10 @@ use Rattle.tp_placing.specs.Boards.{BoardValue, after_change, suffix_after, suff
 use Rattle.tp_placing.specs.Calls.{CanGoOn}
 use Rattle.tp_placing.specs.Edges.{duration_edges}
 use Rattle.tp_placing.specs.Inside.{board_of}
-use Rattle.tp_placing.specs.Standing.{Stands, IsAtWith}
+use Rattle.tp_placing.specs.Standing.{AreCaused, Stands, IsAtWith}
 use Rattle.tp_placing.specs.Trying.{IsRefused}
-use Rattle.tp_placing.proofs.ActionFacts.{OpensHere, opens-here, can-open, open-reason, open-refused, open-at}
+use Rattle.tp_placing.proofs.ActionFacts.{OpensHere, opens-here, can-open, open-reason, open-refused, open-at, open-caused}
+use Rattle.tp_placing.proofs.CauseFacts.{keeps-all}
 use Rattle.tp_placing.proofs.BoardFacts.{board-step, steps-room}
 use Rattle.tp_placing.proofs.PastFacts.{side-steps}
 use Rattle.tp_placing.proofs.StandFacts.{has-times, some-and, and-some, stands-after, stands-still, length-lows}
@@ -30,7 +31,7 @@ use Rattle.tp_placing.proofs.board.Board.open_action.Goals.{After-index-newest}
 abbrev board : (g : _) → After-index-newest g → BoardValue g.row.N.Denot
 board g c =
     let a = c.self.inside in
-    board_of a.net a.lines a.held.items a.plans.items a.firsts.items a.last a.floor a.horizon a.ask a.steps.items a.marks.items a.made_for
+    board_of a.net a.lines a.held.items a.plans.items a.firsts.items a.last a.floor a.horizon a.ask a.steps.items a.marks.items a.made_for a.causes a.limit
 
 -- the board on the machine, with the ask that it keeps
 standing : (g : _) (c : After-index-newest g) → Stands g.N.Network.net g.N.Undo.content g.N.Undo.past (board g c) c.args.machine.now
@@ -132,12 +133,12 @@ returns-in-Err-clause-shown g k =
     let refused = point-asked g c k.get.result.now k.lowest-low.result k.lasting-edges.result k.extend_all.new.net k.lowest-low.ensures k.lasting-edges.ensures k.in-Err.ensures.refused in
     rw (← c.self.view_is) (and-some (suffix_of (board g c)) o.x _ o.suffix (and-some (board g c).ask (standing g c).0 _ (standing g c).1.asked
     (open-reason g.N.Network.net (board g c) c.args.machine.now (standing g c).0 c.index-newest.result.now o c.args.act k.get.result.now k.get.ensures c.args.room (record { 0 = c.index-newest.result.now.first.0 + 1 }) refl
-    g.N.Network.refutes k.extend_all.new.net c.steps_add_edges.ensures.action c.gaps_are_hops.ensures.action refused)))
+    g.N.Network.refutes k.extend_all.new.net c.steps_add_edges.ensures.action c.gaps_are_hops.ensures.action (standing g c).1.plain (standing g c).1.caused refused)))
 
 pub returns-in-Err-clause-stands : goal.returns-in-Err-clause-stands
 returns-in-Err-clause-stands g k =
     let c = (goal.at.returns-in-Err-clause-stands g k).After-index-newest in
-    ((standing g c).0, stands-still g.N.Network.net g.N.Undo.content g.N.Undo.past g.met.N.Network.net_by_content (board g c) k.extend_all.new.net c.args.machine.now (standing g c).0 (standing g c).1 k.in-Err.ensures.same k.in-Err.ensures.past)
+    ((standing g c).0, stands-still g.N.Network.net g.N.Undo.content g.N.Undo.past g.met.N.Network.net_by_content (board g c) k.extend_all.new.net c.self.inside.causes None c.args.machine.now (standing g c).0 (standing g c).1 k.in-Err.ensures.same k.in-Err.ensures.past (keeps-all _ _))
 
 few-steps : (g : _) (c : After-index-newest g) → length c.self.inside.steps.items + 1 ≤ 330
 few-steps g c = steps-room (kept_of (standing g c).0) (length c.self.inside.steps.items) (here g c).x (here g c).at.few_steps
@@ -185,9 +186,22 @@ after g c a n low edges steps step is low_is edges_are added solved pushed newes
     let ask = (standing g c).0 in
     let net = added ∙ net-asked g c a low edges low_is edges_are in
     let at = open-at g.N.Network.net (board g c) c.args.machine.now ask c.index-newest.result.now (here g c) c.args.act a is c.args.room (record { 0 = c.index-newest.result.now.first.0 + 1 }) refl
-    c.steps_add_edges.ensures.action c.gaps_are_hops.ensures.action (subst HasLeast net solved) step newest first in
+    c.steps_add_edges.ensures.action (subst HasLeast net solved) step newest first in
     let P : Net → List Step → Type 0 = λ n steps. IsAtWith c.args.machine.now c.self.inside.plans.items ask (Some (with_action c.args.act c.args.room (here g c).x)) steps n c.self.inside.lines.orders c.self.inside.held.items in
     subst (λ n. P n steps) (sym net) (subst (P _) (sym pushed) at)
+
+-- and why its edges stand
+caused-after : (g : _) (c : After-index-newest g) (a : Action) (n : Net) (low : ℕ) (edges : List Edge) (steps : List Step) (step : Step) → action_at c.args.machine.now c.args.act.0 ≡ Some a
+    → low ≡ min (c.self.inside.floor + c.args.room) (c.self.inside.horizon + 1) → edges ≡ duration_edges a (record { 0 = c.index-newest.result.now.first.0 + 1 }) c.index-newest.result.now.first
+    → n ≡ with_edges (with_point (g.N.Network.net c.self.inside.net) low c.self.inside.horizon) edges
+    → steps ≡ c.self.inside.steps.items ++ step ∷ [] → suffix_after steps ≡ Some (with_action c.args.act c.args.room (here g c).x) → AreCaused c.args.machine.now c.self.inside.plans.items (standing g c).0 c.self.inside.causes steps n
+caused-after g c a n low edges steps step is low_is edges_are added pushed suffix =
+    let ask = (standing g c).0 in
+    let net = added ∙ net-asked g c a low edges low_is edges_are in
+    let caused = open-caused g.N.Network.net (board g c) c.args.machine.now ask c.index-newest.result.now (here g c) c.args.act a is c.args.room (record { 0 = c.index-newest.result.now.first.0 + 1 }) refl
+    c.gaps_are_hops.ensures.action (standing g c).1.plain (standing g c).1.caused step (ap suffix_after (sym pushed) ∙ suffix) in
+    let P : Net → List Step → Type 0 = λ n steps. AreCaused c.args.machine.now c.self.inside.plans.items ask c.self.inside.causes steps n in
+    subst (λ n. P n steps) (sym net) (subst (P _) (sym pushed) caused)
 
 pub returns-clause-times : goal.returns-clause-times
 returns-clause-times g k =
@@ -203,9 +217,11 @@ returns-clause-stands g k =
     let a = k.self.inside in
     let i = k.self.invariant.marked.at_marks in
     let x = (here g c).x in
-    let at = after g c k.get.result.now (g.N.Network.net k.extend_all.new.net) k.lowest-low.result k.lasting-edges.result k.push.new.self.items _ k.get.ensures k.lowest-low.ensures k.lasting-edges.ensures k.in-Ok.ensures.added k.in-Ok.ensures.solved k.in-Ok-push.ensures.items refl refl in (
+    let at = after g c k.get.result.now (g.N.Network.net k.extend_all.new.net) k.lowest-low.result k.lasting-edges.result k.push.new.self.items _ k.get.ensures k.lowest-low.ensures k.lasting-edges.ensures k.in-Ok.ensures.added k.in-Ok.ensures.solved k.in-Ok-push.ensures.items refl refl in
+    let now = suffix-now g c x k.push.new.self.items _ (here g c).suffix k.in-Ok-push.ensures.items refl in
+    let caused = caused-after g c k.get.result.now (g.N.Network.net k.extend_all.new.net) k.lowest-low.result k.lasting-edges.result k.push.new.self.items _ k.get.ensures k.lowest-low.ensures k.lasting-edges.ensures k.in-Ok.ensures.added k.in-Ok-push.ensures.items now in (
       (standing g c).0,
-      stands-after g.N.Network.net g.N.Undo.content g.N.Undo.past (board g c) k.extend_all.new.net a.lines a.held.items k.push.new.self.items c.args.machine.now (standing g c).0 (with_action c.args.act c.args.room x) (standing g c).1
+      stands-after g.N.Network.net g.N.Undo.content g.N.Undo.past (board g c) k.extend_all.new.net a.lines a.held.items k.push.new.self.items a.causes c.args.machine.now (standing g c).0 (with_action c.args.act c.args.room x) (standing g c).1
           (rw (k.in-Ok.ensures.past, k.in-Ok-push.ensures.items) (side-steps a.held.items a.steps.items (_ ∷ []) (g.N.Undo.past a.net) a.lines.past a.marks.items (λ j n z. i.steps_below j n z)))
-          (suffix-now g c x k.push.new.self.items _ (here g c).suffix k.in-Ok-push.ensures.items refl) at,
+          now at (keeps-all _ _) caused,
     )

@@ -13,10 +13,11 @@ use Rattle.tp_placing.specs.declared.parts.Step.{Step}
 use Rattle.tp_placing.specs.Boards.{BoardValue, after_change, suffix_after}
 use Rattle.tp_placing.specs.Edges.{end_edges}
 use Rattle.tp_placing.specs.Inside.{board_of}
-use Rattle.tp_placing.specs.Standing.{Stands, StandsOn, IsAtWith}
+use Rattle.tp_placing.specs.Standing.{AreCaused, Stands, StandsOn, IsAtWith}
 use Rattle.tp_placing.specs.Trying.{IsRefused}
 use Rattle.tp_placing.proofs.BoardFacts.{board-step}
-use Rattle.tp_placing.proofs.GoalFacts.{empty, can-open, few-edges, goal-reason, goal-refused, goal-at}
+use Rattle.tp_placing.proofs.CauseFacts.{keeps-all}
+use Rattle.tp_placing.proofs.GoalFacts.{goal-caused, empty, can-open, few-edges, goal-reason, goal-refused, goal-at}
 use Rattle.tp_placing.proofs.PastFacts.{side-steps}
 use Rattle.tp_placing.proofs.StandFacts.{has-times, and-some, stands-ask, stands-after, stands-still}
 use Rattle.tp_placing.proofs.StepFacts.{suffix-push}
@@ -27,7 +28,7 @@ use Rattle.tp_placing.proofs.board.Board.open_goal.Goals.{In-Some}
 abbrev board : (g : _) → In-Some g → BoardValue g.row.N.Denot
 board g c =
     let a = c.self.inside in
-    board_of a.net a.lines a.held.items a.plans.items a.firsts.items a.last a.floor a.horizon a.ask a.steps.items a.marks.items a.made_for
+    board_of a.net a.lines a.held.items a.plans.items a.firsts.items a.last a.floor a.horizon a.ask a.steps.items a.marks.items a.made_for a.causes a.limit
 
 -- the board on a machine that it stands on, with the ask that it keeps
 stands-here : (g : _) (c : In-Some g) (m : Machine) → Stands g.N.Network.net g.N.Undo.content g.N.Undo.past c.args.self.now m → StandsOn g.N.Network.net g.N.Undo.content g.N.Undo.past (board g c) m c.in-Some.ask
@@ -105,7 +106,7 @@ returns-in-Err-clause-shown g k m st =
 pub returns-in-Err-clause-stands : goal.returns-in-Err-clause-stands
 returns-in-Err-clause-stands g k m st =
     let c = (goal.at.returns-in-Err-clause-stands g k).In-Some in
-    (c.in-Some.ask, stands-still g.N.Network.net g.N.Undo.content g.N.Undo.past g.met.N.Network.net_by_content (board g c) k.extend_all.new.net m c.in-Some.ask (stands-here g c m st) k.in-Err.ensures.same k.in-Err.ensures.past)
+    (c.in-Some.ask, stands-still g.N.Network.net g.N.Undo.content g.N.Undo.past g.met.N.Network.net_by_content (board g c) k.extend_all.new.net c.self.inside.causes None m c.in-Some.ask (stands-here g c m st) k.in-Err.ensures.same k.in-Err.ensures.past (keeps-all _ _))
 
 pub invariant_of-self-2 : goal.invariant_of-self-2
 invariant_of-self-2 g k =
@@ -135,9 +136,20 @@ after : (g : _) (c : In-Some g) (m : Machine) (room : ℕ) → StandsOn g.N.Netw
     → IsAtWith m c.self.inside.plans.items c.in-Some.ask (Some (with_goal room)) steps n c.self.inside.lines.orders c.self.inside.held.items
 after g c m room s n low edges steps step low_is edges_are added solved pushed newest first =
     let net = added ∙ net-asked g c m room s low edges low_is edges_are in
-    let at = goal-at g.N.Network.net g.N.Undo.content g.N.Undo.past (board g c) m c.in-Some.ask s (closed g c) room c.steps_add_edges.ensures.goal c.gaps_are_hops.ensures.goal (subst HasLeast net solved) step newest first in
+    let at = goal-at g.N.Network.net g.N.Undo.content g.N.Undo.past (board g c) m c.in-Some.ask s (closed g c) room c.steps_add_edges.ensures.goal (subst HasLeast net solved) step newest first in
     let P : Net → List Step → Type 0 = λ n steps. IsAtWith m c.self.inside.plans.items c.in-Some.ask (Some (with_goal room)) steps n c.self.inside.lines.orders c.self.inside.held.items in
     subst (λ n. P n steps) (sym net) (subst (P _) (sym pushed) at)
+
+-- and why its edges stand
+caused-after : (g : _) (c : In-Some g) (m : Machine) (room : ℕ) → StandsOn g.N.Network.net g.N.Undo.content g.N.Undo.past (board g c) m c.in-Some.ask → (n : Net) (low : ℕ) (edges : List Edge) (steps : List Step) (step : Step)
+    → low ≡ min (c.self.inside.floor + room) (c.self.inside.horizon + 1) → edges ≡ es g c
+    → n ≡ with_edges (with_point (g.N.Network.net c.self.inside.net) low c.self.inside.horizon) edges
+    → steps ≡ c.self.inside.steps.items ++ step ∷ [] → suffix_after steps ≡ Some (with_goal room) → AreCaused m c.self.inside.plans.items c.in-Some.ask c.self.inside.causes steps n
+caused-after g c m room s n low edges steps step low_is edges_are added pushed suffix =
+    let net = added ∙ net-asked g c m room s low edges low_is edges_are in
+    let caused = goal-caused g.N.Network.net g.N.Undo.content g.N.Undo.past (board g c) m c.in-Some.ask s (closed g c) room c.gaps_are_hops.ensures.goal step (ap suffix_after (sym pushed) ∙ suffix) in
+    let P : Net → List Step → Type 0 = λ n steps. AreCaused m c.self.inside.plans.items c.in-Some.ask c.self.inside.causes steps n in
+    subst (λ n. P n steps) (sym net) (subst (P _) (sym pushed) caused)
 
 pub returns-clause-times : goal.returns-clause-times
 returns-clause-times g k m st =
@@ -154,9 +166,11 @@ returns-clause-stands g k m st =
     let i = k.self.invariant.marked.at_marks in
     let s = stands-here g c m st in
     let e = edges-are g c _ _ _ _ k.deref.ensures.value k.deref-2.ensures.value k.deref-3.ensures.value k.line_edges.ensures.edges in
-    let at = after g c m k.args.room s (g.N.Network.net k.extend_all.new.net) k.lowest-low.result _ k.push.new.self.items _ k.lowest-low.ensures e k.in-Ok.ensures.added k.in-Ok.ensures.solved k.in-Ok-push.ensures.items refl refl in (
+    let at = after g c m k.args.room s (g.N.Network.net k.extend_all.new.net) k.lowest-low.result _ k.push.new.self.items _ k.lowest-low.ensures e k.in-Ok.ensures.added k.in-Ok.ensures.solved k.in-Ok-push.ensures.items refl refl in
+    let now = suffix-now g c k.args.room k.push.new.self.items _ k.in-Ok-push.ensures.items refl in
+    let caused = caused-after g c m k.args.room s (g.N.Network.net k.extend_all.new.net) k.lowest-low.result _ k.push.new.self.items _ k.lowest-low.ensures e k.in-Ok.ensures.added k.in-Ok-push.ensures.items now in (
       c.in-Some.ask,
-      stands-after g.N.Network.net g.N.Undo.content g.N.Undo.past (board g c) k.extend_all.new.net a.lines a.held.items k.push.new.self.items m c.in-Some.ask (with_goal k.args.room) s
+      stands-after g.N.Network.net g.N.Undo.content g.N.Undo.past (board g c) k.extend_all.new.net a.lines a.held.items k.push.new.self.items a.causes m c.in-Some.ask (with_goal k.args.room) s
           (rw (k.in-Ok.ensures.past, k.in-Ok-push.ensures.items) (side-steps a.held.items a.steps.items (_ ∷ []) (g.N.Undo.past a.net) a.lines.past a.marks.items (λ j n z. i.steps_below j n z)))
-          (suffix-now g c k.args.room k.push.new.self.items _ k.in-Ok-push.ensures.items refl) at,
+          now at (keeps-all _ _) caused,
     )

@@ -1,4 +1,4 @@
-use Rattle.std.proofs.Common.{arith, sym, refl, ap, ◌∙◌, subst, ◌≡◌, ◌+◌, ◌-◌, ◌≤◌, length, pos, Some, IsFalse, suc, List, ◌++◌, ◌∷◌, []}
+use Rattle.std.proofs.Common.{arith, sym, refl, ap, ◌∙◌, subst, ◌≡◌, ◌+◌, ◌-◌, ◌≤◌, length, pos, Some, None, IsFalse, suc, List, ◌++◌, ◌∷◌, []}
 use Rattle.std.specs.List.{slice_get}
 use Rattle.std.proofs.lemmas.Option.{slice_get_read, slice_get_within}
 use Rattle.std.proofs.lemmas.List.{length-append}
@@ -7,12 +7,13 @@ use Rattle.tp_placing.specs.declared.parts.Step.{Step}
 use Rattle.tp_machine.specs.declared.whole.Machine.{Machine}
 use Rattle.tp_base.specs.declared.edges.Edge.{Edge}
 use Rattle.tp_schedule.specs.Spots.Spot.{kept}
+use Rattle.tp_placing.specs.Causes.{stop_tag}
 use Rattle.tp_placing.specs.Edges.{edge_of}
 use Rattle.tp_constraints.specs.Numbers.{table_of}
 use Rattle.tp_constraints.specs.Suffixes.{with_stop}
 use Rattle.tp_placing.specs.Boards.{BoardValue, suffix_after, suffix_of}
 use Rattle.tp_placing.specs.Inside.{board_of}
-use Rattle.tp_placing.specs.Standing.{Stands, StandsOn, IsAtWith}
+use Rattle.tp_placing.specs.Standing.{AreCaused, Stands, StandsOn, IsAtWith}
 use Rattle.tp_placing.proofs.PastFacts.{side-steps}
 use Rattle.tp_schedule.specs.Answers.{kept_of}
 use Rattle.tp_constraints.specs.Suffixes.{Suffix}
@@ -21,7 +22,8 @@ use Rattle.tp_placing.specs.Boards.{after_change, side_by_side}
 use Rattle.tp_placing.proofs.BoardFacts.{board-step, steps-room}
 use Rattle.tp_placing.proofs.StandFacts.{has-times, some-and, stands-ask, stands-after, stands-still, length-lows, edge-room, and-some}
 use Rattle.tp_placing.proofs.StepFacts.{suffix-push, some-steps}
-use Rattle.tp_placing.proofs.StopFacts.{StopsHere, stops-here, stop-solved, stop-reason, stop-refused}
+use Rattle.tp_placing.proofs.CauseFacts.{keeps-all}
+use Rattle.tp_placing.proofs.StopFacts.{stop-caused, StopsHere, stops-here, stop-solved, stop-reason, stop-refused}
 use Rattle.tp_placing.proofs.board.Board.stop.Goals as goal
 use Rattle.tp_placing.proofs.board.Board.stop.Goals.{After-edge_between, In-Ok-push}
 
@@ -29,7 +31,7 @@ use Rattle.tp_placing.proofs.board.Board.stop.Goals.{After-edge_between, In-Ok-p
 abbrev board : (g : _) → After-edge_between g → BoardValue g.row.N.Denot
 board g c =
     let a = c.self.inside in
-    board_of a.net a.lines a.held.items a.plans.items a.firsts.items a.last a.floor a.horizon a.ask a.steps.items a.marks.items a.made_for
+    board_of a.net a.lines a.held.items a.plans.items a.firsts.items a.last a.floor a.horizon a.ask a.steps.items a.marks.items a.made_for a.causes a.limit
 
 -- the board on a machine that it stands on, with the ask that it keeps
 stands-here : (g : _) (c : After-edge_between g) (m : Machine) → Stands g.N.Network.net g.N.Undo.content g.N.Undo.past c.args.self.now m
@@ -91,7 +93,7 @@ returns-in-Err-clause-late g k m st =
     let c = (goal.at.returns-in-Err-clause-late g k).After-edge_between in
     let s = stands-here g c m st in
     let h = here g c m s in
-    let none : HasNoSolution (with_edge (g.N.Network.net c.self.inside.net) (edge_of c.index-newest.result.now.first c.point_of-end.result (pos 0))) = rw (← c.edge_between.ensures) k.in-Err.ensures.late in
+    let none : HasNoSolution (with_edge (g.N.Network.net c.self.inside.net) (edge_of c.index-newest.result.now.first c.point_of-end.result (pos 0) stop_tag)) = rw (← c.edge_between.ensures) k.in-Err.ensures.late in
     rw (← c.self.view_is) (and-some (suffix_of (board g c)) h.x _ h.suffix (and-some (board g c).ask c.in-Some.ask _ s.asked
     (stop-refused g.N.Network.net (board g c) m c.in-Some.ask c.index-newest.result.now c.point_of-end.result h c.steps_add_edges.ensures.stop c.solutions_are_ticks.ensures.late s.origin none)))
 
@@ -100,14 +102,14 @@ returns-in-Err-clause-shown g k m st =
     let c = (goal.at.returns-in-Err-clause-shown g k).After-edge_between in
     let s = stands-here g c m st in
     let h = here g c m s in
-    let shown : g.N.Network.refutes k.require.new.self (with_edge (g.N.Network.net c.self.inside.net) (edge_of c.index-newest.result.now.first c.point_of-end.result (pos 0))) = rw (← c.edge_between.ensures) k.in-Err.ensures.refused in
+    let shown : g.N.Network.refutes k.require.new.self (with_edge (g.N.Network.net c.self.inside.net) (edge_of c.index-newest.result.now.first c.point_of-end.result (pos 0) stop_tag)) = rw (← c.edge_between.ensures) k.in-Err.ensures.refused in
     rw (← c.self.view_is) (and-some (suffix_of (board g c)) h.x _ h.suffix (and-some (board g c).ask c.in-Some.ask _ s.asked
-    (stop-reason g.N.Network.net (board g c) m c.in-Some.ask c.index-newest.result.now c.point_of-end.result h g.N.Network.refutes k.require.new.self c.steps_add_edges.ensures.stop c.gaps_are_hops.ensures.stop s.origin shown)))
+    (stop-reason g.N.Network.net (board g c) m c.in-Some.ask c.index-newest.result.now c.point_of-end.result h g.N.Network.refutes k.require.new.self c.steps_add_edges.ensures.stop c.gaps_are_hops.ensures.stop s.origin s.plain s.caused shown)))
 
 pub returns-in-Err-clause-stands : goal.returns-in-Err-clause-stands
 returns-in-Err-clause-stands g k m st =
     let c = (goal.at.returns-in-Err-clause-stands g k).After-edge_between in
-    (c.in-Some.ask, stands-still g.N.Network.net g.N.Undo.content g.N.Undo.past g.met.N.Network.net_by_content _ k.require.new.self m c.in-Some.ask (stands-here g c m st) k.in-Err.ensures.kept k.in-Err.ensures.past)
+    (c.in-Some.ask, stands-still g.N.Network.net g.N.Undo.content g.N.Undo.past g.met.N.Network.net_by_content (board g c) k.require.new.self c.self.inside.causes None m c.in-Some.ask (stands-here g c m st) k.in-Err.ensures.kept k.in-Err.ensures.past (keeps-all _ _))
 
 -- after the stop
 few-here : (g : _) (c : After-edge_between g) → length c.self.inside.steps.items + 1 ≤ 330
@@ -155,10 +157,20 @@ at-now : (g : _) (c : After-edge_between g) (m : Machine) (s : StandsOn g.N.Netw
 at-now g c m s n items step added solved pushed first newest =
     let a = c.self.inside in
     let h = here g c m s in
-    let e : n ≡ with_edge (g.N.Network.net a.net) (edge_of c.index-newest.result.now.first c.point_of-end.result (pos 0)) = added ∙ ap (with_edge (g.N.Network.net a.net)) c.edge_between.ensures in
-    let at = stop-solved g.N.Network.net (board g c) m c.in-Some.ask c.index-newest.result.now c.point_of-end.result h c.steps_add_edges.ensures.stop c.gaps_are_hops.ensures.stop s.origin (subst HasLeast e solved) step first newest in
+    let e : n ≡ with_edge (g.N.Network.net a.net) (edge_of c.index-newest.result.now.first c.point_of-end.result (pos 0) stop_tag) = added ∙ ap (with_edge (g.N.Network.net a.net)) c.edge_between.ensures in
+    let at = stop-solved g.N.Network.net (board g c) m c.in-Some.ask c.index-newest.result.now c.point_of-end.result h c.steps_add_edges.ensures.stop s.origin (subst HasLeast e solved) step first newest in
     let P : Net → List Step → Type 0 = λ n items. IsAtWith m a.plans.items c.in-Some.ask (Some (with_stop h.x)) items n a.lines.orders a.held.items in
-    subst (λ n. P n items) (sym e) (subst (P (with_edge (g.N.Network.net a.net) (edge_of c.index-newest.result.now.first c.point_of-end.result (pos 0)))) (sym pushed) at)
+    subst (λ n. P n items) (sym e) (subst (P (with_edge (g.N.Network.net a.net) (edge_of c.index-newest.result.now.first c.point_of-end.result (pos 0) stop_tag))) (sym pushed) at)
+
+caused-now : (g : _) (c : After-edge_between g) (m : Machine) (s : StandsOn g.N.Network.net g.N.Undo.content g.N.Undo.past (board g c) m c.in-Some.ask) (n : Net) (items : List Step) (step : Step)
+    → n ≡ with_edge (g.N.Network.net c.self.inside.net) c.edge_between.result → items ≡ c.self.inside.steps.items ++ step ∷ [] → suffix_after items ≡ Some (with_stop (here g c m s).x)
+    → AreCaused m c.self.inside.plans.items c.in-Some.ask c.self.inside.causes items n
+caused-now g c m s n items step added pushed suffix =
+    let a = c.self.inside in
+    let e : n ≡ with_edge (g.N.Network.net a.net) (edge_of c.index-newest.result.now.first c.point_of-end.result (pos 0) stop_tag) = added ∙ ap (with_edge (g.N.Network.net a.net)) c.edge_between.ensures in
+    let caused = stop-caused g.N.Network.net (board g c) m c.in-Some.ask c.index-newest.result.now c.point_of-end.result (here g c m s) c.gaps_are_hops.ensures.stop s.plain s.caused step (ap suffix_after (sym pushed) ∙ suffix) in
+    let P : Net → List Step → Type 0 = λ n items. AreCaused m a.plans.items c.in-Some.ask a.causes items n in
+    subst (λ n. P n items) (sym e) (subst (P _) (sym pushed) caused)
 
 pub returns-clause-times : goal.returns-clause-times
 returns-clause-times g k m st =
@@ -175,4 +187,6 @@ returns-clause-stands g k m st =
     let s = stands-here g c m st in
     let h = here g c m s in
     let at = at-now g c m s (g.N.Network.net k.require.new.self) k.push.new.self.items _ k.in-Ok.ensures.added k.in-Ok.ensures.solved k.in-Ok-push.ensures.items refl refl in
-    (c.in-Some.ask, stands-after g.N.Network.net g.N.Undo.content g.N.Undo.past (board g c) k.require.new.self c.self.inside.lines c.self.inside.held.items k.push.new.self.items m c.in-Some.ask (with_stop h.x) s (past-now g k) (suffix-now g k h.x h.suffix) at)
+    let now = suffix-now g k h.x h.suffix in
+    let caused = caused-now g c m s (g.N.Network.net k.require.new.self) k.push.new.self.items _ k.in-Ok.ensures.added k.in-Ok-push.ensures.items now in
+    (c.in-Some.ask, stands-after g.N.Network.net g.N.Undo.content g.N.Undo.past (board g c) k.require.new.self c.self.inside.lines c.self.inside.held.items k.push.new.self.items c.self.inside.causes m c.in-Some.ask (with_stop h.x) s (past-now g k) now at (keeps-all _ _) caused)
