@@ -1,4 +1,4 @@
-use Rattle.std.proofs.Common.{arith, sym, refl, ap, ◌∙◌, subst, ◌≡◌, ℕ, ◌+◌, ◌-◌, ◌<◌, ◌≤◌, length, Some, All, List, ◌++◌, ◌∷◌, []}
+use Rattle.std.proofs.Common.{Option, arith, sym, refl, ap, ◌∙◌, subst, ◌≡◌, ℕ, ◌+◌, ◌-◌, ◌<◌, ◌≤◌, length, Some, None, All, List, ◌++◌, ◌∷◌, []}
 use Rattle.std.specs.List.{slice_get, insert}
 use Rattle.std.specs.Prelude.{slice_set}
 use Rattle.std.proofs.lemmas.Option.{slice_get_read, slice_get_within, same_Some}
@@ -16,19 +16,22 @@ use Rattle.tp_constraints.specs.Numbers.{with_edges}
 use Rattle.tp_constraints.specs.Suffixes.{Suffix, SuffixTimes, with_place}
 use Rattle.tp_schedule.specs.Spots.{Ticks}
 use Rattle.tp_placing.specs.declared.parts.Change.TheVariants.{Place}
+use Rattle.tp_placing.specs.declared.causes.Cause.{Cause}
 use Rattle.tp_placing.specs.declared.parts.Held.{Held}
 use Rattle.tp_placing.specs.declared.parts.Step.{Step}
 use Rattle.tp_placing.specs.Boards.{BoardValue, after_change, suffix_after, suffix_of}
 use Rattle.tp_placing.specs.Calls.{CanPlace}
-use Rattle.tp_placing.specs.Edges.{edge_after, edge_until, held_before, held_behind}
+use Rattle.tp_placing.specs.Causes.{causes_around, step_tag}
+use Rattle.tp_placing.specs.Edges.{edges_around, held_before, held_behind}
 use Rattle.tp_placing.specs.Inside.{board_of}
-use Rattle.tp_placing.specs.Standing.{Stands, IsAtWith, HasSmallOffsets}
+use Rattle.tp_placing.specs.Standing.{AreCaused, Stands, IsAtWith, HasSmallOffsets}
 use Rattle.tp_placing.specs.Reasons.{IsReason}
 use Rattle.tp_placing.specs.Trying.{CanRequire, IsRefused}
+use Rattle.tp_placing.proofs.CauseFacts.{Keeps}
 use Rattle.tp_placing.proofs.BoardFacts.{board-step, steps-room}
 use Rattle.tp_placing.proofs.PastFacts.{side-more}
-use Rattle.tp_placing.proofs.PlaceFacts.{HasNewest, has-newest, newest-act, act-known, hold-known, PlacesHere, places-here, numbers-here, can-here, fits-here, refused-here, reason-here, placed-here, two-here}
-use Rattle.tp_placing.proofs.StandFacts.{has-times, some-and, and-some, stands-after, stands-still}
+use Rattle.tp_placing.proofs.PlaceFacts.{HasNewest, has-newest, newest-act, act-known, hold-known, PlacesHere, places-here, numbers-here, can-here, fits-here, refused-here, reason-here, placed-here, two-here, caused-here, keeps-here}
+use Rattle.tp_placing.proofs.StandFacts.{edge-room, has-times, some-and, and-some, stands-after, stands-still}
 use Rattle.tp_placing.proofs.StepFacts.{suffix-push, some-steps}
 use Rattle.tp_placing.proofs.board.Board.place.Goals as goal
 use Rattle.tp_placing.proofs.board.Board.place.Goals.{After-index-newest}
@@ -122,7 +125,13 @@ module _ (g : _) (c : After-index-newest g) (act : ActId) (rule : HoldRule) (r :
   order = order_on c.self.inside.lines.orders rule.resource.0
 
   abbrev es : List Edge
-  es = edge_after (held_before c.self.inside.held.items order c.args.place) (new rule c.index-newest.result.now) ++ edge_until (new rule c.index-newest.result.now) (held_behind c.self.inside.held.items order c.args.place)
+  es = edges_around (held_before c.self.inside.held.items order c.args.place) (new rule c.index-newest.result.now) (held_behind c.self.inside.held.items order c.args.place) (step_tag (length c.self.inside.steps.items))
+
+  abbrev causes : List Cause
+  causes = causes_around (held_before c.self.inside.held.items order c.args.place) (new rule c.index-newest.result.now) (held_behind c.self.inside.held.items order c.args.place) (step_tag (length c.self.inside.steps.items)) c.self.inside.causes
+
+  keeps : Keeps (length c.self.inside.steps.items) c.self.inside.causes causes
+  keeps = keeps-here g.N.Network.net (board g c) c.args.machine.now (standing g c).0 c.index-newest.result.now act rule c.args.hold c.args.place r.places (new rule c.index-newest.result.now) r.known r.resource r.four refl refl refl r.offsets
 
   abbrev suffix : Suffix
   suffix = record { choices = r.places.choice ∷ r.places.choices; rooms = r.places.rooms; stopped = r.places.stopped }
@@ -143,9 +152,9 @@ module _ (g : _) (c : After-index-newest g) (act : ActId) (rule : HoldRule) (r :
   refused = refused-here g.N.Network.net (board g c) c.args.machine.now (standing g c).0 c.index-newest.result.now act rule c.args.hold c.args.place r.places (new rule c.index-newest.result.now) r.known r.resource r.four refl refl refl r.offsets
       c.steps_add_edges.ensures.place c.solutions_are_ticks.ensures.late
 
-  reason : (n : g.row.N.Denot) → IsRefused g.N.Network.refutes n (g.N.Network.net c.self.inside.net) es → IsReason g.N.Network.refutes n c.args.machine.now c.self.inside.plans.items (standing g c).0 (with_place c.args.place suffix)
+  reason : (n : g.row.N.Denot) → IsRefused g.N.Network.refutes n (g.N.Network.net c.self.inside.net) es → IsReason g.N.Network.refutes (record (board g c) { net = n; causes = causes; limit = None }) c.args.machine.now (standing g c).0 (with_place c.args.place suffix)
   reason n = reason-here g.N.Network.net (board g c) c.args.machine.now (standing g c).0 c.index-newest.result.now act rule c.args.hold c.args.place r.places (new rule c.index-newest.result.now) r.known r.resource r.four refl refl refl r.offsets
-      g.N.Network.refutes n c.steps_add_edges.ensures.place c.gaps_are_hops.ensures.place
+      g.N.Network.refutes n c.steps_add_edges.ensures.place c.gaps_are_hops.ensures.place (standing g c).1.plain (standing g c).1.caused
 
   after : (n : Net) (lines : List (List ℕ)) (held : List Held) (steps : List Step) (step : Step) → n ≡ with_edges (g.N.Network.net c.self.inside.net) es → HasLeast n
       → lines ≡ slice_set c.self.inside.lines.orders rule.resource.0 (insert order c.args.place (length c.self.inside.held.items)) → held ≡ c.self.inside.held.items ++ new rule c.index-newest.result.now ∷ []
@@ -153,34 +162,76 @@ module _ (g : _) (c : After-index-newest g) (act : ActId) (rule : HoldRule) (r :
       → IsAtWith c.args.machine.now c.self.inside.plans.items (standing g c).0 (Some (with_place c.args.place suffix)) steps n lines held
   after n lines held steps step e solved l h s a f =
       let at = placed-here g.N.Network.net (board g c) c.args.machine.now (standing g c).0 c.index-newest.result.now act rule c.args.hold c.args.place r.places (new rule c.index-newest.result.now) r.known r.resource r.four refl refl refl r.offsets
-      c.steps_add_edges.ensures.place c.gaps_are_hops.ensures.place (subst HasLeast e solved) step a f in
+      c.steps_add_edges.ensures.place (subst HasLeast e solved) step a f in
       let P : Net → List (List ℕ) → List Held → List Step → Type 0 = λ n lines held steps. IsAtWith c.args.machine.now c.self.inside.plans.items (standing g c).0 (Some (with_place c.args.place suffix)) steps n lines held in
       subst (λ n. P n lines held steps) (sym e) (subst (λ ls. P (with_edges (g.N.Network.net c.self.inside.net) es) ls held steps) (sym l)
       (subst (λ hs. P (with_edges (g.N.Network.net c.self.inside.net) es) (slice_set c.self.inside.lines.orders rule.resource.0 (insert order c.args.place (length c.self.inside.held.items))) hs steps) (sym h)
       (subst (P (with_edges (g.N.Network.net c.self.inside.net) es) (slice_set c.self.inside.lines.orders rule.resource.0 (insert order c.args.place (length c.self.inside.held.items))) (c.self.inside.held.items ++ new rule c.index-newest.result.now ∷ [])) (sym s) at)))
 
-pub neighbour_edges-requires-clause-known : goal.neighbour_edges-requires-clause-known
-neighbour_edges-requires-clause-known g k =
-    let c = (goal.at.neighbour_edges-requires-clause-known g k).After-index-newest in
+  caused-after : (n : Net) (steps : List Step) (step : Step) → n ≡ with_edges (g.N.Network.net c.self.inside.net) es → steps ≡ c.self.inside.steps.items ++ step ∷ [] → suffix_after steps ≡ Some (with_place c.args.place suffix)
+      → AreCaused c.args.machine.now c.self.inside.plans.items (standing g c).0 causes steps n
+  caused-after n steps step e s is =
+      let caused = caused-here g.N.Network.net (board g c) c.args.machine.now (standing g c).0 c.index-newest.result.now act rule c.args.hold c.args.place r.places (new rule c.index-newest.result.now) r.known r.resource r.four refl refl refl r.offsets
+      c.gaps_are_hops.ensures.place (standing g c).1.plain (standing g c).1.caused step (ap suffix_after (sym s) ∙ is) in
+      let P : Net → List Step → Type 0 = λ n steps. AreCaused c.args.machine.now c.self.inside.plans.items (standing g c).0 causes steps n in
+      subst (λ n. P n steps) (sym e) (subst (P _) (sym s) caused)
+
+pub neighbours_of-neighbours-requires-clause-known : goal.neighbours_of-neighbours-requires-clause-known
+neighbours_of-neighbours-requires-clause-known g k =
+    let c = (goal.at.neighbours_of-neighbours-requires-clause-known g k).After-index-newest in
     (read g c k.in-Some.act k.get.result.now k.get-2.result.now k.in-Some.is k.get.ensures k.len-within.ensures.within k.get-2.ensures).known
 
-pub neighbour_edges-requires-clause-numbers : goal.neighbour_edges-requires-clause-numbers
-neighbour_edges-requires-clause-numbers g k =
-    let c = (goal.at.neighbour_edges-requires-clause-numbers g k).After-index-newest in
+pub neighbours_of-neighbours-requires-clause-numbers : goal.neighbours_of-neighbours-requires-clause-numbers
+neighbours_of-neighbours-requires-clause-numbers g k =
+    let c = (goal.at.neighbours_of-neighbours-requires-clause-numbers g k).After-index-newest in
     let r = read g c k.in-Some.act k.get.result.now k.get-2.result.now k.in-Some.is k.get.ensures k.len-within.ensures.within k.get-2.ensures in
     rw k.deref.ensures.value (numbers g c k.in-Some.act k.get-2.result.now r)
+
+-- the edges that are made, and the causes that are kept, are those around the place
+edges-made : (g : _) (c : After-index-newest g) (act : ActId) (rule : HoldRule) (r : Read g c act rule) (held : List Held) (before behind : Option Held) (tag count : ℕ) (made edges : List Edge)
+    → held ≡ c.self.inside.held.items → before ≡ held_before held (order g c act rule r) c.args.place → behind ≡ held_behind held (order g c act rule r) c.args.place
+    → tag ≡ step_tag count → count ≡ length c.self.inside.steps.items → made ≡ edges_around before (new rule c.index-newest.result.now) behind tag → edges ≡ made → edges ≡ es g c act rule r
+edges-made g c act rule r held before behind tag count made edges h b d t n m e =
+    let b' = b ∙ ap (λ hs. held_before hs (order g c act rule r) c.args.place) h in
+    let d' = d ∙ ap (λ hs. held_behind hs (order g c act rule r) c.args.place) h in
+    let t' = t ∙ ap step_tag n in
+    e ∙ m ∙ (λ i. edges_around (b' i) (new rule c.index-newest.result.now) (d' i) (t' i))
+
+causes-made : (g : _) (c : After-index-newest g) (act : ActId) (rule : HoldRule) (r : Read g c act rule) (held : List Held) (before behind : Option Held) (tag count : ℕ) (made : List Cause)
+    → held ≡ c.self.inside.held.items → before ≡ held_before held (order g c act rule r) c.args.place → behind ≡ held_behind held (order g c act rule r) c.args.place
+    → tag ≡ step_tag count → count ≡ length c.self.inside.steps.items → made ≡ causes_around before (new rule c.index-newest.result.now) behind tag c.self.inside.causes → made ≡ causes g c act rule r
+causes-made g c act rule r held before behind tag count made h b d t n m =
+    let b' = b ∙ ap (λ hs. held_before hs (order g c act rule r) c.args.place) h in
+    let d' = d ∙ ap (λ hs. held_behind hs (order g c act rule r) c.args.place) h in
+    let t' = t ∙ ap step_tag n in
+    m ∙ (λ i. causes_around (b' i) (new rule c.index-newest.result.now) (d' i) (t' i) c.self.inside.causes)
 
 pub require_all-requires-clause-can : goal.require_all-requires-clause-can
 require_all-requires-clause-can g k =
     let c = (goal.at.require_all-requires-clause-can g k).After-index-newest in
     let r = read g c k.in-Some.act k.get.result.now k.get-2.result.now k.in-Some.is k.get.ensures k.len-within.ensures.within k.get-2.ensures in
-    rw (k.deref-2.ensures.value, k.neighbour_edges.ensures.edges, k.deref.ensures.value) (can g c k.in-Some.act k.get-2.result.now r)
+    let e = edges-made g c k.in-Some.act k.get-2.result.now r k.deref.result.now k.neighbours_of-neighbours.result.before k.neighbours_of-neighbours.result.behind k.step_tag-tag.result k.len-2.result k.neighbour_edges.new.edges.items k.deref-2.result.now
+    k.deref.ensures.value k.neighbours_of-neighbours.ensures.before k.neighbours_of-neighbours.ensures.behind k.step_tag-tag.ensures (k.len-2.ensures ∙ c.self.inside.steps.ok.0) k.neighbour_edges.ensures.edges k.deref-2.ensures.value in
+    subst (All (CanRequire (length (g.N.Network.net c.self.inside.net).lows))) (sym e) (can g c k.in-Some.act k.get-2.result.now r)
+
+pub require_all-requires-clause-spare : goal.require_all-requires-clause-spare
+require_all-requires-clause-spare g k =
+    let a = k.self.inside in
+    let c = (goal.at.require_all-requires-clause-spare g k).After-index-newest in
+    let r = read g c k.in-Some.act k.get.result.now k.get-2.result.now k.in-Some.is k.get.ensures k.len-within.ensures.within k.get-2.ensures in
+    let e = ap length (edges-made g c k.in-Some.act k.get-2.result.now r k.deref.result.now k.neighbours_of-neighbours.result.before k.neighbours_of-neighbours.result.behind k.step_tag-tag.result k.len-2.result k.neighbour_edges.new.edges.items k.deref-2.result.now
+    k.deref.ensures.value k.neighbours_of-neighbours.ensures.before k.neighbours_of-neighbours.ensures.behind k.step_tag-tag.ensures (k.len-2.ensures ∙ c.self.inside.steps.ok.0) k.neighbour_edges.ensures.edges k.deref-2.ensures.value) in
+    let few = two g c k.in-Some.act k.get-2.result.now r in
+    let room = edge-room a.steps.items (length (g.N.Network.net a.net).edges) (g.N.Network.edge_room a.net) k.self.invariant.room.steps_few (newest-here g c).at.few_edges k.self.invariant.room.edges in
+    omega arith
 
 pub returns-in-Err-clause-late : goal.returns-in-Err-clause-late
 returns-in-Err-clause-late g k =
     let c = (goal.at.returns-in-Err-clause-late g k).After-index-newest in
     let r = read g c k.in-Some.act k.get.result.now k.get-2.result.now k.in-Some.is k.get.ensures k.len-within.ensures.within k.get-2.ensures in
-    let none = rw (k.deref-2.ensures.value, k.neighbour_edges.ensures.edges, k.deref.ensures.value) at k.in-Err.ensures.late in
+    let e = edges-made g c k.in-Some.act k.get-2.result.now r k.deref.result.now k.neighbours_of-neighbours.result.before k.neighbours_of-neighbours.result.behind k.step_tag-tag.result k.len-2.result k.neighbour_edges.new.edges.items k.deref-2.result.now
+    k.deref.ensures.value k.neighbours_of-neighbours.ensures.before k.neighbours_of-neighbours.ensures.behind k.step_tag-tag.ensures (k.len-2.ensures ∙ c.self.inside.steps.ok.0) k.neighbour_edges.ensures.edges k.deref-2.ensures.value in
+    let none = subst (λ es. HasNoSolution (with_edges (g.N.Network.net c.self.inside.net) es)) e k.in-Err.ensures.late in
     rw (← c.self.view_is) (and-some (suffix_of (board g c)) (suffix g c k.in-Some.act k.get-2.result.now r) _ r.places.suffix
     (and-some (board g c).ask (standing g c).0 _ (standing g c).1.asked (refused g c k.in-Some.act k.get-2.result.now r none)))
 
@@ -188,14 +239,27 @@ pub returns-in-Err-clause-shown : goal.returns-in-Err-clause-shown
 returns-in-Err-clause-shown g k =
     let c = (goal.at.returns-in-Err-clause-shown g k).After-index-newest in
     let r = read g c k.in-Some.act k.get.result.now k.get-2.result.now k.in-Some.is k.get.ensures k.len-within.ensures.within k.get-2.ensures in
-    let refused = rw (k.deref-2.ensures.value, k.neighbour_edges.ensures.edges, k.deref.ensures.value) at k.in-Err.ensures.refused in
+    let e = edges-made g c k.in-Some.act k.get-2.result.now r k.deref.result.now k.neighbours_of-neighbours.result.before k.neighbours_of-neighbours.result.behind k.step_tag-tag.result k.len-2.result k.neighbour_edges.new.edges.items k.deref-2.result.now
+    k.deref.ensures.value k.neighbours_of-neighbours.ensures.before k.neighbours_of-neighbours.ensures.behind k.step_tag-tag.ensures (k.len-2.ensures ∙ c.self.inside.steps.ok.0) k.neighbour_edges.ensures.edges k.deref-2.ensures.value in
+    let kept = causes-made g c k.in-Some.act k.get-2.result.now r k.deref.result.now k.neighbours_of-neighbours.result.before k.neighbours_of-neighbours.result.behind k.step_tag-tag.result k.len-2.result k.note_neighbours.new.causes
+    k.deref.ensures.value k.neighbours_of-neighbours.ensures.before k.neighbours_of-neighbours.ensures.behind k.step_tag-tag.ensures (k.len-2.ensures ∙ c.self.inside.steps.ok.0) k.note_neighbours.ensures in
+    let refused = subst (IsRefused g.N.Network.refutes k.require_all.new.net (g.N.Network.net c.self.inside.net)) e k.in-Err.ensures.refused in
+    let shown = subst (λ cs. IsReason g.N.Network.refutes (record (board g c) { net = k.require_all.new.net; causes = cs; limit = None }) c.args.machine.now (standing g c).0 (with_place c.args.place (suffix g c k.in-Some.act k.get-2.result.now r))) (sym kept)
+    (reason g c k.in-Some.act k.get-2.result.now r k.require_all.new.net refused) in
     rw (← c.self.view_is) (and-some (suffix_of (board g c)) (suffix g c k.in-Some.act k.get-2.result.now r) _ r.places.suffix
-    (and-some (board g c).ask (standing g c).0 _ (standing g c).1.asked (reason g c k.in-Some.act k.get-2.result.now r k.require_all.new.net refused)))
+    (and-some (board g c).ask (standing g c).0 _ (standing g c).1.asked shown))
 
 pub returns-in-Err-clause-stands : goal.returns-in-Err-clause-stands
 returns-in-Err-clause-stands g k =
     let c = (goal.at.returns-in-Err-clause-stands g k).After-index-newest in
-    ((standing g c).0, stands-still g.N.Network.net g.N.Undo.content g.N.Undo.past g.met.N.Network.net_by_content (board g c) k.require_all.new.net c.args.machine.now (standing g c).0 (standing g c).1 k.in-Err.ensures.same k.in-Err.ensures.past)
+    let r = read g c k.in-Some.act k.get.result.now k.get-2.result.now k.in-Some.is k.get.ensures k.len-within.ensures.within k.get-2.ensures in
+    let kept = causes-made g c k.in-Some.act k.get-2.result.now r k.deref.result.now k.neighbours_of-neighbours.result.before k.neighbours_of-neighbours.result.behind k.step_tag-tag.result k.len-2.result k.note_neighbours.new.causes
+    k.deref.ensures.value k.neighbours_of-neighbours.ensures.before k.neighbours_of-neighbours.ensures.behind k.step_tag-tag.ensures (k.len-2.ensures ∙ c.self.inside.steps.ok.0) k.note_neighbours.ensures in
+    let safe = subst (Keeps (length c.self.inside.steps.items) c.self.inside.causes) (sym kept) (keeps g c k.in-Some.act k.get-2.result.now r) in (
+      (standing g c).0,
+      stands-still g.N.Network.net g.N.Undo.content g.N.Undo.past g.met.N.Network.net_by_content (board g c) k.require_all.new.net k.note_neighbours.new.causes None c.args.machine.now (standing g c).0 (standing g c).1
+          k.in-Err.ensures.same k.in-Err.ensures.past safe,
+    )
 
 pub insert-requires-clause-known : goal.insert-requires-clause-known
 insert-requires-clause-known g k =
@@ -257,7 +321,9 @@ returns-clause-times g k =
     let c = (goal.at.returns-clause-times g k).After-index-newest in
     let r = read g c k.in-Some.act k.get.result.now k.get-2.result.now k.in-Some.is k.get.ensures k.len-within.ensures.within k.get-2.ensures in
     let x = suffix g c k.in-Some.act k.get-2.result.now r in
-    let added = rw (k.deref-2.ensures.value, k.neighbour_edges.ensures.edges, k.deref.ensures.value) at k.in-Ok.ensures.added in
+    let e = edges-made g c k.in-Some.act k.get-2.result.now r k.deref.result.now k.neighbours_of-neighbours.result.before k.neighbours_of-neighbours.result.behind k.step_tag-tag.result k.len-2.result k.neighbour_edges.new.edges.items k.deref-2.result.now
+    k.deref.ensures.value k.neighbours_of-neighbours.ensures.before k.neighbours_of-neighbours.ensures.behind k.step_tag-tag.ensures (k.len-2.ensures ∙ c.self.inside.steps.ok.0) k.neighbour_edges.ensures.edges k.deref-2.ensures.value in
+    let added = k.in-Ok.ensures.added ∙ ap (with_edges (g.N.Network.net c.self.inside.net)) e in
     let at = after g c k.in-Some.act k.get-2.result.now r (g.N.Network.net k.require_all.new.net) k.insert.new.self.orders k.push.new.self.items k.push-2.new.self.items _ added k.in-Ok.ensures.solved
     (line-is g c k.get-2.result.now k.insert.new.self.orders k.len-id.result k.in-Ok-insert.ensures.ok (k.len-id.ensures ∙ k.self.inside.held.ok.0)) k.in-Ok-push.ensures.items k.in-Ok-push-2.ensures.items refl refl in
     and-some (suffix_after k.push-2.new.self.items) (with_place c.args.place x) _ (suffix-now g c x k.push-2.new.self.items _ r.places.suffix k.in-Ok-push-2.ensures.items refl) (and-some k.self.inside.ask (standing g c).0 _ (standing g c).1.asked
@@ -270,12 +336,20 @@ returns-clause-stands g k =
     let i = k.self.invariant.marked.at_marks in
     let r = read g c k.in-Some.act k.get.result.now k.get-2.result.now k.in-Some.is k.get.ensures k.len-within.ensures.within k.get-2.ensures in
     let x = suffix g c k.in-Some.act k.get-2.result.now r in
-    let added = rw (k.deref-2.ensures.value, k.neighbour_edges.ensures.edges, k.deref.ensures.value) at k.in-Ok.ensures.added in
+    let e = edges-made g c k.in-Some.act k.get-2.result.now r k.deref.result.now k.neighbours_of-neighbours.result.before k.neighbours_of-neighbours.result.behind k.step_tag-tag.result k.len-2.result k.neighbour_edges.new.edges.items k.deref-2.result.now
+    k.deref.ensures.value k.neighbours_of-neighbours.ensures.before k.neighbours_of-neighbours.ensures.behind k.step_tag-tag.ensures (k.len-2.ensures ∙ c.self.inside.steps.ok.0) k.neighbour_edges.ensures.edges k.deref-2.ensures.value in
+    let added = k.in-Ok.ensures.added ∙ ap (with_edges (g.N.Network.net c.self.inside.net)) e in
     let at = after g c k.in-Some.act k.get-2.result.now r (g.N.Network.net k.require_all.new.net) k.insert.new.self.orders k.push.new.self.items k.push-2.new.self.items _ added k.in-Ok.ensures.solved
-    (line-is g c k.get-2.result.now k.insert.new.self.orders k.len-id.result k.in-Ok-insert.ensures.ok (k.len-id.ensures ∙ k.self.inside.held.ok.0)) k.in-Ok-push.ensures.items k.in-Ok-push-2.ensures.items refl refl in (
+    (line-is g c k.get-2.result.now k.insert.new.self.orders k.len-id.result k.in-Ok-insert.ensures.ok (k.len-id.ensures ∙ k.self.inside.held.ok.0)) k.in-Ok-push.ensures.items k.in-Ok-push-2.ensures.items refl refl in
+    let kept = causes-made g c k.in-Some.act k.get-2.result.now r k.deref.result.now k.neighbours_of-neighbours.result.before k.neighbours_of-neighbours.result.behind k.step_tag-tag.result k.len-2.result k.note_neighbours.new.causes
+    k.deref.ensures.value k.neighbours_of-neighbours.ensures.before k.neighbours_of-neighbours.ensures.behind k.step_tag-tag.ensures (k.len-2.ensures ∙ c.self.inside.steps.ok.0) k.note_neighbours.ensures in
+    let safe = subst (Keeps (length c.self.inside.steps.items) c.self.inside.causes) (sym kept) (keeps g c k.in-Some.act k.get-2.result.now r) in
+    let now = suffix-now g c x k.push-2.new.self.items _ r.places.suffix k.in-Ok-push-2.ensures.items refl in
+    let caused = subst (λ cs. AreCaused c.args.machine.now c.self.inside.plans.items (standing g c).0 cs k.push-2.new.self.items (g.N.Network.net k.require_all.new.net)) (sym kept)
+    (caused-after g c k.in-Some.act k.get-2.result.now r (g.N.Network.net k.require_all.new.net) k.push-2.new.self.items _ added k.in-Ok-push-2.ensures.items now) in (
       (standing g c).0,
-      stands-after g.N.Network.net g.N.Undo.content g.N.Undo.past (board g c) k.require_all.new.net k.insert.new.self k.push.new.self.items k.push-2.new.self.items c.args.machine.now (standing g c).0 (with_place c.args.place x) (standing g c).1
+      stands-after g.N.Network.net g.N.Undo.content g.N.Undo.past (board g c) k.require_all.new.net k.insert.new.self k.push.new.self.items k.push-2.new.self.items k.note_neighbours.new.causes c.args.machine.now (standing g c).0 (with_place c.args.place x) (standing g c).1
           (rw (k.in-Ok.ensures.past, k.in-Ok-insert.ensures.past, k.in-Ok-push-2.ensures.items, k.in-Ok-push.ensures.items)
           (side-more a.held.items (_ ∷ []) a.steps.items (_ ∷ []) (g.N.Undo.past a.net) a.lines.past a.marks.items (λ j n z. (i.held_below j n z, i.steps_below j n z))))
-          (suffix-now g c x k.push-2.new.self.items _ r.places.suffix k.in-Ok-push-2.ensures.items refl) at,
+          now at safe caused,
     )
