@@ -43,3 +43,4 @@ pub mod LivePart
 pub mod LoadSlots
 pub mod LoadedTicks
 pub mod WriteSettle
+pub mod NameFacts
