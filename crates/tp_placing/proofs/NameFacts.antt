@@ -36,7 +36,7 @@ use Rattle.tp_placing.proofs.TableFacts.{begins-at, length-firsts, length-table}
 numbered-there : (plans : List Plan) (i : ℕ) (s : Spot) → slice_get (table_of plans) i ≡ Some s → numbered plans i ≡ s
 numbered-there plans i s at = ap (λ o. unwrap_or o (own (i - length (table_of plans)))) at
 
-pub numbered-behind : (plans : List Plan) (i : ℕ) → length (table_of plans) ≤ i → numbered plans i ≡ own (i - length (table_of plans))
+numbered-behind : (plans : List Plan) (i : ℕ) → length (table_of plans) ≤ i → numbered plans i ≡ own (i - length (table_of plans))
 numbered-behind plans i past = ap (λ o. unwrap_or o (own (i - length (table_of plans)))) (slice_get_past (table_of plans) i past)
 
 pub numbered-in : (plans : List Plan) (count i : ℕ) (s : Spot) → slice_get (table_with plans count) i ≡ Some s → numbered plans i ≡ s
@@ -49,15 +49,6 @@ numbered-in plans (suc n) i s at = elim (slice_get_end (table_with plans n) (own
       let k : i - length (table_of plans) ≡ n = omega arith in
       numbered-behind plans i (omega arith) ∙ ap own k ∙ last.1)
 ]
-
--- the names of an own point
-pub own-spot : (plans : List Plan) (point last : ℕ) → last ≡ length (table_of plans) → last ≤ point → spot_name plans (numbered plans point) ≡ Some (OwnSpot (point - last))
-own-spot plans point last is past =
-    ap (spot_name plans) (numbered-behind plans point (subst (λ n. n ≤ point) is past)) ∙ ap (λ n. Some (OwnSpot (point - n))) (sym is)
-
-pub own-grip : (plans : List Plan) (point last : ℕ) → last ≡ length (table_of plans) → last ≤ point → grip_name plans (numbered plans point) ≡ Some (OwnGrip (point - last))
-own-grip plans point last is past =
-    ap (grip_name plans) (numbered-behind plans point (subst (λ n. n ≤ point) is past)) ∙ ap (λ n. Some (OwnGrip (point - n))) (sym is)
 
 -- the first points are given by the plans
 pub firsts-only : (n : ℕ) (plans : List Plan) (firsts : List PointId) → AreFirsts n plans firsts → firsts ≡ firsts_from n plans
