@@ -86,6 +86,7 @@ module _ {N C A : Type 0} (net : N → Net) (content : N → C) (past : N → Li
         before-in a m s.0 s.1 x (contains-get (past_of past a) g.0 x (slice_get_take k (past_of past a) g.0 x at).1)),
   )
 
+-- a board with the same aside shows the same of the last refusal
 module _ {N A : Type 0} (aside : N → A) (refutes : N → Net → Type 0) (refutes_by : (a b : N) (late : Net) → aside a ≡ aside b → refutes a late → refutes b late) (a b : BoardValue N) (e : aside_of aside b ≡ aside_of aside a) where
   plans-kept : a.plans ≡ b.plans
   plans-kept = sym (ap (λ (x : BoardAside A). x.plans) e)

@@ -1,10 +1,10 @@
 -- The points of a board by their numbers, and their names.
-use Rattle.std.proofs.Common.{◌≡◌, ℕ, zero, suc, ◌+◌, ◌-◌, ◌<◌, ◌≤◌, false, List, [], ◌∷◌, length, refl, ap, sym, ◌∙◌, subst, arith, get_or, All, Option, Some, inl, inr, Contains}
+use Rattle.std.proofs.Common.{◌≡◌, ℕ, zero, suc, ◌+◌, ◌-◌, ◌<◌, ◌≤◌, List, [], ◌∷◌, length, refl, ap, sym, ◌∙◌, subst, arith, get_or, All, Some, inl, inr, Contains}
 use Rattle.std.specs.Prelude.{slice_get, unwrap_or, option_map}
 use Rattle.std.specs.List.{AllWithin}
 use Rattle.std.specs.List.Sorted.{IsNonDecreasingBy}
 use Rattle.std.proofs.lemmas.List.Elements.{All-contains}
-use Rattle.std.proofs.lemmas.Option.{slice_get_past, slice_get_read, get_or_from_slice_get}
+use Rattle.std.proofs.lemmas.Option.{slice_get_past, slice_get_read}
 use Rattle.tp_base.proofs.SliceFacts.{slice_get_end}
 use Rattle.tp_base.specs.Net.{Net}
 use Rattle.tp_base.specs.declared.edges.PointId.{PointId}
@@ -17,12 +17,9 @@ use Rattle.tp_schedule.specs.Spots.Spot.{kept, own}
 use Rattle.tp_schedule.specs.declared.parts.Plan.{Plan}
 use Rattle.tp_schedule.specs.declared.recording.SheetName.{SheetName}
 use Rattle.tp_constraints.proofs.Lists.{contains-get}
-use Rattle.tp_constraints.specs.Laws.{IsLoadable}
 use Rattle.tp_constraints.specs.Numbers.{table_of}
-use Rattle.tp_placing.specs.declared.names.Grip.{Grip}
-use Rattle.tp_placing.specs.declared.names.Grip.TheVariants.{Own as OwnGrip, Kept as KeptGrip}
-use Rattle.tp_placing.specs.declared.names.Spot.{Spot as SpotName}
-use Rattle.tp_placing.specs.declared.names.Spot.TheVariants.{Own as OwnSpot, Kept as KeptSpot}
+use Rattle.tp_placing.specs.declared.names.Grip.TheVariants.{Kept as KeptGrip}
+use Rattle.tp_placing.specs.declared.names.Spot.TheVariants.{Kept as KeptSpot}
 use Rattle.tp_placing.specs.Boards.{BoardValue}
 use Rattle.tp_placing.specs.Causes.{grip_name, name_of_plan, numbered, spot_name}
 use Rattle.tp_placing.specs.Loading.{HasPoints, firsts_from}
@@ -30,7 +27,7 @@ use Rattle.tp_placing.specs.LoadedHolds.{ticks_in}
 use Rattle.tp_placing.specs.Standing.{AreFirsts, Stands, table_with}
 use Rattle.tp_placing.proofs.LoadTable.{length-table-of, length-ticks}
 use Rattle.tp_placing.proofs.LoadTicks.{count-few, firsts-rise, from-first, in-plan, some-before}
-use Rattle.tp_placing.proofs.TableFacts.{begins-at, length-firsts, length-table}
+use Rattle.tp_placing.proofs.TableFacts.{begins-at, length-table}
 
 -- the point of a number is that of the table, or an own one behind
 numbered-there : (plans : List Plan) (i : ℕ) (s : Spot) → slice_get (table_of plans) i ≡ Some s → numbered plans i ≡ s
@@ -134,8 +131,8 @@ module _ {N C : Type 0} (net : N → Net) (content : N → C) (past : N → List
         let inside = contains-get b.plans (count - 1) p x in
         let t = All-contains (IsTimedPlan stands.0) b.plans p timed inside in
         let from : f.0 ≤ point = subst (λ (g : PointId). g.0 ≤ point) (sym first) (from-first b.plans b.firsts formed from-zero point within count here.few here.before here.behind f) in
-        let in' : point - (get_or b.firsts (count - 1) f).0 < length (get_or b.plans (count - 1) p).points = in-plan b.plans b.firsts formed from-zero point within count here.few here.before here.behind f p in
-        let in'' : point - f.0 < length p.points = subst (λ (g : PointId). point - g.0 < length p.points) (sym first) (subst (λ (q : Plan). point - (get_or b.firsts (count - 1) f).0 < length q.points) (sym is) in') in
+        let read : point - (get_or b.firsts (count - 1) f).0 < length (get_or b.plans (count - 1) p).points = in-plan b.plans b.firsts formed from-zero point within count here.few here.before here.behind f p in
+        let few : point - f.0 < length p.points = subst (λ (g : PointId). point - g.0 < length p.points) (sym first) (subst (λ (q : Plan). point - (get_or b.firsts (count - 1) f).0 < length q.points) (sym is) read) in
         let more = t.one_more in
         let most = t.at_most in
         let begin = begins-at 0 b.plans b.firsts (count - 1) p f stands.1.1.firsts x y in

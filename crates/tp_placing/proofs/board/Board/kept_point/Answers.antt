@@ -1,4 +1,4 @@
-use Rattle.std.proofs.Common.{arith, ◌∙◌, sym, ap, Some, ◌+◌, ◌-◌}
+use Rattle.std.proofs.Common.{arith}
 use Rattle.tp_placing.proofs.NameFacts.{CountsTo, is-place, kept-grip, kept-point, kept-spot, shown-rise}
 use Rattle.tp_placing.proofs.board.Board.kept_point.Goals as goal
 
