@@ -46,3 +46,4 @@ pub mod LivePart
 pub mod LoadSlots
 pub mod LoadedTicks
 pub mod WriteSettle
+pub mod NameFacts

@@ -1,27 +1,37 @@
 -- A board stands after a mark, and back at one.
-use Rattle.std.proofs.Common.{◌≡◌, List, length, ◌+◌, ◌<◌, ◌≤◌, false, refl, ap, sym, ◌∙◌, subst, inl, inr, Contains}
+use Rattle.std.proofs.Common.{◌≡◌, ℕ, suc, List, length, ◌+◌, ◌<◌, ◌≤◌, false, refl, ap, sym, ◌∙◌, subst, inl, inr, All, Contains, Some}
 use Rattle.std.specs.List.{slice_get}
 use Rattle.tp_base.proofs.SliceFacts.{slice_get_end, slice_get_take}
 use Rattle.tp_base.specs.declared.edges.PointId.{PointId}
 use Rattle.tp_base.specs.Net.{Net}
 use Rattle.tp_machine.specs.declared.whole.Machine.{Machine}
 use Rattle.tp_schedule.specs.Answers.{IsAsked, kept_of}
+use Rattle.tp_schedule.specs.Spots.Spot.{own}
 use Rattle.tp_schedule.specs.declared.parts.Ask.{Ask}
 use Rattle.tp_schedule.specs.declared.parts.Plan.{Plan}
 use Rattle.tp_constraints.specs.Laws.{IsLoadable}
+use Rattle.tp_constraints.specs.Nets.{IsBoardNet}
 use Rattle.tp_constraints.specs.Numbers.{table_of}
+use Rattle.tp_constraints.specs.Suffixes.{Suffix}
 use Rattle.tp_constraints.proofs.Lists.{contains-get, get-contains}
 use Rattle.tp_placing.specs.Boards.{BoardValue, BoardContent, BoardAside, content_of, aside_of, past_of}
-use Rattle.tp_placing.specs.Laws.{MarkKeeps, UndoKeeps}
-use Rattle.tp_placing.specs.Standing.{AreFirsts, IsAt, IsMadeFor, StandsOn}
+use Rattle.tp_placing.specs.Causes.{ArePlain, IsNamedHop, limit_tag}
+use Rattle.tp_placing.specs.Laws.{AsideKeepsEndReasons, AsideKeepsReasons, MarkKeeps, UndoKeeps}
+use Rattle.tp_placing.specs.Reasons.{HasEndReason, HasReason, IsEndReason, IsReason, IsShown, with_limit}
+use Rattle.tp_placing.specs.Standing.{AreCaused, AreFirsts, IsAt, IsMadeFor, StandsOn, table_with}
+use Rattle.tp_placing.specs.declared.causes.Cause.TheVariants.{Limit}
+use Rattle.tp_placing.proofs.StandFacts.{and-some, some-and}
 
 module _ {N C A : Type 0} (net : N → Net) (content : N → C) (past : N → List C) (aside : N → A) (net_by : (a b : N) → content a ≡ content b → net a ≡ net b) where
   -- a content at which the board stands
   abbrev StandsIn : BoardValue N → Machine → Ask → BoardContent C → Type 0
-  StandsIn b m ask x = (n : N) → content n ≡ x.net → IsAt m b.plans ask x.steps (net n) x.orders x.held
+  StandsIn b m ask x = (n : N) → content n ≡ x.net → IsAt m b.plans ask x.steps (net n) x.orders x.held × AreCaused m b.plans ask b.causes x.steps (net n)
 
   now-in : (b : BoardValue N) (m : Machine) (ask : Ask) → StandsOn net content past b m ask → StandsIn b m ask (content_of content b)
-  now-in b m ask s n e = subst (λ k. IsAt m b.plans ask b.steps k b.orders.orders b.held) (sym (net_by n b.net e)) s.now
+  now-in b m ask s n e = subst (λ k. IsAt m b.plans ask b.steps k b.orders.orders b.held × AreCaused m b.plans ask b.causes b.steps k) (sym (net_by n b.net e)) (s.now, s.caused)
+
+  before-in : (b : BoardValue N) (m : Machine) (ask : Ask) → StandsOn net content past b m ask → (x : BoardContent C) → Contains (past_of past b) x → StandsIn b m ask x
+  before-in b m ask s x c n e = (s.before x c n e, s.caused_before x c n e)
 
   -- with the same aside, and the present content and each of the past such as the first board stands in
   stands-in : (a b : BoardValue N) (m : Machine) (ask : Ask) → aside_of aside b ≡ aside_of aside a → StandsOn net content past a m ask → StandsIn a m ask (content_of content b)
@@ -33,6 +43,7 @@ module _ {N C A : Type 0} (net : N → Net) (content : N → C) (past : N → Li
       let floor = ap (λ (x : BoardAside A). x.floor) e in
       let horizon = ap (λ (x : BoardAside A). x.horizon) e in
       let asked = ap (λ (x : BoardAside A). x.ask) e in
+      let causes : a.causes ≡ b.causes = sym (ap (λ (x : BoardAside A). x.causes) e) in
       let made : a.made_for ≡ b.made_for = sym (ap (λ (x : BoardAside A). x.made_for) e) in
       record {
         made = subst (λ d. IsMadeFor d m) made s.made;
@@ -46,8 +57,11 @@ module _ {N C A : Type 0} (net : N → Net) (content : N → C) (past : N → Li
         firsts = subst (AreFirsts 0 b.plans) firsts (subst (λ ps. AreFirsts 0 ps a.firsts) plans s.firsts);
         few_points = subst (λ (p : PointId). p.0 + 65 ≤ 16641 + kept_of ask) last s.few_points;
         few_plans = subst (λ (ps : List Plan). length ps ≤ 256) plans s.few_plans;
-        now = subst (λ ps. IsAt m ps ask b.steps (net b.net) b.orders.orders b.held) plans (here b.net refl);
-        before = λ x c n f. subst (λ ps. IsAt m ps ask x.steps (net n) x.orders x.held) plans (before x c n f);
+        now = subst (λ ps. IsAt m ps ask b.steps (net b.net) b.orders.orders b.held) plans (here b.net refl).0;
+        before = λ x c n f. subst (λ ps. IsAt m ps ask x.steps (net n) x.orders x.held) plans (before x c n f).0;
+        plain = subst ArePlain causes s.plain;
+        caused = subst (λ cs. AreCaused m b.plans ask cs b.steps (net b.net)) causes (subst (λ ps. AreCaused m ps ask a.causes b.steps (net b.net)) plans (here b.net refl).1);
+        caused_before = λ x c n f. subst (λ cs. AreCaused m b.plans ask cs x.steps (net n)) causes (subst (λ ps. AreCaused m ps ask a.causes x.steps (net n)) plans (before x c n f).1);
       }
 
   pub mark_keeps : MarkKeeps net content past aside
@@ -58,7 +72,7 @@ module _ {N C A : Type 0} (net : N → Net) (content : N → C) (past : N → Li
             let g = get-contains (past_of past b) x c in
             let at = ap (λ xs. slice_get xs g.0) (sym more) ∙ g.1 in
             elim (slice_get_end (past_of past a) (content_of content a) g.0 x at) [
-              | inl old ↦ s.1.before x (contains-get (past_of past a) g.0 x old)
+              | inl old ↦ before-in a m s.0 s.1 x (contains-get (past_of past a) g.0 x old)
               | inr new ↦ subst (StandsIn a m s.0) new.1 now
             ]),
       )
@@ -66,8 +80,66 @@ module _ {N C A : Type 0} (net : N → Net) (content : N → C) (past : N → Li
   pub undo_keeps : UndoKeeps net content past aside
   undo_keeps a b m k there e fewer s = (
     s.0,
-    stands-in a b m s.0 e s.1 (s.1.before (content_of content b) (contains-get (past_of past a) k (content_of content b) there)) (λ x c.
+    stands-in a b m s.0 e s.1 (before-in a m s.0 s.1 (content_of content b) (contains-get (past_of past a) k (content_of content b) there)) (λ x c.
         let g = get-contains (past_of past b) x c in
         let at = ap (λ xs. slice_get xs g.0) (sym fewer) ∙ g.1 in
-        s.1.before x (contains-get (past_of past a) g.0 x (slice_get_take k (past_of past a) g.0 x at).1)),
+        before-in a m s.0 s.1 x (contains-get (past_of past a) g.0 x (slice_get_take k (past_of past a) g.0 x at).1)),
   )
+
+-- a board with the same aside shows the same of the last refusal
+module _ {N A : Type 0} (aside : N → A) (refutes : N → Net → Type 0) (refutes_by : (a b : N) (late : Net) → aside a ≡ aside b → refutes a late → refutes b late) (a b : BoardValue N) (e : aside_of aside b ≡ aside_of aside a) where
+  plans-kept : a.plans ≡ b.plans
+  plans-kept = sym (ap (λ (x : BoardAside A). x.plans) e)
+
+  asked-kept : b.ask ≡ a.ask
+  asked-kept = ap (λ (x : BoardAside A). x.ask) e
+
+  causes-kept : a.causes ≡ b.causes
+  causes-kept = sym (ap (λ (x : BoardAside A). x.causes) e)
+
+  limit-kept : b.limit ≡ a.limit
+  limit-kept = ap (λ (x : BoardAside A). x.limit) e
+
+  shown-kept : (net : Net) → IsShown refutes a.net net → IsShown refutes b.net net
+  shown-kept net s = record { late = s.late; shown = refutes_by a.net b.net s.late (sym (ap (λ (x : BoardAside A). x.net) e)) s.shown; part = s.part }
+
+  net-kept : (m : Machine) (ask : Ask) (x : Suffix) (net : Net) → IsBoardNet m a.plans ask x (table_with a.plans (suc (length x.choices))) net → IsBoardNet m b.plans ask x (table_with b.plans (suc (length x.choices))) net
+  net-kept m ask x net = subst (λ ps. IsBoardNet m ps ask x (table_with ps (suc (length x.choices))) net) plans-kept
+
+  hops-kept : (m : Machine) (ask : Ask) (x : Suffix) (net : Net) → All (IsNamedHop m a.plans ask x a.causes) net.edges → All (IsNamedHop m b.plans ask x b.causes) net.edges
+  hops-kept m ask x net h = subst (λ cs. All (IsNamedHop m b.plans ask x cs) net.edges) causes-kept (subst (λ ps. All (IsNamedHop m ps ask x a.causes) net.edges) plans-kept h)
+
+  reason-kept : (m : Machine) (x : Suffix) → HasReason refutes m a x → HasReason refutes m b x
+  reason-kept m x h =
+      let s = some-and a.ask (λ ask. IsReason refutes a m ask x) h in
+      let r = s.2 in
+      and-some b.ask s.0 (λ ask. IsReason refutes b m ask x) (asked-kept ∙ s.1)
+      (record {
+        net = r.net;
+        is_net = net-kept m s.0 x r.net r.is_net;
+        hops = hops-kept m s.0 x r.net r.hops;
+        no_limit = limit-kept ∙ r.no_limit;
+        shown = shown-kept r.net r.shown;
+      })
+
+  end-reason-kept : (m : Machine) (x : Suffix) (last : ℕ) → HasEndReason refutes m a x last → HasEndReason refutes m b x last
+  end-reason-kept m x last h =
+      let s = some-and a.ask (λ ask. IsEndReason refutes a m ask x last) h in
+      let r = s.2 in
+      and-some b.ask s.0 (λ ask. IsEndReason refutes b m ask x last) (asked-kept ∙ s.1)
+      (record {
+        net = r.net;
+        is_net = net-kept m s.0 x r.net r.is_net;
+        hops = hops-kept m s.0 x r.net r.hops;
+        end = r.end;
+        is_end = subst (λ ps. slice_get (table_with ps (suc (length x.choices))) r.end.0 ≡ Some (own 0)) plans-kept r.is_end;
+        limit = limit-kept ∙ r.limit;
+        limit_cause = subst (λ cs. slice_get cs limit_tag ≡ Some Limit) causes-kept r.limit_cause;
+        shown = shown-kept (with_limit r.net r.end last) r.shown;
+      })
+
+pub keep_reasons : {N A : Type 0} (aside : N → A) (refutes : N → Net → Type 0) → ((a b : N) (late : Net) → aside a ≡ aside b → refutes a late → refutes b late) → AsideKeepsReasons aside refutes
+keep_reasons aside refutes refutes_by a b m x e = reason-kept aside refutes refutes_by a b e m x
+
+pub keep_end_reasons : {N A : Type 0} (aside : N → A) (refutes : N → Net → Type 0) → ((a b : N) (late : Net) → aside a ≡ aside b → refutes a late → refutes b late) → AsideKeepsEndReasons aside refutes
+keep_end_reasons aside refutes refutes_by a b m x last e = end-reason-kept aside refutes refutes_by a b e m x last

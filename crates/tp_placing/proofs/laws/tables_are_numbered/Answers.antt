@@ -1,0 +1,5 @@
+use Rattle.tp_placing.proofs.NameFacts.{numbered-in}
+use Rattle.tp_placing.proofs.laws.tables_are_numbered.Goals as goal
+
+pub returns : goal.returns
+returns c = numbered-in
