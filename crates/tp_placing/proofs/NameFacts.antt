@@ -25,27 +25,10 @@ use Rattle.tp_placing.specs.Causes.{grip_name, name_of_plan, numbered, spot_name
 use Rattle.tp_placing.specs.Loading.{HasPoints, firsts_from}
 use Rattle.tp_placing.specs.LoadedHolds.{ticks_in}
 use Rattle.tp_placing.specs.Standing.{AreFirsts, Stands, table_with}
+use Rattle.tp_placing.proofs.CauseFacts.{numbered-in}
 use Rattle.tp_placing.proofs.LoadTable.{length-table-of, length-ticks}
 use Rattle.tp_placing.proofs.LoadTicks.{count-few, firsts-rise, from-first, in-plan, some-before}
 use Rattle.tp_placing.proofs.TableFacts.{begins-at, length-table}
-
--- the point of a number is that of the table, or an own one behind
-numbered-there : (plans : List Plan) (i : ℕ) (s : Spot) → slice_get (table_of plans) i ≡ Some s → numbered plans i ≡ s
-numbered-there plans i s at = ap (λ o. unwrap_or o (own (i - length (table_of plans)))) at
-
-numbered-behind : (plans : List Plan) (i : ℕ) → length (table_of plans) ≤ i → numbered plans i ≡ own (i - length (table_of plans))
-numbered-behind plans i past = ap (λ o. unwrap_or o (own (i - length (table_of plans)))) (slice_get_past (table_of plans) i past)
-
-pub numbered-in : (plans : List Plan) (count i : ℕ) (s : Spot) → slice_get (table_with plans count) i ≡ Some s → numbered plans i ≡ s
-numbered-in plans zero i s at = numbered-there plans i s at
-numbered-in plans (suc n) i s at = elim (slice_get_end (table_with plans n) (own n) i s at) [
-  | inl before ↦ numbered-in plans n i s before
-  | inr last ↦ (
-      let l = length-table plans n in
-      let e = last.0 in
-      let k : i - length (table_of plans) ≡ n = omega arith in
-      numbered-behind plans i (omega arith) ∙ ap own k ∙ last.1)
-]
 
 -- the first points are given by the plans
 pub firsts-only : (n : ℕ) (plans : List Plan) (firsts : List PointId) → AreFirsts n plans firsts → firsts ≡ firsts_from n plans
@@ -142,5 +125,5 @@ module _ {N C : Type 0} (net : N → Net) (content : N → C) (past : N → List
           from = from;
           few = omega arith;
           planned = plan_of-itself b.plans p stands.1.1.loadable.legal.in_order inside;
-          spot = numbered-there b.plans point (kept p.sheet (point - f.0)) (ap (slice_get (table_of b.plans)) (sym at) ∙ begin.2.get (point - f.0) (omega arith));
+          spot = numbered-in b.plans 0 point (kept p.sheet (point - f.0)) (ap (slice_get (table_of b.plans)) (sym at) ∙ begin.2.get (point - f.0) (omega arith));
         }

@@ -1,5 +1,5 @@
 -- An end that can't come by a tick.
-use Rattle.std.proofs.Common.{◌≡◌, ℕ, suc, ◌<◌, ◌≤◌, List, [], ◌∷◌, length, refl, ap, sym, ◌∙◌, subst, arith, pos, Option, Some, None, IsSome}
+use Rattle.std.proofs.Common.{◌≡◌, ℕ, suc, ◌<◌, ◌≤◌, List, [], ◌∷◌, length, refl, ap, sym, ◌∙◌, subst, arith, pos, Option, Some, None, IsSome, All}
 use Rattle.std.specs.Prelude.{slice_get}
 use Rattle.std.proofs.lemmas.Int.{ints}
 use Rattle.std.proofs.lemmas.List.{length-append, length-map, get_or_at, get_or_append_left}
@@ -18,10 +18,12 @@ use Rattle.tp_constraints.proofs.Numbering.{number-at}
 use Rattle.tp_placing.specs.declared.parts.Held.{Held}
 use Rattle.tp_placing.specs.declared.parts.Step.{Step}
 use Rattle.tp_placing.specs.Boards.{BoardValue, suffix_after}
+use Rattle.tp_placing.specs.Causes.{IsNamedHop, limit_tag}
 use Rattle.tp_placing.specs.Edges.{edge_of}
-use Rattle.tp_placing.specs.Reasons.{with_limit}
-use Rattle.tp_placing.specs.Standing.{IsAtWith, Stands, StandsOn, table_with}
+use Rattle.tp_placing.specs.Reasons.{IsEndReason, with_limit}
+use Rattle.tp_placing.specs.Standing.{choices_of, IsAtWith, Stands, StandsOn, table_with}
 use Rattle.tp_placing.specs.Ticks.{HasLeastTick, IsLeastTick, TimesOf}
+use Rattle.tp_placing.proofs.PartFacts.{whole-is-part}
 use Rattle.tp_placing.proofs.ReadFacts.{end-point, known-point}
 use Rattle.tp_placing.proofs.StandFacts.{at-suffix, length-lows, some-and, stands-ask}
 
@@ -42,7 +44,7 @@ module _ (net : Net) (point : PointId) (last : ℕ) (same : length net.caps ≡ 
         let e = get_or_append_left net.caps (last ∷ []) 0 i (omega arith) in
         let b = s.below_cap i (omega arith) in
         omega arith;
-    keeps = (All-split (Keeps x) net.edges (edge_of point limit (pos 0) ∷ []) s.keeps).0;
+    keeps = (All-split (Keeps x) net.edges (edge_of point limit (pos 0) limit_tag ∷ []) s.keeps).0;
   }
 
   pub by-limit : x point.0 ≤ last
@@ -50,7 +52,7 @@ module _ (net : Net) (point : PointId) (last : ℕ) (same : length net.caps ≡ 
       let l = length-append net.lows (0 ∷ []) in
       let e = get_or_at net.caps last [] 0 (length net.lows) same in
       let b = s.below_cap (length net.lows) (omega arith) in
-      let k = All-head (Keeps x) (edge_of point limit (pos 0)) [] (All-split (Keeps x) net.edges (edge_of point limit (pos 0) ∷ []) s.keeps).1 in
+      let k = All-head (Keeps x) (edge_of point limit (pos 0) limit_tag) [] (All-split (Keeps x) net.edges (edge_of point limit (pos 0) limit_tag ∷ []) s.keeps).1 in
       omega (arith, ints)
 
 pub limit-late : (m : Machine) (plans : List Plan) (ask : Ask) (x : Suffix) (steps : List Step) (n : Net) (lines : List (List ℕ)) (holds : List Held) → IsAtWith m plans ask (Some x) steps n lines holds → BoardSolutions
@@ -115,3 +117,18 @@ module _ {N C : Type 0} (net : N → Net) (content : N → C) (past : N → List
 
   pub end-late : BoardSolutions → HasNoSolution (with_limit (net b.net) b.last last)
   end-late law = limit-late h.machine b.plans h.ask h.x b.steps (net b.net) b.orders.orders b.held h.at law b.last h.there h.bound last h.least h.below
+
+-- what the refusal of an end shows, where the board stands on a machine
+module _ {N C : Type 0} (net : N → Net) (content : N → C) (past : N → List C) (b : BoardValue N) (m : Machine) (ask : Ask) (s : StandsOn net content past b m ask) (x : Suffix) (suffix : suffix_after b.steps ≡ Some x) (last : ℕ) where
+  pub end-reason : (refutes : N → Net → Type 0) (n : N) (point : PointId) → point ≡ record { 0 = length (net b.net).lows } → refutes n (with_limit (net b.net) b.last last)
+      → IsEndReason refutes (record b { net = n; causes = b.causes; limit = Some point }) m ask x last
+  end-reason refutes n point is shown = record {
+    net = net b.net;
+    is_net = (at-suffix net content past b m ask x s suffix).net;
+    hops = subst (λ y. All (IsNamedHop m b.plans ask y b.causes) (net b.net).edges) (ap choices_of suffix) s.caused.hops;
+    end = b.last;
+    is_end = end-point b.plans (Some x) refl b.last.0 s.last;
+    limit = ap Some is;
+    limit_cause = s.plain.limit;
+    shown = record { late = with_limit (net b.net) b.last last; shown = shown; part = whole-is-part (with_limit (net b.net) b.last last) };
+  }

@@ -1,4 +1,4 @@
-use Rattle.tp_placing.proofs.NameFacts.{numbered-in}
+use Rattle.tp_placing.proofs.CauseFacts.{numbered-in}
 use Rattle.tp_placing.proofs.laws.tables_are_numbered.Goals as goal
 
 pub returns : goal.returns

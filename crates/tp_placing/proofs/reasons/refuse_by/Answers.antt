@@ -1,6 +1,7 @@
 use Rattle.std.proofs.Common.{◌≡◌, ◌∙◌, ap, subst, pos, length}
 use Rattle.tp_base.specs.Net.{HasLeast, with_edge}
 use Rattle.tp_base.proofs.MarkFacts.{last_mark}
+use Rattle.tp_placing.specs.Causes.{limit_tag}
 use Rattle.tp_placing.specs.Edges.{edge_of}
 use Rattle.tp_placing.specs.Reasons.{with_limit}
 use Rattle.tp_placing.proofs.TryFacts.{not-late}
@@ -9,7 +10,7 @@ use Rattle.tp_placing.proofs.reasons.refuse_by.Goals as goal
 pub unreachable-requires-in-Ok-require : goal.unreachable-requires-in-Ok-require
 unreachable-requires-in-Ok-require g c =
     let number : c.in-Ok.limit ≡ record { 0 = length (g.N.Network.net c.mark-mark.new.self).lows } = ap (λ n. record { 0 = n }) c.in-Ok.ensures.number in
-    let edge = c.edge_between.ensures ∙ ap (λ p. edge_of c.args.point p (pos 0)) number in
+    let edge = c.edge_between.ensures ∙ ap (λ p. edge_of c.args.point p (pos 0) limit_tag) number in
     let added = c.in-Ok.ensures.added in
     let marked = g.met.N.Network.net_by_content _ _ c.mark-mark.ensures.content in
     let same = c.in-Ok-require.ensures.added ∙ (λ i. with_edge (added i) (edge i)) ∙ ap (λ n. with_limit n c.args.point c.args.last) marked in
