@@ -54,12 +54,7 @@ pub(crate) fn neighbours_of(
 }
 
 /// Writes the edges from the hold before to a new hold, and from it to the one behind, in place of what was there.
-pub(crate) fn neighbour_edges(
-    edges: &mut Vec<Edge>,
-    neighbours: &Neighbours,
-    new: &Held,
-    tag: u32,
-)
+pub(crate) fn neighbour_edges(edges: &mut Vec<Edge>, neighbours: &Neighbours, new: &Held, tag: u32)
     requires room { 2 ≤ vec_capacity edges.old }
     requires fits { tag + 1 < 2 ^ 32 }
     ensures edges { edges.new.items ≡ edges_around neighbours.now.before new.now neighbours.now.behind tag }
