@@ -16,28 +16,15 @@ use Rattle.tp_schedule.specs.declared.parts.SheetId.{SheetId}
 use Rattle.tp_constraints.specs.Numbers.{points_from, table_of, spot_at, spot_in}
 use Rattle.tp_placing.specs.Loading.{point_count}
 use Rattle.tp_placing.specs.LoadedHolds.{ticks_in}
-
-pub length-from : (copy : SheetId) (i n : ℕ) → length (points_from copy i n) ≡ suc n
-length-from copy i zero = refl
-length-from copy i (suc n) = ap suc (length-from copy (suc i) n)
+use Rattle.tp_placing.proofs.TableFacts.{get-right, length-points, points-get}
 
 pub length-table-of : (plans : List Plan) → length (table_of plans) ≡ point_count plans
 length-table-of [] = refl
 length-table-of (p ∷ plans) =
     let a = length-append (points_from p.sheet 0 (length p.acts)) (table_of plans) in
-    let f = length-from p.sheet 0 (length p.acts) in
+    let f = length-points p.sheet 0 (length p.acts) in
     let rest = length-table-of plans in
     omega arith
-
-from-get : (copy : SheetId) (i n j : ℕ) → j ≤ n → slice_get (points_from copy i n) j ≡ Some (kept copy (i + j))
-from-get copy i zero zero h = let e : i ≡ i + 0 = omega arith in ap (λ k. Some (kept copy k)) e
-from-get copy i zero (suc j) h = absurd (omega arith)
-from-get copy i (suc n) zero h = let e : i ≡ i + 0 = omega arith in ap (λ k. Some (kept copy k)) e
-from-get copy i (suc n) (suc j) h = let e : suc i + j ≡ i + suc j = omega arith in from-get copy (suc i) n j (omega arith) ∙ ap (λ k. Some (kept copy k)) e
-
-get-behind : {X : Type 0} (xs ys : List X) (k : ℕ) → slice_get (xs ++ ys) (length xs + k) ≡ slice_get ys k
-get-behind [] ys k = let e : 0 + k ≡ k = omega arith in ap (λ n. slice_get ys n) e
-get-behind (x ∷ xs) ys k = let e : suc (length xs) + k ≡ suc (length xs + k) = omega arith in ap (λ n. slice_get (x ∷ (xs ++ ys)) n) e ∙ get-behind xs ys k
 
 -- the points of a plan stand in a table from a number on
 pub record StandsAt (table : List Spot) (n : ℕ) (copy : SheetId) (first count : ℕ) : Type 0 where
@@ -53,12 +40,12 @@ numbered-behind before [] = tt
 numbered-behind before (p ∷ plans) = (
   record {
     get = λ i h. (
-        let l = length-from p.sheet 0 (length p.acts) in
-        get-behind before (table_of (p ∷ plans)) i ∙ slice_get_left (points_from p.sheet 0 (length p.acts)) (table_of plans) i (omega arith) ∙ from-get p.sheet 0 (length p.acts) i h);
+        let l = length-points p.sheet 0 (length p.acts) in
+        get-right before (table_of (p ∷ plans)) i ∙ slice_get_left (points_from p.sheet 0 (length p.acts)) (table_of plans) i (omega arith) ∙ points-get p.sheet 0 (length p.acts) i h);
   },
   (
       let points = points_from p.sheet 0 (length p.acts) in
-      let l = length-from p.sheet 0 (length p.acts) in
+      let l = length-points p.sheet 0 (length p.acts) in
       let m = length-append before (points_from p.sheet 0 (length p.acts)) in
       let e : length (before ++ points) ≡ length before + length p.acts + 1 = omega arith in
       subst (λ table. AreNumbered table (length before + length p.acts + 1) plans) (append_assoc before points (table_of plans))
@@ -86,21 +73,21 @@ map-table f h (p ∷ plans) same =
 
 -- the ticks one after another are those of the points by number
 spot-behind : (xs ys : List Spot) (k : ℕ) → spot_at (xs ++ ys) (length xs + k) ≡ spot_at ys k
-spot-behind xs ys k = ap spot_in (get-behind xs ys k)
+spot-behind xs ys k = ap spot_in (get-right xs ys k)
 
 ticks-same : (all plans : List Plan) → ((p : Plan) → Contains plans p → (plan_of p.sheet all ≡ Some p) × (length p.points ≡ length p.acts + 1)) → (i : ℕ) → slice_index (ticks_in plans) i ≡ ticks_of all (spot_at (table_of plans) i)
 ticks-same all [] known i = refl
 ticks-same all (p ∷ plans) known i = elim (cases_lt i (length p.points)) [
   | inl here ↦ (
       let k = known p (Contains-here p plans) in
-      let l = length-from p.sheet 0 (length p.acts) in
+      let l = length-points p.sheet 0 (length p.acts) in
       let e : 0 + i ≡ i = omega arith in
       let count = k.1 in
-      let spot : spot_at (table_of (p ∷ plans)) i ≡ kept p.sheet i = ap spot_in (slice_get_left (points_from p.sheet 0 (length p.acts)) (table_of plans) i (omega arith) ∙ from-get p.sheet 0 (length p.acts) i (omega arith) ∙ ap (λ j. Some (kept p.sheet j)) e) in
+      let spot : spot_at (table_of (p ∷ plans)) i ≡ kept p.sheet i = ap spot_in (slice_get_left (points_from p.sheet 0 (length p.acts)) (table_of plans) i (omega arith) ∙ points-get p.sheet 0 (length p.acts) i (omega arith) ∙ ap (λ j. Some (kept p.sheet j)) e) in
       get_or_append_left p.points (ticks_in plans) 0 i here ∙ sym (ap (λ o. point_in o i) k.0) ∙ ap (ticks_of all) (sym spot))
   | inr behind ↦ (
       let k = known p (Contains-here p plans) in
-      let l = length-from p.sheet 0 (length p.acts) in
+      let l = length-points p.sheet 0 (length p.acts) in
       let count = k.1 in
       let e : i ≡ length p.points + (i - length p.points) = omega arith in
       let f : i ≡ length (points_from p.sheet 0 (length p.acts)) + (i - length p.points) = omega arith in
