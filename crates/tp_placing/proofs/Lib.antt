@@ -24,6 +24,7 @@ pub mod WriteJoined
 pub mod WriteCommit
 pub mod WriteReady
 pub mod LoadEdges
+pub mod LoadCauses
 pub mod LoadChains
 pub mod LoadPoints
 pub mod LoadHolds
