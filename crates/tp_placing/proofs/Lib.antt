@@ -30,7 +30,8 @@ pub mod LoadPoints
 pub mod LoadHolds
 pub mod PutHolds
 pub mod LoadTable
-pub mod LoadGaps
+pub mod LoadHops
+pub mod LoadResources
 pub mod LoadOrders
 pub mod LoadedNet
 pub mod LiveFacts

@@ -35,7 +35,7 @@ from-get copy i zero (suc j) h = absurd (omega arith)
 from-get copy i (suc n) zero h = let e : i ≡ i + 0 = omega arith in ap (λ k. Some (kept copy k)) e
 from-get copy i (suc n) (suc j) h = let e : suc i + j ≡ i + suc j = omega arith in from-get copy (suc i) n j (omega arith) ∙ ap (λ k. Some (kept copy k)) e
 
-get-behind : {X : Type 0} (xs ys : List X) (k : ℕ) → slice_get (xs ++ ys) (length xs + k) ≡ slice_get ys k
+pub get-behind : {X : Type 0} (xs ys : List X) (k : ℕ) → slice_get (xs ++ ys) (length xs + k) ≡ slice_get ys k
 get-behind [] ys k = let e : 0 + k ≡ k = omega arith in ap (λ n. slice_get ys n) e
 get-behind (x ∷ xs) ys k = let e : suc (length xs) + k ≡ suc (length xs + k) = omega arith in ap (λ n. slice_get (x ∷ (xs ++ ys)) n) e ∙ get-behind xs ys k
 
