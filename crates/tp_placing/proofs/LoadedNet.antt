@@ -104,8 +104,8 @@ module _ (machine : Machine) (now : ℕ) (plans : List Plan) (can : CanLoad mach
       let few = can.few in
       omega arith
 
-  pub room : step_causes + length (chains_causes (holds_on held lines.orders) (length machine.resources)) ≤ most_causes
-  room = let c = chains in omega arith
+  pub causes-fit : step_causes + length (chains_causes (holds_on held lines.orders) (length machine.resources)) ≤ most_causes
+  causes-fit = let c = chains in omega arith
 
   count : length (all_edges machine plans lines.orders held) ≤ 98600
   count =
