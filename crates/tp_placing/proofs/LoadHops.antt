@@ -18,7 +18,7 @@ use Rattle.tp_schedule.specs.Spots.{Spot}
 use Rattle.tp_schedule.specs.Spots.Spot.{kept, own}
 use Rattle.tp_schedule.specs.declared.parts.Plan.{Plan}
 use Rattle.tp_schedule.specs.declared.parts.SheetId.{SheetId}
-use Rattle.tp_constraints.specs.Gaps.{Gap, gap, line_gap, line_gaps, is_same_line, end_spot}
+use Rattle.tp_constraints.specs.Gaps.{gap, line_gap, line_gaps, is_same_line, end_spot}
 use Rattle.tp_constraints.specs.Hops.{Hop, hop, range_hops, acts_hops, duration_hops}
 use Rattle.tp_constraints.specs.Hops.HopKind.{forward, back, line}
 use Rattle.tp_constraints.specs.Numbers.{gap_by, spot_at, spot_in, table_of}

@@ -6,7 +6,7 @@ use Rattle.std.proofs.lemmas.List.Elements.{All-nil, All-cons, All-head, All-tai
 use Rattle.tp_base.specs.Net.{Net, IsSolution, HasLeast, Keeps, empty_net}
 use Rattle.tp_base.specs.declared.edges.PointId.{PointId}
 use Rattle.tp_machine.specs.declared.whole.Machine.{Machine}
-use Rattle.tp_schedule.specs.Spots.{Spot, Slot, slot_order, by_begin, ticks_of}
+use Rattle.tp_schedule.specs.Spots.{Spot, slot_order, by_begin, ticks_of}
 use Rattle.tp_schedule.specs.declared.parts.Plan.{Plan}
 use Rattle.tp_constraints.specs.Gaps.{KeepsGap, KeepsGaps, IsPoint, low_at, cap_at, line_gaps}
 use Rattle.tp_constraints.specs.Hops.{Hop, IsHop, hop, no_choices, duration_hops, all_chain_hops, plans_hops}

@@ -1,4 +1,4 @@
-use Rattle.std.proofs.Common.{◌∙◌, ◌+◌, ◌-◌, ◌++◌, refl, sym, ap, arith, length}
+use Rattle.std.proofs.Common.{◌∙◌, ◌-◌, ◌++◌, refl, sym, ap, arith, length}
 use Rattle.std.proofs.lemmas.List.{append_assoc, length-append}
 use Rattle.tp_placing.specs.Loading.{chain_causes, chains_causes, holds_on}
 use Rattle.tp_placing.proofs.LoadEdges.{first-of, rest-of, whole-of, same-room}

@@ -1,4 +1,4 @@
-use Rattle.std.proofs.Common.{◌++◌, ◌∙◌, ap, length, sym, arith}
+use Rattle.std.proofs.Common.{◌++◌, ◌∙◌, length}
 use Rattle.tp_placing.specs.Causes.{step_causes}
 use Rattle.tp_placing.specs.Loading.{plans_edges, lines_edges, chains_edges, holds_on}
 use Rattle.tp_placing.proofs.LoadEdges.{first-addable, rest-addable, same-room}
