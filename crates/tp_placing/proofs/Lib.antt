@@ -27,12 +27,13 @@ pub mod WriteJoined
 pub mod WriteCommit
 pub mod WriteReady
 pub mod LoadEdges
+pub mod LoadCauses
 pub mod LoadChains
 pub mod LoadPoints
 pub mod LoadHolds
 pub mod PutHolds
 pub mod LoadTable
-pub mod LoadGaps
+pub mod LoadHops
 pub mod LoadOrders
 pub mod LoadedNet
 pub mod LiveFacts

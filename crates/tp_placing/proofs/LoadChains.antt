@@ -1,13 +1,17 @@
 -- The holds of an order, one after another.
-use Rattle.std.proofs.Common.{◌≡◌, ℕ, zero, suc, ◌+◌, ◌-◌, ◌<◌, ◌≤◌, List, [], ◌∷◌, ◌++◌, length, drop, refl, ap, sym, arith, ◌∙◌, subst, Some, get_or}
+use Rattle.std.proofs.Common.{◌≡◌, ℕ, zero, suc, ◌+◌, ◌-◌, ◌<◌, ◌≤◌, List, [], ◌∷◌, ◌++◌, length, drop, refl, ap, sym, arith, ◌∙◌, Some, get_or}
+use Rattle.std.proofs.lemmas.List.{append_assoc, length-append, length-drop}
 use Rattle.std.proofs.lemmas.List.Elements.{All-head, All-tail}
 use Rattle.std.specs.List.{slice_get}
 use Rattle.std.proofs.lemmas.Option.{slice_get-get_or}
 use Rattle.tp_base.proofs.SliceFacts.{found, All-at}
 use Rattle.tp_base.specs.declared.edges.Edge.{Edge}
 use Rattle.tp_placing.specs.declared.parts.Held.{Held}
+use Rattle.tp_placing.specs.Causes.{cause_between}
+use Rattle.tp_placing.specs.declared.causes.Cause.{Cause}
 use Rattle.tp_placing.specs.Edges.{hold_edge}
-use Rattle.tp_placing.specs.Loading.{with_hold, holds_in, AreIds, chain_edges, chains_edges}
+use Rattle.tp_placing.specs.Loading.{with_hold, holds_in, AreIds, chain_causes, chain_edges, chains_causes, chains_edges}
+use Rattle.tp_placing.proofs.LoadHolds.{drop-get}
 
 pub holds-head : (held : List Held) (id : ℕ) (ids : List ℕ) → id < length held → (h : Held) × (slice_get held id ≡ Some h) × (holds_in held (id ∷ ids) ≡ h ∷ holds_in held ids)
 holds-head held id ids within = let f = found held id within in (f.0, f.1, ap (λ o. with_hold o (holds_in held ids)) f.1)
@@ -26,50 +30,71 @@ holds-get held (i ∷ ids) (suc k) id h known at is =
     let f = holds-head held i ids (All-head (λ j. j < length held) i ids known) in
     ap (λ hs. slice_get hs (suc k)) f.2 ∙ holds-get held ids k id h (All-tail (λ j. j < length held) i ids known) at is
 
-pub chain-step : (hs : List Held) (k : ℕ) (x y : Held) → slice_get hs k ≡ Some x → slice_get hs (suc k) ≡ Some y → chain_edges (drop k hs) ≡ hold_edge x y ∷ chain_edges (drop (suc k) hs)
-chain-step [] k x y a b = absurd cc
-chain-step (g ∷ []) zero x y a b = absurd cc
-chain-step (g ∷ h ∷ hs) zero x y a b =
-    let p : g ≡ x = cc in
-    let q : h ≡ y = cc in
-    ap (λ z. hold_edge z h ∷ chain_edges (h ∷ hs)) p ∙ ap (λ z. hold_edge x z ∷ chain_edges (h ∷ hs)) q
-chain-step (g ∷ hs) (suc k) x y a b = chain-step hs k x y a b
-
-pub chain-end : (hs : List Held) (k : ℕ) → length hs ≤ suc k → chain_edges (drop k hs) ≡ []
-chain-end [] zero short = refl
-chain-end [] (suc k) short = refl
-chain-end (h ∷ []) zero short = refl
-chain-end (g ∷ h ∷ hs) zero short = absurd (omega arith)
-chain-end (h ∷ hs) (suc k) short = chain-end hs k (omega arith)
-
--- the same at the places of a loop that counts from 1
-pub chain-more : (held : List Held) (ids : List ℕ) (place i j : ℕ) (x y : Held) → AreIds held ids → 1 ≤ place
-    → slice_get ids (place - 1) ≡ Some i → slice_get ids place ≡ Some j → slice_get held i ≡ Some x → slice_get held j ≡ Some y
-    → chain_edges (drop (place - 1) (holds_in held ids)) ≡ hold_edge x y ∷ chain_edges (drop (place + 1 - 1) (holds_in held ids))
-chain-more held ids zero i j x y known from a b p q = absurd (omega arith)
-chain-more held ids (suc k) i j x y known from a b p q =
-    let e : suc k - 1 ≡ k = omega arith in
-    let f : suc k + 1 - 1 ≡ suc k = omega arith in
-    let step = chain-step (holds_in held ids) k x y (holds-get held ids k i x known (subst (λ n. slice_get ids n ≡ Some i) e a) p) (holds-get held ids (suc k) j y known b q) in
-    ap (λ n. chain_edges (drop n (holds_in held ids))) e ∙ step ∙ ap (λ n. hold_edge x y ∷ chain_edges (drop n (holds_in held ids))) (sym f)
-
-pub chain-none : (held : List Held) (ids : List ℕ) (place : ℕ) → AreIds held ids → 1 ≤ place → length ids ≤ place → chain_edges (drop (place - 1) (holds_in held ids)) ≡ []
-chain-none held ids place known from short = let l = length-holds held ids known in chain-end (holds_in held ids) (place - 1) (omega arith)
-
-pub chains-more : (orders : ℕ → List Held) (left : ℕ) → 0 < left → chains_edges orders left ≡ chain_edges (orders (left - 1)) ++ chains_edges orders (left - 1)
-chains-more orders zero some = absurd (omega arith)
-chains-more orders (suc n) some = let e : n ≡ suc n - 1 = omega arith in ap (λ k. chain_edges (orders k) ++ chains_edges orders k) e
-
--- the same for an edge that was made of what was read
-pub chain-read : (held : List Held) (ids : List ℕ) (place i j : ℕ) (d : Held) (e : Edge) → AreIds held ids → 1 ≤ place → slice_get ids (place - 1) ≡ Some i → slice_get ids place ≡ Some j
-    → e ≡ hold_edge (get_or held i d) (get_or held j d)
-    → chain_edges (drop (place - 1) (holds_in held ids)) ≡ (e ∷ []) ++ chain_edges (drop (place + 1 - 1) (holds_in held ids))
-chain-read held ids place i j d e known from a b is =
-    let x = slice_get-get_or held i d (All-at (λ id. id < length held) ids (place - 1) i known a) in
-    let y = slice_get-get_or held j d (All-at (λ id. id < length held) ids place j known b) in
-    chain-more held ids place i j (get_or held i d) (get_or held j d) known from a b x y ∙ ap (λ z. z ∷ chain_edges (drop (place + 1 - 1) (holds_in held ids))) (sym is)
-
 -- the hold that a number reads stands at the number's place
 pub holds-read : (held : List Held) (ids : List ℕ) (place id : ℕ) (d : Held) → AreIds held ids → slice_get ids place ≡ Some id → slice_get (holds_in held ids) place ≡ Some (get_or held id d)
 holds-read held ids place id d known at =
     holds-get held ids place id (get_or held id d) known at (slice_get-get_or held id d (All-at (λ i. i < length held) ids place id known at))
+
+-- two neighbours are the first of what is left of holds at a place of a loop that counts from 1
+pub record LeavesTwo (hs : List Held) (place : ℕ) (x y : Held) : Type 0 where
+  pub rest : List Held
+  pub from : drop (place - 1) hs ≡ x ∷ y ∷ rest
+  pub next : drop (place + 1 - 1) hs ≡ y ∷ rest
+
+pub two-read : (held : List Held) (ids : List ℕ) (place i j : ℕ) (d : Held) → AreIds held ids → 1 ≤ place → slice_get ids (place - 1) ≡ Some i → slice_get ids place ≡ Some j
+    → LeavesTwo (holds_in held ids) place (get_or held i d) (get_or held j d)
+two-read held ids place i j d known from a b =
+    let hs = holds_in held ids in
+    let x = get_or held i d in
+    let n = drop-get hs place (get_or held j d) (holds-read held ids place j d known b) in
+    let e : place - 1 + 1 ≡ place = omega arith in
+    let f : place + 1 - 1 ≡ place = omega arith in
+    record {
+      rest = drop (place + 1) hs;
+      from = drop-get hs (place - 1) x (holds-read held ids (place - 1) i d known a) ∙ ap (λ k. x ∷ drop k hs) e ∙ ap (λ zs. x ∷ zs) n;
+      next = ap (λ k. drop k hs) f ∙ n;
+    }
+
+-- their edge and their cause are the first of what is left
+module _ (hs : List Held) (place : ℕ) (x y : Held) (two : LeavesTwo hs place x y) where
+  pub edges-read : (tag given next : ℕ) (e : Edge) → e ≡ hold_edge x y given → given ≡ tag → next ≡ tag + 1 → chain_edges tag (drop (place - 1) hs) ≡ (e ∷ []) ++ chain_edges next (drop (place + 1 - 1) hs)
+  edges-read tag given next e is right same =
+      let s : suc tag ≡ next = omega arith in
+      ap (chain_edges tag) two.from ∙ ap (λ z. z ∷ chain_edges (suc tag) (y ∷ two.rest)) (sym (is ∙ ap (hold_edge x y) right)) ∙ ap (λ n. e ∷ chain_edges n (y ∷ two.rest)) s ∙ ap (λ zs. e ∷ chain_edges next zs) (sym two.next)
+
+  pub causes-read : (causes next : List Cause) (cause : Cause) → cause ≡ cause_between x y → next ≡ causes ++ cause ∷ [] → next ++ chain_causes (drop (place + 1 - 1) hs) ≡ causes ++ chain_causes (drop (place - 1) hs)
+  causes-read causes next cause is same =
+      ap (λ zs. zs ++ chain_causes (drop (place + 1 - 1) hs)) same ∙ append_assoc causes (cause ∷ []) (chain_causes (drop (place + 1 - 1) hs)) ∙ ap (λ zs. causes ++ cause ∷ chain_causes zs) two.next
+      ∙ ap (λ z. causes ++ z ∷ chain_causes (y ∷ two.rest)) is ∙ ap (λ zs. causes ++ chain_causes zs) (sym two.from)
+
+  -- so there is room for the cause, where there is for all
+  pub cause-fits : (causes all : List Cause) (cause : Cause) (most : ℕ) → cause ≡ cause_between x y → causes ++ chain_causes (drop (place - 1) hs) ≡ all → length all ≤ most → length causes < most
+  cause-fits causes all cause most is same few =
+      let e = ap (λ z. length (causes ++ z ∷ chain_causes (y ∷ two.rest))) is ∙ ap (λ zs. length (causes ++ chain_causes zs)) (sym two.from) ∙ ap length same in
+      let l = length-append causes (cause ∷ chain_causes (y ∷ two.rest)) in
+      omega arith
+
+-- nothing is left of one hold
+one-left : (hs : List Held) (tag : ℕ) → length hs ≤ 1 → (chain_edges tag hs ≡ []) × (chain_causes hs ≡ [])
+one-left [] tag short = (refl, refl)
+one-left (h ∷ []) tag short = (refl, refl)
+one-left (g ∷ h ∷ hs) tag short = absurd (omega arith)
+
+pub none-left : (held : List Held) (ids : List ℕ) (place tag : ℕ) → AreIds held ids → 1 ≤ place → length ids ≤ place
+    → (chain_edges tag (drop (place - 1) (holds_in held ids)) ≡ []) × (chain_causes (drop (place - 1) (holds_in held ids)) ≡ [])
+none-left held ids place tag known from short =
+    let l = length-holds held ids known in
+    let d = length-drop (place - 1) (holds_in held ids) in
+    one-left (drop (place - 1) (holds_in held ids)) tag (omega arith)
+
+-- the chain of the last resource comes first
+pub chains-more : (tag next : ℕ) (orders : ℕ → List Held) (left : ℕ) → 0 < left → next ≡ tag + length (chain_causes (orders (left - 1)))
+    → chains_edges tag orders left ≡ chain_edges tag (orders (left - 1)) ++ chains_edges next orders (left - 1)
+chains-more tag next orders zero some same = absurd (omega arith)
+chains-more tag next orders (suc n) some same =
+    let e : n ≡ suc n - 1 = omega arith in
+    ap (λ k. chain_edges tag (orders k) ++ chains_edges (tag + length (chain_causes (orders k))) orders k) e ∙ ap (λ t. chain_edges tag (orders (suc n - 1)) ++ chains_edges t orders (suc n - 1)) (sym same)
+
+pub causes-more : (orders : ℕ → List Held) (left : ℕ) → 0 < left → chains_causes orders left ≡ chain_causes (orders (left - 1)) ++ chains_causes orders (left - 1)
+causes-more orders zero some = absurd (omega arith)
+causes-more orders (suc n) some = let e : n ≡ suc n - 1 = omega arith in ap (λ k. chain_causes (orders k) ++ chains_causes orders k) e

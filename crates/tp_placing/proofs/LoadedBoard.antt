@@ -12,17 +12,17 @@ use Rattle.tp_schedule.specs.declared.parts.Plan.{Plan}
 use Rattle.tp_placing.specs.Boards.{BoardValue, past_of}
 use Rattle.tp_placing.specs.Loaded.{CanLoad, IsLoaded}
 use Rattle.tp_placing.specs.Loading.{point_count}
-use Rattle.tp_placing.specs.Standing.{IsAt, IsMadeFor, StandsOn}
+use Rattle.tp_placing.specs.Standing.{AreCaused, IsAt, IsMadeFor, StandsOn}
+use Rattle.tp_placing.specs.declared.causes.Cause.{Cause}
 use Rattle.tp_placing.specs.declared.parts.Held.{Held}
 use Rattle.tp_base.specs.declared.edges.PointId.{PointId}
 use Rattle.tp_placing.proofs.LivePlans.{live-few, live-asked, live-loads}
 use Rattle.tp_placing.proofs.LoadTable.{length-table-of}
 
-at-first : (machine : Machine) (plans : List Plan) (ask : Ask) (n : Net) (lines : List (List ℕ)) (held : List Held) (firsts : List PointId) → kept_of ask ≤ 64 → IsLoaded machine ask.now plans n lines held firsts → IsAt machine plans ask [] n lines held
-at-first machine plans ask n lines held firsts few l = record {
+at-first : (machine : Machine) (plans : List Plan) (ask : Ask) (n : Net) (lines : List (List ℕ)) (held : List Held) (firsts : List PointId) (causes : List Cause) → kept_of ask ≤ 64 → IsLoaded machine ask.now plans n lines held firsts causes → IsAt machine plans ask [] n lines held
+at-first machine plans ask n lines held firsts causes few l = record {
   net = l.net;
   solved = l.solved;
-  hops = l.hops;
   orders = l.orders;
   at_hand = λ s at. absurd cc;
   few_steps = (refl, few);
@@ -35,7 +35,7 @@ at-first machine plans ask n lines held firsts few l = record {
 pub stands-loaded : {N C : Type 0} (net : N → Net) (content : N → C) (past : N → List C) (b : BoardValue N) (machine : Machine) (plans : List Plan) (ask : Ask) → CanAsk machine plans ask
     → IsMadeFor b.made_for machine → b.ask ≡ Some ask → b.floor ≡ start_floor machine ask.now ask.origin → b.horizon ≡ ask.now + machine.window
     → b.plans ≡ filter (is_live machine ask.now) plans → b.steps ≡ [] → b.last.0 ≡ point_count b.plans → past_of past b ≡ []
-    → IsLoaded machine ask.now b.plans (net b.net) b.orders.orders b.held b.firsts
+    → IsLoaded machine ask.now b.plans (net b.net) b.orders.orders b.held b.firsts b.causes
     → StandsOn net content past b machine ask
 stands-loaded net content past b machine plans ask can made asked floor horizon live closed last none loaded =
     let few = live-few machine plans ask can ask.origin can.asked in
@@ -57,6 +57,9 @@ stands-loaded net content past b machine plans ask can made asked floor horizon 
       firsts = loaded.at_firsts;
       few_points = omega arith;
       few_plans = can-load.few;
-      now = subst (λ s. IsAt machine b.plans ask s (net b.net) b.orders.orders b.held) (sym closed) (at-first machine b.plans ask (net b.net) b.orders.orders b.held b.firsts kept loaded);
+      now = subst (λ s. IsAt machine b.plans ask s (net b.net) b.orders.orders b.held) (sym closed) (at-first machine b.plans ask (net b.net) b.orders.orders b.held b.firsts b.causes kept loaded);
       before = λ x inside n same. (let gone = subst (λ cs. Contains cs x) none inside in absurd (omega (arith, gone.1)));
+      plain = loaded.plain;
+      caused = subst (λ s. AreCaused machine b.plans ask b.causes s (net b.net)) (sym closed) (record { hops = loaded.hops ask; safe = loaded.safe });
+      caused_before = λ x inside n same. (let gone = subst (λ cs. Contains cs x) none inside in absurd (omega (arith, gone.1)));
     }

@@ -8,34 +8,41 @@ use Rattle.tp_base.specs.declared.edges.PointId.{PointId}
 use Rattle.tp_machine.specs.declared.whole.Machine.{Machine}
 use Rattle.tp_schedule.specs.Spots.{Spot, slot_order, by_begin, ticks_of}
 use Rattle.tp_schedule.specs.declared.parts.Plan.{Plan}
-use Rattle.tp_constraints.specs.Gaps.{KeepsGap, KeepsGaps, IsPoint, low_at, cap_at, line_gaps, duration_gaps, all_chains}
+use Rattle.tp_choices.proofs.Lists.{All-map_from}
+use Rattle.tp_constraints.specs.Gaps.{KeepsGap, KeepsGaps, IsPoint, low_at, cap_at, line_gaps}
+use Rattle.tp_constraints.specs.Hops.{Hop, IsHop, hop, no_choices, duration_hops, all_chain_hops, plans_hops}
+use Rattle.tp_constraints.specs.Hops.HopKind.{line}
 use Rattle.tp_constraints.specs.Laws.{plans_gaps, no_own}
 use Rattle.tp_constraints.specs.Numbers.{table_of, gap_by, spot_at, spot_in, IsTable, IsEdgeOf, with_edges}
 use Rattle.tp_constraints.proofs.BoardNets.{load_net}
+use Rattle.tp_constraints.proofs.HopGaps.{plans-hop-gaps}
+use Rattle.tp_constraints.proofs.Hopping.{load_hops}
 use Rattle.tp_constraints.proofs.Lists.{index-map, get-there, contains-get}
 use Rattle.tp_constraints.proofs.PointTable.{table_law}
 use Rattle.tp_constraints.proofs.ScheduleGaps.{gaps_law}
 use Rattle.tp_timelines.specs.Orders.{Orders, order_on, total}
+use Rattle.tp_schedule.specs.declared.parts.Ask.{Ask}
+use Rattle.tp_placing.specs.Causes.{ArePlain, IsNamedHop, IsSafe, hop_by, most_causes, step_causes}
+use Rattle.tp_placing.specs.declared.causes.Cause.{Cause}
 use Rattle.tp_placing.specs.declared.parts.Held.{Held}
 use Rattle.tp_placing.specs.Inside.{most_edges}
 use Rattle.tp_placing.specs.Loaded.{CanLoad, IsLoaded, all_edges}
-use Rattle.tp_placing.specs.Loading.{AreAddable, AreIds, chains_edges, firsts_from, holds_in, holds_on, lines_edges, plans_edges, with_plans}
+use Rattle.tp_placing.specs.Loading.{AreAddable, AreIds, chains_causes, chains_edges, firsts_from, holds_in, holds_on, lines_edges, plans_edges, with_plans}
 use Rattle.tp_placing.specs.LoadedHolds.{ArePut, IsHeldWithin, held_plans, put_all, ticks_in}
 use Rattle.tp_placing.specs.Standing.{AreFirsts, AreSlots, HasSmallOffsets}
 use Rattle.tp_placing.specs.Trying.{CanRequire}
-use Rattle.tp_placing.proofs.LoadGaps.{AreGaps, gaps-append, durations-gaps, lines-gaps, durations-count, lines-count}
+use Rattle.tp_placing.proofs.LoadCauses.{AreCausesFrom, causes-behind, plain-more}
+use Rattle.tp_placing.proofs.LoadHops.{AreHops, gaps-by, hops-append, durations-hops, lines-hops, durations-count, lines-count}
+use Rattle.tp_placing.proofs.SlotResources.{IsOn, order-on}
 use Rattle.tp_placing.proofs.LoadSlots.{slot_by, sorted-slots, plans-slots, ids-slots}
-use Rattle.tp_placing.proofs.LoadOrders.{chains-count, chains-gaps, holds-All}
+use Rattle.tp_placing.proofs.LoadOrders.{IsChain, chains-count, chains-hops, chains-length, holds-All}
 use Rattle.tp_placing.proofs.LoadTable.{numbered, ticks-by-number, length-table-of}
 use Rattle.tp_placing.proofs.LoadedTicks.{timed, times, few-acts, ticks-count, lows-map, caps-map}
 use Rattle.tp_placing.proofs.LoadPoints.{firsts-right}
 
-from-map : {X Y : Type 0} (P : Y → Type 0) (f : X → Y) (xs : List X) → All P (map f xs) → All (λ x. P (f x)) xs
-from-map P f [] all = All-nil (λ x. P (f x))
-from-map P f (x ∷ xs) all = All-cons (λ y. P (f y)) x xs (All-head P (f x) (map f xs) all) (from-map P f xs (All-tail P (f x) (map f xs) all))
-
 module _ (machine : Machine) (now : ℕ) (plans : List Plan) (can : CanLoad machine now plans) (room : ℕ) (enough : most_edges ≤ room) (net : Net) (is : net ≡ with_plans (now + machine.lead) (now + machine.window) plans empty_net) (least : HasLeast net)
-    (empty lines : Orders) (held : List Held) (cleared : empty.orders ≡ replicate (length machine.resources) []) (put : ArePut (ticks_in plans) (λ r. held_plans machine r 0 plans) (256 * length plans) empty lines [] held) where
+    (empty lines : Orders) (held : List Held) (cleared : empty.orders ≡ replicate (length machine.resources) []) (put : ArePut (ticks_in plans) (λ r. held_plans machine r 0 plans) (256 * length plans) empty lines [] held)
+    (base : List Cause) (plain : ArePlain base) (based : length base ≡ step_causes) where
   resources : length empty.orders ≡ length machine.resources
   resources = ap length cleared ∙ length-replicate (length machine.resources) []
 
@@ -56,23 +63,35 @@ module _ (machine : Machine) (now : ℕ) (plans : List Plan) (can : CanLoad mach
   ids : (r : ℕ) → r < length machine.resources → AreIds held (order_on lines.orders r)
   ids r below = let e = resources in let f = put.resources in put.holds.ids r (omega arith)
 
-  gaps : AreGaps (table_of plans) (all_edges machine plans lines.orders held) (plans_gaps machine plans)
-  gaps =
-      let chains = all_chains (slot_order machine plans) (length machine.resources) in
-      gaps-append (table_of plans) (plans_edges machine 0 plans) (lines_edges 0 plans ++ chains_edges (holds_on held lines.orders) (length machine.resources)) (duration_gaps machine plans) (line_gaps plans ++ chains)
-      (durations-gaps machine (table_of plans) 0 plans (numbered plans))
-      (gaps-append (table_of plans) (lines_edges 0 plans) (chains_edges (holds_on held lines.orders) (length machine.resources)) (line_gaps plans) chains
-      (lines-gaps (table_of plans) 0 plans (numbered plans))
-      (chains-gaps (table_of plans) (holds_on held lines.orders) (slot_order machine plans) (length machine.resources) (λ r below. (
-        sorted r below,
-        holds-All (IsHeldWithin (length (table_of plans))) held (order_on lines.orders r) (ids r below) within,
-        holds-All (λ h. HasSmallOffsets h.rule) held (order_on lines.orders r) (ids r below) put.holds.small,
-      ))))
+  chain : (r : ℕ) → r < length machine.resources → IsChain plans r (holds_on held lines.orders r) (slot_order machine plans r)
+  chain r below = record {
+    slots = sorted r below;
+    within = holds-All (IsHeldWithin (length (table_of plans))) held (order_on lines.orders r) (ids r below) within;
+    small = holds-All (λ h. HasSmallOffsets h.rule) held (order_on lines.orders r) (ids r below) put.holds.small;
+    on = All-map_from (IsOn r) (slot_by (table_of plans)) (holds_on held lines.orders r) (subst (All (IsOn r)) (sym (sorted r below)) (order-on machine plans r));
+  }
 
-  count : length (all_edges machine plans lines.orders held) ≤ 98600
-  count =
-      let d = durations-count machine 0 plans (few-acts machine now plans can) in
-      let l = lines-count 0 plans in
+  abbrev causes : List Cause
+  causes = base ++ chains_causes (holds_on held lines.orders) (length machine.resources)
+
+  hops : AreHops plans causes (all_edges machine plans lines.orders held) (plans_hops machine plans)
+  hops =
+      let more = plain-more base (chains_causes (holds_on held lines.orders) (length machine.resources)) plain in
+      let chains = all_chain_hops (slot_order machine plans) (length machine.resources) in
+      let edges = chains_edges step_causes (holds_on held lines.orders) (length machine.resources) in
+      let from = subst (λ n. AreCausesFrom causes n (chains_causes (holds_on held lines.orders) (length machine.resources))) based (causes-behind base (chains_causes (holds_on held lines.orders) (length machine.resources))) in
+      hops-append plans causes (plans_edges machine 0 plans) (lines_edges 0 plans ++ edges) (duration_hops machine plans) (map (hop line) (line_gaps plans) ++ chains)
+      (durations-hops plans causes more machine 0 plans (numbered plans))
+      (hops-append plans causes (lines_edges 0 plans) edges (map (hop line) (line_gaps plans)) chains
+      (lines-hops plans causes more 0 plans (numbered plans))
+      (chains-hops plans causes step_causes (holds_on held lines.orders) (slot_order machine plans) (length machine.resources) (omega arith) from chain))
+
+  gaps : map (gap_by (table_of plans)) (all_edges machine plans lines.orders held) ≡ plans_gaps machine plans
+  gaps = gaps-by plans causes (all_edges machine plans lines.orders held) hops.can ∙ ap (map (λ (h : Hop). h.gap)) hops.hops ∙ plans-hop-gaps machine plans
+
+  -- how many causes and edges there are
+  chains : length (chains_causes (holds_on held lines.orders) (length machine.resources)) ≤ 65536
+  chains =
       let e = resources in
       let f = put.resources in
       let c = chains-count held lines.orders (length machine.resources) (omega arith) ids in
@@ -80,8 +99,20 @@ module _ (machine : Machine) (now : ℕ) (plans : List Plan) (can : CanLoad mach
       let h = put.holds.all_held in
       let n = put.count in
       let few = can.few in
-      let a = length-append (plans_edges machine 0 plans) (lines_edges 0 plans ++ chains_edges (holds_on held lines.orders) (length machine.resources)) in
-      let b = length-append (lines_edges 0 plans) (chains_edges (holds_on held lines.orders) (length machine.resources)) in
+      omega arith
+
+  pub causes-fit : step_causes + length (chains_causes (holds_on held lines.orders) (length machine.resources)) ≤ most_causes
+  causes-fit = let c = chains in omega arith
+
+  count : length (all_edges machine plans lines.orders held) ≤ 98600
+  count =
+      let d = durations-count machine 0 plans (few-acts machine now plans can) in
+      let l = lines-count 0 plans in
+      let c = chains in
+      let same = chains-length step_causes (holds_on held lines.orders) (length machine.resources) in
+      let few = can.few in
+      let a = length-append (plans_edges machine 0 plans) (lines_edges 0 plans ++ chains_edges step_causes (holds_on held lines.orders) (length machine.resources)) in
+      let b = length-append (lines_edges 0 plans) (chains_edges step_causes (holds_on held lines.orders) (length machine.resources)) in
       omega arith
 
   lows : net.lows ≡ map (low_at (now + machine.lead) (λ _. false) plans no_own) (table_of plans)
@@ -105,8 +136,8 @@ module _ (machine : Machine) (now : ℕ) (plans : List Plan) (can : CanLoad mach
   solution : IsSolution (with_edges net (all_edges machine plans lines.orders held)) (λ i. ticks_of plans (spot_at (table_of plans) i))
   solution =
       let constraints = (gaps_law machine now (λ _. false) plans (ticks_of plans) can.loadable).0 (times machine now plans can) in
-      let kept = subst (KeepsGaps (ticks_of plans)) (sym gaps.gaps) constraints.1 in
-      let keeps = from-map (KeepsGap (ticks_of plans)) (gap_by (table_of plans)) (all_edges machine plans lines.orders held) kept in
+      let kept = subst (KeepsGaps (ticks_of plans)) (sym gaps) constraints.1 in
+      let keeps = All-map_from (KeepsGap (ticks_of plans)) (gap_by (table_of plans)) (all_edges machine plans lines.orders held) kept in
       record {
         above_low = λ i below. (
             let p = points in
@@ -131,28 +162,35 @@ module _ (machine : Machine) (now : ℕ) (plans : List Plan) (can : CanLoad mach
 
   pub addable : AreAddable room net (all_edges machine plans lines.orders held)
   addable = record {
-    can = subst (λ n. All (CanRequire n) (all_edges machine plans lines.orders held)) (sym points) gaps.can;
+    can = subst (λ n. All (CanRequire n) (all_edges machine plans lines.orders held)) (sym points) hops.can;
     spare = let c = count in let e = ap length none-added in omega arith;
     solution = (λ i. ticks_of plans (spot_at (table_of plans) i), solution);
     least = least;
   }
 
-  pub loaded : (n : Net) (firsts : List PointId) → n ≡ with_edges net (all_edges machine plans lines.orders held) → HasLeast n → firsts ≡ firsts_from 0 plans → IsLoaded machine now plans n lines.orders held firsts
-  loaded n firsts same solved at =
+  named : (ask : Ask) → All (IsNamedHop machine plans ask no_choices causes) (all_edges machine plans lines.orders held)
+  named ask =
+      let right = All-map_from (IsHop machine plans ask no_choices) (hop_by plans causes) (all_edges machine plans lines.orders held) (subst (All (IsHop machine plans ask no_choices)) (sym hops.hops) (load_hops machine plans ask can.loadable.legal)) in
+      λ k d within. record { tag = hops.tags k d within; is_hop = right k d within }
+
+  pub loaded : (n : Net) (firsts : List PointId) (all : List Cause) → n ≡ with_edges net (all_edges machine plans lines.orders held) → HasLeast n → firsts ≡ firsts_from 0 plans
+      → all ≡ base ++ chains_causes (holds_on held lines.orders) (length machine.resources) → IsLoaded machine now plans n lines.orders held firsts all
+  loaded n firsts all same solved at caused =
       let edges : n.edges ≡ all_edges machine plans lines.orders held = ap (λ (m : Net). m.edges) same ∙ ap (λ es. es ++ all_edges machine plans lines.orders held) none-added in
-      let mapped : map (gap_by (table_of plans)) n.edges ≡ plans_gaps machine plans = ap (map (gap_by (table_of plans))) edges ∙ gaps.gaps in
-      let hops = subst (λ gs. All (Contains (plans_gaps machine plans)) gs) (sym mapped) (All-contains_itself (plans_gaps machine plans)) in
-      record {
+      let mapped : map (gap_by (table_of plans)) n.edges ≡ plans_gaps machine plans = ap (map (gap_by (table_of plans))) edges ∙ gaps in
+      subst (IsLoaded machine now plans n lines.orders held firsts) (sym caused) (record {
         net = load_net machine now (λ _. false) plans (table_of plans) n can.loadable spots (ap (λ (m : Net). m.lows) same ∙ lows) (ap (λ (m : Net). m.caps) same ∙ caps)
-            (subst (λ es. All (IsEdgeOf (table_of plans)) es) (sym edges) (All-weaker (CanRequire (length (table_of plans))) (IsEdgeOf (table_of plans)) (λ e c. (c.from, c.to)) (all_edges machine plans lines.orders held) gaps.can))
+            (subst (λ es. All (IsEdgeOf (table_of plans)) es) (sym edges) (All-weaker (CanRequire (length (table_of plans))) (IsEdgeOf (table_of plans)) (λ e c. (c.from, c.to)) (all_edges machine plans lines.orders held) hops.can))
             (subst (λ gs. All (Contains gs) (plans_gaps machine plans)) (sym mapped) (All-contains_itself (plans_gaps machine plans)))
-            hops;
+            (subst (λ gs. All (Contains (plans_gaps machine plans)) gs) (sym mapped) (All-contains_itself (plans_gaps machine plans)));
         solved = solved;
-        hops = hops;
+        hops = λ ask. subst (All (IsNamedHop machine plans ask no_choices causes)) (sym edges) (named ask);
+        safe = subst (All (IsSafe 0)) (sym edges) hops.safe;
+        plain = plain-more base (chains_causes (holds_on held lines.orders) (length machine.resources)) plain;
         orders = λ r below. subst (AreSlots (table_of plans) held (order_on lines.orders r)) (sorted r below) (ids-slots (table_of plans) held (order_on lines.orders r) (ids r below) within);
         few_edges = let c = count in let e = ap length edges in omega arith;
         few_holds = let c = put.count in let few = can.few in omega arith;
         all_held = put.holds.all_held;
         small = put.holds.small;
         at_firsts = subst (AreFirsts 0 plans) (sym at) (firsts-right 0 plans);
-      }
+      })

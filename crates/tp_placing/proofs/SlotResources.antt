@@ -1,18 +1,19 @@
 -- The slots of a resource's order are holds on that resource.
 use Rattle.std.proofs.Common.{◌≡◌, ℕ, suc, Bool, true, false, cond, ◌==◌, List, [], ◌∷◌, ◌++◌, length, refl, arith, All, insert}
-use Rattle.std.specs.Prelude.{int_lt}
 use Rattle.std.proofs.lemmas.Bool.Decides.{nat_tests}
-use Rattle.std.proofs.lemmas.List.Elements.{All-nil, All-cons, All-head, All-tail, All-append}
+use Rattle.std.proofs.lemmas.List.Elements.{All-nil, All-cons, All-append}
+use Rattle.std.proofs.lemmas.List.Sorted.{All-permutation}
 use Rattle.tp_machine.specs.Using.{action_at}
 use Rattle.tp_machine.specs.declared.parts.ActId.{ActId}
 use Rattle.tp_machine.specs.declared.parts.HoldRule.{HoldRule}
 use Rattle.tp_machine.specs.declared.whole.Machine.{Machine}
 use Rattle.tp_schedule.specs.Choices.{Choice, put_places, placed}
 use Rattle.tp_schedule.specs.Holding.{holds_of_act}
-use Rattle.tp_schedule.specs.Spots.{Spot, Slot, Ticks, begin_at, by_begin, put_slot, slot_order, slots, slots_by, slots_from, ticks_of}
+use Rattle.tp_schedule.specs.Spots.{Spot, Slot, slot_order, slots, slots_by, slots_from, ticks_of}
 use Rattle.tp_schedule.specs.Spots.Spot.{kept, own}
 use Rattle.tp_schedule.specs.declared.parts.Plan.{Plan}
 use Rattle.tp_schedule.specs.declared.parts.SheetId.{SheetId}
+use Rattle.tp_schedule.proofs.SlotOrder.{IsPermutation-by_begin}
 use Rattle.tp_choices.proofs.Lists.{All-insert}
 use Rattle.tp_constraints.specs.Suffixes.{Suffix, order_in}
 
@@ -38,19 +39,9 @@ slots-on machine resource [] = All-nil (IsOn resource)
 slots-on machine resource (p ∷ plans) =
     All-append (IsOn resource) (slots_from machine resource p.sheet 0 p.acts) (slots machine resource plans) (from-on machine resource p.sheet 0 p.acts) (slots-on machine resource plans)
 
-put-on : (resource : ℕ) (t : Ticks) (s : Slot) (xs : List Slot) → IsOn resource s → All (IsOn resource) xs → All (IsOn resource) (put_slot t s xs)
-put-on resource t s [] on all = All-cons (IsOn resource) s [] on all
-put-on resource t s (x ∷ xs) on all = go (int_lt (begin_at t s) (begin_at t x)) (put-on resource t s xs on (All-tail (IsOn resource) x xs all)) where
-  go : (before : Bool) → All (IsOn resource) (put_slot t s xs) → All (IsOn resource) (cond before (s ∷ x ∷ xs) (x ∷ put_slot t s xs))
-  go true rest = All-cons (IsOn resource) s (x ∷ xs) on all
-  go false rest = All-cons (IsOn resource) x (put_slot t s xs) (All-head (IsOn resource) x xs all) rest
-
-begin-on : (resource : ℕ) (t : Ticks) (xs : List Slot) → All (IsOn resource) xs → All (IsOn resource) (by_begin t xs)
-begin-on resource t [] all = All-nil (IsOn resource)
-begin-on resource t (x ∷ xs) all = put-on resource t x (by_begin t xs) (All-head (IsOn resource) x xs all) (begin-on resource t xs (All-tail (IsOn resource) x xs all))
-
 pub order-on : (machine : Machine) (plans : List Plan) (resource : ℕ) → All (IsOn resource) (slot_order machine plans resource)
-order-on machine plans resource = begin-on resource (ticks_of plans) (slots machine resource plans) (slots-on machine resource plans)
+order-on machine plans resource =
+    All-permutation (IsOn resource) (slots machine resource plans) (slot_order machine plans resource) (IsPermutation-by_begin (ticks_of plans) (slots machine resource plans)) (slots-on machine resource plans)
 
 places-on : (resource : ℕ) (from to : Spot) (rules : List HoldRule) (places : List ℕ) (order : List Slot) → All (IsOn resource) order → All (IsOn resource) (put_places resource from to rules places order)
 places-on resource from to [] places order all = all

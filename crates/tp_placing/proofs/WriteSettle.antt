@@ -63,9 +63,9 @@ settled machine now plans can table net sol is l =
       }
 
 -- the schedule that the times make
-pub settled-is : (machine : Machine) (now : ℕ) (plans live new : List Plan) (lines : _) (held : _) (firsts : _) (net : Net) → CanSettle machine now plans → live ≡ filter (is_live machine now) plans → IsLoaded machine now live net lines held firsts
+pub settled-is : (machine : Machine) (now : ℕ) (plans live new : List Plan) (lines : _) (held : _) (firsts : _) (causes : _) (net : Net) → CanSettle machine now plans → live ≡ filter (is_live machine now) plans → IsLoaded machine now live net lines held firsts causes
     → ((t : Ticks) → AreLeastTicks net (table_of live) t → new ≡ map (retimed_in live t) plans) → IsSettled machine now plans new
-settled-is machine now plans live new lines held firsts net can part l times =
+settled-is machine now plans live new lines held firsts causes net can part l times =
     let P : List Plan → Type 0 = λ ps. IsLoadedNet machine now (λ _. false) ps (table_of live) net in
     let e = times (ticks_by (table_of live) l.solved.0) (record { solution = l.solved.0; least = l.solved.1; there = λ i s at. ap l.solved.0 (number-at (table_of live) l.net.is_table.differ i s at) }) in
     subst (IsSettled machine now plans) (sym (e ∙ ap (λ ps. map (retimed_in ps (ticks_by (table_of live) l.solved.0)) plans) part)) (settled machine now plans can (table_of live) net l.solved.0 (subst P part l.net) l.solved.1)

@@ -1,6 +1,6 @@
 //! Why the edges of the network stand. An edge's tag is the place of its cause in a table.
 ghost use Rattle.std.specs.Prelude.{◌≡◌, ◌+◌, ◌*◌, ◌<◌, ◌≤◌, ◌++◌, ◌∷◌, [], length, take, slice_get, slice_set, Some};
-ghost use Rattle.tp_placing.specs.Causes.{cause_between, most_causes, step_causes};
+ghost use Rattle.tp_placing.specs.Causes.{ArePlain, cause_between, most_causes, step_causes};
 
 use crate::parts::Held;
 use std::alloc::Global;
@@ -84,6 +84,7 @@ impl Causes {
         kept.push(Cause::Back)?;
         kept.push(Cause::Line)?;
         kept.push(Cause::Stop)?;
+        kept.push(Cause::Limit)?;
         'slots: while kept.len() < STEP_CAUSES {
             kept.push(Cause::Limit)?;
         }
@@ -92,7 +93,8 @@ impl Causes {
 
     /// Forgets the causes of the loaded orders.
     pub(crate) fn clear(&mut self)
-        ensures { self.new ≡ take step_causes self.old }
+        ensures plain { ArePlain self.new }
+        ensures forgotten { self.new ≡ take step_causes self.old }
     {
         self.kept.truncate(STEP_CAUSES);
     }

@@ -35,10 +35,10 @@ fn add_chain<N: Network>(
     ensures edges { N.edge_room net.new ≡ N.edge_room net.old }
 {
     for place in 1..lines.len(resource) {
-        let before = lines.at(resource, place - 1) as usize;
-        let after = lines.at(resource, place) as usize;
-        let tag = causes.push(between(&held[before], &held[after]));
-        add_kept(net, &[following(&held[before], &held[after], tag)]);
+        let before = &held[lines.at(resource, place - 1) as usize];
+        let after = &held[lines.at(resource, place) as usize];
+        let tag = causes.push(between(before, after));
+        add_kept(net, &[following(before, after, tag)]);
     }
 }
 

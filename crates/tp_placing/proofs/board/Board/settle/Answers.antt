@@ -40,5 +40,5 @@ write_times-requires-clause-planned g c =
 pub returns-clause-settled : goal.returns-clause-settled
 returns-clause-settled g c =
     let same : c.as_slice.result.now ≡ c.deref.result.now = c.as_slice.ensures.value ∙ sym c.deref.ensures.value in
-    settled-is c.args.machine.now c.args.now c.args.schedule.now.plans c.as_slice.result.now c.write_times.new.schedule.plans _ _ _ (g.N.Network.net c.load_plans-points.new.net) c.requires.can_settle (c.as_slice.ensures.value ∙ c.keep_live.ensures.plans) c.load_plans-points.ensures.loaded
+    settled-is c.args.machine.now c.args.now c.args.schedule.now.plans c.as_slice.result.now c.write_times.new.schedule.plans _ _ _ _ (g.N.Network.net c.load_plans-points.new.net) c.requires.can_settle (c.as_slice.ensures.value ∙ c.keep_live.ensures.plans) c.load_plans-points.ensures.loaded
     (subst (λ ps. (t : Ticks) → AreLeastTicks (g.N.Network.net c.load_plans-points.new.net) (table_of ps) t → c.write_times.new.schedule.plans ≡ map (retimed_in ps t) c.args.schedule.now.plans) (sym same) c.write_times.ensures.times)
