@@ -25,7 +25,7 @@ joined_of [] live = live
 joined_of (p ∷ past) live = put_plan p (joined_of past live)
 
 -- a plan that fails a test is not seen by its filter, and one that passes stands first among later ones
-filter-put_out : (g : Plan → Bool) (p : Plan) (xs : List Plan) → g p ≡ false → filter g (put_plan p xs) ≡ filter g xs
+pub filter-put_out : (g : Plan → Bool) (p : Plan) (xs : List Plan) → g p ≡ false → filter g (put_plan p xs) ≡ filter g xs
 filter-put_out g p [] e = rw e refl
 filter-put_out g p (q ∷ xs) e = go (is_before p.sheet q.sheet) (g q) refl (filter-put_out g p xs e) where
   go : (b c : Bool) → g q ≡ c → filter g (put_plan p xs) ≡ filter g xs → filter g (cond b (p ∷ q ∷ xs) (q ∷ put_plan p xs)) ≡ cond c (q ∷ filter g xs) (filter g xs)

@@ -1,5 +1,5 @@
 -- The live part of a schedule that can be asked can be loaded.
-use Rattle.std.proofs.Common.{◌≡◌, ◌+◌, ◌≤◌, Bool, true, false, not, List, length, filter, refl, ap, arith, All}
+use Rattle.std.proofs.Common.{◌≡◌, ℕ, ◌+◌, ◌≤◌, Bool, true, false, not, List, length, filter, refl, ap, arith, All}
 use Rattle.std.proofs.lemmas.List.Elements.{All-filter, All-weaker}
 use Rattle.std.proofs.lemmas.List.Sums.{length-filter}
 use Rattle.tp_machine.specs.declared.whole.Machine.{Machine}
@@ -7,7 +7,7 @@ use Rattle.tp_schedule.proofs.ChangeFacts.{All-plan_of}
 use Rattle.tp_schedule.proofs.Membership.{Contains-filter_from}
 use Rattle.tp_schedule.specs.Answers.{IsAskedFrom, kept_from}
 use Rattle.tp_schedule.specs.Living.{is_live}
-use Rattle.tp_schedule.specs.Planning.{CanAsk, HasTimeFrom}
+use Rattle.tp_schedule.specs.Planning.{CanAsk, CanPlanOn, HasTimeFrom}
 use Rattle.tp_schedule.specs.Plans.{IsTimedPlan, without, is_same_copy}
 use Rattle.tp_schedule.specs.declared.parts.Ask.{Ask}
 use Rattle.tp_schedule.specs.declared.parts.Origin.{Origin}
@@ -18,6 +18,18 @@ use Rattle.tp_placing.specs.Loaded.{CanLoad}
 use Rattle.tp_placing.specs.Loading.{point_count}
 use Rattle.tp_placing.proofs.LiveFacts.{points-few}
 use Rattle.tp_placing.proofs.LivePart.{legal-filter, plan-none, plan-some, split-copy, none-without, one-more}
+
+-- live plans that are few can be loaded
+pub can-load : (machine : Machine) (now : ℕ) (plans : List Plan) → CanPlanOn machine now plans → length (filter (is_live machine now) plans) ≤ 256 → CanLoad machine now (filter (is_live machine now) plans)
+can-load machine now plans can few = record {
+  now_at_most = can.now_at_most;
+  loadable = record {
+    legal = legal-filter (is_live machine now) machine plans can.legal;
+    floors = λ p inside. can.floors p (Contains-filter_from (is_live machine now) plans p inside).0;
+  };
+  horizon = λ p inside. can.horizon p (Contains-filter_from (is_live machine now) plans p inside).0;
+  few = few;
+}
 
 module _ (machine : Machine) (plans : List Plan) (ask : Ask) (can : CanAsk machine plans ask) where
   acts-few : All (λ p. length p.acts ≤ 64) plans
@@ -68,12 +80,4 @@ module _ (machine : Machine) (plans : List Plan) (ask : Ask) (can : CanAsk machi
 
   -- and they can be loaded
   pub live-loads : CanLoad machine ask.now (filter (is_live machine ask.now) plans)
-  live-loads = record {
-    now_at_most = can.plan_on.now_at_most;
-    loadable = record {
-      legal = legal-filter (is_live machine ask.now) machine plans can.plan_on.legal;
-      floors = λ p inside. can.plan_on.floors p (Contains-filter_from (is_live machine ask.now) plans p inside).0;
-    };
-    horizon = λ p inside. can.plan_on.horizon p (Contains-filter_from (is_live machine ask.now) plans p inside).0;
-    few = (live-few ask.origin can.asked).0;
-  }
+  live-loads = can-load machine ask.now plans can.plan_on (live-few ask.origin can.asked).0

@@ -6,12 +6,7 @@ use Rattle.std.proofs.lemmas.List.Elements.{All-nil, All-cons, All-head, All-tai
 use Rattle.tp_base.specs.declared.edges.Edge.{Edge}
 use Rattle.tp_base.specs.Net.{Net, IsSolution, HasLeast, HasNoSolution, Keeps, with_edge, with_low, with_point}
 use Rattle.tp_constraints.specs.Numbers.{with_edges}
-
-pub All-split : {X : Type 0} (P : X → Type 0) (xs ys : List X) → All P (xs ++ ys) → All P xs × All P ys
-All-split P [] ys all = (All-nil P, all)
-All-split P (x ∷ xs) ys all =
-    let r = All-split P xs ys (All-tail P x (xs ++ ys) all) in
-    (All-cons P x xs (All-head P x (xs ++ ys) all) r.0, r.1)
+use Rattle.tp_constraints.proofs.Lists.{All-split}
 
 solution-fewer : (net : Net) (es : List Edge) (n : ℕ) (x : ℕ → ℕ) → IsSolution (with_edges net es) x → IsSolution (with_edges net (take n es)) x
 solution-fewer net es n x s =

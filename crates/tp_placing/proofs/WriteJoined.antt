@@ -17,6 +17,7 @@ use Rattle.tp_schedule.proofs.CopyFacts.{before-trans, same_copy-is}
 use Rattle.tp_schedule.proofs.Membership.{All-from_contains, Contains-filter_from, Contains-here, Contains-later}
 use Rattle.tp_schedule.proofs.Pairs.{AllPairs-head, AllPairs-tail}
 use Rattle.tp_choices.specs.LiveParts.{IsJoined, less, only}
+use Rattle.tp_choices.proofs.Joining.{filter-put_out}
 use Rattle.tp_choices.proofs.Lists.{filter-all}
 use Rattle.tp_choices.proofs.Parts.{filter-swap}
 use Rattle.tp_placing.specs.Writing.{retimed_in}
@@ -67,16 +68,6 @@ filter-put g p (q ∷ xs) in_order e = go (is_before p.sheet q.sheet) refl (g q.
   go true before false f rest = rw (e, f) (sym (behind before))
   go false before true f rest = rw (f, before) (ap (λ ps. q ∷ ps) rest)
   go false before false f rest = rw f rest
-
--- and is not seen by one that it fails
-filter-put_out : (g : SheetId → Bool) (p : Plan) (xs : List Plan) → g p.sheet ≡ false → filter (λ q. g q.sheet) (put_plan p xs) ≡ filter (λ q. g q.sheet) xs
-filter-put_out g p [] e = rw e refl
-filter-put_out g p (q ∷ xs) e = go (is_before p.sheet q.sheet) (g q.sheet) refl (filter-put_out g p xs e) where
-  go : (b c : Bool) → g q.sheet ≡ c → filter (λ r. g r.sheet) (put_plan p xs) ≡ filter (λ r. g r.sheet) xs → filter (λ r. g r.sheet) (cond b (p ∷ q ∷ xs) (q ∷ put_plan p xs)) ≡ cond c (q ∷ filter (λ r. g r.sheet) xs) (filter (λ r. g r.sheet) xs)
-  go true true f rest = rw (e, f) refl
-  go true false f rest = rw (e, f) refl
-  go false true f rest = rw f (ap (λ ys. q ∷ ys) rest)
-  go false false f rest = rw f rest
 
 map-put : (t : Ticks) (p : Plan) (xs : List Plan) → map (timed_by t) (put_plan p xs) ≡ put_plan (timed_by t p) (map (timed_by t) xs)
 map-put t p [] = refl
@@ -162,5 +153,5 @@ module _ (machine : Machine) (plans : List Plan) (ask : Ask) (can : CanAsk machi
             filter-put (λ c. not (ended c)) (timed_by settled (asked_plan live ask choices)) (without ask.sheet (map (retimed_in live t) plans)) (AllPairs-filter IsEarlier (λ p. not (is_same_copy p.sheet ask.sheet)) (map (retimed_in live t) plans) before) (rw stays-on refl)
             ∙ ap (put_plan (timed_by settled (asked_plan live ask choices))) rest-live
             ∙ sym (map-put settled (asked_plan live ask choices) (without ask.sheet live));
-        past_part = filter-put_out ended (timed_by settled (asked_plan live ask choices)) (without ask.sheet (map (retimed_in live t) plans)) stays-on ∙ rest-past;
+        past_part = filter-put_out (λ q. ended q.sheet) (timed_by settled (asked_plan live ask choices)) (without ask.sheet (map (retimed_in live t) plans)) stays-on ∙ rest-past;
       }

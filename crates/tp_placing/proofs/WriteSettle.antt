@@ -23,22 +23,14 @@ use Rattle.tp_placing.specs.Loading.{point_count}
 use Rattle.tp_placing.specs.Writing.{AreLeastTicks, retimed_in}
 use Rattle.tp_placing.proofs.LiveFacts.{points-few}
 use Rattle.tp_placing.proofs.LoadTable.{length-table-of}
-use Rattle.tp_placing.proofs.LivePart.{legal-filter}
+use Rattle.tp_placing.proofs.LivePlans.{can-load}
 use Rattle.tp_placing.proofs.WriteJoined.{joined-times}
 use Rattle.tp_placing.proofs.WriteLive.{gone, may-forget}
 use Rattle.tp_placing.proofs.WriteWhole.{less-live}
 
 -- the live plans can be loaded
 pub live-settles : (machine : Machine) (now : ℕ) (plans : List Plan) → CanSettle machine now plans → CanLoad machine now (filter (is_live machine now) plans)
-live-settles machine now plans can = record {
-  now_at_most = can.plan_on.now_at_most;
-  loadable = record {
-    legal = legal-filter (is_live machine now) machine plans can.plan_on.legal;
-    floors = λ p in'. can.plan_on.floors p (Contains-filter_from (is_live machine now) plans p in').0;
-  };
-  horizon = λ p in'. can.plan_on.horizon p (Contains-filter_from (is_live machine now) plans p in').0;
-  few = let few = can.few_live in let l = length-filter (is_live machine now) plans in omega arith;
-}
+live-settles machine now plans can = can-load machine now plans can.plan_on (let few = can.few_live in let l = length-filter (is_live machine now) plans in omega arith)
 
 pub settled : (machine : Machine) (now : ℕ) (plans : List Plan) (can : CanSettle machine now plans) (table : List Spot) (net : Net) (sol : ℕ → ℕ) → IsLoadedNet machine now (λ _. false) (filter (is_live machine now) plans) table net → IsLeastSolution net sol
     → IsSettled machine now plans (map (retimed_in (filter (is_live machine now) plans) (ticks_by table sol)) plans)
