@@ -1,19 +1,16 @@
 -- Leaving out the newest choice, or the stop, leaves an open list: its ticks are the same function, and what room the
 -- choice needed was before it.
-use Rattle.std.proofs.Common.{◌≡◌, inl, inr, ℕ, suc, ◌+◌, ◌≤◌, Bool, true, false, cond, List, [], ◌∷◌, ◌++◌, insert, length, refl, sym, arith, AllPairs, subst, Option, Some, None, option_and_then, IsTrue, IsSomeAnd, ◌==◌}
-use Rattle.std.proofs.lemmas.List.Elements.{Contains-push_cases}
+use Rattle.std.proofs.Common.{ℕ, suc, ◌+◌, ◌≤◌, Bool, true, false, cond, List, [], ◌∷◌, ◌++◌, insert, length, sym, arith, AllPairs, subst, Option, Some, None, IsSomeAnd, ◌==◌}
 use Rattle.tp_machine.specs.Using.{action_at}
 use Rattle.tp_schedule.proofs.Walks.{walk_first, walk_on, least_sum-push, AreAllowed-head, AreAllowed-tail, AreAllowed-push}
 use Rattle.tp_schedule.proofs.Pairs.{AllPairs-insert_out}
 use Rattle.tp_schedule.specs.Choices.{Choice, ChoiceList, acts_of, put_places, HasTimes, OpensTo, going, stopping}
 use Rattle.tp_schedule.specs.Plans.{LastsWithin}
-use Rattle.tp_schedule.specs.Routes.{walk, step_by, AreAllowed, least_sum, least_of, least_in, is_act_allowed}
+use Rattle.tp_schedule.specs.Routes.{least_sum, least_of, least_in}
 use Rattle.tp_schedule.specs.Spots.{Spot, Ticks, Slot, IsApart}
 use Rattle.tp_machine.specs.declared.parts.ActId.{ActId}
 use Rattle.tp_machine.specs.declared.parts.Action.{Action}
 use Rattle.tp_machine.specs.declared.parts.HoldRule.{HoldRule}
-use Rattle.tp_machine.specs.declared.parts.Sheet.{Sheet}
-use Rattle.tp_machine.specs.declared.parts.Outs.{Outs}
 use Rattle.tp_machine.specs.declared.parts.State.{State}
 use Rattle.tp_machine.specs.declared.whole.Machine.{Machine}
 use Rattle.tp_schedule.specs.declared.parts.Ask.{Ask}

@@ -1,5 +1,5 @@
 -- The edges of plans are their hops, and may be required.
-use Rattle.std.proofs.Common.{◌≡◌, ℕ, suc, ◌+◌, ◌*◌, ◌<◌, ◌≤◌, ◌-◌, Bool, true, false, cond, List, [], ◌∷◌, ◌++◌, length, map, refl, ap, sym, ◌∙◌, subst, arith, Option, Some, None, All, inl, unwrap_or}
+use Rattle.std.proofs.Common.{◌≡◌, ℕ, suc, ◌+◌, ◌*◌, ◌<◌, ◌≤◌, Bool, true, false, cond, List, [], ◌∷◌, ◌++◌, length, map, refl, ap, sym, ◌∙◌, subst, arith, Option, Some, None, All, inl}
 use Rattle.std.specs.Prelude.{slice_get, pos, neg_ℤ}
 use Rattle.std.specs.List.{find}
 use Rattle.std.proofs.lemmas.Int.{ints}
@@ -15,7 +15,7 @@ use Rattle.tp_machine.specs.declared.parts.Action.{Action}
 use Rattle.tp_machine.specs.declared.whole.Machine.{Machine}
 use Rattle.tp_machine.proofs.MachineFacts.{is_machine}
 use Rattle.tp_schedule.specs.Spots.{Spot}
-use Rattle.tp_schedule.specs.Spots.Spot.{kept, own}
+use Rattle.tp_schedule.specs.Spots.Spot.{kept}
 use Rattle.tp_schedule.specs.declared.parts.Plan.{Plan}
 use Rattle.tp_schedule.specs.declared.parts.SheetId.{SheetId}
 use Rattle.tp_constraints.specs.Gaps.{gap, line_gap, line_gaps, is_same_line, end_spot}

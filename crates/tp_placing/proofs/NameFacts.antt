@@ -1,19 +1,17 @@
 -- The points of a board by their numbers, and their names.
-use Rattle.std.proofs.Common.{◌≡◌, ℕ, zero, suc, ◌+◌, ◌-◌, ◌<◌, ◌≤◌, List, [], ◌∷◌, length, refl, ap, sym, ◌∙◌, subst, arith, get_or, All, Some, inl, inr, Contains}
-use Rattle.std.specs.Prelude.{slice_get, unwrap_or, option_map}
+use Rattle.std.proofs.Common.{◌≡◌, ℕ, suc, ◌+◌, ◌-◌, ◌<◌, ◌≤◌, List, [], ◌∷◌, length, refl, ap, sym, ◌∙◌, subst, arith, get_or, All, Some, Contains}
+use Rattle.std.specs.Prelude.{slice_get, option_map}
 use Rattle.std.specs.List.{AllWithin}
 use Rattle.std.specs.List.Sorted.{IsNonDecreasingBy}
 use Rattle.std.proofs.lemmas.List.Elements.{All-contains}
-use Rattle.std.proofs.lemmas.Option.{slice_get_past, slice_get_read}
-use Rattle.tp_base.proofs.SliceFacts.{slice_get_end}
+use Rattle.std.proofs.lemmas.Option.{slice_get_read}
 use Rattle.tp_base.specs.Net.{Net}
 use Rattle.tp_base.specs.declared.edges.PointId.{PointId}
 use Rattle.tp_machine.specs.declared.whole.Machine.{Machine}
 use Rattle.tp_schedule.proofs.CopyFacts.{plan_of-itself}
 use Rattle.tp_schedule.proofs.Membership.{All-from_contains}
 use Rattle.tp_schedule.specs.Plans.{IsTimedPlan, plan_of}
-use Rattle.tp_schedule.specs.Spots.{Spot}
-use Rattle.tp_schedule.specs.Spots.Spot.{kept, own}
+use Rattle.tp_schedule.specs.Spots.Spot.{kept}
 use Rattle.tp_schedule.specs.declared.parts.Plan.{Plan}
 use Rattle.tp_schedule.specs.declared.recording.SheetName.{SheetName}
 use Rattle.tp_constraints.proofs.Lists.{contains-get}
@@ -24,11 +22,11 @@ use Rattle.tp_placing.specs.Boards.{BoardValue}
 use Rattle.tp_placing.specs.Causes.{grip_name, name_of_plan, numbered, spot_name}
 use Rattle.tp_placing.specs.Loading.{HasPoints, firsts_from}
 use Rattle.tp_placing.specs.LoadedHolds.{ticks_in}
-use Rattle.tp_placing.specs.Standing.{AreFirsts, Stands, table_with}
+use Rattle.tp_placing.specs.Standing.{AreFirsts, Stands}
 use Rattle.tp_placing.proofs.CauseFacts.{numbered-in}
 use Rattle.tp_placing.proofs.LoadTable.{length-table-of, length-ticks}
 use Rattle.tp_placing.proofs.LoadTicks.{count-few, firsts-rise, from-first, in-plan, some-before}
-use Rattle.tp_placing.proofs.TableFacts.{begins-at, length-table}
+use Rattle.tp_placing.proofs.TableFacts.{begins-at}
 
 -- the first points are given by the plans
 pub firsts-only : (n : ℕ) (plans : List Plan) (firsts : List PointId) → AreFirsts n plans firsts → firsts ≡ firsts_from n plans

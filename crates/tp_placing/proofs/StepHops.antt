@@ -1,7 +1,7 @@
 -- The edges that a step adds are its hops, with the causes that it keeps.
-use Rattle.std.proofs.Common.{◌≡◌, ℕ, zero, suc, ◌+◌, ◌*◌, ◌<◌, ◌≤◌, inl, List, [], ◌∷◌, ◌++◌, length, map, refl, ap, sym, ◌∙◌, arith, Option, Some, None, All}
+use Rattle.std.proofs.Common.{◌≡◌, ℕ, zero, suc, ◌+◌, ◌<◌, ◌≤◌, inl, List, [], ◌∷◌, ◌++◌, length, map, refl, ap, sym, ◌∙◌, arith, Option, Some, None, All}
 use Rattle.std.specs.Prelude.{slice_get, pos, neg_ℤ}
-use Rattle.std.proofs.lemmas.List.{length-append, map-append}
+use Rattle.std.proofs.lemmas.List.{map-append}
 use Rattle.std.proofs.lemmas.List.Elements.{All-nil, All-cons, All-head, All-tail, All-append}
 use Rattle.tp_base.proofs.SliceFacts.{found, All-at}
 use Rattle.tp_constraints.proofs.Lists.{All-split}
@@ -9,17 +9,16 @@ use Rattle.tp_base.specs.declared.edges.Edge.{Edge}
 use Rattle.tp_base.specs.declared.edges.PointId.{PointId}
 use Rattle.tp_machine.specs.declared.parts.Action.{Action}
 use Rattle.tp_schedule.specs.Spots.{Spot, Slot}
-use Rattle.tp_schedule.specs.Spots.Spot.{own}
 use Rattle.tp_schedule.specs.declared.parts.Plan.{Plan}
-use Rattle.tp_constraints.specs.Gaps.{Gap, gap, slot_gap}
-use Rattle.tp_constraints.specs.Hops.{Hop, hop, slot_hop, hop_after, hop_until, place_hops, range_hops}
+use Rattle.tp_constraints.specs.Gaps.{Gap, gap}
+use Rattle.tp_constraints.specs.Hops.{hop, slot_hop, hop_after, hop_until, place_hops, range_hops}
 use Rattle.tp_constraints.specs.Hops.HopKind.{line, order, stop}
 use Rattle.tp_constraints.specs.Numbers.{gap_by, spot_in, IsEdgeOf}
 use Rattle.tp_constraints.specs.Suffixes.{before_place}
 use Rattle.tp_placing.specs.declared.causes.Cause.{Cause}
 use Rattle.tp_placing.specs.declared.causes.Cause.TheVariants.{Line}
 use Rattle.tp_placing.specs.declared.parts.Held.{Held}
-use Rattle.tp_placing.specs.Causes.{ArePlain, IsSafe, cause_between, causes_around, hop_by, kind_of, line_tag, numbered, step_tag, step_causes, stop_tag}
+use Rattle.tp_placing.specs.Causes.{ArePlain, IsSafe, cause_between, causes_around, hop_by, kind_of, line_tag, step_tag, step_causes, stop_tag}
 use Rattle.tp_placing.specs.Edges.{duration_edges, edge_of, edge_after, edge_until, edges_around, held_before, held_behind, hold_edge}
 use Rattle.tp_placing.specs.Standing.{AreSlots, table_with}
 use Rattle.tp_placing.proofs.CauseFacts.{AreMade, IsSafeTag, numbered-in, before-around, behind-around, length-around}

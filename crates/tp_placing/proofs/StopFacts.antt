@@ -1,6 +1,6 @@
 -- A list that is stopped.
 use Rattle.std.proofs.Common.{rules, suc, pos, ◌≡◌, ℕ, ◌+◌, ◌<◌, List, [], ◌∷◌, ◌++◌, length, map, refl, ap, sym, ◌∙◌, subst, arith, Some, None, All, IsFalse, IsSomeAnd, true, false, ◌-◌}
-use Rattle.std.proofs.lemmas.List.{length-append, map-append}
+use Rattle.std.proofs.lemmas.List.{length-append}
 use Rattle.std.proofs.lemmas.List.Elements.{All-nil, All-cons}
 use Rattle.tp_base.specs.declared.edges.Edge.{Edge}
 use Rattle.tp_base.specs.Net.{Net, HasLeast, HasNoSolution, with_edge}

@@ -1,8 +1,7 @@
 -- Some of several edges, and all of them.
 use Rattle.std.proofs.Common.{zero, suc, set, ◌≡◌, ℕ, ◌+◌, ◌<◌, List, [], ◌∷◌, ◌++◌, length, take, refl, ap, sym, arith, ◌∙◌, get_or}
 use Rattle.std.proofs.lemmas.List.{append_assoc, take_more, append-nil}
-use Rattle.std.specs.List.{All}
-use Rattle.std.proofs.lemmas.List.Elements.{All-nil, All-cons, All-head, All-tail, All-append, All-take}
+use Rattle.std.proofs.lemmas.List.Elements.{All-append, All-take}
 use Rattle.tp_base.specs.declared.edges.Edge.{Edge}
 use Rattle.tp_base.specs.Net.{Net, IsSolution, HasLeast, HasNoSolution, Keeps, with_edge, with_low, with_point}
 use Rattle.tp_constraints.specs.Numbers.{with_edges}

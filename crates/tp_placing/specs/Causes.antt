@@ -1,9 +1,8 @@
 -- Why the edges of a board's network stand: the table of causes, and the names of points and causes.
-use Rattle.std.specs.Prelude.{◌≡◌, ℕ, suc, ◌+◌, ◌*◌, ◌-◌, ◌<◌, ◌≤◌, ◌==◌, ◌⊎◌, Bool, false, List, length, slice_get, slice_set, Option, Some, None, option_map, option_and_then, unwrap_or, Vec, vec_capacity, if◌then◌else◌}
+use Rattle.std.specs.Prelude.{◌≡◌, ℕ, ◌+◌, ◌*◌, ◌-◌, ◌<◌, ◌≤◌, ◌==◌, ◌⊎◌, List, length, slice_get, slice_set, Option, Some, None, option_map, option_and_then, unwrap_or, Vec, vec_capacity, if◌then◌else◌}
 use Rattle.std.specs.declared.alloc.Global.{Global}
 use Rattle.tp_base.specs.declared.edges.Edge.{Edge}
 use Rattle.tp_base.specs.declared.edges.PointId.{PointId}
-use Rattle.tp_machine.specs.declared.parts.ResId.{ResId}
 use Rattle.tp_machine.specs.declared.whole.Machine.{Machine}
 use Rattle.tp_schedule.specs.Plans.{plan_of}
 use Rattle.tp_schedule.specs.Spots.{Spot}

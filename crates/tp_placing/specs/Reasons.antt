@@ -1,5 +1,5 @@
 -- What a refusal shows: of which network it is, and that each of its edges may be cited.
-use Rattle.std.specs.Prelude.{◌≡◌, ℕ, suc, ◌<◌, ◌≤◌, List, length, slice_get, slice_index, pos, All, Contains, Some, None, IsSomeAnd}
+use Rattle.std.specs.Prelude.{◌≡◌, ℕ, suc, ◌<◌, ◌≤◌, length, slice_get, slice_index, pos, All, Contains, Some, None, IsSomeAnd}
 use Rattle.tp_base.specs.Net.{Net, with_edge, with_point}
 use Rattle.tp_base.specs.declared.edges.PointId.{PointId}
 use Rattle.tp_machine.specs.declared.whole.Machine.{Machine}
