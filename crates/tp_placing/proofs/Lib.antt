@@ -43,6 +43,7 @@ pub mod PartFacts
 pub mod ReasonFacts
 pub mod LoadTicks
 pub mod PutAll
+pub mod PutSorted
 pub mod LivePart
 pub mod LoadSlots
 pub mod LoadedTicks
