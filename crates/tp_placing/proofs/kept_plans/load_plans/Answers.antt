@@ -10,6 +10,7 @@ use Rattle.tp_placing.specs.LoadedHolds.{ArePut, held_plans, ticks_in}
 use Rattle.tp_placing.proofs.LiveFacts.{empty-least, points-few}
 use Rattle.tp_placing.proofs.LoadedTicks.{few-acts, ticks-count}
 use Rattle.tp_placing.proofs.LoadedNet.{addable, causes-fit, loaded}
+use Rattle.tp_placing.proofs.PutSorted.{by-begin-none}
 use Rattle.tp_placing.proofs.kept_plans.load_plans.Goals as goal
 
 pub add_points-points-requires-clause-room : goal.add_points-points-requires-clause-room
@@ -32,6 +33,9 @@ add_points-points-requires-clause-least g c = subst HasLeast (sym c.clear.ensure
 
 pub put_plans-requires-clause-ticks : goal.put_plans-requires-clause-ticks
 put_plans-requires-clause-ticks g c = ticks-count c.args.machine.now c.args.now c.args.plans.now c.requires.can
+
+pub put_plans-requires-clause-by_begin : goal.put_plans-requires-clause-by_begin
+put_plans-requires-clause-by_begin g c = by-begin-none (ticks_in c.args.plans.now) _ _ c.clear-4.ensures.items
 
 -- what is left of the causes are those that are always there
 only-plain : (causes rest : List Cause) → step_causes ≤ length rest → rest ≡ take step_causes causes → length rest ≡ step_causes
