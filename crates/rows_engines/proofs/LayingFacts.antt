@@ -254,12 +254,10 @@ module _ {N C A : Type 0} (net : N → Net) (content : N → C) (past : N → Li
       → aside_of aside marked ≡ aside_of aside b → past_of past marked ≡ past_of past b ++ content_of content b ∷ [] → k ≡ length (past_of past b)
       → past_of past laid-on ≡ past_of past marked → IsSameLoad marked laid-on → Stands net content past laid-on machine
       → slice_get (past_of past laid-on) k ≡ Some (content_of content back) → aside_of aside back ≡ aside_of aside laid-on → past_of past back ≡ take k (past_of past laid-on)
-      → IsLaid net content past back machine ask first count × (back.made_for ≡ b.made_for)
+      → IsLaid net content past back machine ask first count
   laid-back keeps b marked laid-on back machine ask first count k laid rest set number still same stands got rest' cut =
-      let is : content_of content back ≡ content_of content b = last_mark (past_of past b) (past_of past laid-on) (content_of content b) (content_of content back) k (still ∙ set) number got in (
-        laid-kept b back machine ask first count is
-            (ap (λ (a : BoardAside A). a.plans) rest' ∙ same.plans ∙ ap (λ (a : BoardAside A). a.plans) rest)
-            (ap (λ (a : BoardAside A). a.ask) rest' ∙ same.ask ∙ ap (λ (a : BoardAside A). a.ask) rest)
-            (keeps laid-on back machine k got rest' cut stands) laid,
-        ap (λ (a : BoardAside A). a.made_for) rest' ∙ same.made_for ∙ ap (λ (a : BoardAside A). a.made_for) rest,
-      )
+      let is : content_of content back ≡ content_of content b = last_mark (past_of past b) (past_of past laid-on) (content_of content b) (content_of content back) k (still ∙ set) number got in
+      laid-kept b back machine ask first count is
+      (ap (λ (a : BoardAside A). a.plans) rest' ∙ same.plans ∙ ap (λ (a : BoardAside A). a.plans) rest)
+      (ap (λ (a : BoardAside A). a.ask) rest' ∙ same.ask ∙ ap (λ (a : BoardAside A). a.ask) rest)
+      (keeps laid-on back machine k got rest' cut stands) laid

@@ -121,22 +121,24 @@ fn bound_of<N: Network>(
     Ok(bound)
 }
 
+fn bound_on_duo(alloc: Global, way: &[(ActId, u32)]) -> Result<Tick, Fail>
+    requires few { length way.now ≤ 50 }
+{
+    let machine = duo(alloc)?;
+    let mut board = board_for(alloc, &machine)?;
+    bound_of(alloc, &mut board, &machine, way)
+}
+
 #[test]
 fn first_plan(rt: HostRuntime) -> Result<(), Fail> {
-    let machine = duo(rt.alloc())?;
-    let mut board = board_for(rt.alloc(), &machine)?;
-    let way = [(OUT, 8), (PRINT2, 2), (FEED, 0)];
-    let bound = bound_of(rt.alloc(), &mut board, &machine, &way)?;
+    let bound = bound_on_duo(rt.alloc(), &[(OUT, 8), (PRINT2, 2), (FEED, 0)])?;
     assert_eq!(rt; bound, 14);
     Ok(())
 }
 
 #[test]
 fn other_engine(rt: HostRuntime) -> Result<(), Fail> {
-    let machine = duo(rt.alloc())?;
-    let mut board = board_for(rt.alloc(), &machine)?;
-    let way = [(OUT, 8), (PRINT1, 2)];
-    let bound = bound_of(rt.alloc(), &mut board, &machine, &way)?;
+    let bound = bound_on_duo(rt.alloc(), &[(OUT, 8), (PRINT1, 2)])?;
     assert_eq!(rt; bound, 17);
     Ok(())
 }

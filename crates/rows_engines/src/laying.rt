@@ -206,8 +206,7 @@ pub(crate) fn bound_with<N: Network>(
     requires new { ask.now.origin ≡ Feeder }
     requires laid { IsLaid N.net N.content N.past board.old machine.now ask.now state others }
     requires few { others ≤ 50 }
-    ensures laid { OnOk result (IsLaid N.net N.content N.past board.new machine.now ask.entry.now state others) }
-    ensures made { OnOk result (board.new.made_for ≡ board.old.made_for) }
+    ensures { OnOk result (IsLaid N.net N.content N.past board.new machine.now ask.entry.now state others) }
 {
     marks_keep_boards::<N>();
     if board.spare_marks() == 0 {

@@ -149,7 +149,6 @@ fn second_begun<N: Network>(
     requires made { IsMadeFor board.old.made_for machine.now }
     requires table { IsTableFor rooms.old machine.now }
     requires few { length way.now ≤ 50 }
-    ensures made { OnOk result (IsMadeFor board.new.made_for machine.now) }
     ensures table { OnOk result (IsTableFor rooms.new machine.now) }
     ensures rooms { IfOk result (λ begun. AreRooms machine.now begun.0 rooms.new.sums) }
     ensures new { IfOk result (λ begun. begun.0.origin ≡ Feeder) }
@@ -175,7 +174,6 @@ fn bounds_of<N: Network>(
 ) -> Result<[Tick; 3], Fail>
     requires made { IsMadeFor board.old.made_for machine.now }
     requires few { length way.now ≤ 50 }
-    ensures made { OnOk result (IsMadeFor board.new.made_for machine.now) }
 {
     let mut rooms = rooms_for(alloc, machine)?;
     let (ask, state) = second_begun(alloc, board, &mut rooms, machine, way)?;
@@ -200,11 +198,33 @@ fn bounds_refused<N: Network>(
     bounds_where_late(board, machine, &ask, state, OUT, 8)
 }
 
+fn points_on_duo(alloc: Global) -> Result<[[Tick; 4]; 4], Fail> {
+    let machine = duo(alloc)?;
+    let mut board = board_for(alloc, &machine)?;
+    points_in_turn(alloc, &mut board, &machine)
+}
+
+fn bounds_on_duo(
+    alloc: Global,
+    way: &[(ActId, u32, u32)],
+    choices: [(ActId, u32, u32); 2],
+) -> Result<[Tick; 3], Fail>
+    requires few { length way.now ≤ 50 }
+{
+    let machine = duo(alloc)?;
+    let mut board = board_for(alloc, &machine)?;
+    bounds_of(alloc, &mut board, &machine, way, choices)
+}
+
+fn late_on_duo(alloc: Global) -> Result<(Tick, Tick, u32), Fail> {
+    let machine = duo(alloc)?;
+    let mut board = board_for(alloc, &machine)?;
+    bounds_refused(alloc, &mut board, &machine)
+}
+
 #[test]
 fn plans_in_turn(rt: HostRuntime) -> Result<(), Fail> {
-    let machine = duo(rt.alloc())?;
-    let mut board = board_for(rt.alloc(), &machine)?;
-    let points = points_in_turn(rt.alloc(), &mut board, &machine)?;
+    let points = points_on_duo(rt.alloc())?;
     let wanted = [
         [3, 5, 11, 14],
         [5, 7, 13, 16],
@@ -217,30 +237,24 @@ fn plans_in_turn(rt: HostRuntime) -> Result<(), Fail> {
 
 #[test]
 fn engines_of_the_second(rt: HostRuntime) -> Result<(), Fail> {
-    let machine = duo(rt.alloc())?;
-    let mut board = board_for(rt.alloc(), &machine)?;
     let choices = [(PRINT2, 2, 0), (PRINT2, 2, 1)];
-    let bounds = bounds_of(rt.alloc(), &mut board, &machine, &[(OUT, 8, 1)], choices)?;
+    let bounds = bounds_on_duo(rt.alloc(), &[(OUT, 8, 1)], choices)?;
     assert_eq!(rt; bounds, [15, 21, 20]);
     Ok(())
 }
 
 #[test]
 fn feeds_of_the_second(rt: HostRuntime) -> Result<(), Fail> {
-    let machine = duo(rt.alloc())?;
-    let mut board = board_for(rt.alloc(), &machine)?;
     let way = [(OUT, 8, 1), (PRINT1, 2, 0)];
     let choices = [(FEED, 0, 0), (FEED, 0, 1)];
-    let bounds = bounds_of(rt.alloc(), &mut board, &machine, &way, choices)?;
+    let bounds = bounds_on_duo(rt.alloc(), &way, choices)?;
     assert_eq!(rt; bounds, [17, 17, 19]);
     Ok(())
 }
 
 #[test]
 fn place_before_the_first_is_late(rt: HostRuntime) -> Result<(), Fail> {
-    let machine = duo(rt.alloc())?;
-    let mut board = board_for(rt.alloc(), &machine)?;
-    let told = bounds_refused(rt.alloc(), &mut board, &machine)?;
+    let told = late_on_duo(rt.alloc())?;
     assert_eq!(rt; told, (15, 15, 1));
     Ok(())
 }

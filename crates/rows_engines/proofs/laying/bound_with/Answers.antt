@@ -1,4 +1,3 @@
-use Rattle.std.proofs.Common.{arith}
 use Rattle.rows_engines.proofs.LayingFacts.{laid-marked, laid-back}
 use Rattle.rows_engines.proofs.laying.bound_with.Goals as goal
 
@@ -7,14 +6,8 @@ lay_next-requires-clause-laid g c =
     laid-marked g.N.Network.net g.N.Undo.content g.N.Undo.past g.N.Undo.aside c.marks_keep_boards.ensures.mark c.args.board.now c.mark-mark.new.self c.args.machine.now c.args.ask.now c.args.state c.args.others
     c.mark-mark.ensures.content c.mark-mark.ensures.aside c.mark-mark.ensures.past c.requires.laid
 
-pub returns-clause-laid : goal.returns-clause-laid
-returns-clause-laid g c =
-    (laid-back g.N.Network.net g.N.Undo.content g.N.Undo.past g.N.Undo.aside c.marks_keep_boards.ensures.back c.args.board.now c.mark-mark.new.self c.lay_next.new.board c.undo_to.new.self c.args.machine.now c.args.ask.now c.args.state c.args.others c.mark-mark.result.0
+pub returns : goal.returns
+returns g c =
+    laid-back g.N.Network.net g.N.Undo.content g.N.Undo.past g.N.Undo.aside c.marks_keep_boards.ensures.back c.args.board.now c.mark-mark.new.self c.lay_next.new.board c.undo_to.new.self c.args.machine.now c.args.ask.now c.args.state c.args.others c.mark-mark.result.0
     c.requires.laid c.mark-mark.ensures.aside c.mark-mark.ensures.past c.mark-mark.ensures.number c.lay_next.ensures.past c.lay_next.ensures.same c.in_ok-lay_next.ensures.laid.stands
-    c.undo_to.ensures.content c.undo_to.ensures.aside c.undo_to.ensures.past).0
-
-pub returns-clause-made : goal.returns-clause-made
-returns-clause-made g c =
-    (laid-back g.N.Network.net g.N.Undo.content g.N.Undo.past g.N.Undo.aside c.marks_keep_boards.ensures.back c.args.board.now c.mark-mark.new.self c.lay_next.new.board c.undo_to.new.self c.args.machine.now c.args.ask.now c.args.state c.args.others c.mark-mark.result.0
-    c.requires.laid c.mark-mark.ensures.aside c.mark-mark.ensures.past c.mark-mark.ensures.number c.lay_next.ensures.past c.lay_next.ensures.same c.in_ok-lay_next.ensures.laid.stands
-    c.undo_to.ensures.content c.undo_to.ensures.aside c.undo_to.ensures.past).1
+    c.undo_to.ensures.content c.undo_to.ensures.aside c.undo_to.ensures.past
