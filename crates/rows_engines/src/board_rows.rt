@@ -122,7 +122,7 @@ fn bound_of<N: Network>(
 }
 
 fn bound_on_duo(alloc: Global, way: &[(ActId, u32)]) -> Result<Tick, Fail>
-    requires few { length way.now ≤ 50 }
+    requires { length way.now ≤ 50 }
 {
     let machine = duo(alloc)?;
     let mut board = board_for(alloc, &machine)?;

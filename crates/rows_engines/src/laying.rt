@@ -219,8 +219,8 @@ pub(crate) fn bound_with<N: Network>(
     Ok(bound)
 }
 
-/// The bounds of the end once an action is opened and once its hold can't come first in its resource's order, and how long
-/// that order is then.
+/// The bounds of the end before an action is opened, once it is, and once its hold can't come first in its resource's order,
+/// and how long that order is then.
 pub(crate) fn bounds_where_late<N: Network>(
     board: &mut Board<N>,
     machine: &Machine,
@@ -228,7 +228,7 @@ pub(crate) fn bounds_where_late<N: Network>(
     state: State,
     act: ActId,
     room: u32,
-) -> Result<(Tick, Tick, u32), Fail>
+) -> Result<([Tick; 3], u32), Fail>
     requires new { ask.now.origin ≡ Feeder }
     requires laid { IsLaid N.net N.content N.past board.old machine.now ask.now state 0 }
 {
@@ -243,6 +243,7 @@ pub(crate) fn bounds_where_late<N: Network>(
     if u32::from(resource.0) >= machine.resources.len() {
         return Err(Fail::from("the resource is lost"));
     }
+    let before = board.end_bound();
     match board.open_action(machine, act, room) {
         Ok(()) => {}
         Err(Late) => return Err(Fail::from("the action is refused")),
@@ -252,7 +253,8 @@ pub(crate) fn bounds_where_late<N: Network>(
         Ok(()) => return Err(Fail::from("the place is taken")),
         Err(Late) => {}
     }
-    Ok((opened, board.end_bound(), board.places(resource)))
+    let bounds = [before, opened, board.end_bound()];
+    Ok((bounds, board.places(resource)))
 }
 
 /// Lays a way, of which the last choice is told first, from the goal on.

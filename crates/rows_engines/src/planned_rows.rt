@@ -185,12 +185,12 @@ fn bounds_of<N: Network>(
     Ok([bound, with_one, with_other])
 }
 
-/// The bounds of the second sheet on its way out, and once the first place there is refused.
+/// The bounds of the second sheet at its goal, on its way out, and once the first place there is refused.
 fn bounds_refused<N: Network>(
     alloc: Global,
     board: &mut Board<N>,
     machine: &Machine,
-) -> Result<(Tick, Tick, u32), Fail>
+) -> Result<([Tick; 3], u32), Fail>
     requires { IsMadeFor board.old.made_for machine.now }
 {
     let mut rooms = rooms_for(alloc, machine)?;
@@ -209,14 +209,14 @@ fn bounds_on_duo(
     way: &[(ActId, u32, u32)],
     choices: [(ActId, u32, u32); 2],
 ) -> Result<[Tick; 3], Fail>
-    requires few { length way.now ≤ 50 }
+    requires { length way.now ≤ 50 }
 {
     let machine = duo(alloc)?;
     let mut board = board_for(alloc, &machine)?;
     bounds_of(alloc, &mut board, &machine, way, choices)
 }
 
-fn late_on_duo(alloc: Global) -> Result<(Tick, Tick, u32), Fail> {
+fn late_on_duo(alloc: Global) -> Result<([Tick; 3], u32), Fail> {
     let machine = duo(alloc)?;
     let mut board = board_for(alloc, &machine)?;
     bounds_refused(alloc, &mut board, &machine)
@@ -255,6 +255,6 @@ fn feeds_of_the_second(rt: HostRuntime) -> Result<(), Fail> {
 #[test]
 fn place_before_the_first_is_late(rt: HostRuntime) -> Result<(), Fail> {
     let told = late_on_duo(rt.alloc())?;
-    assert_eq!(rt; told, (15, 15, 1));
+    assert_eq!(rt; told, ([15, 15, 15], 1));
     Ok(())
 }
