@@ -1,5 +1,5 @@
 -- Ways that are laid: what one choice more keeps, and that a way from a start can be committed.
-use Rattle.std.proofs.Common.{◌≡◌, ℕ, suc, ◌+◌, ◌<◌, ◌≤◌, Bool, true, false, not, ◌&&◌, inl, inr, List, [], ◌∷◌, ◌++◌, take, length, refl, ap, sym, ◌∙◌, subst, arith, Option, Some, None, IsSomeAnd, IsTrue, IsFalse, Contains, AllPairs, position, nat_lt}
+use Rattle.std.proofs.Common.{◌≡◌, ℕ, ◌+◌, ◌<◌, ◌≤◌, Bool, true, false, not, ◌&&◌, inl, inr, List, [], ◌∷◌, ◌++◌, take, length, refl, ap, sym, ◌∙◌, subst, arith, Option, Some, None, IsSomeAnd, IsTrue, IsFalse, Contains, AllPairs, position, nat_lt}
 use Rattle.std.specs.List.{slice_get}
 use Rattle.std.proofs.lemmas.List.Elements.{All-head}
 use Rattle.std.proofs.lemmas.List.Sums.{count_by-le-length, length-filter}
@@ -30,7 +30,7 @@ use Rattle.tp_schedule.proofs.CopyFacts.{before-not_same, same_copy-refl}
 use Rattle.tp_schedule.proofs.LegalFacts.{IsLegal-without}
 use Rattle.tp_schedule.proofs.Membership.{Contains-cons_cases}
 use Rattle.tp_schedule.proofs.Pairs.{AllPairs-head}
-use Rattle.tp_constraints.specs.Suffixes.{Suffix, list_of, order_in, with_action, with_place}
+use Rattle.tp_constraints.specs.Suffixes.{Suffix, list_of, with_action, with_place}
 use Rattle.tp_placing.specs.Boards.{BoardAside, BoardContent, BoardValue, aside_of, content_of, past_of, suffix_after, suffix_of}
 use Rattle.tp_placing.specs.Calls.{CanGoOn, CanPlace, IsSameLoad}
 use Rattle.tp_placing.specs.Laws.{MarkKeeps, UndoKeeps}
