@@ -10,7 +10,7 @@ use Rattle.tp_schedule.specs.Answers.{IsAskedFrom, kept_of}
 use Rattle.tp_schedule.specs.Holding.{holds_of_act}
 use Rattle.tp_schedule.specs.Legality.{IsLegal}
 use Rattle.tp_schedule.specs.Plans.{IsTimedPlan}
-use Rattle.tp_schedule.specs.Planning.{CanAsk, IsOpenGoal, HasTimeFrom}
+use Rattle.tp_schedule.specs.Planning.{CanAsk, CanPlanOn, IsOpenGoal, HasTimeFrom}
 use Rattle.tp_schedule.specs.declared.parts.Ask.{Ask}
 use Rattle.tp_schedule.specs.declared.parts.Origin.TheVariants.{Feeder as FromFeeder}
 use Rattle.tp_schedule.specs.declared.parts.Plan.{Plan}
@@ -26,9 +26,17 @@ legal-none machine = record {
   rise = λ i j d h k. absurd (omega arith);
 }
 
+pub plan_on-none : (machine : Machine) → CanPlanOn machine 0 []
+plan_on-none machine = record {
+  now_at_most = omega arith;
+  legal = legal-none machine;
+  floors = λ p c. absurd (let h = c.1 in omega arith);
+  horizon = λ p c. absurd (let h = c.1 in omega arith);
+}
+
 pub can_ask : (machine : Machine) (ask : Ask) → ask.now ≡ 0 → ask.origin ≡ FromFeeder → IsOpenGoal machine [] ask ask.goal → CanAsk machine [] ask
 can_ask machine ask now origin goal = record {
-  plan_on = record { now_at_most = omega arith; legal = legal-none machine; floors = λ p c. absurd (let h = c.1 in omega arith); horizon = λ p c. absurd (let h = c.1 in omega arith) };
+  plan_on = subst (λ n. CanPlanOn machine n []) (sym now) (plan_on-none machine);
   few_live = omega arith;
   named = λ p q c. absurd (let h = c.1 in omega arith);
   asked = subst (λ o. IsAskedFrom machine [] ask o) (sym origin) refl;

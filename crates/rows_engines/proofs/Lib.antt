@@ -1,1 +1,2 @@
 pub mod AskingFacts
+pub mod LayingFacts

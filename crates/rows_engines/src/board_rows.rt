@@ -1,89 +1,18 @@
 // The board on the machine DUO, with an empty schedule.
-ghost use Rattle.std.specs.Prelude.{◌≡◌, ◌+◌, ◌<◌, ◌≤◌, [], length, IfOk, OnOk};
+ghost use Rattle.std.specs.Prelude.{◌≡◌, ◌+◌, ◌<◌, ◌≤◌, [], length, OnOk};
 ghost use Rattle.tp_placing.specs.Standing.{IsMadeFor};
 ghost use Rattle.tp_schedule.specs.Planning.{IsOpenGoal};
 ghost use Rattle.tp_schedule.specs.declared.parts.Ask.{Ask};
-ghost use Rattle.tp_schedule.specs.declared.parts.Origin.TheVariants.{Feeder};
 ghost use Rattle.rows_engines.specs.Asking.{IsForNew, IsOpen};
 
-use rows_machine::machines::DUO;
+use crate::by_hand::{FEED, OUT, PRINT1, PRINT2, ask_for, board_for, duo, goal_of, name_of};
 use std::alloc::Global;
 use std::process::Abort;
 use std::test::Fail;
-use tp_base::{Late, Name, Network, Tick};
-use tp_machine::{ActId, Face, Machine, Outs, Sheet, Want};
-use tp_machine_text::read_machine;
+use tp_base::{Late, Network, Tick};
+use tp_machine::{ActId, Machine};
 use tp_placing::Board;
-use tp_schedule::{Ask, Goal, Origin, Schedule, SheetId};
-use tp_stn_core::PlainNet;
-
-const FEED: ActId = ActId(0);
-
-const PRINT1: ActId = ActId(1);
-
-const PRINT2: ActId = ActId(2);
-
-const OUT: ActId = ActId(3);
-
-fn duo(alloc: Global) -> Result<Machine, Fail> {
-    match read_machine(alloc, DUO.as_bytes()) {
-        Ok(machine) => Ok(machine),
-        Err(_) => Err(Fail::from("the machine text is refused")),
-    }
-}
-
-fn name_of(text: &[u8]) -> Result<Name, Fail> {
-    Ok(Name::read(text).ok_or("no name")?)
-}
-
-/// The machine's first tray.
-fn goal_of(machine: &Machine) -> Result<Goal, Fail>
-    ensures { IfOk result (λ goal. (ask : Ask) → IsOpenGoal machine.now [] ask goal) }
-{
-    if machine.trays.len() == 0 {
-        return Err(Fail::from("the tray is lost"));
-    }
-    Ok(Goal::Tray(*machine.trays.get(0)))
-}
-
-/// The ask for a new copy, at the moment 0, where no module is out.
-fn ask_for(name: Name, media: Name, goal: Goal) -> Ask
-    ensures now { result.now ≡ 0 }
-    ensures origin { result.origin ≡ Feeder }
-    ensures goal { result.goal ≡ goal }
-{
-    Ask {
-        sheet: SheetId {
-            job: 0,
-            number: 1,
-            copy: 1,
-        },
-        name,
-        want: Sheet {
-            media,
-            front: Want::Mono,
-            back: Want::Blank,
-            face: Face::Front,
-        },
-        goal,
-        origin: Origin::Feeder,
-        outs: Outs(0),
-        now: 0,
-    }
-}
-
-fn board_for(alloc: Global, machine: &Machine) -> Result<Board<PlainNet>, Fail>
-    ensures made { IfOk result (λ b. IsMadeFor b.made_for machine.now) }
-    ensures marks { IfOk result (λ b. b.net.mark_room ≡ 330) }
-{
-    match PlainNet::new(alloc, 16_642, 100_000, 330) {
-        Ok(net) => match Board::new(alloc, machine, net) {
-            Ok(board) => Ok(board),
-            Err(_) => Err(Fail::from("memory")),
-        },
-        Err(_) => Err(Fail::from("memory")),
-    }
-}
+use tp_schedule::{Goal, Schedule};
 
 /// Loads an empty schedule, to be asked for a new copy to a goal.
 fn load_for<N: Network>(
@@ -100,7 +29,7 @@ fn load_for<N: Network>(
     ensures closed { OnOk result (board.new.steps ≡ []) }
 {
     let (name, media) = (name_of(b"j1")?, name_of(b"plain")?);
-    let ask = ask_for(name, media, goal);
+    let ask = ask_for(name, media, goal, 1);
     let schedule = Schedule::new(alloc);
     board.load(machine, &schedule, &ask);
     Ok(())
@@ -192,22 +121,24 @@ fn bound_of<N: Network>(
     Ok(bound)
 }
 
+fn bound_on_duo(alloc: Global, way: &[(ActId, u32)]) -> Result<Tick, Fail>
+    requires { length way.now ≤ 50 }
+{
+    let machine = duo(alloc)?;
+    let mut board = board_for(alloc, &machine)?;
+    bound_of(alloc, &mut board, &machine, way)
+}
+
 #[test]
 fn first_plan(rt: HostRuntime) -> Result<(), Fail> {
-    let machine = duo(rt.alloc())?;
-    let mut board = board_for(rt.alloc(), &machine)?;
-    let way = [(OUT, 8), (PRINT2, 2), (FEED, 0)];
-    let bound = bound_of(rt.alloc(), &mut board, &machine, &way)?;
+    let bound = bound_on_duo(rt.alloc(), &[(OUT, 8), (PRINT2, 2), (FEED, 0)])?;
     assert_eq!(rt; bound, 14);
     Ok(())
 }
 
 #[test]
 fn other_engine(rt: HostRuntime) -> Result<(), Fail> {
-    let machine = duo(rt.alloc())?;
-    let mut board = board_for(rt.alloc(), &machine)?;
-    let way = [(OUT, 8), (PRINT1, 2)];
-    let bound = bound_of(rt.alloc(), &mut board, &machine, &way)?;
+    let bound = bound_on_duo(rt.alloc(), &[(OUT, 8), (PRINT1, 2)])?;
     assert_eq!(rt; bound, 17);
     Ok(())
 }

@@ -4,9 +4,15 @@
 #[cfg(test)]
 mod board_rows;
 #[cfg(test)]
+mod by_hand;
+#[cfg(test)]
+mod laying;
+#[cfg(test)]
 mod long_chain_rows;
 #[cfg(test)]
 mod network_rows;
+#[cfg(test)]
+mod planned_rows;
 pub mod probing;
 #[cfg(test)]
 mod rooms_rows;

@@ -23,7 +23,7 @@ fn name_of(text: &[u8]) -> Result<Name, Fail> {
     Ok(Name::read(text).ok_or("no name")?)
 }
 
-fn rooms_for(alloc: Global, machine: &Machine) -> Result<Rooms, Fail>
+pub(crate) fn rooms_for(alloc: Global, machine: &Machine) -> Result<Rooms, Fail>
     ensures { IfOk result (λ rooms. IsMadeFor rooms machine.now) }
 {
     match Rooms::new(alloc, machine) {
