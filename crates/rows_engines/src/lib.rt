@@ -7,6 +7,8 @@ mod board_rows;
 mod long_chain_rows;
 #[cfg(test)]
 mod network_rows;
+#[cfg(test)]
+mod pool_rows;
 pub mod probing;
 #[cfg(test)]
 mod rooms_rows;

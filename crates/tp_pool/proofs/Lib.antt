@@ -1,0 +1,3 @@
+pub mod NodeFacts
+pub mod UpFacts
+pub mod ViewFacts

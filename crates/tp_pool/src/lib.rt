@@ -1,0 +1,8 @@
+//! Lists of choices that share their tails, and a queue by bound.
+#![tactic(auto)]
+
+mod choice;
+mod pool;
+
+pub use choice::Choice;
+pub use pool::Pool;
