@@ -2,7 +2,7 @@ use std::alloc::Global;
 use std::test::Fail;
 use tp_base::Full;
 use tp_machine::{ActId, Face, LocId, State};
-use tp_pool::{Choice, Pool};
+use tp_pool::{Buckets, Choice, Pool};
 
 fn choice_of(act: Option<ActId>) -> Choice {
     Choice {
@@ -44,5 +44,20 @@ fn three_choices(rt: HostRuntime) -> Result<(), Fail> {
     assert_eq!(rt; pool.choice_at(2, 1), stop);
     assert_eq!(rt; pool.choice_at(2, 2), first);
     assert_eq!(rt; pool.choice_at(2, 3), second);
+    Ok(())
+}
+
+#[test]
+fn least_bound_first(rt: HostRuntime) -> Result<(), Fail> {
+    let mut queue = Buckets::new(rt.alloc(), 3, 4)?;
+    queue.clear(14);
+    queue.put(0, 16);
+    queue.put(1, 14);
+    queue.put(2, 16);
+    assert_eq!(rt; queue.take(), Some(1));
+    let second = queue.take();
+    let third = queue.take();
+    assert!(rt; matches!((second, third), (Some(0), Some(2)) | (Some(2), Some(0))));
+    assert_eq!(rt; queue.take(), None);
     Ok(())
 }
