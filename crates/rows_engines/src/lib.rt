@@ -13,6 +13,8 @@ mod long_chain_rows;
 mod network_rows;
 #[cfg(test)]
 mod planned_rows;
+#[cfg(test)]
+mod pool_rows;
 pub mod probing;
 #[cfg(test)]
 mod rooms_rows;

@@ -1,0 +1,137 @@
+-- What each call makes of linked nodes.
+use Rattle.std.proofs.Common.{◌≡◌, ℕ, zero, suc, ◌+◌, ◌-◌, ◌<◌, ◌≤◌, List, [], ◌∷◌, length, get_or, replicate, min, Option, Some, None, refl, sym, ap, subst, ◌∙◌, arith, inl, inr}
+use Rattle.std.specs.Prelude.{slice_set}
+use Rattle.std.specs.List.Sorted.{IsPermutation}
+use Rattle.std.proofs.lemmas.Bool.{cases_lt}
+use Rattle.std.proofs.lemmas.List.{length-set, get_or-set_other, get_or_read}
+use Rattle.std.proofs.lemmas.List.Sorted.{length_permutation}
+use Rattle.tp_pool.specs.Queues.{Queued, BucketQueue, IsIn, IsTaken, head_at}
+use Rattle.tp_pool.specs.Linked.{queued_from, queued_of, AreQueued, IsBuckets}
+use Rattle.tp_pool.proofs.QueueFacts.{out_test, none-queued, few, put-queued, take-queued, taken_out, taken_known}
+use Rattle.tp_pool.proofs.LinkFacts.{put-in, take-out, queued-none, least-first}
+
+no_head : (n k : ℕ) → head_at (replicate n None) k ≡ None
+no_head zero k = refl
+no_head (suc n) zero = refl
+no_head (suc n) (suc k) = no_head n k
+
+-- emptied heads
+pub emptied-none : (base n : ℕ) (heads nexts : List (Option ℕ)) → heads ≡ replicate n None → queued_of base nexts heads ≡ []
+emptied-none base n heads nexts is = queued-none base (suc (length nexts)) nexts heads (λ k below. ap (λ hs. head_at hs k) is ∙ no_head n k)
+
+pub emptied : (base cursor n : ℕ) (heads nexts : List (Option ℕ)) → heads ≡ replicate n None → cursor ≤ length heads → IsBuckets base cursor heads nexts
+emptied base cursor n heads nexts is within = record {
+  queued = subst (λ qs. AreQueued qs (length nexts)) (sym (emptied-none base n heads nexts is)) (none-queued (length nexts));
+  within = within;
+  empty = λ k below. ap (λ hs. head_at hs k) is ∙ no_head n k;
+}
+
+-- A node that can be put in: it is out, its place is that of its bound, and the link behind it is the head there.
+pub record CanPut (base : ℕ) (heads nexts : List (Option ℕ)) (link : Option ℕ) (place node : ℕ) : Type 0 where
+  pub there : place < length heads
+  pub below : node < length nexts
+  pub behind : link ≡ head_at heads place
+  pub out : ¬ IsIn node (queued_of base nexts heads)
+
+pub can_put : (v : BucketQueue) (base : ℕ) (heads nexts : List (Option ℕ)) (link : Option ℕ) (node bound : ℕ) → record { nodes = length nexts; width = length heads; base = base; queued = queued_of base nexts heads } ≡ v
+    → node < v.nodes → v.base ≤ bound → bound < v.base + v.width → ¬ IsIn node v.queued → link ≡ get_or heads (bound - base) link → CanPut base heads nexts link (bound - base) node
+can_put v base heads nexts link node bound is known from below out read =
+    let nodes = ap (λ (b : BucketQueue). b.nodes) is in
+    let width = ap (λ (b : BucketQueue). b.width) is in
+    let same = ap (λ (b : BucketQueue). b.base) is in
+    let there : bound - base < length heads = omega arith in
+    record {
+      there = there;
+      below = omega arith;
+      behind = get_or_read heads (bound - base) link there read None;
+      out = subst (λ (b : BucketQueue). ¬ IsIn node b.queued) (sym is) out;
+    }
+
+-- a node put in
+pub put-all : (base cursor : ℕ) (heads nexts : List (Option ℕ)) (link : Option ℕ) (place node bound : ℕ) → IsBuckets base cursor heads nexts → CanPut base heads nexts link place node → bound ≡ base + place
+    → IsPermutation (record { node = node; bound = bound } ∷ queued_of base nexts heads) (queued_of base (slice_set nexts node link) (slice_set heads place (Some node)))
+put-all base cursor heads nexts link place node bound is can at =
+    let fuel : length nexts ≡ length (slice_set nexts node link) = sym (length-set nexts node link) in
+    let before = queued_of base nexts heads in
+    subst (λ most. IsPermutation (record { node = node; bound = bound } ∷ before) (queued_from base (suc most) (slice_set nexts node link) (slice_set heads place (Some node)))) fuel
+    (put-in base (length nexts) nexts heads link place node bound can.there can.below can.behind at (few before (length nexts) is.queued) (out_test node before can.out))
+
+pub put-kept : (base cursor : ℕ) (heads nexts : List (Option ℕ)) (link : Option ℕ) (place node : ℕ) → IsBuckets base cursor heads nexts → CanPut base heads nexts link place node
+    → IsBuckets base (min cursor place) (slice_set heads place (Some node)) (slice_set nexts node link)
+put-kept base cursor heads nexts link place node is can =
+    let before = queued_of base nexts heads in
+    let after = queued_of base (slice_set nexts node link) (slice_set heads place (Some node)) in
+    let fuel : length nexts ≡ length (slice_set nexts node link) = sym (length-set nexts node link) in
+    let many = length-set heads place (Some node) in
+    let within = is.within in
+    record {
+      queued = subst (AreQueued after) fuel
+          (put-queued (record { node = node; bound = base + place }) before after (length nexts) is.queued can.below (out_test node before can.out) (put-all base cursor heads nexts link place node (base + place) is can refl));
+      within = omega arith;
+      empty = λ k earlier. get_or-set_other heads place k (Some node) None (λ e. absurd (omega arith)) ∙ is.empty k (omega arith);
+    }
+
+-- the cursor moved on over heads without a node
+pub moved-on : (base cursor place : ℕ) (slice heads nexts : List (Option ℕ)) → slice ≡ heads → IsBuckets base cursor heads nexts → place ≤ length slice → ((k : ℕ) → cursor ≤ k → k < place → head_at slice k ≡ None) → IsBuckets base place heads nexts
+moved-on base cursor place slice heads nexts same is within none = record {
+  queued = is.queued;
+  within = subst (λ (hs : List (Option ℕ)). place ≤ length hs) same within;
+  empty = λ k below. elim (cases_lt k cursor) [ inl before ↦ is.empty k before | inr after ↦ ap (λ hs. head_at hs k) (sym same) ∙ none k after below ];
+}
+
+-- behind the last head there is none
+pub end-none : (base : ℕ) (heads nexts : List (Option ℕ)) → IsBuckets base (length heads) heads nexts → queued_of base nexts heads ≡ []
+end-none base heads nexts is = queued-none base (suc (length nexts)) nexts heads is.empty
+
+-- the first head with a node
+pub record IsFirst (base place : ℕ) (heads nexts : List (Option ℕ)) (node : ℕ) : Type 0 where
+  pub linked : IsBuckets base place heads nexts
+  pub here : head_at heads place ≡ Some node
+
+pub is_first : (base cursor place : ℕ) (slice heads nexts : List (Option ℕ)) (head : Option ℕ) (node : ℕ) → slice ≡ heads → IsBuckets base cursor heads nexts → place < length heads
+    → ((k : ℕ) → cursor ≤ k → k < place → head_at slice k ≡ None) → head ≡ get_or heads place head → head ≡ Some node → IsFirst base place heads nexts node
+is_first base cursor place slice heads nexts head node same is within none read some = record {
+  linked = (let long = ap length same in moved-on base cursor place slice heads nexts same is (omega arith) none);
+  here = sym (get_or_read heads place head within read None) ∙ some;
+}
+
+-- the first node taken out
+first_out : (base place : ℕ) (heads nexts : List (Option ℕ)) (node : ℕ) → IsFirst base place heads nexts node
+    → IsPermutation (queued_of base nexts heads) (record { node = node; bound = base + place } ∷ queued_of base nexts (slice_set heads place (head_at nexts node)))
+first_out base place heads nexts node is = take-out base (length nexts) nexts heads place node (base + place) is.here refl (few (queued_of base nexts heads) (length nexts) is.linked.queued)
+
+pub take-known : (base place : ℕ) (heads nexts : List (Option ℕ)) (node : ℕ) → IsFirst base place heads nexts node → node < length nexts
+take-known base place heads nexts node is =
+    taken_known (record { node = node; bound = base + place }) (queued_of base nexts heads) (queued_of base nexts (slice_set heads place (head_at nexts node))) (length nexts) is.linked.queued (first_out base place heads nexts node is)
+
+-- with the link behind it, as it is read
+moved_out : (base place : ℕ) (heads nexts : List (Option ℕ)) (node : ℕ) (link : Option ℕ) → IsFirst base place heads nexts node → link ≡ get_or nexts node link
+    → IsPermutation (queued_of base nexts heads) (record { node = node; bound = base + place } ∷ queued_of base nexts (slice_set heads place link))
+moved_out base place heads nexts node link is read =
+    subst (λ behind. IsPermutation (queued_of base nexts heads) (record { node = node; bound = base + place } ∷ queued_of base nexts (slice_set heads place behind)))
+    (sym (get_or_read nexts node link (take-known base place heads nexts node is) read None)) (first_out base place heads nexts node is)
+
+pub take-all : (base place : ℕ) (heads nexts : List (Option ℕ)) (node : ℕ) (link : Option ℕ) → IsFirst base place heads nexts node → link ≡ get_or nexts node link → IsTaken node (queued_of base nexts heads) (queued_of base nexts (slice_set heads place link))
+take-all base place heads nexts node link is read = record {
+  bound = base + place;
+  rest = moved_out base place heads nexts node link is read;
+  least = least-first (base + place) base (suc (length nexts)) nexts heads place refl is.linked.empty;
+}
+
+pub take-gone : (base place : ℕ) (heads nexts : List (Option ℕ)) (node : ℕ) (link : Option ℕ) → IsFirst base place heads nexts node → link ≡ get_or nexts node link → ¬ IsIn node (queued_of base nexts (slice_set heads place link))
+take-gone base place heads nexts node link is read =
+    taken_out (record { node = node; bound = base + place }) (queued_of base nexts heads) (queued_of base nexts (slice_set heads place link)) (length nexts) is.linked.queued (moved_out base place heads nexts node link is read)
+
+pub take-kept : (base place : ℕ) (heads nexts : List (Option ℕ)) (node : ℕ) (link : Option ℕ) → IsFirst base place heads nexts node → link ≡ get_or nexts node link → IsBuckets base place (slice_set heads place link) nexts
+take-kept base place heads nexts node link is read =
+    let many = length-set heads place link in
+    let within = is.linked.within in
+    record {
+      queued = take-queued (record { node = node; bound = base + place }) (queued_of base nexts heads) (queued_of base nexts (slice_set heads place link)) (length nexts) is.linked.queued (moved_out base place heads nexts node link is read);
+      within = omega arith;
+      empty = λ k earlier. get_or-set_other heads place k link None (λ e. absurd (omega arith)) ∙ is.linked.empty k earlier;
+    }
+
+-- what was taken was in it
+pub some-taken : (node : ℕ) (before after : List Queued) → IsTaken node before after → before ≡ [] → ⊥
+some-taken node before after taken none = (let l = length_permutation before (record { node = node; bound = taken.bound } ∷ after) taken.rest in let e = ap length none in omega arith)

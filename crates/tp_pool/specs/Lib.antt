@@ -1,0 +1,5 @@
+pub mod Entries
+pub mod Nodes
+pub mod Inside
+pub mod Queues
+pub mod Linked

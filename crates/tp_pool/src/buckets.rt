@@ -1,0 +1,113 @@
+ghost use Rattle.std.specs.Prelude.{◌≡◌, ◌≢◌, ℕ, ◌+◌, ◌<◌, ◌≤◌, ◌↔◌, [], ◌∷◌, length, replicate, None, IfOk, IfSome};
+ghost use Rattle.std.specs.List.Sorted.{IsPermutation};
+ghost use Rattle.tp_pool.specs.Queues.{IsIn, IsTaken, head_at};
+
+use std::alloc::Global;
+use std::marker::Model;
+use tp_base::{Memory, Tick};
+
+/// A queue of nodes by bound. Nodes of one bound are linked to one another.
+#[derive(Drop)]
+pub struct Buckets {
+    /// The first node of each bound, from the base on.
+    heads: Vec<Option<u32>>,
+    /// The node behind each node that is in the queue.
+    nexts: Vec<Option<u32>>,
+    base: Tick,
+    /// No head before this place has a node.
+    cursor: usize,
+}
+
+// Clauses see the nodes with their bounds, in an order that means nothing, and the numbers that it was made for.
+impl Model for Buckets {
+    ghost use Rattle.std.specs.Prelude.{length};
+    ghost use Rattle.tp_pool.specs.Queues.{BucketQueue};
+    ghost use Rattle.tp_pool.specs.Linked.{queued_of, IsBuckets};
+
+    ghost Value = { BucketQueue };
+
+    ghost view = { λ b. record { nodes = length b.nexts.items; width = length b.heads.items; base = b.base; queued = queued_of b.base b.nexts.items b.heads.items } };
+
+    ghost invariant = { λ b. IsBuckets b.base b.cursor b.heads.items b.nexts.items };
+}
+
+impl Buckets {
+    /// A queue for nodes below a number, and for bounds from 0 on up to, and without, a width. Takes all the memory that
+    /// it will ever hold: 8 bytes for each node and each bound.
+    pub fn new(alloc: Global, nodes: u32, width: u32) -> Result<Buckets, Memory>
+        ensures { IfOk result (λ buckets. buckets ≡ record { nodes = nodes; width = width; base = 0; queued = [] }) }
+    {
+        Ok(Buckets {
+            heads: vec![in alloc; None; width as usize]?,
+            nexts: vec![in alloc; None; nodes as usize]?,
+            base: 0,
+            cursor: width as usize,
+        })
+    }
+
+    /// Leaves no node, and is from now on for bounds from this base on. Costs a step for each bound.
+    pub fn clear(&mut self, base: Tick)
+        ensures { self.new ≡ record { nodes = self.old.nodes; width = self.old.width; base = base; queued = [] } }
+    {
+        empty(&mut self.heads);
+        self.base = base;
+        self.cursor = self.heads.len();
+    }
+
+    /// Puts a node in, in constant time. It may be put in again once it was taken.
+    pub fn put(&mut self, node: u32, bound: Tick)
+        requires node { node < self.old.nodes }
+        requires from { self.old.base ≤ bound }
+        requires below { bound < self.old.base + self.old.width }
+        requires out { ¬ IsIn node self.old.queued }
+        ensures queued { IsPermutation (record { node = node; bound = bound } ∷ self.old.queued) self.new.queued }
+        ensures nodes { self.new.nodes ≡ self.old.nodes }
+        ensures width { self.new.width ≡ self.old.width }
+        ensures base { self.new.base ≡ self.old.base }
+    {
+        let place = (bound - self.base) as usize;
+        self.nexts[node as usize] = self.heads[place];
+        self.heads[place] = Some(node);
+        self.cursor = self.cursor.min(place);
+    }
+
+    /// Takes a node of least bound out, or gives None where there is none. Costs a step for each bound from that of the node
+    /// taken last, or of a lower one that was put in since, up to that of the node that it takes, or to the last of all.
+    pub fn take(&mut self) -> Option<u32>
+        ensures none { result ≡ None ↔ (self.old.queued ≡ []) }
+        ensures stays { result ≡ None → self.new.queued ≡ self.old.queued }
+        ensures taken { IfSome result (λ node. IsTaken node self.old.queued self.new.queued) }
+        ensures out { IfSome result (λ node. ¬ IsIn node self.new.queued) }
+        ensures nodes { self.new.nodes ≡ self.old.nodes }
+        ensures width { self.new.width ≡ self.old.width }
+        ensures base { self.new.base ≡ self.old.base }
+    {
+        self.cursor = first_filled(&self.heads, self.cursor);
+        if self.cursor == self.heads.len() {
+            return None;
+        }
+        let node = self.heads[self.cursor]?;
+        self.heads[self.cursor] = self.nexts[node as usize];
+        Some(node)
+    }
+}
+
+fn empty(heads: &mut Vec<Option<u32>>)
+    ensures { heads.new.items ≡ replicate (length heads.old.items) None }
+{
+    heads.fill(None);
+}
+
+/// The place of the first head with a node, from a place on, or the number of heads where there is none.
+fn first_filled(heads: &[Option<u32>], from: usize) -> usize
+    requires { from ≤ length heads.now }
+    ensures within { result ≤ length heads.now }
+    ensures empty { (k : ℕ) → from ≤ k → k < result → head_at heads.now k ≡ None }
+    ensures filled { result < length heads.now → head_at heads.now result ≢ None }
+{
+    let mut at = from;
+    'heads: while at < heads.len() && heads[at].is_none() {
+        at += 1;
+    }
+    at
+}
