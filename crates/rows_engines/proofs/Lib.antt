@@ -1,2 +1,3 @@
 pub mod AskingFacts
 pub mod LayingFacts
+pub mod TellingFacts

@@ -9,6 +9,7 @@ ghost use Rattle.tp_schedule.specs.Planning.{CanAsk, CanPlanOn, IsOpenGoal};
 ghost use Rattle.tp_schedule.specs.Routes.{IsRoom, finished, is_wanted};
 ghost use Rattle.tp_schedule.specs.declared.parts.Origin.TheVariants.{Feeder};
 ghost use Rattle.rows_engines.specs.Laying.{IsLaid, IsPut, IsStepTo};
+ghost use Rattle.rows_engines.specs.Telling.{IsTold};
 
 use std::test::Fail;
 use tp_base::{Late, Network, Tick, Undo};
@@ -220,7 +221,7 @@ pub(crate) fn bound_with<N: Network>(
 }
 
 /// The bounds of the end before an action is opened, once it is, and once its hold can't come first in its resource's order,
-/// and how long that order is then.
+/// and how long that order is then. The board tells the reason.
 pub(crate) fn bounds_where_late<N: Network>(
     board: &mut Board<N>,
     machine: &Machine,
@@ -231,6 +232,8 @@ pub(crate) fn bounds_where_late<N: Network>(
 ) -> Result<([Tick; 3], u32), Fail>
     requires new { ask.now.origin ≡ Feeder }
     requires laid { IsLaid N.net N.content N.past board.old machine.now ask.now state 0 }
+    ensures stands { OnOk result (Stands N.net N.content N.past board.new machine.now) }
+    ensures told { OnOk result (IsTold N.refutes board.new) }
 {
     if u32::from(act.0) >= machine.actions.len() {
         return Err(Fail::from("the action is lost"));

@@ -15,7 +15,11 @@ mod network_rows;
 mod planned_rows;
 pub mod probing;
 #[cfg(test)]
+mod reason_rows;
+#[cfg(test)]
 mod rooms_rows;
+#[cfg(test)]
+mod telling;
 #[cfg(test)]
 mod timelines_rows;
 #[cfg(test)]

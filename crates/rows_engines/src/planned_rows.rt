@@ -139,7 +139,7 @@ fn points_in_turn<N: Network>(
 }
 
 /// Lays the end of a way for the second sheet, where the first is planned.
-fn second_begun<N: Network>(
+pub(crate) fn second_begun<N: Network>(
     alloc: Global,
     board: &mut Board<N>,
     rooms: &mut Rooms,
