@@ -6,6 +6,10 @@ mod board_rows;
 #[cfg(test)]
 mod by_hand;
 #[cfg(test)]
+mod flying;
+#[cfg(test)]
+mod flying_rows;
+#[cfg(test)]
 mod laying;
 #[cfg(test)]
 mod long_chain_rows;
