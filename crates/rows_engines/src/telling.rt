@@ -3,7 +3,7 @@ ghost use Rattle.std.specs.Prelude.{◌≡◌, ◌<◌, IfOk, OnOk, Some, IsSome
 ghost use Rattle.tp_machine.specs.declared.whole.Machine.{Machine};
 ghost use Rattle.tp_placing.specs.Boards.{suffix_of};
 ghost use Rattle.tp_placing.specs.Standing.{Stands};
-ghost use Rattle.rows_engines.specs.Telling.{HaveCauses, IsTold, edge_name};
+ghost use Rattle.rows_engines.specs.Telling.{AreNames, HaveCauses, IsTold, edge_name};
 
 use std::alloc::Global;
 use std::test::Fail;
@@ -42,6 +42,7 @@ fn edge_names<N: Network>(
 pub(crate) fn reason_of<N: Network>(alloc: Global, board: &Board<N>) -> Result<Reason, Fail>
     requires stands { (m : Machine) × Stands N.net N.content N.past board.now m }
     requires told { IsTold N.refutes board.now }
+    ensures { IfOk result (λ reason. AreNames N.refutes board.now reason.first reason.edges.items) }
 {
     match board.reason() {
         Proof::Chain { first, edges } => Ok(Reason {
