@@ -1,5 +1,5 @@
 // Copies in flight: what is left of a plan, and the ask for what comes behind it.
-ghost use Rattle.std.specs.Prelude.{◌≡◌, ◌+◌, ◌<◌, ◌≤◌, [], length, IsTrue, IfOk};
+ghost use Rattle.std.specs.Prelude.{◌≡◌, ◌<◌, ◌≤◌, [], length, IfOk};
 ghost use Rattle.tp_machine.specs.declared.whole.Machine.{Machine};
 ghost use Rattle.tp_routes.specs.Tables.{IsKnownOrigin};
 ghost use Rattle.tp_schedule.specs.Answers.{kept_of};

@@ -1,5 +1,5 @@
 // What a board tells of a refusal, by name.
-ghost use Rattle.std.specs.Prelude.{◌≡◌, ◌<◌, IfOk, OnOk, Some, IsSome, length, map};
+ghost use Rattle.std.specs.Prelude.{◌≡◌, ◌<◌, IfOk, Some, IsSome, length, map};
 ghost use Rattle.tp_machine.specs.declared.whole.Machine.{Machine};
 ghost use Rattle.tp_placing.specs.Boards.{suffix_of};
 ghost use Rattle.tp_placing.specs.Standing.{Stands};
@@ -64,6 +64,7 @@ pub(crate) fn reason_by<N: Network>(
 ) -> Result<Reason, Fail>
     requires stands { (m : Machine) × Stands N.net N.content N.past board.old m }
     requires open { IsSome (suffix_of board.old) }
+    ensures { IfOk result (λ reason. AreNames N.refutes board.new reason.first reason.edges.items) }
 {
     if board.end_bound() <= last {
         return Err(Fail::from("the end can come by then"));
