@@ -117,12 +117,11 @@ module _ {N C : Type 0} (net : N → Net) (content : N → C) (past : N → List
         leads = subst (λ ps. IsSomeAnd (suffix_of b') (LeadsFrom machine ps ask before (count + 1))) (sym same.plans) (leads-more machine b.plans ask act room place count state before x.0 (suffix_of b') step leads x.2);
       }
 
-  -- of fewer than 64 choices, of a new copy
-  pub can_lay : (b : BoardValue N) (machine : Machine) (ask : Ask) (state : State) (count : ℕ) → IsLaid net content past b machine ask state count → ask.origin ≡ FromFeeder → count < 64
+  -- of fewer than 64 choices with the kept actions
+  pub can_lay : (b : BoardValue N) (machine : Machine) (ask : Ask) (state : State) (count : ℕ) → IsLaid net content past b machine ask state count → kept_of ask + count < 64
       → IsSomeAnd b.ask (λ asked. IsSomeAnd (suffix_of b) (CanGoOn asked))
-  can_lay b machine ask state count laid new few =
+  can_lay b machine ask state count laid few =
       let x = some-and (suffix_of b) (LeadsFrom machine b.plans ask state count) laid.leads in
-      let kept : kept_of ask ≡ 0 = ap kept_from new in
       let many = x.2.many in
       and-some b.ask ask (λ asked. IsSomeAnd (suffix_of b) (CanGoOn asked)) laid.asked (and-some (suffix_of b) x.0 (CanGoOn ask) x.1 (record { going = x.2.going; fewer = omega arith }))
 
@@ -151,7 +150,7 @@ module _ {N C : Type 0} (net : N → Net) (content : N → C) (past : N → List
       }))
 
 -- a new copy may be asked for where there is one live plan or none
-one-only : (plans : List Plan) → length plans ≤ 1 → (p q : Plan) → Contains plans p → Contains plans q → p ≡ q
+pub one-only : (plans : List Plan) → length plans ≤ 1 → (p q : Plan) → Contains plans p → Contains plans q → p ≡ q
 one-only [] few p q in' in'' = absurd (omega (arith, in'.1))
 one-only (x ∷ []) few p q in' in'' = elim (Contains-cons_cases x [] p in') [
   | inr later ↦ absurd (omega (arith, later.1))
@@ -162,11 +161,11 @@ one-only (x ∷ []) few p q in' in'' = elim (Contains-cons_cases x [] p in') [
 ]
 one-only (x ∷ y ∷ plans) few p q in' in'' = absurd (omega arith)
 
-open-goal : (machine : Machine) (plans : List Plan) (ask : Ask) (goal : Goal) → ((p : Plan) → Contains plans p → IsTrue (is_live machine ask.now p)) → IsOpenGoal machine [] ask goal → IsOpenGoal machine plans ask goal
+pub open-goal : (machine : Machine) (plans : List Plan) (ask : Ask) (goal : Goal) → ((p : Plan) → Contains plans p → IsTrue (is_live machine ask.now p)) → IsOpenGoal machine [] ask goal → IsOpenGoal machine plans ask goal
 open-goal machine plans ask Purge live open' = tt
 open-goal machine plans ask (Tray t) live open' = (open'.0, λ p in' delivered later. live p in')
 
-length-without : (copy : _) (plans : List Plan) → length (without copy plans) ≤ length plans
+pub length-without : (copy : _) (plans : List Plan) → length (without copy plans) ≤ length plans
 length-without copy plans =
     let others : Plan → Bool = λ p. not (is_same_copy p.sheet copy) in
     omega (arith, length-filter others plans, count_by-le-length others plans)

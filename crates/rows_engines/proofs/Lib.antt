@@ -1,2 +1,4 @@
 pub mod AskingFacts
+pub mod FlyingFacts
 pub mod LayingFacts
+pub mod TellingFacts

@@ -4,11 +4,13 @@ ghost use Rattle.tp_placing.specs.Boards.{past_of, suffix_of};
 ghost use Rattle.tp_placing.specs.Calls.{CanGoOn, IsSameLoad};
 ghost use Rattle.tp_placing.specs.Standing.{IsMadeFor, Stands};
 ghost use Rattle.tp_placing.specs.Writing.{IsLoadedFrom};
-ghost use Rattle.tp_routes.specs.Tables.{AreRooms, IsMadeFor as IsTableFor};
+ghost use Rattle.tp_routes.specs.Tables.{AreRooms, IsKnownOrigin, IsMadeFor as IsTableFor};
+ghost use Rattle.tp_schedule.specs.Answers.{kept_of};
 ghost use Rattle.tp_schedule.specs.Planning.{CanAsk, CanPlanOn, IsOpenGoal};
 ghost use Rattle.tp_schedule.specs.Routes.{IsRoom, finished, is_wanted};
 ghost use Rattle.tp_schedule.specs.declared.parts.Origin.TheVariants.{Feeder};
 ghost use Rattle.rows_engines.specs.Laying.{IsLaid, IsPut, IsStepTo};
+ghost use Rattle.rows_engines.specs.Telling.{IsTold};
 
 use std::test::Fail;
 use tp_base::{Late, Network, Tick, Undo};
@@ -72,7 +74,7 @@ pub(crate) fn is_askable(machine: &Machine, schedule: &Schedule, ask: &Ask) -> b
     is_plan_live(machine, ask.now, schedule.plan_at(0))
 }
 
-/// Loads the schedule for a new copy, and opens its goal, which has this room.
+/// Loads the schedule for a copy, and opens its goal, which has this room.
 pub(crate) fn begin<N: Network>(
     board: &mut Board<N>,
     rooms: &mut Rooms,
@@ -84,7 +86,7 @@ pub(crate) fn begin<N: Network>(
     requires made { IsMadeFor board.old.made_for machine.now }
     requires table { IsTableFor rooms.old machine.now }
     requires can_ask { CanAsk machine.now schedule.now.plans ask.now }
-    requires new { ask.now.origin ≡ Feeder }
+    requires origin { IsKnownOrigin machine.now ask.now.origin }
     ensures made { OnOk result (IsMadeFor board.new.made_for machine.now) }
     ensures table { OnOk result (IsTableFor rooms.new machine.now) }
     ensures rooms { OnOk result (AreRooms machine.now ask.entry.now rooms.new.sums) }
@@ -175,7 +177,7 @@ fn lay_next<N: Network>(
 ) -> Result<State, Fail>
     requires table { IsTableFor rooms.now machine.now }
     requires rooms { AreRooms machine.now ask.now rooms.now.sums }
-    requires new { ask.now.origin ≡ Feeder }
+    requires kept { kept_of ask.now ≤ 10 }
     requires laid { IsLaid N.net N.content N.past board.old machine.now ask.now state others }
     requires few { others ≤ 50 }
     ensures laid { IfOk result (λ before. IsLaid N.net N.content N.past board.new machine.now ask.entry.now before (others + 1)) }
@@ -203,7 +205,7 @@ pub(crate) fn bound_with<N: Network>(
 ) -> Result<Tick, Fail>
     requires table { IsTableFor rooms.now machine.now }
     requires rooms { AreRooms machine.now ask.now rooms.now.sums }
-    requires new { ask.now.origin ≡ Feeder }
+    requires kept { kept_of ask.now ≤ 10 }
     requires laid { IsLaid N.net N.content N.past board.old machine.now ask.now state others }
     requires few { others ≤ 50 }
     ensures { OnOk result (IsLaid N.net N.content N.past board.new machine.now ask.entry.now state others) }
@@ -220,7 +222,7 @@ pub(crate) fn bound_with<N: Network>(
 }
 
 /// The bounds of the end before an action is opened, once it is, and once its hold can't come first in its resource's order,
-/// and how long that order is then.
+/// and how long that order is then. The board tells the reason.
 pub(crate) fn bounds_where_late<N: Network>(
     board: &mut Board<N>,
     machine: &Machine,
@@ -229,8 +231,10 @@ pub(crate) fn bounds_where_late<N: Network>(
     act: ActId,
     room: u32,
 ) -> Result<([Tick; 3], u32), Fail>
-    requires new { ask.now.origin ≡ Feeder }
+    requires kept { kept_of ask.now ≤ 10 }
     requires laid { IsLaid N.net N.content N.past board.old machine.now ask.now state 0 }
+    ensures stands { OnOk result (Stands N.net N.content N.past board.new machine.now) }
+    ensures told { OnOk result (IsTold N.refutes board.new) }
 {
     if u32::from(act.0) >= machine.actions.len() {
         return Err(Fail::from("the action is lost"));
@@ -268,7 +272,7 @@ pub(crate) fn lay<N: Network>(
 ) -> Result<State, Fail>
     requires table { IsTableFor rooms.now machine.now }
     requires rooms { AreRooms machine.now ask.now rooms.now.sums }
-    requires new { ask.now.origin ≡ Feeder }
+    requires kept { kept_of ask.now ≤ 10 }
     requires laid { IsLaid N.net N.content N.past board.old machine.now ask.now goal 0 }
     requires few { length way.now ≤ 50 }
     ensures laid { IfOk result (λ first. IsLaid N.net N.content N.past board.new machine.now ask.entry.now first (length way.now)) }

@@ -6,6 +6,10 @@ mod board_rows;
 #[cfg(test)]
 mod by_hand;
 #[cfg(test)]
+mod flying;
+#[cfg(test)]
+mod flying_rows;
+#[cfg(test)]
 mod laying;
 #[cfg(test)]
 mod long_chain_rows;
@@ -17,7 +21,11 @@ mod planned_rows;
 mod pool_rows;
 pub mod probing;
 #[cfg(test)]
+mod reason_rows;
+#[cfg(test)]
 mod rooms_rows;
+#[cfg(test)]
+mod telling;
 #[cfg(test)]
 mod timelines_rows;
 #[cfg(test)]

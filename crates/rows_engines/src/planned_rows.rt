@@ -2,6 +2,7 @@
 ghost use Rattle.std.specs.Prelude.{◌≡◌, ◌≤◌, [], length, IfOk, OnOk};
 ghost use Rattle.tp_placing.specs.Standing.{IsMadeFor};
 ghost use Rattle.tp_routes.specs.Tables.{AreRooms, IsMadeFor as IsTableFor};
+ghost use Rattle.tp_schedule.specs.Answers.{kept_of};
 ghost use Rattle.tp_schedule.specs.Planning.{CanPlanOn, IsOpenGoal};
 ghost use Rattle.tp_schedule.specs.declared.parts.Origin.TheVariants.{Feeder};
 ghost use Rattle.rows_engines.specs.Laying.{IsLaid};
@@ -51,7 +52,7 @@ fn plan_sheet<N: Network>(
 }
 
 /// A schedule with the first sheet's plan.
-fn one_planned<N: Network>(
+pub(crate) fn one_planned<N: Network>(
     alloc: Global,
     board: &mut Board<N>,
     rooms: &mut Rooms,
@@ -139,7 +140,7 @@ fn points_in_turn<N: Network>(
 }
 
 /// Lays the end of a way for the second sheet, where the first is planned.
-fn second_begun<N: Network>(
+pub(crate) fn second_begun<N: Network>(
     alloc: Global,
     board: &mut Board<N>,
     rooms: &mut Rooms,
@@ -151,7 +152,7 @@ fn second_begun<N: Network>(
     requires few { length way.now ≤ 50 }
     ensures table { OnOk result (IsTableFor rooms.new machine.now) }
     ensures rooms { IfOk result (λ begun. AreRooms machine.now begun.0 rooms.new.sums) }
-    ensures new { IfOk result (λ begun. begun.0.origin ≡ Feeder) }
+    ensures kept { IfOk result (λ begun. kept_of begun.0 ≤ 10) }
     ensures laid { IfOk result (λ begun. IsLaid N.net N.content N.past board.new machine.now begun.0 begun.1 (length way.now)) }
 {
     let schedule = one_planned(alloc, board, rooms, machine)?;

@@ -86,7 +86,7 @@ fn fill_in_flight(rooms: &mut Rooms, machine: &Machine) -> Result<(), Fail>
 }
 
 /// The state at a location, front up, with these sides done.
-fn state_at(loc: u16, front_done: bool, back_done: bool) -> State
+pub(crate) fn state_at(loc: u16, front_done: bool, back_done: bool) -> State
     ensures { result.loc.0 ≡ loc }
 {
     State {

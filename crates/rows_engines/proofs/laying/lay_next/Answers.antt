@@ -4,7 +4,7 @@ use Rattle.rows_engines.proofs.laying.lay_next.Goals as goal
 
 pub put-requires-clause-ready : goal.put-requires-clause-ready
 put-requires-clause-ready g c =
-    can_lay g.N.Network.net g.N.Undo.content g.N.Undo.past c.args.board.now c.args.machine.now c.args.ask.now c.args.state c.args.others c.requires.laid c.requires.new (let few = c.requires.few in omega arith)
+    can_lay g.N.Network.net g.N.Undo.content g.N.Undo.past c.args.board.now c.args.machine.now c.args.ask.now c.args.state c.args.others c.requires.laid (let few = c.requires.few in let kept = c.requires.kept in omega arith)
 
 pub returns-clause-laid : goal.returns-clause-laid
 returns-clause-laid g c =
