@@ -4,8 +4,9 @@ use Rattle.std.specs.Prelude.{slice_set}
 use Rattle.std.specs.List.Sorted.{IsPermutation}
 use Rattle.std.proofs.lemmas.Bool.{cases_lt}
 use Rattle.std.proofs.lemmas.List.{length-set, get_or-set_other, get_or_read}
-use Rattle.std.proofs.lemmas.List.Sorted.{length_permutation}
-use Rattle.tp_pool.specs.Queues.{Queued, BucketQueue, IsIn, IsTaken, head_at}
+use Rattle.std.proofs.lemmas.List.Elements.{Contains-get_or}
+use Rattle.std.proofs.lemmas.List.Sorted.{Contains-permutation, IsPermutation-sym, length_permutation}
+use Rattle.tp_pool.specs.Queues.{Queued, BucketQueue, IsIn, IsLeastIn, IsTaken, head_at}
 use Rattle.tp_pool.specs.Linked.{queued_from, queued_of, AreQueued, IsBuckets}
 use Rattle.tp_pool.proofs.QueueFacts.{out_test, none-queued, few, put-queued, take-queued, taken_out, taken_known}
 use Rattle.tp_pool.proofs.LinkFacts.{put-in, take-out, queued-none, least-first}
@@ -99,6 +100,20 @@ is_first base cursor place slice heads nexts head node same is within none read 
 first_out : (base place : ℕ) (heads nexts : List (Option ℕ)) (node : ℕ) → IsFirst base place heads nexts node
     → IsPermutation (queued_of base nexts heads) (record { node = node; bound = base + place } ∷ queued_of base nexts (slice_set heads place (head_at nexts node)))
 first_out base place heads nexts node is = take-out base (length nexts) nexts heads place node (base + place) is.here refl (few (queued_of base nexts heads) (length nexts) is.linked.queued)
+
+-- as it is seen
+pub first-least : (base place : ℕ) (heads nexts : List (Option ℕ)) (node : ℕ) → IsFirst base place heads nexts node → IsLeastIn node (queued_of base nexts heads)
+first-least base place heads nexts node is =
+    let q : Queued = record { node = node; bound = base + place } in
+    let rest = queued_of base nexts (slice_set heads place (head_at nexts node)) in
+    record {
+      bound = base + place;
+      there = Contains-permutation (q ∷ rest) (queued_of base nexts heads) q (IsPermutation-sym (queued_of base nexts heads) (q ∷ rest) (first_out base place heads nexts node is)) (Contains-get_or (q ∷ rest) 0 q (omega arith));
+      least = least-first (base + place) base (suc (length nexts)) nexts heads place refl is.linked.empty;
+    }
+
+pub least-some : (node : ℕ) (queued : List Queued) → IsLeastIn node queued → queued ≡ [] → ⊥
+least-some node queued is none = (let there = is.there in let e = ap length none in omega (arith, there.1))
 
 pub take-known : (base place : ℕ) (heads nexts : List (Option ℕ)) (node : ℕ) → IsFirst base place heads nexts node → node < length nexts
 take-known base place heads nexts node is =

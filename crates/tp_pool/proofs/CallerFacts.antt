@@ -1,15 +1,17 @@
 -- What is in a queue after a call, for callers.
-use Rattle.std.proofs.Common.{◌≡◌, ◌≢◌, ◌⊎◌, inl, inr, ℕ, eqb, List, [], ◌∷◌, refl, ap, sym, ◌∙◌}
-use Rattle.std.specs.List.{list_any}
+use Rattle.std.proofs.Common.{◌≡◌, ◌≢◌, ◌⊎◌, inl, inr, ℕ, eqb, List, [], ◌∷◌, refl, ap, sym, ◌∙◌, arith}
+use Rattle.std.specs.List.{Contains, list_any}
 use Rattle.std.specs.List.Sorted.{IsPermutation}
 use Rattle.std.proofs.lemmas.Bool.{cases_Bool, eqb-true, false≢true}
+use Rattle.std.proofs.lemmas.List.Elements.{Contains-append_right, Contains-get_or}
 use Rattle.std.proofs.lemmas.List.Sorted.{IsPermutation-map, list_any-IsPermutation}
 use Rattle.tp_pool.specs.Queues.{Queued, nodes_of, IsIn, IsTaken}
 
-same_test : (node : ℕ) (xs ys : List Queued) → IsPermutation xs ys → list_any (eqb node) (nodes_of xs) ≡ list_any (eqb node) (nodes_of ys)
+-- whether a node is in it does not depend on the order
+pub same_test : (node : ℕ) (xs ys : List Queued) → IsPermutation xs ys → list_any (eqb node) (nodes_of xs) ≡ list_any (eqb node) (nodes_of ys)
 same_test node xs ys moved = list_any-IsPermutation (eqb node) (nodes_of xs) (nodes_of ys) (IsPermutation-map (λ (q : Queued). q.node) xs ys moved)
 
-in_more : (node : ℕ) (q : Queued) (rest : List Queued) → IsIn node (q ∷ rest) → (node ≡ q.node) ⊎ IsIn node rest
+pub in_more : (node : ℕ) (q : Queued) (rest : List Queued) → IsIn node (q ∷ rest) → (node ≡ q.node) ⊎ IsIn node rest
 in_more node q rest is = elim (cases_Bool (eqb node q.node)) [
   | inl same ↦ inl (eqb-true node q.node same)
   | inr other ↦ inr (rw other at is)
@@ -33,3 +35,11 @@ in_taken node taken before after is there =
       | inl same ↦ rw same refl
       | inr other ↦ rw (other, there) refl
     ]
+
+-- a node that is in it has a bound there
+pub queued-as : (node : ℕ) (queued : List Queued) → IsIn node queued → (q : Queued) × Contains queued q × (q.node ≡ node)
+queued-as node [] is = absurd (false≢true is)
+queued-as node (q ∷ queued) is = elim (in_more node q queued is) [
+  | inl same ↦ (q, Contains-get_or (q ∷ queued) 0 q (omega arith), sym same)
+  | inr later ↦ let there = queued-as node queued later in (there.0, Contains-append_right (q ∷ []) queued there.0 there.1, there.2)
+]

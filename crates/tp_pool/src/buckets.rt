@@ -1,6 +1,6 @@
 ghost use Rattle.std.specs.Prelude.{◌≡◌, ◌≢◌, ℕ, ◌+◌, ◌<◌, ◌≤◌, ◌↔◌, [], ◌∷◌, length, replicate, None, IfOk, IfSome};
 ghost use Rattle.std.specs.List.Sorted.{IsPermutation};
-ghost use Rattle.tp_pool.specs.Queues.{IsIn, IsTaken, head_at};
+ghost use Rattle.tp_pool.specs.Queues.{IsIn, IsLeastIn, IsTaken, head_at};
 
 use std::alloc::Global;
 use std::marker::Model;
@@ -69,6 +69,20 @@ impl Buckets {
         self.nexts[node as usize] = self.heads[place];
         self.heads[place] = Some(node);
         self.cursor = self.cursor.min(place);
+    }
+
+    /// A node of least bound, or None where there is none. It stays in. Costs what a take costs.
+    pub fn first(&mut self) -> Option<u32>
+        ensures none { result ≡ None ↔ (self.old.queued ≡ []) }
+        ensures first { IfSome result (λ node. IsLeastIn node self.old.queued) }
+        ensures stays { self.new ≡ self.old }
+    {
+        self.cursor = first_filled(&self.heads, self.cursor);
+        if self.cursor == self.heads.len() {
+            return None;
+        }
+        let node = self.heads[self.cursor]?;
+        Some(node)
     }
 
     /// Takes a node of least bound out, or gives None where there is none. Costs a step for each bound from that of the node

@@ -10,4 +10,5 @@ mod rooms;
 mod starting;
 
 pub use laws::room_law;
+pub use numbering::state_at;
 pub use rooms::Rooms;

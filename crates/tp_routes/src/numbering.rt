@@ -31,8 +31,9 @@ fn done_bit(done: bool) -> u32
     if done { 1 } else { 0 }
 }
 
-/// The state of a number.
-pub(crate) fn state_at(number: u32) -> State
+/// The state of a number: the eight states of a location stand side by side. Each state at one of
+/// the first locations is the state of one number below eight times as many.
+pub fn state_at(number: u32) -> State
     requires { number < 2048 }
     ensures { result ≡ state_at number }
 {

@@ -1,0 +1,183 @@
+-- What a board carries after a step, and that it is back after it is taken back.
+use Rattle.std.proofs.Common.{◌≡◌, ℕ, ◌+◌, ◌-◌, ◌<◌, ◌≤◌, List, [], ◌∷◌, ◌++◌, length, take, refl, ap, sym, ◌∙◌, subst, arith, Some, IsSomeAnd}
+use Rattle.std.specs.Prelude.{slice_get}
+use Rattle.std.proofs.lemmas.List.{length-append}
+use Rattle.std.proofs.Math.Seq.{take-append_seam}
+use Rattle.std.proofs.lemmas.Option.{same_Some}
+use Rattle.tp_base.proofs.SliceFacts.{slice_get_last}
+use Rattle.tp_base.specs.Net.{Net}
+use Rattle.tp_machine.specs.Using.{action_at}
+use Rattle.tp_machine.specs.declared.parts.ActId.{ActId}
+use Rattle.tp_machine.specs.declared.parts.HoldRule.{HoldRule}
+use Rattle.tp_machine.specs.declared.parts.State.{State}
+use Rattle.tp_machine.specs.declared.whole.Machine.{Machine}
+use Rattle.tp_schedule.specs.Answers.{kept_of}
+use Rattle.tp_schedule.specs.Choices.{Choice}
+use Rattle.tp_schedule.specs.Holding.{holds_of_act}
+use Rattle.tp_schedule.specs.declared.parts.Ask.{Ask}
+use Rattle.tp_constraints.specs.Suffixes.{Suffix, order_in, place_first, with_action, with_place}
+use Rattle.tp_placing.specs.Boards.{BoardValue, BoardContent, BoardAside, content_of, aside_of, past_of, suffix_of, suffix_after}
+use Rattle.tp_placing.specs.Calls.{IsSameLoad}
+use Rattle.tp_placing.specs.Laws.{MarkKeeps, UndoKeeps}
+use Rattle.tp_placing.specs.Standing.{Stands}
+use Rattle.tp_placing.proofs.StandFacts.{and-some, some-and}
+use Rattle.tp_search.specs.Boards.{IsBack, IsLaid, IsWayOf}
+use Rattle.tp_search.specs.States.{IsBefore}
+use Rattle.tp_search.specs.Ways.{IsPlaced, IsWay}
+use Rattle.tp_search.proofs.WaySteps.{action-way, place-way}
+
+module _ {N C : Type 0} (net : N → Net) (content : N → C) (past : N → List C) (mark_room : N → ℕ) where
+  pub load-trans : (a b c : BoardValue N) → IsSameLoad a b → IsSameLoad b c → IsSameLoad a c
+  load-trans a b c x y = record { made_for = y.made_for ∙ x.made_for; plans = y.plans ∙ x.plans; ask = y.ask ∙ x.ask }
+
+  pub back-itself : (b : BoardValue N) (machine : Machine) → IsBack net content past mark_room b b machine
+  back-itself b machine = record { same_content = refl; same_past = refl; loaded = record { made_for = refl; plans = refl; ask = refl }; marks = refl; stands = λ s. s }
+
+  pub back-trans : (a b c : BoardValue N) (machine : Machine) → IsBack net content past mark_room a b machine → IsBack net content past mark_room b c machine → IsBack net content past mark_room a c machine
+  back-trans a b c machine x y = record {
+    same_content = y.same_content ∙ x.same_content;
+    same_past = y.same_past ∙ x.same_past;
+    loaded = load-trans a b c x.loaded y.loaded;
+    marks = y.marks ∙ x.marks;
+    stands = λ s. y.stands (x.stands s);
+  }
+
+  -- what is taken back to a mark: the marks and the load are the same
+  pub record IsSince (b b' : BoardValue N) (machine : Machine) : Type 0 where
+    pub past_same : past_of past b' ≡ past_of past b
+    pub load : IsSameLoad b b'
+    pub room : mark_room b'.net - 1 ≡ mark_room b.net - 1
+    pub stands : Stands net content past b machine → Stands net content past b' machine
+
+  -- after one step, and after more that are back
+  pub since-step : (b b' : BoardValue N) (machine : Machine) → past_of past b' ≡ past_of past b → IsSameLoad b b' → mark_room b'.net ≡ mark_room b.net → (Stands net content past b machine → Stands net content past b' machine)
+      → IsSince b b' machine
+  since-step b b' machine past_same load room stands = record { past_same = past_same; load = load; room = ap (λ n. n - 1) room; stands = stands }
+
+  pub since-back : (a b c : BoardValue N) (machine : Machine) → IsSince a b machine → IsBack net content past mark_room b c machine → IsSince a c machine
+  since-back a b c machine x y = record {
+    past_same = y.same_past ∙ x.past_same;
+    load = load-trans a b c x.load y.loaded;
+    room = y.marks ∙ x.room;
+    stands = λ s. y.stands (x.stands s);
+  }
+
+  -- a board that is back carries what it carried
+  pub suffix-back : (b b' : BoardValue N) → content_of content b' ≡ content_of content b → suffix_of b' ≡ suffix_of b
+  suffix-back b b' e = ap (λ (x : BoardContent C). suffix_after x.steps) e
+
+  pub laid-as : (b b' : BoardValue N) (machine : Machine) (ask : Ask) (goal first : State) (choices : List Choice) → content_of content b' ≡ content_of content b → IsSameLoad b b' → Stands net content past b' machine
+      → IsLaid net content past mark_room b machine ask goal first choices → IsLaid net content past mark_room b' machine ask goal first choices
+  laid-as b b' machine ask goal first choices same load stands l = record {
+    stands = stands;
+    asked = load.ask ∙ l.asked;
+    way = subst (λ ps. IsSomeAnd (suffix_of b') (IsWayOf machine ps ask goal first choices)) (sym load.plans) (subst (λ o. IsSomeAnd o (IsWayOf machine b.plans ask goal first choices)) (sym (suffix-back b b' same)) l.way);
+  }
+
+  pub laid-back : (b b' : BoardValue N) (machine : Machine) (ask : Ask) (goal first : State) (choices : List Choice) → IsBack net content past mark_room b b' machine
+      → IsLaid net content past mark_room b machine ask goal first choices → IsLaid net content past mark_room b' machine ask goal first choices
+  laid-back b b' machine ask goal first choices back l = laid-as b b' machine ask goal first choices back.same_content back.loaded (back.stands l.stands) l
+
+  -- the way that a board carries
+  pub record TheWay (b : BoardValue N) (machine : Machine) (ask : Ask) (goal first : State) (choices : List Choice) : Type 0 where
+    pub x : Suffix
+    pub suffix : suffix_of b ≡ Some x
+    pub is : IsWayOf machine b.plans ask goal first choices x
+
+  pub the-way : (b : BoardValue N) (machine : Machine) (ask : Ask) (goal first : State) (choices : List Choice) → IsLaid net content past mark_room b machine ask goal first choices → TheWay b machine ask goal first choices
+  the-way b machine ask goal first choices l =
+      let y = some-and (suffix_of b) (IsWayOf machine b.plans ask goal first choices) l.way in
+      record { x = y.0; suffix = y.1; is = y.2 }
+
+  -- one action more
+  pub laid-action : (b b' : BoardValue N) (machine : Machine) (ask : Ask) (goal first before : State) (choices : List Choice) (act : ActId) (room : ℕ) → (l : IsLaid net content past mark_room b machine ask goal first choices) → IsPlaced machine choices
+      → IsSomeAnd (suffix_of b) (λ x. suffix_of b' ≡ Some (with_action act room x)) → Stands net content past b' machine → IsSameLoad b b' → IsBefore machine ask act first (record { state = before; room = room }) → kept_of ask + length choices < 64
+      → IsLaid net content past mark_room b' machine ask goal before (record { act = act; places = [] } ∷ choices)
+  laid-action b b' machine ask goal first before choices act room l placed opened stands load r fewer =
+      let w = the-way b machine ask goal first choices l in
+      let now : suffix_of b' ≡ Some (with_action act room w.x) = subst (λ o. IsSomeAnd o (λ x. suffix_of b' ≡ Some (with_action act room x))) w.suffix opened in
+      let same = w.is.same in
+      let placed' : IsPlaced machine w.x.choices = subst (IsPlaced machine) (sym same) placed in
+      let many = ap length same in
+      let way = action-way machine b.plans ask goal first before w.x act room w.is.way placed' w.is.going r.step r.allowed r.is_room (omega arith) in
+      record {
+        stands = stands;
+        asked = load.ask ∙ l.asked;
+        way = and-some (suffix_of b') (with_action act room w.x) (IsWayOf machine b'.plans ask goal before (record { act = act; places = [] } ∷ choices)) now (record {
+          way = subst (λ ps. IsWay machine ps ask goal before (with_action act room w.x)) (sym load.plans) way;
+          same = ap (λ cs. record { act = act; places = [] } ∷ cs) same;
+          going = w.is.going;
+        });
+      }
+
+  -- one place more
+  pub laid-place : (b b' : BoardValue N) (machine : Machine) (ask : Ask) (goal first : State) (choices : List Choice) (act : ActId) (places : List ℕ) (place : ℕ) (rule : HoldRule)
+      → IsLaid net content past mark_room b machine ask goal first (record { act = act; places = places } ∷ choices)
+      → IsSomeAnd (suffix_of b) (λ x. suffix_of b' ≡ Some (with_place place x)) → Stands net content past b' machine → IsSameLoad b b' → slice_get (holds_of_act (action_at machine act.0)) (length places) ≡ Some rule
+      → IsSomeAnd (suffix_of b) (λ x. place ≤ length (order_in machine b.plans x rule.resource.0)) → IsLaid net content past mark_room b' machine ask goal first (record { act = act; places = places ++ place ∷ [] } ∷ choices)
+  laid-place b b' machine ask goal first choices act places place rule l put stands load is_rule within =
+      let w = the-way b machine ask goal first (record { act = act; places = places } ∷ choices) l in
+      let now : suffix_of b' ≡ Some (with_place place w.x) = subst (λ o. IsSomeAnd o (λ x. suffix_of b' ≡ Some (with_place place x))) w.suffix put in
+      let inside : place ≤ length (order_in machine b.plans w.x rule.resource.0) = subst (λ o. IsSomeAnd o (λ x. place ≤ length (order_in machine b.plans x rule.resource.0))) w.suffix within in
+      let way = place-way machine b.plans ask goal first w.x (record { act = act; places = places }) choices rule place w.is.way w.is.going w.is.same is_rule inside in
+      record {
+        stands = stands;
+        asked = load.ask ∙ l.asked;
+        way = and-some (suffix_of b') (with_place place w.x) (IsWayOf machine b'.plans ask goal first (record { act = act; places = places ++ place ∷ [] } ∷ choices)) now (record {
+          way = subst (λ ps. IsWay machine ps ask goal first (with_place place w.x)) (sym load.plans) way;
+          same = placed-first w.x.choices (w.is.same);
+          going = w.is.going;
+        });
+      } where
+        placed-first : (cs : List Choice) → cs ≡ record { act = act; places = places } ∷ choices → place_first place cs ≡ record { act = act; places = places ++ place ∷ [] } ∷ choices
+        placed-first cs e = ap (place_first place) e
+
+-- with marks
+module _ {N C A : Type 0} (net : N → Net) (content : N → C) (past : N → List C) (aside : N → A) (mark_room : N → ℕ) where
+  -- a board after a mark
+  pub record IsMarked (b b' : BoardValue N) (mark : ℕ) : Type 0 where
+    pub number : mark ≡ length (past_of past b)
+    pub past_more : past_of past b' ≡ past_of past b ++ content_of content b ∷ []
+    pub content_same : content_of content b' ≡ content_of content b
+    pub aside_same : aside_of aside b' ≡ aside_of aside b
+    pub room_same : mark_room b'.net - 1 ≡ mark_room b.net - 1
+
+  -- and after it is taken back to one
+  pub record IsUndone (b b' : BoardValue N) (mark : ℕ) : Type 0 where
+    pub content_then : slice_get (past_of past b) mark ≡ Some (content_of content b')
+    pub past_less : past_of past b' ≡ take mark (past_of past b)
+    pub aside_same : aside_of aside b' ≡ aside_of aside b
+    pub room_same : mark_room b'.net - 1 ≡ mark_room b.net - 1
+
+  -- the load of a board is aside
+  pub load-of : (a b : BoardValue N) → aside_of aside b ≡ aside_of aside a → IsSameLoad a b
+  load-of a b e = record {
+    made_for = ap (λ (x : BoardAside A). x.made_for) e;
+    plans = ap (λ (x : BoardAside A). x.plans) e;
+    ask = ap (λ (x : BoardAside A). x.ask) e;
+  }
+
+  -- what was done since a mark is taken back
+  pub taken-back : MarkKeeps net content past aside → UndoKeeps net content past aside → (b0 b1 b2 b3 : BoardValue N) (machine : Machine) (mark : ℕ) → IsMarked b0 b1 mark → IsSince net content past mark_room b1 b2 machine → IsUndone b2 b3 mark
+      → IsBack net content past mark_room b0 b3 machine
+  taken-back keeps undoes b0 b1 b2 b3 machine mark m since u =
+      let was : past_of past b2 ≡ past_of past b0 ++ content_of content b0 ∷ [] = since.past_same ∙ m.past_more in
+      let at : slice_get (past_of past b2) mark ≡ Some (content_of content b0) = (λ i. slice_get (was i) (m.number i)) ∙ slice_get_last (past_of past b0) (content_of content b0) in
+      let content_back : content_of content b3 ≡ content_of content b0 = same_Some (content_of content b3) (content_of content b0) (sym u.content_then ∙ at) in
+      let past_back : past_of past b3 ≡ past_of past b0 = u.past_less ∙ (λ i. take (m.number i) (was i)) ∙ take-append_seam (past_of past b0) (content_of content b0 ∷ []) in
+      record {
+        same_content = content_back;
+        same_past = past_back;
+        loaded = load-trans net content past mark_room b0 b2 b3 (load-trans net content past mark_room b0 b1 b2 (load-of b0 b1 m.aside_same) since.load) (load-of b2 b3 u.aside_same);
+        marks = u.room_same ∙ since.room ∙ m.room_same;
+        stands = λ s. undoes b2 b3 machine mark u.content_then u.aside_same u.past_less (since.stands (keeps b0 b1 machine m.content_same m.aside_same m.past_more s));
+      }
+
+  -- the mark is in force until then
+  pub mark-known : (b0 b1 b2 : BoardValue N) (machine : Machine) (mark : ℕ) → IsMarked b0 b1 mark → IsSince net content past mark_room b1 b2 machine → mark < length (past_of past b2)
+  mark-known b0 b1 b2 machine mark m since = omega (arith, ap length (since.past_same ∙ m.past_more), length-append (past_of past b0) (content_of content b0 ∷ []), m.number)
+
+  pub laid-marked : MarkKeeps net content past aside → (b b' : BoardValue N) (mark : ℕ) (machine : Machine) (ask : Ask) (goal first : State) (choices : List Choice) → IsMarked b b' mark
+      → IsLaid net content past mark_room b machine ask goal first choices → IsLaid net content past mark_room b' machine ask goal first choices
+  laid-marked keeps b b' mark machine ask goal first choices m l =
+      laid-as net content past mark_room b b' machine ask goal first choices m.content_same (load-of b b' m.aside_same) (keeps b b' machine m.content_same m.aside_same m.past_more l.stands) l

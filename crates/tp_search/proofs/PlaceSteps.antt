@@ -1,0 +1,221 @@
+-- The steps of placing the holds of a choice: the last hold is placed, and a place is tried and taken back.
+use Rattle.std.proofs.Common.{◌≡◌, ◌↔◌, ℕ, suc, ◌+◌, ◌-◌, ◌<◌, ◌≤◌, Bool, IsTrue, IsSomeAnd, List, [], ◌∷◌, ◌++◌, length, take, Some, refl, sym, ap, subst, ◌∙◌, arith, length-take-le}
+use Rattle.std.specs.Prelude.{slice_get, slice_set}
+use Rattle.std.proofs.lemmas.List.{length-append, take_more_set}
+use Rattle.tp_base.specs.Net.{Net}
+use Rattle.tp_machine.specs.Using.{action_at}
+use Rattle.tp_machine.specs.declared.parts.Action.{Action}
+use Rattle.tp_machine.specs.declared.parts.ActId.{ActId}
+use Rattle.tp_machine.specs.declared.parts.HoldRule.{HoldRule}
+use Rattle.tp_machine.specs.declared.parts.State.{State}
+use Rattle.tp_machine.specs.declared.whole.Machine.{Machine}
+use Rattle.tp_machine.proofs.MachineFacts.{is_machine}
+use Rattle.tp_pool.specs.Entries.{choices_before}
+use Rattle.tp_pool.specs.declared.choice.Choice.{Choice as Stored}
+use Rattle.tp_schedule.specs.Choices.{Choice, ChoiceList, IsBound, IsComplete, going}
+use Rattle.tp_schedule.specs.Holding.{holds_of_act}
+use Rattle.tp_schedule.specs.Routes.{IsStart}
+use Rattle.tp_schedule.specs.Spots.Spot.{own}
+use Rattle.tp_schedule.specs.declared.parts.Ask.{Ask}
+use Rattle.tp_schedule.specs.declared.parts.Origin.TheVariants.{Feeder as FromFeeder}
+use Rattle.tp_schedule.specs.declared.parts.Plan.{Plan}
+use Rattle.tp_constraints.specs.Suffixes.{with_place}
+use Rattle.tp_constraints.proofs.Lists.{contains-get}
+use Rattle.tp_placing.specs.Boards.{BoardValue, content_of, past_of, suffix_of}
+use Rattle.tp_placing.specs.Calls.{CanPlace, HasNoTimes, IsSameLoad}
+use Rattle.tp_placing.specs.Laws.{MarkKeeps, UndoKeeps}
+use Rattle.tp_placing.specs.Standing.{Stands, order_after}
+use Rattle.tp_placing.specs.Ticks.{HasLeastTick}
+use Rattle.tp_search.specs.Boards.{HasMarks, IsBack, IsLaid}
+use Rattle.tp_search.specs.Opening.{IsAtProgress, IsFresh, IsSameOpening, Progress, opening_after, parent_of, store_after}
+use Rattle.tp_search.specs.Opening.Progress.{through, up_to}
+use Rattle.tp_search.specs.Stored.{child_by, choices_by}
+use Rattle.tp_search.specs.Stores.{HasBounds, IsInRange, StoreValue}
+use Rattle.tp_search.specs.declared.opening.Opening.{Opening}
+use Rattle.tp_search.proofs.BoardSteps.{IsMarked, IsSince, IsUndone, back-trans, laid-back, laid-marked, laid-place, load-of, since-back, suffix-back, taken-back}
+use Rattle.tp_search.proofs.ChildBoards.{bound-range, can-place, is-child-more, laid-bound, laid-complete, place-within}
+use Rattle.tp_search.proofs.ChildFacts.{child_by-act}
+use Rattle.tp_search.proofs.OpeningFacts.{opening-child}
+use Rattle.tp_search.proofs.OpeningSame.{before-same, opening-same, same-itself, same-trans}
+use Rattle.tp_search.proofs.PlaceFacts.{opening-next, place-late, places-end}
+
+-- a hold's resource is one of the machine's
+pub resource-known : (machine : Machine) (act : ℕ) (a : Action) (hold : ℕ) (rule : HoldRule) → action_at machine act ≡ Some a → slice_get a.holds hold ≡ Some rule → rule.resource.0 < length machine.resources
+resource-known machine act a hold rule is is_rule = (is_machine machine).known act a is rule (contains-get a.holds hold rule is_rule)
+
+-- the list that is being opened stays
+pub parent-same : (machine : Machine) (ask : Ask) (o o' : Opening) (s s' : StoreValue) → IsSameOpening o o' s s' → IsFresh machine ask o s → parent_of machine s'.entries o'.goal o'.parent ≡ going o.goal (choices_by machine (choices_before s.entries o.parent))
+parent-same machine ask o o' s s' same fresh =
+    ap {B = ChoiceList} (λ (g : State). going g (choices_by machine (choices_before s'.entries o'.parent))) same.goal ∙ ap {B = ChoiceList} (λ cs. going o.goal (choices_by machine cs)) (before-same machine ask o o' s s' same fresh)
+
+-- what the opening and the store are after a child was kept
+module _ (o : Opening) (s : StoreValue) (c : Stored) (tick : ℕ) (complete : Bool) (o' : Opening) (s' : StoreValue) (opening : o' ≡ opening_after c tick complete o) (store : s' ≡ store_after c tick complete o s) where
+  pub kept-at : (machine : Machine) (plans : List Plan) (ask : Ask) (p : Progress) → IsAtProgress machine plans ask (opening_after c tick complete o) (store_after c tick complete o s) p → IsAtProgress machine plans ask o' s' p
+  kept-at machine plans ask p at =
+      subst (λ r. IsAtProgress machine plans ask o' r p) (sym store) (subst (λ q. IsAtProgress machine plans ask q (store_after c tick complete o s) p) (sym opening) at)
+
+  pub kept-same : IsSameOpening o o' s s'
+  kept-same = subst (λ r. IsSameOpening o o' s r) (sym store) (subst (λ q. IsSameOpening o q s (store_after c tick complete o s)) (sym opening) (opening-same o s c tick complete))
+
+-- the first places with the next one
+pub next-places : (places : List ℕ) (hold place : ℕ) → hold < length places → take (hold + 1) (slice_set places hold place) ≡ take hold places ++ place ∷ []
+next-places places hold place within = take_more_set places hold place within
+
+module _ {N C : Type 0} (net : N → Net) (content : N → C) (past : N → List C) (mark_room : N → ℕ) (machine : Machine) (ask : Ask) (first : State) (o : Opening) (s : StoreValue) (b : BoardValue N) where
+  -- what a board carries for the list that is being opened, by what the opening and the store were before
+  pub laid-same : (o' : Opening) (s' : StoreValue) (with : List Choice → List Choice) → IsSameOpening o o' s s' → IsFresh machine ask o s → IsLaid net content past mark_room b machine ask o.goal first (with (choices_by machine (choices_before s.entries o.parent)))
+      → IsLaid net content past mark_room b machine ask o'.goal first (with (choices_by machine (choices_before s'.entries o'.parent)))
+  laid-same o' s' with same fresh l =
+      subst (λ g. IsLaid net content past mark_room b machine ask g first (with (choices_by machine (choices_before s'.entries o'.parent)))) (sym same.goal)
+      (subst (λ cs. IsLaid net content past mark_room b machine ask o.goal first (with (choices_by machine cs))) (sym (before-same machine ask o o' s s' same fresh)) l)
+
+  -- where all holds are placed, the child is looked at with its bound
+  pub all-placed : (act : ActId) (choice : Stored) (places : List ℕ) (complete : Bool) (tick : ℕ) → choice.act ≡ Some act → choice.goal ≡ o.goal → places ≡ take (length (holds_of_act (action_at machine act.0))) choice.places → length (holds_of_act (action_at machine act.0)) ≤ length choice.places
+      → (IsTrue complete ↔ ((ask.origin ≡ FromFeeder) × IsStart machine ask first)) → IsLaid net content past mark_room b machine ask o.goal first (record { act = act; places = places } ∷ choices_by machine (choices_before s.entries o.parent))
+      → IsFresh machine ask o s → HasBounds machine ask s → IsAtProgress machine b.plans ask o s (up_to act.0 places) → HasLeastTick machine b (own 0) tick
+      → IsInRange s tick × IsAtProgress machine b.plans ask (opening_after choice tick complete o) (store_after choice tick complete o s) (through act.0 places)
+  all-placed act choice places complete tick has goal are many exactly l fresh bounds opening least =
+      let olds = choices_by machine (choices_before s.entries o.parent) in
+      let child = going o.goal (record { act = act; places = places } ∷ olds) in
+      let count : length places ≡ length (holds_of_act (action_at machine act.0)) = ap length are ∙ length-take-le (length (holds_of_act (action_at machine act.0))) choice.places many in
+      let bound = laid-bound net content past mark_room b machine ask o.goal first (record { act = act; places = places } ∷ olds) tick l count least in
+      let whole = laid-complete net content past mark_room b machine ask o.goal first (record { act = act; places = places } ∷ olds) l in
+      let range = bound-range machine b.plans ask child tick bound in
+      let is : child_by machine o.goal olds choice ≡ child = child_by-act machine o.goal olds choice act places has (sym are) in
+      let base = bounds.0 in
+      let width = bounds.1 in (
+        (omega (arith, range.0), omega (arith, range.1)),
+        opening-child machine b.plans ask o s act places choice tick complete fresh opening has goal (sym are) (is-child-more machine ask o.goal olds choice act places has (sym are))
+            (subst (λ list. IsBound machine b.plans ask list tick) (sym is) bound) (subst (λ list. IsTrue complete ↔ IsComplete machine ask list) (sym is) (λ t. whole.0 (exactly.0 t), λ c. exactly.1 (whole.1 c))),
+      )
+
+-- a place is tried on a marked board, in the loop over the places
+module _ {N C A : Type 0} (net : N → Net) (content : N → C) (past : N → List C) (aside : N → A) (mark_room : N → ℕ) (machine : Machine) (ask : Ask) (first : State) (act : ActId) (o o1 : Opening) (s s1 : StoreValue) (b b1 b2 : BoardValue N) (mark : ℕ)
+    (places : List ℕ) (place : ℕ) (rule : HoldRule) where
+  -- what holds before
+  pub record IsTrying : Type 0 where
+    pub keeps : MarkKeeps net content past aside
+    pub undoes : UndoKeeps net content past aside
+    pub laid : IsLaid net content past mark_room b machine ask o.goal first (record { act = act; places = places } ∷ choices_by machine (choices_before s.entries o.parent))
+    pub fresh : IsFresh machine ask o s
+    pub is_rule : slice_get (holds_of_act (action_at machine act.0)) (length places) ≡ Some rule
+    pub within : place ≤ length (order_after machine b.plans (suffix_of b) rule.resource.0)
+    pub same : IsSameOpening o o1 s s1
+    pub back : IsBack net content past mark_room b b1 machine
+    pub progress : IsAtProgress machine b1.plans ask o1 s1 (up_to act.0 (places ++ place ∷ []))
+    pub marked : IsMarked net content past aside mark_room b1 b2 mark
+
+  -- what holds after: the children under the place were looked at
+  pub record IsTried (b3 : BoardValue N) (o2 : Opening) (s2 : StoreValue) : Type 0 where
+    pub since : IsSince net content past mark_room b2 b3 machine
+    pub same : IsSameOpening o1 o2 s1 s2
+    pub progress : IsAtProgress machine b2.plans ask o2 s2 (through act.0 (places ++ place ∷ []))
+
+  pub tried-as : (b3 b4 : BoardValue N) (o2 o3 : Opening) (s2 s3 : StoreValue) → b4 ≡ b3 → o3 ≡ o2 → s3 ≡ s2 → IsTried b3 o2 s2 → IsTried b4 o3 s3
+  tried-as b3 b4 o2 o3 s2 s3 board opening store r = subst (λ x. IsTried x o3 s3) (sym board) (subst (λ x. IsTried b3 x s3) (sym opening) (subst (λ x. IsTried b3 o2 x) (sym store) r))
+
+  -- by what the calls before say
+  pub trying : (a : Action) (hold last : ℕ) → MarkKeeps net content past aside → UndoKeeps net content past aside
+      → IsLaid net content past mark_room b machine ask o.goal first (record { act = act; places = places } ∷ choices_by machine (choices_before s.entries o.parent)) → IsFresh machine ask o s
+      → action_at machine act.0 ≡ Some a → slice_get a.holds hold ≡ Some rule → length places ≡ hold → ((m : Machine) → Stands net content past b m → last ≡ length (order_after m b.plans (suffix_of b) rule.resource.0)) → place ≤ last
+      → IsSameOpening o o1 s s1 → IsBack net content past mark_room b b1 machine → IsAtProgress machine b1.plans ask o1 s1 (up_to act.0 (places ++ place ∷ [])) → IsMarked net content past aside mark_room b1 b2 mark → IsTrying
+  trying a hold last keeps undoes laid fresh is_act is_rule count counted test same back progress marked = record {
+    keeps = keeps;
+    undoes = undoes;
+    laid = laid;
+    fresh = fresh;
+    is_rule = (λ i. slice_get (ap holds_of_act is_act i) (count i)) ∙ is_rule;
+    within = omega (arith, counted machine laid.stands);
+    same = same;
+    back = back;
+    progress = progress;
+    marked = marked;
+  }
+
+  module _ (t : IsTrying) where
+    pub marked-laid : IsLaid net content past mark_room b2 machine ask o.goal first (record { act = act; places = places } ∷ choices_by machine (choices_before s.entries o.parent))
+    marked-laid =
+        let olds = choices_by machine (choices_before s.entries o.parent) in
+        laid-marked net content past aside mark_room t.keeps b1 b2 mark machine ask o.goal first (record { act = act; places = places } ∷ olds) t.marked
+        (laid-back net content past mark_room b b1 machine ask o.goal first (record { act = act; places = places } ∷ olds) t.back t.laid)
+
+    pub marked-stands : Stands net content past b2 machine
+    marked-stands = marked-laid.stands
+
+    plans-now : b2.plans ≡ b1.plans
+    plans-now = (load-of net content past aside mark_room b1 b2 t.marked.aside_same).plans
+
+    order-now : order_after machine b2.plans (suffix_of b2) rule.resource.0 ≡ order_after machine b.plans (suffix_of b) rule.resource.0
+    order-now =
+        let plans : b2.plans ≡ b.plans = plans-now ∙ t.back.loaded.plans in
+        let suffix : suffix_of b2 ≡ suffix_of b = suffix-back net content past mark_room b1 b2 t.marked.content_same ∙ suffix-back net content past mark_room b b1 t.back.same_content in
+        λ i. order_after machine (plans i) (suffix i) rule.resource.0
+
+    within-now : place ≤ length (order_after machine b2.plans (suffix_of b2) rule.resource.0)
+    within-now = omega (arith, ap length order-now, t.within)
+
+    progress-now : IsAtProgress machine b2.plans ask o1 s1 (up_to act.0 (places ++ place ∷ []))
+    progress-now = subst (λ ps. IsAtProgress machine ps ask o1 s1 (up_to act.0 (places ++ place ∷ []))) (sym plans-now) t.progress
+
+    pub may-place : IsSomeAnd (suffix_of b2) (λ x. CanPlace machine b2.plans x (length places) place)
+    may-place = can-place net content past mark_room b2 machine ask o.goal first (choices_by machine (choices_before s.entries o.parent)) act places marked-laid (length places) place rule refl t.is_rule within-now
+
+    -- the board with the place carries it
+    pub placed-laid : (b3 : BoardValue N) → IsSomeAnd (suffix_of b2) (λ x. suffix_of b3 ≡ Some (with_place place x)) → Stands net content past b3 machine → IsSameLoad b2 b3
+        → IsLaid net content past mark_room b3 machine ask o1.goal first (record { act = act; places = places ++ place ∷ [] } ∷ choices_by machine (choices_before s1.entries o1.parent))
+    placed-laid b3 put stands load =
+        let olds = choices_by machine (choices_before s.entries o.parent) in
+        laid-same net content past mark_room machine ask first o s b3 o1 s1 (λ cs. record { act = act; places = places ++ place ∷ [] } ∷ cs) t.same t.fresh
+        (laid-place net content past mark_room b2 b3 machine ask o.goal first olds act places place rule marked-laid put stands load t.is_rule
+        (place-within net content past mark_room b2 machine ask o.goal first olds act places marked-laid place rule within-now))
+
+    pub placed-progress : (b3 : BoardValue N) → IsSameLoad b2 b3 → IsAtProgress machine b3.plans ask o1 s1 (up_to act.0 (places ++ place ∷ []))
+    placed-progress b3 load = subst (λ ps. IsAtProgress machine ps ask o1 s1 (up_to act.0 (places ++ place ∷ []))) (sym load.plans) progress-now
+
+    pub placed-marks : (count : ℕ) (b3 : BoardValue N) → HasMarks net content past mark_room (suc count) b → past_of past b3 ≡ past_of past b2 → mark_room b3.net ≡ mark_room b2.net → HasMarks net content past mark_room count b3
+    placed-marks count b3 marks past_same room =
+        let one = ap length (past_same ∙ t.marked.past_more) ∙ length-append (past_of past b1) (content_of content b1 ∷ []) in
+        let old = ap length t.back.same_past in
+        let rooms = ap (λ n. n - 1) room ∙ t.marked.room_same ∙ t.back.marks in
+        omega (arith, marks)
+
+    -- the place is late
+    pub tried-late : (b3 : BoardValue N) → IsSince net content past mark_room b2 b3 machine → IsSomeAnd (suffix_of b2) (λ x. HasNoTimes machine b2 (with_place place x)) → IsTried b3 o1 s1
+    tried-late b3 since late = record {
+      since = since;
+      same = same-itself o1 s1;
+      progress = place-late net content past mark_room b2 machine ask o.goal first (choices_by machine (choices_before s.entries o.parent)) act places marked-laid rule t.is_rule o1 s1
+          (parent-same machine ask o o1 s s1 t.same t.fresh) place within-now late progress-now;
+    }
+
+    -- the holds behind it were placed
+    pub tried-placed : (b3 b4 : BoardValue N) (o2 : Opening) (s2 : StoreValue) → IsSince net content past mark_room b2 b3 machine → IsSameOpening o1 o2 s1 s2 → IsBack net content past mark_room b3 b4 machine
+        → IsAtProgress machine b3.plans ask o2 s2 (through act.0 (places ++ place ∷ [])) → IsTried b4 o2 s2
+    tried-placed b3 b4 o2 s2 since same back progress = record {
+      since = since-back net content past mark_room b2 b3 b4 machine since back;
+      same = same;
+      progress = subst (λ ps. IsAtProgress machine ps ask o2 s2 (through act.0 (places ++ place ∷ []))) since.load.plans progress;
+    }
+
+    module _ (b3 b4 : BoardValue N) (o2 : Opening) (s2 : StoreValue) (r : IsTried b3 o2 s2) where
+      -- it is taken back
+      pub back-now : IsUndone net content past aside mark_room b3 b4 mark → IsBack net content past mark_room b b4 machine
+      back-now undone =
+          back-trans net content past mark_room b b1 b4 machine t.back (taken-back net content past aside mark_room t.keeps t.undoes b1 b2 b3 b4 machine mark t.marked r.since undone)
+
+      pub same-now : IsSameOpening o o2 s s2
+      same-now = same-trans o o1 o2 s s1 s2 t.same r.same
+
+      at-place : IsAtProgress machine b.plans ask o2 s2 (up_to act.0 (places ++ (place + 1) ∷ []))
+      at-place =
+          let plans : b2.plans ≡ b.plans = plans-now ∙ t.back.loaded.plans in
+          opening-next machine b.plans ask o2 s2 act.0 places place (subst (λ ps. IsAtProgress machine ps ask o2 s2 (through act.0 (places ++ place ∷ []))) plans r.progress)
+
+      pub next-now : IsBack net content past mark_room b b4 machine → IsAtProgress machine b4.plans ask o2 s2 (up_to act.0 (places ++ (place + 1) ∷ []))
+      next-now back = subst (λ ps. IsAtProgress machine ps ask o2 s2 (up_to act.0 (places ++ (place + 1) ∷ []))) (sym back.loaded.plans) at-place
+
+      -- and the last place was tried
+      pub end-now : length (order_after machine b.plans (suffix_of b) rule.resource.0) ≤ place → length places < length (holds_of_act (action_at machine act.0)) → IsAtProgress machine b.plans ask o2 s2 (through act.0 places)
+      end-now last few =
+          places-end net content past mark_room b machine ask o.goal first (choices_by machine (choices_before s.entries o.parent)) act places t.laid rule t.is_rule o2 s2
+          (parent-same machine ask o o2 s s2 same-now t.fresh) (place + 1) (omega arith) few at-place

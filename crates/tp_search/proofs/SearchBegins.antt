@@ -1,0 +1,73 @@
+-- How a search begins: the goals wait, and nothing is stored. No goal's list is complete, since no feeder stands at a tray.
+use Rattle.std.proofs.Common.{◌≡◌, ◌≢◌, ℕ, true≢false, List, [], map, Contains, Some, inl, refl, sym, ap, subst, ◌∙◌, arith}
+use Rattle.std.proofs.lemmas.List.Elements.{All-contains, All-nil, Contains-append_left}
+use Rattle.std.proofs.lemmas.Option.{same_Some}
+use Rattle.tp_machine.specs.Machines.{IsLocation, IsMachine, IsOpenPlace}
+use Rattle.tp_machine.specs.declared.parts.Feeder.{Feeder}
+use Rattle.tp_machine.specs.declared.parts.State.{State}
+use Rattle.tp_machine.specs.declared.whole.Machine.{Machine}
+use Rattle.tp_pool.specs.Entries.{Entry}
+use Rattle.tp_schedule.specs.Choices.{IsComplete, IsCompleteFrom, going}
+use Rattle.tp_schedule.specs.Routes.{IsFreshStart, IsGoalState, IsStartFrom}
+use Rattle.tp_schedule.specs.declared.parts.Ask.{Ask}
+use Rattle.tp_schedule.specs.declared.parts.Goal.{Goal}
+use Rattle.tp_schedule.specs.declared.parts.Goal.TheVariants.{Purge, Tray}
+use Rattle.tp_schedule.specs.declared.parts.Origin.{Origin}
+use Rattle.tp_schedule.specs.declared.parts.Origin.TheVariants.{Feeder as FromFeeder, Front as FromFront}
+use Rattle.tp_schedule.specs.declared.parts.Plan.{Plan}
+use Rattle.tp_schedule.proofs.Pairs.{AllPairs-nil}
+use Rattle.tp_search.specs.Searching.{AreOpenGoals, IsKnownGoal, IsOpenEntry, IsSearching, list_of_goal}
+use Rattle.tp_search.specs.Stored.{list_by}
+use Rattle.tp_search.specs.Stores.{HasBounds, StoreValue, empty_store}
+use Rattle.tp_search.specs.declared.goals.OpenGoal.{OpenGoal}
+
+-- nothing can be put away at a feeder
+goal-placed : (machine : Machine) (ask : Ask) (state : State) (goal : Goal) → IsKnownGoal machine goal → IsGoalState machine ask.want goal state → IsOpenPlace machine state.loc → ⊥
+goal-placed machine ask state (Tray tray) known is free =
+    let at : state.loc ≡ tray = ap (λ (s : State). s.loc) is in
+    free.0 (subst (Contains machine.trays) (sym at) known)
+goal-placed machine ask state Purge known is free = free.1 is
+
+-- a goal's list is not complete: no goal state is a start state of a new copy, and for one in flight it is not stopped
+pub goal-incomplete : (machine : Machine) (ask : Ask) (state : State) → IsMachine machine → IsKnownGoal machine ask.goal → IsGoalState machine ask.want ask.goal state → ¬ IsComplete machine ask (going state [])
+goal-incomplete machine ask state is-machine known is = go ask.origin refl where
+  fed : (first : State) → Some first ≡ Some state → IsFreshStart machine ask.want first → ⊥
+  fed first leads (k, feeder, within, at, (media, fresh)) =
+      let place = All-contains (λ (f : Feeder). IsLocation machine f.loc × IsOpenPlace machine f.loc) machine.feeders feeder is-machine.feeders (k, within, at) in
+      let loc : state.loc ≡ feeder.loc = ap (λ (s : State). s.loc) (sym (same_Some first state leads) ∙ fresh) in
+      goal-placed machine ask state ask.goal known is (subst (IsOpenPlace machine) (sym loc) place.1)
+
+  go : (origin : Origin) → ask.origin ≡ origin → IsCompleteFrom machine ask (going state []) origin → ⊥
+  go FromFeeder from (first, leads, start) = fed first leads (subst (λ o. IsStartFrom machine ask.want o first) from start)
+  go (FromFront state' end count) from halted = absurd (true≢false (sym halted))
+
+searching-empty : (machine : Machine) (plans : List Plan) (ask : Ask) (goals : List OpenGoal) (room base width : ℕ) → AreOpenGoals machine plans ask goals → HasBounds machine ask (empty_store room base width)
+    → IsSearching machine plans ask goals (empty_store room base width) 0
+searching-empty machine plans ask goals room base width are range = record {
+  opened = [];
+  searched = record {
+    starts = λ list none opens. inl (Contains-append_left (map list_of_goal goals) [] list (are.every list none opens));
+    spread = λ list child there. absurd (omega (arith, there.1));
+    unfinished = λ list there. absurd (omega (arith, there.1));
+  };
+  goals_bound = are.bounds;
+  goals_apart = are.apart;
+  goals_later = λ k d within. omega arith;
+  entries = All-nil (IsOpenEntry machine plans ask);
+  entries_apart = AllPairs-nil (λ (a b : Entry). list_by machine a.choices ≢ list_by machine b.choices);
+  waits_known = λ node there. absurd (omega (arith, there.1));
+  waits_later = λ node there. absurd (omega (arith, there.1));
+  opened_stored = λ list there. absurd (omega (arith, there.1));
+  from_opened = λ parent child there. absurd (omega (arith, there.1));
+  opened_earlier = λ list end there. absurd (omega (arith, there.1));
+  unopened = λ list waits there. absurd (omega (arith, there.1));
+  has_best = λ e there. absurd (omega (arith, there.1));
+  not_full = refl;
+  range = range;
+}
+
+-- with the open goals and an empty store a search begins
+pub searching-begins : (machine : Machine) (plans : List Plan) (ask : Ask) (goals : List OpenGoal) (s : StoreValue) (room base width : ℕ)
+    → AreOpenGoals machine plans ask goals → s ≡ empty_store room base width → HasBounds machine ask s → IsSearching machine plans ask goals s 0
+searching-begins machine plans ask goals s room base width are empty range =
+    subst (λ v. IsSearching machine plans ask goals v 0) (sym empty) (searching-empty machine plans ask goals room base width are (subst (HasBounds machine ask) empty range))

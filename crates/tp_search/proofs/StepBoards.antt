@@ -1,0 +1,80 @@
+-- A step of a search on a board with a mark: what stands, and what it leaves.
+use Rattle.std.proofs.Common.{◌≡◌, ℕ, ◌-◌, List, [], ◌∷◌, ◌++◌, length, Some, sym, ap, subst, ◌∙◌}
+use Rattle.std.proofs.lemmas.Option.{same_Some}
+use Rattle.tp_base.specs.Net.{Net}
+use Rattle.tp_machine.specs.declared.parts.State.{State}
+use Rattle.tp_machine.specs.declared.whole.Machine.{Machine}
+use Rattle.tp_schedule.specs.Answers.{IsAlternative, IsAsked, NoneBefore}
+use Rattle.tp_schedule.specs.Choices.{ChoiceList, IsBound, IsComplete}
+use Rattle.tp_schedule.specs.Legality.{IsLegal}
+use Rattle.tp_schedule.specs.Spending.{IsSpent}
+use Rattle.tp_schedule.specs.declared.parts.Ask.{Ask}
+use Rattle.tp_schedule.specs.declared.parts.Plan.{Plan}
+use Rattle.tp_placing.specs.Boards.{BoardValue}
+use Rattle.tp_placing.specs.Laws.{MarkKeeps}
+use Rattle.tp_placing.specs.Standing.{Stands}
+use Rattle.tp_search.specs.Boards.{IsBack}
+use Rattle.tp_search.specs.Following.{HasList, IsSameButSteps}
+use Rattle.tp_search.specs.Outcomes.{HasAnswer, IsOutcome}
+use Rattle.tp_search.specs.declared.searching.Outcome.{Outcome}
+use Rattle.tp_search.specs.declared.searching.Outcome.TheVariants.{Found, Never, Spent}
+use Rattle.tp_search.proofs.BoardSteps.{IsMarked, back-trans, load-of, load-trans}
+
+module _ {N C : Type 0} (net : N → Net) (content : N → C) (past : N → List C) where
+  -- the plans are legal, and the ask can be put on them
+  pub stands-legal : (b : BoardValue N) (machine : Machine) → Stands net content past b machine → IsLegal machine b.plans
+  stands-legal b machine stands = stands.1.loadable.legal
+
+  pub stands-asked : (b : BoardValue N) (machine : Machine) (ask : Ask) → Stands net content past b machine → b.ask ≡ Some ask → IsAsked machine b.plans ask
+  stands-asked b machine ask stands asked = subst (IsAsked machine b.plans) (same_Some stands.0 ask (sym stands.1.asked ∙ asked)) stands.1.origin
+
+module _ {N C A : Type 0} (net : N → Net) (content : N → C) (past : N → List C) (aside : N → A) (mark_room : N → ℕ) where
+  pub marked-stands : MarkKeeps net content past aside → (b b' : BoardValue N) (machine : Machine) (mark : ℕ) → IsMarked net content past aside mark_room b b' mark → Stands net content past b machine → Stands net content past b' machine
+  marked-stands keeps b b' machine mark m stands = keeps b b' machine m.content_same m.aside_same m.past_more stands
+
+  pub marked-plans : (b b' : BoardValue N) (mark : ℕ) → IsMarked net content past aside mark_room b b' mark → b'.plans ≡ b.plans
+  marked-plans b b' mark m = (load-of net content past aside mark_room b b' m.aside_same).plans
+
+  -- a complete list that was laid since the mark, before whose bound no answer ends
+  pub answer-since : (b b1 b2 : BoardValue N) (machine : Machine) (ask : Ask) (mark : ℕ) → IsMarked net content past aside mark_room b b1 mark → IsSameButSteps past mark_room b1 b2
+      → (first : State) (list : ChoiceList) (bound : ℕ) → HasList net content past b2 machine ask first list → IsComplete machine ask list → IsBound machine b.plans ask list bound → NoneBefore machine b.plans ask bound
+      → HasAnswer net content past mark_room b b2 machine ask mark
+  answer-since b b1 b2 machine ask mark m same first list bound laid complete is-bound none = record {
+    number = m.number;
+    past_more = same.same_past ∙ m.past_more;
+    loaded = load-trans net content past mark_room b b1 b2 (load-of net content past aside mark_room b b1 m.aside_same) same.loaded;
+    marks = ap (λ n. n - 1) same.marks ∙ m.room_same;
+    first = first;
+    list = list;
+    bound = bound;
+    laid = laid;
+    complete = complete;
+    is_bound = is-bound;
+    none_before = none;
+  }
+
+module _ {N C : Type 0} (net : N → Net) (content : N → C) (past : N → List C) (mark_room : N → ℕ) where
+  -- what a search comes to from a board that is back, it comes to from the board before
+  pub outcome-back : (b b1 b2 : BoardValue N) (machine : Machine) (ask : Ask) (nodes : ℕ) (outcome : Outcome) → IsBack net content past mark_room b b1 machine → IsOutcome net content past mark_room b1 b2 machine ask nodes outcome
+      → IsOutcome net content past mark_room b b2 machine ask nodes outcome
+  outcome-back b b1 b2 machine ask nodes (Found base) back a = record {
+    number = a.number ∙ ap length back.same_past;
+    past_more = a.past_more ∙ (λ i. back.same_past i ++ back.same_content i ∷ []);
+    loaded = load-trans net content past mark_room b b1 b2 back.loaded a.loaded;
+    marks = a.marks ∙ back.marks;
+    first = a.first;
+    list = a.list;
+    bound = a.bound;
+    laid = a.laid;
+    complete = a.complete;
+    is_bound = subst (λ ps. IsBound machine ps ask a.list a.bound) back.loaded.plans a.is_bound;
+    none_before = subst (λ ps. NoneBefore machine ps ask a.bound) back.loaded.plans a.none_before;
+  }
+  outcome-back b b1 b2 machine ask nodes Never back a = (
+    subst (λ ps. (plans' : List Plan) → ¬ IsAlternative machine ps ask plans') back.loaded.plans a.0,
+    back-trans net content past mark_room b b1 b2 machine back a.1,
+  )
+  outcome-back b b1 b2 machine ask nodes (Spent bound) back a = (
+    subst (λ ps. IsSpent machine ps ask nodes bound) back.loaded.plans a.0,
+    back-trans net content past mark_room b b1 b2 machine back a.1,
+  )

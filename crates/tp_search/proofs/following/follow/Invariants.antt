@@ -1,0 +1,14 @@
+-- The oldest choices are laid.
+use Rattle.std.proofs.Common.{length, drop, ◌-◌}
+use Rattle.tp_pool.specs.Entries.{choices_of as stored_at}
+use Rattle.tp_search.specs.Following.{HasList, IsSameButSteps, list_from}
+use Rattle.tp_search.specs.Stored.{list_by}
+use Rattle.tp_search.proofs.following.follow.Given as goal
+
+abbrev pub invariant-depths : goal.invariant-depths
+invariant-depths g l =
+    let choices = stored_at l.store.entries l.node in
+    record {
+      laid : HasList g.N.Network.net g.N.Undo.content g.N.Undo.past l.board l.machine l.ask l.first (list_from l.machine (list_by l.machine choices).goal (drop (length choices - l.at) choices));
+      same : IsSameButSteps g.N.Undo.past g.N.Undo.mark_room l.fn.board l.board;
+    }

@@ -1,0 +1,14 @@
+use Rattle.tp_search.proofs.WayEnds.{complete-start, going-incomplete, start-complete, way-commit}
+use Rattle.tp_search.proofs.laws.complete_ways_start.Goals as goal
+
+pub returns-clause-commit : goal.returns-clause-commit
+returns-clause-commit c = way-commit
+
+pub returns-clause-start : goal.returns-clause-start
+returns-clause-start c = complete-start
+
+pub returns-clause-complete : goal.returns-clause-complete
+returns-clause-complete c = start-complete
+
+pub returns-clause-going : goal.returns-clause-going
+returns-clause-going c = going-incomplete

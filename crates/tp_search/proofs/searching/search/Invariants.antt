@@ -1,0 +1,15 @@
+use Rattle.std.proofs.Common.{ℕ}
+use Rattle.tp_search.specs.Boards.{IsBack}
+use Rattle.tp_search.specs.Searching.{IsSameSpace, IsSearching, still_to_take}
+use Rattle.tp_search.proofs.searching.search.Given as goal
+
+-- the search has come to some bound, and the board is back
+abbrev pub invariant-steps : goal.invariant-steps
+invariant-steps g l = record {
+  back : IsBack g.N.Network.net g.N.Undo.content g.N.Undo.past g.N.Undo.mark_room l.fn.board l.board l.machine;
+  searching : (bound : ℕ) × IsSearching l.machine l.fn.board.plans l.ask l.goals.items l.store bound;
+  same : IsSameSpace l.fn.goals l.goals l.fn.store l.store;
+}
+
+abbrev pub decreases-steps : goal.decreases-steps
+decreases-steps g l = still_to_take l.goals.items l.store

@@ -1,0 +1,33 @@
+use Rattle.std.proofs.Common.{◌≡◌, ◌+◌, ap, sym, subst, ◌∙◌, arith}
+use Rattle.tp_search.specs.Outcomes.{IsOutcome}
+use Rattle.tp_search.specs.Searching.{IsSearching}
+use Rattle.tp_search.specs.Stores.{StoreValue}
+use Rattle.tp_search.specs.Workspaces.{WorkspaceValue}
+use Rattle.tp_search.proofs.AskedFacts.{asked-known, begins-with}
+use Rattle.tp_search.proofs.StepBoards.{outcome-back}
+use Rattle.tp_search.proofs.workspace.Workspace.search.Goals as goal
+
+pub fill-requires-clause-origin : goal.fill-requires-clause-origin
+fill-requires-clause-origin g c = asked-known c.args.machine.now c.requires.loaded.0 c.args.ask.now c.requires.loaded.1.can_ask.asked
+
+pub find_goals-requires-clause-origin : goal.find_goals-requires-clause-origin
+find_goals-requires-clause-origin g c = asked-known c.args.machine.now c.requires.loaded.0 c.args.ask.now c.requires.loaded.1.can_ask.asked
+
+pub search-requires-clause-origin : goal.search-requires-clause-origin
+search-requires-clause-origin g c = asked-known c.args.machine.now c.requires.loaded.0 c.args.ask.now c.requires.loaded.1.can_ask.asked
+
+pub search-requires-clause-searching : goal.search-requires-clause-searching
+search-requires-clause-searching g c =
+    let a = c.self.inside in
+    let window = ap (λ (w : WorkspaceValue). w.window) c.self.view_is in
+    let wide : a.store.width ≡ c.args.machine.now.window + 1 = omega (arith, c.self.invariant.wide, window, c.requires.made.2) in (
+      0,
+      subst (λ ps. IsSearching c.args.machine.now ps c.args.ask.now c.find_goals.new.goals.items c.clear.new.self 0) (sym c.find_goals.ensures.back.loaded.plans)
+          (begins-with c.args.machine.now c.args.board.now.plans c.args.ask.now c.find_goals.new.goals.items c.clear.new.self a.store.room a.store.width c.requires.loaded.0 c.find_goals.ensures.goals c.clear.ensures wide c.requires.loaded.1.can_ask.has_time),
+    )
+
+pub returns-clause-outcome : goal.returns-clause-outcome
+returns-clause-outcome g c =
+    let nodes = ap (λ (s : StoreValue). s.room) c.clear.ensures ∙ ap (λ (w : WorkspaceValue). w.nodes) c.self.view_is in
+    subst (λ n. IsOutcome g.N.Network.net g.N.Undo.content g.N.Undo.past g.N.Undo.mark_room c.args.board.now c.search.new.board c.args.machine.now c.args.ask.now n c.search.result) nodes
+    (outcome-back g.N.Network.net g.N.Undo.content g.N.Undo.past g.N.Undo.mark_room c.args.board.now c.find_goals.new.board c.search.new.board c.args.machine.now c.args.ask.now c.clear.new.self.room c.search.result c.find_goals.ensures.back c.search.ensures.outcome)

@@ -1,0 +1,38 @@
+-- What a board carries while a list is opened, and that it is left as it was.
+use Rattle.std.specs.Prelude.{◌≡◌, ℕ, ◌+◌, ◌-◌, ◌≤◌, List, length, Some, IsFalse, IsSomeAnd}
+use Rattle.tp_base.specs.Net.{Net}
+use Rattle.tp_machine.specs.declared.parts.State.{State}
+use Rattle.tp_machine.specs.declared.whole.Machine.{Machine}
+use Rattle.tp_schedule.specs.Choices.{Choice}
+use Rattle.tp_schedule.specs.declared.parts.Ask.{Ask}
+use Rattle.tp_schedule.specs.declared.parts.Plan.{Plan}
+use Rattle.tp_constraints.specs.Suffixes.{Suffix}
+use Rattle.tp_placing.specs.Boards.{BoardValue, content_of, past_of, suffix_of}
+use Rattle.tp_placing.specs.Calls.{IsSameLoad}
+use Rattle.tp_placing.specs.Standing.{Stands}
+use Rattle.tp_search.specs.Ways.{IsWay}
+
+-- the suffix is a way that is not stopped, of these choices
+pub record IsWayOf (machine : Machine) (plans : List Plan) (ask : Ask) (goal first : State) (choices : List Choice) (x : Suffix) : Type 0 where
+  pub way : IsWay machine plans ask goal first x
+  pub same : x.choices ≡ choices
+  pub going : IsFalse x.stopped
+
+module _ {N C : Type 0} (net : N → Net) (content : N → C) (past : N → List C) (mark_room : N → ℕ) where
+  -- the board stands on the machine and the ask, and carries such a way
+  pub record IsLaid (b : BoardValue N) (machine : Machine) (ask : Ask) (goal first : State) (choices : List Choice) : Type 0 where
+    pub stands : Stands net content past b machine
+    pub asked : b.ask ≡ Some ask
+    pub way : IsSomeAnd (suffix_of b) (IsWayOf machine b.plans ask goal first choices)
+
+  -- so many marks of the board are spare, one of the network being its own
+  abbrev pub HasMarks : ℕ → BoardValue N → Type 0
+  HasMarks count b = length (past_of past b) + count ≤ mark_room b.net - 1
+
+  -- the board is as it was, but for what marks leave alone, and stands on the machine if it did
+  pub record IsBack (b b' : BoardValue N) (machine : Machine) : Type 0 where
+    pub same_content : content_of content b' ≡ content_of content b
+    pub same_past : past_of past b' ≡ past_of past b
+    pub loaded : IsSameLoad b b'
+    pub marks : mark_room b'.net - 1 ≡ mark_room b.net - 1
+    pub stands : Stands net content past b machine → Stands net content past b' machine

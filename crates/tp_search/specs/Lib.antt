@@ -1,0 +1,11 @@
+pub mod Ways
+pub mod Stored
+pub mod Stores
+pub mod Opening
+pub mod Boards
+pub mod States
+pub mod WayLaws
+pub mod Following
+pub mod Searching
+pub mod Outcomes
+pub mod Workspaces

@@ -1,0 +1,92 @@
+//! The goal states of an ask whose lists without choices are open.
+ghost use Rattle.std.specs.Prelude.{◌≡◌, ◌*◌, ◌<◌, ◌≤◌, [], length, vec_capacity, Some, None, IfNone, IfSome};
+ghost use Rattle.tp_routes.specs.Numbers.{state_at};
+ghost use Rattle.tp_routes.specs.Tables.{AreRooms, IsKnownOrigin, IsMadeFor};
+ghost use Rattle.tp_schedule.specs.Answers.{kept_of};
+ghost use Rattle.tp_schedule.specs.Choices.{IsBound, IsOpen, going};
+ghost use Rattle.tp_placing.specs.Boards.{suffix_of};
+ghost use Rattle.tp_placing.specs.Standing.{Stands};
+ghost use Rattle.tp_search.specs.Boards.{HasMarks, IsBack};
+ghost use Rattle.tp_search.specs.Searching.{AreOpenGoals, list_of_goal};
+
+use crate::states::goal_at;
+use tp_base::{Late, Network, Tick, Undo};
+use tp_machine::{Machine, State};
+use tp_placing::{Board, marks_keep_boards};
+use tp_routes::Rooms;
+use tp_schedule::Ask;
+
+/// A goal state whose list without choices is open, with the list's bound, in ticks.
+#[derive(Clone, Copy)]
+pub(crate) struct OpenGoal {
+    pub(crate) state: State,
+    pub(crate) bound: Tick,
+}
+
+/// The goal of this number with its bound, if it is open. Leaves the board as it was.
+fn try_goal<N: Network>(
+    board: &mut Board<N>,
+    rooms: &Rooms,
+    machine: &Machine,
+    ask: &Ask,
+    number: u32,
+) -> Option<OpenGoal>
+    requires table { IsMadeFor rooms.now machine.now }
+    requires rooms { AreRooms machine.now ask.now rooms.now.sums }
+    requires known { number < 8 * length machine.now.locations }
+    requires kept { kept_of ask.now ≤ 64 }
+    requires stands { Stands N.net N.content N.past board.old machine.now }
+    requires asked { board.old.ask ≡ Some ask.now }
+    requires closed { suffix_of board.old ≡ None }
+    requires marks { HasMarks N.net N.content N.past N.mark_room 1 board.old }
+    ensures state { IfSome result (λ g. g.state ≡ state_at number) }
+    ensures bound { IfSome result (λ g. IsBound machine.now board.old.plans ask.entry.now (list_of_goal g) g.bound) }
+    ensures none { IfNone result (¬ IsOpen machine.now board.old.plans ask.entry.now (going (state_at number) [])) }
+    ensures back { IsBack N.net N.content N.past N.mark_room board.old board.new machine.now }
+{
+    marks_keep_boards::<N>();
+    let Some(goal) = goal_at(rooms, machine, ask, number) else {
+        return None;
+    };
+    let mark = board.mark();
+    let opened = match board.open_goal(goal.room) {
+        Ok(()) => Some(OpenGoal {
+            state: goal.state,
+            bound: board.end_bound(),
+        }),
+        Err(Late) => None,
+    };
+    board.undo_to(mark);
+    opened
+}
+
+/// Finds all goals that are open. Leaves the board as it was.
+pub(crate) fn find_goals<N: Network>(
+    goals: &mut Vec<OpenGoal>,
+    board: &mut Board<N>,
+    rooms: &Rooms,
+    machine: &Machine,
+    ask: &Ask,
+)
+    requires table { IsMadeFor rooms.now machine.now }
+    requires rooms { AreRooms machine.now ask.now rooms.now.sums }
+    requires origin { IsKnownOrigin machine.now ask.now.origin }
+    requires kept { kept_of ask.now ≤ 64 }
+    requires stands { Stands N.net N.content N.past board.old machine.now }
+    requires asked { board.old.ask ≡ Some ask.now }
+    requires closed { suffix_of board.old ≡ None }
+    requires marks { HasMarks N.net N.content N.past N.mark_room 1 board.old }
+    requires space { 8 * length machine.now.locations ≤ vec_capacity goals.old }
+    ensures goals { AreOpenGoals machine.now board.old.plans ask.entry.now goals.new.items }
+    ensures back { IsBack N.net N.content N.past N.mark_room board.old board.new machine.now }
+    ensures space { vec_capacity goals.old ≤ vec_capacity goals.new }
+{
+    goals.clear();
+    'numbers: for number in 0..machine.locations.len() * 8 {
+        if let Some(goal) = try_goal(board, rooms, machine, ask, number) {
+            let Ok(()) = goals.push(goal) else {
+                unreachable!()
+            };
+        }
+    }
+}

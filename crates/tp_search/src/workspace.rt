@@ -1,0 +1,83 @@
+//! The memory of a search, and the search for an ask on a loaded board.
+ghost use Rattle.std.specs.Prelude.{ℕ, ◌≡◌, ◌≤◌, [], length, List, Some, IfOk};
+ghost use Rattle.tp_schedule.specs.declared.parts.Plan.{Plan};
+ghost use Rattle.tp_placing.specs.Boards.{past_of};
+ghost use Rattle.tp_placing.specs.Standing.{Stands};
+ghost use Rattle.tp_placing.specs.Writing.{IsLoadedFrom};
+ghost use Rattle.tp_search.specs.Outcomes.{IsOutcome};
+ghost use Rattle.tp_search.specs.Workspaces.{IsFor};
+
+use crate::goals::{OpenGoal, find_goals};
+use crate::searching::{Outcome, search};
+use crate::store::Store;
+use std::alloc::Global;
+use std::marker::Model;
+use tp_base::{Memory, Network, Undo};
+use tp_machine::Machine;
+use tp_placing::Board;
+use tp_routes::Rooms;
+use tp_schedule::Ask;
+
+/// All that a search takes memory for. It is for machines with the same numbers of locations and resources and the same
+/// window as the one that it was made for, and stores as many lists as it has nodes: the budget of an ask.
+#[derive(Drop)]
+pub struct Workspace {
+    rooms: Rooms,
+    store: Store,
+    goals: Vec<OpenGoal>,
+}
+
+impl Model for Workspace {
+    ghost use Rattle.tp_search.specs.Workspaces.{IsWorkspace, WorkspaceValue};
+
+    ghost Value = { WorkspaceValue };
+
+    ghost view = { λ w. record { locations = w.rooms.locations; resources = w.rooms.resources; window = w.rooms.window; nodes = w.store.room } };
+
+    ghost invariant = { λ w. IsWorkspace w.rooms w.store w.goals };
+}
+
+impl Workspace {
+    /// Takes all the memory that a search will ever hold beside its board: some 80 bytes for each node.
+    pub fn new(alloc: Global, machine: &Machine, nodes: u32) -> Result<Workspace, Memory>
+        ensures made { IfOk result (λ work. IsFor work machine.now) }
+        ensures nodes { IfOk result (λ work. work.nodes ≡ nodes) }
+    {
+        let locations = machine.locations.len();
+        Ok(Workspace {
+            rooms: Rooms::new(alloc, machine)?,
+            store: Store::new(alloc, nodes, machine.window + 1)?,
+            goals: Vec::with_capacity(alloc, locations as usize * 8)?,
+        })
+    }
+
+    /// Searches for the earliest plan of the ask for which the board is loaded.
+    pub fn search<N: Network>(
+        &mut self,
+        board: &mut Board<N>,
+        machine: &Machine,
+        ask: &Ask,
+    ) -> Outcome
+        requires made { IsFor self.old machine.now }
+        requires loaded { (plans : List Plan) × IsLoadedFrom machine.now plans ask.now board.old.plans }
+        requires stands { Stands N.net N.content N.past board.old machine.now }
+        requires asked { board.old.ask ≡ Some ask.now }
+        requires closed { board.old.steps ≡ [] }
+        requires unmarked { past_of N.past board.old ≡ [] }
+        requires marks { 8 ≤ N.mark_room board.old.net }
+        ensures outcome { IsOutcome N.net N.content N.past N.mark_room board.old board.new machine.now ask.entry.now self.old.nodes result }
+        ensures same { self.new ≡ self.old }
+    {
+        self.rooms.fill(machine, ask);
+        self.store.clear(ask.now);
+        find_goals(&mut self.goals, board, &self.rooms, machine, ask);
+        search(
+            &mut self.goals,
+            &mut self.store,
+            board,
+            &self.rooms,
+            machine,
+            ask,
+        )
+    }
+}
