@@ -37,3 +37,4 @@ pub mod SearchFull
 pub mod StepFacts
 pub mod StepBoards
 pub mod AskedFacts
+pub mod AnswerFacts

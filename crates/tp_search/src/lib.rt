@@ -1,6 +1,7 @@
 //! The earliest plan of a sheet: a best-first search through choice lists on a board.
 #![tactic(auto)]
 
+mod answering;
 mod children;
 mod following;
 mod goals;
@@ -12,6 +13,7 @@ mod store;
 mod taking;
 mod workspace;
 
+pub use answering::answer;
 pub use laws::{
     complete_ways_start, late_lists_stay_shut, lists_without_room_stay_shut,
     open_lists_have_places, steps_make_ways, ways_are_lists, ways_open_by_their_times,

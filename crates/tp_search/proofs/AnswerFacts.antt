@@ -1,0 +1,101 @@
+-- An answer that a search found can be committed, and what holds on the loaded plans holds on the whole schedule.
+use Rattle.std.proofs.Common.{◌≡◌, ℕ, ◌<◌, Bool, true, false, List, [], ◌∷◌, length, filter, Some, IsSomeAnd, refl, sym, subst, ◌∙◌, arith}
+use Rattle.tp_base.specs.Net.{Net}
+use Rattle.tp_machine.specs.Machines.{IsMachine}
+use Rattle.tp_machine.specs.declared.parts.State.{State}
+use Rattle.tp_machine.specs.declared.whole.Machine.{Machine}
+use Rattle.tp_schedule.specs.Answers.{IsAlternative, IsEarliest, NoneBefore}
+use Rattle.tp_schedule.specs.Choices.{CanStop, Choice, ChoiceList, IsBound, IsComplete, IsOpen}
+use Rattle.tp_schedule.specs.Living.{is_live}
+use Rattle.tp_schedule.specs.Planning.{CanAsk, IsOpenGoal}
+use Rattle.tp_schedule.specs.Plans.{end_of_plan}
+use Rattle.tp_schedule.specs.Spending.{IsSpent}
+use Rattle.tp_schedule.specs.Spots.Spot.{own}
+use Rattle.tp_schedule.specs.declared.parts.Ask.{Ask}
+use Rattle.tp_schedule.specs.declared.parts.Goal.{Goal}
+use Rattle.tp_schedule.specs.declared.parts.Goal.TheVariants.{Tray, Purge}
+use Rattle.tp_schedule.specs.declared.parts.Origin.{Origin}
+use Rattle.tp_schedule.specs.declared.parts.Origin.TheVariants.{Feeder as FromFeeder, Front as FromFront}
+use Rattle.tp_schedule.specs.declared.parts.Plan.{Plan}
+use Rattle.tp_choices.specs.LiveParts.{less}
+use Rattle.tp_choices.proofs.LiveBounds.{live_bounds_answers, live_has_none}
+use Rattle.tp_choices.proofs.LiveSpent.{live_spends}
+use Rattle.tp_constraints.specs.Suffixes.{Suffix, list_of}
+use Rattle.tp_placing.specs.Boards.{BoardValue, suffix_of}
+use Rattle.tp_placing.specs.Ticks.{HasLeastTick, IsLeastTick, TimesOf}
+use Rattle.tp_placing.specs.Writing.{CanCommit}
+use Rattle.tp_placing.proofs.StandFacts.{and-some, some-and}
+use Rattle.tp_placing.proofs.WriteLive.{gone, may-ask, may-forget, stays}
+use Rattle.tp_placing.proofs.WriteWhole.{less-live}
+use Rattle.tp_search.specs.Following.{IsWayTo}
+use Rattle.tp_search.specs.Outcomes.{HasAnswer}
+use Rattle.tp_search.specs.Searching.{IsKnownGoal}
+use Rattle.tp_search.proofs.SearchBegins.{goal-incomplete}
+use Rattle.tp_search.proofs.WayEnds.{complete-start, way-commit}
+use Rattle.tp_search.proofs.WayLists.{way-bound}
+
+pub known-goal : (machine : Machine) (plans : List Plan) (ask : Ask) → CanAsk machine plans ask → IsKnownGoal machine ask.goal
+known-goal machine plans ask can = go ask.goal can.open_goal where
+  go : (g : Goal) → IsOpenGoal machine plans ask g → IsKnownGoal machine g
+  go Purge open-goal = tt
+  go (Tray t) open-goal = open-goal.0
+
+-- a complete open list has a choice
+complete-some : (machine : Machine) (plans : List Plan) (ask : Ask) → IsMachine machine → IsKnownGoal machine ask.goal → (list : ChoiceList) → IsOpen machine plans ask list → IsComplete machine ask list → 0 < length list.choices
+complete-some machine plans ask is-machine known list opens complete = go list.goal list.choices list.stopped opens complete where
+  stops : (o : Origin) (l : ChoiceList) → l.choices ≡ [] → CanStop machine ask l o → ⊥
+  stops FromFeeder l none can = absurd can
+  stops (FromFront state end count) l none can = can.0 none
+
+  go : (goal : State) (choices : List Choice) (stopped : Bool) → IsOpen machine plans ask (record { goal = goal; choices = choices; stopped = stopped }) → IsComplete machine ask (record { goal = goal; choices = choices; stopped = stopped }) → 0 < length choices
+  go goal (c ∷ choices) stopped o is = omega arith
+  go goal [] false o is = absurd (goal-incomplete machine ask goal is-machine known o.1.is_list.goal is)
+  go goal [] true o is = absurd (stops ask.origin (record { goal = goal; choices = []; stopped = true }) refl (o.1.is_list.can_stop refl))
+
+module _ {N C : Type 0} (net : N → Net) (content : N → C) (past : N → List C) (mark_room : N → ℕ) (b b' : BoardValue N) (machine : Machine) (ask : Ask) (base : ℕ) (a : HasAnswer net content past mark_room b b' machine ask base) where
+  carried : (x : Suffix) × (suffix_of b' ≡ Some x) × IsWayTo machine b'.plans ask a.first a.list x
+  carried = some-and (suffix_of b') (IsWayTo machine b'.plans ask a.first a.list) a.laid.way
+
+  -- it is complete, so that it can be committed
+  pub answer-commits : IsMachine machine → IsKnownGoal machine ask.goal → IsSomeAnd b'.ask (λ k. IsSomeAnd (suffix_of b') (CanCommit machine b'.plans k))
+  answer-commits is-machine known =
+      let x = carried in
+      let way = x.2 in
+      let complete : IsComplete machine ask (list_of a.list.goal x.0) = subst (IsComplete machine ask) (sym way.same) a.complete in
+      let some : 0 < length x.0.choices = subst (λ (l : ChoiceList). 0 < length l.choices) (sym way.same) (complete-some machine b.plans ask is-machine known a.list (a.bound, a.is_bound.opens) a.complete) in
+      and-some b'.ask ask (λ k. IsSomeAnd (suffix_of b') (CanCommit machine b'.plans k)) a.laid.asked
+      (and-some (suffix_of b') x.0 (CanCommit machine b'.plans ask) x.1
+      (way-commit machine b'.plans ask a.list.goal a.first x.0 way.way way.placed complete some (complete-start machine b'.plans ask a.list.goal a.first x.0 way.way complete)))
+
+  -- the least end on the board is its bound
+  pub answer-ends : (tick : ℕ) → HasLeastTick machine b' (own 0) tick → tick ≡ a.bound
+  answer-ends tick least =
+      let x = carried in
+      let way = x.2 in
+      let here : IsLeastTick (TimesOf machine b'.plans ask (suffix_of b')) (own 0) tick = subst (λ o. IsSomeAnd o (λ k. IsLeastTick (TimesOf machine b'.plans k (suffix_of b')) (own 0) tick)) a.laid.asked least in
+      let there = subst (λ o. IsLeastTick (TimesOf machine b'.plans ask o) (own 0) tick) x.1 here in
+      let bound = way-bound machine b'.plans ask a.list.goal a.first x.0 tick way.way way.placed there in
+      let same = subst (λ l. IsBound machine b'.plans ask l tick) way.same bound in
+      let on-b = subst (λ ps. IsBound machine ps ask a.list tick) a.loaded.plans same in
+      let low = on-b.least a.bound a.is_bound.opens in
+      let high = a.is_bound.least tick on-b.opens in
+      omega arith
+
+-- what holds on the live plans
+module _ (machine : Machine) (plans : List Plan) (ask : Ask) (can : CanAsk machine plans ask) (live : List Plan) (is : live ≡ filter (is_live machine ask.now) plans) where
+  rest : live ≡ less (gone machine plans ask.now can.plan_on) plans
+  rest = is ∙ sym (less-live machine plans ask.now can.plan_on)
+
+  pub never-whole : ((other : List Plan) → ¬ IsAlternative machine live ask other) → (other : List Plan) → ¬ IsAlternative machine plans ask other
+  never-whole none = live_has_none machine plans ask (gone machine plans ask.now can.plan_on) (may-forget machine plans ask.now can.plan_on) (stays machine plans ask can)
+      (subst (λ ps. (other : List Plan) → ¬ IsAlternative machine ps ask other) rest none)
+
+  pub spent-whole : (nodes bound : ℕ) → IsSpent machine live ask nodes bound → IsSpent machine plans ask nodes bound
+  spent-whole nodes bound spent = live_spends machine plans ask (gone machine plans ask.now can.plan_on) nodes bound (may-forget machine plans ask.now can.plan_on) (may-ask machine plans ask can) (subst (λ ps. IsSpent machine ps ask nodes bound) rest spent)
+
+  pub earliest-whole : (bound : ℕ) → NoneBefore machine live ask bound → (new : List Plan) (a : IsAlternative machine plans ask new) → end_of_plan a.plan ≡ bound → IsEarliest machine plans ask new
+  earliest-whole bound none new a ends = record {
+    alternative = a;
+    first = subst (NoneBefore machine plans ask) (sym ends)
+        (live_bounds_answers machine plans ask (gone machine plans ask.now can.plan_on) bound (may-forget machine plans ask.now can.plan_on) (stays machine plans ask can) (subst (λ ps. NoneBefore machine ps ask bound) rest none));
+  }

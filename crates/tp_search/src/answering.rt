@@ -1,0 +1,47 @@
+//! The answer to an ask on a schedule: the earliest plan, that there is none, or that the budget is spent.
+ghost use Rattle.std.specs.Prelude.{◌≡◌, ◌≢◌, ◌+◌, ◌<◌, ◌≤◌, None, IsSome};
+ghost use Rattle.tp_schedule.specs.Planning.{CanAsk, IsAnswer};
+ghost use Rattle.tp_schedule.specs.Plans.{plan_of};
+ghost use Rattle.tp_schedule.specs.declared.parts.Reply.TheVariants.{Planned};
+ghost use Rattle.tp_placing.specs.Standing.{IsMadeFor};
+ghost use Rattle.tp_search.specs.Workspaces.{IsFor, IsSpentOf};
+
+use crate::searching::Outcome;
+use crate::workspace::Workspace;
+use tp_base::{Network, Undo};
+use tp_machine::Machine;
+use tp_placing::Board;
+use tp_schedule::{Ask, Reply, Schedule};
+
+/// Answers an ask on a schedule: writes the earliest plan into it, or leaves it as it is and tells that there is none, or
+/// that the workspace stores too few lists to tell. A new copy takes one of the schedule's spare plans. Takes no memory.
+pub fn answer<N: Network>(
+    work: &mut Workspace,
+    board: &mut Board<N>,
+    machine: &Machine,
+    schedule: &mut Schedule,
+    ask: &Ask,
+) -> Reply
+    requires work { IsFor work.old machine.now }
+    requires board { IsMadeFor board.old.made_for machine.now }
+    requires marks { 8 ≤ N.mark_room board.old.net }
+    requires can { CanAsk machine.now schedule.old.plans ask.now }
+    requires spare { plan_of ask.now.sheet schedule.old.plans ≡ None → 0 < schedule.old.spare }
+    ensures answer { IsAnswer (IsSpentOf work.old.nodes) machine.now schedule.old.plans ask.entry.now result schedule.new.plans }
+    ensures new_copy { result ≡ Planned → plan_of ask.entry.now.sheet schedule.old.plans ≡ None → schedule.new.spare + 1 ≡ schedule.old.spare }
+    ensures in_flight { result ≡ Planned → IsSome (plan_of ask.entry.now.sheet schedule.old.plans) → schedule.new.spare ≡ schedule.old.spare }
+    ensures stays { result ≢ Planned → schedule.new ≡ schedule.old }
+    ensures work { work.new ≡ work.old }
+    ensures board { IsMadeFor board.new.made_for machine.now }
+    ensures marks { 8 ≤ N.mark_room board.new.net }
+{
+    board.load(machine, schedule, ask);
+    match work.search(board, machine, ask) {
+        Outcome::Found { base: _ } => {
+            board.commit(machine, schedule);
+            Reply::Planned
+        }
+        Outcome::Never => Reply::Never,
+        Outcome::Spent { bound } => Reply::Spent { bound },
+    }
+}
