@@ -21,8 +21,8 @@ use tp_placing::{Board, marks_keep_boards};
 use tp_routes::Rooms;
 use tp_schedule::Ask;
 
-/// How a search ended: the board carries an answer since a mark, there is none, or the store is full. Nothing ends before
-/// the bound then.
+/// How a search ended. With `Found` the board carries an earliest plan since the mark `base`: it is to be committed, or undone
+/// to that mark. With `Spent` no plan ends before the bound, in ticks.
 pub enum Outcome {
     Found { base: Mark },
     Never,

@@ -38,7 +38,8 @@ impl Model for Workspace {
 }
 
 impl Workspace {
-    /// Takes all the memory that a search will ever hold beside its board: some 80 bytes for each node.
+    /// Takes all the memory that a search will ever hold beside its board: about 52 bytes for each node and 8 for each tick of
+    /// the window.
     pub fn new(alloc: Global, machine: &Machine, nodes: u32) -> Result<Workspace, Memory>
         ensures made { IfOk result (λ work. IsFor work machine.now) }
         ensures nodes { IfOk result (λ work. work.nodes ≡ nodes) }
@@ -51,7 +52,7 @@ impl Workspace {
         })
     }
 
-    /// Searches for the earliest plan of the ask for which the board is loaded.
+    /// Searches for an earliest plan of the ask for which the board is loaded, with no goal open and no mark in force.
     pub fn search<N: Network>(
         &mut self,
         board: &mut Board<N>,
