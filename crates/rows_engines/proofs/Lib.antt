@@ -1,4 +1,5 @@
 pub mod AskingFacts
 pub mod FlyingFacts
 pub mod LayingFacts
+pub mod SearchFacts
 pub mod TellingFacts

@@ -25,6 +25,8 @@ mod reason_rows;
 #[cfg(test)]
 mod rooms_rows;
 #[cfg(test)]
+mod search_rows;
+#[cfg(test)]
 mod telling;
 #[cfg(test)]
 mod timelines_rows;

@@ -71,7 +71,7 @@ pub(crate) fn one_planned<N: Network>(
 }
 
 /// The points of a plan of three actions, where there are so many plans.
-fn points_of(schedule: &Schedule, count: u32, at: u32) -> Result<[Tick; 4], Fail> {
+pub(crate) fn points_of(schedule: &Schedule, count: u32, at: u32) -> Result<[Tick; 4], Fail> {
     if schedule.len() != count || at >= count {
         return Err(Fail::from("there are more plans or fewer"));
     }
