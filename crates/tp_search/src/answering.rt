@@ -14,7 +14,8 @@ use tp_placing::Board;
 use tp_schedule::{Ask, Reply, Schedule};
 
 /// Answers an ask on a schedule: writes the earliest plan into it, or leaves it as it is and tells that there is none, or
-/// that the workspace stores too few lists to tell. A new copy takes one of the schedule's spare plans. Takes no memory.
+/// that the workspace stores too few lists to tell. A new copy takes one of the schedule's spare plans. What the board
+/// carries then means nothing: whoever asks next loads it again. Takes no memory.
 pub fn answer<N: Network>(
     work: &mut Workspace,
     board: &mut Board<N>,
@@ -32,8 +33,8 @@ pub fn answer<N: Network>(
     ensures in_flight { result ≡ Planned → IsSome (plan_of ask.entry.now.sheet schedule.old.plans) → schedule.new.spare ≡ schedule.old.spare }
     ensures stays { result ≢ Planned → schedule.new ≡ schedule.old }
     ensures work { work.new ≡ work.old }
-    ensures board { IsMadeFor board.new.made_for machine.now }
-    ensures marks { 8 ≤ N.mark_room board.new.net }
+    ensures board { board.new.made_for ≡ board.old.made_for }
+    ensures marks { N.mark_room board.new.net ≡ N.mark_room board.old.net }
 {
     board.load(machine, schedule, ask);
     match work.search(board, machine, ask) {
