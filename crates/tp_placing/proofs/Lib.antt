@@ -31,7 +31,8 @@ pub mod LoadCauses
 pub mod LoadChains
 pub mod LoadPoints
 pub mod LoadHolds
-pub mod PutHolds
+pub mod BeginFacts
+pub mod PutFacts
 pub mod LoadTable
 pub mod LoadHops
 pub mod LoadOrders
@@ -42,8 +43,6 @@ pub mod LoadedBoard
 pub mod PartFacts
 pub mod ReasonFacts
 pub mod LoadTicks
-pub mod PutAll
-pub mod PutSorted
 pub mod LivePart
 pub mod LoadSlots
 pub mod LoadedTicks

@@ -1,5 +1,5 @@
 -- The points of plans, added one after another.
-use Rattle.std.proofs.Common.{subst, ◌≡◌, ℕ, zero, suc, ◌+◌, false, List, [], ◌∷◌, ◌++◌, length, refl, ap, sym, arith, ◌∙◌, take, drop, get_or, ◌-◌, ◌<◌, ◌≤◌}
+use Rattle.std.proofs.Common.{subst, ◌≡◌, ℕ, zero, suc, ◌+◌, false, List, [], ◌∷◌, ◌++◌, length, refl, ap, sym, arith, ◌∙◌, take, drop, get_or, ◌<◌, ◌≤◌}
 use Rattle.std.proofs.lemmas.List.{append_assoc, length-append, take_more, take-append-drop}
 use Rattle.std.specs.List.{flat_map}
 use Rattle.tp_base.specs.Net.{Net, with_point}
@@ -56,13 +56,11 @@ pub count-append : (ps qs : List Plan) → point_count (ps ++ qs) ≡ point_coun
 count-append [] qs = omega arith
 count-append (p ∷ ps) qs = let e = count-append ps qs in omega arith
 
--- the points of the plans before a place
-pub count-back : (at : ℕ) (plans : List Plan) (d : Plan) → 0 < at → at ≤ length plans → point_count (take at plans) ≡ point_count (take (at - 1) plans) + (length (get_or plans (at - 1) d).acts + 1)
-count-back at plans d some within =
-    let e : at ≡ at - 1 + 1 = omega arith in
-    let one : point_count (get_or plans (at - 1) d ∷ []) ≡ length (get_or plans (at - 1) d).acts + 1 = omega arith in
-    ap (λ k. point_count (take k plans)) e ∙ ap point_count (take_more plans (at - 1) d (omega arith))
-    ∙ count-append (take (at - 1) plans) (get_or plans (at - 1) d ∷ []) ∙ ap (λ n. point_count (take (at - 1) plans) + n) one
+-- the points of the plans before a place, and of those up to it
+pub count-more : (at : ℕ) (plans : List Plan) (d : Plan) → at < length plans → point_count (take (at + 1) plans) ≡ point_count (take at plans) + (length (get_or plans at d).acts + 1)
+count-more at plans d within =
+    let one : point_count (get_or plans at d ∷ []) ≡ length (get_or plans at d).acts + 1 = omega arith in
+    ap point_count (take_more plans at d within) ∙ count-append (take at plans) (get_or plans at d ∷ []) ∙ ap (λ n. point_count (take at plans) + n) one
 
 pub count-within : (at : ℕ) (plans : List Plan) → point_count (take at plans) ≤ point_count plans
 count-within at plans = let e = ap point_count (take-append-drop at plans) in let a = count-append (take at plans) (drop at plans) in omega arith

@@ -13,7 +13,7 @@ use Rattle.tp_schedule.specs.declared.parts.Plan.{Plan}
 use Rattle.tp_placing.specs.Loading.{HasPoints, firsts_from, point_count, point_id}
 use Rattle.tp_placing.specs.LoadedHolds.{ticks_in}
 use Rattle.tp_placing.proofs.LoadTable.{length-ticks}
-use Rattle.tp_placing.proofs.LoadPoints.{count-back, count-within}
+use Rattle.tp_placing.proofs.LoadPoints.{count-more, count-within}
 
 pub length-firsts-from : (n : ℕ) (plans : List Plan) → length (firsts_from n plans) ≡ length plans
 length-firsts-from n [] = refl
@@ -77,7 +77,8 @@ module _ (plans : List Plan) (firsts : List PointId) (formed : All HasPoints pla
       let b = below-next in
       let from = before (count - 1) d (omega arith) (omega arith) in
       let f = first-is (count - 1) d (omega arith) in
-      let back = count-back count plans e s m in
+      let last : count - 1 + 1 ≡ count = omega arith in
+      let more = sym (ap (λ k. point_count (take k plans)) last) ∙ count-more (count - 1) plans e (omega arith) in
       let h : length (get_or plans (count - 1) e).points ≡ length (get_or plans (count - 1) e).acts + 1 = formed (count - 1) e (omega arith) in
       omega arith
 

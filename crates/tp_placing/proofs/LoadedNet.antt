@@ -1,7 +1,7 @@
 -- What is made of the live plans of a schedule is its network and its orders.
-use Rattle.std.proofs.Common.{◌≡◌, ℕ, ◌+◌, ◌*◌, ◌<◌, ◌≤◌, false, List, [], ◌++◌, length, map, replicate, ap, sym, ◌∙◌, subst, arith, Some, All, Contains}
+use Rattle.std.proofs.Common.{◌≡◌, ℕ, ◌+◌, ◌<◌, ◌≤◌, false, List, [], ◌++◌, length, map, filter, ap, sym, ◌∙◌, subst, arith, Some, All, Contains}
 use Rattle.std.specs.Prelude.{slice_get, slice_index}
-use Rattle.std.proofs.lemmas.List.{length-append, length-map, length-replicate, get_or-replicate, take_all}
+use Rattle.std.proofs.lemmas.List.{length-append, length-map, take_all}
 use Rattle.std.proofs.lemmas.List.Elements.{All-contains, All-weaker, All-contains_itself}
 use Rattle.tp_base.specs.Net.{Net, IsSolution, HasLeast, Keeps, empty_net}
 use Rattle.tp_base.specs.declared.edges.PointId.{PointId}
@@ -27,8 +27,8 @@ use Rattle.tp_placing.specs.declared.causes.Cause.{Cause}
 use Rattle.tp_placing.specs.declared.parts.Held.{Held}
 use Rattle.tp_placing.specs.Inside.{most_edges}
 use Rattle.tp_placing.specs.Loaded.{CanLoad, IsLoaded, all_edges}
-use Rattle.tp_placing.specs.Loading.{AreAddable, AreIds, chains_causes, chains_edges, firsts_from, holds_in, holds_on, lines_edges, plans_edges, with_plans}
-use Rattle.tp_placing.specs.LoadedHolds.{ArePut, IsHeldWithin, held_plans, put_all, ticks_in}
+use Rattle.tp_placing.specs.Loading.{AreAddable, AreIds, chains_causes, chains_edges, firsts_from, holds_on, lines_edges, plans_edges, with_plans}
+use Rattle.tp_placing.specs.LoadedHolds.{AreInOrder, IsHeldWithin, held_plans, is_on, ticks_in}
 use Rattle.tp_placing.specs.Standing.{AreFirsts, AreSlots, HasSmallOffsets}
 use Rattle.tp_placing.specs.Trying.{CanRequire}
 use Rattle.tp_placing.proofs.LoadCauses.{AreCausesFrom, causes-behind, plain-more}
@@ -41,27 +41,20 @@ use Rattle.tp_placing.proofs.LoadedTicks.{timed, times, few-acts, ticks-count, l
 use Rattle.tp_placing.proofs.LoadPoints.{firsts-right}
 
 module _ (machine : Machine) (now : ℕ) (plans : List Plan) (can : CanLoad machine now plans) (room : ℕ) (enough : most_edges ≤ room) (net : Net) (is : net ≡ with_plans (now + machine.lead) (now + machine.window) plans empty_net) (least : HasLeast net)
-    (empty lines : Orders) (held : List Held) (cleared : empty.orders ≡ replicate (length machine.resources) []) (put : ArePut (ticks_in plans) (λ r. held_plans machine r 0 plans) (256 * length plans) empty lines [] held)
+    (lines : Orders) (held : List Held) (put : AreInOrder machine plans lines held)
     (base : List Cause) (plain : ArePlain base) (based : length base ≡ step_causes) where
-  resources : length empty.orders ≡ length machine.resources
-  resources = ap length cleared ∙ length-replicate (length machine.resources) []
-
-  none-yet : (r : ℕ) → r < length machine.resources → holds_on [] empty.orders r ≡ []
-  none-yet r below = ap (λ os. holds_in [] (order_on os r)) cleared ∙ ap (holds_in []) (get_or-replicate (length machine.resources) r [] [] below)
-
   sorted : (r : ℕ) → r < length machine.resources → map (slot_by (table_of plans)) (holds_on held lines.orders r) ≡ slot_order machine plans r
   sorted r below =
-      let e = resources in
       let by-number = ticks-by-number plans can.loadable.legal.in_order (λ p inside. ((timed machine now plans can) p inside).one_more) in
-      ap (map (slot_by (table_of plans))) (put.orders r (omega arith) ∙ ap (put_all (ticks_in plans) (held_plans machine r 0 plans)) (none-yet r below))
-      ∙ sorted-slots (table_of plans) (ticks_of plans) (ticks_in plans) by-number (held_plans machine r 0 plans)
+      ap (map (slot_by (table_of plans))) (put.orders r below)
+      ∙ sorted-slots (table_of plans) (ticks_of plans) (ticks_in plans) by-number (filter (is_on r) (held_plans machine 0 plans))
       ∙ ap (by_begin (ticks_of plans)) (plans-slots machine (table_of plans) r 0 plans (numbered plans))
 
   within : All (IsHeldWithin (length (table_of plans))) held
   within = subst (λ n. All (IsHeldWithin n) held) ((ticks-count machine now plans can) ∙ sym (length-table-of plans)) put.holds.within
 
   ids : (r : ℕ) → r < length machine.resources → AreIds held (order_on lines.orders r)
-  ids r below = let e = resources in let f = put.resources in put.holds.ids r (omega arith)
+  ids r below = let f = put.resources in put.holds.ids r (omega arith)
 
   chain : (r : ℕ) → r < length machine.resources → IsChain plans r (holds_on held lines.orders r) (slot_order machine plans r)
   chain r below = record {
@@ -92,7 +85,6 @@ module _ (machine : Machine) (now : ℕ) (plans : List Plan) (can : CanLoad mach
   -- how many causes and edges there are
   chains : length (chains_causes (holds_on held lines.orders) (length machine.resources)) ≤ 65536
   chains =
-      let e = resources in
       let f = put.resources in
       let c = chains-count held lines.orders (length machine.resources) (omega arith) ids in
       let t = ap total (take_all (length machine.resources) lines.orders (omega arith)) in

@@ -7,6 +7,7 @@ use Rattle.tp_timelines.specs.Orders.{Orders}
 use Rattle.tp_schedule.specs.declared.parts.Ask.{Ask}
 use Rattle.tp_schedule.specs.declared.parts.Plan.{Plan}
 use Rattle.tp_placing.specs.declared.causes.Cause.{Cause}
+use Rattle.tp_placing.specs.declared.parts.Begin.{Begin}
 use Rattle.tp_placing.specs.declared.parts.BoardMark.{BoardMark}
 use Rattle.tp_placing.specs.declared.parts.Held.{Held}
 use Rattle.tp_placing.specs.declared.parts.MadeFor.{MadeFor}
@@ -64,20 +65,21 @@ pub record IsMarked (pasts mark_room : ℕ) (lines : Orders) (marks : Vec BoardM
   pub at_marks : AreMarks marks.items steps held
 
 -- room for all points, edges, holds, steps and plans that there can be
-pub record HasRoom (point_room edge_room : ℕ) (lines : Orders) (held : Vec Held Global) (plans : Vec Plan Global) (firsts : Vec PointId Global) (steps : Vec Step Global) (made : Vec Edge Global) (made_for : MadeFor) : Type 0 where
+pub record HasRoom (point_room edge_room : ℕ) (lines : Orders) (held : Vec Held Global) (begins : Vec Begin Global) (plans : Vec Plan Global) (firsts : Vec PointId Global) (steps : Vec Step Global) (made : Vec Edge Global) (made_for : MadeFor) : Type 0 where
   pub points : most_points ≤ point_room
   pub edges : most_edges ≤ edge_room
   pub resources : length lines.orders ≡ made_for.resources
   pub holds : most_holds ≤ lines.hold_room
   pub held_few : length held.items ≤ most_holds
   pub held_space : most_holds ≤ vec_capacity held
+  pub begin_space : most_holds ≤ vec_capacity begins
   pub steps_few : length steps.items ≤ most_steps
   pub steps_space : most_steps ≤ vec_capacity steps
   pub plan_space : most_plans ≤ vec_capacity plans
   pub first_space : most_plans ≤ vec_capacity firsts
   pub edge_space : most_plans ≤ vec_capacity made
 
-pub record IsBoard (pasts mark_room point_room edge_room : ℕ) (lines : Orders) (held : Vec Held Global) (plans : Vec Plan Global) (firsts : Vec PointId Global) (steps : Vec Step Global)
+pub record IsBoard (pasts mark_room point_room edge_room : ℕ) (lines : Orders) (held : Vec Held Global) (begins : Vec Begin Global) (plans : Vec Plan Global) (firsts : Vec PointId Global) (steps : Vec Step Global)
     (marks : Vec BoardMark Global) (made : Vec Edge Global) (made_for : MadeFor) : Type 0 where
   pub marked : IsMarked pasts mark_room lines marks (length steps.items) (length held.items)
-  pub room : HasRoom point_room edge_room lines held plans firsts steps made made_for
+  pub room : HasRoom point_room edge_room lines held begins plans firsts steps made made_for

@@ -1,5 +1,5 @@
 use crate::causes::Causes;
-use crate::parts::{BoardMark, Held, MadeFor, Step};
+use crate::parts::{Begin, BoardMark, Held, MadeFor, Step};
 use std::marker::Model;
 use tp_base::{Edge, Network, PointId, Tick};
 use tp_schedule::{Ask, Plan};
@@ -12,6 +12,8 @@ pub struct Board<N: Network> {
     pub(crate) lines: Timelines,
     /// The holds that stand in the orders, by their numbers.
     pub(crate) held: Vec<Held>,
+    /// Where the holds of a schedule are sorted.
+    pub(crate) begins: Vec<Begin>,
     /// The live plans.
     pub(crate) plans: Vec<Plan>,
     /// The first point of each plan.
@@ -42,5 +44,5 @@ impl<N: Network> Model for Board<N> {
 
     ghost view = { λ b. board_of b.net b.lines b.held.items b.plans.items b.firsts.items b.last b.floor b.horizon b.ask b.steps.items b.marks.items b.made_for b.causes b.limit };
 
-    ghost invariant = { λ b. IsBoard (length (N.past b.net)) (N.mark_room b.net) (N.point_room b.net) (N.edge_room b.net) b.lines b.held b.plans b.firsts b.steps b.marks b.edges b.made_for };
+    ghost invariant = { λ b. IsBoard (length (N.past b.net)) (N.mark_room b.net) (N.point_room b.net) (N.edge_room b.net) b.lines b.held b.begins b.plans b.firsts b.steps b.marks b.edges b.made_for };
 }

@@ -14,7 +14,7 @@ use crate::kept_chains::add_chains;
 use crate::kept_edges::{add_durations, add_lines};
 use crate::kept_holds::put_plans;
 use crate::kept_points::add_points;
-use crate::parts::Held;
+use crate::parts::{Begin, Held};
 use tp_base::{Network, PointId, Tick, Undo};
 use tp_machine::Machine;
 use tp_schedule::{Plan, Schedule, is_plan_live};
@@ -72,6 +72,7 @@ pub(crate) fn load_plans<N: Network>(
     causes: &mut Causes,
     lines: &mut Timelines,
     held: &mut Vec<Held>,
+    begins: &mut Vec<Begin>,
     firsts: &mut Vec<PointId>,
     plans: &[Plan],
     machine: &Machine,
@@ -83,6 +84,7 @@ pub(crate) fn load_plans<N: Network>(
     requires resources { length lines.old.orders ≡ length machine.now.resources }
     requires holds { most_holds ≤ lines.old.hold_room }
     requires hold_space { most_holds ≤ vec_capacity held.old }
+    requires begin_space { most_holds ≤ vec_capacity begins.old }
     requires first_space { most_plans ≤ vec_capacity firsts.old }
     ensures loaded { IsLoaded machine.now now plans.now (N.net net.new) lines.new.orders held.new.items firsts.new.items causes.new }
     ensures count { result ≡ point_count plans.now }
@@ -95,6 +97,7 @@ pub(crate) fn load_plans<N: Network>(
     ensures line_holds { lines.new.hold_room ≡ lines.old.hold_room }
     ensures line_marks { lines.new.mark_room ≡ lines.old.mark_room }
     ensures hold_space { vec_capacity held.old ≤ vec_capacity held.new }
+    ensures begin_space { vec_capacity begins.old ≤ vec_capacity begins.new }
     ensures first_space { vec_capacity firsts.old ≤ vec_capacity firsts.new }
 {
     net.clear();
@@ -103,7 +106,7 @@ pub(crate) fn load_plans<N: Network>(
     held.clear();
     firsts.clear();
     let points = add_points(net, firsts, plans, now + machine.lead, now + machine.window);
-    put_plans(lines, held, plans, firsts.as_slice(), machine, points);
+    put_plans(lines, held, begins, plans, firsts.as_slice(), machine);
     add_edges(net, causes, lines, held.as_slice(), machine, plans);
     points
 }

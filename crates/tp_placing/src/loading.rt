@@ -23,8 +23,8 @@ fn start_floor(machine: &Machine, ask: &Ask) -> Tick
 }
 
 impl<N: Network> Board<N> {
-    /// Holds the schedule's live plans from now on, to be asked this. Costs in proportion to their points and holds, but
-    /// that each hold is found by halving its resource's order, and moves the numbers of those behind it. Takes no memory.
+    /// Holds the schedule's live plans from now on, to be asked this. Costs in proportion to their points and holds, which
+    /// are sorted once, so that each resource's order is. Takes no memory.
     pub fn load(&mut self, machine: &Machine, schedule: &Schedule, ask: &Ask)
         requires made { IsMadeFor self.old.made_for machine.now }
         requires can_ask { CanAsk machine.now schedule.now.plans ask.now }
@@ -42,6 +42,7 @@ impl<N: Network> Board<N> {
             &mut self.causes,
             &mut self.lines,
             &mut self.held,
+            &mut self.begins,
             &mut self.firsts,
             self.plans.as_slice(),
             machine,

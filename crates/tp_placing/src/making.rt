@@ -43,6 +43,7 @@ impl<N: Network + Drop> Board<N> {
             net,
             lines: Timelines::new(alloc, made_for.resources, HOLDS, marks)?,
             held: Vec::with_capacity(alloc, HOLDS as usize)?,
+            begins: Vec::with_capacity(alloc, HOLDS as usize)?,
             plans: Vec::with_capacity(alloc, PLANS)?,
             firsts: Vec::with_capacity(alloc, PLANS)?,
             last: PointId(0),

@@ -17,6 +17,13 @@ pub(crate) struct Held {
     pub(crate) end: PointId,
 }
 
+/// When a hold of a loaded schedule begins, in ticks, and the hold's number.
+#[derive(Clone, Copy)]
+pub(crate) struct Begin {
+    pub(crate) tick: i64,
+    pub(crate) hold: u32,
+}
+
 /// What is done to a board that was loaded.
 #[derive(Clone, Copy)]
 pub(crate) enum Change {

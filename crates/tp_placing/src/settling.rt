@@ -30,6 +30,7 @@ impl<N: Network> Board<N> {
             &mut self.causes,
             &mut self.lines,
             &mut self.held,
+            &mut self.begins,
             &mut self.firsts,
             self.plans.as_slice(),
             machine,

@@ -40,6 +40,7 @@ invariant_of-self g c =
         holds = omega arith;
         held_few = r.held_few;
         held_space = r.held_space;
+        begin_space = r.begin_space;
         steps_few = r.steps_few;
         steps_space = r.steps_space;
         plan_space = r.plan_space;

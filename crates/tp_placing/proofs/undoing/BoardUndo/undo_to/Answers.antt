@@ -75,6 +75,7 @@ invariant_of-self g c =
         holds = omega arith;
         held_few = omega arith;
         held_space = omega arith;
+        begin_space = r.begin_space;
         steps_few = omega arith;
         steps_space = omega arith;
         plan_space = r.plan_space;
