@@ -2,6 +2,7 @@
 use Rattle.std.proofs.Common.{◌≡◌, ℕ, ◌⊎◌, inl, inr, Bool, true, false, ◌||◌, ◌==◌, not, List, [], ◌∷◌, ◌++◌, refl, sym, arith, All, AllPairs, Contains, IsTrue, subst}
 use Rattle.std.specs.Bool.{MatchBool}
 use Rattle.std.specs.List.{list_any}
+use Rattle.std.proofs.lemmas.Bool.{not_from_false}
 use Rattle.std.proofs.lemmas.Bool.Decides.{nat_tests}
 use Rattle.std.proofs.lemmas.List.Elements.{All-head, All-tail, All-contains, All-contains_itself}
 use Rattle.tp_machine.specs.declared.whole.Machine.{Machine}
@@ -73,10 +74,6 @@ rest-refused : (s : SessionState) (passed : List ℕ) (w : WaitingCopy) (ws : Li
 rest-refused s passed w ws r =
     rest-tail s ((tray_of s.jobs w.sheet).0 ∷ passed) w ws (own-passed s passed w) (rest-passed s passed (tray_of s.jobs w.sheet).0 (w ∷ ws) r)
 
-not-true : (b : Bool) → b ≡ false → not b ≡ true
-not-true true e = absurd (cc)
-not-true false e = refl
-
 not-both : (b : Bool) → b ≡ true → not b ≡ true → ⊥
 not-both true e f = cc
 not-both false e f = cc
@@ -87,7 +84,7 @@ rest-planned s passed w ws plans r = record {
   wait = All-from_contains (Contains (without_waiting w.sheet s.waiting)) ws (λ v in'.
       let before : is_before w.sheet v.sheet ≡ true = All-contains (λ v. IsTrue (is_before w.sheet v.sheet)) ws v (AllPairs-head (λ v w. IsTrue (is_before v.sheet w.sheet)) w ws r.in_order) in' in
       Contains-filter (λ v. not (is_same_copy v.sheet w.sheet)) s.waiting v (All-contains (Contains s.waiting) ws v (All-tail (Contains s.waiting) w ws r.wait) in')
-      (not-true (is_same_copy v.sheet w.sheet) (before-not_same' w.sheet v.sheet before)));
+      (not_from_false (is_same_copy v.sheet w.sheet) (before-not_same' w.sheet v.sheet before)));
   in_order = AllPairs-tail (λ v w. IsTrue (is_before v.sheet w.sheet)) w ws r.in_order;
   others = λ v in'.
       let from = Contains-filter_from (λ v. not (is_same_copy v.sheet w.sheet)) s.waiting v in' in

@@ -2,6 +2,7 @@
 use Rattle.std.proofs.Common.{◌≡◌, ℕ, ◌+◌, ◌<◌, ◌≤◌, inl, inr, Bool, true, false, cond, ◌&&◌, List, [], ◌∷◌, ◌++◌, length, refl, sym, ◌∙◌, ap, arith, AllPairs, Contains, subst, nat_lt, Option, Some, None, option_map, find}
 use Rattle.std.specs.Bool.{MatchBool}
 use Rattle.std.specs.Option.{MatchOption}
+use Rattle.std.proofs.lemmas.Bool.{and_parts}
 use Rattle.std.proofs.lemmas.Bool.Decides.{nat_tests}
 use Rattle.std.proofs.lemmas.List.Elements.{All-contains}
 use Rattle.tp_machine.specs.declared.whole.Machine.{Machine}
@@ -56,10 +57,6 @@ asked machine s ask e = go (find (is_loose s) s.plans) refl e where
   go None f e = absurd (cc)
   go (Some p) f e = let at = find-Some (is_loose s) s.plans p f in record { p = p; there = at.0; loose = at.1; is = cc }
 
-and-left : (a b : Bool) → (a && b) ≡ true → a ≡ true
-and-left true b e = refl
-and-left false b e = absurd (cc)
-
 -- each plan of the asked copy is a front
 asked-front : (machine : Machine) (s : SessionState) (ask : Ask) → next_ask machine s ≡ Some ask → AllPairs IsEarlier s.plans
     → (q : Plan) → Contains s.plans q → is_same_copy q.sheet ask.sheet ≡ true → is_front q.kind ≡ true
@@ -69,7 +66,7 @@ asked-front machine s ask e in_order q in' same =
     let mine = plan_of-itself s.plans q in_order in' in
     let its = plan_of-itself s.plans of.p in_order of.there in
     let one : q ≡ of.p = cc in
-    subst (λ z. is_front z.kind ≡ true) (sym one) (and-left (is_front of.p.kind) _ of.loose)
+    subst (λ z. is_front z.kind ≡ true) (sym one) (and_parts (is_front of.p.kind) _ of.loose).0
 
 and-first : (a b : Bool) → a ≡ false → (a && b) ≡ false
 and-first true b e = absurd (cc)
