@@ -1,8 +1,8 @@
 -- Lists by parts: what passes a test, and what does not. Pairs within the parts and across them are all pairs, and lists
 -- that rise and have equal parts are equal.
-use Rattle.std.proofs.Common.{◌≡◌, ◌⊎◌, inl, inr, Bool, true, false, cond, not, List, [], ◌∷◌, filter, refl, ap, sym, arith, Contains, AllPairs, subst}
+use Rattle.std.proofs.Common.{◌≡◌, ◌⊎◌, inl, inr, Bool, true, false, cond, not, List, [], ◌∷◌, filter, refl, ap, sym, Contains, AllPairs, subst}
 use Rattle.std.proofs.lemmas.List.Elements.{All-contains}
-use Rattle.tp_schedule.proofs.Membership.{Contains-cons_cases, Contains-here, Contains-later, All-from_contains, Contains-filter, Contains-filter_from}
+use Rattle.tp_schedule.proofs.Membership.{Contains-here, Contains-later, All-from_contains, Contains-filter, Contains-filter_from}
 use Rattle.tp_schedule.proofs.Pairs.{AllPairs-head, AllPairs-tail, AllPairs-nil, AllPairs-cons}
 use Rattle.tp_schedule.proofs.SlotOrder.{rising_unique}
 

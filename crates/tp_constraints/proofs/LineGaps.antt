@@ -1,5 +1,5 @@
 -- The ends of whole plans to a tray rise exactly where the gaps of the lines are kept.
-use Rattle.std.proofs.Common.{◌≡◌, ℕ, ◌<◌, Bool, true, false, cond, not, ◌&&◌, List, [], ◌∷◌, refl, arith, All, AllPairs, get_or, Some, find, subst}
+use Rattle.std.proofs.Common.{◌≡◌, ℕ, ◌<◌, Bool, true, false, cond, not, List, [], ◌∷◌, refl, arith, All, AllPairs, get_or, Some, find, subst}
 use Rattle.std.specs.Prelude.{◌≤ℤ◌, ◌+ℤ◌, pos, ◌==◌}
 use Rattle.std.proofs.lemmas.Bool.{and_from, and_parts}
 use Rattle.std.proofs.lemmas.List.Elements.{All-nil, All-cons, All-head, All-tail, All-append}

@@ -1,7 +1,7 @@
 -- What holds of each element, of each two, and of one element of a list.
-use Rattle.std.proofs.Common.{◌≡◌, ◌⊎◌, inl, inr, Bool, true, false, cond, List, [], ◌∷◌, ◌++◌, map, find, refl, sym, ◌∙◌, arith, All, AllPairs, Any, Contains, subst, Some, None}
-use Rattle.std.proofs.lemmas.List.Elements.{All-nil, All-cons, All-head, All-tail, All-append, All-contains, All-map}
-use Rattle.tp_schedule.proofs.Membership.{Contains-cons_cases, Contains-here, Contains-later}
+use Rattle.std.proofs.Common.{◌≡◌, Bool, true, false, cond, List, [], ◌∷◌, ◌++◌, map, find, refl, All, AllPairs, Any, Contains, subst, Some}
+use Rattle.std.proofs.lemmas.List.Elements.{All-nil, All-cons, All-head, All-tail, All-map}
+use Rattle.tp_schedule.proofs.Membership.{Contains-here, Contains-later}
 use Rattle.tp_schedule.proofs.Pairs.{AllPairs-nil, AllPairs-cons, AllPairs-head, AllPairs-tail, All-append_right}
 
 pub AllPairs-append_left : {X : Type 0} (R : X → X → Type 0) (xs ys : List X) → AllPairs R (xs ++ ys) → AllPairs R xs
@@ -43,7 +43,3 @@ find-Some p (y ∷ xs) x e = go (p y) refl e (find-Some p xs x) where
   go : (b : Bool) → p y ≡ b → cond b (Some y) (find p xs) ≡ Some x → (find p xs ≡ Some x → Contains xs x × (p x ≡ true)) → Contains (y ∷ xs) x × (p x ≡ true)
   go true f e rest = let same : y ≡ x = cc in (subst (Contains (y ∷ xs)) same (Contains-here y xs), subst (λ z. p z ≡ true) same f)
   go false f e rest = let later = rest e in (Contains-later y xs x later.0, later.1)
-
-pub find-none : {X : Type 0} (p : X → Bool) (xs : List X) → All (λ x. p x ≡ false) xs → find p xs ≡ None
-find-none p [] all = refl
-find-none p (x ∷ xs) all = rw (All-head (λ x. p x ≡ false) x xs all) (find-none p xs (All-tail (λ x. p x ≡ false) x xs all))
