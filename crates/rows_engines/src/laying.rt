@@ -7,38 +7,17 @@ ghost use Rattle.tp_placing.specs.Writing.{IsLoadedFrom};
 ghost use Rattle.tp_routes.specs.Tables.{AreRooms, IsKnownOrigin, IsMadeFor as IsTableFor};
 ghost use Rattle.tp_schedule.specs.Answers.{kept_of};
 ghost use Rattle.tp_schedule.specs.Planning.{CanAsk, CanPlanOn, IsOpenGoal};
-ghost use Rattle.tp_schedule.specs.Routes.{IsRoom, finished, is_wanted};
+ghost use Rattle.tp_schedule.specs.Routes.{IsRoom};
 ghost use Rattle.tp_schedule.specs.declared.parts.Origin.TheVariants.{Feeder};
 ghost use Rattle.rows_engines.specs.Laying.{IsLaid, IsPut, IsStepTo};
 ghost use Rattle.rows_engines.specs.Telling.{IsTold};
 
 use std::test::Fail;
 use tp_base::{Late, Network, Tick, Undo};
-use tp_machine::{ActId, LocId, Machine, Sheet, State, Want, allowed, regress};
+use tp_machine::{ActId, Machine, State, allowed, regress};
 use tp_placing::{Board, marks_keep_boards};
 use tp_routes::Rooms;
-use tp_schedule::{Ask, Goal, Schedule, is_plan_live, is_start};
-
-fn is_wanted(want: Want) -> bool
-    ensures { result ≡ is_wanted want }
-{
-    match want {
-        Want::Blank => false,
-        Want::Mono | Want::Colour => true,
-    }
-}
-
-/// The finished sheet at its tray.
-fn finished(want: &Sheet, tray: LocId) -> State
-    ensures { result ≡ finished want.now tray }
-{
-    State {
-        loc: tray,
-        up: want.face,
-        front_done: is_wanted(want.front),
-        back_done: is_wanted(want.back),
-    }
-}
+use tp_schedule::{Ask, Goal, Schedule, finished, is_plan_live, is_start};
 
 /// Whether the state has this room.
 fn is_room(rooms: &Rooms, machine: &Machine, ask: &Ask, state: State, room: u32) -> bool

@@ -1,5 +1,6 @@
 -- What is forgotten can be put back, plan by plan, from the last on: each plan stands in its copy's place.
 use Rattle.std.proofs.Common.{◌≡◌, Bool, true, false, cond, not, List, [], ◌∷◌, filter, refl, ap, sym, Contains, All, AllPairs, ◌∙◌, subst, get_or}
+use Rattle.std.proofs.lemmas.Bool.{not-true}
 use Rattle.std.proofs.lemmas.List.Elements.{All-head, All-tail}
 use Rattle.std.proofs.lemmas.List.Kept.{AllPairs-filter}
 use Rattle.tp_schedule.specs.declared.parts.Plan.{Plan}
@@ -15,7 +16,6 @@ use Rattle.tp_choices.specs.LiveParts.{less, only, JoinExists, LiveIsLeast}
 use Rattle.tp_choices.proofs.Lists.{filter-all}
 use Rattle.tp_choices.proofs.LiveOrders.{others_of}
 use Rattle.tp_choices.proofs.LiveTimes.{live_retimes}
-use Rattle.tp_choices.proofs.Parts.{not_true}
 use Rattle.tp_choices.proofs.Unmoved.{unmoved-found}
 use Rattle.tp_choices.proofs.Staying.{ticks-staying, filter-none}
 
@@ -95,4 +95,4 @@ live_is_least machine now exempt plans gone f only_shape have least live r p in'
       none q in-live =
           let found = unmoved-found (less gone plans) live q (sym r.same) in-live in
           let sheet : found.0.sheet ≡ q.sheet = ap (λ (x : Plan). x.sheet) found.2 in
-          subst (λ c. gone c ≡ false) sheet (not_true (gone found.0.sheet) (Contains-filter_from (λ x. not (gone x.sheet)) plans found.0 found.1).1)
+          subst (λ c. gone c ≡ false) sheet (not-true (gone found.0.sheet) (Contains-filter_from (λ x. not (gone x.sheet)) plans found.0 found.1).1)

@@ -5,6 +5,7 @@ use Rattle.std.proofs.lemmas.Bool.{cases_lt}
 use Rattle.std.proofs.lemmas.List.{length-map}
 use Rattle.tp_machine.proofs.MachineFacts.{is_machine}
 use Rattle.tp_machine.specs.declared.whole.Machine.{Machine}
+use Rattle.tp_schedule.proofs.Pairs.{AllPairs-map_from}
 use Rattle.tp_choices.proofs.AskedFront.{kept-by, fixed_till}
 use Rattle.tp_choices.proofs.Completing.{IsPrefix, prefix_of, point-timed_by}
 use Rattle.tp_choices.proofs.OwnSlots.{settled_slot}
@@ -29,7 +30,6 @@ use Rattle.tp_schedule.specs.declared.parts.SheetId.{SheetId}
 use Rattle.tp_schedule.specs.Spots.Spot.{kept, own}
 use Rattle.tp_choices.proofs.CompleteAnswers as second
 use Rattle.tp_choices.proofs.AnswerOpens as first
-use Rattle.tp_choices.proofs.Lists.{AllPairs-map_from}
 use Rattle.tp_choices.specs.Retimings.{LeastAnswers, NoLater}
 
 same-sheets : (xs ys : List Plan) (copy : SheetId) → map unmoved xs ≡ map unmoved ys → map unmoved (without copy xs) ≡ map unmoved (without copy ys)

@@ -3,7 +3,9 @@ use Rattle.std.proofs.Common.{◌≡◌, ◌⊎◌, inl, inr, ℕ, zero, suc, �
 use Rattle.std.proofs.lemmas.List.Elements.{All-cons, All-head, All-tail, All-nil}
 use Rattle.std.specs.Prelude.{IsPermutation}
 use Rattle.std.proofs.lemmas.List.Sorted.{IsPermutation-trans, IsPermutation-append_right, IsPermutation-append_left, IsPermutation-append_comm}
-use Rattle.tp_schedule.proofs.Pairs.{AllPairs-tail, AllPairs-nil, AllPairs-head, AllPairs-cons}
+pub use Rattle.tp_schedule.proofs.Pairs.{AllPairs-append_right}
+use Rattle.tp_schedule.proofs.Pairs.{AllPairs-head, AllPairs-tail, All-append_right}
+pub use Rattle.tp_schedule.proofs.PutFacts.{All-insert}
 use Rattle.tp_schedule.proofs.Membership.{Contains-cons_cases}
 use Rattle.tp_schedule.specs.Spots.{Slot}
 
@@ -44,19 +46,6 @@ pub filter-all : {X : Type 0} (p : X → Bool) (xs : List X) → All (λ x. p x 
 filter-all p [] all = refl
 filter-all p (x ∷ xs) all = rw (All-head (λ y. p y ≡ true) x xs all) (ap (λ ys. x ∷ ys) (filter-all p xs (All-tail (λ y. p y ≡ true) x xs all)))
 
-pub All-insert : {X : Type 0} (P : X → Type 0) (xs : List X) (i : ℕ) (x : X) → All P xs → P x → All P (insert xs i x)
-All-insert P xs zero x all one = All-cons P x xs one all
-All-insert P [] (suc i) x all one = All-cons P x [] one all
-All-insert P (y ∷ ys) (suc i) x all one = All-cons P y (insert ys i x) (All-head P y ys all) (All-insert P ys i x (All-tail P y ys all) one)
-
-pub AllPairs-append_right : {X : Type 0} (R : X → X → Type 0) (xs ys : List X) → AllPairs R (xs ++ ys) → AllPairs R ys
-AllPairs-append_right R [] ys all = all
-AllPairs-append_right R (x ∷ xs) ys all = AllPairs-append_right R xs ys (AllPairs-tail R x (xs ++ ys) all)
-
-pub All-append_right : {X : Type 0} (P : X → Type 0) (xs ys : List X) → All P (xs ++ ys) → All P ys
-All-append_right P [] ys all = all
-All-append_right P (x ∷ xs) ys all = All-append_right P xs ys (All-tail P x (xs ++ ys) all)
-
 -- what lies behind an element is related to it
 pub AllPairs-across : {X : Type 0} (R : X → X → Type 0) (xs ys : List X) (x : X) → AllPairs R (xs ++ ys) → Contains xs x → All (R x) ys
 AllPairs-across R [] ys x all in' = absurd (omega (arith, in'.1))
@@ -75,10 +64,3 @@ filter-map-length p f (x ∷ xs) = go (p (f x)) (filter-map-length p f xs) where
 pub All-map_from : {X Y : Type 0} (P : Y → Type 0) (f : X → Y) (xs : List X) → All P (map f xs) → All (λ x. P (f x)) xs
 All-map_from P f [] all = All-nil (λ x. P (f x))
 All-map_from P f (x ∷ xs) all = All-cons (λ y. P (f y)) x xs (All-head P (f x) (map f xs) all) (All-map_from P f xs (All-tail P (f x) (map f xs) all))
-
-pub AllPairs-map_from : {X Y : Type 0} (R : Y → Y → Type 0) (f : X → Y) (xs : List X) → AllPairs R (map f xs) → AllPairs (λ x y. R (f x) (f y)) xs
-AllPairs-map_from R f [] all = AllPairs-nil (λ x y. R (f x) (f y))
-AllPairs-map_from R f (x ∷ xs) all = AllPairs-cons (λ y z. R (f y) (f z)) x xs (go xs (AllPairs-head R (f x) (map f xs) all)) (AllPairs-map_from R f xs (AllPairs-tail R (f x) (map f xs) all)) where
-  go : (ys : List _) → All (R (f x)) (map f ys) → All (λ y. R (f x) (f y)) ys
-  go [] a = All-nil (λ y. R (f x) (f y))
-  go (y ∷ ys) a = All-cons (λ z. R (f x) (f z)) y ys (All-head (R (f x)) (f y) (map f ys) a) (go ys (All-tail (R (f x)) (f y) (map f ys) a))

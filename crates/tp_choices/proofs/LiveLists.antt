@@ -1,6 +1,7 @@
 -- A list that opens on the live part opens on the whole schedule: its kept ticks make a schedule that is joined with what is
 -- forgotten, and the places are further on by the forgotten holds.
 use Rattle.std.proofs.Common.{◌≡◌, ℕ, suc, ◌+◌, ◌≤◌, ◌<◌, Bool, true, false, not, List, ◌++◌, map, filter, length, refl, sym, arith, Contains, All, AllPairs, subst, get_or, Some, IsTrue}
+use Rattle.std.proofs.lemmas.Bool.{not-true}
 use Rattle.std.proofs.lemmas.List.{length-map}
 use Rattle.std.proofs.lemmas.List.Elements.{All-contains, All-append, Contains-get_or}
 use Rattle.std.proofs.lemmas.List.Sorted.{All-permutation}
@@ -25,7 +26,6 @@ use Rattle.tp_choices.proofs.Joining.{join_exists}
 use Rattle.tp_choices.proofs.LiveOrders.{others_of}
 use Rattle.tp_choices.proofs.LiveTimes.{live_retimes}
 use Rattle.tp_choices.proofs.OwnSlots.{own_slots, IsPermutation-placed}
-use Rattle.tp_choices.proofs.Parts.{not_true}
 use Rattle.tp_choices.proofs.PastFacts.{past_points}
 use Rattle.tp_choices.proofs.PointFacts.{past-fixed}
 use Rattle.tp_choices.proofs.Retiming.{ticks_retime, retimed_ticks}
@@ -59,7 +59,7 @@ module _ (machine : Machine) (plans : List Plan) (ask : Ask) (gone : SheetId →
   timed-stay p in' =
       let from = Contains-map_from (timed_by o.ticks) (less gone plans) p in' in
       let stays = (Contains-filter_from (λ q. not (gone q.sheet)) plans from.0 from.1).1 in
-      subst (λ (q : Plan). gone q.sheet ≡ false) (sym from.2) (not_true (gone from.0.sheet) stays)
+      subst (λ (q : Plan). gone q.sheet ≡ false) (sym from.2) (not-true (gone from.0.sheet) stays)
 
   joined : (new : List Plan) × IsJoined gone plans (map (timed_by o.ticks) (less gone plans)) new
   joined = join_exists gone plans (map (timed_by o.ticks) (less gone plans)) f.legal.in_order small-retimed.legal.in_order timed-stay
@@ -175,7 +175,7 @@ module _ (machine : Machine) (plans : List Plan) (ask : Ask) (gone : SheetId →
   ended : (resource : ℕ) (g : Slot) → Contains (filter (λ s. not (keeping gone s)) (slot_order machine plans resource)) g → IsEnded t' ask.now g
   ended resource g in' =
       let from = Contains-filter_from (λ s. not (keeping gone s)) (slot_order machine plans resource) g in' in
-      ended-at machine ask.now plans gone (λ _. false) t' f keeps resource g (in-slots machine plans resource g from.0) (not_true (keeping gone g) from.1)
+      ended-at machine ask.now plans gone (λ _. false) t' f keeps resource g (in-slots machine plans resource g from.0) (not-true (keeping gone g) from.1)
 
   opens : OpensTo machine plans ask (shifted machine (forgotten_on machine plans gone) list) end
   opens =

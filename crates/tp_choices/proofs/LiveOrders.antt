@@ -18,10 +18,10 @@ use Rattle.tp_schedule.specs.Spots.Spot.{kept, own}
 use Rattle.tp_schedule.proofs.LawFacts.{one_holder_is_apart}
 use Rattle.tp_schedule.proofs.LegalOrders.{IsTimedBy-plans, legal_apart}
 use Rattle.tp_schedule.proofs.Membership.{Contains-filter, Contains-filter_from, All-from_contains}
-use Rattle.tp_schedule.proofs.Pairs.{AllPairs-each}
+use Rattle.tp_schedule.proofs.Pairs.{AllPairs-each, AllPairs-either}
 use Rattle.tp_choices.proofs.EachSlot.{by_plan}
 use Rattle.tp_choices.proofs.Lists.{filter-all}
-use Rattle.tp_choices.proofs.Parts.{AllPairs-by_part, AllPairs-both_parts, AllPairs-either, filter-swap, parts-equal}
+use Rattle.tp_choices.proofs.Parts.{AllPairs-by_part, AllPairs-both_parts, filter-swap, parts-equal}
 use Rattle.tp_choices.proofs.PastFacts.{past_slots}
 use Rattle.tp_choices.proofs.SameTicks.{IsSameAt, same-back, end-same, apart-same, both-apart-same, same-staying, in-slots, in-order, order-staying, sound-slots}
 use Rattle.tp_choices.proofs.Staying.{staying, stays, slots-staying, ticks-staying}

@@ -1,14 +1,10 @@
 -- Lists by parts: what passes a test, and what does not. Pairs within the parts and across them are all pairs, and lists
 -- that rise and have equal parts are equal.
-use Rattle.std.proofs.Common.{◌≡◌, ◌⊎◌, inl, inr, Bool, true, false, cond, not, List, [], ◌∷◌, filter, refl, ap, sym, arith, Contains, AllPairs, subst}
+use Rattle.std.proofs.Common.{◌≡◌, ◌⊎◌, inl, inr, Bool, true, false, cond, not, List, [], ◌∷◌, filter, refl, ap, sym, Contains, AllPairs, subst}
 use Rattle.std.proofs.lemmas.List.Elements.{All-contains}
-use Rattle.tp_schedule.proofs.Membership.{Contains-cons_cases, Contains-here, Contains-later, All-from_contains, Contains-filter, Contains-filter_from}
+use Rattle.tp_schedule.proofs.Membership.{Contains-here, Contains-later, All-from_contains, Contains-filter, Contains-filter_from}
 use Rattle.tp_schedule.proofs.Pairs.{AllPairs-head, AllPairs-tail, AllPairs-nil, AllPairs-cons}
 use Rattle.tp_schedule.proofs.SlotOrder.{rising_unique}
-
-pub not_true : (b : Bool) → not b ≡ true → b ≡ false
-not_true true e = absurd (cc)
-not_true false e = refl
 
 -- pairs of which both pass stand in the relation, and the others by another relation of all pairs
 pub AllPairs-by_part : {X : Type 0} (R Q : X → X → Type 0) (p : X → Bool) (xs : List X) → AllPairs R (filter p xs) → AllPairs Q xs
@@ -28,20 +24,6 @@ AllPairs-by_part {X} R Q p (x ∷ xs) part all cross =
       head true e y in' true f h = All-contains (R x) (filter p xs) y (AllPairs-head R x (filter p xs) h) (Contains-filter p xs y in' f)
       head true e y in' false f h = other y in' (inr f)
       head false e y in' c f h = other y in' (inl e)
-
--- two different elements stand in the relation one way or the other
-pub AllPairs-either : {X : Type 0} (R : X → X → Type 0) (xs : List X) (x y : X) → AllPairs R xs → Contains xs x → Contains xs y → (x ≡ y → ⊥) → R x y ⊎ R y x
-AllPairs-either R [] x y all in-x in-y differ = absurd (omega (arith, in-x.1))
-AllPairs-either R (z ∷ xs) x y all in-x in-y differ = elim (Contains-cons_cases z xs x in-x) [
-  | inl is-x ↦ elim (Contains-cons_cases z xs y in-y) [
-    | inl is-y ↦ absurd (differ (λ i. (let e : x ≡ y = subst (λ w. w ≡ y) is-x is-y in e i)))
-    | inr later-y ↦ inl (subst (λ w. R w y) is-x (All-contains (R z) xs y (AllPairs-head R z xs all) later-y))
-  ]
-  | inr later-x ↦ elim (Contains-cons_cases z xs y in-y) [
-    | inl is-y ↦ inr (subst (λ w. R w x) is-y (All-contains (R z) xs x (AllPairs-head R z xs all) later-x))
-    | inr later-y ↦ AllPairs-either R xs x y (AllPairs-tail R z xs all) later-x later-y differ
-  ]
-]
 
 -- a relation that does not mind the order holds of all pairs, if of those within both parts and of those across
 pub AllPairs-both_parts : {X : Type 0} (R : X → X → Type 0) (p : X → Bool) (xs : List X) → ((x y : X) → R x y → R y x) → AllPairs R (filter p xs) → AllPairs R (filter (λ x. not (p x)) xs)

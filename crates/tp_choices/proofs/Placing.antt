@@ -12,7 +12,7 @@ use Rattle.tp_machine.specs.Machines.{IsMachine}
 use Rattle.tp_machine.specs.Using.{action_at}
 use Rattle.tp_schedule.proofs.HeldCount.{Differ, NotOn, others_not_on}
 use Rattle.tp_schedule.proofs.Membership.{All-from_contains, Contains-here, Contains-later, Contains-cons_cases}
-use Rattle.tp_schedule.proofs.Pairs.{AllPairs-head, AllPairs-tail, AllPairs-nil, AllPairs-cons}
+use Rattle.tp_schedule.proofs.Pairs.{AllPairs-head, AllPairs-tail, AllPairs-nil, AllPairs-cons, All-append_right, AllPairs-append_right}
 use Rattle.tp_schedule.specs.Choices.{Choice, acts_of, put_places, placed, AreWithin, HavePlaces, ChoicesLast}
 use Rattle.tp_schedule.specs.Holding.{holds_of_act}
 use Rattle.tp_schedule.specs.Plans.{LastsWithin}
@@ -22,7 +22,8 @@ use Rattle.tp_machine.specs.declared.parts.Action.{Action}
 use Rattle.tp_machine.specs.declared.parts.HoldRule.{HoldRule}
 use Rattle.tp_machine.specs.declared.whole.Machine.{Machine}
 use Rattle.tp_schedule.specs.Spots.Spot.{own}
-use Rattle.tp_choices.proofs.Lists.{All-insert, All-append_right, AllPairs-across, AllPairs-append_right}
+use Rattle.tp_schedule.proofs.PutFacts.{All-insert}
+use Rattle.tp_choices.proofs.Lists.{AllPairs-across}
 
 pub record Place (t : Ticks) (x : Slot) (order : List Slot) : Type 0 where
   pub place : ℕ

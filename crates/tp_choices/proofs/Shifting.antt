@@ -6,8 +6,8 @@ use Rattle.std.proofs.lemmas.List.Elements.{Contains-append_left}
 use Rattle.std.proofs.lemmas.List.Elements.{All-cons, All-head, All-tail, All-nil, All-contains, filter-append}
 use Rattle.std.proofs.lemmas.List.Filters.{length-filter_both}
 use Rattle.tp_schedule.proofs.Membership.{All-from_contains, Contains-filter}
-use Rattle.tp_schedule.proofs.Pairs.{AllPairs-head, AllPairs-tail, AllPairs-cons}
-use Rattle.tp_choices.proofs.Lists.{filter-all, AllPairs-append_right, AllPairs-across}
+use Rattle.tp_schedule.proofs.Pairs.{AllPairs-head, AllPairs-tail, AllPairs-cons, AllPairs-append_right}
+use Rattle.tp_choices.proofs.Lists.{filter-all, AllPairs-across}
 
 pub insert-between : {X : Type 0} (us vs : List X) (n : ℕ) (x : X) → n ≡ length us → insert (us ++ vs) n x ≡ us ++ x ∷ vs
 insert-between [] vs zero x e = refl

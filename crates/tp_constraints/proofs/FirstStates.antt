@@ -1,5 +1,6 @@
 -- Only one state leads to a state by an action, and so by a list of them.
 use Rattle.std.proofs.Common.{◌≡◌, ℕ, Bool, true, false, cond, not, ◌&&◌, ◌||◌, ◌==◌, List, [], ◌∷◌, refl, sym, arith, ◌∙◌, ap, subst, Option, Some, None, option_and_then}
+use Rattle.std.proofs.lemmas.Bool.{and_parts}
 use Rattle.std.proofs.lemmas.Bool.Decides.{nat_tests}
 use Rattle.tp_machine.specs.Using.{action_at}
 use Rattle.tp_machine.specs.Steps.{step_of, can_step, after, other_side, is_done, prints, prints_kind, wanted, is_front as is_front_up}
@@ -52,23 +53,15 @@ done-is s = go s.up where
   go Front = refl
   go Back = refl
 
-and-first : (a b : Bool) → (a && b) ≡ true → a ≡ true
-and-first true b e = refl
-and-first false b e = absurd cc
-
-and-second : (a b : Bool) → (a && b) ≡ true → b ≡ true
-and-second true b e = e
-and-second false b e = absurd cc
-
 same-number : (m n k : ℕ) → (m == k) ≡ true → (n == k) ≡ true → m ≡ n
 same-number m n k e f = grind (arith, nat_tests)
 
 can-unique : (a : Action) (sheet : Sheet) (s s' : State) → can_step a sheet s ≡ true → can_step a sheet s' ≡ true → after a s ≡ after a s' → s ≡ s'
 can-unique a sheet s s' x y e =
-    let n : s.loc.0 ≡ s'.loc.0 = same-number s.loc.0 s'.loc.0 a.from.0 (and-first (s.loc.0 == a.from.0) (rest s) x) (and-first (s'.loc.0 == a.from.0) (rest s') y) in
+    let n : s.loc.0 ≡ s'.loc.0 = same-number s.loc.0 s'.loc.0 a.from.0 (and_parts (s.loc.0 == a.from.0) (rest s) x).0 (and_parts (s'.loc.0 == a.from.0) (rest s') y).0 in
     let u : s.up ≡ s'.up = up-is a.flip s.up s'.up (ap (λ q. q.up) e) in
-    let p : (not (prints a) || (not (done s'.up s.front_done s.back_done) && prints_kind a (wanted sheet s.up))) ≡ true = rw (← u, ← done-is s) (and-second (s.loc.0 == a.from.0) (rest s) x) in
-    let q : (not (prints a) || (not (done s'.up s'.front_done s'.back_done) && prints_kind a (wanted sheet s'.up))) ≡ true = rw (← done-is s') (and-second (s'.loc.0 == a.from.0) (rest s') y) in
+    let p : (not (prints a) || (not (done s'.up s.front_done s.back_done) && prints_kind a (wanted sheet s.up))) ≡ true = rw (← u, ← done-is s) (and_parts (s.loc.0 == a.from.0) (rest s) x).1 in
+    let q : (not (prints a) || (not (done s'.up s'.front_done s'.back_done) && prints_kind a (wanted sheet s'.up))) ≡ true = rw (← done-is s') (and_parts (s'.loc.0 == a.from.0) (rest s') y).1 in
     let ef : (s.front_done || (prints a && is_front_up s'.up)) ≡ (s'.front_done || (prints a && is_front_up s'.up)) = subst (λ v. (s.front_done || (prints a && is_front_up v)) ≡ (s'.front_done || (prints a && is_front_up s'.up))) u (ap (λ q. q.front_done) e) in
     let eb : (s.back_done || (prints a && not (is_front_up s'.up))) ≡ (s'.back_done || (prints a && not (is_front_up s'.up))) = subst (λ v. (s.back_done || (prints a && not (is_front_up v))) ≡ (s'.back_done || (prints a && not (is_front_up s'.up)))) u (ap (λ q. q.back_done) e) in
     let f = front-is (prints a) s'.up s.front_done s'.front_done s.back_done s'.back_done (prints_kind a (wanted sheet s.up)) (prints_kind a (wanted sheet s'.up)) p q ef in

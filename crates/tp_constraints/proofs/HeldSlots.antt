@@ -21,7 +21,7 @@ use Rattle.tp_schedule.specs.Times.{at}
 use Rattle.tp_schedule.specs.Choices.{Choice, put_places, placed, ChoicesLast}
 use Rattle.tp_schedule.proofs.LegalOrders.{sound_plans}
 use Rattle.tp_schedule.proofs.SlotOrder.{IsPermutation-by_begin}
-use Rattle.tp_choices.proofs.Lists.{All-insert}
+use Rattle.tp_schedule.proofs.PutFacts.{All-insert}
 use Rattle.tp_machine.proofs.MachineFacts.{is_machine}
 
 -- what holds of each hold on a resource, by the rules of an action between two points

@@ -1,6 +1,7 @@
 -- The ends of whole plans to a tray rise exactly where the gaps of the lines are kept.
-use Rattle.std.proofs.Common.{◌≡◌, ℕ, ◌<◌, Bool, true, false, cond, not, ◌&&◌, List, [], ◌∷◌, refl, arith, All, AllPairs, get_or, Some, find, subst}
+use Rattle.std.proofs.Common.{◌≡◌, ℕ, ◌<◌, Bool, true, false, cond, not, List, [], ◌∷◌, refl, arith, All, AllPairs, get_or, Some, find, subst}
 use Rattle.std.specs.Prelude.{◌≤ℤ◌, ◌+ℤ◌, pos, ◌==◌}
+use Rattle.std.proofs.lemmas.Bool.{and_from, and_parts}
 use Rattle.std.proofs.lemmas.List.Elements.{All-nil, All-cons, All-head, All-tail, All-append}
 use Rattle.std.proofs.lemmas.Int.{ints}
 use Rattle.std.proofs.lemmas.Bool.Decides.{nat_tests}
@@ -18,15 +19,6 @@ use Rattle.tp_constraints.proofs.Lists.{All-split}
 abbrev Ends : Ticks → Plan → Plan → Type 0
 Ends t p q = is_same_line p q ≡ true → t (end_spot p) < t (end_spot q)
 
-both : (a b : Bool) → a ≡ true → b ≡ true → (a && b) ≡ true
-both a b x y = grind arith
-
-first-of_both : (a b : Bool) → (a && b) ≡ true → a ≡ true
-first-of_both a b e = grind arith
-
-second-of_both : (a b : Bool) → (a && b) ≡ true → b ≡ true
-second-of_both a b e = grind arith
-
 -- a plan is in the line of a goal exactly where the goal is a tray to which it is delivered
 pub in-line : (g : Goal) (p : Plan) (tray : ℕ) → goes_to g tray ≡ true → is_delivered_to p tray ≡ true → is_in_line g p ≡ true
 in-line Purge p tray e there = absurd cc
@@ -41,12 +33,12 @@ line-of (Tray x) p e = (x.0, itself x.0, e) where
 -- two plans are of one line exactly where they are delivered to one tray
 same-to : (p q : Plan) (tray : ℕ) → is_delivered_to p tray ≡ true → is_delivered_to q tray ≡ true → is_same_line p q ≡ true
 same-to p q tray a b =
-    both (not (is_front p.kind)) (is_in_line p.goal q) (first-of_both (not (is_front p.kind)) (goes_to p.goal tray) a) (in-line p.goal q tray (second-of_both (not (is_front p.kind)) (goes_to p.goal tray) a) b)
+    and_from (not (is_front p.kind)) (is_in_line p.goal q) (and_parts (not (is_front p.kind)) (goes_to p.goal tray) a).0 (in-line p.goal q tray (and_parts (not (is_front p.kind)) (goes_to p.goal tray) a).1 b)
 
 same-from : (p q : Plan) → is_same_line p q ≡ true → (tray : ℕ) × (is_delivered_to p tray ≡ true) × (is_delivered_to q tray ≡ true)
 same-from p q e =
-    let l = line-of p.goal q (second-of_both (not (is_front p.kind)) (is_in_line p.goal q) e) in
-    (l.0, both (not (is_front p.kind)) (goes_to p.goal l.0) (first-of_both (not (is_front p.kind)) (is_in_line p.goal q) e) l.1, l.2)
+    let l = line-of p.goal q (and_parts (not (is_front p.kind)) (is_in_line p.goal q) e).1 in
+    (l.0, and_from (not (is_front p.kind)) (goes_to p.goal l.0) (and_parts (not (is_front p.kind)) (is_in_line p.goal q) e).0 l.1, l.2)
 
 one-tray : (g : Goal) (t u : ℕ) → goes_to g t ≡ true → goes_to g u ≡ true → t ≡ u
 one-tray Purge t u a b = absurd cc
@@ -56,7 +48,7 @@ same_line-trans : (p q r : Plan) → is_same_line p q ≡ true → is_same_line 
 same_line-trans p q r a b =
     let x = same-from p q a in
     let y = same-from p r b in
-    let same : y.0 ≡ x.0 = one-tray p.goal y.0 x.0 (second-of_both (not (is_front p.kind)) (goes_to p.goal y.0) y.1) (second-of_both (not (is_front p.kind)) (goes_to p.goal x.0) x.1) in
+    let same : y.0 ≡ x.0 = one-tray p.goal y.0 x.0 (and_parts (not (is_front p.kind)) (goes_to p.goal y.0) y.1).1 (and_parts (not (is_front p.kind)) (goes_to p.goal x.0) x.1).1 in
     same-to q r x.0 x.2 (subst (λ tray. is_delivered_to r tray ≡ true) same y.2)
 
 -- the gap to the next plan of a line gives all later ones, since later ends rise

@@ -1,8 +1,8 @@
 -- Lemmas on lists that are of no subject here.
-use Rattle.std.proofs.Common.{◌≡◌, ℕ, zero, suc, ◌<◌, List, [], ◌∷◌, length, refl, arith, All, AllPairs, Contains, ap, map, Some, ◌++◌, get_or}
+use Rattle.std.proofs.Common.{◌≡◌, ℕ, zero, suc, ◌<◌, List, [], ◌∷◌, length, refl, arith, All, Contains, ap, map, Some, ◌++◌, get_or}
 use Rattle.std.specs.Prelude.{slice_get, slice_index}
-use Rattle.std.proofs.lemmas.List.Elements.{All-nil, All-cons, All-head, All-tail, All-contains, All-append}
-use Rattle.tp_schedule.proofs.Pairs.{AllPairs-head, AllPairs-tail, AllPairs-cons}
+use Rattle.std.proofs.lemmas.List.Elements.{All-nil, All-cons, All-head, All-tail, All-contains}
+pub use Rattle.tp_schedule.proofs.Pairs.{AllPairs-append}
 
 -- both parts of a list
 pub All-split : {X : Type 0} (P : X → Type 0) (xs ys : List X) → All P (xs ++ ys) → All P xs × All P ys
@@ -40,9 +40,3 @@ index-map f (y ∷ xs) (suc i) x e = index-map f xs i x e
 pub map-each : {X Y : Type 0} (f g : X → Y) (xs : List X) → All (λ x. f x ≡ g x) xs → map f xs ≡ map g xs
 map-each f g [] all = refl
 map-each f g (x ∷ xs) all = let a = All-head (λ x. f x ≡ g x) x xs all in let b = map-each f g xs (All-tail (λ x. f x ≡ g x) x xs all) in λ i. a i ∷ b i
-
--- pairs within two lists, and across them
-pub AllPairs-append : {X : Type 0} (R : X → X → Type 0) (xs ys : List X) → AllPairs R xs → AllPairs R ys → All (λ x. All (R x) ys) xs → AllPairs R (xs ++ ys)
-AllPairs-append R [] ys a b all = b
-AllPairs-append R (x ∷ xs) ys a b all =
-    AllPairs-cons R x (xs ++ ys) (All-append (R x) xs ys (AllPairs-head R x xs a) (All-head (λ z. All (R z) ys) x xs all)) (AllPairs-append R xs ys (AllPairs-tail R x xs a) b (All-tail (λ z. All (R z) ys) x xs all))

@@ -9,8 +9,7 @@ use Rattle.tp_machine.specs.declared.parts.Anchor.TheVariants.{Start, End}
 use Rattle.tp_schedule.specs.Spots.{Spot, Ticks, Slot, IsApart, IsRow, IsSoundSlot}
 use Rattle.tp_constraints.specs.Gaps.{KeepsGap, KeepsGaps, anchor_spot, slot_gap, chain_gaps, all_chains}
 use Rattle.std.proofs.lemmas.Bool.{cases_lt}
-use Rattle.tp_schedule.proofs.SlotOrder.{AllPairs-from_row}
-use Rattle.tp_schedule.proofs.Pairs.{AllPairs-tail}
+use Rattle.tp_schedule.proofs.SlotOrder.{AllPairs-from_row, IsRow-from_AllPairs}
 use Rattle.tp_constraints.proofs.Lists.{All-split}
 
 -- a hold ends by the next exactly where the gap is kept
@@ -47,13 +46,8 @@ row-from_gaps t (x ∷ y ∷ ys) keeps = (apart-from_gap t x y (All-head (KeepsG
 pub apart-from_gaps : (t : Ticks) (xs : List Slot) → All (IsSoundSlot t) xs → KeepsGaps t (chain_gaps xs) → AllPairs (IsApart t) xs
 apart-from_gaps t xs sound keeps = AllPairs-from_row t xs sound (row-from_gaps t xs keeps)
 
-pub row-from_apart : (t : Ticks) (xs : List Slot) → AllPairs (IsApart t) xs → IsRow t xs
-row-from_apart t [] apart = tt
-row-from_apart t (x ∷ []) apart = tt
-row-from_apart t (x ∷ y ∷ ys) apart = (apart 0 1 x (omega arith) (omega arith), row-from_apart t (y ∷ ys) (AllPairs-tail (IsApart t) x (y ∷ ys) apart))
-
 pub gaps-from_apart : (t : Ticks) (xs : List Slot) → AllPairs (IsApart t) xs → KeepsGaps t (chain_gaps xs)
-gaps-from_apart t xs pairs = gaps-from_row t xs (row-from_apart t xs pairs)
+gaps-from_apart t xs pairs = gaps-from_row t xs (IsRow-from_AllPairs t xs pairs)
 
 -- the chains of all resources
 pub chains-each : (t : Ticks) (orders : ℕ → List Slot) (n : ℕ) → KeepsGaps t (all_chains orders n) → (r : ℕ) → r < n → KeepsGaps t (chain_gaps (orders r))

@@ -16,8 +16,8 @@ use Rattle.tp_schedule.proofs.Pairs.{AllPairs-insert_out}
 use Rattle.tp_constraints.specs.Gaps.{KeepsGap, KeepsGaps, slot_gap}
 use Rattle.tp_constraints.specs.Suffixes.{Suffix, SuffixTimes, order_in, place_gaps, with_place, place_first, choice_slot}
 use Rattle.tp_constraints.specs.Laws.{PlaceLaw}
-use Rattle.tp_schedule.proofs.SlotOrder.{AllPairs-from_row}
-use Rattle.tp_constraints.proofs.OrderGaps.{gap-from_apart, apart-from_gap, row-from_apart}
+use Rattle.tp_schedule.proofs.SlotOrder.{AllPairs-from_row, IsRow-from_AllPairs}
+use Rattle.tp_constraints.proofs.OrderGaps.{gap-from_apart, apart-from_gap}
 use Rattle.tp_constraints.proofs.HeldSlots.{placed-sound}
 use Rattle.tp_constraints.proofs.Steps.{put_places-none}
 use Rattle.tp_constraints.proofs.Rooms.{same-is}
@@ -81,7 +81,7 @@ module _ (machine : Machine) (plans : List Plan) (ask : Ask) (rooms : List ℕ) 
   new-gaps : AllPairs (IsApart t) (order_in machine plans (with_place place old_suffix) rule.resource.0) → KeepsGaps t (place_gaps (old rule.resource.0) place slot)
   new-gaps all =
       let e = new-order rule.resource.0 ∙ ap (λ b. cond b (insert (old rule.resource.0) place slot) (old rule.resource.0)) here in
-      gaps-from_insert t (old rule.resource.0) place slot le (row-from_apart t (insert (old rule.resource.0) place slot) (subst (AllPairs (IsApart t)) e all))
+      gaps-from_insert t (old rule.resource.0) place slot le (IsRow-from_AllPairs t (insert (old rule.resource.0) place slot) (subst (AllPairs (IsApart t)) e all))
 
   new-apart : (r : ℕ) → AllPairs (IsApart t) (old r) → KeepsGaps t (place_gaps (old rule.resource.0) place slot) → All (IsSoundSlot t) (order_in machine plans (with_place place old_suffix) r) → AllPairs (IsApart t) (order_in machine plans (with_place place old_suffix) r)
   new-apart r all gaps sound = subst (AllPairs (IsApart t)) (sym (new-order r)) (go (rule.resource.0 == r) refl (subst (All (IsSoundSlot t)) (new-order r) sound)) where
@@ -90,7 +90,7 @@ module _ (machine : Machine) (plans : List Plan) (ask : Ask) (rooms : List ℕ) 
         let same : rule.resource.0 ≡ r = grind (arith, nat_tests) in
         let gaps' : KeepsGaps t (place_gaps (old r) place slot) = subst (λ q. KeepsGaps t (place_gaps (old q) place slot)) same gaps in
         let le' : place ≤ length (old r) = subst (λ q. place ≤ length (old q)) same le in
-        AllPairs-from_row t (insert (old r) place slot) sound' (row-insert t (old r) place slot le' (row-from_apart t (old r) all) gaps')
+        AllPairs-from_row t (insert (old r) place slot) sound' (row-insert t (old r) place slot le' (IsRow-from_AllPairs t (old r) all) gaps')
     go false e sound' = all
 
   pub placing : SuffixTimes machine plans ask (with_place place old_suffix) t ↔ (SuffixTimes machine plans ask old_suffix t × KeepsGaps t (place_gaps (old rule.resource.0) place slot))

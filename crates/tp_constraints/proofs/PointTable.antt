@@ -6,12 +6,11 @@ use Rattle.tp_schedule.specs.declared.parts.Plan.{Plan}
 use Rattle.tp_schedule.specs.declared.parts.SheetId.{SheetId}
 use Rattle.tp_schedule.specs.Spots.{Spot}
 use Rattle.tp_schedule.specs.Spots.Spot.{kept, own}
-use Rattle.tp_schedule.proofs.Pairs.{AllPairs-head, AllPairs-tail, AllPairs-nil, AllPairs-cons}
+use Rattle.tp_schedule.proofs.Pairs.{AllPairs-head, AllPairs-tail, AllPairs-nil, AllPairs-cons, AllPairs-append}
 use Rattle.tp_constraints.specs.Gaps.{IsPoint}
 use Rattle.tp_constraints.specs.Numbers.{points_from, table_of, TableLaw}
 use Rattle.std.proofs.lemmas.Bool.{cases_lt}
 use Rattle.tp_schedule.proofs.CopyFacts.{same_copy-refl, before-not_same}
-use Rattle.tp_constraints.proofs.Lists.{AllPairs-append}
 
 -- a kept point of the copy, from a number on to another
 record IsFrom (copy : SheetId) (from to : ℕ) (s : Spot) : Type 0 where

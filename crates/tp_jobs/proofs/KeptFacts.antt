@@ -1,16 +1,16 @@
 -- The parts of the lines keep what they keep.
-use Rattle.std.proofs.Common.{◌≡◌, ◌≢◌, ℕ, ◌+◌, ◌<◌, ◌^◌, List, [], ◌∷◌, ◌++◌, length, not, get_or, None, All, AllPairs, true, sym, ap, subst, ◌∙◌, arith}
+use Rattle.std.proofs.Common.{◌≡◌, ◌≢◌, ℕ, ◌+◌, ◌<◌, ◌^◌, List, [], ◌∷◌, ◌++◌, length, not, get_or, None, AllPairs, true, sym, ap, subst, ◌∙◌, arith}
 use Rattle.std.specs.List.{IsDistinct}
 use Rattle.std.specs.Str.{bytes_eq}
 use Rattle.std.proofs.lemmas.Bool.Decides.{nat_tests}
 use Rattle.std.proofs.lemmas.List.{get_or-map, map-append, length-append, length-map}
-use Rattle.std.proofs.lemmas.List.Elements.{All-append, All-filter, All-head, All-tail}
+use Rattle.std.proofs.lemmas.List.Elements.{All-append, All-filter}
 use Rattle.std.proofs.lemmas.List.Kept.{AllPairs-filter}
 use Rattle.std.proofs.lemmas.List.Sums.{length-filter, count_by-le-length}
 use Rattle.std.proofs.lemmas.Map.Made.{AllPairs-from_IsDistinct}
 use Rattle.std.proofs.lemmas.Slice.Eq.{bytes_eq-Decides}
 use Rattle.tp_machine.specs.declared.parts.Sheet.{Sheet}
-use Rattle.tp_schedule.proofs.Pairs.{AllPairs-cons, AllPairs-head, AllPairs-tail}
+use Rattle.tp_schedule.proofs.Pairs.{AllPairs-append}
 use Rattle.tp_schedule.specs.Plans.{is_before, is_same_copy}
 use Rattle.tp_schedule.specs.declared.parts.SheetId.{SheetId}
 use Rattle.tp_jobs.specs.Backlogs.{IsBacklog, IsOfJob, WaitsBefore, names_of}
@@ -40,13 +40,6 @@ keeps-without names jobs waiting copy keeps = record {
   few_jobs = keeps.few_jobs;
   few_waiting = omega (arith, length-filter {X = WaitingCopy} (λ w. not (is_same_copy w.sheet copy)) waiting, count_by-le-length (λ w. not (is_same_copy w.sheet copy)) waiting, keeps.few_waiting);
 }
-
-AllPairs-append : {X : Type 0} (R : X → X → Type 0) (xs ys : List X) → AllPairs R xs → AllPairs R ys → All (λ x. All (R x) ys) xs → AllPairs R (xs ++ ys)
-AllPairs-append R [] ys first second across = second
-AllPairs-append R (x ∷ xs) ys first second across =
-    AllPairs-cons R x (xs ++ ys)
-    (All-append (R x) xs ys (AllPairs-head R x xs first) (All-head (λ z. All (R z) ys) x xs across))
-    (AllPairs-append R xs ys (AllPairs-tail R x xs first) second (All-tail (λ z. All (R z) ys) x xs across))
 
 -- a copy of an earlier job waits before one of a later job
 earlier_job : (v w : WaitingCopy) (n : ℕ) → v.sheet.job < n → w.sheet.job ≡ n → is_before v.sheet w.sheet ≡ true

@@ -3,7 +3,7 @@ use Rattle.std.proofs.Common.{◌≡◌, ℕ, ◌≤◌, ◌<◌, suc, Bool, tru
 use Rattle.std.specs.Prelude.{◌&&◌}
 use Rattle.std.specs.List.{position_or_len}
 use Rattle.std.specs.List.Sorted.{IsPartitionPoint, IsPartitionedBy}
-use Rattle.std.proofs.lemmas.Bool.{cases_lt}
+use Rattle.std.proofs.lemmas.Bool.{cases_lt, not-false, not-true}
 use Rattle.std.proofs.lemmas.Bool.Decides.{nat_tests}
 use Rattle.std.proofs.lemmas.List.Elements.{All-head, All-tail}
 use Rattle.std.proofs.lemmas.List.Sums.{position_or_len_is}
@@ -19,14 +19,6 @@ use Rattle.tp_jobs.specs.declared.parts.WaitingCopy.{WaitingCopy}
 abbrev pub is_behind : SheetId → WaitingCopy → Bool
 is_behind copy w = is_before copy w.sheet
 
-false-not : (b : Bool) → not b ≡ true → b ≡ false
-false-not true e = absurd (cc)
-false-not false e = refl
-
-true-not : (b : Bool) → not b ≡ false → b ≡ true
-true-not true e = refl
-true-not false e = absurd (cc)
-
 not_before-earlier : (copy a b : SheetId) → is_before a b ≡ true → is_before copy b ≡ false → is_before copy a ≡ false
 not_before-earlier copy a b before not_behind = go (is_before copy a) refl where
   go : (v : Bool) → is_before copy a ≡ v → v ≡ false
@@ -36,7 +28,7 @@ not_before-earlier copy a b before not_behind = go (is_before copy a) refl where
 -- no copy that is behind this one stands before one that is not
 pub partitioned : (copy : SheetId) (xs : List WaitingCopy) → AllPairs WaitsBefore xs → IsPartitionedBy (λ w. not (is_before copy w.sheet)) xs
 partitioned copy xs in_order i j d le lt passes = elim (cases_lt i j) [
-  | inl below ↦ rw (not_before-earlier copy (get_or xs i d).sheet (get_or xs j d).sheet (in_order i j d below lt) (false-not (is_before copy (get_or xs j d).sheet) passes)) refl
+  | inl below ↦ rw (not_before-earlier copy (get_or xs i d).sheet (get_or xs j d).sheet (in_order i j d below lt) (not-true (is_before copy (get_or xs j d).sheet) passes)) refl
   | inr above ↦ let same : i ≡ j = omega arith in rw same passes
 ]
 
@@ -45,8 +37,8 @@ pub place-from_partition : (copy : SheetId) (xs : List WaitingCopy) (i : ℕ) �
 place-from_partition copy [] i within point = omega arith
 place-from_partition copy (x ∷ xs) i within point =
     position_or_len_is (is_behind copy) (x ∷ xs) i x within
-    (λ k below. false-not (is_before copy (get_or (x ∷ xs) k x).sheet) (point.0 k x (omega arith) below))
-    (λ below. true-not (is_before copy (get_or (x ∷ xs) i x).sheet) (point.1 i x (omega arith) below))
+    (λ k below. not-true (is_before copy (get_or (x ∷ xs) k x).sheet) (point.0 k x (omega arith) below))
+    (λ below. not-false (is_before copy (get_or (x ∷ xs) i x).sheet) (point.1 i x (omega arith) below))
 
 pub insert-put_waiting : (w : WaitingCopy) (xs : List WaitingCopy) → insert xs (position_or_len (is_behind w.sheet) xs) w ≡ put_waiting xs w
 insert-put_waiting w [] = refl

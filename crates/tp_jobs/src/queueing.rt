@@ -7,15 +7,7 @@ ghost use Rattle.tp_jobs.specs.Trying.{is_open};
 
 use crate::blocking::Blocked;
 use crate::parts::{Job, WaitingCopy};
-use tp_schedule::SheetId;
-
-fn is_earlier(one: SheetId, other: SheetId) -> bool
-    ensures { result ≡ is_before one other }
-{
-    one.job < other.job
-        || (one.job == other.job
-            && (one.number < other.number || (one.number == other.number && one.copy < other.copy)))
-}
+use tp_schedule::{SheetId, is_earlier};
 
 /// The place of the first copy that waits behind this one, by a binary search.
 pub(crate) fn place_behind(waiting: &[WaitingCopy], copy: SheetId) -> usize

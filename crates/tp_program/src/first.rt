@@ -1,6 +1,6 @@
 // The plan of the first copy on an empty schedule.
 ghost use Rattle.std.specs.Prelude.{◌≡◌, ◌+◌, ◌<◌, ◌≤◌, ◌^◌, length, IfOk, IsFalse};
-ghost use Rattle.tp_schedule.specs.Routes.{finished, is_wanted, least_of, least_sum};
+ghost use Rattle.tp_schedule.specs.Routes.{least_of, least_sum};
 ghost use Rattle.tp_program.specs.Firsts.{IsAnswered, first_ask, first_plan, has_hold, least_points};
 
 use crate::job::Job;
@@ -8,8 +8,8 @@ use crate::route::{follow, soonest};
 use crate::table::table_to;
 use std::alloc::{AllocError, Global};
 use tp_base::Tick;
-use tp_machine::{ActId, LocId, Machine, Sheet, State, Want, machine_law};
-use tp_schedule::{Acts, Goal, Kind, Plan, Points, SheetId};
+use tp_machine::{ActId, Machine, machine_law};
+use tp_schedule::{Acts, Goal, Kind, Plan, Points, SheetId, finished};
 
 /// The most actions of a plan.
 const MOST_ACTS: usize = 64;
@@ -26,7 +26,7 @@ pub(crate) fn plan_first(
     ensures { IfOk result (λ found. IsAnswered machine.now (first_ask job.now) found) }
 {
     machine_law(machine);
-    let goal = finished_at(&job.sheet, job.tray);
+    let goal = finished(&job.sheet, job.tray);
     let table = table_to(alloc, machine, &job.sheet, goal, MOST_ACTS)?;
     let feeders = machine.feeders.as_slice();
     let Some(trip) = soonest(&table.rows, MOST_ACTS, feeders, job.sheet.media) else {
@@ -59,24 +59,6 @@ fn plan_by(machine: &Machine, job: &Job, acts: Acts) -> Plan
         points,
         released: 0,
     }
-}
-
-/// The finished sheet at its tray.
-fn finished_at(sheet: &Sheet, tray: LocId) -> State
-    ensures { result ≡ finished sheet.now tray }
-{
-    State {
-        loc: tray,
-        up: sheet.face,
-        front_done: is_wanted(sheet.front),
-        back_done: is_wanted(sheet.back),
-    }
-}
-
-fn is_wanted(want: Want) -> bool
-    ensures { result ≡ is_wanted want }
-{
-    want != Want::Blank
 }
 
 /// The least points of the actions from a start on.

@@ -1,13 +1,13 @@
 // The trip with the least sum, and its actions in turn.
 ghost use Rattle.std.specs.Prelude.{◌≡◌, ◌+◌, ◌<◌, ◌≤◌, ◌^◌, ◌*◌, ℕ, List, None, Some, IfSome, IsSome, map, length};
-ghost use Rattle.tp_schedule.specs.Routes.{fresh, walk, step_by, least_of, least_sum};
+ghost use Rattle.tp_schedule.specs.Routes.{walk, step_by, least_of, least_sum};
 ghost use Rattle.tp_program.specs.Tables.{lesser, entry, least_by, least_from};
 ghost use Rattle.tp_program.specs.Trips.{HasTrip, trip_at, soonest_from, soonest_by, soonest, has_sum, first_with, leg_by, leg_at, first_leg};
 
 use crate::table::{Row, Table, least_by, place_of};
 use tp_base::Name;
-use tp_machine::{ActId, Action, Face, Feeder, LocId, Machine, Sheet, State, machine_law, step};
-use tp_schedule::Acts;
+use tp_machine::{ActId, Action, Feeder, Machine, Sheet, State, machine_law, step};
+use tp_schedule::{Acts, new_sheet};
 
 /// A trip from a state by so many actions, with the sum of their least durations.
 #[derive(Clone, Copy, PartialEq, Eq, Debug)]
@@ -42,25 +42,13 @@ fn soonest_from(rows: &[Row], most: usize, from: State) -> Option<Trip>
     (1..most + 1).fold(None, |best, count| sooner(best, trip_at(rows, from, count)))
 }
 
-/// A new sheet at a location.
-fn fresh_at(loc: LocId) -> State
-    ensures { result ≡ fresh loc }
-{
-    State {
-        loc,
-        up: Face::Front,
-        front_done: false,
-        back_done: false,
-    }
-}
-
 /// The soonest trip from the feeder, where it has the media.
 fn soonest_by(rows: &[Row], most: usize, feeder: &Feeder, media: Name) -> Option<Trip>
     requires { most < 2 ^ 16 }
     ensures { result ≡ soonest_by (map (λ row. row.items) rows.now) most media feeder.now }
 {
     if feeder.media == media {
-        soonest_from(rows, most, fresh_at(feeder.loc))
+        soonest_from(rows, most, new_sheet(feeder.loc))
     } else {
         None
     }

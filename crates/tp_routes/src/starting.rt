@@ -1,11 +1,10 @@
 ghost use Rattle.std.specs.Prelude.{◌≡◌, ℕ, ◌*◌, ◌<◌, ◌≤◌, None, length, replicate, vec_capacity, [], slice_get, Some, ◌↔◌, IsTrue};
 ghost use Rattle.tp_routes.specs.Tables.{IsKnownOrigin};
 ghost use Rattle.tp_routes.specs.Filling.{IsFilling, IsSpreadTo, StartsAreIn, StartsUpTo};
-ghost use Rattle.tp_schedule.specs.Routes.{fresh};
 
 use crate::filling::offer;
-use tp_machine::{Face, Feeder, Machine, State};
-use tp_schedule::{Ask, Origin};
+use tp_machine::Machine;
+use tp_schedule::{Ask, Origin, new_sheet};
 
 /// Puts the start states of the ask into an empty table, with the sum 0.
 pub(crate) fn start(machine: &Machine, ask: &Ask, sums: &mut [Option<u32>], waiting: &mut Vec<u32>)
@@ -38,18 +37,7 @@ fn start_fresh(machine: &Machine, ask: &Ask, sums: &mut [Option<u32>], waiting: 
 {
     'feeders: for feeder in machine.feeders.as_slice() {
         if feeder.media == ask.want.media {
-            offer(machine, ask, sums, waiting, fresh_at(feeder), 0);
+            offer(machine, ask, sums, waiting, new_sheet(feeder.loc), 0);
         }
-    }
-}
-
-fn fresh_at(feeder: &Feeder) -> State
-    ensures { result ≡ fresh feeder.now.loc }
-{
-    State {
-        loc: feeder.loc,
-        up: Face::Front,
-        front_done: false,
-        back_done: false,
     }
 }

@@ -1,7 +1,7 @@
 -- An action passes the test exactly where none of the modules that it uses is out: its own, and those of its holds.
 use Rattle.std.proofs.Common.{◌≡◌, ℕ, Bool, true, false, not, ◌&&◌, ◌||◌, ◌==◌, List, [], ◌∷◌, refl, arith, subst, Some, None, Option, IsTrue, slice_get}
 use Rattle.std.specs.List.{list_all, list_any}
-use Rattle.std.proofs.lemmas.Bool.{eqb-true}
+use Rattle.std.proofs.lemmas.Bool.{and_parts, eqb-true, not-true}
 use Rattle.std.proofs.lemmas.Bool.Decides.{nat_tests}
 use Rattle.tp_machine.specs.declared.parts.HoldRule.{HoldRule}
 use Rattle.tp_machine.specs.declared.parts.Outs.{Outs}
@@ -16,10 +16,7 @@ of_module : (outs : Outs) (o : Option Resource) (m : ℕ) → not (is_out_of out
 of_module outs None m clear is = absurd (cc)
 of_module outs (Some r) m clear is =
     let same : r.module.0 ≡ m = eqb-true r.module.0 m is in
-    subst (λ k. is_out outs k ≡ false) same (not-true (is_out outs r.module.0) clear) where
-      not-true : (b : Bool) → not b ≡ true → b ≡ false
-      not-true true e = absurd (cc)
-      not-true false e = refl
+    subst (λ k. is_out outs k ≡ false) same (not-true (is_out outs r.module.0) clear)
 
 clear_holds : (machine : Machine) (outs : Outs) (rules : List HoldRule) (m : ℕ) → list_all (λ h. not (is_held_out machine outs h)) rules ≡ true → list_any (holds_module machine m) rules ≡ true → is_out outs m ≡ false
 clear_holds machine outs [] m clear is = absurd (cc)
@@ -51,18 +48,10 @@ holds_clear machine outs (h ∷ rules) each =
 
 pub allowed_is_tested : AllowedIsTested
 allowed_is_tested machine outs act a at = (forth, back) where
-  own : (b c : Bool) → (b && c) ≡ true → (b ≡ true) × (c ≡ true)
-  own true c e = (refl, e)
-  own false c e = absurd (cc)
-
-  not-true : (b : Bool) → not b ≡ true → b ≡ false
-  not-true true e = absurd (cc)
-  not-true false e = refl
-
   forth : IsTrue (is_act_allowed machine outs act) → IsAllowed machine outs a
   forth test m uses =
       let passes : is_allowed machine outs a ≡ true = rw at at test in
-      let parts = own (not (is_out outs a.module.0)) (list_all (λ h. not (is_held_out machine outs h)) a.holds) passes in
+      let parts = and_parts (not (is_out outs a.module.0)) (list_all (λ h. not (is_held_out machine outs h)) a.holds) passes in
       pick (a.module.0 == m) refl uses parts where
         pick : (b : Bool) → (a.module.0 == m) ≡ b → (b || list_any (holds_module machine m) a.holds) ≡ true → ((not (is_out outs a.module.0) ≡ true) × (list_all (λ h. not (is_held_out machine outs h)) a.holds ≡ true)) → is_out outs m ≡ false
         pick true e is parts = subst (λ k. is_out outs k ≡ false) (eqb-true a.module.0 m e) (not-true (is_out outs a.module.0) parts.0)

@@ -1,24 +1,18 @@
 -- The laws of orders and holders, from what the files on slots say of any list of them.
-use Rattle.std.proofs.Common.{List, [], ◌∷◌, sym, arith, AllPairs, subst}
-use Rattle.tp_schedule.specs.Spots.{Ticks, Slot, IsApart, IsRow, slots, ticks_of}
+use Rattle.std.proofs.Common.{sym, arith, AllPairs, subst}
+use Rattle.tp_schedule.specs.Spots.{IsApart, slots, ticks_of}
 use Rattle.tp_schedule.specs.Laws.{OrderIsOnly, OneHolderIsApart, RowIsApart}
 use Rattle.tp_machine.proofs.MachineFacts.{is_machine}
 use Rattle.tp_schedule.proofs.Covering.{AllPairs-from_covered, covered-from_AllPairs}
 use Rattle.tp_schedule.proofs.HeldCount.{length-held}
 use Rattle.tp_schedule.proofs.LegalOrders.{IsTimedBy-plans, LastsBy-plans, sound_plans, apart_order, legal_apart}
-use Rattle.tp_schedule.proofs.Pairs.{AllPairs-tail}
-use Rattle.tp_schedule.proofs.SlotOrder.{AllPairs-from_row}
+use Rattle.tp_schedule.proofs.SlotOrder.{AllPairs-from_row, IsRow-from_AllPairs}
 
 pub order_is_only : OrderIsOnly
 order_is_only machine plans resource xs legal same = (
   λ apart. sym (apart_order machine plans (is_machine machine) legal.in_order legal.timed resource xs same apart).0,
   λ is. subst (AllPairs (IsApart (ticks_of plans))) (sym is) (legal_apart machine plans (is_machine machine) legal resource),
 )
-
-IsRow-from_AllPairs : (t : Ticks) (xs : List Slot) → AllPairs (IsApart t) xs → IsRow t xs
-IsRow-from_AllPairs t [] apart = tt
-IsRow-from_AllPairs t (x ∷ []) apart = tt
-IsRow-from_AllPairs t (x ∷ y ∷ ys) apart = (apart 0 1 x (omega arith) (omega arith), IsRow-from_AllPairs t (y ∷ ys) (AllPairs-tail (IsApart t) x (y ∷ ys) apart))
 
 pub row_is_apart : RowIsApart
 row_is_apart t xs sound = (λ row. AllPairs-from_row t xs sound row, λ apart. IsRow-from_AllPairs t xs apart)

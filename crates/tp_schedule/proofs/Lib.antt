@@ -1,6 +1,6 @@
 pub mod Walks
-pub mod Pairs
 pub mod Membership
+pub mod Pairs
 pub mod CopyFacts
 pub mod PlanOrder
 pub mod TickLists

@@ -1,5 +1,5 @@
 -- Walks one action at a time: the first action of a walk, and one action more at its end.
-use Rattle.std.proofs.Common.{◌≡◌, inl, inr, ℕ, suc, ◌+◌, ◌≤◌, List, [], ◌∷◌, ◌++◌, length, refl, sym, arith, subst, Option, Some, None, option_and_then, IsTrue}
+use Rattle.std.proofs.Common.{◌≡◌, inl, inr, suc, ◌+◌, List, [], ◌∷◌, ◌++◌, refl, sym, arith, subst, Option, Some, None, option_and_then, IsTrue}
 use Rattle.std.proofs.lemmas.List.Elements.{Contains-push_cases}
 use Rattle.tp_schedule.specs.Routes.{walk, step_by, AreAllowed, least_sum, least_of, is_act_allowed}
 use Rattle.tp_machine.specs.declared.parts.ActId.{ActId}

@@ -37,6 +37,11 @@ abbrev pub HasTimeFrom : List Plan → ℕ → Origin → Type 0
 HasTimeFrom plans now FromFeeder = length plans + 1 < 2 ^ 32
 HasTimeFrom plans now (FromFront state end count) = now < end
 
+-- a tray that is a goal is one of the machine's
+abbrev pub IsKnownGoal : Machine → Goal → Type 0
+IsKnownGoal machine (Tray t) = Contains machine.trays t
+IsKnownGoal machine Purge = Unit {0}
+
 -- a tray that is the goal is a tray of the machine, and each whole plan of a later copy to it is live
 abbrev pub IsOpenGoal : Machine → List Plan → Ask → Goal → Type 0
 IsOpenGoal machine plans ask Purge = Unit {0}

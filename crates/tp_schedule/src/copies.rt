@@ -3,7 +3,8 @@ ghost use Rattle.tp_schedule.specs.Plans.{change_plan, is_before, is_same_copy, 
 
 use crate::parts::{Plan, SheetId};
 
-fn is_earlier(one: SheetId, other: SheetId) -> bool
+/// Whether the one copy stands before the other in the order of copies.
+pub fn is_earlier(one: SheetId, other: SheetId) -> bool
     ensures { result ≡ is_before one other }
 {
     one.job < other.job

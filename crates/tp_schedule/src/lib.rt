@@ -2,6 +2,7 @@
 #![tactic(auto)]
 
 mod copies;
+mod goals;
 mod holding;
 mod keeping;
 mod laws;
@@ -12,6 +13,8 @@ mod recording;
 mod series;
 mod starting;
 
+pub use copies::is_earlier;
+pub use goals::{finished, is_goal};
 pub use holding::is_plan_live;
 pub use keeping::Schedule;
 pub use laws::{action_law, legal_law, order_law, room_law, unique_law};
@@ -19,5 +22,5 @@ pub use parts::{Ask, Goal, Halt, Hold, Kind, Origin, Plan, Reply, SheetId};
 pub use planning::Planner;
 pub use recording::{Cause, Record, SheetName};
 pub use series::{Acts, Points};
-pub use starting::is_start;
+pub use starting::{is_start, new_sheet};
 pub use tp_machine;

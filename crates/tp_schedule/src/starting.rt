@@ -6,7 +6,7 @@ use crate::parts::{Ask, Origin};
 use tp_machine::{Face, Feeder, LocId, Machine, Sheet, State};
 
 /// A new sheet at a location.
-fn new_sheet(loc: LocId) -> State
+pub fn new_sheet(loc: LocId) -> State
     ensures { result ≡ fresh loc }
 {
     State {

@@ -7,7 +7,7 @@ use Rattle.tp_machine.specs.declared.whole.Machine.{Machine}
 use Rattle.tp_schedule.specs.Answers.{IsAlternative, IsEarliest, NoneBefore}
 use Rattle.tp_schedule.specs.Choices.{CanStop, Choice, ChoiceList, IsBound, IsComplete, IsOpen}
 use Rattle.tp_schedule.specs.Living.{is_live}
-use Rattle.tp_schedule.specs.Planning.{CanAsk, IsOpenGoal}
+use Rattle.tp_schedule.specs.Planning.{CanAsk, IsKnownGoal, IsOpenGoal}
 use Rattle.tp_schedule.specs.Plans.{end_of_plan}
 use Rattle.tp_schedule.specs.Spending.{IsSpent}
 use Rattle.tp_schedule.specs.Spots.Spot.{own}
@@ -29,7 +29,6 @@ use Rattle.tp_placing.proofs.WriteLive.{gone, may-ask, may-forget, stays}
 use Rattle.tp_placing.proofs.WriteWhole.{less-live}
 use Rattle.tp_search.specs.Following.{IsWayTo}
 use Rattle.tp_search.specs.Outcomes.{HasAnswer}
-use Rattle.tp_search.specs.Searching.{IsKnownGoal}
 use Rattle.tp_search.proofs.SearchBegins.{goal-incomplete}
 use Rattle.tp_search.proofs.WayEnds.{complete-start, way-commit}
 use Rattle.tp_search.proofs.WayLists.{way-bound}

@@ -8,6 +8,7 @@ use Rattle.tp_machine.specs.declared.parts.State.{State}
 use Rattle.tp_machine.specs.declared.whole.Machine.{Machine}
 use Rattle.tp_pool.specs.Entries.{Entry}
 use Rattle.tp_schedule.specs.Choices.{IsComplete, IsCompleteFrom, going}
+use Rattle.tp_schedule.specs.Planning.{IsKnownGoal}
 use Rattle.tp_schedule.specs.Routes.{IsFreshStart, IsGoalState, IsStartFrom}
 use Rattle.tp_schedule.specs.declared.parts.Ask.{Ask}
 use Rattle.tp_schedule.specs.declared.parts.Goal.{Goal}
@@ -16,7 +17,7 @@ use Rattle.tp_schedule.specs.declared.parts.Origin.{Origin}
 use Rattle.tp_schedule.specs.declared.parts.Origin.TheVariants.{Feeder as FromFeeder, Front as FromFront}
 use Rattle.tp_schedule.specs.declared.parts.Plan.{Plan}
 use Rattle.tp_schedule.proofs.Pairs.{AllPairs-nil}
-use Rattle.tp_search.specs.Searching.{AreOpenGoals, IsKnownGoal, IsOpenEntry, IsSearching, list_of_goal}
+use Rattle.tp_search.specs.Searching.{AreOpenGoals, IsOpenEntry, IsSearching, list_of_goal}
 use Rattle.tp_search.specs.Stored.{list_by}
 use Rattle.tp_search.specs.Stores.{HasBounds, StoreValue, empty_store}
 use Rattle.tp_search.specs.declared.goals.OpenGoal.{OpenGoal}

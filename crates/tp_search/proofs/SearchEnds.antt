@@ -9,11 +9,12 @@ use Rattle.tp_machine.specs.declared.whole.Machine.{Machine}
 use Rattle.tp_pool.specs.Entries.{Entry, bound_of, choices_of, entry_at}
 use Rattle.tp_schedule.specs.Answers.{IsAlternative, IsAsked, NoneBefore}
 use Rattle.tp_schedule.specs.Choices.{IsBound, IsComplete, OpensTo}
+use Rattle.tp_schedule.specs.Planning.{IsKnownGoal}
 use Rattle.tp_schedule.specs.Legality.{IsLegal}
 use Rattle.tp_schedule.specs.declared.parts.Ask.{Ask}
 use Rattle.tp_schedule.specs.declared.parts.Plan.{Plan}
 use Rattle.tp_search.specs.Following.{IsStoredList}
-use Rattle.tp_search.specs.Searching.{IsBestLater, IsKnownGoal, IsNext, IsSearching, list_at, list_of_goal, next_bound, next_list, waiting_in}
+use Rattle.tp_search.specs.Searching.{IsBestLater, IsNext, IsSearching, list_at, list_of_goal, next_bound, next_list, waiting_in}
 use Rattle.tp_search.specs.Stored.{HasBest, list_by}
 use Rattle.tp_search.specs.Stores.{StoreValue}
 use Rattle.tp_search.specs.declared.goals.OpenGoal.{OpenGoal}

@@ -9,6 +9,7 @@ use Rattle.tp_pool.specs.Entries.{IsParentOf, bound_of}
 use Rattle.tp_pool.specs.declared.choice.Choice.{Choice as Stored}
 use Rattle.tp_schedule.specs.Answers.{IsAsked, NoneBefore}
 use Rattle.tp_schedule.specs.Choices.{IsBound, IsComplete}
+use Rattle.tp_schedule.specs.Planning.{IsKnownGoal}
 use Rattle.tp_schedule.specs.Legality.{IsLegal}
 use Rattle.tp_schedule.specs.Spending.{IsSpent}
 use Rattle.tp_schedule.specs.declared.parts.Ask.{Ask}
@@ -19,7 +20,7 @@ use Rattle.tp_choices.proofs.Searching.{full_spends, search_fronts}
 use Rattle.tp_search.specs.Opening.{Answers, IsAtProgress, IsFresh, IsSameOpening, parent_of}
 use Rattle.tp_search.specs.Opening.Progress.{nothing, up_to}
 use Rattle.tp_search.specs.Outcomes.{CanLay, CanOpen, IsAllOpened}
-use Rattle.tp_search.specs.Searching.{IsBestLater, IsKnownGoal, IsNext, IsSameSpace, IsSearching, next_bound, next_list, next_node, opening_of, still_to_take}
+use Rattle.tp_search.specs.Searching.{IsBestLater, IsNext, IsSameSpace, IsSearching, next_bound, next_list, next_node, opening_of, still_to_take}
 use Rattle.tp_search.specs.Stored.{child_by}
 use Rattle.tp_search.specs.Stores.{HasBounds, StoreValue}
 use Rattle.tp_search.specs.declared.goals.OpenGoal.{OpenGoal}

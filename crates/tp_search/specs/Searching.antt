@@ -6,8 +6,6 @@ use Rattle.tp_pool.specs.Entries.{Entry, bound_of, choices_of}
 use Rattle.tp_schedule.specs.Choices.{ChoiceList, IsBound, IsChild, going}
 use Rattle.tp_schedule.specs.Spending.{IsStoredOrEmpty}
 use Rattle.tp_schedule.specs.declared.parts.Ask.{Ask}
-use Rattle.tp_schedule.specs.declared.parts.Goal.{Goal as AskedGoal}
-use Rattle.tp_schedule.specs.declared.parts.Goal.TheVariants.{Tray, Purge}
 use Rattle.tp_schedule.specs.declared.parts.Plan.{Plan}
 use Rattle.tp_choices.specs.Frontiers.{HasStarts}
 use Rattle.tp_choices.specs.Searches.{IsSearched}
@@ -18,11 +16,6 @@ use Rattle.tp_search.specs.declared.goals.OpenGoal.{OpenGoal}
 use Rattle.tp_search.specs.declared.opening.Opening.{Opening}
 use Rattle.tp_search.specs.declared.taking.Next.{Next}
 use Rattle.tp_search.specs.declared.taking.Next.TheVariants.{Goal, Node}
-
--- the tray of the ask is one of the machine's
-abbrev pub IsKnownGoal : Machine → AskedGoal → Type 0
-IsKnownGoal machine (Tray tray) = Contains machine.trays tray
-IsKnownGoal machine Purge = Unit {0}
 
 abbrev pub list_of_goal : OpenGoal → ChoiceList
 list_of_goal g = going g.state []

@@ -4,10 +4,11 @@ ghost use Rattle.tp_pool.specs.Entries.{bound_of, choices_before};
 ghost use Rattle.tp_routes.specs.Tables.{AreRooms, IsKnownOrigin, IsMadeFor};
 ghost use Rattle.tp_placing.specs.Boards.{suffix_of};
 ghost use Rattle.tp_placing.specs.Standing.{Stands};
+ghost use Rattle.tp_schedule.specs.Planning.{IsKnownGoal};
 ghost use Rattle.tp_search.specs.Boards.{HasMarks, IsBack};
 ghost use Rattle.tp_search.specs.Following.{HasList, IsSameButSteps};
 ghost use Rattle.tp_search.specs.Outcomes.{CanLay, CanOpen, HasChild, IsAllOpened, IsOutcome};
-ghost use Rattle.tp_search.specs.Searching.{IsBestLater, IsKnownGoal, IsSameSpace, IsSearching, next_bound, next_list, next_node, opening_of, still_to_take};
+ghost use Rattle.tp_search.specs.Searching.{IsBestLater, IsSameSpace, IsSearching, next_bound, next_list, next_node, opening_of, still_to_take};
 
 use crate::children::open_list;
 use crate::following::{follow, follow_goal, lay};

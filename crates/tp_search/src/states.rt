@@ -1,56 +1,19 @@
 // The states that a search comes to, from the goal states back.
-ghost use Rattle.std.specs.Prelude.{◌≡◌, ◌*◌, ◌<◌, ◌↔◌, Contains, IfNone, IfSome, IsTrue, Some, length};
+ghost use Rattle.std.specs.Prelude.{◌≡◌, ◌*◌, ◌<◌, IfNone, IfSome, Some, length};
 ghost use Rattle.tp_routes.specs.Tables.{AreRooms, IsMadeFor};
-ghost use Rattle.tp_schedule.specs.Routes.{HasNoRoom, IsGoalState, IsRoom, finished, is_wanted, step_by};
+ghost use Rattle.tp_schedule.specs.Routes.{HasNoRoom, IsRoom, step_by};
 ghost use Rattle.tp_machine.specs.declared.parts.State.{State};
 ghost use Rattle.tp_search.specs.States.{HasNoGoalAt, HasNoneBefore, IsBefore, IsGoalAt};
 
-use tp_machine::{ActId, LocId, Machine, Sheet, State, Want, allowed, regress};
+use tp_machine::{ActId, Machine, State, allowed, regress};
 use tp_routes::{Rooms, state_at};
-use tp_schedule::{Ask, Goal};
+use tp_schedule::{Ask, is_goal};
 
 /// A state with its room, in ticks.
 #[derive(Clone, Copy)]
 pub(crate) struct Before {
     pub(crate) state: State,
     pub(crate) room: u32,
-}
-
-fn is_wanted(want: Want) -> bool
-    ensures { result ≡ is_wanted want }
-{
-    match want {
-        Want::Blank => false,
-        Want::Mono | Want::Colour => true,
-    }
-}
-
-/// The finished sheet at its tray.
-fn finished(want: &Sheet, tray: LocId) -> State
-    ensures { result ≡ finished want.now tray }
-{
-    State {
-        loc: tray,
-        up: want.face,
-        front_done: is_wanted(want.front),
-        back_done: is_wanted(want.back),
-    }
-}
-
-fn is_among(places: &[LocId], place: LocId) -> bool
-    ensures { IsTrue result ↔ Contains places.now place }
-{
-    places.contains(&place)
-}
-
-/// Whether the state is a goal state of the ask.
-pub(crate) fn is_goal(machine: &Machine, ask: &Ask, state: State) -> bool
-    ensures { IsTrue result ↔ IsGoalState machine.now ask.entry.now.want ask.entry.now.goal state }
-{
-    match ask.goal {
-        Goal::Tray(tray) => state == finished(&ask.want, tray),
-        Goal::Purge => is_among(machine.purges.as_slice(), state.loc),
-    }
 }
 
 /// The room of a state for the ask that the table was filled for, or None where the state has none.

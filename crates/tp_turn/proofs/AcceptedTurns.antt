@@ -1,5 +1,5 @@
 -- No accepted event is told refused.
-use Rattle.std.proofs.Common.{◌≡◌, inl, inr, ℕ, ◌+◌, Bool, true, false, cond, ap, arith, Contains, List, [], ◌∷◌, ◌++◌, refl, sym, subst, Option, Some, None}
+use Rattle.std.proofs.Common.{◌≡◌, inl, inr, ℕ, ◌+◌, Bool, true, false, cond, ap, arith, Contains, List, [], ◌∷◌, refl, sym, subst, Option, Some, None}
 use Rattle.std.specs.Bool.{MatchBool}
 use Rattle.std.specs.Option.{MatchOption}
 use Rattle.std.proofs.lemmas.List.Elements.{All-cons, All-append, All-contains}
@@ -10,7 +10,6 @@ use Rattle.tp_script.specs.declared.event.Event.{Event}
 use Rattle.tp_script.specs.declared.event.Event.TheVariants.{Bad, Job as NewJob, Clock, Jam, Off, On}
 use Rattle.tp_jobs.specs.declared.parts.Job.{Job}
 use Rattle.tp_jobs.specs.declared.parts.WaitingCopy.{WaitingCopy}
-use Rattle.tp_schedule.specs.Planning.Deed.{replied}
 use Rattle.tp_schedule.specs.Plans.{change_plan, plan_of, without}
 use Rattle.tp_schedule.specs.Answers.{kept_of}
 use Rattle.tp_schedule.specs.declared.parts.Ask.{Ask}
@@ -39,6 +38,7 @@ use Rattle.tp_turn.specs.Planners.{PlannerSteps, RunsLoop, GoesOut}
 use Rattle.tp_turn.specs.Receiving.{is_refusal}
 use Rattle.tp_turn.specs.Refusals.{refusal}
 use Rattle.tp_turn.specs.Turns.{Begins, Accepts}
+use Rattle.tp_turn.proofs.AskSteps.{AsksFirst, TellsFull}
 use Rattle.tp_turn.proofs.Accepted.{IsOther, AreOthers, others-nil, others-one, others-map, others-for_each, others-fall_back, others-outage}
 
 -- answers
@@ -108,16 +108,8 @@ module _ {P : Type 0} (steps : PlannerSteps P) (machine : Machine) where
       go (is_passed_over s passed w) (is_full machine s) asks (others-asks waiting passed s p records s' p')
       (λ rest. others-asks waiting ((tray_of s.jobs w.sheet).0 ∷ passed) s p rest s' p')
       (λ reply plans mid rest. others-asks waiting (passed_after reply (tray_of s.jobs w.sheet).0 passed) (state_after_reply s w reply plans) mid rest s' p') where
-        Full : Type 0
-        Full = (rest : List Record) × (records ≡ FullUp (label s.jobs w.sheet) ∷ rest) × AsksInTurn steps machine waiting ((tray_of s.jobs w.sheet).0 ∷ passed) s p rest s' p'
-
-        Asked : Type 0
-        Asked = (reply : Reply) × ((plans : List Plan) × ((mid : P) × ((rest : List Record)
-            × steps.does p s.plans (replied (ask_waiting s w) reply) plans mid
-            × (records ≡ told_of_reply machine s.plans (ask_waiting s w) reply plans ++ rest)
-            × AsksInTurn steps machine waiting (passed_after reply (tray_of s.jobs w.sheet).0 passed) (state_after_reply s w reply plans) mid rest s' p')))
-
-        go : (b c : Bool) → MatchBool b (AsksInTurn steps machine waiting passed s p records s' p') (MatchBool c Full Asked)
+        go : (b c : Bool) → MatchBool b (AsksInTurn steps machine waiting passed s p records s' p')
+            (MatchBool c (TellsFull steps machine w waiting passed s p records s' p') (AsksFirst steps machine w waiting passed s p records s' p'))
             → (AsksInTurn steps machine waiting passed s p records s' p' → AreOthers records)
             → ((rest : List Record) → AsksInTurn steps machine waiting ((tray_of s.jobs w.sheet).0 ∷ passed) s p rest s' p' → AreOthers rest)
             → ((reply : Reply) (plans : List Plan) (mid : P) (rest : List Record)

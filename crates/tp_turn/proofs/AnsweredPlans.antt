@@ -1,5 +1,6 @@
 -- The plans of an alternative: the others are those of before but for their points, and the asked copy has one.
 use Rattle.std.proofs.Common.{◌≡◌, ◌⊎◌, inl, inr, Bool, true, false, not, List, map, refl, sym, ap, Contains, subst, Some}
+use Rattle.std.proofs.lemmas.Bool.{not_from_false}
 use Rattle.tp_machine.specs.declared.whole.Machine.{Machine}
 use Rattle.tp_schedule.specs.Answers.{IsAlternative, unmoved}
 use Rattle.tp_schedule.specs.Plans.{is_same_copy, plan_of, without}
@@ -20,18 +21,10 @@ unmoved-sheet q p u = ap (λ (r : Plan). r.sheet) u.is
 pub unmoved-tray_plan : (q p : Plan) → IsUnmoved q p → is_tray_plan q ≡ is_tray_plan p
 unmoved-tray_plan q p u = ap is_tray_plan u.is
 
-negated : (b : Bool) → b ≡ false → not b ≡ true
-negated true e = absurd (cc)
-negated false e = refl
-
-negated' : (b : Bool) → not b ≡ true → b ≡ false
-negated' true e = absurd (cc)
-negated' false e = refl
-
 other-of : (c : SheetId) (plans plans' : List Plan) → map unmoved (without c plans') ≡ map unmoved (without c plans)
     → (q : Plan) → Contains plans' q → is_same_copy q.sheet c ≡ false → (p : Plan) × Contains plans p × IsUnmoved q p
 other-of c plans plans' same q in' other =
-    let here = Contains-map unmoved (without c plans') q (Contains-filter (λ p. not (is_same_copy p.sheet c)) plans' q in' (negated (is_same_copy q.sheet c) other)) in
+    let here = Contains-map unmoved (without c plans') q (Contains-filter (λ p. not (is_same_copy p.sheet c)) plans' q in' (not_from_false (is_same_copy q.sheet c) other)) in
     let there = Contains-map_from unmoved (without c plans) (unmoved q) (subst (λ l. Contains l (unmoved q)) same here) in
     (there.0, (Contains-filter_from (λ p. not (is_same_copy p.sheet c)) plans there.0 there.1).0, record { is = there.2 })
 

@@ -2,6 +2,7 @@
 use Rattle.std.proofs.Common.{◌≡◌, ℕ, ◌⊎◌, inl, inr, Bool, true, false, cond, ◌&&◌, ◌==◌, not, List, [], ◌∷◌, map, filter, refl, sym, ap, ◌∙◌, arith, All, Contains, IsTrue, subst}
 use Rattle.std.specs.Prelude.{IsFalse}
 use Rattle.std.specs.Str.{bytes_eq}
+use Rattle.std.proofs.lemmas.Bool.{not-true}
 use Rattle.std.proofs.lemmas.Bool.Decides.{nat_tests}
 use Rattle.std.proofs.lemmas.List.Elements.{All-head, All-tail, All-contains}
 use Rattle.tp_machine.proofs.Lists.{All-from_none}
@@ -62,10 +63,6 @@ pub bytes_eq-same : (xs : List ℕ) → bytes_eq xs xs ≡ true
 bytes_eq-same [] = refl
 bytes_eq-same (x ∷ xs) = let e : (x == x) ≡ true = grind (arith, nat_tests) in rw e (bytes_eq-same xs)
 
-negated' : (b : Bool) → not b ≡ true → b ≡ false
-negated' true e = absurd (cc)
-negated' false e = refl
-
 -- a copy that waits is planned, and all others of its line that wait stand behind it
 pub record IsAskedFirst (machine : Machine) (s : SessionState) (w : WaitingCopy) (plans' : List Plan) : Type 0 where
   pub a : IsAlternative machine s.plans (ask_waiting s w) plans'
@@ -95,7 +92,7 @@ module _ (machine : Machine) (s : SessionState) (w : WaitingCopy) (plans' : List
   pub waits-of : (v : WaitingCopy) → Contains (without_waiting w.sheet s.waiting) v → Contains s.waiting v × (is_same_copy v.sheet w.sheet ≡ false)
   waits-of v in' =
       let from = Contains-filter_from (λ v. not (is_same_copy v.sheet w.sheet)) s.waiting v in' in
-      (from.0, negated' (is_same_copy v.sheet w.sheet) from.1)
+      (from.0, not-true (is_same_copy v.sheet w.sheet) from.1)
 
   -- a tray plan is the new one, or one of before
   pub tray-cases : (q : Plan) → Contains (tray_plans plans') q → (q ≡ f.a.plan) ⊎ ((p : Plan) × Contains (tray_plans s.plans) p × IsUnmoved q p)

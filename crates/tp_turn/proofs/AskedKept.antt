@@ -24,7 +24,7 @@ use Rattle.tp_turn.proofs.AnsweredPlans.{IsUnmoved, unmoved-sheet, plan-cases}
 use Rattle.tp_turn.proofs.AskedFacts.{IsAskedFirst, none-before}
 use Rattle.tp_turn.proofs.AskedLines.{planned_waiting}
 use Rattle.tp_turn.proofs.AskedPlans.{IsRetimedPlan, low-stays, live-before, arriving-before, count-unmoved, one-more-than-others, clear-route, clear-moved}
-use Rattle.tp_turn.proofs.ListFacts.{find-none}
+use Rattle.tp_jobs.proofs.Found.{find-none}
 use Rattle.tp_turn.proofs.TestFacts.{count-part, one-less, all-of, of-all}
 
 module _ (machine : Machine) (s : SessionState) (w : WaitingCopy) (plans' : List Plan) (f : IsAskedFirst machine s w plans') (keeps : KeepsPlans machine s) where

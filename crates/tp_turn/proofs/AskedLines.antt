@@ -16,7 +16,7 @@ use Rattle.tp_schedule.specs.declared.parts.Plan.{Plan}
 use Rattle.tp_schedule.specs.declared.parts.SheetId.{SheetId}
 use Rattle.tp_schedule.proofs.CopyFacts.{same_copy-refl}
 use Rattle.tp_schedule.proofs.Membership.{All-from_contains, Contains-map}
-use Rattle.tp_schedule.proofs.Pairs.{AllPairs-each}
+use Rattle.tp_schedule.proofs.Pairs.{AllPairs-each, AllPairs-append, AllPairs-append_right, AllPairs-map_from, AllPairs-either}
 use Rattle.tp_jobs.specs.Backlogs.{tray_of}
 use Rattle.tp_jobs.specs.Waiting.{without_waiting}
 use Rattle.tp_turn.specs.Asking.{ask_waiting}
@@ -28,7 +28,7 @@ use Rattle.tp_turn.specs.States.{SessionState}
 use Rattle.tp_turn.proofs.AnsweredPlans.{unmoved-sheet, plan-cases}
 use Rattle.tp_turn.proofs.NewJob.{}
 use Rattle.tp_turn.proofs.AskedFacts.{Apart, apart-sym, not_same-sym, before-irrefl, bytes_eq-same, IsAskedFirst, mine-known, waits-of, tray-cases, fronts-kept}
-use Rattle.tp_turn.proofs.ListFacts.{AllPairs-append, AllPairs-append_left, AllPairs-append_right, AllPairs-append_across, AllPairs-map_list, AllPairs-of_map, either-way}
+use Rattle.tp_turn.proofs.ListFacts.{AllPairs-append_left, AllPairs-append_across, AllPairs-map_list}
 
 -- what may differ: the plan's copy waits no more
 abbrev pub planned_waiting : SessionState → WaitingCopy → List Plan → SessionState
@@ -59,7 +59,7 @@ module _ (machine : Machine) (s : SessionState) (w : WaitingCopy) (plans' : List
 
   -- the copies that wait are apart from each other and from the planned ones
   waiting-apart : AllPairs (λ v w. Apart v.sheet w.sheet) s.waiting
-  waiting-apart = AllPairs-of_map Apart (λ v. v.sheet) s.waiting (AllPairs-append_left Apart (map (λ v. v.sheet) s.waiting) (map (λ p. p.sheet) (tray_plans s.plans)) f.keeps.one)
+  waiting-apart = AllPairs-map_from Apart (λ v. v.sheet) s.waiting (AllPairs-append_left Apart (map (λ v. v.sheet) s.waiting) (map (λ p. p.sheet) (tray_plans s.plans)) f.keeps.one)
 
   across : (v : WaitingCopy) (p : Plan) → Contains s.waiting v → Contains (tray_plans s.plans) p → Apart v.sheet p.sheet
   across v p in' in'' =
@@ -69,7 +69,7 @@ module _ (machine : Machine) (s : SessionState) (w : WaitingCopy) (plans' : List
       (Contains-map (λ p. p.sheet) (tray_plans s.plans) p in'')
 
   others-apart : (v : WaitingCopy) → Contains s.waiting v → is_same_copy v.sheet w.sheet ≡ false → Apart v.sheet w.sheet
-  others-apart v in' other = elim (either-way (λ v w. Apart v.sheet w.sheet) s.waiting v w waiting-apart in' f.here (λ e. absurd (let same = same_copy-refl w.sheet in let again : is_same_copy v.sheet w.sheet ≡ true = subst (λ (u : WaitingCopy). is_same_copy u.sheet w.sheet ≡ true) (sym e) same in cc))) [
+  others-apart v in' other = elim (AllPairs-either (λ v w. Apart v.sheet w.sheet) s.waiting v w waiting-apart in' f.here (λ e. absurd (let same = same_copy-refl w.sheet in let again : is_same_copy v.sheet w.sheet ≡ true = subst (λ (u : WaitingCopy). is_same_copy u.sheet w.sheet ≡ true) (sym e) same in cc))) [
     | inl one ↦ one
     | inr back ↦ apart-sym w.sheet v.sheet back
   ]
@@ -88,9 +88,9 @@ module _ (machine : Machine) (s : SessionState) (w : WaitingCopy) (plans' : List
           | inr other' ↦
               let first = unmoved-sheet q other.0 other.2 in
               let second = unmoved-sheet r other'.0 other'.2 in
-              let pairs = AllPairs-of_map Apart (λ p. p.sheet) (tray_plans s.plans) (AllPairs-append_right Apart (map (λ v. v.sheet) s.waiting) (map (λ p. p.sheet) (tray_plans s.plans)) f.keeps.one) in
+              let pairs = AllPairs-map_from Apart (λ p. p.sheet) (tray_plans s.plans) (AllPairs-append_right Apart (map (λ v. v.sheet) s.waiting) (map (λ p. p.sheet) (tray_plans s.plans)) f.keeps.one) in
               subst (λ c. Apart c r.sheet) (sym first) (subst (Apart other.0.sheet) (sym second)
-              (elim (either-way (λ p q. Apart p.sheet q.sheet) (tray_plans s.plans) other.0 other'.0 pairs other.1 other'.1
+              (elim (AllPairs-either (λ p q. Apart p.sheet q.sheet) (tray_plans s.plans) other.0 other'.0 pairs other.1 other'.1
               (λ same. before-irrefl q.sheet r.sheet (first ∙ ap (λ (p : Plan). p.sheet) same ∙ sym second) before)) [
                 | inl one ↦ one
                 | inr back ↦ apart-sym other'.0.sheet other.0.sheet back

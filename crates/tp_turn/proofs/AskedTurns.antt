@@ -1,7 +1,8 @@
 -- The phase of asks keeps what is kept between events.
-use Rattle.std.proofs.Common.{◌≡◌, ℕ, ◌⊎◌, inl, inr, Bool, true, false, ◌||◌, ◌==◌, not, List, [], ◌∷◌, ◌++◌, refl, sym, arith, All, AllPairs, Contains, IsTrue, subst}
+use Rattle.std.proofs.Common.{◌≡◌, ℕ, ◌⊎◌, inl, inr, Bool, true, false, ◌||◌, ◌==◌, not, List, [], ◌∷◌, refl, sym, arith, All, AllPairs, Contains, IsTrue, subst}
 use Rattle.std.specs.Bool.{MatchBool}
 use Rattle.std.specs.List.{list_any}
+use Rattle.std.proofs.lemmas.Bool.{not_from_false}
 use Rattle.std.proofs.lemmas.Bool.Decides.{nat_tests}
 use Rattle.std.proofs.lemmas.List.Elements.{All-head, All-tail, All-contains, All-contains_itself}
 use Rattle.tp_machine.specs.declared.whole.Machine.{Machine}
@@ -14,19 +15,17 @@ use Rattle.tp_schedule.specs.declared.parts.Plan.{Plan}
 use Rattle.tp_schedule.specs.declared.parts.Reply.{Reply}
 use Rattle.tp_schedule.specs.declared.parts.Reply.TheVariants.{Planned, Never, Spent}
 use Rattle.tp_schedule.specs.declared.recording.Record.{Record}
-use Rattle.tp_schedule.specs.declared.recording.Record.TheVariants.{FullUp}
 use Rattle.tp_schedule.proofs.CopyFacts.{before-not_same', same_copy-refl}
 use Rattle.tp_schedule.proofs.Membership.{All-from_contains, Contains-cons_cases, Contains-filter, Contains-filter_from}
 use Rattle.tp_schedule.proofs.Pairs.{AllPairs-head, AllPairs-tail}
 use Rattle.tp_jobs.specs.Backlogs.{tray_of}
 use Rattle.tp_jobs.specs.Waiting.{without_waiting}
-use Rattle.tp_turn.specs.Answering.{told_of_reply}
 use Rattle.tp_turn.specs.Asking.{AsksInTurn, ask_waiting, is_full, is_passed_over, passed_after, state_after_reply}
 use Rattle.tp_turn.specs.Keeping.{KeepsLines, KeepsState}
-use Rattle.tp_turn.specs.Labels.{label}
 use Rattle.tp_turn.specs.Lines.{is_same_line}
 use Rattle.tp_turn.specs.Planners.{PlannerSteps, IsRight}
 use Rattle.tp_turn.specs.States.{SessionState}
+use Rattle.tp_turn.proofs.AskSteps.{AsksFirst, TellsFull}
 use Rattle.tp_turn.proofs.AskedFacts.{IsAskedFirst}
 use Rattle.tp_turn.proofs.AskedKept.{plans-asked}
 use Rattle.tp_turn.proofs.AskedLines.{planned_waiting, lines-asked}
@@ -73,10 +72,6 @@ rest-refused : (s : SessionState) (passed : List ℕ) (w : WaitingCopy) (ws : Li
 rest-refused s passed w ws r =
     rest-tail s ((tray_of s.jobs w.sheet).0 ∷ passed) w ws (own-passed s passed w) (rest-passed s passed (tray_of s.jobs w.sheet).0 (w ∷ ws) r)
 
-not-true : (b : Bool) → b ≡ false → not b ≡ true
-not-true true e = absurd (cc)
-not-true false e = refl
-
 not-both : (b : Bool) → b ≡ true → not b ≡ true → ⊥
 not-both true e f = cc
 not-both false e f = cc
@@ -87,7 +82,7 @@ rest-planned s passed w ws plans r = record {
   wait = All-from_contains (Contains (without_waiting w.sheet s.waiting)) ws (λ v in'.
       let before : is_before w.sheet v.sheet ≡ true = All-contains (λ v. IsTrue (is_before w.sheet v.sheet)) ws v (AllPairs-head (λ v w. IsTrue (is_before v.sheet w.sheet)) w ws r.in_order) in' in
       Contains-filter (λ v. not (is_same_copy v.sheet w.sheet)) s.waiting v (All-contains (Contains s.waiting) ws v (All-tail (Contains s.waiting) w ws r.wait) in')
-      (not-true (is_same_copy v.sheet w.sheet) (before-not_same' w.sheet v.sheet before)));
+      (not_from_false (is_same_copy v.sheet w.sheet) (before-not_same' w.sheet v.sheet before)));
   in_order = AllPairs-tail (λ v w. IsTrue (is_before v.sheet w.sheet)) w ws r.in_order;
   others = λ v in'.
       let from = Contains-filter_from (λ v. not (is_same_copy v.sheet w.sheet)) s.waiting v in' in
@@ -144,16 +139,8 @@ module _ {P : Type 0} (steps : PlannerSteps P) (machine : Machine) (spent : P �
         Leads : SessionState → Type 0
         Leads q = KeepsState machine q → KeepsState machine s'
 
-        Full : Type 0
-        Full = (rest : List Record) × (records ≡ FullUp (label s.jobs w.sheet) ∷ rest) × AsksInTurn steps machine waiting ((tray_of s.jobs w.sheet).0 ∷ passed) s p rest s' p'
-
-        Asked : Type 0
-        Asked = (reply : Reply) × ((plans : List Plan) × ((mid : P) × ((rest : List Record)
-            × steps.does p s.plans (replied (ask_waiting s w) reply) plans mid
-            × (records ≡ told_of_reply machine s.plans (ask_waiting s w) reply plans ++ rest)
-            × AsksInTurn steps machine waiting (passed_after reply (tray_of s.jobs w.sheet).0 passed) (state_after_reply s w reply plans) mid rest s' p')))
-
-        go : (b : Bool) → is_passed_over s passed w ≡ b → (c : Bool) → is_full machine s ≡ c → MatchBool b (AsksInTurn steps machine waiting passed s p records s' p') (MatchBool c Full Asked)
+        go : (b : Bool) → is_passed_over s passed w ≡ b → (c : Bool) → is_full machine s ≡ c → MatchBool b (AsksInTurn steps machine waiting passed s p records s' p')
+            (MatchBool c (TellsFull steps machine w waiting passed s p records s' p') (AsksFirst steps machine w waiting passed s p records s' p'))
             → (AsksInTurn steps machine waiting passed s p records s' p' → is_passed_over s passed w ≡ true → Leads s)
             → ((rest : List Record) → AsksInTurn steps machine waiting ((tray_of s.jobs w.sheet).0 ∷ passed) s p rest s' p' → Leads s)
             → ((reply : Reply) (plans : List Plan) (mid : P) (rest : List Record)

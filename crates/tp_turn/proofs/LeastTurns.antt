@@ -1,5 +1,5 @@
 -- After a module went out the schedule is least, and it stays so through all turns but those that move the clock.
-use Rattle.std.proofs.Common.{◌≡◌, ℕ, Bool, true, false, List, [], ◌∷◌, ◌++◌, sym, subst, Option, Some, None}
+use Rattle.std.proofs.Common.{◌≡◌, ℕ, Bool, true, false, List, [], ◌∷◌, sym, subst, Option, Some, None}
 use Rattle.std.specs.Bool.{MatchBool}
 use Rattle.std.specs.Option.{MatchOption}
 use Rattle.tp_machine.specs.declared.whole.Machine.{Machine}
@@ -15,12 +15,10 @@ use Rattle.tp_schedule.specs.declared.parts.Reply.{Reply}
 use Rattle.tp_schedule.specs.declared.parts.Reply.TheVariants.{Planned, Never, Spent}
 use Rattle.tp_schedule.specs.declared.recording.Cause.{Cause}
 use Rattle.tp_schedule.specs.declared.recording.Record.{Record}
-use Rattle.tp_schedule.specs.declared.recording.Record.TheVariants.{FullUp, Refused}
+use Rattle.tp_schedule.specs.declared.recording.Record.TheVariants.{Refused}
 use Rattle.tp_jobs.specs.Backlogs.{tray_of}
-use Rattle.tp_turn.specs.Answering.{told_of_reply}
 use Rattle.tp_turn.specs.Asking.{AsksInTurn, ask_waiting, is_full, is_passed_over, passed_after, state_after_reply}
 use Rattle.tp_turn.specs.Keeping.{IsLeastAt}
-use Rattle.tp_turn.specs.Labels.{label}
 use Rattle.tp_turn.specs.Laws.{IsNoClock, TurnsKeep, is_clock}
 use Rattle.tp_turn.specs.Loops.{after_answers}
 use Rattle.tp_turn.specs.Outages.{outage}
@@ -28,6 +26,7 @@ use Rattle.tp_turn.specs.Planners.{PlannerSteps, IsRight, RunsLoop}
 use Rattle.tp_turn.specs.Refusals.{refusal}
 use Rattle.tp_turn.specs.States.{SessionState}
 use Rattle.tp_turn.specs.Turns.{Begins, Accepts}
+use Rattle.tp_turn.proofs.AskSteps.{AsksFirst, TellsFull}
 use Rattle.tp_turn.proofs.AskedKept.{least-asked}
 use Rattle.tp_turn.proofs.SameMoment.{now-answers}
 
@@ -53,16 +52,8 @@ module _ {P : Type 0} (steps : PlannerSteps P) (machine : Machine) (spent : P �
       (λ next. least-asks waiting passed s p records s' p' next least)
       (λ rest next. least-asks waiting ((tray_of s.jobs w.sheet).0 ∷ passed) s p rest s' p' next least)
       (λ reply plans mid rest next. least-asks waiting (passed_after reply (tray_of s.jobs w.sheet).0 passed) (state_after_reply s w reply plans) mid rest s' p' next) where
-        Full : Type 0
-        Full = (rest : List Record) × (records ≡ FullUp (label s.jobs w.sheet) ∷ rest) × AsksInTurn steps machine waiting ((tray_of s.jobs w.sheet).0 ∷ passed) s p rest s' p'
-
-        Asked : Type 0
-        Asked = (reply : Reply) × ((plans : List Plan) × ((mid : P) × ((rest : List Record)
-            × steps.does p s.plans (replied (ask_waiting s w) reply) plans mid
-            × (records ≡ told_of_reply machine s.plans (ask_waiting s w) reply plans ++ rest)
-            × AsksInTurn steps machine waiting (passed_after reply (tray_of s.jobs w.sheet).0 passed) (state_after_reply s w reply plans) mid rest s' p')))
-
-        go : (b c : Bool) → MatchBool b (AsksInTurn steps machine waiting passed s p records s' p') (MatchBool c Full Asked)
+        go : (b c : Bool) → MatchBool b (AsksInTurn steps machine waiting passed s p records s' p')
+            (MatchBool c (TellsFull steps machine w waiting passed s p records s' p') (AsksFirst steps machine w waiting passed s p records s' p'))
             → (AsksInTurn steps machine waiting passed s p records s' p' → IsLeastAt machine s')
             → ((rest : List Record) → AsksInTurn steps machine waiting ((tray_of s.jobs w.sheet).0 ∷ passed) s p rest s' p' → IsLeastAt machine s')
             → ((reply : Reply) (plans : List Plan) (mid : P) (rest : List Record)

@@ -17,6 +17,7 @@ pub mod ReleasedPlans
 pub mod PlanOnFacts
 pub mod LessOutages
 pub mod SameMoment
+pub mod AskSteps
 pub mod PlannableTurns
 pub mod LawfulLogs
 pub mod EmptyState

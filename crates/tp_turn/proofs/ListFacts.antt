@@ -1,16 +1,8 @@
 -- What holds of each element, of each two, and of one element of a list.
-use Rattle.std.proofs.Common.{◌≡◌, ◌⊎◌, inl, inr, Bool, true, false, cond, List, [], ◌∷◌, ◌++◌, map, find, refl, sym, ◌∙◌, arith, All, AllPairs, Any, Contains, subst, Some, None}
-use Rattle.std.proofs.lemmas.List.Elements.{All-nil, All-cons, All-head, All-tail, All-append, All-contains, All-map}
-use Rattle.tp_schedule.proofs.Membership.{Contains-cons_cases, Contains-here, Contains-later}
-use Rattle.tp_schedule.proofs.Pairs.{AllPairs-nil, AllPairs-cons, AllPairs-head, AllPairs-tail}
-
--- pairs in two lists together
-pub AllPairs-append : {X : Type 0} (R : X → X → Type 0) (xs ys : List X) → AllPairs R xs → AllPairs R ys → All (λ x. All (R x) ys) xs → AllPairs R (xs ++ ys)
-AllPairs-append R [] ys one other across = other
-AllPairs-append R (x ∷ xs) ys one other across =
-    AllPairs-cons R x (xs ++ ys)
-    (All-append (R x) xs ys (AllPairs-head R x xs one) (All-head (λ x. All (R x) ys) x xs across))
-    (AllPairs-append R xs ys (AllPairs-tail R x xs one) other (All-tail (λ x. All (R x) ys) x xs across))
+use Rattle.std.proofs.Common.{◌≡◌, Bool, true, false, cond, List, [], ◌∷◌, ◌++◌, map, find, refl, All, AllPairs, Any, Contains, subst, Some}
+use Rattle.std.proofs.lemmas.List.Elements.{All-nil, All-cons, All-head, All-tail, All-map}
+use Rattle.tp_schedule.proofs.Membership.{Contains-here, Contains-later}
+use Rattle.tp_schedule.proofs.Pairs.{AllPairs-nil, AllPairs-cons, AllPairs-head, AllPairs-tail, All-append_right}
 
 pub AllPairs-append_left : {X : Type 0} (R : X → X → Type 0) (xs ys : List X) → AllPairs R (xs ++ ys) → AllPairs R xs
 AllPairs-append_left R [] ys pairs = AllPairs-nil R
@@ -19,14 +11,6 @@ AllPairs-append_left R (x ∷ xs) ys pairs =
       left : (zs : List _) → All (R x) (zs ++ ys) → All (R x) zs
       left [] all = All-nil (R x)
       left (z ∷ zs) all = All-cons (R x) z zs (All-head (R x) z (zs ++ ys) all) (left zs (All-tail (R x) z (zs ++ ys) all))
-
-pub AllPairs-append_right : {X : Type 0} (R : X → X → Type 0) (xs ys : List X) → AllPairs R (xs ++ ys) → AllPairs R ys
-AllPairs-append_right R [] ys pairs = pairs
-AllPairs-append_right R (x ∷ xs) ys pairs = AllPairs-append_right R xs ys (AllPairs-tail R x (xs ++ ys) pairs)
-
-pub All-append_right : {X : Type 0} (P : X → Type 0) (xs ys : List X) → All P (xs ++ ys) → All P ys
-All-append_right P [] ys all = all
-All-append_right P (x ∷ xs) ys all = All-append_right P xs ys (All-tail P x (xs ++ ys) all)
 
 pub AllPairs-append_across : {X : Type 0} (R : X → X → Type 0) (xs ys : List X) → AllPairs R (xs ++ ys) → All (λ x. All (R x) ys) xs
 AllPairs-append_across R [] ys pairs = All-nil (λ x. All (R x) ys)
@@ -37,28 +21,6 @@ pub AllPairs-map_list : {X Y : Type 0} (R : Y → Y → Type 0) (f : X → Y) (x
 AllPairs-map_list R f [] pairs = AllPairs-nil R
 AllPairs-map_list R f (x ∷ xs) pairs =
     AllPairs-cons R (f x) (map f xs) (All-map (R (f x)) f xs (AllPairs-head (λ x y. R (f x) (f y)) x xs pairs)) (AllPairs-map_list R f xs (AllPairs-tail (λ x y. R (f x) (f y)) x xs pairs))
-
-pub AllPairs-of_map : {X Y : Type 0} (R : Y → Y → Type 0) (f : X → Y) (xs : List X) → AllPairs R (map f xs) → AllPairs (λ x y. R (f x) (f y)) xs
-AllPairs-of_map R f [] pairs = AllPairs-nil (λ x y. R (f x) (f y))
-AllPairs-of_map {X} R f (x ∷ xs) pairs =
-    AllPairs-cons (λ x y. R (f x) (f y)) x xs (go xs (AllPairs-head R (f x) (map f xs) pairs)) (AllPairs-of_map R f xs (AllPairs-tail R (f x) (map f xs) pairs)) where
-      go : (ys : List X) → All (R (f x)) (map f ys) → All (λ y. R (f x) (f y)) ys
-      go [] all = All-nil (λ y. R (f x) (f y))
-      go (y ∷ ys) all = All-cons (λ y. R (f x) (f y)) y ys (All-head (R (f x)) (f y) (map f ys) all) (go ys (All-tail (R (f x)) (f y) (map f ys) all))
-
--- two different elements stand in the relation one way or the other
-pub either-way : {X : Type 0} (R : X → X → Type 0) (xs : List X) (x y : X) → AllPairs R xs → Contains xs x → Contains xs y → (x ≡ y → ⊥) → R x y ⊎ R y x
-either-way R [] x y pairs in' in'' differ = absurd (omega (arith, in'.1))
-either-way R (z ∷ xs) x y pairs in' in'' differ = elim (Contains-cons_cases z xs x in') [
-  | inl e ↦ elim (Contains-cons_cases z xs y in'') [
-    | inl f ↦ absurd (differ (sym e ∙ f))
-    | inr later ↦ inl (subst (λ v. R v y) e (All-contains (R z) xs y (AllPairs-head R z xs pairs) later))
-  ]
-  | inr later ↦ elim (Contains-cons_cases z xs y in'') [
-    | inl f ↦ inr (subst (λ v. R v x) f (All-contains (R z) xs x (AllPairs-head R z xs pairs) later))
-    | inr later' ↦ either-way R xs x y (AllPairs-tail R z xs pairs) later later' differ
-  ]
-]
 
 pub All-both : {X : Type 0} (P Q R : X → Type 0) → ((x : X) → P x → Q x → R x) → (xs : List X) → All P xs → All Q xs → All R xs
 All-both P Q R each [] p q = All-nil R
@@ -81,7 +43,3 @@ find-Some p (y ∷ xs) x e = go (p y) refl e (find-Some p xs x) where
   go : (b : Bool) → p y ≡ b → cond b (Some y) (find p xs) ≡ Some x → (find p xs ≡ Some x → Contains xs x × (p x ≡ true)) → Contains (y ∷ xs) x × (p x ≡ true)
   go true f e rest = let same : y ≡ x = cc in (subst (Contains (y ∷ xs)) same (Contains-here y xs), subst (λ z. p z ≡ true) same f)
   go false f e rest = let later = rest e in (Contains-later y xs x later.0, later.1)
-
-pub find-none : {X : Type 0} (p : X → Bool) (xs : List X) → All (λ x. p x ≡ false) xs → find p xs ≡ None
-find-none p [] all = refl
-find-none p (x ∷ xs) all = rw (All-head (λ x. p x ≡ false) x xs all) (find-none p xs (All-tail (λ x. p x ≡ false) x xs all))

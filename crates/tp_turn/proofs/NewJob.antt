@@ -2,6 +2,7 @@
 use Rattle.std.proofs.Common.{◌≡◌, ◌≢◌, ℕ, suc, cond, ◌+◌, ◌<◌, Bool, true, false, ◌&&◌, List, [], ◌∷◌, ◌++◌, map, length, refl, sym, ap, ◌∙◌, arith, All, AllPairs, Contains, IsTrue, subst, Option, Some, None, slice_get}
 use Rattle.std.specs.Prelude.{IsFalse, is_some, position, ◌==◌, ◌||◌}
 use Rattle.std.specs.Str.{bytes_eq}
+use Rattle.std.proofs.lemmas.Bool.{and_parts}
 use Rattle.std.proofs.lemmas.Bool.Decides.{nat_tests, not_from_Decides}
 use Rattle.std.proofs.lemmas.List.{length-append, map-append}
 use Rattle.std.proofs.lemmas.List.Elements.{All-nil, All-cons, All-append, All-filter, All-map, All-weaker}
@@ -28,8 +29,8 @@ use Rattle.tp_turn.specs.States.{SessionState}
 use Rattle.tp_turn.specs.Turns.{with_job}
 use Rattle.tp_jobs.proofs.FirstCopies.{length-sheets_of}
 use Rattle.tp_turn.proofs.FirstCopies.{IsFirstCopy, All-first_copies, AllPairs-first_copies, IsAccepted}
-use Rattle.tp_schedule.proofs.Pairs.{AllPairs-nil, AllPairs-cons}
-use Rattle.tp_turn.proofs.ListFacts.{AllPairs-append, AllPairs-append_left, AllPairs-append_right, AllPairs-append_across, AllPairs-map_list, All-both}
+use Rattle.tp_schedule.proofs.Pairs.{AllPairs-nil, AllPairs-cons, AllPairs-append, AllPairs-append_right}
+use Rattle.tp_turn.proofs.ListFacts.{AllPairs-append_left, AllPairs-append_across, AllPairs-map_list, All-both}
 
 -- the jobs that came before are told as before
 pub known-within : (jobs : List Job) (copy : SheetId) → is_known jobs copy ≡ true → copy.job < length jobs
@@ -54,12 +55,8 @@ new-known jobs j copy e =
     let now : copy.job < length (jobs ++ j ∷ []) = omega arith in
     grind (arith, nat_tests)
 
-and-first_of : (a b : Bool) → (a && b) ≡ true → a ≡ true
-and-first_of true b e = refl
-and-first_of false b e = absurd (cc)
-
 known-plan : (jobs : List Job) (p : Plan) → is_of_its_job jobs p ≡ true → is_known jobs p.sheet ≡ true
-known-plan jobs p e = and-first_of (is_known jobs p.sheet) _ (and-first_of (is_known jobs p.sheet && bytes_eq p.name (job_name jobs p.sheet.job)) _ e)
+known-plan jobs p e = (and_parts (is_known jobs p.sheet) _ (and_parts (is_known jobs p.sheet && bytes_eq p.name (job_name jobs p.sheet.job)) _ e).0).0
 
 own-more : (jobs : List Job) (j : Job) (p : Plan) → is_of_its_job jobs p ≡ true → is_of_its_job (jobs ++ j ∷ []) p ≡ true
 own-more jobs j p e =

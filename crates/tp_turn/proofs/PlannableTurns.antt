@@ -1,7 +1,8 @@
 -- Where each answer is right, every turn leaves a state that can be planned on: legal, with floors and horizon kept.
-use Rattle.std.proofs.Common.{◌≡◌, ℕ, ◌+◌, ◌<◌, ◌≤◌, inl, inr, Bool, true, false, cond, ◌&&◌, List, [], ◌∷◌, ◌++◌, length, refl, sym, ◌∙◌, ap, arith, AllPairs, Contains, subst, nat_lt, Option, Some, None, option_map, find}
+use Rattle.std.proofs.Common.{◌≡◌, ℕ, ◌+◌, ◌<◌, ◌≤◌, inl, inr, Bool, true, false, cond, ◌&&◌, List, [], ◌∷◌, length, refl, sym, ◌∙◌, ap, arith, AllPairs, Contains, subst, nat_lt, Option, Some, None, option_map, find}
 use Rattle.std.specs.Bool.{MatchBool}
 use Rattle.std.specs.Option.{MatchOption}
+use Rattle.std.proofs.lemmas.Bool.{and_parts}
 use Rattle.std.proofs.lemmas.Bool.Decides.{nat_tests}
 use Rattle.std.proofs.lemmas.List.Elements.{All-contains}
 use Rattle.tp_machine.specs.declared.whole.Machine.{Machine}
@@ -21,12 +22,11 @@ use Rattle.tp_schedule.specs.declared.parts.Reply.TheVariants.{Planned, Never, S
 use Rattle.tp_schedule.specs.declared.recording.Cause.{Cause}
 use Rattle.tp_schedule.specs.declared.recording.Cause.TheVariants.{Back, End}
 use Rattle.tp_schedule.specs.declared.recording.Record.{Record}
-use Rattle.tp_schedule.specs.declared.recording.Record.TheVariants.{FullUp, Refused}
+use Rattle.tp_schedule.specs.declared.recording.Record.TheVariants.{Refused}
 use Rattle.tp_schedule.proofs.CopyFacts.{plan_of-itself, same_copy-is}
 use Rattle.tp_jobs.specs.Backlogs.{tray_of}
 use Rattle.tp_turn.specs.States.{SessionState}
-use Rattle.tp_turn.specs.Labels.{label}
-use Rattle.tp_turn.specs.Answering.{Answer, told_of_reply}
+use Rattle.tp_turn.specs.Answering.{Answer}
 use Rattle.tp_turn.specs.Asking.{AsksInTurn, ask_waiting, is_full, is_passed_over, passed_after, state_after_reply}
 use Rattle.tp_turn.specs.Fates.{to_purge}
 use Rattle.tp_turn.specs.Loops.{ask_in_flight, is_loose, next_ask, planned, not_planned, after_reply, after_asked, after_one, after_answers}
@@ -35,6 +35,7 @@ use Rattle.tp_turn.specs.Outages.{outage}
 use Rattle.tp_turn.specs.Planners.{PlannerSteps, IsRight, AnswersInTurn, RunsLoop}
 use Rattle.tp_turn.specs.Refusals.{refusal, clock_refusal, first_of_causes}
 use Rattle.tp_turn.specs.Turns.{Begins, Accepts}
+use Rattle.tp_turn.proofs.AskSteps.{AsksFirst, TellsFull}
 use Rattle.tp_turn.proofs.LeftPlans.{IsLegal-left, KeepsHorizon-left}
 use Rattle.tp_turn.proofs.PlanOnFacts.{CanPlanOn-left, CanPlanOn-clock, Contains-change_plan, IsLeft-to_purge}
 use Rattle.tp_turn.specs.Laws.{IsAny, IsPlannable, TurnsKeep}
@@ -56,10 +57,6 @@ asked machine s ask e = go (find (is_loose s) s.plans) refl e where
   go None f e = absurd (cc)
   go (Some p) f e = let at = find-Some (is_loose s) s.plans p f in record { p = p; there = at.0; loose = at.1; is = cc }
 
-and-left : (a b : Bool) → (a && b) ≡ true → a ≡ true
-and-left true b e = refl
-and-left false b e = absurd (cc)
-
 -- each plan of the asked copy is a front
 asked-front : (machine : Machine) (s : SessionState) (ask : Ask) → next_ask machine s ≡ Some ask → AllPairs IsEarlier s.plans
     → (q : Plan) → Contains s.plans q → is_same_copy q.sheet ask.sheet ≡ true → is_front q.kind ≡ true
@@ -69,7 +66,7 @@ asked-front machine s ask e in_order q in' same =
     let mine = plan_of-itself s.plans q in_order in' in
     let its = plan_of-itself s.plans of.p in_order of.there in
     let one : q ≡ of.p = cc in
-    subst (λ z. is_front z.kind ≡ true) (sym one) (and-left (is_front of.p.kind) _ of.loose)
+    subst (λ z. is_front z.kind ≡ true) (sym one) (and_parts (is_front of.p.kind) _ of.loose).0
 
 and-first : (a b : Bool) → a ≡ false → (a && b) ≡ false
 and-first true b e = absurd (cc)
@@ -165,16 +162,8 @@ module _ {P : Type 0} (steps : PlannerSteps P) (machine : Machine) (spent : P �
       go (is_passed_over s passed w) (is_full machine s) asks (plannable-asks waiting passed s p records s' p')
       (λ rest next. plannable-asks waiting ((tray_of s.jobs w.sheet).0 ∷ passed) s p rest s' p' next can)
       (λ reply plans mid rest next able. plannable-asks waiting (passed_after reply (tray_of s.jobs w.sheet).0 passed) (state_after_reply s w reply plans) mid rest s' p' next able) where
-        Full : Type 0
-        Full = (rest : List Record) × (records ≡ FullUp (label s.jobs w.sheet) ∷ rest) × AsksInTurn steps machine waiting ((tray_of s.jobs w.sheet).0 ∷ passed) s p rest s' p'
-
-        Asked : Type 0
-        Asked = (reply : Reply) × ((plans : List Plan) × ((mid : P) × ((rest : List Record)
-            × steps.does p s.plans (replied (ask_waiting s w) reply) plans mid
-            × (records ≡ told_of_reply machine s.plans (ask_waiting s w) reply plans ++ rest)
-            × AsksInTurn steps machine waiting (passed_after reply (tray_of s.jobs w.sheet).0 passed) (state_after_reply s w reply plans) mid rest s' p')))
-
-        go : (b c : Bool) → MatchBool b (AsksInTurn steps machine waiting passed s p records s' p') (MatchBool c Full Asked)
+        go : (b c : Bool) → MatchBool b (AsksInTurn steps machine waiting passed s p records s' p')
+            (MatchBool c (TellsFull steps machine w waiting passed s p records s' p') (AsksFirst steps machine w waiting passed s p records s' p'))
             → (AsksInTurn steps machine waiting passed s p records s' p' → IsPlannable machine s → IsPlannable machine s')
             → ((rest : List Record) → AsksInTurn steps machine waiting ((tray_of s.jobs w.sheet).0 ∷ passed) s p rest s' p' → IsPlannable machine s')
             → ((reply : Reply) (plans : List Plan) (mid : P) (rest : List Record)

@@ -1,7 +1,8 @@
 -- A turn that is played from a list of deeds is a turn by the planner that takes them from the list.
-use Rattle.std.proofs.Common.{◌≡◌, ℕ, Bool, true, false, List, [], ◌∷◌, ◌++◌, Option, Some, None, ◌&&◌, refl, sym, append_assoc, append-nil, ◌∙◌, ap, subst}
+use Rattle.std.proofs.Common.{◌≡◌, ℕ, Bool, true, false, List, [], ◌∷◌, ◌++◌, Option, Some, None, refl, sym, append_assoc, append-nil, ◌∙◌, ap, subst}
 use Rattle.std.specs.Bool.{MatchBool}
 use Rattle.std.specs.Option.{MatchOption}
+use Rattle.std.proofs.lemmas.Bool.{and_parts}
 use Rattle.tp_machine.specs.declared.whole.Machine.{Machine}
 use Rattle.tp_script.specs.declared.event.Event.{Event}
 use Rattle.tp_script.specs.declared.event.Event.TheVariants.{Bad, Job as NewJob, Clock, Jam, Off, On}
@@ -24,10 +25,6 @@ use Rattle.tp_turn.specs.Outages.{outage}
 use Rattle.tp_turn.specs.Planners.{RunsLoop, GoesOut}
 use Rattle.tp_turn.specs.Turns.{Begins, Accepts, Turn, with_on}
 use Rattle.tp_turn.proofs.Replay.{Given, answers, settles, listed, Played, answer, play_asks, play_loop, play_out, play_begin, play_by, play, turn_played, play_on, loop_on, loop_end, told_first, told_full, pass_over, chosen}
-
-and-both : (a b : Bool) → (a && b) ≡ true → (a ≡ true) × (b ≡ true)
-and-both true b e = (refl, e)
-and-both false b e = absurd (cc)
 
 -- the phase of asks
 abbrev AsksLead : Machine → List WaitingCopy → List ℕ → SessionState → List Given → Played → Type 0
@@ -140,7 +137,7 @@ played-turn machine event s left fits = go (refusal machine s event) fits where
       (λ cause. ((play_by o machine event s left).records ≡ Refused cause ∷ []) × ((play_by o machine event s left).state ≡ s) × ((play_by o machine event s left).left ≡ left))
   go (Some cause) fits = (refl, refl, refl)
   go None fits =
-      let both = and-both (play_begin machine event s left).fits _ fits in
+      let both = and_parts (play_begin machine event s left).fits _ fits in
       record {
         first = (play_begin machine event s left).records;
         between = (play_begin machine event s left).state;

@@ -1,10 +1,9 @@
 -- The state that a schedule, jobs, waiting copies and modules show at a moment where no copy is loose.
-use Rattle.std.specs.Prelude.{ℕ, ◌+◌, ◌^◌, ◌<◌, ◌≤◌, List, map, filter, All, Contains, IsFalse}
+use Rattle.std.specs.Prelude.{ℕ, ◌+◌, ◌^◌, ◌<◌, ◌≤◌, List, map, filter, All, IsFalse}
 use Rattle.tp_machine.specs.declared.parts.Outs.{Outs}
 use Rattle.tp_machine.specs.declared.whole.Machine.{Machine}
+use Rattle.tp_schedule.specs.Planning.{IsKnownGoal}
 use Rattle.tp_schedule.specs.Plans.{AreNamed, is_front, point}
-use Rattle.tp_schedule.specs.declared.parts.Goal.{Goal}
-use Rattle.tp_schedule.specs.declared.parts.Goal.TheVariants.{Tray, Purge}
 use Rattle.tp_schedule.specs.declared.parts.Plan.{Plan}
 use Rattle.tp_schedule.specs.declared.parts.SheetId.{SheetId}
 use Rattle.tp_jobs.specs.Backlogs.{Backlog}
@@ -33,11 +32,6 @@ HasNextCopy copy = copy.copy + 1 < 2 ^ 32
 -- a copy that is to be purged has started
 abbrev pub HasStarted : ℕ → Plan → Type 0
 HasStarted now p = IsFalse (is_to_tray p.goal) → point p 0 ≤ now
-
--- a tray that is a plan's goal is one of the machine's
-abbrev pub IsKnownGoal : Machine → Goal → Type 0
-IsKnownGoal machine (Tray t) = Contains machine.trays t
-IsKnownGoal machine Purge = Unit {0}
 
 -- the state before a module goes out: what is kept between events of the schedule and of what waits, plans with known
 -- goals and the names of their jobs, copies that can have a next one, and purges under way

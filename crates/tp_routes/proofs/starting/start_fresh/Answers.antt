@@ -15,7 +15,7 @@ offer-requires-clause-is_sum c =
     let below : c.feeders.feeder-index < length c.args.machine.now.feeders = subst (λ xs. c.feeders.feeder-index < length xs) items c.feeders-test.true in
     let at : f ≡ get_or c.args.machine.now.feeders c.feeders.feeder-index f = subst (λ xs. f ≡ get_or xs c.feeders.feeder-index f) items c.feeder-item.is in
     let media : f.media ≡ c.args.ask.now.want.media = (bytes_eq-Decides f.media c.args.ask.now.want.media).0 (sym c.eq.ensures ∙ c.if-eq.true) in
-    subst (λ s. IsSum c.args.machine.now c.args.ask.now s 0) (sym c.fresh_at.ensures) (fresh_sum c.args.machine.now c.args.ask.now c.feeders.feeder-index f c.requires.fresh below at media)
+    subst (λ s. IsSum c.args.machine.now c.args.ask.now s 0) (sym c.new_sheet.ensures) (fresh_sum c.args.machine.now c.args.ask.now c.feeders.feeder-index f c.requires.fresh below at media)
 
 pub feeders-preserved : goal.feeders-preserved
 feeders-preserved c =
@@ -23,7 +23,7 @@ feeders-preserved c =
     let before = c.feeders.invariant in
     elim c.if-eq.branch [
       | then-eq w ↦
-          let there : HasAtMost w.offer.new.sums (fresh f.loc) 0 = subst (λ s. HasAtMost w.offer.new.sums s 0) w.fresh_at.ensures w.offer.ensures.there in
+          let there : HasAtMost w.offer.new.sums (fresh f.loc) 0 = subst (λ s. HasAtMost w.offer.new.sums s 0) w.new_sheet.ensures w.offer.ensures.there in
           rw (w.sums-is, w.waiting-is) (record {
             filling = w.offer.ensures.filling;
             spread = λ busy. w.offer.ensures.spread busy (length c.args.machine.now.actions) (before.spread busy);
