@@ -1,5 +1,5 @@
 -- What a search found is a trial: its end is that of the earliest plans, and what is committed is one of them.
-use Rattle.std.proofs.Common.{◌≡◌, ℕ, ◌<◌, ◌≤◌, List, length, filter, map, sym, ap, subst, ◌∙◌, Some, IsSomeAnd, arith}
+use Rattle.std.proofs.Common.{◌≡◌, ℕ, ◌<◌, List, length, filter, sym, subst, ◌∙◌, Some, IsSomeAnd, arith}
 use Rattle.std.proofs.lemmas.List.{length-map}
 use Rattle.tp_base.specs.Net.{Net}
 use Rattle.tp_machine.specs.Machines.{IsMachine}
@@ -16,7 +16,7 @@ use Rattle.tp_schedule.specs.declared.parts.Ask.{Ask}
 use Rattle.tp_schedule.specs.declared.parts.Origin.{Origin}
 use Rattle.tp_schedule.specs.declared.parts.Origin.TheVariants.{Feeder as FromFeeder, Front as FromFront}
 use Rattle.tp_schedule.specs.declared.parts.Plan.{Plan}
-use Rattle.tp_choices.specs.LiveParts.{forgotten_on, less, shift_choice, shifted}
+use Rattle.tp_choices.specs.LiveParts.{forgotten_on, shift_choice, shifted}
 use Rattle.tp_choices.proofs.CompleteAnswers.{complete_answers}
 use Rattle.tp_choices.proofs.LiveLists.{live_opens}
 use Rattle.tp_choices.proofs.ShiftedLists.{acts-shifted}
@@ -28,7 +28,8 @@ use Rattle.tp_placing.proofs.WriteLive.{gone, may-ask, may-forget}
 use Rattle.tp_search.specs.Boards.{IsBack}
 use Rattle.tp_search.specs.Outcomes.{HasAnswer}
 use Rattle.tp_search.specs.Searching.{IsKnownGoal}
-use Rattle.tp_search.specs.Trials.{EndsEarliest, IsEarliestTo, IsTrial}
+use Rattle.tp_search.specs.Trials.{EndsEarliest, IsEarliestTo, IsTrial, board_in}
+use Rattle.tp_search.specs.declared.trying.Trial.{Trial}
 use Rattle.tp_search.proofs.AnswerFacts.{answer-commits, answer-ends, complete-some, none_before-whole, rest}
 use Rattle.tp_search.proofs.BoardSteps.{IsUndone, undone-back}
 
@@ -49,8 +50,8 @@ pub ends-earliest : (machine : Machine) (plans : List Plan) (ask : Ask) (can : C
 ends-earliest machine plans ask can live is is-machine known list bound complete is-bound none =
     let counts = forgotten_on machine plans (gone machine plans ask.now can.plan_on) in
     let opens : OpensTo machine plans ask (shifted machine counts list) bound =
-      live_opens machine plans ask (gone machine plans ask.now can.plan_on) list bound (may-forget machine plans ask.now can.plan_on) (may-ask machine plans ask can)
-          (subst (λ ps. OpensTo machine ps ask list bound) (rest machine plans ask can live is) is-bound.opens) in
+    live_opens machine plans ask (gone machine plans ask.now can.plan_on) list bound (may-forget machine plans ask.now can.plan_on) (may-ask machine plans ask can)
+    (subst (λ ps. OpensTo machine ps ask list bound) (rest machine plans ask can live is) is-bound.opens) in
     let some : 0 < length list.choices = complete-some machine live ask is-machine known list (bound, is-bound.opens) complete in
     let more : 0 < length (shifted machine counts list).choices = omega (arith, some, length-map list.choices (shift_choice machine counts)) in
     let a = complete_answers machine plans ask (shifted machine counts list) (least_sum machine opens.before) opens.ticks can.plan_on.legal can.asked opens.is_list (complete-shifted machine ask counts list complete) more opens.times in
@@ -59,26 +60,29 @@ ends-earliest machine plans ask can live is is-machine known list bound complete
       earliest-to machine plans ask bound (none_before-whole machine plans ask can live is bound none) (answered plans ask (shifted machine counts list).choices opens.ticks) a.0 ends,
     )
 
-module _ {N C : Type 0} (net : N → Net) (content : N → C) (past : N → List C) (mark_room : N → ℕ) (b b' : BoardValue N) (machine : Machine) (ask : Ask) (base : ℕ) where
+module _ {N C : Type 0} (net : N → Net) (content : N → C) (past : N → List C) (mark_room : N → ℕ) (b : BoardValue N) (machine : Machine) (trial : Trial N) where
   -- what a search found is a trial to the least end of its board
-  pub answer-trial : IsMachine machine → IsKnownGoal machine ask.goal → HasAnswer net content past mark_room b b' machine ask base → (end : ℕ) → HasLeastTick machine b' (own 0) end → IsTrial net content past mark_room b b' machine base end
-  answer-trial is-machine known a end least = record {
-    number = a.number;
-    past_more = a.past_more;
-    loaded = a.loaded;
-    marks = a.marks;
-    stands = a.laid.stands;
-    ask = ask;
-    asked = a.laid.asked;
-    complete = subst (λ o. IsSomeAnd o (λ k. IsSomeAnd (suffix_of b') (CanCommit machine b'.plans k))) a.laid.asked (answer-commits net content past mark_room b b' machine ask base a is-machine known);
-    ends = least;
-    none_before = subst (λ ps. NoneBefore machine ps ask end) (sym a.loaded.plans) (subst (NoneBefore machine b.plans ask) (sym (answer-ends net content past mark_room b b' machine ask base a end least)) a.none_before);
-  }
+  pub answer-trial : (ask : Ask) → IsMachine machine → IsKnownGoal machine ask.goal → HasAnswer net content past mark_room b (board_in trial) machine ask trial.base.0 → HasLeastTick machine (board_in trial) (own 0) trial.end
+      → IsTrial net content past mark_room b machine trial
+  answer-trial ask is-machine known a least =
+      let b' = board_in trial in
+      record {
+        number = a.number;
+        past_more = a.past_more;
+        loaded = a.loaded;
+        marks = a.marks;
+        stands = a.laid.stands;
+        ask = ask;
+        asked = a.laid.asked;
+        complete = subst (λ o. IsSomeAnd o (λ k. IsSomeAnd (suffix_of b') (CanCommit machine b'.plans k))) a.laid.asked (answer-commits net content past mark_room b b' machine ask trial.base.0 a is-machine known);
+        ends = least;
+        none_before = subst (λ ps. NoneBefore machine ps ask trial.end) (sym a.loaded.plans) (subst (NoneBefore machine b.plans ask) (sym (answer-ends net content past mark_room b b' machine ask trial.base.0 a trial.end least)) a.none_before);
+      }
 
--- where it is undone to its mark, the board is as before
-pub trial-back : {N C A : Type 0} → (net : N → Net) (content : N → C) (past : N → List C) (aside : N → A) (mark_room : N → ℕ) → UndoKeeps net content past aside → (b b' b'' : BoardValue N) (machine : Machine) (mark end : ℕ)
-    → IsTrial net content past mark_room b b' machine mark end → IsUndone net content past aside mark_room b' b'' mark → IsBack net content past mark_room b b'' machine
-trial-back net content past aside mark_room undoes b b' b'' machine mark end t u = undone-back net content past aside mark_room undoes b b' b'' machine mark t.number t.past_more t.loaded t.marks (λ _. t.stands) u
+  -- where it is undone to its mark, the board is as before
+  pub trial-back : {A : Type 0} → (aside : N → A) → UndoKeeps net content past aside → (b' : BoardValue N) → IsTrial net content past mark_room b machine trial
+      → IsUndone net content past aside mark_room (board_in trial) b' trial.base.0 → IsBack net content past mark_room b b' machine
+  trial-back aside undoes b' t u = undone-back net content past aside mark_room undoes b (board_in trial) b' machine trial.base.0 t.number t.past_more t.loaded t.marks (λ _. t.stands) u
 
 -- a board has one least end
 pub same-end : {N : Type 0} → (machine : Machine) (b : BoardValue N) (ask : Ask) → b.ask ≡ Some ask → (end other : ℕ) → HasLeastTick machine b (own 0) end → HasLeastTick machine b (own 0) other → end ≡ other

@@ -1,5 +1,6 @@
 -- What a trial is: its board carries an earliest plan, laid since a mark. And what holds where there is no plan.
 use Rattle.std.specs.Prelude.{◌≡◌, ℕ, ◌-◌, List, [], ◌∷◌, ◌++◌, length, Some, IsSomeAnd}
+use Rattle.std.specs.Borrow.{GName}
 use Rattle.tp_base.specs.Net.{Net}
 use Rattle.tp_machine.specs.declared.whole.Machine.{Machine}
 use Rattle.tp_schedule.specs.Answers.{IsAlternative, IsEarliest, NoneBefore}
@@ -14,6 +15,7 @@ use Rattle.tp_placing.specs.Standing.{Stands}
 use Rattle.tp_placing.specs.Ticks.{HasLeastTick}
 use Rattle.tp_placing.specs.Writing.{CanCommit}
 use Rattle.tp_search.specs.declared.trying.NoPlan.{NoPlan}
+use Rattle.tp_search.specs.declared.trying.Trial.{Trial}
 use Rattle.tp_search.specs.declared.trying.NoPlan.TheVariants.{Never, Spent}
 
 -- this schedule is an earliest one, and its plan of the asked copy ends at this tick
@@ -30,17 +32,27 @@ abbrev pub IsNoPlan : Machine → List Plan → Ask → ℕ → NoPlan → Type 
 IsNoPlan machine plans ask nodes Never = (plans' : List Plan) → ¬ IsAlternative machine plans ask plans'
 IsNoPlan machine plans ask nodes (Spent bound) = IsSpent machine plans ask nodes bound
 
+-- the board that a trial borrows, as it is now, the name of the borrow, and the end of the asked copy
+abbrev pub board_in : {N : Type 0} → Trial N → BoardValue N
+board_in trial = trial.board.now
+
+abbrev pub borrow_in : {N : Type 0} → Trial N → GName
+borrow_in trial = trial.board.ghost_name
+
+abbrev pub end_in : {N : Type 0} → Trial N → ℕ
+end_in trial = trial.end
+
 module _ {N C : Type 0} (net : N → Net) (content : N → C) (past : N → List C) (mark_room : N → ℕ) where
-  -- the board carries a plan of its ask that can be committed and ends at this tick, and no alternative ends before it. All
-  -- this was laid since a mark, its newest, that was made on the first board
-  pub record IsTrial (b b' : BoardValue N) (machine : Machine) (mark end : ℕ) : Type 0 where
-    pub number : mark ≡ length (past_of past b)
-    pub past_more : past_of past b' ≡ past_of past b ++ content_of content b ∷ []
-    pub loaded : IsSameLoad b b'
-    pub marks : mark_room b'.net - 1 ≡ mark_room b.net - 1
-    pub stands : Stands net content past b' machine
+  -- the trial's board carries a plan of its ask that can be committed and has the trial's end, and no alternative ends before
+  -- it. All this was laid since a mark, its newest, that was made on the first board
+  pub record IsTrial (b : BoardValue N) (machine : Machine) (trial : Trial N) : Type 0 where
+    pub number : trial.base.0 ≡ length (past_of past b)
+    pub past_more : past_of past (board_in trial) ≡ past_of past b ++ content_of content b ∷ []
+    pub loaded : IsSameLoad b (board_in trial)
+    pub marks : mark_room (board_in trial).net - 1 ≡ mark_room b.net - 1
+    pub stands : Stands net content past (board_in trial) machine
     pub ask : Ask
-    pub asked : b'.ask ≡ Some ask
-    pub complete : IsSomeAnd (suffix_of b') (CanCommit machine b'.plans ask)
-    pub ends : HasLeastTick machine b' (own 0) end
-    pub none_before : NoneBefore machine b'.plans ask end
+    pub asked : (board_in trial).ask ≡ Some ask
+    pub complete : IsSomeAnd (suffix_of (board_in trial)) (CanCommit machine (board_in trial).plans ask)
+    pub ends : HasLeastTick machine (board_in trial) (own 0) trial.end
+    pub none_before : NoneBefore machine (board_in trial).plans ask trial.end

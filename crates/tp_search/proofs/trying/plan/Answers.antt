@@ -15,8 +15,8 @@ returns-in-Found g c =
       record {
         rests = tt;
         same_reference = refl;
-        trial = answer-trial g.N.Network.net g.N.Undo.content g.N.Undo.past g.N.Undo.mark_room c.args.board.now c.search.new.board c.args.machine.now c.args.ask.now c.in-Found.base.0
-            (is_machine c.args.machine.now) known a c.end_bound-end.result least;
+        trial = answer-trial g.N.Network.net g.N.Undo.content g.N.Undo.past g.N.Undo.mark_room c.args.board.now c.args.machine.now (record { board = record c.args.board { now = c.search.new.board }; base = c.in-Found.base; end = c.end_bound-end.result })
+            c.args.ask.now (is_machine c.args.machine.now) known a least;
         end = λ plans loaded. subst (EndsEarliest c.args.machine.now plans c.args.ask.now) (sym same)
             (ends-earliest c.args.machine.now plans c.args.ask.now loaded.can_ask c.args.board.now.plans loaded.live_part (is_machine c.args.machine.now) known a.list a.bound a.complete a.is_bound a.none_before);
         none = λ plans loaded. tt;
@@ -26,26 +26,26 @@ returns-in-Found g c =
 
 pub returns-in-Never : goal.returns-in-Never
 returns-in-Never g c = (
-    (refl, λ w. tt, c.in-Never.ensures.outcome.1),
-    record {
-      rests = tt;
-      same_reference = tt;
-      trial = tt;
-      end = λ plans loaded. tt;
-      none = λ plans loaded. never-whole c.args.machine.now plans c.args.ask.now loaded.can_ask c.args.board.now.plans loaded.live_part c.in-Never.ensures.outcome.0;
-      work = c.search.ensures.same;
-    },
-  )
+  (refl, λ w. tt, c.in-Never.ensures.outcome.1),
+  record {
+    rests = tt;
+    same_reference = tt;
+    trial = tt;
+    end = λ plans loaded. tt;
+    none = λ plans loaded. never-whole c.args.machine.now plans c.args.ask.now loaded.can_ask c.args.board.now.plans loaded.live_part c.in-Never.ensures.outcome.0;
+    work = c.search.ensures.same;
+  },
+)
 
 pub returns-in-Spent : goal.returns-in-Spent
 returns-in-Spent g c = (
-    (refl, λ w. tt, c.in-Spent.ensures.outcome.1),
-    record {
-      rests = tt;
-      same_reference = tt;
-      trial = tt;
-      end = λ plans loaded. tt;
-      none = λ plans loaded. spent-whole c.args.machine.now plans c.args.ask.now loaded.can_ask c.args.board.now.plans loaded.live_part c.args.work.now.nodes c.in-Spent.bound c.in-Spent.ensures.outcome.0;
-      work = c.search.ensures.same;
-    },
-  )
+  (refl, λ w. tt, c.in-Spent.ensures.outcome.1),
+  record {
+    rests = tt;
+    same_reference = tt;
+    trial = tt;
+    end = λ plans loaded. tt;
+    none = λ plans loaded. spent-whole c.args.machine.now plans c.args.ask.now loaded.can_ask c.args.board.now.plans loaded.live_part c.args.work.now.nodes c.in-Spent.bound c.in-Spent.ensures.outcome.0;
+    work = c.search.ensures.same;
+  },
+)

@@ -4,8 +4,8 @@ use Rattle.tp_search.proofs.trying.Trial.abandon.Goals as goal
 pub returns : goal.returns
 returns g c = record {
   back = λ b machine trial. (
-    let u = c.undo_to.ensures in
-    trial-back g.N.Network.net g.N.Undo.content g.N.Undo.past g.N.Undo.aside g.N.Undo.mark_room c.marks_keep_boards.ensures.back b c.args.self.board.now c.undo_to.new.self machine c.args.self.base.0 c.args.self.end trial
-    (record { content_then = u.content; past_less = u.past; aside_same = u.aside; room_same = u.room })
-  );
+      let u = c.undo_to.ensures in
+      trial-back g.N.Network.net g.N.Undo.content g.N.Undo.past g.N.Undo.mark_room b machine c.args.self g.N.Undo.aside c.marks_keep_boards.ensures.back c.undo_to.new.self trial
+      (record { content_then = u.content; past_less = u.past; aside_same = u.aside; room_same = u.room })
+      );
 }
