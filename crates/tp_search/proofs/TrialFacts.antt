@@ -41,24 +41,33 @@ complete-shifted machine ask counts list = go ask.origin where
   go (FromFront state end count) h = h
 
 -- an alternative before whose end none ends
-pub earliest-to : (machine : Machine) (plans : List Plan) (ask : Ask) (end : ℕ) → NoneBefore machine plans ask end → (new : List Plan) (a : IsAlternative machine plans ask new) → end_of_plan a.plan ≡ end → IsEarliestTo machine plans ask end new
+pub earliest-to : (machine : Machine) (plans : List Plan) (ask : Ask) (end : ℕ) → NoneBefore machine plans ask end → (new : List Plan) (a : IsAlternative machine plans ask new) → end_of_plan a.plan ≡ end
+    → IsEarliestTo machine plans ask end new
 earliest-to machine plans ask end none new a ends = record { earliest = record { alternative = a; first = subst (NoneBefore machine plans ask) (sym ends) none }; ends = ends }
 
--- a complete list whose bound no alternative ends before tells the end of the earliest plans
-pub ends-earliest : (machine : Machine) (plans : List Plan) (ask : Ask) (can : CanAsk machine plans ask) (live : List Plan) → live ≡ filter (is_live machine ask.now) plans → IsMachine machine → IsKnownGoal machine ask.goal
-    → (list : ChoiceList) (bound : ℕ) → IsComplete machine ask list → IsBound machine live ask list bound → NoneBefore machine live ask bound → EndsEarliest machine plans ask bound
-ends-earliest machine plans ask can live is is-machine known list bound complete is-bound none =
-    let counts = forgotten_on machine plans (gone machine plans ask.now can.plan_on) in
-    let opens : OpensTo machine plans ask (shifted machine counts list) bound =
-    live_opens machine plans ask (gone machine plans ask.now can.plan_on) list bound (may-forget machine plans ask.now can.plan_on) (may-ask machine plans ask can)
-    (subst (λ ps. OpensTo machine ps ask list bound) (rest machine plans ask can live is) is-bound.opens) in
-    let some : 0 < length list.choices = complete-some machine live ask is-machine known list (bound, is-bound.opens) complete in
-    let more : 0 < length (shifted machine counts list).choices = omega (arith, some, length-map list.choices (shift_choice machine counts)) in
-    let a = complete_answers machine plans ask (shifted machine counts list) (least_sum machine opens.before) opens.ticks can.plan_on.legal can.asked opens.is_list (complete-shifted machine ask counts list complete) more opens.times in
-    let ends = a.1 ∙ opens.ends in (
-      answered plans ask (shifted machine counts list).choices opens.ticks,
-      earliest-to machine plans ask bound (none_before-whole machine plans ask can live is bound none) (answered plans ask (shifted machine counts list).choices opens.ticks) a.0 ends,
-    )
+module _ (machine : Machine) (plans : List Plan) (ask : Ask) (can : CanAsk machine plans ask) (live : List Plan) (is : live ≡ filter (is_live machine ask.now) plans) (list : ChoiceList) (bound : ℕ) where
+  -- a list of the live plans with its places further on, as it is on the whole schedule
+  abbrev further : ChoiceList
+  further = shifted machine (forgotten_on machine plans (gone machine plans ask.now can.plan_on)) list
+
+  further-opens : OpensTo machine live ask list bound → OpensTo machine plans ask further bound
+  further-opens opens =
+      live_opens machine plans ask (gone machine plans ask.now can.plan_on) list bound (may-forget machine plans ask.now can.plan_on) (may-ask machine plans ask can)
+      (subst (λ ps. OpensTo machine ps ask list bound) (rest machine plans ask can live is) opens)
+
+  further-some : 0 < length list.choices → 0 < length further.choices
+  further-some some = omega (arith, some, length-map list.choices (shift_choice machine (forgotten_on machine plans (gone machine plans ask.now can.plan_on))))
+
+  -- a complete list whose bound no alternative ends before tells the end of the earliest plans
+  pub ends-earliest : IsMachine machine → IsKnownGoal machine ask.goal → IsComplete machine ask list → IsBound machine live ask list bound → NoneBefore machine live ask bound → EndsEarliest machine plans ask bound
+  ends-earliest is-machine known complete is-bound none =
+      let opens = further-opens is-bound.opens in
+      let some = further-some (complete-some machine live ask is-machine known list (bound, is-bound.opens) complete) in
+      let done = complete-shifted machine ask (forgotten_on machine plans (gone machine plans ask.now can.plan_on)) list complete in
+      let a = complete_answers machine plans ask further (least_sum machine opens.before) opens.ticks can.plan_on.legal can.asked opens.is_list done some opens.times in (
+        answered plans ask further.choices opens.ticks,
+        earliest-to machine plans ask bound (none_before-whole machine plans ask can live is bound none) (answered plans ask further.choices opens.ticks) a.0 (a.1 ∙ opens.ends),
+      )
 
 module _ {N C : Type 0} (net : N → Net) (content : N → C) (past : N → List C) (mark_room : N → ℕ) (b : BoardValue N) (machine : Machine) (trial : Trial N) where
   -- what a search found is a trial to the least end of its board

@@ -15,8 +15,8 @@ use Rattle.tp_placing.specs.Standing.{Stands}
 use Rattle.tp_placing.specs.Ticks.{HasLeastTick}
 use Rattle.tp_placing.specs.Writing.{CanCommit}
 use Rattle.tp_search.specs.declared.trying.NoPlan.{NoPlan}
-use Rattle.tp_search.specs.declared.trying.Trial.{Trial}
 use Rattle.tp_search.specs.declared.trying.NoPlan.TheVariants.{Never, Spent}
+use Rattle.tp_search.specs.declared.trying.Trial.{Trial}
 
 -- this schedule is an earliest one, and its plan of the asked copy ends at this tick
 pub record IsEarliestTo (machine : Machine) (plans : List Plan) (ask : Ask) (end : ℕ) (plans' : List Plan) : Type 0 where
@@ -43,8 +43,8 @@ abbrev pub end_in : {N : Type 0} → Trial N → ℕ
 end_in trial = trial.end
 
 module _ {N C : Type 0} (net : N → Net) (content : N → C) (past : N → List C) (mark_room : N → ℕ) where
-  -- the trial's board carries a plan of its ask that can be committed and has the trial's end, and no alternative ends before
-  -- it. All this was laid since a mark, its newest, that was made on the first board
+  -- the trial's board carries a plan of its ask that can be committed and ends as the trial tells, and no alternative ends
+  -- before. It was laid since the trial's mark, the newest, which was made on the first board
   pub record IsTrial (b : BoardValue N) (machine : Machine) (trial : Trial N) : Type 0 where
     pub number : trial.base.0 ≡ length (past_of past b)
     pub past_more : past_of past (board_in trial) ≡ past_of past b ++ content_of content b ∷ []

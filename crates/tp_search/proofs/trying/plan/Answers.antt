@@ -15,10 +15,10 @@ returns-in-Found g c =
       record {
         rests = tt;
         same_reference = refl;
-        trial = answer-trial g.N.Network.net g.N.Undo.content g.N.Undo.past g.N.Undo.mark_room c.args.board.now c.args.machine.now (record { board = record c.args.board { now = c.search.new.board }; base = c.in-Found.base; end = c.end_bound-end.result })
-            c.args.ask.now (is_machine c.args.machine.now) known a least;
+        trial = answer-trial g.N.Network.net g.N.Undo.content g.N.Undo.past g.N.Undo.mark_room c.args.board.now c.args.machine.now
+            (record { board = record c.args.board { now = c.search.new.board }; base = c.in-Found.base; end = c.end_bound-end.result }) c.args.ask.now (is_machine c.args.machine.now) known a least;
         end = λ plans loaded. subst (EndsEarliest c.args.machine.now plans c.args.ask.now) (sym same)
-            (ends-earliest c.args.machine.now plans c.args.ask.now loaded.can_ask c.args.board.now.plans loaded.live_part (is_machine c.args.machine.now) known a.list a.bound a.complete a.is_bound a.none_before);
+            (ends-earliest c.args.machine.now plans c.args.ask.now loaded.can_ask c.args.board.now.plans loaded.live_part a.list a.bound (is_machine c.args.machine.now) known a.complete a.is_bound a.none_before);
         none = λ plans loaded. tt;
         work = c.search.ensures.same;
       },
