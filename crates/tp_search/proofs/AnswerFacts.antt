@@ -4,11 +4,10 @@ use Rattle.tp_base.specs.Net.{Net}
 use Rattle.tp_machine.specs.Machines.{IsMachine}
 use Rattle.tp_machine.specs.declared.parts.State.{State}
 use Rattle.tp_machine.specs.declared.whole.Machine.{Machine}
-use Rattle.tp_schedule.specs.Answers.{IsAlternative, IsEarliest, NoneBefore}
+use Rattle.tp_schedule.specs.Answers.{IsAlternative, NoneBefore}
 use Rattle.tp_schedule.specs.Choices.{CanStop, Choice, ChoiceList, IsBound, IsComplete, IsOpen}
 use Rattle.tp_schedule.specs.Living.{is_live}
 use Rattle.tp_schedule.specs.Planning.{CanAsk, IsKnownGoal, IsOpenGoal}
-use Rattle.tp_schedule.specs.Plans.{end_of_plan}
 use Rattle.tp_schedule.specs.Spending.{IsSpent}
 use Rattle.tp_schedule.specs.Spots.Spot.{own}
 use Rattle.tp_schedule.specs.declared.parts.Ask.{Ask}
@@ -40,7 +39,7 @@ known-goal machine plans ask can = go ask.goal can.open_goal where
   go (Tray t) open-goal = open-goal.0
 
 -- a complete open list has a choice
-complete-some : (machine : Machine) (plans : List Plan) (ask : Ask) → IsMachine machine → IsKnownGoal machine ask.goal → (list : ChoiceList) → IsOpen machine plans ask list → IsComplete machine ask list → 0 < length list.choices
+pub complete-some : (machine : Machine) (plans : List Plan) (ask : Ask) → IsMachine machine → IsKnownGoal machine ask.goal → (list : ChoiceList) → IsOpen machine plans ask list → IsComplete machine ask list → 0 < length list.choices
 complete-some machine plans ask is-machine known list opens complete = go list.goal list.choices list.stopped opens complete where
   stops : (o : Origin) (l : ChoiceList) → l.choices ≡ [] → CanStop machine ask l o → ⊥
   stops FromFeeder l none can = absurd can
@@ -82,7 +81,7 @@ module _ {N C : Type 0} (net : N → Net) (content : N → C) (past : N → List
 
 -- what holds on the live plans
 module _ (machine : Machine) (plans : List Plan) (ask : Ask) (can : CanAsk machine plans ask) (live : List Plan) (is : live ≡ filter (is_live machine ask.now) plans) where
-  rest : live ≡ less (gone machine plans ask.now can.plan_on) plans
+  pub rest : live ≡ less (gone machine plans ask.now can.plan_on) plans
   rest = is ∙ sym (less-live machine plans ask.now can.plan_on)
 
   pub never-whole : ((other : List Plan) → ¬ IsAlternative machine live ask other) → (other : List Plan) → ¬ IsAlternative machine plans ask other
@@ -92,9 +91,5 @@ module _ (machine : Machine) (plans : List Plan) (ask : Ask) (can : CanAsk machi
   pub spent-whole : (nodes bound : ℕ) → IsSpent machine live ask nodes bound → IsSpent machine plans ask nodes bound
   spent-whole nodes bound spent = live_spends machine plans ask (gone machine plans ask.now can.plan_on) nodes bound (may-forget machine plans ask.now can.plan_on) (may-ask machine plans ask can) (subst (λ ps. IsSpent machine ps ask nodes bound) rest spent)
 
-  pub earliest-whole : (bound : ℕ) → NoneBefore machine live ask bound → (new : List Plan) (a : IsAlternative machine plans ask new) → end_of_plan a.plan ≡ bound → IsEarliest machine plans ask new
-  earliest-whole bound none new a ends = record {
-    alternative = a;
-    first = subst (NoneBefore machine plans ask) (sym ends)
-        (live_bounds_answers machine plans ask (gone machine plans ask.now can.plan_on) bound (may-forget machine plans ask.now can.plan_on) (stays machine plans ask can) (subst (λ ps. NoneBefore machine ps ask bound) rest none));
-  }
+  pub none_before-whole : (bound : ℕ) → NoneBefore machine live ask bound → NoneBefore machine plans ask bound
+  none_before-whole bound none = live_bounds_answers machine plans ask (gone machine plans ask.now can.plan_on) bound (may-forget machine plans ask.now can.plan_on) (stays machine plans ask can) (subst (λ ps. NoneBefore machine ps ask bound) rest none)

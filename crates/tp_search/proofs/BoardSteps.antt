@@ -157,21 +157,27 @@ module _ {N C A : Type 0} (net : N → Net) (content : N → C) (past : N → Li
     ask = ap (λ (x : BoardAside A). x.ask) e;
   }
 
-  -- what was done since a mark is taken back
-  pub taken-back : MarkKeeps net content past aside → UndoKeeps net content past aside → (b0 b1 b2 b3 : BoardValue N) (machine : Machine) (mark : ℕ) → IsMarked b0 b1 mark → IsSince net content past mark_room b1 b2 machine → IsUndone b2 b3 mark
-      → IsBack net content past mark_room b0 b3 machine
-  taken-back keeps undoes b0 b1 b2 b3 machine mark m since u =
-      let was : past_of past b2 ≡ past_of past b0 ++ content_of content b0 ∷ [] = since.past_same ∙ m.past_more in
-      let at : slice_get (past_of past b2) mark ≡ Some (content_of content b0) = (λ i. slice_get (was i) (m.number i)) ∙ slice_get_last (past_of past b0) (content_of content b0) in
+  -- a board that is undone to the newest mark, which was made on another board, is as that one
+  pub undone-back : UndoKeeps net content past aside → (b0 b2 b3 : BoardValue N) (machine : Machine) (mark : ℕ) → mark ≡ length (past_of past b0) → past_of past b2 ≡ past_of past b0 ++ content_of content b0 ∷ []
+      → IsSameLoad b0 b2 → mark_room b2.net - 1 ≡ mark_room b0.net - 1 → (Stands net content past b0 machine → Stands net content past b2 machine) → IsUndone b2 b3 mark → IsBack net content past mark_room b0 b3 machine
+  undone-back undoes b0 b2 b3 machine mark number was load room stands u =
+      let at : slice_get (past_of past b2) mark ≡ Some (content_of content b0) = (λ i. slice_get (was i) (number i)) ∙ slice_get_last (past_of past b0) (content_of content b0) in
       let content_back : content_of content b3 ≡ content_of content b0 = same_Some (content_of content b3) (content_of content b0) (sym u.content_then ∙ at) in
-      let past_back : past_of past b3 ≡ past_of past b0 = u.past_less ∙ (λ i. take (m.number i) (was i)) ∙ take-append_seam (past_of past b0) (content_of content b0 ∷ []) in
+      let past_back : past_of past b3 ≡ past_of past b0 = u.past_less ∙ (λ i. take (number i) (was i)) ∙ take-append_seam (past_of past b0) (content_of content b0 ∷ []) in
       record {
         same_content = content_back;
         same_past = past_back;
-        loaded = load-trans net content past mark_room b0 b2 b3 (load-trans net content past mark_room b0 b1 b2 (load-of b0 b1 m.aside_same) since.load) (load-of b2 b3 u.aside_same);
-        marks = u.room_same ∙ since.room ∙ m.room_same;
-        stands = λ s. undoes b2 b3 machine mark u.content_then u.aside_same u.past_less (since.stands (keeps b0 b1 machine m.content_same m.aside_same m.past_more s));
+        loaded = load-trans net content past mark_room b0 b2 b3 load (load-of b2 b3 u.aside_same);
+        marks = u.room_same ∙ room;
+        stands = λ s. undoes b2 b3 machine mark u.content_then u.aside_same u.past_less (stands s);
       }
+
+  -- what was done since a mark is taken back
+  pub taken-back : MarkKeeps net content past aside → UndoKeeps net content past aside → (b0 b1 b2 b3 : BoardValue N) (machine : Machine) (mark : ℕ) → IsMarked b0 b1 mark → IsSince net content past mark_room b1 b2 machine → IsUndone b2 b3 mark
+      → IsBack net content past mark_room b0 b3 machine
+  taken-back keeps undoes b0 b1 b2 b3 machine mark m since =
+      undone-back undoes b0 b2 b3 machine mark m.number (since.past_same ∙ m.past_more) (load-trans net content past mark_room b0 b1 b2 (load-of b0 b1 m.aside_same) since.load) (since.room ∙ m.room_same)
+      (λ s. since.stands (keeps b0 b1 machine m.content_same m.aside_same m.past_more s))
 
   -- the mark is in force until then
   pub mark-known : (b0 b1 b2 : BoardValue N) (machine : Machine) (mark : ℕ) → IsMarked b0 b1 mark → IsSince net content past mark_room b1 b2 machine → mark < length (past_of past b2)

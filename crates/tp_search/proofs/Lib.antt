@@ -38,3 +38,4 @@ pub mod StepFacts
 pub mod StepBoards
 pub mod AskedFacts
 pub mod AnswerFacts
+pub mod TrialFacts

@@ -8,4 +8,5 @@ pub mod WayLaws
 pub mod Following
 pub mod Searching
 pub mod Outcomes
+pub mod Trials
 pub mod Workspaces

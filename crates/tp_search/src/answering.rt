@@ -6,7 +6,7 @@ ghost use Rattle.tp_schedule.specs.declared.parts.Reply.TheVariants.{Planned};
 ghost use Rattle.tp_placing.specs.Standing.{IsMadeFor};
 ghost use Rattle.tp_search.specs.Workspaces.{IsFor, IsSpentOf};
 
-use crate::searching::Outcome;
+use crate::trying::{NoPlan, plan};
 use crate::workspace::Workspace;
 use tp_base::{Network, Undo};
 use tp_machine::Machine;
@@ -37,12 +37,12 @@ pub fn answer<N: Network>(
     ensures marks { N.mark_room board.new.net ≡ N.mark_room board.old.net }
 {
     board.load(machine, schedule, ask);
-    match work.search(board, machine, ask) {
-        Outcome::Found { base: _ } => {
-            board.commit(machine, schedule);
+    match plan(board, work, machine, ask) {
+        Ok(trial) => {
+            trial.commit(machine, schedule);
             Reply::Planned
         }
-        Outcome::Never => Reply::Never,
-        Outcome::Spent { bound } => Reply::Spent { bound },
+        Err(NoPlan::Never) => Reply::Never,
+        Err(NoPlan::Spent { bound }) => Reply::Spent { bound },
     }
 }

@@ -11,6 +11,7 @@ mod searching;
 mod states;
 mod store;
 mod taking;
+mod trying;
 mod workspace;
 
 pub use answering::answer;
@@ -18,5 +19,5 @@ pub use laws::{
     complete_ways_start, late_lists_stay_shut, lists_without_room_stay_shut,
     open_lists_have_places, steps_make_ways, ways_are_lists, ways_open_by_their_times,
 };
-pub use searching::Outcome;
+pub use trying::{NoPlan, Trial, plan};
 pub use workspace::Workspace;

@@ -24,7 +24,7 @@ use tp_schedule::Ask;
 
 /// How a search ended. With `Found` the board carries an earliest plan since the mark `base`: it is to be committed, or undone
 /// to that mark. With `Spent` no plan ends before the bound, in ticks.
-pub enum Outcome {
+pub(crate) enum Outcome {
     Found { base: Mark },
     Never,
     Spent { bound: Tick },

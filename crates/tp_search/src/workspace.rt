@@ -53,7 +53,7 @@ impl Workspace {
     }
 
     /// Searches for an earliest plan of the ask for which the board is loaded, with no goal open and no mark in force.
-    pub fn search<N: Network>(
+    pub(crate) fn search<N: Network>(
         &mut self,
         board: &mut Board<N>,
         machine: &Machine,

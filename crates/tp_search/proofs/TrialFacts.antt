@@ -1,0 +1,103 @@
+-- What a search found is a trial: its end is that of the earliest plans, and what is committed is one of them.
+use Rattle.std.proofs.Common.{◌≡◌, ℕ, ◌<◌, List, length, filter, sym, subst, ◌∙◌, Some, IsSomeAnd, arith}
+use Rattle.std.proofs.lemmas.List.{length-map}
+use Rattle.tp_base.specs.Net.{Net}
+use Rattle.tp_machine.specs.Machines.{IsMachine}
+use Rattle.tp_machine.specs.declared.whole.Machine.{Machine}
+use Rattle.tp_schedule.specs.Answers.{IsAlternative, NoneBefore}
+use Rattle.tp_schedule.specs.Choices.{ChoiceList, IsBound, IsComplete, IsCompleteFrom, OpensTo}
+use Rattle.tp_schedule.specs.Completions.{answered}
+use Rattle.tp_schedule.specs.Living.{is_live}
+use Rattle.tp_schedule.specs.Planning.{CanAsk}
+use Rattle.tp_schedule.specs.Plans.{end_of_plan}
+use Rattle.tp_schedule.specs.Routes.{least_sum, walk}
+use Rattle.tp_schedule.specs.Spots.Spot.{own}
+use Rattle.tp_schedule.specs.declared.parts.Ask.{Ask}
+use Rattle.tp_schedule.specs.declared.parts.Origin.{Origin}
+use Rattle.tp_schedule.specs.declared.parts.Origin.TheVariants.{Feeder as FromFeeder, Front as FromFront}
+use Rattle.tp_schedule.specs.declared.parts.Plan.{Plan}
+use Rattle.tp_choices.specs.LiveParts.{forgotten_on, shift_choice, shifted}
+use Rattle.tp_choices.proofs.CompleteAnswers.{complete_answers}
+use Rattle.tp_choices.proofs.LiveLists.{live_opens}
+use Rattle.tp_choices.proofs.ShiftedLists.{acts-shifted}
+use Rattle.tp_placing.specs.Boards.{BoardValue, suffix_of}
+use Rattle.tp_placing.specs.Laws.{UndoKeeps}
+use Rattle.tp_placing.specs.Ticks.{HasLeastTick, IsLeastTick, TimesOf}
+use Rattle.tp_placing.specs.Writing.{CanCommit}
+use Rattle.tp_placing.proofs.WriteLive.{gone, may-ask, may-forget}
+use Rattle.tp_search.specs.Boards.{IsBack}
+use Rattle.tp_search.specs.Outcomes.{HasAnswer}
+use Rattle.tp_search.specs.Searching.{IsKnownGoal}
+use Rattle.tp_search.specs.Trials.{EndsEarliest, IsEarliestTo, IsTrial, board_in}
+use Rattle.tp_search.specs.declared.trying.Trial.{Trial}
+use Rattle.tp_search.proofs.AnswerFacts.{answer-commits, answer-ends, complete-some, none_before-whole, rest}
+use Rattle.tp_search.proofs.BoardSteps.{IsUndone, undone-back}
+
+-- a complete list stays complete with its places further on
+complete-shifted : (machine : Machine) (ask : Ask) (counts : ℕ → ℕ) (list : ChoiceList) → IsComplete machine ask list → IsComplete machine ask (shifted machine counts list)
+complete-shifted machine ask counts list = go ask.origin where
+  go : (o : Origin) → IsCompleteFrom machine ask list o → IsCompleteFrom machine ask (shifted machine counts list) o
+  go FromFeeder (s, first, start) = (s, subst (λ path. walk machine ask.want path s ≡ Some list.goal) (sym (acts-shifted machine counts list.choices)) first, start)
+  go (FromFront state end count) h = h
+
+-- an alternative before whose end none ends
+pub earliest-to : (machine : Machine) (plans : List Plan) (ask : Ask) (end : ℕ) → NoneBefore machine plans ask end → (new : List Plan) (a : IsAlternative machine plans ask new) → end_of_plan a.plan ≡ end
+    → IsEarliestTo machine plans ask end new
+earliest-to machine plans ask end none new a ends = record { earliest = record { alternative = a; first = subst (NoneBefore machine plans ask) (sym ends) none }; ends = ends }
+
+module _ (machine : Machine) (plans : List Plan) (ask : Ask) (can : CanAsk machine plans ask) (live : List Plan) (is : live ≡ filter (is_live machine ask.now) plans) (list : ChoiceList) (bound : ℕ) where
+  -- a list of the live plans with its places further on, as it is on the whole schedule
+  abbrev further : ChoiceList
+  further = shifted machine (forgotten_on machine plans (gone machine plans ask.now can.plan_on)) list
+
+  further-opens : OpensTo machine live ask list bound → OpensTo machine plans ask further bound
+  further-opens opens =
+      live_opens machine plans ask (gone machine plans ask.now can.plan_on) list bound (may-forget machine plans ask.now can.plan_on) (may-ask machine plans ask can)
+      (subst (λ ps. OpensTo machine ps ask list bound) (rest machine plans ask can live is) opens)
+
+  further-some : 0 < length list.choices → 0 < length further.choices
+  further-some some = omega (arith, some, length-map list.choices (shift_choice machine (forgotten_on machine plans (gone machine plans ask.now can.plan_on))))
+
+  -- a complete list whose bound no alternative ends before tells the end of the earliest plans
+  pub ends-earliest : IsMachine machine → IsKnownGoal machine ask.goal → IsComplete machine ask list → IsBound machine live ask list bound → NoneBefore machine live ask bound → EndsEarliest machine plans ask bound
+  ends-earliest is-machine known complete is-bound none =
+      let opens = further-opens is-bound.opens in
+      let some = further-some (complete-some machine live ask is-machine known list (bound, is-bound.opens) complete) in
+      let done = complete-shifted machine ask (forgotten_on machine plans (gone machine plans ask.now can.plan_on)) list complete in
+      let a = complete_answers machine plans ask further (least_sum machine opens.before) opens.ticks can.plan_on.legal can.asked opens.is_list done some opens.times in (
+        answered plans ask further.choices opens.ticks,
+        earliest-to machine plans ask bound (none_before-whole machine plans ask can live is bound none) (answered plans ask further.choices opens.ticks) a.0 (a.1 ∙ opens.ends),
+      )
+
+module _ {N C : Type 0} (net : N → Net) (content : N → C) (past : N → List C) (mark_room : N → ℕ) (b : BoardValue N) (machine : Machine) (trial : Trial N) where
+  -- what a search found is a trial to the least end of its board
+  pub answer-trial : (ask : Ask) → IsMachine machine → IsKnownGoal machine ask.goal → HasAnswer net content past mark_room b (board_in trial) machine ask trial.base.0 → HasLeastTick machine (board_in trial) (own 0) trial.end
+      → IsTrial net content past mark_room b machine trial
+  answer-trial ask is-machine known a least =
+      let b' = board_in trial in
+      record {
+        number = a.number;
+        past_more = a.past_more;
+        loaded = a.loaded;
+        marks = a.marks;
+        stands = a.laid.stands;
+        ask = ask;
+        asked = a.laid.asked;
+        complete = subst (λ o. IsSomeAnd o (λ k. IsSomeAnd (suffix_of b') (CanCommit machine b'.plans k))) a.laid.asked (answer-commits net content past mark_room b b' machine ask trial.base.0 a is-machine known);
+        ends = least;
+        none_before = subst (λ ps. NoneBefore machine ps ask trial.end) (sym a.loaded.plans) (subst (NoneBefore machine b.plans ask) (sym (answer-ends net content past mark_room b b' machine ask trial.base.0 a trial.end least)) a.none_before);
+      }
+
+  -- where it is undone to its mark, the board is as before
+  pub trial-back : {A : Type 0} → (aside : N → A) → UndoKeeps net content past aside → (b' : BoardValue N) → IsTrial net content past mark_room b machine trial
+      → IsUndone net content past aside mark_room (board_in trial) b' trial.base.0 → IsBack net content past mark_room b b' machine
+  trial-back aside undoes b' t u = undone-back net content past aside mark_room undoes b (board_in trial) b' machine trial.base.0 t.number t.past_more t.loaded t.marks (λ _. t.stands) u
+
+-- a board has one least end
+pub same-end : {N : Type 0} → (machine : Machine) (b : BoardValue N) (ask : Ask) → b.ask ≡ Some ask → (end other : ℕ) → HasLeastTick machine b (own 0) end → HasLeastTick machine b (own 0) other → end ≡ other
+same-end machine b ask asked end other one two =
+    let x : IsLeastTick (TimesOf machine b.plans ask (suffix_of b)) (own 0) end = subst (λ o. IsSomeAnd o (λ k. IsLeastTick (TimesOf machine b.plans k (suffix_of b)) (own 0) end)) asked one in
+    let y : IsLeastTick (TimesOf machine b.plans ask (suffix_of b)) (own 0) other = subst (λ o. IsSomeAnd o (λ k. IsLeastTick (TimesOf machine b.plans k (suffix_of b)) (own 0) other)) asked two in
+    let low = x.least y.ticks y.are_times in
+    let high = y.least x.ticks x.are_times in
+    omega (arith, low, high, x.there, y.there)

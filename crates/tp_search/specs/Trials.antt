@@ -1,0 +1,58 @@
+-- What a trial is: its board carries an earliest plan, laid since a mark. And what holds where there is no plan.
+use Rattle.std.specs.Prelude.{◌≡◌, ℕ, ◌-◌, List, [], ◌∷◌, ◌++◌, length, Some, IsSomeAnd}
+use Rattle.std.specs.Borrow.{GName}
+use Rattle.tp_base.specs.Net.{Net}
+use Rattle.tp_machine.specs.declared.whole.Machine.{Machine}
+use Rattle.tp_schedule.specs.Answers.{IsAlternative, IsEarliest, NoneBefore}
+use Rattle.tp_schedule.specs.Plans.{end_of_plan}
+use Rattle.tp_schedule.specs.Spending.{IsSpent}
+use Rattle.tp_schedule.specs.Spots.Spot.{own}
+use Rattle.tp_schedule.specs.declared.parts.Ask.{Ask}
+use Rattle.tp_schedule.specs.declared.parts.Plan.{Plan}
+use Rattle.tp_placing.specs.Boards.{BoardValue, content_of, past_of, suffix_of}
+use Rattle.tp_placing.specs.Calls.{IsSameLoad}
+use Rattle.tp_placing.specs.Standing.{Stands}
+use Rattle.tp_placing.specs.Ticks.{HasLeastTick}
+use Rattle.tp_placing.specs.Writing.{CanCommit}
+use Rattle.tp_search.specs.declared.trying.NoPlan.{NoPlan}
+use Rattle.tp_search.specs.declared.trying.NoPlan.TheVariants.{Never, Spent}
+use Rattle.tp_search.specs.declared.trying.Trial.{Trial}
+
+-- this schedule is an earliest one, and its plan of the asked copy ends at this tick
+pub record IsEarliestTo (machine : Machine) (plans : List Plan) (ask : Ask) (end : ℕ) (plans' : List Plan) : Type 0 where
+  pub earliest : IsEarliest machine plans ask plans'
+  pub ends : end_of_plan earliest.alternative.plan ≡ end
+
+-- the earliest plans end at this tick
+abbrev pub EndsEarliest : Machine → List Plan → Ask → ℕ → Type 0
+EndsEarliest machine plans ask end = (plans' : List Plan) × IsEarliestTo machine plans ask end plans'
+
+-- no alternative exists, or the budget of so many nodes is spent
+abbrev pub IsNoPlan : Machine → List Plan → Ask → ℕ → NoPlan → Type 0
+IsNoPlan machine plans ask nodes Never = (plans' : List Plan) → ¬ IsAlternative machine plans ask plans'
+IsNoPlan machine plans ask nodes (Spent bound) = IsSpent machine plans ask nodes bound
+
+-- the board that a trial borrows, as it is now, the name of the borrow, and the end of the asked copy
+abbrev pub board_in : {N : Type 0} → Trial N → BoardValue N
+board_in trial = trial.board.now
+
+abbrev pub borrow_in : {N : Type 0} → Trial N → GName
+borrow_in trial = trial.board.ghost_name
+
+abbrev pub end_in : {N : Type 0} → Trial N → ℕ
+end_in trial = trial.end
+
+module _ {N C : Type 0} (net : N → Net) (content : N → C) (past : N → List C) (mark_room : N → ℕ) where
+  -- the trial's board carries a plan of its ask that can be committed and ends as the trial tells, and no alternative ends
+  -- before. It was laid since the trial's mark, the newest, which was made on the first board
+  pub record IsTrial (b : BoardValue N) (machine : Machine) (trial : Trial N) : Type 0 where
+    pub number : trial.base.0 ≡ length (past_of past b)
+    pub past_more : past_of past (board_in trial) ≡ past_of past b ++ content_of content b ∷ []
+    pub loaded : IsSameLoad b (board_in trial)
+    pub marks : mark_room (board_in trial).net - 1 ≡ mark_room b.net - 1
+    pub stands : Stands net content past (board_in trial) machine
+    pub ask : Ask
+    pub asked : (board_in trial).ask ≡ Some ask
+    pub complete : IsSomeAnd (suffix_of (board_in trial)) (CanCommit machine (board_in trial).plans ask)
+    pub ends : HasLeastTick machine (board_in trial) (own 0) trial.end
+    pub none_before : NoneBefore machine (board_in trial).plans ask trial.end

@@ -1,0 +1,111 @@
+//! The earliest plan of an ask on a board, before it is written into the schedule.
+ghost use Rattle.std.specs.Prelude.{◌≡◌, ◌+◌, ◌<◌, ◌≤◌, [], List, None, Some, IfErr, IfOk, IsSome, IsSomeAnd};
+ghost use Rattle.std.specs.Borrow.{RestsIfErr, sem};
+ghost use Rattle.tp_schedule.specs.Answers.{IsLeast, follows_front};
+ghost use Rattle.tp_schedule.specs.Plans.{plan_of};
+ghost use Rattle.tp_schedule.specs.declared.parts.Plan.{Plan};
+ghost use Rattle.tp_placing.specs.Boards.{BoardValue, past_of};
+ghost use Rattle.tp_placing.specs.Standing.{Stands};
+ghost use Rattle.tp_placing.specs.Writing.{IsLoadedFrom};
+ghost use Rattle.tp_placing.specs.contracts.board.Board.{the_row};
+ghost use Rattle.tp_search.specs.Boards.{IsBack};
+ghost use Rattle.tp_search.specs.Trials.{EndsEarliest, IsEarliestTo, IsNoPlan, IsTrial, board_in, borrow_in, end_in};
+ghost use Rattle.tp_search.specs.Workspaces.{IsFor};
+
+use crate::searching::Outcome;
+use crate::workspace::Workspace;
+use tp_base::{Mark, Network, Tick, Undo};
+use tp_machine::Machine;
+use tp_placing::{Board, marks_keep_boards};
+use tp_schedule::{Ask, Schedule};
+
+/// Why there is no plan: there can be none, or the workspace stores too few lists to tell. With `Spent` none ends before the
+/// bound, in ticks.
+#[derive(Clone, Copy, PartialEq, Eq, Debug)]
+pub enum NoPlan {
+    Never,
+    Spent { bound: Tick },
+}
+
+/// An earliest plan, which the board carries. A trial can't be dropped: it is to be committed or abandoned.
+pub struct Trial<'b, N: Network> {
+    board: &'b mut Board<N>,
+    base: Mark,
+    end: Tick,
+}
+
+/// Searches for an earliest plan of the ask for which the board is loaded, with no goal open and no mark in force. Without one
+/// the board is as before. Takes no memory.
+pub fn plan<'b, N: Network>(
+    board: &'b mut Board<N>,
+    work: &mut Workspace,
+    machine: &Machine,
+    ask: &Ask,
+) -> Result<Trial<'b, N>, NoPlan>
+    requires work { IsFor work.old machine.now }
+    requires loaded { (plans : List Plan) × IsLoadedFrom machine.now plans ask.now board.old.plans }
+    requires stands { Stands N.net N.content N.past board.old machine.now }
+    requires asked { board.old.ask ≡ Some ask.now }
+    requires closed { board.old.steps ≡ [] }
+    requires unmarked { past_of N.past board.old ≡ [] }
+    requires marks { 8 ≤ N.mark_room board.old.net }
+    ensures* rests { sem 𝓛 (RestsIfErr (the_row N.row N.Network.own N.Undo) board.entry borrow_in result (λ new. IsBack N.net N.content N.past N.mark_room board.old new machine.now)) }
+    ensures same_reference { IfOk result (λ trial. borrow_in trial ≡ board.entry.ghost_name) }
+    ensures trial { IfOk result (IsTrial N.net N.content N.past N.mark_room board.old machine.now) }
+    ensures end { (plans : List Plan) → IsLoadedFrom machine.now plans ask.entry.now board.old.plans → IfOk result (λ trial. EndsEarliest machine.now plans ask.entry.now (end_in trial)) }
+    ensures none { (plans : List Plan) → IsLoadedFrom machine.now plans ask.entry.now board.old.plans → IfErr result (IsNoPlan machine.now plans ask.entry.now work.old.nodes) }
+    ensures work { work.new ≡ work.old }
+{
+    match work.search(board, machine, ask) {
+        Outcome::Found { base } => {
+            let end = board.end_bound();
+            Ok(Trial { board, base, end })
+        }
+        Outcome::Never => Err(NoPlan::Never),
+        Outcome::Spent { bound } => Err(NoPlan::Spent { bound }),
+    }
+}
+
+impl<N: Network> Trial<'_, N> {
+    /// The tick at which the asked copy ends.
+    pub fn end(&self) -> Tick
+        ensures { result ≡ end_in self.now }
+    {
+        self.end
+    }
+
+    /// Writes the plan, and the times of all live plans with it, into the schedule that the board was loaded from. Takes one
+    /// spare plan for a new copy, and no memory. The board is no longer right for that schedule: whoever asks next loads it
+    /// again.
+    pub fn commit(self, machine: &Machine, schedule: &mut Schedule)
+        requires trial { (b : BoardValue N) × IsTrial N.net N.content N.past N.mark_room b machine.now self }
+        requires loaded { IsSomeAnd (board_in self).ask (λ ask. IsLoadedFrom machine.now schedule.old.plans ask (board_in self).plans) }
+        requires spare { IsSomeAnd (board_in self).ask (λ ask. plan_of ask.sheet schedule.old.plans ≡ None → 0 < schedule.old.spare) }
+        ensures earliest { IsSomeAnd (board_in self.entry).ask (λ ask. IsEarliestTo machine.now schedule.old.plans ask (end_in self.entry) schedule.new.plans) }
+        ensures least { IsSomeAnd (board_in self.entry).ask (λ ask. IsLeast machine.now ask.now (follows_front ask) schedule.new.plans) }
+        ensures new_copy { IsSomeAnd (board_in self.entry).ask (λ ask. plan_of ask.sheet schedule.old.plans ≡ None → schedule.new.spare + 1 ≡ schedule.old.spare) }
+        ensures in_flight { IsSomeAnd (board_in self.entry).ask (λ ask. IsSome (plan_of ask.sheet schedule.old.plans) → schedule.new.spare ≡ schedule.old.spare) }
+        ensures board { self.exit.0.now ≡ board_in self.entry }
+    {
+        let Trial {
+            board,
+            base: _,
+            end: _,
+        } = self;
+        board.commit(machine, schedule);
+    }
+
+    /// Takes the plan off the board, which is then as before `plan`.
+    pub fn abandon(self)
+        requires trial { (b : BoardValue N) × (machine : Machine) × IsTrial N.net N.content N.past N.mark_room b machine self }
+        ensures back { (b : BoardValue N) (machine : Machine) → IsTrial N.net N.content N.past N.mark_room b machine self.entry → IsBack N.net N.content N.past N.mark_room b self.exit.0.now machine }
+    {
+        marks_keep_boards::<N>();
+        let Trial {
+            board,
+            base,
+            end: _,
+        } = self;
+        board.undo_to(base);
+    }
+}
