@@ -27,7 +27,7 @@ use Rattle.tp_placing.specs.Writing.{CanCommit}
 use Rattle.tp_placing.proofs.WriteLive.{gone, may-ask, may-forget}
 use Rattle.tp_search.specs.Boards.{IsBack}
 use Rattle.tp_search.specs.Outcomes.{HasAnswer}
-use Rattle.tp_search.specs.Searching.{IsKnownGoal}
+use Rattle.tp_schedule.specs.Planning.{IsKnownGoal}
 use Rattle.tp_search.specs.Trials.{EndsEarliest, IsEarliestTo, IsTrial, board_in}
 use Rattle.tp_search.specs.declared.trying.Trial.{Trial}
 use Rattle.tp_search.proofs.AnswerFacts.{answer-commits, answer-ends, complete-some, none_before-whole, rest}
