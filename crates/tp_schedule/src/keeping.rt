@@ -1,7 +1,7 @@
-ghost use Rattle.std.specs.Prelude.{◌≡◌, ◌+◌, ◌^◌, ◌<◌, ◌≤◌, ◌↔◌, [], length, slice_get, Some, None, IsTrue, IsSome, IsSomeAnd, OnOk, IfOk, position};
+ghost use Rattle.std.specs.Prelude.{◌≡◌, ◌+◌, ◌^◌, ◌<◌, ◌≤◌, ◌↔◌, [], length, filter, set, slice_get, Some, None, IsTrue, IsSome, IsSomeAnd, OnOk, IfOk, position};
 
 use crate::copies::{copy_place, place_of, plan_in, write_plan};
-use crate::holding::{count_holders, count_live};
+use crate::holding::{count_holders, count_live, is_plan_live};
 use crate::ordering::holds_by_time;
 use crate::parts::{Hold, Plan, SheetId};
 use crate::series::Points;
@@ -33,7 +33,7 @@ impl Schedule {
     ghost use Rattle.tp_schedule.specs.Plans.{IsFormed, is_same_copy, plan_of, put_plan, change_plan, with_points, with_released};
     ghost use Rattle.tp_schedule.specs.Holding.{held};
     ghost use Rattle.tp_schedule.specs.Legality.{IsLegal};
-    ghost use Rattle.tp_schedule.specs.Living.{live_count};
+    ghost use Rattle.tp_schedule.specs.Living.{is_live, live_count};
     ghost use Rattle.tp_schedule.specs.Spots.{order_of};
 
     pub fn new(alloc: Global) -> Schedule
@@ -138,6 +138,24 @@ impl Schedule {
         let mut plan = plan_in(self.plans.as_slice(), sheet).copy();
         plan.released = count;
         write_plan(&mut self.plans, plan);
+    }
+
+    /// The same for the plan at the place, without a look for its copy.
+    pub fn freeze_at(&mut self, at: u32, count: u32)
+        requires planned { IsSomeAnd (slice_get self.old.plans at) (λ p. count ≤ length p.acts) }
+        ensures plans { IsSomeAnd (slice_get self.old.plans at) (λ p. self.new.plans ≡ set self.old.plans at (with_released count p)) }
+        ensures spare { self.new.spare ≡ self.old.spare }
+    {
+        self.plans[at as usize].released = count;
+    }
+
+    /// The plans go that are not live at the moment: no point and no hold's end of theirs is above it. Their memory stays, as
+    /// room for others.
+    pub fn forget(&mut self, machine: &Machine, now: Tick)
+        ensures plans { self.new.plans ≡ filter (is_live machine.now now) self.old.plans }
+        ensures spare { self.new.spare + length self.new.plans ≡ self.old.spare + length self.old.plans }
+    {
+        self.plans.retain(|plan| is_plan_live(machine, now, plan));
     }
 
     /// Whether at most one action holds the resource at the tick. Looks at all plans.

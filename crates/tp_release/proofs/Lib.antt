@@ -1,0 +1,4 @@
+pub mod SortedTells
+pub mod Places
+pub mod DueRuns
+pub mod WayEnds

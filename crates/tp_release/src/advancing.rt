@@ -1,0 +1,51 @@
+//! The move of the clock.
+
+ghost use Rattle.std.specs.Prelude.{◌≡◌, ◌+◌, length, filter, IfOk, OnOk, OnErr};
+ghost use Rattle.tp_schedule.specs.Answers.{KeepsFloors};
+ghost use Rattle.tp_schedule.specs.Legality.{IsLegal};
+ghost use Rattle.tp_schedule.specs.Living.{is_live};
+ghost use Rattle.tp_schedule.specs.Planning.{none_exempt};
+ghost use Rattle.tp_turn.specs.Clock.{clock_tells, released_until};
+ghost use Rattle.tp_turn.specs.Refusals.{clock_refusal};
+ghost use Rattle.tp_release.specs.Refused.{cause_in};
+
+use crate::fault::AdvanceFault;
+use crate::gathering::tells_until;
+use crate::releasing::release_all;
+use std::alloc::Global;
+use tp_base::Tick;
+use tp_machine::Machine;
+use tp_schedule::Schedule;
+use tp_turn::Tell;
+
+const LAST_TICK: Tick = 1_000_000_000;
+
+/// Moves the clock from one moment to another: releases each action that starts within the machine's lead of the new one,
+/// forgets the plans that are not live then, and answers with what is told by moment. Takes the time of all points, and of
+/// a sort of what is told.
+pub fn advance(
+    alloc: Global,
+    machine: &Machine,
+    schedule: &mut Schedule,
+    now: Tick,
+    to: Tick,
+) -> Result<Vec<Tell>, AdvanceFault>
+    requires legal { IsLegal machine.now schedule.old.plans }
+    requires floors { KeepsFloors machine.now now none_exempt schedule.old.plans }
+    ensures refused { cause_in result ≡ clock_refusal now to }
+    ensures told { IfOk result (λ tells. tells.items ≡ clock_tells machine.now now to schedule.old.plans) }
+    ensures plans { OnOk result (schedule.new.plans ≡ filter (is_live machine.now to) (released_until machine.now to schedule.old.plans)) }
+    ensures spare { OnOk result (schedule.new.spare + length schedule.new.plans ≡ schedule.old.spare + length schedule.old.plans) }
+    ensures kept { OnErr result (schedule.new ≡ schedule.old) }
+{
+    if to < now {
+        return Err(AdvanceFault::ClockBack { now });
+    }
+    if to > LAST_TICK {
+        return Err(AdvanceFault::ClockEnd);
+    }
+    let tells = tells_until(alloc, machine, schedule, now, to)?;
+    release_all(schedule, to + machine.lead);
+    schedule.forget(machine, to);
+    Ok(tells)
+}
