@@ -5,3 +5,4 @@ pub mod OrderFacts
 pub mod FirstCopies
 pub mod RefusalFacts
 pub mod KeptFacts
+pub mod BrokenFacts

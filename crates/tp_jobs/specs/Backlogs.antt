@@ -1,5 +1,5 @@
 -- What clauses see of the lines: the jobs and the copies that wait.
-use Rattle.std.specs.Prelude.{ℕ, ◌<◌, ◌^◌, ◌≢◌, List, [], length, map, slice_get, Option, Some, None, All, AllPairs, IsTrue}
+use Rattle.std.specs.Prelude.{ℕ, zero, suc, ◌+◌, ◌<◌, ◌^◌, ◌≢◌, true, List, [], ◌∷◌, length, map, slice_get, Option, Some, None, All, AllPairs, IsTrue}
 use Rattle.tp_machine.specs.declared.parts.LocId.{LocId}
 use Rattle.tp_schedule.specs.Plans.{is_before}
 use Rattle.tp_schedule.specs.declared.parts.SheetId.{SheetId}
@@ -24,6 +24,16 @@ tray_in (Some j) = j.tray
 
 abbrev pub tray_of : List Job → SheetId → LocId
 tray_of jobs copy = tray_in (slice_get jobs copy.job)
+
+-- the jobs, of which one is broken
+abbrev pub mark_broken : ℕ → List Job → List Job
+mark_broken n [] = []
+mark_broken zero (job ∷ jobs) = record job { broken = true } ∷ jobs
+mark_broken (suc n) (job ∷ jobs) = job ∷ mark_broken n jobs
+
+-- the next copy of the sheet
+abbrev pub next_copy : SheetId → SheetId
+next_copy copy = record copy { copy = copy.copy + 1 }
 
 -- a copy waits before another
 abbrev pub WaitsBefore : WaitingCopy → WaitingCopy → Type 0

@@ -1,4 +1,5 @@
 ghost use Rattle.std.specs.Prelude.{◌≡◌, ◌+◌, ◌<◌, ◌^◌, length, slice_get, option_map, Some, None, IsSome, IsSomeAnd, IfSome, IfOk, OnOk, OnErr};
+ghost use Rattle.tp_jobs.specs.Backlogs.{mark_broken, next_copy};
 ghost use Rattle.tp_jobs.specs.Refusing.{job_refusal, refusal_in, tray_named};
 ghost use Rattle.tp_jobs.specs.Waiting.{find_waiting, put_waiting, without_waiting, sheets_of, new_job, with_job};
 
@@ -187,6 +188,33 @@ impl Lines {
         let at = place_behind(self.waiting.as_slice(), sheet);
         self.waiting.insert(at, WaitingCopy { sheet, want })?;
         Ok(())
+    }
+
+    /// The next copy of the sheet waits with this want, in its place in the order of copies, and is the answer.
+    pub fn again(&mut self, sheet: SheetId, want: Sheet) -> Result<SheetId, Memory>
+        requires job { sheet.job < length self.old.jobs }
+        requires number { sheet.copy + 1 < 2 ^ 32 }
+        requires new_copy { find_waiting (next_copy sheet) self.old.waiting ≡ None }
+        requires room { length self.old.waiting + 1 < 2 ^ 32 }
+        ensures next { IfOk result (λ copy. copy ≡ next_copy sheet) }
+        ensures waits { OnOk result (self.new ≡ record { jobs = self.old.jobs; waiting = put_waiting self.old.waiting (record { sheet = next_copy sheet; want = want }) }) }
+        ensures memory { OnErr result (self.new ≡ self.old) }
+    {
+        let next = SheetId {
+            job: sheet.job,
+            number: sheet.number,
+            copy: sheet.copy + 1,
+        };
+        self.wait(next, want)?;
+        Ok(next)
+    }
+
+    /// The job is broken. Its copies that wait stay: whoever breaks it takes them.
+    pub fn break_job(&mut self, job: u32)
+        requires { job < length self.old.jobs }
+        ensures { self.new ≡ record { jobs = mark_broken job self.old.jobs; waiting = self.old.waiting } }
+    {
+        self.jobs[job as usize].broken = true;
     }
 
     /// The copy waits no more.

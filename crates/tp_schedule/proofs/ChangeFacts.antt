@@ -1,11 +1,12 @@
 -- A plan is changed by a write at its place.
-use Rattle.std.proofs.Common.{◌≡◌, ℕ, suc, ◌<◌, ◌≤◌, Bool, true, false, cond, List, [], ◌∷◌, set, get_or, length, position, Some, None, Option, IsSome, IsSomeAnd, All, refl, ap, arith, sym, ◌∙◌, subst}
+use Rattle.std.proofs.Common.{◌+◌, ◌≡◌, ℕ, suc, ◌<◌, ◌≤◌, Bool, true, false, cond, List, [], ◌∷◌, set, get_or, length, position, Some, None, Option, IsSome, IsSomeAnd, All, refl, ap, arith, sym, ◌∙◌, subst}
 use Rattle.std.specs.List.{position_or_len}
 use Rattle.std.proofs.lemmas.Bool.Decides.{nat_tests}
 use Rattle.std.proofs.Math.Numerals.{one-add}
 use Rattle.tp_schedule.specs.declared.parts.Plan.{Plan}
 use Rattle.tp_schedule.specs.declared.parts.SheetId.{SheetId}
-use Rattle.tp_schedule.specs.Plans.{is_same_copy, change_plan, plan_of, with_points, with_released, IsFormed}
+use Rattle.std.proofs.lemmas.List.{length-take-le}
+use Rattle.tp_schedule.specs.Plans.{is_same_copy, change_plan, plan_of, cut_to, with_points, with_released, IsFormed}
 use Rattle.std.proofs.lemmas.List.Elements.{All-cons, All-head, All-tail}
 use Rattle.tp_schedule.proofs.CopyFacts.{same_copy-is}
 use Rattle.std.specs.Prelude.{AllPairs}
@@ -145,6 +146,13 @@ All-plan_of P copy (q ∷ plans) p all is = go (is_same_copy q.sheet copy) is (A
 
 pub IsFormed-with_released : (p : Plan) (count : ℕ) → IsFormed p → count ≤ length p.acts → IsFormed (with_released count p)
 IsFormed-with_released p count formed within = record { some = formed.some; one_more = formed.one_more; released = within }
+
+pub IsFormed-cut_to : (p : Plan) (kept : ℕ) → IsFormed p → 1 ≤ kept → kept ≤ length p.acts → IsFormed (cut_to kept p)
+IsFormed-cut_to p kept formed some within =
+    let acts = length-take-le kept p.acts within in
+    let one_more = formed.one_more in
+    let points = length-take-le (kept + 1) p.points (omega arith) in
+    record { some = omega arith; one_more = omega arith; released = omega arith }
 
 pub IsSome-planned : (copy : SheetId) (P : Plan → Type 0) (plans : List Plan) → IsSomeAnd (plan_of copy plans) P → IsSome (plan_of copy plans)
 IsSome-planned copy P plans h = go (plan_of copy plans) h where

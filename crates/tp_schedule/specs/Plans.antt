@@ -1,5 +1,5 @@
 -- Copies and their order; plans in time, and which of their points are fixed.
-use Rattle.std.specs.Prelude.{◌≡◌, ℕ, ◌+◌, ◌<◌, ◌≤◌, Bool, true, false, not, ◌&&◌, ◌||◌, ◌==◌, nat_lt, nat_le, List, [], ◌∷◌, length, slice_index, slice_get, Option, Some, filter, find, Contains, IsTrue, IsSomeAnd, if◌then◌else◌}
+use Rattle.std.specs.Prelude.{◌≡◌, ℕ, ◌+◌, ◌<◌, ◌≤◌, Bool, true, false, not, ◌&&◌, ◌||◌, ◌==◌, nat_lt, nat_le, List, [], ◌∷◌, length, slice_index, slice_get, Option, Some, filter, find, take, Contains, IsTrue, IsSomeAnd, if◌then◌else◌}
 use Rattle.tp_machine.specs.Using.{action_at}
 use Rattle.tp_machine.specs.declared.parts.ActId.{ActId}
 use Rattle.tp_machine.specs.declared.parts.State.{State}
@@ -106,3 +106,7 @@ with_points points p = record p { points = points }
 -- a plan with so many released actions
 abbrev pub with_released : ℕ → Plan → Plan
 with_released count p = record p { released = count }
+
+-- a plan cut to its first so many actions, all of which are released
+abbrev pub cut_to : ℕ → Plan → Plan
+cut_to kept p = record p { kind = Front; acts = take kept p.acts; points = take (kept + 1) p.points; released = kept }

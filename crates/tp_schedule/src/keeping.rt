@@ -3,7 +3,7 @@ ghost use Rattle.std.specs.Prelude.{◌≡◌, ◌+◌, ◌^◌, ◌<◌, ◌≤
 use crate::copies::{copy_place, place_of, plan_in, write_plan};
 use crate::holding::{count_holders, count_live, is_plan_live};
 use crate::ordering::holds_by_time;
-use crate::parts::{Hold, Plan, SheetId};
+use crate::parts::{Hold, Kind, Plan, SheetId};
 use crate::series::Points;
 use std::alloc::Global;
 use std::marker::Model;
@@ -30,7 +30,7 @@ impl Model for Schedule {
 
 impl Schedule {
     ghost use Rattle.tp_schedule.specs.Timetables.{IsOrdered};
-    ghost use Rattle.tp_schedule.specs.Plans.{IsFormed, is_same_copy, plan_of, put_plan, change_plan, with_points, with_released};
+    ghost use Rattle.tp_schedule.specs.Plans.{IsFormed, is_same_copy, plan_of, put_plan, change_plan, cut_to, with_points, with_released, without};
     ghost use Rattle.tp_schedule.specs.Holding.{held};
     ghost use Rattle.tp_schedule.specs.Legality.{IsLegal};
     ghost use Rattle.tp_schedule.specs.Living.{is_live, live_count};
@@ -147,6 +147,30 @@ impl Schedule {
         ensures spare { self.new.spare ≡ self.old.spare }
     {
         self.plans[at as usize].released = count;
+    }
+
+    /// The copy's plan becomes a front of its first `kept` actions, all of them released.
+    pub fn cut(&mut self, sheet: SheetId, kept: u32)
+        requires some { 1 ≤ kept }
+        requires planned { IsSomeAnd (plan_of sheet self.old.plans) (λ p. kept ≤ length p.acts) }
+        ensures plans { self.new.plans ≡ change_plan sheet (cut_to kept) self.old.plans }
+        ensures spare { self.new.spare ≡ self.old.spare }
+    {
+        let mut plan = plan_in(self.plans.as_slice(), sheet).copy();
+        plan.kind = Kind::Front;
+        plan.acts.cut_to(kept);
+        plan.points.cut_to(kept + 1);
+        plan.released = kept;
+        write_plan(&mut self.plans, plan);
+    }
+
+    /// The copy's plan goes. Its memory stays, as room for another.
+    pub fn withdraw(&mut self, sheet: SheetId)
+        requires planned { IsSome (plan_of sheet self.old.plans) }
+        ensures plans { self.new.plans ≡ without sheet self.old.plans }
+        ensures spare { self.new.spare + length self.new.plans ≡ self.old.spare + length self.old.plans }
+    {
+        self.plans.retain(|plan| plan.sheet != sheet);
     }
 
     /// The plans go that are not live at the moment: no point and no hold's end of theirs is above it. Their memory stays, as

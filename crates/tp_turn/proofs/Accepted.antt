@@ -9,7 +9,8 @@ use Rattle.tp_schedule.specs.declared.parts.Plan.{Plan}
 use Rattle.tp_schedule.specs.declared.recording.Record.{Record}
 use Rattle.tp_schedule.specs.declared.recording.Record.TheVariants.{Again, Purge as PurgeTold}
 use Rattle.tp_turn.specs.States.{SessionState, Outcome, nothing_told, and_then, for_each}
-use Rattle.tp_turn.specs.Lines.{is_job_broken, next_copy}
+use Rattle.tp_jobs.specs.Backlogs.{next_copy}
+use Rattle.tp_turn.specs.Lines.{is_job_broken}
 use Rattle.tp_turn.specs.Labels.{label}
 use Rattle.tp_turn.specs.Fates as fates
 use Rattle.tp_turn.specs.Fates.{Fate, recalls, told_of, told_by, to_purge}

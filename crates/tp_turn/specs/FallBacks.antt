@@ -7,9 +7,10 @@ use Rattle.tp_schedule.specs.declared.parts.Plan.{Plan}
 use Rattle.tp_schedule.specs.declared.parts.SheetId.{SheetId}
 use Rattle.tp_schedule.specs.declared.recording.Record.{Record}
 use Rattle.tp_schedule.specs.declared.recording.Record.TheVariants.{Again, Broken, Drop}
+use Rattle.tp_jobs.specs.Backlogs.{mark_broken, next_copy}
 use Rattle.tp_jobs.specs.Waiting.{put_waiting}
 use Rattle.tp_turn.specs.States.{SessionState, Outcome, nothing_told, and_then}
-use Rattle.tp_turn.specs.Lines.{is_same_line, is_job_broken, mark_broken, is_lost, is_of_job, next_copy}
+use Rattle.tp_turn.specs.Lines.{is_same_line, is_job_broken, is_lost, is_of_job}
 use Rattle.tp_turn.specs.Labels.{job_name, label}
 use Rattle.tp_turn.specs.Moments.{is_in_flight, is_unstarted, is_entering, is_to_tray}
 use Rattle.tp_turn.specs.Fates as fates

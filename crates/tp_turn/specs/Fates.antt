@@ -5,10 +5,11 @@ use Rattle.tp_schedule.specs.declared.parts.Plan.{Plan}
 use Rattle.tp_schedule.specs.declared.parts.SheetId.{SheetId}
 use Rattle.tp_schedule.specs.declared.recording.Record.{Record}
 use Rattle.tp_schedule.specs.declared.recording.Record.TheVariants.{Lost, Recall, Withdraw, Cut, Purge, Again, Drop}
+use Rattle.tp_jobs.specs.Backlogs.{next_copy}
 use Rattle.tp_jobs.specs.declared.parts.Job.{Job}
 use Rattle.tp_jobs.specs.declared.parts.WaitingCopy.{WaitingCopy}
 use Rattle.tp_turn.specs.States.{SessionState}
-use Rattle.tp_turn.specs.Lines.{is_lost, put_all_waiting, next_copy}
+use Rattle.tp_turn.specs.Lines.{is_lost, put_all_waiting}
 use Rattle.tp_turn.specs.Labels.{label}
 use Rattle.tp_turn.specs.Moments.{recalled, front_of}
 

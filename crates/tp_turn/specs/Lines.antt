@@ -1,5 +1,5 @@
 -- Jobs, their lines, and the copies that wait.
-use Rattle.std.specs.Prelude.{ℕ, zero, suc, ◌+◌, ◌==◌, Bool, true, false, List, [], ◌∷◌, fold, slice_get, Option, Some, None}
+use Rattle.std.specs.Prelude.{ℕ, ◌==◌, Bool, false, List, fold, slice_get, Option, Some, None}
 use Rattle.std.specs.List.{list_any}
 use Rattle.tp_schedule.specs.Plans.{is_same_copy}
 use Rattle.tp_schedule.specs.declared.parts.Plan.{Plan}
@@ -25,11 +25,6 @@ sheet_total jobs job = sheets_in (slice_get jobs job)
 abbrev pub is_job_broken : List Job → ℕ → Bool
 is_job_broken jobs job = broken_in (slice_get jobs job)
 
-abbrev pub mark_broken : ℕ → List Job → List Job
-mark_broken n [] = []
-mark_broken zero (job ∷ jobs) = record job { broken = true } ∷ jobs
-mark_broken (suc n) (job ∷ jobs) = job ∷ mark_broken n jobs
-
 -- a line is all sheets that are asked for one tray, in the order of copies
 abbrev pub is_same_line : List Job → SheetId → SheetId → Bool
 is_same_line jobs a b = (tray_of jobs a).0 == (tray_of jobs b).0
@@ -44,7 +39,3 @@ put_all_waiting waiting more = fold put_waiting waiting more
 
 abbrev pub is_of_job : ℕ → WaitingCopy → Bool
 is_of_job job w = w.sheet.job == job
-
--- the next copy of the sheet
-abbrev pub next_copy : SheetId → SheetId
-next_copy copy = record copy { copy = copy.copy + 1 }
