@@ -1,15 +1,14 @@
 -- What a plan does at a moment.
-use Rattle.std.specs.Prelude.{ℕ, ◌+◌, Bool, true, false, not, ◌&&◌, ◌==◌, nat_lt, nat_le, List, length, filter, take, count_by, Option, Some, None}
+use Rattle.std.specs.Prelude.{ℕ, ◌+◌, Bool, true, false, not, ◌&&◌, ◌==◌, nat_lt, nat_le, List, length, filter, count_by, Option, Some, None}
 use Rattle.std.specs.List.{list_any}
 use Rattle.tp_machine.specs.Using.{action_at, uses_module}
 use Rattle.tp_machine.specs.declared.parts.ActId.{ActId}
 use Rattle.tp_machine.specs.declared.parts.Action.{Action}
 use Rattle.tp_machine.specs.declared.whole.Machine.{Machine}
-use Rattle.tp_schedule.specs.Plans.{point, is_front}
+use Rattle.tp_schedule.specs.Plans.{cut_to, point, is_front}
 use Rattle.tp_schedule.specs.Holding.{Run, runs_of}
 use Rattle.tp_schedule.specs.declared.parts.Goal.{Goal}
 use Rattle.tp_schedule.specs.declared.parts.Goal.TheVariants.{Tray, Purge}
-use Rattle.tp_schedule.specs.declared.parts.Kind.TheVariants.{Front}
 use Rattle.tp_schedule.specs.declared.parts.Plan.{Plan}
 
 -- an action has started from its start on, and runs until just before its end
@@ -61,12 +60,7 @@ abbrev pub started_count : ℕ → Plan → ℕ
 started_count now p = count_by (is_started now) (runs_of p)
 
 abbrev pub front_of : ℕ → Plan → Plan
-front_of now p = record p {
-  kind = Front;
-  acts = take (started_count now p) p.acts;
-  points = take (started_count now p + 1) p.points;
-  released = started_count now p;
-}
+front_of now p = cut_to (started_count now p) p
 
 -- the released actions that have not started: they are taken back where a plan is cut or goes
 abbrev pub is_recalled : ℕ → Plan → Run → Bool
