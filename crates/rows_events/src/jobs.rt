@@ -301,6 +301,38 @@ fn taken_and_back(rt: HostRuntime) -> Result<(), Fail> {
     Ok(())
 }
 
+/// Takes the only copy that waits, and lets the next copy of its sheet wait.
+fn renew(lines: &mut Lines) -> Result<SheetId, Fail> {
+    let Some(first) = lines.next_to_try(None, &Blocked::none()) else {
+        return Err(Fail::from("no copy"));
+    };
+    let want = lines.want_of(first);
+    lines.taken(first);
+    if lines.waiting() > 0 || first.copy == u32::MAX {
+        return Err(Fail::from("another copy than the row's"));
+    }
+    match lines.again(first, want) {
+        Ok(next) => Ok(next),
+        Err(_) => Err(Fail::from("memory")),
+    }
+}
+
+#[test]
+fn again_and_broken(rt: HostRuntime) -> Result<(), Fail> {
+    let machine = machine_of(rt.alloc(), DUO)?;
+    let mut lines = one_job(rt.alloc(), &machine, b"job j t plain MM:F")?;
+    let next = renew(&mut lines)?;
+    assert_eq!(rt; next.copy, 2);
+    let given = tried(rt.alloc(), &lines, &Blocked::none())?;
+    assert_eq!(rt; given.as_slice(), b"j.1.2 MM ".as_slice());
+    if let Some(waits) = lines.next_to_try(None, &Blocked::none()) {
+        lines.break_job(waits.job);
+        assert!(rt; lines.is_broken(waits.job));
+    }
+    assert_eq!(rt; lines.waiting(), 1);
+    Ok(())
+}
+
 /// A job of one sheet, with this number in its name. Where 4,096 copies wait, the first is taken.
 fn add_numbered(
     alloc: Global,

@@ -8,7 +8,10 @@ use std::test::Fail;
 use tp_base::{Name, Tick};
 use tp_machine::{ActId, Face, LocId, Machine, Outs, ResId, Sheet, State, Want};
 use tp_machine_text::read_machine;
-use tp_schedule::{Acts, Ask, Goal, Kind, Origin, Plan, Points, Schedule, SheetId, is_start};
+use tp_schedule::{
+    Acts, Ask, Goal, Kind, Origin, Plan, Points, Schedule, SheetId, finished, is_earlier, is_goal,
+    is_start, new_sheet,
+};
 
 fn machine_of(alloc: Global, text: &str) -> Result<Machine, Fail> {
     match read_machine(alloc, text.as_bytes()) {
@@ -225,6 +228,21 @@ fn a_plan_is_changed(rt: HostRuntime) -> Result<(), Fail> {
 }
 
 #[test]
+fn a_plan_is_cut_and_goes(rt: HostRuntime) -> Result<(), Fail> {
+    let alloc = rt.alloc();
+    let want = sheet_of(Want::Mono, Want::Blank)?;
+    let mut schedule = one(alloc, plan_of(FIRST, want, 3, &[0, 2, 3], &[3, 5, 11, 14])?)?;
+    schedule.cut(FIRST, 2);
+    let front = schedule.plan_at(0);
+    assert!(rt; front.kind == Kind::Front && front.released == 2);
+    assert_eq!(rt; front.acts.as_slice(), [ActId(0), ActId(2)].as_slice());
+    assert_eq!(rt; front.points.as_slice(), [3, 5, 11].as_slice());
+    schedule.withdraw(FIRST);
+    assert_eq!(rt; schedule.len(), 0);
+    Ok(())
+}
+
+#[test]
 fn an_empty_schedule_has_an_empty_order(rt: HostRuntime) -> Result<(), Fail> {
     let alloc = rt.alloc();
     let duo = machine_of(alloc, DUO)?;
@@ -235,15 +253,10 @@ fn an_empty_schedule_has_an_empty_order(rt: HostRuntime) -> Result<(), Fail> {
 }
 
 #[test]
-fn a_new_copy_starts_at_a_feeder_of_its_media(rt: HostRuntime) -> Result<(), Fail> {
+fn a_new_copy_goes_from_a_feeder_of_its_media_to_its_tray(rt: HostRuntime) -> Result<(), Fail> {
     let alloc = rt.alloc();
     let duo = machine_of(alloc, DUO)?;
-    let feeder = State {
-        loc: LocId(0),
-        up: Face::Front,
-        front_done: false,
-        back_done: false,
-    };
+    let feeder = new_sheet(LocId(0));
     let ask = Ask {
         sheet: FIRST,
         name: name_of(b"j1")?,
@@ -259,5 +272,14 @@ fn a_new_copy_starts_at_a_feeder_of_its_media(rt: HostRuntime) -> Result<(), Fai
     };
     assert!(rt; is_start(&duo, &ask, feeder));
     assert!(rt; !is_start(&duo, &ask, elsewhere));
+    let printed = State {
+        loc: LocId(3),
+        up: Face::Front,
+        front_done: true,
+        back_done: false,
+    };
+    assert!(rt; finished(&ask.want, LocId(3)) == printed);
+    assert!(rt; is_goal(&duo, &ask, printed) && !is_goal(&duo, &ask, feeder));
+    assert!(rt; is_earlier(FIRST, SECOND) && !is_earlier(SECOND, FIRST));
     Ok(())
 }
