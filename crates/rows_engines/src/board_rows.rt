@@ -5,7 +5,7 @@ ghost use Rattle.tp_schedule.specs.Planning.{IsOpenGoal};
 ghost use Rattle.tp_schedule.specs.declared.parts.Ask.{Ask};
 ghost use Rattle.rows_engines.specs.Asking.{IsForNew, IsOpen};
 
-use crate::by_hand::{FEED, OUT, PRINT1, PRINT2, ask_for, board_for, duo, goal_of, name_of};
+use crate::by_hand::{FEED, OUT, PRINT1, PRINT2, ask_for, goal_of, name_of};
 use std::alloc::Global;
 use std::process::Abort;
 use std::test::Fail;
@@ -121,24 +121,21 @@ fn bound_of<N: Network>(
     Ok(bound)
 }
 
-fn bound_on_duo(alloc: Global, way: &[(ActId, u32)]) -> Result<Tick, Fail>
-    requires { length way.now ≤ 50 }
+/// The bounds by the faster engine and by the other one.
+pub(crate) fn bounds<N: Network>(
+    rt: &impl Abort,
+    alloc: Global,
+    board: &mut Board<N>,
+    machine: &Machine,
+) -> Result<(), Fail>
+    requires made { IsMadeFor board.old.made_for machine.now }
+    requires marks { N.mark_room board.old.net ≡ 330 }
+    ensures made { OnOk result (IsMadeFor board.new.made_for machine.now) }
+    ensures marks { OnOk result (N.mark_room board.new.net ≡ 330) }
 {
-    let machine = duo(alloc)?;
-    let mut board = board_for(alloc, &machine)?;
-    bound_of(alloc, &mut board, &machine, way)
-}
-
-#[test]
-fn first_plan(rt: HostRuntime) -> Result<(), Fail> {
-    let bound = bound_on_duo(rt.alloc(), &[(OUT, 8), (PRINT2, 2), (FEED, 0)])?;
-    assert_eq!(rt; bound, 14);
-    Ok(())
-}
-
-#[test]
-fn other_engine(rt: HostRuntime) -> Result<(), Fail> {
-    let bound = bound_on_duo(rt.alloc(), &[(OUT, 8), (PRINT1, 2)])?;
-    assert_eq!(rt; bound, 17);
+    let first = bound_of(alloc, board, machine, &[(OUT, 8), (PRINT2, 2), (FEED, 0)])?;
+    assert_eq!(rt; first, 14);
+    let other = bound_of(alloc, board, machine, &[(OUT, 8), (PRINT1, 2)])?;
+    assert_eq!(rt; other, 17);
     Ok(())
 }

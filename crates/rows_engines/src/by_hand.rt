@@ -1,11 +1,10 @@
-// The machine DUO, and what is asked on it.
+// The machines of the rows, and what is asked on DUO.
 ghost use Rattle.std.specs.Prelude.{◌≡◌, [], IfOk};
 ghost use Rattle.tp_placing.specs.Standing.{IsMadeFor};
 ghost use Rattle.tp_schedule.specs.Planning.{IsOpenGoal};
 ghost use Rattle.tp_schedule.specs.declared.parts.Ask.{Ask};
 ghost use Rattle.tp_schedule.specs.declared.parts.Origin.TheVariants.{Feeder};
 
-use rows_machine::machines::DUO;
 use std::alloc::Global;
 use std::test::Fail;
 use tp_base::{Name, Network};
@@ -23,8 +22,8 @@ pub(crate) const PRINT2: ActId = ActId(2);
 
 pub(crate) const OUT: ActId = ActId(3);
 
-pub(crate) fn duo(alloc: Global) -> Result<Machine, Fail> {
-    match read_machine(alloc, DUO.as_bytes()) {
+pub(crate) fn machine_of(alloc: Global, text: &str) -> Result<Machine, Fail> {
+    match read_machine(alloc, text.as_bytes()) {
         Ok(machine) => Ok(machine),
         Err(_) => Err(Fail::from("the machine text is refused")),
     }

@@ -1,38 +1,61 @@
 // A copy in flight on the machine DUO, whose last action is planned behind its front.
+ghost use Rattle.std.specs.Prelude.{OnOk, IfOk};
 ghost use Rattle.tp_placing.specs.Standing.{IsMadeFor};
+ghost use Rattle.tp_routes.specs.Tables.{IsMadeFor as IsTableFor};
+ghost use Rattle.tp_schedule.specs.Planning.{CanPlanOn};
 
-use crate::by_hand::{OUT, board_for, duo, goal_of};
+use crate::by_hand::{OUT, goal_of};
 use crate::flying::{one_flying, rest_of};
 use crate::laying::{begin, lay};
 use crate::planned_rows::one_planned;
-use crate::rooms_rows::{rooms_for, state_at};
+use crate::rooms_rows::state_at;
 use std::alloc::Global;
 use std::process::Abort;
 use std::test::Fail;
 use tp_base::{Late, Network, Tick};
 use tp_machine::Machine;
 use tp_placing::Board;
-use tp_schedule::{Origin, is_start};
+use tp_routes::Rooms;
+use tp_schedule::{Origin, Schedule, is_start};
 
-/// Where the first sheet's front of two actions ends, and the bound of the sheet's end where only the way out is left.
-fn bound_behind_front<N: Network>(
+/// A schedule with the first sheet's front of two actions.
+fn first_flying<N: Network>(
     alloc: Global,
     board: &mut Board<N>,
+    rooms: &mut Rooms,
     machine: &Machine,
-) -> Result<(Origin, Tick), Fail>
-    requires { IsMadeFor board.old.made_for machine.now }
+) -> Result<Schedule, Fail>
+    requires made { IsMadeFor board.old.made_for machine.now }
+    requires table { IsTableFor rooms.old machine.now }
+    ensures made { OnOk result (IsMadeFor board.new.made_for machine.now) }
+    ensures table { OnOk result (IsTableFor rooms.new machine.now) }
+    ensures plan_on { IfOk result (λ flying. CanPlanOn machine.now 0 flying.plans) }
 {
-    let mut rooms = rooms_for(alloc, machine)?;
-    let planned = one_planned(alloc, board, &mut rooms, machine)?;
-    let flying = one_flying(alloc, machine, &planned, 2)?;
+    let planned = one_planned(alloc, board, rooms, machine)?;
+    one_flying(alloc, machine, &planned, 2)
+}
+
+/// Where the front ends, and the bound of the sheet's end where only the way out is left.
+fn bound_behind_front<N: Network>(
+    board: &mut Board<N>,
+    rooms: &mut Rooms,
+    machine: &Machine,
+    flying: &Schedule,
+) -> Result<(Origin, Tick), Fail>
+    requires made { IsMadeFor board.old.made_for machine.now }
+    requires table { IsTableFor rooms.old machine.now }
+    requires plan_on { CanPlanOn machine.now 0 flying.now.plans }
+    ensures made { OnOk result (IsMadeFor board.new.made_for machine.now) }
+    ensures table { OnOk result (IsTableFor rooms.new machine.now) }
+{
     let ask = rest_of(
         machine,
-        &flying,
+        flying,
         goal_of(machine)?,
         state_at(0, false, false),
     )?;
-    let goal = begin(board, &mut rooms, machine, &flying, &ask, 3)?;
-    let first = lay(board, &rooms, machine, &ask, goal, &[(OUT, 0, 0)])?;
+    let goal = begin(board, rooms, machine, flying, &ask, 3)?;
+    let first = lay(board, rooms, machine, &ask, goal, &[(OUT, 0, 0)])?;
     if !is_start(machine, &ask, first) {
         return Err(Fail::from("the way doesn't begin at the front's end"));
     }
@@ -42,15 +65,20 @@ fn bound_behind_front<N: Network>(
     }
 }
 
-fn bound_on_duo(alloc: Global) -> Result<(Origin, Tick), Fail> {
-    let machine = duo(alloc)?;
-    let mut board = board_for(alloc, &machine)?;
-    bound_behind_front(alloc, &mut board, &machine)
-}
-
-#[test]
-fn way_out_behind_a_front(rt: HostRuntime) -> Result<(), Fail> {
-    let told = bound_on_duo(rt.alloc())?;
+pub(crate) fn way_out_behind_a_front<N: Network>(
+    rt: &impl Abort,
+    alloc: Global,
+    board: &mut Board<N>,
+    rooms: &mut Rooms,
+    machine: &Machine,
+) -> Result<(), Fail>
+    requires made { IsMadeFor board.old.made_for machine.now }
+    requires table { IsTableFor rooms.old machine.now }
+    ensures made { OnOk result (IsMadeFor board.new.made_for machine.now) }
+    ensures table { OnOk result (IsTableFor rooms.new machine.now) }
+{
+    let flying = first_flying(alloc, board, rooms, machine)?;
+    let told = bound_behind_front(board, rooms, machine, &flying)?;
     let origin = Origin::Front {
         state: state_at(2, true, false),
         end: 11,

@@ -6,6 +6,8 @@ mod board_rows;
 #[cfg(test)]
 mod by_hand;
 #[cfg(test)]
+mod duo_rows;
+#[cfg(test)]
 mod flying;
 #[cfg(test)]
 mod flying_rows;
@@ -19,7 +21,8 @@ mod network_rows;
 mod planned_rows;
 #[cfg(test)]
 mod pool_rows;
-pub mod probing;
+#[cfg(test)]
+mod probing;
 #[cfg(test)]
 mod reason_rows;
 #[cfg(test)]

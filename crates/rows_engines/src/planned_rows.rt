@@ -7,9 +7,8 @@ ghost use Rattle.tp_schedule.specs.Planning.{CanPlanOn, IsOpenGoal};
 ghost use Rattle.tp_schedule.specs.declared.parts.Origin.TheVariants.{Feeder};
 ghost use Rattle.rows_engines.specs.Laying.{IsLaid};
 
-use crate::by_hand::{FEED, OUT, PRINT1, PRINT2, ask_for, board_for, duo, goal_of, name_of};
+use crate::by_hand::{FEED, OUT, PRINT1, PRINT2, ask_for, goal_of, name_of};
 use crate::laying::{begin, bound_with, bounds_where_late, follow, is_askable, lay};
-use crate::rooms_rows::rooms_for;
 use std::alloc::Global;
 use std::process::Abort;
 use std::test::Fail;
@@ -93,6 +92,7 @@ fn second_planned<N: Network>(
     requires table { IsTableFor rooms.old machine.now }
     requires plan_on { CanPlanOn machine.now 0 schedule.old.plans }
     ensures made { OnOk result (IsMadeFor board.new.made_for machine.now) }
+    ensures table { OnOk result (IsTableFor rooms.new machine.now) }
     ensures plan_on { OnOk result (CanPlanOn machine.now 0 schedule.new.plans) }
 {
     let way = [(OUT, 8, 1), (PRINT1, 2, 0), (FEED, 0, 0)];
@@ -109,6 +109,7 @@ fn first_settled<N: Network>(
 ) -> Result<[Tick; 4], Fail>
     requires made { IsMadeFor board.old.made_for machine.now }
     requires plan_on { CanPlanOn machine.now 0 schedule.now.plans }
+    ensures { OnOk result (IsMadeFor board.new.made_for machine.now) }
 {
     if schedule.len() != 2 {
         return Err(Fail::from("there are more plans or fewer"));
@@ -127,16 +128,46 @@ fn first_settled<N: Network>(
 fn points_in_turn<N: Network>(
     alloc: Global,
     board: &mut Board<N>,
+    rooms: &mut Rooms,
     machine: &Machine,
+    schedule: &mut Schedule,
 ) -> Result<[[Tick; 4]; 4], Fail>
-    requires { IsMadeFor board.old.made_for machine.now }
+    requires made { IsMadeFor board.old.made_for machine.now }
+    requires table { IsTableFor rooms.old machine.now }
+    requires plan_on { CanPlanOn machine.now 0 schedule.old.plans }
+    ensures made { OnOk result (IsMadeFor board.new.made_for machine.now) }
+    ensures table { OnOk result (IsTableFor rooms.new machine.now) }
 {
-    let mut rooms = rooms_for(alloc, machine)?;
-    let mut schedule = one_planned(alloc, board, &mut rooms, machine)?;
-    let first = points_of(&schedule, 1, 0)?;
-    let [moved, second] = second_planned(board, &mut rooms, machine, &mut schedule)?;
-    let back = first_settled(alloc, board, machine, &schedule)?;
+    let first = points_of(schedule, 1, 0)?;
+    let [moved, second] = second_planned(board, rooms, machine, schedule)?;
+    let back = first_settled(alloc, board, machine, schedule)?;
     Ok([first, moved, second, back])
+}
+
+/// Lays the end of a way for the second sheet.
+fn begun_behind<N: Network>(
+    board: &mut Board<N>,
+    rooms: &mut Rooms,
+    machine: &Machine,
+    schedule: &Schedule,
+    way: &[(ActId, u32, u32)],
+) -> Result<(Ask, State), Fail>
+    requires made { IsMadeFor board.old.made_for machine.now }
+    requires table { IsTableFor rooms.old machine.now }
+    requires plan_on { CanPlanOn machine.now 0 schedule.now.plans }
+    requires few { length way.now ≤ 50 }
+    ensures table { OnOk result (IsTableFor rooms.new machine.now) }
+    ensures rooms { IfOk result (λ begun. AreRooms machine.now begun.0 rooms.new.sums) }
+    ensures kept { IfOk result (λ begun. kept_of begun.0 ≤ 10) }
+    ensures laid { IfOk result (λ begun. IsLaid N.net N.content N.past board.new machine.now begun.0 begun.1 (length way.now)) }
+{
+    let ask = new_ask(machine, 2)?;
+    if !is_askable(machine, schedule, &ask) {
+        return Err(Fail::from("the ask doesn't fit the schedule"));
+    }
+    let goal = begin(board, rooms, machine, schedule, &ask, 11)?;
+    let first = lay(board, rooms, machine, &ask, goal, way)?;
+    Ok((ask, first))
 }
 
 /// Lays the end of a way for the second sheet, where the first is planned.
@@ -156,76 +187,48 @@ pub(crate) fn second_begun<N: Network>(
     ensures laid { IfOk result (λ begun. IsLaid N.net N.content N.past board.new machine.now begun.0 begun.1 (length way.now)) }
 {
     let schedule = one_planned(alloc, board, rooms, machine)?;
-    let ask = new_ask(machine, 2)?;
-    if !is_askable(machine, &schedule, &ask) {
-        return Err(Fail::from("the ask doesn't fit the schedule"));
-    }
-    let goal = begin(board, rooms, machine, &schedule, &ask, 11)?;
-    let first = lay(board, rooms, machine, &ask, goal, way)?;
-    Ok((ask, first))
+    begun_behind(board, rooms, machine, &schedule, way)
 }
 
 /// The bounds of the second sheet's end on a way, and with each of two choices more.
 fn bounds_of<N: Network>(
     alloc: Global,
     board: &mut Board<N>,
+    rooms: &mut Rooms,
     machine: &Machine,
     way: &[(ActId, u32, u32)],
     choices: [(ActId, u32, u32); 2],
 ) -> Result<[Tick; 3], Fail>
     requires made { IsMadeFor board.old.made_for machine.now }
+    requires table { IsTableFor rooms.old machine.now }
     requires few { length way.now ≤ 50 }
+    ensures made { OnOk result (IsMadeFor board.new.made_for machine.now) }
+    ensures table { OnOk result (IsTableFor rooms.new machine.now) }
 {
-    let mut rooms = rooms_for(alloc, machine)?;
-    let (ask, state) = second_begun(alloc, board, &mut rooms, machine, way)?;
+    let (ask, state) = second_begun(alloc, board, rooms, machine, way)?;
     let bound = board.end_bound();
     let others = way.len() as u32;
     let [one, other] = choices;
-    let with_one = bound_with(board, &rooms, machine, &ask, state, others, one)?;
-    let with_other = bound_with(board, &rooms, machine, &ask, state, others, other)?;
+    let with_one = bound_with(board, rooms, machine, &ask, state, others, one)?;
+    let with_other = bound_with(board, rooms, machine, &ask, state, others, other)?;
     Ok([bound, with_one, with_other])
 }
 
-/// The bounds of the second sheet at its goal, on its way out, and once the first place there is refused.
-fn bounds_refused<N: Network>(
+/// Two plans in turn, of which the second moves the first.
+pub(crate) fn plans_in_turn<N: Network>(
+    rt: &impl Abort,
     alloc: Global,
     board: &mut Board<N>,
+    rooms: &mut Rooms,
     machine: &Machine,
-) -> Result<([Tick; 3], u32), Fail>
-    requires { IsMadeFor board.old.made_for machine.now }
+) -> Result<(), Fail>
+    requires made { IsMadeFor board.old.made_for machine.now }
+    requires table { IsTableFor rooms.old machine.now }
+    ensures made { OnOk result (IsMadeFor board.new.made_for machine.now) }
+    ensures table { OnOk result (IsTableFor rooms.new machine.now) }
 {
-    let mut rooms = rooms_for(alloc, machine)?;
-    let (ask, state) = second_begun(alloc, board, &mut rooms, machine, &[])?;
-    bounds_where_late(board, machine, &ask, state, OUT, 8)
-}
-
-fn points_on_duo(alloc: Global) -> Result<[[Tick; 4]; 4], Fail> {
-    let machine = duo(alloc)?;
-    let mut board = board_for(alloc, &machine)?;
-    points_in_turn(alloc, &mut board, &machine)
-}
-
-fn bounds_on_duo(
-    alloc: Global,
-    way: &[(ActId, u32, u32)],
-    choices: [(ActId, u32, u32); 2],
-) -> Result<[Tick; 3], Fail>
-    requires { length way.now ≤ 50 }
-{
-    let machine = duo(alloc)?;
-    let mut board = board_for(alloc, &machine)?;
-    bounds_of(alloc, &mut board, &machine, way, choices)
-}
-
-fn late_on_duo(alloc: Global) -> Result<([Tick; 3], u32), Fail> {
-    let machine = duo(alloc)?;
-    let mut board = board_for(alloc, &machine)?;
-    bounds_refused(alloc, &mut board, &machine)
-}
-
-#[test]
-fn plans_in_turn(rt: HostRuntime) -> Result<(), Fail> {
-    let points = points_on_duo(rt.alloc())?;
+    let mut schedule = one_planned(alloc, board, rooms, machine)?;
+    let points = points_in_turn(alloc, board, rooms, machine, &mut schedule)?;
     let wanted = [
         [3, 5, 11, 14],
         [5, 7, 13, 16],
@@ -236,26 +239,44 @@ fn plans_in_turn(rt: HostRuntime) -> Result<(), Fail> {
     Ok(())
 }
 
-#[test]
-fn engines_of_the_second(rt: HostRuntime) -> Result<(), Fail> {
-    let choices = [(PRINT2, 2, 0), (PRINT2, 2, 1)];
-    let bounds = bounds_on_duo(rt.alloc(), &[(OUT, 8, 1)], choices)?;
+/// The second sheet's engines, and its feeds.
+pub(crate) fn choices_of_the_second<N: Network>(
+    rt: &impl Abort,
+    alloc: Global,
+    board: &mut Board<N>,
+    rooms: &mut Rooms,
+    machine: &Machine,
+) -> Result<(), Fail>
+    requires made { IsMadeFor board.old.made_for machine.now }
+    requires table { IsTableFor rooms.old machine.now }
+    ensures made { OnOk result (IsMadeFor board.new.made_for machine.now) }
+    ensures table { OnOk result (IsTableFor rooms.new machine.now) }
+{
+    let engines = [(PRINT2, 2, 0), (PRINT2, 2, 1)];
+    let bounds = bounds_of(alloc, board, rooms, machine, &[(OUT, 8, 1)], engines)?;
     assert_eq!(rt; bounds, [15, 21, 20]);
-    Ok(())
-}
-
-#[test]
-fn feeds_of_the_second(rt: HostRuntime) -> Result<(), Fail> {
     let way = [(OUT, 8, 1), (PRINT1, 2, 0)];
-    let choices = [(FEED, 0, 0), (FEED, 0, 1)];
-    let bounds = bounds_on_duo(rt.alloc(), &way, choices)?;
+    let feeds = [(FEED, 0, 0), (FEED, 0, 1)];
+    let bounds = bounds_of(alloc, board, rooms, machine, &way, feeds)?;
     assert_eq!(rt; bounds, [17, 17, 19]);
     Ok(())
 }
 
-#[test]
-fn place_before_the_first_is_late(rt: HostRuntime) -> Result<(), Fail> {
-    let told = late_on_duo(rt.alloc())?;
+/// The bounds of the second sheet at its goal, on its way out, and once the first place there is refused.
+pub(crate) fn place_before_the_first_is_late<N: Network>(
+    rt: &impl Abort,
+    alloc: Global,
+    board: &mut Board<N>,
+    rooms: &mut Rooms,
+    machine: &Machine,
+) -> Result<(), Fail>
+    requires made { IsMadeFor board.old.made_for machine.now }
+    requires table { IsTableFor rooms.old machine.now }
+    ensures made { OnOk result (IsMadeFor board.new.made_for machine.now) }
+    ensures table { OnOk result (IsTableFor rooms.new machine.now) }
+{
+    let (ask, state) = second_begun(alloc, board, rooms, machine, &[])?;
+    let told = bounds_where_late(board, machine, &ask, state, OUT, 8)?;
     assert_eq!(rt; told, ([15, 15, 15], 1));
     Ok(())
 }

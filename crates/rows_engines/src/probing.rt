@@ -1,11 +1,11 @@
-//! Asking a network and taking it back.
+// Asking a network and taking it back.
 ghost use Rattle.std.specs.Prelude.{◌≡◌, ℕ, ◌<◌, ◌≤ℤ◌, pos, negsuc, length, IsTrue, IsFalse};
 ghost use Rattle.tp_base.specs.Net.{HasLeast, HasNoSolution, with_edge};
 
 use tp_base::{Edge, Late, Network};
 
 /// Whether the network could take the edge.
-pub fn could_take<N: Network>(net: &mut N, edge: Edge) -> bool
+pub(crate) fn could_take<N: Network>(net: &mut N, edge: Edge) -> bool
     requires from { edge.from.0 < length (N.net net.old).lows }
     requires to { edge.to.0 < length (N.net net.old).lows }
     requires spare { length (N.net net.old).edges < N.edge_room net.old }

@@ -1,10 +1,11 @@
 // Why the second of two sheets can't be where it is refused on the machine DUO, by name.
+ghost use Rattle.std.specs.Prelude.{OnOk};
 ghost use Rattle.tp_placing.specs.Standing.{IsMadeFor};
+ghost use Rattle.tp_routes.specs.Tables.{IsMadeFor as IsTableFor};
 
-use crate::by_hand::{OUT, board_for, duo, name_of};
+use crate::by_hand::{OUT, name_of};
 use crate::laying::bounds_where_late;
 use crate::planned_rows::second_begun;
-use crate::rooms_rows::rooms_for;
 use crate::telling::{Reason, reason_by, reason_of};
 use std::alloc::Global;
 use std::process::Abort;
@@ -12,6 +13,7 @@ use std::test::Fail;
 use tp_base::{Name, Network, Tick};
 use tp_machine::{Machine, ResId};
 use tp_placing::{Board, Grip, Spot, Why};
+use tp_routes::Rooms;
 use tp_schedule::SheetName;
 
 const RT: ResId = ResId(3);
@@ -37,12 +39,15 @@ fn first_point(job: &Name, at: u32) -> Spot {
 fn place_reason<N: Network>(
     alloc: Global,
     board: &mut Board<N>,
+    rooms: &mut Rooms,
     machine: &Machine,
 ) -> Result<Reason, Fail>
-    requires { IsMadeFor board.old.made_for machine.now }
+    requires made { IsMadeFor board.old.made_for machine.now }
+    requires table { IsTableFor rooms.old machine.now }
+    ensures made { OnOk result (IsMadeFor board.new.made_for machine.now) }
+    ensures table { OnOk result (IsTableFor rooms.new machine.now) }
 {
-    let mut rooms = rooms_for(alloc, machine)?;
-    let (ask, state) = second_begun(alloc, board, &mut rooms, machine, &[])?;
+    let (ask, state) = second_begun(alloc, board, rooms, machine, &[])?;
     bounds_where_late(board, machine, &ask, state, OUT, 8)?;
     reason_of(alloc, board)
 }
@@ -51,26 +56,15 @@ fn place_reason<N: Network>(
 fn end_reason<N: Network>(
     alloc: Global,
     board: &mut Board<N>,
+    rooms: &mut Rooms,
     machine: &Machine,
     last: Tick,
 ) -> Result<Reason, Fail>
-    requires { IsMadeFor board.old.made_for machine.now }
+    requires made { IsMadeFor board.old.made_for machine.now }
+    requires table { IsTableFor rooms.old machine.now }
 {
-    let mut rooms = rooms_for(alloc, machine)?;
-    second_begun(alloc, board, &mut rooms, machine, &[])?;
+    second_begun(alloc, board, rooms, machine, &[])?;
     reason_by(alloc, board, last)
-}
-
-fn place_reason_on_duo(alloc: Global) -> Result<Reason, Fail> {
-    let machine = duo(alloc)?;
-    let mut board = board_for(alloc, &machine)?;
-    place_reason(alloc, &mut board, &machine)
-}
-
-fn end_reason_on_duo(alloc: Global, last: Tick) -> Result<Reason, Fail> {
-    let machine = duo(alloc)?;
-    let mut board = board_for(alloc, &machine)?;
-    end_reason(alloc, &mut board, &machine, last)
 }
 
 /// Whether a reason is a circle of these two edges, wherever it is said to begin.
@@ -84,10 +78,20 @@ fn is_circle_of(reason: &Reason, one: (Why, Spot), other: (Why, Spot)) -> bool {
     }
 }
 
-#[test]
-fn late_place_is_a_circle(rt: HostRuntime) -> Result<(), Fail> {
+pub(crate) fn late_place_is_a_circle<N: Network>(
+    rt: &impl Abort,
+    alloc: Global,
+    board: &mut Board<N>,
+    rooms: &mut Rooms,
+    machine: &Machine,
+) -> Result<(), Fail>
+    requires made { IsMadeFor board.old.made_for machine.now }
+    requires table { IsTableFor rooms.old machine.now }
+    ensures made { OnOk result (IsMadeFor board.new.made_for machine.now) }
+    ensures table { OnOk result (IsTableFor rooms.new machine.now) }
+{
     let job = name_of(b"j1")?;
-    let reason = place_reason_on_duo(rt.alloc())?;
+    let reason = place_reason(alloc, board, rooms, machine)?;
     let hold = Why::Resource {
         resource: RT,
         before: Grip::Own(1),
@@ -112,10 +116,18 @@ fn chain_to_limit(job: &Name) -> [(Why, Spot); 5] {
     ]
 }
 
-#[test]
-fn late_end_is_a_chain(rt: HostRuntime) -> Result<(), Fail> {
+pub(crate) fn late_end_is_a_chain<N: Network>(
+    rt: &impl Abort,
+    alloc: Global,
+    board: &mut Board<N>,
+    rooms: &mut Rooms,
+    machine: &Machine,
+) -> Result<(), Fail>
+    requires made { IsMadeFor board.old.made_for machine.now }
+    requires table { IsTableFor rooms.old machine.now }
+{
     let job = name_of(b"j1")?;
-    let reason = end_reason_on_duo(rt.alloc(), 14)?;
+    let reason = end_reason(alloc, board, rooms, machine, 14)?;
     assert_eq!(rt; reason.first, Some(first_point(&job, 0)));
     assert_eq!(rt; reason.edges.as_slice(), chain_to_limit(&job).as_slice());
     Ok(())

@@ -2,26 +2,15 @@
 ghost use Rattle.std.specs.Prelude.{◌≡◌, ◌<◌, IfOk, length};
 ghost use Rattle.tp_routes.specs.Tables.{IsMadeFor};
 
-use rows_machine::machines::{DUO, LOOP};
+use crate::by_hand::{machine_of, name_of};
+use rows_machine::machines::LOOP;
 use std::alloc::Global;
 use std::process::Abort;
 use std::test::Fail;
 use tp_base::Name;
 use tp_machine::{Face, LocId, Machine, Outs, Sheet, State, Want};
-use tp_machine_text::read_machine;
 use tp_routes::{Rooms, room_law};
 use tp_schedule::{Ask, Goal, Origin, SheetId};
-
-fn machine_of(alloc: Global, text: &str) -> Result<Machine, Fail> {
-    match read_machine(alloc, text.as_bytes()) {
-        Ok(machine) => Ok(machine),
-        Err(_) => Err(Fail::from("a machine text is refused")),
-    }
-}
-
-fn name_of(text: &[u8]) -> Result<Name, Fail> {
-    Ok(Name::read(text).ok_or("no name")?)
-}
 
 pub(crate) fn rooms_for(alloc: Global, machine: &Machine) -> Result<Rooms, Fail>
     ensures { IfOk result (λ rooms. IsMadeFor rooms machine.now) }
@@ -125,40 +114,60 @@ fn look_at(
     Ok(())
 }
 
-#[test]
-fn new_copies(rt: HostRuntime) -> Result<(), Fail> {
+/// The rooms of new copies, with all modules and without an engine or the way out.
+pub(crate) fn new_copies(rt: &impl Abort, rooms: &mut Rooms, machine: &Machine) -> Result<(), Fail>
+    requires { IsMadeFor rooms.old machine.now }
+    ensures { IsMadeFor rooms.new machine.now }
+{
     room_law();
-    let machine = machine_of(rt.alloc(), DUO)?;
-    let mut rooms = rooms_for(rt.alloc(), &machine)?;
     let all = [Some(0), Some(2), Some(8), Some(11), Some(11)];
-    look_at(&rt, &mut rooms, &machine, 0, all)?;
+    look_at(rt, rooms, machine, 0, all)?;
     let without_engine = [Some(0), Some(2), Some(11), Some(14), Some(14)];
-    look_at(&rt, &mut rooms, &machine, 1 << 2, without_engine)?;
+    look_at(rt, rooms, machine, 1 << 2, without_engine)?;
     let without_out = [Some(0), Some(2), Some(8), None, Some(11)];
-    look_at(&rt, &mut rooms, &machine, 1 << 3, without_out)
+    look_at(rt, rooms, machine, 1 << 3, without_out)
 }
 
-#[test]
-fn copy_in_flight(rt: HostRuntime) -> Result<(), Fail> {
-    let machine = machine_of(rt.alloc(), DUO)?;
-    let mut rooms = rooms_for(rt.alloc(), &machine)?;
+pub(crate) fn copy_in_flight(
+    rt: &impl Abort,
+    rooms: &mut Rooms,
+    machine: &Machine,
+) -> Result<(), Fail>
+    requires { IsMadeFor rooms.old machine.now }
+    ensures { IsMadeFor rooms.new machine.now }
+{
     if machine.locations.len() < 5 {
         return Err(Fail::from("a location is lost"));
     }
-    fill_in_flight(&mut rooms, &machine)?;
+    fill_in_flight(rooms, machine)?;
     for (loc, room) in [(1, None), (2, Some(0)), (3, Some(3))] {
-        let given = room_of(&rooms, &machine, state_at(loc, loc > 1, false))?;
+        let given = room_of(rooms, machine, state_at(loc, loc > 1, false))?;
         assert_eq!(rt; given, room, "location {loc}");
     }
     Ok(())
 }
 
+/// The room of the state with both sides done, for a new copy that wants both.
+fn room_of_both(rooms: &mut Rooms, machine: &Machine) -> Result<Option<u32>, Fail>
+    requires { IsMadeFor rooms.old machine.now }
+{
+    fill_new(rooms, machine, Want::Mono, 0)?;
+    room_of(rooms, machine, state_at(2, true, true))
+}
+
+fn new_room_of_both(alloc: Global, machine: &Machine) -> Result<Option<u32>, Fail> {
+    let mut rooms = rooms_for(alloc, machine)?;
+    room_of_both(&mut rooms, machine)
+}
+
+fn room_on_loop(alloc: Global) -> Result<Option<u32>, Fail> {
+    let machine = machine_of(alloc, LOOP)?;
+    new_room_of_both(alloc, &machine)
+}
+
 #[test]
 fn both_sides(rt: HostRuntime) -> Result<(), Fail> {
-    let machine = machine_of(rt.alloc(), LOOP)?;
-    let mut rooms = rooms_for(rt.alloc(), &machine)?;
-    fill_new(&mut rooms, &machine, Want::Mono, 0)?;
-    let given = room_of(&rooms, &machine, state_at(2, true, true))?;
+    let given = room_on_loop(rt.alloc())?;
     // Feed, print, print and out: room looks at durations alone, not at the resource that both
     // prints hold.
     assert_eq!(rt; given, Some(9));

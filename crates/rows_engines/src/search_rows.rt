@@ -5,7 +5,7 @@ ghost use Rattle.tp_schedule.specs.Planning.{CanPlanOn, IsOpenGoal};
 ghost use Rattle.tp_schedule.specs.declared.parts.Origin.TheVariants.{Feeder};
 ghost use Rattle.tp_search.specs.Workspaces.{IsFor};
 
-use crate::by_hand::{ask_for, board_for, duo, goal_of, name_of};
+use crate::by_hand::{ask_for, goal_of, name_of};
 use crate::laying::is_askable;
 use crate::planned_rows::points_of;
 use std::alloc::Global;
@@ -120,6 +120,8 @@ fn points_in_turn<N: Network>(
 ) -> Result<([Reply; 2], [[Tick; 4]; 3]), Fail>
     requires made { IsMadeFor board.old.made_for machine.now }
     requires marks { 8 ≤ N.mark_room board.old.net }
+    ensures made { IsMadeFor board.new.made_for machine.now }
+    ensures marks { 8 ≤ N.mark_room board.new.net }
 {
     let (one, mut schedule) = first_answered(alloc, board, machine, 1000, Outs(0))?;
     let alone = points_of(&schedule, 1, 0)?;
@@ -133,17 +135,20 @@ fn points_in_turn<N: Network>(
     Ok(([one, other], points))
 }
 
-fn points_on_duo(alloc: Global) -> Result<([Reply; 2], [[Tick; 4]; 3]), Fail> {
-    let machine = duo(alloc)?;
-    let mut board = board_for(alloc, &machine)?;
-    points_in_turn(alloc, &mut board, &machine)
-}
-
 /// The first sheet's reply, and the end of its plan if there is one.
-fn first_on_duo(alloc: Global, nodes: u32, outs: Outs) -> Result<(Reply, Option<Tick>), Fail> {
-    let machine = duo(alloc)?;
-    let mut board = board_for(alloc, &machine)?;
-    let (reply, schedule) = first_answered(alloc, &mut board, &machine, nodes, outs)?;
+fn first_end<N: Network>(
+    alloc: Global,
+    board: &mut Board<N>,
+    machine: &Machine,
+    nodes: u32,
+    outs: Outs,
+) -> Result<(Reply, Option<Tick>), Fail>
+    requires made { IsMadeFor board.old.made_for machine.now }
+    requires marks { 8 ≤ N.mark_room board.old.net }
+    ensures made { IsMadeFor board.new.made_for machine.now }
+    ensures marks { 8 ≤ N.mark_room board.new.net }
+{
+    let (reply, schedule) = first_answered(alloc, board, machine, nodes, outs)?;
     if schedule.len() == 0 {
         return Ok((reply, None));
     }
@@ -152,27 +157,53 @@ fn first_on_duo(alloc: Global, nodes: u32, outs: Outs) -> Result<(Reply, Option<
 }
 
 /// The second sheet's reply with so many nodes, where the first is planned.
-fn second_on_duo(alloc: Global, nodes: u32) -> Result<Reply, Fail> {
-    let machine = duo(alloc)?;
-    let mut board = board_for(alloc, &machine)?;
-    let (_, mut schedule) = first_answered(alloc, &mut board, &machine, 1000, Outs(0))?;
-    let mut work = work_for(alloc, &machine, nodes)?;
-    answer_sheet(&mut work, &mut board, &machine, &mut schedule, 2, Outs(0))
+fn second_reply<N: Network>(
+    alloc: Global,
+    board: &mut Board<N>,
+    machine: &Machine,
+    nodes: u32,
+) -> Result<Reply, Fail>
+    requires made { IsMadeFor board.old.made_for machine.now }
+    requires marks { 8 ≤ N.mark_room board.old.net }
+    ensures made { IsMadeFor board.new.made_for machine.now }
+    ensures marks { 8 ≤ N.mark_room board.new.net }
+{
+    let (_, mut schedule) = first_answered(alloc, board, machine, 1000, Outs(0))?;
+    let mut work = work_for(alloc, machine, nodes)?;
+    answer_sheet(&mut work, board, machine, &mut schedule, 2, Outs(0))
 }
 
 // Each sheet has one way that ends first. The first sheet takes the faster engine, from 3 to 14. The second takes the other
 // engine and is fed ahead of the first, from 3 to 17, for which the first gives way; its other ways end at 19, 20 and 21.
-#[test]
-fn earliest_in_turn(rt: HostRuntime) -> Result<(), Fail> {
-    let told = points_on_duo(rt.alloc())?;
+pub(crate) fn earliest_in_turn<N: Network>(
+    rt: &impl Abort,
+    alloc: Global,
+    board: &mut Board<N>,
+    machine: &Machine,
+) -> Result<(), Fail>
+    requires made { IsMadeFor board.old.made_for machine.now }
+    requires marks { 8 ≤ N.mark_room board.old.net }
+    ensures made { IsMadeFor board.new.made_for machine.now }
+    ensures marks { 8 ≤ N.mark_room board.new.net }
+{
+    let told = points_in_turn(alloc, board, machine)?;
     let points = [[3, 5, 11, 14], [5, 7, 13, 16], [3, 5, 14, 17]];
     assert_eq!(rt; told, ([Reply::Planned; 2], points));
     Ok(())
 }
 
 // The modules are FEED, ENG1, ENG2, OUT and DUMP, from bit 0 on. The first engine takes 9 ticks, the second 6.
-#[test]
-fn modules_out(rt: HostRuntime) -> Result<(), Fail> {
+pub(crate) fn modules_out<N: Network>(
+    rt: &impl Abort,
+    alloc: Global,
+    board: &mut Board<N>,
+    machine: &Machine,
+) -> Result<(), Fail>
+    requires made { IsMadeFor board.old.made_for machine.now }
+    requires marks { 8 ≤ N.mark_room board.old.net }
+    ensures made { IsMadeFor board.new.made_for machine.now }
+    ensures marks { 8 ≤ N.mark_room board.new.net }
+{
     let rows = [
         (0b00001, Reply::Never, None),
         (0b00010, Reply::Planned, Some(14)),
@@ -181,8 +212,8 @@ fn modules_out(rt: HostRuntime) -> Result<(), Fail> {
         (0b01000, Reply::Never, None),
         (0b10000, Reply::Planned, Some(14)),
     ];
-    for (outs, reply, end) in rows {
-        let told = first_on_duo(rt.alloc(), 1000, Outs(outs))?;
+    'rows: for (outs, reply, end) in rows {
+        let told = first_end(alloc, board, machine, 1000, Outs(outs))?;
         assert_eq!(rt; told, (reply, end), "{outs} out");
     }
     Ok(())
@@ -192,16 +223,25 @@ fn modules_out(rt: HostRuntime) -> Result<(), Fail> {
 // have the way out, and the second engine with it; the first engine with it has 17. With no node the way out is refused as
 // the goal is opened, with one or two nodes an engine is refused as the way out is opened: the bound is 14. Three nodes do,
 // since the feed completes the second engine's list with that list's bound, and takes no node.
-#[test]
-fn nodes_for_the_first(rt: HostRuntime) -> Result<(), Fail> {
+pub(crate) fn nodes_for_the_first<N: Network>(
+    rt: &impl Abort,
+    alloc: Global,
+    board: &mut Board<N>,
+    machine: &Machine,
+) -> Result<(), Fail>
+    requires made { IsMadeFor board.old.made_for machine.now }
+    requires marks { 8 ≤ N.mark_room board.old.net }
+    ensures made { IsMadeFor board.new.made_for machine.now }
+    ensures marks { 8 ≤ N.mark_room board.new.net }
+{
     let rows = [
         (0, Reply::Spent { bound: 14 }, None),
         (1, Reply::Spent { bound: 14 }, None),
         (2, Reply::Spent { bound: 14 }, None),
         (3, Reply::Planned, Some(14)),
     ];
-    for (nodes, reply, end) in rows {
-        let told = first_on_duo(rt.alloc(), nodes, Outs(0))?;
+    'rows: for (nodes, reply, end) in rows {
+        let told = first_end(alloc, board, machine, nodes, Outs(0))?;
         assert_eq!(rt; told, (reply, end), "{nodes} nodes");
     }
     Ok(())
@@ -211,8 +251,17 @@ fn nodes_for_the_first(rt: HostRuntime) -> Result<(), Fail> {
 // way out. With it the first engine has 17, and the second has 21 ahead of the first sheet and 20 behind it: four lists with
 // choices in all. With fewer nodes one of them is refused as the goal or the way out is opened: the bound is 15. Four nodes do,
 // since a feed ahead of the first sheet's completes the first engine's list with that list's bound, and takes no node.
-#[test]
-fn nodes_for_the_second(rt: HostRuntime) -> Result<(), Fail> {
+pub(crate) fn nodes_for_the_second<N: Network>(
+    rt: &impl Abort,
+    alloc: Global,
+    board: &mut Board<N>,
+    machine: &Machine,
+) -> Result<(), Fail>
+    requires made { IsMadeFor board.old.made_for machine.now }
+    requires marks { 8 ≤ N.mark_room board.old.net }
+    ensures made { IsMadeFor board.new.made_for machine.now }
+    ensures marks { 8 ≤ N.mark_room board.new.net }
+{
     let spent = Reply::Spent { bound: 15 };
     let rows = [
         (0, spent),
@@ -221,8 +270,8 @@ fn nodes_for_the_second(rt: HostRuntime) -> Result<(), Fail> {
         (3, spent),
         (4, Reply::Planned),
     ];
-    for (nodes, reply) in rows {
-        let told = second_on_duo(rt.alloc(), nodes)?;
+    'rows: for (nodes, reply) in rows {
+        let told = second_reply(alloc, board, machine, nodes)?;
         assert_eq!(rt; told, reply, "{nodes} nodes");
     }
     Ok(())

@@ -2,12 +2,19 @@
 use crate::machines::{DUO, LINE, LOOP, TAIL, TWIN};
 use std::alloc::Global;
 use std::test::Fail;
+use tp_machine::Machine;
 use tp_machine_text::{print_machine, read_machine};
 
 /// The text that is printed for the machine of a text.
 fn printed(alloc: Global, text: &[u8]) -> Result<Vec<u8>, Fail> {
-    let machine = read_machine(alloc, text).ok().ok_or("refused")?;
-    Ok(print_machine(alloc, &machine).ok().ok_or("memory")?)
+    match read_machine(alloc, text) {
+        Ok(machine) => text_of(alloc, &machine),
+        Err(_) => Err(Fail::from("refused")),
+    }
+}
+
+fn text_of(alloc: Global, machine: &Machine) -> Result<Vec<u8>, Fail> {
+    Ok(print_machine(alloc, machine).ok().ok_or("memory")?)
 }
 
 #[test]

@@ -4,6 +4,7 @@ ghost use Rattle.tp_schedule.specs.Plans.{IsFormed, is_same_copy};
 
 use crate::machines::{DUO, LOOP, TAIL};
 use std::alloc::Global;
+use std::process::Abort;
 use std::test::Fail;
 use tp_base::{Name, Tick};
 use tp_machine::{ActId, Face, LocId, Machine, Outs, ResId, Sheet, State, Want};
@@ -157,74 +158,113 @@ fn live_at(schedule: &Schedule, machine: &Machine, one: Tick, other: Tick) -> (u
     (schedule.live(machine, one), schedule.live(machine, other))
 }
 
-#[test]
-fn two_sheets_on_duo(rt: HostRuntime) -> Result<(), Fail> {
-    let alloc = rt.alloc();
-    let duo = machine_of(alloc, DUO)?;
+fn two_sheets_on_duo(rt: &impl Abort, alloc: Global, duo: &Machine) -> Result<(), Fail> {
     let schedule = pair_on_duo(alloc, &[0, 1, 3], &[3, 5, 14, 17])?;
     assert_eq!(rt; schedule.find(SECOND), Some(1));
-    assert!(rt; is_legal_till(&schedule, &duo, 4, 21));
-    assert_eq!(rt; live_at(&schedule, &duo, 15, 16), (2, 1));
+    assert!(rt; is_legal_till(&schedule, duo, 4, 21));
+    assert_eq!(rt; live_at(&schedule, duo, 15, 16), (2, 1));
     Ok(())
 }
 
-#[test]
-fn both_prints_on_one_engine(rt: HostRuntime) -> Result<(), Fail> {
-    let alloc = rt.alloc();
-    let duo = machine_of(alloc, DUO)?;
+fn both_prints_on_one_engine(rt: &impl Abort, alloc: Global, duo: &Machine) -> Result<(), Fail> {
     let clash = pair_on_duo(alloc, &[0, 2, 3], &[3, 5, 11, 17])?;
-    assert!(rt; clash.legal_at(&duo, ResId(1), 6));
-    assert!(rt; !clash.legal_at(&duo, ResId(1), 7));
-    assert!(rt; clash.legal_at(&duo, ResId(1), 11));
+    assert!(rt; clash.legal_at(duo, ResId(1), 6));
+    assert!(rt; !clash.legal_at(duo, ResId(1), 7));
+    assert!(rt; clash.legal_at(duo, ResId(1), 11));
     Ok(())
 }
 
+fn an_empty_schedule_has_an_empty_order(
+    rt: &impl Abort,
+    alloc: Global,
+    duo: &Machine,
+) -> Result<(), Fail> {
+    let schedule = Schedule::new(alloc);
+    let order = schedule.order_of(alloc, duo, ResId(0))?;
+    assert_eq!(rt; order.len(), 0);
+    Ok(())
+}
+
+fn a_new_copy_goes_from_a_feeder_to_its_tray(rt: &impl Abort, duo: &Machine) -> Result<(), Fail> {
+    let feeder = new_sheet(LocId(0));
+    let ask = Ask {
+        sheet: FIRST,
+        name: name_of(b"j1")?,
+        want: sheet_of(Want::Mono, Want::Blank)?,
+        goal: Goal::Tray(LocId(3)),
+        origin: Origin::Feeder,
+        outs: Outs(0),
+        now: 0,
+    };
+    let elsewhere = State {
+        loc: LocId(1),
+        ..feeder
+    };
+    assert!(rt; is_start(duo, &ask, feeder));
+    assert!(rt; !is_start(duo, &ask, elsewhere));
+    let printed = State {
+        loc: LocId(3),
+        up: Face::Front,
+        front_done: true,
+        back_done: false,
+    };
+    assert!(rt; finished(&ask.want, LocId(3)) == printed);
+    assert!(rt; is_goal(duo, &ask, printed) && !is_goal(duo, &ask, feeder));
+    assert!(rt; is_earlier(FIRST, SECOND) && !is_earlier(SECOND, FIRST));
+    Ok(())
+}
+
+fn look_at_duo(rt: &impl Abort, alloc: Global, duo: &Machine) -> Result<(), Fail> {
+    two_sheets_on_duo(rt, alloc, duo)?;
+    both_prints_on_one_engine(rt, alloc, duo)?;
+    an_empty_schedule_has_an_empty_order(rt, alloc, duo)?;
+    a_new_copy_goes_from_a_feeder_to_its_tray(rt, duo)
+}
+
 #[test]
-fn the_resource_is_held_at_9(rt: HostRuntime) -> Result<(), Fail> {
-    let alloc = rt.alloc();
-    let tail = machine_of(alloc, TAIL)?;
+fn schedules_on_duo(rt: HostRuntime) -> Result<(), Fail> {
+    let duo = machine_of(rt.alloc(), DUO)?;
+    look_at_duo(&rt, rt.alloc(), &duo)
+}
+
+fn the_resource_is_held_at_9(rt: &impl Abort, alloc: Global, tail: &Machine) -> Result<(), Fail> {
     let early = pair_on_tail(alloc, &[9, 11, 14])?;
-    assert!(rt; !early.legal_at(&tail, ResId(0), 9));
-    assert!(rt; early.legal_at(&tail, ResId(0), 10));
+    assert!(rt; !early.legal_at(tail, ResId(0), 9));
+    assert!(rt; early.legal_at(tail, ResId(0), 10));
     Ok(())
 }
 
-#[test]
-fn the_resource_is_free_at_10(rt: HostRuntime) -> Result<(), Fail> {
-    let alloc = rt.alloc();
-    let tail = machine_of(alloc, TAIL)?;
+fn the_resource_is_free_at_10(rt: &impl Abort, alloc: Global, tail: &Machine) -> Result<(), Fail> {
     let schedule = pair_on_tail(alloc, &[10, 12, 15])?;
-    assert!(rt; is_legal_till(&schedule, &tail, 2, 21));
-    assert_eq!(rt; live_at(&schedule, &tail, 9, 10), (2, 1));
-    assert_eq!(rt; live_at(&schedule, &tail, 16, 17), (1, 0));
+    assert!(rt; is_legal_till(&schedule, tail, 2, 21));
+    assert_eq!(rt; live_at(&schedule, tail, 9, 10), (2, 1));
+    assert_eq!(rt; live_at(&schedule, tail, 16, 17), (1, 0));
     Ok(())
 }
 
+fn look_at_tail(rt: &impl Abort, alloc: Global, tail: &Machine) -> Result<(), Fail> {
+    the_resource_is_held_at_9(rt, alloc, tail)?;
+    the_resource_is_free_at_10(rt, alloc, tail)
+}
+
 #[test]
-fn a_state_is_passed_twice(rt: HostRuntime) -> Result<(), Fail> {
-    let alloc = rt.alloc();
-    let machine = machine_of(alloc, LOOP)?;
+fn schedules_on_tail(rt: HostRuntime) -> Result<(), Fail> {
+    let tail = machine_of(rt.alloc(), TAIL)?;
+    look_at_tail(&rt, rt.alloc(), &tail)
+}
+
+fn a_state_is_passed_twice(rt: &impl Abort, alloc: Global, machine: &Machine) -> Result<(), Fail> {
     let want = sheet_of(Want::Mono, Want::Mono)?;
     let plan = plan_of(FIRST, want, 2, &[0, 1, 2, 1, 3], &[3, 5, 7, 11, 13, 16])?;
     let schedule = one(alloc, plan)?;
-    assert!(rt; is_legal_till(&schedule, &machine, 3, 21));
+    assert!(rt; is_legal_till(&schedule, machine, 3, 21));
     Ok(())
 }
 
 #[test]
-fn a_plan_is_changed(rt: HostRuntime) -> Result<(), Fail> {
-    let alloc = rt.alloc();
-    let want = sheet_of(Want::Mono, Want::Blank)?;
-    let mut schedule = one(alloc, plan_of(FIRST, want, 3, &[0, 2, 3], &[3, 5, 11, 14])?)?;
-    schedule.set_points(FIRST, &points_of(&[5, 7, 13, 16]));
-    let kept = schedule.copy(alloc)?;
-    schedule.freeze(FIRST, 1);
-    assert_eq!(rt; schedule.plan_at(0).released, 1);
-    schedule.replace(plan_of(FIRST, want, 3, &[0, 1, 3], &[3, 5, 14, 17])?);
-    assert_eq!(rt; schedule.plan_at(0).points.get(3), 17);
-    assert_eq!(rt; schedule.plan_at(0).acts.get(1).0, 1);
-    assert_eq!(rt; kept.plan_at(0).points.get(3), 16);
-    Ok(())
+fn schedule_on_loop(rt: HostRuntime) -> Result<(), Fail> {
+    let machine = machine_of(rt.alloc(), LOOP)?;
+    a_state_is_passed_twice(&rt, rt.alloc(), &machine)
 }
 
 #[test]
@@ -243,43 +283,17 @@ fn a_plan_is_cut_and_goes(rt: HostRuntime) -> Result<(), Fail> {
 }
 
 #[test]
-fn an_empty_schedule_has_an_empty_order(rt: HostRuntime) -> Result<(), Fail> {
+fn a_plan_is_changed(rt: HostRuntime) -> Result<(), Fail> {
     let alloc = rt.alloc();
-    let duo = machine_of(alloc, DUO)?;
-    let schedule = Schedule::new(alloc);
-    let order = schedule.order_of(alloc, &duo, ResId(0))?;
-    assert_eq!(rt; order.len(), 0);
-    Ok(())
-}
-
-#[test]
-fn a_new_copy_goes_from_a_feeder_of_its_media_to_its_tray(rt: HostRuntime) -> Result<(), Fail> {
-    let alloc = rt.alloc();
-    let duo = machine_of(alloc, DUO)?;
-    let feeder = new_sheet(LocId(0));
-    let ask = Ask {
-        sheet: FIRST,
-        name: name_of(b"j1")?,
-        want: sheet_of(Want::Mono, Want::Blank)?,
-        goal: Goal::Tray(LocId(3)),
-        origin: Origin::Feeder,
-        outs: Outs(0),
-        now: 0,
-    };
-    let elsewhere = State {
-        loc: LocId(1),
-        ..feeder
-    };
-    assert!(rt; is_start(&duo, &ask, feeder));
-    assert!(rt; !is_start(&duo, &ask, elsewhere));
-    let printed = State {
-        loc: LocId(3),
-        up: Face::Front,
-        front_done: true,
-        back_done: false,
-    };
-    assert!(rt; finished(&ask.want, LocId(3)) == printed);
-    assert!(rt; is_goal(&duo, &ask, printed) && !is_goal(&duo, &ask, feeder));
-    assert!(rt; is_earlier(FIRST, SECOND) && !is_earlier(SECOND, FIRST));
+    let want = sheet_of(Want::Mono, Want::Blank)?;
+    let mut schedule = one(alloc, plan_of(FIRST, want, 3, &[0, 2, 3], &[3, 5, 11, 14])?)?;
+    schedule.set_points(FIRST, &points_of(&[5, 7, 13, 16]));
+    let kept = schedule.copy(alloc)?;
+    schedule.freeze(FIRST, 1);
+    assert_eq!(rt; schedule.plan_at(0).released, 1);
+    schedule.replace(plan_of(FIRST, want, 3, &[0, 1, 3], &[3, 5, 14, 17])?);
+    assert_eq!(rt; schedule.plan_at(0).points.get(3), 17);
+    assert_eq!(rt; schedule.plan_at(0).acts.get(1).0, 1);
+    assert_eq!(rt; kept.plan_at(0).points.get(3), 16);
     Ok(())
 }

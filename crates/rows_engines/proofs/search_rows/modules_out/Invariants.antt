@@ -1,0 +1,9 @@
+use Rattle.std.proofs.Common.{◌≤◌}
+use Rattle.tp_placing.specs.Standing.{IsMadeFor}
+use Rattle.rows_engines.proofs.search_rows.modules_out.Given as goal
+
+abbrev pub invariant-rows : goal.invariant-rows
+invariant-rows g l = record {
+  made : IsMadeFor l.board.made_for l.machine;
+  marks : 8 ≤ g.N.Undo.mark_room l.board.net;
+}
