@@ -4,6 +4,7 @@ ghost use Rattle.tp_jobs.specs.Waiting.{find_waiting};
 
 use rows_machine::machines::DUO;
 use std::alloc::Global;
+use std::process::Abort;
 use std::test::Fail;
 use tp_base::Name;
 use tp_jobs::{Blocked, JobFault, Lines};
@@ -122,9 +123,7 @@ fn second_told(
     told(alloc, &add(&mut lines, machine, &second))
 }
 
-#[test]
-fn refusals(rt: HostRuntime) -> Result<(), Fail> {
-    let machine = machine_of(rt.alloc(), DUO)?;
+fn look_at_refusals(rt: &impl Abort, alloc: Global, machine: &Machine) -> Result<(), Fail> {
     let rows: [(&[u8], &[u8], &[u8]); 12] = [
         (b"job j1 t plain M-:F", b"job j2 t plain C-:F", b"job 1"),
         (b"job j1 t plain M-:F", b"job j2 x plain M-:F", b"tray x"),
@@ -168,10 +167,16 @@ fn refusals(rt: HostRuntime) -> Result<(), Fail> {
         ),
     ];
     for (first, second, wanted) in rows {
-        let given = second_told(rt.alloc(), &machine, first, second)?;
+        let given = second_told(alloc, machine, first, second)?;
         assert_eq!(rt; given.as_slice(), wanted, "{second:?}");
     }
     Ok(())
+}
+
+#[test]
+fn refusals(rt: HostRuntime) -> Result<(), Fail> {
+    let machine = machine_of(rt.alloc(), DUO)?;
+    look_at_refusals(&rt, rt.alloc(), &machine)
 }
 
 fn letter(want: Want) -> &'static str {
@@ -225,24 +230,37 @@ fn one_job(alloc: Global, machine: &Machine, job: &[u8]) -> Result<Lines, Fail>
     Ok(lines)
 }
 
+/// The copies of two groups.
+fn two_groups(alloc: Global, machine: &Machine) -> Result<Vec<u8>, Fail> {
+    let lines = one_job(alloc, machine, b"job j t plain 2*MM:F C-:B")?;
+    tried(alloc, &lines, &Blocked::none())
+}
+
+fn groups_on_duo(alloc: Global) -> Result<Vec<u8>, Fail> {
+    let machine = machine_of(alloc, DUO)?;
+    two_groups(alloc, &machine)
+}
+
 #[test]
 fn wants(rt: HostRuntime) -> Result<(), Fail> {
-    let machine = machine_of(rt.alloc(), DUO)?;
-    let lines = one_job(rt.alloc(), &machine, b"job j t plain 2*MM:F C-:B")?;
-    let given = tried(rt.alloc(), &lines, &Blocked::none())?;
+    let given = groups_on_duo(rt.alloc())?;
     assert_eq!(rt; given.as_slice(), b"j.1.1 MM j.2.1 MM j.3.1 C- ".as_slice());
     Ok(())
 }
 
-/// Three jobs of two trays, in turn.
-fn three_jobs(alloc: Global) -> Result<Lines, Fail> {
-    let machine = machine_of(alloc, TWO_TRAYS)?;
-    let mut lines = one_job(alloc, &machine, b"job a t plain 2*M-:F")?;
+/// Three jobs of the two trays, in turn.
+fn jobs_of_both(alloc: Global, machine: &Machine) -> Result<Lines, Fail> {
     let second = job_of(alloc, b"job b u plain 2*C-:F")?;
     let third = job_of(alloc, b"job c t plain -M:F")?;
-    let _second = add(&mut lines, &machine, &second);
-    let _third = add(&mut lines, &machine, &third);
+    let mut lines = one_job(alloc, machine, b"job a t plain 2*M-:F")?;
+    let _second = add(&mut lines, machine, &second);
+    let _third = add(&mut lines, machine, &third);
     Ok(lines)
+}
+
+fn three_jobs(alloc: Global) -> Result<Lines, Fail> {
+    let machine = machine_of(alloc, TWO_TRAYS)?;
+    jobs_of_both(alloc, &machine)
 }
 
 fn only_blocked(loc: u16) -> Blocked {
@@ -253,17 +271,21 @@ fn only_blocked(loc: u16) -> Blocked {
     blocked
 }
 
-#[test]
-fn two_lines(rt: HostRuntime) -> Result<(), Fail> {
-    let lines = three_jobs(rt.alloc())?;
-    let given = tried(rt.alloc(), &lines, &Blocked::none())?;
+fn look_at_both(rt: &impl Abort, alloc: Global, lines: &Lines) -> Result<(), Fail> {
+    let given = tried(alloc, lines, &Blocked::none())?;
     assert_eq!(rt;
         given.as_slice(),
         b"a.1.1 M- a.2.1 M- b.1.1 C- b.2.1 C- c.1.1 -M ".as_slice()
     );
-    let given = tried(rt.alloc(), &lines, &only_blocked(1))?;
+    let given = tried(alloc, lines, &only_blocked(1))?;
     assert_eq!(rt; given.as_slice(), b"b.1.1 C- b.2.1 C- ".as_slice());
     Ok(())
+}
+
+#[test]
+fn two_lines(rt: HostRuntime) -> Result<(), Fail> {
+    let lines = three_jobs(rt.alloc())?;
+    look_at_both(&rt, rt.alloc(), &lines)
 }
 
 /// Takes the copy that is tried first, and puts it back if asked to.
@@ -282,18 +304,27 @@ fn retake(lines: &mut Lines, blocked: &Blocked, back: bool) -> Result<(), Fail> 
     Ok(())
 }
 
-#[test]
-fn taken_and_back(rt: HostRuntime) -> Result<(), Fail> {
-    let lines = three_jobs(rt.alloc())?;
-    let mut copy = lines.copy(rt.alloc()).ok().ok_or("memory")?;
-    retake(&mut copy, &only_blocked(1), true)?;
-    let given = tried(rt.alloc(), &copy, &Blocked::none())?;
+fn copy_of(alloc: Global, lines: &Lines) -> Result<Lines, Fail> {
+    match lines.copy(alloc) {
+        Ok(copy) => Ok(copy),
+        Err(_) => Err(Fail::from("memory")),
+    }
+}
+
+fn copy_of_three(alloc: Global) -> Result<Lines, Fail> {
+    let lines = three_jobs(alloc)?;
+    copy_of(alloc, &lines)
+}
+
+fn look_at_taken(rt: &impl Abort, alloc: Global, copy: &mut Lines) -> Result<(), Fail> {
+    retake(copy, &only_blocked(1), true)?;
+    let given = tried(alloc, copy, &Blocked::none())?;
     assert_eq!(rt;
         given.as_slice(),
         b"a.1.1 M- a.2.1 M- b.1.1 C- b.2.1 C- c.1.1 -M ".as_slice()
     );
-    retake(&mut copy, &only_blocked(1), false)?;
-    let given = tried(rt.alloc(), &copy, &Blocked::none())?;
+    retake(copy, &only_blocked(1), false)?;
+    let given = tried(alloc, copy, &Blocked::none())?;
     assert_eq!(rt;
         given.as_slice(),
         b"a.1.1 M- a.2.1 M- b.2.1 C- c.1.1 -M ".as_slice()
@@ -317,20 +348,36 @@ fn renew(lines: &mut Lines) -> Result<SheetId, Fail> {
     }
 }
 
-#[test]
-fn again_and_broken(rt: HostRuntime) -> Result<(), Fail> {
-    let machine = machine_of(rt.alloc(), DUO)?;
-    let mut lines = one_job(rt.alloc(), &machine, b"job j t plain MM:F")?;
-    let next = renew(&mut lines)?;
-    assert_eq!(rt; next.copy, 2);
-    let given = tried(rt.alloc(), &lines, &Blocked::none())?;
-    assert_eq!(rt; given.as_slice(), b"j.1.2 MM ".as_slice());
-    if let Some(waits) = lines.next_to_try(None, &Blocked::none()) {
-        lines.break_job(waits.job);
-        assert!(rt; lines.is_broken(waits.job));
+/// Breaks the job of the copy that is tried first. Tells whether the job of the one that is tried first then is broken.
+fn is_broken_after(lines: &mut Lines) -> Result<bool, Fail> {
+    if let Some(first) = lines.next_to_try(None, &Blocked::none()) {
+        lines.break_job(first.job);
     }
+    match lines.next_to_try(None, &Blocked::none()) {
+        Some(first) => Ok(lines.is_broken(first.job)),
+        None => Err(Fail::from("no copy")),
+    }
+}
+
+fn look_at_next(rt: &impl Abort, alloc: Global, lines: &mut Lines) -> Result<(), Fail> {
+    let next = renew(lines)?;
+    assert_eq!(rt; next.copy, 2);
+    let given = tried(alloc, lines, &Blocked::none())?;
+    assert_eq!(rt; given.as_slice(), b"j.1.2 MM ".as_slice());
+    assert!(rt; is_broken_after(lines)?);
     assert_eq!(rt; lines.waiting(), 1);
     Ok(())
+}
+
+fn one_on_duo(alloc: Global) -> Result<Lines, Fail> {
+    let machine = machine_of(alloc, DUO)?;
+    one_job(alloc, &machine, b"job j t plain MM:F")
+}
+
+#[test]
+fn again_and_broken(rt: HostRuntime) -> Result<(), Fail> {
+    let mut lines = one_on_duo(rt.alloc())?;
+    look_at_next(&rt, rt.alloc(), &mut lines)
 }
 
 /// A job of one sheet, with this number in its name. Where 4,096 copies wait, the first is taken.
@@ -368,13 +415,29 @@ fn ten_thousand_jobs(alloc: Global, machine: &Machine) -> Result<Lines, Fail>
     Ok(lines)
 }
 
+/// Where ten thousand jobs came, one more of a name among theirs is refused.
+fn look_at_one_more(
+    rt: &impl Abort,
+    alloc: Global,
+    machine: &Machine,
+    lines: &mut Lines,
+) -> Result<(), Fail>
+    requires { length lines.old.jobs ≤ 10000 }
+{
+    assert_eq!(rt; lines.waiting(), 4096);
+    let job = job_of(alloc, b"job j77 t plain M-:F")?;
+    let given = told(alloc, &add(lines, machine, &job))?;
+    assert_eq!(rt; given.as_slice(), b"named j77".as_slice());
+    Ok(())
+}
+
+fn look_at_ten_thousand(rt: &impl Abort, alloc: Global, machine: &Machine) -> Result<(), Fail> {
+    let mut lines = ten_thousand_jobs(alloc, machine)?;
+    look_at_one_more(rt, alloc, machine, &mut lines)
+}
+
 #[test]
 fn ten_thousand(rt: HostRuntime) -> Result<(), Fail> {
     let machine = machine_of(rt.alloc(), DUO)?;
-    let mut lines = ten_thousand_jobs(rt.alloc(), &machine)?;
-    assert_eq!(rt; lines.waiting(), 4096);
-    let job = job_of(rt.alloc(), b"job j77 t plain M-:F")?;
-    let given = told(rt.alloc(), &add(&mut lines, &machine, &job))?;
-    assert_eq!(rt; given.as_slice(), b"named j77".as_slice());
-    Ok(())
+    look_at_ten_thousand(&rt, rt.alloc(), &machine)
 }
