@@ -1,0 +1,5 @@
+//! A session: what its events do to the schedule and the lines, over any planner.
+#![tactic(auto)]
+
+mod naming;
+mod telling;
