@@ -1,5 +1,6 @@
 //! A session: what its events do to the schedule and the lines, over any planner.
 #![tactic(auto)]
 
+mod asking;
 mod naming;
 mod telling;

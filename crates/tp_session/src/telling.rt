@@ -3,6 +3,7 @@ ghost use Rattle.std.specs.Prelude.{◌≡◌, ◌<◌, ◌+◌, ◌^◌, ◌++�
 ghost use Rattle.tp_schedule.specs.Answers.{kept_from, kept_of};
 ghost use Rattle.tp_schedule.specs.Planning.{IsKnownGoal};
 ghost use Rattle.tp_schedule.specs.Plans.{IsTimedPlan, plan_of, without};
+ghost use Rattle.tp_schedule.specs.declared.recording.Record.TheVariants.{FullUp};
 ghost use Rattle.tp_turn.specs.Answering.{moves, told_of_move, told_of_plan, told_of_planned, told_of_reply};
 ghost use Rattle.tp_turn.specs.Labels.{action_name};
 ghost use Rattle.tp_session.specs.Telling.{IsKnown};
@@ -11,7 +12,7 @@ use crate::naming::{action_name, end_name, goal_name, label};
 use std::alloc::Global;
 use tp_base::{Items, Memory, Name, Tick};
 use tp_machine::Machine;
-use tp_schedule::{Acts, Ask, Origin, Plan, Points, Record, Reply, Schedule, SheetId};
+use tp_schedule::{Acts, Ask, Origin, Plan, Points, Record, Reply, Schedule, SheetId, SheetName};
 
 /// Notes what an answer says: the plan, and each other plan that moved; or that there is none; or that the budget was
 /// spent. The schedules are those before and after the answer.
@@ -45,6 +46,14 @@ pub(crate) fn tell_reply(
             Ok(())
         }
     }
+}
+
+/// Notes that as many copies are live as may be.
+pub(crate) fn tell_full(sheet: SheetName, notes: &mut Vec<Record>) -> Result<(), Memory>
+    ensures { OnOk result (notes.new.items ≡ notes.old.items ++ FullUp sheet ∷ []) }
+{
+    notes.push(Record::FullUp { sheet })?;
+    Ok(())
 }
 
 /// Notes the plan of the asked copy, without the actions that it kept.
