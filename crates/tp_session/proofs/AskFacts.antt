@@ -1,5 +1,5 @@
 -- The ask of a copy that waits, and the schedule after an answer.
-use Rattle.std.proofs.Common.{◌≡◌, ℕ, ◌<◌, true, List, [], length, find, slice_get, Option, Some, None, option_map, IsSome, refl, sym, ap, ◌∙◌, subst, All, Contains}
+use Rattle.std.proofs.Common.{◌≡◌, ℕ, List, [], slice_get, Option, Some, None, option_map, IsSome, refl, sym, ap, ◌∙◌, subst, All, Contains}
 use Rattle.std.specs.Prelude.{IsSomeAnd}
 use Rattle.tp_machine.specs.declared.parts.LocId.{LocId}
 use Rattle.tp_machine.specs.declared.parts.Outs.{Outs}
@@ -34,7 +34,7 @@ pub name-is : (o : Option Job) (name : List ℕ) → IsSomeAnd o (λ j. j.name �
 name-is None name none = absurd none
 name-is (Some j) name is = is
 
-tray-is : (o : Option Job) (tray : LocId) → IsSomeAnd o (λ j. j.tray ≡ tray) → tray_in o ≡ tray
+pub tray-is : (o : Option Job) (tray : LocId) → IsSomeAnd o (λ j. j.tray ≡ tray) → tray_in o ≡ tray
 tray-is None tray none = absurd none
 tray-is (Some j) tray is = is
 

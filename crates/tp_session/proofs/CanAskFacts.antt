@@ -1,12 +1,12 @@
 -- Where jobs, plans and lines are kept, a copy that waits can be asked while fewer than 256 copies are live.
-use Rattle.std.proofs.Common.{◌≡◌, ◌≢◌, ℕ, ◌+◌, ◌<◌, ◌≤◌, ◌^◌, inl, inr, Bool, true, false, ◌&&◌, ◌==◌, not, List, length, get_or, filter, slice_get, Option, Some, None, refl, sym, ap, ◌∙◌, arith, All, AllPairs, Contains, IsTrue, subst}
+use Rattle.std.proofs.Common.{◌≡◌, ◌≢◌, ℕ, ◌+◌, ◌<◌, ◌^◌, inl, inr, true, false, ◌&&◌, not, List, length, None, refl, sym, ap, ◌∙◌, arith, All, AllPairs, Contains, IsTrue}
 use Rattle.std.specs.Prelude.{IsFalse}
 use Rattle.std.specs.Str.{bytes_eq}
 use Rattle.std.proofs.lemmas.Bool.{cases_lt, and_parts}
 use Rattle.std.proofs.lemmas.Bool.Decides.{nat_tests}
 use Rattle.std.proofs.lemmas.List.Elements.{All-contains}
 use Rattle.std.proofs.lemmas.List.Sums.{length-filter}
-use Rattle.std.proofs.lemmas.Option.{get_or_from_slice_get, slice_get_within}
+use Rattle.std.proofs.lemmas.Option.{get_or_from_slice_get}
 use Rattle.std.proofs.lemmas.Slice.Eq.{bytes_eq-Decides}
 use Rattle.tp_base.proofs.SliceFacts.{All-at, found}
 use Rattle.tp_machine.proofs.Lists.{All-from_none}
@@ -14,7 +14,7 @@ use Rattle.tp_machine.specs.declared.whole.Machine.{Machine}
 use Rattle.tp_schedule.proofs.CopyFacts.{before-asym}
 use Rattle.tp_schedule.proofs.Membership.{Contains-filter}
 use Rattle.tp_schedule.specs.Living.{is_live, live_count}
-use Rattle.tp_schedule.specs.Planning.{CanAsk, CanPlanOn, IsOpenGoal}
+use Rattle.tp_schedule.specs.Planning.{CanAsk, CanPlanOn}
 use Rattle.tp_schedule.specs.Plans.{AreNamed, goes_to, is_before, is_delivered_to, is_front, is_same_copy, plan_of, without}
 use Rattle.tp_schedule.specs.declared.parts.Goal.{Goal}
 use Rattle.tp_schedule.specs.declared.parts.Goal.TheVariants.{Tray, Purge}
@@ -25,7 +25,7 @@ use Rattle.tp_jobs.specs.declared.parts.Job.{Job}
 use Rattle.tp_jobs.specs.declared.parts.WaitingCopy.{WaitingCopy}
 use Rattle.tp_turn.proofs.TestFacts.{count-part}
 use Rattle.tp_turn.specs.Asking.{ask_waiting, is_full}
-use Rattle.tp_turn.specs.Keeping.{KeepsLines, StandsBehind, is_known, is_of_its_job, is_own_goal, is_planned_among, tray_plans}
+use Rattle.tp_turn.specs.Keeping.{StandsBehind, is_known, is_of_its_job, is_own_goal, is_planned_among, tray_plans}
 use Rattle.tp_turn.specs.Labels.{job_name, job_name_in}
 use Rattle.tp_turn.specs.Lines.{is_same_line}
 use Rattle.tp_turn.specs.Moments.{is_to_tray, is_tray_plan}

@@ -5,3 +5,5 @@ pub mod PlaceFacts
 pub mod AskFacts
 pub mod CanAskFacts
 pub mod TurnFacts
+pub mod LeftFacts
+pub mod PhaseFacts

@@ -1,5 +1,5 @@
 -- The actions of a plan in time are the machine's, and the last of them is the last of the list.
-use Rattle.std.proofs.Common.{◌≡◌, ℕ, ◌+◌, ◌-◌, ◌<◌, suc, List, [], ◌∷◌, length, slice_get, Option, Some, None, option_and_then, refl, arith, All, subst}
+use Rattle.std.proofs.Common.{◌≡◌, ℕ, ◌+◌, ◌-◌, suc, List, [], ◌∷◌, length, slice_get, Option, Some, None, option_and_then, refl, arith, All, subst}
 use Rattle.std.proofs.lemmas.List.Elements.{All-nil, All-cons}
 use Rattle.std.proofs.lemmas.Option.{slice_get_within}
 use Rattle.tp_machine.specs.Steps.{step_of}

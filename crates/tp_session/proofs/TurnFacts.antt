@@ -18,11 +18,10 @@ use Rattle.tp_schedule.specs.declared.recording.Record.TheVariants.{FullUp}
 use Rattle.tp_schedule.specs.declared.recording.SheetName.{SheetName}
 use Rattle.tp_jobs.specs.Backlogs.{Backlog}
 use Rattle.tp_jobs.specs.Waiting.{find_waiting, without_waiting}
-use Rattle.tp_jobs.specs.declared.parts.Job.{Job}
 use Rattle.tp_jobs.specs.declared.parts.WaitingCopy.{WaitingCopy}
 use Rattle.tp_turn.specs.Answering.{told_of_reply}
-use Rattle.tp_turn.specs.Asking.{ask_waiting, is_full, most_live, state_after_reply}
-use Rattle.tp_turn.specs.Labels.{job_name_in, label, label_by}
+use Rattle.tp_turn.specs.Asking.{ask_waiting, is_full, state_after_reply}
+use Rattle.tp_turn.specs.Labels.{label, label_by}
 use Rattle.tp_turn.specs.Planners.{PlannerSteps}
 use Rattle.tp_turn.specs.Seen.{state_seen}
 use Rattle.tp_turn.specs.States.{SessionState}
@@ -92,7 +91,9 @@ module _ {P : Type 0} (steps : PlannerSteps P) (machine : Machine) (s : SessionS
     go : (o : Option WaitingCopy) → find_waiting copy s.waiting ≡ o → IsSome o → IsSomeAnd o (λ w. ask ≡ ask_waiting s w)
         → IsSomeAnd o (λ w. (records : List Record) × (notes' ≡ notes ++ records) × IsTried steps machine w s p records planned s' p')
     go None e none made = absurd (cc)
-    go (Some w) e has same =
-        (told_of_reply machine s.plans ask reply s'.plans, told,
-        match-false (is_full machine s) _ _ free
-        (reply, subst (λ a. steps.does p s.plans (replied a reply) s'.plans p') same does, ap (λ a. told_of_reply machine s.plans a reply s'.plans) same, is, after w (found-waits copy s.waiting w e).1))
+    go (Some w) e has same = (
+      told_of_reply machine s.plans ask reply s'.plans,
+      told,
+      match-false (is_full machine s) _ _ free
+          (reply, subst (λ a. steps.does p s.plans (replied a reply) s'.plans p') same does, ap (λ a. told_of_reply machine s.plans a reply s'.plans) same, is, after w (found-waits copy s.waiting w e).1),
+    )

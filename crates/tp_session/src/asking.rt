@@ -107,3 +107,41 @@ fn try_copy<P: Planner>(
         Reply::Never | Reply::Spent { .. } => Ok(false),
     }
 }
+
+/// Asks the copies that wait, in their order, at the moment `now`. A copy that finds 256 copies live is noted full, and a
+/// copy that is planned waits no more. Once a copy is full or not planned, the later ones of its line are passed over.
+///
+/// After a `Halt` nothing is known of schedule and lines, so that the caller drops them, and notes may have come.
+pub fn ask_waiting<P: Planner>(
+    alloc: Global,
+    machine: &Machine,
+    schedule: &mut Schedule,
+    lines: &mut Lines,
+    outs: Outs,
+    planner: &mut P,
+    now: Tick,
+    notes: &mut Vec<Record>,
+) -> Result<(), Halt>
+    requires served { IsTrue (P.serves planner.old machine.now) }
+    requires can { CanAskInTurn machine.now (state_seen now schedule.old.plans lines.old outs) }
+    ensures asks { OnOk result (NotesAsks (right_steps P.spent P.steps P.stop_steps machine.now) machine.now (state_seen now schedule.old.plans lines.old outs) planner.old notes.old.items (state_seen now schedule.new.plans lines.new outs) planner.new notes.new.items) }
+    ensures kept { OnOk result (CanAskInTurn machine.now (state_seen now schedule.new.plans lines.new outs)) }
+    ensures stops_only { IfErr result (StopsOnlyWhere (P.stops planner.old) (P.stops planner.new)) }
+    ensures counted { P.stops planner.old ≤ P.stops planner.new }
+    ensures still_serves { (other : Machine) → P.serves planner.new other ≡ P.serves planner.old other }
+{
+    machine_law(machine);
+    let mut blocked = Blocked::none();
+    let mut last = None;
+    'asks: while let Some(copy) = lines.next_to_try(last, &blocked) {
+        let tray = lines.tray_of(copy.job);
+        let planned = try_copy(
+            alloc, machine, schedule, lines, outs, planner, now, copy, notes,
+        )?;
+        if !planned {
+            blocked.add(tray);
+        }
+        last = Some(copy);
+    }
+    Ok(())
+}

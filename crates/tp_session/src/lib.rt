@@ -4,3 +4,5 @@
 mod asking;
 mod naming;
 mod telling;
+
+pub use asking::ask_waiting;

@@ -84,12 +84,7 @@ fn kept_count(origin: Origin) -> u32
 }
 
 /// The record of a plan without its first actions.
-fn plan_record(
-    alloc: Global,
-    machine: &Machine,
-    kept: u32,
-    plan: &Plan,
-) -> Result<Record, Memory>
+fn plan_record(alloc: Global, machine: &Machine, kept: u32, plan: &Plan) -> Result<Record, Memory>
     requires { IsTimedPlan machine.now plan.now }
     ensures { IfOk result (λ told. told ≡ told_of_plan machine.now kept plan.now) }
 {

@@ -1,11 +1,7 @@
 -- The copy is told full, or it is asked, and waits no more where it is planned.
-use Rattle.std.proofs.Common.{◌≡◌, ◌+◌, ◌<◌, ◌≤◌, ◌^◌, inl, inr, true, false, length, refl, sym, ap, ◌∙◌, arith}
-use Rattle.tp_jobs.specs.declared.parts.WaitingCopy.{WaitingCopy}
-use Rattle.tp_machine.specs.declared.whole.Machine.{Machine}
-use Rattle.tp_turn.specs.Asking.{is_full}
+use Rattle.std.proofs.Common.{◌≡◌, inl, inr, true, false, refl, sym, ap, arith}
 use Rattle.tp_turn.specs.Planners.{right_steps}
 use Rattle.tp_turn.specs.Seen.{state_seen}
-use Rattle.tp_turn.specs.States.{SessionState}
 use Rattle.tp_session.specs.Phases.{is_planned, moved_on}
 use Rattle.tp_session.proofs.TurnFacts.{is-full, is-free, can-ask-made, full-turn, asked-turn, after-planned, after-refused, refused-stays}
 use Rattle.tp_session.proofs.asking.try_copy.Goals as goal

@@ -1,5 +1,5 @@
 -- The last action of a plan in time is the machine's, and leads to a location.
-use Rattle.std.proofs.Common.{◌≡◌, ◌+◌, ◌-◌, length, Some, arith, ap, sym, subst, ◌∙◌}
+use Rattle.std.proofs.Common.{◌≡◌, ◌-◌, Some, arith, ap, sym, subst, ◌∙◌}
 use Rattle.tp_base.proofs.SliceFacts.{All-at}
 use Rattle.tp_machine.specs.Using.{action_at}
 use Rattle.tp_session.specs.Telling.{IsKnown}

@@ -1,4 +1,4 @@
-use Rattle.std.proofs.Common.{◌≡◌, ◌+◌, ◌≤◌, ◌++◌, drop, length}
+use Rattle.std.proofs.Common.{◌≡◌, ◌≤◌, ◌++◌, drop, length}
 use Rattle.tp_session.proofs.telling.points_from.Given as goal
 
 abbrev pub invariant-loop-at : goal.invariant-loop-at

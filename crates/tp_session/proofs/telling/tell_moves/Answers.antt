@@ -1,5 +1,5 @@
 -- The asked copy is passed over on either side, and the others are told in pairs.
-use Rattle.std.proofs.Common.{◌≡◌, ◌+◌, ◌++◌, [], true, false, arith, ap, sym, ◌∙◌}
+use Rattle.std.proofs.Common.{◌+◌, ◌++◌, true, false, arith, ap, sym, ◌∙◌}
 use Rattle.tp_turn.specs.Answering.{told_of_move}
 use Rattle.tp_session.proofs.ListSteps.{append_nothing}
 use Rattle.tp_session.proofs.MoveSteps.{moves_from, skips-before, skips-after, tells-both, none-left', tells-on}
@@ -31,7 +31,7 @@ moves-preserved c =
           ap (λ told. told ++ moves_from c.args.asked c.args.before.now.plans c.args.after.now.plans (c.moves.from + 1) (c.moves.to + 1)) c.in_ok-tell_move.ensures
           ∙ tells-on c.moves.notes.items (told_of_move p q) (moves_from c.args.asked c.args.before.now.plans c.args.after.now.plans c.moves.from c.moves.to)
           (moves_from c.args.asked c.args.before.now.plans c.args.after.now.plans (c.moves.from + 1) (c.moves.to + 1)) _ c.moves.invariant.rest
-          (tells-both c.args.asked c.args.before.now.plans c.args.after.now.plans c.moves.from c.moves.to p q c.plan_at-old.ensures.plan c.plan_at-new.ensures.plan 
+          (tells-both c.args.asked c.args.before.now.plans c.args.after.now.plans c.moves.from c.moves.to p q c.plan_at-old.ensures.plan c.plan_at-new.ensures.plan
           (same-copy p.sheet c.args.asked false c.if-eq.ensures) (same-copy q.sheet c.args.asked false c.if-eq-2.ensures));
       from = omega (arith, c.moves-test.true);
       to = omega (arith, c.if-to-len.true);

@@ -1,10 +1,9 @@
 -- The plan at the copy's place is the copy's, and without a place the copy has none.
-use Rattle.std.proofs.Common.{◌≡◌, ◌++◌, ◌∷◌, [], Some, None, ap, sym, ◌∙◌}
+use Rattle.std.proofs.Common.{◌≡◌, ◌++◌, ◌∷◌, [], Some, ap, sym, ◌∙◌}
 use Rattle.std.proofs.lemmas.Option.{slice_get_within, get_or_from_slice_get}
 use Rattle.tp_schedule.proofs.ChangeFacts.{plan_of-at}
 use Rattle.tp_schedule.specs.Answers.{kept_of}
 use Rattle.tp_schedule.specs.Plans.{plan_of}
-use Rattle.tp_schedule.specs.declared.parts.Plan.{Plan}
 use Rattle.tp_turn.specs.Answering.{told_of_plan, told_of_planned}
 use Rattle.tp_session.proofs.ListSteps.{append_nothing}
 use Rattle.tp_session.proofs.PlaceFacts.{no-plan}
