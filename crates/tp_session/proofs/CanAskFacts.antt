@@ -1,5 +1,5 @@
 -- Where jobs, plans and lines are kept, a copy that waits can be asked while fewer than 256 copies are live.
-use Rattle.std.proofs.Common.{◌≡◌, ◌≢◌, ℕ, ◌+◌, ◌<◌, ◌^◌, inl, inr, true, false, ◌&&◌, not, List, length, None, refl, sym, ap, ◌∙◌, arith, All, AllPairs, Contains, IsTrue}
+use Rattle.std.proofs.Common.{◌≡◌, ◌≢◌, ℕ, ◌+◌, ◌<◌, ◌^◌, inl, inr, true, false, ◌&&◌, not, List, length, None, refl, sym, ap, ◌∙◌, arith, All, AllPairs, Contains, IsTrue, subst}
 use Rattle.std.specs.Prelude.{IsFalse}
 use Rattle.std.specs.Str.{bytes_eq}
 use Rattle.std.proofs.lemmas.Bool.{cases_lt, and_parts}
@@ -12,13 +12,14 @@ use Rattle.tp_base.proofs.SliceFacts.{All-at, found}
 use Rattle.tp_machine.proofs.Lists.{All-from_none}
 use Rattle.tp_machine.specs.declared.whole.Machine.{Machine}
 use Rattle.tp_schedule.proofs.CopyFacts.{before-asym}
-use Rattle.tp_schedule.proofs.Membership.{Contains-filter}
+use Rattle.tp_schedule.proofs.Membership.{All-from_contains, Contains-filter}
 use Rattle.tp_schedule.specs.Living.{is_live, live_count}
-use Rattle.tp_schedule.specs.Planning.{CanAsk, CanPlanOn}
+use Rattle.tp_schedule.specs.Planning.{CanAsk, CanPlanOn, IsKnownGoal}
 use Rattle.tp_schedule.specs.Plans.{AreNamed, goes_to, is_before, is_delivered_to, is_front, is_same_copy, plan_of, without}
 use Rattle.tp_schedule.specs.declared.parts.Goal.{Goal}
 use Rattle.tp_schedule.specs.declared.parts.Goal.TheVariants.{Tray, Purge}
 use Rattle.tp_schedule.specs.declared.parts.Plan.{Plan}
+use Rattle.tp_schedule.specs.declared.parts.SheetId.{SheetId}
 use Rattle.tp_jobs.proofs.Found.{find-none}
 use Rattle.tp_jobs.specs.Backlogs.{tray_of}
 use Rattle.tp_jobs.specs.declared.parts.Job.{Job}
@@ -76,6 +77,20 @@ module _ (machine : Machine) (s : SessionState) (can : CanAskInTurn machine s) w
   pub plan-on : CanPlanOn machine s.now s.plans
   plan-on = record { now_at_most = can.now_at_most; legal = can.plans.legal; floors = can.plans.floors; horizon = can.plans.horizon }
 
+  -- the tray of a job is one of the machine's
+  tray-of-job : (copy : SheetId) → copy.job < length s.jobs → Contains machine.trays (tray_of s.jobs copy)
+  tray-of-job copy known =
+      let there = found s.jobs copy.job known in
+      rw there.1 (All-at (λ j. Contains machine.trays j.tray) s.jobs copy.job there.0 can.jobs.trays there.1)
+
+  pub known-goals : All (λ p. IsKnownGoal machine p.goal) s.plans
+  known-goals = All-from_contains (λ p. IsKnownGoal machine p.goal) s.plans (λ p in'. let its = its-job p in' in by-goal p its p.goal its.goal) where
+    by-goal : (p : Plan) → IsOfItsJob s.jobs p → (g : Goal) → is_own_goal g (tray_of s.jobs p.sheet).0 ≡ true → IsKnownGoal machine g
+    by-goal p its (Tray t) own =
+        let same : t.0 ≡ (tray_of s.jobs p.sheet).0 = grind (arith, nat_tests) in
+        subst (Contains machine.trays) (λ k. record { 0 = sym same k }) (tray-of-job p.sheet its.known)
+    by-goal p its Purge own = tt
+
   module _ (w : WaitingCopy) (waits : Contains s.waiting w) where
     unplanned : plan_of w.sheet s.plans ≡ None
     unplanned =
@@ -86,8 +101,7 @@ module _ (machine : Machine) (s : SessionState) (can : CanAskInTurn machine s) w
     pub tray-known : Contains machine.trays (tray_of s.jobs w.sheet)
     tray-known =
         let known : is_known s.jobs w.sheet ≡ true = All-contains (λ v. IsTrue (is_known s.jobs v.sheet)) s.waiting w can.lines.waiting_known waits in
-        let there = found s.jobs w.sheet.job (grind (arith, nat_tests)) in
-        rw there.1 (All-at (λ j. Contains machine.trays j.tray) s.jobs w.sheet.job there.0 can.jobs.trays there.1)
+        tray-of-job w.sheet (grind (arith, nat_tests))
 
     -- a whole plan to the tray of a copy that waits is in its line, so that it stands before it
     stands-before : (p : Plan) → Contains s.plans p → is_delivered_to p (tray_of s.jobs w.sheet).0 ≡ true → is_before p.sheet w.sheet ≡ true

@@ -7,3 +7,4 @@ pub mod CanAskFacts
 pub mod TurnFacts
 pub mod LeftFacts
 pub mod PhaseFacts
+pub mod CopyFacts

@@ -25,19 +25,21 @@ use Rattle.tp_jobs.specs.Waiting.{find_waiting}
 use Rattle.tp_jobs.specs.declared.parts.Job.{Job}
 use Rattle.tp_jobs.specs.declared.parts.WaitingCopy.{WaitingCopy}
 use Rattle.tp_turn.proofs.AskedFacts.{IsAskedFirst}
-use Rattle.tp_turn.proofs.AskedKept.{plans-asked}
+use Rattle.tp_turn.proofs.AskedKept.{least-asked, plans-asked}
 use Rattle.tp_turn.proofs.AskedLines.{lines-asked, planned_waiting}
 use Rattle.tp_turn.proofs.AskedTurns.{IsRest, first-of_line, rest-planned, rest-refused, rest-tail}
 use Rattle.tp_turn.proofs.ListFacts.{find-Some}
 use Rattle.tp_turn.specs.Answering.{told_of_reply}
 use Rattle.tp_turn.specs.Asking.{Asks, AsksInTurn, ask_waiting, is_full, is_passed_over, passed_after, state_after_reply}
+use Rattle.tp_turn.specs.Keeping.{IsLeastAt}
 use Rattle.tp_turn.specs.Labels.{label}
 use Rattle.tp_turn.specs.Planners.{IsRight, PlannerSteps}
 use Rattle.tp_turn.specs.Seen.{state_seen}
 use Rattle.tp_turn.specs.States.{SessionState}
+use Rattle.tp_session.proofs.CopyFacts.{copies-asked}
 use Rattle.tp_session.proofs.LeftFacts.{IsNext, left, left-all, left-behind, left-without, found-itself, is-next, none-next, behind-head, behind-later}
 use Rattle.tp_session.proofs.ListSteps.{append_nothing}
-use Rattle.tp_session.specs.Phases.{CanAskInTurn, IsTried, NotesAsks, NotesTurn, is_planned, moved_on}
+use Rattle.tp_session.specs.Phases.{CanAskInTurn, KeepsCopies, IsTried, NotesAsks, NotesTurn, is_planned, moved_on}
 
 abbrev Before : WaitingCopy → WaitingCopy → Type 0
 Before v w = IsTrue (is_before v.sheet w.sheet)
@@ -52,6 +54,8 @@ pub record IsUnderWay {P : Type 0} (steps : PlannerSteps P) (machine : Machine) 
   pub marked : AreMarked marks passed
   pub rest : IsRest now passed (left after now.waiting)
   pub can : CanAskInTurn machine now
+  pub least : IsLeastAt machine s → IsLeastAt machine now
+  pub copies : KeepsCopies s → KeepsCopies now
   pub done : List Record
   pub notes_are : told ≡ notes ++ done
   pub goes_on : (more : List Record) (last : SessionState) (q : P) → AsksInTurn steps machine (left after now.waiting) passed now planner more last q → Asks steps machine s p (done ++ more) last q
@@ -136,6 +140,8 @@ module _ {P : Type 0} (steps : PlannerSteps P) (machine : Machine) (s : SessionS
     marked = none;
     rest = subst (IsRest s []) (sym (left-all s.waiting)) (record { wait = All-contains_itself s.waiting; in_order = can.lines.in_order; others = λ v in'. inl in' });
     can = can;
+    least = λ was. was;
+    copies = λ were. were;
     done = [];
     notes_are = sym (append_nothing notes);
     goes_on = λ more last q asks. subst (λ ws. AsksInTurn steps machine ws [] s p more last q) (left-all s.waiting) asks;
@@ -155,6 +161,12 @@ module _ {P : Type 0} (steps : PlannerSteps P) (machine : Machine) (s : SessionS
         pub on : IsUnderWay steps machine s p notes now' planner' told' (Some tried) marks'
         pub fewer : length (left (Some tried) now'.waiting) < length (left after now.waiting)
 
+      -- what is kept of the state before the copy's turn
+      record LeavesKept (now' : SessionState) : Type 0 where
+        can : CanAskInTurn machine now'
+        least : IsLeastAt machine now → IsLeastAt machine now'
+        copies : KeepsCopies now → KeepsCopies now'
+
       next : IsNext (record { jobs = now.jobs; waiting = now.waiting }) after marks copy
       next = is-next (record { jobs = now.jobs; waiting = now.waiting }) after marks copy n
 
@@ -169,16 +181,18 @@ module _ {P : Type 0} (steps : PlannerSteps P) (machine : Machine) (s : SessionS
 
       -- the phase goes on from the copies behind this one
       moved : (records : List Record) (passed : List ℕ) (now' : SessionState) (planner' : P) (told' : List Record) (marks' : List Bool) → AreMarked marks' passed
-          → IsRest now' passed ws → CanAskInTurn machine now' → told' ≡ told ++ records → left (Some next.w.sheet) now'.waiting ≡ ws
+          → IsRest now' passed ws → LeavesKept now' → told' ≡ told ++ records → left (Some next.w.sheet) now'.waiting ≡ ws
           → ((more : List Record) (last : SessionState) (q : P) → AsksInTurn steps machine ws passed now' planner' more last q
           → AsksInTurn steps machine (next.w ∷ ws) u.passed now planner (records ++ more) last q)
           → IsStep next.w.sheet now' planner' told' marks'
-      moved records passed now' planner' told' marks' marked rest can told-is same turn = record {
+      moved records passed now' planner' told' marks' marked rest kept told-is same turn = record {
         on = record {
           passed = passed;
           marked = marked;
           rest = subst (IsRest now' passed) (sym same) rest;
-          can = can;
+          can = kept.can;
+          least = λ was. kept.least (u.least was);
+          copies = λ were. kept.copies (u.copies were);
           done = u.done ++ records;
           notes_are = told-is ∙ ap (λ l. l ++ records) u.notes_are ∙ append_assoc notes u.done records;
           goes_on = λ more last q asks. subst (λ l. Asks steps machine s p l last q) (sym (append_assoc u.done records more))
@@ -187,7 +201,7 @@ module _ {P : Type 0} (steps : PlannerSteps P) (machine : Machine) (s : SessionS
         fewer = let len = ap (λ (l : List WaitingCopy). length l) same in let few = skip.fewer in omega arith;
       }
 
-      planned-kept : (plans : List Plan) → IsAnswer spent machine now.plans (ask_waiting now next.w) Planned plans → is_full machine now ≡ false → CanAskInTurn machine (planned_waiting now next.w plans)
+      planned-kept : (plans : List Plan) → IsAnswer spent machine now.plans (ask_waiting now next.w) Planned plans → is_full machine now ≡ false → LeavesKept (planned_waiting now next.w plans)
       planned-kept plans answer free =
           let f : IsAskedFirst machine now next.w plans = record {
             a = answer.0.alternative;
@@ -195,22 +209,29 @@ module _ {P : Type 0} (steps : PlannerSteps P) (machine : Machine) (s : SessionS
             here = next.here;
             behind = first-of_line machine now u.passed next.w ws skip.taken skip.rest;
           } in
-          record { now_at_most = u.can.now_at_most; jobs = u.can.jobs; plans = plans-asked machine now next.w plans f u.can.plans free; lines = lines-asked machine now next.w plans f }
+          record {
+            can = record { now_at_most = u.can.now_at_most; jobs = u.can.jobs; plans = plans-asked machine now next.w plans f u.can.plans free; lines = lines-asked machine now next.w plans f };
+            least = λ was. least-asked machine now next.w plans answer.1;
+            copies = copies-asked machine now next.w plans f u.can.plans;
+          }
+
+      stays-kept : LeavesKept now
+      stays-kept = record { can = u.can; least = λ was. was; copies = λ were. were }
 
       -- what an answer leaves
-      record IsLeft' (reply : Reply) (plans : List Plan) : Type 0 where
+      record Leaves (reply : Reply) (plans : List Plan) : Type 0 where
         rest : IsRest (state_after_reply now next.w reply plans) (passed_after reply (tray_of now.jobs next.w.sheet).0 u.passed) ws
-        can : CanAskInTurn machine (state_after_reply now next.w reply plans)
+        kept : LeavesKept (state_after_reply now next.w reply plans)
         same : left (Some next.w.sheet) (state_after_reply now next.w reply plans).waiting ≡ ws
 
-      answered : (reply : Reply) (plans : List Plan) → IsAnswer spent machine now.plans (ask_waiting now next.w) reply plans → is_full machine now ≡ false → IsLeft' reply plans
+      answered : (reply : Reply) (plans : List Plan) → IsAnswer spent machine now.plans (ask_waiting now next.w) reply plans → is_full machine now ≡ false → Leaves reply plans
       answered Planned plans answer free = record {
         rest = rest-planned now u.passed next.w ws plans skip.rest;
-        can = planned-kept plans answer free;
+        kept = planned-kept plans answer free;
         same = left-without next.w.sheet now.waiting ∙ left-is;
       }
-      answered Never plans answer free = record { rest = rest-refused now u.passed next.w ws skip.rest; can = u.can; same = left-is }
-      answered (Spent bound) plans answer free = record { rest = rest-refused now u.passed next.w ws skip.rest; can = u.can; same = left-is }
+      answered Never plans answer free = record { rest = rest-refused now u.passed next.w ws skip.rest; kept = stays-kept; same = left-is }
+      answered (Spent bound) plans answer free = record { rest = rest-refused now u.passed next.w ws skip.rest; kept = stays-kept; same = left-is }
 
       -- the copy's turn at its own number
       turn : (now' : SessionState) (planner' : P) (told' : List Record) (planned : Bool) (marks' : List Bool) (records : List Record) → told' ≡ told ++ records
@@ -227,7 +248,7 @@ module _ {P : Type 0} (steps : PlannerSteps P) (machine : Machine) (s : SessionS
             moved records ((tray_of now.jobs next.w.sheet).0 ∷ u.passed) now' planner' told' marks'
             (closed-after Never planned (tray_of now.jobs next.w.sheet) marks marks' u.passed refused u.marked closed)
             (subst (λ q. IsRest q ((tray_of now.jobs next.w.sheet).0 ∷ u.passed) ws) (sym same) (rest-refused now u.passed next.w ws skip.rest))
-            (subst (CanAskInTurn machine) (sym same) u.can) told-is
+            (subst LeavesKept (sym same) stays-kept) told-is
             (subst (λ q. left (Some next.w.sheet) q.waiting ≡ ws) (sym same) left-is)
             (λ more last q asks. match-false (is_passed_over now u.passed next.w) _ _ skip.taken (match-true (is_full machine now) _ _ full (
               more,
@@ -240,7 +261,7 @@ module _ {P : Type 0} (steps : PlannerSteps P) (machine : Machine) (s : SessionS
             moved records (passed_after reply (tray_of now.jobs next.w.sheet).0 u.passed) now' planner' told' marks'
             (closed-after reply planned (tray_of now.jobs next.w.sheet) marks marks' u.passed is u.marked closed)
             (subst (λ z. IsRest z (passed_after reply (tray_of now.jobs next.w.sheet).0 u.passed) ws) (sym same) after-it.rest)
-            (subst (CanAskInTurn machine) (sym same) after-it.can) told-is
+            (subst LeavesKept (sym same) after-it.kept) told-is
             (subst (λ z. left (Some next.w.sheet) z.waiting ≡ ws) (sym same) after-it.same)
             (λ more last q asks. match-false (is_passed_over now u.passed next.w) _ _ skip.taken (match-false (is_full machine now) _ _ free (
               reply,

@@ -1,5 +1,5 @@
 -- The phase of asks, as calls give it.
-use Rattle.std.specs.Prelude.{◌≡◌, ◌≤◌, Bool, true, false, List, [], ◌∷◌, ◌++◌, IsSomeAnd}
+use Rattle.std.specs.Prelude.{◌≡◌, ◌≤◌, Bool, true, false, List, [], ◌∷◌, ◌++◌, All, IsSomeAnd}
 use Rattle.std.specs.Bool.{MatchBool}
 use Rattle.tp_machine.specs.declared.whole.Machine.{Machine}
 use Rattle.tp_schedule.specs.Planning.{last_tick}
@@ -15,9 +15,10 @@ use Rattle.tp_jobs.specs.Waiting.{find_waiting}
 use Rattle.tp_jobs.specs.declared.parts.WaitingCopy.{WaitingCopy}
 use Rattle.tp_turn.specs.Answering.{told_of_reply}
 use Rattle.tp_turn.specs.Asking.{Asks, ask_waiting, is_full, state_after_reply}
-use Rattle.tp_turn.specs.Keeping.{KeepsJobs, KeepsLines, KeepsPlans}
+use Rattle.tp_turn.specs.Keeping.{IsLeastAt, KeepsJobs, KeepsLines, KeepsPlans}
 use Rattle.tp_turn.specs.Labels.{label}
 use Rattle.tp_turn.specs.Planners.{PlannerSteps}
+use Rattle.tp_turn.specs.Seen.{CanGoOut, HasNextCopy, HasStarted}
 use Rattle.tp_turn.specs.States.{SessionState}
 
 -- what a phase of asks needs of the state, and leaves: its jobs, plans and lines are kept
@@ -26,6 +27,16 @@ pub record CanAskInTurn (machine : Machine) (s : SessionState) : Type 0 where
   pub jobs : KeepsJobs machine s.jobs
   pub plans : KeepsPlans machine s
   pub lines : KeepsLines s
+
+-- what an outage needs besides: copies that can have a next one, and purges under way
+pub record KeepsCopies (s : SessionState) : Type 0 where
+  pub next_copies : All (λ w. HasNextCopy w.sheet) s.waiting
+  pub next_planned : All (λ p. HasNextCopy p.sheet) s.plans
+  pub purges : All (HasStarted s.now) s.plans
+
+-- where the schedule is least too, a module can go out
+abbrev pub AskedCanGoOut : Type 0
+AskedCanGoOut = (machine : Machine) (s : SessionState) → CanAskInTurn machine s → IsLeastAt machine s → KeepsCopies s → CanGoOut machine s
 
 abbrev pub is_planned : Reply → Bool
 is_planned Planned = true

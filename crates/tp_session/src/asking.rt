@@ -7,9 +7,10 @@ ghost use Rattle.tp_schedule.specs.declared.recording.Record.{Record};
 ghost use Rattle.tp_jobs.specs.Waiting.{find_waiting};
 ghost use Rattle.tp_turn.specs.Answering.{told_of_reply};
 ghost use Rattle.tp_turn.specs.Asking.{ask_waiting};
+ghost use Rattle.tp_turn.specs.Keeping.{IsLeastAt};
 ghost use Rattle.tp_turn.specs.Planners.{right_steps};
 ghost use Rattle.tp_turn.specs.Seen.{state_seen};
-ghost use Rattle.tp_session.specs.Phases.{CanAskInTurn, NotesAsks, NotesTurn, moved_on};
+ghost use Rattle.tp_session.specs.Phases.{CanAskInTurn, KeepsCopies, NotesAsks, NotesTurn, moved_on};
 
 use crate::naming::label;
 use crate::telling::{tell_full, tell_reply};
@@ -126,6 +127,8 @@ pub fn ask_waiting<P: Planner>(
     requires can { CanAskInTurn machine.now (state_seen now schedule.old.plans lines.old outs) }
     ensures asks { OnOk result (NotesAsks (right_steps P.spent P.steps P.stop_steps machine.now) machine.now (state_seen now schedule.old.plans lines.old outs) planner.old notes.old.items (state_seen now schedule.new.plans lines.new outs) planner.new notes.new.items) }
     ensures kept { OnOk result (CanAskInTurn machine.now (state_seen now schedule.new.plans lines.new outs)) }
+    ensures least { OnOk result (IsLeastAt machine.now (state_seen now schedule.old.plans lines.old outs) → IsLeastAt machine.now (state_seen now schedule.new.plans lines.new outs)) }
+    ensures copies { OnOk result (KeepsCopies (state_seen now schedule.old.plans lines.old outs) → KeepsCopies (state_seen now schedule.new.plans lines.new outs)) }
     ensures stops_only { IfErr result (StopsOnlyWhere (P.stops planner.old) (P.stops planner.new)) }
     ensures counted { P.stops planner.old ≤ P.stops planner.new }
     ensures still_serves { (other : Machine) → P.serves planner.new other ≡ P.serves planner.old other }

@@ -2,7 +2,9 @@
 #![tactic(auto)]
 
 mod asking;
+mod laws;
 mod naming;
 mod telling;
 
 pub use asking::ask_waiting;
+pub use laws::asked_can_go_out;

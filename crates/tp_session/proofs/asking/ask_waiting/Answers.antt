@@ -19,7 +19,7 @@ asks-init g c = record {
 
 pub add-requires : goal.add-requires
 add-requires g c =
-    tray-below c.args.machine.now c.asks.lines.jobs c.in-Some.copy.job c.tray_of-tray.result c.machine_law.ensures.trays c.machine_law.ensures.locations.1 c.asks.invariant.under_way.can.jobs.trays c.tray_of-tray.ensures
+    omega (arith, tray-below c.args.machine.now c.asks.lines.jobs c.in-Some.copy.job c.tray_of-tray.result c.machine_law.ensures.trays c.machine_law.ensures.locations.1 c.asks.invariant.under_way.can.jobs.trays c.tray_of-tray.ensures)
 
 -- the turn of a copy that is not planned
 refused : (g : Over) (c : After-add g)
