@@ -1,6 +1,7 @@
 -- The copies that are left in a phase of asks, and the next of them whose line is open.
 use Rattle.std.proofs.Common.{◌≡◌, inl, inr, Bool, true, false, cond, ◌&&◌, not, List, [], ◌∷◌, filter, find, Option, Some, None, refl, sym, ap, ◌∙◌, subst, arith, All, AllPairs, Contains, IsTrue}
 use Rattle.std.specs.Option.{option_map}
+use Rattle.std.proofs.lemmas.Bool.{not_from_false}
 use Rattle.std.proofs.lemmas.List.Elements.{All-head, All-tail, All-contains}
 use Rattle.tp_schedule.proofs.CopyFacts.{before-asym, before-not_same, before-not_same', before-trans, same_copy-refl}
 use Rattle.tp_schedule.proofs.Membership.{Contains-cons_cases, Contains-filter_from}
@@ -57,20 +58,23 @@ pub record IsNext (lines : Backlog) (after : Option SheetId) (marks : List Bool)
   pub here : Contains lines.waiting w
   pub after_last : comes_after after w.sheet ≡ true
 
-pub is-next : (lines : Backlog) (after : Option SheetId) (marks : List Bool) (copy : SheetId) → next_to_try lines after marks ≡ Some copy → IsNext lines after marks copy
-is-next lines after marks copy e = go (find (is_open lines.jobs marks) (left after lines.waiting)) refl (sym (ap (option_map (λ w. w.sheet)) (find-both (λ w. comes_after after w.sheet) (is_open lines.jobs marks) lines.waiting)) ∙ e) where
-  go : (o : Option WaitingCopy) → find (is_open lines.jobs marks) (left after lines.waiting) ≡ o → option_map (λ w. w.sheet) o ≡ Some copy → IsNext lines after marks copy
-  go None f is = absurd (cc)
-  go (Some w) f is =
-      let in' = (find-Some (is_open lines.jobs marks) (left after lines.waiting) w f).0 in
-      let from = Contains-filter_from (λ v. comes_after after v.sheet) lines.waiting w in' in
-      record { w = w; sheet = cc; first = f; here = from.0; after_last = from.1 }
+pub is-next : (lines : Backlog) (after : Option SheetId) (marks : List Bool) (copy : SheetId) → next_to_try lines after marks ≡ Some copy
+    → IsNext lines after marks copy
+is-next lines after marks copy e = go (find (is_open lines.jobs marks) (left after lines.waiting)) refl
+    (sym (ap (option_map (λ w. w.sheet)) (find-both (λ w. comes_after after w.sheet) (is_open lines.jobs marks) lines.waiting)) ∙ e) where
+      go : (o : Option WaitingCopy) → find (is_open lines.jobs marks) (left after lines.waiting) ≡ o → option_map (λ w. w.sheet) o ≡ Some copy → IsNext lines after marks copy
+      go None f is = absurd (cc)
+      go (Some w) f is =
+          let in' = (find-Some (is_open lines.jobs marks) (left after lines.waiting) w f).0 in
+          let from = Contains-filter_from (λ v. comes_after after v.sheet) lines.waiting w in' in
+          record { w = w; sheet = cc; first = f; here = from.0; after_last = from.1 }
 
 pub none-next : (lines : Backlog) (after : Option SheetId) (marks : List Bool) → next_to_try lines after marks ≡ None → find (is_open lines.jobs marks) (left after lines.waiting) ≡ None
-none-next lines after marks e = go (find (is_open lines.jobs marks) (left after lines.waiting)) refl (sym (ap (option_map (λ w. w.sheet)) (find-both (λ w. comes_after after w.sheet) (is_open lines.jobs marks) lines.waiting)) ∙ e) where
-  go : (o : Option WaitingCopy) → find (is_open lines.jobs marks) (left after lines.waiting) ≡ o → option_map (λ w. w.sheet) o ≡ None → o ≡ None
-  go None f is = refl
-  go (Some w) f is = absurd (cc)
+none-next lines after marks e = go (find (is_open lines.jobs marks) (left after lines.waiting)) refl
+    (sym (ap (option_map (λ w. w.sheet)) (find-both (λ w. comes_after after w.sheet) (is_open lines.jobs marks) lines.waiting)) ∙ e) where
+      go : (o : Option WaitingCopy) → find (is_open lines.jobs marks) (left after lines.waiting) ≡ o → option_map (λ w. w.sheet) o ≡ None → o ≡ None
+      go None f is = refl
+      go (Some w) f is = absurd (cc)
 
 comes-later : (after : Option SheetId) (copy other : SheetId) → comes_after after copy ≡ true → is_before copy other ≡ true → comes_after after other ≡ true
 comes-later None copy other e f = refl
@@ -80,12 +84,9 @@ comes-later (Some last) copy other e f = before-trans last copy other e f
 pub left-behind : (after : Option SheetId) (copy : SheetId) (waiting : List WaitingCopy) → comes_after after copy ≡ true → filter (λ v. is_before copy v.sheet) (left after waiting) ≡ left (Some copy) waiting
 left-behind after copy waiting e = filter-stricter (λ v. comes_after after v.sheet) (λ v. is_before copy v.sheet) (λ v f. comes-later after copy v.sheet e f) waiting
 
-not-true : (b : Bool) → b ≡ false → not b ≡ true
-not-true b e = rw e refl
-
 -- the same are left where the copy itself waits no more
 pub left-without : (copy : SheetId) (waiting : List WaitingCopy) → left (Some copy) (without_waiting copy waiting) ≡ left (Some copy) waiting
-left-without copy waiting = filter-stricter (λ v. not (is_same_copy v.sheet copy)) (λ v. is_before copy v.sheet) (λ v f. not-true (is_same_copy v.sheet copy) (before-not_same' copy v.sheet f)) waiting
+left-without copy waiting = filter-stricter (λ v. not (is_same_copy v.sheet copy)) (λ v. is_before copy v.sheet) (λ v f. not_from_false (is_same_copy v.sheet copy) (before-not_same' copy v.sheet f)) waiting
 
 -- behind the head all are, and behind a later one the head is not
 pub behind-head : (w : WaitingCopy) (ws : List WaitingCopy) → AllPairs Before (w ∷ ws) → filter (λ v. is_before w.sheet v.sheet) (w ∷ ws) ≡ ws

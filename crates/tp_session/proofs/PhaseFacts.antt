@@ -1,5 +1,6 @@
 -- A phase of asks under way: what is left of it from here on, behind what was done, is the phase from its beginning.
-use Rattle.std.proofs.Common.{◌≡◌, ℕ, ◌≤◌, ◌<◌, inl, Bool, true, false, cond, ◌&&◌, ◌||◌, ◌==◌, not, List, [], ◌∷◌, ◌++◌, length, filter, find, Option, Some, None, refl, sym, ap, ◌∙◌, subst, append_assoc, arith, slice_get, All, Contains, IsTrue}
+use Rattle.std.proofs.Common.{◌≡◌, ℕ, ◌≤◌, ◌<◌, inl, Bool, true, false, cond, ◌&&◌, ◌||◌, ◌==◌, not, List, [], ◌∷◌, ◌++◌, length, filter, find, Option, Some, None, refl, sym, ap, ◌∙◌, subst, append_assoc, arith, slice_get, All, Contains}
+use Rattle.std.proofs.lemmas.Bool.{not-true, not-false}
 use Rattle.std.specs.Bool.{MatchBool}
 use Rattle.std.specs.Prelude.{IsSomeAnd}
 use Rattle.std.specs.List.{list_any}
@@ -38,16 +39,15 @@ use Rattle.tp_turn.specs.Seen.{state_seen}
 use Rattle.tp_turn.specs.States.{SessionState}
 use Rattle.tp_session.proofs.CopyFacts.{copies-asked}
 use Rattle.tp_session.proofs.LeftFacts.{IsNext, left, left-all, left-behind, left-without, found-itself, is-next, none-next, behind-head, behind-later}
-use Rattle.tp_session.proofs.ListSteps.{append_nothing}
+use Rattle.std.proofs.lemmas.List.{append-nil}
+use Rattle.tp_session.proofs.TurnFacts.{match-true, match-false}
 use Rattle.tp_session.specs.Phases.{CanAskInTurn, KeepsCopies, IsTried, NotesAsks, NotesTurn, is_planned, moved_on}
-
-abbrev Before : WaitingCopy → WaitingCopy → Type 0
-Before v w = IsTrue (is_before v.sheet w.sheet)
 
 -- the marks are those of the trays whose lines are passed over
 abbrev pub AreMarked : List Bool → List ℕ → Type 0
 AreMarked marks passed = (place : LocId) → is_blocked marks place ≡ list_any (λ t. place.0 == t) passed
 
+-- the phase is under way: its state and planner now, what was noted, and how it goes on from the copies that are left
 pub record IsUnderWay {P : Type 0} (steps : PlannerSteps P) (machine : Machine) (s : SessionState) (p : P) (notes : List Record)
     (now : SessionState) (planner : P) (told : List Record) (after : Option SheetId) (marks : List Bool) : Type 0 where
   pub passed : List ℕ
@@ -63,20 +63,6 @@ pub record IsUnderWay {P : Type 0} (steps : PlannerSteps P) (machine : Machine) 
 -- behind the first copy whose line is open
 abbrev behind : WaitingCopy → List WaitingCopy → List WaitingCopy
 behind w xs = filter (λ v. is_before w.sheet v.sheet) xs
-
-match-true : (b : Bool) (A B : Type 0) → b ≡ true → A → MatchBool b A B
-match-true b A B e a = subst (λ c. MatchBool c A B) (sym e) a
-
-match-false : (b : Bool) (A B : Type 0) → b ≡ false → B → MatchBool b A B
-match-false b A B e a = subst (λ c. MatchBool c A B) (sym e) a
-
-not-open : (b : Bool) → not b ≡ false → b ≡ true
-not-open true e = refl
-not-open false e = absurd (cc)
-
-open-is : (b : Bool) → not b ≡ true → b ≡ false
-open-is true e = absurd (cc)
-open-is false e = refl
 
 module _ {P : Type 0} (steps : PlannerSteps P) (machine : Machine) (s : SessionState) (p : P) (passed : List ℕ) (marks : List Bool) (marked : AreMarked marks passed) where
   -- the copies before the first one whose line is open are passed over
@@ -94,13 +80,13 @@ module _ {P : Type 0} (steps : PlannerSteps P) (machine : Machine) (s : SessionS
         let is : v ≡ w = cc in
         let all = behind-head v xs rest.in_order in
         subst (IsSkipped (v ∷ xs)) is (record {
-          taken = sym (marked (tray_of s.jobs v.sheet)) ∙ open-is (is_blocked marks (tray_of s.jobs v.sheet)) f;
+          taken = sym (marked (tray_of s.jobs v.sheet)) ∙ not-true (is_blocked marks (tray_of s.jobs v.sheet)) f;
           rest = subst (λ ys. IsRest s passed (v ∷ ys)) (sym all) rest;
           goes = λ more last q asks. subst (λ ys. AsksInTurn steps machine (v ∷ ys) passed s p more last q) all asks;
           fewer = let same = ap (λ (l : List WaitingCopy). length l) all in omega arith;
         })
     go false f e' later =
-        let over : is_passed_over s passed v ≡ true = sym (marked (tray_of s.jobs v.sheet)) ∙ not-open (is_blocked marks (tray_of s.jobs v.sheet)) f in
+        let over : is_passed_over s passed v ≡ true = sym (marked (tray_of s.jobs v.sheet)) ∙ not-false (is_blocked marks (tray_of s.jobs v.sheet)) f in
         let next = later e' (rest-tail s passed v xs over rest) in
         let same = behind-later v w xs rest.in_order (find-Some (is_open s.jobs marks) xs w e').0 in
         record {
@@ -118,7 +104,7 @@ module _ {P : Type 0} (steps : PlannerSteps P) (machine : Machine) (s : SessionS
         → AsksInTurn steps machine (v ∷ xs) passed s p [] s p
     go true f e' later = absurd (cc)
     go false f e' later =
-        match-true (is_passed_over s passed v) _ _ (sym (marked (tray_of s.jobs v.sheet)) ∙ not-open (is_blocked marks (tray_of s.jobs v.sheet)) f) (later e')
+        match-true (is_passed_over s passed v) _ _ (sym (marked (tray_of s.jobs v.sheet)) ∙ not-false (is_blocked marks (tray_of s.jobs v.sheet)) f) (later e')
 
 -- the marks after a copy's turn: its line is closed where it was not planned
 abbrev pub AreClosed : Bool → LocId → List Bool → List Bool → Type 0
@@ -143,7 +129,7 @@ module _ {P : Type 0} (steps : PlannerSteps P) (machine : Machine) (s : SessionS
     least = λ was. was;
     copies = λ were. were;
     done = [];
-    notes_are = sym (append_nothing notes);
+    notes_are = sym (append-nil notes);
     goes_on = λ more last q asks. subst (λ ws. AsksInTurn steps machine ws [] s p more last q) (left-all s.waiting) asks;
   }
 
@@ -152,7 +138,7 @@ module _ {P : Type 0} (steps : PlannerSteps P) (machine : Machine) (s : SessionS
     pub ended : next_to_try (record { jobs = now.jobs; waiting = now.waiting }) after marks ≡ None → NotesAsks steps machine s p notes now planner told
     ended none =
         let rest = all-passed steps machine now planner u.passed marks u.marked (left after now.waiting) (none-next (record { jobs = now.jobs; waiting = now.waiting }) after marks none) in
-        (u.done, u.notes_are, subst (λ l. Asks steps machine s p l now planner) (append_nothing u.done) (u.goes_on [] now planner rest))
+        (u.done, u.notes_are, subst (λ l. Asks steps machine s p l now planner) (append-nil u.done) (u.goes_on [] now planner rest))
 
     module _ (copy : SheetId) (n : next_to_try (record { jobs = now.jobs; waiting = now.waiting }) after marks ≡ Some copy)
         (spent : Machine → List Plan → Ask → ℕ → Type 0) (right : (plans : List Plan) (deed : Deed) (plans' : List Plan) (p' : P) → steps.does planner plans deed plans' p' → IsRight spent machine plans deed plans') where

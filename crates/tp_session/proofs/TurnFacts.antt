@@ -29,10 +29,11 @@ use Rattle.tp_session.specs.Phases.{CanAskInTurn, IsTried, NotesTurn, is_planned
 use Rattle.tp_session.proofs.AskFacts.{found-waits, name-is}
 use Rattle.tp_session.proofs.CanAskFacts.{can-ask}
 
-match-true : (b : Bool) (A B : Type 0) → b ≡ true → A → MatchBool b A B
+-- a case by a test
+pub match-true : (b : Bool) (A B : Type 0) → b ≡ true → A → MatchBool b A B
 match-true b A B e a = subst (λ c. MatchBool c A B) (sym e) a
 
-match-false : (b : Bool) (A B : Type 0) → b ≡ false → B → MatchBool b A B
+pub match-false : (b : Bool) (A B : Type 0) → b ≡ false → B → MatchBool b A B
 match-false b A B e a = subst (λ c. MatchBool c A B) (sym e) a
 
 pub is-full : (machine : Machine) (s : SessionState) (live : ℕ) → live ≡ live_count machine s.now s.plans → 256 ≤ live → is_full machine s ≡ true

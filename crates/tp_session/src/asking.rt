@@ -112,7 +112,8 @@ fn try_copy<P: Planner>(
 /// Asks the copies that wait, in their order, at the moment `now`. A copy that finds 256 copies live is noted full, and a
 /// copy that is planned waits no more. Once a copy is full or not planned, the later ones of its line are passed over.
 ///
-/// After a `Halt` nothing is known of schedule and lines, so that the caller drops them, and notes may have come.
+/// After a `Halt` nothing is known of schedule and lines, so that the caller drops them, and notes may have come. Want of
+/// memory is told too where the schedule has 4,294,967,295 plans.
 pub fn ask_waiting<P: Planner>(
     alloc: Global,
     machine: &Machine,

@@ -44,7 +44,8 @@ returns-in-Never g c =
           c.in_ok-ask_planner.ensures.answers c.in_ok-ask_planner.ensures.told
           (sym refused)
           (λ w same. after-refused s c.args.lines.now refl refl c.in_ok-ask_planner.field-0 c.ask_planner.new.schedule.plans refused
-          (refused-stays (g.P.Planner.spent c.args.planner.now) c.args.machine.now c.args.schedule.now.plans c.make_ask-ask.result c.in_ok-ask_planner.field-0 c.ask_planner.new.schedule.plans c.in_ok-ask_planner.ensures.answers.0 refused) w);
+          (refused-stays (g.P.Planner.spent c.args.planner.now) c.args.machine.now c.args.schedule.now.plans c.make_ask-ask.result
+          c.in_ok-ask_planner.field-0 c.ask_planner.new.schedule.plans c.in_ok-ask_planner.ensures.answers.0 refused) w);
       stops_only = tt;
       counted = c.in_ok-ask_planner.ensures.counted;
       still_serves = c.in_ok-ask_planner.ensures.still_serves;

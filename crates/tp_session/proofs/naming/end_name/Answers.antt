@@ -16,4 +16,6 @@ pub returns : goal.returns
 returns c =
     let last : last_of c.args.plan.now.acts ≡ c.get-last.result = last-is c.args.plan.now.acts (c.len.result - 1) c.get-last.result (omega (arith, c.len.ensures.len, c.requires.some)) c.get-last.ensures in
     c.location_name.ensures
-    ∙ ap (location_name c.args.machine.now) (sym (end-is c.args.machine.now c.args.plan.now c.get-last.result c.get-action.result.now last (subst (λ n. action_at c.args.machine.now n ≡ Some c.get-action.result.now) c.from.ensures c.get-action.ensures)))
+    ∙ ap (location_name c.args.machine.now)
+    (sym (end-is c.args.machine.now c.args.plan.now c.get-last.result c.get-action.result.now last
+    (subst (λ n. action_at c.args.machine.now n ≡ Some c.get-action.result.now) c.from.ensures c.get-action.ensures)))

@@ -1,14 +1,16 @@
 -- The asked copy is passed over on either side, and the others are told in pairs.
 use Rattle.std.proofs.Common.{◌+◌, ◌++◌, true, false, arith, ap, sym, ◌∙◌}
 use Rattle.tp_turn.specs.Answering.{told_of_move}
-use Rattle.tp_session.proofs.ListSteps.{append_nothing}
+use Rattle.std.proofs.lemmas.List.{append-nil}
 use Rattle.tp_session.proofs.MoveSteps.{moves_from, skips-before, skips-after, tells-both, none-left', tells-on}
 use Rattle.tp_session.proofs.PlaceFacts.{same-copy}
 use Rattle.tp_session.proofs.telling.tell_moves.Goals as goal
 
 pub moves-preserved-then-eq : goal.moves-preserved-then-eq
 moves-preserved-then-eq c = record {
-  rest = ap (λ rest. c.moves.notes.items ++ rest) (sym (skips-before c.args.asked c.args.before.now.plans c.args.after.now.plans c.moves.from c.moves.to c.plan_at-old.result.now c.plan_at-old.ensures.plan (same-copy c.plan_at-old.result.now.sheet c.args.asked true c.if-eq.ensures)))
+  rest = ap (λ rest. c.moves.notes.items ++ rest)
+      (sym (skips-before c.args.asked c.args.before.now.plans c.args.after.now.plans c.moves.from c.moves.to c.plan_at-old.result.now c.plan_at-old.ensures.plan
+      (same-copy c.plan_at-old.result.now.sheet c.args.asked true c.if-eq.ensures)))
       ∙ c.moves.invariant.rest;
   from = omega (arith, c.moves-test.true);
   to = c.moves.invariant.to;
@@ -16,7 +18,9 @@ moves-preserved-then-eq c = record {
 
 pub moves-preserved-then-eq-2 : goal.moves-preserved-then-eq-2
 moves-preserved-then-eq-2 c = record {
-  rest = ap (λ rest. c.moves.notes.items ++ rest) (sym (skips-after c.args.asked c.args.before.now.plans c.args.after.now.plans c.moves.from c.moves.to c.plan_at-new.result.now c.plan_at-new.ensures.plan (same-copy c.plan_at-new.result.now.sheet c.args.asked true c.if-eq-2.ensures)))
+  rest = ap (λ rest. c.moves.notes.items ++ rest)
+      (sym (skips-after c.args.asked c.args.before.now.plans c.args.after.now.plans c.moves.from c.moves.to c.plan_at-new.result.now c.plan_at-new.ensures.plan
+      (same-copy c.plan_at-new.result.now.sheet c.args.asked true c.if-eq-2.ensures)))
       ∙ c.moves.invariant.rest;
   from = c.moves.invariant.from;
   to = omega (arith, c.if-to-len.true);
@@ -39,6 +43,6 @@ moves-preserved c =
 
 pub returns-else-to-len : goal.returns-else-to-len
 returns-else-to-len c =
-    sym (append_nothing c.moves.notes.items)
+    sym (append-nil c.moves.notes.items)
     ∙ ap (λ rest. c.moves.notes.items ++ rest) (sym (none-left' c.args.asked c.args.before.now.plans c.args.after.now.plans c.moves.from c.moves.to (omega (arith, c.if-to-len.false, c.len-in-moves.ensures.len))))
     ∙ c.moves.invariant.rest

@@ -5,7 +5,7 @@ use Rattle.tp_schedule.proofs.ChangeFacts.{plan_of-at}
 use Rattle.tp_schedule.specs.Answers.{kept_of}
 use Rattle.tp_schedule.specs.Plans.{plan_of}
 use Rattle.tp_turn.specs.Answering.{told_of_plan, told_of_planned}
-use Rattle.tp_session.proofs.ListSteps.{append_nothing}
+use Rattle.std.proofs.lemmas.List.{append-nil}
 use Rattle.tp_session.proofs.PlaceFacts.{no-plan}
 use Rattle.tp_session.proofs.telling.tell_planned.Goals as goal
 
@@ -22,4 +22,4 @@ returns-in_ok-push c =
 pub returns-in_default : goal.returns-in_default
 returns-in_default c =
     sym (ap (λ o. c.args.notes.now.items ++ told_of_planned c.args.machine.now (kept_of c.args.ask.now) o) (no-plan c.args.ask.now.sheet c.args.after.now.plans c.in_default.ensures)
-    ∙ append_nothing c.args.notes.now.items)
+    ∙ append-nil c.args.notes.now.items)
