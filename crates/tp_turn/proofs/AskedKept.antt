@@ -28,7 +28,7 @@ use Rattle.tp_jobs.proofs.Found.{find-none}
 use Rattle.tp_turn.proofs.TestFacts.{count-part, one-less, all-of, of-all}
 
 module _ (machine : Machine) (s : SessionState) (w : WaitingCopy) (plans' : List Plan) (f : IsAskedFirst machine s w plans') (keeps : KeepsPlans machine s) where
-  retimed-plan : (q p : Plan) → Contains plans' q → Contains s.plans p → IsUnmoved q p → IsRetimedPlan machine s.now p q
+  pub retimed-plan : (q p : Plan) → Contains plans' q → Contains s.plans p → IsUnmoved q p → IsRetimedPlan machine s.now p q
   retimed-plan q p in' in'' u = record {
     unmoved = u;
     timed = All-contains (IsTimedPlan machine) s.plans p keeps.legal.timed in'';

@@ -37,7 +37,7 @@ pub record IsRest (s : SessionState) (passed : List ℕ) (rest : List WaitingCop
   pub in_order : AllPairs (λ v w. IsTrue (is_before v.sheet w.sheet)) rest
   pub others : (v : WaitingCopy) → Contains s.waiting v → Contains rest v ⊎ (is_passed_over s passed v ≡ true)
 
-rest-tail : (s : SessionState) (passed : List ℕ) (w : WaitingCopy) (ws : List WaitingCopy) → is_passed_over s passed w ≡ true → IsRest s passed (w ∷ ws) → IsRest s passed ws
+pub rest-tail : (s : SessionState) (passed : List ℕ) (w : WaitingCopy) (ws : List WaitingCopy) → is_passed_over s passed w ≡ true → IsRest s passed (w ∷ ws) → IsRest s passed ws
 rest-tail s passed w ws over r = record {
   wait = All-tail (Contains s.waiting) w ws r.wait;
   in_order = AllPairs-tail (λ v w. IsTrue (is_before v.sheet w.sheet)) w ws r.in_order;
@@ -68,7 +68,7 @@ rest-passed s passed tray ws r = record {
 own-passed : (s : SessionState) (passed : List ℕ) (w : WaitingCopy) → is_passed_over s ((tray_of s.jobs w.sheet).0 ∷ passed) w ≡ true
 own-passed s passed w = let e : ((tray_of s.jobs w.sheet).0 == (tray_of s.jobs w.sheet).0) ≡ true = grind (arith, nat_tests) in rw e refl
 
-rest-refused : (s : SessionState) (passed : List ℕ) (w : WaitingCopy) (ws : List WaitingCopy) → IsRest s passed (w ∷ ws) → IsRest s ((tray_of s.jobs w.sheet).0 ∷ passed) ws
+pub rest-refused : (s : SessionState) (passed : List ℕ) (w : WaitingCopy) (ws : List WaitingCopy) → IsRest s passed (w ∷ ws) → IsRest s ((tray_of s.jobs w.sheet).0 ∷ passed) ws
 rest-refused s passed w ws r =
     rest-tail s ((tray_of s.jobs w.sheet).0 ∷ passed) w ws (own-passed s passed w) (rest-passed s passed (tray_of s.jobs w.sheet).0 (w ∷ ws) r)
 
@@ -77,7 +77,7 @@ not-both true e f = cc
 not-both false e f = cc
 
 -- a copy of another line, or one that is planned
-rest-planned : (s : SessionState) (passed : List ℕ) (w : WaitingCopy) (ws : List WaitingCopy) (plans : List Plan) → IsRest s passed (w ∷ ws) → IsRest (planned_waiting s w plans) passed ws
+pub rest-planned : (s : SessionState) (passed : List ℕ) (w : WaitingCopy) (ws : List WaitingCopy) (plans : List Plan) → IsRest s passed (w ∷ ws) → IsRest (planned_waiting s w plans) passed ws
 rest-planned s passed w ws plans r = record {
   wait = All-from_contains (Contains (without_waiting w.sheet s.waiting)) ws (λ v in'.
       let before : is_before w.sheet v.sheet ≡ true = All-contains (λ v. IsTrue (is_before w.sheet v.sheet)) ws v (AllPairs-head (λ v w. IsTrue (is_before v.sheet w.sheet)) w ws r.in_order) in' in
@@ -96,7 +96,7 @@ rest-planned s passed w ws plans r = record {
 }
 
 -- the copy that is taken is the first of its line
-first-of_line : (machine : Machine) (s : SessionState) (passed : List ℕ) (w : WaitingCopy) (ws : List WaitingCopy) → is_passed_over s passed w ≡ false → IsRest s passed (w ∷ ws)
+pub first-of_line : (machine : Machine) (s : SessionState) (passed : List ℕ) (w : WaitingCopy) (ws : List WaitingCopy) → is_passed_over s passed w ≡ false → IsRest s passed (w ∷ ws)
     → (v : WaitingCopy) → Contains s.waiting v → is_same_line s.jobs v.sheet w.sheet ≡ true → is_same_copy v.sheet w.sheet ≡ false → is_before w.sheet v.sheet ≡ true
 first-of_line machine s passed w ws not_over r v in' same other = elim (r.others v in') [
   | inl here ↦ elim (Contains-cons_cases w ws v here) [

@@ -1,0 +1,10 @@
+pub mod ListSteps
+pub mod NameFacts
+pub mod MoveSteps
+pub mod PlaceFacts
+pub mod AskFacts
+pub mod CanAskFacts
+pub mod TurnFacts
+pub mod LeftFacts
+pub mod PhaseFacts
+pub mod CopyFacts

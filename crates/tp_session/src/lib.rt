@@ -1,0 +1,10 @@
+//! A session: what its events do to the schedule and the lines, over any planner.
+#![tactic(auto)]
+
+mod asking;
+mod laws;
+mod naming;
+mod telling;
+
+pub use asking::ask_waiting;
+pub use laws::asked_can_go_out;
