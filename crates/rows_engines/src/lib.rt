@@ -6,6 +6,8 @@ mod board_rows;
 #[cfg(test)]
 mod by_hand;
 #[cfg(test)]
+mod engine_rows;
+#[cfg(test)]
 mod flying;
 #[cfg(test)]
 mod flying_rows;
