@@ -1,6 +1,6 @@
 //! A workspace and a board as a planner.
-ghost use Rattle.std.specs.Prelude.{ℕ, ◌≡◌, ◌≢◌, ◌<◌, ◌≤◌, [], IfErr, IfOk, IsTrue, None, OnOk};
-ghost use Rattle.tp_schedule.specs.Planning.{HasTimeFrom};
+ghost use Rattle.std.specs.Prelude.{◌≡◌, ◌<◌, ◌≤◌, IfErr, IfOk, IsOk, IsTrue, OnErr, OnOk};
+ghost use Rattle.tp_schedule.specs.Planning.{CanAsk, CanSettle, HasTimeFrom, IsAnswer, IsSettled};
 ghost use Rattle.tp_schedule.specs.declared.parts.Origin.TheVariants.{Feeder};
 ghost use Rattle.tp_placing.specs.Inside.{most_edges, most_points};
 ghost use Rattle.tp_search.specs.Engines.{IsSameEngine, is_engine_for};
@@ -65,6 +65,7 @@ fn make_spare(schedule: &mut Schedule, ask: &Ask) -> Result<(), Memory>
     requires { HasTimeFrom schedule.old.plans ask.now.now ask.now.origin }
     ensures plans { schedule.new.plans ≡ schedule.old.plans }
     ensures spare { OnOk result (ask.entry.now.origin ≡ Feeder → 0 < schedule.new.spare) }
+    ensures new_copy { OnErr result (ask.entry.now.origin ≡ Feeder) }
 {
     match ask.origin {
         Origin::Feeder => schedule.reserve(),
@@ -83,24 +84,31 @@ impl<N: Network> Planner for Engine<N> {
 
     ghost stop_steps = { λ e machine plans due e'. ⊥ };
 
-    fn ask(
-        &mut self,
-        machine: &Machine,
-        schedule: &mut Schedule,
-        ask: &Ask,
-    ) -> Result<Reply, Halt> {
-        if make_spare(schedule, ask).is_err() {
-            return Err(Halt::Memory);
+    /// Wants memory for the spare plan of a new copy alone, and never stops.
+    fn ask(&mut self, machine: &Machine, schedule: &mut Schedule, ask: &Ask) -> Result<Reply, Halt>
+        requires served { IsTrue (is_engine_for self.old machine.now) }
+        requires can_ask { CanAsk machine.now schedule.old.plans ask.now }
+        ensures answer { IfOk result (λ reply. IsAnswer (IsSpentOf self.old.work.nodes) machine.now schedule.old.plans ask.entry.now reply schedule.new.plans) }
+        ensures same { IsSameEngine N.mark_room self.old self.new }
+        ensures memory { IfErr result (λ halt. halt ≡ Halt.Memory) }
+        ensures new_copy { OnErr result (ask.entry.now.origin ≡ Feeder) }
+        ensures stays { OnErr result (schedule.new.plans ≡ schedule.old.plans) }
+    {
+        match make_spare(schedule, ask) {
+            Ok(()) => Ok(answer(&mut self.work, &mut self.board, machine, schedule, ask)),
+            Err(_) => Err(Halt::Memory),
         }
-        Ok(answer(&mut self.work, &mut self.board, machine, schedule, ask))
     }
 
-    fn settle(
-        &mut self,
-        machine: &Machine,
-        schedule: &mut Schedule,
-        now: Tick,
-    ) -> Result<(), Halt> {
+    /// Takes no memory, and never stops.
+    fn settle(&mut self, machine: &Machine, schedule: &mut Schedule, now: Tick) -> Result<(), Halt>
+        requires served { IsTrue (is_engine_for self.old machine.now) }
+        requires can_settle { CanSettle machine.now now schedule.old.plans }
+        ensures settles { IsSettled machine.now now schedule.old.plans schedule.new.plans }
+        ensures spare { schedule.new.spare ≡ schedule.old.spare }
+        ensures same { IsSameEngine N.mark_room self.old self.new }
+        ensures done { IsOk result }
+    {
         self.board.settle(machine, schedule, now);
         Ok(())
     }
