@@ -15,7 +15,7 @@ use rows_machine::machines::DUO;
 use std::alloc::Global;
 use std::process::Abort;
 use std::test::Fail;
-use tp_base::{Network, Tick};
+use tp_base::{Network, Tick, Undo};
 use tp_machine::Machine;
 use tp_machine_text::read_machine;
 use tp_placing::Board;
@@ -192,10 +192,12 @@ fn first_tried<N: Network>(
     tried_twice(board, &mut work, machine, &mut schedule, &ask)
 }
 
-fn told_on_duo(alloc: Global) -> Result<([Reply; 2], [[Tick; 4]; 5]), Fail> {
+/// The replies and the points in turn, and how many marks of the board are spare then.
+fn told_on_duo(alloc: Global) -> Result<([Reply; 2], [[Tick; 4]; 5], u32), Fail> {
     let machine = duo_machine(alloc)?;
     let mut engine = engine_for(alloc, &machine)?;
-    told_in_turn(alloc, &mut engine, &machine)
+    let (replies, points) = told_in_turn(alloc, &mut engine, &machine)?;
+    Ok((replies, points, engine.board().spare_marks()))
 }
 
 fn tried_on_duo(alloc: Global) -> Result<(Tick, [Tick; 4]), Fail> {
@@ -205,13 +207,13 @@ fn tried_on_duo(alloc: Global) -> Result<(Tick, [Tick; 4]), Fail> {
 }
 
 // The second sheet is fed ahead of the first, which gives way. All points are as early as they can be, so the times settle where
-// they stand.
+// they stand. That leaves no mark on the board, which has all marks of its network but one.
 #[test]
 fn asked_and_settled(rt: HostRuntime) -> Result<(), Fail> {
     let told = told_on_duo(rt.alloc())?;
     let (moved, second) = ([5, 7, 13, 16], [3, 5, 14, 17]);
     let points = [[3, 5, 11, 14], moved, second, moved, second];
-    assert_eq!(rt; told, ([Reply::Planned; 2], points));
+    assert_eq!(rt; told, ([Reply::Planned; 2], points, 329));
     Ok(())
 }
 
