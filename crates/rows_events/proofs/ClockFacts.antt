@@ -1,5 +1,5 @@
 -- An empty schedule can be planned on, and what one plan on it leaves.
-use Rattle.std.proofs.Common.{◌≡◌, ℕ, Bool, true, false, ◌&&◌, List, [], refl, sym, subst, arith, nat_lt}
+use Rattle.std.proofs.Common.{◌≡◌, Bool, true, false, ◌&&◌, List, [], refl, sym, subst, arith, nat_lt}
 use Rattle.std.specs.Prelude.{IsFalse}
 use Rattle.std.proofs.lemmas.List.Elements.{All-nil}
 use Rattle.tp_machine.specs.declared.whole.Machine.{Machine}

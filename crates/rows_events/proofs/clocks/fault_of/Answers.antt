@@ -1,5 +1,5 @@
 -- Nothing stands on an empty schedule.
-use Rattle.std.proofs.Common.{◌≡◌, sym, subst, arith}
+use Rattle.std.proofs.Common.{sym, subst, arith}
 use Rattle.tp_schedule.specs.Answers.{KeepsFloors}
 use Rattle.tp_schedule.specs.Legality.{IsLegal}
 use Rattle.tp_schedule.specs.Planning.{none_exempt}
