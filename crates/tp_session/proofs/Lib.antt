@@ -8,3 +8,5 @@ pub mod TurnFacts
 pub mod LeftFacts
 pub mod PhaseFacts
 pub mod CopyFacts
+pub mod LiveLists
+pub mod LiveClock
