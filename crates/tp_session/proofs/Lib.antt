@@ -10,3 +10,7 @@ pub mod PhaseFacts
 pub mod CopyFacts
 pub mod LiveLists
 pub mod LiveClock
+pub mod LivePast
+pub mod LiveAhead
+pub mod LiveMoves
+pub mod LiveAnswered

@@ -1,5 +1,5 @@
 -- A plan that is not live has nothing that is still to be told, and stays so.
-use Rattle.std.proofs.Common.{◌≡◌, ℕ, suc, ◌+◌, ◌<◌, ◌≤◌, inl, inr, Bool, true, false, cond, ◌&&◌, ◌||◌, not, List, [], ◌∷◌, ◌++◌, map, flat_map, length, filter, refl, sym, ap, ◌∙◌, arith, Contains, All, nat_le, nat_lt, ℤ, pos, negsuc, int_lt}
+use Rattle.std.proofs.Common.{◌≡◌, ℕ, ◌+◌, ◌≤◌, inl, inr, Bool, true, false, cond, ◌&&◌, ◌||◌, not, List, [], ◌∷◌, ◌++◌, map, length, filter, refl, sym, ap, ◌∙◌, arith, Contains, All, nat_le, nat_lt, ℤ, pos, negsuc, int_lt}
 use Rattle.std.specs.List.{list_any}
 use Rattle.std.proofs.lemmas.Bool.{cases_lt}
 use Rattle.std.proofs.lemmas.Bool.Decides.{nat_tests}
@@ -11,15 +11,14 @@ use Rattle.tp_schedule.specs.Answers.{KeepsFloors}
 use Rattle.tp_schedule.specs.Holding.{Run, runs_from, runs_of, holds_of_act}
 use Rattle.tp_schedule.specs.Living.{is_live, is_held_after, ends_after}
 use Rattle.tp_schedule.specs.Planning.{none_exempt}
-use Rattle.tp_schedule.specs.Plans.{end_of_plan, is_front, is_same_copy, point}
+use Rattle.tp_schedule.specs.Plans.{end_of_plan, is_front, is_same_copy}
 use Rattle.tp_schedule.specs.declared.parts.Plan.{Plan}
 use Rattle.tp_schedule.specs.declared.parts.SheetId.{SheetId}
 use Rattle.tp_choices.proofs.PastFacts.{past_points}
 use Rattle.tp_choices.proofs.Staying.{filter-none}
-use Rattle.tp_turn.specs.Clock.{Told, clock_move, by_moment, deliveries, releases, delivery, release_of, record_of, released_until}
-use Rattle.tp_turn.specs.Keeping.{is_planned_among, live_part, live_plans}
-use Rattle.tp_turn.specs.Moments.{due_until, is_due, release_until}
-use Rattle.tp_turn.specs.States.{SessionState}
+use Rattle.tp_turn.specs.Clock.{Told, by_moment, deliveries, releases, delivery, release_of, record_of, released_until}
+use Rattle.tp_turn.specs.Keeping.{is_planned_among, live_plans}
+use Rattle.tp_turn.specs.Moments.{is_due, release_until}
 use Rattle.tp_turn.proofs.TestFacts.{list_any_mono, list_any-map_same}
 use Rattle.tp_session.specs.LiveTurns.{ClockTellsLivePart, ClockLeavesLivePart}
 use Rattle.tp_session.proofs.LiveLists.{filter-within, filter-map_within, flat_map-filter, any-filter}

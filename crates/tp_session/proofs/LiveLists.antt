@@ -44,3 +44,13 @@ any-filter {X} p q (x ∷ xs) e = go (q x) (p x) refl e (any-filter p q xs) wher
   go b true f e rest = refl
   go true false f e rest = rest (rw f at e)
   go false false f e rest = rest e
+
+-- two tests that agree on the elements
+pub filter-by : {X : Type 0} (p q : X → Bool) (xs : List X) → ((x : X) → Contains xs x → p x ≡ q x) → filter p xs ≡ filter q xs
+filter-by p q [] same = refl
+filter-by {X} p q (x ∷ xs) same = go (p x) (q x) (same x (Contains-here x xs)) (filter-by p q xs (λ y in'. same y (Contains-later x xs y in'))) where
+  go : (b c : Bool) → b ≡ c → filter p xs ≡ filter q xs → cond b (x ∷ filter p xs) (filter p xs) ≡ cond c (x ∷ filter q xs) (filter q xs)
+  go true true e rest = ap (λ ys. x ∷ ys) rest
+  go true false e rest = absurd (cc)
+  go false true e rest = absurd (cc)
+  go false false e rest = rest
