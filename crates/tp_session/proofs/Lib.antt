@@ -14,3 +14,5 @@ pub mod LivePast
 pub mod LiveAhead
 pub mod LiveMoves
 pub mod LiveAnswered
+pub mod LiveStates
+pub mod LiveAsks

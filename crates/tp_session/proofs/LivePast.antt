@@ -53,7 +53,7 @@ gone-is machine now plans in_order p in' = go (is_live machine now p) refl (gone
   go false e false f = absurd (
       let there = Contains-filter (λ q. not (is_live machine now q)) plans p in' (rw e refl) in
       let any : gone_at machine now plans p.sheet ≡ true = list_any-from_Any (λ q. is_same_copy q.sheet p.sheet) (past_at machine now plans)
-          (contains-Any (λ q. is_same_copy q.sheet p.sheet ≡ true) (past_at machine now plans) p there (same_copy-refl p.sheet)) in cc)
+      (contains-Any (λ q. is_same_copy q.sheet p.sheet ≡ true) (past_at machine now plans) p there (same_copy-refl p.sheet)) in cc)
 
 -- so a schedule falls into what is live and what is past
 pub both-parts : (machine : Machine) (now : ℕ) (gone : SheetId → Bool) (plans : List Plan) → ((p : Plan) → Contains plans p → gone p.sheet ≡ not (is_live machine now p))

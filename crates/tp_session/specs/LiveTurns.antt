@@ -5,15 +5,19 @@ use Rattle.tp_schedule.specs.Answers.{IsAsked, KeepsFloors}
 use Rattle.tp_schedule.specs.Legality.{IsLegal}
 use Rattle.tp_schedule.specs.Living.{is_live}
 use Rattle.tp_schedule.specs.Planning.{IsAnswer, none_exempt}
+use Rattle.tp_schedule.specs.Planning.Deed.{replied}
 use Rattle.tp_schedule.specs.Plans.{goes_to, is_before, is_delivered_to}
 use Rattle.tp_schedule.specs.Spending.{IsSpent}
 use Rattle.tp_schedule.specs.declared.parts.Ask.{Ask}
 use Rattle.tp_schedule.specs.declared.parts.Plan.{Plan}
 use Rattle.tp_schedule.specs.declared.parts.Reply.{Reply}
+use Rattle.tp_schedule.specs.declared.recording.Record.{Record}
 use Rattle.tp_choices.specs.LiveParts.{EndsAhead}
 use Rattle.tp_turn.specs.Answering.{told_of_reply}
+use Rattle.tp_turn.specs.Asking.{Asks}
 use Rattle.tp_turn.specs.Clock.{clock_move, clock_records}
-use Rattle.tp_turn.specs.Keeping.{live_part}
+use Rattle.tp_turn.specs.Keeping.{KeepsLines, live_part}
+use Rattle.tp_turn.specs.Planners.{PlannerSteps}
 use Rattle.tp_turn.specs.States.{SessionState}
 
 -- a move of the clock tells the same of the live part, where each unreleased start is above now + lead
@@ -58,3 +62,20 @@ pub record IsAnswerOnWhole (nodes : ℕ) (machine : Machine) (plans : List Plan)
 abbrev pub LiveAnswersHold : Type 0
 LiveAnswersHold = (nodes : ℕ) (machine : Machine) (plans : List Plan) (ask : Ask) (reply : Reply) (live : List Plan) → CanAskLive machine plans ask
     → IsAnswer (spent_of nodes) machine (live_at machine ask.now plans) ask reply live → IsAnswerOnWhole nodes machine plans ask reply live
+
+-- a planner that looks at schedules through its answers alone, each with its own number of nodes: they are right, and where
+-- one is right on another schedule too, it is given there as well
+module _ {P : Type 0} (planner_steps : PlannerSteps P) (machine : Machine) where
+  pub record AnswersAlone (nodes : P → ℕ) : Type 0 where
+    pub right : (planner planner' : P) (ask : Ask) (reply : Reply) (plans plans' : List Plan) → planner_steps.does planner plans (replied ask reply) plans' planner'
+        → IsAnswer (spent_of (nodes planner)) machine plans ask reply plans'
+    pub again : (planner planner' : P) (ask : Ask) (reply : Reply) (plans plans' other other' : List Plan) → planner_steps.does planner plans (replied ask reply) plans' planner'
+        → IsAnswer (spent_of (nodes planner)) machine other ask reply other' → planner_steps.does planner other (replied ask reply) other' planner'
+
+  -- a phase of asks on the live part is one on the whole state, with the same records, and its last state is the live part of
+  -- the whole one's
+  abbrev pub LiveAsksHold : Type 0
+  LiveAsksHold = (nodes : P → ℕ) (s : SessionState) (planner : P) (records : List Record) (last : SessionState) (planner' : P)
+      → AnswersAlone nodes → IsLegal machine s.plans → KeepsFloors machine s.now none_exempt s.plans → KeepsLines s
+      → Asks planner_steps machine (live_part machine s) planner records last planner'
+      → (s' : SessionState) × Asks planner_steps machine s planner records s' planner' × (live_part machine s' ≡ last)

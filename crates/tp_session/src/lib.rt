@@ -9,4 +9,4 @@ mod telling;
 
 pub use asking::ask_waiting;
 pub use laws::asked_can_go_out;
-pub use living::{live_answers_hold, live_part_moves_alike};
+pub use living::{live_answers_hold, live_asks_hold, live_part_moves_alike};
