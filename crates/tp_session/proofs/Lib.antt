@@ -13,6 +13,8 @@ pub mod LiveClock
 pub mod LivePast
 pub mod LiveAhead
 pub mod LiveMoves
+pub mod LiveJoined
 pub mod LiveAnswered
+pub mod LiveSettled
 pub mod LiveStates
 pub mod LiveAsks

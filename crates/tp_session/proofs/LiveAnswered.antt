@@ -1,12 +1,12 @@
 -- A right answer on the live part, joined with what is past, is right on the whole schedule, and the same is told.
-use Rattle.std.proofs.Common.{◌≡◌, ℕ, ◌<◌, ◌≤◌, Bool, true, false, not, List, ◌++◌, map, filter, length, refl, sym, ap, ◌∙◌, Contains, subst}
+use Rattle.std.proofs.Common.{◌≡◌, ℕ, Bool, true, false, not, List, ◌++◌, map, filter, refl, sym, ap, ◌∙◌, Contains, subst}
 use Rattle.std.proofs.lemmas.Bool.{not-true, not_from_false}
 use Rattle.tp_machine.specs.declared.whole.Machine.{Machine}
 use Rattle.tp_schedule.specs.Answers.{IsAlternative, IsAsked, IsAskedFrom, IsEarliest, IsLeast, follows_front, kept_of, unmoved}
 use Rattle.tp_schedule.specs.Legality.{IsLegal}
 use Rattle.tp_schedule.specs.Living.{is_live}
 use Rattle.tp_schedule.specs.Planning.{IsAnswer}
-use Rattle.tp_schedule.specs.Plans.{is_same_copy, plan_of, point, without}
+use Rattle.tp_schedule.specs.Plans.{is_same_copy, plan_of, without}
 use Rattle.tp_schedule.specs.Spending.{IsSpent}
 use Rattle.tp_schedule.specs.declared.parts.Ask.{Ask}
 use Rattle.tp_schedule.specs.declared.parts.Origin.{Origin}
@@ -16,7 +16,7 @@ use Rattle.tp_schedule.specs.declared.parts.Reply.{Reply}
 use Rattle.tp_schedule.specs.declared.parts.Reply.TheVariants.{Planned, Never, Spent}
 use Rattle.tp_schedule.specs.declared.parts.SheetId.{SheetId}
 use Rattle.tp_schedule.proofs.CopyFacts.{same_copy-is}
-use Rattle.tp_schedule.proofs.Membership.{Contains-filter, Contains-filter_from}
+use Rattle.tp_schedule.proofs.Membership.{Contains-filter_from}
 use Rattle.tp_choices.specs.LiveParts.{IsJoined, MayAskBeside, MayForget, less, only}
 use Rattle.tp_choices.proofs.Joining.{join_exists}
 use Rattle.tp_choices.proofs.LiveBounds.{live_has_none, live_is_earliest}
@@ -28,6 +28,7 @@ use Rattle.tp_turn.specs.Answering.{moves, told_of_planned, told_of_reply}
 use Rattle.tp_turn.proofs.AnsweredPlans.{other-from, unmoved-sheet}
 use Rattle.tp_session.specs.LiveTurns.{IsAnswerOnWhole, LiveAnswersHold, live_at, spent_of}
 use Rattle.tp_session.proofs.LiveAhead.{new-ahead, new-live}
+use Rattle.tp_session.proofs.LiveJoined.{each-joined, forgets-joined, live-parts}
 use Rattle.tp_session.proofs.LiveMoves.{moves-less}
 use Rattle.tp_session.proofs.LivePast.{both-parts, gone-is, gone_at, may-ask, may-forget}
 
@@ -43,45 +44,21 @@ module _ (machine : Machine) (plans : List Plan) (ask : Ask) (gone : SheetId →
     go FromFeeder none = plan_of-staying (others_of gone) ask.sheet plans asked-stays ∙ none
     go (FromFront state end count) (p, is, front) = (p, plan_of-staying (others_of gone) ask.sheet plans asked-stays ∙ is, front)
 
-  all-live : (p : Plan) → Contains (less gone plans) p → is_live machine ask.now p ≡ true
-  all-live p in' =
-      let from = Contains-filter_from (λ q. not (gone q.sheet)) plans p in' in
-      go (gone p.sheet) (is_live machine ask.now p) (each p from.0) from.1 where
-        go : (c d : Bool) → c ≡ not d → not c ≡ true → d ≡ true
-        go c true e stays = refl
-        go true false e stays = absurd (cc)
-        go false false e stays = absurd (cc)
+  alive : (q : Plan) → Contains live q → is_live machine ask.now q ≡ true
+  alive = new-live machine (less gone plans) ask live a asked-live b.ends_ahead (live-parts machine ask.now plans gone each)
 
-  -- a plan of the joined schedule is past, or of the live part
-  past-was : (p : Plan) → Contains new p → gone p.sheet ≡ true → Contains plans p
-  past-was p in' e = (Contains-filter_from (λ q. gone q.sheet) plans p (subst (λ ps. Contains ps p) joined.past_part (Contains-filter (λ q. gone q.sheet) new p in' e))).0
+  pub each-answered : (p : Plan) → Contains new p → gone p.sheet ≡ not (is_live machine ask.now p)
+  each-answered = each-joined machine ask.now plans gone each live new joined alive
 
-  live-is : (p : Plan) → Contains new p → gone p.sheet ≡ false → Contains live p
-  live-is p in' e = subst (λ ps. Contains ps p) joined.live_part (Contains-filter (λ q. not (gone q.sheet)) new p in' (not_from_false (gone p.sheet) e))
-
-  pub each-joined : (p : Plan) → Contains new p → gone p.sheet ≡ not (is_live machine ask.now p)
-  each-joined p in' = go (gone p.sheet) refl where
-    go : (c : Bool) → gone p.sheet ≡ c → c ≡ not (is_live machine ask.now p)
-    go true e = sym e ∙ each p (past-was p in' e)
-    go false e = let is = new-live machine (less gone plans) ask live a asked-live b.ends_ahead all-live p (live-is p in' e) in rw is refl
-
-  ahead-joined : (p : Plan) → Contains new p → (i : ℕ) → p.released ≤ i → i < length p.acts → ask.now < point p i
-  ahead-joined p in' i le within = go (gone p.sheet) refl where
-    go : (c : Bool) → gone p.sheet ≡ c → ask.now < point p i
-    go true e = f.ahead p (past-was p in' e) i le within
-    go false e = new-ahead machine (less gone plans) ask live a asked-live b.ends_ahead p (live-is p in' e) i le within
-
-  past-joined : (p : Plan) → Contains new p → gone p.sheet ≡ true → is_live machine ask.now p ≡ false
-  past-joined p in' e = not-true (is_live machine ask.now p) (sym (each-joined p in') ∙ e)
-
-  pub least-joined : IsLegal machine new → IsLeast machine ask.now (follows_front ask) live → IsLeast machine ask.now (follows_front ask) new
-  least-joined legal least =
-      whole_is_least machine ask.now (follows_front ask) new gone (record { legal = legal; past = past-joined; ahead = ahead-joined })
+  pub least-answered : IsLegal machine new → IsLeast machine ask.now (follows_front ask) live → IsLeast machine ask.now (follows_front ask) new
+  least-answered legal least =
+      whole_is_least machine ask.now (follows_front ask) new gone
+      (forgets-joined machine ask.now plans gone each live new joined alive f (new-ahead machine (less gone plans) ask live a asked-live b.ends_ahead) legal)
       (subst (IsLeast machine ask.now (follows_front ask)) (sym joined.live_part) least)
 
-  pub told-joined : map unmoved (without ask.sheet new) ≡ map unmoved (without ask.sheet plans)
+  pub told-answered : map unmoved (without ask.sheet new) ≡ map unmoved (without ask.sheet plans)
       → told_of_reply machine (less gone plans) ask Planned live ≡ told_of_reply machine plans ask Planned new
-  told-joined same =
+  told-answered same =
       let stays : (g : SheetId → Bool) (ps : List Plan) → without ask.sheet (filter (λ p. g p.sheet) ps) ≡ filter (λ p. g p.sheet) (without ask.sheet ps) = λ g ps. without-staying g ask.sheet ps in
       let plan : plan_of ask.sheet live ≡ plan_of ask.sheet new = ap (plan_of ask.sheet) (sym joined.live_part) ∙ plan_of-staying (others_of gone) ask.sheet new asked-stays in
       let past : only gone (without ask.sheet new) ≡ only gone (without ask.sheet plans) = sym (stays gone new) ∙ ap (without ask.sheet) joined.past_part ∙ stays gone plans in
@@ -110,20 +87,20 @@ answer-joined nodes machine plans ask live gone f b each earliest least =
     let join = join_exists gone plans live f.legal.in_order a.legal.in_order (stays-of machine plans ask gone live b.stays a) in
     let whole = live_is_earliest machine plans live join.0 ask gone f b join.1 earliest in
     let before = both-parts machine ask.now gone plans each in
-    let after = both-parts machine ask.now gone join.0 (each-joined machine plans ask gone f b each live join.0 join.1 a) in
+    let after = both-parts machine ask.now gone join.0 (each-answered machine plans ask gone f b each live join.0 join.1 a) in
     record {
       whole = join.0;
-      answer = (whole, least-joined machine plans ask gone f b each live join.0 join.1 a whole.alternative.legal least);
+      answer = (whole, least-answered machine plans ask gone f b each live join.0 join.1 a whole.alternative.legal least);
       live_part = sym after.0 ∙ join.1.live_part;
       past_part = sym after.1 ∙ join.1.past_part ∙ before.1;
       told = subst (λ ps. told_of_reply machine ps ask Planned live ≡ told_of_reply machine plans ask Planned join.0) before.0
-          (told-joined machine plans ask gone f b each live join.0 join.1 a whole.alternative.others);
+          (told-answered machine plans ask gone f b each live join.0 join.1 a whole.alternative.others);
     }
 
 pub live-answers_hold : LiveAnswersHold
 live-answers_hold nodes machine plans ask reply live can = go reply where
   f : MayForget machine ask.now plans (gone_at machine ask.now plans)
-  f = may-forget machine plans ask can
+  f = may-forget machine ask.now plans can.legal can.floors
 
   b : MayAskBeside machine plans ask (gone_at machine ask.now plans)
   b = may-ask machine plans ask can

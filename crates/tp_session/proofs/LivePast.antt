@@ -3,8 +3,10 @@ use Rattle.std.proofs.Common.{◌≡◌, ℕ, Bool, true, false, not, List, leng
 use Rattle.std.proofs.lemmas.Bool.{not-true}
 use Rattle.std.proofs.lemmas.List.Folds.{Any-from_list_any, list_any-from_Any}
 use Rattle.tp_machine.specs.declared.whole.Machine.{Machine}
-use Rattle.tp_schedule.specs.Answers.{IsAskedFrom}
+use Rattle.tp_schedule.specs.Answers.{IsAskedFrom, KeepsFloors}
+use Rattle.tp_schedule.specs.Legality.{IsLegal}
 use Rattle.tp_schedule.specs.Living.{is_live}
+use Rattle.tp_schedule.specs.Planning.{none_exempt}
 use Rattle.tp_schedule.specs.Plans.{is_same_copy, plan_of}
 use Rattle.tp_schedule.specs.declared.parts.Ask.{Ask}
 use Rattle.tp_schedule.specs.declared.parts.Origin.{Origin}
@@ -63,17 +65,18 @@ both-parts machine now gone plans each = (
   filter-by (λ p. gone p.sheet) (λ p. not (is_live machine now p)) plans each,
 )
 
-module _ (machine : Machine) (plans : List Plan) (ask : Ask) (can : CanAskLive machine plans ask) where
-  past-of : (p : Plan) → Contains plans p → gone_at machine ask.now plans p.sheet ≡ true → is_live machine ask.now p ≡ false
-  past-of p in' gone = not-true (is_live machine ask.now p) (sym (gone-is machine ask.now plans can.legal.in_order p in') ∙ gone)
+module _ (machine : Machine) (now : ℕ) (plans : List Plan) (legal : IsLegal machine plans) where
+  past-of : (p : Plan) → Contains plans p → gone_at machine now plans p.sheet ≡ true → is_live machine now p ≡ false
+  past-of p in' gone = not-true (is_live machine now p) (sym (gone-is machine now plans legal.in_order p in') ∙ gone)
 
-  pub may-forget : MayForget machine ask.now plans (gone_at machine ask.now plans)
-  may-forget = record {
-    legal = can.legal;
+  pub may-forget : KeepsFloors machine now none_exempt plans → MayForget machine now plans (gone_at machine now plans)
+  may-forget floors = record {
+    legal = legal;
     past = past-of;
-    ahead = λ p in' i le within. let floor = can.floors p in' refl i le within in omega arith;
+    ahead = λ p in' i le within. let floor = floors p in' refl i le within in omega arith;
   }
 
+module _ (machine : Machine) (plans : List Plan) (ask : Ask) (can : CanAskLive machine plans ask) where
   -- the asked copy has no past plan
   asked-stays : gone_at machine ask.now plans ask.sheet ≡ false
   asked-stays = pick (gone_at machine ask.now plans ask.sheet) refl where
@@ -96,5 +99,5 @@ module _ (machine : Machine) (plans : List Plan) (ask : Ask) (can : CanAskLive m
     asked = can.asked;
     stays = asked-stays;
     ends_ahead = can.ends_ahead;
-    earlier = λ p in' gone tray to delivered. can.earlier p in' (past-of p in' gone) tray to delivered;
+    earlier = λ p in' gone tray to delivered. can.earlier p in' (past-of machine ask.now plans can.legal p in' gone) tray to delivered;
   }

@@ -29,6 +29,7 @@ use Rattle.tp_turn.specs.Moments.{is_to_tray, is_tray_plan}
 use Rattle.tp_turn.specs.States.{SessionState}
 use Rattle.tp_turn.proofs.AnsweredPlans.{plan-cases, unmoved-sheet}
 use Rattle.tp_turn.proofs.AskedFacts.{not_same-sym}
+use Rattle.tp_turn.proofs.AskedLines.{planned_waiting}
 use Rattle.tp_turn.proofs.TestFacts.{list_any-map_same}
 use Rattle.tp_session.specs.LiveTurns.{CanAskLive, live_at, past_at}
 use Rattle.tp_session.proofs.CanAskFacts.{of-its-job}
@@ -110,10 +111,6 @@ module _ (machine : Machine) (s : SessionState) (lines : KeepsLines s) where
     });
   }
 
--- the state after the first of them was planned
-abbrev pub planned-state : SessionState → WaitingCopy → List Plan → SessionState
-planned-state s w plans = record s { plans = plans; waiting = without_waiting w.sheet s.waiting }
-
 module _ (machine : Machine) (s : SessionState) (w : WaitingCopy) (ws : List WaitingCopy) (whole : IsWhole machine s (w ∷ ws)) where
   not-following : (p : Plan) → follows_front (ask_waiting s w) p ≡ false
   not-following p = go (is_same_copy p.sheet w.sheet) where
@@ -121,16 +118,16 @@ module _ (machine : Machine) (s : SessionState) (w : WaitingCopy) (ws : List Wai
     go true = refl
     go false = refl
 
-  pub whole-planned : (plans : List Plan) → IsAlternative machine s.plans (ask_waiting s w) plans → past_at machine s.now plans ≡ past_at machine s.now s.plans → IsWhole machine (planned-state s w plans) ws
+  pub whole-planned : (plans : List Plan) → IsAlternative machine s.plans (ask_waiting s w) plans → past_at machine s.now plans ≡ past_at machine s.now s.plans → IsWhole machine (planned_waiting s w plans) ws
   whole-planned plans a past = record {
     legal = a.legal;
     floors = λ p in' free i le within. a.floors p in' (not-following p) i le within;
     in_order = AllPairs-tail (λ v w. IsTrue (is_before v.sheet w.sheet)) w ws whole.in_order;
-    free = All-from_contains (WaitsFree machine (planned-state s w plans)) ws (λ v waits.
+    free = All-from_contains (WaitsFree machine (planned_waiting s w plans)) ws (λ v waits.
         still-free v (All-contains (WaitsFree machine s) ws v (All-tail (WaitsFree machine s) w ws whole.free) waits)
         (All-contains (λ v. IsTrue (is_before w.sheet v.sheet)) ws v (AllPairs-head (λ v w. IsTrue (is_before v.sheet w.sheet)) w ws whole.in_order) waits));
   } where
-    still-free : (v : WaitingCopy) → WaitsFree machine s v → is_before w.sheet v.sheet ≡ true → WaitsFree machine (planned-state s w plans) v
+    still-free : (v : WaitingCopy) → WaitsFree machine s v → is_before w.sheet v.sheet ≡ true → WaitsFree machine (planned_waiting s w plans) v
     still-free v free later = record {
       unplanned = λ q in'. elim (plan-cases machine s.plans (ask_waiting s w) plans a q in') [
         | inl is ↦ subst (λ c. is_same_copy c v.sheet ≡ false) (sym (ap (λ (p : Plan). p.sheet) is ∙ a.answers.sheet)) (before-not_same w.sheet v.sheet later)
@@ -144,7 +141,7 @@ module _ (machine : Machine) (s : SessionState) (w : WaitingCopy) (ws : List Wai
 
   -- the live part of this state is the live part with the live plans of the answer
   pub live-planned : (live plans : List Plan) → IsAlternative machine (live_plans machine s) (ask_waiting s w) live → live_at machine s.now plans ≡ live
-      → planned-state (live_part machine s) w live ≡ live_part machine (planned-state s w plans)
+      → planned_waiting (live_part machine s) w live ≡ live_part machine (planned_waiting s w plans)
   live-planned live plans a is =
       let free = All-head (WaitsFree machine s) w ws whole.free in
       let lost = filter-by (is_planned_among (live_plans machine s)) (is_planned_among live) s.lost (λ c in'. sym (among c (free.not_lost c in'))) in

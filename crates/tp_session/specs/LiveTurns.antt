@@ -4,7 +4,7 @@ use Rattle.tp_machine.specs.declared.whole.Machine.{Machine}
 use Rattle.tp_schedule.specs.Answers.{IsAsked, KeepsFloors}
 use Rattle.tp_schedule.specs.Legality.{IsLegal}
 use Rattle.tp_schedule.specs.Living.{is_live}
-use Rattle.tp_schedule.specs.Planning.{IsAnswer, none_exempt}
+use Rattle.tp_schedule.specs.Planning.{IsAnswer, IsSettled, none_exempt}
 use Rattle.tp_schedule.specs.Planning.Deed.{replied}
 use Rattle.tp_schedule.specs.Plans.{goes_to, is_before, is_delivered_to}
 use Rattle.tp_schedule.specs.Spending.{IsSpent}
@@ -13,7 +13,7 @@ use Rattle.tp_schedule.specs.declared.parts.Plan.{Plan}
 use Rattle.tp_schedule.specs.declared.parts.Reply.{Reply}
 use Rattle.tp_schedule.specs.declared.recording.Record.{Record}
 use Rattle.tp_choices.specs.LiveParts.{EndsAhead}
-use Rattle.tp_turn.specs.Answering.{told_of_reply}
+use Rattle.tp_turn.specs.Answering.{moves, told_of_reply}
 use Rattle.tp_turn.specs.Asking.{Asks}
 use Rattle.tp_turn.specs.Clock.{clock_move, clock_records}
 use Rattle.tp_turn.specs.Keeping.{KeepsLines, live_part}
@@ -62,6 +62,18 @@ pub record IsAnswerOnWhole (nodes : ℕ) (machine : Machine) (plans : List Plan)
 abbrev pub LiveAnswersHold : Type 0
 LiveAnswersHold = (nodes : ℕ) (machine : Machine) (plans : List Plan) (ask : Ask) (reply : Reply) (live : List Plan) → CanAskLive machine plans ask
     → IsAnswer (spent_of nodes) machine (live_at machine ask.now plans) ask reply live → IsAnswerOnWhole nodes machine plans ask reply live
+
+-- times that are settled on the live part are settled on the whole schedule as well, and the same moves are told
+pub record IsSettledOnWhole (machine : Machine) (now : ℕ) (plans live : List Plan) : Type 0 where
+  pub whole : List Plan
+  pub settles : IsSettled machine now plans whole
+  pub live_part : live_at machine now whole ≡ live
+  pub past_part : past_at machine now whole ≡ past_at machine now plans
+  pub told : moves (live_at machine now plans) live ≡ moves plans whole
+
+abbrev pub LiveSettlesHold : Type 0
+LiveSettlesHold = (machine : Machine) (now : ℕ) (plans live : List Plan) → IsLegal machine plans → KeepsFloors machine now none_exempt plans
+    → IsSettled machine now (live_at machine now plans) live → IsSettledOnWhole machine now plans live
 
 -- a planner that looks at schedules through its answers alone, each with its own number of nodes: they are right, and where
 -- one is right on another schedule too, it is given there as well

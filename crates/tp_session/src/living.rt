@@ -2,7 +2,7 @@
 // contracts are the laws.
 ghost use Rattle.tp_machine.specs.declared.whole.Machine.{Machine};
 ghost use Rattle.tp_turn.specs.Planners.{right_steps};
-ghost use Rattle.tp_session.specs.LiveTurns.{ClockLeavesLivePart, ClockTellsLivePart, LiveAnswersHold, LiveAsksHold};
+ghost use Rattle.tp_session.specs.LiveTurns.{ClockLeavesLivePart, ClockTellsLivePart, LiveAnswersHold, LiveAsksHold, LiveSettlesHold};
 
 use tp_schedule::Planner;
 
@@ -12,9 +12,10 @@ pub fn live_part_moves_alike()
     ensures leaves { ClockLeavesLivePart }
 {}
 
-/// A right answer on the live part is one on the whole schedule, joined with the plans that are past.
+/// A right answer on the live part is one on the whole schedule, joined with the plans that are past. So are settled times.
 pub fn live_answers_hold()
-    ensures { LiveAnswersHold }
+    ensures asked { LiveAnswersHold }
+    ensures settled { LiveSettlesHold }
 {}
 
 /// A phase of asks on the live part is one on the whole state, over any planner that looks at schedules through right answers
