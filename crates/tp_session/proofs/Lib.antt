@@ -8,3 +8,13 @@ pub mod TurnFacts
 pub mod LeftFacts
 pub mod PhaseFacts
 pub mod CopyFacts
+pub mod LiveLists
+pub mod LiveClock
+pub mod LivePast
+pub mod LiveAhead
+pub mod LiveMoves
+pub mod LiveJoined
+pub mod LiveAnswered
+pub mod LiveSettled
+pub mod LiveStates
+pub mod LiveAsks

@@ -1,0 +1,26 @@
+// What a session may forget: the parts of a turn on the live part are those on the whole state. The calls do nothing: their
+// contracts are the laws.
+ghost use Rattle.tp_machine.specs.declared.whole.Machine.{Machine};
+ghost use Rattle.tp_turn.specs.Planners.{right_steps};
+ghost use Rattle.tp_session.specs.LiveTurns.{ClockLeavesLivePart, ClockTellsLivePart, LiveAnswersHold, LiveAsksHold, LiveSettlesHold};
+
+use tp_schedule::Planner;
+
+/// A move of the clock tells nothing of plans that are not live, and makes none of them live.
+pub fn live_part_moves_alike()
+    ensures tells { ClockTellsLivePart }
+    ensures leaves { ClockLeavesLivePart }
+{}
+
+/// A right answer on the live part is one on the whole schedule, joined with the plans that are past. So are settled times.
+pub fn live_answers_hold()
+    ensures asked { LiveAnswersHold }
+    ensures settled { LiveSettlesHold }
+{}
+
+/// A phase of asks on the live part is one on the whole state, over any planner that looks at schedules through right answers
+/// alone.
+pub fn live_asks_hold<P: Planner>()
+    ensures { (machine : Machine)
+        → LiveAsksHold (right_steps P.spent P.steps P.stop_steps machine) machine }
+{}
