@@ -8,3 +8,4 @@ pub mod TurnFacts
 pub mod LeftFacts
 pub mod PhaseFacts
 pub mod CopyFacts
+pub mod EventFacts

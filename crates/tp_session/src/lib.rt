@@ -4,7 +4,10 @@
 mod asking;
 mod laws;
 mod naming;
+mod refusing;
 mod telling;
+mod turning;
 
 pub use asking::ask_waiting;
 pub use laws::asked_can_go_out;
+pub use turning::{take_job, turn_on};
