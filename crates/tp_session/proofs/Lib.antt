@@ -9,3 +9,5 @@ pub mod LeftFacts
 pub mod PhaseFacts
 pub mod CopyFacts
 pub mod EventFacts
+pub mod LiveFacts
+pub mod ClockFacts

@@ -2,6 +2,7 @@
 #![tactic(auto)]
 
 mod asking;
+mod clocking;
 mod laws;
 mod naming;
 mod refusing;
@@ -10,4 +11,4 @@ mod turning;
 
 pub use asking::ask_waiting;
 pub use laws::asked_can_go_out;
-pub use turning::{take_job, turn_on};
+pub use turning::{move_clock, take_job, turn_on};

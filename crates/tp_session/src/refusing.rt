@@ -5,11 +5,12 @@ ghost use Rattle.tp_schedule.specs.declared.parts.Halt.TheVariants.{Memory as Wa
 ghost use Rattle.tp_schedule.specs.declared.recording.Record.TheVariants.{Refused};
 ghost use Rattle.tp_turn.specs.Refusals.{module_of, on_refusal};
 ghost use Rattle.tp_turn.specs.States.{put_on};
-ghost use Rattle.tp_session.specs.Events.{cause_in, job_cause};
+ghost use Rattle.tp_session.specs.Events.{cause_in, clock_cause, job_cause};
 
 use tp_base::Name;
 use tp_jobs::JobFault;
 use tp_machine::{Machine, ModId, Outs, machine_law};
+use tp_release::AdvanceFault;
 use tp_schedule::{Cause, Halt, Record};
 
 /// Notes why an event is refused.
@@ -34,6 +35,19 @@ pub(crate) fn tell_job_refused(fault: JobFault, notes: &mut Vec<Record>) -> Resu
         JobFault::UnknownMedia(name) => Cause::Media(name),
         JobFault::TwiceNamed(name) => Cause::Named(name),
         JobFault::TooManyWaiting { .. } => Cause::Waiting,
+    };
+    tell_refused(cause, notes)
+}
+
+/// Notes why a move of the clock is refused. Want of memory is no cause, and is passed on.
+pub(crate) fn tell_clock_refused(fault: AdvanceFault, notes: &mut Vec<Record>) -> Result<(), Halt>
+    ensures told { OnOk result (IsSomeAnd (clock_cause fault) (λ cause. notes.new.items ≡ notes.old.items ++ Refused cause ∷ [])) }
+    ensures memory { IfErr result (λ halt. halt ≡ WantsMemory) }
+{
+    let cause = match fault {
+        AdvanceFault::Memory => return Err(Halt::Memory),
+        AdvanceFault::ClockBack { now } => Cause::Back(now),
+        AdvanceFault::ClockEnd => Cause::End,
     };
     tell_refused(cause, notes)
 }
