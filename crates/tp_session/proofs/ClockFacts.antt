@@ -1,5 +1,5 @@
 -- What a move of the clock tells is known to the machine and the jobs, and what is live after it can be asked on.
-use Rattle.std.proofs.Common.{◌≡◌, ℕ, ◌+◌, ◌<◌, Bool, true, false, cond, List, [], ◌∷◌, ◌++◌, filter, length, None, refl, sym, ap, ◌∙◌, subst, append_assoc, arith, All, nat_le}
+use Rattle.std.proofs.Common.{◌≡◌, ℕ, ◌+◌, ◌<◌, Bool, true, false, cond, List, [], ◌∷◌, ◌++◌, filter, map, length, None, refl, sym, ap, ◌∙◌, subst, append_assoc, arith, All, nat_le}
 use Rattle.std.specs.List.{flat_map}
 use Rattle.std.specs.Option.{MatchOption}
 use Rattle.std.specs.Prelude.{IsTrue}
@@ -24,7 +24,7 @@ use Rattle.tp_turn.proofs.MovedClock.{lines-clock}
 use Rattle.tp_turn.proofs.MovedPlans.{plans-clock}
 use Rattle.tp_turn.proofs.PlannableTurns.{accepted-clock}
 use Rattle.tp_turn.specs.Asking.{Asks}
-use Rattle.tp_turn.specs.Clock.{Told, by_moment, clock_move, clock_records, clock_tells, deliveries, delivery, is_done_between, put_told, release_of, released_until, releases}
+use Rattle.tp_turn.specs.Clock.{Told, by_moment, clock_move, clock_records, clock_tells, deliveries, delivery, is_done_between, put_told, record_of, release_of, released_until, releases}
 use Rattle.tp_turn.specs.Keeping.{KeepsLines, KeepsPlans, is_of_its_job, is_planned_among, live_part}
 use Rattle.tp_turn.specs.Labels.{end_location, last_of, to_in}
 use Rattle.tp_turn.specs.Moments.{due_until, is_due, release_until}
@@ -32,6 +32,7 @@ use Rattle.tp_turn.specs.Planners.{PlannerSteps}
 use Rattle.tp_turn.specs.Refusals.{clock_refusal}
 use Rattle.tp_turn.specs.Seen.{HasNextCopy, HasStarted, fronts_of, state_seen}
 use Rattle.tp_turn.specs.States.{SessionState}
+use Rattle.tp_turn.specs.declared.telling.Tell.{Tell}
 use Rattle.tp_session.proofs.LiveFacts.{copies-part, lines-part, lost-part, plans-part}
 use Rattle.tp_session.specs.Events.{MovesClock, NotesClock}
 use Rattle.tp_session.specs.Phases.{CanAskInTurn, KeepsCopies, NotesAsks}
@@ -132,16 +133,17 @@ module _ (machine : Machine) (now to : ℕ) (plans : List Plan) (lines : Backlog
       (λ k. record { now = to; plans = live; lost = left k; jobs = lines.jobs; waiting = lines.waiting; outs = outs })
 
   -- an accepted move is told, and the phase of asks follows
-  pub moved-clock : {P : Type 0} (steps : PlannerSteps P) (p : P) (notes told : List Record) (s' : SessionState) (p' : P) (notes' : List Record)
-      → told ≡ notes ++ clock_records machine (state_seen now plans lines outs) to → NotesAsks steps machine (state_seen to live lines outs) p told s' p' notes'
-      → NotesClock steps machine to (state_seen now plans lines outs) p notes s' p' notes'
-  moved-clock steps p notes told s' p' notes' told-is (rest, noted, asks) =
+  pub moved-clock : {P : Type 0} (steps : PlannerSteps P) (p : P) (notes told : List Record) (tells : List Tell) (plans' : List Plan) (s' : SessionState) (p' : P) (notes' : List Record)
+      → tells ≡ clock_tells machine now to plans → told ≡ notes ++ map (record_of machine lines.jobs) tells → plans' ≡ live
+      → NotesAsks steps machine (state_seen to plans' lines outs) p told s' p' notes' → NotesClock steps machine to (state_seen now plans lines outs) p notes s' p' notes'
+  moved-clock steps p notes told tells plans' s' p' notes' tells-are told-is live-are (rest, noted, asks) =
       let s = state_seen now plans lines outs in
-      let records = clock_records machine s to ++ rest in (
+      let records = clock_records machine s to ++ rest in
+      let same : state_seen to plans' lines outs ≡ live_part machine (clock_move machine to s).state = ap (λ l. state_seen to l lines outs) live-are ∙ sym live-seen in (
         records,
-        noted ∙ ap (λ l. l ++ rest) told-is ∙ append_assoc notes (clock_records machine s to) rest,
+        noted ∙ ap (λ l. l ++ rest) (told-is ∙ ap (λ ts. notes ++ map (record_of machine lines.jobs) ts) tells-are) ∙ append_assoc notes (clock_records machine s to) rest,
         subst (λ o. MatchOption o (MovesClock steps machine to s p records s' p') (λ cause. (records ≡ Refused cause ∷ []) × (s' ≡ s) × (p' ≡ p))) (sym accepted)
-            (record { rest = rest; asks = subst (λ m. Asks steps machine m p rest s' p') (sym live-seen) asks; told = refl }),
+            (record { rest = rest; asks = subst (λ m. Asks steps machine m p rest s' p') same asks; told = refl }),
       )
 
   pub copies-moved : KeepsCopies (state_seen now plans lines outs) → KeepsCopies (state_seen to live lines outs)

@@ -4,15 +4,18 @@ use Rattle.std.specs.Option.{MatchOption}
 use Rattle.std.specs.Prelude.{IsSomeAnd, Err}
 use Rattle.std.proofs.lemmas.List.Elements.{All-nil, All-cons, All-append}
 use Rattle.tp_machine.specs.declared.parts.Sheet.{Sheet}
+use Rattle.tp_machine.specs.declared.parts.Outs.{Outs}
 use Rattle.tp_machine.specs.declared.whole.Machine.{Machine}
+use Rattle.tp_schedule.specs.declared.parts.Plan.{Plan}
 use Rattle.tp_schedule.specs.declared.recording.Cause.{Cause}
 use Rattle.tp_schedule.specs.declared.recording.Cause.TheVariants.{Tray, Media, Named, Waiting}
 use Rattle.tp_schedule.specs.declared.recording.Record.{Record}
 use Rattle.tp_schedule.specs.declared.recording.Record.TheVariants.{Refused}
 use Rattle.tp_script.specs.Form.{GroupForm}
 use Rattle.tp_script.specs.declared.event.Event.{Event}
+use Rattle.tp_jobs.specs.Backlogs.{Backlog}
 use Rattle.tp_jobs.specs.Refusing.{has_media, is_taken, is_tray_name, job_refusal as job_fault, most_waiting, refusal_in, sheet_count}
-use Rattle.tp_jobs.specs.Waiting.{first_copies, sheets_of}
+use Rattle.tp_jobs.specs.Waiting.{first_copies, new_job, sheets_of, with_job as lines_with_job}
 use Rattle.tp_jobs.specs.declared.fault.JobFault.{JobFault}
 use Rattle.tp_jobs.specs.declared.fault.JobFault.TheVariants.{Memory, UnknownTray, UnknownMedia, TwiceNamed, TooManyWaiting}
 use Rattle.tp_jobs.specs.declared.parts.Job.{Job}
@@ -22,7 +25,7 @@ use Rattle.tp_turn.proofs.NewJob.{jobs-job, lines-job}
 use Rattle.tp_turn.proofs.NewSheets.{plans-job}
 use Rattle.tp_turn.specs.Planners.{PlannerSteps}
 use Rattle.tp_turn.specs.Refusals.{first_of_causes, job_refusal, refusal}
-use Rattle.tp_turn.specs.Seen.{HasNextCopy}
+use Rattle.tp_turn.specs.Seen.{HasNextCopy, state_seen}
 use Rattle.tp_turn.specs.States.{SessionState}
 use Rattle.tp_turn.specs.Turns.{Accepts, Begins, with_job, with_on}
 use Rattle.tp_session.specs.Events.{NotesEvent, job_cause}
@@ -86,15 +89,29 @@ copies-with_job machine name tray media groups s copies = record {
   purges = copies.purges;
 }
 
+-- the lines with a new job, as they are seen
+module _ (machine : Machine) (now : ℕ) (plans : List Plan) (lines : Backlog) (outs : Outs) (name tray media : List ℕ) (groups : List GroupForm)
+    (lines' : Backlog) (added : lines' ≡ lines_with_job (new_job machine name tray groups) (sheets_of media groups) lines) where
+  pub seen-added : state_seen now plans lines' outs ≡ with_job machine name tray media groups (state_seen now plans lines outs)
+  seen-added = ap (λ l. state_seen now plans l outs) added
+
+  pub can-added : None ≡ job_fault machine lines.jobs (length lines.waiting) name tray media groups → CanAskInTurn machine (state_seen now plans lines outs) → CanAskInTurn machine (state_seen now plans lines' outs)
+  can-added accepted can =
+      subst (CanAskInTurn machine) (sym seen-added)
+      (can-with_job machine name tray media groups (state_seen now plans lines outs) (accepted-by machine lines.jobs (length lines.waiting) name tray media groups accepted) can)
+
+  pub copies-added : KeepsCopies (state_seen now plans lines outs) → KeepsCopies (state_seen now plans lines' outs)
+  copies-added copies = subst KeepsCopies (sym seen-added) (copies-with_job machine name tray media groups (state_seen now plans lines outs) copies)
+
 module _ {P : Type 0} (steps : PlannerSteps P) (machine : Machine) (event : Event) (s : SessionState) (p : P) (notes notes' : List Record) where
   -- a refused event is told so
   pub refused-event : (o : Option Cause) → ((cause : Cause) → o ≡ Some cause → refusal machine s event ≡ Some cause) → IsSomeAnd o (λ cause. notes' ≡ notes ++ Refused cause ∷ [])
-      → NotesEvent steps machine event s p notes s p notes'
-  refused-event None is none = absurd none
-  refused-event (Some cause) is told = (
+      → (s' : SessionState) → s' ≡ s → NotesEvent steps machine event s p notes s' p notes'
+  refused-event None is none s' same = absurd none
+  refused-event (Some cause) is told s' same = (
     Refused cause ∷ [],
     told,
-    subst (λ o. MatchOption o (Accepts steps machine event s p (Refused cause ∷ []) s p) (λ c. (Refused cause ∷ [] ≡ Refused c ∷ []) × (s ≡ s) × (p ≡ p))) (sym (is cause refl)) (refl, refl, refl),
+    subst (λ o. MatchOption o (Accepts steps machine event s p (Refused cause ∷ []) s' p) (λ c. (Refused cause ∷ [] ≡ Refused c ∷ []) × (s' ≡ s) × (p ≡ p))) (sym (is cause refl)) (refl, same, refl),
   )
 
   -- an accepted event that tells nothing itself is followed by the phase of asks
