@@ -3,3 +3,4 @@ pub mod FlyingFacts
 pub mod LayingFacts
 pub mod SearchFacts
 pub mod TellingFacts
+pub mod TryingFacts

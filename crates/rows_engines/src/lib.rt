@@ -8,6 +8,8 @@ mod by_hand;
 #[cfg(test)]
 mod duo_rows;
 #[cfg(test)]
+mod engine_rows;
+#[cfg(test)]
 mod flying;
 #[cfg(test)]
 mod flying_rows;

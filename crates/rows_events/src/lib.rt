@@ -1,6 +1,8 @@
-//! Worked rows of the script, the log, jobs and turns: a crate of tests alone.
+//! Worked rows of the script, the log, jobs and the clock: a crate of tests alone.
 #![tactic(auto)]
 
+#[cfg(test)]
+mod clocks;
 #[cfg(test)]
 mod jobs;
 #[cfg(test)]

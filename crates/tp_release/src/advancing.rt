@@ -1,7 +1,7 @@
 //! The move of the clock.
 
 ghost use Rattle.std.specs.Prelude.{◌≡◌, ◌+◌, length, filter, IfOk, OnOk, OnErr};
-ghost use Rattle.tp_schedule.specs.Answers.{KeepsFloors};
+ghost use Rattle.tp_schedule.specs.Answers.{KeepsFloors, KeepsHorizon};
 ghost use Rattle.tp_schedule.specs.Legality.{IsLegal};
 ghost use Rattle.tp_schedule.specs.Living.{is_live};
 ghost use Rattle.tp_schedule.specs.Planning.{none_exempt};
@@ -21,8 +21,8 @@ use tp_turn::Tell;
 const LAST_TICK: Tick = 1_000_000_000;
 
 /// Moves the clock from one moment to another: releases each action that starts within the machine's lead of the new one,
-/// forgets the plans that are not live then, and answers with what is told by moment. Takes the time of all points, and of
-/// a sort of what is told.
+/// forgets the plans that are not live then, and answers with what is told, by moment. What it asks of the schedule holds
+/// again at the new moment. Takes the time of all points, and of a sort of what is told.
 pub fn advance(
     alloc: Global,
     machine: &Machine,
@@ -35,6 +35,9 @@ pub fn advance(
     ensures refused { cause_in result ≡ clock_refusal now to }
     ensures told { IfOk result (λ tells. tells.items ≡ clock_tells machine.now now to schedule.old.plans) }
     ensures plans { OnOk result (schedule.new.plans ≡ filter (is_live machine.now to) (released_until machine.now to schedule.old.plans)) }
+    ensures legal { OnOk result (IsLegal machine.now schedule.new.plans) }
+    ensures floors { OnOk result (KeepsFloors machine.now to none_exempt schedule.new.plans) }
+    ensures horizon { OnOk result (KeepsHorizon machine.now now schedule.old.plans → KeepsHorizon machine.now to schedule.new.plans) }
     ensures spare { OnOk result (schedule.new.spare + length schedule.new.plans ≡ schedule.old.spare + length schedule.old.plans) }
     ensures kept { OnErr result (schedule.new ≡ schedule.old) }
 {

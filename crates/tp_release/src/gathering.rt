@@ -1,6 +1,6 @@
 //! What a move of the clock tells of plans.
 
-ghost use Rattle.std.specs.Prelude.{◌≡◌, ℕ, ◌+◌, ◌++◌, ◌<◌, ◌≤◌, ◌^◌, length, map, flat_map, OnOk, IfOk};
+ghost use Rattle.std.specs.Prelude.{◌≡◌, ℕ, ◌++◌, ◌<◌, ◌≤◌, length, map, flat_map, OnOk, IfOk};
 ghost use Rattle.tp_schedule.specs.Answers.{KeepsFloors};
 ghost use Rattle.tp_schedule.specs.Legality.{IsLegal};
 ghost use Rattle.tp_schedule.specs.Planning.{none_exempt, last_tick};

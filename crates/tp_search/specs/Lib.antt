@@ -10,3 +10,4 @@ pub mod Searching
 pub mod Outcomes
 pub mod Trials
 pub mod Workspaces
+pub mod Engines

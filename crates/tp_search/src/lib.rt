@@ -3,6 +3,7 @@
 
 mod answering;
 mod children;
+mod engine;
 mod following;
 mod goals;
 mod laws;
@@ -15,6 +16,7 @@ mod trying;
 mod workspace;
 
 pub use answering::answer;
+pub use engine::Engine;
 pub use laws::{
     complete_ways_start, late_lists_stay_shut, lists_without_room_stay_shut,
     open_lists_have_places, steps_make_ways, ways_are_lists, ways_open_by_their_times,

@@ -1,0 +1,22 @@
+-- A trial that is abandoned leaves its board ready.
+use Rattle.std.proofs.Common.{ℕ, List, ap, sym, subst, ◌∙◌, arith}
+use Rattle.tp_base.specs.Net.{Net}
+use Rattle.tp_machine.specs.declared.whole.Machine.{Machine}
+use Rattle.tp_schedule.specs.declared.parts.Ask.{Ask}
+use Rattle.tp_schedule.specs.declared.parts.Plan.{Plan}
+use Rattle.tp_placing.specs.Boards.{BoardContent, BoardValue}
+use Rattle.tp_placing.specs.Writing.{IsLoadedFrom}
+use Rattle.tp_search.specs.Boards.{IsBack}
+use Rattle.rows_engines.specs.Trying.{IsReady}
+
+module _ {N C : Type 0} (net : N → Net) (content : N → C) (past : N → List C) (mark_room : N → ℕ) where
+  pub ready-back : (b b' : BoardValue N) (machine : Machine) (plans : List Plan) (ask : Ask) → IsBack net content past mark_room b b' machine
+      → IsReady net content past mark_room b machine plans ask → IsReady net content past mark_room b' machine plans ask
+  ready-back b b' machine plans ask back ready = record {
+    loaded = subst (IsLoadedFrom machine plans ask) (sym back.loaded.plans) ready.loaded;
+    stands = back.stands ready.stands;
+    asked = back.loaded.ask ∙ ready.asked;
+    closed = ap (λ (x : BoardContent C). x.steps) back.same_content ∙ ready.closed;
+    unmarked = back.same_past ∙ ready.unmarked;
+    marks = omega (arith, back.marks, ready.marks);
+  }

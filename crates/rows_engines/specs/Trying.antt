@@ -1,0 +1,18 @@
+-- A board that was loaded for an ask, before the first search.
+use Rattle.std.specs.Prelude.{◌≡◌, ℕ, ◌≤◌, List, [], Some}
+use Rattle.tp_base.specs.Net.{Net}
+use Rattle.tp_machine.specs.declared.whole.Machine.{Machine}
+use Rattle.tp_schedule.specs.declared.parts.Ask.{Ask}
+use Rattle.tp_schedule.specs.declared.parts.Plan.{Plan}
+use Rattle.tp_placing.specs.Boards.{BoardValue, past_of}
+use Rattle.tp_placing.specs.Standing.{Stands}
+use Rattle.tp_placing.specs.Writing.{IsLoadedFrom}
+
+-- the board was loaded for the ask on these plans, no goal is open and no mark in force, and a search has its marks
+pub record IsReady {N C : Type 0} (net : N → Net) (content : N → C) (past : N → List C) (mark_room : N → ℕ) (b : BoardValue N) (machine : Machine) (plans : List Plan) (ask : Ask) : Type 0 where
+  pub loaded : IsLoadedFrom machine plans ask b.plans
+  pub stands : Stands net content past b machine
+  pub asked : b.ask ≡ Some ask
+  pub closed : b.steps ≡ []
+  pub unmarked : past_of past b ≡ []
+  pub marks : 8 ≤ mark_room b.net

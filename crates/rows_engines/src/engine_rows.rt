@@ -1,0 +1,226 @@
+// A planner that is asked and settles on the machine DUO, and the trial of a plan.
+ghost use Rattle.std.specs.Prelude.{◌≡◌, ◌<◌, ◌≤◌, [], IfOk, IsTrue, List, OnOk};
+ghost use Rattle.tp_placing.specs.Standing.{IsMadeFor};
+ghost use Rattle.tp_schedule.specs.Planning.{CanAsk, CanPlanOn, IsOpenGoal};
+ghost use Rattle.tp_schedule.specs.declared.parts.Origin.TheVariants.{Feeder};
+ghost use Rattle.tp_schedule.specs.declared.parts.Plan.{Plan};
+ghost use Rattle.tp_search.specs.Engines.{is_engine_for};
+ghost use Rattle.tp_search.specs.Workspaces.{IsFor};
+ghost use Rattle.rows_engines.specs.Trying.{IsReady};
+
+use crate::by_hand::{ask_for, board_for, goal_of, name_of};
+use crate::laying::is_askable;
+use crate::planned_rows::points_of;
+use rows_machine::machines::DUO;
+use std::alloc::Global;
+use std::process::Abort;
+use std::test::Fail;
+use tp_base::{Network, Tick, Undo};
+use tp_machine::Machine;
+use tp_machine_text::read_machine;
+use tp_placing::Board;
+use tp_schedule::{Ask, Planner, Reply, Schedule};
+use tp_search::{Engine, Workspace, plan};
+use tp_stn_core::PlainNet;
+
+fn duo_machine(alloc: Global) -> Result<Machine, Fail> {
+    match read_machine(alloc, DUO.as_bytes()) {
+        Ok(machine) => Ok(machine),
+        Err(_) => Err(Fail::from("the machine text is refused")),
+    }
+}
+
+fn engine_for(alloc: Global, machine: &Machine) -> Result<Engine<PlainNet>, Fail>
+    ensures { IfOk result (λ engine. IsTrue (is_engine_for engine machine.now)) }
+{
+    match PlainNet::new(alloc, 16_642, 100_000, 330) {
+        Ok(net) => match Engine::new(alloc, machine, net, 1000) {
+            Ok(engine) => Ok(engine),
+            Err(_) => Err(Fail::from("memory")),
+        },
+        Err(_) => Err(Fail::from("memory")),
+    }
+}
+
+/// The ask for a new copy of the sheet of this number to the first tray.
+fn first_tray_ask(machine: &Machine, number: u32) -> Result<Ask, Fail>
+    ensures now { IfOk result (λ ask. ask.now ≡ 0) }
+    ensures new { IfOk result (λ ask. ask.origin ≡ Feeder) }
+    ensures goal { IfOk result (λ ask. IsOpenGoal machine.now [] ask ask.goal) }
+{
+    let (name, media) = (name_of(b"j1")?, name_of(b"plain")?);
+    let goal = goal_of(machine)?;
+    Ok(ask_for(name, media, goal, number))
+}
+
+/// Asks for the sheet of this number on a schedule with one live plan or none.
+fn ask_sheet<P: Planner>(
+    planner: &mut P,
+    machine: &Machine,
+    schedule: &mut Schedule,
+    number: u32,
+) -> Result<Reply, Fail>
+    requires served { IsTrue (P.serves planner.old machine.now) }
+    requires plan_on { CanPlanOn machine.now 0 schedule.old.plans }
+    ensures served { OnOk result (IsTrue (P.serves planner.new machine.now)) }
+    ensures plan_on { OnOk result (CanPlanOn machine.now 0 schedule.new.plans) }
+{
+    let ask = first_tray_ask(machine, number)?;
+    if !is_askable(machine, schedule, &ask) {
+        return Err(Fail::from("the ask doesn't fit the schedule"));
+    }
+    match planner.ask(machine, schedule, &ask) {
+        Ok(reply) => Ok(reply),
+        Err(_) => Err(Fail::from("memory")),
+    }
+}
+
+/// Settles the times at the moment 0.
+fn settle_all<P: Planner>(
+    planner: &mut P,
+    machine: &Machine,
+    schedule: &mut Schedule,
+) -> Result<(), Fail>
+    requires served { IsTrue (P.serves planner.old machine.now) }
+    requires plan_on { CanPlanOn machine.now 0 schedule.old.plans }
+{
+    if schedule.live(machine, 0) > 256 {
+        return Err(Fail::from("too many copies are live"));
+    }
+    match planner.settle(machine, schedule, 0) {
+        Ok(()) => Ok(()),
+        Err(_) => Err(Fail::from("memory")),
+    }
+}
+
+/// The replies to two asks, and the points: of the first plan, of both plans, and of both once they are settled.
+fn told_in_turn<P: Planner>(
+    alloc: Global,
+    planner: &mut P,
+    machine: &Machine,
+) -> Result<([Reply; 2], [[Tick; 4]; 5]), Fail>
+    requires { IsTrue (P.serves planner.old machine.now) }
+{
+    let mut schedule = Schedule::new(alloc);
+    let one = ask_sheet(planner, machine, &mut schedule, 1)?;
+    let alone = points_of(&schedule, 1, 0)?;
+    let other = ask_sheet(planner, machine, &mut schedule, 2)?;
+    let [first, second] = [points_of(&schedule, 2, 0)?, points_of(&schedule, 2, 1)?];
+    settle_all(planner, machine, &mut schedule)?;
+    let settled = [points_of(&schedule, 2, 0)?, points_of(&schedule, 2, 1)?];
+    let points = [alone, first, second, settled[0], settled[1]];
+    Ok(([one, other], points))
+}
+
+/// The end of the earliest plan, which is then abandoned.
+fn tried_end<N: Network>(
+    board: &mut Board<N>,
+    work: &mut Workspace,
+    machine: &Machine,
+    ask: &Ask,
+) -> Result<Tick, Fail>
+    requires work { IsFor work.old machine.now }
+    requires ready { (plans : List Plan) × IsReady N.net N.content N.past N.mark_room board.old machine.now plans ask.now }
+    ensures work { work.new ≡ work.old }
+    ensures ready { (plans : List Plan) → IsReady N.net N.content N.past N.mark_room board.old machine.now plans ask.entry.now → OnOk result (IsReady N.net N.content N.past N.mark_room board.new machine.now plans ask.entry.now) }
+{
+    match plan(board, work, machine, ask) {
+        Ok(trial) => {
+            let end = trial.end();
+            trial.abandon();
+            Ok(end)
+        }
+        Err(_) => Err(Fail::from("there is no plan")),
+    }
+}
+
+/// Commits the earliest plan.
+fn commit_plan<N: Network>(
+    board: &mut Board<N>,
+    work: &mut Workspace,
+    machine: &Machine,
+    schedule: &mut Schedule,
+    ask: &Ask,
+) -> Result<(), Fail>
+    requires work { IsFor work.old machine.now }
+    requires ready { IsReady N.net N.content N.past N.mark_room board.old machine.now schedule.old.plans ask.now }
+    requires spare { 0 < schedule.old.spare }
+{
+    match plan(board, work, machine, ask) {
+        Ok(trial) => {
+            trial.commit(machine, schedule);
+            Ok(())
+        }
+        Err(_) => Err(Fail::from("there is no plan")),
+    }
+}
+
+/// The end that a trial of the ask tells, and the points of the plan that a second one commits.
+fn tried_twice<N: Network>(
+    board: &mut Board<N>,
+    work: &mut Workspace,
+    machine: &Machine,
+    schedule: &mut Schedule,
+    ask: &Ask,
+) -> Result<(Tick, [Tick; 4]), Fail>
+    requires work { IsFor work.old machine.now }
+    requires made { IsMadeFor board.old.made_for machine.now }
+    requires marks { 8 ≤ N.mark_room board.old.net }
+    requires can_ask { CanAsk machine.now schedule.old.plans ask.now }
+    requires spare { 0 < schedule.old.spare }
+{
+    board.load(machine, schedule, ask);
+    let end = tried_end(board, work, machine, ask)?;
+    commit_plan(board, work, machine, schedule, ask)?;
+    Ok((end, points_of(schedule, 1, 0)?))
+}
+
+/// The end and the points of the first sheet's plan on an empty schedule.
+fn first_tried<N: Network>(
+    alloc: Global,
+    board: &mut Board<N>,
+    machine: &Machine,
+) -> Result<(Tick, [Tick; 4]), Fail>
+    requires made { IsMadeFor board.old.made_for machine.now }
+    requires marks { 8 ≤ N.mark_room board.old.net }
+{
+    let mut schedule = Schedule::new(alloc);
+    let ask = first_tray_ask(machine, 1)?;
+    let (Ok(()), Ok(mut work)) = (schedule.reserve(), Workspace::new(alloc, machine, 1000)) else {
+        return Err(Fail::from("memory"));
+    };
+    tried_twice(board, &mut work, machine, &mut schedule, &ask)
+}
+
+/// The replies and the points in turn, and how many marks of the board are spare then.
+fn told_on_duo(alloc: Global) -> Result<([Reply; 2], [[Tick; 4]; 5], u32), Fail> {
+    let machine = duo_machine(alloc)?;
+    let mut engine = engine_for(alloc, &machine)?;
+    let (replies, points) = told_in_turn(alloc, &mut engine, &machine)?;
+    Ok((replies, points, engine.board().spare_marks()))
+}
+
+fn tried_on_duo(alloc: Global) -> Result<(Tick, [Tick; 4]), Fail> {
+    let machine = duo_machine(alloc)?;
+    let mut board = board_for(alloc, &machine)?;
+    first_tried(alloc, &mut board, &machine)
+}
+
+// The second sheet is fed ahead of the first, which gives way. All points are as early as they can be, so the times settle where
+// they stand. That leaves no mark on the board, which has all marks of its network but one.
+#[test]
+fn asked_and_settled(rt: HostRuntime) -> Result<(), Fail> {
+    let told = told_on_duo(rt.alloc())?;
+    let (moved, second) = ([5, 7, 13, 16], [3, 5, 14, 17]);
+    let points = [[3, 5, 11, 14], moved, second, moved, second];
+    assert_eq!(rt; told, ([Reply::Planned; 2], points, 329));
+    Ok(())
+}
+
+// A trial tells the end of the first sheet's plan. It leaves nothing on the board, from which the same plan is committed.
+#[test]
+fn tried_and_committed(rt: HostRuntime) -> Result<(), Fail> {
+    let tried = tried_on_duo(rt.alloc())?;
+    assert_eq!(rt; tried, (14, [3, 5, 11, 14]));
+    Ok(())
+}

@@ -1,0 +1,115 @@
+//! A workspace and a board as a planner.
+ghost use Rattle.std.specs.Prelude.{◌≡◌, ◌<◌, ◌≤◌, IfErr, IfOk, IsOk, IsTrue, OnErr, OnOk};
+ghost use Rattle.tp_schedule.specs.Planning.{CanAsk, CanSettle, HasTimeFrom, IsAnswer, IsSettled};
+ghost use Rattle.tp_schedule.specs.declared.parts.Origin.TheVariants.{Feeder};
+ghost use Rattle.tp_placing.specs.Inside.{most_edges, most_points};
+ghost use Rattle.tp_search.specs.Engines.{IsSameEngine, is_engine_for};
+ghost use Rattle.tp_search.specs.Workspaces.{IsSpentOf};
+
+use crate::answering::answer;
+use crate::workspace::Workspace;
+use std::alloc::Global;
+use std::marker::Model;
+use tp_base::{Memory, Network, Tick, Undo};
+use tp_machine::Machine;
+use tp_placing::Board;
+use tp_schedule::{Ask, Halt, Origin, Planner, Reply, Schedule};
+
+/// A planner for machines with the same numbers of locations and resources and the same window as the one that it was made
+/// for. It stores as many lists of choices as it has nodes: the budget of an ask.
+#[derive(Drop)]
+pub struct Engine<N: Network> {
+    work: Workspace,
+    board: Board<N>,
+}
+
+impl<N: Network> Model for Engine<N> {
+    ghost use Rattle.tp_search.specs.Engines.{EngineValue, IsEngine};
+
+    ghost Value = { EngineValue N };
+
+    ghost view = { λ e. record { work = e.work; board = e.board } };
+
+    ghost invariant = { λ e. IsEngine N.mark_room e.work e.board };
+}
+
+impl<N: Network + Drop> Engine<N> {
+    /// Takes all the memory that it will ever hold beside its network, which was made for at least 16,642 points, 100,000 edges
+    /// and 330 marks.
+    pub fn new(alloc: Global, machine: &Machine, net: N, nodes: u32) -> Result<Engine<N>, Memory>
+        requires points { most_points ≤ N.point_room net }
+        requires edges { most_edges ≤ N.edge_room net }
+        requires marks { 330 ≤ N.mark_room net }
+        ensures serves { IfOk result (λ e. IsTrue (is_engine_for e machine.now)) }
+        ensures nodes { IfOk result (λ e. e.work.nodes ≡ nodes) }
+        ensures kept { IfOk result (λ e. N.mark_room e.board.net ≡ N.mark_room net) }
+    {
+        Ok(Engine {
+            work: Workspace::new(alloc, machine, nodes)?,
+            board: Board::new(alloc, machine, net)?,
+        })
+    }
+}
+
+impl<N: Network> Engine<N> {
+    /// The board that asks are answered on, as the last call left it.
+    pub fn board(&self) -> &Board<N>
+        ensures { result.now ≡ self.now.board }
+    {
+        &self.board
+    }
+}
+
+/// Makes sure of a spare plan for a new copy.
+fn make_spare(schedule: &mut Schedule, ask: &Ask) -> Result<(), Memory>
+    requires { HasTimeFrom schedule.old.plans ask.now.now ask.now.origin }
+    ensures plans { schedule.new.plans ≡ schedule.old.plans }
+    ensures spare { OnOk result (ask.entry.now.origin ≡ Feeder → 0 < schedule.new.spare) }
+    ensures new_copy { OnErr result (ask.entry.now.origin ≡ Feeder) }
+{
+    match ask.origin {
+        Origin::Feeder => schedule.reserve(),
+        Origin::Front { .. } => Ok(()),
+    }
+}
+
+impl<N: Network> Planner for Engine<N> {
+    ghost serves = { is_engine_for };
+
+    ghost stops = { λ e. 0 };
+
+    ghost spent = { λ e. IsSpentOf e.work.nodes };
+
+    ghost steps = { λ e machine plans deed plans' e'. IsSameEngine N.mark_room e e' };
+
+    ghost stop_steps = { λ e machine plans due e'. ⊥ };
+
+    /// Wants memory for the spare plan of a new copy alone, and never stops.
+    fn ask(&mut self, machine: &Machine, schedule: &mut Schedule, ask: &Ask) -> Result<Reply, Halt>
+        requires served { IsTrue (is_engine_for self.old machine.now) }
+        requires can_ask { CanAsk machine.now schedule.old.plans ask.now }
+        ensures answer { IfOk result (λ reply. IsAnswer (IsSpentOf self.old.work.nodes) machine.now schedule.old.plans ask.entry.now reply schedule.new.plans) }
+        ensures same { IsSameEngine N.mark_room self.old self.new }
+        ensures memory { IfErr result (λ halt. halt ≡ Halt.Memory) }
+        ensures new_copy { OnErr result (ask.entry.now.origin ≡ Feeder) }
+        ensures stays { OnErr result (schedule.new.plans ≡ schedule.old.plans) }
+    {
+        match make_spare(schedule, ask) {
+            Ok(()) => Ok(answer(&mut self.work, &mut self.board, machine, schedule, ask)),
+            Err(_) => Err(Halt::Memory),
+        }
+    }
+
+    /// Takes no memory, and never stops.
+    fn settle(&mut self, machine: &Machine, schedule: &mut Schedule, now: Tick) -> Result<(), Halt>
+        requires served { IsTrue (is_engine_for self.old machine.now) }
+        requires can_settle { CanSettle machine.now now schedule.old.plans }
+        ensures settles { IsSettled machine.now now schedule.old.plans schedule.new.plans }
+        ensures spare { schedule.new.spare ≡ schedule.old.spare }
+        ensures same { IsSameEngine N.mark_room self.old self.new }
+        ensures done { IsOk result }
+    {
+        self.board.settle(machine, schedule, now);
+        Ok(())
+    }
+}
