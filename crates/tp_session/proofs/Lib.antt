@@ -18,3 +18,6 @@ pub mod LiveAnswered
 pub mod LiveSettled
 pub mod LiveStates
 pub mod LiveAsks
+pub mod EventFacts
+pub mod LiveFacts
+pub mod ClockFacts

@@ -1,3 +1,4 @@
 pub mod Telling
 pub mod Phases
 pub mod LiveTurns
+pub mod Events

@@ -2,11 +2,15 @@
 #![tactic(auto)]
 
 mod asking;
+mod clocking;
 mod laws;
 mod living;
 mod naming;
+mod refusing;
 mod telling;
+mod turning;
 
 pub use asking::ask_waiting;
 pub use laws::asked_can_go_out;
 pub use living::{live_answers_hold, live_asks_hold, live_part_moves_alike};
+pub use turning::{move_clock, take_job, turn_on};
