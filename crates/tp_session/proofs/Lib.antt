@@ -20,4 +20,5 @@ pub mod LiveStates
 pub mod LiveAsks
 pub mod EventFacts
 pub mod LiveFacts
+pub mod LiveEvents
 pub mod ClockFacts

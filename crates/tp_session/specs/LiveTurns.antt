@@ -1,4 +1,4 @@
--- The parts of a turn on the live part of a state are those on the whole.
+-- A turn on the live part of a state is one on the whole, part by part.
 use Rattle.std.specs.Prelude.{◌≡◌, ℕ, ◌≤◌, not, List, filter, Contains, IsTrue, IsFalse}
 use Rattle.tp_machine.specs.declared.whole.Machine.{Machine}
 use Rattle.tp_schedule.specs.Answers.{IsAsked, KeepsFloors}
@@ -12,13 +12,18 @@ use Rattle.tp_schedule.specs.declared.parts.Ask.{Ask}
 use Rattle.tp_schedule.specs.declared.parts.Plan.{Plan}
 use Rattle.tp_schedule.specs.declared.parts.Reply.{Reply}
 use Rattle.tp_schedule.specs.declared.recording.Record.{Record}
+use Rattle.tp_script.specs.declared.event.Event.{Event}
+use Rattle.tp_script.specs.declared.event.Event.TheVariants.{Clock}
 use Rattle.tp_choices.specs.LiveParts.{EndsAhead}
 use Rattle.tp_turn.specs.Answering.{moves, told_of_reply}
 use Rattle.tp_turn.specs.Asking.{Asks}
 use Rattle.tp_turn.specs.Clock.{clock_move, clock_records}
 use Rattle.tp_turn.specs.Keeping.{KeepsLines, live_part}
+use Rattle.tp_turn.specs.Laws.{IsNoClock, IsNoOutage, IsPlannable}
 use Rattle.tp_turn.specs.Planners.{PlannerSteps}
 use Rattle.tp_turn.specs.States.{SessionState}
+use Rattle.tp_turn.specs.Turns.{Turn}
+use Rattle.tp_session.specs.Events.{ClockTurn}
 
 -- a move of the clock tells the same of the live part, where each unreleased start is above now + lead
 abbrev pub ClockTellsLivePart : Type 0
@@ -91,3 +96,20 @@ module _ {P : Type 0} (planner_steps : PlannerSteps P) (machine : Machine) where
       → AnswersAlone nodes → IsLegal machine s.plans → KeepsFloors machine s.now none_exempt s.plans → KeepsLines s
       → Asks planner_steps machine (live_part machine s) planner records last planner'
       → (s' : SessionState) × Asks planner_steps machine s planner records s' planner' × (live_part machine s' ≡ last)
+
+  -- the whole state has such a turn, and its last state has this live part
+  abbrev pub HasTurnTo : Event → SessionState → P → List Record → SessionState → P → Type 0
+  HasTurnTo event s planner records last planner' =
+      (s' : SessionState) × Turn planner_steps machine event s planner records s' planner' × (live_part machine s' ≡ last)
+
+  -- what a call gives on the live part is a turn on the whole state, where the state can be planned on and keeps its lines: of
+  -- an event that neither makes a module go out nor moves the clock, and of a move of the clock
+  abbrev pub LiveTurnsHold : Type 0
+  LiveTurnsHold = (nodes : P → ℕ) (event : Event) (s : SessionState) (planner : P) (records : List Record) (last : SessionState) (planner' : P)
+      → AnswersAlone nodes → IsPlannable machine s → KeepsLines s → IsNoOutage event → IsNoClock event
+      → Turn planner_steps machine event (live_part machine s) planner records last planner' → HasTurnTo event s planner records last planner'
+
+  abbrev pub LiveClockHolds : Type 0
+  LiveClockHolds = (nodes : P → ℕ) (to : ℕ) (s : SessionState) (planner : P) (records : List Record) (last : SessionState) (planner' : P)
+      → AnswersAlone nodes → IsPlannable machine s → KeepsLines s
+      → ClockTurn planner_steps machine to (live_part machine s) planner records last planner' → HasTurnTo (Clock to) s planner records last planner'

@@ -1,8 +1,8 @@
-// What a session may forget: the parts of a turn on the live part are those on the whole state. The calls do nothing: their
+// What a session may forget: a turn on the live part is one on the whole state, part by part. The calls do nothing: their
 // contracts are the laws.
 ghost use Rattle.tp_machine.specs.declared.whole.Machine.{Machine};
 ghost use Rattle.tp_turn.specs.Planners.{right_steps};
-ghost use Rattle.tp_session.specs.LiveTurns.{ClockLeavesLivePart, ClockTellsLivePart, LiveAnswersHold, LiveAsksHold, LiveSettlesHold};
+ghost use Rattle.tp_session.specs.LiveTurns.{ClockLeavesLivePart, ClockTellsLivePart, LiveAnswersHold, LiveAsksHold, LiveClockHolds, LiveSettlesHold, LiveTurnsHold};
 
 use tp_schedule::Planner;
 
@@ -23,4 +23,13 @@ pub fn live_answers_hold()
 pub fn live_asks_hold<P: Planner>()
     ensures { (machine : Machine)
         → LiveAsksHold (right_steps P.spent P.steps P.stop_steps machine) machine }
+{}
+
+/// A turn on the live part is one on the whole state: of a job, of a module that comes back, of a line off the grammar, and of
+/// the clock, which leaves only what is still live before the copies that wait are asked.
+pub fn live_turns_hold<P: Planner>()
+    ensures turns { (machine : Machine)
+        → LiveTurnsHold (right_steps P.spent P.steps P.stop_steps machine) machine }
+    ensures clock { (machine : Machine)
+        → LiveClockHolds (right_steps P.spent P.steps P.stop_steps machine) machine }
 {}
