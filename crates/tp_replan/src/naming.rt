@@ -1,12 +1,13 @@
 //! The names by which records call copies.
 
 ghost use Rattle.std.specs.Prelude.{◌≡◌, ◌<◌, length};
-ghost use Rattle.tp_jobs.specs.Backlogs.{next_copy};
+ghost use Rattle.tp_jobs.specs.Backlogs.{next_copy, tray_of};
 ghost use Rattle.tp_turn.specs.Labels.{job_name, label};
 ghost use Rattle.tp_turn.specs.Seen.{HasNextCopy};
 
 use tp_base::Name;
 use tp_jobs::Lines;
+use tp_machine::LocId;
 use tp_schedule::{SheetId, SheetName};
 
 /// The name of a job.
@@ -15,6 +16,14 @@ pub(crate) fn job_name(lines: &Lines, job: u32) -> Name
     ensures { result ≡ job_name lines.now.jobs job }
 {
     lines.name_of(job)
+}
+
+/// The tray for which a copy is asked.
+pub(crate) fn tray_of(lines: &Lines, sheet: SheetId) -> LocId
+    requires { sheet.job < length lines.now.jobs }
+    ensures { result ≡ tray_of lines.now.jobs sheet }
+{
+    lines.tray_of(sheet.job)
 }
 
 /// A copy by the name of its job.
