@@ -8,3 +8,6 @@ pub mod TurnFacts
 pub mod LeftFacts
 pub mod PhaseFacts
 pub mod CopyFacts
+pub mod EventFacts
+pub mod LiveFacts
+pub mod ClockFacts

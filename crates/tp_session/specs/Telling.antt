@@ -1,8 +1,17 @@
 -- What records may name.
-use Rattle.std.specs.Prelude.{◌<◌, length}
+use Rattle.std.specs.Prelude.{◌<◌, List, length}
+use Rattle.tp_machine.specs.Machines.{IsLocation}
 use Rattle.tp_machine.specs.declared.parts.ActId.{ActId}
 use Rattle.tp_machine.specs.declared.whole.Machine.{Machine}
+use Rattle.tp_jobs.specs.declared.parts.Job.{Job}
+use Rattle.tp_turn.specs.declared.telling.Tell.{Tell}
+use Rattle.tp_turn.specs.declared.telling.Tell.TheVariants.{Done, Release}
 
 -- the action is one of the machine's
 abbrev pub IsKnown : Machine → ActId → Type 0
 IsKnown machine act = act.0 < length machine.actions
+
+-- the copy is of one of the jobs, and the place or the action is one of the machine's
+abbrev pub IsKnownTell : Machine → List Job → Tell → Type 0
+IsKnownTell machine jobs (Done sheet place at) = (sheet.job < length jobs) × IsLocation machine place
+IsKnownTell machine jobs (Release sheet number act start end) = (sheet.job < length jobs) × IsKnown machine act

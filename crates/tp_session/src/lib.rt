@@ -2,9 +2,13 @@
 #![tactic(auto)]
 
 mod asking;
+mod clocking;
 mod laws;
 mod naming;
+mod refusing;
 mod telling;
+mod turning;
 
 pub use asking::ask_waiting;
 pub use laws::asked_can_go_out;
+pub use turning::{move_clock, take_job, turn_on};
