@@ -10,5 +10,5 @@ mod telling;
 mod turning;
 
 pub use asking::ask_waiting;
-pub use laws::asked_can_go_out;
+pub use laws::{asked_can_go_out, empty_state_can_begin};
 pub use turning::{move_clock, take_job, turn_on};
