@@ -1,1 +1,2 @@
 pub mod ClockFacts
+pub mod TurnFacts

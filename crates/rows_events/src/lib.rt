@@ -1,4 +1,4 @@
-//! Worked rows of the script, the log, jobs and the clock: a crate of tests alone.
+//! Worked rows of the script, the log, jobs, the clock and turns: a crate of tests alone.
 #![tactic(auto)]
 
 #[cfg(test)]
@@ -11,3 +11,5 @@ mod logs;
 mod records;
 #[cfg(test)]
 mod scripts;
+#[cfg(test)]
+mod turns;
