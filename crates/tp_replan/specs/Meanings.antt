@@ -1,0 +1,61 @@
+-- The fates of copies as calls give them, and the state that they stand in.
+use Rattle.std.specs.Prelude.{◌≡◌, ℕ, ◌<◌, ◌≤◌, List, [], ◌∷◌, ◌++◌, length, slice_get, Some, None, IsTrue}
+use Rattle.tp_machine.specs.declared.parts.Outs.{Outs}
+use Rattle.tp_schedule.specs.declared.parts.Plan.{Plan}
+use Rattle.tp_schedule.specs.declared.parts.SheetId.{SheetId}
+use Rattle.tp_schedule.specs.declared.recording.Record.{Record}
+use Rattle.tp_schedule.specs.declared.recording.Record.TheVariants.{Withdraw, Cut as TellsCut, Purge, Again, Drop}
+use Rattle.tp_jobs.specs.Backlogs.{Backlog, next_copy}
+use Rattle.tp_jobs.specs.declared.parts.Job.{Job}
+use Rattle.tp_jobs.specs.declared.parts.WaitingCopy.{WaitingCopy}
+use Rattle.tp_jobs.specs.Waiting.{find_waiting, put_waiting}
+use Rattle.tp_turn.specs.Fates as fates
+use Rattle.tp_turn.specs.Fates.{Fate as Befalls, is_cut_by, waits_for}
+use Rattle.tp_turn.specs.Moments.{started_count}
+use Rattle.tp_turn.specs.Labels.{label}
+use Rattle.tp_turn.specs.States.{SessionState}
+use Rattle.tp_replan.specs.declared.fate.Fate.{Fate}
+use Rattle.tp_replan.specs.declared.fate.Fate.TheVariants.{Stays, Lost, Withdrawn, Cut, Purged, Replaced, Dropped}
+
+abbrev pub meant : Fate → Befalls
+meant Stays = fates.stays
+meant Lost = fates.lost
+meant Withdrawn = fates.withdrawn
+meant Cut = fates.cut
+meant Purged = fates.purged
+meant Replaced = fates.replaced
+meant Dropped = fates.dropped
+
+-- the copy is of one of the jobs
+abbrev pub IsKnown : List Job → Plan → Type 0
+IsKnown jobs p = p.sheet.job < length jobs
+
+-- what is told of the copy behind its recalls
+abbrev pub told_behind : List Job → Plan → Befalls → List Record
+told_behind jobs p fates.stays = []
+told_behind jobs p fates.lost = []
+told_behind jobs p fates.withdrawn = Withdraw (label jobs p.sheet) ∷ []
+told_behind jobs p fates.cut = TellsCut (label jobs p.sheet) ∷ []
+told_behind jobs p fates.purged = Purge (label jobs p.sheet) ∷ []
+told_behind jobs p fates.replaced = Purge (label jobs p.sheet) ∷ Again (label jobs (next_copy p.sheet)) ∷ []
+told_behind jobs p fates.dropped = Drop (label jobs p.sheet) ∷ []
+
+-- what waits where each of the plans has its fate
+abbrev pub waits_in : List Plan → List Fate → List WaitingCopy
+waits_in [] fates = []
+waits_in (p ∷ plans) [] = []
+waits_in (p ∷ plans) (f ∷ fates) = waits_for p (meant f) ++ waits_in plans fates
+
+-- none of the copies waits when its turn comes to wait
+abbrev pub CanAllWait : List WaitingCopy → List WaitingCopy → Type 0
+CanAllWait waiting [] = Unit {0}
+CanAllWait waiting (w ∷ more) = (find_waiting w.sheet waiting ≡ None) × CanAllWait (put_waiting waiting w) more
+
+-- a plan that is cut has started
+abbrev pub AreCutStarted : ℕ → List Plan → List Fate → Type 0
+AreCutStarted now plans fates = (i : ℕ) (p : Plan) (f : Fate) → slice_get plans i ≡ Some p → slice_get fates i ≡ Some f → IsTrue (is_cut_by (meant f)) → 1 ≤ started_count now p
+
+-- the state of these parts
+abbrev pub state_of : ℕ → List Plan → List SheetId → Backlog → Outs → SessionState
+state_of now plans lost lines outs =
+    record { now = now; plans = plans; lost = lost; jobs = lines.jobs; waiting = lines.waiting; outs = outs }

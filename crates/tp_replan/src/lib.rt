@@ -1,0 +1,13 @@
+//! A module goes out: what befalls the copies that are planned.
+#![tactic(auto)]
+
+mod befalling;
+mod displaced;
+mod fate;
+mod leaving;
+mod losing;
+mod moments;
+mod naming;
+mod ruling;
+mod telling;
+mod waiting;
