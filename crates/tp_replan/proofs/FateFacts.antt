@@ -1,5 +1,6 @@
 -- The fates of plans, place by place.
-use Rattle.std.proofs.Common.{◌≡◌, ℕ, zero, suc, ◌+◌, Bool, true, false, cond, List, [], ◌∷◌, ◌++◌, length, filter, get_or, map, take, drop, flat_map, slice_get, Some, refl, sym, ap, ◌∙◌, arith}
+use Rattle.std.proofs.Common.{◌≡◌, ℕ, zero, suc, ◌+◌, Bool, true, false, cond, ◌||◌, List, [], ◌∷◌, ◌++◌, length, filter, get_or, map, take, drop, flat_map, slice_get, Some, refl, sym, ap, ◌∙◌, arith}
+use Rattle.std.specs.List.{list_any}
 use Rattle.std.proofs.lemmas.List.{append-nil, take_more, flat_map_more, map-append}
 use Rattle.std.proofs.lemmas.List.Elements.{filter-append}
 use Rattle.std.proofs.lemmas.Option.{get_or_from_slice_get, slice_get_within}
@@ -78,3 +79,36 @@ pub left-next : {X Y : Type 0} (test : X → Bool) (g : X → Y) (xs : List X) (
 left-next test g xs i x old at fails before =
     before ∙ sym (append-nil (map g (filter test (take i xs)))) ∙ (λ k. map g (filter test (take i xs)) ++ map g (cond (fails k) (x ∷ []) []))
     ∙ sym (kept-more test g xs i x at)
+
+-- one more fate by the rule
+pub fate-next : (rule : Plan → Befalls) (plans : List Plan) (i : ℕ) (p : Plan) (f : Fate) (old new : List Fate) → slice_get plans i ≡ Some p → meant f ≡ rule p
+    → map meant old ≡ map rule (take i plans) → new ≡ old ++ f ∷ [] → map meant new ≡ map rule (take (i + 1) plans)
+fate-next rule plans i p f old new at its before now =
+    ap (map meant) now ∙ map-append meant old (f ∷ []) ∙ (λ k. before k ++ its k ∷ []) ∙ sym (map-append rule (take i plans) (p ∷ []))
+    ∙ ap (map rule) (sym (take-next plans i p at))
+
+-- one that passes, and one more that does not
+pub any-found : {X : Type 0} (test : X → Bool) (xs : List X) (i : ℕ) (x : X) → slice_get xs i ≡ Some x → true ≡ test x → true ≡ list_any test xs
+any-found test [] i x at passes = absurd cc
+any-found test (y ∷ xs) zero x at passes = let same : y ≡ x = cc in go (test y) (list_any test xs) (passes ∙ ap test (sym same)) where
+  go : (b rest : Bool) → true ≡ b → true ≡ (b || rest)
+  go true rest e = refl
+  go false rest e = absurd cc
+any-found test (y ∷ xs) (suc i) x at passes = go (test y) (list_any test xs) (any-found test xs i x at passes) where
+  go : (b rest : Bool) → true ≡ rest → true ≡ (b || rest)
+  go true rest e = refl
+  go false rest e = e
+
+pub none-next : {X : Type 0} (test : X → Bool) (xs : List X) (i : ℕ) (x : X) → slice_get xs i ≡ Some x → false ≡ test x → list_any test (take i xs) ≡ false → list_any test (take (i + 1) xs) ≡ false
+none-next {X} test xs i x at fails none = ap (list_any test) (take-next xs i x at) ∙ go (take i xs) none where
+  step : (b : Bool) (rest rest' : Bool) → (b || rest) ≡ false → (rest ≡ false → rest' ≡ false) → (b || rest') ≡ false
+  step true rest rest' e later = absurd cc
+  step false rest rest' e later = later e
+
+  last : (b : Bool) → false ≡ b → (b || false) ≡ false
+  last true e = absurd cc
+  last false e = refl
+
+  go : (ys : List X) → list_any test ys ≡ false → list_any test (ys ++ x ∷ []) ≡ false
+  go [] e = last (test x) fails
+  go (y ∷ ys) e = step (test y) (list_any test ys) (list_any test (ys ++ x ∷ [])) e (go ys)

@@ -1,6 +1,6 @@
 //! Which fates copies have in a fall-back, in a break and in an outage.
 
-ghost use Rattle.std.specs.Prelude.{◌≡◌, ◌<◌, [], length, map, All, IfOk};
+ghost use Rattle.std.specs.Prelude.{◌≡◌, ◌<◌, ◌&&◌, [], length, map, All, IfOk};
 ghost use Rattle.std.specs.List.{list_any};
 ghost use Rattle.tp_schedule.specs.Plans.{IsFormed};
 ghost use Rattle.tp_jobs.specs.Backlogs.{Backlog};
@@ -95,6 +95,23 @@ pub(crate) fn fates_in_fall_back(
     Ok(fates)
 }
 
+/// Whether the plan is that of a later copy of the line, which is entering.
+fn is_later_entering(
+    lost: &[SheetId],
+    lines: &Lines,
+    now: Tick,
+    copy: SheetId,
+    plan: &Plan,
+) -> bool
+    requires formed { IsFormed plan.now }
+    requires copy { copy.job < length lines.now.jobs }
+    requires known { plan.now.sheet.job < length lines.now.jobs }
+    ensures { result ≡ (is_later (state_of now [] lost.now lines.now none_out) copy plan.now && is_entering now plan.now) }
+{
+    let enters = is_entering(plan, now);
+    is_later(lost, lines, copy, plan) && enters
+}
+
 /// Whether a later copy of the line is entering.
 pub(crate) fn is_line_entering(
     schedule: &Schedule,
@@ -108,9 +125,7 @@ pub(crate) fn is_line_entering(
     ensures { result ≡ is_line_entering (state_of now schedule.now.plans lost.now lines.now none_out) copy }
 {
     for at in 0..schedule.len() {
-        let plan = schedule.plan_at(at);
-        let enters = is_entering(plan, now);
-        if is_later(lost, lines, copy, plan) && enters {
+        if is_later_entering(lost, lines, now, copy, schedule.plan_at(at)) {
             return true;
         }
     }
