@@ -1,3 +1,4 @@
 pub mod LastRuns
 pub mod FateFacts
 pub mod LeftFacts
+pub mod OpenFacts

@@ -13,7 +13,7 @@ use Rattle.tp_turn.specs.Fates as fates
 use Rattle.tp_turn.specs.Fates.{Fate as Befalls, is_cut_by, waits_for}
 use Rattle.tp_turn.specs.Moments.{started_count}
 use Rattle.tp_turn.specs.Labels.{label}
-use Rattle.tp_turn.specs.States.{SessionState}
+use Rattle.tp_turn.specs.States.{Outcome, SessionState}
 use Rattle.tp_replan.specs.declared.fate.Fate.{Fate}
 use Rattle.tp_replan.specs.declared.fate.Fate.TheVariants.{Stays, Lost, Withdrawn, Cut, Purged, Replaced, Dropped}
 
@@ -59,3 +59,8 @@ AreCutStarted now plans fates = (i : ℕ) (p : Plan) (f : Fate) → slice_get pl
 abbrev pub state_of : ℕ → List Plan → List SheetId → Backlog → Outs → SessionState
 state_of now plans lost lines outs =
     record { now = now; plans = plans; lost = lost; jobs = lines.jobs; waiting = lines.waiting; outs = outs }
+
+-- the notes grow by what is told, and the state is the one that follows
+pub record Leads (o : Outcome) (notes notes' : List Record) (s' : SessionState) : Type 0 where
+  pub told : notes' ≡ notes ++ o.records
+  pub state : s' ≡ o.state

@@ -3,6 +3,7 @@
 
 mod befalling;
 mod displaced;
+mod falling;
 mod fate;
 mod leaving;
 mod losing;

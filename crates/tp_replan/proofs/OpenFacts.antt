@@ -1,0 +1,202 @@
+-- The fates fit, so that the copies that wait after them can wait.
+use Rattle.std.proofs.Common.{◌≡◌, ℕ, zero, suc, ◌+◌, ◌<◌, ◌≤◌, Bool, true, false, cond, not, ◌&&◌, ◌||◌, ◌==◌, List, [], ◌∷◌, ◌++◌, length, map, flat_map, find, slice_get, Option, Some, None, IsTrue, Contains, refl, sym, ap, ◌∙◌, arith, subst, sum_by, count_by, nat_le, slice_index}
+use Rattle.std.proofs.lemmas.Bool.Decides.{nat_tests}
+use Rattle.std.proofs.lemmas.Option.{get_or_from_slice_get, slice_get_within}
+use Rattle.tp_machine.specs.declared.parts.ActId.{ActId}
+use Rattle.tp_schedule.specs.Holding.{Run, runs_from}
+use Rattle.std.proofs.lemmas.List.{length-map}
+use Rattle.std.proofs.lemmas.List.Concat.{flat_map-cons}
+use Rattle.std.proofs.lemmas.List.Sums.{sum_by-append}
+use Rattle.tp_schedule.specs.Plans.{IsFormed, is_before, is_same_copy, point}
+use Rattle.tp_schedule.specs.declared.parts.Plan.{Plan}
+use Rattle.tp_schedule.specs.declared.parts.SheetId.{SheetId}
+use Rattle.tp_schedule.proofs.Membership.{Contains-here, Contains-later}
+use Rattle.tp_jobs.specs.Waiting.{find_waiting, put_waiting}
+use Rattle.tp_jobs.specs.declared.parts.WaitingCopy.{WaitingCopy}
+use Rattle.tp_turn.specs.Fates as fates
+use Rattle.tp_turn.specs.Fates.{Fate as Befalls, is_cut_by, waits_for}
+use Rattle.tp_turn.specs.Keeping.{is_copy_of}
+use Rattle.tp_turn.specs.Moments.{is_in_flight, is_started, is_to_tray, is_unstarted, started_count}
+use Rattle.tp_turn.specs.Seen.{HasStarted}
+use Rattle.tp_turn.specs.FallBacks.{fate_in_fall_back, is_copy, is_later, is_on_its_way}
+use Rattle.tp_turn.specs.Lines.{is_same_line}
+use Rattle.tp_turn.specs.States.{SessionState}
+use Rattle.tp_replan.specs.Meanings.{AreCutStarted, CanAllWait, meant, waits_in}
+use Rattle.tp_replan.specs.Open.{CanFall, Fits, is_open, is_waiting_after, open_count}
+use Rattle.tp_replan.specs.declared.fate.Fate.{Fate}
+use Rattle.tp_replan.proofs.FateFacts.{fate-at, waits-by}
+
+-- a count, one by one
+pub count-cons : {X : Type 0} (test : X → Bool) (x : X) (xs : List X) → count_by test (x ∷ xs) ≡ cond (test x) 1 0 + count_by test xs
+count-cons test x xs = let both = sum_by-append (λ y. cond (test y) 1 0) (x ∷ []) xs in omega arith
+
+one-where : (b : Bool) → b ≡ true → 1 ≤ cond b 1 0
+one-where true e = omega arith
+one-where false e = absurd cc
+
+pub count-append : {X : Type 0} (test : X → Bool) (xs ys : List X) → count_by test (xs ++ ys) ≡ count_by test xs + count_by test ys
+count-append test xs ys = sum_by-append (λ y. cond (test y) 1 0) xs ys
+
+-- how many of the copies are of the sheet
+abbrev pub is_of_sheet : ℕ → ℕ → WaitingCopy → Bool
+is_of_sheet job number w = is_copy_of job number w.sheet
+
+abbrev pub of_sheet : ℕ → ℕ → List WaitingCopy → ℕ
+of_sheet job number ws = count_by (is_of_sheet job number) ws
+
+pub of_sheet-put : (job number : ℕ) (w : WaitingCopy) (ws : List WaitingCopy) → of_sheet job number (put_waiting ws w) ≡ of_sheet job number (w ∷ ws)
+of_sheet-put job number w [] = refl
+of_sheet-put job number w (v ∷ ws) = go (is_before w.sheet v.sheet) (of_sheet-put job number w ws) where
+  go : (b : Bool) → of_sheet job number (put_waiting ws w) ≡ of_sheet job number (w ∷ ws) → of_sheet job number (cond b (w ∷ v ∷ ws) (v ∷ put_waiting ws w)) ≡ of_sheet job number (w ∷ v ∷ ws)
+  go true e = refl
+  go false e =
+      let a = count-cons (is_of_sheet job number) v (put_waiting ws w) in
+      let b = count-cons (is_of_sheet job number) w ws in
+      let d = count-cons (is_of_sheet job number) w (v ∷ ws) in
+      let f = count-cons (is_of_sheet job number) v ws in
+      omega arith
+
+same-sheet : (a b : SheetId) → is_same_copy a b ≡ true → is_copy_of b.job b.number a ≡ true
+same-sheet a b e = grind (arith, nat_tests)
+
+own-sheet : (a : SheetId) → is_copy_of a.job a.number a ≡ true
+own-sheet a = grind (arith, nat_tests)
+
+-- no copy of the sheet waits, so that this one does not
+none-of : (copy : SheetId) (ws : List WaitingCopy) → of_sheet copy.job copy.number ws ≡ 0 → find_waiting copy ws ≡ None
+none-of copy [] e = refl
+none-of copy (w ∷ ws) e =
+    go (is_same_copy w.sheet copy) refl (is_copy_of copy.job copy.number w.sheet) refl (sym (count-cons (is_of_sheet copy.job copy.number) w ws) ∙ e) (none-of copy ws) where
+      go : (b : Bool) → is_same_copy w.sheet copy ≡ b → (d : Bool) → is_copy_of copy.job copy.number w.sheet ≡ d → cond d 1 0 + of_sheet copy.job copy.number ws ≡ 0
+          → (of_sheet copy.job copy.number ws ≡ 0 → find_waiting copy ws ≡ None) → cond b (Some w) (find_waiting copy ws) ≡ None
+      go true f true g e rest = absurd (omega arith)
+      go true f false g e rest = let h = same-sheet w.sheet copy f in absurd cc
+      go false f true g e rest = absurd (omega arith)
+      go false f false g e rest = rest (omega arith)
+
+can-all : (waiting more : List WaitingCopy) → ((job number : ℕ) → of_sheet job number waiting + of_sheet job number more ≤ 1) → CanAllWait waiting more
+can-all waiting [] few = tt
+can-all waiting (w ∷ more) few = (none-of w.sheet waiting none, can-all (put_waiting waiting w) more moved) where
+  none : of_sheet w.sheet.job w.sheet.number waiting ≡ 0
+  none =
+      let at_most = few w.sheet.job w.sheet.number in
+      let both = count-cons (is_of_sheet w.sheet.job w.sheet.number) w more in
+      let own = one-where (is_of_sheet w.sheet.job w.sheet.number w) (own-sheet w.sheet) in
+      omega arith
+
+  moved : (job number : ℕ) → of_sheet job number (put_waiting waiting w) + of_sheet job number more ≤ 1
+  moved job number =
+      let at_most = few job number in
+      let put = of_sheet-put job number w waiting in
+      let first = count-cons (is_of_sheet job number) w waiting in
+      let both = count-cons (is_of_sheet job number) w more in
+      omega arith
+
+-- the copies that wait after the fates are those of open ones
+abbrev pub is_open_of : SessionState → ℕ → ℕ → Plan → Bool
+is_open_of s job number p = is_open s p && is_copy_of job number p.sheet
+
+opened : (a b : Bool) {n : ℕ} → a ≡ true → n ≤ cond b 1 0 → n ≤ cond (a && b) 1 0
+opened true b e h = h
+opened false b e h = absurd cc
+
+waits-few : (s : SessionState) (job number : ℕ) (p : Plan) (f : Befalls) → (IsTrue (is_waiting_after f) → IsTrue (is_open s p))
+    → of_sheet job number (waits_for p f) ≤ cond (is_open_of s job number p) 1 0
+waits-few s job number p fates.stays opens = omega arith
+waits-few s job number p fates.lost opens = omega arith
+waits-few s job number p fates.withdrawn opens = opened (is_open s p) (is_copy_of job number p.sheet) (opens refl) (omega arith)
+waits-few s job number p fates.cut opens = omega arith
+waits-few s job number p fates.purged opens = omega arith
+waits-few s job number p fates.replaced opens = opened (is_open s p) (is_copy_of job number p.sheet) (opens refl) (omega arith)
+waits-few s job number p fates.dropped opens = omega arith
+
+all-waits-few : (s : SessionState) (job number : ℕ) (rule : Plan → Befalls) (plans : List Plan) → ((p : Plan) → Contains plans p → Fits s p (rule p))
+    → of_sheet job number (flat_map (λ p. waits_for p (rule p)) plans) ≤ count_by (is_open_of s job number) plans
+all-waits-few s job number rule [] fits = omega arith
+all-waits-few s job number rule (p ∷ plans) fits =
+    let here = waits-few s job number p (rule p) (fits p (Contains-here p plans)).opens in
+    let later = all-waits-few s job number rule plans (λ q in'. fits q (Contains-later p plans q in')) in
+    let waits = ap (of_sheet job number) (flat_map-cons (λ q. waits_for q (rule q)) p plans)
+        ∙ count-append (is_of_sheet job number) (waits_for p (rule p)) (flat_map (λ q. waits_for q (rule q)) plans) in
+    let open' = count-cons (is_open_of s job number) p plans in
+    omega arith
+
+pub can-wait : (s : SessionState) (pending : List SheetId) (rule : Plan → Befalls) (fates : List Fate) → CanFall s pending → ((p : Plan) → Contains s.plans p → Fits s p (rule p))
+    → map meant fates ≡ map rule s.plans → CanAllWait s.waiting (waits_in s.plans fates)
+can-wait s pending rule fates can fits e =
+    can-all s.waiting (waits_in s.plans fates) (λ job number.
+        let few = all-waits-few s job number rule s.plans fits in
+        let same = ap (of_sheet job number) (waits-by rule s.plans fates e) in
+        let once = can.once job number in
+        omega arith)
+
+-- a plan whose first action has started
+first-started : (now : ℕ) (sheet : SheetId) (n : ℕ) (acts : List ActId) (points : List ℕ) → 0 < length acts → length points ≡ length acts + 1 → slice_index points 0 ≤ now
+    → 1 ≤ count_by (is_started now) (runs_from sheet n acts points)
+first-started now sheet n [] points some len low = absurd (omega arith)
+first-started now sheet n (a ∷ acts) [] some len low = absurd (omega arith)
+first-started now sheet n (a ∷ acts) (start ∷ []) some len low = absurd (omega arith)
+first-started now sheet n (a ∷ acts) (start ∷ end ∷ points) some len low =
+    let here : nat_le start now ≡ true = grind (arith, nat_tests) in
+    let run : Run = record { sheet = sheet; number = n; act = a; start = start; end = end } in
+    let first = count-cons (is_started now) run (runs_from sheet (n + 1) acts (end ∷ points)) in
+    let one = one-where (is_started now run) here in
+    omega arith
+
+started-some : (now : ℕ) (p : Plan) → IsFormed p → is_unstarted now p ≡ false → 1 ≤ started_count now p
+started-some now p formed e = first-started now p.sheet 1 p.acts p.points formed.some formed.one_more (grind (arith, nat_tests))
+
+-- an unstarted plan goes to a tray
+unstarted-to_tray : (now : ℕ) (p : Plan) → HasStarted now p → is_unstarted now p ≡ true → is_to_tray p.goal ≡ true
+unstarted-to_tray now p purges e = go (is_to_tray p.goal) refl where
+  go : (b : Bool) → is_to_tray p.goal ≡ b → b ≡ true
+  go true f = refl
+  go false f = let low : point p 0 ≤ now = purges f in let high : now < point p 0 = grind (arith, nat_tests) in absurd (omega arith)
+
+and-first : (a b : Bool) → (a && b) ≡ true → a ≡ true
+and-first true b e = refl
+and-first false b e = absurd cc
+
+and-second : (a b : Bool) → (a && b) ≡ true → b ≡ true
+and-second true b e = e
+and-second false b e = absurd cc
+
+and-third : (a b d : Bool) → (a && b && d) ≡ true → d ≡ true
+and-third true true d e = e
+and-third true false d e = absurd cc
+and-third false b d e = absurd cc
+
+and-both : (a b : Bool) → a ≡ true → b ≡ true → (a && b) ≡ true
+and-both true b e f = f
+and-both false b e f = absurd cc
+
+pub stays-fits : (s : SessionState) (p : Plan) → Fits s p fates.stays
+stays-fits s p = record { started = λ h. absurd cc; opens = λ h. absurd cc }
+
+pub fall_back-fits : (s : SessionState) (copy : SheetId) (p : Plan) → IsFormed p → HasStarted s.now p → Fits s p (fate_in_fall_back s copy p)
+fall_back-fits s copy p formed purges = go (is_later s copy p) refl (is_unstarted s.now p) refl (is_on_its_way s.now p) refl where
+  is-copy : is_later s copy p ≡ true → is_copy s p ≡ true
+  is-copy e = and-third (is_before copy p.sheet) (is_same_line s.jobs copy p.sheet) (is_copy s p) e
+
+  go : (a : Bool) → is_later s copy p ≡ a → (b : Bool) → is_unstarted s.now p ≡ b → (d : Bool) → is_on_its_way s.now p ≡ d
+      → Fits s p (cond (not a) fates.stays (cond b fates.withdrawn (cond d fates.replaced fates.stays)))
+  go false e b f d g = stays-fits s p
+  go true e true f d g = record {
+    started = λ h. absurd cc;
+    opens = λ h. and-both (is_copy s p) (is_to_tray p.goal) (is-copy e) (unstarted-to_tray s.now p purges f);
+  }
+  go true e false f true g = record {
+    started = λ h. started-some s.now p formed f;
+    opens = λ h. and-both (is_copy s p) (is_to_tray p.goal) (is-copy e) (and-second (is_in_flight s.now p) (is_to_tray p.goal) g);
+  }
+  go true e false f false g = stays-fits s p
+
+-- what is cut has started
+pub cut-started : (s : SessionState) (rule : Plan → Befalls) (fates : List Fate) → ((p : Plan) → Contains s.plans p → Fits s p (rule p))
+    → map meant fates ≡ map rule s.plans → AreCutStarted s.now s.plans fates
+cut-started s rule fates fits e = λ i p f at its cut.
+    let same : meant f ≡ rule p = ap meant (sym (get_or_from_slice_get fates i f f its)) ∙ fate-at rule s.plans fates e i p f at in
+    (fits p (i, slice_get_within s.plans i p at, get_or_from_slice_get s.plans i p p at)).started (subst (λ g. IsTrue (is_cut_by g)) same cut)
+
+pub one-each : (rule : Plan → Befalls) (plans : List Plan) (fates : List Fate) → map meant fates ≡ map rule plans → length fates ≡ length plans
+one-each rule plans fates e = let both = ap length e in simp length-map at both

@@ -1,0 +1,45 @@
+-- When fates can befall the copies: of each sheet at most one copy waits, is to wait, or is on its way to the tray.
+use Rattle.std.specs.Prelude.{◌≡◌, ℕ, ◌+◌, ◌≤◌, Bool, true, false, ◌&&◌, List, All, Contains, IsTrue, count_by}
+use Rattle.tp_schedule.specs.declared.parts.Plan.{Plan}
+use Rattle.tp_schedule.specs.declared.parts.SheetId.{SheetId}
+use Rattle.tp_turn.specs.Fates as fates
+use Rattle.tp_turn.specs.Fates.{Fate, is_cut_by}
+use Rattle.tp_turn.specs.FallBacks.{is_copy}
+use Rattle.tp_turn.specs.Keeping.{is_copy_of}
+use Rattle.tp_turn.specs.Moments.{is_to_tray, started_count}
+use Rattle.tp_turn.specs.Seen.{HasNextCopy, HasStarted}
+use Rattle.tp_turn.specs.States.{SessionState}
+use Rattle.tp_replan.specs.Meanings.{IsKnown}
+
+-- a planned copy is open where it is not lost and its goal is its tray
+abbrev pub is_open : SessionState → Plan → Bool
+is_open s p = is_copy s p && is_to_tray p.goal
+
+-- how many copies of the sheet wait, are open, or are to wait
+abbrev pub open_count : ℕ → ℕ → SessionState → List SheetId → ℕ
+open_count job number s pending =
+    count_by (λ w. is_copy_of job number w.sheet) s.waiting
+    + (count_by (λ p. is_open s p && is_copy_of job number p.sheet) s.plans + count_by (is_copy_of job number) pending)
+
+-- planned copies are of jobs that came and can have a next one, a copy that is to be purged has started, and of each sheet
+-- at most one copy waits, is open, or is to wait
+pub record CanFall (s : SessionState) (pending : List SheetId) : Type 0 where
+  pub known : All (IsKnown s.jobs) s.plans
+  pub next : All (λ p. HasNextCopy p.sheet) s.plans
+  pub purges : All (HasStarted s.now) s.plans
+  pub once : (job number : ℕ) → open_count job number s pending ≤ 1
+
+-- whether a copy waits after the fate
+abbrev pub is_waiting_after : Fate → Bool
+is_waiting_after fates.stays = false
+is_waiting_after fates.lost = false
+is_waiting_after fates.withdrawn = true
+is_waiting_after fates.cut = false
+is_waiting_after fates.purged = false
+is_waiting_after fates.replaced = true
+is_waiting_after fates.dropped = false
+
+-- the fate can be the plan's: a plan that is cut has started, and a copy that waits after it was open
+pub record Fits (s : SessionState) (p : Plan) (f : Fate) : Type 0 where
+  pub started : IsTrue (is_cut_by f) → 1 ≤ started_count s.now p
+  pub opens : IsTrue (is_waiting_after f) → IsTrue (is_open s p)
