@@ -64,3 +64,22 @@ state_of now plans lost lines outs =
 pub record Leads (o : Outcome) (notes notes' : List Record) (s' : SessionState) : Type 0 where
   pub told : notes' ≡ notes ++ o.records
   pub state : s' ≡ o.state
+
+-- the fate where the copy is lost, and the fate where it is not
+abbrev pub lost_alone : Fate → Fate
+lost_alone Stays = Stays
+lost_alone Lost = Lost
+lost_alone Withdrawn = Stays
+lost_alone Cut = Stays
+lost_alone Purged = Stays
+lost_alone Replaced = Stays
+lost_alone Dropped = Stays
+
+abbrev pub lost_aside : Fate → Fate
+lost_aside Stays = Stays
+lost_aside Lost = Stays
+lost_aside Withdrawn = Withdrawn
+lost_aside Cut = Cut
+lost_aside Purged = Purged
+lost_aside Replaced = Replaced
+lost_aside Dropped = Dropped

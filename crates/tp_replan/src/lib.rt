@@ -9,6 +9,7 @@ mod leaving;
 mod losing;
 mod moments;
 mod naming;
+mod outing;
 mod ruling;
 mod telling;
 mod waiting;
