@@ -2,3 +2,4 @@ pub mod LastRuns
 pub mod FateFacts
 pub mod LeftFacts
 pub mod OpenFacts
+pub mod OutFacts

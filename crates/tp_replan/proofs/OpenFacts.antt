@@ -30,7 +30,7 @@ use Rattle.tp_replan.proofs.FateFacts.{fate-at, waits-by}
 pub count-cons : {X : Type 0} (test : X → Bool) (x : X) (xs : List X) → count_by test (x ∷ xs) ≡ cond (test x) 1 0 + count_by test xs
 count-cons test x xs = let both = sum_by-append (λ y. cond (test y) 1 0) (x ∷ []) xs in omega arith
 
-one-where : (b : Bool) → b ≡ true → 1 ≤ cond b 1 0
+pub one-where : (b : Bool) → b ≡ true → 1 ≤ cond b 1 0
 one-where true e = omega arith
 one-where false e = absurd cc
 
@@ -143,30 +143,30 @@ first-started now sheet n (a ∷ acts) (start ∷ end ∷ points) some len low =
     let one = one-where (is_started now run) here in
     omega arith
 
-started-some : (now : ℕ) (p : Plan) → IsFormed p → is_unstarted now p ≡ false → 1 ≤ started_count now p
+pub started-some : (now : ℕ) (p : Plan) → IsFormed p → is_unstarted now p ≡ false → 1 ≤ started_count now p
 started-some now p formed e = first-started now p.sheet 1 p.acts p.points formed.some formed.one_more (grind (arith, nat_tests))
 
 -- an unstarted plan goes to a tray
-unstarted-to_tray : (now : ℕ) (p : Plan) → HasStarted now p → is_unstarted now p ≡ true → is_to_tray p.goal ≡ true
+pub unstarted-to_tray : (now : ℕ) (p : Plan) → HasStarted now p → is_unstarted now p ≡ true → is_to_tray p.goal ≡ true
 unstarted-to_tray now p purges e = go (is_to_tray p.goal) refl where
   go : (b : Bool) → is_to_tray p.goal ≡ b → b ≡ true
   go true f = refl
   go false f = let low : point p 0 ≤ now = purges f in let high : now < point p 0 = grind (arith, nat_tests) in absurd (omega arith)
 
-and-first : (a b : Bool) → (a && b) ≡ true → a ≡ true
+pub and-first : (a b : Bool) → (a && b) ≡ true → a ≡ true
 and-first true b e = refl
 and-first false b e = absurd cc
 
-and-second : (a b : Bool) → (a && b) ≡ true → b ≡ true
+pub and-second : (a b : Bool) → (a && b) ≡ true → b ≡ true
 and-second true b e = e
 and-second false b e = absurd cc
 
-and-third : (a b d : Bool) → (a && b && d) ≡ true → d ≡ true
+pub and-third : (a b d : Bool) → (a && b && d) ≡ true → d ≡ true
 and-third true true d e = e
 and-third true false d e = absurd cc
 and-third false b d e = absurd cc
 
-and-both : (a b : Bool) → a ≡ true → b ≡ true → (a && b) ≡ true
+pub and-both : (a b : Bool) → a ≡ true → b ≡ true → (a && b) ≡ true
 and-both true b e f = f
 and-both false b e f = absurd cc
 

@@ -1,10 +1,16 @@
 //! A module goes out.
 
-ghost use Rattle.std.specs.Prelude.{◌≡◌, ◌<◌, ◌&&◌, [], length, map, All, IfOk, OnOk};
+ghost use Rattle.std.specs.Prelude.{◌≡◌, ℕ, Bool, ◌<◌, ◌&&◌, List, [], ◌++◌, length, map, flat_map, All, IfOk, OnOk};
+ghost use Rattle.tp_machine.specs.declared.parts.Outs.{Outs};
+ghost use Rattle.tp_machine.specs.declared.whole.Machine.{Machine};
+ghost use Rattle.tp_schedule.specs.declared.parts.Plan.{Plan};
+ghost use Rattle.tp_schedule.specs.declared.parts.SheetId.{SheetId};
+ghost use Rattle.tp_turn.specs.Fates.{Fate as Befalls};
+ghost use Rattle.tp_turn.specs.Seen.{HasNextCopy};
 ghost use Rattle.tp_schedule.specs.Plans.{IsFormed};
 ghost use Rattle.tp_jobs.specs.Backlogs.{no_backlog};
 ghost use Rattle.tp_turn.specs.FallBacks.{is_copy};
-ghost use Rattle.tp_turn.specs.Outages.{displaced, displaced_by, fate_in_outage, going_out, is_lost_by};
+ghost use Rattle.tp_turn.specs.Outages.{displaced, displaced_by, fate_in_outage, going_out, is_lost_by, told_in_outage};
 ghost use Rattle.tp_turn.specs.Moments.{is_to_run_on};
 ghost use Rattle.tp_turn.specs.States.{none_out, put_out};
 ghost use Rattle.tp_replan.specs.Meanings.{IsKnown, Leads, lost_alone, lost_aside, meant, state_of};
@@ -128,4 +134,85 @@ pub(crate) fn put_out(outs: Outs, id: ModId) -> Outs
     ensures { result ≡ put_out outs id.0 }
 {
     Outs(outs.0 | 1 << id.0)
+}
+
+/// A lost copy that was to go to its tray is displaced, and so is one that is withdrawn.
+fn push_displaced(copies: &mut Vec<Displaced>, plan: &Plan, fate: Fate) -> Result<(), Memory>
+    ensures { OnOk result (copies.new.items ≡ copies.old.items ++ displaced_by plan.now (meant fate)) }
+{
+    let again = fate == Fate::Lost;
+    if (again && is_to_tray(plan.goal)) || fate == Fate::Withdrawn {
+        copies.push(Displaced {
+            sheet: plan.sheet,
+            want: plan.want,
+            again,
+        })?;
+    }
+    Ok(())
+}
+
+/// The displaced copies, in their order.
+fn displaced_by(
+    alloc: Global,
+    schedule: &Schedule,
+    fates: &[Fate],
+) -> Result<Vec<Displaced>, Memory>
+    requires { length fates.now ≡ length schedule.now.plans }
+    ensures { IfOk result (λ copies. (rule : Plan → Befalls) → map meant fates.now ≡ map rule schedule.now.plans → copies.items ≡ flat_map (λ p. displaced_by p (rule p)) schedule.now.plans) }
+{
+    let mut copies = Vec::new(alloc);
+    for at in 0..schedule.len() {
+        push_displaced(&mut copies, schedule.plan_at(at), fates[at as usize])?;
+    }
+    Ok(copies)
+}
+
+/// Notes what is told of the outage itself: first of the lost copies, then of the others.
+fn tell_outage(
+    alloc: Global,
+    schedule: &Schedule,
+    lines: &Lines,
+    now: Tick,
+    fates: &[Fate],
+    notes: &mut Vec<Record>,
+) -> Result<(), Memory>
+    requires each { length fates.now ≡ length schedule.now.plans }
+    requires known { All (IsKnown lines.now.jobs) schedule.now.plans }
+    requires next { All (λ p. HasNextCopy p.sheet) schedule.now.plans }
+    ensures { OnOk result ((machine : Machine) (m : ℕ) (jam : Bool) (lost : List SheetId) (outs : Outs) → map meant fates.now ≡ map (fate_in_outage machine m jam (state_of now schedule.now.plans lost lines.now outs)) schedule.now.plans → notes.new.items ≡ notes.old.items ++ told_in_outage machine m jam (state_of now schedule.now.plans lost lines.now outs)) }
+{
+    let alone = lost_alone(alloc, fates)?;
+    tell_fates(schedule, lines, now, alone.as_slice(), notes)?;
+    let others = lost_aside(alloc, fates)?;
+    tell_fates(schedule, lines, now, others.as_slice(), notes)?;
+    Ok(())
+}
+
+/// The module is out, and each copy meets its fate. Answers with the displaced copies.
+///
+/// After an error nothing is known of the lines, so that the caller drops them, and notes may have come.
+pub(crate) fn go_out(
+    alloc: Global,
+    machine: &Machine,
+    schedule: &mut Schedule,
+    lost: &mut Vec<SheetId>,
+    lines: &mut Lines,
+    outs: &mut Outs,
+    now: Tick,
+    id: ModId,
+    jam: bool,
+    notes: &mut Vec<Record>,
+) -> Result<Vec<Displaced>, Memory>
+    requires there { id.0 < 64 }
+    requires can { CanFall (state_of now schedule.old.plans lost.old.items lines.old none_out) [] }
+    ensures copies { IfOk result (λ copies. copies.items ≡ displaced machine.now id.0 jam (state_of now schedule.old.plans lost.old.items lines.old outs.old)) }
+    ensures leads { OnOk result (Leads (going_out machine.now id.0 jam (state_of now schedule.old.plans lost.old.items lines.old outs.old)) notes.old.items notes.new.items (state_of now schedule.new.plans lost.new.items lines.new outs.new)) }
+{
+    schedule.ordered();
+    let fates = fates_in_outage(alloc, machine, schedule, lost.as_slice(), id, jam, now)?;
+    tell_outage(alloc, schedule, lines, now, fates.as_slice(), notes)?;
+    let copies = displaced_by(alloc, schedule, fates.as_slice())?;
+    befall(alloc, schedule, lost, lines, now, fates.as_slice())?;
+    *outs = put_out(*outs, id);
+    Ok(copies)
 }
