@@ -63,7 +63,7 @@ can-later waiting [] later can = can
 can-later waiting (w ∷ more) later can = can-later (put_waiting waiting w) more later can.1
 
 -- one more is kept, or is not
-kept-more : {X Y : Type 0} (test : X → Bool) (g : X → Y) (xs : List X) (i : ℕ) (x : X) → slice_get xs i ≡ Some x
+pub kept-more : {X Y : Type 0} (test : X → Bool) (g : X → Y) (xs : List X) (i : ℕ) (x : X) → slice_get xs i ≡ Some x
     → map g (filter test (take (i + 1) xs)) ≡ map g (filter test (take i xs)) ++ map g (cond (test x) (x ∷ []) [])
 kept-more test g xs i x at =
     ap (λ ys. map g (filter test ys)) (take-next xs i x at) ∙ ap (map g) (filter-append test (take i xs) (x ∷ []))

@@ -3,3 +3,5 @@ pub mod FateFacts
 pub mod LeftFacts
 pub mod OpenFacts
 pub mod OutFacts
+pub mod TakenCopies
+pub mod MergeFacts

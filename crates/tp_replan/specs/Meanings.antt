@@ -1,6 +1,7 @@
 -- The fates of copies as calls give them, and the state that they stand in.
-use Rattle.std.specs.Prelude.{◌≡◌, ℕ, ◌<◌, ◌≤◌, List, [], ◌∷◌, ◌++◌, length, slice_get, Some, None, IsTrue}
+use Rattle.std.specs.Prelude.{◌≡◌, ℕ, ◌<◌, ◌≤◌, Bool, true, false, not, List, [], ◌∷◌, ◌++◌, length, map, flat_map, slice_get, Some, None, IsTrue}
 use Rattle.tp_machine.specs.declared.parts.Outs.{Outs}
+use Rattle.tp_schedule.specs.Plans.{is_before}
 use Rattle.tp_schedule.specs.declared.parts.Plan.{Plan}
 use Rattle.tp_schedule.specs.declared.parts.SheetId.{SheetId}
 use Rattle.tp_schedule.specs.declared.recording.Record.{Record}
@@ -10,7 +11,8 @@ use Rattle.tp_jobs.specs.declared.parts.Job.{Job}
 use Rattle.tp_jobs.specs.declared.parts.WaitingCopy.{WaitingCopy}
 use Rattle.tp_jobs.specs.Waiting.{find_waiting, put_waiting}
 use Rattle.tp_turn.specs.Fates as fates
-use Rattle.tp_turn.specs.Fates.{Fate as Befalls, is_cut_by, waits_for}
+use Rattle.tp_turn.specs.Fates.{Fate as Befalls, is_cut_by, told_of, waits_for}
+use Rattle.tp_turn.specs.FallBacks.{Notice, by_copy}
 use Rattle.tp_turn.specs.Moments.{started_count}
 use Rattle.tp_turn.specs.Labels.{label}
 use Rattle.tp_turn.specs.States.{Outcome, SessionState}
@@ -83,3 +85,23 @@ lost_aside Cut = Cut
 lost_aside Purged = Purged
 lost_aside Replaced = Replaced
 lost_aside Dropped = Dropped
+
+-- whether the first of the copies that waited does not stand behind the first of the plans
+abbrev pub is_copy_next : List SheetId → List Plan → Bool
+is_copy_next [] plans = false
+is_copy_next (copy ∷ copies) [] = true
+is_copy_next (copy ∷ copies) (p ∷ plans) = not (is_before p.sheet copy)
+
+-- what is told where a job breaks: of copies that waited, and of plans with their fates
+abbrev pub notice_of_copy : List Job → SheetId → Notice
+notice_of_copy jobs copy = record { sheet = copy; records = Drop (label jobs copy) ∷ [] }
+
+abbrev pub notice_of_plan : List Job → ℕ → (Plan → Befalls) → Plan → Notice
+notice_of_plan jobs now rule p = record { sheet = p.sheet; records = told_of jobs now p (rule p) }
+
+abbrev pub told_by_copy : List Job → ℕ → (Plan → Befalls) → List SheetId → List Plan → List Record
+told_by_copy jobs now rule copies plans = flat_map (λ n. n.records) (by_copy (map (notice_of_copy jobs) copies ++ map (notice_of_plan jobs now rule) plans))
+
+-- the copies stand in their order
+abbrev pub StandsBefore : SheetId → SheetId → Type 0
+StandsBefore a b = IsTrue (is_before a b)

@@ -2,11 +2,13 @@
 #![tactic(auto)]
 
 mod befalling;
+mod breaking;
 mod displaced;
 mod falling;
 mod fate;
 mod leaving;
 mod losing;
+mod merging;
 mod moments;
 mod naming;
 mod outing;

@@ -88,7 +88,7 @@ fn tell_end(
 }
 
 /// Notes what is told of a copy that has the fate.
-fn tell_fate(
+pub(crate) fn tell_fate(
     lines: &Lines,
     now: Tick,
     plan: &Plan,
