@@ -5,3 +5,4 @@ pub mod OpenFacts
 pub mod OutFacts
 pub mod TakenCopies
 pub mod MergeFacts
+pub mod BreakFacts
