@@ -6,3 +6,4 @@ pub mod OutFacts
 pub mod TakenCopies
 pub mod MergeFacts
 pub mod BreakFacts
+pub mod FallFacts

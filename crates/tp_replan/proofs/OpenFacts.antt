@@ -59,11 +59,11 @@ of_sheet-put job number w (v ∷ ws) = go (is_before w.sheet v.sheet) (of_sheet-
 same-sheet : (a b : SheetId) → is_same_copy a b ≡ true → is_copy_of b.job b.number a ≡ true
 same-sheet a b e = grind (arith, nat_tests)
 
-own-sheet : (a : SheetId) → is_copy_of a.job a.number a ≡ true
+pub own-sheet : (a : SheetId) → is_copy_of a.job a.number a ≡ true
 own-sheet a = grind (arith, nat_tests)
 
 -- no copy of the sheet waits, so that this one does not
-none-of : (copy : SheetId) (ws : List WaitingCopy) → of_sheet copy.job copy.number ws ≡ 0 → find_waiting copy ws ≡ None
+pub none-of : (copy : SheetId) (ws : List WaitingCopy) → of_sheet copy.job copy.number ws ≡ 0 → find_waiting copy ws ≡ None
 none-of copy [] e = refl
 none-of copy (w ∷ ws) e =
     go (is_same_copy w.sheet copy) refl (is_copy_of copy.job copy.number w.sheet) refl (sym (count-cons (is_of_sheet copy.job copy.number) w ws) ∙ e) (none-of copy ws) where

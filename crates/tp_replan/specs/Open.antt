@@ -1,10 +1,10 @@
 -- When fates can befall the copies: of each sheet at most one copy waits, is to wait, or is on its way to the tray.
-use Rattle.std.specs.Prelude.{◌≡◌, ℕ, ◌+◌, ◌≤◌, Bool, true, false, ◌&&◌, List, All, Contains, IsTrue, count_by}
+use Rattle.std.specs.Prelude.{◌≡◌, ℕ, ◌+◌, ◌≤◌, Bool, true, false, ◌&&◌, List, [], ◌∷◌, All, Contains, IsTrue, count_by, if◌then◌else◌}
 use Rattle.tp_schedule.specs.declared.parts.Plan.{Plan}
 use Rattle.tp_schedule.specs.declared.parts.SheetId.{SheetId}
 use Rattle.tp_turn.specs.Fates as fates
 use Rattle.tp_turn.specs.Fates.{Fate, is_cut_by}
-use Rattle.tp_turn.specs.FallBacks.{is_copy}
+use Rattle.tp_turn.specs.FallBacks.{Displaced, is_copy}
 use Rattle.tp_turn.specs.Keeping.{is_copy_of}
 use Rattle.tp_turn.specs.Moments.{is_to_tray, started_count}
 use Rattle.tp_turn.specs.Seen.{HasNextCopy, HasStarted}
@@ -43,3 +43,7 @@ is_waiting_after fates.dropped = false
 pub record Fits (s : SessionState) (p : Plan) (f : Fate) : Type 0 where
   pub started : IsTrue (is_cut_by f) → 1 ≤ started_count s.now p
   pub opens : IsTrue (is_waiting_after f) → IsTrue (is_open s p)
+
+-- the copy of whose sheet a next one is to wait
+abbrev pub to_wait : Displaced → List SheetId
+to_wait d = if d.again then d.sheet ∷ [] else []

@@ -1,0 +1,96 @@
+-- A fall-back: what it needs of the state, and its two cases.
+use Rattle.std.proofs.Common.{◌≡◌, ℕ, ◌+◌, ◌<◌, ◌≤◌, Bool, true, false, cond, List, [], ◌∷◌, ◌++◌, None, IsTrue, refl, sym, ap, ◌∙◌, arith, append_assoc, count_by, length}
+use Rattle.tp_schedule.specs.declared.parts.Plan.{Plan}
+use Rattle.tp_schedule.specs.declared.parts.SheetId.{SheetId}
+use Rattle.tp_schedule.specs.declared.recording.Record.{Record}
+use Rattle.tp_jobs.specs.Backlogs.{Backlog, next_copy}
+use Rattle.tp_jobs.specs.Waiting.{find_waiting, put_waiting}
+use Rattle.tp_jobs.specs.declared.parts.WaitingCopy.{WaitingCopy}
+use Rattle.tp_machine.specs.declared.parts.Outs.{Outs}
+use Rattle.tp_turn.specs.FallBacks.{Displaced, fall_back, is_line_entering, job_break, later_fall_back, next_waits}
+use Rattle.tp_schedule.specs.declared.recording.Record.TheVariants.{Again}
+use Rattle.tp_turn.specs.Labels.{label}
+use Rattle.tp_turn.specs.Keeping.{is_copy_of}
+use Rattle.tp_turn.specs.States.{Outcome, SessionState, and_then, none_out, nothing_told}
+use Rattle.tp_replan.specs.Meanings.{Leads, state_of}
+use Rattle.tp_replan.specs.Open.{CanFall, to_wait}
+use Rattle.tp_replan.proofs.OpenFacts.{count-cons, is_of_sheet, none-of, of_sheet-put, one-where, own-sheet}
+
+pub without-pending : (s : SessionState) (pending : List SheetId) → CanFall s pending → CanFall s []
+without-pending s pending can = record {
+  known = can.known;
+  next = can.next;
+  purges = can.purges;
+  once = λ job number. let few = can.once job number in omega arith;
+}
+
+-- the copy that is to wait does not yet
+pub not-yet : (s : SessionState) (d : Displaced) → CanFall s (to_wait d) → IsTrue d.again → find_waiting (next_copy d.sheet) s.waiting ≡ None
+not-yet s d can again = go d.again _ again (can.once d.sheet.job d.sheet.number) where
+  go : (b : Bool) (n : ℕ) → IsTrue b
+      → count_by (is_of_sheet d.sheet.job d.sheet.number) s.waiting + (n + count_by (is_copy_of d.sheet.job d.sheet.number) (cond b (d.sheet ∷ []) [])) ≤ 1
+      → find_waiting (next_copy d.sheet) s.waiting ≡ None
+  go true n again few =
+      let first = count-cons (is_copy_of d.sheet.job d.sheet.number) d.sheet [] in
+      let one = one-where (is_copy_of d.sheet.job d.sheet.number d.sheet) (own-sheet d.sheet) in
+      none-of (next_copy d.sheet) s.waiting (omega arith)
+  go false n again few = absurd cc
+
+-- with the next copy the rest can fall back
+pub next-can : (s : SessionState) (d : Displaced) → CanFall s (to_wait d) → CanFall (next_waits d s).state []
+next-can s d can = go d.again can where
+  waits : Outcome
+  waits = record {
+    records = Again (label s.jobs (next_copy d.sheet)) ∷ [];
+    state = record s { waiting = put_waiting s.waiting (record { sheet = next_copy d.sheet; want = d.want }) };
+  }
+
+  go : (b : Bool) → CanFall s (cond b (d.sheet ∷ []) []) → CanFall (cond {A = Outcome} b waits (nothing_told s)).state []
+  go true h = record {
+    known = h.known;
+    next = h.next;
+    purges = h.purges;
+    once = λ job number.
+        let w : WaitingCopy = record { sheet = next_copy d.sheet; want = d.want } in
+        let few = h.once job number in
+        let put = of_sheet-put job number w s.waiting in
+        let first = count-cons (is_of_sheet job number) w s.waiting in
+        let one = count-cons (is_copy_of job number) d.sheet [] in
+        omega arith;
+  }
+  go false h = h
+
+-- the two cases
+pub breaks : (s : SessionState) (d : Displaced) → true ≡ is_line_entering s d.sheet → fall_back s d ≡ job_break d.sheet.job s
+breaks s d e = ap (λ b. cond b (job_break d.sheet.job s) (and_then (next_waits d s) (later_fall_back d.sheet))) (sym e)
+
+pub makes-way : (s : SessionState) (d : Displaced) → false ≡ is_line_entering s d.sheet → fall_back s d ≡ and_then (next_waits d s) (later_fall_back d.sheet)
+makes-way s d e = ap (λ b. cond b (job_break d.sheet.job s) (and_then (next_waits d s) (later_fall_back d.sheet))) (sym e)
+
+-- one part after another
+pub leads-on : (o : Outcome) (next : SessionState → Outcome) (notes mid notes' : List Record) (s' : SessionState) → mid ≡ notes ++ o.records → Leads (next o.state) mid notes' s' → Leads (and_then o next) notes notes' s'
+leads-on o next notes mid notes' s' told then = record {
+  told = then.told ∙ ap (λ ns. ns ++ (next o.state).records) told ∙ append_assoc notes o.records (next o.state).records;
+  state = then.state;
+}
+
+-- what waits, and what is told of it, is of the lines alone
+abbrev waits_where : Bool → Displaced → SessionState → Outcome
+waits_where b d s = cond b (record {
+  records = Again (label s.jobs (next_copy d.sheet)) ∷ [];
+  state = record s { waiting = put_waiting s.waiting (record { sheet = next_copy d.sheet; want = d.want }) };
+}) (nothing_told s)
+
+pub waits-state : (now : ℕ) (plans : List Plan) (lost : List SheetId) (lines : Backlog) (outs : Outs) (d : Displaced)
+    → state_of now plans lost (record { jobs = lines.jobs; waiting = (next_waits d (state_of 0 [] [] lines none_out)).state.waiting }) outs ≡ (next_waits d (state_of now plans lost lines outs)).state
+waits-state now plans lost lines outs d = go d.again where
+  go : (b : Bool) → state_of now plans lost (record { jobs = lines.jobs; waiting = (waits_where b d (state_of 0 [] [] lines none_out)).state.waiting }) outs ≡ (waits_where b d (state_of now plans lost lines outs)).state
+  go true = refl
+  go false = refl
+
+pub waits-told : (now : ℕ) (plans : List Plan) (lost : List SheetId) (lines : Backlog) (outs : Outs) (d : Displaced)
+    → (next_waits d (state_of 0 [] [] lines none_out)).records ≡ (next_waits d (state_of now plans lost lines outs)).records
+waits-told now plans lost lines outs d = go d.again where
+  go : (b : Bool) → (waits_where b d (state_of 0 [] [] lines none_out)).records ≡ (waits_where b d (state_of now plans lost lines outs)).records
+  go true = refl
+  go false = refl
