@@ -11,7 +11,7 @@ use Rattle.tp_turn.specs.FallBacks.{Displaced, fall_back, is_line_entering, job_
 use Rattle.tp_schedule.specs.declared.recording.Record.TheVariants.{Again}
 use Rattle.tp_turn.specs.Labels.{label}
 use Rattle.tp_turn.specs.Keeping.{is_copy_of}
-use Rattle.tp_turn.specs.States.{Outcome, SessionState, and_then, none_out, nothing_told}
+use Rattle.tp_turn.specs.States.{Outcome, SessionState, and_then, for_each, none_out, nothing_told}
 use Rattle.tp_replan.specs.Meanings.{Leads, state_of}
 use Rattle.tp_replan.specs.Open.{CanFall, to_wait}
 use Rattle.tp_replan.proofs.OpenFacts.{count-cons, is_of_sheet, none-of, of_sheet-put, one-where, own-sheet}
@@ -94,3 +94,13 @@ waits-told now plans lost lines outs d = go d.again where
   go : (b : Bool) → (waits_where b d (state_of 0 [] [] lines none_out)).records ≡ (waits_where b d (state_of now plans lost lines outs)).records
   go true = refl
   go false = refl
+
+-- one thing more had its part
+pub each-told : {X : Type 0} (part : SessionState → X → Outcome) (x : X) (xs : List X) (s s' : SessionState) (notes mid all : List Record) → Leads (part s x) notes mid s'
+    → notes ++ (for_each part (x ∷ xs) s).records ≡ all → mid ++ (for_each part xs s').records ≡ all
+each-told part x xs s s' notes mid all leads before =
+    (λ k. leads.told k ++ (for_each part xs (leads.state k)).records) ∙ append_assoc notes (part s x).records (for_each part xs (part s x).state).records ∙ before
+
+pub each-state : {X : Type 0} (part : SessionState → X → Outcome) (x : X) (xs : List X) (s s' all : SessionState) (notes mid : List Record) → Leads (part s x) notes mid s'
+    → (for_each part (x ∷ xs) s).state ≡ all → (for_each part xs s').state ≡ all
+each-state part x xs s s' all notes mid leads before = ap (λ t. (for_each part xs t).state) leads.state ∙ before

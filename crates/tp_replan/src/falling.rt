@@ -4,16 +4,17 @@ ghost use Rattle.std.specs.Prelude.{◌≡◌, ◌<◌, ◌++◌, [], length, No
 ghost use Rattle.tp_machine.specs.declared.parts.Outs.{Outs};
 ghost use Rattle.tp_jobs.specs.Backlogs.{next_copy};
 ghost use Rattle.tp_jobs.specs.Waiting.{find_waiting};
-ghost use Rattle.tp_turn.specs.FallBacks.{fall_back, later_fall_back, next_waits};
+ghost use Rattle.tp_turn.specs.FallBacks.{fall_back, fall_back_unless_broken, later_fall_back, next_waits};
 ghost use Rattle.tp_turn.specs.Seen.{HasNextCopy};
-ghost use Rattle.tp_turn.specs.States.{none_out};
+ghost use Rattle.tp_turn.specs.States.{for_each, none_out};
 ghost use Rattle.tp_replan.specs.Meanings.{Leads, state_of};
 ghost use Rattle.tp_replan.specs.Open.{CanFall, to_wait};
+ghost use Rattle.tp_replan.specs.Outing.{CanAllFall};
 
 use crate::befalling::befall;
 use crate::breaking::break_job;
 use crate::displaced::Displaced;
-use crate::naming::label;
+use crate::naming::{is_job_broken, label};
 use crate::ruling::{fates_in_fall_back, is_line_entering};
 use crate::telling::tell_fates;
 use std::alloc::Global;
@@ -69,7 +70,7 @@ fn wait_next(
 /// waits, if one is to, and the later copies of the line make way.
 ///
 /// After an error nothing is known of the lines, so that the caller drops them, and notes may have come.
-pub(crate) fn fall_back(
+fn fall_back(
     alloc: Global,
     schedule: &mut Schedule,
     lost: &mut Vec<SheetId>,
@@ -89,6 +90,48 @@ pub(crate) fn fall_back(
     } else {
         wait_next(lines, displaced, notes)?;
         make_way(alloc, schedule, lost, lines, now, copy, notes)?;
+    }
+    Ok(())
+}
+
+/// The same, unless the job of the displaced copy is broken.
+fn fall_back_unless_broken(
+    alloc: Global,
+    schedule: &mut Schedule,
+    lost: &mut Vec<SheetId>,
+    lines: &mut Lines,
+    now: Tick,
+    displaced: &Displaced,
+    notes: &mut Vec<Record>,
+) -> Result<(), Memory>
+    requires known { displaced.now.sheet.job < length lines.old.jobs }
+    requires next { HasNextCopy displaced.now.sheet }
+    requires can { CanFall (state_of now schedule.old.plans lost.old.items lines.old none_out) (to_wait displaced.now) }
+    ensures { OnOk result ((outs : Outs) → Leads (fall_back_unless_broken (state_of now schedule.old.plans lost.old.items lines.old outs) displaced.now) notes.old.items notes.new.items (state_of now schedule.new.plans lost.new.items lines.new outs)) }
+{
+    if !is_job_broken(lines, displaced.sheet.job) {
+        fall_back(alloc, schedule, lost, lines, now, displaced, notes)?;
+    }
+    Ok(())
+}
+
+/// The fall-back of each displaced copy, in their order, unless its job broke meanwhile.
+///
+/// After an error nothing is known of the lines, so that the caller drops them, and notes may have come.
+pub(crate) fn fall_back_all(
+    alloc: Global,
+    schedule: &mut Schedule,
+    lost: &mut Vec<SheetId>,
+    lines: &mut Lines,
+    now: Tick,
+    copies: &[Displaced],
+    notes: &mut Vec<Record>,
+) -> Result<(), Memory>
+    requires { CanAllFall copies.now (state_of now schedule.old.plans lost.old.items lines.old none_out) }
+    ensures { OnOk result ((outs : Outs) → Leads (for_each fall_back_unless_broken copies.now (state_of now schedule.old.plans lost.old.items lines.old outs)) notes.old.items notes.new.items (state_of now schedule.new.plans lost.new.items lines.new outs)) }
+{
+    for at in 0..copies.len() {
+        fall_back_unless_broken(alloc, schedule, lost, lines, now, &copies[at], notes)?;
     }
     Ok(())
 }

@@ -3,6 +3,7 @@
 ghost use Rattle.std.specs.Prelude.{◌≡◌, ◌<◌, length};
 ghost use Rattle.tp_jobs.specs.Backlogs.{next_copy, tray_of};
 ghost use Rattle.tp_turn.specs.Labels.{job_name, label};
+ghost use Rattle.tp_turn.specs.Lines.{is_job_broken};
 ghost use Rattle.tp_turn.specs.Seen.{HasNextCopy};
 
 use tp_base::Name;
@@ -24,6 +25,13 @@ pub(crate) fn tray_of(lines: &Lines, sheet: SheetId) -> LocId
     ensures { result ≡ tray_of lines.now.jobs sheet }
 {
     lines.tray_of(sheet.job)
+}
+
+pub(crate) fn is_job_broken(lines: &Lines, job: u32) -> bool
+    requires { job < length lines.now.jobs }
+    ensures { result ≡ is_job_broken lines.now.jobs job }
+{
+    lines.is_broken(job)
 }
 
 /// A copy by the name of its job.
