@@ -1,5 +1,5 @@
 -- Copies that waited and plans, side by side in the order of copies.
-use Rattle.std.proofs.Common.{◌≡◌, ℕ, zero, suc, ◌+◌, ◌<◌, ◌≤◌, Bool, true, false, cond, not, List, [], ◌∷◌, ◌++◌, length, map, flat_map, drop, slice_get, Some, All, AllPairs, IsTrue, refl, sym, ap, ◌∙◌, arith, append_assoc, subst}
+use Rattle.std.proofs.Common.{◌≡◌, ℕ, zero, suc, ◌+◌, ◌<◌, ◌≤◌, Bool, true, false, cond, not, List, [], ◌∷◌, ◌++◌, length, map, flat_map, drop, slice_get, Some, All, AllPairs, refl, sym, ap, ◌∙◌, arith, append_assoc, subst}
 use Rattle.std.proofs.lemmas.List.Concat.{flat_map-cons}
 use Rattle.std.proofs.lemmas.List.Elements.{All-append, All-nil, All-cons, All-head, All-tail, All-weaker, All-map}
 use Rattle.tp_schedule.specs.Plans.{IsEarlier, is_before}
@@ -86,7 +86,7 @@ pub copy-told : (jobs : List Job) (now : ℕ) (rule : Plan → Befalls) (copy : 
     → is_copy_next (copy ∷ copies) plans ≡ true → told_by_copy jobs now rule (copy ∷ copies) plans ≡ (Drop (label jobs copy) ∷ []) ++ told_by_copy jobs now rule copies plans
 copy-told jobs now rule copy copies plans in_order earlier e =
     let behind = All-map (λ m. is_before m.sheet copy ≡ false) (notice_of_copy jobs) copies
-        (All-weaker (StandsBefore copy) (λ other. is_before other copy ≡ false) (λ other h. before-asym copy other h) copies (AllPairs-head StandsBefore copy copies in_order)) in
+    (All-weaker (StandsBefore copy) (λ other. is_before other copy ≡ false) (λ other h. before-asym copy other h) copies (AllPairs-head StandsBefore copy copies in_order)) in
     let ns = map (notice_of_copy jobs) copies ++ map (notice_of_plan jobs now rule) plans in
     ap (flat_map (λ n. n.records)) (first-told (notice_of_copy jobs copy) ns (All-append (λ m. is_before m.sheet copy ≡ false) (map (notice_of_copy jobs) copies) (map (notice_of_plan jobs now rule) plans)
     behind (plans-behind jobs now rule copy copies plans earlier e)))
@@ -98,7 +98,7 @@ plan-told jobs now rule p copies plans in_order earlier e =
     let ns = map (notice_of_copy jobs) copies in
     let later = map (notice_of_plan jobs now rule) plans in
     let behind = All-map (λ m. is_before m.sheet p.sheet ≡ false) (notice_of_plan jobs now rule) plans
-        (All-weaker (IsEarlier p) (λ r. is_before r.sheet p.sheet ≡ false) (λ r h. before-asym p.sheet r.sheet h) plans (AllPairs-head IsEarlier p plans earlier)) in
+    (All-weaker (IsEarlier p) (λ r. is_before r.sheet p.sheet ≡ false) (λ r h. before-asym p.sheet r.sheet h) plans (AllPairs-head IsEarlier p plans earlier)) in
     ap (flat_map (λ n. n.records)) (between-told (notice_of_plan jobs now rule p) ns later (copies-behind jobs p copies plans in_order e) behind)
     ∙ flat_map-cons (λ n. n.records) (notice_of_plan jobs now rule p) (by_copy (ns ++ later))
 

@@ -1,5 +1,5 @@
 -- The fates fit, so that the copies that wait after them can wait.
-use Rattle.std.proofs.Common.{◌≡◌, ℕ, zero, suc, ◌+◌, ◌<◌, ◌≤◌, Bool, true, false, cond, not, ◌&&◌, ◌||◌, ◌==◌, List, [], ◌∷◌, ◌++◌, length, map, flat_map, find, slice_get, Option, Some, None, IsTrue, Contains, refl, sym, ap, ◌∙◌, arith, subst, sum_by, count_by, nat_le, slice_index}
+use Rattle.std.proofs.Common.{◌≡◌, ℕ, ◌+◌, ◌<◌, ◌≤◌, Bool, true, false, cond, not, ◌&&◌, List, [], ◌∷◌, ◌++◌, length, map, flat_map, Some, None, IsTrue, Contains, refl, sym, ap, ◌∙◌, arith, subst, count_by, nat_le, slice_index}
 use Rattle.std.proofs.lemmas.Bool.Decides.{nat_tests}
 use Rattle.std.proofs.lemmas.Option.{get_or_from_slice_get, slice_get_within}
 use Rattle.tp_machine.specs.declared.parts.ActId.{ActId}
@@ -22,7 +22,7 @@ use Rattle.tp_turn.specs.FallBacks.{fate_in_fall_back, is_copy, is_later, is_on_
 use Rattle.tp_turn.specs.Lines.{is_same_line}
 use Rattle.tp_turn.specs.States.{SessionState}
 use Rattle.tp_replan.specs.Meanings.{AreCutStarted, CanAllWait, meant, waits_in}
-use Rattle.tp_replan.specs.Open.{CanFall, Fits, is_open, is_waiting_after, open_count}
+use Rattle.tp_replan.specs.Open.{CanFall, Fits, is_open, is_waiting_after}
 use Rattle.tp_replan.specs.declared.fate.Fate.{Fate}
 use Rattle.tp_replan.proofs.FateFacts.{fate-at, waits-by}
 
@@ -117,7 +117,7 @@ all-waits-few s job number rule (p ∷ plans) fits =
     let here = waits-few s job number p (rule p) (fits p (Contains-here p plans)).opens in
     let later = all-waits-few s job number rule plans (λ q in'. fits q (Contains-later p plans q in')) in
     let waits = ap (of_sheet job number) (flat_map-cons (λ q. waits_for q (rule q)) p plans)
-        ∙ count-append (is_of_sheet job number) (waits_for p (rule p)) (flat_map (λ q. waits_for q (rule q)) plans) in
+    ∙ count-append (is_of_sheet job number) (waits_for p (rule p)) (flat_map (λ q. waits_for q (rule q)) plans) in
     let open' = count-cons (is_open_of s job number) p plans in
     omega arith
 
@@ -125,10 +125,10 @@ pub can-wait : (s : SessionState) (pending : List SheetId) (rule : Plan → Befa
     → map meant fates ≡ map rule s.plans → CanAllWait s.waiting (waits_in s.plans fates)
 can-wait s pending rule fates can fits e =
     can-all s.waiting (waits_in s.plans fates) (λ job number.
-        let few = all-waits-few s job number rule s.plans fits in
-        let same = ap (of_sheet job number) (waits-by rule s.plans fates e) in
-        let once = can.once job number in
-        omega arith)
+    let few = all-waits-few s job number rule s.plans fits in
+    let same = ap (of_sheet job number) (waits-by rule s.plans fates e) in
+    let once = can.once job number in
+    omega arith)
 
 -- a plan whose first action has started
 first-started : (now : ℕ) (sheet : SheetId) (n : ℕ) (acts : List ActId) (points : List ℕ) → 0 < length acts → length points ≡ length acts + 1 → slice_index points 0 ≤ now

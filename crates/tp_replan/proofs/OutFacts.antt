@@ -1,7 +1,6 @@
 -- The fates where a module goes out: they fit, and the lost copies are told apart.
-use Rattle.std.proofs.Common.{◌≡◌, ℕ, ◌+◌, ◌≤◌, Bool, true, false, cond, not, ◌&&◌, ◌||◌, List, [], ◌∷◌, map, refl, sym, ap, ◌∙◌, arith, count_by, nat_le, nat_lt}
+use Rattle.std.proofs.Common.{◌≡◌, ℕ, ◌≤◌, Bool, true, false, cond, not, ◌&&◌, ◌||◌, List, [], ◌∷◌, map, refl, ap, ◌∙◌, arith, count_by, nat_lt}
 use Rattle.std.specs.List.{list_any}
-use Rattle.std.proofs.lemmas.Bool.Decides.{nat_tests}
 use Rattle.tp_machine.specs.declared.whole.Machine.{Machine}
 use Rattle.tp_schedule.specs.Holding.{Run, runs_of}
 use Rattle.tp_schedule.specs.Plans.{IsFormed}
@@ -9,7 +8,7 @@ use Rattle.tp_schedule.specs.declared.parts.Plan.{Plan}
 use Rattle.tp_turn.specs.Fates as fates
 use Rattle.tp_turn.specs.Fates.{Fate as Befalls}
 use Rattle.tp_turn.specs.FallBacks.{is_copy}
-use Rattle.tp_turn.specs.Moments.{does_use, is_running, is_running_on, is_started, is_to_run_on, is_to_tray, is_unstarted, started_count}
+use Rattle.tp_turn.specs.Moments.{does_use, is_running, is_running_on, is_started, is_to_run_on, is_to_tray, is_unstarted}
 use Rattle.tp_turn.specs.Outages.{fate_in_outage, fate_of_running, fate_unless_lost, is_lost_by}
 use Rattle.tp_turn.specs.Seen.{HasStarted}
 use Rattle.tp_turn.specs.States.{SessionState}
@@ -17,7 +16,7 @@ use Rattle.tp_replan.specs.Meanings.{lost_alone, lost_aside, meant}
 use Rattle.tp_replan.specs.Open.{Fits}
 use Rattle.tp_replan.specs.declared.fate.Fate.{Fate}
 use Rattle.tp_replan.specs.declared.fate.Fate.TheVariants.{Stays, Lost, Withdrawn, Cut, Purged, Replaced, Dropped}
-use Rattle.tp_replan.proofs.OpenFacts.{and-both, and-first, and-second, and-third, count-cons, one-where, started-some, stays-fits, unstarted-to_tray}
+use Rattle.tp_replan.proofs.OpenFacts.{and-both, and-first, and-third, count-cons, one-where, started-some, stays-fits, unstarted-to_tray}
 
 -- a running action has started
 running-some : (now : ℕ) (test : Run → Bool) (runs : List Run) → list_any (λ run. is_running now run && test run) runs ≡ true → 1 ≤ count_by (is_started now) runs

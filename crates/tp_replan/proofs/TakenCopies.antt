@@ -1,7 +1,7 @@
 -- The copies that wait, one after another, of which those of a job are taken.
-use Rattle.std.proofs.Common.{◌≡◌, ℕ, zero, suc, ◌+◌, ◌<◌, Bool, true, false, cond, not, ◌&&◌, ◌==◌, List, [], ◌∷◌, ◌++◌, length, map, filter, find, take, drop, slice_get, Option, Some, None, option_map, AllPairs, Contains, refl, sym, ap, ◌∙◌, arith, inl, inr, subst, add-one}
+use Rattle.std.proofs.Common.{◌≡◌, ℕ, zero, suc, ◌+◌, Bool, true, false, cond, not, ◌&&◌, ◌==◌, List, [], ◌∷◌, ◌++◌, length, map, filter, find, take, drop, slice_get, Option, Some, None, option_map, AllPairs, Contains, refl, sym, ap, ◌∙◌, arith, inl, inr, subst, add-one}
 use Rattle.std.proofs.lemmas.Bool.Decides.{nat_tests}
-use Rattle.std.proofs.lemmas.List.{append-nil, append_assoc, map-append}
+use Rattle.std.proofs.lemmas.List.{append-nil, append_assoc}
 use Rattle.std.proofs.lemmas.List.Elements.{filter-append}
 use Rattle.tp_base.proofs.SliceFacts.{All-at}
 use Rattle.tp_schedule.specs.Plans.{is_before, is_same_copy}
@@ -11,7 +11,7 @@ use Rattle.tp_schedule.proofs.Membership.{Contains-cons_cases, Contains-filter_f
 use Rattle.tp_schedule.proofs.Pairs.{AllPairs-head, AllPairs-tail}
 use Rattle.std.proofs.lemmas.List.Elements.{All-contains, All-head}
 use Rattle.tp_machine.specs.declared.parts.LocId.{LocId}
-use Rattle.tp_jobs.specs.Backlogs.{Backlog, WaitsBefore, tray_of}
+use Rattle.tp_jobs.specs.Backlogs.{WaitsBefore, tray_of}
 use Rattle.tp_jobs.specs.Trying.{comes_after, is_blocked, is_open, next_to_try}
 use Rattle.tp_jobs.specs.Waiting.{without_waiting}
 use Rattle.tp_jobs.specs.declared.parts.Job.{Job}

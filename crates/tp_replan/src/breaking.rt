@@ -37,11 +37,7 @@ fn take_one(
 }
 
 /// Takes the copies of the job that wait, in their order.
-fn take_job(
-    alloc: Global,
-    lines: &mut Lines,
-    job: u32,
-) -> Result<Vec<SheetId>, Memory>
+fn take_job(alloc: Global, lines: &mut Lines, job: u32) -> Result<Vec<SheetId>, Memory>
     ensures copies { IfOk result (λ copies. copies.items ≡ map (λ w. w.sheet) (filter (is_of_job job) lines.old.waiting)) }
     ensures lines { OnOk result (lines.new ≡ record { jobs = lines.old.jobs; waiting = filter (λ w. not (is_of_job job w)) lines.old.waiting }) }
 {
@@ -81,7 +77,14 @@ pub(crate) fn break_job(
     let fates = fates_in_break(alloc, schedule, lost.as_slice(), now, job)?;
     let copies = take_job(alloc, lines, job)?;
     notes.push(Record::Broken { job: name })?;
-    tell_by_copy(lines, schedule, now, copies.as_slice(), fates.as_slice(), notes)?;
+    tell_by_copy(
+        lines,
+        schedule,
+        now,
+        copies.as_slice(),
+        fates.as_slice(),
+        notes,
+    )?;
     befall(alloc, schedule, lost, lines, now, fates.as_slice())?;
     lines.break_job(job);
     Ok(())

@@ -45,13 +45,7 @@ fn is_lost_by(
 }
 
 /// Whether the plan is of a copy that is not lost, and is to run on the module.
-fn is_to_make_way(
-    lost: &[SheetId],
-    machine: &Machine,
-    id: ModId,
-    now: Tick,
-    plan: &Plan,
-) -> bool
+fn is_to_make_way(lost: &[SheetId], machine: &Machine, id: ModId, now: Tick, plan: &Plan) -> bool
     ensures { result ≡ (is_copy (state_of now [] lost.now no_backlog none_out) plan.now && is_to_run_on machine.now now id.0 plan.now) }
 {
     let gone = is_lost(lost, plan.sheet);

@@ -51,13 +51,7 @@ fn is_later(lost: &[SheetId], lines: &Lines, copy: SheetId, plan: &Plan) -> bool
     behind && of_line && !gone
 }
 
-fn fate_in_fall_back(
-    lost: &[SheetId],
-    lines: &Lines,
-    now: Tick,
-    copy: SheetId,
-    plan: &Plan,
-) -> Fate
+fn fate_in_fall_back(lost: &[SheetId], lines: &Lines, now: Tick, copy: SheetId, plan: &Plan) -> Fate
     requires formed { IsFormed plan.now }
     requires copy { copy.job < length lines.now.jobs }
     requires known { plan.now.sheet.job < length lines.now.jobs }
@@ -96,13 +90,7 @@ pub(crate) fn fates_in_fall_back(
 }
 
 /// Whether the plan is that of a later copy of the line, which is entering.
-fn is_later_entering(
-    lost: &[SheetId],
-    lines: &Lines,
-    now: Tick,
-    copy: SheetId,
-    plan: &Plan,
-) -> bool
+fn is_later_entering(lost: &[SheetId], lines: &Lines, now: Tick, copy: SheetId, plan: &Plan) -> bool
     requires formed { IsFormed plan.now }
     requires copy { copy.job < length lines.now.jobs }
     requires known { plan.now.sheet.job < length lines.now.jobs }

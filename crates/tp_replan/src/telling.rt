@@ -57,16 +57,19 @@ fn tell_recalls(
 {
     let sheet = label(lines, plan.sheet);
     let points = plan.points.as_slice();
-    recall_from(&sheet, 1, plan.released, now, plan.acts.as_slice(), points, notes)
+    recall_from(
+        &sheet,
+        1,
+        plan.released,
+        now,
+        plan.acts.as_slice(),
+        points,
+        notes,
+    )
 }
 
 /// Notes what is told behind the recalls.
-fn tell_end(
-    lines: &Lines,
-    plan: &Plan,
-    fate: Fate,
-    notes: &mut Vec<Record>,
-) -> Result<(), Memory>
+fn tell_end(lines: &Lines, plan: &Plan, fate: Fate, notes: &mut Vec<Record>) -> Result<(), Memory>
     requires known { plan.now.sheet.job < length lines.now.jobs }
     requires next { HasNextCopy plan.now.sheet }
     ensures { OnOk result (notes.new.items ≡ notes.old.items ++ told_behind lines.now.jobs plan.now (meant fate)) }

@@ -32,11 +32,7 @@ fn wait_one(lines: &mut Lines, plan: &Plan, fate: Fate) -> Result<(), Memory>
 }
 
 /// What waits after the fates of all copies.
-pub(crate) fn wait_all(
-    schedule: &Schedule,
-    lines: &mut Lines,
-    fates: &[Fate],
-) -> Result<(), Memory>
+pub(crate) fn wait_all(schedule: &Schedule, lines: &mut Lines, fates: &[Fate]) -> Result<(), Memory>
     requires each { length fates.now ≡ length schedule.now.plans }
     requires known { All (IsKnown lines.old.jobs) schedule.now.plans }
     requires next { All (λ p. HasNextCopy p.sheet) schedule.now.plans }

@@ -2,10 +2,7 @@
 use Rattle.std.proofs.Common.{◌≡◌, ◌||◌, ◌∙◌, ap, filter, flat_map, map}
 use Rattle.std.specs.List.{list_any}
 use Rattle.tp_jobs.specs.Backlogs.{Backlog}
-use Rattle.tp_jobs.specs.declared.parts.WaitingCopy.{WaitingCopy}
 use Rattle.tp_schedule.specs.Plans.{is_same_copy}
-use Rattle.tp_schedule.specs.declared.parts.Plan.{Plan}
-use Rattle.tp_schedule.specs.declared.parts.SheetId.{SheetId}
 use Rattle.tp_turn.specs.Fates.{is_loss, waits_for}
 use Rattle.tp_turn.specs.Lines.{put_all_waiting}
 use Rattle.tp_replan.specs.Meanings.{state_of}

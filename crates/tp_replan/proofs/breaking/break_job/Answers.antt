@@ -1,6 +1,6 @@
 -- The copies that waited are taken, and no copy waits after the fates of the break.
 use Rattle.std.proofs.Common.{◌≡◌, ◌<◌, ◌++◌, ◌∷◌, ◌∙◌, [], All, AllPairs, ap, sym, append_assoc, length, subst}
-use Rattle.tp_jobs.specs.Backlogs.{Backlog, mark_broken}
+use Rattle.tp_jobs.specs.Backlogs.{Backlog}
 use Rattle.tp_schedule.specs.declared.parts.SheetId.{SheetId}
 use Rattle.tp_schedule.specs.declared.recording.Record.TheVariants.{Broken}
 use Rattle.tp_turn.specs.FallBacks.{fate_in_break}
@@ -53,7 +53,7 @@ pub break_job-requires : goal.break_job-requires
 break_job-requires c =
     let lines : Backlog = c.args.lines.now in
     let e = fates-are c.args.now c.args.job c.as_slice.result.now c.args.lost.now.items c.args.lines.now c.args.schedule.now.plans c.in_ok-fates.fates.items c.as_slice-4.result.now
-        c.as_slice.ensures.value c.as_slice-4.ensures.value (c.in_ok-fates.ensures c.args.lines.now) in
+    c.as_slice.ensures.value c.as_slice-4.ensures.value (c.in_ok-fates.ensures c.args.lines.now) in
     let jobs : c.befall.new.lines.jobs ≡ lines.jobs =
     ap (λ (t : SessionState). t.jobs) (c.in_ok-befall.ensures _ none_out e) ∙ ap (λ (b : Backlog). b.jobs) c.in_ok-copies.ensures.lines in
     subst (λ js. c.args.job < length js) (sym jobs) c.requires.job
@@ -65,9 +65,9 @@ returns c = λ outs.
     let lost = c.args.lost.now.items in
     let rule = fate_in_break (state_of c.args.now plans lost lines outs) c.args.job in
     let e = fates-are c.args.now c.args.job c.as_slice.result.now lost lines plans c.in_ok-fates.fates.items c.as_slice-4.result.now
-        c.as_slice.ensures.value c.as_slice-4.ensures.value (c.in_ok-fates.ensures lines) in
+    c.as_slice.ensures.value c.as_slice-4.ensures.value (c.in_ok-fates.ensures lines) in
     let e' = fates-are c.args.now c.args.job c.as_slice.result.now lost lines plans c.in_ok-fates.fates.items c.as_slice-3.result.now
-        c.as_slice.ensures.value c.as_slice-3.ensures.value (c.in_ok-fates.ensures lines) in
+    c.as_slice.ensures.value c.as_slice-3.ensures.value (c.in_ok-fates.ensures lines) in
     let told = c.in_ok-tell_by_copy.ensures rule e' in
     let more = told_by_copy c.take_job.new.lines.jobs c.args.now rule c.as_slice-2.result.now plans in
     let broken = c.in_ok-push.ensures.items ∙ ap (λ name. c.args.notes.now.items ++ Broken name ∷ []) c.job_name-name.ensures in

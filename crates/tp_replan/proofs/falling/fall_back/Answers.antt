@@ -35,7 +35,7 @@ returns-in_ok-make_way c = λ outs.
     let told = c.in_ok-wait_next.ensures.told ∙ ap (λ rs. c.args.notes.now.items ++ rs) (waits-told c.args.now plans lost c.args.lines.now outs d) in
     let end = state_of c.args.now c.make_way.new.schedule.plans c.make_way.new.lost.items c.make_way.new.lines outs in
     let then = subst (λ (t : SessionState). Leads (later_fall_back d.sheet t) c.wait_next.new.notes.items c.make_way.new.notes.items end) state
-        (subst (λ (x : SheetId). Leads (later_fall_back x (state_of c.args.now plans lost c.wait_next.new.lines outs)) c.wait_next.new.notes.items c.make_way.new.notes.items end) same
-        (c.in_ok-make_way.ensures outs)) in
+    (subst (λ (x : SheetId). Leads (later_fall_back x (state_of c.args.now plans lost c.wait_next.new.lines outs)) c.wait_next.new.notes.items c.make_way.new.notes.items end) same
+    (c.in_ok-make_way.ensures outs)) in
     subst (λ (o : Outcome). Leads o c.args.notes.now.items c.make_way.new.notes.items end) (sym (makes-way s d none))
     (leads-on (next_waits d s) (later_fall_back d.sheet) c.args.notes.now.items c.wait_next.new.notes.items c.make_way.new.notes.items end told then)

@@ -1,5 +1,5 @@
 -- One displaced copy more fell back.
-use Rattle.std.proofs.Common.{◌≡◌, ◌+◌, ◌++◌, ◌∷◌, ◌∙◌, Some, ap, sym, subst, drop, slice_get}
+use Rattle.std.proofs.Common.{◌≡◌, ◌+◌, ◌++◌, ◌∙◌, Some, ap, sym, subst, drop, slice_get}
 use Rattle.std.proofs.lemmas.Option.{slice_get-get_or}
 use Rattle.tp_machine.specs.declared.parts.Outs.{Outs}
 use Rattle.tp_turn.specs.FallBacks.{Displaced, fall_back_unless_broken}

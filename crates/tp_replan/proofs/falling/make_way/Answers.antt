@@ -1,6 +1,5 @@
 -- The fates are those of the fall-back, and fit.
-use Rattle.std.proofs.Common.{◌≡◌, ◌∙◌, [], ap, sym, length, map, Contains}
-use Rattle.std.proofs.lemmas.List.{length-map}
+use Rattle.std.proofs.Common.{◌≡◌, ◌∙◌, [], ap, map, Contains}
 use Rattle.std.proofs.lemmas.List.Elements.{All-contains}
 use Rattle.tp_schedule.specs.Plans.{IsFormed}
 use Rattle.tp_schedule.specs.declared.parts.Plan.{Plan}

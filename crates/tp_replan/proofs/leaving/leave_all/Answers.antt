@@ -1,5 +1,5 @@
 -- The plans before the place are as they were, so that the one before it has its turn.
-use Rattle.std.proofs.Common.{◌≡◌, ◌<◌, ◌≤◌, ◌+◌, ◌-◌, ◌++◌, ◌∙◌, ap, sym, arith, drop, length, take, get_or, slice_get, Some, IsTrue}
+use Rattle.std.proofs.Common.{◌≡◌, ◌<◌, ◌≤◌, ◌+◌, ◌-◌, ◌++◌, ◌∙◌, ap, sym, arith, drop, get_or, IsTrue}
 use Rattle.std.proofs.lemmas.Option.{slice_get-get_or}
 use Rattle.tp_base.proofs.SliceFacts.{found}
 use Rattle.tp_turn.specs.Fates.{is_cut_by, left_by, left_of}

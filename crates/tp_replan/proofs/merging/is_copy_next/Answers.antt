@@ -1,5 +1,5 @@
 -- The copy and the plan at their places are compared.
-use Rattle.std.proofs.Common.{◌≡◌, ◌+◌, ◌∷◌, ◌∙◌, [], not, true, drop, ap, sym, arith, length}
+use Rattle.std.proofs.Common.{◌∙◌, not, ap, sym, arith}
 use Rattle.tp_base.proofs.SliceFacts.{found}
 use Rattle.std.proofs.lemmas.Option.{get_or_from_slice_get}
 use Rattle.tp_schedule.specs.Plans.{is_before}

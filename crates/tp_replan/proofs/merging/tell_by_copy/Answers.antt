@@ -1,26 +1,24 @@
 -- One more is told of.
-use Rattle.std.proofs.Common.{◌≡◌, ◌<◌, ◌+◌, ◌++◌, ◌∷◌, ◌∙◌, [], Some, ap, sym, arith, append_assoc, drop, length}
+use Rattle.std.proofs.Common.{◌≡◌, ◌++◌, ◌∷◌, ◌∙◌, [], ap, sym, arith, drop}
 use Rattle.std.proofs.lemmas.List.{append-nil}
 use Rattle.std.proofs.lemmas.Option.{get_or_from_slice_get}
 use Rattle.tp_base.proofs.SliceFacts.{All-at, found}
-use Rattle.tp_schedule.specs.Plans.{IsEarlier}
 use Rattle.tp_schedule.specs.declared.parts.SheetId.{SheetId}
 use Rattle.tp_schedule.specs.declared.recording.Record.TheVariants.{Drop}
 use Rattle.tp_turn.specs.Fates.{told_of}
 use Rattle.tp_turn.specs.Labels.{label}
 use Rattle.tp_turn.specs.Seen.{HasNextCopy}
-use Rattle.tp_replan.specs.Meanings.{IsKnown, StandsBefore, is_copy_next, told_by_copy}
+use Rattle.tp_replan.specs.Meanings.{IsKnown, told_by_copy}
 use Rattle.tp_replan.specs.declared.fate.Fate.TheVariants.{Stays}
 use Rattle.tp_replan.proofs.FateFacts.{fate-at}
-use Rattle.tp_replan.proofs.LeftFacts.{drop_from}
-use Rattle.tp_replan.proofs.MergeFacts.{AllPairs-drop, copy-there, copy-told-at, none-left, plan-there, plan-told-at}
+use Rattle.tp_replan.proofs.MergeFacts.{copy-there, copy-told-at, none-left, plan-there, plan-told-at}
 use Rattle.tp_replan.proofs.merging.tell_by_copy.Goals as goal
 use Rattle.tp_replan.proofs.merging.tell_by_copy.Goals.{then-is_copy_next+in_ok-tell_drop, else-is_copy_next+in_ok-tell_fate}
 
 pub bounds-fates-at : goal.bounds-fates-at
 bounds-fates-at c =
     let there = plan-there c.args.copies.now c.args.schedule.now.plans c.loop-turn.next c.loop-turn.at c.if-is_copy_next.ensures c.loop-turn.invariant.next
-        (omega (arith, c.loop-turn-test.true, c.loop-turn.invariant.turn, c.len.ensures.len)) in
+    (omega (arith, c.loop-turn-test.true, c.loop-turn.invariant.turn, c.len.ensures.len)) in
     omega (arith, c.requires.each)
 
 pub plan_at-requires : goal.plan_at-requires
@@ -39,7 +37,7 @@ tell_fate-requires-clause-next c =
 pub overflow_add-at : goal.overflow_add-at
 overflow_add-at c =
     let there = plan-there c.args.copies.now c.args.schedule.now.plans c.loop-turn.next c.loop-turn.at c.if-is_copy_next.ensures c.loop-turn.invariant.next
-        (omega (arith, c.loop-turn-test.true, c.loop-turn.invariant.turn, c.len.ensures.len)) in
+    (omega (arith, c.loop-turn-test.true, c.loop-turn.invariant.turn, c.len.ensures.len)) in
     omega (arith, c.ordered.ensures.fits)
 
 pub loop-turn-preserved : goal.loop-turn-preserved

@@ -22,7 +22,7 @@ befall-requires-clause-started c =
     let rule = fate_in_outage c.args.machine.now c.args.id.0 c.args.jam s in
     let fits : (p : Plan) → Contains plans p → Fits s p (rule p) =
     λ p in'. outage-fits c.args.machine.now c.args.id.0 c.args.jam s p
-        (All-contains IsFormed plans p c.ordered.ensures.ordered.formed in') (All-contains (HasStarted c.args.now) plans p c.requires.can.purges in') in
+    (All-contains IsFormed plans p c.ordered.ensures.ordered.formed in') (All-contains (HasStarted c.args.now) plans p c.requires.can.purges in') in
     cut-started s rule c.as_slice-4.result.now fits
     (ap (map meant) c.as_slice-4.ensures.value ∙ c.in_ok-fates.ensures
     ∙ ap (λ lost. map (fate_in_outage c.args.machine.now c.args.id.0 c.args.jam (state_of c.args.now [] lost no_backlog none_out)) plans) c.as_slice.ensures.value)
@@ -34,7 +34,7 @@ befall-requires-clause-can_wait c =
     let rule = fate_in_outage c.args.machine.now c.args.id.0 c.args.jam s in
     let fits : (p : Plan) → Contains plans p → Fits s p (rule p) =
     λ p in'. outage-fits c.args.machine.now c.args.id.0 c.args.jam s p
-        (All-contains IsFormed plans p c.ordered.ensures.ordered.formed in') (All-contains (HasStarted c.args.now) plans p c.requires.can.purges in') in
+    (All-contains IsFormed plans p c.ordered.ensures.ordered.formed in') (All-contains (HasStarted c.args.now) plans p c.requires.can.purges in') in
     can-wait s [] rule c.as_slice-4.result.now c.requires.can fits
     (ap (map meant) c.as_slice-4.ensures.value ∙ c.in_ok-fates.ensures
     ∙ ap (λ lost. map (fate_in_outage c.args.machine.now c.args.id.0 c.args.jam (state_of c.args.now [] lost no_backlog none_out)) plans) c.as_slice.ensures.value)

@@ -1,5 +1,5 @@
 -- The lost copies are told of first.
-use Rattle.std.proofs.Common.{◌≡◌, ◌++◌, ◌∙◌, ap, map, append_assoc}
+use Rattle.std.proofs.Common.{◌++◌, ◌∙◌, ap, map, append_assoc}
 use Rattle.tp_turn.specs.Fates.{told_by}
 use Rattle.tp_turn.specs.Outages.{fate_of_running, fate_unless_lost}
 use Rattle.tp_replan.specs.Meanings.{meant, state_of}

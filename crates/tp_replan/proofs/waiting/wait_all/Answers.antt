@@ -1,5 +1,5 @@
 -- One copy after another has its turn to wait.
-use Rattle.std.proofs.Common.{◌≡◌, ◌+◌, ◌++◌, ◌∙◌, ap, sym, subst, drop, get_or}
+use Rattle.std.proofs.Common.{◌≡◌, ◌+◌, ◌∙◌, ap, sym, subst, drop, get_or}
 use Rattle.tp_jobs.specs.Backlogs.{Backlog}
 use Rattle.tp_turn.specs.Fates.{waits_for}
 use Rattle.tp_turn.specs.Lines.{put_all_waiting}
