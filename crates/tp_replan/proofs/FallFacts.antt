@@ -1,4 +1,4 @@
--- A fall-back: what it needs of the state, and its two cases.
+-- A fall-back: what it needs of the state, and how its parts follow one another.
 use Rattle.std.proofs.Common.{◌≡◌, ℕ, ◌+◌, ◌≤◌, Bool, true, false, cond, List, [], ◌∷◌, ◌++◌, None, IsTrue, refl, sym, ap, ◌∙◌, arith, append_assoc, count_by}
 use Rattle.tp_schedule.specs.declared.parts.Plan.{Plan}
 use Rattle.tp_schedule.specs.declared.parts.SheetId.{SheetId}
@@ -60,10 +60,7 @@ next-can s d can = go d.again can where
   }
   go false h = h
 
--- the two cases
-pub breaks : (s : SessionState) (d : Displaced) → true ≡ is_line_entering s d.sheet → fall_back s d ≡ job_break d.sheet.job s
-breaks s d e = ap (λ b. cond b (job_break d.sheet.job s) (and_then (next_waits d s) (later_fall_back d.sheet))) (sym e)
-
+-- the case where none is entering
 pub makes-way : (s : SessionState) (d : Displaced) → false ≡ is_line_entering s d.sheet → fall_back s d ≡ and_then (next_waits d s) (later_fall_back d.sheet)
 makes-way s d e = ap (λ b. cond b (job_break d.sheet.job s) (and_then (next_waits d s) (later_fall_back d.sheet))) (sym e)
 
