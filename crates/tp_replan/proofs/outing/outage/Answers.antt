@@ -1,6 +1,6 @@
 -- The displaced copies can fall back from the state that the module's going out leads to.
 use Rattle.std.proofs.Common.{◌∙◌, sym, subst}
-use Rattle.tp_turn.specs.FallBacks.{Displaced, fall_back_unless_broken}
+use Rattle.tp_turn.specs.FallBacks.{fall_back_unless_broken}
 use Rattle.tp_turn.specs.Outages.{displaced, going_out}
 use Rattle.tp_turn.specs.States.{SessionState, for_each, none_out}
 use Rattle.tp_replan.specs.Meanings.{Leads, state_of}
