@@ -1,5 +1,5 @@
--- A fall-back: what it needs of the state, and its two cases.
-use Rattle.std.proofs.Common.{◌≡◌, ℕ, ◌+◌, ◌≤◌, Bool, true, false, cond, List, [], ◌∷◌, ◌++◌, None, IsTrue, refl, sym, ap, ◌∙◌, arith, append_assoc, count_by}
+-- A fall-back: what it needs of the state, and how its parts follow one another.
+use Rattle.std.proofs.Common.{◌≡◌, ℕ, ◌+◌, ◌≤◌, Bool, true, false, cond, List, [], ◌∷◌, ◌++◌, None, IsTrue, refl, sym, ap, ◌∙◌, arith, append_assoc, subst, count_by}
 use Rattle.tp_schedule.specs.declared.parts.Plan.{Plan}
 use Rattle.tp_schedule.specs.declared.parts.SheetId.{SheetId}
 use Rattle.tp_schedule.specs.declared.recording.Record.{Record}
@@ -7,12 +7,14 @@ use Rattle.tp_jobs.specs.Backlogs.{Backlog, next_copy}
 use Rattle.tp_jobs.specs.Waiting.{find_waiting, put_waiting}
 use Rattle.tp_jobs.specs.declared.parts.WaitingCopy.{WaitingCopy}
 use Rattle.tp_machine.specs.declared.parts.Outs.{Outs}
-use Rattle.tp_turn.specs.FallBacks.{Displaced, fall_back, is_line_entering, job_break, later_fall_back, next_waits}
+use Rattle.tp_turn.specs.FallBacks.{Displaced, fall_back, fall_back_unless_broken, is_line_entering, job_break, later_fall_back, next_waits}
 use Rattle.tp_schedule.specs.declared.recording.Record.TheVariants.{Again}
 use Rattle.tp_turn.specs.Labels.{label}
 use Rattle.tp_turn.specs.Keeping.{is_copy_of}
 use Rattle.tp_turn.specs.States.{Outcome, SessionState, and_then, for_each, none_out, nothing_told}
 use Rattle.tp_replan.specs.Meanings.{Leads, state_of}
+use Rattle.tp_turn.specs.Lines.{is_job_broken}
+use Rattle.tp_replan.specs.Outing.{CanAllFall}
 use Rattle.tp_replan.specs.Open.{CanFall, to_wait}
 use Rattle.tp_replan.proofs.OpenFacts.{count-cons, is_of_sheet, none-of, of_sheet-put, one-where, own-sheet}
 
@@ -60,10 +62,7 @@ next-can s d can = go d.again can where
   }
   go false h = h
 
--- the two cases
-pub breaks : (s : SessionState) (d : Displaced) → true ≡ is_line_entering s d.sheet → fall_back s d ≡ job_break d.sheet.job s
-breaks s d e = ap (λ b. cond b (job_break d.sheet.job s) (and_then (next_waits d s) (later_fall_back d.sheet))) (sym e)
-
+-- the case where none is entering
 pub makes-way : (s : SessionState) (d : Displaced) → false ≡ is_line_entering s d.sheet → fall_back s d ≡ and_then (next_waits d s) (later_fall_back d.sheet)
 makes-way s d e = ap (λ b. cond b (job_break d.sheet.job s) (and_then (next_waits d s) (later_fall_back d.sheet))) (sym e)
 
@@ -104,3 +103,29 @@ each-told part x xs s s' notes mid all leads before =
 pub each-state : {X : Type 0} (part : SessionState → X → Outcome) (x : X) (xs : List X) (s s' all : SessionState) (notes mid : List Record) → Leads (part s x) notes mid s'
     → (for_each part (x ∷ xs) s).state ≡ all → (for_each part xs s').state ≡ all
 each-state part x xs s s' all notes mid leads before = ap (λ t. (for_each part xs t).state) leads.state ∙ before
+
+-- which modules are out does not count in a fall-back
+abbrev pub with_outs : Outs → SessionState → SessionState
+with_outs outs s = record s { outs = outs }
+
+outs-kept : (outs : Outs) (s : SessionState) (d : Displaced) → (fall_back_unless_broken (with_outs outs s) d).state ≡ with_outs outs (fall_back_unless_broken s d).state
+outs-kept outs s d = go (is_job_broken s.jobs d.sheet.job) (is_line_entering s d.sheet) d.again where
+  falls : Bool → Bool → Bool → SessionState → Outcome
+  falls b e a t = cond b (nothing_told t) (cond e (job_break d.sheet.job t) (and_then (waits_where a d t) (later_fall_back d.sheet)))
+
+  go : (b e a : Bool) → (falls b e a (with_outs outs s)).state ≡ with_outs outs (falls b e a s).state
+  go true e a = refl
+  go false true a = refl
+  go false false true = refl
+  go false false false = refl
+
+pub all-fall-outs : (outs : Outs) (ds : List Displaced) (s : SessionState) → CanAllFall ds s → CanAllFall ds (with_outs outs s)
+all-fall-outs outs [] s can = tt
+all-fall-outs outs (d ∷ ds) s can = (
+  record {
+    known = can.0.known;
+    next = can.0.next;
+    can = record { known = can.0.can.known; next = can.0.can.next; purges = can.0.can.purges; once = can.0.can.once };
+  },
+  subst (CanAllFall ds) (sym (outs-kept outs s d)) (all-fall-outs outs ds (fall_back_unless_broken s d).state can.1),
+)

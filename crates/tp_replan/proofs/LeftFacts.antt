@@ -51,29 +51,10 @@ pub planned-at : (plans : List Plan) (i : ℕ) (p : Plan) → AllPairs IsEarlier
 planned-at plans i p in_order at = plan_of-itself plans p in_order (i, slice_get_within plans i p at, get_or_from_slice_get plans i p p at)
 
 -- what stands before the place and from it on
-pub take-set : {X : Type 0} (xs : List X) (i : ℕ) (y : X) → take i (set xs i y) ≡ take i xs
-take-set [] i y = refl
-take-set (x ∷ xs) zero y = refl
-take-set (x ∷ xs) (suc i) y = ap (λ zs. x ∷ zs) (take-set xs i y)
-
 pub drop-set : {X : Type 0} (xs : List X) (i : ℕ) (x y : X) → slice_get xs i ≡ Some x → drop i (set xs i y) ≡ y ∷ drop (i + 1) xs
 drop-set [] i x y at = absurd cc
 drop-set (z ∷ xs) zero x y at = refl
 drop-set (z ∷ xs) (suc i) x y at = let next : suc (i + 1) ≡ suc i + 1 = omega arith in drop-set xs i x y at ∙ ap (λ j. y ∷ drop j (z ∷ xs)) next
-
-pub take-gone : {X : Type 0} (xs : List X) (i : ℕ) (x : X) → slice_get xs i ≡ Some x → take i (take i xs ++ drop (i + 1) xs) ≡ take i xs
-take-gone [] i x at = absurd cc
-take-gone (z ∷ xs) zero x at = refl
-take-gone (z ∷ xs) (suc i) x at =
-    let next : suc i + 1 ≡ suc (i + 1) = omega arith in
-    ap (λ j. z ∷ take i (take i xs ++ drop j (z ∷ xs))) next ∙ ap (λ zs. z ∷ zs) (take-gone xs i x at)
-
-pub drop-gone : {X : Type 0} (xs : List X) (i : ℕ) (x : X) → slice_get xs i ≡ Some x → drop i (take i xs ++ drop (i + 1) xs) ≡ drop (i + 1) xs
-drop-gone [] i x at = absurd cc
-drop-gone (z ∷ xs) zero x at = refl
-drop-gone (z ∷ xs) (suc i) x at =
-    let next : suc i + 1 ≡ suc (i + 1) = omega arith in
-    ap (λ j. drop i (take i xs ++ drop j (z ∷ xs))) next ∙ drop-gone xs i x at ∙ ap (λ j. drop j (z ∷ xs)) (sym next)
 
 -- what the same beginning says of a place
 pub same-before : {X : Type 0} (xs ys : List X) (n i : ℕ) (x : X) → take n xs ≡ take n ys → i < n → slice_get xs i ≡ Some x → slice_get ys i ≡ Some x

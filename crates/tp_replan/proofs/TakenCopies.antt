@@ -1,5 +1,6 @@
 -- The copies that wait, one after another, of which those of a job are taken.
-use Rattle.std.proofs.Common.{◌≡◌, ℕ, zero, suc, ◌+◌, Bool, true, false, cond, not, ◌&&◌, ◌==◌, List, [], ◌∷◌, ◌++◌, length, map, filter, find, take, drop, slice_get, Option, Some, None, option_map, AllPairs, Contains, refl, sym, ap, ◌∙◌, arith, inl, inr, subst, add-one}
+use Rattle.std.proofs.Common.{◌≡◌, ℕ, zero, suc, ◌+◌, Bool, true, false, cond, not, ◌&&◌, ◌==◌, List, [], ◌∷◌, ◌++◌, length, map, filter}
+use Rattle.std.proofs.Common.{find, take, drop, slice_get, Option, Some, None, option_map, AllPairs, Contains, refl, sym, ap, ◌∙◌, arith, inl, inr, subst, add-one}
 use Rattle.std.proofs.lemmas.Bool.Decides.{nat_tests}
 use Rattle.std.proofs.lemmas.List.{append-nil, append_assoc}
 use Rattle.std.proofs.lemmas.List.Elements.{filter-append}

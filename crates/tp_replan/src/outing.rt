@@ -10,14 +10,16 @@ ghost use Rattle.tp_turn.specs.Seen.{HasNextCopy};
 ghost use Rattle.tp_schedule.specs.Plans.{IsFormed};
 ghost use Rattle.tp_jobs.specs.Backlogs.{no_backlog};
 ghost use Rattle.tp_turn.specs.FallBacks.{is_copy};
-ghost use Rattle.tp_turn.specs.Outages.{displaced, displaced_by, fate_in_outage, going_out, is_lost_by, told_in_outage};
+ghost use Rattle.tp_turn.specs.Outages.{displaced, displaced_by, fate_in_outage, going_out, is_lost_by, outage, told_in_outage};
 ghost use Rattle.tp_turn.specs.Moments.{is_to_run_on};
 ghost use Rattle.tp_turn.specs.States.{none_out, put_out};
 ghost use Rattle.tp_replan.specs.Meanings.{IsKnown, Leads, lost_alone, lost_aside, meant, state_of};
 ghost use Rattle.tp_replan.specs.Open.{CanFall};
+ghost use Rattle.tp_replan.specs.Outing.{CanAllFall};
 
 use crate::befalling::befall;
 use crate::displaced::Displaced;
+use crate::falling::fall_back_all;
 use crate::fate::Fate;
 use crate::losing::is_lost;
 use crate::moments::{is_running_on, is_to_run_on, is_to_tray, is_unstarted};
@@ -123,7 +125,7 @@ fn lost_aside(alloc: Global, fates: &[Fate]) -> Result<Vec<Fate>, Memory>
 }
 
 /// The module is one of those that are out.
-pub(crate) fn put_out(outs: Outs, id: ModId) -> Outs
+fn put_out(outs: Outs, id: ModId) -> Outs
     requires { id.0 < 64 }
     ensures { result ≡ put_out outs id.0 }
 {
@@ -185,7 +187,7 @@ fn tell_outage(
 /// The module is out, and each copy meets its fate. Answers with the displaced copies.
 ///
 /// After an error nothing is known of the lines, so that the caller drops them, and notes may have come.
-pub(crate) fn go_out(
+fn go_out(
     alloc: Global,
     machine: &Machine,
     schedule: &mut Schedule,
@@ -209,4 +211,31 @@ pub(crate) fn go_out(
     befall(alloc, schedule, lost, lines, now, fates.as_slice())?;
     *outs = put_out(*outs, id);
     Ok(copies)
+}
+
+/// The outage of the module: it is out, each copy meets its fate, and the displaced copies fall back in their order.
+///
+/// After an error nothing is known of the lines, so that the caller drops them, and notes may have come.
+pub(crate) fn outage(
+    alloc: Global,
+    machine: &Machine,
+    schedule: &mut Schedule,
+    lost: &mut Vec<SheetId>,
+    lines: &mut Lines,
+    outs: &mut Outs,
+    now: Tick,
+    id: ModId,
+    jam: bool,
+    notes: &mut Vec<Record>,
+) -> Result<(), Memory>
+    requires there { id.0 < 64 }
+    requires can { CanFall (state_of now schedule.old.plans lost.old.items lines.old none_out) [] }
+    requires each { CanAllFall (displaced machine.now id.0 jam (state_of now schedule.old.plans lost.old.items lines.old outs.old)) (going_out machine.now id.0 jam (state_of now schedule.old.plans lost.old.items lines.old outs.old)).state }
+    ensures { OnOk result (Leads (outage machine.now id.0 jam (state_of now schedule.old.plans lost.old.items lines.old outs.old)) notes.old.items notes.new.items (state_of now schedule.new.plans lost.new.items lines.new outs.new)) }
+{
+    let copies = go_out(
+        alloc, machine, schedule, lost, lines, outs, now, id, jam, notes,
+    )?;
+    fall_back_all(alloc, schedule, lost, lines, now, copies.as_slice(), notes)?;
+    Ok(())
 }
