@@ -57,7 +57,7 @@ fn event_of(alloc: Global, line: &[u8]) -> Result<Event, Fail> {
     }
 }
 
-/// The turn of an event that is no outage, and what is noted of it.
+/// The turn of an event that is no outage, and what is noted of it. Any other event stops: no row has one.
 fn turn<P: Planner>(
     alloc: Global,
     machine: &Machine,
@@ -73,6 +73,12 @@ fn turn<P: Planner>(
     ensures can { OnOk result (CanAskInTurn machine.now (state_seen session.new.now session.new.schedule.plans session.new.lines session.new.outs)) }
     ensures jobs { OnOk result (length session.new.lines.jobs ≤ length session.old.lines.jobs + 1) }
 {
+    let Session {
+        schedule,
+        lines,
+        outs,
+        now,
+    } = session;
     match event {
         Event::Job {
             name,
@@ -81,42 +87,17 @@ fn turn<P: Planner>(
             groups,
         } => {
             let _count = groups.len();
+            let (name, tray, media, groups) = (*name, *tray, *media, groups.as_slice());
             take_job(
-                alloc,
-                machine,
-                &mut session.schedule,
-                &mut session.lines,
-                session.outs,
-                planner,
-                session.now,
-                *name,
-                *tray,
-                *media,
-                groups.as_slice(),
+                alloc, machine, schedule, lines, *outs, planner, *now, name, tray, media, groups,
                 notes,
             )
         }
         Event::Clock { to } => move_clock(
-            alloc,
-            machine,
-            &mut session.schedule,
-            &mut session.lines,
-            session.outs,
-            planner,
-            &mut session.now,
-            *to,
-            notes,
+            alloc, machine, schedule, lines, *outs, planner, now, *to, notes,
         ),
         Event::On { module } => turn_on(
-            alloc,
-            machine,
-            &mut session.schedule,
-            &mut session.lines,
-            &mut session.outs,
-            planner,
-            session.now,
-            *module,
-            notes,
+            alloc, machine, schedule, lines, outs, planner, *now, *module, notes,
         ),
         _ => Err(Halt::Stopped),
     }

@@ -10,7 +10,7 @@ returns-in-Job-clause-jobs g c =
     let s = c.args.session.now in
     on_ok_weaker c.take_job.result
     (one_job-taken (right_steps g.P.Planner.spent g.P.Planner.steps g.P.Planner.stop_steps c.args.machine.now) c.args.machine.now
-    c.in-Job.name c.in-Job.tray c.in-Job.media c.as_slice.result.now
+    c.in-Job.name c.in-Job.tray c.in-Job.media c.as_slice-groups.result.now
     (state_seen s.now s.schedule.plans s.lines s.outs) c.args.planner.now c.args.notes.now.items
     (state_seen s.now c.take_job.new.schedule.plans c.take_job.new.lines s.outs) c.take_job.new.planner c.take_job.new.notes.items)
     c.take_job.ensures.turn
