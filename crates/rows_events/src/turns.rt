@@ -172,11 +172,12 @@ fn take_lines<P: Planner>(
     Ok(())
 }
 
-/// The log of the lines on the empty state.
+/// The log of the lines on the empty state, with these modules out.
 fn log_by<P: Planner>(
     alloc: Global,
     machine: &Machine,
     planner: &mut P,
+    outs: Outs,
     lines: &[&[u8]],
 ) -> Result<Vec<u8>, Fail>
     requires { IsTrue (P.serves planner.old machine.now) }
@@ -185,7 +186,7 @@ fn log_by<P: Planner>(
     let mut session = Session {
         schedule: Schedule::new(alloc),
         lines: Lines::new(alloc),
-        outs: Outs(0),
+        outs,
         now: 0,
     };
     let mut out = Vec::new(alloc);
@@ -195,14 +196,29 @@ fn log_by<P: Planner>(
 
 // A function that owns a machine or an engine takes long to prove for each of its ways out. So each of these owns one, and
 // lends it to the next.
-fn log_on(alloc: Global, machine: &Machine, lines: &[&[u8]]) -> Result<Vec<u8>, Fail> {
+fn log_on(alloc: Global, machine: &Machine, outs: Outs, lines: &[&[u8]]) -> Result<Vec<u8>, Fail> {
     let mut engine = engine_for(alloc, machine)?;
-    log_by(alloc, machine, &mut engine, lines)
+    log_by(alloc, machine, &mut engine, outs, lines)
 }
 
-fn log_of(alloc: Global, text: &str, lines: &[&[u8]]) -> Result<Vec<u8>, Fail> {
+fn log_of(alloc: Global, text: &str, outs: Outs, lines: &[&[u8]]) -> Result<Vec<u8>, Fail> {
     let machine = machine_of(alloc, text)?;
-    log_on(alloc, &machine, lines)
+    log_on(alloc, &machine, outs, lines)
+}
+
+// While both engines of DUO are out there is no plan; the one that comes back prints the sheet.
+#[test]
+fn an_engine_comes_back(rt: HostRuntime) -> Result<(), Fail> {
+    let lines: [&[u8]; 3] = [b"job j1 t plain M-:F", b"on ENG2", b"on ENG2"];
+    let wanted = b"> job j1 t plain M-:F\n\
+                   none j1.1.1 t\n\
+                   > on ENG2\n\
+                   plan j1.1.1 t 3 feed 5 print2 11 out 14\n\
+                   > on ENG2\n\
+                   refused noton ENG2\n";
+    let given = log_of(rt.alloc(), DUO, Outs(6), &lines)?;
+    assert_eq!(rt; given.as_slice(), wanted.as_slice());
+    Ok(())
 }
 
 #[test]
@@ -319,7 +335,7 @@ fn jobs_the_clock_and_modules(rt: HostRuntime) -> Result<(), Fail> {
         ),
     ];
     for (text, lines, wanted) in rows {
-        let log = log_of(rt.alloc(), text, lines)?;
+        let log = log_of(rt.alloc(), text, Outs(0), lines)?;
         assert_eq!(rt; log.as_slice(), wanted, "{lines:?}");
     }
     Ok(())
