@@ -1,4 +1,4 @@
-ghost use Rattle.std.specs.Prelude.{◌≡◌, ℕ, ◌<◌, ◌≤◌, ◌↔◌, List, [], ◌∷◌, ◌++◌, length, take, slice_get, Some, IfOk, IsErr, OnOk, OnErr};
+ghost use Rattle.std.specs.Prelude.{◌≡◌, ℕ, ◌<◌, ◌≤◌, ◌↔◌, List, [], ◌∷◌, ◌++◌, length, take, reverse, slice_get, Some, IfOk, IsErr, OnOk, OnErr};
 
 use crate::errors::Memory;
 use crate::refusals::Full;
@@ -68,6 +68,13 @@ impl<T: Copy> Trail<T> {
         ensures { self.new ≡ record { items = take len self.old.items; room = self.old.room } }
     {
         self.items.truncate(len as usize);
+    }
+
+    /// Turns the order of the items round.
+    pub fn reverse(&mut self)
+        ensures { self.new ≡ record { items = reverse self.old.items; room = self.old.room } }
+    {
+        self.items.reverse();
     }
 
     pub fn as_slice(&self) -> &[T]

@@ -1,5 +1,5 @@
 -- The tests that a machine passes give the rules that it keeps.
-use Rattle.std.proofs.Common.{◌≡◌, ◌≢◌, ℕ, ◌+◌, ◌≤◌, ◌<◌, Bool, true, false, not, ◌&&◌, ◌==◌, List, [], ◌∷◌, length, map, Some, arith, AllPairs}
+use Rattle.std.proofs.Common.{◌≡◌, ◌≢◌, ℕ, ◌+◌, ◌≤◌, ◌<◌, Bool, true, false, not, ◌&&◌, ◌==◌, List, [], ◌∷◌, length, map, Some, ap, sym, arith, AllPairs}
 use Rattle.std.specs.Prelude.{ℤ, pos, negsuc, ◌≤ℤ◌, ◌<ℤ◌, ◌+ℤ◌, nat_lt, nat_le, int_le, int_lt}
 use Rattle.std.specs.List.{list_any, Contains}
 use Rattle.std.proofs.lemmas.Bool.Decides.{nat_tests}
@@ -7,7 +7,7 @@ use Rattle.std.proofs.lemmas.Int.{ints}
 use Rattle.tp_base.specs.NameText.{is_between}
 use Rattle.std.proofs.lemmas.List.Elements.{All-contains}
 use Rattle.tp_machine.specs.Using.{action_at, tick_of}
-use Rattle.tp_machine.specs.Rules.{is_among, is_way, is_feeder_place, has_durations, has_holds, is_sound_hold, begins_within, is_never_empty, is_offset, do_holds_differ}
+use Rattle.tp_machine.specs.Rules.{are_different, is_among, is_way, is_feeder_place, has_durations, has_holds, is_sound_hold, begins_within, is_never_empty, is_offset, do_holds_differ}
 use Rattle.tp_machine.specs.Machines.{IsMachine, IsLocation, IsOpenPlace, IsWay, IsSoundRule, IsOffset}
 use Rattle.tp_machine.specs.declared.parts.Action.{Action}
 use Rattle.tp_machine.specs.declared.parts.Anchor.{Anchor}
@@ -18,11 +18,23 @@ use Rattle.tp_machine.specs.declared.parts.LocId.{LocId}
 use Rattle.tp_machine.specs.declared.parts.Resource.{Resource}
 use Rattle.tp_machine.specs.declared.whole.Machine.{Machine}
 use Rattle.tp_machine.proofs.NameFacts.{action_names, all_names, few_holds_at, media_names, name_tests, names_differ, resource_names}
+use Rattle.tp_machine.proofs.RisingNames.{rising_names_differ}
+use Rattle.tp_machine.proofs.ModeFacts.{gap_at-most}
 use Rattle.tp_machine.proofs.Lists.{list_all-at, All-from_test, All-from_none, not_contained, AllPairs-nil, AllPairs-cons}
 
 -- a location that is not among others is not one of them
 pub not_among : (places : List LocId) (place : LocId) → is_among places place ≡ false → ¬ Contains places place
 not_among places place none = not_contained (λ p. p.0 == place.0) places place (grind (arith, nat_tests)) none
+
+-- places that pass their tests differ
+place_differs : (place p : LocId) → (p.0 == place.0) ≡ false → place ≢ p
+place_differs place p test same = let e : p.0 ≡ place.0 = ap (λ q. q.0) (sym same) in grind (arith, nat_tests)
+
+places_differ : (places : List LocId) → are_different places ≡ true → AllPairs (λ p q. p ≢ q) places
+places_differ [] test = AllPairs-nil (λ p q. p ≢ q)
+places_differ (place ∷ places) test =
+    AllPairs-cons (λ p q. p ≢ q) place places
+    (All-from_none (λ p. p.0 == place.0) (λ p. place ≢ p) (place_differs place) places (grind arith)) (places_differ places (grind arith))
 
 above : (a b : ℤ) → int_le a b ≡ true → a ≤ℤ b
 above a b test = grind (arith, ints)
@@ -152,7 +164,7 @@ is_machine machine =
       location_names = (all_names machine.locations names.locations, names_differ machine.locations names.locations_differ);
       module_names = (all_names machine.modules names.modules, names_differ machine.modules names.modules_differ);
       media_names = media_names machine.feeders names.media;
-      resource_names = resource_names machine.resources names.resources;
+      resource_names = (resource_names machine.resources names.resources, rising_names_differ (map (λ q. q.name) machine.resources) (grind arith));
       action_names = (action_names machine.actions names.actions, names_differ (map (λ a. a.name) machine.actions) machine.names_differ);
       few_holds = λ n a at. at_most (length a.holds) 4 (few_holds_at machine n a at);
       lead = at_most machine.lead 4096 (grind arith);
@@ -162,6 +174,8 @@ is_machine machine =
       modules = within 1 64 (length machine.modules) (grind arith);
       resources = at_most (length machine.resources) 256 (grind arith);
       actions = within 1 512 (length machine.actions) (grind arith);
+      trays_differ = places_differ machine.trays (grind arith);
+      purges_differ = places_differ machine.purges (grind arith);
       some_tray = at_most 1 (length machine.trays) (grind arith);
       trays = All-from_test (λ p. nat_lt p.0 (length machine.locations)) (IsLocation machine) (λ p test. less_than p.0 (length machine.locations) test) machine.trays (grind arith);
       purges = λ k d below. (
@@ -173,6 +187,7 @@ is_machine machine =
       feeders_rise = grind arith;
       resources_rise = grind arith;
       resource_modules = All-from_test (λ r. nat_lt r.module.0 (length machine.modules)) (λ r. r.module.0 < length machine.modules) (λ r test. less_than r.module.0 (length machine.modules) test) machine.resources (grind arith);
+      gaps = gap_at-most machine;
       ways = λ n a at. (action_facts machine n a at).way;
       lasts = λ n a at. let d = (action_facts machine n a at).durations in at_most 1 a.least (grind arith);
       in_range = λ n a at. let d = (action_facts machine n a at).durations in (at_most a.least a.most (grind arith), at_most a.most 4096 (grind arith));

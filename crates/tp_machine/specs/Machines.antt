@@ -1,6 +1,7 @@
 -- What every machine keeps: the rules of its text, said of the machine itself.
 use Rattle.std.specs.Prelude.{◌≡◌, ◌≢◌, ℕ, ◌+◌, ◌≤◌, ◌<◌, List, length, Some, All, AllPairs, Contains, IsTrue, ℤ, pos, negsuc, ◌≤ℤ◌, ◌<ℤ◌, map}
 use Rattle.tp_base.specs.NameText.{is_name_text}
+use Rattle.tp_machine.specs.Modes.{gap_at}
 use Rattle.tp_machine.specs.Rules.{do_names_rise, feeder_names}
 use Rattle.tp_machine.specs.Using.{action_at, begin_of, end_of}
 use Rattle.tp_machine.specs.declared.parts.Action.{Action}
@@ -48,9 +49,11 @@ pub record IsMachine (machine : Machine) : Type 0 where
   pub location_names : All IsName machine.locations × AreDifferent machine.locations
   pub module_names : All IsName machine.modules × AreDifferent machine.modules
   pub media_names : All (λ f. IsName f.media) machine.feeders
-  pub resource_names : All (λ r. IsName r.name) machine.resources
+  pub resource_names : All (λ r. IsName r.name) machine.resources × AreDifferent (map (λ r. r.name) machine.resources)
   pub action_names : All (λ a. IsName a.name) machine.actions × AreDifferent (map (λ a. a.name) machine.actions)
   pub some_tray : 1 ≤ length machine.trays
+  pub trays_differ : AllPairs (λ p q. p ≢ q) machine.trays
+  pub purges_differ : AllPairs (λ p q. p ≢ q) machine.purges
   pub trays : All (IsLocation machine) machine.trays
   pub purges : All (λ p. IsLocation machine p × ¬ Contains machine.trays p) machine.purges
   pub some_feeder : 1 ≤ length machine.feeders
@@ -58,6 +61,7 @@ pub record IsMachine (machine : Machine) : Type 0 where
   pub feeders_rise : IsTrue (do_names_rise (feeder_names machine.locations machine.feeders))
   pub resources_rise : IsTrue (do_names_rise (map (λ r. r.name) machine.resources))
   pub resource_modules : All (λ r. r.module.0 < length machine.modules) machine.resources
+  pub gaps : (resource : ℕ) → gap_at machine resource ≤ 4096
   pub ways : (n : ℕ) (a : Action) → action_at machine n ≡ Some a → IsWay machine a
   pub lasts : (n : ℕ) (a : Action) → action_at machine n ≡ Some a → 1 ≤ a.least
   pub in_range : (n : ℕ) (a : Action) → action_at machine n ≡ Some a → (a.least ≤ a.most) × (a.most ≤ 4096)

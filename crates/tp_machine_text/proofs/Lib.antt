@@ -14,6 +14,7 @@ pub mod Named
 pub mod Sound
 pub mod Given
 pub mod OneTable
+pub mod OneMachine
 pub mod Put
 pub mod NameBytes
 pub mod Built

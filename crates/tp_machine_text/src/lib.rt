@@ -5,6 +5,7 @@ mod acting;
 mod actions;
 mod building;
 mod holds;
+mod laws;
 mod looking;
 mod machine;
 mod making;
@@ -17,6 +18,7 @@ mod supplying;
 mod tables;
 mod text;
 
+pub use laws::one_machine;
 pub use printing::print_machine;
 pub use rules::first_broken;
 pub use text::{MachineFault, read_machine, read_table};
