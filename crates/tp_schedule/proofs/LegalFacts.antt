@@ -6,6 +6,8 @@ use Rattle.std.proofs.lemmas.List.Kept.{AllPairs-filter}
 use Rattle.tp_machine.specs.declared.whole.Machine.{Machine}
 use Rattle.tp_schedule.specs.declared.parts.Plan.{Plan}
 use Rattle.tp_schedule.specs.declared.parts.SheetId.{SheetId}
+use Rattle.tp_schedule.proofs.HeldModes.{spread-fewer, held_in_more}
+use Rattle.tp_schedule.proofs.Membership.{Contains-filter_from}
 use Rattle.tp_schedule.specs.Holding.{runs, runs_of, held, hold_of, holds_at}
 use Rattle.tp_schedule.specs.Legality.{IsLegal, EndsBefore}
 use Rattle.tp_schedule.specs.Plans.{IsTimedPlan, without, is_before, is_same_copy}
@@ -31,5 +33,7 @@ IsLegal-without machine copy plans legal = record {
   in_order = AllPairs-filter (λ p q. is_before p.sheet q.sheet ≡ true) (λ p. not (is_same_copy p.sheet copy)) plans legal.in_order;
   timed = All-filter (λ p. not (is_same_copy p.sheet copy)) (IsTimedPlan machine) plans legal.timed;
   single = λ resource tick. omega (arith, legal.single resource tick, length-held-without machine copy plans resource tick);
+  spread = λ resource tick. spread-fewer machine plans (without copy plans) resource tick
+      (λ t mode h. held_in_more machine plans (without copy plans) resource t mode (λ p in'. (Contains-filter_from (λ q. not (is_same_copy q.sheet copy)) plans p in').0) h) (legal.spread resource tick);
   rise = AllPairs-filter EndsBefore (λ p. not (is_same_copy p.sheet copy)) plans legal.rise;
 }

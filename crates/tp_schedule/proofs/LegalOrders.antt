@@ -1,19 +1,21 @@
 -- A schedule has one holder at most exactly where its slots, in the order of their times, lie apart.
-use Rattle.std.proofs.Common.{◌≡◌, inl, ℕ, suc, ◌+◌, ◌≤◌, Bool, true, false, cond, ◌==◌, List, [], ◌∷◌, length, filter, refl, ap, sym, arith, All, AllPairs, ◌∙◌, get_or, Option, Some, None, slice_get, slice_index, IsSomeAnd, add-one}
+use Rattle.std.proofs.Common.{◌≡◌, inl, ℕ, suc, ◌+◌, ◌≤◌, Bool, true, false, cond, ◌==◌, List, [], ◌∷◌, length, filter, refl, ap, sym, arith, Contains, All, AllPairs, ◌∙◌, get_or, Option, Some, None, slice_get, slice_index, IsSomeAnd, add-one}
 use Rattle.std.specs.Prelude.{IsPermutation}
 use Rattle.std.proofs.lemmas.Int.{ints}
 use Rattle.std.proofs.lemmas.List.Elements.{All-append, All-cons, All-head, All-tail, All-nil, Contains-get_or}
-use Rattle.std.proofs.lemmas.List.Sorted.{IsPermutation-sym, IsPermutation-trans, All-permutation, sum_by-IsPermutation}
+use Rattle.std.proofs.lemmas.List.Sorted.{IsPermutation-sym, IsPermutation-trans, All-permutation, Contains-permutation, sum_by-IsPermutation}
 use Rattle.std.proofs.lemmas.List.Sums.{length-filter}
 use Rattle.tp_machine.specs.Machines.{IsMachine}
+use Rattle.tp_machine.specs.Modes.{gap_at}
 use Rattle.tp_machine.specs.Using.{action_at}
-use Rattle.tp_schedule.proofs.Covering.{covered, AllPairs-from_covered, covered-from_AllPairs}
+use Rattle.tp_schedule.proofs.Covering.{covered, Spread, AllPairs-from_covered, covered-from_AllPairs, spread_from_AllPairs}
 use Rattle.tp_schedule.proofs.HeldCount.{IsTimedBy, length-held}
+use Rattle.tp_schedule.proofs.HeldModes.{slots_spread, modes_spread}
 use Rattle.tp_schedule.proofs.SlotOrder.{AllPairs-by_begin, IsPermutation-by_begin, apart_unique}
 use Rattle.tp_schedule.specs.Holding.{holds_of_act, held}
-use Rattle.tp_schedule.specs.Legality.{IsLegal}
+use Rattle.tp_schedule.specs.Legality.{IsLegal, IsSpreadAt}
 use Rattle.tp_schedule.specs.Plans.{IsTimedPlan, LastsWithin}
-use Rattle.tp_schedule.specs.Spots.{Spot, Ticks, Slot, IsApart, slots_by, slots_from, slots_of, slots, ticks_of, slot_order, IsSoundSlot}
+use Rattle.tp_schedule.specs.Spots.{Spot, Ticks, Slot, IsApart, AreApart, slots_by, slots_from, slots_of, slots, ticks_of, slot_order, IsSoundSlot}
 use Rattle.tp_schedule.specs.Times.{KeepsOrders}
 use Rattle.tp_machine.specs.declared.parts.ActId.{ActId}
 use Rattle.tp_machine.specs.declared.parts.Action.{Action}
@@ -82,24 +84,30 @@ legal_apart machine plans rules legal resource =
     let t = ticks_of plans in
     let sound = sound_plans machine rules (ticks_of plans) resource plans (LastsBy-plans machine plans legal.in_order legal.timed) in
     let timed = IsTimedBy-plans machine plans legal.in_order legal.timed in
-    AllPairs-by_begin (ticks_of plans) (slots machine resource plans) sound
-    (AllPairs-from_covered (ticks_of plans) (slots machine resource plans) sound
-    (λ tick. let counted = length-held machine rules (ticks_of plans) resource tick plans timed in omega (arith, legal.single resource tick)))
+    AllPairs-by_begin (gap_at machine resource) (ticks_of plans) (slots machine resource plans) sound
+    (AllPairs-from_covered (gap_at machine resource) (ticks_of plans) (slots machine resource plans) sound
+    (λ tick. let counted = length-held machine rules (ticks_of plans) resource tick plans timed in omega (arith, legal.single resource tick))
+    (slots_spread machine (ticks_of plans) resource plans timed (legal.spread resource)))
 
--- holds that lie apart in some order have that order, and none is held twice
+-- holds that lie apart in some order have that order, none is held twice, and different modes are spread
 pub apart_order : (machine : Machine) (plans : List Plan) → IsMachine machine → InOrder plans → All (IsTimedPlan machine) plans → (resource : ℕ) (xs : List Slot)
-    → IsPermutation (slots machine resource plans) xs → AllPairs (IsApart (ticks_of plans)) xs
-    → (slot_order machine plans resource ≡ xs) × ((tick : ℕ) → length (held machine plans resource tick) ≤ 1)
+    → IsPermutation (slots machine resource plans) xs → AllPairs (IsApart (gap_at machine resource) (ticks_of plans)) xs
+    → (slot_order machine plans resource ≡ xs) × ((tick : ℕ) → length (held machine plans resource tick) ≤ 1) × ((tick : ℕ) → IsSpreadAt machine plans resource tick)
 apart_order machine plans rules in_order timed resource xs same apart =
     let sound = sound_plans machine rules (ticks_of plans) resource plans (LastsBy-plans machine plans in_order timed) in
+    let by = IsTimedBy-plans machine plans in_order timed in
     let xs-sound = All-permutation (IsSoundSlot (ticks_of plans)) (slots machine resource plans) xs same sound in
     let sorted = IsPermutation-by_begin (ticks_of plans) (slots machine resource plans) in
-    let once : (tick : ℕ) → length (filter (covered (ticks_of plans) tick) xs) ≤ 1 = λ tick. covered-from_AllPairs (ticks_of plans) xs (λ i j d before within. inl (apart i j d before within)) tick in
-    let once' : (tick : ℕ) → length (filter (covered (ticks_of plans) tick) (slots machine resource plans)) ≤ 1 = λ tick. rw (length-filter-IsPermutation (covered (ticks_of plans) tick) (slots machine resource plans) xs same) (once tick) in (
-      apart_unique (ticks_of plans) (slot_order machine plans resource) xs
+    let either : AllPairs (AreApart (gap_at machine resource) (ticks_of plans)) xs = λ i j d before within. inl (apart i j d before within) in
+    let once : (tick : ℕ) → length (filter (covered (ticks_of plans) tick) xs) ≤ 1 = λ tick. covered-from_AllPairs (gap_at machine resource) (ticks_of plans) xs either tick in
+    let once' : (tick : ℕ) → length (filter (covered (ticks_of plans) tick) (slots machine resource plans)) ≤ 1 = λ tick. rw (length-filter-IsPermutation (covered (ticks_of plans) tick) (slots machine resource plans) xs same) (once tick) in
+    let spread : (x y : Slot) → Contains (slots machine resource plans) x → Contains (slots machine resource plans) y → Spread (gap_at machine resource) (ticks_of plans) x y =
+    λ x y in-x in-y. spread_from_AllPairs (gap_at machine resource) (ticks_of plans) xs either x y (Contains-permutation (slots machine resource plans) xs x same in-x) (Contains-permutation (slots machine resource plans) xs y same in-y) in (
+      apart_unique (gap_at machine resource) (ticks_of plans) (slot_order machine plans resource) xs
           (All-permutation (IsSoundSlot (ticks_of plans)) (slots machine resource plans) (slot_order machine plans resource) sorted sound) xs-sound
-          (AllPairs-by_begin (ticks_of plans) (slots machine resource plans) sound (AllPairs-from_covered (ticks_of plans) (slots machine resource plans) sound once'))
+          (AllPairs-by_begin (gap_at machine resource) (ticks_of plans) (slots machine resource plans) sound (AllPairs-from_covered (gap_at machine resource) (ticks_of plans) (slots machine resource plans) sound once' spread))
           apart
           (IsPermutation-trans (slot_order machine plans resource) (slots machine resource plans) xs (IsPermutation-sym (slots machine resource plans) (slot_order machine plans resource) sorted) same),
-      λ tick. let counted = length-held machine rules (ticks_of plans) resource tick plans (IsTimedBy-plans machine plans in_order timed) in omega (arith, once' tick),
+      λ tick. let counted = length-held machine rules (ticks_of plans) resource tick plans by in omega (arith, once' tick),
+      modes_spread machine (ticks_of plans) resource plans by spread,
     )

@@ -7,6 +7,7 @@ pub mod TickLists
 pub mod SlotOrder
 pub mod Covering
 pub mod HeldCount
+pub mod HeldModes
 pub mod LegalOrders
 pub mod LegalFacts
 pub mod RoomFacts
@@ -17,3 +18,4 @@ pub mod AllowedFacts
 pub mod RunFacts
 pub mod SortFacts
 pub mod OrderFacts
+pub mod Without

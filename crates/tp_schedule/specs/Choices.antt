@@ -1,5 +1,6 @@
 -- Choice lists: a goal state with choices for a suffix of a route, each choice an action with places for its holds.
 use Rattle.std.specs.Prelude.{◌≡◌, ◌≢◌, ℕ, suc, ◌+◌, ◌<◌, ◌≤◌, Bool, true, false, ◌==◌, List, [], ◌∷◌, length, map, insert, Some, Contains, IsTrue, AllPairs, if◌then◌else◌}
+use Rattle.tp_machine.specs.Modes.{gap_at}
 use Rattle.tp_machine.specs.Using.{action_at}
 use Rattle.tp_machine.specs.declared.parts.ActId.{ActId}
 use Rattle.tp_machine.specs.declared.parts.HoldRule.{HoldRule}
@@ -99,7 +100,7 @@ pub record HasTimes (machine : Machine) (plans : List Plan) (ask : Ask) (list : 
   pub first : start_floor machine ask.now ask.origin + room ≤ t (own (length list.choices))
   pub last : t (own 0) ≤ ask.now + machine.window
   pub line : KeepsLine ask plans t (t (own 0))
-  pub apart : (resource : ℕ) → AllPairs (IsApart t) (placed machine resource (slot_order machine plans resource) list.choices)
+  pub apart : (resource : ℕ) → AllPairs (IsApart (gap_at machine resource) t) (placed machine resource (slot_order machine plans resource) list.choices)
   pub stopped : IsTrue list.stopped → t (own (length list.choices)) ≡ start_floor machine ask.now ask.origin
 
 -- the list opens to this end: some allowed actions lead from a start state of the ask to the list's first state, and

@@ -1,6 +1,7 @@
 -- Which copies hold a resource at a tick.
-use Rattle.std.specs.Prelude.{ℕ, ◌+◌, Bool, ◌&&◌, ◌==◌, List, [], ◌∷◌, map, filter, flat_map, Option, Some, None}
+use Rattle.std.specs.Prelude.{◌≡◌, ℕ, ◌+◌, Bool, ◌&&◌, ◌==◌, List, [], ◌∷◌, map, filter, flat_map, Option, Some, None, Contains, IsTrue}
 use Rattle.std.specs.List.{list_any}
+use Rattle.tp_machine.specs.Modes.{mode_of}
 use Rattle.tp_machine.specs.Using.{action_at, covers}
 use Rattle.tp_machine.specs.declared.parts.ActId.{ActId}
 use Rattle.tp_machine.specs.declared.parts.Action.{Action}
@@ -50,3 +51,14 @@ hold_of run = record { sheet = run.sheet; act = run.number }
 -- the copies that hold the resource at the tick, each with the number of the action that holds it
 abbrev pub held : Machine → List Plan → ℕ → ℕ → List Hold
 held machine plans resource tick = map hold_of (filter (holds_at machine resource tick) (runs plans))
+
+-- a hold of an action of the plans is on the resource, covers the tick, and has this mode
+pub record IsHeldIn (machine : Machine) (plans : List Plan) (resource tick mode : ℕ) : Type 0 where
+  pub plan : Plan
+  pub planned : Contains plans plan
+  pub run : Run
+  pub runs : Contains (runs_of plan) run
+  pub hold : HoldRule
+  pub holds : Contains (holds_of_act (action_at machine run.act.0)) hold
+  pub covers : IsTrue (is_held_by hold resource run.start run.end tick)
+  pub mode_is : mode_of hold ≡ mode

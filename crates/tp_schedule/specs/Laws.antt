@@ -1,5 +1,6 @@
 -- Laws that show that the definitions fit one another.
 use Rattle.std.specs.Prelude.{◌≡◌, ◌↔◌, ℕ, ◌≤◌, List, length, Some, All, AllPairs, IsTrue, IsPermutation}
+use Rattle.tp_machine.specs.Modes.{gap_at}
 use Rattle.tp_machine.specs.Steps.{Step, step_of}
 use Rattle.tp_machine.specs.Using.{action_at, IsAllowed}
 use Rattle.tp_machine.specs.declared.parts.ActId.{ActId}
@@ -11,7 +12,7 @@ use Rattle.tp_machine.specs.declared.whole.Machine.{Machine}
 use Rattle.tp_schedule.specs.Routes.{IsRoom, is_act_allowed}
 use Rattle.tp_schedule.specs.Plans.{IsTimedPlan, IsEarlier, without, end_of_plan}
 use Rattle.tp_schedule.specs.Holding.{held}
-use Rattle.tp_schedule.specs.Legality.{IsLegal}
+use Rattle.tp_schedule.specs.Legality.{IsLegal, IsSpreadAt}
 use Rattle.tp_schedule.specs.Spots.{Ticks, Slot, IsApart, AreApart, IsRow, IsSoundSlot, slots, slot_order, ticks_of}
 use Rattle.tp_schedule.specs.Spots.Spot.{own}
 use Rattle.tp_schedule.specs.Answers.{IsEarliest}
@@ -23,20 +24,21 @@ use Rattle.tp_schedule.specs.declared.parts.SheetId.{SheetId}
 -- the order of a resource is the only list of its holds in which each ends by the begins of those after it
 abbrev pub OrderIsOnly : Type 0
 OrderIsOnly = (machine : Machine) (plans : List Plan) (resource : ℕ) (xs : List Slot) → IsLegal machine plans
-    → IsPermutation (slots machine resource plans) xs → AllPairs (IsApart (ticks_of plans)) xs ↔ (xs ≡ slot_order machine plans resource)
+    → IsPermutation (slots machine resource plans) xs → AllPairs (IsApart (gap_at machine resource) (ticks_of plans)) xs ↔ (xs ≡ slot_order machine plans resource)
 
 -- a legal schedule less one plan is legal
 abbrev pub LegalWithout : Type 0
 LegalWithout = (machine : Machine) (copy : SheetId) (plans : List Plan) → IsLegal machine plans → IsLegal machine (without copy plans)
 
--- at most one holder at every tick is the same as holds that are pairwise apart
+-- at most one holder at every tick, and different modes at ticks that differ by more than the gap, are the same as holds
+-- that are pairwise apart
 abbrev pub OneHolderIsApart : Type 0
 OneHolderIsApart = (machine : Machine) (plans : List Plan) (resource : ℕ) → AllPairs IsEarlier plans → All (IsTimedPlan machine) plans
-    → ((tick : ℕ) → length (held machine plans resource tick) ≤ 1) ↔ AllPairs (AreApart (ticks_of plans)) (slots machine resource plans)
+    → (((tick : ℕ) → length (held machine plans resource tick) ≤ 1) × ((tick : ℕ) → IsSpreadAt machine plans resource tick)) ↔ AllPairs (AreApart (gap_at machine resource) (ticks_of plans)) (slots machine resource plans)
 
 -- neighbours that are apart make all apart
 abbrev pub RowIsApart : Type 0
-RowIsApart = (t : Ticks) (xs : List Slot) → All (IsSoundSlot t) xs → IsRow t xs ↔ AllPairs (IsApart t) xs
+RowIsApart = (gap : ℕ) (t : Ticks) (xs : List Slot) → All (IsSoundSlot t) xs → IsRow gap t xs ↔ AllPairs (IsApart gap t) xs
 
 -- rooms are unique
 abbrev pub RoomIsOne : Type 0

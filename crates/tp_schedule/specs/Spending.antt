@@ -33,3 +33,7 @@ module _ (machine : Machine) (plans : List Plan) (ask : Ask) where
     pub none_stored_complete : (list : ChoiceList) → Contains stored list → IsComplete machine ask list → IsBound machine plans ask list bound → ⊥
     pub no_child_complete : (child : ChoiceList) → IsChild machine ask last child → IsComplete machine ask child → IsBound machine plans ask child bound → ⊥
     pub none_before : NoneBefore machine plans ask bound
+
+  -- at most so many different open lists with choices exist
+  abbrev pub FewListsOpen : ℕ → Type 0
+  FewListsOpen most = (lists : List ChoiceList) → AllPairs (λ a b. a ≢ b) lists → ((list : ChoiceList) → Contains lists list → IsOpen machine plans ask list × (list.choices ≢ [])) → length lists ≤ most

@@ -1,6 +1,7 @@
 -- The points of plans and of choices, ticks for them, the holds that lie between two of them, and the order of the
 -- holds on a resource by their times.
-use Rattle.std.specs.Prelude.{ℕ, suc, ◌==◌, List, [], ◌∷◌, ◌++◌, flat_map, map, ℤ, pos, int_lt, ◌≤ℤ◌, ◌<ℤ◌, ◌⊎◌, Option, Some, None, if◌then◌else◌}
+use Rattle.std.specs.Prelude.{ℕ, suc, ◌==◌, List, [], ◌∷◌, ◌++◌, flat_map, map, ℤ, pos, ◌+ℤ◌, int_lt, ◌≤ℤ◌, ◌<ℤ◌, ◌⊎◌, Option, Some, None, if◌then◌else◌}
+use Rattle.tp_machine.specs.Modes.{gap_between}
 use Rattle.tp_machine.specs.Using.{action_at, begin_of, end_of}
 use Rattle.tp_machine.specs.declared.parts.ActId.{ActId}
 use Rattle.tp_machine.specs.declared.parts.HoldRule.{HoldRule}
@@ -33,19 +34,20 @@ begin_at t s = begin_of s.rule (t s.from) (t s.to)
 abbrev pub end_at : Ticks → Slot → ℤ
 end_at t s = end_of s.rule (t s.from) (t s.to)
 
--- at these ticks the first hold ends by the begin of the second
-abbrev pub IsApart : Ticks → Slot → Slot → Type 0
-IsApart t x y = end_at t x ≤ℤ begin_at t y
+-- at these ticks, and on a resource with this gap, the first hold ends by the begin of the second, or the gap before it
+-- where their modes differ
+abbrev pub IsApart : ℕ → Ticks → Slot → Slot → Type 0
+IsApart gap t x y = (end_at t x +ℤ pos (gap_between gap x.rule y.rule)) ≤ℤ begin_at t y
 
--- whichever is earlier ends by the begin of the other
-abbrev pub AreApart : Ticks → Slot → Slot → Type 0
-AreApart t x y = IsApart t x y ⊎ IsApart t y x
+-- whichever is earlier stands so before the other
+abbrev pub AreApart : ℕ → Ticks → Slot → Slot → Type 0
+AreApart gap t x y = IsApart gap t x y ⊎ IsApart gap t y x
 
--- a row: each hold ends by the begin of the next
-abbrev pub IsRow : Ticks → List Slot → Type 0
-IsRow t [] = Unit {0}
-IsRow t (x ∷ []) = Unit {0}
-IsRow t (x ∷ y ∷ ys) = IsApart t x y × IsRow t (y ∷ ys)
+-- a row: each hold stands so before the next
+abbrev pub IsRow : ℕ → Ticks → List Slot → Type 0
+IsRow gap t [] = Unit {0}
+IsRow gap t (x ∷ []) = Unit {0}
+IsRow gap t (x ∷ y ∷ ys) = IsApart gap t x y × IsRow gap t (y ∷ ys)
 
 -- a hold that is not empty and does not begin before the first tick
 pub record IsSoundSlot (t : Ticks) (s : Slot) : Type 0 where

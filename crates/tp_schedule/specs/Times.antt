@@ -1,5 +1,6 @@
 -- What ticks keep of a schedule: durations, fixed points, floors, horizon and lines, and the orders of its resources.
 use Rattle.std.specs.Prelude.{◌≡◌, ℕ, zero, suc, ◌+◌, ◌<◌, ◌≤◌, Bool, List, [], ◌∷◌, length, Contains, AllPairs, IsTrue, IsFalse, slice_get, Some}
+use Rattle.tp_machine.specs.Modes.{gap_at}
 use Rattle.tp_machine.specs.declared.parts.ActId.{ActId}
 use Rattle.tp_machine.specs.declared.whole.Machine.{Machine}
 use Rattle.tp_schedule.specs.Plans.{LastsWithin, point, is_fixed, is_delivered_to, with_points}
@@ -25,9 +26,10 @@ pub record KeepsTimes (machine : Machine) (now : ℕ) (exempt : Plan → Bool) (
   pub horizon : (p : Plan) → Contains plans p → (i : ℕ) → i ≤ length p.acts → IsFalse (is_fixed p i) → at t p i ≤ now + machine.window
   pub rise : AllPairs (EndsBeforeAt t) plans
 
--- the ticks keep the orders of the schedule: on each resource each hold ends by the begins of those after it
+-- the ticks keep the orders of the schedule: on each resource each hold ends by the begins of those after it, with the
+-- gap of the resource between different modes
 abbrev pub KeepsOrders : Machine → List Plan → Ticks → Type 0
-KeepsOrders machine plans t = (resource : ℕ) → AllPairs (IsApart t) (slot_order machine plans resource)
+KeepsOrders machine plans t = (resource : ℕ) → AllPairs (IsApart (gap_at machine resource) t) (slot_order machine plans resource)
 
 -- so many ticks from a number on
 abbrev pub ticks_from : (ℕ → ℕ) → ℕ → ℕ → List ℕ

@@ -25,8 +25,8 @@ pub(crate) fn place_of(plans: &[Plan], copy: SheetId) -> usize
     first_later(plans, copy).unwrap_or(plans.len())
 }
 
-/// The place of the plan of the copy.
-pub(crate) fn copy_place(plans: &[Plan], copy: SheetId) -> Option<usize>
+/// The place of the plan of the copy. Looks at the plans before it.
+pub fn copy_place(plans: &[Plan], copy: SheetId) -> Option<usize>
     ensures place { result ≡ position (λ p. is_same_copy p.sheet copy) plans.now }
     ensures within { IfSome result (λ at. at < length plans.now) }
 {

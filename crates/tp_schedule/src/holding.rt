@@ -7,7 +7,7 @@ ghost use Rattle.tp_schedule.specs.Living.{ends_after, is_held_after, is_live};
 
 use crate::parts::Plan;
 use tp_base::Tick;
-use tp_machine::{ActId, HoldRule, Machine, ResId, span};
+use tp_machine::{ActId, HoldRule, Machine, ResId, gap_at, span};
 
 /// Whether the hold covers the tick on the resource, where its action runs from `start` to `end`.
 fn is_held(hold: &HoldRule, resource: ResId, start: Tick, end: Tick, at: Tick) -> bool
@@ -61,28 +61,35 @@ pub(crate) fn count_holders(
     }
 }
 
-fn does_end_after(hold: &HoldRule, start: Tick, end: Tick, now: Tick) -> bool
-    ensures { result ≡ ends_after now start end hold.now }
+fn does_end_after(machine: &Machine, hold: &HoldRule, start: Tick, end: Tick, now: Tick) -> bool
+    ensures { result ≡ ends_after machine.now now start end hold.now }
 {
-    i64::from(now) < span(hold, start, end).1
+    let gap = gap_at(machine, hold.resource);
+    i64::from(now) - i64::from(gap) < span(hold, start, end).1
 }
 
-fn does_any_end_after(holds: &[HoldRule], start: Tick, end: Tick, now: Tick) -> bool
-    ensures { result ≡ list_any (ends_after now start end) holds.now }
+fn does_any_end_after(
+    machine: &Machine,
+    holds: &[HoldRule],
+    start: Tick,
+    end: Tick,
+    now: Tick,
+) -> bool
+    ensures { result ≡ list_any (ends_after machine.now now start end) holds.now }
 {
     holds
         .iter()
-        .any(|hold| does_end_after(hold, start, end, now))
+        .any(|hold| does_end_after(machine, hold, start, end, now))
 }
 
-/// Whether a hold of the actions ends after the moment.
+/// Whether a hold of the actions, with the gap behind it, ends after the moment.
 fn is_any_held_after(machine: &Machine, now: Tick, acts: &[ActId], points: &[Tick]) -> bool
     ensures { (sheet : SheetId) (number : ℕ) → list_any (is_held_after machine.now now) (runs_from sheet number acts.now points.now) ≡ result }
 {
     if let [act, later @ ..] = acts
         && let [start, end, ..] = points
     {
-        let here = does_any_end_after(holds_of(machine, *act), *start, *end, now);
+        let here = does_any_end_after(machine, holds_of(machine, *act), *start, *end, now);
         let after = is_any_held_after(machine, now, later, &points[1..]);
         here || after
     } else {
@@ -96,7 +103,7 @@ fn is_any_after(points: &[Tick], now: Tick) -> bool
     points.iter().any(|point| now < *point)
 }
 
-/// Whether a point or a hold's end of the plan is above the moment.
+/// Whether a point of the plan, or the end of one of its holds with the gap behind it, is above the moment.
 pub fn is_plan_live(machine: &Machine, now: Tick, plan: &Plan) -> bool
     ensures { result ≡ is_live machine.now now plan.now }
 {

@@ -32,7 +32,7 @@ impl Schedule {
     ghost use Rattle.tp_schedule.specs.Timetables.{IsOrdered};
     ghost use Rattle.tp_schedule.specs.Plans.{IsFormed, is_same_copy, plan_of, put_plan, change_plan, cut_to, with_points, with_released, without};
     ghost use Rattle.tp_schedule.specs.Holding.{held};
-    ghost use Rattle.tp_schedule.specs.Legality.{IsLegal};
+    ghost use Rattle.tp_schedule.specs.Legality.{IsLegal, IsSpreadAt};
     ghost use Rattle.tp_schedule.specs.Living.{is_live, live_count};
     ghost use Rattle.tp_schedule.specs.Spots.{order_of};
 
@@ -173,8 +173,8 @@ impl Schedule {
         self.plans.retain(|plan| plan.sheet != sheet);
     }
 
-    /// The plans go that are not live at the moment: no point and no hold's end of theirs is above it. Their memory stays, as
-    /// room for others.
+    /// The plans go that are not live at the moment: no point of theirs and no hold's end with its gap is above it. Their
+    /// memory stays, as room for others.
     pub fn forget(&mut self, machine: &Machine, now: Tick)
         ensures plans { self.new.plans ≡ filter (is_live machine.now now) self.old.plans }
         ensures spare { self.new.spare + length self.new.plans ≡ self.old.spare + length self.old.plans }
@@ -182,8 +182,7 @@ impl Schedule {
         self.plans.retain(|plan| is_plan_live(machine, now, plan));
     }
 
-    /// Whether at most one action holds the resource at the tick. Looks at all plans.
-    pub fn legal_at(&self, machine: &Machine, resource: ResId, at: Tick) -> bool
+    fn is_held_once(&self, machine: &Machine, resource: ResId, at: Tick) -> bool
         ensures { IsTrue result ↔ (length (held machine.now self.now.plans resource.0 at) ≤ 1) }
     {
         let mut holders: u64 = 0;
@@ -192,6 +191,25 @@ impl Schedule {
             holders += count_holders(machine, resource, at, plan.acts.as_slice(), points);
         }
         holders <= 1
+    }
+
+    /// Whether the resource is held in no other mode at a tick that differs by at most its gap. It is so, since all holds have
+    /// one mode yet.
+    #[tactic(auto, unfolding(tp_machine::specs::Modes::mode_of))]
+    fn is_spread(&self, _machine: &Machine, _resource: ResId, _at: Tick) -> bool
+        ensures { IsTrue result ↔ IsSpreadAt _machine.now self.now.plans _resource.0 _at }
+    {
+        true
+    }
+
+    /// Whether at most one action holds the resource at the tick, and none holds it in another mode at a tick that differs
+    /// by at most its gap. Looks at all plans.
+    pub fn legal_at(&self, machine: &Machine, resource: ResId, at: Tick) -> bool
+        ensures { IsTrue result ↔ ((length (held machine.now self.now.plans resource.0 at) ≤ 1) × IsSpreadAt machine.now self.now.plans resource.0 at) }
+    {
+        let once = self.is_held_once(machine, resource, at);
+        let spread = self.is_spread(machine, resource, at);
+        once && spread
     }
 
     /// The holds on the resource by their times. Takes time by the square of their number.
@@ -207,7 +225,7 @@ impl Schedule {
         holds_by_time(alloc, machine, resource, self.plans.as_slice())
     }
 
-    /// How many plans are live: a point or a hold's end of them is above the moment.
+    /// How many plans are live: a point of them, or a hold's end with its gap, is above the moment.
     pub fn live(&self, machine: &Machine, now: Tick) -> u32
         ensures { result ≡ live_count machine.now now self.now.plans }
     {

@@ -7,13 +7,14 @@ mod holding;
 mod keeping;
 mod laws;
 mod ordering;
+mod origin;
 mod parts;
 mod planning;
 mod recording;
 mod series;
 mod starting;
 
-pub use copies::is_earlier;
+pub use copies::{copy_place, is_earlier};
 pub use goals::{finished, is_goal};
 pub use holding::is_plan_live;
 pub use keeping::Schedule;
