@@ -6,7 +6,7 @@ use Rattle.std.proofs.lemmas.Bool.{le-ltb}
 use Rattle.std.proofs.lemmas.List.{length-append, length-map, map-append}
 use Rattle.std.proofs.lemmas.List.Elements.{All-contains}
 use Rattle.std.proofs.lemmas.List.Kept.{AllPairs-filter}
-use Rattle.std.proofs.lemmas.List.Sorted.{IsPermutation-sym, IsPermutation-trans, IsPermutation-append_right, IsPermutation-append_left, IsPermutation-append_comm, All-permutation}
+use Rattle.std.proofs.lemmas.List.Sorted.{IsPermutation-sym, IsPermutation-trans, IsPermutation-append_right, IsPermutation-append_left, IsPermutation-append_comm, All-permutation, Contains-permutation}
 use Rattle.tp_schedule.proofs.LegalOrders.{LastsBy-plans, IsTimedBy-plans}
 use Rattle.tp_machine.proofs.MachineFacts.{is_machine}
 use Rattle.tp_choices.proofs.Lists.{map-same, slice_get-left, slice_get-right, All-map_from, filter-map-length}
@@ -14,12 +14,14 @@ use Rattle.tp_choices.proofs.OwnSlots.{settled_slot, slots_from-append, slots-wi
 use Rattle.tp_choices.proofs.Placing.{own_acts, LastActs, Chosen, chosen}
 use Rattle.tp_choices.proofs.PlansOf.{plan_of-contains}
 use Rattle.tp_choices.proofs.TimedSlots.{All-slots}
+use Rattle.tp_machine.specs.Modes.{gap_at}
 use Rattle.tp_machine.specs.Machines.{IsMachine}
 use Rattle.tp_schedule.proofs.CopyFacts.{plan_of-itself, same_copy-is}
+use Rattle.tp_schedule.proofs.HeldModes.{slots_spread}
 use Rattle.tp_schedule.proofs.Covering.{covered, AllPairs-from_covered}
 use Rattle.tp_schedule.proofs.HeldCount.{length-held}
 use Rattle.tp_schedule.proofs.LegalOrders.{sound_plans, legal_apart, length-filter-IsPermutation}
-use Rattle.tp_schedule.proofs.Membership.{Contains-filter_from, Contains-filter}
+use Rattle.tp_schedule.proofs.Membership.{Contains-filter_from, Contains-filter, Contains-map}
 use Rattle.tp_schedule.proofs.Pairs.{AllPairs-each}
 use Rattle.tp_schedule.proofs.SlotOrder.{IsPermutation-by_begin}
 use Rattle.tp_schedule.specs.Answers.{unmoved, kept_of, kept_from, kept_acts, acts_in, KeepsFixed, follows_front, IsAlternative, IsAsked, IsAskedFrom, is_new}
@@ -207,16 +209,16 @@ module _ (machine : Machine) (plans new : List Plan) (ask : Ask) (rules : IsMach
         go p in' i le true e = let front = is_kept.front p (moved-asked p in' e).1 in le-ltb (kept_of ask) i (omega (arith, front.1))
 
   -- the kept holds lie apart at these ticks
-  orders-apart : (resource : ℕ) → AllPairs (IsApart t) (orders resource)
+  orders-apart : (resource : ℕ) → AllPairs (IsApart (gap_at machine resource) t) (orders resource)
   orders-apart resource =
-      let all : AllPairs (IsApart t'') (filter (λ s. not (is_new ask s)) (slot_order machine new resource)) = AllPairs-filter (IsApart t'') (λ s. not (is_new ask s)) (slot_order machine new resource) (legal_apart machine new rules a.legal resource) in
-      AllPairs-each (IsApart t'') (IsApart t) (orders resource) (subst (AllPairs (IsApart t'')) (a.orders resource) all)
+      let all : AllPairs (IsApart (gap_at machine resource) t'') (filter (λ s. not (is_new ask s)) (slot_order machine new resource)) = AllPairs-filter (IsApart (gap_at machine resource) t'') (λ s. not (is_new ask s)) (slot_order machine new resource) (legal_apart machine new rules a.legal resource) in
+      AllPairs-each (IsApart (gap_at machine resource) t'') (IsApart (gap_at machine resource) t) (orders resource) (subst (AllPairs (IsApart (gap_at machine resource) t'')) (a.orders resource) all)
       (λ x y in-x in-y e.
       let old-x = All-contains IsOld (orders resource) x (old-slots resource) in-x in
       let old-y = All-contains IsOld (orders resource) y (old-slots resource) in-y in
       both x y (as_new x) (as_new y) old-x.0 old-y.0 refl refl e) where
-        both : (x y x' y' : Slot) → as_new x ≡ x → as_new y ≡ y → as_new x ≡ x' → as_new y ≡ y' → IsApart t'' x y → IsApart t x y
-        both x y x' y' p q _ _ e = subst (λ z. IsApart t'' z (as_new y)) (sym p) (subst (λ z. IsApart t'' x z) (sym q) e)
+        both : (x y x' y' : Slot) → as_new x ≡ x → as_new y ≡ y → as_new x ≡ x' → as_new y ≡ y' → IsApart (gap_at machine resource) t'' x y → IsApart (gap_at machine resource) t x y
+        both x y x' y' p q _ _ e = subst (λ z. IsApart (gap_at machine resource) t'' z (as_new y)) (sym p) (subst (λ z. IsApart (gap_at machine resource) t'' x z) (sym q) e)
 
   abbrev list-slots : ℕ → List Slot
   list-slots resource = own_acts machine resource route ++ orders resource
@@ -249,12 +251,16 @@ module _ (machine : Machine) (plans new : List Plan) (ask : Ask) (rules : IsMach
       let mapped = All-map_from (IsSoundSlot t'') as_new (list-slots resource) (All-permutation (IsSoundSlot t'') (slots machine resource new) (map as_new (list-slots resource)) (new-slots resource) sound) in
       λ k d within. let one = mapped k d within in record { long = one.long; late = one.late }
 
-  list-comparable : (resource : ℕ) → AllPairs (AreApart t) (list-slots resource)
-  list-comparable resource = AllPairs-from_covered t (list-slots resource) (list-sound resource) (λ tick.
+  is-new : (resource : ℕ) (x : Slot) → Contains (list-slots resource) x → Contains (slots machine resource new) (as_new x)
+  is-new resource x in' = Contains-permutation (map as_new (list-slots resource)) (slots machine resource new) (as_new x) (IsPermutation-sym (slots machine resource new) (map as_new (list-slots resource)) (new-slots resource)) (Contains-map as_new (list-slots resource) x in')
+
+  list-comparable : (resource : ℕ) → AllPairs (AreApart (gap_at machine resource) t) (list-slots resource)
+  list-comparable resource = AllPairs-from_covered (gap_at machine resource) t (list-slots resource) (list-sound resource) (λ tick.
       let counted = length-held machine rules t'' resource tick new (IsTimedBy-plans machine new a.legal.in_order a.legal.timed) in
       let moved-count = length-filter-IsPermutation (covered t'' tick) (slots machine resource new) (map as_new (list-slots resource)) (new-slots resource) in
       let mapped-count : length (filter (covered t'' tick) (map as_new (list-slots resource))) ≡ length (filter (covered t tick) (list-slots resource)) = filter-map-length (covered t'' tick) as_new (list-slots resource) in
       omega (arith, a.legal.single resource tick))
+      (λ x y in-x in-y. slots_spread machine t'' resource new (IsTimedBy-plans machine new a.legal.in_order a.legal.timed) (a.legal.spread resource) (as_new x) (as_new y) (is-new resource x in-x) (is-new resource y in-y))
 
   choices-of : Chosen machine orders t route
   choices-of = chosen machine rules orders t route lasts-acts orders-apart list-sound list-comparable

@@ -10,6 +10,7 @@ use Rattle.std.proofs.lemmas.List.Elements.{All-append, All-contains}
 use Rattle.std.proofs.lemmas.List.Kept.{AllPairs-filter}
 use Rattle.std.proofs.lemmas.List.Sorted.{IsPermutation-sym, IsPermutation-trans, IsPermutation-append_right, IsPermutation-append_left, IsPermutation-map, IsPermutation-append_comm, All-permutation}
 use Rattle.tp_machine.proofs.MachineFacts.{is_machine}
+use Rattle.tp_machine.specs.Modes.{gap_at}
 use Rattle.tp_machine.specs.declared.parts.ActId.{ActId}
 use Rattle.tp_machine.specs.declared.whole.Machine.{Machine}
 use Rattle.tp_choices.proofs.Completing.{ChoicesLast-at, ChoicesLast-rise, IsPrefix, prefix_of, IsTimedPlan-timed_by, point-timed_by}
@@ -27,7 +28,7 @@ use Rattle.tp_schedule.specs.Answers.{unmoved, kept_of, kept_acts, KeepsFixed, K
 use Rattle.tp_schedule.specs.Choices.{ChoiceList, acts_of, placed, HasTimes, IsChoiceList}
 use Rattle.tp_schedule.specs.Completions.{settled, settled_ticks, total_of, asked_plan, answered}
 use Rattle.tp_schedule.specs.Holding.{held}
-use Rattle.tp_schedule.specs.Legality.{IsLegal, EndsBefore}
+use Rattle.tp_schedule.specs.Legality.{IsLegal, IsSpreadAt, EndsBefore}
 use Rattle.tp_schedule.specs.Plans.{plan_of, without, put_plan, is_same_copy, is_before, IsTimedPlan, LastsWithin, point, end_of_plan, is_fixed}
 use Rattle.tp_schedule.specs.Spots.{Ticks, Slot, IsApart, slots_from, slots_of, slots, slot_order, ticks_of}
 use Rattle.tp_schedule.specs.Times.{EndsBeforeAt, at, timed_by}
@@ -239,15 +240,15 @@ module _ (machine : Machine) (plans : List Plan) (ask : Ask) (list : ChoiceList)
       (All-permutation Matches (slots machine resource plans) (orders resource) (IsPermutation-by_begin (ticks_of plans) (slots machine resource plans))
       (All-slots Matches machine resource plans (λ p in' i within rule. (t''-kept p in' i (omega arith), t''-kept p in' (suc i) (omega arith))))))
 
-  new-apart : (resource : ℕ) → AllPairs (IsApart t'') (map as_new (placed_on resource))
-  new-apart resource = AllPairs-map (IsApart t) (IsApart t'') Matches as_new (placed_on resource) (placed-matches resource) (times.apart resource)
+  new-apart : (resource : ℕ) → AllPairs (IsApart (gap_at machine resource) t'') (map as_new (placed_on resource))
+  new-apart resource = AllPairs-map (IsApart (gap_at machine resource) t) (IsApart (gap_at machine resource) t'') Matches as_new (placed_on resource) (placed-matches resource) (times.apart resource)
       (λ x y p q e. rw (p.0, p.1, q.0, q.1) e)
 
-  pub new-order : (resource : ℕ) → (slot_order machine new resource ≡ map as_new (placed_on resource)) × ((tick : ℕ) → length (held machine new resource tick) ≤ 1)
+  pub new-order : (resource : ℕ) → (slot_order machine new resource ≡ map as_new (placed_on resource)) × ((tick : ℕ) → length (held machine new resource tick) ≤ 1) × ((tick : ℕ) → IsSpreadAt machine new resource tick)
   new-order resource = apart_order machine new rules new-in_order new-timed resource (map as_new (placed_on resource)) (new-slots resource) (new-apart resource)
 
   new-legal : IsLegal machine new
-  new-legal = record { in_order = new-in_order; timed = new-timed; single = λ resource. (new-order resource).1; rise = new-rise }
+  new-legal = record { in_order = new-in_order; timed = new-timed; single = λ resource. (new-order resource).1; spread = λ resource. (new-order resource).2; rise = new-rise }
 
   unmoved-others : (ps : List Plan) → map unmoved (map (timed_by t') ps) ≡ map unmoved ps
   unmoved-others [] = refl

@@ -4,6 +4,7 @@ use Rattle.std.proofs.Common.{◌≡◌, inl, inr, ℕ, suc, ◌+◌, ◌-◌, �
 use Rattle.std.proofs.lemmas.Bool.{cases_lt}
 use Rattle.std.proofs.lemmas.List.{length-map}
 use Rattle.tp_machine.proofs.MachineFacts.{is_machine}
+use Rattle.tp_machine.specs.Modes.{gap_at}
 use Rattle.tp_machine.specs.declared.whole.Machine.{Machine}
 use Rattle.tp_schedule.proofs.Pairs.{AllPairs-map_from}
 use Rattle.tp_choices.proofs.AskedFront.{kept-by, fixed_till}
@@ -139,8 +140,8 @@ module _ (machine : Machine) (plans : List Plan) (ask : Ask) (list : ChoiceList)
           line = subst (λ n. KeepsLine ask plans (λ s. ticks_of other (settled ask.sheet n s)) (ticks_of other (settled ask.sheet n (own 0)))) n-is (first.keeps-line machine plans other ask rules legal is_kept b);
           apart = λ resource.
               let order-is = r.orders resource ∙ (second.new-order machine plans ask list 0 t rules legal is_list times some is_prefix resource).0 in
-              AllPairs-map_from (IsApart (ticks_of other)) (settled_slot ask.sheet total) (placed machine resource (slot_order machine plans resource) list.choices)
-              (subst (AllPairs (IsApart (ticks_of other))) order-is (legal_apart machine other rules r.legal resource));
+              AllPairs-map_from (IsApart (gap_at machine resource) (ticks_of other)) (settled_slot ask.sheet total) (placed machine resource (slot_order machine plans resource) list.choices)
+              (subst (AllPairs (IsApart (gap_at machine resource) (ticks_of other))) order-is (legal_apart machine other rules r.legal resource));
           stopped = λ stop. starts'.1 (stopped-from machine ask list plans asked is_list.can_stop stop);
         }
 

@@ -1,6 +1,7 @@
 -- Leaving out the newest choice, or the stop, leaves an open list: its ticks are the same function, and what room the
 -- choice needed was before it.
 use Rattle.std.proofs.Common.{ℕ, suc, ◌+◌, ◌≤◌, Bool, true, false, cond, List, [], ◌∷◌, ◌++◌, insert, length, sym, arith, AllPairs, subst, Option, Some, None, IsSomeAnd, ◌==◌}
+use Rattle.tp_machine.specs.Modes.{gap_at}
 use Rattle.tp_machine.specs.Using.{action_at}
 use Rattle.tp_schedule.proofs.Walks.{walk_first, walk_on, least_sum-push, AreAllowed-head, AreAllowed-tail, AreAllowed-push}
 use Rattle.tp_schedule.proofs.Pairs.{AllPairs-insert_out}
@@ -48,7 +49,7 @@ HasTimes-without machine plans ask goal c choices room t times =
       first = omega (arith, first, times.first);
       last = times.last;
       line = times.line;
-      apart = λ resource. AllPairs-put_places_out (IsApart t) resource _ _ _ c.places _ (times.apart resource);
+      apart = λ resource. AllPairs-put_places_out (IsApart (gap_at machine resource) t) resource _ _ _ c.places _ (times.apart resource);
       stopped = λ no. absurd (cc);
     }
 

@@ -34,3 +34,4 @@ pub mod WholeLists
 pub mod LiveLists
 pub mod LiveBounds
 pub mod LiveSpent
+pub mod FewLists

@@ -6,6 +6,7 @@ use Rattle.std.proofs.lemmas.List.{length-map}
 use Rattle.std.proofs.lemmas.List.Elements.{All-contains, All-append, Contains-get_or}
 use Rattle.std.proofs.lemmas.List.Sorted.{All-permutation}
 use Rattle.tp_machine.proofs.MachineFacts.{is_machine}
+use Rattle.tp_machine.specs.Modes.{gap_at}
 use Rattle.tp_machine.specs.declared.whole.Machine.{Machine}
 use Rattle.tp_schedule.specs.declared.parts.Ask.{Ask}
 use Rattle.tp_schedule.specs.declared.parts.Plan.{Plan}
@@ -53,7 +54,7 @@ module _ (machine : Machine) (plans : List Plan) (ask : Ask) (gone : SheetId →
 
   small-retimed : IsRetimed machine ask.now (λ _. false) (less gone plans) (map (timed_by o.ticks) (less gone plans))
   small-retimed = ticks_retime machine ask.now (λ _. false) (less gone plans) o.ticks (legal-staying (others_of gone) machine plans f.legal) (λ p points. refl) o.times.keeps
-      (λ r. apart-base (IsApart o.ticks) machine r (slot_order machine (less gone plans) r) list.choices (o.times.apart r))
+      (λ r. apart-base (IsApart (gap_at machine r) o.ticks) machine r (slot_order machine (less gone plans) r) list.choices (o.times.apart r))
 
   timed-stay : (p : Plan) → Contains (map (timed_by o.ticks) (less gone plans)) p → gone p.sheet ≡ false
   timed-stay p in' =
@@ -138,11 +139,11 @@ module _ (machine : Machine) (plans : List Plan) (ask : Ask) (gone : SheetId →
       (kept-sound machine ask.now (λ _. false) (less gone plans) o.ticks o.times.keeps resource))
 
   -- the choices placed in the live part are apart at the joined ticks
-  parted-small : (resource : ℕ) → AllPairs (IsParted t' ask.now (keeping gone)) (placed machine resource (slot_order machine (less gone plans) resource) list.choices)
+  parted-small : (resource : ℕ) → AllPairs (IsParted (gap_at machine resource) t' ask.now (keeping gone)) (placed machine resource (slot_order machine (less gone plans) resource) list.choices)
   parted-small resource =
-      AllPairs-each (IsApart o.ticks) (IsParted t' ask.now (keeping gone)) all (o.times.apart resource)
+      AllPairs-each (IsApart (gap_at machine resource) o.ticks) (IsParted (gap_at machine resource) t' ask.now (keeping gone)) all (o.times.apart resource)
       (λ x y in-x in-y a. record {
-        apart = apart-same o.ticks t' x y (same x in-x) (same y in-y) a;
+        apart = apart-same (gap_at machine resource) o.ticks t' x y (same x in-x) (same y in-y) a;
         long = rw (begin-same o.ticks t' x (same x in-x), end-same o.ticks t' x (same x in-x)) (All-contains (IsSoundSlot o.ticks) all x (sound-placed resource) in-x).long;
         first = λ e. absurd (let stay = keeps-it x in-x in cc);
         second = λ e. absurd (let stay = keeps-it y in-y in cc);
@@ -157,13 +158,13 @@ module _ (machine : Machine) (plans : List Plan) (ask : Ask) (gone : SheetId →
         keeps-it s in' = All-contains (λ x. keeping gone x ≡ true) all s (keep-placed resource) in'
 
   -- the orders of the whole schedule at the joined ticks, beside those of the live part
-  base : (resource : ℕ) → BesideAt t' ask.now (keeping gone) (filter (λ s. not (keeping gone s)) (slot_order machine plans resource)) (slot_order machine plans resource) (slot_order machine (less gone plans) resource)
+  base : (resource : ℕ) → BesideAt (gap_at machine resource) t' ask.now (keeping gone) (filter (λ s. not (keeping gone s)) (slot_order machine plans resource)) (slot_order machine plans resource) (slot_order machine (less gone plans) resource)
   base resource = record {
     stay = live-order machine plans gone f.legal resource;
     gone = refl;
-    all = AllPairs-each (IsApart (ticks_of joined.0)) (IsParted t' ask.now (keeping gone)) (slot_order machine plans resource) (whole-keeps.1 resource)
+    all = AllPairs-each (IsApart (gap_at machine resource) (ticks_of joined.0)) (IsParted (gap_at machine resource) t' ask.now (keeping gone)) (slot_order machine plans resource) (whole-keeps.1 resource)
         (λ x y in-x in-y a. record {
-          apart = apart-same (ticks_of joined.0) t' x y (same x (in-slots machine plans resource x in-x)) (same y (in-slots machine plans resource y in-y)) a;
+          apart = apart-same (gap_at machine resource) (ticks_of joined.0) t' x y (same x (in-slots machine plans resource x in-x)) (same y (in-slots machine plans resource y in-y)) a;
           long = (All-contains (IsSoundSlot t') (slot_order machine plans resource) x (kept-sound machine ask.now (λ _. false) plans t' keeps resource) in-x).long;
           first = λ e. ended-at machine ask.now plans gone (λ _. false) t' f keeps resource x (in-slots machine plans resource x in-x) e;
           second = λ e. ended-at machine ask.now plans gone (λ _. false) t' f keeps resource y (in-slots machine plans resource y in-y) e;
@@ -172,7 +173,7 @@ module _ (machine : Machine) (plans : List Plan) (ask : Ask) (gone : SheetId →
     same : (s : Slot) → Contains (slots machine resource plans) s → IsSameAt (ticks_of joined.0) t' s
     same s in' = All-contains (IsSameAt (ticks_of joined.0) t') (slots machine resource plans) s (All-slots (IsSameAt (ticks_of joined.0) t') machine resource plans (λ p _ i within rule. record { from = refl; to = refl })) in'
 
-  ended : (resource : ℕ) (g : Slot) → Contains (filter (λ s. not (keeping gone s)) (slot_order machine plans resource)) g → IsEnded t' ask.now g
+  ended : (resource : ℕ) (g : Slot) → Contains (filter (λ s. not (keeping gone s)) (slot_order machine plans resource)) g → IsEnded (gap_at machine resource) t' ask.now g
   ended resource g in' =
       let from = Contains-filter_from (λ s. not (keeping gone s)) (slot_order machine plans resource) g in' in
       ended-at machine ask.now plans gone (λ _. false) t' f keeps resource g (in-slots machine plans resource g from.0) (not-true (keeping gone g) from.1)
@@ -201,7 +202,7 @@ module _ (machine : Machine) (plans : List Plan) (ask : Ask) (gone : SheetId →
           first = subst (λ n. start_floor machine ask.now ask.origin + least_sum machine o.before ≤ o.ticks (own n)) long o.times.first;
           last = o.times.last;
           line = line;
-          apart = λ r. AllPairs-each (IsParted t' ask.now (keeping gone)) (IsApart t') (placed machine r (slot_order machine plans r) (map (shift_choice machine (forgotten_on machine plans gone)) list.choices)) (p.beside r).all (λ x y _ _ q. q.apart);
+          apart = λ r. AllPairs-each (IsParted (gap_at machine r) t' ask.now (keeping gone)) (IsApart (gap_at machine r) t') (placed machine r (slot_order machine plans r) (map (shift_choice machine (forgotten_on machine plans gone)) list.choices)) (p.beside r).all (λ x y _ _ q. q.apart);
           stopped = λ e. subst (λ n. o.ticks (own n) ≡ start_floor machine ask.now ask.origin) long (o.times.stopped e);
         };
         ends = o.ends;

@@ -23,7 +23,7 @@ module _ (machine : Machine) (ask : Ask) (counts : ℕ → ℕ) where
   further = shifted machine counts
 
   -- a child stays a child
-  child-up : {p l : ChoiceList} → IsChild machine ask p l → IsChild machine ask (shifted machine counts p) (shifted machine counts l)
+  pub child-up : {p l : ChoiceList} → IsChild machine ask p l → IsChild machine ask (shifted machine counts p) (shifted machine counts l)
   child-up (one_more c) = one_more (shift_choice machine counts c)
   child-up (stopped {goal} {choices} can) = stopped (can_stop-as machine ask (going goal choices) (going goal (map (shift_choice machine counts) choices)) ask.origin (sym (acts-shifted machine counts choices)) refl can)
 
@@ -82,7 +82,7 @@ module _ (machine : Machine) (ask : Ask) (counts : ℕ → ℕ) where
           child = subst (IsChild machine ask (going l.goal l.choices)) (sym l-is) (stopped (can_stop-as machine ask (going p.goal p.choices) (going l.goal l.choices) ask.origin acts (sym goal) can));
         }
 
-  child-down : (p l : ChoiceList) → IsChild machine ask (shifted machine counts p) (shifted machine counts l) → IsChild machine ask p l
+  pub child-down : (p l : ChoiceList) → IsChild machine ask (shifted machine counts p) (shifted machine counts l) → IsChild machine ask p l
   child-down p l child =
       let from = parent-down (shifted machine counts p) l child in
       subst (λ q. IsChild machine ask q l) (sym (shifted-one machine counts p from.small from.is)) from.child

@@ -4,6 +4,7 @@ use Rattle.std.proofs.Common.{◌≡◌, ℕ, suc, ◌+◌, ◌≤◌, ◌<◌, 
 use Rattle.std.proofs.lemmas.List.Elements.{All-contains}
 use Rattle.std.proofs.lemmas.List.Sorted.{All-permutation}
 use Rattle.tp_machine.proofs.MachineFacts.{is_machine}
+use Rattle.tp_machine.specs.Modes.{gap_at}
 use Rattle.tp_machine.specs.declared.whole.Machine.{Machine}
 use Rattle.tp_choices.proofs.Completing.{IsTimedPlan-timed_by, point-timed_by}
 use Rattle.tp_choices.proofs.TimedSlots.{All-slots, slots-timed_by}
@@ -16,7 +17,7 @@ use Rattle.tp_schedule.proofs.Pairs.{AllPairs-map, AllPairs-each}
 use Rattle.tp_schedule.proofs.SlotOrder.{IsPermutation-by_begin}
 use Rattle.tp_schedule.specs.Answers.{unmoved, IsRetimed}
 use Rattle.tp_schedule.specs.Holding.{held}
-use Rattle.tp_schedule.specs.Legality.{IsLegal, EndsBefore}
+use Rattle.tp_schedule.specs.Legality.{IsLegal, IsSpreadAt, EndsBefore}
 use Rattle.tp_schedule.specs.Plans.{plan_of, is_before, IsTimedPlan, point, end_of_plan, is_fixed, is_delivered_to, with_points}
 use Rattle.tp_schedule.specs.Spots.{Ticks, Slot, IsApart, slots, slot_order, ticks_of}
 use Rattle.tp_schedule.specs.Times.{KeepsTimes, EndsBeforeAt, at, timed_by, ticks_from, KeepsOrders}
@@ -47,14 +48,14 @@ module _ (machine : Machine) (now : ℕ) (exempt : Plan → Bool) (plans : List 
   abbrev Matches : Slot → Type 0
   Matches s = (ticks_of new s.from ≡ t s.from) × (ticks_of new s.to ≡ t s.to)
 
-  new-order : (resource : ℕ) → (slot_order machine new resource ≡ slot_order machine plans resource) × ((tick : ℕ) → length (held machine new resource tick) ≤ 1)
+  new-order : (resource : ℕ) → (slot_order machine new resource ≡ slot_order machine plans resource) × ((tick : ℕ) → length (held machine new resource tick) ≤ 1) × ((tick : ℕ) → IsSpreadAt machine new resource tick)
   new-order resource =
       let sorted = IsPermutation-by_begin (ticks_of plans) (slots machine resource plans) in
       let matches = All-permutation Matches (slots machine resource plans) (slot_order machine plans resource) sorted
       (All-slots Matches machine resource plans (λ p in' i within rule. (new-at p in' i (omega arith), new-at p in' (suc i) (omega arith)))) in
       apart_order machine new rules new-in_order new-timed resource (slot_order machine plans resource)
       (rw (slots-timed_by machine resource t plans) sorted)
-      (AllPairs-each (IsApart t) (IsApart (ticks_of new)) (slot_order machine plans resource) (apart resource)
+      (AllPairs-each (IsApart (gap_at machine resource) t) (IsApart (gap_at machine resource) (ticks_of new)) (slot_order machine plans resource) (apart resource)
       (λ x y in-x in-y e. let p = All-contains Matches (slot_order machine plans resource) x matches in-x in let q = All-contains Matches (slot_order machine plans resource) y matches in-y in
       rw (p.0, p.1, q.0, q.1) e))
 
@@ -68,6 +69,7 @@ module _ (machine : Machine) (now : ℕ) (exempt : Plan → Bool) (plans : List 
       in_order = new-in_order;
       timed = new-timed;
       single = λ resource. (new-order resource).1;
+      spread = λ resource. (new-order resource).2;
       rise = AllPairs-map (EndsBeforeAt t) EndsBefore (λ p. Unit {0}) (timed_by t) plans (λ k d within. tt) keeps.rise
           (λ p q _ _ e tray to-p to-q. rw (point-timed_by t p (length p.acts) (omega arith), point-timed_by t q (length q.acts) (omega arith)) (e tray to-p to-q));
     };
@@ -134,7 +136,7 @@ module _ (machine : Machine) (now : ℕ) (exempt : Plan → Bool) (plans new : L
           let end-q = moved-at q in-q (length q.acts) ∙ ap (λ xs. point n.0 (length xs)) (sym (moved-acts q in-q)) in
           rw (end-p, end-q) less);
     },
-    λ resource. subst (AllPairs (IsApart (ticks_of new))) (r.orders resource) (legal_apart machine new rules r.legal resource),
+    λ resource. subst (AllPairs (IsApart (gap_at machine resource) (ticks_of new))) (r.orders resource) (legal_apart machine new rules r.legal resource),
   )
 
 pub retimed_ticks : RetimedTicks

@@ -9,6 +9,7 @@ use Rattle.tp_choices.proofs.Leaving.{AllPairs-put_places_out}
 use Rattle.tp_choices.proofs.OwnSlots.{own_slots, IsPermutation-placed}
 use Rattle.tp_choices.proofs.Placing.{put_places-none, same_number}
 use Rattle.tp_machine.specs.Machines.{IsMachine}
+use Rattle.tp_machine.specs.Modes.{gap_at}
 use Rattle.tp_machine.specs.Using.{action_at}
 use Rattle.tp_schedule.proofs.HeldCount.{Differ, NotOn, others_not_on}
 use Rattle.tp_schedule.proofs.LegalOrders.{sound_by_act, LastsBy}
@@ -32,37 +33,37 @@ use Rattle.tp_choices.specs.Answering.{TicksFixPlaces}
 use Rattle.tp_schedule.proofs.SlotOrder.{IsPermutation-by_begin}
 use Rattle.tp_schedule.proofs.LegalOrders.{sound_plans}
 
-not_twice : (t : Ticks) (x : Slot) (order : List Slot) (k n : ℕ) → IsSoundSlot t x → AllPairs (IsApart t) (insert order k x) → k ≤ length order → n ≤ length order → insert order k x ≡ insert order n x → k < n → ⊥
-not_twice t x order k n sound apart k-in n-in same less =
+not_twice : (gap : ℕ) (t : Ticks) (x : Slot) (order : List Slot) (k n : ℕ) → IsSoundSlot t x → AllPairs (IsApart gap t) (insert order k x) → k ≤ length order → n ≤ length order → insert order k x ≡ insert order n x → k < n → ⊥
+not_twice gap t x order k n sound apart k-in n-in same less =
     let first = get_or-insert_at order k x x k-in in
     let second : get_or (insert order k x) n x ≡ x = ap (λ xs. get_or xs n x) same ∙ get_or-insert_at order n x x n-in in
     let lengths = length-insert order k x k-in in
     let both = apart k n x less (omega arith) in
-    let twice : IsApart t x x = subst (λ y. IsApart t y x) first (subst (λ y. IsApart t (get_or (insert order k x) k x) y) second both) in
+    let twice : IsApart gap t x x = subst (λ y. IsApart gap t y x) first (subst (λ y. IsApart gap t (get_or (insert order k x) k x) y) second both) in
     let long = sound.long in
     omega (arith, ints)
 
-one_place : (t : Ticks) (x : Slot) (order : List Slot) (k n : ℕ) → IsSoundSlot t x → AllPairs (IsApart t) (insert order k x) → k ≤ length order → n ≤ length order → insert order k x ≡ insert order n x → k ≡ n
-one_place t x order k n sound apart k-in n-in same = elim (cases_lt k n) [
-  | inl less ↦ absurd (not_twice t x order k n sound apart k-in n-in same less)
+one_place : (gap : ℕ) (t : Ticks) (x : Slot) (order : List Slot) (k n : ℕ) → IsSoundSlot t x → AllPairs (IsApart gap t) (insert order k x) → k ≤ length order → n ≤ length order → insert order k x ≡ insert order n x → k ≡ n
+one_place gap t x order k n sound apart k-in n-in same = elim (cases_lt k n) [
+  | inl less ↦ absurd (not_twice gap t x order k n sound apart k-in n-in same less)
   | inr le ↦ elim (cases_lt n k) [
-    | inl less ↦ absurd (not_twice t x order n k sound (subst (AllPairs (IsApart t)) same apart) n-in k-in (sym same) less)
+    | inl less ↦ absurd (not_twice gap t x order n k sound (subst (AllPairs (IsApart gap t)) same apart) n-in k-in (sym same) less)
     | inr le' ↦ omega arith
   ]
 ]
 
-one_places : (t : Ticks) (from to : Spot) (rules : List HoldRule) (places others' : List ℕ) (orders : ℕ → List Slot) → AllPairs Differ rules
+one_places : (gaps : ℕ → ℕ) (t : Ticks) (from to : Spot) (rules : List HoldRule) (places others' : List ℕ) (orders : ℕ → List Slot) → AllPairs Differ rules
     → All (λ h. IsSoundSlot t (record { rule = h; from = from; to = to })) rules → AreWithin orders rules places → AreWithin orders rules others'
-    → ((r : ℕ) → AllPairs (IsApart t) (put_places r from to rules places (orders r)))
+    → ((r : ℕ) → AllPairs (IsApart (gaps r) t) (put_places r from to rules places (orders r)))
     → ((r : ℕ) → put_places r from to rules places (orders r) ≡ put_places r from to rules others' (orders r)) → places ≡ others'
-one_places t from to [] [] [] orders differ sound p q apart same = refl
-one_places t from to [] [] (n ∷ ns) orders differ sound p q apart same = absurd q
-one_places t from to [] (k ∷ ks) ns orders differ sound p q apart same = absurd p
-one_places t from to (h ∷ rules) [] ns orders differ sound p q apart same = absurd p
-one_places t from to (h ∷ rules) (k ∷ ks) [] orders differ sound p q apart same = absurd q
-one_places t from to (h ∷ rules) (k ∷ ks) (n ∷ ns) orders differ sound p q apart same =
-    let first : k ≡ n = one_place t x (orders h.resource.0) k n (All-head (λ g. IsSoundSlot t (record { rule = g; from = from; to = to })) h rules sound) apart-here p.0 q.0 same-here in
-    let rest = one_places t from to rules ks ns orders (AllPairs-tail Differ h rules differ) (All-tail (λ g. IsSoundSlot t (record { rule = g; from = from; to = to })) h rules sound) p.1 q.1
+one_places gaps t from to [] [] [] orders differ sound p q apart same = refl
+one_places gaps t from to [] [] (n ∷ ns) orders differ sound p q apart same = absurd q
+one_places gaps t from to [] (k ∷ ks) ns orders differ sound p q apart same = absurd p
+one_places gaps t from to (h ∷ rules) [] ns orders differ sound p q apart same = absurd p
+one_places gaps t from to (h ∷ rules) (k ∷ ks) [] orders differ sound p q apart same = absurd q
+one_places gaps t from to (h ∷ rules) (k ∷ ks) (n ∷ ns) orders differ sound p q apart same =
+    let first : k ≡ n = one_place (gaps h.resource.0) t x (orders h.resource.0) k n (All-head (λ g. IsSoundSlot t (record { rule = g; from = from; to = to })) h rules sound) apart-here p.0 q.0 same-here in
+    let rest = one_places gaps t from to rules ks ns orders (AllPairs-tail Differ h rules differ) (All-tail (λ g. IsSoundSlot t (record { rule = g; from = from; to = to })) h rules sound) p.1 q.1
     (λ r. apart-at r (h.resource.0 == r) refl (apart r)) (λ r. same-at r (h.resource.0 == r) refl (same r)) in
     λ i. first i ∷ rest i where
       x : Slot
@@ -71,8 +72,8 @@ one_places t from to (h ∷ rules) (k ∷ ks) (n ∷ ns) orders differ sound p q
       none : (r : ℕ) → (h.resource.0 == r) ≡ true → All (NotOn r) rules
       none r e = others_not_on r h rules e (AllPairs-head Differ h rules differ)
 
-      apart-here : AllPairs (IsApart t) (insert (orders h.resource.0) k (record { rule = h; from = from; to = to }))
-      apart-here = subst (AllPairs (IsApart t)) (put_places-none h.resource.0 from to rules ks (insert (orders h.resource.0) k (record { rule = h; from = from; to = to })) (none h.resource.0 (same_number h.resource.0)))
+      apart-here : AllPairs (IsApart (gaps h.resource.0) t) (insert (orders h.resource.0) k (record { rule = h; from = from; to = to }))
+      apart-here = subst (AllPairs (IsApart (gaps h.resource.0) t)) (put_places-none h.resource.0 from to rules ks (insert (orders h.resource.0) k (record { rule = h; from = from; to = to })) (none h.resource.0 (same_number h.resource.0)))
           (rw (same_number h.resource.0) at (apart h.resource.0))
 
       same-here : insert (orders h.resource.0) k (record { rule = h; from = from; to = to }) ≡ insert (orders h.resource.0) n (record { rule = h; from = from; to = to })
@@ -81,9 +82,9 @@ one_places t from to (h ∷ rules) (k ∷ ks) (n ∷ ns) orders differ sound p q
           ∙ (rw (same_number h.resource.0) at (same h.resource.0))
           ∙ put_places-none h.resource.0 from to rules ns (insert (orders h.resource.0) n (record { rule = h; from = from; to = to })) (none h.resource.0 (same_number h.resource.0))
 
-      apart-at : (r : ℕ) (b : Bool) → (h.resource.0 == r) ≡ b → AllPairs (IsApart t) (put_places r from to rules ks (cond b (insert (orders r) k (record { rule = h; from = from; to = to })) (orders r))) → AllPairs (IsApart t) (put_places r from to rules ks (orders r))
+      apart-at : (r : ℕ) (b : Bool) → (h.resource.0 == r) ≡ b → AllPairs (IsApart (gaps r) t) (put_places r from to rules ks (cond b (insert (orders r) k (record { rule = h; from = from; to = to })) (orders r))) → AllPairs (IsApart (gaps r) t) (put_places r from to rules ks (orders r))
       apart-at r true e all = rw (put_places-none r from to rules ks (orders r) (none r e))
-          (AllPairs-insert_out (IsApart t) (orders r) k (record { rule = h; from = from; to = to }) (AllPairs-put_places_out (IsApart t) r from to rules ks (insert (orders r) k (record { rule = h; from = from; to = to })) all))
+          (AllPairs-insert_out (IsApart (gaps r) t) (orders r) k (record { rule = h; from = from; to = to }) (AllPairs-put_places_out (IsApart (gaps r) t) r from to rules ks (insert (orders r) k (record { rule = h; from = from; to = to })) all))
       apart-at r false e all = all
 
       same-at : (r : ℕ) (b : Bool) → (h.resource.0 == r) ≡ b
@@ -110,7 +111,7 @@ sound-rules machine rules t from to act lasts = go (action_at machine act.0) ref
 -- two lists of choices with the same actions and the same ticks have the same places
 pub one_choices : (machine : Machine) → IsMachine machine → (orders : ℕ → List Slot) (t : Ticks) (choices other : List Choice) → acts_of choices ≡ acts_of other → ((r : ℕ) → All (IsSoundSlot t) (orders r))
     → HavePlaces machine orders choices → HavePlaces machine orders other → ChoicesLast machine t choices
-    → ((r : ℕ) → AllPairs (IsApart t) (placed machine r (orders r) choices)) → ((r : ℕ) → AllPairs (IsApart t) (placed machine r (orders r) other)) → choices ≡ other
+    → ((r : ℕ) → AllPairs (IsApart (gap_at machine r) t) (placed machine r (orders r) choices)) → ((r : ℕ) → AllPairs (IsApart (gap_at machine r) t) (placed machine r (orders r) other)) → choices ≡ other
 one_choices machine rules orders t [] [] e sound p q lasts apart apart' = refl
 one_choices machine rules orders t [] (d ∷ other) e sound p q lasts apart apart' = absurd (cc)
 one_choices machine rules orders t (c ∷ choices) [] e sound p q lasts apart apart' = absurd (cc)
@@ -118,17 +119,17 @@ one_choices machine rules orders t (c ∷ choices) (d ∷ other) e sound p q las
     let act : c.act ≡ d.act = cc in
     let acts : acts_of choices ≡ acts_of other = cc in
     let rest = one_choices machine rules orders t choices other acts sound p.1 q.1 lasts.1
-    (λ r. AllPairs-put_places_out (IsApart t) r (own (suc (length choices))) (own (length choices)) (holds_of_act (action_at machine c.act.0)) c.places (placed machine r (orders r) choices) (apart r))
-    (λ r. AllPairs-put_places_out (IsApart t) r (own (suc (length other))) (own (length other)) (holds_of_act (action_at machine d.act.0)) d.places (placed machine r (orders r) other) (apart' r)) in
+    (λ r. AllPairs-put_places_out (IsApart (gap_at machine r) t) r (own (suc (length choices))) (own (length choices)) (holds_of_act (action_at machine c.act.0)) c.places (placed machine r (orders r) choices) (apart r))
+    (λ r. AllPairs-put_places_out (IsApart (gap_at machine r) t) r (own (suc (length other))) (own (length other)) (holds_of_act (action_at machine d.act.0)) d.places (placed machine r (orders r) other) (apart' r)) in
     go d.act d.places other act rest q apart' where
       differ : (o : Option Action) → action_at machine c.act.0 ≡ o → AllPairs Differ (holds_of_act o)
       differ None e' = AllPairs-nil Differ
       differ (Some a) e' = rules.differ c.act.0 a e'
 
-      at-same : (places : List ℕ) → HavePlaces machine orders (record { act = c.act; places = places } ∷ choices) → ((r : ℕ) → AllPairs (IsApart t) (placed machine r (orders r) (record { act = c.act; places = places } ∷ choices))) → c.places ≡ places
-      at-same places q' a' = one_places t (own (suc (length choices))) (own (length choices)) (holds_of_act (action_at machine c.act.0)) c.places places (λ r. placed machine r (orders r) choices)
+      at-same : (places : List ℕ) → HavePlaces machine orders (record { act = c.act; places = places } ∷ choices) → ((r : ℕ) → AllPairs (IsApart (gap_at machine r) t) (placed machine r (orders r) (record { act = c.act; places = places } ∷ choices))) → c.places ≡ places
+      at-same places q' a' = one_places (gap_at machine) t (own (suc (length choices))) (own (length choices)) (holds_of_act (action_at machine c.act.0)) c.places places (λ r. placed machine r (orders r) choices)
           (differ (action_at machine c.act.0) refl) (sound-rules machine rules t (own (suc (length choices))) (own (length choices)) c.act lasts.0) p.0 q'.0 apart
-          (λ r. apart_unique t (placed machine r (orders r) (c ∷ choices)) (placed machine r (orders r) (record { act = c.act; places = places } ∷ choices))
+          (λ r. apart_unique (gap_at machine r) t (placed machine r (orders r) (c ∷ choices)) (placed machine r (orders r) (record { act = c.act; places = places } ∷ choices))
           (all-sound r (c ∷ choices) p lasts) (all-sound r (record { act = c.act; places = places } ∷ choices) q' lasts) (apart r) (a' r)
           (IsPermutation-trans (placed machine r (orders r) (c ∷ choices)) (own_slots machine r (c ∷ choices) ++ orders r) (placed machine r (orders r) (record { act = c.act; places = places } ∷ choices))
           (IsPermutation-sym (own_slots machine r (c ∷ choices) ++ orders r) (placed machine r (orders r) (c ∷ choices)) (IsPermutation-placed machine r orders (c ∷ choices) p))
@@ -137,12 +138,12 @@ one_choices machine rules orders t (c ∷ choices) (d ∷ other) e sound p q las
             all-sound r cs h l = All-permutation (IsSoundSlot t) (own_slots machine r cs ++ orders r) (placed machine r (orders r) cs) (IsPermutation-placed machine r orders cs h)
                 (All-append (IsSoundSlot t) (own_slots machine r cs) (orders r) (own-sound machine rules t r cs l) (sound r))
 
-      go : (a : ActId) (places : List ℕ) (other' : List Choice) → c.act ≡ a → choices ≡ other' → HavePlaces machine orders (record { act = a; places = places } ∷ other') → ((r : ℕ) → AllPairs (IsApart t) (placed machine r (orders r) (record { act = a; places = places } ∷ other')))
+      go : (a : ActId) (places : List ℕ) (other' : List Choice) → c.act ≡ a → choices ≡ other' → HavePlaces machine orders (record { act = a; places = places } ∷ other') → ((r : ℕ) → AllPairs (IsApart (gap_at machine r) t) (placed machine r (orders r) (record { act = a; places = places } ∷ other')))
           → c ∷ choices ≡ record { act = a; places = places } ∷ other'
       go a places other' is-a is-other q' a' =
           let q'' : HavePlaces machine orders (record { act = c.act; places = places } ∷ choices) = subst (λ cs. HavePlaces machine orders (record { act = c.act; places = places } ∷ cs)) (sym is-other) (subst (λ b. HavePlaces machine orders (record { act = b; places = places } ∷ other')) (sym is-a) q') in
-          let a'' : (r : ℕ) → AllPairs (IsApart t) (placed machine r (orders r) (record { act = c.act; places = places } ∷ choices)) =
-          λ r. subst (λ cs. AllPairs (IsApart t) (placed machine r (orders r) (record { act = c.act; places = places } ∷ cs))) (sym is-other) (subst (λ b. AllPairs (IsApart t) (placed machine r (orders r) (record { act = b; places = places } ∷ other'))) (sym is-a) (a' r)) in
+          let a'' : (r : ℕ) → AllPairs (IsApart (gap_at machine r) t) (placed machine r (orders r) (record { act = c.act; places = places } ∷ choices)) =
+          λ r. subst (λ cs. AllPairs (IsApart (gap_at machine r) t) (placed machine r (orders r) (record { act = c.act; places = places } ∷ cs))) (sym is-other) (subst (λ b. AllPairs (IsApart (gap_at machine r) t) (placed machine r (orders r) (record { act = b; places = places } ∷ other'))) (sym is-a) (a' r)) in
           let same = at-same places q'' a'' in
           λ i. record { act = is-a i; places = same i } ∷ is-other i
 

@@ -5,6 +5,7 @@ use Rattle.std.proofs.lemmas.List.Elements.{All-contains, Contains-get_or}
 use Rattle.std.proofs.lemmas.List.Kept.{AllPairs-filter}
 use Rattle.std.proofs.lemmas.List.Sorted.{Contains-permutation, IsPermutation-sym}
 use Rattle.tp_machine.proofs.MachineFacts.{is_machine}
+use Rattle.tp_machine.specs.Modes.{gap_at}
 use Rattle.tp_machine.specs.declared.whole.Machine.{Machine}
 use Rattle.tp_schedule.specs.declared.parts.Plan.{Plan}
 use Rattle.tp_schedule.specs.declared.parts.SheetId.{SheetId}
@@ -33,12 +34,12 @@ begin-same t t' s same = rw (same.from, same.to) refl
 pub end-same : (t t' : Ticks) (s : Slot) → IsSameAt t t' s → end_at t' s ≡ end_at t s
 end-same t t' s same = rw (same.from, same.to) refl
 
-pub apart-same : (t t' : Ticks) (x y : Slot) → IsSameAt t t' x → IsSameAt t t' y → IsApart t x y → IsApart t' x y
-apart-same t t' x y same-x same-y apart = rw (end-same t t' x same-x, begin-same t t' y same-y) apart
+pub apart-same : (gap : ℕ) (t t' : Ticks) (x y : Slot) → IsSameAt t t' x → IsSameAt t t' y → IsApart gap t x y → IsApart gap t' x y
+apart-same gap t t' x y same-x same-y apart = rw (end-same t t' x same-x, begin-same t t' y same-y) apart
 
-pub both-apart-same : (t t' : Ticks) (x y : Slot) → IsSameAt t t' x → IsSameAt t t' y → AreApart t x y → AreApart t' x y
-both-apart-same t t' x y same-x same-y (inl h) = inl (apart-same t t' x y same-x same-y h)
-both-apart-same t t' x y same-x same-y (inr h) = inr (apart-same t t' y x same-y same-x h)
+pub both-apart-same : (gap : ℕ) (t t' : Ticks) (x y : Slot) → IsSameAt t t' x → IsSameAt t t' y → AreApart gap t x y → AreApart gap t' x y
+both-apart-same gap t t' x y same-x same-y (inl h) = inl (apart-same gap t t' x y same-x same-y h)
+both-apart-same gap t t' x y same-x same-y (inr h) = inr (apart-same gap t t' y x same-y same-x h)
 
 -- the slots of the copies that stay have the same ticks in the schedule less the others
 pub same-staying : (b : Bool) (f : SheetId → Bool) (machine : Machine) (resource : ℕ) (plans : List Plan) (s : Slot) → Contains (slots machine resource plans) s → stays b f s ≡ true → IsSameAt (ticks_of plans) (ticks_of (staying f plans)) s
@@ -54,9 +55,9 @@ pub in-order : (machine : Machine) (plans : List Plan) (resource : ℕ) (s : Slo
 in-order machine plans resource s = Contains-permutation (slots machine resource plans) (slot_order machine plans resource) s (IsPermutation-by_begin (ticks_of plans) (slots machine resource plans))
 
 -- sound slots that are apart have one order, so lists of the same ones are equal
-pub order-by-elements : (t : Ticks) (xs ys : List Slot) → ((s : Slot) → Contains xs s → IsSoundSlot t s) → AllPairs (IsApart t) xs → AllPairs (IsApart t) ys
+pub order-by-elements : (gap : ℕ) (t : Ticks) (xs ys : List Slot) → ((s : Slot) → Contains xs s → IsSoundSlot t s) → AllPairs (IsApart gap t) xs → AllPairs (IsApart gap t) ys
     → ((s : Slot) → Contains xs s → Contains ys s) → ((s : Slot) → Contains ys s → Contains xs s) → xs ≡ ys
-order-by-elements t xs ys sound p q there back =
+order-by-elements gap t xs ys sound p q there back =
     rising_unique (λ x y. begin_at t x <ℤ begin_at t y) (λ x y a b. omega (arith, ints)) xs ys
     (λ i j d before within. let one = p i j d before within in let long = sound (get_or xs i d) (Contains-get_or xs i d (omega arith)) in omega (arith, ints))
     (λ i j d before within. let one = q i j d before within in let long = sound (get_or ys i d) (back (get_or ys i d) (Contains-get_or ys i d (omega arith))) in omega (arith, ints))
@@ -71,11 +72,11 @@ sound-slots machine plans resource s in_order timed in' =
 pub order-staying : (b : Bool) (f : SheetId → Bool) (machine : Machine) (plans : List Plan) (resource : ℕ) → IsLegal machine plans → slot_order machine (staying f plans) resource ≡ filter (stays b f) (slot_order machine plans resource)
 order-staying b f machine plans resource legal =
     let legal' = legal-staying f machine plans legal in
-    let apart : AllPairs (IsApart (ticks_of (staying f plans))) (filter (stays b f) (slot_order machine plans resource)) =
-    AllPairs-each (IsApart (ticks_of plans)) (IsApart (ticks_of (staying f plans))) (filter (stays b f) (slot_order machine plans resource))
-    (AllPairs-filter (IsApart (ticks_of plans)) (stays b f) (slot_order machine plans resource) (legal_apart machine plans (is_machine machine) legal resource))
-    (λ x y in-x in-y h. apart-same (ticks_of plans) (ticks_of (staying f plans)) x y (same x in-x) (same y in-y) h) in
-    order-by-elements (ticks_of (staying f plans)) (slot_order machine (staying f plans) resource) (filter (stays b f) (slot_order machine plans resource))
+    let apart : AllPairs (IsApart (gap_at machine resource) (ticks_of (staying f plans))) (filter (stays b f) (slot_order machine plans resource)) =
+    AllPairs-each (IsApart (gap_at machine resource) (ticks_of plans)) (IsApart (gap_at machine resource) (ticks_of (staying f plans))) (filter (stays b f) (slot_order machine plans resource))
+    (AllPairs-filter (IsApart (gap_at machine resource) (ticks_of plans)) (stays b f) (slot_order machine plans resource) (legal_apart machine plans (is_machine machine) legal resource))
+    (λ x y in-x in-y h. apart-same (gap_at machine resource) (ticks_of plans) (ticks_of (staying f plans)) x y (same x in-x) (same y in-y) h) in
+    order-by-elements (gap_at machine resource) (ticks_of (staying f plans)) (slot_order machine (staying f plans) resource) (filter (stays b f) (slot_order machine plans resource))
     (λ s in'. sound-slots machine (staying f plans) resource s legal'.in_order legal'.timed (in-slots machine (staying f plans) resource s in'))
     (legal_apart machine (staying f plans) (is_machine machine) legal' resource) apart there back where
       same : (s : Slot) → Contains (filter (stays b f) (slot_order machine plans resource)) s → IsSameAt (ticks_of plans) (ticks_of (staying f plans)) s

@@ -1,9 +1,9 @@
 -- A list whose places are further on has the same actions and the same own points, so it lasts as long, and begins and stops
 -- where the list does. At ticks that keep a schedule's times, forgotten slots have ended by the moment.
 use Rattle.std.proofs.Common.{◌≡◌, ℕ, suc, ◌+◌, ◌≤◌, ◌<◌, Bool, true, false, not, List, [], ◌∷◌, map, filter, length, refl, ap, sym, arith, Contains, All, AllPairs, ◌∙◌, subst, Some, slice_index}
-use Rattle.std.specs.Prelude.{pos, ◌≤ℤ◌}
 use Rattle.std.proofs.lemmas.List.{length-map}
 use Rattle.std.proofs.lemmas.List.Elements.{All-contains}
+use Rattle.tp_machine.specs.Modes.{gap_at}
 use Rattle.tp_machine.specs.declared.whole.Machine.{Machine}
 use Rattle.tp_schedule.specs.declared.parts.Ask.{Ask}
 use Rattle.tp_schedule.specs.declared.parts.Origin.{Origin}
@@ -14,7 +14,7 @@ use Rattle.tp_schedule.specs.Choices.{Choice, ChoiceList, acts_of, placed, Choic
 use Rattle.tp_schedule.specs.Legality.{IsLegal}
 use Rattle.tp_schedule.specs.Plans.{IsTimedPlan}
 use Rattle.tp_schedule.specs.Routes.{walk}
-use Rattle.tp_schedule.specs.Spots.{Ticks, Slot, IsSoundSlot, end_at, slots, slots_of, slot_order}
+use Rattle.tp_schedule.specs.Spots.{Ticks, Slot, IsSoundSlot, slots, slots_of, slot_order}
 use Rattle.tp_schedule.specs.Spots.Spot.{kept, own}
 use Rattle.tp_schedule.specs.Times.{KeepsTimes}
 use Rattle.tp_schedule.proofs.HeldCount.{IsTimedBy}
@@ -24,7 +24,7 @@ use Rattle.tp_choices.proofs.Leaving.{AllPairs-put_places_out}
 use Rattle.tp_choices.proofs.LiveOrders.{others_of, filter-same, stays-others}
 use Rattle.tp_choices.proofs.LiveSlots.{slots-in, slot_of}
 use Rattle.tp_choices.proofs.OwnSlots.{own_slots}
-use Rattle.tp_choices.proofs.PastFacts.{past_slots}
+use Rattle.tp_choices.proofs.PastFacts.{HasPassed, past_slots}
 use Rattle.tp_choices.proofs.PointFacts.{past-fixed}
 use Rattle.tp_choices.proofs.SamePlaces.{kept-sound}
 use Rattle.tp_choices.proofs.SameTicks.{in-order, order-staying}
@@ -77,7 +77,7 @@ keep-own_slots machine gone resource choices = All-own_slots (λ s. keeping gone
 
 -- forgotten slots have ended, at ticks that keep the fixed points
 pub ended-at : (machine : Machine) (now : ℕ) (plans : List Plan) (gone : SheetId → Bool) (exempt : Plan → Bool) (t : Ticks) → MayForget machine now plans gone → KeepsTimes machine now exempt plans t
-    → (resource : ℕ) (s : Slot) → Contains (slots machine resource plans) s → keeping gone s ≡ false → IsEnded t now s
+    → (resource : ℕ) (s : Slot) → Contains (slots machine resource plans) s → keeping gone s ≡ false → IsEnded (gap_at machine resource) t now s
 ended-at machine now plans gone exempt t f keeps resource s in' e =
     let from = slots-in machine resource plans s in' in
     let of = slot_of machine resource from.0 s from.2 in
@@ -88,7 +88,7 @@ ended-at machine now plans gone exempt t f keeps resource s in' e =
       λ i j is within. subst (λ n. t (kept from.0.sheet n) ≡ slice_index from.0.points i) (let back : i ≡ j = omega arith in back)
           (keeps.fixed from.0 from.1 i (past-fixed machine now plans gone f from.0 from.1 is-gone i (let more = one.one_more in omega arith)) (let more = one.one_more in omega arith)),
     ) in
-    let past = All-contains (λ x. end_at t x ≤ℤ pos now) (slots_of machine resource from.0) s (past_slots machine now t resource from.0 timed (f.past from.0 from.1 is-gone)) from.2 in
+    let past = All-contains (HasPassed (gap_at machine resource) now t) (slots_of machine resource from.0) s (past_slots machine now t resource from.0 timed (f.past from.0 from.1 is-gone)) from.2 in
     let sound = All-contains (IsSoundSlot t) (slot_order machine plans resource) s (kept-sound machine now exempt plans t keeps resource) (in-order machine plans resource s in') in
     record { long = sound.long; ended = past } where
       not-false : (b : Bool) → not b ≡ false → b ≡ true

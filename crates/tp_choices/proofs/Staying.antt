@@ -4,6 +4,7 @@ use Rattle.std.proofs.lemmas.List.Elements.{All-filter, All-head, All-tail, filt
 use Rattle.std.proofs.lemmas.List.Kept.{AllPairs-filter}
 use Rattle.tp_machine.specs.declared.parts.ActId.{ActId}
 use Rattle.tp_machine.specs.declared.whole.Machine.{Machine}
+use Rattle.tp_schedule.proofs.HeldModes.{spread-fewer, held_in_more}
 use Rattle.tp_schedule.specs.declared.parts.Plan.{Plan}
 use Rattle.tp_schedule.specs.declared.parts.SheetId.{SheetId}
 use Rattle.tp_schedule.specs.Answers.{unmoved}
@@ -13,6 +14,7 @@ use Rattle.tp_schedule.specs.Plans.{IsTimedPlan, IsEarlier, plan_of, without, is
 use Rattle.tp_schedule.specs.Spots.{Spot, Slot, slots_from, slots_of, slots, ticks_of, point_in}
 use Rattle.tp_schedule.specs.Spots.Spot.{kept, own}
 use Rattle.tp_schedule.proofs.CopyFacts.{same_copy-is}
+use Rattle.tp_schedule.proofs.Membership.{Contains-filter_from}
 use Rattle.tp_schedule.proofs.LegalFacts.{length-filter-flat_map-filter}
 use Rattle.std.proofs.lemmas.List.{length-map}
 use Rattle.tp_choices.proofs.Lists.{filter-all}
@@ -93,5 +95,7 @@ legal-staying f machine plans legal = record {
       rw (length-map (filter (holds_at machine resource tick) (runs (staying f plans))) hold_of)
       (let at-most : length (map hold_of (filter (holds_at machine resource tick) (runs plans))) ≤ 1 = legal.single resource tick in
       let counted = length-map (filter (holds_at machine resource tick) (runs plans)) hold_of in omega arith);
+  spread = λ resource tick. spread-fewer machine plans (staying f plans) resource tick
+      (λ t mode h. held_in_more machine plans (staying f plans) resource t mode (λ p in'. (Contains-filter_from (λ q. f q.sheet) plans p in').0) h) (legal.spread resource tick);
   rise = AllPairs-filter EndsBefore (λ p. f p.sheet) plans legal.rise;
 }

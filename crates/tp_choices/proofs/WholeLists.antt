@@ -6,6 +6,7 @@ use Rattle.std.proofs.lemmas.List.Elements.{All-contains, All-append, Contains-a
 use Rattle.std.proofs.lemmas.List.Kept.{AllPairs-filter}
 use Rattle.std.proofs.lemmas.List.Sorted.{All-permutation, Contains-permutation, IsPermutation-sym}
 use Rattle.tp_machine.proofs.MachineFacts.{is_machine}
+use Rattle.tp_machine.specs.Modes.{gap_at}
 use Rattle.tp_machine.specs.declared.whole.Machine.{Machine}
 use Rattle.tp_schedule.specs.declared.parts.Plan.{Plan}
 use Rattle.tp_schedule.specs.declared.parts.SheetId.{SheetId}
@@ -38,9 +39,9 @@ keeps-less machine now exempt plans gone t keeps = record {
 
 -- the choices placed, each pair of slots parted by the moment
 pub placed-parted : (machine : Machine) (now : ℕ) (exempt : Plan → Bool) (plans : List Plan) (gone : SheetId → Bool) (t : Ticks) (choices : List Choice) → MayForget machine now plans gone → KeepsTimes machine now exempt plans t → ChoicesLast machine t choices
-    → HavePlaces machine (slot_order machine plans) choices → (resource : ℕ) → AllPairs (IsApart t) (placed machine resource (slot_order machine plans resource) choices) → AllPairs (IsParted t now (keeping gone)) (placed machine resource (slot_order machine plans resource) choices)
+    → HavePlaces machine (slot_order machine plans) choices → (resource : ℕ) → AllPairs (IsApart (gap_at machine resource) t) (placed machine resource (slot_order machine plans resource) choices) → AllPairs (IsParted (gap_at machine resource) t now (keeping gone)) (placed machine resource (slot_order machine plans resource) choices)
 placed-parted machine now exempt plans gone t choices f keeps lasts places resource apart =
-    AllPairs-each (IsApart t) (IsParted t now (keeping gone)) all apart (λ x y in-x in-y a. record { apart = a; long = (sound x in-x).long; first = λ e. ended x in-x e; second = λ e. ended y in-y e }) where
+    AllPairs-each (IsApart (gap_at machine resource) t) (IsParted (gap_at machine resource) t now (keeping gone)) all apart (λ x y in-x in-y a. record { apart = a; long = (sound x in-x).long; first = λ e. ended x in-x e; second = λ e. ended y in-y e }) where
       all : List Slot
       all = placed machine resource (slot_order machine plans resource) choices
 
@@ -48,7 +49,7 @@ placed-parted machine now exempt plans gone t choices f keeps lasts places resou
       sound s in' = All-contains (IsSoundSlot t) all s (All-permutation (IsSoundSlot t) (own_slots machine resource choices ++ slot_order machine plans resource) all (IsPermutation-placed machine resource (slot_order machine plans) choices places)
           (All-append (IsSoundSlot t) (own_slots machine resource choices) (slot_order machine plans resource) (own-sound machine (is_machine machine) t resource choices lasts) (kept-sound machine now exempt plans t keeps resource))) in'
 
-      ended : (s : Slot) → Contains all s → keeping gone s ≡ false → IsEnded t now s
+      ended : (s : Slot) → Contains all s → keeping gone s ≡ false → IsEnded (gap_at machine resource) t now s
       ended s in' e = elim (Contains-append_cases (own_slots machine resource choices) (slot_order machine plans resource) s
           (Contains-permutation all (own_slots machine resource choices ++ slot_order machine plans resource) s (IsPermutation-sym (own_slots machine resource choices ++ slot_order machine plans resource) all (IsPermutation-placed machine resource (slot_order machine plans) choices places)) in')) [
             | inl own' ↦ absurd (let stays = All-contains (λ x. keeping gone x ≡ true) (own_slots machine resource choices) s (keep-own_slots machine gone resource choices) own' in cc)
@@ -58,7 +59,7 @@ placed-parted machine now exempt plans gone t choices f keeps lasts places resou
 pub whole_opens : WholeOpens
 whole_opens machine plans ask gone list end f b o =
     let t = o.ticks in
-    let parted : (r : ℕ) → AllPairs (IsParted o.ticks ask.now (keeping gone)) (placed machine r (slot_order machine plans r) list.choices) = λ r. placed-parted machine ask.now (λ _. false) plans gone o.ticks list.choices f o.times.keeps o.times.lasts o.is_list.places r (o.times.apart r) in
+    let parted : (r : ℕ) → AllPairs (IsParted (gap_at machine r) o.ticks ask.now (keeping gone)) (placed machine r (slot_order machine plans r) list.choices) = λ r. placed-parted machine ask.now (λ _. false) plans gone o.ticks list.choices f o.times.keeps o.times.lasts o.is_list.places r (o.times.apart r) in
     let near = placed-out machine o.ticks ask.now (keeping gone) (slot_order machine plans) (λ r. filter (λ s. not (keeping gone s)) (slot_order machine plans r)) (forgotten_on machine plans gone) (counted machine plans gone f.legal) (λ r. refl)
     list.choices (are-own machine ask gone o.ticks list.choices (least_sum machine o.before) b.ends_ahead o.times.lasts o.times.first) o.times.lasts o.is_list.places parted in
     go near.small near.is (λ r. near.orders r ∙ ap (λ order. placed machine r order near.small) (live-order machine plans gone f.legal r))
@@ -66,7 +67,7 @@ whole_opens machine plans ask gone list end f b o =
       go : (small : List Choice) → list.choices ≡ map (shift_choice machine (forgotten_on machine plans gone)) small
           → ((r : ℕ) → filter (keeping gone) (placed machine r (slot_order machine plans r) list.choices) ≡ placed machine r (slot_order machine (less gone plans) r) small)
           → HavePlaces machine (slot_order machine (less gone plans)) small → ChoicesLast machine o.ticks small
-          → ((r : ℕ) → AllPairs (IsParted o.ticks ask.now (keeping gone)) (placed machine r (slot_order machine plans r) list.choices))
+          → ((r : ℕ) → AllPairs (IsParted (gap_at machine r) o.ticks ask.now (keeping gone)) (placed machine r (slot_order machine plans r) list.choices))
           → (near : ChoiceList) × (list ≡ shifted machine (forgotten_on machine plans gone) near) × OpensTo machine (less gone plans) ask near end
       go small is orders places lasts parted = (
         near-list,
@@ -91,7 +92,7 @@ whole_opens machine plans ask gone list end f b o =
             first = subst (λ n. start_floor machine ask.now ask.origin + least_sum machine o.before ≤ o.ticks (own n)) long o.times.first;
             last = o.times.last;
             line = λ p in'. o.times.line p (Contains-filter_from (λ q. not (gone q.sheet)) plans p in').0;
-            apart = λ r. subst (AllPairs (IsApart o.ticks)) (orders r) (AllPairs-filter (IsApart o.ticks) (keeping gone) (placed machine r (slot_order machine plans r) list.choices) (o.times.apart r));
+            apart = λ r. subst (AllPairs (IsApart (gap_at machine r) o.ticks)) (orders r) (AllPairs-filter (IsApart (gap_at machine r) o.ticks) (keeping gone) (placed machine r (slot_order machine plans r) list.choices) (o.times.apart r));
             stopped = λ e. subst (λ n. o.ticks (own n) ≡ start_floor machine ask.now ask.origin) long (o.times.stopped e);
           };
           ends = o.ends;

@@ -6,7 +6,7 @@ use Rattle.tp_machine.specs.declared.whole.Machine.{Machine}
 use Rattle.tp_schedule.specs.Answers.{IsAlternative, IsEarliest, NoneBefore, IsRetimed, IsLeast, IsAsked}
 use Rattle.tp_schedule.specs.Choices.{Choice, ChoiceList, OpensTo, IsBound}
 use Rattle.tp_schedule.specs.Holding.{holds_of_act}
-use Rattle.tp_schedule.specs.Spending.{IsSpent}
+use Rattle.tp_schedule.specs.Spending.{FewListsOpen, IsSpent}
 use Rattle.tp_schedule.specs.Spots.{slot_order}
 use Rattle.tp_schedule.specs.Legality.{IsLegal}
 use Rattle.tp_schedule.specs.Living.{is_live}
@@ -137,3 +137,8 @@ LiveHasNone = (machine : Machine) (plans : List Plan) (ask : Ask) (gone : SheetI
 abbrev pub LiveSpends : Type 0
 LiveSpends = (machine : Machine) (plans : List Plan) (ask : Ask) (gone : SheetId → Bool) (budget bound : ℕ) → MayForget machine ask.now plans gone → MayAskBeside machine plans ask gone
     → IsSpent machine (less gone plans) ask budget bound → IsSpent machine plans ask budget bound
+
+-- and at most so many open lists of the live part are at most so many of the whole schedule
+abbrev pub LiveHasFew : Type 0
+LiveHasFew = (machine : Machine) (plans : List Plan) (ask : Ask) (gone : SheetId → Bool) (most : ℕ) → MayForget machine ask.now plans gone → MayAskBeside machine plans ask gone
+    → FewListsOpen machine (less gone plans) ask most → FewListsOpen machine plans ask most

@@ -4,7 +4,7 @@ use Rattle.tp_machine.specs.declared.whole.Machine.{Machine}
 use Rattle.tp_schedule.specs.Answers.{IsAsked}
 use Rattle.tp_schedule.specs.Choices.{ChoiceList, IsOpen, OpensTo, IsBound, IsChild, IsComplete}
 use Rattle.tp_schedule.specs.Legality.{IsLegal}
-use Rattle.tp_schedule.specs.Spending.{IsStoredOrEmpty, IsSpent}
+use Rattle.tp_schedule.specs.Spending.{FewListsOpen, IsStoredOrEmpty, IsSpent}
 use Rattle.tp_schedule.specs.declared.parts.Ask.{Ask}
 use Rattle.tp_schedule.specs.declared.parts.Plan.{Plan}
 use Rattle.tp_choices.specs.Frontiers.{IsMet, IsFrontier, NoneOpensBelow}
@@ -33,6 +33,11 @@ SearchFronts = (machine : Machine) (plans : List Plan) (ask : Ask) (waiting open
 abbrev pub SearchBelow : Type 0
 SearchBelow = (machine : Machine) (plans : List Plan) (ask : Ask) (waiting opened : List ChoiceList) (bound : ℕ) → IsSearched machine plans ask waiting opened → NoneOpensBelow machine plans ask waiting bound
     → (list : ChoiceList) (end : ℕ) → OpensTo machine plans ask list end → end < bound → Contains opened list
+
+-- where no list waits and each opened list is stored or has no choices, no more open lists with choices exist than are stored
+abbrev pub EndedHasFew : Type 0
+EndedHasFew = (machine : Machine) (plans : List Plan) (ask : Ask) (opened stored : List ChoiceList) → IsSearched machine plans ask [] opened
+    → ((list : ChoiceList) → Contains opened list → IsStoredOrEmpty stored list) → FewListsOpen machine plans ask (length stored)
 
 -- where a search stands as it must store one list too many: the last list is being opened, and some of its children are stored
 pub record IsFull (machine : Machine) (plans : List Plan) (ask : Ask) (waiting opened stored : List ChoiceList) (last : ChoiceList) (bound : ℕ) : Type 0 where

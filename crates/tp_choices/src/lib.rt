@@ -4,10 +4,10 @@
 
 ghost use Rattle.tp_choices.specs.Answering.{AnswerOpens, CompleteAnswers, TicksFixPlaces};
 ghost use Rattle.tp_choices.specs.Frontiers.{FrontierBegins, FrontierBounds, FrontierEnds, FrontierGoesOn, TakenIsEarliest};
-ghost use Rattle.tp_choices.specs.LiveParts.{JoinExists, LiveAnswers, LiveBounds, LiveBoundsAnswers, LiveHasNone, LiveIsEarliest, LiveIsLeast, LiveOpens, LiveRetimes, LiveSpends, WholeAnswers, WholeIsLeast, WholeOpens, WholeRetimes};
+ghost use Rattle.tp_choices.specs.LiveParts.{JoinExists, LiveAnswers, LiveBounds, LiveBoundsAnswers, LiveHasFew, LiveHasNone, LiveIsEarliest, LiveIsLeast, LiveOpens, LiveRetimes, LiveSpends, WholeAnswers, WholeIsLeast, WholeOpens, WholeRetimes};
 ghost use Rattle.tp_choices.specs.Parents.{ParentBound, ParentOpens};
 ghost use Rattle.tp_choices.specs.Retimings.{LeastAnswers, RetimedTicks, TicksRetime};
-ghost use Rattle.tp_choices.specs.Searches.{FullSpends, SearchBelow, SearchFronts, SearchReaches};
+ghost use Rattle.tp_choices.specs.Searches.{EndedHasFew, FullSpends, SearchBelow, SearchFronts, SearchReaches};
 
 /// An alternative gives a complete list that opens to its end, and its ticks and actions fix the places.
 pub fn answers_are_complete_lists()
@@ -46,12 +46,13 @@ pub fn ticks_are_schedules()
     ensures back { RetimedTicks }
 {}
 
-/// What a search knows of all open lists, and that a full store is a spent budget.
+/// What a search knows of all open lists, that a full store is a spent budget, and that a search that ends has stored all.
 pub fn searches_know_open_lists()
     ensures reaches { SearchReaches }
     ensures fronts { SearchFronts }
     ensures below { SearchBelow }
     ensures spends { FullSpends }
+    ensures few { EndedHasFew }
 {}
 
 /// The alternatives of a schedule are those of its live part, joined with what was forgotten.
@@ -70,6 +71,7 @@ pub fn live_lists_are_enough()
     ensures live { LiveOpens }
     ensures bounds { LiveBounds }
     ensures spends { LiveSpends }
+    ensures few { LiveHasFew }
 {}
 
 /// The least times of a schedule are those of its live part.

@@ -2,6 +2,7 @@
 use Rattle.std.proofs.Common.{◌≡◌, ℕ, zero, suc, List, [], ◌∷◌, ◌++◌, length, map, refl, ap, ◌∙◌, Option, Some, None}
 use Rattle.std.specs.Prelude.{slice_get}
 use Rattle.std.proofs.lemmas.List.{map-append}
+use Rattle.tp_machine.specs.Modes.{gap_at}
 use Rattle.tp_machine.specs.Using.{action_at}
 use Rattle.tp_machine.specs.declared.parts.ActId.{ActId}
 use Rattle.tp_machine.specs.declared.parts.Action.{Action}
@@ -45,19 +46,19 @@ duration-hop-gaps machine (p ∷ plans) =
     both-gaps (acts_hops machine p.sheet 0 p.acts) (duration_hops machine plans) (plan_gaps machine p) (duration_gaps machine plans) (acts-hop-gaps machine p.sheet 0 p.acts) (duration-hop-gaps machine plans)
 
 -- orders
-chain-hop-gaps : (resource : ℕ) (xs : List Slot) → gaps_of (chain_hops resource xs) ≡ chain_gaps xs
-chain-hop-gaps resource [] = refl
-chain-hop-gaps resource (a ∷ []) = refl
-chain-hop-gaps resource (a ∷ b ∷ xs) = ap (λ zs. slot_gap a b ∷ zs) (chain-hop-gaps resource (b ∷ xs))
+chain-hop-gaps : (machine : Machine) (resource : ℕ) (xs : List Slot) → gaps_of (chain_hops machine resource xs) ≡ chain_gaps (gap_at machine resource) xs
+chain-hop-gaps machine resource [] = refl
+chain-hop-gaps machine resource (a ∷ []) = refl
+chain-hop-gaps machine resource (a ∷ b ∷ xs) = ap (λ zs. slot_gap (gap_at machine resource) a b ∷ zs) (chain-hop-gaps machine resource (b ∷ xs))
 
-all-chain-hop-gaps : (orders : ℕ → List Slot) (n : ℕ) → gaps_of (all_chain_hops orders n) ≡ all_chains orders n
-all-chain-hop-gaps orders zero = refl
-all-chain-hop-gaps orders (suc n) = both-gaps (chain_hops n (orders n)) (all_chain_hops orders n) (chain_gaps (orders n)) (all_chains orders n) (chain-hop-gaps n (orders n)) (all-chain-hop-gaps orders n)
+all-chain-hop-gaps : (machine : Machine) (orders : ℕ → List Slot) (n : ℕ) → gaps_of (all_chain_hops machine orders n) ≡ all_chains machine orders n
+all-chain-hop-gaps machine orders zero = refl
+all-chain-hop-gaps machine orders (suc n) = both-gaps (chain_hops machine n (orders n)) (all_chain_hops machine orders n) (chain_gaps (gap_at machine n) (orders n)) (all_chains machine orders n) (chain-hop-gaps machine n (orders n)) (all-chain-hop-gaps machine orders n)
 
 pub plans-hop-gaps : (machine : Machine) (plans : List Plan) → map (λ h. h.gap) (plans_hops machine plans) ≡ plans_gaps machine plans
 plans-hop-gaps machine plans =
-    both-gaps (duration_hops machine plans) (map (hop line) (line_gaps plans) ++ all_chain_hops orders n) (duration_gaps machine plans) (line_gaps plans ++ all_chains orders n) (duration-hop-gaps machine plans)
-    (both-gaps (map (hop line) (line_gaps plans)) (all_chain_hops orders n) (line_gaps plans) (all_chains orders n) (kind-gaps line (line_gaps plans)) (all-chain-hop-gaps orders n)) where
+    both-gaps (duration_hops machine plans) (map (hop line) (line_gaps plans) ++ all_chain_hops machine orders n) (duration_gaps machine plans) (line_gaps plans ++ all_chains machine orders n) (duration-hop-gaps machine plans)
+    (both-gaps (map (hop line) (line_gaps plans)) (all_chain_hops machine orders n) (line_gaps plans) (all_chains machine orders n) (kind-gaps line (line_gaps plans)) (all-chain-hop-gaps machine orders n)) where
       orders : ℕ → List Slot
       orders resource = slot_order machine plans resource
 
@@ -65,15 +66,15 @@ plans-hop-gaps machine plans =
       n = length machine.resources
 
 -- places
-after-hop-gaps : (resource : ℕ) (o : Option Slot) (s : Slot) → gaps_of (hop_after resource o s) ≡ gap_after o s
-after-hop-gaps resource None s = refl
-after-hop-gaps resource (Some a) s = refl
+after-hop-gaps : (machine : Machine) (resource : ℕ) (o : Option Slot) (s : Slot) → gaps_of (hop_after machine resource o s) ≡ gap_after (gap_at machine resource) o s
+after-hop-gaps machine resource None s = refl
+after-hop-gaps machine resource (Some a) s = refl
 
-until-hop-gaps : (resource : ℕ) (s : Slot) (o : Option Slot) → gaps_of (hop_until resource s o) ≡ gap_until s o
-until-hop-gaps resource s None = refl
-until-hop-gaps resource s (Some a) = refl
+until-hop-gaps : (machine : Machine) (resource : ℕ) (s : Slot) (o : Option Slot) → gaps_of (hop_until machine resource s o) ≡ gap_until (gap_at machine resource) s o
+until-hop-gaps machine resource s None = refl
+until-hop-gaps machine resource s (Some a) = refl
 
-pub place-hop-gaps : (resource : ℕ) (xs : List Slot) (place : ℕ) (s : Slot) → map (λ h. h.gap) (place_hops resource xs place s) ≡ place_gaps xs place s
-place-hop-gaps resource xs place s =
-    both-gaps (hop_after resource (before_place xs place) s) (hop_until resource s (slice_get xs place)) (gap_after (before_place xs place) s) (gap_until s (slice_get xs place))
-    (after-hop-gaps resource (before_place xs place) s) (until-hop-gaps resource s (slice_get xs place))
+pub place-hop-gaps : (machine : Machine) (resource : ℕ) (xs : List Slot) (place : ℕ) (s : Slot) → map (λ h. h.gap) (place_hops machine resource xs place s) ≡ place_gaps (gap_at machine resource) xs place s
+place-hop-gaps machine resource xs place s =
+    both-gaps (hop_after machine resource (before_place xs place) s) (hop_until machine resource s (slice_get xs place)) (gap_after (gap_at machine resource) (before_place xs place) s) (gap_until (gap_at machine resource) s (slice_get xs place))
+    (after-hop-gaps machine resource (before_place xs place) s) (until-hop-gaps machine resource s (slice_get xs place))

@@ -24,17 +24,17 @@ use Rattle.tp_constraints.proofs.Steps.{put_places-none}
 
 -- each neighbour in an order stands before the next
 chain-hops : (machine : Machine) (plans : List Plan) (ask : Ask) (x : Suffix) (resource k : ℕ) (xs : List Slot) → ((i : ℕ) (a : Slot) → slice_get xs i ≡ Some a → slice_get (order_in machine plans x resource) (k + i) ≡ Some a)
-    → All (IsHop machine plans ask x) (chain_hops resource xs)
+    → All (IsHop machine plans ask x) (chain_hops machine resource xs)
 chain-hops machine plans ask x resource k [] at = All-nil (IsHop machine plans ask x)
 chain-hops machine plans ask x resource k (a ∷ []) at = All-nil (IsHop machine plans ask x)
 chain-hops machine plans ask x resource k (a ∷ b ∷ xs) at =
-    All-cons (IsHop machine plans ask x) (slot_hop resource a b) (chain_hops resource (b ∷ xs)) (by_order resource (k + 0) (k + 1) a b (omega arith) (at 0 a refl) (at 1 b refl))
+    All-cons (IsHop machine plans ask x) (slot_hop machine resource a b) (chain_hops machine resource (b ∷ xs)) (by_order resource (k + 0) (k + 1) a b (omega arith) (at 0 a refl) (at 1 b refl))
     (chain-hops machine plans ask x resource (k + 1) (b ∷ xs) (λ i c e. let s : k + 1 + i ≡ k + suc i = omega arith in rw s (at (suc i) c e)))
 
-chains-hops : (machine : Machine) (plans : List Plan) (ask : Ask) (x : Suffix) (n : ℕ) → All (IsHop machine plans ask x) (all_chain_hops (order_in machine plans x) n)
+chains-hops : (machine : Machine) (plans : List Plan) (ask : Ask) (x : Suffix) (n : ℕ) → All (IsHop machine plans ask x) (all_chain_hops machine (order_in machine plans x) n)
 chains-hops machine plans ask x zero = All-nil (IsHop machine plans ask x)
 chains-hops machine plans ask x (suc n) =
-    All-append (IsHop machine plans ask x) (chain_hops n (order_in machine plans x n)) (all_chain_hops (order_in machine plans x) n)
+    All-append (IsHop machine plans ask x) (chain_hops machine n (order_in machine plans x n)) (all_chain_hops machine (order_in machine plans x) n)
     (chain-hops machine plans ask x n 0 (order_in machine plans x n) (λ i a e. let z : 0 + i ≡ i = omega arith in rw z e)) (chains-hops machine plans ask x n)
 
 -- lines
@@ -61,9 +61,9 @@ module _ (machine : Machine) (plans : List Plan) (ask : Ask) (x : Suffix) where
 
 pub load_hops : LoadHops
 load_hops machine plans ask legal =
-    All-append Here (duration_hops machine plans) (map (hop line) (line_gaps plans) ++ all_chain_hops (slot_order machine plans) (length machine.resources))
+    All-append Here (duration_hops machine plans) (map (hop line) (line_gaps plans) ++ all_chain_hops machine (slot_order machine plans) (length machine.resources))
     (durations-hops machine plans ask no_choices)
-    (All-append Here (map (hop line) (line_gaps plans)) (all_chain_hops (slot_order machine plans) (length machine.resources))
+    (All-append Here (map (hop line) (line_gaps plans)) (all_chain_hops machine (slot_order machine plans) (length machine.resources))
     (All-map Here (hop line) (line_gaps plans) (lines-hops machine plans ask no_choices plans (All-contains_itself plans) legal.in_order))
     (chains-hops machine plans ask no_choices (length machine.resources))) where
       Here : Hop → Type 0
@@ -71,7 +71,7 @@ load_hops machine plans ask legal =
 
 -- a hop of one suffix is one of another
 pub lift-hop : (machine : Machine) (plans : List Plan) (ask : Ask) (x y : Suffix) → KeepsActs x.choices y.choices → (IsTrue x.stopped → IsTrue y.stopped × (length y.choices ≡ length x.choices))
-    → ((r i j : ℕ) (a b : Slot) → i < j → slice_get (order_in machine plans x r) i ≡ Some a → slice_get (order_in machine plans x r) j ≡ Some b → IsHop machine plans ask y (slot_hop r a b))
+    → ((r i j : ℕ) (a b : Slot) → i < j → slice_get (order_in machine plans x r) i ≡ Some a → slice_get (order_in machine plans x r) j ≡ Some b → IsHop machine plans ask y (slot_hop machine r a b))
     → (h : Hop) → IsHop machine plans ask x h → IsHop machine plans ask y h
 lift-hop machine plans ask x y acts stops orders h (by_least a from to run) = by_least a from to (lift-run machine plans x.choices y.choices acts a from to run)
 lift-hop machine plans ask x y acts stops orders h (by_most a from to run) = by_most a from to (lift-run machine plans x.choices y.choices acts a from to run)

@@ -21,3 +21,6 @@ pub mod HopGaps
 pub mod FirstStates
 pub mod LeastSolutions
 pub mod PointTable
+pub mod Supporting
+pub mod GapPoints
+pub mod Closing

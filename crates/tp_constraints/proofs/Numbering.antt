@@ -10,11 +10,11 @@ use Rattle.tp_schedule.proofs.Pairs.{AllPairs-head, AllPairs-tail}
 use Rattle.tp_constraints.specs.Numbers.{is_same_spot, number}
 use Rattle.tp_schedule.proofs.CopyFacts.{same_copy-refl, same_copy-is}
 
-same_spot-refl : (s : Spot) → is_same_spot s s ≡ true
+pub same_spot-refl : (s : Spot) → is_same_spot s s ≡ true
 same_spot-refl (kept c i) = let e = same_copy-refl c in let f : (i == i) ≡ true = grind (arith, nat_tests) in rw (e, f) refl
 same_spot-refl (own n) = grind (arith, nat_tests)
 
-same_spot-is : (a b : Spot) → is_same_spot a b ≡ true → a ≡ b
+pub same_spot-is : (a b : Spot) → is_same_spot a b ≡ true → a ≡ b
 same_spot-is (kept c i) (kept d j) e = go (is_same_copy c d) (i == j) refl refl e where
   go : (a b : Bool) → is_same_copy c d ≡ a → (i == j) ≡ b → (a && b) ≡ true → kept c i ≡ kept d j
   go true true x y z = let p : c ≡ d = same_copy-is c d x in let q : i ≡ j = grind (arith, nat_tests) in rw (p, q) refl

@@ -68,9 +68,9 @@ module _ (machine : Machine) (plans : List Plan) (ask : Ask) (rooms : List ℕ) 
   order-there : order_in machine plans new rule.resource.0 ≡ insert (order_in machine plans old rule.resource.0) place slot
   order-there = let e : (rule.resource.0 == rule.resource.0) ≡ true = grind (arith, nat_tests) in new-order rule.resource.0 ∙ ap (λ b. cond b (insert (order_in machine plans old rule.resource.0) place slot) (order_in machine plans old rule.resource.0)) e
 
-  orders : (r i j : ℕ) (a b : Slot) → i < j → slice_get (order_in machine plans old r) i ≡ Some a → slice_get (order_in machine plans old r) j ≡ Some b → IsHop machine plans ask new (slot_hop r a b)
+  orders : (r i j : ℕ) (a b : Slot) → i < j → slice_get (order_in machine plans old r) i ≡ Some a → slice_get (order_in machine plans old r) j ≡ Some b → IsHop machine plans ask new (slot_hop machine r a b)
   orders r i j a b less e f = go (rule.resource.0 == r) (new-order r) where
-    go : (t : Bool) → order_in machine plans new r ≡ cond t (insert (order_in machine plans old r) place slot) (order_in machine plans old r) → IsHop machine plans ask new (slot_hop r a b)
+    go : (t : Bool) → order_in machine plans new r ≡ cond t (insert (order_in machine plans old r) place slot) (order_in machine plans old r) → IsHop machine plans ask new (slot_hop machine r a b)
     go true is = by_order r (moved place i) (moved place j) a b (moved-less place i j less)
         (subst (λ xs. slice_get xs (moved place i) ≡ Some a) (sym is) (get-moved (order_in machine plans old r) place slot i a e))
         (subst (λ xs. slice_get xs (moved place j) ≡ Some b) (sym is) (get-moved (order_in machine plans old r) place slot j b f))
@@ -82,23 +82,23 @@ module _ (machine : Machine) (plans : List Plan) (ask : Ask) (rooms : List ℕ) 
   at-moved : (k : ℕ) (a : Slot) → slice_get (order_in machine plans old rule.resource.0) k ≡ Some a → slice_get (order_in machine plans new rule.resource.0) (moved place k) ≡ Some a
   at-moved k a e = subst (λ xs. slice_get xs (moved place k) ≡ Some a) (sym order-there) (get-moved (order_in machine plans old rule.resource.0) place slot k a e)
 
-  before-hop : (o : Option Slot) → ((a : Slot) → o ≡ Some a → IsHop machine plans ask new (slot_hop rule.resource.0 a slot)) → All (IsHop machine plans ask new) (hop_after rule.resource.0 o slot)
+  before-hop : (o : Option Slot) → ((a : Slot) → o ≡ Some a → IsHop machine plans ask new (slot_hop machine rule.resource.0 a slot)) → All (IsHop machine plans ask new) (hop_after machine rule.resource.0 o slot)
   before-hop None each = All-nil (IsHop machine plans ask new)
-  before-hop (Some a) each = All-cons (IsHop machine plans ask new) (slot_hop rule.resource.0 a slot) [] (each a refl) (All-nil (IsHop machine plans ask new))
+  before-hop (Some a) each = All-cons (IsHop machine plans ask new) (slot_hop machine rule.resource.0 a slot) [] (each a refl) (All-nil (IsHop machine plans ask new))
 
-  after-hop : (o : Option Slot) → ((a : Slot) → o ≡ Some a → IsHop machine plans ask new (slot_hop rule.resource.0 slot a)) → All (IsHop machine plans ask new) (hop_until rule.resource.0 slot o)
+  after-hop : (o : Option Slot) → ((a : Slot) → o ≡ Some a → IsHop machine plans ask new (slot_hop machine rule.resource.0 slot a)) → All (IsHop machine plans ask new) (hop_until machine rule.resource.0 slot o)
   after-hop None each = All-nil (IsHop machine plans ask new)
-  after-hop (Some a) each = All-cons (IsHop machine plans ask new) (slot_hop rule.resource.0 slot a) [] (each a refl) (All-nil (IsHop machine plans ask new))
+  after-hop (Some a) each = All-cons (IsHop machine plans ask new) (slot_hop machine rule.resource.0 slot a) [] (each a refl) (All-nil (IsHop machine plans ask new))
 
-  before-is : (p : ℕ) (a : Slot) → place ≡ p → before_place (order_in machine plans old rule.resource.0) p ≡ Some a → IsHop machine plans ask new (slot_hop rule.resource.0 a slot)
+  before-is : (p : ℕ) (a : Slot) → place ≡ p → before_place (order_in machine plans old rule.resource.0) p ≡ Some a → IsHop machine plans ask new (slot_hop machine rule.resource.0 a slot)
   before-is zero a is e = absurd cc
   before-is (suc p) a is e = by_order rule.resource.0 (moved place p) place a slot (rw is (moved-before p)) (at-moved p a e) at-place
 
-  pub place-hops : (hs : List Hop) → All (IsHop machine plans ask old) hs → All (IsHop machine plans ask new) (hs ++ place_hops rule.resource.0 (order_in machine plans old rule.resource.0) place slot)
+  pub place-hops : (hs : List Hop) → All (IsHop machine plans ask old) hs → All (IsHop machine plans ask new) (hs ++ place_hops machine rule.resource.0 (order_in machine plans old rule.resource.0) place slot)
   place-hops hs all =
-      All-append (IsHop machine plans ask new) hs (place_hops rule.resource.0 (order_in machine plans old rule.resource.0) place slot)
+      All-append (IsHop machine plans ask new) hs (place_hops machine rule.resource.0 (order_in machine plans old rule.resource.0) place slot)
       (lift-hops machine plans ask old new hs (lift-hop machine plans ask old new (acts-replaced c (record { act = c.act; places = c.places ++ place ∷ [] }) choices refl) (λ is. (is, refl)) orders) all)
-      (All-append (IsHop machine plans ask new) (hop_after rule.resource.0 (before_place (order_in machine plans old rule.resource.0) place) slot) (hop_until rule.resource.0 slot (slice_get (order_in machine plans old rule.resource.0) place))
+      (All-append (IsHop machine plans ask new) (hop_after machine rule.resource.0 (before_place (order_in machine plans old rule.resource.0) place) slot) (hop_until machine rule.resource.0 slot (slice_get (order_in machine plans old rule.resource.0) place))
       (before-hop (before_place (order_in machine plans old rule.resource.0) place) (λ a e. before-is place a refl e))
       (after-hop (slice_get (order_in machine plans old rule.resource.0) place) (λ a e. by_order rule.resource.0 place (moved place place) slot a (moved-after place) at-place (at-moved place a e))))
 
@@ -107,5 +107,5 @@ places_hops machine plans ask x c choices rule place hs is next le all =
     let le' : place ≤ length (placed machine rule.resource.0 (slot_order machine plans rule.resource.0) (c ∷ choices)) = subst (λ cs. place ≤ length (placed machine rule.resource.0 (slot_order machine plans rule.resource.0) cs)) is le in
     let P : List Choice → Type 0 = (λ cs. All (IsHop machine plans ask (record { choices = cs; rooms = x.rooms; stopped = x.stopped })) hs
     → All (IsHop machine plans ask (record { choices = place_first place cs; rooms = x.rooms; stopped = x.stopped }))
-    (hs ++ place_hops rule.resource.0 (placed machine rule.resource.0 (slot_order machine plans rule.resource.0) cs) place (choice_slot rule (length choices)))) in
+    (hs ++ place_hops machine rule.resource.0 (placed machine rule.resource.0 (slot_order machine plans rule.resource.0) cs) place (choice_slot rule (length choices)))) in
     subst P (sym is) (place-hops machine plans ask x.rooms x.stopped c choices rule place next le' hs) all

@@ -1,6 +1,7 @@
 -- A schedule is its constraints.
 use Rattle.std.proofs.Common.{◌≡◌, inl, inr, ℕ, ◌+◌, Bool, List, ◌++◌, length, arith, All, Contains, get_or}
 use Rattle.std.proofs.lemmas.List.Elements.{All-nil, All-append, All-contains, Contains-get_or}
+use Rattle.tp_machine.specs.Modes.{gap_at}
 use Rattle.tp_machine.specs.Using.{action_at}
 use Rattle.tp_machine.specs.declared.whole.Machine.{Machine}
 use Rattle.tp_schedule.specs.Plans.{IsTimedPlan, point}
@@ -42,9 +43,9 @@ module _ (machine : Machine) (now : ℕ) (exempt : Plan → Bool) (plans : List 
   }
 
   -- chains of all resources give what is apart on each
-  pub apart-all : (orders : ℕ → List Slot) → ((r : ℕ) → All (IsOn machine r) (orders r)) → KeepsGaps t (all_chains orders (length machine.resources)) → (r : ℕ) → KeepsGaps t (chain_gaps (orders r))
+  pub apart-all : (orders : ℕ → List Slot) → ((r : ℕ) → All (IsOn machine r) (orders r)) → KeepsGaps t (all_chains machine orders (length machine.resources)) → (r : ℕ) → KeepsGaps t (chain_gaps (gap_at machine r) (orders r))
   apart-all orders on keeps r = elim (cases_lt r (length machine.resources)) [
-    | inl l ↦ chains-each t orders (length machine.resources) keeps r l
+    | inl l ↦ chains-each machine t orders (length machine.resources) keeps r l
     | inr out ↦ let e = none-on machine r (orders r) (on r) out in rw e (All-nil (KeepsGap t))
   ]
 
@@ -53,7 +54,7 @@ gaps_law machine now exempt plans t load = (
   λ h. (
     within-all plans 0 (now + machine.lead) (now + machine.window) exempt no_own t load.legal.in_order (within-from_times machine now exempt plans t h.0) (λ n below. absurd (omega (arith, below))),
     All-append (KeepsGap t) (duration_gaps machine plans) (line_gaps plans ++ chains) (gaps-from_lasts machine now exempt plans t load h.0.lasts)
-        (All-append (KeepsGap t) (line_gaps plans) chains (gaps-from_rise t plans h.0.rise) (chains-all t (slot_order machine plans) (length machine.resources) (λ r. gaps-from_apart t (slot_order machine plans r) (h.1 r)))),
+        (All-append (KeepsGap t) (line_gaps plans) chains (gaps-from_rise t plans h.0.rise) (chains-all machine t (slot_order machine plans) (length machine.resources) (λ r. gaps-from_apart (gap_at machine r) t (slot_order machine plans r) (h.1 r)))),
   ),
   λ k.
       let a = All-split (KeepsGap t) (duration_gaps machine plans) (line_gaps plans ++ chains) k.1 in
@@ -61,9 +62,9 @@ gaps_law machine now exempt plans t load = (
       let within = within-each plans 0 (now + machine.lead) (now + machine.window) exempt no_own t load.legal.in_order k.0 in
       let times = times-from machine now exempt plans t load within a.0 b.0 in (
         times,
-        λ r. apart-from_gaps t (slot_order machine plans r) (order-sound machine t r plans times.lasts)
+        λ r. apart-from_gaps (gap_at machine r) t (slot_order machine plans r) (order-sound machine t r plans times.lasts)
             (apart-all machine now exempt plans t load (slot_order machine plans) (λ q. order-on machine q plans) b.1 r),
       ),
 ) where
   chains : List Gap
-  chains = all_chains (slot_order machine plans) (length machine.resources)
+  chains = all_chains machine (slot_order machine plans) (length machine.resources)

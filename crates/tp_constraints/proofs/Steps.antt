@@ -3,6 +3,7 @@ use Rattle.std.proofs.Common.{◌≡◌, ◌⊎◌, inl, inr, ℕ, suc, ◌+◌,
 use Rattle.std.specs.Prelude.{◌≤ℤ◌, ◌+ℤ◌, pos}
 use Rattle.std.proofs.lemmas.List.Elements.{All-nil, All-cons, All-head, All-contains, Contains-get_or}
 use Rattle.std.proofs.lemmas.Int.{ints}
+use Rattle.tp_machine.specs.Modes.{gap_at}
 use Rattle.tp_machine.specs.Using.{action_at}
 use Rattle.tp_machine.specs.declared.parts.HoldRule.{HoldRule}
 use Rattle.tp_schedule.specs.Holding.{holds_of_act}
@@ -51,7 +52,7 @@ action_law machine plans ask x act room t lengths going known = (
       lows = λ n le. (let r = room-later room x.rooms n (omega arith) in subst (λ m. floor + m ≤ t (own n)) r (s.lows n (omega arith)));
       last = s.last;
       line = s.line;
-      apart = λ r. subst (AllPairs (IsApart t)) (same-order r) (s.apart r);
+      apart = λ r. subst (AllPairs (IsApart (gap_at machine r) t)) (same-order r) (s.apart r);
       stopped = λ e. absurd cc;
     },
     let r = room-first room x.rooms (suc (length x.choices)) (omega arith) in subst (λ m. floor + m ≤ t (own (suc (length x.choices)))) r (s.lows (suc (length x.choices)) (omega arith)),
@@ -66,7 +67,7 @@ action_law machine plans ask x act room t lengths going known = (
     ];
     last = h.0.last;
     line = h.0.line;
-    apart = λ r. subst (AllPairs (IsApart t)) (sym (same-order r)) (h.0.apart r);
+    apart = λ r. subst (AllPairs (IsApart (gap_at machine r) t)) (sym (same-order r)) (h.0.apart r);
     stopped = λ e. absurd cc;
   },
 ) where

@@ -3,6 +3,7 @@ use Rattle.std.proofs.Common.{◌≡◌, ℕ, suc, ◌+◌, ◌≤◌, Bool, tru
 use Rattle.std.specs.Prelude.{◌≤ℤ◌, ◌+ℤ◌, pos}
 use Rattle.std.proofs.lemmas.List.Elements.{All-nil, All-cons, All-head, All-append, All-contains, Contains-get_or}
 use Rattle.std.proofs.lemmas.Int.{ints}
+use Rattle.tp_machine.specs.Modes.{gap_at}
 use Rattle.tp_machine.specs.declared.whole.Machine.{Machine}
 use Rattle.tp_schedule.specs.Answers.{kept_of, IsAsked}
 use Rattle.tp_schedule.specs.declared.parts.Ask.{Ask}
@@ -41,7 +42,7 @@ module _ (machine : Machine) (plans : List Plan) (ask : Ask) (x : Suffix) (t : T
   stops = stop_gaps ask (length x.choices) x.stopped
 
   abbrev chains : List Gap
-  chains = all_chains (order_in machine plans x) (length machine.resources)
+  chains = all_chains machine (order_in machine plans x) (length machine.resources)
 
   abbrev floor : ℕ
   floor = start_floor machine ask.now ask.origin
@@ -78,7 +79,7 @@ module _ (machine : Machine) (plans : List Plan) (ask : Ask) (x : Suffix) (t : T
         (All-append (KeepsGap t) choices (ends ++ (stops ++ chains)) (gaps-from_last machine t x.choices s.lasts)
         (All-append (KeepsGap t) ends (stops ++ chains) (flat-from_each t (end_gap ask) plans (λ k d within. gap-from_line ask t (get_or plans k d) (λ tray a b. s.line (get_or plans k d) (Contains-get_or plans k d within) tray a b)))
         (All-append (KeepsGap t) stops chains (stops-keep s)
-        (chains-all t (order_in machine plans x) (length machine.resources) (λ r. gaps-from_apart t (order_in machine plans x r) (s.apart r))))))),
+        (chains-all machine t (order_in machine plans x) (length machine.resources) (λ r. gaps-from_apart (gap_at machine r) t (order_in machine plans x r) (s.apart r))))))),
   )
 
   pub times-from_keeps : Within (IsPoint plans (suc (length x.choices))) (suffix_low machine plans ask x) (suffix_cap machine plans ask) t × KeepsGaps t (suffix_gaps machine plans ask x) → SuffixTimes machine plans ask x t
@@ -98,7 +99,7 @@ module _ (machine : Machine) (plans : List Plan) (ask : Ask) (x : Suffix) (t : T
         lows = lows;
         last = (k.0 (own 0) (omega arith)).1;
         line = λ p in' tray to-tray p-to. line-from_gap ask t p (All-contains (λ q. KeepsGaps t (end_gap ask q)) plans p (each-from_flat t (end_gap ask) plans d.0) in') tray to-tray p-to;
-        apart = λ r. apart-from_gaps t (order_in machine plans x r) (placed-sound machine t r plans x.choices times.lasts lasts)
+        apart = λ r. apart-from_gaps (gap_at machine r) t (order_in machine plans x r) (placed-sound machine t r plans x.choices times.lasts lasts)
             (apart-all machine ask.now (λ _. false) plans t load (order_in machine plans x) on-all e.1 r);
         stopped = λ is_stopped. stopped-from times (lows (length x.choices) (omega arith)) e.0 is_stopped;
       }

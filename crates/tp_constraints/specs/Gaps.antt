@@ -1,6 +1,7 @@
 -- The difference constraints of a schedule: least differences of the ticks of two points, and a least and a greatest tick
 -- of each point.
 use Rattle.std.specs.Prelude.{◌≡◌, ℕ, zero, suc, ◌+◌, ◌≤◌, ◌<◌, Bool, false, not, ◌&&◌, nat_lt, nat_le, List, [], ◌∷◌, ◌++◌, flat_map, find, length, Option, Some, None, ℤ, pos, neg_ℤ, ◌+ℤ◌, ◌-ℤ◌, ◌≤ℤ◌, All, Contains, if◌then◌else◌}
+use Rattle.tp_machine.specs.Modes.{gap_at, gap_between}
 use Rattle.tp_machine.specs.Using.{action_at}
 use Rattle.tp_machine.specs.declared.parts.ActId.{ActId}
 use Rattle.tp_machine.specs.declared.parts.Action.{Action}
@@ -46,24 +47,26 @@ plan_gaps machine p = acts_gaps machine p.sheet 0 p.acts
 abbrev pub duration_gaps : Machine → List Plan → List Gap
 duration_gaps machine plans = flat_map (plan_gaps machine) plans
 
--- a hold ends by the begin of another: from the end anchor of the one to the begin anchor of the other, with their offsets
+-- a hold is apart from another on a resource with this gap: from the end anchor of the one to the begin anchor of the other,
+-- with their offsets, and the gap where their modes differ
 abbrev pub anchor_spot : Anchor → Spot → Spot → Spot
 anchor_spot Start from to = from
 anchor_spot End from to = to
 
-abbrev pub slot_gap : Slot → Slot → Gap
-slot_gap x y = gap (anchor_spot x.rule.end x.from x.to) (anchor_spot y.rule.begin y.from y.to) (x.rule.end_off -ℤ y.rule.begin_off)
+abbrev pub slot_gap : ℕ → Slot → Slot → Gap
+slot_gap apart x y =
+    gap (anchor_spot x.rule.end x.from x.to) (anchor_spot y.rule.begin y.from y.to) ((x.rule.end_off -ℤ y.rule.begin_off) +ℤ pos (gap_between apart x.rule y.rule))
 
--- each hold of an order ends by the begin of the next
-abbrev pub chain_gaps : List Slot → List Gap
-chain_gaps [] = []
-chain_gaps (x ∷ []) = []
-chain_gaps (x ∷ y ∷ ys) = slot_gap x y ∷ chain_gaps (y ∷ ys)
+-- each hold of an order is apart from the next
+abbrev pub chain_gaps : ℕ → List Slot → List Gap
+chain_gaps apart [] = []
+chain_gaps apart (x ∷ []) = []
+chain_gaps apart (x ∷ y ∷ ys) = slot_gap apart x y ∷ chain_gaps apart (y ∷ ys)
 
 -- the same of the orders of all resources below a number
-abbrev pub all_chains : (ℕ → List Slot) → ℕ → List Gap
-all_chains orders zero = []
-all_chains orders (suc n) = chain_gaps (orders n) ++ all_chains orders n
+abbrev pub all_chains : Machine → (ℕ → List Slot) → ℕ → List Gap
+all_chains machine orders zero = []
+all_chains machine orders (suc n) = chain_gaps (gap_at machine n) (orders n) ++ all_chains machine orders n
 
 -- the goal is a tray, and the plan is whole and goes to it
 abbrev pub is_in_line : Goal → Plan → Bool

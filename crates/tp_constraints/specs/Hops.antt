@@ -1,5 +1,6 @@
 -- The gaps that a reason may cite, each with what it stands for, and that each step of a board leaves them so.
 use Rattle.std.specs.Prelude.{◌≡◌, ℕ, zero, suc, ◌<◌, ◌≤◌, false, List, [], ◌∷◌, ◌++◌, flat_map, length, map, reverse, All, Contains, IsTrue, IsFalse, slice_get, Option, Some, None, pos, neg_ℤ}
+use Rattle.tp_machine.specs.Modes.{gap_at}
 use Rattle.tp_machine.specs.Using.{action_at}
 use Rattle.tp_machine.specs.declared.parts.ActId.{ActId}
 use Rattle.tp_machine.specs.declared.parts.Action.{Action}
@@ -48,7 +49,7 @@ pub data IsHop (machine : Machine) (plans : List Plan) (ask : Ask) (x : Suffix) 
   by_line : (p q : Plan) → Contains plans p → Contains plans q → IsEarlier p q → IsTrue (is_same_line p q) → IsHop machine plans ask x (hop line (gap (end_spot p) (end_spot q) (pos 1)))
   by_end : (g : Gap) → Contains (end_gaps ask plans) g → IsHop machine plans ask x (hop line g)
   by_order : (resource i j : ℕ) (a b : Slot) → i < j → slice_get (order_in machine plans x resource) i ≡ Some a → slice_get (order_in machine plans x resource) j ≡ Some b
-      → IsHop machine plans ask x (hop (order resource a.from b.from) (slot_gap a b))
+      → IsHop machine plans ask x (hop (order resource a.from b.from) (slot_gap (gap_at machine resource) a b))
   by_stop : IsTrue x.stopped → IsHop machine plans ask x (hop stop (gap (own (length x.choices)) (kept ask.sheet (kept_of ask)) (pos 0)))
 
 -- the hops of an action, of a copy's actions from point n on, and of the actions of plans
@@ -64,33 +65,33 @@ abbrev pub duration_hops : Machine → List Plan → List Hop
 duration_hops machine plans = flat_map (λ p. acts_hops machine p.sheet 0 p.acts) plans
 
 -- a hold before another, the neighbours of an order, and those of the orders of all resources below a number
-abbrev pub slot_hop : ℕ → Slot → Slot → Hop
-slot_hop resource a b = hop (order resource a.from b.from) (slot_gap a b)
+abbrev pub slot_hop : Machine → ℕ → Slot → Slot → Hop
+slot_hop machine resource a b = hop (order resource a.from b.from) (slot_gap (gap_at machine resource) a b)
 
-abbrev pub chain_hops : ℕ → List Slot → List Hop
-chain_hops resource [] = []
-chain_hops resource (a ∷ []) = []
-chain_hops resource (a ∷ b ∷ slots) = slot_hop resource a b ∷ chain_hops resource (b ∷ slots)
+abbrev pub chain_hops : Machine → ℕ → List Slot → List Hop
+chain_hops machine resource [] = []
+chain_hops machine resource (a ∷ []) = []
+chain_hops machine resource (a ∷ b ∷ slots) = slot_hop machine resource a b ∷ chain_hops machine resource (b ∷ slots)
 
-abbrev pub all_chain_hops : (ℕ → List Slot) → ℕ → List Hop
-all_chain_hops orders zero = []
-all_chain_hops orders (suc n) = chain_hops n (orders n) ++ all_chain_hops orders n
+abbrev pub all_chain_hops : Machine → (ℕ → List Slot) → ℕ → List Hop
+all_chain_hops machine orders zero = []
+all_chain_hops machine orders (suc n) = chain_hops machine n (orders n) ++ all_chain_hops machine orders n
 
 -- all hops of a schedule between neighbours
 abbrev pub plans_hops : Machine → List Plan → List Hop
-plans_hops machine plans = duration_hops machine plans ++ (map (hop line) (line_gaps plans) ++ all_chain_hops (slot_order machine plans) (length machine.resources))
+plans_hops machine plans = duration_hops machine plans ++ (map (hop line) (line_gaps plans) ++ all_chain_hops machine (slot_order machine plans) (length machine.resources))
 
 -- the hops of a hold at a place of an order, from the hold before it and to the one behind it
-abbrev pub hop_after : ℕ → Option Slot → Slot → List Hop
-hop_after resource None s = []
-hop_after resource (Some a) s = slot_hop resource a s ∷ []
+abbrev pub hop_after : Machine → ℕ → Option Slot → Slot → List Hop
+hop_after machine resource None s = []
+hop_after machine resource (Some a) s = slot_hop machine resource a s ∷ []
 
-abbrev pub hop_until : ℕ → Slot → Option Slot → List Hop
-hop_until resource s None = []
-hop_until resource s (Some b) = slot_hop resource s b ∷ []
+abbrev pub hop_until : Machine → ℕ → Slot → Option Slot → List Hop
+hop_until machine resource s None = []
+hop_until machine resource s (Some b) = slot_hop machine resource s b ∷ []
 
-abbrev pub place_hops : ℕ → List Slot → ℕ → Slot → List Hop
-place_hops resource xs place s = hop_after resource (before_place xs place) s ++ hop_until resource s (slice_get xs place)
+abbrev pub place_hops : Machine → ℕ → List Slot → ℕ → Slot → List Hop
+place_hops machine resource xs place s = hop_after machine resource (before_place xs place) s ++ hop_until machine resource s (slice_get xs place)
 
 -- no choices, before a goal is opened
 abbrev pub no_choices : Suffix
@@ -114,7 +115,7 @@ abbrev pub PlaceHops : Type 0
 PlaceHops = (machine : Machine) (plans : List Plan) (ask : Ask) (x : Suffix) (c : Choice) (choices : List Choice) (rule : HoldRule) (place : ℕ) (hs : List Hop)
     → x.choices ≡ c ∷ choices → slice_get (holds_of_act (action_at machine c.act.0)) (length c.places) ≡ Some rule → place ≤ length (order_in machine plans x rule.resource.0)
     → All (IsHop machine plans ask x) hs
-    → All (IsHop machine plans ask (with_place place x)) (hs ++ place_hops rule.resource.0 (order_in machine plans x rule.resource.0) place (choice_slot rule (length choices)))
+    → All (IsHop machine plans ask (with_place place x)) (hs ++ place_hops machine rule.resource.0 (order_in machine plans x rule.resource.0) place (choice_slot rule (length choices)))
 
 abbrev pub StopHops : Type 0
 StopHops = (machine : Machine) (plans : List Plan) (ask : Ask) (x : Suffix) (hs : List Hop) → IsFalse x.stopped → All (IsHop machine plans ask x) hs

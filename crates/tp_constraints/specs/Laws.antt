@@ -1,5 +1,6 @@
 -- A schedule's rules are difference constraints, and what each step of a board adds to them.
 use Rattle.std.specs.Prelude.{◌≡◌, ◌↔◌, ℕ, suc, ◌+◌, ◌≤◌, Bool, false, List, ◌∷◌, ◌++◌, length, slice_get, Some, IsFalse, IsSome}
+use Rattle.tp_machine.specs.Modes.{gap_at}
 use Rattle.tp_machine.specs.Using.{action_at}
 use Rattle.tp_machine.specs.declared.parts.ActId.{ActId}
 use Rattle.tp_machine.specs.declared.parts.HoldRule.{HoldRule}
@@ -25,7 +26,7 @@ pub record IsLoadable (machine : Machine) (now : ℕ) (exempt : Plan → Bool) (
 
 -- all gaps of a schedule
 abbrev pub plans_gaps : Machine → List Plan → List Gap
-plans_gaps machine plans = duration_gaps machine plans ++ (line_gaps plans ++ all_chains (slot_order machine plans) (length machine.resources))
+plans_gaps machine plans = duration_gaps machine plans ++ (line_gaps plans ++ all_chains machine (slot_order machine plans) (length machine.resources))
 
 abbrev pub no_own : ℕ → ℕ
 no_own n = 0
@@ -70,7 +71,7 @@ abbrev pub PlaceLaw : Type 0
 PlaceLaw = (machine : Machine) (plans : List Plan) (ask : Ask) (x : Suffix) (c : Choice) (choices : List Choice) (rule : HoldRule) (place : ℕ) (t : Ticks)
     → x.choices ≡ c ∷ choices → slice_get (holds_of_act (action_at machine c.act.0)) (length c.places) ≡ Some rule → place ≤ length (order_in machine plans x rule.resource.0)
     → SuffixTimes machine plans ask (with_place place x) t
-    ↔ (SuffixTimes machine plans ask x t × KeepsGaps t (place_gaps (order_in machine plans x rule.resource.0) place (choice_slot rule (length choices))))
+    ↔ (SuffixTimes machine plans ask x t × KeepsGaps t (place_gaps (gap_at machine rule.resource.0) (order_in machine plans x rule.resource.0) place (choice_slot rule (length choices))))
 
 -- the stop adds that the first point is not after the front's end
 abbrev pub StopLaw : Type 0

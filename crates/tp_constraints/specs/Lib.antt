@@ -5,3 +5,4 @@ pub mod Laws
 pub mod Nets
 pub mod Leasts
 pub mod Hops
+pub mod Supports

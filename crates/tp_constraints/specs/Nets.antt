@@ -3,6 +3,7 @@
 use Rattle.std.specs.Prelude.{◌≡◌, ◌↔◌, ℕ, suc, ◌+◌, ◌≤◌, Bool, false, List, [], ◌∷◌, ◌++◌, length, map, All, Contains, slice_get, Some, IsFalse, IsSome}
 use Rattle.tp_base.specs.Net.{Net, IsSolution, IsLeast, IsEarliest, HasNoSolution, with_point}
 use Rattle.tp_base.specs.declared.edges.Edge.{Edge}
+use Rattle.tp_machine.specs.Modes.{gap_at}
 use Rattle.tp_machine.specs.Using.{action_at}
 use Rattle.tp_machine.specs.declared.parts.ActId.{ActId}
 use Rattle.tp_machine.specs.declared.parts.HoldRule.{HoldRule}
@@ -72,7 +73,7 @@ abbrev pub PlaceNet : Type 0
 PlaceNet = (machine : Machine) (plans : List Plan) (ask : Ask) (x : Suffix) (c : Choice) (choices : List Choice) (rule : HoldRule) (place : ℕ) (table : List Spot) (net : Net) (es : List Edge)
     → x.choices ≡ c ∷ choices → slice_get (holds_of_act (action_at machine c.act.0)) (length c.places) ≡ Some rule → place ≤ length (order_in machine plans x rule.resource.0)
     → IsBoardNet machine plans ask x table net
-    → All (IsEdgeOf table) es → map (gap_by table) es ≡ place_gaps (order_in machine plans x rule.resource.0) place (choice_slot rule (length choices))
+    → All (IsEdgeOf table) es → map (gap_by table) es ≡ place_gaps (gap_at machine rule.resource.0) (order_in machine plans x rule.resource.0) place (choice_slot rule (length choices))
     → IsBoardNet machine plans ask (with_place place x) table (with_edges net es)
 
 -- the stop adds a gap from the first point to the front's end

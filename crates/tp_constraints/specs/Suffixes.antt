@@ -1,6 +1,7 @@
 -- The choices that a board has: a suffix of a route like that of a choice list, of which the newest choice may have places
 -- for its first holds alone, with a room for each own point.
 use Rattle.std.specs.Prelude.{◌≡◌, ℕ, zero, suc, ◌+◌, ◌≤◌, ◌==◌, Bool, true, false, List, [], ◌∷◌, ◌++◌, length, AllPairs, Contains, IsTrue, IsSome, flat_map, if◌then◌else◌, pos, slice_get, Option, Some, None}
+use Rattle.tp_machine.specs.Modes.{gap_at}
 use Rattle.tp_machine.specs.Using.{action_at}
 use Rattle.tp_machine.specs.declared.parts.ActId.{ActId}
 use Rattle.tp_machine.specs.declared.parts.HoldRule.{HoldRule}
@@ -70,7 +71,7 @@ pub record SuffixTimes (machine : Machine) (plans : List Plan) (ask : Ask) (x : 
   pub lows : (n : ℕ) → n ≤ length x.choices → start_floor machine ask.now ask.origin + room_of x.rooms n ≤ t (own n)
   pub last : t (own 0) ≤ ask.now + machine.window
   pub line : KeepsLine ask plans t (t (own 0))
-  pub apart : (resource : ℕ) → AllPairs (IsApart t) (order_in machine plans x resource)
+  pub apart : (resource : ℕ) → AllPairs (IsApart (gap_at machine resource) t) (order_in machine plans x resource)
   pub stopped : IsTrue x.stopped → t (own (length x.choices)) ≡ start_floor machine ask.now ask.origin
 
 -- from this state the choices lead to the goal state, and each room is that of its point's state
@@ -102,7 +103,7 @@ stop_gaps ask n true = gap (own n) (kept ask.sheet (kept_of ask)) (pos 0) ∷ []
 -- all gaps of a schedule with a suffix, and the bounds of its points
 abbrev pub suffix_gaps : Machine → List Plan → Ask → Suffix → List Gap
 suffix_gaps machine plans ask x =
-    duration_gaps machine plans ++ (line_gaps plans ++ (choice_gaps machine x.choices ++ (end_gaps ask plans ++ (stop_gaps ask (length x.choices) x.stopped ++ all_chains (order_in machine plans x) (length machine.resources)))))
+    duration_gaps machine plans ++ (line_gaps plans ++ (choice_gaps machine x.choices ++ (end_gaps ask plans ++ (stop_gaps ask (length x.choices) x.stopped ++ all_chains machine (order_in machine plans x) (length machine.resources)))))
 
 abbrev pub suffix_low : Machine → List Plan → Ask → Suffix → Spot → ℕ
 suffix_low machine plans ask x = low_at (ask.now + machine.lead) (λ _. false) plans (λ n. start_floor machine ask.now ask.origin + room_of x.rooms n)
@@ -114,20 +115,20 @@ abbrev pub IsSuffixPoint : List Plan → Suffix → Spot → Type 0
 IsSuffixPoint plans x = IsPoint plans (suc (length x.choices))
 
 -- the gaps of a hold at a place of an order, from the hold before it and to the one behind it
-abbrev pub gap_after : Option Slot → Slot → List Gap
-gap_after None s = []
-gap_after (Some x) s = slot_gap x s ∷ []
+abbrev pub gap_after : ℕ → Option Slot → Slot → List Gap
+gap_after apart None s = []
+gap_after apart (Some x) s = slot_gap apart x s ∷ []
 
-abbrev pub gap_until : Slot → Option Slot → List Gap
-gap_until s None = []
-gap_until s (Some x) = slot_gap s x ∷ []
+abbrev pub gap_until : ℕ → Slot → Option Slot → List Gap
+gap_until apart s None = []
+gap_until apart s (Some x) = slot_gap apart s x ∷ []
 
 abbrev pub before_place : List Slot → ℕ → Option Slot
 before_place xs zero = None
 before_place xs (suc i) = slice_get xs i
 
-abbrev pub place_gaps : List Slot → ℕ → Slot → List Gap
-place_gaps xs place s = gap_after (before_place xs place) s ++ gap_until s (slice_get xs place)
+abbrev pub place_gaps : ℕ → List Slot → ℕ → Slot → List Gap
+place_gaps apart xs place s = gap_after apart (before_place xs place) s ++ gap_until apart s (slice_get xs place)
 
 -- the suffix of an opened goal, one with one choice more that has no places yet, with one place more, and stopped
 abbrev pub with_goal : ℕ → Suffix

@@ -7,6 +7,7 @@ ghost use Rattle.tp_constraints.specs.Laws.{ActionLaw, GapsLaw, GoalLaw, PlaceLa
 ghost use Rattle.tp_constraints.specs.Leasts.{BoundLaw, CommitLaw, SettleLaw};
 ghost use Rattle.tp_constraints.specs.Nets.{ActionNet, BoardLate, BoardLeast, BoardSolutions, GoalNet, LoadNet, LoadedSolutions, PlaceNet, StopNet};
 ghost use Rattle.tp_constraints.specs.Numbers.{TableLaw};
+ghost use Rattle.tp_constraints.specs.Supports.{LeastIsSupported, SupportedIsLeast, UnmarkedIsLater};
 
 /// Ticks keep a schedule's shape and its orders exactly where they keep bounds and gaps. Neighbours in an order are
 /// enough, since no hold is empty.
@@ -64,4 +65,12 @@ pub fn gaps_are_hops()
     ensures action { ActionHops }
     ensures place { PlaceHops }
     ensures stop { StopHops }
+{}
+
+/// A schedule is least exactly where all its points are supported. A point that marks from the least ticks on do not reach
+/// can stand one tick earlier.
+pub fn supports_are_least_schedules()
+    ensures least { SupportedIsLeast }
+    ensures supported { LeastIsSupported }
+    ensures later { UnmarkedIsLater }
 {}

@@ -5,6 +5,8 @@ use Rattle.std.proofs.lemmas.List.Elements.{All-filter, All-weaker, filter-appen
 use Rattle.std.proofs.lemmas.List.Kept.{AllPairs-filter}
 use Rattle.tp_machine.specs.declared.whole.Machine.{Machine}
 use Rattle.tp_schedule.proofs.CopyFacts.{InOrder, same_copy-is, before-not_same'}
+use Rattle.tp_schedule.proofs.HeldModes.{spread-fewer, held_in_more}
+use Rattle.tp_schedule.proofs.Membership.{Contains-filter_from}
 use Rattle.tp_schedule.proofs.LegalFacts.{length-filter-flat_map-filter}
 use Rattle.tp_schedule.proofs.Pairs.{AllPairs-head, AllPairs-tail}
 use Rattle.tp_schedule.specs.Holding.{runs, runs_of, hold_of, holds_at}
@@ -27,6 +29,8 @@ legal-filter test machine plans legal = record {
       let counted = length-map (filter (holds_at machine resource tick) (runs plans)) hold_of in
       let left = length-map (filter (holds_at machine resource tick) (runs (filter test plans))) hold_of in
       omega arith);
+  spread = λ resource tick. spread-fewer machine plans (filter test plans) resource tick
+      (λ t mode h. held_in_more machine plans (filter test plans) resource t mode (λ p in'. (Contains-filter_from test plans p in').0) h) (legal.spread resource tick);
   rise = AllPairs-filter EndsBefore test plans legal.rise;
 }
 

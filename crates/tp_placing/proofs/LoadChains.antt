@@ -9,6 +9,8 @@ use Rattle.tp_base.specs.declared.edges.Edge.{Edge}
 use Rattle.tp_placing.specs.declared.parts.Held.{Held}
 use Rattle.tp_placing.specs.Causes.{cause_between}
 use Rattle.tp_placing.specs.declared.causes.Cause.{Cause}
+use Rattle.tp_machine.specs.Modes.{gap_at}
+use Rattle.tp_machine.specs.declared.whole.Machine.{Machine}
 use Rattle.tp_placing.specs.Edges.{hold_edge}
 use Rattle.tp_placing.specs.Loading.{with_hold, holds_in, AreIds, chain_causes, chain_edges, chains_causes, chains_edges}
 use Rattle.tp_placing.proofs.LoadHolds.{drop-get}
@@ -57,10 +59,10 @@ two-read held ids place i j d known from a b =
 
 -- their edge and their cause are the first of what is left
 module _ (hs : List Held) (place : ℕ) (x y : Held) (two : LeavesTwo hs place x y) where
-  pub edges-read : (tag given next : ℕ) (e : Edge) → e ≡ hold_edge x y given → given ≡ tag → next ≡ tag + 1 → chain_edges tag (drop (place - 1) hs) ≡ (e ∷ []) ++ chain_edges next (drop (place + 1 - 1) hs)
-  edges-read tag given next e is right same =
+  pub edges-read : (g tag given next : ℕ) (e : Edge) → e ≡ hold_edge g x y given → given ≡ tag → next ≡ tag + 1 → chain_edges g tag (drop (place - 1) hs) ≡ (e ∷ []) ++ chain_edges g next (drop (place + 1 - 1) hs)
+  edges-read g tag given next e is right same =
       let s : suc tag ≡ next = omega arith in
-      ap (chain_edges tag) two.from ∙ ap (λ z. z ∷ chain_edges (suc tag) (y ∷ two.rest)) (sym (is ∙ ap (hold_edge x y) right)) ∙ ap (λ n. e ∷ chain_edges n (y ∷ two.rest)) s ∙ ap (λ zs. e ∷ chain_edges next zs) (sym two.next)
+      ap (chain_edges g tag) two.from ∙ ap (λ z. z ∷ chain_edges g (suc tag) (y ∷ two.rest)) (sym (is ∙ ap (hold_edge g x y) right)) ∙ ap (λ n. e ∷ chain_edges g n (y ∷ two.rest)) s ∙ ap (λ zs. e ∷ chain_edges g next zs) (sym two.next)
 
   pub causes-read : (causes next : List Cause) (cause : Cause) → cause ≡ cause_between x y → next ≡ causes ++ cause ∷ [] → next ++ chain_causes (drop (place + 1 - 1) hs) ≡ causes ++ chain_causes (drop (place - 1) hs)
   causes-read causes next cause is same =
@@ -75,25 +77,27 @@ module _ (hs : List Held) (place : ℕ) (x y : Held) (two : LeavesTwo hs place x
       omega arith
 
 -- nothing is left of one hold
-one-left : (hs : List Held) (tag : ℕ) → length hs ≤ 1 → (chain_edges tag hs ≡ []) × (chain_causes hs ≡ [])
-one-left [] tag short = (refl, refl)
-one-left (h ∷ []) tag short = (refl, refl)
-one-left (g ∷ h ∷ hs) tag short = absurd (omega arith)
+one-left : (g : ℕ) (hs : List Held) (tag : ℕ) → length hs ≤ 1 → (chain_edges g tag hs ≡ []) × (chain_causes hs ≡ [])
+one-left g [] tag short = (refl, refl)
+one-left g (h ∷ []) tag short = (refl, refl)
+one-left gap (g ∷ h ∷ hs) tag short = absurd (omega arith)
 
-pub none-left : (held : List Held) (ids : List ℕ) (place tag : ℕ) → AreIds held ids → 1 ≤ place → length ids ≤ place
-    → (chain_edges tag (drop (place - 1) (holds_in held ids)) ≡ []) × (chain_causes (drop (place - 1) (holds_in held ids)) ≡ [])
-none-left held ids place tag known from short =
+pub none-left : (g : ℕ) (held : List Held) (ids : List ℕ) (place tag : ℕ) → AreIds held ids → 1 ≤ place → length ids ≤ place
+    → (chain_edges g tag (drop (place - 1) (holds_in held ids)) ≡ []) × (chain_causes (drop (place - 1) (holds_in held ids)) ≡ [])
+none-left g held ids place tag known from short =
     let l = length-holds held ids known in
     let d = length-drop (place - 1) (holds_in held ids) in
-    one-left (drop (place - 1) (holds_in held ids)) tag (omega arith)
+    one-left g (drop (place - 1) (holds_in held ids)) tag (omega arith)
 
 -- the chain of the last resource comes first
-pub chains-more : (tag next : ℕ) (orders : ℕ → List Held) (left : ℕ) → 0 < left → next ≡ tag + length (chain_causes (orders (left - 1)))
-    → chains_edges tag orders left ≡ chain_edges tag (orders (left - 1)) ++ chains_edges next orders (left - 1)
-chains-more tag next orders zero some same = absurd (omega arith)
-chains-more tag next orders (suc n) some same =
+pub chains-more : (machine : Machine) (g tag next : ℕ) (orders : ℕ → List Held) (left : ℕ) → 0 < left → g ≡ gap_at machine (left - 1) → next ≡ tag + length (chain_causes (orders (left - 1)))
+    → chains_edges machine tag orders left ≡ chain_edges g tag (orders (left - 1)) ++ chains_edges machine next orders (left - 1)
+chains-more machine g tag next orders zero some its same = absurd (omega arith)
+chains-more machine g tag next orders (suc n) some its same =
     let e : n ≡ suc n - 1 = omega arith in
-    ap (λ k. chain_edges tag (orders k) ++ chains_edges (tag + length (chain_causes (orders k))) orders k) e ∙ ap (λ t. chain_edges tag (orders (suc n - 1)) ++ chains_edges t orders (suc n - 1)) (sym same)
+    ap (λ k. chain_edges (gap_at machine k) tag (orders k) ++ chains_edges machine (tag + length (chain_causes (orders k))) orders k) e
+    ∙ ap (λ t. chain_edges (gap_at machine (suc n - 1)) tag (orders (suc n - 1)) ++ chains_edges machine t orders (suc n - 1)) (sym same)
+    ∙ ap (λ d. chain_edges d tag (orders (suc n - 1)) ++ chains_edges machine next orders (suc n - 1)) (sym its)
 
 pub causes-more : (orders : ℕ → List Held) (left : ℕ) → 0 < left → chains_causes orders left ≡ chain_causes (orders (left - 1)) ++ chains_causes orders (left - 1)
 causes-more orders zero some = absurd (omega arith)

@@ -70,14 +70,14 @@ module _ (machine : Machine) (now : ℕ) (plans : List Plan) (can : CanLoad mach
   hops : AreHops plans causes (all_edges machine plans lines.orders held) (plans_hops machine plans)
   hops =
       let more = plain-more base (chains_causes (holds_on held lines.orders) (length machine.resources)) plain in
-      let chains = all_chain_hops (slot_order machine plans) (length machine.resources) in
-      let edges = chains_edges step_causes (holds_on held lines.orders) (length machine.resources) in
+      let chains = all_chain_hops machine (slot_order machine plans) (length machine.resources) in
+      let edges = chains_edges machine step_causes (holds_on held lines.orders) (length machine.resources) in
       let from = subst (λ n. AreCausesFrom causes n (chains_causes (holds_on held lines.orders) (length machine.resources))) based (causes-behind base (chains_causes (holds_on held lines.orders) (length machine.resources))) in
       hops-append plans causes (plans_edges machine 0 plans) (lines_edges 0 plans ++ edges) (duration_hops machine plans) (map (hop line) (line_gaps plans) ++ chains)
       (durations-hops plans causes more machine 0 plans (numbered plans))
       (hops-append plans causes (lines_edges 0 plans) edges (map (hop line) (line_gaps plans)) chains
       (lines-hops plans causes more 0 plans (numbered plans))
-      (chains-hops plans causes step_causes (holds_on held lines.orders) (slot_order machine plans) (length machine.resources) (omega arith) from chain))
+      (chains-hops machine plans causes step_causes (holds_on held lines.orders) (slot_order machine plans) (length machine.resources) (omega arith) from chain))
 
   gaps : map (gap_by (table_of plans)) (all_edges machine plans lines.orders held) ≡ plans_gaps machine plans
   gaps = gaps-by plans causes (all_edges machine plans lines.orders held) hops.can ∙ ap (map (λ (h : Hop). h.gap)) hops.hops ∙ plans-hop-gaps machine plans
@@ -101,10 +101,10 @@ module _ (machine : Machine) (now : ℕ) (plans : List Plan) (can : CanLoad mach
       let d = durations-count machine 0 plans (few-acts machine now plans can) in
       let l = lines-count 0 plans in
       let c = chains in
-      let same = chains-length step_causes (holds_on held lines.orders) (length machine.resources) in
+      let same = chains-length machine step_causes (holds_on held lines.orders) (length machine.resources) in
       let few = can.few in
-      let a = length-append (plans_edges machine 0 plans) (lines_edges 0 plans ++ chains_edges step_causes (holds_on held lines.orders) (length machine.resources)) in
-      let b = length-append (lines_edges 0 plans) (chains_edges step_causes (holds_on held lines.orders) (length machine.resources)) in
+      let a = length-append (plans_edges machine 0 plans) (lines_edges 0 plans ++ chains_edges machine step_causes (holds_on held lines.orders) (length machine.resources)) in
+      let b = length-append (lines_edges 0 plans) (chains_edges machine step_causes (holds_on held lines.orders) (length machine.resources)) in
       omega arith
 
   lows : net.lows ≡ map (low_at (now + machine.lead) (λ _. false) plans no_own) (table_of plans)

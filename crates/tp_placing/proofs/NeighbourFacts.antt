@@ -1,5 +1,5 @@
 -- The edges to the neighbours of a place may be asked of the network.
-use Rattle.std.proofs.Common.{ℕ, zero, suc, ◌+◌, ◌<◌, ◌≤◌, List, [], ◌∷◌, length, sym, subst, arith, Option, Some, None, pos, negsuc, All, ℤ, ◌-ℤ◌, ◌≤ℤ◌}
+use Rattle.std.proofs.Common.{ℕ, zero, suc, ◌+◌, ◌<◌, ◌≤◌, List, [], ◌∷◌, length, sym, subst, arith, Option, Some, None, pos, negsuc, All, ℤ, ◌+ℤ◌, ◌-ℤ◌, ◌≤ℤ◌}
 use Rattle.std.specs.List.{slice_get}
 use Rattle.std.proofs.lemmas.Int.{ints}
 use Rattle.std.proofs.lemmas.Option.{slice_get_within}
@@ -7,6 +7,8 @@ use Rattle.std.proofs.lemmas.List.{length-append}
 use Rattle.std.proofs.lemmas.List.Elements.{All-nil, All-cons, All-append}
 use Rattle.tp_base.proofs.SliceFacts.{All-at}
 use Rattle.tp_base.specs.declared.edges.PointId.{PointId}
+use Rattle.tp_machine.proofs.ModeFacts.{gap_between-most}
+use Rattle.tp_machine.specs.Modes.{gap_between}
 use Rattle.tp_machine.specs.Machines.{IsOffset}
 use Rattle.tp_machine.specs.declared.parts.Anchor.{Anchor}
 use Rattle.tp_machine.specs.declared.parts.Anchor.TheVariants.{Start, End}
@@ -26,12 +28,13 @@ anchor-within : (points : ℕ) (a : Anchor) (start end : PointId) → start.0 < 
 anchor-within points Start start end s e = s
 anchor-within points End start end s e = e
 
-small-weight : (a b : ℤ) → IsOffset a → IsOffset b → (negsuc 999999 ≤ℤ (a -ℤ b)) × ((a -ℤ b) ≤ℤ pos 1000000)
-small-weight a b x y = let x0 = x.0 in let x1 = x.1 in let y0 = y.0 in let y1 = y.1 in (omega (arith, ints), omega (arith, ints))
+pub small-weight : (a b : ℤ) (n : ℕ) → IsOffset a → IsOffset b → n ≤ 4096 → (negsuc 999999 ≤ℤ ((a -ℤ b) +ℤ pos n)) × (((a -ℤ b) +ℤ pos n) ≤ℤ pos 1000000)
+small-weight a b n x y few = let x0 = x.0 in let x1 = x.1 in let y0 = y.0 in let y1 = y.1 in (omega (arith, ints), omega (arith, ints))
 
-pub can-hold : (points : ℕ) (h k : Held) (tag : ℕ) → IsSmallHold points h → IsSmallHold points k → CanRequire points (hold_edge h k tag)
-can-hold points h k tag x y =
-    let w = small-weight h.rule.end_off k.rule.begin_off x.small.1 y.small.0 in
+pub can-hold : (g points : ℕ) (h k : Held) (tag : ℕ) → IsSmallHold points h → IsSmallHold points k → g ≤ 4096 → CanRequire points (hold_edge g h k tag)
+can-hold g points h k tag x y few =
+    let most = gap_between-most g h.rule k.rule in
+    let w = small-weight h.rule.end_off k.rule.begin_off (gap_between g h.rule k.rule) x.small.1 y.small.0 (omega arith) in
     record {
       from = anchor-within points h.rule.end h.start h.end x.start x.end;
       to = anchor-within points k.rule.begin k.start k.end y.start y.end;
@@ -59,32 +62,32 @@ small-before : (table : List Spot) (held : List Held) (ids : List ℕ) (slots : 
 small-before table held ids slots zero a small = tt
 small-before table held ids slots (suc place) a small = small-at table held ids slots place a small
 
-can-after : (points : ℕ) (o : Option Held) (h : Held) (tag : ℕ) → IsSmallIf points o → IsSmallHold points h → All (CanRequire points) (edge_after o h tag)
-can-after points None h tag x y = All-nil (CanRequire points)
-can-after points (Some k) h tag x y = All-cons (CanRequire points) (hold_edge k h tag) [] (can-hold points k h tag x y) (All-nil (CanRequire points))
+can-after : (g points : ℕ) (o : Option Held) (h : Held) (tag : ℕ) → IsSmallIf points o → IsSmallHold points h → g ≤ 4096 → All (CanRequire points) (edge_after g o h tag)
+can-after g points None h tag x y few = All-nil (CanRequire points)
+can-after g points (Some k) h tag x y few = All-cons (CanRequire points) (hold_edge g k h tag) [] (can-hold g points k h tag x y few) (All-nil (CanRequire points))
 
-can-until : (points : ℕ) (o : Option Held) (h : Held) (tag : ℕ) → IsSmallIf points o → IsSmallHold points h → All (CanRequire points) (edge_until h o tag)
-can-until points None h tag x y = All-nil (CanRequire points)
-can-until points (Some k) h tag x y = All-cons (CanRequire points) (hold_edge h k tag) [] (can-hold points h k tag y x) (All-nil (CanRequire points))
+can-until : (g points : ℕ) (o : Option Held) (h : Held) (tag : ℕ) → IsSmallIf points o → IsSmallHold points h → g ≤ 4096 → All (CanRequire points) (edge_until g h o tag)
+can-until g points None h tag x y few = All-nil (CanRequire points)
+can-until g points (Some k) h tag x y few = All-cons (CanRequire points) (hold_edge g h k tag) [] (can-hold g points h k tag y x few) (All-nil (CanRequire points))
 
-pub can-neighbours : (table : List Spot) (held : List Held) (ids : List ℕ) (slots : List Slot) (place : ℕ) (h : Held) (tag : ℕ) → AreSlots table held ids slots → All (λ h. HasSmallOffsets h.rule) held → IsSmallHold (length table) h
-    → All (CanRequire (length table)) (edges_around (held_before held ids place) h (held_behind held ids place) tag)
-can-neighbours table held ids slots place h tag a small new =
-    All-append (CanRequire (length table)) (edge_after (held_before held ids place) h tag) (edge_until h (held_behind held ids place) (tag + 1))
-    (can-after (length table) (held_before held ids place) h tag (small-before table held ids slots place a small) new)
-    (can-until (length table) (held_behind held ids place) h (tag + 1) (small-at table held ids slots place a small) new)
+pub can-neighbours : (g : ℕ) (table : List Spot) (held : List Held) (ids : List ℕ) (slots : List Slot) (place : ℕ) (h : Held) (tag : ℕ) → AreSlots table held ids slots → All (λ h. HasSmallOffsets h.rule) held → IsSmallHold (length table) h → g ≤ 4096
+    → All (CanRequire (length table)) (edges_around g (held_before held ids place) h (held_behind held ids place) tag)
+can-neighbours g table held ids slots place h tag a small new few =
+    All-append (CanRequire (length table)) (edge_after g (held_before held ids place) h tag) (edge_until g h (held_behind held ids place) (tag + 1))
+    (can-after g (length table) (held_before held ids place) h tag (small-before table held ids slots place a small) new few)
+    (can-until g (length table) (held_behind held ids place) h (tag + 1) (small-at table held ids slots place a small) new few)
 
-one-after : (o : Option Held) (h : Held) (tag : ℕ) → length (edge_after o h tag) ≤ 1
-one-after None h tag = omega arith
-one-after (Some k) h tag = omega arith
+one-after : (g : ℕ) (o : Option Held) (h : Held) (tag : ℕ) → length (edge_after g o h tag) ≤ 1
+one-after g None h tag = omega arith
+one-after g (Some k) h tag = omega arith
 
-one-until : (o : Option Held) (h : Held) (tag : ℕ) → length (edge_until h o tag) ≤ 1
-one-until None h tag = omega arith
-one-until (Some k) h tag = omega arith
+one-until : (g : ℕ) (o : Option Held) (h : Held) (tag : ℕ) → length (edge_until g h o tag) ≤ 1
+one-until g None h tag = omega arith
+one-until g (Some k) h tag = omega arith
 
-pub two-neighbours : (before behind : Option Held) (h : Held) (tag : ℕ) → length (edges_around before h behind tag) ≤ 2
-two-neighbours before behind h tag =
-    let l = length-append (edge_after before h tag) (edge_until h behind (tag + 1)) in let a = one-after before h tag in let b = one-until behind h (tag + 1) in omega arith
+pub two-neighbours : (g : ℕ) (before behind : Option Held) (h : Held) (tag : ℕ) → length (edges_around g before h behind tag) ≤ 2
+two-neighbours g before behind h tag =
+    let l = length-append (edge_after g before h tag) (edge_until g h behind (tag + 1)) in let a = one-after g before h tag in let b = one-until g behind h (tag + 1) in omega arith
 
 -- the numbers of an order are those of holds
 pub slots-known : (table : List Spot) (held : List Held) (ids : List ℕ) (slots : List Slot) → AreSlots table held ids slots → All (λ id. id < length held) ids

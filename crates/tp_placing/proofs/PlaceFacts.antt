@@ -11,6 +11,8 @@ use Rattle.tp_base.proofs.SliceFacts.{slice_get_last}
 use Rattle.tp_base.specs.declared.edges.Edge.{Edge}
 use Rattle.tp_base.specs.declared.edges.PointId.{PointId}
 use Rattle.tp_base.specs.Net.{Net, HasLeast, HasNoSolution}
+use Rattle.tp_machine.proofs.MachineFacts.{is_machine}
+use Rattle.tp_machine.specs.Modes.{gap_at}
 use Rattle.tp_machine.specs.Using.{action_at}
 use Rattle.std.proofs.lemmas.Option.{same_Some, slice_get_within}
 use Rattle.tp_machine.specs.declared.parts.ActId.{ActId}
@@ -100,7 +102,7 @@ module _ (m : Machine) (plans : List Plan) (ask : Ask) (c : Choice) (choices : L
     order = order_on lines rule.resource.0
 
     abbrev es : List Edge
-    es = edges_around (held_before holds order place) h (held_behind holds order place) (step_tag (length steps))
+    es = edges_around (gap_at m rule.resource.0) (held_before holds order place) h (held_behind holds order place) (step_tag (length steps))
 
     pub start-own : slice_get table h.start.0 ≡ Some (own (suc (length choices)))
     start-own =
@@ -113,8 +115,8 @@ module _ (m : Machine) (plans : List Plan) (ask : Ask) (c : Choice) (choices : L
         let e : h.end.0 ≡ length (table_of plans) + length choices = omega arith in
         ap (λ k. slice_get table k) e ∙ table-own plans (suc (suc (length choices))) (length choices) (omega arith)
 
-    gaps : map (gap_by table) es ≡ place_gaps (order_in m plans x rule.resource.0) place slot
-    gaps = neighbour-gaps table holds order (order_in m plans x rule.resource.0) place h slot (at.orders rule.resource.0 resource) rule_is start-own end-own (step_tag (length steps))
+    gaps : map (gap_by table) es ≡ place_gaps (gap_at m rule.resource.0) (order_in m plans x rule.resource.0) place slot
+    gaps = neighbour-gaps (gap_at m rule.resource.0) table holds order (order_in m plans x rule.resource.0) place h slot (at.orders rule.resource.0 resource) rule_is start-own end-own (step_tag (length steps))
 
     pub place-refused : PlaceNet → BoardLate → All (IsEdgeOf table) es → HasNoSolution (with_edges n es) → (t : Ticks) → ¬ SuffixTimes m plans ask (with_place place x) t
     place-refused place_net late in' none =
@@ -124,9 +126,9 @@ module _ (m : Machine) (plans : List Plan) (ask : Ask) (c : Choice) (choices : L
     place-net place_net in' = place_net m plans ask x c choices rule place table n es refl is_rule within at.net in' gaps
 
     pub place-hops : (causes : List Cause) → ArePlain causes → length steps + 1 ≤ 330 → All (IsEdgeOf table) es
-        → AreMade (length steps + 1) plans (causes_around (held_before holds order place) h (held_behind holds order place) (step_tag (length steps)) causes) es (place_hops rule.resource.0 (order_in m plans x rule.resource.0) place slot)
+        → AreMade (length steps + 1) plans (causes_around (held_before holds order place) h (held_behind holds order place) (step_tag (length steps)) causes) es (place_hops m rule.resource.0 (order_in m plans x rule.resource.0) place slot)
     place-hops causes plain few in' =
-        place-made plans (suc (suc (length choices))) holds order (order_in m plans x rule.resource.0) place rule.resource.0 (length steps) h slot causes
+        place-made m plans (suc (suc (length choices))) holds order (order_in m plans x rule.resource.0) place rule.resource.0 (length steps) h slot causes
         (at.orders rule.resource.0 resource) (order-in-on m plans x rule.resource.0) refl rule_is start-own end-own (omega arith) plain.slots in'
 
     new-slot : IsSlotOf table (holds ++ h ∷ []) (length holds) slot
@@ -154,7 +156,7 @@ module _ (m : Machine) (plans : List Plan) (ask : Ask) (c : Choice) (choices : L
         let l = length-append steps (s ∷ []) in
         let e = edges-more steps s some in
         let ne = length-append n.edges es in
-        let two = two-neighbours (held_before holds order place) (held_behind holds order place) h (step_tag (length steps)) in
+        let two = two-neighbours (gap_at m rule.resource.0) (held_before holds order place) (held_behind holds order place) h (step_tag (length steps)) in
         let hl = length-append holds (h ∷ []) in
         let fe = at.few_edges in
         let fh = at.few_holds in
@@ -254,7 +256,7 @@ module _ {N : Type 0} (net : N → Net) (b : BoardValue N) (m : Machine) (ask : 
   order_here = order_on b.orders.orders rule.resource.0
 
   abbrev pub edges_here : List Edge
-  edges_here = edges_around (held_before b.held order_here place) h (held_behind b.held order_here place) (step_tag (length b.steps))
+  edges_here = edges_around (gap_at m rule.resource.0) (held_before b.held order_here place) h (held_behind b.held order_here place) (step_tag (length b.steps))
 
   abbrev pub causes_here : List Cause
   causes_here = causes_around (held_before b.held order_here place) h (held_behind b.held order_here place) (step_tag (length b.steps)) b.causes
@@ -281,11 +283,11 @@ module _ {N : Type 0} (net : N → Net) (b : BoardValue N) (m : Machine) (ask : 
   lows-points = ap length p.at.net.lows ∙ length-map points (suffix_low m b.plans ask suffix_here)
 
   can-points : All (CanRequire (length points)) edges_here
-  can-points = can-neighbours points b.held order_here (order_in m b.plans suffix_here rule.resource.0) place h (step_tag (length b.steps)) slots-here p.at.small (record {
+  can-points = can-neighbours (gap_at m rule.resource.0) points b.held order_here (order_in m b.plans suffix_here rule.resource.0) place h (step_tag (length b.steps)) slots-here p.at.small (record {
     start = slice_get_within points h.start.0 _ start-here;
     end = slice_get_within points h.end.0 _ end-here;
     small = subst HasSmallOffsets (sym rule_is) offsets;
-  })
+  }) ((is_machine m).gaps rule.resource.0)
 
   pub can-here : All (CanRequire (length (net b.net).lows)) edges_here
   can-here = subst (λ k. All (CanRequire k) edges_here) (sym lows-points) can-points
@@ -301,13 +303,13 @@ module _ {N : Type 0} (net : N → Net) (b : BoardValue N) (m : Machine) (ask : 
   pub keeps-here : Keeps (length b.steps) b.causes causes_here
   keeps-here = let f = few-here in keeps-around (held_before b.held order_here place) (held_behind b.held order_here place) h b.causes (length b.steps) (omega arith)
 
-  made-here : ArePlain b.causes → AreMade (length b.steps + 1) b.plans causes_here edges_here (place_hops rule.resource.0 (order_in m b.plans suffix_here rule.resource.0) place (choice_slot rule (length p.choices)))
+  made-here : ArePlain b.causes → AreMade (length b.steps + 1) b.plans causes_here edges_here (place_hops m rule.resource.0 (order_in m b.plans suffix_here rule.resource.0) place (choice_slot rule (length p.choices)))
   made-here plain =
       place-hops m b.plans ask p.choice p.choices p.rooms p.stopped rule place p.is_rule b.steps (net b.net) b.orders.orders b.held h newest p.at p.hand p.some known resource p.within few-places fits-here rule_is start_is end_is
       b.causes plain few-here (edges-of points edges_here can-points)
 
   lift-here : PlaceHops → (os : List Hop) → All (IsHop m b.plans ask suffix_here) os
-      → All (IsHop m b.plans ask (with_place place suffix_here)) (os ++ place_hops rule.resource.0 (order_in m b.plans suffix_here rule.resource.0) place (choice_slot rule (length p.choices)))
+      → All (IsHop m b.plans ask (with_place place suffix_here)) (os ++ place_hops m rule.resource.0 (order_in m b.plans suffix_here rule.resource.0) place (choice_slot rule (length p.choices)))
   lift-here law os all = law m b.plans ask suffix_here p.choice p.choices rule place os refl p.is_rule p.within all
 
   kept-here : ArePlain b.causes → AreCaused m b.plans ask b.causes b.steps (net b.net) → AreCaused m b.plans ask causes_here b.steps (net b.net)
@@ -338,4 +340,4 @@ module _ {N : Type 0} (net : N → Net) (b : BoardValue N) (m : Machine) (ask : 
       place_net (edges-of points edges_here can-points) solved (subst HasSmallOffsets (sym rule_is) offsets) s (a ∙ p.hand.0, ap (λ (q : PointId). q.0) f ∙ p.hand.1)
 
   pub two-here : length edges_here ≤ 2
-  two-here = two-neighbours (held_before b.held order_here place) (held_behind b.held order_here place) h (step_tag (length b.steps))
+  two-here = two-neighbours (gap_at m rule.resource.0) (held_before b.held order_here place) (held_behind b.held order_here place) h (step_tag (length b.steps))

@@ -1,9 +1,10 @@
 -- Orders of numbers as orders of slots.
-use Rattle.std.proofs.Common.{◌≡◌, ℕ, zero, suc, ◌+◌, List, [], ◌∷◌, ◌++◌, length, map, refl, ap, sym, ◌∙◌, subst, Option, Some, None, ◌-ℤ◌}
+use Rattle.std.proofs.Common.{◌≡◌, ℕ, zero, suc, ◌+◌, List, [], ◌∷◌, ◌++◌, length, map, refl, ap, sym, ◌∙◌, subst, Option, Some, None, pos, ◌-ℤ◌, ◌+ℤ◌}
 use Rattle.std.proofs.lemmas.List.{map-append, append-nil}
 use Rattle.std.specs.List.{slice_get, insert}
 use Rattle.std.proofs.lemmas.Option.{slice_get_within}
 use Rattle.tp_base.proofs.SliceFacts.{slice_get_left}
+use Rattle.tp_machine.specs.Modes.{gap_between}
 use Rattle.tp_machine.specs.declared.parts.Anchor.{Anchor}
 use Rattle.tp_machine.specs.declared.parts.Anchor.TheVariants.{Start, End}
 use Rattle.tp_machine.specs.declared.parts.HoldRule.{HoldRule}
@@ -71,31 +72,31 @@ anchored : (table : List Spot) (a : Anchor) (start end : PointId) (from to : Spo
 anchored table Start start end from to s e = rw s refl
 anchored table End start end from to s e = rw e refl
 
-pub hold-gap : (table : List Spot) (h k : Held) (s r : Slot) → h.rule ≡ s.rule → slice_get table h.start.0 ≡ Some s.from → slice_get table h.end.0 ≡ Some s.to
-    → k.rule ≡ r.rule → slice_get table k.start.0 ≡ Some r.from → slice_get table k.end.0 ≡ Some r.to → (tag : ℕ) → gap_by table (hold_edge h k tag) ≡ slot_gap s r
-hold-gap table h k s r a b c d e f tag =
+pub hold-gap : (g : ℕ) (table : List Spot) (h k : Held) (s r : Slot) → h.rule ≡ s.rule → slice_get table h.start.0 ≡ Some s.from → slice_get table h.end.0 ≡ Some s.to
+    → k.rule ≡ r.rule → slice_get table k.start.0 ≡ Some r.from → slice_get table k.end.0 ≡ Some r.to → (tag : ℕ) → gap_by table (hold_edge g h k tag) ≡ slot_gap g s r
+hold-gap g table h k s r a b c d e f tag =
     let from : spot_at table (anchor_point h.rule.end h.start h.end).0 ≡ anchor_spot s.rule.end s.from s.to =
     anchored table h.rule.end h.start h.end s.from s.to b c ∙ ap (λ (q : HoldRule). anchor_spot q.end s.from s.to) a in
     let to : spot_at table (anchor_point k.rule.begin k.start k.end).0 ≡ anchor_spot r.rule.begin r.from r.to =
     anchored table k.rule.begin k.start k.end r.from r.to e f ∙ ap (λ (q : HoldRule). anchor_spot q.begin r.from r.to) d in
-    let weight : (h.rule.end_off -ℤ k.rule.begin_off) ≡ (s.rule.end_off -ℤ r.rule.begin_off) = λ i. (a i).end_off -ℤ (d i).begin_off in
+    let weight : ((h.rule.end_off -ℤ k.rule.begin_off) +ℤ pos (gap_between g h.rule k.rule)) ≡ ((s.rule.end_off -ℤ r.rule.begin_off) +ℤ pos (gap_between g s.rule r.rule)) = λ i. ((a i).end_off -ℤ (d i).begin_off) +ℤ pos (gap_between g (a i) (d i)) in
     λ i. gap (from i) (to i) (weight i)
 
-after-gap : (table : List Spot) (held : List Held) (o : Option Held) (q : Option Slot) (h : Held) (s : Slot) → AtPlace table held o q → h.rule ≡ s.rule → slice_get table h.start.0 ≡ Some s.from → slice_get table h.end.0 ≡ Some s.to
-    → (tag : ℕ) → map (gap_by table) (edge_after o h tag) ≡ gap_after q s
-after-gap table held o q h s none a b c tag = refl
-after-gap table held o q h s (some k r x y z) a b c tag = ap (λ g. g ∷ []) (hold-gap table k h r s x y z a b c tag)
+after-gap : (g : ℕ) (table : List Spot) (held : List Held) (o : Option Held) (q : Option Slot) (h : Held) (s : Slot) → AtPlace table held o q → h.rule ≡ s.rule → slice_get table h.start.0 ≡ Some s.from → slice_get table h.end.0 ≡ Some s.to
+    → (tag : ℕ) → map (gap_by table) (edge_after g o h tag) ≡ gap_after g q s
+after-gap g table held o q h s none a b c tag = refl
+after-gap g table held o q h s (some k r x y z) a b c tag = ap (λ e. e ∷ []) (hold-gap g table k h r s x y z a b c tag)
 
-until-gap : (table : List Spot) (held : List Held) (o : Option Held) (q : Option Slot) (h : Held) (s : Slot) → AtPlace table held o q → h.rule ≡ s.rule → slice_get table h.start.0 ≡ Some s.from → slice_get table h.end.0 ≡ Some s.to
-    → (tag : ℕ) → map (gap_by table) (edge_until h o tag) ≡ gap_until s q
-until-gap table held o q h s none a b c tag = refl
-until-gap table held o q h s (some k r x y z) a b c tag = ap (λ g. g ∷ []) (hold-gap table h k s r a b c x y z tag)
+until-gap : (g : ℕ) (table : List Spot) (held : List Held) (o : Option Held) (q : Option Slot) (h : Held) (s : Slot) → AtPlace table held o q → h.rule ≡ s.rule → slice_get table h.start.0 ≡ Some s.from → slice_get table h.end.0 ≡ Some s.to
+    → (tag : ℕ) → map (gap_by table) (edge_until g h o tag) ≡ gap_until g s q
+until-gap g table held o q h s none a b c tag = refl
+until-gap g table held o q h s (some k r x y z) a b c tag = ap (λ e. e ∷ []) (hold-gap g table h k s r a b c x y z tag)
 
 -- the edges to the neighbours of a place are its gaps
-pub neighbour-gaps : (table : List Spot) (held : List Held) (ids : List ℕ) (slots : List Slot) (place : ℕ) (h : Held) (s : Slot) → AreSlots table held ids slots
+pub neighbour-gaps : (g : ℕ) (table : List Spot) (held : List Held) (ids : List ℕ) (slots : List Slot) (place : ℕ) (h : Held) (s : Slot) → AreSlots table held ids slots
     → h.rule ≡ s.rule → slice_get table h.start.0 ≡ Some s.from → slice_get table h.end.0 ≡ Some s.to
-    → (tag : ℕ) → map (gap_by table) (edges_around (held_before held ids place) h (held_behind held ids place) tag) ≡ place_gaps slots place s
-neighbour-gaps table held ids slots place h s all a b c tag =
-    let x = after-gap table held (held_before held ids place) (before_place slots place) h s (slots-before table held ids slots place all) a b c tag in
-    let y = until-gap table held (held_behind held ids place) (slice_get slots place) h s (slots-at table held ids slots place all) a b c (tag + 1) in
-    map-append (gap_by table) (edge_after (held_before held ids place) h tag) (edge_until h (held_behind held ids place) (tag + 1)) ∙ (λ i. x i ++ y i)
+    → (tag : ℕ) → map (gap_by table) (edges_around g (held_before held ids place) h (held_behind held ids place) tag) ≡ place_gaps g slots place s
+neighbour-gaps g table held ids slots place h s all a b c tag =
+    let x = after-gap g table held (held_before held ids place) (before_place slots place) h s (slots-before table held ids slots place all) a b c tag in
+    let y = until-gap g table held (held_behind held ids place) (slice_get slots place) h s (slots-at table held ids slots place all) a b c (tag + 1) in
+    map-append (gap_by table) (edge_after g (held_before held ids place) h tag) (edge_until g h (held_behind held ids place) (tag + 1)) ∙ (λ i. x i ++ y i)

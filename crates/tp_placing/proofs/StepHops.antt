@@ -7,6 +7,8 @@ use Rattle.tp_base.proofs.SliceFacts.{found, All-at}
 use Rattle.tp_constraints.proofs.Lists.{All-split}
 use Rattle.tp_base.specs.declared.edges.Edge.{Edge}
 use Rattle.tp_base.specs.declared.edges.PointId.{PointId}
+use Rattle.tp_machine.specs.Modes.{gap_at}
+use Rattle.tp_machine.specs.declared.whole.Machine.{Machine}
 use Rattle.tp_machine.specs.declared.parts.Action.{Action}
 use Rattle.tp_schedule.specs.Spots.{Spot, Slot}
 use Rattle.tp_schedule.specs.declared.parts.Plan.{Plan}
@@ -89,7 +91,7 @@ stop-made steps plans count causes first end from to plain s e =
     }
 
 -- a hold is placed
-module _ (plans : List Plan) (count : ℕ) (held : List Held) (resource : ℕ) (h : Held) (s : Slot) (causes : List Cause)
+module _ (machine : Machine) (plans : List Plan) (count : ℕ) (held : List Held) (resource : ℕ) (h : Held) (s : Slot) (causes : List Cause)
     (on : IsOn resource s) (rule : h.rule ≡ s.rule) (start : slice_get (table_with plans count) h.start.0 ≡ Some s.from) (end : slice_get (table_with plans count) h.end.0 ≡ Some s.to) where
   abbrev table : List Spot
   table = table_with plans count
@@ -98,59 +100,59 @@ module _ (plans : List Plan) (count : ℕ) (held : List Held) (resource : ℕ) (
   on-held = ap (λ r. r.resource.0) rule ∙ on
 
   after-hop : (o : Option Held) (q : Option Slot) (tag : ℕ) → AtPlace table held o q → ((a : Slot) → q ≡ Some a → IsOn resource a) → ((x : Held) → o ≡ Some x → slice_get causes tag ≡ Some (cause_between x h))
-      → All (IsEdgeOf table) (edge_after o h tag) → map (hop_by plans causes) (edge_after o h tag) ≡ hop_after resource q s
+      → All (IsEdgeOf table) (edge_after (gap_at machine resource) o h tag) → map (hop_by plans causes) (edge_after (gap_at machine resource) o h tag) ≡ hop_after machine resource q s
   after-hop o q tag none each cause known = refl
   after-hop o q tag (some k a x y z) each cause known =
       let r : k.rule.resource.0 ≡ resource = ap (λ r. r.resource.0) x ∙ each a refl in
       let from = numbered-in plans count k.start.0 a.from y in
       let to = numbered-in plans count h.start.0 s.from start in
       let kind : kind_of plans (slice_get causes tag) ≡ order resource a.from s.from = ap (kind_of plans) (cause k refl) ∙ (λ i. order (r i) (from i) (to i)) in
-      let one : hop_by plans causes (hold_edge k h tag) ≡ slot_hop resource a s =
-      hop-gap plans count causes (hold_edge k h tag) (All-head (IsEdgeOf table) (hold_edge k h tag) [] known) ∙ (λ i. hop (kind i) (hold-gap table k h a s x y z rule start end tag i)) in
+      let one : hop_by plans causes (hold_edge (gap_at machine resource) k h tag) ≡ slot_hop machine resource a s =
+      hop-gap plans count causes (hold_edge (gap_at machine resource) k h tag) (All-head (IsEdgeOf table) (hold_edge (gap_at machine resource) k h tag) [] known) ∙ (λ i. hop (kind i) (hold-gap (gap_at machine resource) table k h a s x y z rule start end tag i)) in
       ap (λ g. g ∷ []) one
 
   until-hop : (o : Option Held) (q : Option Slot) (tag : ℕ) → AtPlace table held o q → ((y : Held) → o ≡ Some y → slice_get causes tag ≡ Some (cause_between h y))
-      → All (IsEdgeOf table) (edge_until h o tag) → map (hop_by plans causes) (edge_until h o tag) ≡ hop_until resource s q
+      → All (IsEdgeOf table) (edge_until (gap_at machine resource) h o tag) → map (hop_by plans causes) (edge_until (gap_at machine resource) h o tag) ≡ hop_until machine resource s q
   until-hop o q tag none cause known = refl
   until-hop o q tag (some k a x y z) cause known =
       let from = numbered-in plans count h.start.0 s.from start in
       let to = numbered-in plans count k.start.0 a.from y in
       let r = on-held in
       let kind : kind_of plans (slice_get causes tag) ≡ order resource s.from a.from = ap (kind_of plans) (cause k refl) ∙ (λ i. order (r i) (from i) (to i)) in
-      let one : hop_by plans causes (hold_edge h k tag) ≡ slot_hop resource s a =
-      hop-gap plans count causes (hold_edge h k tag) (All-head (IsEdgeOf table) (hold_edge h k tag) [] known) ∙ (λ i. hop (kind i) (hold-gap table h k s a rule start end x y z tag i)) in
+      let one : hop_by plans causes (hold_edge (gap_at machine resource) h k tag) ≡ slot_hop machine resource s a =
+      hop-gap plans count causes (hold_edge (gap_at machine resource) h k tag) (All-head (IsEdgeOf table) (hold_edge (gap_at machine resource) h k tag) [] known) ∙ (λ i. hop (kind i) (hold-gap (gap_at machine resource) table h k s a rule start end x y z tag i)) in
       ap (λ g. g ∷ []) one
 
-around-tags : (P : ℕ → Type 0) (before behind : Option Held) (h : Held) (tag : ℕ) → P tag → P (tag + 1) → All (λ e. P e.tag) (edges_around before h behind tag)
-around-tags P before behind h tag one two = All-append (λ e. P e.tag) (edge_after before h tag) (edge_until h behind (tag + 1)) (after before) (until behind) where
-  after : (o : Option Held) → All (λ e. P e.tag) (edge_after o h tag)
+around-tags : (P : ℕ → Type 0) (g : ℕ) (before behind : Option Held) (h : Held) (tag : ℕ) → P tag → P (tag + 1) → All (λ e. P e.tag) (edges_around g before h behind tag)
+around-tags P g before behind h tag one two = All-append (λ e. P e.tag) (edge_after g before h tag) (edge_until g h behind (tag + 1)) (after before) (until behind) where
+  after : (o : Option Held) → All (λ e. P e.tag) (edge_after g o h tag)
   after None = All-nil (λ e. P e.tag)
-  after (Some x) = All-cons (λ e. P e.tag) (hold_edge x h tag) [] one (All-nil (λ e. P e.tag))
+  after (Some x) = All-cons (λ e. P e.tag) (hold_edge g x h tag) [] one (All-nil (λ e. P e.tag))
 
-  until : (o : Option Held) → All (λ e. P e.tag) (edge_until h o (tag + 1))
+  until : (o : Option Held) → All (λ e. P e.tag) (edge_until g h o (tag + 1))
   until None = All-nil (λ e. P e.tag)
-  until (Some y) = All-cons (λ e. P e.tag) (hold_edge h y (tag + 1)) [] two (All-nil (λ e. P e.tag))
+  until (Some y) = All-cons (λ e. P e.tag) (hold_edge g h y (tag + 1)) [] two (All-nil (λ e. P e.tag))
 
-pub place-made : (plans : List Plan) (count : ℕ) (held : List Held) (ids : List ℕ) (slots : List Slot) (place resource steps : ℕ) (h : Held) (s : Slot) (causes : List Cause)
+pub place-made : (machine : Machine) (plans : List Plan) (count : ℕ) (held : List Held) (ids : List ℕ) (slots : List Slot) (place resource steps : ℕ) (h : Held) (s : Slot) (causes : List Cause)
     → AreSlots (table_with plans count) held ids slots → All (IsOn resource) slots → IsOn resource s → h.rule ≡ s.rule
     → slice_get (table_with plans count) h.start.0 ≡ Some s.from → slice_get (table_with plans count) h.end.0 ≡ Some s.to → step_tag steps + 1 < step_causes → step_causes ≤ length causes
-    → All (IsEdgeOf (table_with plans count)) (edges_around (held_before held ids place) h (held_behind held ids place) (step_tag steps))
-    → AreMade (steps + 1) plans (causes_around (held_before held ids place) h (held_behind held ids place) (step_tag steps) causes) (edges_around (held_before held ids place) h (held_behind held ids place) (step_tag steps)) (place_hops resource slots place s)
-place-made plans count held ids slots place resource steps h s causes are all on rule start end room slots-room known =
+    → All (IsEdgeOf (table_with plans count)) (edges_around (gap_at machine resource) (held_before held ids place) h (held_behind held ids place) (step_tag steps))
+    → AreMade (steps + 1) plans (causes_around (held_before held ids place) h (held_behind held ids place) (step_tag steps) causes) (edges_around (gap_at machine resource) (held_before held ids place) h (held_behind held ids place) (step_tag steps)) (place_hops machine resource slots place s)
+place-made machine plans count held ids slots place resource steps h s causes are all on rule start end room slots-room known =
     let before = held_before held ids place in
     let behind = held_behind held ids place in
     let tag = step_tag steps in
     let causes' = causes_around before h behind tag causes in
     let table = table_with plans count in
     let l = length-around before behind h causes tag in
-    let parts = All-split (IsEdgeOf table) (edge_after before h tag) (edge_until h behind (tag + 1)) known in
-    let a = after-hop plans count held resource h s causes' on rule start end before (before_place slots place) tag (slots-before table held ids slots place are) (λ q e. before-on slots place q all e)
+    let parts = All-split (IsEdgeOf table) (edge_after (gap_at machine resource) before h tag) (edge_until (gap_at machine resource) h behind (tag + 1)) known in
+    let a = after-hop machine plans count held resource h s causes' on rule start end before (before_place slots place) tag (slots-before table held ids slots place are) (λ q e. before-on slots place q all e)
     (λ x e. before-around before behind h causes tag x e (omega arith)) parts.0 in
-    let b = until-hop plans count held resource h s causes' on rule start end behind (slice_get slots place) (tag + 1) (slots-at table held ids slots place are) (λ y e. behind-around before behind h causes tag y e (omega arith)) parts.1 in
+    let b = until-hop machine plans count held resource h s causes' on rule start end behind (slice_get slots place) (tag + 1) (slots-at table held ids slots place are) (λ y e. behind-around before behind h causes tag y e (omega arith)) parts.1 in
     record {
-      hops = map-append (hop_by plans causes') (edge_after before h tag) (edge_until h behind (tag + 1)) ∙ (λ i. a i ++ b i);
-      tags = around-tags (λ t. t < length causes') before behind h tag (omega arith) (omega arith);
-      safe = around-tags (λ t. IsSafeTag (steps + 1) t) before behind h tag (inl (omega arith)) (inl (omega arith));
+      hops = map-append (hop_by plans causes') (edge_after (gap_at machine resource) before h tag) (edge_until (gap_at machine resource) h behind (tag + 1)) ∙ (λ i. a i ++ b i);
+      tags = around-tags (λ t. t < length causes') (gap_at machine resource) before behind h tag (omega arith) (omega arith);
+      safe = around-tags (λ t. IsSafeTag (steps + 1) t) (gap_at machine resource) before behind h tag (inl (omega arith)) (inl (omega arith));
     } where
       before-on : (xs : List Slot) (p : ℕ) (q : Slot) → All (IsOn resource) xs → before_place xs p ≡ Some q → IsOn resource q
       before-on xs zero q every e = absurd cc

@@ -1,7 +1,8 @@
 -- The edges of a board's network, as the gaps that they stand for.
-use Rattle.std.specs.Prelude.{ℕ, zero, suc, ◌+◌, List, [], ◌∷◌, ◌++◌, length, ℤ, pos, neg_ℤ, ◌-ℤ◌, Option, Some, None, slice_get, if◌then◌else◌}
+use Rattle.std.specs.Prelude.{ℕ, zero, suc, ◌+◌, List, [], ◌∷◌, ◌++◌, length, ℤ, pos, neg_ℤ, ◌-ℤ◌, ◌+ℤ◌, Option, Some, None, slice_get, if◌then◌else◌}
 use Rattle.tp_base.specs.declared.edges.Edge.{Edge}
 use Rattle.tp_base.specs.declared.edges.PointId.{PointId}
+use Rattle.tp_machine.specs.Modes.{gap_between}
 use Rattle.tp_machine.specs.declared.parts.Action.{Action}
 use Rattle.tp_machine.specs.declared.parts.Anchor.{Anchor}
 use Rattle.tp_machine.specs.declared.parts.Anchor.TheVariants.{Start, End}
@@ -23,21 +24,22 @@ abbrev pub anchor_point : Anchor → PointId → PointId → PointId
 anchor_point Start start end = start
 anchor_point End start end = end
 
--- a hold ends by the begin of another
-abbrev pub hold_edge : Held → Held → ℕ → Edge
-hold_edge x y tag = edge_of (anchor_point x.rule.end x.start x.end) (anchor_point y.rule.begin y.start y.end) (x.rule.end_off -ℤ y.rule.begin_off) tag
+-- a hold is apart from another on a resource with this gap
+abbrev pub hold_edge : ℕ → Held → Held → ℕ → Edge
+hold_edge gap x y tag =
+    edge_of (anchor_point x.rule.end x.start x.end) (anchor_point y.rule.begin y.start y.end) ((x.rule.end_off -ℤ y.rule.begin_off) +ℤ pos (gap_between gap x.rule y.rule)) tag
 
-abbrev pub edge_after : Option Held → Held → ℕ → List Edge
-edge_after None h tag = []
-edge_after (Some x) h tag = hold_edge x h tag ∷ []
+abbrev pub edge_after : ℕ → Option Held → Held → ℕ → List Edge
+edge_after gap None h tag = []
+edge_after gap (Some x) h tag = hold_edge gap x h tag ∷ []
 
-abbrev pub edge_until : Held → Option Held → ℕ → List Edge
-edge_until h None tag = []
-edge_until h (Some y) tag = hold_edge h y tag ∷ []
+abbrev pub edge_until : ℕ → Held → Option Held → ℕ → List Edge
+edge_until gap h None tag = []
+edge_until gap h (Some y) tag = hold_edge gap h y tag ∷ []
 
 -- both, with the two tags of a step
-abbrev pub edges_around : Option Held → Held → Option Held → ℕ → List Edge
-edges_around before h behind tag = edge_after before h tag ++ edge_until h behind (tag + 1)
+abbrev pub edges_around : ℕ → Option Held → Held → Option Held → ℕ → List Edge
+edges_around gap before h behind tag = edge_after gap before h tag ++ edge_until gap h behind (tag + 1)
 
 -- the holds that stand before and behind a place of an order
 abbrev pub held_of : List Held → Option ℕ → Option Held

@@ -29,7 +29,7 @@ pub record CanLoad (machine : Machine) (now : ℕ) (plans : List Plan) : Type 0 
 
 -- the edges of plans and of the orders of their holds
 abbrev pub all_edges : Machine → List Plan → List (List ℕ) → List Held → List Edge
-all_edges machine plans lines held = plans_edges machine 0 plans ++ (lines_edges 0 plans ++ chains_edges step_causes (holds_on held lines) (length machine.resources))
+all_edges machine plans lines held = plans_edges machine 0 plans ++ (lines_edges 0 plans ++ chains_edges machine step_causes (holds_on held lines) (length machine.resources))
 
 -- the network is that of the plans, the orders are those of their holds, and the causes those of its edges
 pub record IsLoaded (machine : Machine) (now : ℕ) (plans : List Plan) (n : Net) (lines : List (List ℕ)) (held : List Held) (firsts : List PointId) (causes : List Cause) : Type 0 where

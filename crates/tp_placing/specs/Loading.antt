@@ -3,6 +3,7 @@ use Rattle.std.specs.Prelude.{◌≡◌, ℕ, zero, suc, ◌+◌, ◌<◌, ◌�
 use Rattle.tp_base.specs.Net.{Net, IsSolution, HasLeast}
 use Rattle.tp_base.specs.declared.edges.Edge.{Edge}
 use Rattle.tp_base.specs.declared.edges.PointId.{PointId}
+use Rattle.tp_machine.specs.Modes.{gap_at}
 use Rattle.tp_machine.specs.Using.{action_at}
 use Rattle.tp_machine.specs.declared.parts.ActId.{ActId}
 use Rattle.tp_machine.specs.declared.parts.Action.{Action}
@@ -111,14 +112,14 @@ chains_causes orders zero = []
 chains_causes orders (suc n) = chain_causes (orders n) ++ chains_causes orders n
 
 -- the edges for it, with tags from a number on
-abbrev pub chain_edges : ℕ → List Held → List Edge
-chain_edges tag [] = []
-chain_edges tag (x ∷ []) = []
-chain_edges tag (x ∷ y ∷ ys) = hold_edge x y tag ∷ chain_edges (suc tag) (y ∷ ys)
+abbrev pub chain_edges : ℕ → ℕ → List Held → List Edge
+chain_edges gap tag [] = []
+chain_edges gap tag (x ∷ []) = []
+chain_edges gap tag (x ∷ y ∷ ys) = hold_edge gap x y tag ∷ chain_edges gap (suc tag) (y ∷ ys)
 
-abbrev pub chains_edges : ℕ → (ℕ → List Held) → ℕ → List Edge
-chains_edges tag orders zero = []
-chains_edges tag orders (suc n) = chain_edges tag (orders n) ++ chains_edges (tag + length (chain_causes (orders n))) orders n
+abbrev pub chains_edges : Machine → ℕ → (ℕ → List Held) → ℕ → List Edge
+chains_edges machine tag orders zero = []
+chains_edges machine tag orders (suc n) = chain_edges (gap_at machine n) tag (orders n) ++ chains_edges machine (tag + length (chain_causes (orders n))) orders n
 
 -- edges for which there is room, and that some solution of the net keeps
 pub record AreAddable (room : ℕ) (net : Net) (es : List Edge) : Type 0 where

@@ -13,11 +13,10 @@ ghost use Rattle.tp_placing.specs.Boards.{suffix_after};
 ghost use Rattle.tp_placing.specs.Standing.{AreFirsts, board_table};
 ghost use Rattle.tp_placing.specs.Writing.{AreLeastTicks, back_from, opened};
 
-use crate::finding::copy_place;
 use crate::parts::{Change, Step};
 use crate::writing::times_from;
 use tp_base::{Network, PointId};
-use tp_schedule::{Acts, Ask, Kind, Plan, Points, SheetId};
+use tp_schedule::{Acts, Ask, Kind, Plan, Points, SheetId, copy_place};
 
 /// The actions that a copy has in the plans.
 fn acts_so_far(plans: &[Plan], copy: SheetId) -> Acts

@@ -1,12 +1,13 @@
-ghost use Rattle.std.specs.Prelude.{◌≡◌, ◌+◌, ◌<◌, min};
+ghost use Rattle.std.specs.Prelude.{◌≡◌, ◌+◌, ◌<◌, ◌+ℤ◌, ◌-ℤ◌, pos, min};
 ghost use Rattle.tp_machine.specs.Machines.{IsOffset};
+ghost use Rattle.tp_machine.specs.Modes.{gap_between};
 ghost use Rattle.tp_placing.specs.Edges.{anchor_point, duration_edges, edge_of, hold_edge, edge_after, edge_until};
 ghost use Rattle.tp_placing.specs.Standing.{HasSmallOffsets};
 
 use crate::causes::{BACK, FORWARD};
 use crate::parts::Held;
 use tp_base::{Edge, PointId, Tick};
-use tp_machine::{Action, Anchor};
+use tp_machine::{Action, Anchor, HoldRule, gap_between};
 
 /// The time of `to` is at least that of `from` plus the weight, for the cause of this tag.
 pub(crate) fn edge_between(from: PointId, to: PointId, weight: i64, tag: u32) -> Edge
@@ -39,18 +40,21 @@ fn anchored(anchor: Anchor, start: PointId, end: PointId) -> PointId
     }
 }
 
-/// The first hold ends by the begin of the second, for the cause of this tag.
-pub(crate) fn following(before: &Held, after: &Held, tag: u32) -> Edge
-    ensures { result ≡ hold_edge before.now after.now tag }
+/// How far the second hold's anchor is behind the first one's, on a resource with this gap.
+fn weight(gap: u32, before: &HoldRule, after: &HoldRule) -> i64
+    ensures { result ≡ (before.now.end_off -ℤ after.now.begin_off) +ℤ pos (gap_between gap before.now after.now) }
+{
+    let offsets = before.end_off as i64 - after.begin_off as i64;
+    offsets + gap_between(gap, before, after) as i64
+}
+
+/// The first hold is apart from the second on a resource with this gap, for the cause of this tag.
+pub(crate) fn following(gap: u32, before: &Held, after: &Held, tag: u32) -> Edge
+    ensures { result ≡ hold_edge gap before.now after.now tag }
 {
     let from = anchored(before.rule.end, before.start, before.end);
     let to = anchored(after.rule.begin, after.start, after.end);
-    edge_between(
-        from,
-        to,
-        before.rule.end_off as i64 - after.rule.begin_off as i64,
-        tag,
-    )
+    edge_between(from, to, weight(gap, &before.rule, &after.rule), tag)
 }
 
 /// The least tick of a point that has so much room after the floor: their sum, or the first tick after the horizon where it

@@ -1,18 +1,11 @@
 ghost use Rattle.std.specs.Prelude.{◌≡◌, ◌^◌, ◌<◌, ◌≤◌, length, position, slice_get, Some, IfSome, IsSomeAnd};
-ghost use Rattle.tp_schedule.specs.Plans.{is_same_copy, plan_of};
+ghost use Rattle.tp_schedule.specs.Plans.{plan_of};
 ghost use Rattle.tp_schedule.specs.Spots.Spot.{kept};
 ghost use Rattle.tp_constraints.specs.Numbers.{table_of};
 ghost use Rattle.tp_placing.specs.Standing.{AreFirsts};
 
 use tp_base::PointId;
-use tp_schedule::{Plan, SheetId};
-
-pub(crate) fn copy_place(plans: &[Plan], copy: SheetId) -> Option<usize>
-    ensures place { result ≡ position (λ p. is_same_copy p.sheet copy) plans.now }
-    ensures within { IfSome result (λ at. at < length plans.now) }
-{
-    plans.iter().position(|plan| plan.sheet == copy)
-}
+use tp_schedule::{Plan, SheetId, copy_place};
 
 /// The point of this number of a copy's plan. Looks at the plans before it.
 pub(crate) fn point_of(plans: &[Plan], firsts: &[PointId], copy: SheetId, at: u32) -> PointId

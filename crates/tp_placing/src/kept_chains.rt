@@ -11,22 +11,23 @@ use crate::edges::following;
 use crate::kept_edges::add_kept;
 use crate::parts::Held;
 use tp_base::Network;
-use tp_machine::ResId;
+use tp_machine::{Machine, ResId, gap_at};
 use tp_timelines::Timelines;
 
-/// Adds that each hold of the resource ends by the begin of the next one.
+/// Adds that each hold of the resource, which has this gap, is apart from the next one.
 fn add_chain<N: Network>(
     net: &mut N,
     causes: &mut Causes,
     lines: &Timelines,
     held: &[Held],
     resource: ResId,
+    gap: u32,
 )
-    requires can { AreAddable (N.edge_room net.old) (N.net net.old) (chain_edges (length causes.old) (holds_on held.now lines.now.orders resource.0)) }
+    requires can { AreAddable (N.edge_room net.old) (N.net net.old) (chain_edges gap (length causes.old) (holds_on held.now lines.now.orders resource.0)) }
     requires few { length causes.old + length (chain_causes (holds_on held.now lines.now.orders resource.0)) ≤ most_causes }
     requires known { resource.0 < length lines.now.orders }
     requires ids { AreIds held.now (order_on lines.now.orders resource.0) }
-    ensures added { N.net net.new ≡ with_edges (N.net net.old) (chain_edges (length causes.old) (holds_on held.now lines.now.orders resource.0)) }
+    ensures added { N.net net.new ≡ with_edges (N.net net.old) (chain_edges gap (length causes.old) (holds_on held.now lines.now.orders resource.0)) }
     ensures causes { causes.new ≡ causes.old ++ chain_causes (holds_on held.now lines.now.orders resource.0) }
     ensures solved { HasLeast (N.net net.new) }
     ensures past { N.past net.new ≡ N.past net.old }
@@ -38,7 +39,7 @@ fn add_chain<N: Network>(
         let before = &held[lines.at(resource, place - 1) as usize];
         let after = &held[lines.at(resource, place) as usize];
         let tag = causes.push(between(before, after));
-        add_kept(net, &[following(before, after, tag)]);
+        add_kept(net, &[following(gap, before, after, tag)]);
     }
 }
 
@@ -48,14 +49,15 @@ pub(crate) fn add_chains<N: Network>(
     causes: &mut Causes,
     lines: &Timelines,
     held: &[Held],
+    machine: &Machine,
     resources: u32,
 )
-    requires can { AreAddable (N.edge_room net.old) (N.net net.old) (chains_edges (length causes.old) (holds_on held.now lines.now.orders) resources) }
+    requires can { AreAddable (N.edge_room net.old) (N.net net.old) (chains_edges machine.now (length causes.old) (holds_on held.now lines.now.orders) resources) }
     requires room { length causes.old + length (chains_causes (holds_on held.now lines.now.orders) resources) ≤ most_causes }
     requires known { resources ≤ length lines.now.orders }
     requires few { resources ≤ 256 }
     requires ids { (resource : ℕ) → resource < resources → AreIds held.now (order_on lines.now.orders resource) }
-    ensures added { N.net net.new ≡ with_edges (N.net net.old) (chains_edges (length causes.old) (holds_on held.now lines.now.orders) resources) }
+    ensures added { N.net net.new ≡ with_edges (N.net net.old) (chains_edges machine.now (length causes.old) (holds_on held.now lines.now.orders) resources) }
     ensures causes { causes.new ≡ causes.old ++ chains_causes (holds_on held.now lines.now.orders) resources }
     ensures solved { HasLeast (N.net net.new) }
     ensures past { N.past net.new ≡ N.past net.old }
@@ -66,6 +68,8 @@ pub(crate) fn add_chains<N: Network>(
     let mut left = resources;
     while left > 0 {
         left -= 1;
-        add_chain(net, causes, lines, held, ResId(left as u16));
+        let resource = ResId(left as u16);
+        let gap = gap_at(machine, resource);
+        add_chain(net, causes, lines, held, resource, gap);
     }
 }

@@ -63,7 +63,7 @@ fn add_edges<N: Network>(
 {
     add_durations(net, machine, plans);
     add_lines(net, plans);
-    add_chains(net, causes, lines, held, machine.resources.len());
+    add_chains(net, causes, lines, held, machine, machine.resources.len());
 }
 
 /// Leaves nothing but the live plans in the network and the orders. Answers how many points there are.

@@ -53,21 +53,28 @@ pub(crate) fn neighbours_of(
     }
 }
 
-/// Writes the edges from the hold before to a new hold, and from it to the one behind, in place of what was there.
-pub(crate) fn neighbour_edges(edges: &mut Vec<Edge>, neighbours: &Neighbours, new: &Held, tag: u32)
+/// Writes the edges from the hold before to a new hold, and from it to the one behind, on a resource with this gap, in place
+/// of what was there.
+pub(crate) fn neighbour_edges(
+    edges: &mut Vec<Edge>,
+    neighbours: &Neighbours,
+    new: &Held,
+    gap: u32,
+    tag: u32,
+)
     requires room { 2 ≤ vec_capacity edges.old }
     requires fits { tag + 1 < 2 ^ 32 }
-    ensures edges { edges.new.items ≡ edges_around neighbours.now.before new.now neighbours.now.behind tag }
+    ensures edges { edges.new.items ≡ edges_around gap neighbours.now.before new.now neighbours.now.behind tag }
     ensures capacity { vec_capacity edges.old ≤ vec_capacity edges.new }
 {
     edges.clear();
     if let Some(before) = &neighbours.before {
-        let Ok(()) = edges.push(following(before, new, tag)) else {
+        let Ok(()) = edges.push(following(gap, before, new, tag)) else {
             unreachable!()
         };
     }
     if let Some(behind) = &neighbours.behind {
-        let Ok(()) = edges.push(following(new, behind, tag + 1)) else {
+        let Ok(()) = edges.push(following(gap, new, behind, tag + 1)) else {
             unreachable!()
         };
     }

@@ -16,7 +16,7 @@ use crate::parts::{Change, Held, Step};
 use crate::trying::{extend_all, require_all};
 use tp_base::{Late, Network, PointId};
 use tp_constraints::{gaps_are_hops, solutions_are_ticks, steps_add_edges};
-use tp_machine::{ActId, Machine};
+use tp_machine::{ActId, Machine, gap_at};
 use tp_schedule::Origin;
 
 impl<N: Network> Board<N> {
@@ -93,7 +93,8 @@ impl<N: Network> Board<N> {
         let neighbours = neighbours_of(&self.lines, &self.held, new.rule.resource, place);
         let tag = step_tag(self.steps.len());
         note_neighbours(&mut self.causes, &neighbours, &new, tag);
-        neighbour_edges(&mut self.edges, &neighbours, &new, tag);
+        let gap = gap_at(machine, new.rule.resource);
+        neighbour_edges(&mut self.edges, &neighbours, &new, gap, tag);
         match require_all(&mut self.net, &self.edges) {
             Ok(()) => {}
             Err(Late) => return Err(Late),

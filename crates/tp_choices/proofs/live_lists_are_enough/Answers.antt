@@ -1,3 +1,4 @@
+use Rattle.tp_choices.proofs.FewLists.{live_has_few}
 use Rattle.tp_choices.proofs.LiveBounds.{live_bounds}
 use Rattle.tp_choices.proofs.LiveLists.{live_opens}
 use Rattle.tp_choices.proofs.LiveSpent.{live_spends}
@@ -15,3 +16,6 @@ returns-clause-bounds c = live_bounds
 
 pub returns-clause-spends : goal.returns-clause-spends
 returns-clause-spends c = live_spends
+
+pub returns-clause-few : goal.returns-clause-few
+returns-clause-few c = live_has_few

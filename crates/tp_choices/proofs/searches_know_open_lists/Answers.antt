@@ -1,3 +1,4 @@
+use Rattle.tp_choices.proofs.FewLists.{ended_has_few}
 use Rattle.tp_choices.proofs.Searching.{search_reaches, search_fronts, search_below, full_spends}
 use Rattle.tp_choices.proofs.searches_know_open_lists.Goals as goal
 
@@ -12,3 +13,6 @@ returns-clause-below c = search_below
 
 pub returns-clause-spends : goal.returns-clause-spends
 returns-clause-spends c = full_spends
+
+pub returns-clause-few : goal.returns-clause-few
+returns-clause-few c = ended_has_few

@@ -7,7 +7,7 @@ use Rattle.tp_placing.proofs.kept_chains.add_chains.Goals as goal
 
 pub add_chain-requires-clause-can : goal.add_chain-requires-clause-can
 add_chain-requires-clause-can g c =
-    let e = chains-more (length c.loop-left.causes) _ (holds_on c.args.held.now c.args.lines.now.orders) c.loop-left.left c.loop-left-test.true refl in
+    let e = chains-more c.args.machine.now _ (length c.loop-left.causes) _ (holds_on c.args.held.now c.args.lines.now.orders) c.loop-left.left c.loop-left-test.true c.gap_at-gap.ensures.gap refl in
     first-of _ _ _ _ _ e c.loop-left.invariant.rest
 
 pub add_chain-requires-clause-few : goal.add_chain-requires-clause-few
@@ -28,7 +28,7 @@ loop-left-preserved g c =
     let left = c.loop-left.left in
     let a = c.add_chain.ensures in
     let next = ap length a.causes ∙ length-append c.loop-left.causes (chain_causes (orders (left - 1))) in
-    let e = chains-more (length c.loop-left.causes) (length c.add_chain.new.causes) (holds_on c.args.held.now c.args.lines.now.orders) c.loop-left.left c.loop-left-test.true next in
+    let e = chains-more c.args.machine.now _ (length c.loop-left.causes) (length c.add_chain.new.causes) (holds_on c.args.held.now c.args.lines.now.orders) c.loop-left.left c.loop-left-test.true c.gap_at-gap.ensures.gap next in
     record {
       within = let w = v.within in omega arith;
       rest = same-room _ _ _ _ a.edges (rest-of _ _ _ _ _ _ e a.added a.solved v.rest);

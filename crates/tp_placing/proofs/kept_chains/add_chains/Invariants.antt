@@ -7,9 +7,9 @@ use Rattle.tp_placing.proofs.kept_chains.add_chains.Given as goal
 abbrev pub invariant-loop-left : goal.invariant-loop-left
 invariant-loop-left g l = record {
   within : l.left ≤ l.resources;
-  rest : AreAddable (g.N.Network.edge_room l.net) (g.N.Network.net l.net) (chains_edges (length l.causes) (holds_on l.held l.lines.orders) l.left);
-  all : with_edges (g.N.Network.net l.net) (chains_edges (length l.causes) (holds_on l.held l.lines.orders) l.left)
-      ≡ with_edges (g.N.Network.net l.fn.net) (chains_edges (length l.fn.causes) (holds_on l.held l.lines.orders) l.resources);
+  rest : AreAddable (g.N.Network.edge_room l.net) (g.N.Network.net l.net) (chains_edges l.machine (length l.causes) (holds_on l.held l.lines.orders) l.left);
+  all : with_edges (g.N.Network.net l.net) (chains_edges l.machine (length l.causes) (holds_on l.held l.lines.orders) l.left)
+      ≡ with_edges (g.N.Network.net l.fn.net) (chains_edges l.machine (length l.fn.causes) (holds_on l.held l.lines.orders) l.resources);
   causes : l.causes ++ chains_causes (holds_on l.held l.lines.orders) l.left ≡ l.fn.causes ++ chains_causes (holds_on l.held l.lines.orders) l.resources;
   past : g.N.Undo.past l.net ≡ g.N.Undo.past l.fn.net;
   marks : g.N.Undo.mark_room l.net ≡ g.N.Undo.mark_room l.fn.net;

@@ -5,6 +5,7 @@ use Rattle.std.proofs.lemmas.Option.{slice_get_read, slice_get_within, same_Some
 use Rattle.std.proofs.lemmas.List.{length-append, length-set}
 use Rattle.tp_base.specs.declared.edges.Edge.{Edge}
 use Rattle.tp_base.specs.Net.{Net, HasNoSolution, HasLeast}
+use Rattle.tp_machine.specs.Modes.{gap_at}
 use Rattle.tp_machine.specs.declared.parts.ActId.{ActId}
 use Rattle.tp_machine.specs.declared.parts.Action.{Action}
 use Rattle.tp_machine.specs.declared.parts.HoldRule.{HoldRule}
@@ -125,7 +126,7 @@ module _ (g : _) (c : After-index-newest g) (act : ActId) (rule : HoldRule) (r :
   order = order_on c.self.inside.lines.orders rule.resource.0
 
   abbrev es : List Edge
-  es = edges_around (held_before c.self.inside.held.items order c.args.place) (new rule c.index-newest.result.now) (held_behind c.self.inside.held.items order c.args.place) (step_tag (length c.self.inside.steps.items))
+  es = edges_around (gap_at c.args.machine.now rule.resource.0) (held_before c.self.inside.held.items order c.args.place) (new rule c.index-newest.result.now) (held_behind c.self.inside.held.items order c.args.place) (step_tag (length c.self.inside.steps.items))
 
   abbrev causes : List Cause
   causes = causes_around (held_before c.self.inside.held.items order c.args.place) (new rule c.index-newest.result.now) (held_behind c.self.inside.held.items order c.args.place) (step_tag (length c.self.inside.steps.items)) c.self.inside.causes
@@ -188,14 +189,14 @@ neighbours_of-neighbours-requires-clause-numbers g k =
     rw k.deref.ensures.value (numbers g c k.in-Some.act k.get-2.result.now r)
 
 -- the edges that are made, and the causes that are kept, are those around the place
-edges-made : (g : _) (c : After-index-newest g) (act : ActId) (rule : HoldRule) (r : Read g c act rule) (held : List Held) (before behind : Option Held) (tag count : ℕ) (made edges : List Edge)
+edges-made : (g : _) (c : After-index-newest g) (act : ActId) (rule : HoldRule) (r : Read g c act rule) (held : List Held) (before behind : Option Held) (tag count gap : ℕ) (made edges : List Edge)
     → held ≡ c.self.inside.held.items → before ≡ held_before held (order g c act rule r) c.args.place → behind ≡ held_behind held (order g c act rule r) c.args.place
-    → tag ≡ step_tag count → count ≡ length c.self.inside.steps.items → made ≡ edges_around before (new rule c.index-newest.result.now) behind tag → edges ≡ made → edges ≡ es g c act rule r
-edges-made g c act rule r held before behind tag count made edges h b d t n m e =
+    → tag ≡ step_tag count → count ≡ length c.self.inside.steps.items → gap ≡ gap_at c.args.machine.now rule.resource.0 → made ≡ edges_around gap before (new rule c.index-newest.result.now) behind tag → edges ≡ made → edges ≡ es g c act rule r
+edges-made g c act rule r held before behind tag count gap made edges h b d t n p m e =
     let b' = b ∙ ap (λ hs. held_before hs (order g c act rule r) c.args.place) h in
     let d' = d ∙ ap (λ hs. held_behind hs (order g c act rule r) c.args.place) h in
     let t' = t ∙ ap step_tag n in
-    e ∙ m ∙ (λ i. edges_around (b' i) (new rule c.index-newest.result.now) (d' i) (t' i))
+    e ∙ m ∙ (λ i. edges_around (p i) (b' i) (new rule c.index-newest.result.now) (d' i) (t' i))
 
 causes-made : (g : _) (c : After-index-newest g) (act : ActId) (rule : HoldRule) (r : Read g c act rule) (held : List Held) (before behind : Option Held) (tag count : ℕ) (made : List Cause)
     → held ≡ c.self.inside.held.items → before ≡ held_before held (order g c act rule r) c.args.place → behind ≡ held_behind held (order g c act rule r) c.args.place
@@ -210,8 +211,8 @@ pub require_all-requires-clause-can : goal.require_all-requires-clause-can
 require_all-requires-clause-can g k =
     let c = (goal.at.require_all-requires-clause-can g k).After-index-newest in
     let r = read g c k.in-Some.act k.get.result.now k.get-2.result.now k.in-Some.is k.get.ensures k.len-within.ensures.within k.get-2.ensures in
-    let e = edges-made g c k.in-Some.act k.get-2.result.now r k.deref.result.now k.neighbours_of-neighbours.result.before k.neighbours_of-neighbours.result.behind k.step_tag-tag.result k.len-2.result k.neighbour_edges.new.edges.items k.deref-2.result.now
-    k.deref.ensures.value k.neighbours_of-neighbours.ensures.before k.neighbours_of-neighbours.ensures.behind k.step_tag-tag.ensures (k.len-2.ensures ∙ c.self.inside.steps.ok.0) k.neighbour_edges.ensures.edges k.deref-2.ensures.value in
+    let e = edges-made g c k.in-Some.act k.get-2.result.now r k.deref.result.now k.neighbours_of-neighbours.result.before k.neighbours_of-neighbours.result.behind k.step_tag-tag.result k.len-2.result k.gap_at-gap.result k.neighbour_edges.new.edges.items k.deref-2.result.now
+    k.deref.ensures.value k.neighbours_of-neighbours.ensures.before k.neighbours_of-neighbours.ensures.behind k.step_tag-tag.ensures (k.len-2.ensures ∙ c.self.inside.steps.ok.0) k.gap_at-gap.ensures.gap k.neighbour_edges.ensures.edges k.deref-2.ensures.value in
     subst (All (CanRequire (length (g.N.Network.net c.self.inside.net).lows))) (sym e) (can g c k.in-Some.act k.get-2.result.now r)
 
 pub require_all-requires-clause-spare : goal.require_all-requires-clause-spare
@@ -219,8 +220,8 @@ require_all-requires-clause-spare g k =
     let a = k.self.inside in
     let c = (goal.at.require_all-requires-clause-spare g k).After-index-newest in
     let r = read g c k.in-Some.act k.get.result.now k.get-2.result.now k.in-Some.is k.get.ensures k.len-within.ensures.within k.get-2.ensures in
-    let e = ap length (edges-made g c k.in-Some.act k.get-2.result.now r k.deref.result.now k.neighbours_of-neighbours.result.before k.neighbours_of-neighbours.result.behind k.step_tag-tag.result k.len-2.result k.neighbour_edges.new.edges.items k.deref-2.result.now
-    k.deref.ensures.value k.neighbours_of-neighbours.ensures.before k.neighbours_of-neighbours.ensures.behind k.step_tag-tag.ensures (k.len-2.ensures ∙ c.self.inside.steps.ok.0) k.neighbour_edges.ensures.edges k.deref-2.ensures.value) in
+    let e = ap length (edges-made g c k.in-Some.act k.get-2.result.now r k.deref.result.now k.neighbours_of-neighbours.result.before k.neighbours_of-neighbours.result.behind k.step_tag-tag.result k.len-2.result k.gap_at-gap.result k.neighbour_edges.new.edges.items k.deref-2.result.now
+    k.deref.ensures.value k.neighbours_of-neighbours.ensures.before k.neighbours_of-neighbours.ensures.behind k.step_tag-tag.ensures (k.len-2.ensures ∙ c.self.inside.steps.ok.0) k.gap_at-gap.ensures.gap k.neighbour_edges.ensures.edges k.deref-2.ensures.value) in
     let few = two g c k.in-Some.act k.get-2.result.now r in
     let room = edge-room a.steps.items (length (g.N.Network.net a.net).edges) (g.N.Network.edge_room a.net) k.self.invariant.room.steps_few (newest-here g c).at.few_edges k.self.invariant.room.edges in
     omega arith
@@ -229,8 +230,8 @@ pub returns-in-Err-clause-late : goal.returns-in-Err-clause-late
 returns-in-Err-clause-late g k =
     let c = (goal.at.returns-in-Err-clause-late g k).After-index-newest in
     let r = read g c k.in-Some.act k.get.result.now k.get-2.result.now k.in-Some.is k.get.ensures k.len-within.ensures.within k.get-2.ensures in
-    let e = edges-made g c k.in-Some.act k.get-2.result.now r k.deref.result.now k.neighbours_of-neighbours.result.before k.neighbours_of-neighbours.result.behind k.step_tag-tag.result k.len-2.result k.neighbour_edges.new.edges.items k.deref-2.result.now
-    k.deref.ensures.value k.neighbours_of-neighbours.ensures.before k.neighbours_of-neighbours.ensures.behind k.step_tag-tag.ensures (k.len-2.ensures ∙ c.self.inside.steps.ok.0) k.neighbour_edges.ensures.edges k.deref-2.ensures.value in
+    let e = edges-made g c k.in-Some.act k.get-2.result.now r k.deref.result.now k.neighbours_of-neighbours.result.before k.neighbours_of-neighbours.result.behind k.step_tag-tag.result k.len-2.result k.gap_at-gap.result k.neighbour_edges.new.edges.items k.deref-2.result.now
+    k.deref.ensures.value k.neighbours_of-neighbours.ensures.before k.neighbours_of-neighbours.ensures.behind k.step_tag-tag.ensures (k.len-2.ensures ∙ c.self.inside.steps.ok.0) k.gap_at-gap.ensures.gap k.neighbour_edges.ensures.edges k.deref-2.ensures.value in
     let none = subst (λ es. HasNoSolution (with_edges (g.N.Network.net c.self.inside.net) es)) e k.in-Err.ensures.late in
     rw (← c.self.view_is) (and-some (suffix_of (board g c)) (suffix g c k.in-Some.act k.get-2.result.now r) _ r.places.suffix
     (and-some (board g c).ask (standing g c).0 _ (standing g c).1.asked (refused g c k.in-Some.act k.get-2.result.now r none)))
@@ -239,8 +240,8 @@ pub returns-in-Err-clause-shown : goal.returns-in-Err-clause-shown
 returns-in-Err-clause-shown g k =
     let c = (goal.at.returns-in-Err-clause-shown g k).After-index-newest in
     let r = read g c k.in-Some.act k.get.result.now k.get-2.result.now k.in-Some.is k.get.ensures k.len-within.ensures.within k.get-2.ensures in
-    let e = edges-made g c k.in-Some.act k.get-2.result.now r k.deref.result.now k.neighbours_of-neighbours.result.before k.neighbours_of-neighbours.result.behind k.step_tag-tag.result k.len-2.result k.neighbour_edges.new.edges.items k.deref-2.result.now
-    k.deref.ensures.value k.neighbours_of-neighbours.ensures.before k.neighbours_of-neighbours.ensures.behind k.step_tag-tag.ensures (k.len-2.ensures ∙ c.self.inside.steps.ok.0) k.neighbour_edges.ensures.edges k.deref-2.ensures.value in
+    let e = edges-made g c k.in-Some.act k.get-2.result.now r k.deref.result.now k.neighbours_of-neighbours.result.before k.neighbours_of-neighbours.result.behind k.step_tag-tag.result k.len-2.result k.gap_at-gap.result k.neighbour_edges.new.edges.items k.deref-2.result.now
+    k.deref.ensures.value k.neighbours_of-neighbours.ensures.before k.neighbours_of-neighbours.ensures.behind k.step_tag-tag.ensures (k.len-2.ensures ∙ c.self.inside.steps.ok.0) k.gap_at-gap.ensures.gap k.neighbour_edges.ensures.edges k.deref-2.ensures.value in
     let kept = causes-made g c k.in-Some.act k.get-2.result.now r k.deref.result.now k.neighbours_of-neighbours.result.before k.neighbours_of-neighbours.result.behind k.step_tag-tag.result k.len-2.result k.note_neighbours.new.causes
     k.deref.ensures.value k.neighbours_of-neighbours.ensures.before k.neighbours_of-neighbours.ensures.behind k.step_tag-tag.ensures (k.len-2.ensures ∙ c.self.inside.steps.ok.0) k.note_neighbours.ensures in
     let refused = subst (IsRefused g.N.Network.refutes k.require_all.new.net (g.N.Network.net c.self.inside.net)) e k.in-Err.ensures.refused in
@@ -321,8 +322,8 @@ returns-clause-times g k =
     let c = (goal.at.returns-clause-times g k).After-index-newest in
     let r = read g c k.in-Some.act k.get.result.now k.get-2.result.now k.in-Some.is k.get.ensures k.len-within.ensures.within k.get-2.ensures in
     let x = suffix g c k.in-Some.act k.get-2.result.now r in
-    let e = edges-made g c k.in-Some.act k.get-2.result.now r k.deref.result.now k.neighbours_of-neighbours.result.before k.neighbours_of-neighbours.result.behind k.step_tag-tag.result k.len-2.result k.neighbour_edges.new.edges.items k.deref-2.result.now
-    k.deref.ensures.value k.neighbours_of-neighbours.ensures.before k.neighbours_of-neighbours.ensures.behind k.step_tag-tag.ensures (k.len-2.ensures ∙ c.self.inside.steps.ok.0) k.neighbour_edges.ensures.edges k.deref-2.ensures.value in
+    let e = edges-made g c k.in-Some.act k.get-2.result.now r k.deref.result.now k.neighbours_of-neighbours.result.before k.neighbours_of-neighbours.result.behind k.step_tag-tag.result k.len-2.result k.gap_at-gap.result k.neighbour_edges.new.edges.items k.deref-2.result.now
+    k.deref.ensures.value k.neighbours_of-neighbours.ensures.before k.neighbours_of-neighbours.ensures.behind k.step_tag-tag.ensures (k.len-2.ensures ∙ c.self.inside.steps.ok.0) k.gap_at-gap.ensures.gap k.neighbour_edges.ensures.edges k.deref-2.ensures.value in
     let added = k.in-Ok.ensures.added ∙ ap (with_edges (g.N.Network.net c.self.inside.net)) e in
     let at = after g c k.in-Some.act k.get-2.result.now r (g.N.Network.net k.require_all.new.net) k.insert.new.self.orders k.push.new.self.items k.push-2.new.self.items _ added k.in-Ok.ensures.solved
     (line-is g c k.get-2.result.now k.insert.new.self.orders k.len-id.result k.in-Ok-insert.ensures.ok (k.len-id.ensures ∙ k.self.inside.held.ok.0)) k.in-Ok-push.ensures.items k.in-Ok-push-2.ensures.items refl refl in
@@ -336,8 +337,8 @@ returns-clause-stands g k =
     let i = k.self.invariant.marked.at_marks in
     let r = read g c k.in-Some.act k.get.result.now k.get-2.result.now k.in-Some.is k.get.ensures k.len-within.ensures.within k.get-2.ensures in
     let x = suffix g c k.in-Some.act k.get-2.result.now r in
-    let e = edges-made g c k.in-Some.act k.get-2.result.now r k.deref.result.now k.neighbours_of-neighbours.result.before k.neighbours_of-neighbours.result.behind k.step_tag-tag.result k.len-2.result k.neighbour_edges.new.edges.items k.deref-2.result.now
-    k.deref.ensures.value k.neighbours_of-neighbours.ensures.before k.neighbours_of-neighbours.ensures.behind k.step_tag-tag.ensures (k.len-2.ensures ∙ c.self.inside.steps.ok.0) k.neighbour_edges.ensures.edges k.deref-2.ensures.value in
+    let e = edges-made g c k.in-Some.act k.get-2.result.now r k.deref.result.now k.neighbours_of-neighbours.result.before k.neighbours_of-neighbours.result.behind k.step_tag-tag.result k.len-2.result k.gap_at-gap.result k.neighbour_edges.new.edges.items k.deref-2.result.now
+    k.deref.ensures.value k.neighbours_of-neighbours.ensures.before k.neighbours_of-neighbours.ensures.behind k.step_tag-tag.ensures (k.len-2.ensures ∙ c.self.inside.steps.ok.0) k.gap_at-gap.ensures.gap k.neighbour_edges.ensures.edges k.deref-2.ensures.value in
     let added = k.in-Ok.ensures.added ∙ ap (with_edges (g.N.Network.net c.self.inside.net)) e in
     let at = after g c k.in-Some.act k.get-2.result.now r (g.N.Network.net k.require_all.new.net) k.insert.new.self.orders k.push.new.self.items k.push-2.new.self.items _ added k.in-Ok.ensures.solved
     (line-is g c k.get-2.result.now k.insert.new.self.orders k.len-id.result k.in-Ok-insert.ensures.ok (k.len-id.ensures ∙ k.self.inside.held.ok.0)) k.in-Ok-push.ensures.items k.in-Ok-push-2.ensures.items refl refl in
