@@ -8,7 +8,7 @@ use Rattle.tp_schedule.specs.Answers.{IsAlternative, NoneBefore}
 use Rattle.tp_schedule.specs.Choices.{CanStop, Choice, ChoiceList, IsBound, IsComplete, IsOpen}
 use Rattle.tp_schedule.specs.Living.{is_live}
 use Rattle.tp_schedule.specs.Planning.{CanAsk, IsKnownGoal, IsOpenGoal}
-use Rattle.tp_schedule.specs.Spending.{IsSpent}
+use Rattle.tp_schedule.specs.Spending.{FewListsOpen, IsSpent}
 use Rattle.tp_schedule.specs.Spots.Spot.{own}
 use Rattle.tp_schedule.specs.declared.parts.Ask.{Ask}
 use Rattle.tp_schedule.specs.declared.parts.Goal.{Goal}
@@ -17,6 +17,7 @@ use Rattle.tp_schedule.specs.declared.parts.Origin.{Origin}
 use Rattle.tp_schedule.specs.declared.parts.Origin.TheVariants.{Feeder as FromFeeder, Front as FromFront}
 use Rattle.tp_schedule.specs.declared.parts.Plan.{Plan}
 use Rattle.tp_choices.specs.LiveParts.{less}
+use Rattle.tp_choices.proofs.FewLists.{live_has_few}
 use Rattle.tp_choices.proofs.LiveBounds.{live_bounds_answers, live_has_none}
 use Rattle.tp_choices.proofs.LiveSpent.{live_spends}
 use Rattle.tp_constraints.specs.Suffixes.{Suffix, list_of}
@@ -87,6 +88,9 @@ module _ (machine : Machine) (plans : List Plan) (ask : Ask) (can : CanAsk machi
   pub never-whole : ((other : List Plan) → ¬ IsAlternative machine live ask other) → (other : List Plan) → ¬ IsAlternative machine plans ask other
   never-whole none = live_has_none machine plans ask (gone machine plans ask.now can.plan_on) (may-forget machine plans ask.now can.plan_on) (stays machine plans ask can)
       (subst (λ ps. (other : List Plan) → ¬ IsAlternative machine ps ask other) rest none)
+
+  pub few-whole : (nodes : ℕ) → FewListsOpen machine live ask nodes → FewListsOpen machine plans ask nodes
+  few-whole nodes few = live_has_few machine plans ask (gone machine plans ask.now can.plan_on) nodes (may-forget machine plans ask.now can.plan_on) (may-ask machine plans ask can) (subst (λ ps. FewListsOpen machine ps ask nodes) rest few)
 
   pub spent-whole : (nodes bound : ℕ) → IsSpent machine live ask nodes bound → IsSpent machine plans ask nodes bound
   spent-whole nodes bound spent = live_spends machine plans ask (gone machine plans ask.now can.plan_on) nodes bound (may-forget machine plans ask.now can.plan_on) (may-ask machine plans ask can) (subst (λ ps. IsSpent machine ps ask nodes bound) rest spent)

@@ -39,3 +39,4 @@ pub mod StepBoards
 pub mod AskedFacts
 pub mod AnswerFacts
 pub mod TrialFacts
+pub mod EngineFacts

@@ -1,9 +1,10 @@
 -- What is known where a search ends: no answer ends before the bound to which it has come, the best complete list has its
 -- bound, and the list that is opened is not complete.
 use Rattle.std.proofs.Common.{◌≡◌, inl, inr, ◌<◌, ◌≤◌, ℕ, List, [], ◌++◌, length, map, Contains, Option, Some, None, IfSome, ap, subst, ◌∙◌, le_trans, arith}
+use Rattle.std.proofs.lemmas.List.{length-map}
 use Rattle.std.proofs.lemmas.List.Elements.{All-contains, Contains-get_or}
 use Rattle.tp_choices.specs.Frontiers.{FrontierBounds, FrontierEnds, IsFrontier, NoneOpensBelow}
-use Rattle.tp_choices.specs.Searches.{SearchFronts}
+use Rattle.tp_choices.specs.Searches.{EndedHasFew, IsSearched, SearchFronts}
 use Rattle.tp_machine.specs.Machines.{IsMachine}
 use Rattle.tp_machine.specs.declared.whole.Machine.{Machine}
 use Rattle.tp_pool.specs.Entries.{Entry, bound_of, choices_of, entry_at}
@@ -11,11 +12,12 @@ use Rattle.tp_schedule.specs.Answers.{IsAlternative, IsAsked, NoneBefore}
 use Rattle.tp_schedule.specs.Choices.{IsBound, IsComplete, OpensTo}
 use Rattle.tp_schedule.specs.Planning.{IsKnownGoal}
 use Rattle.tp_schedule.specs.Legality.{IsLegal}
+use Rattle.tp_schedule.specs.Spending.{FewListsOpen}
 use Rattle.tp_schedule.specs.declared.parts.Ask.{Ask}
 use Rattle.tp_schedule.specs.declared.parts.Plan.{Plan}
 use Rattle.tp_search.specs.Following.{IsStoredList}
 use Rattle.tp_search.specs.Searching.{IsBestLater, IsNext, IsSearching, list_at, list_of_goal, next_bound, next_list, waiting_in}
-use Rattle.tp_search.specs.Stored.{HasBest, list_by}
+use Rattle.tp_search.specs.Stored.{HasBest, list_by, lists_by}
 use Rattle.tp_search.specs.Stores.{StoreValue}
 use Rattle.tp_search.specs.declared.goals.OpenGoal.{OpenGoal}
 use Rattle.tp_search.specs.declared.taking.Next.{Next}
@@ -38,6 +40,14 @@ module _ (machine : Machine) (plans : List Plan) (ask : Ask) (goals : List OpenG
       let front = fronts machine plans ask (waiting_in machine goals s) searching.opened searching.searched in
       let none : waiting_in machine goals s ≡ [] = ap (λ gs. map list_of_goal gs ++ map (list_at machine s.entries) s.waits) no-goals ∙ ap (map (list_at machine s.entries)) no-nodes in
       ends machine plans ask legal asked (subst (IsFrontier machine plans ask) none front)
+
+  -- nor are there more open lists with choices than nodes
+  pub searching-few : EndedHasFew → length s.entries ≤ s.room → goals ≡ [] → s.waits ≡ [] → FewListsOpen machine plans ask s.room
+  searching-few ended within no-goals no-nodes lists differ each =
+      let none : waiting_in machine goals s ≡ [] = ap (λ gs. map list_of_goal gs ++ map (list_at machine s.entries) s.waits) no-goals ∙ ap (map (list_at machine s.entries)) no-nodes in
+      let few =
+      ended machine plans ask searching.opened (lists_by machine s.entries) (subst (λ ls. IsSearched machine plans ask ls searching.opened) none searching.searched) searching.opened_stored lists differ each in
+      omega (arith, few, within, length-map s.entries (λ (e : Entry). list_by machine e.choices))
 
   module _ (goals' : List OpenGoal) (s' : StoreValue) (next : Next) (is-next : IsNext goals s goals' s' next) where
     known : IsKnownNext machine plans ask goals s bound goals' s' next

@@ -7,7 +7,7 @@ use Rattle.tp_machine.specs.declared.whole.Machine.{Machine}
 use Rattle.tp_schedule.specs.Answers.{IsAlternative, IsAsked, NoneBefore}
 use Rattle.tp_schedule.specs.Choices.{ChoiceList, IsBound, IsComplete}
 use Rattle.tp_schedule.specs.Legality.{IsLegal}
-use Rattle.tp_schedule.specs.Spending.{IsSpent}
+use Rattle.tp_schedule.specs.Spending.{FewListsOpen, IsSpent}
 use Rattle.tp_schedule.specs.declared.parts.Ask.{Ask}
 use Rattle.tp_schedule.specs.declared.parts.Plan.{Plan}
 use Rattle.tp_placing.specs.Boards.{BoardValue}
@@ -73,6 +73,7 @@ module _ {N C : Type 0} (net : N → Net) (content : N → C) (past : N → List
   outcome-back b b1 b2 machine ask nodes Never back a = (
     subst (λ ps. (plans' : List Plan) → ¬ IsAlternative machine ps ask plans') back.loaded.plans a.0,
     back-trans net content past mark_room b b1 b2 machine back a.1,
+    subst (λ ps. FewListsOpen machine ps ask nodes) back.loaded.plans a.2,
   )
   outcome-back b b1 b2 machine ask nodes (Spent bound) back a = (
     subst (λ ps. IsSpent machine ps ask nodes bound) back.loaded.plans a.0,

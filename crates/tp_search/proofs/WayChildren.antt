@@ -1,6 +1,7 @@
 -- Which lists below a way do not open, and what the places of those that do are.
 use Rattle.std.proofs.Common.{◌≡◌, ℕ, ◌≤◌, Bool, false, cond, ◌==◌, List, [], ◌∷◌, ◌++◌, insert, length, refl, sym, arith, AllPairs, subst, Some}
 use Rattle.std.specs.Prelude.{slice_get}
+use Rattle.tp_machine.specs.Modes.{gap_at}
 use Rattle.tp_machine.specs.Using.{action_at}
 use Rattle.tp_machine.specs.declared.parts.HoldRule.{HoldRule}
 use Rattle.tp_machine.specs.declared.parts.State.{State}
@@ -48,7 +49,7 @@ fewer-times machine plans ask rooms stopped c choices rest t times = record {
   lows = times.lows;
   last = times.last;
   line = times.line;
-  apart = λ resource. put_places-fewer (IsApart t) resource _ _ (holds_of_act (action_at machine c.act.0)) c.places rest _ (times.apart resource);
+  apart = λ resource. put_places-fewer (IsApart (gap_at machine resource) t) resource _ _ (holds_of_act (action_at machine c.act.0)) c.places rest _ (times.apart resource);
   stopped = times.stopped;
 }
 

@@ -7,7 +7,7 @@ use Rattle.tp_pool.specs.Entries.{choices_of}
 use Rattle.tp_pool.specs.declared.choice.Choice.{Choice as Stored}
 use Rattle.tp_schedule.specs.Answers.{IsAlternative, NoneBefore}
 use Rattle.tp_schedule.specs.Choices.{ChoiceList, IsBound, IsComplete, IsOpen}
-use Rattle.tp_schedule.specs.Spending.{IsSpent}
+use Rattle.tp_schedule.specs.Spending.{FewListsOpen, IsSpent}
 use Rattle.tp_schedule.specs.declared.parts.Ask.{Ask}
 use Rattle.tp_schedule.specs.declared.parts.Plan.{Plan}
 use Rattle.tp_placing.specs.Boards.{BoardValue, content_of, past_of}
@@ -67,5 +67,6 @@ module _ {N C : Type 0} (net : N → Net) (content : N → C) (past : N → List
   -- what a search of so many nodes came to
   abbrev pub IsOutcome : BoardValue N → BoardValue N → Machine → Ask → ℕ → Outcome → Type 0
   IsOutcome b b' machine ask nodes (Found base) = HasAnswer b b' machine ask base.0
-  IsOutcome b b' machine ask nodes Never = ((plans' : List Plan) → ¬ IsAlternative machine b.plans ask plans') × IsBack net content past mark_room b b' machine
+  IsOutcome b b' machine ask nodes Never =
+      ((plans' : List Plan) → ¬ IsAlternative machine b.plans ask plans') × IsBack net content past mark_room b b' machine × FewListsOpen machine b.plans ask nodes
   IsOutcome b b' machine ask nodes (Spent bound) = IsSpent machine b.plans ask nodes bound × IsBack net content past mark_room b b' machine

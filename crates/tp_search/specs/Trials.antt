@@ -5,7 +5,7 @@ use Rattle.tp_base.specs.Net.{Net}
 use Rattle.tp_machine.specs.declared.whole.Machine.{Machine}
 use Rattle.tp_schedule.specs.Answers.{IsAlternative, IsEarliest, NoneBefore}
 use Rattle.tp_schedule.specs.Plans.{end_of_plan}
-use Rattle.tp_schedule.specs.Spending.{IsSpent}
+use Rattle.tp_schedule.specs.Spending.{FewListsOpen, IsSpent}
 use Rattle.tp_schedule.specs.Spots.Spot.{own}
 use Rattle.tp_schedule.specs.declared.parts.Ask.{Ask}
 use Rattle.tp_schedule.specs.declared.parts.Plan.{Plan}
@@ -27,9 +27,9 @@ pub record IsEarliestTo (machine : Machine) (plans : List Plan) (ask : Ask) (end
 abbrev pub EndsEarliest : Machine → List Plan → Ask → ℕ → Type 0
 EndsEarliest machine plans ask end = (plans' : List Plan) × IsEarliestTo machine plans ask end plans'
 
--- no alternative exists, or the budget of so many nodes is spent
+-- no alternative exists, nor more open lists with choices than nodes; or the budget of so many nodes is spent
 abbrev pub IsNoPlan : Machine → List Plan → Ask → ℕ → NoPlan → Type 0
-IsNoPlan machine plans ask nodes Never = (plans' : List Plan) → ¬ IsAlternative machine plans ask plans'
+IsNoPlan machine plans ask nodes Never = ((plans' : List Plan) → ¬ IsAlternative machine plans ask plans') × FewListsOpen machine plans ask nodes
 IsNoPlan machine plans ask nodes (Spent bound) = IsSpent machine plans ask nodes bound
 
 -- the board that a trial borrows, as it is now, the name of the borrow, and the end of the asked copy

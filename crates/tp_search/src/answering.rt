@@ -2,7 +2,8 @@
 ghost use Rattle.std.specs.Prelude.{◌≡◌, ◌≢◌, ◌+◌, ◌<◌, ◌≤◌, None, IsSome};
 ghost use Rattle.tp_schedule.specs.Planning.{CanAsk, IsAnswer};
 ghost use Rattle.tp_schedule.specs.Plans.{plan_of};
-ghost use Rattle.tp_schedule.specs.declared.parts.Reply.TheVariants.{Planned};
+ghost use Rattle.tp_schedule.specs.Spending.{FewListsOpen};
+ghost use Rattle.tp_schedule.specs.declared.parts.Reply.TheVariants.{Never, Planned};
 ghost use Rattle.tp_placing.specs.Standing.{IsMadeFor};
 ghost use Rattle.tp_search.specs.Workspaces.{IsFor, IsSpentOf};
 
@@ -14,7 +15,7 @@ use tp_placing::Board;
 use tp_schedule::{Ask, Reply, Schedule};
 
 /// Answers an ask on a schedule: writes the earliest plan into it, or leaves it as it is and tells that there is none, or
-/// that the workspace stores too few lists to tell. A new copy takes one of the schedule's spare plans. What the board
+/// that the workspace stores too few lists to tell. Where there is none, no more lists are open than it stores. A new copy takes one of the schedule's spare plans. What the board
 /// carries then means nothing: whoever asks next loads it again. Takes no memory.
 pub fn answer<N: Network>(
     work: &mut Workspace,
@@ -29,6 +30,8 @@ pub fn answer<N: Network>(
     requires can { CanAsk machine.now schedule.old.plans ask.now }
     requires spare { plan_of ask.now.sheet schedule.old.plans ≡ None → 0 < schedule.old.spare }
     ensures answer { IsAnswer (IsSpentOf work.old.nodes) machine.now schedule.old.plans ask.entry.now result schedule.new.plans }
+    ensures few { result ≡ Never
+        → FewListsOpen machine.now schedule.old.plans ask.entry.now work.old.nodes }
     ensures new_copy { result ≡ Planned → plan_of ask.entry.now.sheet schedule.old.plans ≡ None → schedule.new.spare + 1 ≡ schedule.old.spare }
     ensures in_flight { result ≡ Planned → IsSome (plan_of ask.entry.now.sheet schedule.old.plans) → schedule.new.spare ≡ schedule.old.spare }
     ensures stays { result ≢ Planned → schedule.new ≡ schedule.old }

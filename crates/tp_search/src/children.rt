@@ -203,16 +203,6 @@ fn open_stop<N: Network>(
     board.undo_to(mark);
 }
 
-/// How many actions of the asked copy are kept.
-fn kept_of(ask: &Ask) -> u32
-    ensures { result ≡ kept_of ask.entry.now }
-{
-    match ask.origin {
-        Origin::Feeder => 0,
-        Origin::Front { kept, .. } => kept,
-    }
-}
-
 /// Keeps all open children of the list of so many choices that the board carries, unless one of them is an answer.
 pub(crate) fn open_list<N: Network>(
     store: &mut Store,
@@ -238,7 +228,7 @@ pub(crate) fn open_list<N: Network>(
     ensures back { IsBack N.net N.content N.past N.mark_room board.old board.new machine.now }
 {
     open_stop(store, opening, board, machine, ask, first, count);
-    if kept_of(ask) + count == 64 {
+    if ask.origin.kept() + count == 64 {
         return;
     }
     for at in 0..machine.actions.len() {

@@ -1,9 +1,10 @@
 //! A workspace and a board as a planner.
-ghost use Rattle.std.specs.Prelude.{◌≡◌, ◌<◌, ◌≤◌, IfErr, IfOk, IsOk, IsTrue, OnErr, OnOk};
+ghost use Rattle.std.specs.Prelude.{◌≡◌, ◌<◌, ◌≤◌, ℕ, IfErr, IfOk, IsOk, IsTrue, OnErr, OnOk};
 ghost use Rattle.tp_schedule.specs.Planning.{CanAsk, CanSettle, HasTimeFrom, IsAnswer, IsSettled};
+ghost use Rattle.tp_schedule.specs.Planning.Deed.{replied};
 ghost use Rattle.tp_schedule.specs.declared.parts.Origin.TheVariants.{Feeder};
 ghost use Rattle.tp_placing.specs.Inside.{most_edges, most_points};
-ghost use Rattle.tp_search.specs.Engines.{IsSameEngine, is_engine_for};
+ghost use Rattle.tp_search.specs.Engines.{HasFewLists, IsSameEngine, StepsOn, is_engine_for};
 ghost use Rattle.tp_search.specs.Workspaces.{IsSpentOf};
 
 use crate::answering::answer;
@@ -76,11 +77,15 @@ fn make_spare(schedule: &mut Schedule, ask: &Ask) -> Result<(), Memory>
 impl<N: Network> Planner for Engine<N> {
     ghost serves = { is_engine_for };
 
+    ghost Lasting = { ℕ };
+
+    ghost lasting = { λ e. e.work.nodes };
+
     ghost stops = { λ e. 0 };
 
     ghost spent = { λ e. IsSpentOf e.work.nodes };
 
-    ghost steps = { λ e machine plans deed plans' e'. IsSameEngine N.mark_room e e' };
+    ghost steps = { λ e machine plans deed plans' e'. StepsOn N.mark_room e machine plans deed e' };
 
     ghost stop_steps = { λ e machine plans due e'. ⊥ };
 
@@ -89,6 +94,8 @@ impl<N: Network> Planner for Engine<N> {
         requires served { IsTrue (is_engine_for self.old machine.now) }
         requires can_ask { CanAsk machine.now schedule.old.plans ask.now }
         ensures answer { IfOk result (λ reply. IsAnswer (IsSpentOf self.old.work.nodes) machine.now schedule.old.plans ask.entry.now reply schedule.new.plans) }
+        ensures few { IfOk result
+            (λ reply. HasFewLists self.old.work.nodes machine.now schedule.old.plans (replied ask.entry.now reply)) }
         ensures same { IsSameEngine N.mark_room self.old self.new }
         ensures memory { IfErr result (λ halt. halt ≡ Halt.Memory) }
         ensures new_copy { OnErr result (ask.entry.now.origin ≡ Feeder) }

@@ -150,6 +150,7 @@ impl Store {
         ensures none { result ≡ None ↔ (self.old.waits ≡ []) }
         ensures stays { result ≡ None → self.new ≡ self.old }
         ensures taken { IfSome result (λ node. IsTaken self.old node self.new) }
+        ensures within { length self.old.entries ≤ self.old.room }
     {
         let node = self.queue.take()?;
         Some(node)

@@ -2,7 +2,9 @@ use Rattle.std.proofs.Common.{refl, subst, ◌∙◌, IsSomeAnd}
 use Rattle.tp_schedule.specs.Answers.{IsLeast, follows_front}
 use Rattle.tp_placing.specs.Writing.{IsLoadedFrom}
 use Rattle.tp_search.specs.Trials.{IsEarliestTo, IsNoPlan}
+use Rattle.tp_search.specs.declared.trying.NoPlan.TheVariants.{Never}
 use Rattle.tp_search.proofs.answering.answer.Goals as goal
+use Rattle.tp_search.proofs.answering.answer.Goals.{In-Err-Never}
 
 pub returns-in-Ok-clause-answer : goal.returns-in-Ok-clause-answer
 returns-in-Ok-clause-answer g c =
@@ -11,7 +13,14 @@ returns-in-Ok-clause-answer g c =
     let least = subst (λ o. IsSomeAnd o (λ ask. IsLeast c.args.machine.now ask.now (follows_front ask) c.commit.new.schedule.plans)) asked c.commit.ensures.least in
     (done.earliest, least)
 
-pub returns-in-Err-Never-clause-answer : goal.returns-in-Err-Never-clause-answer
-returns-in-Err-Never-clause-answer g c =
+-- what the search told of the whole schedule
+told : (g : _) (c : In-Err-Never g) → IsNoPlan c.args.machine.now c.args.schedule.now.plans c.args.ask.now c.args.work.now.nodes Never
+told g c =
     let loaded : IsLoadedFrom c.args.machine.now c.args.schedule.now.plans c.args.ask.now c.load.new.self.plans = record { can_ask = c.requires.can; live_part = c.load.ensures.plans } in
-    (refl, subst (IsNoPlan c.args.machine.now c.args.schedule.now.plans c.args.ask.now c.args.work.now.nodes) c.in-Err-Never.field-0-is (c.in-Err-Never.ensures.none c.args.schedule.now.plans loaded))
+    subst (IsNoPlan c.args.machine.now c.args.schedule.now.plans c.args.ask.now c.args.work.now.nodes) c.in-Err-Never.field-0-is (c.in-Err-Never.ensures.none c.args.schedule.now.plans loaded)
+
+pub returns-in-Err-Never-clause-answer : goal.returns-in-Err-Never-clause-answer
+returns-in-Err-Never-clause-answer g c = (refl, (told g (goal.at.returns-in-Err-Never-clause-answer g c).In-Err-Never).0)
+
+pub returns-in-Err-Never-clause-few : goal.returns-in-Err-Never-clause-few
+returns-in-Err-Never-clause-few g c = λ is. (told g (goal.at.returns-in-Err-Never-clause-few g c).In-Err-Never).1

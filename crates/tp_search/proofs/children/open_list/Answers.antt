@@ -12,8 +12,8 @@ use Rattle.tp_search.proofs.OpeningSame.{before-same, fresh-same, same-trans}
 use Rattle.tp_search.proofs.PlaceSteps.{laid-same, parent-same}
 use Rattle.tp_search.proofs.children.open_list.Goals as goal
 
-pub returns-then-kept_of-count-eq64-clause-progress : goal.returns-then-kept_of-count-eq64-clause-progress
-returns-then-kept_of-count-eq64-clause-progress g c =
+pub returns-then-kept-count-eq64-clause-progress : goal.returns-then-kept-count-eq64-clause-progress
+returns-then-kept-count-eq64-clause-progress g c =
     let stop = c.open_stop.ensures in
     let full : kept_of c.args.ask.now + length (choices_by c.args.machine.now (choices_before c.args.store.now.entries c.args.opening.now.parent)) ≡ 64 = omega arith in
     opening-full_list c.args.machine.now c.args.board.now.plans c.args.ask.now c.open_stop.new.opening c.open_stop.new.store c.args.opening.now.goal (choices_by c.args.machine.now (choices_before c.args.store.now.entries c.args.opening.now.parent)) (length c.args.machine.now.actions)

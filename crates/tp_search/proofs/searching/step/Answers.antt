@@ -1,5 +1,6 @@
 use Rattle.std.proofs.Common.{◌≡◌, ◌≤◌, IfSome, sym, subst, ◌∙◌}
 use Rattle.tp_machine.proofs.MachineFacts.{is_machine}
+use Rattle.tp_choices.proofs.FewLists.{ended_has_few}
 use Rattle.tp_choices.proofs.Frontier.{frontier_ends}
 use Rattle.tp_choices.proofs.Searching.{search_fronts}
 use Rattle.tp_pool.specs.Entries.{bound_of}
@@ -13,7 +14,7 @@ use Rattle.tp_search.specs.Outcomes.{CanOpen, HasChild, IsAllOpened}
 use Rattle.tp_search.specs.Searching.{IsBestLater, list_at, next_bound, next_list}
 use Rattle.tp_search.specs.Stored.{child_by}
 use Rattle.tp_search.proofs.BoardSteps.{IsMarked, back-itself, since-step, taken-back}
-use Rattle.tp_search.proofs.SearchEnds.{IsBestList, searching-never}
+use Rattle.tp_search.proofs.SearchEnds.{IsBestList, searching-few, searching-never}
 use Rattle.tp_search.proofs.StepBoards.{answer-since, marked-plans, marked-stands, stands-asked, stands-legal}
 use Rattle.tp_search.proofs.StepFacts.{best-list, can-open, none-of, some-of, next-there, space-then, step-answered, step-full, step-less, step-none_before, step-on}
 use Rattle.tp_search.proofs.searching.step.Goals as goal
@@ -70,6 +71,7 @@ returns-in_default-clause-ends g c =
           (stands-legal g.N.Network.net g.N.Undo.content g.N.Undo.past c.args.board.now c.args.machine.now c.requires.stands)
           (stands-asked g.N.Network.net g.N.Undo.content g.N.Undo.past c.args.board.now c.args.machine.now c.args.ask.now c.requires.stands c.requires.asked) none.0 none.1,
       back-itself g.N.Network.net g.N.Undo.content g.N.Undo.past g.N.Undo.mark_room c.args.board.now c.args.machine.now,
+      searching-few c.args.machine.now c.args.board.now.plans c.args.ask.now c.args.goals.now.items c.args.store.now c.requires.searching.0 c.requires.searching.1 ended_has_few (c.take_next.ensures.within c.in_default.is) none.0 none.1,
     )
 
 pub bound_of-bound-requires : goal.bound_of-bound-requires

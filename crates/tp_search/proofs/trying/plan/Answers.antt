@@ -1,7 +1,7 @@
 use Rattle.std.proofs.Common.{refl, subst, sym}
 use Rattle.tp_machine.proofs.MachineFacts.{is_machine}
 use Rattle.tp_search.specs.Trials.{EndsEarliest}
-use Rattle.tp_search.proofs.AnswerFacts.{answer-ends, known-goal, never-whole, spent-whole}
+use Rattle.tp_search.proofs.AnswerFacts.{answer-ends, few-whole, known-goal, never-whole, spent-whole}
 use Rattle.tp_search.proofs.TrialFacts.{answer-trial, ends-earliest}
 use Rattle.tp_search.proofs.trying.plan.Goals as goal
 
@@ -32,7 +32,10 @@ returns-in-Never g c = (
     same_reference = tt;
     trial = tt;
     end = λ plans loaded. tt;
-    none = λ plans loaded. never-whole c.args.machine.now plans c.args.ask.now loaded.can_ask c.args.board.now.plans loaded.live_part c.in-Never.ensures.outcome.0;
+    none = λ plans loaded. (
+      never-whole c.args.machine.now plans c.args.ask.now loaded.can_ask c.args.board.now.plans loaded.live_part c.in-Never.ensures.outcome.0,
+      few-whole c.args.machine.now plans c.args.ask.now loaded.can_ask c.args.board.now.plans loaded.live_part c.args.work.now.nodes c.in-Never.ensures.outcome.2,
+    );
     work = c.search.ensures.same;
   },
 )
