@@ -1,0 +1,152 @@
+-- What a change makes of a network.
+use Rattle.std.proofs.Common.{◌≡◌, ℕ, ◌<◌, ◌≤◌, Bool, List, [], ◌∷◌, ◌++◌, length, slice_index, set, sym, ap, ◌∙◌, subst, arith, vec_capacity, inl, inr}
+use Rattle.std.proofs.Math.Nat.{mul-le-mul_left}
+use Rattle.std.proofs.lemmas.Bool.{cases_eq}
+use Rattle.std.proofs.lemmas.List.{length-set, get_or-set_same, get_or-set_other}
+use Rattle.std.specs.List.{All}
+use Rattle.tp_base.specs.declared.edges.Edge.{Edge}
+use Rattle.tp_base.specs.Net.{Keeps, IsSolution}
+use Rattle.tp_base.specs.Grows.{IsKnown, IsSupported, AreWithin, cause_of}
+use Rattle.tp_base.specs.Kept.{net_of}
+use Rattle.tp_stn_undo.specs.declared.spots.Spot.{Spot}
+use Rattle.tp_stn_undo.specs.declared.links.Link.{Link}
+use Rattle.tp_stn_undo.specs.declared.spots.SavedSpot.{SavedSpot}
+use Rattle.tp_stn_undo.specs.declared.live.LiveNet.TheInside.{Inside}
+use Rattle.tp_stn_undo.specs.Spots.{IsSound, lows_of, times_of, edges_of, causes_of}
+use Rattle.tp_stn_undo.specs.Marks.{past_of, AreStacked, AreSaved, AreLinks}
+use Rattle.tp_stn_undo.specs.Stacks.{IsStack, CanSave}
+use Rattle.tp_stn_undo.specs.Spreading.{SpotsRise, LeadsBack}
+use Rattle.tp_stn_undo.specs.Lifting.{Lifts}
+use Rattle.tp_stn_undo.specs.Live.{HasRoom, IsLive}
+use Rattle.tp_stn_undo.specs.Working.{AtRest}
+use Rattle.tp_stn_undo.proofs.StackFacts.{stacked_grown}
+use Rattle.tp_stn_undo.proofs.RaiseFacts.{times_len, lows_len}
+use Rattle.tp_stn_undo.proofs.FollowFacts.{risen_supported}
+use Rattle.tp_stn_undo.proofs.SoundFacts.{edges_push, supported_more, numbered_longer, known_push, solution_less, sound_risen}
+
+module _ (a : Inside) (inv : IsLive a) where
+  pub stack_of : (edges : ℕ) → length a.links.items ≤ edges → IsStack a.marks.items a.saved.items a.newest.items edges a.point_room
+  stack_of edges h =
+      let n = inv.kept.len in
+      let p = inv.points in
+      record {
+        stacked = stacked_grown a.marks.items _ _ _ _ _ _ _ (omega arith) h (omega arith) inv.stacked;
+        kept = rw n inv.kept;
+        fits = omega arith;
+        filled = inv.saved;
+      }
+
+  pub can_save : CanSave a.marks.items a.saved.items a.newest.items (vec_capacity a.saved)
+  can_save =
+      let m = mul-le-mul_left a.point_room inv.marks in
+      let s = inv.room.saved in
+      let t = inv.room.small in
+      record { edges = length a.links.items; room = a.point_room; stack = stack_of (length a.links.items) (omega arith); enough = omega arith; small = omega arith }
+
+-- what holds of lists holds of the network that has them
+pub live_of : (a : Inside) (S : List Spot) (L : List Link) (H N : List ℕ) (V : List SavedSpot) → a.spots.items ≡ S → a.links.items ≡ L → a.heads.items ≡ H → a.newest.items ≡ N → a.saved.items ≡ V
+    → length S ≤ a.point_room → length L ≤ a.edge_room → length a.marks.items ≤ a.mark_room → HasRoom a → AtRest a.working → IsStack a.marks.items V N (length L) a.point_room → length N ≡ length S → AreLinks L H (length S)
+    → IsSound (record { spots = S; caps = a.caps.items; links = L }) → All IsSound (past_of a.marks.items V S a.caps.items L) → IsLive a
+live_of a S L H N V es el eh en ev points edges marks room rest stack n linked sound past = record {
+  points = rw es points;
+  edges = rw el edges;
+  marks = marks;
+  saved = rw ev stack.filled;
+  room = room;
+  rest = rest;
+  stacked = rw (es, el, ev) (subst (λ (k : ℕ). AreStacked a.marks.items k (length L) (length V) a.point_room) n stack.stacked);
+  kept = rw (es, en, ev) (subst (λ (k : ℕ). AreSaved a.marks.items V N k) n stack.kept);
+  linked = rw (es, el, eh) linked;
+  sound = rw (es, el) sound;
+  past = rw (es, el, ev) past;
+}
+
+-- an edge is added, and points rise
+module _ (spots spots' : List Spot) (caps : List ℕ) (links : List Link) (l : Link) (noted noted' : List SavedSpot) (s : IsSound (record { spots = spots; caps = caps; links = links }))
+    (k : IsKnown (length spots) l.edge) (back : LeadsBack (links ++ l ∷ []) spots spots' noted noted') (rises : SpotsRise (links ++ l ∷ []) spots spots')
+    (within : AreWithin caps (times_of spots')) (keeps : All (Keeps (slice_index (times_of spots'))) (edges_of (links ++ l ∷ []))) where
+  nt : length (times_of spots) ≡ length spots
+  nt = times_len spots
+
+  nl : length (lows_of spots) ≡ length spots
+  nl = lows_len spots
+
+  below : (y : ℕ → ℕ) → IsSolution (net_of (lows_of spots') caps (edges_of (links ++ l ∷ []))) y → (i : ℕ) → i < length spots → slice_index (times_of spots') i ≤ y i
+  below y sol i h =
+      let sol1 : IsSolution (net_of (lows_of spots) caps (edges_of (links ++ l ∷ []))) y = subst (λ (ls : List ℕ). IsSolution (net_of ls caps (edges_of (links ++ l ∷ []))) y) back.lows sol in
+      let sol2 : IsSolution (net_of (lows_of spots) caps (edges_of links ++ l.edge ∷ [])) y = subst (λ (es : List Edge). IsSolution (net_of (lows_of spots) caps es) y) (edges_push links l) sol1 in
+      let sol3 : IsSolution (net_of (lows_of spots) caps (edges_of links)) y = solution_less (net_of (lows_of spots) caps (edges_of links)) l.edge y sol2 in
+      let a = nt in
+      let b = nl in
+      rises.below y sol1.keeps (λ j g. s.least.least y sol3 j (omega arith)) i (omega arith)
+
+  above : (i : ℕ) → i < length spots → slice_index (lows_of spots') i ≤ slice_index (times_of spots') i
+  above i h =
+      let a = nt in
+      let b = nl in
+      let low = s.least.solution.above_low i (omega arith) in
+      let up = rises.rises i (omega arith) in
+      let e = ap (λ (ls : List ℕ). slice_index ls i) back.lows in
+      omega arith
+
+  pub sound_edge : IsSound (record { spots = spots'; caps = caps; links = links ++ l ∷ [] })
+  sound_edge =
+      sound_risen caps (links ++ l ∷ []) spots spots' (λ i. i) s.caps back.len (known_push links l (length spots) s.known k) (back.numbered (numbered_longer links l spots s.numbered))
+      (subst (λ (ls : List ℕ). IsSupported ls (edges_of (links ++ l ∷ [])) (slice_index (times_of spots')) (cause_of (causes_of (edges_of (links ++ l ∷ [])) spots'))) (sym back.lows) (risen_supported (links ++ l ∷ []) spots spots' caps (supported_more links l spots s.numbered s.supported) back.len rises))
+      within keeps above below
+
+-- a lower bound is raised, and points rise
+module _ (spots spots1 spots' : List Spot) (caps : List ℕ) (links : List Link) (point low : ℕ) (flags flags' : List Bool) (noted noted' : List SavedSpot) (s : IsSound (record { spots = spots; caps = caps; links = links }))
+    (known : point < length spots) (more : slice_index (lows_of spots) point ≤ low) (lifts : Lifts spots spots1 point low flags flags') (back : LeadsBack links spots1 spots' noted noted') (rises : SpotsRise links spots1 spots')
+    (within : AreWithin caps (times_of spots')) (keeps : All (Keeps (slice_index (times_of spots'))) (edges_of links)) where
+  lows_are : lows_of spots' ≡ set (lows_of spots) point low
+  lows_are = back.lows ∙ lifts.lows
+
+  n1 : length (times_of spots1) ≡ length spots
+  n1 = times_len spots1 ∙ lifts.len
+
+  n0 : length (lows_of spots) ≡ length spots
+  n0 = lows_len spots
+
+  ups : (i : ℕ) → i < length spots → slice_index (times_of spots) i ≤ slice_index (times_of spots') i
+  ups i h = (let a = n1 in let x = lifts.rises i h in let y = rises.rises i (omega arith) in omega arith)
+
+  lift_above : (i : ℕ) → i < length spots → slice_index (lows_of spots') i ≤ slice_index (times_of spots') i
+  lift_above i h =
+      let e = ap (λ (ls : List ℕ). slice_index ls i) lows_are in
+      let a = n0 in
+      let b = n1 in
+      let up = ups i h in
+      elim (cases_eq i point) [
+        | inl q ↦ (
+            let c = get_or-set_same (lows_of spots) point low 0 (omega arith) in
+            let d = ap (slice_index (set (lows_of spots) point low)) q in
+            let f = ap (slice_index (times_of spots')) q in
+            let r = lifts.reaches in
+            let y = rises.rises point (omega arith) in
+            omega arith)
+        | inr q ↦ (let c = get_or-set_other (lows_of spots) point i low 0 q in let l = s.least.solution.above_low i (omega arith) in omega arith)
+      ]
+
+  lift_below : (y : ℕ → ℕ) → IsSolution (net_of (lows_of spots') caps (edges_of links)) y → (i : ℕ) → i < length spots → slice_index (times_of spots') i ≤ y i
+  lift_below y sol i h =
+      let a = n0 in
+      let b = n1 in
+      let ln = length-set (lows_of spots) point low in
+      let sol1 : IsSolution (net_of (set (lows_of spots) point low) caps (edges_of links)) y = subst (λ (ls : List ℕ). IsSolution (net_of ls caps (edges_of links)) y) lows_are sol in
+      let at : low ≤ y point = (let c = get_or-set_same (lows_of spots) point low 0 (omega arith) in let d = sol1.above_low point (omega arith) in omega arith) in
+      let sol0 : IsSolution (net_of (lows_of spots) caps (edges_of links)) y = record {
+        above_low = λ j g. elim (cases_eq j point) [
+          | inl q ↦ (let e = ap (slice_index (lows_of spots)) q in let f = ap y q in omega arith)
+          | inr q ↦ (let c = get_or-set_other (lows_of spots) point j low 0 q in let d = sol1.above_low j (omega arith) in omega arith)
+        ];
+        below_cap = λ j g. sol1.below_cap j (omega arith);
+        keeps = sol1.keeps;
+      } in
+      rises.below y sol1.keeps (λ j g. lifts.below y (λ k m. s.least.least y sol0 k (omega arith)) at j (omega arith)) i (omega arith)
+
+  pub sound_lift : IsSound (record { spots = spots'; caps = caps; links = links })
+  sound_lift =
+      sound_risen caps links spots spots' (λ i. i) s.caps (back.len ∙ lifts.len) s.known (back.numbered (lifts.numbered links s.numbered))
+      (subst (λ (ls : List ℕ). IsSupported ls (edges_of links) (slice_index (times_of spots')) (cause_of (causes_of (edges_of links) spots'))) (sym back.lows) (risen_supported links spots1 spots' caps (lifts.supported links s.supported) back.len rises))
+      within keeps lift_above lift_below

@@ -1,0 +1,158 @@
+-- One step along an edge that is named by its number.
+use Rattle.std.proofs.Common.{◌≡◌, ℕ, suc, ◌+◌, ◌-◌, ◌*◌, ◌<◌, ◌≤◌, Bool, true, false, List, length, slice_index, get_or, set, Option, Some, None, pos, ◌+ℤ◌, ◌≤ℤ◌, ◌<ℤ◌, sym, refl, ap, ◌∙◌, subst, arith, inl, inr}
+use Rattle.std.proofs.lemmas.Bool.{cases_eq, true≢false}
+use Rattle.std.proofs.lemmas.Int.{ints}
+use Rattle.std.proofs.lemmas.Option.{same_Some, slice_get_within, get_or_from_slice_get}
+use Rattle.std.proofs.lemmas.List.{length-map, length-set, map-set, get_or-map, get_or-set_same, get_or-set_other}
+use Rattle.std.proofs.lemmas.List.Elements.{All-contains}
+use Rattle.std.proofs.Math.Seq.{map-set_same}
+use Rattle.std.proofs.Math.Nat.{mul-le-mul_right}
+use Rattle.std.specs.List.{All, Contains, slice_get}
+use Rattle.tp_base.specs.declared.edges.Edge.{Edge}
+use Rattle.tp_base.specs.Net.{Keeps}
+use Rattle.tp_base.specs.Grows.{IsKnown, Grows, Rises, PassesCap, AreWithin, cause_of, slack}
+use Rattle.tp_base.proofs.GrowsFacts.{Grows-refl, Grows-step, Changes-set, Changes-changed, changed, slack-set, still_kept}
+use Rattle.tp_stn_undo.specs.declared.spots.Spot.{Spot}
+use Rattle.tp_stn_undo.specs.declared.links.Link.{Link}
+use Rattle.tp_stn_undo.specs.Spots.{lows_of, times_of, edges_of, causes_of, numbered}
+use Rattle.tp_stn_undo.specs.Flags.{flag}
+use Rattle.tp_stn_undo.specs.Spreading.{AreNumbered, AsksMore, SpotsRise, KeptFrom, IsMet}
+use Rattle.tp_stn_undo.proofs.CauseFacts.{no_spot, no_link, numbered_at, edge_at}
+
+pub times_len : (spots : List Spot) → length (times_of spots) ≡ length spots
+times_len spots = length-map spots (λ (s : Spot). s.time)
+
+pub lows_len : (spots : List Spot) → length (lows_of spots) ≡ length spots
+lows_len spots = length-map spots (λ (s : Spot). s.low)
+
+pub causes_len : (links : List Link) (spots : List Spot) → length (causes_of (edges_of links) spots) ≡ length spots
+causes_len links spots = length-map spots (λ (s : Spot). numbered (edges_of links) s.cause)
+
+pub time_at : (spots : List Spot) (p : ℕ) → p < length spots → slice_index (times_of spots) p ≡ (get_or spots p no_spot).time
+time_at spots p h = get_or-map (λ (s : Spot). s.time) spots p no_spot 0 h
+
+module _ (links : List Link) (spots : List Spot) (number : ℕ) (some : 0 < number) (within : number ≤ length links) (all : All (IsKnown (length spots)) (edges_of links)) where
+  abbrev pub edge : Edge
+  edge = (get_or links (number - 1) no_link).edge
+
+  abbrev pub to : ℕ
+  to = edge.to.0
+
+  abbrev times : List ℕ
+  times = times_of spots
+
+  abbrev causes : List (Option Edge)
+  causes = causes_of (edges_of links) spots
+
+  pub is_edge : slice_get (edges_of links) (number - 1) ≡ Some edge
+  is_edge = sym (numbered_at (edges_of links) number some) ∙ edge_at links number no_link some within
+
+  pub in_list : Contains (edges_of links) edge
+  in_list = (number - 1, slice_get_within (edges_of links) (number - 1) edge is_edge, get_or_from_slice_get (edges_of links) (number - 1) edge edge is_edge)
+
+  pub known : IsKnown (length spots) edge
+  known = All-contains (IsKnown (length spots)) (edges_of links) edge all in_list
+
+  -- the point that the edge leads to, with that time
+  abbrev pub raised : ℕ → Spot
+  raised high = record { low = (get_or spots to no_spot).low; time = high; cause = number }
+
+  abbrev pub after : ℕ → List Spot
+  after high = set spots to (raised high)
+
+  times_after : (high : ℕ) → times_of (after high) ≡ set times to high
+  times_after high = map-set (λ (s : Spot). s.time) spots to (raised high)
+
+  -- with its own time again
+  pub times_same : times_of (after (get_or spots to no_spot).time) ≡ times
+  times_same = map-set_same (λ (s : Spot). s.time) spots to (raised (get_or spots to no_spot).time) no_spot refl
+
+  causes_after : (high : ℕ) → causes_of (edges_of links) (after high) ≡ set causes to (Some edge)
+  causes_after high = map-set (λ (s : Spot). numbered (edges_of links) s.cause) spots to (raised high) ∙ ap (set causes to) (edge_at links number no_link some within)
+
+  pub lows_after : (high : ℕ) → lows_of (after high) ≡ lows_of spots
+  lows_after high = map-set_same (λ (s : Spot). s.low) spots to (raised high) no_spot refl
+
+  pub numbered_after : (high : ℕ) → AreNumbered links spots → AreNumbered links (after high)
+  numbered_after high n k d h =
+      let l = length-set spots to (raised high) in
+      let t = known.to in
+      elim (cases_eq k to) [
+        | inl e ↦ (let a = ap (λ (s : Spot). s.cause) (get_or-set_same spots to (raised high) d t) in let b = ap (λ (i : ℕ). (get_or (after high) i d).cause) e in omega arith)
+        | inr e ↦ (let a = ap (λ (s : Spot). s.cause) (get_or-set_other spots to k (raised high) d e) in let b = n k d (omega arith) in omega arith)
+      ]
+
+  module _ (high : ℕ) (reach : pos high ≡ (pos (slice_index times edge.from.0) +ℤ edge.weight)) (more : slice_index times to < high) where
+    to_in : to < length times
+    to_in = let t = known.to in let l = times_len spots in omega arith
+
+    from_in : edge.from.0 < length times
+    from_in = let t = known.from in let l = times_len spots in omega arith
+
+    to_caused : to < length causes
+    to_caused = let t = known.to in let l = causes_len links spots in omega arith
+
+    pub rises : SpotsRise links spots (after high)
+    rises =
+        subst (λ (ts : List ℕ). Rises (edges_of links) times causes ts (causes_of (edges_of links) (after high))) (sym (times_after high))
+        (subst (λ (cs : List (Option Edge)). Rises (edges_of links) times causes (set times to high) cs) (sym (causes_after high))
+        (Grows-step (length times) (edges_of links) (slice_index times) (slice_index (set times to high)) (cause_of causes) (cause_of (set causes to (Some edge))) edge high in_list from_in to_in reach more
+        (Changes-set times to high 0 to_in) (Changes-set causes to (Some edge) None to_caused)))
+
+    -- where it passes the upper bound, the time stays
+    pub passes : (caps : List ℕ) (low : ℕ) → slice_index caps to < high → PassesCap caps (edges_of links) times causes (causes_of (edges_of links) (after low)) to
+    passes caps low above =
+        let dt = Changes-changed (slice_index times) to high in
+        let at : changed (slice_index times) to high to ≡ high = dt.at in
+        record {
+          known = to_in;
+          time = changed (slice_index times) to high;
+          grows = subst (λ (cs : List (Option Edge)). Grows (length times) (edges_of links) (slice_index times) (cause_of causes) (changed (slice_index times) to high) (cause_of cs)) (sym (causes_after low))
+              (Grows-step (length times) (edges_of links) (slice_index times) (changed (slice_index times) to high) (cause_of causes) (cause_of (set causes to (Some edge))) edge high in_list from_in to_in reach more dt (Changes-set causes to (Some edge) None to_caused));
+          passes = omega arith;
+        }
+
+    pub below_after : (caps : List ℕ) → high ≤ slice_index caps to → AreWithin caps times → AreWithin caps (times_of (after high))
+    below_after caps fits b i h =
+        let e = times_after high in
+        let l = length-set times to high in
+        let le = ap length e in
+        let ei = ap (λ (ts : List ℕ). slice_index ts i) e in
+        elim (cases_eq i to) [
+          | inl p ↦ (let a = get_or-set_same times to high 0 to_in in let q = ap (slice_index (set times to high)) p in let r = ap (slice_index caps) p in omega arith)
+          | inr p ↦ (let a = get_or-set_other times to i high 0 p in let q = b i (omega arith) in omega arith)
+        ]
+
+    pub kept_after : (flags : List Bool) (edges : List Edge) (point left : ℕ) → to < length flags → KeptFrom edges (slice_index times) flags point left → KeptFrom edges (slice_index (times_of (after high))) (set flags to true) point left
+    kept_after flags edges point left h k i e g f from =
+        subst (λ (ts : List ℕ). Keeps (slice_index ts) e) (sym (times_after high)) (elim (cases_eq e.from.0 to) [
+          | inl p ↦ absurd (true≢false (sym (ap (flag (set flags to true)) p ∙ get_or-set_same flags to true false h) ∙ f))
+          | inr p ↦ still_kept (slice_index times) (slice_index (set times to high)) to high e (Changes-set times to high 0 to_in) (omega arith) p (k i e g (sym (get_or-set_other flags to e.from.0 true false p) ∙ f) from)
+        ])
+
+    pub met_after : (flags : List Bool) → to < length flags → IsMet (edges_of links) (slice_index (times_of (after high))) (set flags to true) (number - 1)
+    met_after flags h e g f =
+        let is : edge ≡ e = same_Some edge e (sym is_edge ∙ g) in
+        subst (λ (ts : List ℕ). Keeps (slice_index ts) e) (sym (times_after high)) (subst (λ (x : Edge). Keeps (slice_index (set times to high)) x) is (elim (cases_eq edge.from.0 to) [
+          | inl p ↦ absurd (true≢false (sym (ap (flag (set flags to true)) (sym (ap (λ (x : Edge). x.from.0) is) ∙ p) ∙ get_or-set_same flags to true false h) ∙ f))
+          | inr p ↦ (let a = get_or-set_same times to high 0 to_in in let b = get_or-set_other times to edge.from.0 high 0 p in omega (arith, ints))
+        ]))
+
+    pub less_after : (caps : List ℕ) → length caps ≡ length spots → high ≤ slice_index caps to → slack caps (times_of (after high)) < slack caps times
+    less_after caps n fits = subst (λ (ts : List ℕ). slack caps ts < slack caps times) (sym (times_after high)) (slack-set caps times to high to_in (n ∙ sym (times_len spots)) more fits)
+
+  -- where the edge is kept already
+  pub met_same : (flags : List Bool) → (pos (slice_index times edge.from.0) +ℤ edge.weight) ≤ℤ pos (slice_index times to) → IsMet (edges_of links) (slice_index times) flags (number - 1)
+  met_same flags k e g f = subst (λ (x : Edge). Keeps (slice_index times) x) (same_Some edge e (sym is_edge ∙ g)) k
+
+  pub asks_more : pos (slice_index times to) <ℤ (pos (slice_index times edge.from.0) +ℤ edge.weight) → AsksMore (edges_of links) number (slice_index times)
+  asks_more h e g = subst (λ (x : Edge). pos (slice_index times x.to.0) <ℤ (pos (slice_index times x.from.0) +ℤ x.weight)) (same_Some edge e (sym (edge_at links number no_link some within) ∙ g)) h
+
+pub SpotsRise-refl : (links : List Link) (spots : List Spot) → SpotsRise links spots spots
+SpotsRise-refl links spots = Grows-refl (length (times_of spots)) (edges_of links) (slice_index (times_of spots)) (cause_of (causes_of (edges_of links) spots))
+
+-- less slack makes up for all that may wait
+pub weight_less : (s s' n l l' : ℕ) → s' < s → l' ≤ n → s' * (n + 1) + l' ≤ s * (n + 1) + l
+weight_less s s' n l l' h k =
+    let m : suc s' * (n + 1) ≤ s * (n + 1) = mul-le-mul_right (n + 1) h in
+    omega arith

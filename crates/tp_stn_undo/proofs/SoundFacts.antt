@@ -1,0 +1,177 @@
+-- What holds between two changes holds after each.
+use Rattle.std.proofs.Common.{zero, suc, ◌≡◌, ℕ, ◌+◌, ◌-◌, ◌<◌, ◌≤◌, List, [], ◌∷◌, ◌++◌, length, slice_index, take, Option, None, sym, refl, ap, ◌∙◌, subst, arith, inl, inr, cond, Bool}
+use Rattle.std.proofs.lemmas.Bool.{cases_eq, cases_lt, eq-eqb, ne_eqb}
+use Rattle.std.proofs.lemmas.Int.{ints}
+use Rattle.std.proofs.lemmas.Option.{none-some}
+use Rattle.std.proofs.lemmas.List.{length-map, length-append, map-append, get_or_append_left, get_or_at, take_at}
+use Rattle.std.proofs.lemmas.List.Elements.{All-push, Contains-append_left}
+use Rattle.std.specs.List.{All}
+use Rattle.tp_base.specs.declared.edges.Edge.{Edge}
+use Rattle.tp_base.specs.Net.{Net, Keeps, IsLeast, IsSolution}
+use Rattle.tp_base.specs.Grows.{IsKnown, IsSupported, AreWithin, cause_of}
+use Rattle.tp_base.specs.Kept.{net_of}
+use Rattle.tp_base.proofs.SliceFacts.{map_same, slice_get_left, All-at}
+use Rattle.tp_base.proofs.LeastFacts.{point_least}
+use Rattle.tp_base.proofs.GrowsFacts.{stamped}
+use Rattle.tp_stn_undo.specs.declared.spots.Spot.{Spot}
+use Rattle.tp_stn_undo.specs.declared.links.Link.{Link}
+use Rattle.tp_stn_undo.specs.Spots.{Core, IsSound, lows_of, times_of, edges_of, causes_of, numbered}
+use Rattle.tp_stn_undo.specs.Spreading.{AreNumbered, AreKept}
+use Rattle.tp_stn_undo.proofs.RaiseFacts.{times_len, lows_len, causes_len}
+use Rattle.tp_stn_undo.proofs.FollowFacts.{Supported}
+
+pub links_len : (links : List Link) → length (edges_of links) ≡ length links
+links_len links = length-map links (λ (l : Link). l.edge)
+
+pub edges_push : (links : List Link) (l : Link) → edges_of (links ++ l ∷ []) ≡ edges_of links ++ l.edge ∷ []
+edges_push links l = map-append (λ (l : Link). l.edge) links (l ∷ [])
+
+-- ---- one more edge
+numbered_more : (edges : List Edge) (e : Edge) (n : ℕ) → n ≤ length edges → numbered (edges ++ e ∷ []) n ≡ numbered edges n
+numbered_more edges e zero h = refl
+numbered_more edges e (suc k) h = slice_get_left edges (e ∷ []) k (omega arith)
+
+pub causes_more : (links : List Link) (l : Link) (spots : List Spot) → AreNumbered links spots → causes_of (edges_of (links ++ l ∷ [])) spots ≡ causes_of (edges_of links) spots
+causes_more links l spots n =
+    map_same (λ (s : Spot). numbered (edges_of (links ++ l ∷ [])) s.cause) (λ (s : Spot). numbered (edges_of links) s.cause) spots (λ k s g.
+    let h = All-at (λ (s : Spot). s.cause ≤ length links) spots k s n g in
+    let len = links_len links in
+    ap (λ (es : List Edge). numbered es s.cause) (edges_push links l) ∙ numbered_more (edges_of links) l.edge s.cause (omega arith))
+
+pub supported_more : (links : List Link) (l : Link) (spots : List Spot) → AreNumbered links spots → Supported links spots spots → Supported (links ++ l ∷ []) spots spots
+supported_more links l spots n s =
+    subst (λ (cs : List (Option Edge)). IsSupported (lows_of spots) (edges_of (links ++ l ∷ [])) (slice_index (times_of spots)) (cause_of cs)) (sym (causes_more links l spots n))
+    (subst (λ (es : List Edge). IsSupported (lows_of spots) es (slice_index (times_of spots)) (cause_of (causes_of (edges_of links) spots))) (sym (edges_push links l))
+    (record {
+      stamp = s.stamp;
+      next = s.next;
+      early = s.early;
+      root = s.root;
+      caused = λ v e h some. (let c = s.caused v e h some in record { in_list = Contains-append_left (edges_of links) (l.edge ∷ []) e c.in_list; to = c.to; from = c.from; at_most = c.at_most; tie = c.tie });
+    }))
+
+pub numbered_longer : (links : List Link) (l : Link) (spots : List Spot) → AreNumbered links spots → AreNumbered (links ++ l ∷ []) spots
+numbered_longer links l spots n k d h = let a = n k d h in let len = length-append links (l ∷ []) in omega arith
+
+pub known_push : (links : List Link) (l : Link) (count : ℕ) → All (IsKnown count) (edges_of links) → IsKnown count l.edge → All (IsKnown count) (edges_of (links ++ l ∷ []))
+known_push links l count all k = subst (All (IsKnown count)) (sym (edges_push links l)) (All-push (IsKnown count) (edges_of links) l.edge all k)
+
+pub within_of : (c : Core) → IsSound c → AreWithin c.caps (times_of c.spots)
+within_of c s i h = s.least.solution.below_cap i (let a = times_len c.spots in let b = lows_len c.spots in omega arith)
+
+pub kept_of : (edges : List Edge) (t : ℕ → ℕ) (flags : List Bool) → All (Keeps t) edges → AreKept edges t flags
+kept_of edges t flags all k e g f = All-at (Keeps t) edges k e all g
+
+pub kept_before : (links : List Link) (l : Link) (t : ℕ → ℕ) (flags : List Bool) (n : ℕ) → n ≡ length links + 1 → All (Keeps t) (edges_of links) → AreKept (take (n - 1) (edges_of (links ++ l ∷ []))) t flags
+kept_before links l t flags n is all =
+    let len = links_len links in
+    subst (λ (es : List Edge). AreKept es t flags) (sym (ap (take (n - 1)) (edges_push links l) ∙ take_at (edges_of links) (l.edge ∷ []) (n - 1) (omega arith))) (kept_of (edges_of links) t flags all)
+
+-- a solution with one edge more is one without it
+pub solution_less : (net : Net) (e : Edge) (y : ℕ → ℕ) → IsSolution (record { lows = net.lows; caps = net.caps; edges = net.edges ++ e ∷ [] }) y → IsSolution net y
+solution_less net e y s = record {
+  above_low = s.above_low;
+  below_cap = s.below_cap;
+  keeps = λ k d h. (
+      let l = length-append net.edges (e ∷ []) in
+      subst (Keeps y) (get_or_append_left net.edges (e ∷ []) d k h) (s.keeps k d (omega arith)));
+}
+
+-- ---- after a change
+pub sound_risen : (caps : List ℕ) (links : List Link) (spots spots' : List Spot) (start : ℕ → ℕ) → length caps ≡ length spots → length spots' ≡ length spots → All (IsKnown (length spots)) (edges_of links) → AreNumbered links spots'
+    → Supported links spots' spots' → AreWithin caps (times_of spots') → All (Keeps (slice_index (times_of spots'))) (edges_of links)
+    → ((i : ℕ) → i < length spots → slice_index (lows_of spots') i ≤ slice_index (times_of spots') i)
+    → ((y : ℕ → ℕ) → IsSolution (net_of (lows_of spots') caps (edges_of links)) y → (i : ℕ) → i < length spots → slice_index (times_of spots') i ≤ y i)
+    → IsSound (record { spots = spots'; caps = caps; links = links })
+sound_risen caps links spots spots' start nc n known numbered sup within keeps above below =
+    let nl = lows_len spots' in
+    let nt = times_len spots' in
+    record {
+      caps = omega arith;
+      known = rw n known;
+      numbered = numbered;
+      supported = sup;
+      least = record {
+        solution = record {
+          above_low = λ i h. above i (omega arith);
+          below_cap = λ i h. within i (omega arith);
+          keeps = keeps;
+        };
+        least = λ y sol i h. below y sol i (omega arith);
+      };
+    }
+
+-- ---- one more point
+module _ (spots : List Spot) (caps : List ℕ) (links : List Link) (low cap : ℕ) (s : IsSound (record { spots = spots; caps = caps; links = links })) (fits : low ≤ cap) where
+  abbrev spot : Spot
+  spot = record { low = low; time = low; cause = 0 }
+
+  abbrev spots' : List Spot
+  spots' = spots ++ spot ∷ []
+
+  times_push : times_of spots' ≡ times_of spots ++ low ∷ []
+  times_push = map-append (λ (s : Spot). s.time) spots (spot ∷ [])
+
+  lows_push : lows_of spots' ≡ lows_of spots ++ low ∷ []
+  lows_push = map-append (λ (s : Spot). s.low) spots (spot ∷ [])
+
+  causes_push : causes_of (edges_of links) spots' ≡ causes_of (edges_of links) spots ++ None ∷ []
+  causes_push = map-append (λ (s : Spot). numbered (edges_of links) s.cause) spots (spot ∷ [])
+
+  supported_push : (lows times : List ℕ) (causes : List (Option Edge)) → length times ≡ length lows → length causes ≡ length lows → IsSupported lows (edges_of links) (slice_index times) (cause_of causes)
+      → IsSupported (lows ++ low ∷ []) (edges_of links) (slice_index (times ++ low ∷ [])) (cause_of (causes ++ None ∷ []))
+  supported_push lows times causes nt nc s =
+      let l = length-append lows (low ∷ []) in
+      record {
+        stamp = stamped s.stamp (length lows) 0;
+        next = s.next + 1;
+        early = λ v h. elim (cases_eq v (length lows)) [
+          | inl e ↦ (let a = ap (λ b. cond b 0 (s.stamp v)) (eq-eqb v (length lows) e) in omega arith)
+          | inr e ↦ (let a = ap (λ b. cond b 0 (s.stamp v)) (ne_eqb v (length lows) e) in let b = s.early v (omega arith) in omega arith)
+        ];
+        root = λ v h none. elim (cases_lt v (length lows)) [
+          | inl p ↦ get_or_append_left times (low ∷ []) 0 v (omega arith) ∙ s.root v p (sym (get_or_append_left causes (None ∷ []) None v (omega arith)) ∙ none) ∙ sym (get_or_append_left lows (low ∷ []) 0 v p)
+          | inr p ↦ get_or_at times low [] 0 v (omega arith) ∙ sym (get_or_at lows low [] 0 v (omega arith))
+        ];
+        caused = λ v d h some. elim (cases_lt v (length lows)) [
+          | inl p ↦ (
+              let c = s.caused v d p (sym (get_or_append_left causes (None ∷ []) None v (omega arith)) ∙ some) in
+              let f = c.from in
+              let a = get_or_append_left times (low ∷ []) 0 v (omega arith) in
+              let b = get_or_append_left times (low ∷ []) 0 d.from.0 (omega arith) in
+              let le = c.at_most in
+              let x = ap (λ b. cond b 0 (s.stamp v)) (ne_eqb v (length lows) (λ e. omega arith)) in
+              let y = ap (λ b. cond b 0 (s.stamp d.from.0)) (ne_eqb d.from.0 (length lows) (λ e. omega arith)) in
+              record { in_list = c.in_list; to = c.to; from = omega arith; at_most = omega (arith, ints); tie = λ e. (let t = c.tie (omega (arith, ints)) in omega arith) })
+          | inr p ↦ absurd (none-some d (sym (get_or_at causes None [] None v (omega arith)) ∙ some))
+        ];
+      }
+
+  pub least_pushed : IsLeast (net_of (lows_of spots') (caps ++ cap ∷ []) (edges_of links)) (slice_index (times_of spots'))
+  least_pushed =
+      let nl = lows_len spots in
+      let nt = times_len spots in
+      let nc = s.caps in
+      subst (λ (ls : List ℕ). IsLeast (net_of ls (caps ++ cap ∷ []) (edges_of links)) (slice_index (times_of spots'))) (sym lows_push)
+      (subst (λ (ts : List ℕ). IsLeast (net_of (lows_of spots ++ low ∷ []) (caps ++ cap ∷ []) (edges_of links)) (slice_index ts)) (sym times_push)
+      (point_least (lows_of spots) caps (times_of spots) (edges_of links) low cap (omega arith) (omega arith) fits (rw nl s.known) s.least))
+
+  pub sound_pushed : IsSound (record { spots = spots'; caps = caps ++ cap ∷ []; links = links })
+  sound_pushed =
+      let nl = lows_len spots in
+      let nt = times_len spots in
+      let ncs = causes_len links spots in
+      let nc = s.caps in
+      let l = length-append spots (spot ∷ []) in
+      let lc = length-append caps (cap ∷ []) in
+      record {
+        caps = omega arith;
+        known = λ k d h. (let a = s.known k d h in let f = a.from in let t = a.to in record { from = omega arith; to = omega arith; least = a.least; most = a.most });
+        numbered = All-push (λ (s : Spot). s.cause ≤ length links) spots spot s.numbered (omega arith);
+        supported =
+            subst (λ (ls : List ℕ). IsSupported ls (edges_of links) (slice_index (times_of spots')) (cause_of (causes_of (edges_of links) spots'))) (sym lows_push)
+            (subst (λ (ts : List ℕ). IsSupported (lows_of spots ++ low ∷ []) (edges_of links) (slice_index ts) (cause_of (causes_of (edges_of links) spots'))) (sym times_push)
+            (subst (λ (cs : List (Option Edge)). IsSupported (lows_of spots ++ low ∷ []) (edges_of links) (slice_index (times_of spots ++ low ∷ [])) (cause_of cs)) (sym causes_push)
+            (supported_push (lows_of spots) (times_of spots) (causes_of (edges_of links) spots) (omega arith) (omega arith) s.supported)));
+        least = least_pushed;
+      }

@@ -1,0 +1,51 @@
+use Rattle.std.proofs.Common.{arith, ◌≡◌, ◌∙◌, ◌<◌, Bool, false, true, ap, sym, length, subst, set}
+use Rattle.std.proofs.lemmas.List.{length-set, length-map, get_or_read}
+use Rattle.tp_stn_undo.specs.declared.spots.SavedSpot.{SavedSpot}
+use Rattle.tp_stn_undo.specs.Saved.{restored}
+use Rattle.tp_stn_undo.specs.Flags.{flag, points_in, Noted}
+use Rattle.tp_stn_undo.proofs.FlagFacts.{held_push, flagged-lt}
+use Rattle.tp_stn_undo.proofs.NoteFacts.{noted_first, noted_before, points_in-push}
+use Rattle.tp_stn_undo.proofs.changes.Changes.note.Goals as goal
+use Rattle.tp_stn_undo.proofs.changes.Changes.note.Goals.{After-index}
+
+known : (c : After-index) → c.args.point.0 < length c.self.inside.noted.items
+known c = let v = ap (λ (w : Noted). w.room) c.self.view_is in let r = c.requires in omega arith
+
+is : (c : After-index) (b : Bool) → c.index.result.now ≡ b → flag c.self.inside.noted.items c.args.point.0 ≡ b
+is c b e = sym (get_or_read c.self.inside.noted.items c.args.point.0 c.index.result.now (known c) c.index.ensures false) ∙ e
+
+pub invariant_of-self : goal.invariant_of-self
+invariant_of-self c =
+    let k = (goal.at.invariant_of-self c).After-index in
+    let a = c.self.inside in
+    let l = length-set a.noted.items c.args.point.0 true in
+    let n = c.self.invariant.room in
+    let cap = c.push_reserved.ensures.capacity in
+    let e : SavedSpot = record { point = c.args.point; spot = c.args.spot; older = 0 } in
+    record {
+      held = rw (c.push_reserved.ensures.items, points_in-push a.entries.items e) (held_push a.noted.items (points_in a.entries.items) c.args.point.0 (known k) (is k false c.if-not-index.true) c.self.invariant.held);
+      room = omega arith;
+    }
+
+pub push_reserved-requires : goal.push_reserved-requires
+push_reserved-requires c =
+    let k = (goal.at.push_reserved-requires c).After-index in
+    let a = c.self.inside in
+    let m = c.self.invariant.room in
+    let lt = flagged-lt a.noted.items c.args.point.0 (known k) (is k false c.if-not-index.true) in
+    let s = c.self.invariant.held.short in
+    let l = length-map a.entries.items (λ (s : SavedSpot). s.point.0) in
+    let ok = a.entries.ok.0 in
+    omega arith
+
+pub returns-then-not-index-clause-back : goal.returns-then-not-index-clause-back
+returns-then-not-index-clause-back c = λ spots x g.
+    let a = c.self.inside in
+    let e : SavedSpot = record { point = c.args.point; spot = c.args.spot; older = 0 } in
+    ap (λ (es : _). restored es (set spots c.args.point.0 x)) c.push_reserved.ensures.items ∙ noted_first a.entries.items e spots x g ∙ ap (λ (w : Noted). restored w.entries spots) c.self.view_is
+
+pub returns-else-not-index-clause-back : goal.returns-else-not-index-clause-back
+returns-else-not-index-clause-back c = λ spots x g.
+    let k = (goal.at.returns-else-not-index-clause-back c).After-index in
+    subst (λ (w : Noted). restored w.entries (set spots c.args.point.0 x) ≡ restored w.entries spots) c.self.view_is
+    (noted_before c.self.inside.entries.items c.args.point.0 spots x (c.self.invariant.held.held c.args.point.0 (is k true c.if-not-index.false)))

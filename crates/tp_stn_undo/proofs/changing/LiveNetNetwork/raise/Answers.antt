@@ -1,0 +1,217 @@
+use Rattle.std.proofs.Common.{arith, ◌≡◌, ℕ, ◌<◌, ◌≤◌, List, [], ◌++◌, length, ap, subst, sym, refl, ◌∙◌, slice_index, take, drop}
+use Rattle.std.proofs.lemmas.List.{get_or_read}
+use Rattle.std.specs.List.{All}
+use Rattle.tp_base.specs.Net.{HasNoSolution, with_low}
+use Rattle.tp_base.specs.Refute.{IsLateChain}
+use Rattle.tp_base.specs.Grows.{AreWithin}
+use Rattle.tp_base.specs.Kept.{net_of}
+use Rattle.tp_base.proofs.LeastFacts.{mut_items, raised_chain}
+use Rattle.tp_base.proofs.RisenFacts.{kept_refutes}
+use Rattle.tp_stn_undo.specs.declared.spots.Spot.{Spot}
+use Rattle.tp_stn_undo.specs.declared.spots.SavedSpot.{SavedSpot}
+use Rattle.tp_stn_undo.specs.Spots.{IsSound, net_of_core, lows_of, times_of, edges_of}
+use Rattle.tp_stn_undo.specs.Live.{core_in}
+use Rattle.tp_stn_undo.specs.Marks.{past_of, nets_of}
+use Rattle.tp_stn_undo.specs.Saved.{restored}
+use Rattle.tp_stn_undo.specs.Lifting.{Lifts}
+use Rattle.tp_stn_undo.specs.Spreading.{LeadsBack}
+use Rattle.tp_stn_undo.specs.LiveState.{LiveState}
+use Rattle.tp_stn_undo.proofs.RaiseFacts.{times_len, lows_len}
+use Rattle.tp_stn_undo.proofs.UndoFacts.{same_past}
+use Rattle.tp_stn_undo.proofs.SoundFacts.{within_of, kept_of}
+use Rattle.tp_stn_undo.proofs.ChangeFacts.{can_save, stack_of, live_of, sound_lift}
+use Rattle.tp_stn_undo.proofs.changing.LiveNetNetwork.raise.Goals as goal
+use Rattle.tp_stn_undo.proofs.changing.LiveNetNetwork.raise.Goals.{After-lift, After-clear-in-Ok}
+
+known : (c : After-lift) → c.args.point.0 < length c.self.inside.spots.items
+known c = let v = ap (λ (s : LiveState). length s.net.lows) c.self.view_is in let n = lows_len c.self.inside.spots.items in let k = c.requires.known in omega arith
+
+more : (c : After-lift) → slice_index (lows_of c.self.inside.spots.items) c.args.point.0 ≤ c.args.low
+more c = subst (λ (s : LiveState). slice_index s.net.lows c.args.point.0 ≤ c.args.low) (sym c.self.view_is) c.requires.more
+
+lifts : (c : After-lift) → Lifts c.self.inside.spots.items c.lift.new.spots c.args.point.0 c.args.low c.self.inside.working.waiting.flags c.lift.new.waiting.flags
+lifts c = rw c.deref_mut.ensures.value at c.lift.ensures.lifts
+
+lift_len : (c : After-lift) → length c.lift.new.spots ≡ c.self.inside.spots.len
+lift_len c = (lifts c).len ∙ sym c.self.inside.spots.ok.0
+
+lifted : (c : After-lift) → take c.self.inside.spots.len (c.lift.new.spots ++ drop (length c.lift.new.spots) c.self.inside.spots.items) ≡ c.lift.new.spots
+lifted c = mut_items c.self.inside.spots.len c.lift.new.spots c.self.inside.spots.items (lift_len c)
+
+pub returns-then-low-index-clause-refused : goal.returns-then-low-index-clause-refused
+returns-then-low-index-clause-refused c =
+    let a = c.self.inside in
+    let p = c.args.point.0 in
+    let n = c.self.invariant.sound.caps in
+    let v = ap (λ (s : LiveState). length s.net.lows) c.self.view_is in
+    let nl = lows_len a.spots.items in
+    let k = c.requires.known in
+    let i = get_or_read a.caps.items p c.index.result.now (omega arith) c.index.ensures 0 in
+    let h : slice_index a.caps.items p < c.args.low = omega arith in
+    let chain = raised_chain (net_of_core (core_in a)) p c.args.low (omega arith) h in
+    rw c.clear.ensures.items (subst (λ (s : LiveState). IsLateChain (with_low s.net p c.args.low) p []) c.self.view_is chain)
+
+pub spread-requires-clause-below : goal.spread-requires-clause-below
+spread-requires-clause-below c =
+    let k = (goal.at.spread-requires-clause-below c).After-lift in
+    let a = c.self.inside in
+    let inv = c.self.invariant in
+    let nc = inv.sound.caps in
+    let kn = known k in
+    let i = get_or_read a.caps.items c.args.point.0 c.index.result.now (omega arith) c.index.ensures 0 in
+    let fit = c.if-low-index.false in
+    let nt = times_len a.spots.items in
+    let n1 = times_len c.lift.new.spots in
+    let ll = (lifts k).len in
+    let within : AreWithin a.caps.items (times_of c.lift.new.spots) = λ j h. (lifts k).below (slice_index a.caps.items) (λ m g. within_of (core_in a) inv.sound m (omega arith)) (omega arith) j (omega arith) in
+    subst (λ (ss : List Spot). AreWithin c.deref.result.now (times_of ss)) (sym (c.deref_mut-2.ensures.value ∙ lifted k)) (subst (λ (cs : List ℕ). AreWithin cs (times_of c.lift.new.spots)) (sym c.deref.ensures.value) within)
+
+pub spread-requires-clause-numbered : goal.spread-requires-clause-numbered
+spread-requires-clause-numbered c =
+    let k = (goal.at.spread-requires-clause-numbered c).After-lift in
+    rw (c.deref_mut-2.ensures.value ∙ lifted k, c.deref-2.ensures.value) ((lifts k).numbered c.self.inside.links.items c.self.invariant.sound.numbered)
+
+pub spread-requires-clause-kept : goal.spread-requires-clause-kept
+spread-requires-clause-kept c =
+    let k = (goal.at.spread-requires-clause-kept c).After-lift in
+    let a = c.self.inside in
+    rw (c.deref_mut-2.ensures.value ∙ lifted k, c.deref-2.ensures.value) ((lifts k).kept (edges_of a.links.items) (kept_of (edges_of a.links.items) (slice_index (times_of a.spots.items)) a.working.waiting.flags c.self.invariant.sound.least.solution.keeps))
+
+pub save_all-requires-clause-ready : goal.save_all-requires-clause-ready
+save_all-requires-clause-ready c = rw (c.deref-in-Ok.ensures.value, c.deref_mut-in-Ok.ensures.value) (can_save c.self.inside c.self.invariant)
+
+back : (c : After-clear-in-Ok) → LeadsBack c.self.inside.links.items c.lift.new.spots c.spread.new.spots c.lift.new.changes.entries c.spread.new.working.changes.entries
+back c = rw (c.deref-2.ensures.value, c.deref_mut-2.ensures.value ∙ lifted (goal.at.invariant_of-self-in-Ok c).After-lift) at c.spread.ensures.back
+
+before : (c : After-lift) → restored c.lift.new.changes.entries c.lift.new.spots ≡ c.self.inside.spots.items
+before c = (rw c.deref_mut.ensures.value at c.lift.ensures.back) ∙ ap (λ (es : List SavedSpot). restored es c.self.inside.spots.items) c.self.invariant.rest.unchanged
+
+same_spots : (c : After-clear-in-Ok) → take c.self.inside.spots.len (c.spread.new.spots ++ drop (length c.spread.new.spots) (take c.self.inside.spots.len (c.lift.new.spots ++ drop (length c.lift.new.spots) c.self.inside.spots.items))) ≡ c.spread.new.spots
+same_spots c = mut_items c.self.inside.spots.len c.spread.new.spots _ ((back c).len ∙ lift_len (goal.at.invariant_of-self-in-Ok c).After-lift)
+
+sound : (c : After-clear-in-Ok) → IsSound (record { spots = c.spread.new.spots; caps = c.self.inside.caps.items; links = c.self.inside.links.items })
+sound c =
+    let k = (goal.at.invariant_of-self-in-Ok c).After-lift in
+    let a = c.self.inside in
+    sound_lift a.spots.items c.lift.new.spots c.spread.new.spots a.caps.items a.links.items c.args.point.0 c.args.low a.working.waiting.flags c.lift.new.waiting.flags c.lift.new.changes.entries c.spread.new.working.changes.entries c.self.invariant.sound (known k) (more k) (lifts k) (back c)
+    (rw (c.deref-2.ensures.value, c.deref_mut-2.ensures.value ∙ lifted k) at c.in-Ok.ensures.rises)
+    (rw c.deref.ensures.value at c.spread.ensures.below)
+    (rw c.deref-2.ensures.value at c.in-Ok.ensures.kept)
+
+past_is : (c : After-clear-in-Ok) → past_of c.self.inside.marks.items c.save_all.new.saved.items c.spread.new.spots c.self.inside.caps.items c.self.inside.links.items ≡ past_of c.self.inside.marks.items c.self.inside.saved.items c.self.inside.spots.items c.self.inside.caps.items c.self.inside.links.items
+past_is c =
+    let k = (goal.at.invariant_of-self-in-Ok c).After-lift in
+    let a = c.self.inside in
+    let inv = c.self.invariant in
+    let b = back c in
+    let past = rw (c.deref-in-Ok.ensures.value, c.deref_mut-in-Ok.ensures.value, c.as_slice.ensures) at c.save_all.ensures.past in
+    past c.spread.new.spots a.caps.items a.links.items a.point_room (b.len ∙ (lifts k).len ∙ sym inv.kept.len) (stack_of a inv (length a.links.items) (omega arith))
+    ∙ ap (λ (ss : List Spot). past_of a.marks.items a.saved.items ss a.caps.items a.links.items) (b.back ∙ before k)
+
+pub invariant_of-self-in-Ok : goal.invariant_of-self-in-Ok
+invariant_of-self-in-Ok c =
+    let k = (goal.at.invariant_of-self-in-Ok c).After-lift in
+    let a = c.self.inside in
+    let inv = c.self.invariant in
+    let bl = (back c).len ∙ (lifts k).len in
+    let stack = rw (c.deref-in-Ok.ensures.value, c.deref_mut-in-Ok.ensures.value) at c.save_all.ensures.stack in
+    let nn = c.save_all.auto.newest ∙ ap length c.deref_mut-in-Ok.ensures.value in
+    let p = inv.points in
+    let cap2 = c.spread.ensures.sizes.path in
+    let r2 = inv.room.working.path in
+    let cap3 = c.save_all.ensures.capacity in
+    let r3 = inv.room.saved in
+    let w0 = c.lift.ensures.waits in
+    let w1 = c.spread.ensures.sizes.waits in
+    let w2 = inv.room.working.waits in
+    let m0 = c.lift.ensures.room in
+    let m1 = c.spread.ensures.sizes.noted in
+    let m2 = c.clear-in-Ok.ensures.room in
+    let m3 = inv.room.working.noted in
+    let pl = inv.room.working.places in
+    let np = c.spread.ensures.sizes.places in
+    live_of _ c.spread.new.spots a.links.items a.heads.items c.save_all.new.newest c.save_all.new.saved.items
+    (same_spots c) refl refl
+    (mut_items a.newest.len c.save_all.new.newest a.newest.items (nn ∙ sym a.newest.ok.0))
+    refl
+    (omega arith) inv.edges inv.marks
+    (record {
+      spots = inv.room.spots;
+      caps = inv.room.caps;
+      links = inv.room.links;
+      heads = inv.room.heads;
+      working = record { waits = omega arith; noted = omega arith; path = omega arith; places = omega arith };
+      saved = omega arith;
+      newest = inv.room.newest;
+      marks = inv.room.marks;
+      small = inv.room.small;
+      narrow = inv.room.narrow;
+    })
+    (record {
+      idle = c.in-Ok.ensures.idle;
+      none = c.in-Ok.ensures.none;
+      unchanged = c.clear-in-Ok.ensures.entries;
+      zeros = c.spread.ensures.zeros;
+    })
+    (stack (length a.links.items) a.point_room (stack_of a inv (length a.links.items) (omega arith)))
+    (nn ∙ inv.kept.len ∙ sym bl) (rw bl inv.linked) (sound c) (subst (All IsSound) (sym (past_is c)) inv.past)
+
+pub returns-in-Ok-clause-solved : goal.returns-in-Ok-clause-solved
+returns-in-Ok-clause-solved c = (_, (invariant_of-self-in-Ok c).sound.least)
+
+pub returns-in-Ok-clause-past : goal.returns-in-Ok-clause-past
+returns-in-Ok-clause-past c = ap nets_of (same_past _ _ _ _ _ _ _ _ _ _ refl refl (same_spots c) refl refl ∙ past_is c) ∙ ap (λ (s : LiveState). s.past) c.self.view_is
+
+pub invariant_of-self-in-Err : goal.invariant_of-self-in-Err
+invariant_of-self-in-Err c =
+    let k = (goal.at.invariant_of-self-in-Err c).After-lift in
+    let a = c.self.inside in
+    let inv = c.self.invariant in
+    let b : LeadsBack a.links.items c.lift.new.spots c.spread.new.spots c.lift.new.changes.entries c.spread.new.working.changes.entries = rw (c.deref-2.ensures.value, c.deref_mut-2.ensures.value ∙ lifted k) at c.spread.ensures.back in
+    let v = c.deref_mut-in-Err.ensures.value ∙ mut_items a.spots.len c.spread.new.spots _ (b.len ∙ lift_len k) in
+    let again : take c.self.inside.spots.len (c.put_back.new.spots ++ drop (length c.put_back.new.spots) (take c.self.inside.spots.len (c.spread.new.spots ++ drop (length c.spread.new.spots) (take c.self.inside.spots.len (c.lift.new.spots ++ drop (length c.lift.new.spots) c.self.inside.spots.items))))) ≡ c.self.inside.spots.items =
+    mut_items a.spots.len c.put_back.new.spots _ (c.put_back.auto.spots ∙ ap length v ∙ b.len ∙ lift_len k)
+    ∙ c.put_back.ensures.spots ∙ ap (restored c.spread.new.working.changes.entries) v ∙ b.back ∙ before k in
+    let cap2 = c.spread.ensures.sizes.path in
+    let r2 = inv.room.working.path in
+    let w = c.clear-in-Err.ensures.len in
+    let w0 = c.lift.ensures.waits in
+    let w1 = c.spread.ensures.sizes.waits in
+    let w2 = inv.room.working.waits in
+    let m0 = c.lift.ensures.room in
+    let m1 = c.spread.ensures.sizes.noted in
+    let m2 = c.put_back.ensures.room in
+    let m3 = inv.room.working.noted in
+    let pl = inv.room.working.places in
+    let np = c.spread.ensures.sizes.places in
+    live_of _ a.spots.items a.links.items a.heads.items a.newest.items a.saved.items
+    again refl refl refl refl
+    inv.points inv.edges inv.marks
+    (record {
+      spots = inv.room.spots;
+      caps = inv.room.caps;
+      links = inv.room.links;
+      heads = inv.room.heads;
+      working = record { waits = omega arith; noted = omega arith; path = omega arith; places = omega arith };
+      saved = inv.room.saved;
+      newest = inv.room.newest;
+      marks = inv.room.marks;
+      small = inv.room.small;
+      narrow = inv.room.narrow;
+    })
+    (record {
+      idle = c.clear-in-Err.ensures.idle;
+      none = c.clear-in-Err.ensures.none;
+      unchanged = c.put_back.ensures.entries;
+      zeros = c.spread.ensures.zeros;
+    })
+    (stack_of a inv (length a.links.items) (omega arith)) inv.kept.len inv.linked inv.sound inv.past
+
+pub returns-in-Err-clause-late : goal.returns-in-Err-clause-late
+returns-in-Err-clause-late c =
+    let k = (goal.at.returns-in-Err-clause-late c).After-lift in
+    let a = c.self.inside in
+    let r = rw (c.deref-2.ensures.value, c.deref.ensures.value, c.deref_mut-2.ensures.value ∙ lifted k) at c.in-Err.ensures.refuted in
+    let none : HasNoSolution (net_of (lows_of c.lift.new.spots) a.caps.items (edges_of a.links.items)) = kept_refutes _ c.in-Err.kept c.spread.new.working.path.items r in
+    subst (λ (s : LiveState). HasNoSolution (with_low s.net c.args.point.0 c.args.low)) c.self.view_is
+    (subst (λ (ls : List ℕ). HasNoSolution (net_of ls a.caps.items (edges_of a.links.items))) (lifts k).lows none)

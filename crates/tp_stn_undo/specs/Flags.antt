@@ -1,0 +1,40 @@
+-- Points with a flag each, and lists that hold the flagged ones.
+use Rattle.std.specs.Prelude.{◌≡◌, ℕ, ◌+◌, ◌<◌, ◌≤◌, Bool, true, false, List, [], ◌∷◌, length, slice_index_or, if◌then◌else◌, map}
+use Rattle.std.specs.List.{All, Contains}
+use Rattle.tp_stn_undo.specs.declared.spots.SavedSpot.{SavedSpot}
+
+abbrev pub flag : List Bool → ℕ → Bool
+flag flags v = slice_index_or flags v false
+
+-- how many are flagged
+abbrev pub flagged : List Bool → ℕ
+flagged [] = 0
+flagged (b ∷ bs) = (if b then 1 else 0) + flagged bs
+
+-- each flagged number is in the list, and no more are there than are flagged
+pub record AreHeld (flags : List Bool) (ps : List ℕ) : Type 0 where
+  pub held : (v : ℕ) → flag flags v ≡ true → Contains ps v
+  pub short : length ps ≤ flagged flags
+  pub known : All (λ p. p < length flags) ps
+
+abbrev pub points_in : List SavedSpot → List ℕ
+points_in entries = map (λ (s : SavedSpot). s.point.0) entries
+
+-- what can be seen of points that wait: which wait, and the list of them
+pub record Waits : Type 0 where
+  pub flags : List Bool
+  pub points : List ℕ
+
+abbrev pub AreBelow : ℕ → List ℕ → Type 0
+AreBelow count ps = All (λ p. p < count) ps
+
+-- what can be seen of the points of a change: what they were, and how many points there can be
+pub record Noted : Type 0 where
+  pub entries : List SavedSpot
+  pub room : ℕ
+
+abbrev pub AreIdle : List Bool → Type 0
+AreIdle flags = (v : ℕ) → flag flags v ≡ false
+
+abbrev pub AreKnown : ℕ → List SavedSpot → Type 0
+AreKnown count entries = All (λ (s : SavedSpot). s.point.0 < count) entries

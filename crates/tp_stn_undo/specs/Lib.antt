@@ -1,0 +1,14 @@
+pub mod Spots
+pub mod Saved
+pub mod Marks
+pub mod Stacks
+pub mod LiveState
+pub mod Flags
+pub mod Waits
+pub mod Notes
+pub mod Spreading
+pub mod Tracing
+pub mod Lifting
+pub mod Chains
+pub mod Working
+pub mod Live

@@ -1,0 +1,46 @@
+-- What following edges does to points.
+use Rattle.std.specs.Prelude.{◌≡◌, ℕ, ◌+◌, ◌*◌, ◌≤◌, Bool, false, List, length, slice_get, Some, pos, ◌+ℤ◌, ◌<ℤ◌}
+use Rattle.std.specs.List.{All}
+use Rattle.tp_base.specs.declared.edges.Edge.{Edge}
+use Rattle.tp_base.specs.Net.{Keeps}
+use Rattle.tp_base.specs.Grows.{Rises, slack}
+use Rattle.tp_stn_undo.specs.declared.spots.Spot.{Spot}
+use Rattle.tp_stn_undo.specs.declared.links.Link.{Link}
+use Rattle.tp_stn_undo.specs.declared.spots.SavedSpot.{SavedSpot}
+use Rattle.tp_stn_undo.specs.Spots.{lows_of, times_of, edges_of, causes_of, numbered}
+use Rattle.tp_stn_undo.specs.Saved.{restored}
+use Rattle.tp_stn_undo.specs.Flags.{flag, AreKnown, Waits}
+
+abbrev pub AreNumbered : List Link → List Spot → Type 0
+AreNumbered links spots = All (λ (s : Spot). s.cause ≤ length links) spots
+
+-- the edge with the number asks for more than the time of its end
+abbrev pub AsksMore : List Edge → ℕ → (ℕ → ℕ) → Type 0
+AsksMore edges number t = (e : Edge) → numbered edges number ≡ Some e → pos (t e.to.0) <ℤ (pos (t e.from.0) +ℤ e.weight)
+
+-- the points have risen along edges
+abbrev pub SpotsRise : List Link → List Spot → List Spot → Type 0
+SpotsRise links spots spots' = Rises (edges_of links) (times_of spots) (causes_of (edges_of links) spots) (times_of spots') (causes_of (edges_of links) spots')
+
+-- what was noted leads from the later points back to what the earlier ones lead to; and nothing else changed
+pub record LeadsBack (links : List Link) (spots spots' : List Spot) (noted noted' : List SavedSpot) : Type 0 where
+  pub back : restored noted' spots' ≡ restored noted spots
+  pub known : AreKnown (length spots) noted → AreKnown (length spots) noted'
+  pub lows : lows_of spots' ≡ lows_of spots
+  pub numbered : AreNumbered links spots → AreNumbered links spots'
+  pub len : length spots' ≡ length spots
+
+-- all edges are kept but those from points that wait, and those from one point before a place in the list
+abbrev pub KeptFrom : List Edge → (ℕ → ℕ) → List Bool → ℕ → ℕ → Type 0
+KeptFrom edges t flags point left = (k : ℕ) (e : Edge) → slice_get edges k ≡ Some e → flag flags e.from.0 ≡ false → (e.from.0 ≡ point → left ≤ k) → Keeps t e
+
+-- one edge is kept, or its point waits
+abbrev pub IsMet : List Edge → (ℕ → ℕ) → List Bool → ℕ → Type 0
+IsMet edges t flags k = (e : Edge) → slice_get edges k ≡ Some e → flag flags e.from.0 ≡ false → Keeps t e
+
+abbrev pub AreKept : List Edge → (ℕ → ℕ) → List Bool → Type 0
+AreKept edges t flags = (k : ℕ) (e : Edge) → slice_get edges k ≡ Some e → flag flags e.from.0 ≡ false → Keeps t e
+
+-- what gets less with each point that is taken
+abbrev pub weight : List ℕ → List Spot → Waits → ℕ
+weight caps spots w = slack caps (times_of spots) * (length w.flags + 1) + length w.points

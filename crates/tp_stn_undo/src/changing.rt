@@ -1,0 +1,166 @@
+//! The live network as a network.
+use crate::lifting::lift;
+use crate::links::Link;
+use crate::live::LiveNet;
+use crate::saving::save_all;
+use crate::spots::Spot;
+use crate::spreading::{settle, spread};
+use tp_base::{Edge, Full, Kept, Late, Network, PointId, Proof, Tick};
+
+impl Network for LiveNet {
+    ghost use Rattle.std.specs.Prelude.{ℕ, List, ◌≡◌};
+    ghost use Rattle.std.proofs.Common.{ap};
+    ghost use Rattle.tp_base.specs.Net.{Net};
+    ghost use Rattle.tp_base.specs.Kept.{KeptRefutes};
+    ghost use Rattle.tp_stn_undo.specs.LiveState.{LiveState, LiveAside, refutes_by};
+
+    ghost net = { λ n. n.net };
+
+    ghost refutes = { λ n late. KeptRefutes late n.kept n.path };
+
+    ghost point_room = { λ n. n.point_room };
+
+    ghost edge_room = { λ n. n.edge_room };
+
+    ghost net_by_content = { λ a b e. e };
+
+    ghost refutes_by_aside = { refutes_by };
+
+    ghost points_by_aside = { λ a b e. ap (λ (x : LiveAside). x.points) e };
+
+    ghost edges_by_aside = { λ a b e. ap (λ (x : LiveAside). x.edges) e };
+
+    fn clear(&mut self) {
+        self.spots.clear();
+        self.caps.clear();
+        self.links.clear();
+        self.heads.clear();
+        self.saved.clear();
+        self.newest.clear();
+        self.marks.clear();
+    }
+
+    fn point(&mut self, low: Tick, cap: Tick) -> Result<PointId, Full> {
+        if self.spots.len() == self.point_room as usize {
+            return Err(Full);
+        }
+        let number = self.spots.len() as u32;
+        let Ok(()) = self.spots.push(Spot {
+            low,
+            time: low,
+            cause: 0,
+        })
+        else {
+            unreachable!()
+        };
+        let Ok(()) = self.caps.push(cap) else {
+            unreachable!()
+        };
+        let Ok(()) = self.heads.push(0) else {
+            unreachable!()
+        };
+        let Ok(()) = self.newest.push(0) else {
+            unreachable!()
+        };
+        Ok(PointId(number))
+    }
+
+    fn spare_edges(&self) -> u32 {
+        self.edge_room - self.links.len() as u32
+    }
+
+    fn require(&mut self, edge: Edge) -> Result<(), Late> {
+        let from = edge.from.0 as usize;
+        let older = self.heads[from];
+        let Ok(()) = self.links.push(Link { edge, older }) else {
+            unreachable!()
+        };
+        let number = self.links.len() as u32;
+        self.heads[from] = number;
+        match settle(
+            &self.caps,
+            &self.links,
+            &self.heads,
+            number,
+            &mut self.spots,
+            &mut self.working,
+        ) {
+            Ok(()) => {
+                save_all(
+                    &mut self.saved,
+                    &mut self.newest,
+                    &self.marks,
+                    self.working.changes.as_slice(),
+                );
+                self.working.changes.clear();
+                Ok(())
+            }
+            Err(kept) => {
+                self.working.waiting.clear();
+                self.working.changes.put_back(&mut self.spots);
+                self.heads[from] = older;
+                self.links.truncate(number as usize - 1);
+                self.kept = kept;
+                Err(Late)
+            }
+        }
+    }
+
+    fn raise(&mut self, point: PointId, low: Tick) -> Result<(), Late> {
+        let at = point.0 as usize;
+        if low > self.caps[at] {
+            self.working.path.clear();
+            self.kept = Kept::Chain(point);
+            return Err(Late);
+        }
+        lift(
+            point,
+            low,
+            &mut self.spots,
+            &mut self.working.waiting,
+            &mut self.working.changes,
+        );
+        match spread(
+            &self.caps,
+            &self.links,
+            &self.heads,
+            point,
+            &mut self.spots,
+            &mut self.working,
+        ) {
+            Ok(()) => {
+                save_all(
+                    &mut self.saved,
+                    &mut self.newest,
+                    &self.marks,
+                    self.working.changes.as_slice(),
+                );
+                self.working.changes.clear();
+                Ok(())
+            }
+            Err(kept) => {
+                self.working.waiting.clear();
+                self.working.changes.put_back(&mut self.spots);
+                self.kept = kept;
+                Err(Late)
+            }
+        }
+    }
+
+    fn earliest(&self, point: PointId) -> Tick {
+        self.spots[point.0 as usize].time
+    }
+
+    fn proof(&self) -> Proof<'_> {
+        match self.kept {
+            Kept::Nothing => unreachable!(),
+            Kept::Chain(first) => Proof::Chain {
+                first,
+                edges: &self.working.path,
+            },
+            Kept::Circle => Proof::Circle {
+                edges: &self.working.path,
+            },
+        }
+    }
+}

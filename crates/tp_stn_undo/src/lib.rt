@@ -1,0 +1,19 @@
+//! The live network: it keeps its least solution by a worklist, with a cause for each point.
+#![tactic(auto)]
+
+mod changes;
+mod changing;
+mod lifting;
+mod linking;
+mod links;
+mod live;
+mod marks;
+mod saving;
+mod spots;
+mod spreading;
+mod tracing;
+mod undoing;
+mod waiting;
+mod working;
+
+pub use live::LiveNet;

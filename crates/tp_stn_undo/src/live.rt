@@ -1,0 +1,94 @@
+//! The live network.
+ghost use Rattle.std.specs.Prelude.{◌≡◌, ◌<◌, ◌↔◌, [], length, IfOk, OnErr, IsErr};
+ghost use Rattle.tp_base.specs.Net.{empty_net};
+ghost use Rattle.tp_base.specs.Refute.{IsCauseChain};
+ghost use Rattle.tp_stn_undo.specs.Chains.{IsSupport, HasMoreCauses};
+
+use crate::links::Link;
+use crate::marks::LiveMark;
+use crate::spots::{SavedSpot, Spot};
+use crate::tracing::write_causes;
+use crate::working::Working;
+use std::alloc::{AllocError, Global};
+use std::marker::Model;
+use tp_base::{Edge, Full, Kept, Memory, PointId, Trail};
+
+/// A network that keeps its least solution by a worklist: a change takes time for the points that rise, and for their edges.
+/// For each point it keeps the edge that it was raised along last, and of these it makes the proof of a refusal. A mark
+/// saves each point at most once, when it changes for the first time after the mark.
+#[derive(Drop)]
+pub struct LiveNet {
+    pub(crate) point_room: u32,
+    pub(crate) edge_room: u32,
+    pub(crate) mark_room: u32,
+    pub(crate) spots: Vec<Spot>,
+    pub(crate) caps: Vec<u32>,
+    pub(crate) links: Vec<Link>,
+    /// For each point the number of the newest edge that begins there, counted from 1, or 0.
+    pub(crate) heads: Vec<u32>,
+    pub(crate) working: Working,
+    pub(crate) kept: Kept,
+    pub(crate) saved: Vec<SavedSpot>,
+    /// For each point where the last one that was saved stands, counted from 1, or 0.
+    pub(crate) newest: Vec<u32>,
+    pub(crate) marks: Vec<LiveMark>,
+}
+
+// Clauses see the net, the nets at the marks in force, and what the network was made for.
+impl Model for LiveNet {
+    ghost use Rattle.tp_stn_undo.specs.LiveState.{LiveState};
+
+    ghost Value = { LiveState };
+
+    ghost use Rattle.tp_stn_undo.specs.Live.{state_of, IsLive};
+
+    ghost view = { state_of };
+
+    ghost invariant = { IsLive };
+}
+
+impl LiveNet {
+    /// Takes all the memory that the network will ever hold.
+    pub fn new(alloc: Global, points: u32, edges: u32, marks: u32) -> Result<LiveNet, Memory>
+        ensures net { IfOk result (λ n. n.net ≡ empty_net) }
+        ensures past { IfOk result (λ n. n.past ≡ []) }
+        ensures points { IfOk result (λ n. n.point_room ≡ points) }
+        ensures edges { IfOk result (λ n. n.edge_room ≡ edges) }
+        ensures marks { IfOk result (λ n. n.mark_room ≡ marks) }
+    {
+        let room = points as usize;
+        let saves = room * marks as usize;
+        if saves > u32::MAX as usize {
+            return Err(Memory);
+        }
+        Ok(LiveNet {
+            point_room: points,
+            edge_room: edges,
+            mark_room: marks,
+            spots: Vec::with_capacity(alloc, room)?,
+            caps: Vec::with_capacity(alloc, room)?,
+            links: Vec::with_capacity(alloc, edges as usize)?,
+            heads: Vec::with_capacity(alloc, room)?,
+            working: Working::new(alloc, room)?,
+            kept: Kept::Nothing,
+            saved: Vec::with_capacity(alloc, saves)?,
+            newest: Vec::with_capacity(alloc, room)?,
+            marks: Vec::with_capacity(alloc, marks as usize)?,
+        })
+    }
+    /// Why a point is no earlier: the edges that support its time, one after another, and the point whose lower bound they
+    /// start from.
+    pub fn chain_of(&self, point: PointId, into: &mut Trail<Edge>) -> Result<PointId, Full>
+        requires known { point.0 < length self.now.net.lows }
+        requires empty { into.old.items ≡ [] }
+        ensures support { IfOk result (λ first.
+            IsSupport self.now.net first.0 into.new.items point.0) }
+        ensures causes { IfOk result (λ first.
+            IsCauseChain self.now.causes first.0 into.new.items point.0) }
+        ensures full { IsErr result ↔ HasMoreCauses self.now.causes point.0 into.old.room }
+        ensures none { OnErr result (into.new.items ≡ []) }
+        ensures room { into.new.room ≡ into.old.room }
+    {
+        write_causes(&self.spots, &self.links, point, into)
+    }
+}

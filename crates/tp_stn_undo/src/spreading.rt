@@ -1,0 +1,258 @@
+//! Following edges until all are kept.
+ghost use Rattle.std.specs.Prelude.{◌≡◌, ℕ, ◌-◌, ◌<◌, ◌≤◌, ◌^◌, List, [], length, take, slice_index, OnOk, IfErr};
+ghost use Rattle.std.specs.List.{All};
+ghost use Rattle.tp_base.specs.declared.edges.Edge.{Edge};
+ghost use Rattle.tp_base.specs.Net.{Keeps};
+ghost use Rattle.tp_base.specs.Grows.{IsKnown, IsSupported, PassesCap, AreWithin, cause_of};
+ghost use Rattle.tp_base.specs.Kept.{net_of, KeptRefutes};
+ghost use Rattle.tp_stn_undo.specs.Spots.{lows_of, times_of, edges_of, causes_of};
+ghost use Rattle.tp_stn_undo.specs.Marks.{AreLinks};
+ghost use Rattle.tp_stn_undo.specs.Flags.{AreIdle, AreBelow};
+ghost use Rattle.tp_stn_undo.specs.Spreading.{AreNumbered, AsksMore, SpotsRise, LeadsBack, KeptFrom, IsMet, AreKept, weight};
+ghost use Rattle.tp_stn_undo.specs.Tracing.{AreZeros};
+ghost use Rattle.tp_stn_undo.specs.Working.{HasWorkingRoom, KeepsSizes};
+
+use crate::changes::Changes;
+use crate::links::Link;
+use crate::spots::Spot;
+use crate::tracing::trace_causes;
+use crate::waiting::Waiting;
+use crate::working::Working;
+use tp_base::{Kept, PointId};
+
+/// Raises the end of an edge, given by its number counted from 1, to what the edge asks for, which is more; or, where that
+/// passes the upper bound, says which point that is.
+fn raise_along(
+    caps: &[u32],
+    links: &[Link],
+    number: u32,
+    spots: &mut [Spot],
+    waiting: &mut Waiting,
+    changes: &mut Changes,
+) -> Result<(), PointId>
+    requires some { 0 < number }
+    requires number { number ≤ length links.now }
+    requires known { All (IsKnown (length spots.old)) (edges_of links.now) }
+    requires more { AsksMore (edges_of links.now) number (slice_index (times_of spots.old)) }
+    requires caps { length caps.now ≡ length spots.old }
+    requires below { AreWithin caps.now (times_of spots.old) }
+    requires waits { length spots.old ≤ length waiting.old.flags }
+    requires room { length spots.old ≤ changes.old.room }
+    ensures back { LeadsBack links.now spots.old spots.new changes.old.entries changes.new.entries }
+    ensures rises { OnOk result (SpotsRise links.now spots.old spots.new) }
+    ensures below { AreWithin caps.now (times_of spots.new) }
+    ensures waits { length waiting.new.flags ≡ length waiting.old.flags }
+    ensures known { AreBelow (length spots.old) waiting.old.points
+        → AreBelow (length spots.old) waiting.new.points }
+    ensures room { changes.new.room ≡ changes.old.room }
+    ensures kept { OnOk result ((edges : List Edge) (point left : ℕ)
+        → KeptFrom edges (slice_index (times_of spots.old)) waiting.old.flags point left
+        → KeptFrom edges (slice_index (times_of spots.new)) waiting.new.flags point left) }
+    ensures met { OnOk result (IsMet (edges_of links.now) (slice_index (times_of spots.new))
+        waiting.new.flags (number - 1)) }
+    ensures less { OnOk result
+        (weight caps.now spots.new waiting.new ≤ weight caps.now spots.old waiting.old) }
+    ensures late { IfErr result (λ p. PassesCap caps.now (edges_of links.now) (times_of spots.old)
+        (causes_of (edges_of links.now) spots.old) (causes_of (edges_of links.now) spots.new) p.0) }
+{
+    let edge = links[number as usize - 1].edge;
+    let to = edge.to.0 as usize;
+    let reach = i64::from(spots[edge.from.0 as usize].time) + edge.weight;
+    let spot = spots[to];
+    changes.note(edge.to, spot);
+    if reach > i64::from(caps[to]) {
+        spots[to] = Spot {
+            low: spot.low,
+            time: spot.time,
+            cause: number,
+        };
+        return Err(edge.to);
+    }
+    spots[to] = Spot {
+        low: spot.low,
+        time: reach as u32,
+        cause: number,
+    };
+    waiting.push(edge.to.0);
+    Ok(())
+}
+
+/// Follows an edge that asks for more, given by its number counted from 1. Where a point has to pass its upper bound, or the
+/// watched point rises and the causes lead round, writes what shows that there is no solution.
+pub(crate) fn follow(
+    caps: &[u32],
+    links: &[Link],
+    number: u32,
+    watched: PointId,
+    spots: &mut [Spot],
+    working: &mut Working,
+) -> Result<(), Kept>
+    requires some { 0 < number }
+    requires number { number ≤ length links.now }
+    requires watched { watched.0 < length spots.old }
+    requires known { All (IsKnown (length spots.old)) (edges_of links.now) }
+    requires more { AsksMore (edges_of links.now) number (slice_index (times_of spots.old)) }
+    requires caps { length caps.now ≡ length spots.old }
+    requires below { AreWithin caps.now (times_of spots.old) }
+    requires supported { IsSupported (lows_of spots.old) (edges_of links.now)
+        (slice_index (times_of spots.old)) (cause_of (causes_of (edges_of links.now) spots.old)) }
+    requires numbered { AreNumbered links.now spots.old }
+    requires small { length spots.old < 2 ^ 32 }
+    requires room { HasWorkingRoom (length spots.old) working.old }
+    requires zeros { AreZeros working.old.places.items }
+    ensures back { LeadsBack links.now spots.old spots.new
+        working.old.changes.entries working.new.changes.entries }
+    ensures rises { OnOk result (SpotsRise links.now spots.old spots.new) }
+    ensures below { AreWithin caps.now (times_of spots.new) }
+    ensures known { AreBelow (length spots.old) working.old.waiting.points
+        → AreBelow (length spots.old) working.new.waiting.points }
+    ensures kept { OnOk result ((edges : List Edge) (point left : ℕ)
+        → KeptFrom edges (slice_index (times_of spots.old)) working.old.waiting.flags point left
+        → KeptFrom edges (slice_index (times_of spots.new)) working.new.waiting.flags point left) }
+    ensures met { OnOk result (IsMet (edges_of links.now) (slice_index (times_of spots.new))
+        working.new.waiting.flags (number - 1)) }
+    ensures less { OnOk result (weight caps.now spots.new working.new.waiting
+        ≤ weight caps.now spots.old working.old.waiting) }
+    ensures refuted { IfErr result (λ kept. KeptRefutes
+        (net_of (lows_of spots.old) caps.now (edges_of links.now)) kept working.new.path.items) }
+    ensures sizes { KeepsSizes working.old working.new }
+    ensures zeros { AreZeros working.new.places.items }
+{
+    match raise_along(
+        caps,
+        links,
+        number,
+        spots,
+        &mut working.waiting,
+        &mut working.changes,
+    ) {
+        Ok(()) => {
+            if links[number as usize - 1].edge.to.0 == watched.0 {
+                if trace_causes(
+                    spots,
+                    links,
+                    watched,
+                    &mut working.path,
+                    &mut working.places,
+                )
+                .is_none()
+                {
+                    return Err(Kept::Circle);
+                }
+            }
+            Ok(())
+        }
+        Err(point) => match trace_causes(
+            spots,
+            links,
+            point,
+            &mut working.path,
+            &mut working.places,
+        ) {
+            Some(first) => Err(Kept::Chain(first)),
+            None => Err(Kept::Circle),
+        },
+    }
+}
+
+/// Follows the edges of the points that wait, until none waits.
+pub(crate) fn spread(
+    caps: &[u32],
+    links: &[Link],
+    heads: &[u32],
+    watched: PointId,
+    spots: &mut [Spot],
+    working: &mut Working,
+) -> Result<(), Kept>
+    requires heads { AreLinks links.now heads.now (length spots.old) }
+    requires watched { watched.0 < length spots.old }
+    requires known { All (IsKnown (length spots.old)) (edges_of links.now) }
+    requires caps { length caps.now ≡ length spots.old }
+    requires below { AreWithin caps.now (times_of spots.old) }
+    requires supported { IsSupported (lows_of spots.old) (edges_of links.now)
+        (slice_index (times_of spots.old)) (cause_of (causes_of (edges_of links.now) spots.old)) }
+    requires numbered { AreNumbered links.now spots.old }
+    requires small { length spots.old < 2 ^ 32 }
+    requires room { HasWorkingRoom (length spots.old) working.old }
+    requires zeros { AreZeros working.old.places.items }
+    requires waiting { AreBelow (length spots.old) working.old.waiting.points }
+    requires kept { AreKept (edges_of links.now) (slice_index (times_of spots.old))
+        working.old.waiting.flags }
+    ensures back { LeadsBack links.now spots.old spots.new
+        working.old.changes.entries working.new.changes.entries }
+    ensures rises { OnOk result (SpotsRise links.now spots.old spots.new) }
+    ensures below { AreWithin caps.now (times_of spots.new) }
+    ensures kept { OnOk result
+        (All (Keeps (slice_index (times_of spots.new))) (edges_of links.now)) }
+    ensures idle { OnOk result (AreIdle working.new.waiting.flags) }
+    ensures none { OnOk result (working.new.waiting.points ≡ []) }
+    ensures refuted { IfErr result (λ kept. KeptRefutes
+        (net_of (lows_of spots.old) caps.now (edges_of links.now)) kept working.new.path.items) }
+    ensures sizes { KeepsSizes working.old working.new }
+    ensures zeros { AreZeros working.new.places.items }
+{
+    'points: while let Some(point) = working.waiting.pop() {
+        let mut left = heads[point as usize];
+        'edges: while left > 0 {
+            let link = links[left as usize - 1];
+            let reach = i64::from(spots[link.edge.from.0 as usize].time) + link.edge.weight;
+            if reach > i64::from(spots[link.edge.to.0 as usize].time) {
+                match follow(caps, links, left, watched, spots, working) {
+                    Ok(()) => {}
+                    Err(kept) => return Err(kept),
+                }
+            }
+            left = link.older;
+        }
+    }
+    Ok(())
+}
+
+/// Follows the newest edge, if it asks for more, and the edges of the points that rise.
+pub(crate) fn settle(
+    caps: &[u32],
+    links: &[Link],
+    heads: &[u32],
+    number: u32,
+    spots: &mut [Spot],
+    working: &mut Working,
+) -> Result<(), Kept>
+    requires heads { AreLinks links.now heads.now (length spots.old) }
+    requires some { 0 < number }
+    requires newest { number ≡ length links.now }
+    requires known { All (IsKnown (length spots.old)) (edges_of links.now) }
+    requires caps { length caps.now ≡ length spots.old }
+    requires below { AreWithin caps.now (times_of spots.old) }
+    requires supported { IsSupported (lows_of spots.old) (edges_of links.now)
+        (slice_index (times_of spots.old)) (cause_of (causes_of (edges_of links.now) spots.old)) }
+    requires numbered { AreNumbered links.now spots.old }
+    requires small { length spots.old < 2 ^ 32 }
+    requires room { HasWorkingRoom (length spots.old) working.old }
+    requires zeros { AreZeros working.old.places.items }
+    requires idle { AreIdle working.old.waiting.flags }
+    requires none { working.old.waiting.points ≡ [] }
+    requires kept { AreKept (take (number - 1) (edges_of links.now))
+        (slice_index (times_of spots.old)) working.old.waiting.flags }
+    ensures back { LeadsBack links.now spots.old spots.new
+        working.old.changes.entries working.new.changes.entries }
+    ensures rises { OnOk result (SpotsRise links.now spots.old spots.new) }
+    ensures below { AreWithin caps.now (times_of spots.new) }
+    ensures kept { OnOk result
+        (All (Keeps (slice_index (times_of spots.new))) (edges_of links.now)) }
+    ensures idle { OnOk result (AreIdle working.new.waiting.flags) }
+    ensures none { OnOk result (working.new.waiting.points ≡ []) }
+    ensures refuted { IfErr result (λ kept. KeptRefutes
+        (net_of (lows_of spots.old) caps.now (edges_of links.now)) kept working.new.path.items) }
+    ensures sizes { KeepsSizes working.old working.new }
+    ensures zeros { AreZeros working.new.places.items }
+{
+    let edge = links[number as usize - 1].edge;
+    let reach = i64::from(spots[edge.from.0 as usize].time) + edge.weight;
+    if reach <= i64::from(spots[edge.to.0 as usize].time) {
+        return Ok(());
+    }
+    match follow(caps, links, number, edge.from, spots, working) {
+        Ok(()) => spread(caps, links, heads, edge.from, spots, working),
+        Err(kept) => Err(kept),
+    }
+}

@@ -1,0 +1,132 @@
+//! Walking back along causes.
+ghost use Rattle.std.specs.Prelude.{◌≡◌, ℕ, ◌-◌, ◌<◌, ◌≤◌, ◌^◌, List, [], length, take, reverse, slice_index, IfSome, IfNone, IfOk, OnErr, IsErr, ◌↔◌, vec_capacity};
+ghost use Rattle.tp_base.specs.Refute.{AreCauses, IsCauseChain, IsCauseCircle};
+ghost use Rattle.tp_stn_undo.specs.Spots.{edges_of, causes_of};
+ghost use Rattle.tp_stn_undo.specs.Spreading.{AreNumbered};
+ghost use Rattle.tp_stn_undo.specs.Tracing.{AreZeros, MarkedWays, IsTraced};
+ghost use Rattle.tp_stn_undo.specs.Chains.{HasMoreCauses, NeverRound};
+
+use crate::links::Link;
+use crate::spots::Spot;
+use tp_base::{Edge, Full, PointId, Trail};
+
+/// Writes the causes that lead to a point, the first first. Gives the point that they begin at, which has none; or
+/// `None` where they lead round, and then the path is the way round. `places` is working space of zeros. Takes time for
+/// the path alone.
+pub(crate) fn trace_causes(
+    spots: &[Spot],
+    links: &[Link],
+    from: PointId,
+    path: &mut Vec<Edge>,
+    places: &mut [u32],
+) -> Option<PointId>
+    requires known { from.0 < length spots.now }
+    requires causes { AreCauses (causes_of (edges_of links.now) spots.now) }
+    requires small { length spots.now < 2 ^ 32 }
+    requires numbered { AreNumbered links.now spots.now }
+    requires path_room { length spots.now ≤ vec_capacity path.old }
+    requires places_room { length spots.now ≤ length places.old }
+    requires zeros { AreZeros places.old }
+    ensures chain { IfSome result (λ first.
+        IsCauseChain (causes_of (edges_of links.now) spots.now) first.0 path.new.items from.0) }
+    ensures circle { IfNone result
+        (IsCauseCircle (causes_of (edges_of links.now) spots.now) path.new.items) }
+    ensures path_kept { vec_capacity path.old ≤ vec_capacity path.new }
+    ensures zeros { AreZeros places.new }
+{
+    path.clear();
+    let (end, cut) = walk_back(spots, links, from, path, places);
+    forget_places(path, places);
+    path.reverse();
+    path.truncate(path.len() - cut as usize);
+    end
+}
+
+/// Walks from a point back along the causes, and writes them. Gives the point that they begin at; or `None` where they
+/// lead round, and then how many were passed before that.
+fn walk_back(
+    spots: &[Spot],
+    links: &[Link],
+    from: PointId,
+    path: &mut Vec<Edge>,
+    places: &mut [u32],
+) -> (Option<PointId>, u32)
+    requires known { from.0 < length spots.now }
+    requires causes { AreCauses (causes_of (edges_of links.now) spots.now) }
+    requires small { length spots.now < 2 ^ 32 }
+    requires numbered { AreNumbered links.now spots.now }
+    requires path_room { length spots.now ≤ vec_capacity path.old }
+    requires places_room { length spots.now ≤ length places.old }
+    requires zeros { AreZeros places.old }
+    requires empty { path.old.items ≡ [] }
+    ensures marked { MarkedWays places.new path.new.items }
+    ensures traced { IsTraced (causes_of (edges_of links.now) spots.now) from.0
+        path.new.items result.0 result.1 }
+    ensures path_kept { vec_capacity path.old ≤ vec_capacity path.new }
+{
+    let mut at = from;
+    'back: loop {
+        let place = places[at.0 as usize];
+        if place > 0 {
+            return (None, place - 1);
+        }
+        let cause = spots[at.0 as usize].cause;
+        if cause == 0 {
+            return (Some(at), 0);
+        }
+        let edge = links[cause as usize - 1].edge;
+        let Ok(()) = path.push(edge) else {
+            unreachable!()
+        };
+        places[at.0 as usize] = path.len() as u32;
+        at = edge.from;
+    }
+}
+
+/// Makes the places of the ends zero.
+fn forget_places(path: &[Edge], places: &mut [u32])
+    requires { MarkedWays places.old path.now }
+    ensures { AreZeros places.new }
+{
+    'each: for edge in path {
+        places[edge.to.0 as usize] = 0;
+    }
+}
+
+/// Writes the causes that lead to a point, the first first, where they never lead round. Gives the point that they begin
+/// at, which has none.
+pub(crate) fn write_causes(
+    spots: &[Spot],
+    links: &[Link],
+    from: PointId,
+    into: &mut Trail<Edge>,
+) -> Result<PointId, Full>
+    requires known { from.0 < length spots.now }
+    requires numbered { AreNumbered links.now spots.now }
+    requires causes { AreCauses (causes_of (edges_of links.now) spots.now) }
+    requires ends { NeverRound (causes_of (edges_of links.now) spots.now) }
+    requires empty { into.old.items ≡ [] }
+    ensures chain { IfOk result (λ first.
+        IsCauseChain (causes_of (edges_of links.now) spots.now) first.0 into.new.items from.0) }
+    ensures full { IsErr result
+        ↔ HasMoreCauses (causes_of (edges_of links.now) spots.now) from.0 into.old.room }
+    ensures none { OnErr result (into.new.items ≡ []) }
+    ensures room { into.new.room ≡ into.old.room }
+{
+    let mut at = from;
+    'back: loop {
+        let cause = spots[at.0 as usize].cause;
+        if cause == 0 {
+            into.reverse();
+            return Ok(at);
+        }
+        let edge = links[cause as usize - 1].edge;
+        match into.push(edge) {
+            Ok(()) => at = edge.from,
+            Err(full) => {
+                into.cut_to(0);
+                return Err(full);
+            }
+        }
+    }
+}
