@@ -20,7 +20,7 @@ names-broken n [] = refl
 names-broken zero (job ∷ jobs) = refl
 names-broken (suc n) (job ∷ jobs) = ap (λ names. job.name ∷ names) (names-broken n jobs)
 
-length-broken : (n : ℕ) (jobs : List Job) → length (mark_broken n jobs) ≡ length jobs
+pub length-broken : (n : ℕ) (jobs : List Job) → length (mark_broken n jobs) ≡ length jobs
 length-broken n [] = refl
 length-broken zero (job ∷ jobs) = refl
 length-broken (suc n) (job ∷ jobs) = ap suc (length-broken n jobs)

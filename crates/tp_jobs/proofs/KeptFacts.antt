@@ -13,7 +13,7 @@ use Rattle.tp_machine.specs.declared.parts.Sheet.{Sheet}
 use Rattle.tp_schedule.proofs.Pairs.{AllPairs-append}
 use Rattle.tp_schedule.specs.Plans.{is_before, is_same_copy}
 use Rattle.tp_schedule.specs.declared.parts.SheetId.{SheetId}
-use Rattle.tp_jobs.specs.Backlogs.{IsBacklog, IsOfJob, WaitsBefore, names_of}
+use Rattle.tp_jobs.specs.Backlogs.{Backlog, IsBacklog, IsOfJob, WaitsBefore, names_of}
 use Rattle.tp_jobs.specs.Keeping.{Keeps}
 use Rattle.tp_jobs.specs.Waiting.{find_waiting, first_copies, put_waiting, without_waiting}
 use Rattle.tp_jobs.specs.declared.parts.Job.{Job}
@@ -67,11 +67,15 @@ jobs_differ jobs distinct i j d before within =
     let differ = AllPairs-from_IsDistinct bytes_eq-Decides (names_of jobs) distinct i j d.name before (omega (arith, length-map jobs (λ k. k.name))) in
     λ same. differ (get_or-map (λ (k : Job). k.name) jobs i d d.name (omega arith) ∙ same ∙ sym (get_or-map (λ (k : Job). k.name) jobs j d d.name within))
 
-pub kept-backlog : (names : List (List ℕ)) (jobs : List Job) (waiting : List WaitingCopy) → Keeps names jobs waiting → IsBacklog (record { jobs = jobs; waiting = waiting })
-kept-backlog names jobs waiting keeps = record {
-  named = jobs_differ jobs (subst (IsDistinct bytes_eq) keeps.of_names keeps.distinct);
+pub kept-backlog : (names : List (List ℕ)) (lines : Backlog) → Keeps names lines.jobs lines.waiting → IsBacklog lines
+kept-backlog names lines keeps = record {
+  named = jobs_differ lines.jobs (subst (IsDistinct bytes_eq) keeps.of_names keeps.distinct);
   in_order = keeps.in_order;
   of_jobs = keeps.of_jobs;
   few_jobs = keeps.few_jobs;
   few_waiting = keeps.few_waiting;
 }
+
+-- what equal parts keep
+pub same-keeps : (names names' : List (List ℕ)) (jobs jobs' : List Job) (waiting waiting' : List WaitingCopy) → names ≡ names' → jobs ≡ jobs' → waiting ≡ waiting' → Keeps names jobs waiting → Keeps names' jobs' waiting'
+same-keeps names names' jobs jobs' waiting waiting' ns js ws keeps = coe 0 1 (k. Keeps (ns k) (js k) (ws k)) keeps

@@ -6,3 +6,5 @@ pub mod FirstCopies
 pub mod RefusalFacts
 pub mod KeptFacts
 pub mod BrokenFacts
+pub mod WholeFacts
+pub mod MarkFacts

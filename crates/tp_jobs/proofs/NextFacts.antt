@@ -11,14 +11,14 @@ use Rattle.tp_jobs.proofs.PlaceFacts.{find-behind, is_behind}
 use Rattle.tp_jobs.specs.Backlogs.{Backlog, IsOfJob, WaitsBefore}
 use Rattle.tp_jobs.specs.Trying.{comes_after, is_open, next_to_try}
 use Rattle.tp_jobs.specs.Waiting.{find_waiting}
-use Rattle.tp_jobs.specs.declared.parts.Job.{Job}
 use Rattle.tp_jobs.specs.declared.parts.WaitingCopy.{WaitingCopy}
 
 -- the copies that come after the last one tried, from its place on
-pub found-from : (jobs : List Job) (marks : List Bool) (waiting : List WaitingCopy) (last : SheetId) (at : ℕ) → AllPairs WaitsBefore waiting → at ≡ position_or_len (is_behind last) waiting
-    → option_map (λ w. w.sheet) (find (is_open jobs marks) (drop at waiting)) ≡ next_to_try (record { jobs = jobs; waiting = waiting }) (Some last) marks
-found-from jobs marks waiting last at in_order is =
-    ap (λ i. option_map (λ w. w.sheet) (find (is_open jobs marks) (drop i waiting))) is ∙ ap (option_map (λ w. w.sheet)) (sym (find-behind last (is_open jobs marks) waiting in_order))
+pub found-from : (lines : Backlog) (marks : List Bool) (last : SheetId) (at : ℕ) → AllPairs WaitsBefore lines.waiting → at ≡ position_or_len (is_behind last) lines.waiting
+    → option_map (λ w. w.sheet) (find (is_open lines.jobs marks) (drop at lines.waiting)) ≡ next_to_try lines (Some last) marks
+found-from lines marks last at in_order is =
+    ap (λ i. option_map (λ w. w.sheet) (find (is_open lines.jobs marks) (drop i lines.waiting))) is
+    ∙ ap (option_map (λ w. w.sheet)) (sym (find-behind last (is_open lines.jobs marks) lines.waiting in_order))
 
 -- what is found among the copies that wait does wait
 found-waits : (q : WaitingCopy → Bool) (waiting : List WaitingCopy) (w : WaitingCopy) → find q waiting ≡ Some w → IsSome (find_waiting w.sheet waiting)

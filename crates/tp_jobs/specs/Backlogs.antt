@@ -6,13 +6,31 @@ use Rattle.tp_schedule.specs.declared.parts.SheetId.{SheetId}
 use Rattle.tp_jobs.specs.declared.parts.Job.{Job}
 use Rattle.tp_jobs.specs.declared.parts.WaitingCopy.{WaitingCopy}
 
--- the jobs in the order of arrival, and the copies that wait, in the order of copies
-pub record Backlog : Type 0 where
+-- what jobs and waiting copies were at the last mark
+pub record Kept : Type 0 where
   pub jobs : List Job
   pub waiting : List WaitingCopy
 
+-- the jobs in the order of arrival, the copies that wait, in the order of copies, and what both were at the last mark
+pub record Backlog : Type 0 where
+  pub jobs : List Job
+  pub waiting : List WaitingCopy
+  pub kept : Kept
+
+-- the lines before the first mark has anything to keep
+abbrev pub unmarked : List Job → List WaitingCopy → Backlog
+unmarked jobs waiting = record { jobs = jobs; waiting = waiting; kept = record { jobs = []; waiting = [] } }
+
 abbrev pub no_backlog : Backlog
-no_backlog = record { jobs = []; waiting = [] }
+no_backlog = unmarked [] []
+
+-- the lines with a mark at what they are
+abbrev pub marked : Backlog → Backlog
+marked lines = record lines { kept = record { jobs = lines.jobs; waiting = lines.waiting } }
+
+-- the lines as they were at the last mark, which stays
+abbrev pub undone : Backlog → Backlog
+undone lines = record { jobs = lines.kept.jobs; waiting = lines.kept.waiting; kept = lines.kept }
 
 abbrev pub names_of : List Job → List (List ℕ)
 names_of jobs = map (λ j. j.name) jobs

@@ -43,11 +43,11 @@ given_tray (Some tray) = tray
 
 -- the job as it comes
 abbrev pub new_job : Machine → List ℕ → List ℕ → List GroupForm → Job
-new_job machine name tray groups = record { name = name; tray = given_tray (tray_named machine tray); sheets = sheet_count groups; broken = false }
+new_job machine name tray groups = record { name = name; tray = given_tray (tray_named machine tray); broken = false }
 
 -- the lines with a new job, whose copies wait behind all others
 abbrev pub with_job : Job → List Sheet → Backlog → Backlog
-with_job job wants lines = record {
+with_job job wants lines = record lines {
   jobs = lines.jobs ++ job ∷ [];
   waiting = lines.waiting ++ first_copies (length lines.jobs) 1 wants;
 }

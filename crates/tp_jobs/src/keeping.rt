@@ -9,6 +9,7 @@ use crate::making::make_copies;
 use crate::parts::{Job, WaitingCopy};
 use crate::queueing::{first_open, place_behind, place_of};
 use crate::refusing::{count_sheets, find_tray, has_feeder};
+use crate::undoing::{break_in, keep_waiting, make_whole};
 use indexmap::IndexSet;
 use std::alloc::Global;
 use std::marker::Model;
@@ -23,27 +24,35 @@ const MOST_WAITING: u64 = 4096;
 ///
 /// A name is looked up by hash and a copy by a binary search, so no call but `copy` looks at all
 /// jobs. `wait` and `taken` move the copies that wait behind the one that they put in or take out.
+///
+/// `mark` remembers the lines as they are and `undo` goes back to them: what is kept of a mark is how
+/// many jobs there were, the copies that waited, and the jobs that broke since.
 #[derive(Drop)]
 pub struct Lines {
     names: IndexSet<Name>,
     jobs: Vec<Job>,
     waiting: Vec<WaitingCopy>,
+    kept_jobs: usize,
+    kept_waiting: Vec<WaitingCopy>,
+    broken: Vec<u32>,
 }
 
-// Clauses see the jobs in the order of arrival, and the copies that wait in the order of copies.
+// Clauses see the jobs in the order of arrival, the copies that wait in the order of copies, and both
+// as they were at the last mark.
 impl Model for Lines {
     ghost use Rattle.tp_jobs.specs.Backlogs.{Backlog};
-    ghost use Rattle.tp_jobs.specs.Keeping.{Keeps};
 
     ghost Value = { Backlog };
 
-    ghost view = { λ l. record { jobs = l.jobs.items; waiting = l.waiting.items } };
+    ghost use Rattle.tp_jobs.specs.Keeping.{KeepsMark, backlog_of};
 
-    ghost invariant = { λ l. Keeps l.names.keys l.jobs.items l.waiting.items };
+    ghost view = { backlog_of };
+
+    ghost invariant = { KeepsMark };
 }
 
 impl Lines {
-    ghost use Rattle.tp_jobs.specs.Backlogs.{IsBacklog, no_backlog};
+    ghost use Rattle.tp_jobs.specs.Backlogs.{IsBacklog, no_backlog, marked, undone};
     ghost use Rattle.tp_jobs.specs.Trying.{next_to_try};
 
     /// No job. It takes no memory.
@@ -54,6 +63,9 @@ impl Lines {
             names: IndexSet::new(alloc),
             jobs: Vec::new(alloc),
             waiting: Vec::new(alloc),
+            kept_jobs: 0,
+            kept_waiting: Vec::new(alloc),
+            broken: Vec::new(alloc),
         }
     }
 
@@ -104,11 +116,49 @@ impl Lines {
     pub fn copy(&self, alloc: Global) -> Result<Lines, Memory>
         ensures { IfOk result (λ copy. copy ≡ self.now) }
     {
+        let mut waiting = Vec::from_slice(alloc, self.waiting.as_slice())?;
+        waiting.reserve(self.kept_waiting.len())?;
+        let mut broken = Vec::from_slice(alloc, self.broken.as_slice())?;
+        broken.reserve(self.jobs.len())?;
         Ok(Lines {
-            names: self.names.clone()?,
+            names: copy_names(&self.names)?,
             jobs: Vec::from_slice(alloc, self.jobs.as_slice())?,
-            waiting: Vec::from_slice(alloc, self.waiting.as_slice())?,
+            waiting,
+            kept_jobs: self.kept_jobs,
+            kept_waiting: Vec::from_slice(alloc, self.kept_waiting.as_slice())?,
+            broken,
         })
+    }
+
+    /// Remembers the lines as they are, in place of an earlier mark. Takes the time of the copies that
+    /// wait, however many jobs came.
+    pub fn mark(&mut self) -> Result<(), Memory>
+        ensures kept { OnOk result (self.new ≡ marked self.old) }
+        ensures memory { OnErr result (self.new ≡ self.old) }
+    {
+        keep_waiting(&mut self.kept_waiting, self.waiting.as_slice())?;
+        self.kept_jobs = self.jobs.len();
+        self.broken.clear();
+        Ok(())
+    }
+
+    /// The lines are again as they were at the last mark, or empty where there was none. Takes the time
+    /// of the jobs that came or broke since and of the copies that waited, and no memory.
+    pub fn undo(&mut self)
+        ensures { self.new ≡ undone self.old }
+    {
+        self.names.truncate(self.kept_jobs);
+        self.jobs.truncate(self.kept_jobs);
+        make_whole(&mut self.jobs, self.broken.as_slice());
+        self.broken.clear();
+        self.waiting.clear();
+        if self
+            .waiting
+            .extend_from_slice(self.kept_waiting.as_slice())
+            .is_err()
+        {
+            unreachable!();
+        }
     }
 
     /// Accepts a job: it gets the next number, and the first copies of its sheets wait behind all
@@ -129,16 +179,15 @@ impl Lines {
         ensures kept { OnErr result (self.new ≡ self.old) }
     {
         let tray = self.admit(machine, &name, &tray, &media, groups)?;
-        let sheets = count_sheets(groups) as u32;
         let number = self.jobs.len() as u32;
         let mut copies = make_copies(*self.jobs.allocator(), number, media, groups)?;
         self.jobs.reserve(1)?;
         self.waiting.reserve(copies.len())?;
+        self.broken.reserve(self.jobs.len() + 1)?;
         self.names.insert(name)?;
         let job = Job {
             name,
             tray,
-            sheets,
             broken: false,
         };
         if self.jobs.push(job).is_err() || self.waiting.append(&mut copies).is_err() {
@@ -182,7 +231,8 @@ impl Lines {
         requires job { sheet.job < length self.old.jobs }
         requires new_copy { find_waiting sheet self.old.waiting ≡ None }
         requires room { length self.old.waiting + 1 < 2 ^ 32 }
-        ensures waits { OnOk result (self.new ≡ record { jobs = self.old.jobs; waiting = put_waiting self.old.waiting (record { sheet = sheet; want = want }) }) }
+        ensures waits { OnOk result
+            (self.new ≡ record self.old { waiting = put_waiting self.old.waiting (record { sheet = sheet; want = want }) }) }
         ensures memory { OnErr result (self.new ≡ self.old) }
     {
         let at = place_behind(self.waiting.as_slice(), sheet);
@@ -197,7 +247,10 @@ impl Lines {
         requires new_copy { find_waiting (next_copy sheet) self.old.waiting ≡ None }
         requires room { length self.old.waiting + 1 < 2 ^ 32 }
         ensures next { IfOk result (λ copy. copy ≡ next_copy sheet) }
-        ensures waits { OnOk result (self.new ≡ record { jobs = self.old.jobs; waiting = put_waiting self.old.waiting (record { sheet = next_copy sheet; want = want }) }) }
+        ensures waits { OnOk result
+            (self.new ≡ record self.old {
+              waiting = put_waiting self.old.waiting (record { sheet = next_copy sheet; want = want });
+            }) }
         ensures memory { OnErr result (self.new ≡ self.old) }
     {
         let next = SheetId {
@@ -212,15 +265,15 @@ impl Lines {
     /// The job is broken. Its copies that wait stay: whoever breaks it takes them.
     pub fn break_job(&mut self, job: u32)
         requires { job < length self.old.jobs }
-        ensures { self.new ≡ record { jobs = mark_broken job self.old.jobs; waiting = self.old.waiting } }
+        ensures { self.new ≡ record self.old { jobs = mark_broken job self.old.jobs } }
     {
-        self.jobs[job as usize].broken = true;
+        break_in(&mut self.jobs, &mut self.broken, job);
     }
 
     /// The copy waits no more.
     pub fn taken(&mut self, sheet: SheetId)
         requires { IsSome (find_waiting sheet self.old.waiting) }
-        ensures { self.new ≡ record { jobs = self.old.jobs; waiting = without_waiting sheet self.old.waiting } }
+        ensures { self.new ≡ record self.old { waiting = without_waiting sheet self.old.waiting } }
     {
         let at = place_of(self.waiting.as_slice(), sheet);
         self.waiting.remove(at);
@@ -241,4 +294,10 @@ impl Lines {
         };
         first_open(&waiting[from..], self.jobs.as_slice(), blocked)
     }
+}
+
+fn copy_names(names: &IndexSet<Name>) -> Result<IndexSet<Name>, Memory>
+    ensures { IfOk result (λ copy. copy.keys ≡ names.now.keys) }
+{
+    Ok(names.clone()?)
 }
