@@ -33,12 +33,16 @@ pub fn advance(
     requires legal { IsLegal machine.now schedule.old.plans }
     requires floors { KeepsFloors machine.now now none_exempt schedule.old.plans }
     ensures refused { cause_in result ≡ clock_refusal now to }
-    ensures told { IfOk result (λ tells. tells.items ≡ clock_tells machine.now now to schedule.old.plans) }
-    ensures plans { OnOk result (schedule.new.plans ≡ filter (is_live machine.now to) (released_until machine.now to schedule.old.plans)) }
+    ensures told { IfOk result (λ tells.
+        tells.items ≡ clock_tells machine.now now to schedule.old.plans) }
+    ensures plans { OnOk result (schedule.new.plans
+        ≡ filter (is_live machine.now to) (released_until machine.now to schedule.old.plans)) }
     ensures legal { OnOk result (IsLegal machine.now schedule.new.plans) }
     ensures floors { OnOk result (KeepsFloors machine.now to none_exempt schedule.new.plans) }
-    ensures horizon { OnOk result (KeepsHorizon machine.now now schedule.old.plans → KeepsHorizon machine.now to schedule.new.plans) }
-    ensures spare { OnOk result (schedule.new.spare + length schedule.new.plans ≡ schedule.old.spare + length schedule.old.plans) }
+    ensures horizon { OnOk result (KeepsHorizon machine.now now schedule.old.plans
+        → KeepsHorizon machine.now to schedule.new.plans) }
+    ensures spare { OnOk result (schedule.new.spare + length schedule.new.plans
+        ≡ schedule.old.spare + length schedule.old.plans) }
     ensures kept { OnErr result (schedule.new ≡ schedule.old) }
 {
     if to < now {

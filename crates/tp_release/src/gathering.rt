@@ -46,7 +46,8 @@ fn tell_done(
     to: Tick,
 ) -> Result<(), Memory>
     requires timed { IsTimedPlan machine.now plan.now }
-    ensures { OnOk result (told.new.items ≡ told.old.items ++ deliveries machine.now now to plan.now) }
+    ensures { OnOk result (told.new.items
+        ≡ told.old.items ++ deliveries machine.now now to plan.now) }
 {
     if is_done(plan, now, to) {
         let at = plan.points.get(plan.acts.len());
@@ -68,8 +69,10 @@ fn tell_releases(
     last: Tick,
 ) -> Result<(), Memory>
     requires timed { IsTimedPlan machine.now plan.now }
-    requires floors { (i : ℕ) → plan.now.released ≤ i → i < length plan.now.acts → machine.now.lead ≤ point plan.now i }
-    ensures { OnOk result (told.new.items ≡ told.old.items ++ map (release_of machine.now) (due_until last plan.now)) }
+    requires floors { (i : ℕ) → plan.now.released ≤ i → i < length plan.now.acts
+        → machine.now.lead ≤ point plan.now i }
+    ensures { OnOk result (told.new.items
+        ≡ told.old.items ++ map (release_of machine.now) (due_until last plan.now)) }
 {
     for at in plan.released..plan.acts.len() {
         let start = plan.points.get(at);
@@ -99,7 +102,8 @@ fn tell_all_done(
     to: Tick,
 ) -> Result<(), Memory>
     requires legal { IsLegal machine.now schedule.now.plans }
-    ensures { OnOk result (told.new.items ≡ told.old.items ++ flat_map (deliveries machine.now now to) schedule.now.plans) }
+    ensures { OnOk result (told.new.items
+        ≡ told.old.items ++ flat_map (deliveries machine.now now to) schedule.now.plans) }
 {
     for at in 0..schedule.len() {
         tell_done(told, machine, schedule.plan_at(at), now, to)?;
@@ -118,7 +122,8 @@ fn tell_all_releases(
     requires legal { IsLegal machine.now schedule.now.plans }
     requires floors { KeepsFloors machine.now 0 none_exempt schedule.now.plans }
     requires within { to ≤ last_tick }
-    ensures { OnOk result (told.new.items ≡ told.old.items ++ flat_map (releases machine.now to) schedule.now.plans) }
+    ensures { OnOk result (told.new.items
+        ≡ told.old.items ++ flat_map (releases machine.now to) schedule.now.plans) }
 {
     for at in 0..schedule.len() {
         tell_releases(told, machine, schedule.plan_at(at), to + machine.lead)?;
@@ -137,7 +142,8 @@ pub(crate) fn tells_until(
     requires legal { IsLegal machine.now schedule.now.plans }
     requires floors { KeepsFloors machine.now now none_exempt schedule.now.plans }
     requires within { to ≤ last_tick }
-    ensures { IfOk result (λ tells. tells.items ≡ clock_tells machine.now now to schedule.now.plans) }
+    ensures { IfOk result (λ tells.
+        tells.items ≡ clock_tells machine.now now to schedule.now.plans) }
 {
     let mut told = Vec::new(alloc);
     tell_all_done(&mut told, machine, schedule, now, to)?;

@@ -7,7 +7,9 @@ use Rattle.std.proofs.lemmas.List.Sums.{length-filter}
 use Rattle.tp_machine.specs.declared.parts.ActId.{ActId}
 use Rattle.tp_machine.specs.declared.whole.Machine.{Machine}
 use Rattle.tp_jobs.specs.declared.parts.WaitingCopy.{WaitingCopy}
-use Rattle.tp_schedule.specs.Answers.{IsLeast, acts_in, follows_front}
+use Rattle.tp_jobs.proofs.Found.{find-none}
+use Rattle.tp_schedule.specs.Legality.{IsLegal}
+use Rattle.tp_schedule.specs.Answers.{IsLeast, KeepsFloors, acts_in, follows_front}
 use Rattle.tp_schedule.specs.Holding.{runs_from}
 use Rattle.tp_schedule.specs.Living.{is_live, live_count}
 use Rattle.tp_schedule.specs.Planning.{none_exempt}
@@ -24,25 +26,26 @@ use Rattle.tp_turn.proofs.AnsweredPlans.{IsUnmoved, unmoved-sheet, plan-cases}
 use Rattle.tp_turn.proofs.AskedFacts.{IsAskedFirst, none-before}
 use Rattle.tp_turn.proofs.AskedLines.{planned_waiting}
 use Rattle.tp_turn.proofs.AskedPlans.{IsRetimedPlan, low-stays, live-before, arriving-before, count-unmoved, one-more-than-others, clear-route, clear-moved}
-use Rattle.tp_jobs.proofs.Found.{find-none}
 use Rattle.tp_turn.proofs.TestFacts.{count-part, one-less, all-of, of-all}
 
-module _ (machine : Machine) (s : SessionState) (w : WaitingCopy) (plans' : List Plan) (f : IsAskedFirst machine s w plans') (keeps : KeepsPlans machine s) where
-  pub retimed-plan : (q p : Plan) → Contains plans' q → Contains s.plans p → IsUnmoved q p → IsRetimedPlan machine s.now p q
-  retimed-plan q p in' in'' u = record {
-    unmoved = u;
-    timed = All-contains (IsTimedPlan machine) s.plans p keeps.legal.timed in'';
-    timed' = All-contains (IsTimedPlan machine) plans' q f.a.legal.timed in';
-    floors = λ i released within. let above : s.now + machine.lead < point p i = keeps.floors p in'' refl i released within in omega arith;
-    fixed = λ i fixed within. f.a.fixed p q in'' (subst (λ c. plan_of c plans' ≡ Some q) (unmoved-sheet q p u) (plan_of-itself plans' q f.a.legal.in_order in')) i fixed within;
-  }
+-- a plan of before, and the same plan after
+pub retimed-plan : (machine : Machine) (s : SessionState) (w : WaitingCopy) (plans' : List Plan) (f : IsAskedFirst machine s w plans') → IsLegal machine s.plans → KeepsFloors machine s.now none_exempt s.plans
+    → (q p : Plan) → Contains plans' q → Contains s.plans p → IsUnmoved q p → IsRetimedPlan machine s.now p q
+retimed-plan machine s w plans' f legal floors q p in' in'' u = record {
+  unmoved = u;
+  timed = All-contains (IsTimedPlan machine) s.plans p legal.timed in'';
+  timed' = All-contains (IsTimedPlan machine) plans' q f.a.legal.timed in';
+  floors = λ i released within. let above : s.now + machine.lead < point p i = floors p in'' refl i released within in omega arith;
+  fixed = λ i fixed within. f.a.fixed p q in'' (subst (λ c. plan_of c plans' ≡ Some q) (unmoved-sheet q p u) (plan_of-itself plans' q f.a.legal.in_order in')) i fixed within;
+}
 
+module _ (machine : Machine) (s : SessionState) (w : WaitingCopy) (plans' : List Plan) (f : IsAskedFirst machine s w plans') (keeps : KeepsPlans machine s) where
   -- at most one more passes a test that the moved plans pass only where they passed before
   one-more : (test : Plan → Bool) → ((p q : Plan) → IsRetimedPlan machine s.now p q → test q ≡ true → test p ≡ true) → length (filter test plans') ≤ 1 + length (filter test s.plans)
   one-more test each =
       let all = one-more-than-others test w.sheet plans' f.a.legal.in_order in
       let others = count-unmoved test (without w.sheet plans') (without w.sheet s.plans) f.a.others (λ q p in' in'' u.
-      each p q (retimed-plan q p (Contains-filter_from (λ p. not (is_same_copy p.sheet w.sheet)) plans' q in').0 (Contains-filter_from (λ p. not (is_same_copy p.sheet w.sheet)) s.plans p in'').0 u)) in
+      each p q (retimed-plan machine s w plans' f keeps.legal keeps.floors q p (Contains-filter_from (λ p. not (is_same_copy p.sheet w.sheet)) plans' q in').0 (Contains-filter_from (λ p. not (is_same_copy p.sheet w.sheet)) s.plans p in'').0 u)) in
       let part = count-part test (λ p. not (is_same_copy p.sheet w.sheet)) s.plans in
       omega arith
 
@@ -77,7 +80,7 @@ module _ (machine : Machine) (s : SessionState) (w : WaitingCopy) (plans' : List
         | inl e ↦ subst (λ p. is_clear machine (planned_waiting s w plans') p ≡ true) (sym e)
             (clear-route s.now (is_act_allowed machine s.outs) f.a.plan.sheet 1 f.a.plan.acts f.a.plan.points mine-allowed)
         | inr other ↦
-            let r = retimed-plan q other.0 in' other.1 other.2 in
+            let r = retimed-plan machine s w plans' f keeps.legal keeps.floors q other.0 in' other.1 other.2 in
             let clear : is_clear machine s other.0 ≡ true = All-contains (λ p. is_clear machine s p ≡ true) s.plans other.0 (all-of (is_clear machine s) s.plans keeps.clear) other.1 in
             let acts : q.acts ≡ other.0.acts = ap (λ (p : Plan). p.acts) other.2.is in
             let one : length other.0.points ≡ length other.0.acts + 1 = r.timed.one_more in

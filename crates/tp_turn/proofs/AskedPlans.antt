@@ -72,7 +72,7 @@ same-plan q p u e = λ i. record {
   released = (u.is i).released;
 }
 
-ended-same : (machine : Machine) (now : ℕ) (p q : Plan) → IsRetimedPlan machine now p q → end_of_plan p ≤ now → q ≡ p
+pub ended-same : (machine : Machine) (now : ℕ) (p q : Plan) → IsRetimedPlan machine now p q → end_of_plan p ≤ now → q ≡ p
 ended-same machine now p q r low =
     let acts : length q.acts ≡ length p.acts = ap (λ (x : Plan). length x.acts) r.unmoved.is in
     let one : length q.points ≡ length q.acts + 1 = r.timed'.one_more in

@@ -1,14 +1,14 @@
 -- A copy that waits is planned as the first of its line: the same copies are open, so that each sheet keeps its own.
-use Rattle.std.proofs.Common.{◌≡◌, ◌<◌, inl, inr, Bool, true, false, not, List, map, refl, sym, ap, ◌∙◌, All, Contains, IsTrue, subst}
+use Rattle.std.proofs.Common.{◌≡◌, ℕ, ◌-◌, ◌<◌, inl, inr, Bool, true, false, not, List, map, refl, sym, ap, ◌∙◌, All, Contains, IsTrue, subst}
 use Rattle.std.proofs.lemmas.List.Elements.{All-filter, All-contains, Contains-append_cases, Contains-append_left, Contains-append_right}
 use Rattle.tp_machine.specs.declared.whole.Machine.{Machine}
 use Rattle.tp_jobs.specs.declared.parts.WaitingCopy.{WaitingCopy}
+use Rattle.tp_jobs.specs.Waiting.{without_waiting}
 use Rattle.tp_schedule.specs.Plans.{is_same_copy}
 use Rattle.tp_schedule.specs.declared.parts.Plan.{Plan}
 use Rattle.tp_schedule.specs.declared.parts.SheetId.{SheetId}
 use Rattle.tp_schedule.proofs.CopyFacts.{same_copy-is}
 use Rattle.tp_schedule.proofs.Membership.{All-from_contains, Contains-map, Contains-map_from, Contains-filter, Contains-filter_from}
-use Rattle.tp_jobs.specs.Waiting.{without_waiting}
 use Rattle.tp_turn.specs.Asking.{ask_waiting}
 use Rattle.tp_turn.specs.Keeping.{KeepsSheets, IsOlder, is_sheet_of, tray_plans, open_copies, is_same_sheet, is_copy_of}
 use Rattle.tp_turn.specs.Moments.{is_tray_plan}
@@ -58,27 +58,32 @@ module _ (machine : Machine) (s : SessionState) (w : WaitingCopy) (plans' : List
         ]
   ]
 
-  pub sheets-asked : KeepsSheets s → KeepsSheets (planned_waiting s w plans')
-  sheets-asked keeps = record {
+  -- no planned copy is older than an open one of its sheet, as before
+  pub older-asked : All (λ p. All (IsOlder p) (open_copies s)) s.plans → All (λ p. All (IsOlder p) (open_copies (planned_waiting s w plans'))) plans'
+  older-asked older = All-from_contains (λ p. All (IsOlder p) (open_copies (planned_waiting s w plans'))) plans' (λ q in'.
+      All-from_contains (IsOlder q) (open_copies (planned_waiting s w plans')) (λ c there not_tray same.
+      elim (plan-cases machine s.plans (ask_waiting s w) plans' f.a q in') [
+        | inl e ↦ absurd (let tray : is_tray_plan q ≡ true = subst (λ (p : Plan). is_tray_plan p ≡ true) (sym e) (mine-tray machine s w plans' f) in cc)
+        | inr other ↦
+            let old = All-contains (IsOlder other.0) (open_copies s) c (All-contains (λ p. All (IsOlder p) (open_copies s)) s.plans other.0 older other.1) (open-from c there) in
+            let sheet = unmoved-sheet q other.0 other.2 in
+            let less : other.0.sheet.copy < c.copy = old (sym (unmoved-tray_plan q other.0 other.2) ∙ not_tray) (subst (λ d. is_same_sheet d c ≡ true) sheet same) in
+            subst (λ d. d.copy < c.copy) (sym sheet) less
+      ]))
+
+  pub sheets-asked : (totals : List ℕ) → KeepsSheets totals s → KeepsSheets totals (planned_waiting s w plans')
+  sheets-asked totals keeps = record {
+    known = keeps.known;
     each = λ job number known whole low high.
         let there = keeps.each job number known whole low high in
         let is : IsTrue (is_copy_of job number there.1) = there.4 in
         let to = open-to there.1 (there.0, there.2, there.3) in
         (to.0, there.1, to.1, to.2, is);
-    waiting_sheets = All-filter (λ v. not (is_same_copy v.sheet w.sheet)) (λ v. IsTrue (is_sheet_of s.jobs v.sheet)) s.waiting keeps.waiting_sheets;
-    planned_sheets = All-from_contains (λ p. IsTrue (is_sheet_of s.jobs p.sheet)) plans' (λ q in'.
+    waiting_sheets = All-filter (λ v. not (is_same_copy v.sheet w.sheet)) (λ v. IsTrue (is_sheet_of totals v.sheet)) s.waiting keeps.waiting_sheets;
+    planned_sheets = All-from_contains (λ p. IsTrue (is_sheet_of totals p.sheet)) plans' (λ q in'.
         elim (plan-cases machine s.plans (ask_waiting s w) plans' f.a q in') [
-          | inl e ↦ subst (λ c. is_sheet_of s.jobs c ≡ true) (sym (ap (λ (p : Plan). p.sheet) e ∙ f.a.answers.sheet)) (All-contains (λ v. IsTrue (is_sheet_of s.jobs v.sheet)) s.waiting w keeps.waiting_sheets f.here)
-          | inr other ↦ subst (λ c. is_sheet_of s.jobs c ≡ true) (sym (unmoved-sheet q other.0 other.2)) (All-contains (λ p. IsTrue (is_sheet_of s.jobs p.sheet)) s.plans other.0 keeps.planned_sheets other.1)
+          | inl e ↦ subst (λ c. is_sheet_of totals c ≡ true) (sym (ap (λ (p : Plan). p.sheet) e ∙ f.a.answers.sheet)) (All-contains (λ v. IsTrue (is_sheet_of totals v.sheet)) s.waiting w keeps.waiting_sheets f.here)
+          | inr other ↦ subst (λ c. is_sheet_of totals c ≡ true) (sym (unmoved-sheet q other.0 other.2)) (All-contains (λ p. IsTrue (is_sheet_of totals p.sheet)) s.plans other.0 keeps.planned_sheets other.1)
         ]);
-    older = All-from_contains (λ p. All (IsOlder p) (open_copies (planned_waiting s w plans'))) plans' (λ q in'.
-        All-from_contains (IsOlder q) (open_copies (planned_waiting s w plans')) (λ c there not_tray same.
-        elim (plan-cases machine s.plans (ask_waiting s w) plans' f.a q in') [
-          | inl e ↦ absurd (let tray : is_tray_plan q ≡ true = subst (λ (p : Plan). is_tray_plan p ≡ true) (sym e) (mine-tray machine s w plans' f) in cc)
-          | inr other ↦
-              let old = All-contains (IsOlder other.0) (open_copies s) c (All-contains (λ p. All (IsOlder p) (open_copies s)) s.plans other.0 keeps.older other.1) (open-from c there) in
-              let sheet = unmoved-sheet q other.0 other.2 in
-              let less : other.0.sheet.copy < c.copy = old (sym (unmoved-tray_plan q other.0 other.2) ∙ not_tray) (subst (λ d. is_same_sheet d c ≡ true) sheet same) in
-              subst (λ d. d.copy < c.copy) (sym sheet) less
-        ]));
+    older = older-asked keeps.older;
   }

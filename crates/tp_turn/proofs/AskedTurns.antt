@@ -1,5 +1,5 @@
 -- The phase of asks keeps what is kept between events.
-use Rattle.std.proofs.Common.{◌≡◌, ℕ, ◌⊎◌, inl, inr, Bool, true, false, ◌||◌, ◌==◌, not, List, [], ◌∷◌, refl, sym, arith, All, AllPairs, Contains, IsTrue, subst}
+use Rattle.std.proofs.Common.{◌≡◌, ℕ, ◌-◌, ◌⊎◌, inl, inr, Bool, true, false, ◌||◌, not, List, [], ◌∷◌, refl, sym, arith, All, AllPairs, Contains, IsTrue, subst, ◌==◌}
 use Rattle.std.specs.Bool.{MatchBool}
 use Rattle.std.specs.List.{list_any}
 use Rattle.std.proofs.lemmas.Bool.{not_from_false}
@@ -7,6 +7,8 @@ use Rattle.std.proofs.lemmas.Bool.Decides.{nat_tests}
 use Rattle.std.proofs.lemmas.List.Elements.{All-head, All-tail, All-contains, All-contains_itself}
 use Rattle.tp_machine.specs.declared.whole.Machine.{Machine}
 use Rattle.tp_jobs.specs.declared.parts.WaitingCopy.{WaitingCopy}
+use Rattle.tp_jobs.specs.Backlogs.{tray_of}
+use Rattle.tp_jobs.specs.Waiting.{without_waiting}
 use Rattle.tp_schedule.specs.Planning.{Deed, IsAnswer}
 use Rattle.tp_schedule.specs.Planning.Deed.{replied}
 use Rattle.tp_schedule.specs.Plans.{is_before, is_same_copy}
@@ -18,8 +20,6 @@ use Rattle.tp_schedule.specs.declared.recording.Record.{Record}
 use Rattle.tp_schedule.proofs.CopyFacts.{before-not_same', same_copy-refl}
 use Rattle.tp_schedule.proofs.Membership.{All-from_contains, Contains-cons_cases, Contains-filter, Contains-filter_from}
 use Rattle.tp_schedule.proofs.Pairs.{AllPairs-head, AllPairs-tail}
-use Rattle.tp_jobs.specs.Backlogs.{tray_of}
-use Rattle.tp_jobs.specs.Waiting.{without_waiting}
 use Rattle.tp_turn.specs.Asking.{AsksInTurn, ask_waiting, is_full, is_passed_over, passed_after, state_after_reply}
 use Rattle.tp_turn.specs.Keeping.{KeepsLines, KeepsState}
 use Rattle.tp_turn.specs.Lines.{is_same_line}
@@ -111,33 +111,33 @@ first-of_line machine s passed w ws not_over r v in' same other = elim (r.others
 module _ {P : Type 0} (steps : PlannerSteps P) (machine : Machine) (spent : P → Machine → List Plan → Ask → ℕ → Type 0)
     (right : (p : P) (plans : List Plan) (deed : Deed) (plans' : List Plan) (p' : P) → steps.does p plans deed plans' p' → IsRight (spent p) machine plans deed plans') where
   -- a copy that is planned
-  kept-planned : (p : P) (s : SessionState) (passed : List ℕ) (w : WaitingCopy) (ws : List WaitingCopy) (plans : List Plan) → IsAnswer (spent p) machine s.plans (ask_waiting s w) Planned plans
-      → is_passed_over s passed w ≡ false → is_full machine s ≡ false → IsRest s passed (w ∷ ws) → KeepsState machine s → KeepsState machine (planned_waiting s w plans)
-  kept-planned p s passed w ws plans answer not_over free r kept =
+  kept-planned : (totals : List ℕ) (p : P) (s : SessionState) (passed : List ℕ) (w : WaitingCopy) (ws : List WaitingCopy) (plans : List Plan) → IsAnswer (spent p) machine s.plans (ask_waiting s w) Planned plans
+      → is_passed_over s passed w ≡ false → is_full machine s ≡ false → IsRest s passed (w ∷ ws) → KeepsState machine totals s → KeepsState machine totals (planned_waiting s w plans)
+  kept-planned totals p s passed w ws plans answer not_over free r kept =
       let f : IsAskedFirst machine s w plans = record { a = answer.0.alternative; keeps = kept.lines; here = All-head (Contains s.waiting) w ws r.wait; behind = first-of_line machine s passed w ws not_over r } in
-      record { jobs = kept.jobs; plans = plans-asked machine s w plans f kept.plans free; lines = lines-asked machine s w plans f; sheets = sheets-asked machine s w plans f kept.sheets }
+      record { jobs = kept.jobs; plans = plans-asked machine s w plans f kept.plans free; lines = lines-asked machine s w plans f; sheets = sheets-asked machine s w plans f totals kept.sheets }
 
-  kept-reply : (p : P) (s : SessionState) (passed : List ℕ) (w : WaitingCopy) (ws : List WaitingCopy) (reply : Reply) (plans : List Plan) → IsAnswer (spent p) machine s.plans (ask_waiting s w) reply plans
+  kept-reply : (totals : List ℕ) (p : P) (s : SessionState) (passed : List ℕ) (w : WaitingCopy) (ws : List WaitingCopy) (reply : Reply) (plans : List Plan) → IsAnswer (spent p) machine s.plans (ask_waiting s w) reply plans
       → is_passed_over s passed w ≡ false → is_full machine s ≡ false → IsRest s passed (w ∷ ws)
       → IsRest (state_after_reply s w reply plans) (passed_after reply (tray_of s.jobs w.sheet).0 passed) ws
-      × (KeepsState machine s → KeepsState machine (state_after_reply s w reply plans))
-  kept-reply p s passed w ws Planned plans answer not_over free r =
-      (rest-planned s passed w ws plans r, kept-planned p s passed w ws plans answer not_over free r)
-  kept-reply p s passed w ws Never plans answer not_over free r = (rest-refused s passed w ws r, λ kept. kept)
-  kept-reply p s passed w ws (Spent bound) plans answer not_over free r = (rest-refused s passed w ws r, λ kept. kept)
+      × (KeepsState machine totals s → KeepsState machine totals (state_after_reply s w reply plans))
+  kept-reply totals p s passed w ws Planned plans answer not_over free r =
+      (rest-planned s passed w ws plans r, kept-planned totals p s passed w ws plans answer not_over free r)
+  kept-reply totals p s passed w ws Never plans answer not_over free r = (rest-refused s passed w ws r, λ kept. kept)
+  kept-reply totals p s passed w ws (Spent bound) plans answer not_over free r = (rest-refused s passed w ws r, λ kept. kept)
 
-  pub kept-asks : (waiting : List WaitingCopy) (passed : List ℕ) (s : SessionState) (p : P) (records : List Record) (s' : SessionState) (p' : P)
+  pub kept-asks : (totals : List ℕ) (waiting : List WaitingCopy) (passed : List ℕ) (s : SessionState) (p : P) (records : List Record) (s' : SessionState) (p' : P)
       → AsksInTurn steps machine waiting passed s p records s' p' → IsRest s passed waiting
-      → KeepsState machine s → KeepsState machine s'
-  kept-asks [] passed s p records s' p' (told, is, same) r =
-      λ kept. subst (KeepsState machine) (sym is) kept
-  kept-asks (w ∷ waiting) passed s p records s' p' asks r =
+      → KeepsState machine totals s → KeepsState machine totals s'
+  kept-asks totals [] passed s p records s' p' (told, is, same) r =
+      λ kept. subst (KeepsState machine totals) (sym is) kept
+  kept-asks totals (w ∷ waiting) passed s p records s' p' asks r =
       go (is_passed_over s passed w) refl (is_full machine s) refl asks
-      (λ next over. kept-asks waiting passed s p records s' p' next (rest-tail s passed w waiting over r))
-      (λ rest next. kept-asks waiting ((tray_of s.jobs w.sheet).0 ∷ passed) s p rest s' p' next (rest-refused s passed w waiting r))
-      (λ reply plans mid rest next rest'. kept-asks waiting (passed_after reply (tray_of s.jobs w.sheet).0 passed) (state_after_reply s w reply plans) mid rest s' p' next rest') where
+      (λ next over. kept-asks totals waiting passed s p records s' p' next (rest-tail s passed w waiting over r))
+      (λ rest next. kept-asks totals waiting ((tray_of s.jobs w.sheet).0 ∷ passed) s p rest s' p' next (rest-refused s passed w waiting r))
+      (λ reply plans mid rest next rest'. kept-asks totals waiting (passed_after reply (tray_of s.jobs w.sheet).0 passed) (state_after_reply s w reply plans) mid rest s' p' next rest') where
         Leads : SessionState → Type 0
-        Leads q = KeepsState machine q → KeepsState machine s'
+        Leads q = KeepsState machine totals q → KeepsState machine totals s'
 
         go : (b : Bool) → is_passed_over s passed w ≡ b → (c : Bool) → is_full machine s ≡ c → MatchBool b (AsksInTurn steps machine waiting passed s p records s' p')
             (MatchBool c (TellsFull steps machine w waiting passed s p records s' p') (AsksFirst steps machine w waiting passed s p records s' p'))
@@ -150,7 +150,7 @@ module _ {P : Type 0} (steps : PlannerSteps P) (machine : Machine) (spent : P �
         go true e c g next over full answered = over next e
         go false e true g (rest, told, next) over full answered = full rest next
         go false e false g (reply, (plans, (mid, (rest, does, told, next)))) over full answered =
-            let step = kept-reply p s passed w waiting reply plans (right p s.plans (replied (ask_waiting s w) reply) plans mid does) e g r in
+            let step = kept-reply totals p s passed w waiting reply plans (right p s.plans (replied (ask_waiting s w) reply) plans mid does) e g r in
             λ kept. answered reply plans mid rest next step.0 (step.1 kept)
 
   -- at the beginning all that wait are to be taken

@@ -20,10 +20,10 @@ abbrev pub left : Plan
 left = whole (sheet 1 1 1) (codes "j2") blank_sheet 2 (act 0 ∷ act 1 ∷ []) (3 ∷ 5 ∷ 13 ∷ []) 0
 
 abbrev pub one_job : SessionState
-one_job = record { now = 0; plans = right_first ∷ []; lost = []; jobs = job (codes "j1") 2 1 ∷ []; waiting = []; outs = none_out }
+one_job = record { now = 0; plans = right_first ∷ []; lost = []; jobs = job (codes "j1") 2 ∷ []; waiting = []; outs = none_out }
 
 abbrev pub two_jobs : SessionState
-two_jobs = record one_job { plans = right_moved ∷ left ∷ []; jobs = job (codes "j1") 2 1 ∷ job (codes "j2") 2 1 ∷ [] }
+two_jobs = record one_job { plans = right_moved ∷ left ∷ []; jobs = job (codes "j1") 2 ∷ job (codes "j2") 2 ∷ [] }
 
 pub first_comes : play twin (NewJob (codes "j1") (codes "t") (codes "plain") (plain 1 ∷ [])) empty_state (answers Planned (right_first ∷ []) ∷ [])
     ≡ turn_played (TellsPlan (j1 1 1) (codes "t") (3 ∷ 5 ∷ 10 ∷ []) (codes "feed" ∷ codes "right" ∷ []) ∷ []) one_job
@@ -56,7 +56,7 @@ first_broken = record {
   now = 8;
   plans = lost_right ∷ entering ∷ [];
   lost = sheet 0 1 1 ∷ [];
-  jobs = record (job (codes "j1") 2 1) { broken = true } ∷ job (codes "j2") 2 1 ∷ [];
+  jobs = record (job (codes "j1") 2) { broken = true } ∷ job (codes "j2") 2 ∷ [];
   waiting = [];
   outs = record { 0 = 4 };
 }
@@ -91,7 +91,7 @@ at_twelve = record {
   now = 12;
   plans = lost1 ∷ fed2 ∷ unstarted3 ∷ unstarted4 ∷ entering_long ∷ [];
   lost = [];
-  jobs = job (codes "j1") 3 4 ∷ job (codes "j2") 3 1 ∷ [];
+  jobs = job (codes "j1") 3 ∷ job (codes "j2") 3 ∷ [];
   waiting = [];
   outs = none_out;
 }
@@ -113,7 +113,7 @@ pub job_of_four_breaks : play duo (Jam (codes "ENG1")) at_twelve
       now = 12;
       plans = after_break;
       lost = sheet 0 1 1 ∷ [];
-      jobs = record (job (codes "j1") 3 4) { broken = true } ∷ job (codes "j2") 3 1 ∷ [];
+      jobs = record (job (codes "j1") 3) { broken = true } ∷ job (codes "j2") 3 ∷ [];
       waiting = [];
       outs = record { 0 = 2 };
     })

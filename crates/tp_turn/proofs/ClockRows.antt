@@ -1,5 +1,6 @@
 -- A job of one sheet, and moves of the clock.
 use Rattle.std.proofs.Common.{◌≡◌, List, [], ◌∷◌, refl, codes}
+use Rattle.tp_machine.specs.Modes.{gap_at}
 use Rattle.tp_schedule.specs.declared.parts.Plan.{Plan}
 use Rattle.tp_schedule.specs.declared.parts.Reply.TheVariants.{Planned}
 use Rattle.tp_schedule.specs.declared.recording.Cause.TheVariants.{Back, End}
@@ -19,7 +20,7 @@ planned_one = record {
   now = 0;
   plans = only_plan ∷ [];
   lost = [];
-  jobs = job (codes "j1") 3 1 ∷ [];
+  jobs = job (codes "j1") 3 ∷ [];
   waiting = [];
   outs = none_out;
 }
@@ -82,7 +83,8 @@ last_plan = whole (sheet 1 1 1) (codes "j2") mono_sheet 3 (act 0 ∷ act 2 ∷ a
 pub comes_last : play duo (NewJob (codes "j2") (codes "t") (codes "plain") (group 1 ∷ [])) at_last (answers Planned (all_released ∷ last_plan ∷ []) ∷ [])
     ≡ turn_played
     (TellsPlan (j2 1 1) (codes "t") (1000000003 ∷ 1000000005 ∷ 1000000011 ∷ 1000000014 ∷ []) (codes "feed" ∷ codes "print2" ∷ codes "out" ∷ []) ∷ [])
-    (record at_last { plans = all_released ∷ last_plan ∷ []; jobs = job (codes "j1") 3 1 ∷ job (codes "j2") 3 1 ∷ [] })
+    (record at_last { plans = all_released ∷ last_plan ∷ []; jobs = job (codes "j1") 3 ∷ job (codes "j2") 3 ∷ [] })
+unfolding gap_at
 comes_last = refl
 
 -- while the print runs

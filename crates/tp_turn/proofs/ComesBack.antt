@@ -1,10 +1,10 @@
 -- A module that comes back leaves all that is kept between events.
-use Rattle.std.proofs.Common.{◌≡◌, ℕ, ◌<◌, ◌^◌, min, Bool, true, false, ◌&&◌, ◌||◌, ◌==◌, not, refl, arith, Option, Some, None, bit_and, slice_get, w64, nat_lt}
+use Rattle.std.proofs.Common.{◌≡◌, ℕ, zero, ◌-◌, ◌<◌, Bool, true, false, ◌&&◌, ◌||◌, not, List, refl, arith, nat_lt, slice_get, Option, Some, None, option_map, ◌^◌, min, ◌==◌, bit_and, w64}
+use Rattle.std.specs.Prelude.{unwrap_or}
 use Rattle.std.specs.Int.{bit_at, bit_not}
-use Rattle.std.specs.Prelude.{unwrap_or, option_map}
 use Rattle.std.proofs.lemmas.Bool.Decides.{nat_tests}
 use Rattle.std.proofs.lemmas.Nat.Bits.{bit_at_and, bit_at-lt}
-use Rattle.tp_machine.specs.Using.{action_at, is_allowed, is_held_out, is_out, is_out_of}
+use Rattle.tp_machine.specs.Using.{action_at, is_allowed, is_held_out, is_out, is_out_of, put_on}
 use Rattle.tp_machine.specs.declared.parts.Action.{Action}
 use Rattle.tp_machine.specs.declared.parts.ActId.{ActId}
 use Rattle.tp_machine.specs.declared.parts.HoldRule.{HoldRule}
@@ -16,7 +16,7 @@ use Rattle.tp_schedule.specs.Routes.{is_act_allowed}
 use Rattle.tp_schedule.specs.declared.parts.Plan.{Plan}
 use Rattle.tp_turn.specs.Keeping.{KeepsPlans, KeepsLines, KeepsSheets, is_clear}
 use Rattle.tp_turn.specs.Moments.{is_started}
-use Rattle.tp_turn.specs.States.{SessionState, put_on}
+use Rattle.tp_turn.specs.States.{SessionState}
 use Rattle.tp_turn.specs.Turns.{with_on}
 use Rattle.tp_turn.proofs.TestFacts.{list_all_mono}
 
@@ -87,5 +87,5 @@ lines-on machine m s keeps = record {
   fronts = keeps.fronts;
 }
 
-pub sheets-on : (m : ℕ) (s : SessionState) → KeepsSheets s → KeepsSheets (with_on m s)
-sheets-on m s keeps = record { each = keeps.each; waiting_sheets = keeps.waiting_sheets; planned_sheets = keeps.planned_sheets; older = keeps.older }
+pub sheets-on : (m : ℕ) (totals : List ℕ) (s : SessionState) → KeepsSheets totals s → KeepsSheets totals (with_on m s)
+sheets-on m totals s keeps = record { known = keeps.known; each = keeps.each; waiting_sheets = keeps.waiting_sheets; planned_sheets = keeps.planned_sheets; older = keeps.older }

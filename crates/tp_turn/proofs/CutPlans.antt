@@ -1,5 +1,5 @@
 -- The front of a plan is what is left of it, and what befalls the copies leaves less of a schedule.
-use Rattle.std.proofs.Common.{◌≡◌, ℕ, zero, suc, ◌+◌, ◌<◌, ◌≤◌, Bool, true, false, cond, List, [], ◌∷◌, ◌++◌, length, take, filter, refl, arith, Option, Some, None, option_and_then, slice_index, nat_le, ◌||◌, nat_lt}
+use Rattle.std.proofs.Common.{◌≡◌, ℕ, zero, suc, ◌+◌, ◌<◌, ◌≤◌, Bool, true, false, cond, List, [], ◌∷◌, ◌++◌, length, take, filter, refl, arith, inl, inr, subst, Contains, Option, Some, None, option_and_then, slice_index, nat_le, ◌||◌, nat_lt}
 use Rattle.std.specs.List.{list_any}
 use Rattle.std.proofs.lemmas.Bool.Decides.{nat_tests}
 use Rattle.std.proofs.lemmas.List.{get_or-take, length-take-le, length-take}
@@ -20,6 +20,7 @@ use Rattle.tp_schedule.specs.declared.parts.SheetId.{SheetId}
 use Rattle.tp_turn.specs.Fates as fates
 use Rattle.tp_turn.specs.Fates.{Fate, left_of, left_by, is_cut_by}
 use Rattle.tp_turn.specs.Moments.{is_started, is_unstarted, started_count, front_of}
+use Rattle.tp_schedule.proofs.Membership.{Contains-cons_cases, Contains-here, Contains-later}
 use Rattle.tp_turn.proofs.LeftPlans.{IsLeft, IsLeft-refl, AreLeft, none, gone, more}
 
 -- the first actions of a walk lead somewhere
@@ -53,6 +54,21 @@ runs-take test sheet m (suc n) (suc (suc k)) (act ∷ acts) (start ∷ end ∷ p
           ≤ length (cond b (record { sheet = sheet; number = m; act = act; start = start; end = end } ∷ filter test (runs_from sheet (m + 1) acts (end ∷ points))) (filter test (runs_from sheet (m + 1) acts (end ∷ points))))
       go true fewer = omega arith
       go false fewer = fewer
+
+runs-within : (sheet : SheetId) (m n k : ℕ) (acts : List ActId) (points : List ℕ) (run : Run) → Contains (runs_from sheet m (take n acts) (take k points)) run → Contains (runs_from sheet m acts points) run
+runs-within sheet m zero k acts points run in' = absurd (omega (arith, in'.1))
+runs-within sheet m (suc n) k [] points run in' = absurd (omega (arith, in'.1))
+runs-within sheet m (suc n) zero (act ∷ acts) points run in' = absurd (omega (arith, in'.1))
+runs-within sheet m (suc n) (suc k) (act ∷ acts) [] run in' = absurd (omega (arith, in'.1))
+runs-within sheet m (suc n) (suc zero) (act ∷ acts) (start ∷ []) run in' = absurd (omega (arith, in'.1))
+runs-within sheet m (suc n) (suc (suc k)) (act ∷ acts) (start ∷ []) run in' = absurd (omega (arith, in'.1))
+runs-within sheet m (suc n) (suc zero) (act ∷ acts) (start ∷ end ∷ points) run in' = absurd (omega (arith, in'.1))
+runs-within sheet m (suc n) (suc (suc k)) (act ∷ acts) (start ∷ end ∷ points) run in' =
+    let first : Run = record { sheet = sheet; number = m; act = act; start = start; end = end } in
+    elim (Contains-cons_cases first (runs_from sheet (m + 1) (take n acts) (end ∷ take k points)) run in') [
+      | inl same ↦ subst (Contains (first ∷ runs_from sheet (m + 1) acts (end ∷ points))) same (Contains-here first (runs_from sheet (m + 1) acts (end ∷ points)))
+      | inr later ↦ Contains-later first (runs_from sheet (m + 1) acts (end ∷ points)) run (runs-within sheet (m + 1) n (suc k) acts (end ∷ points) run later)
+    ]
 
 pub length-runs_from : (sheet : SheetId) (m : ℕ) (acts : List ActId) (points : List ℕ) → length points ≡ length acts + 1 → length (runs_from sheet m acts points) ≡ length acts
 length-runs_from sheet m [] points e = refl
@@ -128,6 +144,7 @@ IsLeft-cut_after machine n goal p range = record {
   sheet = refl;
   timed = λ timed. IsTimedPlan-cut_after machine n goal p (range timed).0 (range timed).1 timed;
   holds = λ resource tick. runs-take (holds_at machine resource tick) p.sheet 1 n (n + 1) p.acts p.points;
+  runs = λ run in'. runs-within p.sheet 1 n (n + 1) p.acts p.points run in';
   delivered = λ tray to. absurd (cc);
   live = λ now e. live-cut machine now n goal p e;
   unreleased = λ i released within. absurd (let count = length-take n p.acts in omega arith);

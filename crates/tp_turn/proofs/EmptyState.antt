@@ -1,6 +1,6 @@
 -- All that is kept between events holds in the empty state.
-use Rattle.std.proofs.Common.{[], refl, arith, IsTrue}
-use Rattle.std.specs.Prelude.{◌≢◌, IsFalse, Contains}
+use Rattle.std.proofs.Common.{◌≢◌, ◌-◌, [], refl, arith, Contains, IsTrue}
+use Rattle.std.specs.Prelude.{IsFalse}
 use Rattle.std.proofs.lemmas.List.Elements.{All-nil}
 use Rattle.tp_machine.specs.declared.whole.Machine.{Machine}
 use Rattle.tp_jobs.specs.declared.parts.Job.{Job}
@@ -13,7 +13,7 @@ use Rattle.tp_turn.specs.Keeping.{KeepsState, IsLeastAt, is_planned_among, is_kn
 use Rattle.tp_turn.specs.States.{empty_state}
 use Rattle.tp_turn.proofs.LawfulLogs.{plannable-empty}
 
-pub kept-empty : (machine : Machine) → KeepsState machine empty_state
+pub kept-empty : (machine : Machine) → KeepsState machine [] empty_state
 kept-empty machine =
     let can = plannable-empty machine in
     record {
@@ -32,6 +32,7 @@ kept-empty machine =
         fronts = refl;
       };
       sheets = record {
+        known = refl;
         each = λ job number known whole first last. absurd (omega arith);
         waiting_sheets = All-nil (λ (w : WaitingCopy). IsTrue (is_sheet_of [] w.sheet));
         planned_sheets = All-nil (λ (p : Plan). IsTrue (is_sheet_of [] p.sheet));

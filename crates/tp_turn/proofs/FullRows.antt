@@ -16,7 +16,7 @@ crowd n = record {
   now = 0;
   plans = replicate n only_plan;
   lost = [];
-  jobs = job (codes "j1") 3 3 ∷ job (codes "j2") 4 1 ∷ [];
+  jobs = job (codes "j1") 3 ∷ job (codes "j2") 4 ∷ [];
   waiting = waits (sheet 0 2 1) mono_sheet ∷ waits (sheet 0 3 1) mono_sheet ∷ waits (sheet 1 1 1) mono_sheet ∷ [];
   outs = none_out;
 }

@@ -22,7 +22,7 @@ jammed = record {
   now = 6;
   plans = lost_front ∷ second_copy ∷ [];
   lost = sheet 0 1 1 ∷ [];
-  jobs = job (codes "j1") 3 1 ∷ [];
+  jobs = job (codes "j1") 3 ∷ [];
   waiting = [];
   outs = record { 0 = 4 };
 }

@@ -20,6 +20,7 @@ plannable-empty machine = record {
     in_order = AllPairs-nil IsEarlier;
     timed = All-nil (IsTimedPlan machine);
     single = λ resource tick. omega arith;
+    spread = λ resource tick other m n h. absurd (omega (arith, h.planned.1));
     rise = AllPairs-nil EndsBefore;
   };
   floors = λ p in' not_exempt i released within. absurd (omega (arith, in'.1));

@@ -7,12 +7,13 @@ use Rattle.std.proofs.lemmas.List.Elements.{All-nil, All-cons, All-head, All-tai
 use Rattle.std.proofs.lemmas.List.Sums.{length-filter}
 use Rattle.tp_machine.specs.declared.whole.Machine.{Machine}
 use Rattle.tp_schedule.specs.Answers.{KeepsFloors, KeepsHorizon}
-use Rattle.tp_schedule.specs.Holding.{runs, runs_of, held, hold_of, holds_at}
+use Rattle.tp_schedule.specs.Holding.{Run, runs, runs_of, held, hold_of, holds_at, IsHeldIn}
 use Rattle.tp_schedule.specs.Legality.{IsLegal, EndsBefore}
 use Rattle.tp_schedule.specs.Living.{is_live, live_count}
 use Rattle.tp_schedule.specs.Planning.{none_exempt}
 use Rattle.tp_schedule.specs.Plans.{IsTimedPlan, IsEarlier, is_before, is_fixed, is_delivered_to, end_of_plan, point}
 use Rattle.tp_schedule.specs.declared.parts.Plan.{Plan}
+use Rattle.tp_schedule.proofs.HeldModes.{spread-fewer}
 use Rattle.tp_schedule.proofs.Membership.{Contains-cons_cases, Contains-here, Contains-later}
 use Rattle.tp_schedule.proofs.Pairs.{AllPairs-nil, AllPairs-cons, AllPairs-head, AllPairs-tail}
 
@@ -20,6 +21,7 @@ pub record IsLeft (machine : Machine) (p p' : Plan) : Type 0 where
   pub sheet : p'.sheet ≡ p.sheet
   pub timed : IsTimedPlan machine p → IsTimedPlan machine p'
   pub holds : (resource tick : ℕ) → length (filter (holds_at machine resource tick) (runs_of p')) ≤ length (filter (holds_at machine resource tick) (runs_of p))
+  pub runs : (run : Run) → Contains (runs_of p') run → Contains (runs_of p) run
   pub delivered : (tray : ℕ) → IsTrue (is_delivered_to p' tray) → IsTrue (is_delivered_to p tray) × (end_of_plan p' ≡ end_of_plan p)
   pub live : (now : ℕ) → is_live machine now p' ≡ true → is_live machine now p ≡ true
   pub unreleased : (i : ℕ) → p'.released ≤ i → i < length p'.acts → (p.released ≤ i) × (i < length p.acts) × (point p' i ≡ point p i)
@@ -74,6 +76,11 @@ runs-left machine resource tick _ _ (more p p' plans plans' left rest) =
     )
     (omega arith)
 
+held-left : (machine : Machine) (plans plans' : List Plan) → AreLeft machine plans plans' → (resource tick mode : ℕ) → IsHeldIn machine plans' resource tick mode → IsHeldIn machine plans resource tick mode
+held-left machine plans plans' left resource tick mode h =
+    let from = Contains-left machine plans plans' left h.plan h.planned in
+    record { plan = from.0; planned = from.1; run = h.run; runs = from.2.runs h.run h.runs; hold = h.hold; holds = h.holds; covers = h.covers; mode_is = h.mode_is }
+
 earlier-left : (machine : Machine) (p p' q q' : Plan) → IsLeft machine p p' → IsLeft machine q q' → IsEarlier p q → IsEarlier p' q'
 earlier-left machine p p' q q' left left' before =
     subst (λ s. IsTrue (is_before s q'.sheet)) (sym left.sheet) (subst (λ s. IsTrue (is_before p.sheet s)) (sym left'.sheet) before)
@@ -96,6 +103,7 @@ IsLegal-left machine plans plans' left legal = record {
       (let once : length (held machine plans resource tick) ≤ 1 = legal.single resource tick in
       let counted = length-map (filter (holds_at machine resource tick) (runs plans)) hold_of in
       let fewer = runs-left machine resource tick plans plans' left in omega arith);
+  spread = λ resource tick. spread-fewer machine plans plans' resource tick (λ t mode h. held-left machine plans plans' left resource t mode h) (legal.spread resource tick);
   rise = AllPairs-left machine EndsBefore EndsBefore (ends-left machine) plans plans' left legal.rise;
 }
 
@@ -121,6 +129,7 @@ IsLeft-refl machine p = record {
   sheet = refl;
   timed = λ t. t;
   holds = λ resource tick. omega arith;
+  runs = λ run in'. in';
   delivered = λ tray to. (to, refl);
   live = λ now e. e;
   unreleased = λ i released within. (released, within, refl);
@@ -137,6 +146,7 @@ IsLeft-trans machine p q r left left' = record {
   sheet = left'.sheet ∙ left.sheet;
   timed = λ timed. left'.timed (left.timed timed);
   holds = λ resource tick. let one = left.holds resource tick in let other = left'.holds resource tick in omega arith;
+  runs = λ run in'. left.runs run (left'.runs run in');
   delivered = λ tray to. let one = left'.delivered tray to in let other = left.delivered tray one.0 in (other.0, one.1 ∙ other.1);
   live = λ now e. left.live now (left'.live now e);
   unreleased = λ i released within. let one = left'.unreleased i released within in let other = left.unreleased i one.0 one.1 in (other.0, other.1, one.2 ∙ other.2);

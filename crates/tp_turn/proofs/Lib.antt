@@ -42,3 +42,7 @@ pub mod AskedKept
 pub mod AskedTurns
 pub mod KeptTurns
 pub mod LeastTurns
+pub mod ReadyAsked
+pub mod ReadyTurns
+pub mod ReadyFacts
+pub mod LogRows

@@ -1,5 +1,5 @@
 -- A move of the clock keeps lines and sheets, and no more copies are live or on their way after it.
-use Rattle.std.proofs.Common.{◌≡◌, ℕ, ◌+◌, List, ◌++◌, map, filter, refl, sym, ap, ◌∙◌, All, AllPairs, Any, IsTrue, subst}
+use Rattle.std.proofs.Common.{◌≡◌, ℕ, ◌+◌, ◌-◌, List, ◌++◌, map, filter, refl, sym, ap, ◌∙◌, All, AllPairs, Any, IsTrue, subst}
 use Rattle.std.specs.Prelude.{IsFalse}
 use Rattle.std.proofs.lemmas.List.Elements.{All-weaker}
 use Rattle.tp_machine.specs.declared.whole.Machine.{Machine}
@@ -46,11 +46,18 @@ lines-clock machine to s keeps =
 open-clock : (machine : Machine) (to : ℕ) (s : SessionState) → open_copies (clock_move machine to s).state ≡ open_copies s
 open-clock machine to s = ap (λ l. map (λ w. w.sheet) s.waiting ++ l) (tray_sheets-released (to + machine.lead) s.plans)
 
-pub sheets-clock : (machine : Machine) (to : ℕ) (s : SessionState) → KeepsSheets s → KeepsSheets (clock_move machine to s).state
-sheets-clock machine to s keeps = record {
+-- no planned copy is older than an open one of its sheet, as before
+pub older-clock : (machine : Machine) (to : ℕ) (s : SessionState) → All (λ p. All (IsOlder p) (open_copies s)) s.plans
+    → All (λ p. All (IsOlder p) (open_copies (clock_move machine to s).state)) (released_until machine to s.plans)
+older-clock machine to s older =
+    subst (λ l. All (λ p. All (IsOlder p) l) (released_until machine to s.plans)) (sym (open-clock machine to s))
+    (All-map_to (λ p. All (IsOlder p) (open_copies s)) (release_until (to + machine.lead)) (λ p h. h) s.plans older)
+
+pub sheets-clock : (machine : Machine) (to : ℕ) (totals : List ℕ) (s : SessionState) → KeepsSheets totals s → KeepsSheets totals (clock_move machine to s).state
+sheets-clock machine to totals s keeps = record {
+  known = keeps.known;
   each = λ job number known whole first last. subst (Any (λ copy. IsTrue (is_copy_of job number copy))) (sym (open-clock machine to s)) (keeps.each job number known whole first last);
   waiting_sheets = keeps.waiting_sheets;
-  planned_sheets = All-map_to (λ p. IsTrue (is_sheet_of s.jobs p.sheet)) (release_until (to + machine.lead)) (λ p h. h) s.plans keeps.planned_sheets;
-  older = subst (λ l. All (λ p. All (IsOlder p) l) (released_until machine to s.plans)) (sym (open-clock machine to s))
-      (All-map_to (λ p. All (IsOlder p) (open_copies s)) (release_until (to + machine.lead)) (λ p h. h) s.plans keeps.older);
+  planned_sheets = All-map_to (λ p. IsTrue (is_sheet_of totals p.sheet)) (release_until (to + machine.lead)) (λ p h. h) s.plans keeps.planned_sheets;
+  older = older-clock machine to s keeps.older;
 }

@@ -1,8 +1,9 @@
 -- After a move of the clock no more copies are live or on their way than before, and none is to run on a module that is out.
-use Rattle.std.proofs.Common.{◌≡◌, ℕ, ◌+◌, ◌≤◌, Bool, true, false, ◌&&◌, ◌||◌, List, [], ◌∷◌, map, refl, arith, IsTrue, nat_le, nat_lt, ℤ, pos, negsuc, int_lt}
+use Rattle.std.proofs.Common.{◌≡◌, ℕ, ◌+◌, ◌≤◌, Bool, true, false, ◌&&◌, ◌||◌, List, [], ◌∷◌, map, refl, arith, IsTrue, nat_le, nat_lt, ℤ, pos, negsuc, ◌+ℤ◌, int_lt}
 use Rattle.std.specs.List.{list_any, list_all}
 use Rattle.std.proofs.lemmas.Bool.Decides.{nat_tests}
 use Rattle.std.proofs.lemmas.List.Sums.{length-filter}
+use Rattle.tp_machine.specs.Modes.{gap_at}
 use Rattle.tp_machine.specs.Using.{action_at, end_of}
 use Rattle.tp_machine.specs.declared.whole.Machine.{Machine}
 use Rattle.tp_schedule.specs.Holding.{Run, runs_of, holds_of_act}
@@ -21,7 +22,7 @@ later_ends now to (negsuc n) low e = absurd (cc)
 
 later_held : (machine : Machine) (now to : ℕ) (run : Run) → now ≤ to → is_held_after machine to run ≡ true → is_held_after machine now run ≡ true
 later_held machine now to run low e =
-    list_any_mono (ends_after to run.start run.end) (ends_after now run.start run.end) (λ h f. later_ends now to (end_of h run.start run.end) low f) (holds_of_act (action_at machine run.act.0)) e
+    list_any_mono (ends_after machine to run.start run.end) (ends_after machine now run.start run.end) (λ h f. later_ends now to (end_of h run.start run.end +ℤ pos (gap_at machine h.resource.0)) low f) (holds_of_act (action_at machine run.act.0)) e
 
 later_live : (machine : Machine) (now to : ℕ) (p : Plan) → now ≤ to → is_live machine to p ≡ true → is_live machine now p ≡ true
 later_live machine now to p low e = go (list_any (nat_lt to) p.points) refl (list_any (nat_lt now) p.points) refl e where

@@ -23,7 +23,7 @@ planned_two = record {
   now = 0;
   plans = first_plan ∷ second_plan ∷ [];
   lost = [];
-  jobs = job (codes "j1") 3 2 ∷ [];
+  jobs = job (codes "j1") 3 ∷ [];
   waiting = [];
   outs = none_out;
 }
@@ -65,7 +65,7 @@ pub out_goes_off : play duo (Off (codes "OUT")) at_four (answers Planned (dumped
       now = 4;
       plans = dumping;
       lost = [];
-      jobs = job (codes "j1") 3 2 ∷ [];
+      jobs = job (codes "j1") 3 ∷ [];
       waiting = waits (sheet 0 1 1) mono_sheet ∷ waits (sheet 0 2 2) mono_sheet ∷ [];
       outs = record { 0 = 8 };
     })
@@ -83,7 +83,7 @@ to_dump = record {
   now = 6;
   plans = dumped_at_six ∷ [];
   lost = [];
-  jobs = job (codes "j1") 3 1 ∷ [];
+  jobs = job (codes "j1") 3 ∷ [];
   waiting = waits (sheet 0 1 2) mono_sheet ∷ [];
   outs = record { 0 = 8 };
 }
@@ -106,7 +106,7 @@ all_out = record {
   now = 6;
   plans = stuck_front ∷ [];
   lost = sheet 0 1 1 ∷ [];
-  jobs = job (codes "j1") 3 1 ∷ [];
+  jobs = job (codes "j1") 3 ∷ [];
   waiting = waits (sheet 0 1 2) mono_sheet ∷ [];
   outs = record { 0 = 28 };
 }

@@ -130,6 +130,7 @@ IsLeft-to_purge machine p is = record {
     ends = subst (λ k. EndsIn machine (to_purge p) k timed.end) (sym (front-is p.kind is)) tt;
   };
   holds = λ resource tick. omega arith;
+  runs = λ run in'. in';
   delivered = λ tray to. absurd (and_false (not (is_front p.kind)) to);
   live = λ now e. e;
   unreleased = λ i released within. (released, within, refl);

@@ -65,6 +65,7 @@ IsLeft-release machine last p = record {
   sheet = refl;
   timed = λ timed. IsTimedPlan-release machine last p timed;
   holds = λ resource tick. omega arith;
+  runs = λ run in'. in';
   delivered = λ tray to. (to, refl);
   live = λ now e. e;
   unreleased = λ i released within. (omega arith, within, refl);

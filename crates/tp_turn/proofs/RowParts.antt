@@ -29,8 +29,8 @@ group n = record { count = n; front = Mono; back = Blank; face = FrontUp }
 abbrev pub plain : ℕ → GroupForm
 plain n = record { count = n; front = Blank; back = Blank; face = FrontUp }
 
-abbrev pub job : List ℕ → ℕ → ℕ → Job
-job name tray sheets = record { name = name; tray = loc tray; sheets = sheets; broken = false }
+abbrev pub job : List ℕ → ℕ → Job
+job name tray = record { name = name; tray = loc tray; broken = false }
 
 abbrev pub waits : SheetId → Sheet → WaitingCopy
 waits copy want = record { sheet = copy; want = want }

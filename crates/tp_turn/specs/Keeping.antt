@@ -1,5 +1,5 @@
 -- What a state keeps between events, and its live part.
-use Rattle.std.specs.Prelude.{◌≡◌, ◌≢◌, ℕ, ◌+◌, ◌<◌, ◌≤◌, Bool, true, ◌&&◌, ◌||◌, ◌==◌, nat_lt, nat_le, List, ◌++◌, length, map, filter, count_by, All, AllPairs, Any, Contains, IsTrue, IsFalse}
+use Rattle.std.specs.Prelude.{◌≡◌, ◌≢◌, ℕ, ◌+◌, ◌<◌, ◌≤◌, Bool, true, ◌&&◌, ◌||◌, ◌==◌, nat_lt, nat_le, List, ◌++◌, length, slice_index, map, filter, count_by, All, AllPairs, Any, Contains, IsTrue, IsFalse}
 use Rattle.std.specs.List.{list_any, list_all}
 use Rattle.std.specs.Str.{bytes_eq}
 use Rattle.tp_machine.specs.declared.whole.Machine.{Machine}
@@ -18,7 +18,7 @@ use Rattle.tp_jobs.specs.declared.parts.Job.{Job}
 use Rattle.tp_jobs.specs.declared.parts.WaitingCopy.{WaitingCopy}
 use Rattle.tp_jobs.specs.Backlogs.{tray_of}
 use Rattle.tp_turn.specs.States.{SessionState}
-use Rattle.tp_turn.specs.Lines.{sheet_total, is_job_broken, is_same_line}
+use Rattle.tp_turn.specs.Lines.{is_job_broken, is_same_line}
 use Rattle.tp_turn.specs.Labels.{job_name}
 use Rattle.tp_turn.specs.Moments.{is_started, is_tray_plan}
 use Rattle.tp_turn.specs.Asking.{most_live}
@@ -95,19 +95,24 @@ pub record KeepsLines (s : SessionState) : Type 0 where
 abbrev pub is_copy_of : ℕ → ℕ → SheetId → Bool
 is_copy_of job number copy = (copy.job == job) && (copy.number == number)
 
-abbrev pub is_sheet_of : List Job → SheetId → Bool
-is_sheet_of jobs copy = nat_le 1 copy.number && nat_le copy.number (sheet_total jobs copy.job)
+-- how many sheets each job has, in the order of arrival, is told beside the state
+abbrev pub total_of : List ℕ → ℕ → ℕ
+total_of totals job = slice_index totals job
+
+abbrev pub is_sheet_of : List ℕ → SheetId → Bool
+is_sheet_of totals copy = nat_le 1 copy.number && nat_le copy.number (total_of totals copy.job)
 
 -- a copy that was lost or given up is older than the open copy of its sheet
 abbrev pub IsOlder : Plan → SheetId → Type 0
 IsOlder p copy = IsFalse (is_tray_plan p) → IsTrue (is_same_sheet p.sheet copy) → p.sheet.copy < copy.copy
 
--- each sheet of a job that is not broken has an open copy; with `one` it has exactly one
-pub record KeepsSheets (s : SessionState) : Type 0 where
-  pub each : (job number : ℕ) → job < length s.jobs → IsFalse (is_job_broken s.jobs job) → 1 ≤ number → number ≤ sheet_total s.jobs job
+-- there is a total for each job, and each sheet of a job that is not broken has an open copy; with `one` it has exactly one
+pub record KeepsSheets (totals : List ℕ) (s : SessionState) : Type 0 where
+  pub known : length totals ≡ length s.jobs
+  pub each : (job number : ℕ) → job < length s.jobs → IsFalse (is_job_broken s.jobs job) → 1 ≤ number → number ≤ total_of totals job
       → Any (λ copy. IsTrue (is_copy_of job number copy)) (open_copies s)
-  pub waiting_sheets : All (λ w. IsTrue (is_sheet_of s.jobs w.sheet)) s.waiting
-  pub planned_sheets : All (λ p. IsTrue (is_sheet_of s.jobs p.sheet)) s.plans
+  pub waiting_sheets : All (λ w. IsTrue (is_sheet_of totals w.sheet)) s.waiting
+  pub planned_sheets : All (λ p. IsTrue (is_sheet_of totals p.sheet)) s.plans
   pub older : All (λ p. All (IsOlder p) (open_copies s)) s.plans
 
 -- jobs have trays of the machine, and different names
@@ -116,11 +121,11 @@ pub record KeepsJobs (machine : Machine) (jobs : List Job) : Type 0 where
   pub names : AllPairs (λ i j. i.name ≢ j.name) jobs
 
 -- what is kept between events: jobs, plans, lines and sheets
-pub record KeepsState (machine : Machine) (s : SessionState) : Type 0 where
+pub record KeepsState (machine : Machine) (totals : List ℕ) (s : SessionState) : Type 0 where
   pub jobs : KeepsJobs machine s.jobs
   pub plans : KeepsPlans machine s
   pub lines : KeepsLines s
-  pub sheets : KeepsSheets s
+  pub sheets : KeepsSheets totals s
 
 -- and that the schedule is least
 abbrev pub IsLeastAt : Machine → SessionState → Type 0

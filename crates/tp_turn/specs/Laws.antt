@@ -1,9 +1,9 @@
 -- Laws of turns. A law on a planner stands with the call that carries it.
-use Rattle.std.specs.Prelude.{◌≡◌, ℕ, ◌≤◌, Bool, true, false, List, [], ◌∷◌, ◌++◌, length, Some, None, Contains, IsTrue, IsFalse}
+use Rattle.std.specs.Prelude.{◌≡◌, ℕ, ◌≤◌, Bool, true, false, List, [], ◌∷◌, ◌++◌, length, Option, Some, None, Contains, IsTrue, IsFalse}
 use Rattle.tp_machine.specs.declared.whole.Machine.{Machine}
 use Rattle.tp_script.specs.Form.{GroupForm}
 use Rattle.tp_script.specs.declared.event.Event.{Event}
-use Rattle.tp_script.specs.declared.event.Event.TheVariants.{Jam, Off, Clock}
+use Rattle.tp_script.specs.declared.event.Event.TheVariants.{Job as NewJob, Jam, Off, Clock}
 use Rattle.tp_schedule.specs.Living.{live_count}
 use Rattle.tp_schedule.specs.Planning.{CanPlanOn, last_tick}
 use Rattle.tp_schedule.specs.Planning.Deed.{replied}
@@ -17,7 +17,8 @@ use Rattle.tp_turn.specs.Answering.{Answer}
 use Rattle.tp_turn.specs.Clock.{clock_move, released_until}
 use Rattle.tp_turn.specs.FallBacks.{Displaced, fall_back, job_break}
 use Rattle.tp_turn.specs.Fates.{Fate, befall, is_cut_by}
-use Rattle.tp_turn.specs.Keeping.{KeepsJobs, KeepsPlans, KeepsLines, KeepsSheets}
+use Rattle.tp_jobs.specs.Refusing.{sheet_count}
+use Rattle.tp_turn.specs.Keeping.{KeepsJobs, KeepsPlans, KeepsLines, KeepsSheets, KeepsState}
 use Rattle.tp_turn.specs.Loops.{after_one, after_answers, next_ask}
 use Rattle.tp_turn.specs.Moments.{is_unstarted}
 use Rattle.tp_turn.specs.Outages.{outage}
@@ -72,7 +73,7 @@ abbrev pub ClockKeepsLines : Type 0
 ClockKeepsLines = (machine : Machine) (to : ℕ) (s : SessionState) → KeepsLines s → KeepsLines (clock_move machine to s).state
 
 abbrev pub ClockKeepsSheets : Type 0
-ClockKeepsSheets = (machine : Machine) (to : ℕ) (s : SessionState) → KeepsSheets s → KeepsSheets (clock_move machine to s).state
+ClockKeepsSheets = (machine : Machine) (to : ℕ) (totals : List ℕ) (s : SessionState) → KeepsSheets totals s → KeepsSheets totals (clock_move machine to s).state
 
 abbrev pub ClockKeepsPlans : Type 0
 ClockKeepsPlans = (machine : Machine) (to : ℕ) (s : SessionState) → s.now ≤ to → to ≤ last_tick
@@ -95,8 +96,8 @@ JobKeepsLines = (machine : Machine) (name tray media : List ℕ) (groups : List 
     → KeepsLines s → KeepsLines (with_job machine name tray media groups s)
 
 abbrev pub JobKeepsSheets : Type 0
-JobKeepsSheets = (machine : Machine) (name tray media : List ℕ) (groups : List GroupForm) (s : SessionState)
-    → KeepsLines s → KeepsSheets s → KeepsSheets (with_job machine name tray media groups s)
+JobKeepsSheets = (machine : Machine) (name tray media : List ℕ) (groups : List GroupForm) (totals : List ℕ) (s : SessionState)
+    → KeepsLines s → KeepsSheets totals s → KeepsSheets (totals ++ sheet_count groups ∷ []) (with_job machine name tray media groups s)
 
 -- the events that make a module go out, and those that move the clock
 abbrev pub is_outage : Event → Bool
@@ -108,6 +109,14 @@ abbrev pub is_clock : Event → Bool
 is_clock (Clock to) = true
 is_clock _ = false
 
+-- the totals of sheets after an event: an accepted job has one more
+abbrev pub totals_by : Option Cause → Event → List ℕ → List ℕ
+totals_by None (NewJob name tray media groups) totals = totals ++ sheet_count groups ∷ []
+totals_by _ event totals = totals
+
+abbrev pub totals_after : Machine → SessionState → Event → List ℕ → List ℕ
+totals_after machine s event totals = totals_by (refusal machine s event) event totals
+
 -- a module that comes back
 abbrev pub OnKeepsPlans : Type 0
 OnKeepsPlans = (machine : Machine) (m : ℕ) (s : SessionState) → KeepsPlans machine s → KeepsPlans machine (with_on m s)
@@ -116,7 +125,7 @@ abbrev pub OnKeepsLines : Type 0
 OnKeepsLines = (machine : Machine) (m : ℕ) (s : SessionState) → KeepsLines s → KeepsLines (with_on m s)
 
 abbrev pub OnKeepsSheets : Type 0
-OnKeepsSheets = (m : ℕ) (s : SessionState) → KeepsSheets s → KeepsSheets (with_on m s)
+OnKeepsSheets = (m : ℕ) (totals : List ℕ) (s : SessionState) → KeepsSheets totals s → KeepsSheets totals (with_on m s)
 
 -- Laws on a planner, by what is known of its steps.
 
@@ -144,6 +153,11 @@ module _ {P : Type 0} (planner_steps : PlannerSteps P) (machine : Machine) where
   abbrev pub TurnsKeep : (Event → Type 0) → (SessionState → Type 0) → Type 0
   TurnsKeep Is Keeps = (event : Event) (s : SessionState) (planner : P) (records : List Record) (s' : SessionState) (planner' : P)
       → Is event → Turn planner_steps machine event s planner records s' planner' → Keeps s → Keeps s'
+
+  -- what is kept between events is kept through a turn of such an event, with a total for the sheets of a new job
+  abbrev pub TurnsKeepState : (Event → Type 0) → Type 0
+  TurnsKeepState Is = (event : Event) (totals : List ℕ) (s : SessionState) (planner : P) (records : List Record) (s' : SessionState) (planner' : P)
+      → Is event → Turn planner_steps machine event s planner records s' planner' → KeepsState machine totals s → KeepsState machine (totals_after machine s event totals) s'
 
 -- any event, any but one that makes a module go out, and any but a move of the clock
 abbrev pub IsAny : Event → Type 0

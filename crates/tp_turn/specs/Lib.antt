@@ -17,3 +17,5 @@ pub mod Receiving
 pub mod Keeping
 pub mod Seen
 pub mod Laws
+pub mod LiveStates
+pub mod Ready

@@ -10,17 +10,10 @@ use Rattle.tp_jobs.specs.declared.parts.Job.{Job}
 use Rattle.tp_jobs.specs.declared.parts.WaitingCopy.{WaitingCopy}
 use Rattle.tp_turn.specs.States.{SessionState}
 
--- how many sheets a job has, and whether it is broken
-abbrev pub sheets_in : Option Job → ℕ
-sheets_in None = 0
-sheets_in (Some j) = j.sheets
-
+-- whether a job is broken
 abbrev pub broken_in : Option Job → Bool
 broken_in None = false
 broken_in (Some j) = j.broken
-
-abbrev pub sheet_total : List Job → ℕ → ℕ
-sheet_total jobs job = sheets_in (slice_get jobs job)
 
 abbrev pub is_job_broken : List Job → ℕ → Bool
 is_job_broken jobs job = broken_in (slice_get jobs job)

@@ -4,7 +4,8 @@ use Rattle.std.specs.Prelude.{ℕ, Bool, true, false, not, ◌&&◌, List, [], �
 use Rattle.tp_machine.specs.declared.whole.Machine.{Machine}
 use Rattle.tp_schedule.specs.declared.parts.Plan.{Plan}
 use Rattle.tp_schedule.specs.declared.recording.Record.{Record}
-use Rattle.tp_turn.specs.States.{SessionState, Outcome, and_then, for_each, put_out}
+use Rattle.tp_turn.specs.States.{SessionState, Outcome, and_then, for_each}
+use Rattle.tp_machine.specs.Using.{put_out}
 use Rattle.tp_turn.specs.Moments.{is_unstarted, is_to_tray, is_running_on, is_to_run_on}
 use Rattle.tp_turn.specs.Fates as fates
 use Rattle.tp_turn.specs.Fates.{Fate, told_by, befall}

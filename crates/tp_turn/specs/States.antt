@@ -1,6 +1,5 @@
 -- The state of a session, and what a part of an event gives: records, and the next state.
-use Rattle.std.specs.Prelude.{ℕ, ◌^◌, bit_and, bit_or, List, [], ◌∷◌, ◌++◌}
-use Rattle.std.specs.Int.{bit_not, w64}
+use Rattle.std.specs.Prelude.{ℕ, List, [], ◌∷◌, ◌++◌}
 use Rattle.tp_machine.specs.declared.parts.Outs.{Outs}
 use Rattle.tp_schedule.specs.declared.parts.Plan.{Plan}
 use Rattle.tp_schedule.specs.declared.parts.SheetId.{SheetId}
@@ -23,13 +22,6 @@ none_out = record { 0 = 0 }
 
 abbrev pub empty_state : SessionState
 empty_state = record { now = 0; plans = []; lost = []; jobs = []; waiting = []; outs = none_out }
-
--- the modules that are out, with one more, and with one less
-abbrev pub put_out : Outs → ℕ → Outs
-put_out outs m = record { 0 = bit_or outs.0 (2 ^ m) }
-
-abbrev pub put_on : Outs → ℕ → Outs
-put_on outs m = record { 0 = bit_and outs.0 (bit_not w64 (2 ^ m)) }
 
 -- what is told, and the state after it
 pub record Outcome : Type 0 where

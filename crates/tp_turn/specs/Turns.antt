@@ -8,7 +8,8 @@ use Rattle.tp_script.specs.declared.event.Event.TheVariants.{Bad, Job as NewJob,
 use Rattle.tp_schedule.specs.declared.recording.Record.{Record}
 use Rattle.tp_schedule.specs.declared.recording.Record.TheVariants.{Refused}
 use Rattle.tp_jobs.specs.Waiting.{first_copies, new_job, sheets_of}
-use Rattle.tp_turn.specs.States.{SessionState, put_on}
+use Rattle.tp_machine.specs.Using.{put_on}
+use Rattle.tp_turn.specs.States.{SessionState}
 use Rattle.tp_turn.specs.Refusals.{refusal, module_of}
 use Rattle.tp_turn.specs.Clock.{clock_move}
 use Rattle.tp_turn.specs.Planners.{PlannerSteps, GoesOut}

@@ -1,9 +1,10 @@
 // What holds of turns. The calls do nothing: their contracts are the laws.
+ghost use Rattle.std.specs.Prelude.{[]};
 ghost use Rattle.tp_machine.specs.declared.whole.Machine.{Machine};
 ghost use Rattle.tp_turn.specs.Keeping.{KeepsState, IsLeastAt};
 ghost use Rattle.tp_turn.specs.Laws.{LoopStateGoesOn, LoopRecordsGoOn, LoopGoesOn};
 ghost use Rattle.tp_turn.specs.Laws.{RefusedChangesNothing, RefusalsAreTold};
-ghost use Rattle.tp_turn.specs.Laws.{TurnsKeep, IsAny, IsNoOutage, IsNoClock, IsPlannable};
+ghost use Rattle.tp_turn.specs.Laws.{TurnsKeep, TurnsKeepState, IsAny, IsNoOutage, IsNoClock, IsPlannable};
 ghost use Rattle.tp_turn.specs.Laws.{FatesKeepPlanning, BreaksKeepPlanning, FallBacksKeepPlanning};
 ghost use Rattle.tp_turn.specs.Laws.{OutagesKeepPlanning, OutagesKeepMoment, OutagesKeepLive};
 ghost use Rattle.tp_turn.specs.Laws.{ClockKeepsPlanning, ClockKeepsPlans, ClockKeepsLines, ClockKeepsSheets};
@@ -39,11 +40,11 @@ pub fn turns_keep_planning<P: Planner>()
 {}
 
 /// Turns of jobs, of moves of the clock, of modules that come back and of refused events keep jobs, plans, lines and sheets,
-/// from the empty state on. That the schedule is least stays through every turn but one that moves the clock.
+/// from the empty state on; an accepted job brings a total of sheets. That the schedule is least stays through every turn but one that moves the clock.
 pub fn turns_keep_state<P: Planner>()
-    ensures empty { (machine : Machine) → KeepsState machine empty_state × IsLeastAt machine empty_state }
+    ensures empty { (machine : Machine) → KeepsState machine [] empty_state × IsLeastAt machine empty_state }
     ensures state { (machine : Machine)
-        → TurnsKeep (right_steps P.spent P.steps P.stop_steps machine) machine IsNoOutage (KeepsState machine) }
+        → TurnsKeepState (right_steps P.spent P.steps P.stop_steps machine) machine IsNoOutage }
     ensures least { (machine : Machine)
         → TurnsKeep (right_steps P.spent P.steps P.stop_steps machine) machine IsNoClock (IsLeastAt machine) }
 {}

@@ -1,0 +1,4 @@
+pub mod ListSteps
+pub mod NameFacts
+pub mod MoveSteps
+pub mod PlaceFacts

@@ -1,0 +1,8 @@
+//! What is told of answers to asks and of points that moved, and the names by which records call things.
+#![tactic(auto)]
+
+mod naming;
+mod telling;
+
+pub use naming::{action_name, end_name, goal_name, label, location_name};
+pub use telling::{tell_all_moves, tell_full, tell_reply};

@@ -1,0 +1,186 @@
+//! What is told of answers to asks and of points that moved.
+
+ghost use Rattle.std.specs.Prelude.{◌≡◌, ◌<◌, ◌+◌, ◌^◌, ◌++◌, ◌∷◌, [], length, drop, map, All, IfOk, OnOk};
+ghost use Rattle.tp_schedule.specs.Answers.{kept_from, kept_of};
+ghost use Rattle.tp_schedule.specs.Planning.{IsKnownGoal};
+ghost use Rattle.tp_schedule.specs.Plans.{IsTimedPlan, plan_of, without};
+ghost use Rattle.tp_schedule.specs.declared.recording.Record.TheVariants.{FullUp};
+ghost use Rattle.tp_turn.specs.Answering.{moves, told_of_move, told_of_plan, told_of_planned, told_of_reply};
+ghost use Rattle.tp_turn.specs.Labels.{action_name};
+ghost use Rattle.tp_telling.specs.Telling.{IsKnown};
+
+use crate::naming::{action_name, end_name, goal_name, label};
+use std::alloc::Global;
+use tp_base::{Items, Memory, Name, Tick};
+use tp_machine::Machine;
+use tp_schedule::{Acts, Ask, Plan, Points, Record, Reply, Schedule, SheetId, SheetName};
+
+/// Notes what an answer says: the plan, and each other plan that moved; or that there is none; or that the budget was
+/// spent. The schedules are those before and after the answer.
+pub fn tell_reply(
+    alloc: Global,
+    machine: &Machine,
+    before: &Schedule,
+    ask: &Ask,
+    reply: Reply,
+    after: &Schedule,
+    notes: &mut Vec<Record>,
+) -> Result<(), Memory>
+    requires goal { IsKnownGoal machine.now ask.now.goal }
+    requires timed { All (IsTimedPlan machine.now) after.now.plans }
+    ensures { OnOk result (notes.new.items ≡ notes.old.items
+        ++ told_of_reply machine.now before.now.plans ask.entry.now reply after.now.plans) }
+{
+    let sheet = label(ask.name, ask.sheet);
+    match reply {
+        Reply::Planned => {
+            tell_planned(alloc, machine, ask, after, notes)?;
+            tell_moves(alloc, before, after, ask.sheet, notes)
+        }
+        Reply::Never => {
+            let goal = goal_name(machine, ask.goal);
+            notes.push(Record::Never { sheet, goal })?;
+            Ok(())
+        }
+        Reply::Spent { bound } => {
+            let goal = goal_name(machine, ask.goal);
+            notes.push(Record::Budget { sheet, goal, bound })?;
+            Ok(())
+        }
+    }
+}
+
+/// Notes that as many copies are live as may be.
+pub fn tell_full(sheet: SheetName, notes: &mut Vec<Record>) -> Result<(), Memory>
+    ensures { OnOk result (notes.new.items ≡ notes.old.items ++ FullUp sheet ∷ []) }
+{
+    notes.push(Record::FullUp { sheet })?;
+    Ok(())
+}
+
+/// Notes the plan of the asked copy, without the actions that it kept.
+fn tell_planned(
+    alloc: Global,
+    machine: &Machine,
+    ask: &Ask,
+    after: &Schedule,
+    notes: &mut Vec<Record>,
+) -> Result<(), Memory>
+    requires timed { All (IsTimedPlan machine.now) after.now.plans }
+    ensures { OnOk result (notes.new.items ≡ notes.old.items
+        ++ told_of_planned machine.now (kept_of ask.entry.now)
+        (plan_of ask.entry.now.sheet after.now.plans)) }
+{
+    if let Some(at) = after.find(ask.sheet) {
+        let record = plan_record(alloc, machine, ask.origin.kept(), after.plan_at(at))?;
+        notes.push(record)?;
+    }
+    Ok(())
+}
+
+/// The record of a plan without its first actions.
+fn plan_record(alloc: Global, machine: &Machine, kept: u32, plan: &Plan) -> Result<Record, Memory>
+    requires { IsTimedPlan machine.now plan.now }
+    ensures { IfOk result (λ told. told ≡ told_of_plan machine.now kept plan.now) }
+{
+    let points = points_from(alloc, kept, &plan.points)?;
+    let acts = names_from(alloc, machine, kept, &plan.acts)?;
+    Ok(Record::Plan {
+        sheet: label(plan.name, plan.sheet),
+        place: end_name(machine, plan),
+        points,
+        acts,
+    })
+}
+
+/// The points from a place on.
+fn points_from(alloc: Global, from: u32, points: &Points) -> Result<Items<Tick>, Memory>
+    ensures { IfOk result (λ items. items ≡ drop from points.now) }
+{
+    let mut items = Items::new(alloc);
+    for at in from..points.len() {
+        items.push(points.get(at))?;
+    }
+    Ok(items)
+}
+
+/// The names of the actions from a place on.
+fn names_from(
+    alloc: Global,
+    machine: &Machine,
+    from: u32,
+    acts: &Acts,
+) -> Result<Items<Name>, Memory>
+    requires { All (IsKnown machine.now) acts.now }
+    ensures { IfOk result (λ items. items ≡ map (action_name machine.now) (drop from acts.now)) }
+{
+    let mut items = Items::new(alloc);
+    for at in from..acts.len() {
+        items.push(action_name(machine, acts.get(at)))?;
+    }
+    Ok(items)
+}
+
+/// Notes the other plans whose points changed, in the order of copies.
+fn tell_moves(
+    alloc: Global,
+    before: &Schedule,
+    after: &Schedule,
+    asked: SheetId,
+    notes: &mut Vec<Record>,
+) -> Result<(), Memory>
+    ensures { OnOk result (notes.new.items ≡ notes.old.items
+        ++ moves (without asked before.now.plans) (without asked after.now.plans)) }
+{
+    let mut from = 0;
+    let mut to = 0;
+    'moves: while from < before.len() && to < after.len() {
+        let old = before.plan_at(from);
+        let new = after.plan_at(to);
+        if old.sheet == asked {
+            from += 1;
+        } else if new.sheet == asked {
+            to += 1;
+        } else {
+            tell_move(alloc, old, new, notes)?;
+            from += 1;
+            to += 1;
+        }
+    }
+    Ok(())
+}
+
+/// Notes the points of a plan where they changed.
+fn tell_move(
+    alloc: Global,
+    before: &Plan,
+    after: &Plan,
+    notes: &mut Vec<Record>,
+) -> Result<(), Memory>
+    ensures { OnOk result (notes.new.items ≡ notes.old.items ++ told_of_move before.now after.now) }
+{
+    if before.points.as_slice() != after.points.as_slice() {
+        let sheet = label(after.name, after.sheet);
+        let points = points_from(alloc, 0, &after.points)?;
+        notes.push(Record::Move { sheet, points })?;
+    }
+    Ok(())
+}
+
+/// Notes the plans whose points changed, in the order of copies.
+pub fn tell_all_moves(
+    alloc: Global,
+    before: &Schedule,
+    after: &Schedule,
+    notes: &mut Vec<Record>,
+) -> Result<(), Memory>
+    ensures { OnOk result (notes.new.items ≡ notes.old.items
+        ++ moves before.now.plans after.now.plans) }
+{
+    let mut at = 0;
+    'all: while at < before.len() && at < after.len() {
+        tell_move(alloc, before.plan_at(at), after.plan_at(at), notes)?;
+        at += 1;
+    }
+    Ok(())
+}
