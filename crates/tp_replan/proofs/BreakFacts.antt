@@ -17,7 +17,7 @@ use Rattle.tp_turn.specs.Labels.{job_name}
 use Rattle.tp_turn.specs.Lines.{is_of_job, put_all_waiting}
 use Rattle.tp_turn.specs.Moments.{is_entering, is_unstarted}
 use Rattle.tp_turn.specs.States.{SessionState, none_out}
-use Rattle.tp_replan.specs.Meanings.{AreCutStarted, CanAllWait, StandsBefore, meant, notice_of_copy, notice_of_plan, state_of, told_by_copy, waits_in}
+use Rattle.tp_replan.specs.Meanings.{AreCutStarted, CanAllWait, StandsBefore, meant, notice_of_copy, notice_of_plan, told_by_copy, waits_in}
 use Rattle.tp_replan.specs.declared.fate.Fate.{Fate}
 use Rattle.tp_replan.proofs.FateFacts.{waits-by}
 use Rattle.tp_replan.specs.Open.{Fits}
@@ -72,53 +72,3 @@ notices-map jobs (w ∷ ws) = ap (λ ns. notice_of_copy jobs w.sheet ∷ ns) (no
 
 pub notices-are : (s : SessionState) (job : ℕ) → notices_of_waiting s job ≡ map (notice_of_copy s.jobs) (map (λ w. w.sheet) (filter (is_of_job job) s.waiting))
 notices-are s job = notices-map s.jobs (filter (is_of_job job) s.waiting)
-
--- the fates by the rule of the break, whatever the lost copies are called by
-pub fates-are : (now job : ℕ) (lost lost' : List SheetId) (lines : Backlog) (plans : List Plan) (fates fates' : List Fate) → lost ≡ lost' → fates' ≡ fates
-    → map meant fates ≡ map (fate_in_break (state_of now [] lost lines none_out) job) plans → map meant fates' ≡ map (fate_in_break (state_of now plans lost' lines none_out) job) plans
-fates-are now job lost lost' lines plans fates fates' same same' e =
-    ap (map meant) same' ∙ e ∙ ap (λ copies. map (fate_in_break (state_of now [] copies lines none_out) job) plans) same
-
-pub break-started : (now job : ℕ) (lost : List SheetId) (lines : Backlog) (plans : List Plan) (fates : List Fate) → All IsFormed plans
-    → map meant fates ≡ map (fate_in_break (state_of now plans lost lines none_out) job) plans → AreCutStarted now plans fates
-break-started now job lost lines plans fates formed e =
-    let s = state_of now plans lost lines none_out in
-    cut-started s (fate_in_break s job) fates (λ p in'. break-fits s job p (All-contains IsFormed plans p formed in')) e
-
-pub break-waits : (now job : ℕ) (lost : List SheetId) (lines : Backlog) (plans : List Plan) (fates : List Fate) (waiting : List WaitingCopy)
-    → map meant fates ≡ map (fate_in_break (state_of now plans lost lines none_out) job) plans → CanAllWait waiting (waits_in plans fates)
-break-waits now job lost lines plans fates waiting e =
-    let s = state_of now plans lost lines none_out in
-    subst (CanAllWait waiting) (sym (waits-by (fate_in_break s job) plans fates e ∙ none-wait s job plans)) tt
-
--- the state that follows
-pub broken-state : (now job : ℕ) (lost lost' : List SheetId) (lines mid end : Backlog) (plans plans' : List Plan) (outs : Outs) → mid ≡ record { jobs = lines.jobs; waiting = filter (λ w. not (is_of_job job w)) lines.waiting }
-    → state_of now plans' lost' end outs ≡ befall (fate_in_break (state_of now plans lost lines outs) job) (state_of now plans lost mid outs)
-    → state_of now plans' lost' (record { jobs = mark_broken job end.jobs; waiting = end.waiting }) outs ≡ (job_break job (state_of now plans lost lines outs)).state
-broken-state now job lost lost' lines mid end plans plans' outs taken follows =
-    let s = state_of now plans lost lines outs in
-    let rule = fate_in_break s job in
-    let waits = flat_map (λ p. waits_for p (rule p)) plans in
-    let all = follows ∙ ap (λ m. befall rule (state_of now plans lost m outs)) taken in
-    let same = none-wait s job plans in
-    let others = filter (λ w. not (is_of_job job w)) in
-    let waiting : end.waiting ≡ others (put_all_waiting lines.waiting waits) =
-    ap (λ (t : SessionState). t.waiting) all ∙ ap (put_all_waiting (others lines.waiting)) same ∙ sym (ap (λ ws. others (put_all_waiting lines.waiting ws)) same) in
-    λ k. record {
-      now = now;
-      plans = (all k).plans;
-      lost = (all k).lost;
-      jobs = mark_broken job (all k).jobs;
-      waiting = waiting k;
-      outs = outs;
-    }
-
-pub broken-told : (jobs : List Job) (now job : ℕ) (lost : List SheetId) (lines : Backlog) (plans : List Plan) (outs : Outs) (copies : List SheetId)
-    → copies ≡ map (λ w. w.sheet) (filter (is_of_job job) lines.waiting) → jobs ≡ lines.jobs
-    → (Broken (job_name lines.jobs job) ∷ []) ++ told_by_copy jobs now (fate_in_break (state_of now plans lost lines outs) job) copies plans ≡ (job_break job (state_of now plans lost lines outs)).records
-broken-told jobs now job lost lines plans outs copies taken same =
-    let s = state_of now plans lost lines outs in
-    let rule = fate_in_break s job in
-    ap (λ rs. Broken (job_name lines.jobs job) ∷ rs)
-    (ap (λ js. told_by_copy js now rule copies plans) same ∙ ap (λ cs. told_by_copy lines.jobs now rule cs plans) taken
-    ∙ ap (λ ns. flat_map (λ n. n.records) (by_copy (ns ++ map (notice_of_plan lines.jobs now rule) plans))) (sym (notices-are s job)))

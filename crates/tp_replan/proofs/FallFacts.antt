@@ -1,5 +1,5 @@
 -- A fall-back: what it needs of the state, and how its parts follow one another.
-use Rattle.std.proofs.Common.{◌≡◌, ℕ, ◌+◌, ◌≤◌, Bool, true, false, cond, List, [], ◌∷◌, ◌++◌, None, IsTrue, refl, sym, ap, ◌∙◌, arith, append_assoc, subst, count_by}
+use Rattle.std.proofs.Common.{◌≡◌, ℕ, ◌+◌, ◌≤◌, Bool, true, false, cond, List, [], ◌∷◌, ◌++◌, None, IsTrue, refl, sym, ap, ◌∙◌, arith, append_assoc, subst, count_by, length}
 use Rattle.tp_schedule.specs.declared.parts.Plan.{Plan}
 use Rattle.tp_schedule.specs.declared.parts.SheetId.{SheetId}
 use Rattle.tp_schedule.specs.declared.recording.Record.{Record}
@@ -10,32 +10,43 @@ use Rattle.tp_machine.specs.declared.parts.Outs.{Outs}
 use Rattle.tp_turn.specs.FallBacks.{Displaced, fall_back, fall_back_unless_broken, is_line_entering, job_break, later_fall_back, next_waits}
 use Rattle.tp_schedule.specs.declared.recording.Record.TheVariants.{Again}
 use Rattle.tp_turn.specs.Labels.{label}
-use Rattle.tp_turn.specs.Keeping.{is_copy_of}
 use Rattle.tp_turn.specs.States.{Outcome, SessionState, and_then, for_each, none_out, nothing_told}
-use Rattle.tp_replan.specs.Meanings.{Leads, state_of}
+use Rattle.tp_replan.specs.Meanings.{Leads}
 use Rattle.tp_turn.specs.Lines.{is_job_broken}
 use Rattle.tp_replan.specs.Outing.{CanAllFall}
-use Rattle.tp_replan.specs.Open.{CanFall, to_wait}
-use Rattle.tp_replan.proofs.OpenFacts.{count-cons, is_of_sheet, none-of, of_sheet-put, one-where, own-sheet}
+use Rattle.tp_replan.specs.Open.{CanFall, all_copies, is_in, most_waiting, one_sheet, open_count, to_wait}
+use Rattle.tp_replan.proofs.OpenFacts.{count-cons, count-every, is_of_sheet, none-of, of_sheet-put, one-where, own-sheet}
 
 pub without-pending : (s : SessionState) (pending : List SheetId) → CanFall s pending → CanFall s []
 without-pending s pending can = record {
   known = can.known;
   next = can.next;
   purges = can.purges;
-  once = λ job number. let few = can.once job number in omega arith;
+  few = λ g. let few = can.few g in omega arith;
 }
 
 -- the copy that is to wait does not yet
 pub not-yet : (s : SessionState) (d : Displaced) → CanFall s (to_wait d) → IsTrue d.again → find_waiting (next_copy d.sheet) s.waiting ≡ None
-not-yet s d can again = go d.again _ again (can.once d.sheet.job d.sheet.number) where
+not-yet s d can again = go d.again _ again (can.few (one_sheet d.sheet)) where
   go : (b : Bool) (n : ℕ) → IsTrue b
-      → count_by (is_of_sheet d.sheet.job d.sheet.number) s.waiting + (n + count_by (is_copy_of d.sheet.job d.sheet.number) (cond b (d.sheet ∷ []) [])) ≤ 1
+      → count_by (is_of_sheet (one_sheet d.sheet)) s.waiting + (n + count_by (is_in (one_sheet d.sheet)) (cond b (d.sheet ∷ []) [])) ≤ 1
       → find_waiting (next_copy d.sheet) s.waiting ≡ None
   go true n again few =
-      let first = count-cons (is_copy_of d.sheet.job d.sheet.number) d.sheet [] in
-      let one = one-where (is_copy_of d.sheet.job d.sheet.number d.sheet) (own-sheet d.sheet) in
+      let first = count-cons (is_in (one_sheet d.sheet)) d.sheet [] in
+      let one = one-where (is_in (one_sheet d.sheet) d.sheet) (own-sheet d.sheet) in
       none-of (next_copy d.sheet) s.waiting (omega arith)
+  go false n again few = absurd cc
+
+-- and there is room for it
+pub next-room : (s : SessionState) (d : Displaced) → CanFall s (to_wait d) → IsTrue d.again → length s.waiting + 1 ≤ most_waiting
+next-room s d can again = go d.again _ again (can.few all_copies) where
+  go : (b : Bool) (n : ℕ) → IsTrue b
+      → count_by (is_of_sheet all_copies) s.waiting + (n + count_by (is_in all_copies) (cond b (d.sheet ∷ []) [])) ≤ most_waiting
+      → length s.waiting + 1 ≤ most_waiting
+  go true n again few =
+      let every = count-every s.waiting in
+      let one = count-cons (is_in all_copies) d.sheet [] in
+      omega arith
   go false n again few = absurd cc
 
 -- with the next copy the rest can fall back
@@ -52,12 +63,12 @@ next-can s d can = go d.again can where
     known = h.known;
     next = h.next;
     purges = h.purges;
-    once = λ job number.
+    few = λ g.
         let w : WaitingCopy = record { sheet = next_copy d.sheet; want = d.want } in
-        let few = h.once job number in
-        let put = of_sheet-put job number w s.waiting in
-        let first = count-cons (is_of_sheet job number) w s.waiting in
-        let one = count-cons (is_copy_of job number) d.sheet [] in
+        let few = h.few g in
+        let put = of_sheet-put g w s.waiting in
+        let first = count-cons (is_of_sheet g) w s.waiting in
+        let one = count-cons (is_in g) d.sheet [] in
         omega arith;
   }
   go false h = h
@@ -73,27 +84,6 @@ leads-on o next notes mid notes' s' told then = record {
   state = then.state;
 }
 
--- what waits, and what is told of it, is of the lines alone
-abbrev waits_where : Bool → Displaced → SessionState → Outcome
-waits_where b d s = cond b (record {
-  records = Again (label s.jobs (next_copy d.sheet)) ∷ [];
-  state = record s { waiting = put_waiting s.waiting (record { sheet = next_copy d.sheet; want = d.want }) };
-}) (nothing_told s)
-
-pub waits-state : (now : ℕ) (plans : List Plan) (lost : List SheetId) (lines : Backlog) (outs : Outs) (d : Displaced)
-    → state_of now plans lost (record { jobs = lines.jobs; waiting = (next_waits d (state_of 0 [] [] lines none_out)).state.waiting }) outs ≡ (next_waits d (state_of now plans lost lines outs)).state
-waits-state now plans lost lines outs d = go d.again where
-  go : (b : Bool) → state_of now plans lost (record { jobs = lines.jobs; waiting = (waits_where b d (state_of 0 [] [] lines none_out)).state.waiting }) outs ≡ (waits_where b d (state_of now plans lost lines outs)).state
-  go true = refl
-  go false = refl
-
-pub waits-told : (now : ℕ) (plans : List Plan) (lost : List SheetId) (lines : Backlog) (outs : Outs) (d : Displaced)
-    → (next_waits d (state_of 0 [] [] lines none_out)).records ≡ (next_waits d (state_of now plans lost lines outs)).records
-waits-told now plans lost lines outs d = go d.again where
-  go : (b : Bool) → (waits_where b d (state_of 0 [] [] lines none_out)).records ≡ (waits_where b d (state_of now plans lost lines outs)).records
-  go true = refl
-  go false = refl
-
 -- one thing more had its part
 pub each-told : {X : Type 0} (part : SessionState → X → Outcome) (x : X) (xs : List X) (s s' : SessionState) (notes mid all : List Record) → Leads (part s x) notes mid s'
     → notes ++ (for_each part (x ∷ xs) s).records ≡ all → mid ++ (for_each part xs s').records ≡ all
@@ -103,29 +93,3 @@ each-told part x xs s s' notes mid all leads before =
 pub each-state : {X : Type 0} (part : SessionState → X → Outcome) (x : X) (xs : List X) (s s' all : SessionState) (notes mid : List Record) → Leads (part s x) notes mid s'
     → (for_each part (x ∷ xs) s).state ≡ all → (for_each part xs s').state ≡ all
 each-state part x xs s s' all notes mid leads before = ap (λ t. (for_each part xs t).state) leads.state ∙ before
-
--- which modules are out does not count in a fall-back
-abbrev pub with_outs : Outs → SessionState → SessionState
-with_outs outs s = record s { outs = outs }
-
-outs-kept : (outs : Outs) (s : SessionState) (d : Displaced) → (fall_back_unless_broken (with_outs outs s) d).state ≡ with_outs outs (fall_back_unless_broken s d).state
-outs-kept outs s d = go (is_job_broken s.jobs d.sheet.job) (is_line_entering s d.sheet) d.again where
-  falls : Bool → Bool → Bool → SessionState → Outcome
-  falls b e a t = cond b (nothing_told t) (cond e (job_break d.sheet.job t) (and_then (waits_where a d t) (later_fall_back d.sheet)))
-
-  go : (b e a : Bool) → (falls b e a (with_outs outs s)).state ≡ with_outs outs (falls b e a s).state
-  go true e a = refl
-  go false true a = refl
-  go false false true = refl
-  go false false false = refl
-
-pub all-fall-outs : (outs : Outs) (ds : List Displaced) (s : SessionState) → CanAllFall ds s → CanAllFall ds (with_outs outs s)
-all-fall-outs outs [] s can = tt
-all-fall-outs outs (d ∷ ds) s can = (
-  record {
-    known = can.0.known;
-    next = can.0.next;
-    can = record { known = can.0.can.known; next = can.0.can.next; purges = can.0.can.purges; once = can.0.can.once };
-  },
-  subst (CanAllFall ds) (sym (outs-kept outs s d)) (all-fall-outs outs ds (fall_back_unless_broken s d).state can.1),
-)

@@ -6,6 +6,7 @@ use Rattle.std.proofs.lemmas.List.Elements.{filter-append}
 use Rattle.std.proofs.lemmas.Option.{get_or_from_slice_get, slice_get_within}
 use Rattle.tp_schedule.specs.declared.parts.Plan.{Plan}
 use Rattle.tp_jobs.specs.Waiting.{put_waiting}
+use Rattle.tp_jobs.proofs.OrderFacts.{length-put_waiting}
 use Rattle.tp_jobs.specs.declared.parts.WaitingCopy.{WaitingCopy}
 use Rattle.tp_turn.specs.Fates.{Fate as Befalls, waits_for}
 use Rattle.tp_turn.specs.Lines.{put_all_waiting}
@@ -53,6 +54,13 @@ waits-next (q ∷ plans) (g ∷ fates) len (suc i) p d at =
 pub put-append : (waiting more later : List WaitingCopy) → put_all_waiting waiting (more ++ later) ≡ put_all_waiting (put_all_waiting waiting more) later
 put-append waiting [] later = refl
 put-append waiting (w ∷ more) later = put-append (put_waiting waiting w) more later
+
+pub length-put_all : (waiting more : List WaitingCopy) → length (put_all_waiting waiting more) ≡ length waiting + length more
+length-put_all waiting [] = omega arith
+length-put_all waiting (w ∷ more) =
+    let rest = length-put_all (put_waiting waiting w) more in
+    let put = length-put_waiting w waiting in
+    omega arith
 
 pub can-first : (waiting more later : List WaitingCopy) → CanAllWait waiting (more ++ later) → CanAllWait waiting more
 can-first waiting [] later can = tt

@@ -15,14 +15,13 @@ use Rattle.tp_jobs.specs.Waiting.{find_waiting, put_waiting}
 use Rattle.tp_jobs.specs.declared.parts.WaitingCopy.{WaitingCopy}
 use Rattle.tp_turn.specs.Fates as fates
 use Rattle.tp_turn.specs.Fates.{Fate as Befalls, is_cut_by, waits_for}
-use Rattle.tp_turn.specs.Keeping.{is_copy_of}
 use Rattle.tp_turn.specs.Moments.{is_in_flight, is_started, is_to_tray, is_unstarted, started_count}
 use Rattle.tp_turn.specs.Seen.{HasStarted}
 use Rattle.tp_turn.specs.FallBacks.{fate_in_fall_back, is_copy, is_later, is_on_its_way}
 use Rattle.tp_turn.specs.Lines.{is_same_line}
 use Rattle.tp_turn.specs.States.{SessionState}
 use Rattle.tp_replan.specs.Meanings.{AreCutStarted, CanAllWait, meant, waits_in}
-use Rattle.tp_replan.specs.Open.{CanFall, Fits, is_open, is_waiting_after}
+use Rattle.tp_replan.specs.Open.{CanFall, Fits, Group, all_copies, is_in, is_open, is_waiting_after, most_in, open_count, most_waiting, one_sheet}
 use Rattle.tp_replan.specs.declared.fate.Fate.{Fate}
 use Rattle.tp_replan.proofs.FateFacts.{fate-at, waits-by}
 
@@ -37,98 +36,117 @@ one-where false e = absurd cc
 pub count-append : {X : Type 0} (test : X → Bool) (xs ys : List X) → count_by test (xs ++ ys) ≡ count_by test xs + count_by test ys
 count-append test xs ys = sum_by-append (λ y. cond (test y) 1 0) xs ys
 
--- how many of the copies are of the sheet
-abbrev pub is_of_sheet : ℕ → ℕ → WaitingCopy → Bool
-is_of_sheet job number w = is_copy_of job number w.sheet
+-- how many of the copies are of the group
+abbrev pub is_of_sheet : Group → WaitingCopy → Bool
+is_of_sheet g w = is_in g w.sheet
 
-abbrev pub of_sheet : ℕ → ℕ → List WaitingCopy → ℕ
-of_sheet job number ws = count_by (is_of_sheet job number) ws
+abbrev pub of_sheet : Group → List WaitingCopy → ℕ
+of_sheet g ws = count_by (is_of_sheet g) ws
 
-pub of_sheet-put : (job number : ℕ) (w : WaitingCopy) (ws : List WaitingCopy) → of_sheet job number (put_waiting ws w) ≡ of_sheet job number (w ∷ ws)
-of_sheet-put job number w [] = refl
-of_sheet-put job number w (v ∷ ws) = go (is_before w.sheet v.sheet) (of_sheet-put job number w ws) where
-  go : (b : Bool) → of_sheet job number (put_waiting ws w) ≡ of_sheet job number (w ∷ ws) → of_sheet job number (cond b (w ∷ v ∷ ws) (v ∷ put_waiting ws w)) ≡ of_sheet job number (w ∷ v ∷ ws)
+pub of_sheet-put : (g : Group) (w : WaitingCopy) (ws : List WaitingCopy) → of_sheet g (put_waiting ws w) ≡ of_sheet g (w ∷ ws)
+of_sheet-put g w [] = refl
+of_sheet-put g w (v ∷ ws) = go (is_before w.sheet v.sheet) (of_sheet-put g w ws) where
+  go : (b : Bool) → of_sheet g (put_waiting ws w) ≡ of_sheet g (w ∷ ws) → of_sheet g (cond b (w ∷ v ∷ ws) (v ∷ put_waiting ws w)) ≡ of_sheet g (w ∷ v ∷ ws)
   go true e = refl
   go false e =
-      let a = count-cons (is_of_sheet job number) v (put_waiting ws w) in
-      let b = count-cons (is_of_sheet job number) w ws in
-      let d = count-cons (is_of_sheet job number) w (v ∷ ws) in
-      let f = count-cons (is_of_sheet job number) v ws in
+      let a = count-cons (is_of_sheet g) v (put_waiting ws w) in
+      let b = count-cons (is_of_sheet g) w ws in
+      let d = count-cons (is_of_sheet g) w (v ∷ ws) in
+      let f = count-cons (is_of_sheet g) v ws in
       omega arith
 
-same-sheet : (a b : SheetId) → is_same_copy a b ≡ true → is_copy_of b.job b.number a ≡ true
+same-sheet : (a b : SheetId) → is_same_copy a b ≡ true → is_in (one_sheet b) a ≡ true
 same-sheet a b e = grind (arith, nat_tests)
 
-pub own-sheet : (a : SheetId) → is_copy_of a.job a.number a ≡ true
+pub own-sheet : (a : SheetId) → is_in (one_sheet a) a ≡ true
 own-sheet a = grind (arith, nat_tests)
 
 -- no copy of the sheet waits, so that this one does not
-pub none-of : (copy : SheetId) (ws : List WaitingCopy) → of_sheet copy.job copy.number ws ≡ 0 → find_waiting copy ws ≡ None
+pub none-of : (copy : SheetId) (ws : List WaitingCopy) → of_sheet (one_sheet copy) ws ≡ 0 → find_waiting copy ws ≡ None
 none-of copy [] e = refl
 none-of copy (w ∷ ws) e =
-    go (is_same_copy w.sheet copy) refl (is_copy_of copy.job copy.number w.sheet) refl (sym (count-cons (is_of_sheet copy.job copy.number) w ws) ∙ e) (none-of copy ws) where
-      go : (b : Bool) → is_same_copy w.sheet copy ≡ b → (d : Bool) → is_copy_of copy.job copy.number w.sheet ≡ d → cond d 1 0 + of_sheet copy.job copy.number ws ≡ 0
-          → (of_sheet copy.job copy.number ws ≡ 0 → find_waiting copy ws ≡ None) → cond b (Some w) (find_waiting copy ws) ≡ None
+    go (is_same_copy w.sheet copy) refl (is_in (one_sheet copy) w.sheet) refl (sym (count-cons (is_of_sheet (one_sheet copy)) w ws) ∙ e) (none-of copy ws) where
+      go : (b : Bool) → is_same_copy w.sheet copy ≡ b → (d : Bool) → is_in (one_sheet copy) w.sheet ≡ d → cond d 1 0 + of_sheet (one_sheet copy) ws ≡ 0
+          → (of_sheet (one_sheet copy) ws ≡ 0 → find_waiting copy ws ≡ None) → cond b (Some w) (find_waiting copy ws) ≡ None
       go true f true g e rest = absurd (omega arith)
       go true f false g e rest = let h = same-sheet w.sheet copy f in absurd cc
       go false f true g e rest = absurd (omega arith)
       go false f false g e rest = rest (omega arith)
 
-can-all : (waiting more : List WaitingCopy) → ((job number : ℕ) → of_sheet job number waiting + of_sheet job number more ≤ 1) → CanAllWait waiting more
+pub can-all : (waiting more : List WaitingCopy) → ((g : Group) → of_sheet g waiting + of_sheet g more ≤ most_in g) → CanAllWait waiting more
 can-all waiting [] few = tt
 can-all waiting (w ∷ more) few = (none-of w.sheet waiting none, can-all (put_waiting waiting w) more moved) where
-  none : of_sheet w.sheet.job w.sheet.number waiting ≡ 0
+  none : of_sheet (one_sheet w.sheet) waiting ≡ 0
   none =
-      let at_most = few w.sheet.job w.sheet.number in
-      let both = count-cons (is_of_sheet w.sheet.job w.sheet.number) w more in
-      let own = one-where (is_of_sheet w.sheet.job w.sheet.number w) (own-sheet w.sheet) in
+      let at_most : of_sheet (one_sheet w.sheet) waiting + of_sheet (one_sheet w.sheet) (w ∷ more) ≤ 1 = few (one_sheet w.sheet) in
+      let both = count-cons (is_of_sheet (one_sheet w.sheet)) w more in
+      let own = one-where (is_of_sheet (one_sheet w.sheet) w) (own-sheet w.sheet) in
       omega arith
 
-  moved : (job number : ℕ) → of_sheet job number (put_waiting waiting w) + of_sheet job number more ≤ 1
-  moved job number =
-      let at_most = few job number in
-      let put = of_sheet-put job number w waiting in
-      let first = count-cons (is_of_sheet job number) w waiting in
-      let both = count-cons (is_of_sheet job number) w more in
+  moved : (g : Group) → of_sheet g (put_waiting waiting w) + of_sheet g more ≤ most_in g
+  moved g =
+      let at_most = few g in
+      let put = of_sheet-put g w waiting in
+      let first = count-cons (is_of_sheet g) w waiting in
+      let both = count-cons (is_of_sheet g) w more in
       omega arith
 
 -- the copies that wait after the fates are those of open ones
-abbrev pub is_open_of : SessionState → ℕ → ℕ → Plan → Bool
-is_open_of s job number p = is_open s p && is_copy_of job number p.sheet
+abbrev pub is_open_of : SessionState → Group → Plan → Bool
+is_open_of s g p = is_open s p && is_in g p.sheet
 
 opened : (a b : Bool) {n : ℕ} → a ≡ true → n ≤ cond b 1 0 → n ≤ cond (a && b) 1 0
 opened true b e h = h
 opened false b e h = absurd cc
 
-waits-few : (s : SessionState) (job number : ℕ) (p : Plan) (f : Befalls) → (IsTrue (is_waiting_after f) → IsTrue (is_open s p))
-    → of_sheet job number (waits_for p f) ≤ cond (is_open_of s job number p) 1 0
-waits-few s job number p fates.stays opens = omega arith
-waits-few s job number p fates.lost opens = omega arith
-waits-few s job number p fates.withdrawn opens = opened (is_open s p) (is_copy_of job number p.sheet) (opens refl) (omega arith)
-waits-few s job number p fates.cut opens = omega arith
-waits-few s job number p fates.purged opens = omega arith
-waits-few s job number p fates.replaced opens = opened (is_open s p) (is_copy_of job number p.sheet) (opens refl) (omega arith)
-waits-few s job number p fates.dropped opens = omega arith
+waits-few : (s : SessionState) (g : Group) (p : Plan) (f : Befalls) → (IsTrue (is_waiting_after f) → IsTrue (is_open s p))
+    → of_sheet g (waits_for p f) ≤ cond (is_open_of s g p) 1 0
+waits-few s g p fates.stays opens = omega arith
+waits-few s g p fates.lost opens = omega arith
+waits-few s g p fates.withdrawn opens = opened (is_open s p) (is_in g p.sheet) (opens refl) (omega arith)
+waits-few s g p fates.cut opens = omega arith
+waits-few s g p fates.purged opens = omega arith
+waits-few s g p fates.replaced opens = opened (is_open s p) (is_in g p.sheet) (opens refl) (omega arith)
+waits-few s g p fates.dropped opens = omega arith
 
-all-waits-few : (s : SessionState) (job number : ℕ) (rule : Plan → Befalls) (plans : List Plan) → ((p : Plan) → Contains plans p → Fits s p (rule p))
-    → of_sheet job number (flat_map (λ p. waits_for p (rule p)) plans) ≤ count_by (is_open_of s job number) plans
-all-waits-few s job number rule [] fits = omega arith
-all-waits-few s job number rule (p ∷ plans) fits =
-    let here = waits-few s job number p (rule p) (fits p (Contains-here p plans)).opens in
-    let later = all-waits-few s job number rule plans (λ q in'. fits q (Contains-later p plans q in')) in
-    let waits = ap (of_sheet job number) (flat_map-cons (λ q. waits_for q (rule q)) p plans)
-    ∙ count-append (is_of_sheet job number) (waits_for p (rule p)) (flat_map (λ q. waits_for q (rule q)) plans) in
-    let open' = count-cons (is_open_of s job number) p plans in
+all-waits-few : (s : SessionState) (g : Group) (rule : Plan → Befalls) (plans : List Plan) → ((p : Plan) → Contains plans p → Fits s p (rule p))
+    → of_sheet g (flat_map (λ p. waits_for p (rule p)) plans) ≤ count_by (is_open_of s g) plans
+all-waits-few s g rule [] fits = omega arith
+all-waits-few s g rule (p ∷ plans) fits =
+    let here = waits-few s g p (rule p) (fits p (Contains-here p plans)).opens in
+    let later = all-waits-few s g rule plans (λ q in'. fits q (Contains-later p plans q in')) in
+    let waits = ap (of_sheet g) (flat_map-cons (λ q. waits_for q (rule q)) p plans)
+    ∙ count-append (is_of_sheet g) (waits_for p (rule p)) (flat_map (λ q. waits_for q (rule q)) plans) in
+    let open' = count-cons (is_open_of s g) p plans in
     omega arith
 
 pub can-wait : (s : SessionState) (pending : List SheetId) (rule : Plan → Befalls) (fates : List Fate) → CanFall s pending → ((p : Plan) → Contains s.plans p → Fits s p (rule p))
     → map meant fates ≡ map rule s.plans → CanAllWait s.waiting (waits_in s.plans fates)
 can-wait s pending rule fates can fits e =
-    can-all s.waiting (waits_in s.plans fates) (λ job number.
-    let few = all-waits-few s job number rule s.plans fits in
-    let same = ap (of_sheet job number) (waits-by rule s.plans fates e) in
-    let once = can.once job number in
+    can-all s.waiting (waits_in s.plans fates) (λ g.
+    let few = all-waits-few s g rule s.plans fits in
+    let same = ap (of_sheet g) (waits-by rule s.plans fates e) in
+    let opens : open_count g s pending ≤ most_in g = can.few g in
     omega arith)
+
+-- all copies that wait
+pub count-every : (ws : List WaitingCopy) → of_sheet all_copies ws ≡ length ws
+count-every [] = refl
+count-every (w ∷ ws) =
+    let rest = count-every ws in
+    let first = count-cons (is_of_sheet all_copies) w ws in
+    omega arith
+
+-- with those that wait after the fates one more can wait
+pub can-room : (s : SessionState) (pending : List SheetId) (rule : Plan → Befalls) (fates : List Fate) → CanFall s pending → ((p : Plan) → Contains s.plans p → Fits s p (rule p))
+    → map meant fates ≡ map rule s.plans → length s.waiting + length (waits_in s.plans fates) ≤ most_waiting
+can-room s pending rule fates can fits e =
+    let few = all-waits-few s all_copies rule s.plans fits in
+    let same = ap (of_sheet all_copies) (waits-by rule s.plans fates e) in
+    let all : open_count all_copies s pending ≤ most_waiting = can.few all_copies in
+    let here = count-every s.waiting in
+    let more = count-every (waits_in s.plans fates) in
+    omega arith
 
 -- a plan whose first action has started
 first-started : (now : ℕ) (sheet : SheetId) (n : ℕ) (acts : List ActId) (points : List ℕ) → 0 < length acts → length points ≡ length acts + 1 → slice_index points 0 ≤ now

@@ -12,7 +12,7 @@ use Rattle.tp_schedule.proofs.Membership.{Contains-cons_cases, Contains-filter_f
 use Rattle.tp_schedule.proofs.Pairs.{AllPairs-head, AllPairs-tail}
 use Rattle.std.proofs.lemmas.List.Elements.{All-contains, All-head}
 use Rattle.tp_machine.specs.declared.parts.LocId.{LocId}
-use Rattle.tp_jobs.specs.Backlogs.{WaitsBefore, tray_of}
+use Rattle.tp_jobs.specs.Backlogs.{WaitsBefore, tray_of, unmarked}
 use Rattle.tp_jobs.specs.Trying.{comes_after, is_blocked, is_open, next_to_try}
 use Rattle.tp_jobs.specs.Waiting.{without_waiting}
 use Rattle.tp_jobs.specs.declared.parts.Job.{Job}
@@ -97,10 +97,10 @@ opened false b e f = absurd cc
 
 -- the next one that is tried is the one at the place
 pub next-at : (jobs : List Job) (marks : List Bool) (job i : ℕ) (ws : List WaitingCopy) (w : WaitingCopy) → AllPairs WaitsBefore ws → ((place : LocId) → is_blocked marks place ≡ false)
-    → slice_get ws i ≡ Some w → next_to_try (record { jobs = jobs; waiting = left_to job i ws }) (last_at i ws) marks ≡ Some w.sheet
+    → slice_get ws i ≡ Some w → next_to_try (unmarked jobs (left_to job i ws)) (last_at i ws) marks ≡ Some w.sheet
 next-at jobs marks job i ws w in_order free at = split i at where
   found : (last : Option SheetId) (n : ℕ) → slice_get ws n ≡ Some w → ((x : WaitingCopy) → Contains (filter (others job) (take n ws)) x → comes_after last x.sheet ≡ false) → comes_after last w.sheet ≡ true
-      → next_to_try (record { jobs = jobs; waiting = left_to job n ws }) last marks ≡ Some w.sheet
+      → next_to_try (unmarked jobs (left_to job n ws)) last marks ≡ Some w.sheet
   found last n here none passes =
       ap (λ rest. option_map (λ v. v.sheet) (find (λ v. comes_after last v.sheet && is_open jobs marks v) (filter (others job) (take n ws) ++ rest))) (drop_from ws n w here)
       ∙ ap (option_map (λ (v : WaitingCopy). v.sheet))
@@ -108,7 +108,7 @@ next-at jobs marks job i ws w in_order free at = split i at where
       (λ x in'. none-open (comes_after last x.sheet) (is_open jobs marks x) (none x in'))
       (opened (comes_after last w.sheet) (is_blocked marks (tray_of jobs w.sheet)) passes (free (tray_of jobs w.sheet))))
 
-  behind : (k : ℕ) → slice_get ws (suc k) ≡ Some w → (o : Option WaitingCopy) → slice_get ws k ≡ o → next_to_try (record { jobs = jobs; waiting = left_to job (suc k) ws }) (option_map (λ v. v.sheet) o) marks ≡ Some w.sheet
+  behind : (k : ℕ) → slice_get ws (suc k) ≡ Some w → (o : Option WaitingCopy) → slice_get ws k ≡ o → next_to_try (unmarked jobs (left_to job (suc k) ws)) (option_map (λ v. v.sheet) o) marks ≡ Some w.sheet
   behind k here None e = absurd (gone ws k e here) where
     gone : (vs : List WaitingCopy) (n : ℕ) → slice_get vs n ≡ None → slice_get vs (suc n) ≡ Some w → ⊥
     gone [] n e f = cc
@@ -118,7 +118,7 @@ next-at jobs marks job i ws w in_order free at = split i at where
       (λ x in'. not-after ws k v in_order e x (Contains-filter_from (others job) (take (suc k) ws) x in').0)
       (next-before ws k v w in_order e here)
 
-  split : (n : ℕ) → slice_get ws n ≡ Some w → next_to_try (record { jobs = jobs; waiting = left_to job n ws }) (last_at n ws) marks ≡ Some w.sheet
+  split : (n : ℕ) → slice_get ws n ≡ Some w → next_to_try (unmarked jobs (left_to job n ws)) (last_at n ws) marks ≡ Some w.sheet
   split zero here = found None zero here (λ x in'. absurd (omega (arith, in'.1))) refl
   split (suc k) here = behind k here (slice_get ws k) refl
 

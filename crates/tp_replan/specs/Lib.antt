@@ -1,3 +1,5 @@
 pub mod Meanings
 pub mod Open
 pub mod Outing
+pub mod Looping
+pub mod Answered

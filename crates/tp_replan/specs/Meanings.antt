@@ -1,6 +1,7 @@
 -- The fates of copies as calls give them, and the state that they stand in.
 use Rattle.std.specs.Prelude.{◌≡◌, ℕ, ◌<◌, ◌≤◌, Bool, true, false, not, List, [], ◌∷◌, ◌++◌, length, map, flat_map, slice_get, Some, None, IsTrue}
 use Rattle.tp_machine.specs.declared.parts.Outs.{Outs}
+use Rattle.tp_machine.specs.declared.whole.Machine.{Machine}
 use Rattle.tp_schedule.specs.Plans.{is_before}
 use Rattle.tp_schedule.specs.declared.parts.Plan.{Plan}
 use Rattle.tp_schedule.specs.declared.parts.SheetId.{SheetId}
@@ -13,7 +14,8 @@ use Rattle.tp_jobs.specs.Waiting.{find_waiting, put_waiting}
 use Rattle.tp_turn.specs.Fates as fates
 use Rattle.tp_turn.specs.Fates.{Fate as Befalls, is_cut_by, told_of, waits_for}
 use Rattle.tp_turn.specs.FallBacks.{Notice, by_copy}
-use Rattle.tp_turn.specs.Moments.{started_count}
+use Rattle.tp_turn.specs.Clock.{record_of, release_of}
+use Rattle.tp_turn.specs.Moments.{due_until, started_count}
 use Rattle.tp_turn.specs.Labels.{label}
 use Rattle.tp_turn.specs.States.{Outcome, SessionState}
 use Rattle.tp_replan.specs.declared.fate.Fate.{Fate}
@@ -27,6 +29,10 @@ meant Cut = fates.cut
 meant Purged = fates.purged
 meant Replaced = fates.replaced
 meant Dropped = fates.dropped
+
+-- each of the plans has the fate that the rule gives it
+abbrev pub AreFates : (Plan → Befalls) → List Plan → List Fate → Type 0
+AreFates rule plans fates = map meant fates ≡ map rule plans
 
 -- the copy is of one of the jobs
 abbrev pub IsKnown : List Job → Plan → Type 0
@@ -55,12 +61,13 @@ CanAllWait waiting (w ∷ more) = (find_waiting w.sheet waiting ≡ None) × Can
 
 -- a plan that is cut has started
 abbrev pub AreCutStarted : ℕ → List Plan → List Fate → Type 0
-AreCutStarted now plans fates = (i : ℕ) (p : Plan) (f : Fate) → slice_get plans i ≡ Some p → slice_get fates i ≡ Some f → IsTrue (is_cut_by (meant f)) → 1 ≤ started_count now p
+AreCutStarted now plans fates = (i : ℕ) (p : Plan) (f : Fate) → slice_get plans i ≡ Some p → slice_get fates i ≡ Some f
+    → IsTrue (is_cut_by (meant f)) → 1 ≤ started_count now p
 
--- the state of these parts
-abbrev pub state_of : ℕ → List Plan → List SheetId → Backlog → Outs → SessionState
-state_of now plans lost lines outs =
-    record { now = now; plans = plans; lost = lost; jobs = lines.jobs; waiting = lines.waiting; outs = outs }
+-- what is told of the releases of the plan's actions that are due
+abbrev pub told_due : Machine → List Job → ℕ → Plan → List Record
+told_due machine jobs last p =
+    map (λ run. record_of machine jobs (release_of machine run).tell) (due_until last p)
 
 -- the notes grow by what is told, and the state is the one that follows
 pub record Leads (o : Outcome) (notes notes' : List Record) (s' : SessionState) : Type 0 where
@@ -100,7 +107,8 @@ abbrev pub notice_of_plan : List Job → ℕ → (Plan → Befalls) → Plan →
 notice_of_plan jobs now rule p = record { sheet = p.sheet; records = told_of jobs now p (rule p) }
 
 abbrev pub told_by_copy : List Job → ℕ → (Plan → Befalls) → List SheetId → List Plan → List Record
-told_by_copy jobs now rule copies plans = flat_map (λ n. n.records) (by_copy (map (notice_of_copy jobs) copies ++ map (notice_of_plan jobs now rule) plans))
+told_by_copy jobs now rule copies plans =
+    flat_map (λ n. n.records) (by_copy (map (notice_of_copy jobs) copies ++ map (notice_of_plan jobs now rule) plans))
 
 -- the copies stand in their order
 abbrev pub StandsBefore : SheetId → SheetId → Type 0

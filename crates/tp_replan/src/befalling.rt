@@ -1,42 +1,83 @@
 //! What befalls all copies at once.
 
-ghost use Rattle.std.specs.Prelude.{◌≡◌, ◌+◌, length, map, All, OnOk};
-ghost use Rattle.tp_machine.specs.declared.parts.Outs.{Outs};
+ghost use Rattle.std.specs.Prelude.{◌≡◌, ◌+◌, ◌<◌, ◌≤◌, ◌^◌, length, All, OnOk};
 ghost use Rattle.tp_schedule.specs.declared.parts.Plan.{Plan};
-ghost use Rattle.tp_turn.specs.Fates.{Fate as Befalls, befall};
+ghost use Rattle.tp_turn.specs.Fates.{Fate as Befalls, befall, waits_for};
+ghost use Rattle.tp_turn.specs.Lines.{put_all_waiting};
+ghost use Rattle.tp_turn.specs.LiveStates.{seen};
 ghost use Rattle.tp_turn.specs.Seen.{HasNextCopy};
-ghost use Rattle.tp_replan.specs.Meanings.{AreCutStarted, CanAllWait, IsKnown, meant, state_of, waits_in};
+ghost use Rattle.tp_replan.specs.Meanings.{AreCutStarted, AreFates, CanAllWait};
+ghost use Rattle.tp_replan.specs.Meanings.{IsKnown, meant, waits_in};
+ghost use Rattle.tp_replan.specs.Open.{most_waiting};
 
 use crate::fate::Fate;
 use crate::leaving::leave_all;
 use crate::losing::lost_by;
-use crate::waiting::wait_all;
 use std::alloc::Global;
-use tp_base::{Memory, Tick};
+use tp_base::Memory;
 use tp_jobs::Lines;
-use tp_schedule::{Schedule, SheetId};
+use tp_schedule::{Plan, Schedule};
+use tp_turn::LiveState;
+
+/// What waits after the fate of the plan's copy.
+fn wait_one(lines: &mut Lines, plan: &Plan, fate: Fate) -> Result<(), Memory>
+    requires known { IsKnown lines.old.jobs plan.now }
+    requires next { HasNextCopy plan.now.sheet }
+    requires can_wait { CanAllWait lines.old.waiting (waits_for plan.now (meant fate)) }
+    requires room { length lines.old.waiting + 1 < 2 ^ 32 }
+    ensures waits { OnOk result (lines.new ≡ record lines.old {
+      waiting = put_all_waiting lines.old.waiting (waits_for plan.now (meant fate));
+    }) }
+    ensures marked { lines.new.kept ≡ lines.old.kept }
+{
+    match fate {
+        Fate::Stays | Fate::Lost | Fate::Cut | Fate::Purged | Fate::Dropped => Ok(()),
+        Fate::Withdrawn => lines.wait(plan.sheet, plan.want),
+        Fate::Replaced => {
+            lines.again(plan.sheet, plan.want)?;
+            Ok(())
+        }
+    }
+}
+
+/// What waits after the fates of all copies.
+fn wait_all(schedule: &Schedule, lines: &mut Lines, fates: &[Fate]) -> Result<(), Memory>
+    requires each { length fates.now ≡ length schedule.now.plans }
+    requires known { All (IsKnown lines.old.jobs) schedule.now.plans }
+    requires next { All (λ p. HasNextCopy p.sheet) schedule.now.plans }
+    requires can_wait { CanAllWait lines.old.waiting (waits_in schedule.now.plans fates.now) }
+    requires room { length lines.old.waiting + length (waits_in schedule.now.plans fates.now)
+        ≤ most_waiting }
+    ensures waits { OnOk result (lines.new ≡ record lines.old {
+      waiting = put_all_waiting lines.old.waiting (waits_in schedule.now.plans fates.now);
+    }) }
+    ensures marked { lines.new.kept ≡ lines.old.kept }
+{
+    for at in 0..schedule.len() {
+        wait_one(lines, schedule.plan_at(at), fates[at as usize])?;
+    }
+    Ok(())
+}
 
 /// Each copy that has a plan meets its fate. Nothing is told of it here.
 ///
-/// After an error nothing is known of the lines, so that the caller drops them. Want of memory is told too where 4,294,967,295
-/// copies wait.
-pub(crate) fn befall(
-    alloc: Global,
-    schedule: &mut Schedule,
-    lost: &mut Vec<SheetId>,
-    lines: &mut Lines,
-    now: Tick,
-    fates: &[Fate],
-) -> Result<(), Memory>
-    requires each { length fates.now ≡ length schedule.old.plans }
-    requires known { All (IsKnown lines.old.jobs) schedule.old.plans }
-    requires next { All (λ p. HasNextCopy p.sheet) schedule.old.plans }
-    requires started { AreCutStarted now schedule.old.plans fates.now }
-    requires can_wait { CanAllWait lines.old.waiting (waits_in schedule.old.plans fates.now) }
-    ensures { OnOk result ((rule : Plan → Befalls) (outs : Outs) → map meant fates.now ≡ map rule schedule.old.plans → state_of now schedule.new.plans lost.new.items lines.new outs ≡ befall rule (state_of now schedule.old.plans lost.old.items lines.old outs)) }
+/// After an error nothing is known of the state, so that the caller drops it.
+pub(crate) fn befall(alloc: Global, state: &mut LiveState, fates: &[Fate]) -> Result<(), Memory>
+    requires each { length fates.now ≡ length state.old.schedule.plans }
+    requires known { All (IsKnown state.old.lines.jobs) state.old.schedule.plans }
+    requires next { All (λ p. HasNextCopy p.sheet) state.old.schedule.plans }
+    requires started { AreCutStarted state.old.moment state.old.schedule.plans fates.now }
+    requires can_wait { CanAllWait state.old.lines.waiting
+        (waits_in state.old.schedule.plans fates.now) }
+    requires room { length state.old.lines.waiting
+        + length (waits_in state.old.schedule.plans fates.now) ≤ most_waiting }
+    ensures follows { OnOk result ((rule : Plan → Befalls)
+        → AreFates rule state.old.schedule.plans fates.now
+        → seen state.new ≡ befall rule (seen state.old)) }
+    ensures marked { state.new.lines.kept ≡ state.old.lines.kept }
 {
-    *lost = lost_by(alloc, schedule, lost.as_slice(), fates)?;
-    wait_all(schedule, lines, fates)?;
-    leave_all(schedule, now, fates);
+    state.lost = lost_by(alloc, state, fates)?;
+    wait_all(&state.schedule, &mut state.lines, fates)?;
+    leave_all(&mut state.schedule, state.moment, fates);
     Ok(())
 }

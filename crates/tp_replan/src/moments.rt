@@ -5,7 +5,9 @@ ghost use Rattle.std.specs.List.{list_any};
 ghost use Rattle.tp_schedule.specs.Holding.{runs_from};
 ghost use Rattle.tp_schedule.specs.Plans.{IsFormed};
 ghost use Rattle.tp_schedule.specs.declared.parts.SheetId.{SheetId};
-ghost use Rattle.tp_turn.specs.Moments.{does_use, is_entering, is_in_flight, is_running, is_running_on, is_started, is_to_run_on, is_to_tray, is_tray_plan, is_unstarted, started_count};
+ghost use Rattle.tp_turn.specs.Moments.{does_use, is_entering, is_in_flight, is_running};
+ghost use Rattle.tp_turn.specs.Moments.{is_running_on, is_started, is_to_run_on, is_to_tray};
+ghost use Rattle.tp_turn.specs.Moments.{is_tray_plan, is_unstarted, started_count};
 
 use tp_base::Tick;
 use tp_machine::{ActId, Machine, ModId, uses};
@@ -19,7 +21,8 @@ fn is_within(now: Tick, start: Tick, end: Tick) -> bool
 }
 
 fn is_any_running(now: Tick, acts: &[ActId], points: &[Tick]) -> bool
-    ensures { (sheet : SheetId) (number : ℕ) → list_any (is_running now) (runs_from sheet number acts.now points.now) ≡ result }
+    ensures { (sheet : SheetId) (number : ℕ)
+        → list_any (is_running now) (runs_from sheet number acts.now points.now) ≡ result }
 {
     if let [_, later @ ..] = acts
         && let [start, end, ..] = points
@@ -95,7 +98,9 @@ fn is_any_running_on(
     acts: &[ActId],
     points: &[Tick],
 ) -> bool
-    ensures { (sheet : SheetId) (number : ℕ) → list_any (λ run. is_running now run && does_use machine.now id.0 run.act) (runs_from sheet number acts.now points.now) ≡ result }
+    ensures { (sheet : SheetId) (number : ℕ)
+        → list_any (λ run. is_running now run && does_use machine.now id.0 run.act)
+        (runs_from sheet number acts.now points.now) ≡ result }
 {
     if let [act, later @ ..] = acts
         && let [start, end, ..] = points
@@ -124,7 +129,9 @@ fn is_any_to_run_on(
     acts: &[ActId],
     points: &[Tick],
 ) -> bool
-    ensures { (sheet : SheetId) (number : ℕ) → list_any (λ run. not (is_started now run) && does_use machine.now id.0 run.act) (runs_from sheet number acts.now points.now) ≡ result }
+    ensures { (sheet : SheetId) (number : ℕ)
+        → list_any (λ run. not (is_started now run) && does_use machine.now id.0 run.act)
+        (runs_from sheet number acts.now points.now) ≡ result }
 {
     if let [act, later @ ..] = acts
         && let [start, _, ..] = points
@@ -147,7 +154,8 @@ pub(crate) fn is_to_run_on(machine: &Machine, plan: &Plan, now: Tick, id: ModId)
 }
 
 fn count_started(now: Tick, acts: &[ActId], points: &[Tick]) -> usize
-    ensures count { (sheet : SheetId) (number : ℕ) → count_by (is_started now) (runs_from sheet number acts.now points.now) ≡ result }
+    ensures count { (sheet : SheetId) (number : ℕ)
+        → count_by (is_started now) (runs_from sheet number acts.now points.now) ≡ result }
     ensures within { result ≤ length acts.now }
 {
     if let [_, later @ ..] = acts

@@ -1,4 +1,4 @@
-//! The names by which records call copies.
+//! What lines tell of copies.
 
 ghost use Rattle.std.specs.Prelude.{◌≡◌, ◌<◌, length};
 ghost use Rattle.tp_jobs.specs.Backlogs.{next_copy, tray_of};
@@ -39,11 +39,7 @@ pub(crate) fn label(lines: &Lines, sheet: SheetId) -> SheetName
     requires { sheet.job < length lines.now.jobs }
     ensures { result ≡ label lines.now.jobs sheet }
 {
-    SheetName {
-        job: job_name(lines, sheet.job),
-        number: sheet.number,
-        copy: sheet.copy,
-    }
+    tp_telling::label(job_name(lines, sheet.job), sheet)
 }
 
 /// The next copy of the sheet.

@@ -1,7 +1,7 @@
 -- The copies have their turns in their order.
 use Rattle.std.proofs.Common.{◌≡◌, ◌∙◌, ◌++◌, ◌∷◌, ◌==◌, [], Some, cond, ap, sym, arith, filter, length, map}
 use Rattle.tp_base.proofs.SliceFacts.{found}
-use Rattle.tp_jobs.specs.Backlogs.{Backlog}
+use Rattle.tp_jobs.specs.Backlogs.{Backlog, unmarked}
 use Rattle.tp_jobs.specs.Trying.{next_to_try}
 use Rattle.tp_jobs.specs.Waiting.{without_waiting}
 use Rattle.tp_jobs.specs.declared.parts.WaitingCopy.{WaitingCopy}
@@ -22,7 +22,7 @@ loop-turn-preserved c =
     let inv = c.loop-turn.invariant in
     let marks = c.none-none.result in
     let tried : next_to_try c.loop-turn.lines c.loop-turn.last marks ≡ Some w.sheet =
-    (λ k. next_to_try (record { jobs = jobs; waiting = inv.waiting k }) (inv.last k) marks) ∙ next-at jobs marks job i ws w c.kept.ensures.in_order c.none-none.ensures there.1 in
+    (λ k. next_to_try (unmarked jobs (inv.waiting k)) (inv.last k) marks) ∙ next-at jobs marks job i ws w c.kept.ensures.in_order c.none-none.ensures there.1 in
     elim c.match-next_to_try.branch [
       | in-Some+in_ok-take_one b ↦ (
           let copy = b.in-Some.copy in
@@ -33,6 +33,7 @@ loop-turn-preserved c =
             waiting = rw b.lines-is (ap (λ (l : Backlog). l.waiting) b.in_ok-take_one.ensures.lines
                 ∙ (λ k. cond ((same k).job == job) (without_waiting (same k) (inv.waiting k)) (inv.waiting k))
                 ∙ left-next job i ws w c.kept.ensures.in_order there.1);
+            kept = rw b.lines-is (ap (λ (l : Backlog). l.kept) b.in_ok-take_one.ensures.lines ∙ inv.kept);
             copies = rw b.copies-is (b.in_ok-take_one.ensures.copies
                 ∙ ap (λ (s : SheetId). c.loop-turn.copies.items ++ cond (s.job == job) (s ∷ []) []) same
                 ∙ taken-next job i ws w c.loop-turn.copies.items there.1 inv.copies);
@@ -52,4 +53,4 @@ returns-clause-lines c =
     let ws = c.args.lines.now.waiting in
     let end : c.loop-turn._turn ≡ length ws = omega (arith, c.loop-turn-test.false, c.loop-turn.auto._turn-end, c.waiting-turn-end.ensures) in
     let waiting = c.loop-turn.invariant.waiting ∙ left-whole c.args.job c.loop-turn._turn ws end in
-    λ k. record { jobs = c.loop-turn.invariant.jobs k; waiting = waiting k }
+    λ k. record { jobs = c.loop-turn.invariant.jobs k; waiting = waiting k; kept = c.loop-turn.invariant.kept k }
