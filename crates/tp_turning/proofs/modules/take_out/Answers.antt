@@ -1,0 +1,35 @@
+-- A module that goes out leaves a state that can take any event, and the phase of asks follows.
+use Rattle.std.proofs.Common.{◌+◌, sym}
+use Rattle.std.proofs.lemmas.Result.{on_ok_weaker}
+use Rattle.tp_turn.specs.LiveStates.{seen}
+use Rattle.tp_turn.specs.Planners.{right_steps}
+use Rattle.tp_turn.specs.Ready.{last_copy}
+use Rattle.tp_turning.proofs.ModuleEvents.{out-event, out-stop}
+use Rattle.tp_turning.proofs.modules.take_out.Goals as goal
+
+pub ask_waiting-requires-clause-can : goal.ask_waiting-requires-clause-can
+ask_waiting-requires-clause-can g c = (c.in_ok-go_out.ensures.kept last_copy c.requires.can.kept).kept
+
+pub returns-clause-kept : goal.returns-clause-kept
+returns-clause-kept g c =
+    on_ok_weaker c.ask_waiting.result (λ kept copies can. kept (copies + 1) (c.in_ok-go_out.ensures.kept copies can.kept)) c.ask_waiting.ensures.kept
+
+pub returns-clause-turn : goal.returns-clause-turn
+returns-clause-turn g c =
+    let s = seen c.args.state.now in
+    let out = c.in_ok-go_out.ensures.out in
+    on_ok_weaker c.ask_waiting.result
+    (λ noted. out-event (right_steps g.P.Planner.spent g.P.Planner.steps g.P.Planner.stop_steps c.args.machine.now) c.args.machine.now s c.args.planner.now c.args.notes.now.items c.ask_waiting.new.notes.items
+    c.in-Ok.id.0 c.is_jam.result c.args.event.now c.requires.goes_out c.is_jam.ensures (sym c.in-Ok.ensures.refused) c.in-Ok.ensures.found
+    out.0 c.go_out.new.notes.items (seen c.go_out.new.state) c.go_out.new.planner out.1 out.2
+    (seen c.ask_waiting.new.state) c.ask_waiting.new.planner noted)
+    c.ask_waiting.ensures.asks
+
+pub returns-clause-stopped : goal.returns-clause-stopped
+returns-clause-stopped g c e =
+    let s = seen c.args.state.now in
+    let out = c.in_ok-go_out.ensures.out in
+    out-stop (right_steps g.P.Planner.spent g.P.Planner.steps g.P.Planner.stop_steps c.args.machine.now) c.args.machine.now s c.args.planner.now c.args.notes.now.items c.ask_waiting.new.notes.items
+    c.in-Ok.id.0 c.is_jam.result c.args.event.now c.requires.goes_out c.is_jam.ensures (sym c.in-Ok.ensures.refused) c.in-Ok.ensures.found
+    out.0 c.go_out.new.notes.items (seen c.go_out.new.state) c.go_out.new.planner out.1 out.2
+    c.ask_waiting.new.planner (c.ask_waiting.ensures.stopped e)

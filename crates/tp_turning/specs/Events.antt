@@ -1,0 +1,63 @@
+-- The turns of events, as calls give them.
+use Rattle.std.specs.Prelude.{◌≡◌, List, ◌++◌, Option, Some, None, Result, Ok, Err, ℕ, [], ◌∷◌}
+use Rattle.std.specs.Option.{MatchOption}
+use Rattle.tp_machine.specs.declared.whole.Machine.{Machine}
+use Rattle.tp_schedule.specs.declared.recording.Cause.{Cause}
+use Rattle.tp_schedule.specs.declared.recording.Cause.TheVariants.{Tray, Media, Named, Waiting, Back, End}
+use Rattle.tp_schedule.specs.declared.recording.Record.{Record}
+use Rattle.tp_schedule.specs.declared.recording.Record.TheVariants.{Refused}
+use Rattle.tp_jobs.specs.declared.fault.JobFault.{JobFault}
+use Rattle.tp_jobs.specs.declared.fault.JobFault.TheVariants.{Memory, UnknownTray, UnknownMedia, TwiceNamed, TooManyWaiting}
+use Rattle.tp_release.specs.declared.fault.AdvanceFault.{AdvanceFault}
+use Rattle.tp_release.specs.declared.fault.AdvanceFault.TheVariants.{Memory as WantsMemory, ClockBack, ClockEnd}
+use Rattle.tp_script.specs.declared.event.Event.{Event}
+use Rattle.tp_script.specs.declared.event.Event.TheVariants.{Clock}
+use Rattle.tp_turn.specs.Asking.{Asks}
+use Rattle.tp_turn.specs.Clock.{clock_move}
+use Rattle.tp_turn.specs.Keeping.{live_part}
+use Rattle.tp_turn.specs.Planners.{PlannerSteps}
+use Rattle.tp_turn.specs.Refusals.{clock_refusal}
+use Rattle.tp_turn.specs.States.{SessionState}
+use Rattle.tp_turn.specs.Turns.{Turn}
+
+-- the cause by which a job is refused, which want of memory is not
+abbrev pub job_cause : JobFault → Option Cause
+job_cause Memory = None
+job_cause (UnknownTray name) = Some (Tray name)
+job_cause (UnknownMedia name) = Some (Media name)
+job_cause (TwiceNamed name) = Some (Named name)
+job_cause (TooManyWaiting waiting asked) = Some Waiting
+
+-- the cause by which a move of the clock is refused, which want of memory is not
+abbrev pub clock_cause : AdvanceFault → Option Cause
+clock_cause WantsMemory = None
+clock_cause (ClockBack now) = Some (Back now)
+clock_cause ClockEnd = Some End
+
+-- the cause in an answer
+abbrev pub cause_in : {X : Type 0} → Result X Cause → Option Cause
+cause_in (Ok x) = None
+cause_in (Err cause) = Some cause
+
+module _ {P : Type 0} (planner_steps : PlannerSteps P) (machine : Machine) where
+  -- the clock moves: its records, and then those of the phase of asks on what is still live
+  pub record MovesClock (to : ℕ) (s : SessionState) (planner : P) (records : List Record) (s' : SessionState) (planner' : P) : Type 0 where
+    pub rest : List Record
+    pub asks : Asks planner_steps machine (live_part machine (clock_move machine to s).state) planner rest s' planner'
+    pub told : records ≡ (clock_move machine to s).records ++ rest
+
+  -- a move of the clock that is refused is told so and changes nothing
+  abbrev pub ClockTurn : ℕ → SessionState → P → List Record → SessionState → P → Type 0
+  ClockTurn to s planner records s' planner' = MatchOption (clock_refusal s.now to)
+      (MovesClock to s planner records s' planner')
+      (λ cause. (records ≡ Refused cause ∷ []) × (s' ≡ s) × (planner' ≡ planner))
+
+  -- the turn of an event where plans that are not live any more are forgotten as the clock moves
+  abbrev pub LiveTurn : Event → SessionState → P → List Record → SessionState → P → Type 0
+  LiveTurn (Clock to) s planner records s' planner' = ClockTurn to s planner records s' planner'
+  LiveTurn event s planner records s' planner' = Turn planner_steps machine event s planner records s' planner'
+
+  -- some notes more are the records of the event's turn from the one state to the other
+  abbrev pub NotesEvent : Event → SessionState → P → List Record → SessionState → P → List Record → Type 0
+  NotesEvent event s planner notes s' planner' notes' =
+      (records : List Record) × (notes' ≡ notes ++ records) × LiveTurn event s planner records s' planner'

@@ -1,0 +1,64 @@
+//! A job arrives.
+
+ghost use Rattle.std.specs.Prelude.{◌≡◌, ℕ, Err, ◌+◌, ◌^◌, ◌<◌, ◌≤◌, length, IsTrue, OnOk, IfErr};
+ghost use Rattle.tp_machine.specs.declared.whole.Machine.{Machine};
+ghost use Rattle.tp_schedule.specs.Planning.{StopsOnlyWhere};
+ghost use Rattle.tp_schedule.specs.declared.parts.Halt.TheVariants.{Stopped};
+ghost use Rattle.tp_script.specs.declared.event.Event.TheVariants.{Job as NewJob};
+ghost use Rattle.tp_turn.specs.LiveStates.{seen};
+ghost use Rattle.tp_turn.specs.Planners.{right_steps};
+ghost use Rattle.tp_turn.specs.Ready.{CanTakeEvents, last_copy};
+ghost use Rattle.tp_turning.specs.Events.{NotesEvent};
+ghost use Rattle.tp_turning.specs.Stops.{NotesEventStop};
+
+use crate::asking::ask_waiting;
+use crate::job_order::JobOrder;
+use crate::refusing::tell_job_refused;
+use std::alloc::Global;
+use tp_machine::Machine;
+use tp_schedule::{Halt, Planner, Record};
+use tp_turn::LiveState;
+
+/// Takes a job: its copies wait behind all others, and the copies that wait are asked. A job that is refused is noted so,
+/// and nothing else changes.
+///
+/// After a `Halt` nothing is known of the state, so that the caller drops it, and notes may have come.
+pub(crate) fn take_job<P: Planner>(
+    alloc: Global,
+    machine: &Machine,
+    state: &mut LiveState,
+    planner: &mut P,
+    order: &JobOrder,
+    notes: &mut Vec<Record>,
+) -> Result<(), Halt>
+    requires served { IsTrue (P.serves planner.old machine.now) }
+    requires can { CanTakeEvents machine.now last_copy (seen state.old) }
+    requires groups { length order.now.groups.now < 2 ^ 32 }
+    ensures turn { OnOk result (
+        NotesEvent (right_steps P.spent P.steps P.stop_steps machine.now) machine.now
+        (NewJob order.now.name order.now.tray order.now.media order.now.groups.now)
+        (seen state.old) planner.old notes.old.items (seen state.new) planner.new notes.new.items) }
+    ensures stopped { result ≡ Err Stopped →
+        NotesEventStop (right_steps P.spent P.steps P.stop_steps machine.now) machine.now
+        (NewJob order.now.name order.now.tray order.now.media order.now.groups.now)
+        (seen state.old) planner.old notes.old.items planner.new notes.new.items }
+    ensures kept { OnOk result ((copies : ℕ) → CanTakeEvents machine.now copies (seen state.old)
+        → CanTakeEvents machine.now (copies + 1) (seen state.new)) }
+    ensures stops_only { IfErr result (StopsOnlyWhere (P.stops planner.old) (P.stops planner.new)) }
+    ensures counted { P.stops planner.old ≤ P.stops planner.new }
+    ensures still_serves { (other : Machine)
+        → P.serves planner.new other ≡ P.serves planner.old other }
+    ensures lasts { P.lasting planner.new ≡ P.lasting planner.old }
+    ensures marked { state.new.lines.kept ≡ state.old.lines.kept }
+{
+    let JobOrder {
+        name,
+        tray,
+        media,
+        groups,
+    } = *order;
+    match state.lines.add(machine, name, tray, media, groups) {
+        Err(fault) => tell_job_refused(fault, notes),
+        Ok(_) => ask_waiting(alloc, machine, state, planner, notes),
+    }
+}

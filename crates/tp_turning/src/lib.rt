@@ -1,0 +1,23 @@
+//! The turn of one event on the live part of a session, over any planner.
+#![tactic(auto)]
+
+mod arriving;
+mod asking;
+mod checking;
+mod clocking;
+mod job_order;
+mod laws;
+mod living;
+mod modules;
+mod out_fault;
+mod refusing;
+mod turning;
+
+pub use checking::check_module;
+pub use laws::empty_state_can_begin;
+pub use living::{
+    live_answers_hold, live_asks_hold, live_part_moves_alike, live_turns_hold, whole_answers_hold,
+    whole_turns_hold,
+};
+pub use out_fault::OutFault;
+pub use turning::take_event;
