@@ -12,6 +12,7 @@ mod plans;
 mod printing;
 mod reading;
 mod reason;
+mod record_laws;
 mod records;
 
 pub use fault::LogFault;
@@ -20,3 +21,4 @@ pub use laws::{one_item, one_log};
 pub use line::{print_echo, read_log_line};
 pub use printing::print_record;
 pub use reading::read_log;
+pub use record_laws::record_law;

@@ -1,0 +1,6 @@
+pub mod Carry
+pub mod Lawful
+pub mod OnWhole
+pub mod OutageLines
+pub mod Scripts
+pub mod TurnLines

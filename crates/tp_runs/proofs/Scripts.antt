@@ -1,0 +1,64 @@
+-- Runs over scripts are lawful.
+use Rattle.std.proofs.Common.{◌≡◌, ℕ, ◌+◌, List, [], ◌∷◌, ◌++◌, length, Option, Some, sym, ap, subst, ◌∙◌, arith}
+use Rattle.tp_machine.specs.declared.whole.Machine.{Machine}
+use Rattle.tp_outside.specs.Reading.{IsCutShort}
+use Rattle.tp_outside.proofs.Parts.{IfSome-at, IfSome-from}
+use Rattle.tp_script.specs.Lines.{lines_of}
+use Rattle.tp_stream.specs.Takes.{IsWritten, Place, StopsBefore, Takes, place_of}
+use Rattle.tp_stream.specs.declared.stop.Stop.{Stop}
+use Rattle.tp_stream.specs.declared.stop.Stop.TheVariants.{Memory, Refused, Source, Sink, Line, Lines}
+use Rattle.tp_stream.proofs.TakesFacts.{answers_one, answers_then}
+use Rattle.tp_turn.specs.States.{SessionState, empty_state}
+use Rattle.tp_stream.specs.Scripts.{NoRefusal}
+use Rattle.tp_runs.specs.Ends.{ScriptsAreLawful, StopsAreLawful, StopsAt}
+use Rattle.tp_runs.specs.Wholes.{TellsLine}
+use Rattle.tp_runs.proofs.Lawful.{lines_lawful}
+
+module _ (machine : Machine) (nodes : ℕ) where
+  pub scripts_lawful : ScriptsAreLawful machine nodes
+  scripts_lawful script taken taken' s h = record {
+    fit = h.fit;
+    few = omega (arith, h.few);
+    text = h.text;
+    run = lines_lawful machine nodes (lines_of script) h.text s h.answered;
+    written = h.written;
+  }
+
+  at_end : (stop : Stop) (taken taken' : Option (List ℕ)) (s : SessionState) (rest : List ℕ) (at : Place SessionState) (script : List ℕ)
+      → (h : Takes (TellsLine machine nodes) 4096 (place_of empty_state 0 taken) script rest at)
+      → StopsBefore (TellsLine machine nodes) NoRefusal 4096 1000000 stop rest at s taken' → StopsAt machine nodes stop h.done rest h.text taken taken'
+  at_end Memory taken taken' s rest at script h k = subst (IsWritten taken h.text) (sym k) h.written
+  at_end Refused taken taken' s rest at script h k = absurd k.0.refused
+  at_end Source taken taken' s rest at script h k = (k.0, subst (IsWritten taken h.text) (sym k.1) h.written)
+  at_end (Line n) taken taken' s rest at script h k = (k.0, k.1 ∙ ap (λ m. m + 1) (count h.counted), subst (IsWritten taken h.text) (sym k.2) h.written)
+    where
+      count : at.count ≡ 0 + length (lines_of h.done) → at.count ≡ length (lines_of h.done)
+      count e = omega (arith, e)
+  at_end Lines taken taken' s rest at script h k = (omega (arith, k.0, h.counted), k.1, subst (IsWritten taken h.text) (sym k.2) h.written)
+  at_end Sink taken taken' s rest at script h k = (
+    k.line,
+    (
+      k.more,
+      (
+        k.told,
+        k.next,
+        lines_lawful machine nodes (lines_of h.done ++ k.line ∷ []) (h.text ++ k.told) s
+            (answers_then (TellsLine machine nodes) empty_state at.state s (lines_of h.done) (k.line ∷ []) h.text k.told h.answered (answers_one (TellsLine machine nodes) at.state s k.line k.told k.answered)),
+        IfSome-from (λ before. IsCutShort k.told taken' (before ++ h.text)) taken (λ before e.
+            IfSome-at (IsCutShort k.told taken') at.taken (before ++ h.text) k.cut (IfSome-at (λ before. at.taken ≡ Some (before ++ h.text)) taken before h.written e)),
+      ),
+    ),
+  )
+
+  pub stops_lawful : StopsAreLawful machine nodes
+  stops_lawful stop script taken taken' s h = record {
+    done = h.takes.done;
+    rest = h.rest;
+    parts = h.takes.bytes_are;
+    whole = h.takes.whole;
+    fit = h.takes.fit;
+    few = omega (arith, h.few, h.takes.counted);
+    text = h.takes.text;
+    run = lines_lawful machine nodes (lines_of h.takes.done) h.takes.text h.at.state h.takes.answered;
+    stops = at_end stop taken taken' s h.rest h.at script h.takes h.stops;
+  }

@@ -1,0 +1,55 @@
+-- How a run over a script ends, and what was written then.
+use Rattle.std.specs.Prelude.{◌≡◌, ℕ, ◌+◌, ◌<◌, ◌≤◌, true, List, [], ◌∷◌, ◌++◌, length, Option, IfSome}
+use Rattle.std.specs.List.{All}
+use Rattle.tp_machine.specs.declared.whole.Machine.{Machine}
+use Rattle.tp_outside.specs.Reading.{IsCutShort}
+use Rattle.tp_script.specs.Lines.{lines_of}
+use Rattle.tp_words.specs.Parts.{lacks}
+use Rattle.tp_stream.specs.Scripts.{NoRefusal, line_bytes, most_lines}
+use Rattle.tp_stream.specs.Takes.{BeginsTooLong, FitsIn, IsWritten, Stops, TakesAll, ends_whole, place_of}
+use Rattle.tp_stream.specs.declared.stop.Stop.{Stop}
+use Rattle.tp_stream.specs.declared.stop.Stop.TheVariants.{Memory, Refused, Source, Sink, Line, Lines}
+use Rattle.tp_turn.specs.States.{SessionState, empty_state}
+use Rattle.tp_runs.specs.Wholes.{IsRunOver, TellsLine}
+
+-- the whole script was answered: the text of the one log that answers its events lawfully was written
+pub record IsAnswered (machine : Machine) (nodes : ℕ) (script : List ℕ) (taken taken' : Option (List ℕ)) : Type 0 where
+  pub fit : All (FitsIn line_bytes) (lines_of script)
+  pub few : length (lines_of script) ≤ most_lines
+  pub text : List ℕ
+  pub run : IsRunOver machine nodes (lines_of script) text
+  pub written : IsWritten taken text taken'
+
+-- what is known of what comes next where a run over a script stops. Only a sink that fails has taken more than the text of
+-- the lines before: a first part of the next line's
+abbrev pub StopsAt : Machine → ℕ → Stop → List ℕ → List ℕ → List ℕ → Option (List ℕ) → Option (List ℕ) → Type 0
+StopsAt machine nodes Memory done rest text taken taken' = IsWritten taken text taken'
+StopsAt machine nodes Refused done rest text taken taken' = ⊥
+StopsAt machine nodes Source done rest text taken taken' = (lacks 10 rest ≡ true) × IsWritten taken text taken'
+StopsAt machine nodes (Line n) done rest text taken taken' = BeginsTooLong line_bytes rest × (n ≡ length (lines_of done) + 1) × IsWritten taken text taken'
+StopsAt machine nodes Lines done rest text taken taken' = (length (lines_of done) ≡ most_lines) × (0 < length rest) × IsWritten taken text taken'
+StopsAt machine nodes Sink done rest text taken taken' = (line : List ℕ) × ((more : List ℕ) × ((told : List ℕ)
+    × (rest ≡ line ++ more) × IsRunOver machine nodes (lines_of done ++ line ∷ []) (text ++ told) × IfSome taken (λ before. IsCutShort told taken' (before ++ text))))
+
+-- the first lines of what was read were answered, each whole and within the limit: the text of the one log that answers
+-- their events lawfully was written, and then the run stopped
+pub record IsAnsweredTo (machine : Machine) (nodes : ℕ) (stop : Stop) (script : List ℕ) (taken taken' : Option (List ℕ)) : Type 0 where
+  pub done : List ℕ
+  pub rest : List ℕ
+  pub parts : script ≡ done ++ rest
+  pub whole : ends_whole done ≡ true
+  pub fit : All (FitsIn line_bytes) (lines_of done)
+  pub few : length (lines_of done) ≤ most_lines
+  pub text : List ℕ
+  pub run : IsRunOver machine nodes (lines_of done) text
+  pub stops : StopsAt machine nodes stop done rest text taken taken'
+
+abbrev pub ScriptsAreLawful : Machine → ℕ → Type 0
+ScriptsAreLawful machine nodes = (script : List ℕ) (taken taken' : Option (List ℕ)) (s : SessionState)
+    → TakesAll (TellsLine machine nodes) line_bytes most_lines (place_of empty_state 0 taken) script s taken'
+    → IsAnswered machine nodes script taken taken'
+
+abbrev pub StopsAreLawful : Machine → ℕ → Type 0
+StopsAreLawful machine nodes = (stop : Stop) (script : List ℕ) (taken taken' : Option (List ℕ)) (s : SessionState)
+    → Stops (TellsLine machine nodes) NoRefusal line_bytes most_lines (place_of empty_state 0 taken) script stop s taken'
+    → IsAnsweredTo machine nodes stop script taken taken'

@@ -1,0 +1,5 @@
+pub mod Runs
+pub mod Carrying
+pub mod Wholes
+pub mod Ends
+pub mod Told

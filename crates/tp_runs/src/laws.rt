@@ -1,0 +1,48 @@
+//! What holds of runs. The calls do nothing: their contracts are the laws.
+
+ghost use Rattle.std.specs.Prelude.{ℕ};
+ghost use Rattle.tp_machine.specs.declared.whole.Machine.{Machine};
+ghost use Rattle.tp_runs.specs.Carrying.{RightTurns};
+ghost use Rattle.tp_runs.specs.Ends.{ScriptsAreLawful, StopsAreLawful};
+ghost use Rattle.tp_runs.specs.Told.{LiveTurnsHaveLines, TurnsHaveLines};
+ghost use Rattle.tp_turn.specs.Planners.{right_steps};
+ghost use Rattle.tp_runs.specs.Wholes.{LinesAreLawful, TurnsOnWhole};
+
+use tp_schedule::Planner;
+
+/// The turns of a planner that answers rightly, and whose number of nodes never changes, are turns of right answers with
+/// that budget.
+pub fn right_planners_turn_rightly<P: Planner>()
+    ensures { (machine : Machine) → RightTurns P.spent P.steps P.stop_steps machine }
+{}
+
+/// A turn on the live part of a state is one of right answers on every whole state behind it, and what it leaves is the live
+/// part of the whole state that follows.
+pub fn live_turns_are_whole<P: Planner>()
+    ensures { (machine : Machine) → TurnsOnWhole P.spent P.steps P.stop_steps machine }
+{}
+
+/// Each record of a turn has a line, whatever the state and the event: a plan that is told has an action and one point more
+/// than actions, and a move has at least two points.
+pub fn turns_have_lines<P: Planner>()
+    ensures whole { (machine : Machine)
+        → TurnsHaveLines (right_steps P.spent P.steps P.stop_steps machine) machine }
+    ensures live { (machine : Machine)
+        → LiveTurnsHaveLines (right_steps P.spent P.steps P.stop_steps machine) machine }
+{}
+
+/// Where lines are answered, each by a turn on every whole state behind the live one, their events are answered by a lawful
+/// run, and the text of the answers is the text of its log.
+pub fn answered_lines_are_lawful()
+    ensures { (machine : Machine) (nodes : ℕ) → LinesAreLawful machine nodes }
+{}
+
+/// A script that is answered whole is answered by a lawful run.
+pub fn answered_scripts_are_lawful()
+    ensures { (machine : Machine) (nodes : ℕ) → ScriptsAreLawful machine nodes }
+{}
+
+/// Where a run over a script stops, what was written is the text of a lawful run over its first lines.
+pub fn stopped_scripts_are_lawful()
+    ensures { (machine : Machine) (nodes : ℕ) → StopsAreLawful machine nodes }
+{}

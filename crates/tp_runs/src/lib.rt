@@ -1,0 +1,9 @@
+//! Lawful runs: what a run of the program is, its text, and why what is told of live parts is told of the whole.
+#![tactic(auto)]
+
+mod laws;
+
+pub use laws::{
+    answered_lines_are_lawful, answered_scripts_are_lawful, live_turns_are_whole,
+    right_planners_turn_rightly, stopped_scripts_are_lawful, turns_have_lines,
+};
