@@ -1,0 +1,25 @@
+//! What the words of the command line ask for.
+
+/// What is to be done: a script is run, a log is checked, or a made script is run and counted.
+#[derive(Clone, Copy, Debug, PartialEq, Eq)]
+pub enum Mode {
+    Run,
+    Check,
+    Soak,
+}
+
+/// What the words ask for.
+#[derive(Clone, Copy, Debug, PartialEq, Eq)]
+pub struct Request<'a> {
+    pub mode: Mode,
+    pub arg: &'a str,
+    pub bounds: bool,
+    pub budget: Option<u32>,
+}
+
+/// Why the words ask for nothing.
+#[derive(Clone, Copy, Debug, PartialEq, Eq)]
+pub enum WordsFault {
+    Memory,
+    Usage,
+}

@@ -1,0 +1,42 @@
+-- How the lines of a script are answered by whoever answers events.
+use Rattle.std.specs.Prelude.{◌≡◌, ℕ, List, [], Option, Some, None}
+use Rattle.std.specs.Option.{MatchOption}
+use Rattle.tp_script.specs.Lines.{line_event}
+use Rattle.tp_script.specs.Printed.{IsEchoed}
+use Rattle.tp_script.specs.declared.event.Event.{Event}
+use Rattle.tp_stream.specs.Takes.{IsReadFrom, Stops, TakesAll, place_of}
+use Rattle.tp_stream.specs.declared.stop.Stop.{Stop}
+
+-- the most bytes of a script's line without its LF, the most lines, and the most events that are answered
+abbrev pub line_bytes : ℕ
+line_bytes = 4096
+
+abbrev pub most_lines : ℕ
+most_lines = 1000000
+
+abbrev pub most_events : ℕ
+most_events = 100000000
+
+-- what reading the event of a line answers
+abbrev pub ReadsEvent : List ℕ → Option Event → Type 0
+ReadsEvent line None = line_event line ≡ None
+ReadsEvent line (Some event) = (line_event line ≡ Some event) × IsEchoed event
+
+-- no line of a script is refused
+abbrev pub NoRefusal : {S : Type 0} → S → List ℕ → Type 0
+NoRefusal s line = ⊥
+
+module _ {S : Type 0} (tells : S → Event → List ℕ → S → Type 0) where
+  -- a blank line or a comment is passed over; any other is answered as its event
+  abbrev pub AnswersLine : S → List ℕ → List ℕ → S → Type 0
+  AnswersLine s line text s' = MatchOption (line_event line) ((text ≡ []) × (s' ≡ s)) (λ event. tells s event text s')
+
+  -- from the start all lines of what the source gave were answered
+  abbrev pub IsTaken : S → Option (List ℕ) → Option (List ℕ) → Option (List ℕ) → Option (List ℕ) → Type 0
+  IsTaken start left taken left' taken' = (bytes : List ℕ) × IsReadFrom left bytes left'
+      × ((s : S) × TakesAll AnswersLine line_bytes most_lines (place_of start 0 taken) bytes s taken')
+
+  -- or the first lines, and then the run stopped for this cause
+  abbrev pub IsStopped : S → Option (List ℕ) → Option (List ℕ) → Stop → Option (List ℕ) → Option (List ℕ) → Type 0
+  IsStopped start left taken stop left' taken' = (bytes : List ℕ) × IsReadFrom left bytes left'
+      × ((s : S) × Stops AnswersLine NoRefusal line_bytes most_lines (place_of start 0 taken) bytes stop s taken')
