@@ -1,4 +1,2 @@
-pub mod Telling
-pub mod Phases
-pub mod LiveTurns
-pub mod Events
+pub mod Sessions
+pub mod Texts

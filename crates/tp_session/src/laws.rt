@@ -1,17 +1,31 @@
-// What holds of the states between events. The calls do nothing: their contracts are the laws.
-ghost use Rattle.tp_machine.specs.declared.whole.Machine.{Machine};
-ghost use Rattle.tp_turn.specs.Keeping.{IsLeastAt};
-ghost use Rattle.tp_turn.specs.States.{empty_state};
-ghost use Rattle.tp_session.specs.Phases.{AskedCanGoOut, CanAskInTurn, KeepsCopies};
+//! What holds of sessions. The calls do nothing: their contracts are the laws.
 
-/// What a phase of asks leaves is what an outage needs, where the schedule is least and copies and purges are kept.
-pub fn asked_can_go_out()
-    ensures { AskedCanGoOut }
+ghost use Rattle.std.specs.Prelude.{ℕ, Option};
+ghost use Rattle.tp_machine.specs.declared.whole.Machine.{Machine};
+ghost use Rattle.tp_runs.specs.Carrying.{KeepsNodes};
+ghost use Rattle.tp_session.specs.Sessions.{SessionsLawful, SessionsStopLawful};
+ghost use Rattle.tp_turn.specs.Planners.{right_steps};
+ghost use Rattle.tp_turning.specs.LiveTurns.{AnswersAlone, SettlesRightly};
+
+use tp_base::Network;
+use tp_schedule::Planner;
+use tp_search::Engine;
+
+/// A workspace and a board look at schedules through right answers alone, settle times rightly, and never change their
+/// number of nodes.
+pub fn engines_answer_alone<N: Network>()
+    ensures alone { (machine : Machine) → AnswersAlone
+        (right_steps ⟦<Engine<N> as Planner>⟧.spent ⟦<Engine<N> as Planner>⟧.steps
+        ⟦<Engine<N> as Planner>⟧.stop_steps machine) machine (λ e. e.work.nodes) }
+    ensures settles { (machine : Machine) → SettlesRightly
+        (right_steps ⟦<Engine<N> as Planner>⟧.spent ⟦<Engine<N> as Planner>⟧.steps
+        ⟦<Engine<N> as Planner>⟧.stop_steps machine) machine }
+    ensures nodes { (machine : Machine) → KeepsNodes ⟦<Engine<N> as Planner>⟧.spent
+        ⟦<Engine<N> as Planner>⟧.steps ⟦<Engine<N> as Planner>⟧.stop_steps machine (λ e. e.work.nodes) }
 {}
 
-/// Every machine can begin with no plan, no job and no module out, at the moment 0: the first event may be any.
-pub fn empty_state_can_begin()
-    ensures asks { (machine : Machine) → CanAskInTurn machine empty_state }
-    ensures least { (machine : Machine) → IsLeastAt machine empty_state }
-    ensures copies { KeepsCopies empty_state }
+/// The script that a session answers from its start is answered by a lawful run, and so are the first lines where it stops.
+pub fn sessions_are_lawful()
+    ensures whole { (machine : Machine) (budget : Option ℕ) → SessionsLawful machine budget }
+    ensures stopped { (machine : Machine) (budget : Option ℕ) → SessionsStopLawful machine budget }
 {}

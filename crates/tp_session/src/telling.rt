@@ -1,172 +1,60 @@
-// What is told of an answer to an ask.
-ghost use Rattle.std.specs.Prelude.{◌≡◌, ◌<◌, ◌+◌, ◌^◌, ◌++◌, ◌∷◌, [], length, drop, map, All, IfOk, OnOk};
-ghost use Rattle.tp_schedule.specs.Answers.{kept_from, kept_of};
-ghost use Rattle.tp_schedule.specs.Planning.{IsKnownGoal};
-ghost use Rattle.tp_schedule.specs.Plans.{IsTimedPlan, plan_of, without};
-ghost use Rattle.tp_schedule.specs.declared.recording.Record.TheVariants.{FullUp};
-ghost use Rattle.tp_turn.specs.Answering.{moves, told_of_move, told_of_plan, told_of_planned, told_of_reply};
-ghost use Rattle.tp_turn.specs.Labels.{action_name};
-ghost use Rattle.tp_session.specs.Telling.{IsKnown};
+//! The text of an event's turn.
 
-use crate::naming::{action_name, end_name, goal_name, label};
-use std::alloc::Global;
-use tp_base::{Items, Memory, Name, Tick};
-use tp_machine::Machine;
-use tp_schedule::{Acts, Ask, Origin, Plan, Points, Record, Reply, Schedule, SheetId, SheetName};
+ghost use Rattle.std.specs.Prelude.{◌≡◌, ◌++◌, All, map, flat_map, OnOk, OnErr};
+ghost use Rattle.tp_log.specs.Grammar.{HasFields, echo_text};
+ghost use Rattle.tp_log.specs.Records.{IsPrintable, record_text};
+ghost use Rattle.tp_session.specs.Texts.{IsLonger};
 
-/// Notes what an answer says: the plan, and each other plan that moved; or that there is none; or that the budget was
-/// spent. The schedules are those before and after the answer.
-pub(crate) fn tell_reply(
-    alloc: Global,
-    machine: &Machine,
-    before: &Schedule,
-    ask: &Ask,
-    reply: Reply,
-    after: &Schedule,
-    notes: &mut Vec<Record>,
-) -> Result<(), Memory>
-    requires goal { IsKnownGoal machine.now ask.now.goal }
-    requires timed { All (IsTimedPlan machine.now) after.now.plans }
-    ensures { OnOk result (notes.new.items ≡ notes.old.items ++ told_of_reply machine.now before.now.plans ask.entry.now reply after.now.plans) }
+use tp_base::Memory;
+use tp_log::{print_echo, print_record, record_law};
+use tp_schedule::Record;
+use tp_script::Event;
+
+/// The names in the records are names, and their numbers fit in 32 bits. The call changes nothing.
+pub(crate) fn records_law(records: &[Record])
+    ensures { All HasFields records.now }
 {
-    let sheet = label(ask.name, ask.sheet);
-    match reply {
-        Reply::Planned => {
-            tell_planned(alloc, machine, ask, after, notes)?;
-            tell_moves(alloc, before, after, ask.sheet, notes)
-        }
-        Reply::Never => {
-            let goal = goal_name(machine, ask.goal);
-            notes.push(Record::Never { sheet, goal })?;
-            Ok(())
-        }
-        Reply::Spent { bound } => {
-            let goal = goal_name(machine, ask.goal);
-            notes.push(Record::Budget { sheet, goal, bound })?;
-            Ok(())
-        }
+    for rec in records {
+        record_law(rec);
     }
 }
 
-/// Notes that as many copies are live as may be.
-pub(crate) fn tell_full(sheet: SheetName, notes: &mut Vec<Record>) -> Result<(), Memory>
-    ensures { OnOk result (notes.new.items ≡ notes.old.items ++ FullUp sheet ∷ []) }
+/// Appends the lines of the records. After `Memory` the first of them may have been appended.
+fn put_records(records: &[Record], out: &mut Vec<u8>) -> Result<(), Memory>
+    requires { All IsPrintable records.now }
+    ensures told { OnOk result (out.new.items ≡ out.old.items ++ flat_map record_text records.now) }
+    ensures grows { IsLonger out.old.items out.new.items }
 {
-    notes.push(Record::FullUp { sheet })?;
-    Ok(())
-}
-
-/// Notes the plan of the asked copy, without the actions that it kept.
-fn tell_planned(
-    alloc: Global,
-    machine: &Machine,
-    ask: &Ask,
-    after: &Schedule,
-    notes: &mut Vec<Record>,
-) -> Result<(), Memory>
-    requires timed { All (IsTimedPlan machine.now) after.now.plans }
-    ensures { OnOk result (notes.new.items ≡ notes.old.items ++ told_of_planned machine.now (kept_of ask.entry.now) (plan_of ask.entry.now.sheet after.now.plans)) }
-{
-    if let Some(at) = after.find(ask.sheet) {
-        let record = plan_record(alloc, machine, kept_count(ask.origin), after.plan_at(at))?;
-        notes.push(record)?;
+    for rec in records {
+        print_record(rec, out)?;
     }
     Ok(())
 }
 
-fn kept_count(origin: Origin) -> u32
-    ensures { result ≡ kept_from origin }
+/// Appends the echo of the event and the lines of its records. After `Memory` the first of them may have been appended.
+fn put_turn(event: &Event, records: &[Record], text: &mut Vec<u8>) -> Result<(), Memory>
+    requires { All IsPrintable records.now }
+    ensures told { OnOk result (
+        text.new.items ≡ text.old.items ++ (echo_text event.now ++ flat_map record_text records.now)) }
+    ensures grows { IsLonger text.old.items text.new.items }
 {
-    match origin {
-        Origin::Feeder => 0,
-        Origin::Front { kept, .. } => kept,
-    }
+    print_echo(event, text)?;
+    put_records(records, text)
 }
 
-/// The record of a plan without its first actions.
-fn plan_record(alloc: Global, machine: &Machine, kept: u32, plan: &Plan) -> Result<Record, Memory>
-    requires { IsTimedPlan machine.now plan.now }
-    ensures { IfOk result (λ told. told ≡ told_of_plan machine.now kept plan.now) }
+/// Appends the echo of the event and the lines of its records. After `Memory` the text is as before.
+pub(crate) fn tell(event: &Event, records: &[Record], text: &mut Vec<u8>) -> Result<(), Memory>
+    requires { All IsPrintable records.now }
+    ensures told { OnOk result (
+        text.new.items ≡ text.old.items ++ (echo_text event.now ++ flat_map record_text records.now)) }
+    ensures memory { OnErr result (text.new.items ≡ text.old.items) }
 {
-    let points = points_from(alloc, kept, &plan.points)?;
-    let acts = names_from(alloc, machine, kept, &plan.acts)?;
-    Ok(Record::Plan {
-        sheet: label(plan.name, plan.sheet),
-        place: end_name(machine, plan),
-        points,
-        acts,
-    })
-}
-
-/// The points from a place on.
-fn points_from(alloc: Global, from: u32, points: &Points) -> Result<Items<Tick>, Memory>
-    ensures { IfOk result (λ items. items ≡ drop from points.now) }
-{
-    let mut items = Items::new(alloc);
-    for at in from..points.len() {
-        items.push(points.get(at))?;
-    }
-    Ok(items)
-}
-
-/// The names of the actions from a place on.
-fn names_from(
-    alloc: Global,
-    machine: &Machine,
-    from: u32,
-    acts: &Acts,
-) -> Result<Items<Name>, Memory>
-    requires { All (IsKnown machine.now) acts.now }
-    ensures { IfOk result (λ items. items ≡ map (action_name machine.now) (drop from acts.now)) }
-{
-    let mut items = Items::new(alloc);
-    for at in from..acts.len() {
-        items.push(action_name(machine, acts.get(at)))?;
-    }
-    Ok(items)
-}
-
-/// Notes the other plans whose points changed, in the order of copies.
-fn tell_moves(
-    alloc: Global,
-    before: &Schedule,
-    after: &Schedule,
-    asked: SheetId,
-    notes: &mut Vec<Record>,
-) -> Result<(), Memory>
-    ensures { OnOk result (notes.new.items ≡ notes.old.items ++ moves (without asked before.now.plans) (without asked after.now.plans)) }
-{
-    let mut from = 0;
-    let mut to = 0;
-    'moves: while from < before.len() && to < after.len() {
-        let old = before.plan_at(from);
-        let new = after.plan_at(to);
-        if old.sheet == asked {
-            from += 1;
-        } else if new.sheet == asked {
-            to += 1;
-        } else {
-            tell_move(alloc, old, new, notes)?;
-            from += 1;
-            to += 1;
+    let before = text.len();
+    match put_turn(event, records, text) {
+        Ok(()) => Ok(()),
+        Err(error) => {
+            text.truncate(before);
+            Err(error)
         }
     }
-    Ok(())
-}
-
-/// Notes the points of a plan where they changed.
-fn tell_move(
-    alloc: Global,
-    before: &Plan,
-    after: &Plan,
-    notes: &mut Vec<Record>,
-) -> Result<(), Memory>
-    ensures { OnOk result (notes.new.items ≡ notes.old.items ++ told_of_move before.now after.now) }
-{
-    if before.points.as_slice() != after.points.as_slice() {
-        let sheet = label(after.name, after.sheet);
-        let points = points_from(alloc, 0, &after.points)?;
-        notes.push(Record::Move { sheet, points })?;
-    }
-    Ok(())
 }

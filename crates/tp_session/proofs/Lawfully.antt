@@ -1,0 +1,103 @@
+-- What a session answers from the empty state is lawful.
+use Rattle.std.proofs.Common.{◌≡◌, ℕ, List, [], ◌∷◌, Option, Some, None, refl, sym, ap, subst, ◌∙◌}
+use Rattle.std.specs.Option.{MatchOption}
+use Rattle.tp_machine.specs.declared.whole.Machine.{Machine}
+use Rattle.tp_script.specs.Lines.{line_event, lines_of}
+use Rattle.tp_script.specs.declared.event.Event.{Event}
+use Rattle.tp_stream.specs.Answers.{AnswersAll}
+use Rattle.tp_stream.specs.Scripts.{AnswersLine, NoRefusal}
+use Rattle.tp_stream.specs.Takes.{Place, Stops, StopsBefore, TakesAll, place_of}
+use Rattle.tp_stream.specs.declared.stop.Stop.{Stop}
+use Rattle.tp_stream.specs.declared.stop.Stop.TheVariants.{Memory, Refused, Source, Sink, Line, Lines}
+use Rattle.tp_turn.specs.States.{SessionState, empty_state}
+use Rattle.tp_runs.specs.Ends.{IsAnswered, IsAnsweredTo}
+use Rattle.tp_runs.specs.Wholes.{TellsLine, TellsTurn}
+use Rattle.tp_runs.proofs.Scripts.{scripts_lawful, stops_lawful}
+use Rattle.tp_session.specs.Sessions.{Standing, Tells}
+
+module _ (machine : Machine) (nodes : ℕ) where
+  abbrev Lawful : SessionState → List ℕ → List ℕ → SessionState → Type 0
+  Lawful = TellsLine machine nodes
+
+  -- a standing with this machine and this budget
+  record Has (s : Standing) : Type 0 where
+    machine_is : s.machine ≡ machine
+    budget_is : s.budget ≡ nodes
+
+  record LineOf (s : Standing) (line text : List ℕ) (s' : Standing) : Type 0 where
+    answers : Lawful s.state line text s'.state
+    has : Has s'
+
+  one_line : (s s' : Standing) (line text : List ℕ) → Has s → AnswersLine Tells s line text s' → LineOf s line text s'
+  one_line s s' line text has h =
+      let (answers, kept) = go (line_event line) h in
+      record { answers = answers; has = kept }
+    where
+      go : (o : Option Event) → MatchOption o ((text ≡ []) × (s' ≡ s)) (λ event. Tells s event text s')
+          → MatchOption o ((text ≡ []) × (s'.state ≡ s.state)) (λ event. TellsTurn machine nodes event s.state text s'.state) × Has s'
+      go None (none, same) = ((none, ap (λ (x : Standing). x.state) same), subst Has (sym same) has)
+      go (Some event) h = (
+        subst (λ n. TellsTurn machine n event s.state text s'.state) has.budget_is (subst (λ m. TellsTurn m s.budget event s.state text s'.state) has.machine_is h.turn),
+        record { machine_is = h.same_machine ∙ has.machine_is; budget_is = h.same_budget ∙ has.budget_is },
+      )
+
+  record LinesOf (s : Standing) (lines : List (List ℕ)) (text : List ℕ) (s' : Standing) : Type 0 where
+    answers : AnswersAll Lawful s.state lines text s'.state
+    has : Has s'
+
+  all_lines : (lines : List (List ℕ)) (text : List ℕ) (s s' : Standing) → Has s → AnswersAll (AnswersLine Tells) s lines text s' → LinesOf s lines text s'
+  all_lines [] text s s' has (none, same) = record { answers = (none, ap (λ (x : Standing). x.state) same); has = subst Has (sym same) has }
+  all_lines (line ∷ lines) text s s' has (told, (mid, (rest, one, others, same))) =
+      let first = one_line s mid line told has one in
+      let more = all_lines lines rest mid s' first.has others in
+      record { answers = (told, (mid.state, (rest, first.answers, more.answers, same))); has = more.has }
+
+  abbrev start : Standing
+  start = record { machine = machine; budget = nodes; state = empty_state }
+
+  starts : Has start
+  starts = record { machine_is = refl; budget_is = refl }
+
+  pub sessions_lawful : (script : List ℕ) (taken taken' : Option (List ℕ)) (s : Standing) → TakesAll (AnswersLine Tells) 4096 1000000 (place_of start 0 taken) script s taken' → IsAnswered machine nodes script taken taken'
+  sessions_lawful script taken taken' s h =
+      scripts_lawful machine nodes script taken taken' s.state (record {
+        fit = h.fit;
+        few = h.few;
+        text = h.text;
+        answered = (all_lines (lines_of script) h.text start s starts h.answered).answers;
+        written = h.written;
+      })
+
+  abbrev seen_place : Place Standing → Place SessionState
+  seen_place at = place_of at.state.state at.count at.taken
+
+  seen_stop : (stop : Stop) (rest : List ℕ) (at : Place Standing) (s : Standing) (taken' : Option (List ℕ)) → Has at.state
+      → StopsBefore (AnswersLine Tells) NoRefusal 4096 1000000 stop rest at s taken' → StopsBefore Lawful NoRefusal 4096 1000000 stop rest (seen_place at) s.state taken'
+  seen_stop Memory rest at s taken' has h = h
+  seen_stop Refused rest at s taken' has h = absurd h.0.refused
+  seen_stop Source rest at s taken' has h = h
+  seen_stop (Line n) rest at s taken' has h = h
+  seen_stop Lines rest at s taken' has h = h
+  seen_stop Sink rest at s taken' has h =
+      record { line = h.line; more = h.more; next = h.next; told = h.told; answered = (one_line at.state s h.line h.told has h.answered).answers; cut = h.cut }
+
+  pub sessions_stop : (stop : Stop) (script : List ℕ) (taken taken' : Option (List ℕ)) (s : Standing) → Stops (AnswersLine Tells) NoRefusal 4096 1000000 (place_of start 0 taken) script stop s taken' → IsAnsweredTo machine nodes stop script taken taken'
+  sessions_stop stop script taken taken' s h =
+      let t = h.takes in
+      let lines = all_lines (lines_of t.done) t.text start h.at.state starts t.answered in
+      stops_lawful machine nodes stop script taken taken' s.state (record {
+        rest = h.rest;
+        at = seen_place h.at;
+        takes = record {
+          done = t.done;
+          bytes_are = t.bytes_are;
+          whole = t.whole;
+          fit = t.fit;
+          text = t.text;
+          answered = lines.answers;
+          written = t.written;
+          counted = t.counted;
+        };
+        few = h.few;
+        stops = seen_stop stop h.rest h.at s taken' lines.has h.stops;
+      })

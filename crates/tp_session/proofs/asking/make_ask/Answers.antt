@@ -1,6 +1,0 @@
--- The ask has the name and the tray of the copy's job, and the want of the copy.
-use Rattle.tp_session.proofs.AskFacts.{ask-made}
-use Rattle.tp_session.proofs.asking.make_ask.Goals as goal
-
-pub returns : goal.returns
-returns c = ask-made c.args.lines.now c.args.copy c.args.outs c.args.now c.name_of.result c.want_of.result c.tray_of.result c.requires.waits c.name_of.ensures c.want_of.ensures c.tray_of.ensures

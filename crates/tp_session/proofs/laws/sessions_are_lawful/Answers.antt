@@ -1,0 +1,9 @@
+use Rattle.std.specs.Prelude.{unwrap_or}
+use Rattle.tp_session.proofs.Lawfully.{sessions_lawful, sessions_stop}
+use Rattle.tp_session.proofs.laws.sessions_are_lawful.Goals as goal
+
+pub returns-clause-whole : goal.returns-clause-whole
+returns-clause-whole c machine budget = sessions_lawful machine (unwrap_or budget machine.budget)
+
+pub returns-clause-stopped : goal.returns-clause-stopped
+returns-clause-stopped c machine budget = sessions_stop machine (unwrap_or budget machine.budget)

@@ -1,0 +1,11 @@
+use Rattle.std.proofs.Common.{arith, sym, subst}
+use Rattle.tp_turn.specs.Ready.{CanTakeEvents}
+use Rattle.tp_session.proofs.session.SessionOver.over.Goals as goal
+
+pub invariant_of-result : goal.invariant_of-result
+invariant_of-result g c = record {
+  serves = c.in_ok-engine.ensures.serves;
+  nodes = c.in_ok-engine.ensures.nodes;
+  can = subst (CanTakeEvents c.args.machine 0) (sym c.new-2.ensures) (c.empty_state_can_begin.ensures c.args.machine);
+  within = omega arith;
+}

@@ -1,0 +1,53 @@
+-- What a session is seen as, and what one event does to it.
+use Rattle.std.specs.Prelude.{◌≡◌, ℕ, ◌≤◌, List, Option, IsTrue, unwrap_or}
+use Rattle.tp_machine.specs.declared.whole.Machine.{Machine}
+use Rattle.tp_script.specs.declared.event.Event.{Event}
+use Rattle.tp_search.specs.Engines.{EngineValue, is_engine_for}
+use Rattle.tp_stream.specs.Scripts.{AnswersLine, NoRefusal, line_bytes, most_events, most_lines}
+use Rattle.tp_stream.specs.Takes.{Stops, TakesAll, place_of}
+use Rattle.tp_stream.specs.declared.stop.Stop.{Stop}
+use Rattle.tp_turn.specs.Ready.{CanTakeEvents}
+use Rattle.tp_turn.specs.States.{SessionState, empty_state}
+use Rattle.tp_runs.specs.Ends.{IsAnswered, IsAnsweredTo}
+use Rattle.tp_runs.specs.Wholes.{TellsTurn}
+
+-- the machine, the budget, and the live part of the state: all that answers depend on
+pub record Standing : Type 0 where
+  pub machine : Machine
+  pub budget : ℕ
+  pub state : SessionState
+
+pub record SessionValue (N : Type 0) : Type 0 where
+  pub standing : Standing
+  pub engine : EngineValue N
+  pub answered : ℕ
+  pub text : List ℕ
+
+-- what holds between events: the engine is for the machine and the budget, and any event can be taken
+pub record IsSession {N : Type 0} (standing : Standing) (engine : EngineValue N) (answered : ℕ) : Type 0 where
+  pub serves : IsTrue (is_engine_for engine standing.machine)
+  pub nodes : engine.work.nodes ≡ standing.budget
+  pub can : CanTakeEvents standing.machine answered standing.state
+  pub within : answered ≤ most_events
+
+-- an event's turn on every whole state behind the session's, with the text of its records. Machine and budget stay
+pub record Tells (s : Standing) (event : Event) (text : List ℕ) (s' : Standing) : Type 0 where
+  pub same_machine : s'.machine ≡ s.machine
+  pub same_budget : s'.budget ≡ s.budget
+  pub turn : TellsTurn s.machine s.budget event s.state text s'.state
+
+-- where a session stands before its first event: its budget is the one that is set, or else the machine's
+abbrev pub start_of : Machine → Option ℕ → Standing
+start_of machine budget = record { machine = machine; budget = unwrap_or budget machine.budget; state = empty_state }
+
+-- a script that a session answers from its start is answered lawfully
+abbrev pub SessionsLawful : Machine → Option ℕ → Type 0
+SessionsLawful machine budget = (script : List ℕ) (taken taken' : Option (List ℕ)) (s : Standing)
+    → TakesAll (AnswersLine Tells) line_bytes most_lines (place_of (start_of machine budget) 0 taken) script s taken'
+    → IsAnswered machine (unwrap_or budget machine.budget) script taken taken'
+
+-- and so are its first lines, where the session stops
+abbrev pub SessionsStopLawful : Machine → Option ℕ → Type 0
+SessionsStopLawful machine budget = (stop : Stop) (script : List ℕ) (taken taken' : Option (List ℕ)) (s : Standing)
+    → Stops (AnswersLine Tells) NoRefusal line_bytes most_lines (place_of (start_of machine budget) 0 taken) script stop s taken'
+    → IsAnsweredTo machine (unwrap_or budget machine.budget) stop script taken taken'

@@ -1,0 +1,165 @@
+//! A session keeps the live part of its state alone.
+
+ghost use Rattle.std.specs.Prelude.{◌≡◌, ◌+◌, ◌<◌, ◌≤◌, ◌++◌, ℕ, List, [], OnOk, OnErr, IfOk};
+ghost use Rattle.tp_placing.specs.Inside.{most_edges, most_points};
+ghost use Rattle.tp_script.specs.Printed.{IsEchoed};
+ghost use Rattle.tp_stream.specs.Scripts.{most_events};
+ghost use Rattle.tp_turn.specs.LiveStates.{seen};
+
+use crate::settings::Settings;
+use crate::turning::take_turn;
+use std::alloc::Global;
+use std::marker::Model;
+use tp_base::{Memory, Network, Tick};
+use tp_machine::Machine;
+use tp_placing::Board;
+use tp_schedule::Schedule;
+use tp_script::Event;
+use tp_search::Engine;
+use tp_stn_undo::LiveNet;
+use tp_turn::LiveState;
+use tp_turning::empty_state_can_begin;
+
+/// A session over the live network.
+pub type Session = SessionOver<LiveNet>;
+
+/// Takes events in turn, and appends the text of each: its echo and its records. It keeps what is live of all that it
+/// planned, the jobs with their lines, and the modules that are out. Any network serves.
+#[derive(Drop)]
+pub struct SessionOver<N: Network> {
+    alloc: Global,
+    machine: Machine,
+    budget: u32,
+    engine: Engine<N>,
+    state: LiveState,
+    answered: u32,
+    text: Vec<u8>,
+}
+
+impl<N: Network> Model for SessionOver<N> {
+    ghost use Rattle.tp_turn.specs.LiveStates.{seen};
+    ghost use Rattle.tp_session.specs.Sessions.{IsSession, SessionValue};
+
+    ghost Value = { SessionValue N };
+
+    ghost view = { λ s. record {
+      standing = record { machine = s.machine; budget = s.budget; state = seen s.state };
+      engine = s.engine;
+      answered = s.answered;
+      text = s.text.items;
+    } };
+
+    ghost invariant = { λ s. IsSession
+        (record { machine = s.machine; budget = s.budget; state = seen s.state }) s.engine s.answered };
+}
+
+impl<N: Network + Drop> SessionOver<N> {
+    ghost use Rattle.tp_session.specs.Sessions.{start_of};
+
+    /// A session at the moment 0 with nothing planned, over a network that was made for at least 16,642 points, 100,000
+    /// edges and 330 marks. It takes all the memory that its search will ever hold.
+    pub fn over(
+        alloc: Global,
+        machine: Machine,
+        net: N,
+        settings: Settings,
+    ) -> Result<SessionOver<N>, Memory>
+        requires points { most_points ≤ N.point_room net }
+        requires edges { most_edges ≤ N.edge_room net }
+        requires marks { 330 ≤ N.mark_room net }
+        ensures standing { IfOk result (λ s. s.standing ≡ start_of machine settings.budget) }
+        ensures fresh { IfOk result (λ s. (s.answered ≡ 0) × (s.text ≡ [])) }
+    {
+        empty_state_can_begin();
+        let budget = settings.budget.unwrap_or(machine.budget);
+        let engine = Engine::new(alloc, &machine, net, budget)?;
+        Ok(SessionOver {
+            alloc,
+            machine,
+            budget,
+            engine,
+            state: LiveState::new(alloc),
+            answered: 0,
+            text: Vec::new(alloc),
+        })
+    }
+}
+
+impl<N: Network> SessionOver<N> {
+    ghost use Rattle.tp_session.specs.Sessions.{Tells};
+
+    /// Does the turn of one event, and appends its text. After `Memory` all is as before, but for the board that asks are
+    /// answered on.
+    pub fn event(&mut self, event: &Event) -> Result<(), Memory>
+        requires few { self.old.answered < most_events }
+        requires echoed { IsEchoed event.now }
+        ensures told { OnOk result ((told : List ℕ) × Tells self.old.standing event.now told self.new.standing
+            × (self.new.text ≡ self.old.text ++ told)) }
+        ensures counted { OnOk result (self.new.answered ≡ self.old.answered + 1) }
+        ensures standing_stays { OnErr result (self.new.standing ≡ self.old.standing) }
+        ensures text_stays { OnErr result (self.new.text ≡ self.old.text) }
+        ensures count_stays { OnErr result (self.new.answered ≡ self.old.answered) }
+    {
+        let before = self.state.remember(self.alloc)?;
+        let result = take_turn(
+            self.alloc,
+            &self.machine,
+            &mut self.state,
+            &mut self.engine,
+            event,
+            &mut self.text,
+        );
+        match result {
+            Ok(()) => {
+                self.answered += 1;
+                Ok(())
+            }
+            Err(error) => {
+                self.state.go_back(before);
+                Err(error)
+            }
+        }
+    }
+
+    /// The texts of the events since it was cleared.
+    pub fn text(&self) -> &[u8]
+        ensures { result.now ≡ self.now.text }
+    {
+        &self.text
+    }
+
+    /// Empties the text alone.
+    pub fn clear_text(&mut self)
+        ensures { self.new ≡ record self.old { text = [] } }
+    {
+        self.text.clear();
+    }
+
+    /// The moment of the session, in ticks.
+    pub fn now(&self) -> Tick
+        ensures { result ≡ self.now.standing.state.now }
+    {
+        self.state.moment
+    }
+
+    /// How many events it has answered: at most 100,000,000.
+    pub fn events(&self) -> u32
+        ensures { result ≡ self.now.answered }
+    {
+        self.answered
+    }
+
+    /// The plans that are live, in the order of copies.
+    pub fn schedule(&self) -> &Schedule
+        ensures { result.now.plans ≡ self.now.standing.state.plans }
+    {
+        &self.state.schedule
+    }
+
+    /// The board that asks are answered on, as the last one left it.
+    pub fn board(&self) -> &Board<N>
+        ensures { result.now ≡ self.now.engine.board }
+    {
+        self.engine.board()
+    }
+}

@@ -1,0 +1,8 @@
+//! How a session is set.
+
+/// What is set of a session.
+#[derive(Clone, Copy, Debug, PartialEq, Eq)]
+pub struct Settings {
+    /// How many lists of choices an ask may store, 1 to 200,000; None for the machine's number.
+    pub budget: Option<u32>,
+}
