@@ -23,6 +23,7 @@ legal-none machine = record {
   in_order = λ i j d h k. absurd (omega arith);
   timed = All-nil (IsTimedPlan machine);
   single = λ resource tick. omega arith;
+  spread = λ resource tick other m n h. absurd (omega (arith, h.planned.1));
   rise = λ i j d h k. absurd (omega arith);
 }
 

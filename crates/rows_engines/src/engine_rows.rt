@@ -16,12 +16,15 @@ use std::alloc::Global;
 use std::process::Abort;
 use std::test::Fail;
 use tp_base::{Network, Tick, Undo};
-use tp_machine::Machine;
+use tp_machine::{Machine, Want};
 use tp_machine_text::read_machine;
 use tp_placing::Board;
 use tp_schedule::{Ask, Planner, Reply, Schedule};
 use tp_search::{Engine, Workspace, plan};
 use tp_stn_core::PlainNet;
+
+/// A print on the front alone.
+pub(crate) const MONO: (Want, Want) = (Want::Mono, Want::Blank);
 
 fn duo_machine(alloc: Global) -> Result<Machine, Fail> {
     match read_machine(alloc, DUO.as_bytes()) {
@@ -30,7 +33,7 @@ fn duo_machine(alloc: Global) -> Result<Machine, Fail> {
     }
 }
 
-fn engine_for(alloc: Global, machine: &Machine) -> Result<Engine<PlainNet>, Fail>
+pub(crate) fn engine_for(alloc: Global, machine: &Machine) -> Result<Engine<PlainNet>, Fail>
     ensures { IfOk result (λ engine. IsTrue (is_engine_for engine machine.now)) }
 {
     match PlainNet::new(alloc, 16_642, 100_000, 330) {
@@ -42,30 +45,34 @@ fn engine_for(alloc: Global, machine: &Machine) -> Result<Engine<PlainNet>, Fail
     }
 }
 
-/// The ask for a new copy of the sheet of this number to the first tray.
-fn first_tray_ask(machine: &Machine, number: u32) -> Result<Ask, Fail>
+/// The ask for a new copy of the sheet of this number, with these prints on front and back, to the first tray.
+fn first_tray_ask(machine: &Machine, number: u32, prints: (Want, Want)) -> Result<Ask, Fail>
     ensures now { IfOk result (λ ask. ask.now ≡ 0) }
     ensures new { IfOk result (λ ask. ask.origin ≡ Feeder) }
     ensures goal { IfOk result (λ ask. IsOpenGoal machine.now [] ask ask.goal) }
 {
     let (name, media) = (name_of(b"j1")?, name_of(b"plain")?);
     let goal = goal_of(machine)?;
-    Ok(ask_for(name, media, goal, number))
+    let mut ask = ask_for(name, media, goal, number);
+    ask.want.front = prints.0;
+    ask.want.back = prints.1;
+    Ok(ask)
 }
 
 /// Asks for the sheet of this number on a schedule with one live plan or none.
-fn ask_sheet<P: Planner>(
+pub(crate) fn ask_sheet<P: Planner>(
     planner: &mut P,
     machine: &Machine,
     schedule: &mut Schedule,
     number: u32,
+    prints: (Want, Want),
 ) -> Result<Reply, Fail>
     requires served { IsTrue (P.serves planner.old machine.now) }
     requires plan_on { CanPlanOn machine.now 0 schedule.old.plans }
     ensures served { OnOk result (IsTrue (P.serves planner.new machine.now)) }
     ensures plan_on { OnOk result (CanPlanOn machine.now 0 schedule.new.plans) }
 {
-    let ask = first_tray_ask(machine, number)?;
+    let ask = first_tray_ask(machine, number, prints)?;
     if !is_askable(machine, schedule, &ask) {
         return Err(Fail::from("the ask doesn't fit the schedule"));
     }
@@ -102,9 +109,9 @@ fn told_in_turn<P: Planner>(
     requires { IsTrue (P.serves planner.old machine.now) }
 {
     let mut schedule = Schedule::new(alloc);
-    let one = ask_sheet(planner, machine, &mut schedule, 1)?;
+    let one = ask_sheet(planner, machine, &mut schedule, 1, MONO)?;
     let alone = points_of(&schedule, 1, 0)?;
-    let other = ask_sheet(planner, machine, &mut schedule, 2)?;
+    let other = ask_sheet(planner, machine, &mut schedule, 2, MONO)?;
     let [first, second] = [points_of(&schedule, 2, 0)?, points_of(&schedule, 2, 1)?];
     settle_all(planner, machine, &mut schedule)?;
     let settled = [points_of(&schedule, 2, 0)?, points_of(&schedule, 2, 1)?];
@@ -185,7 +192,7 @@ fn first_tried<N: Network>(
     requires marks { 8 ≤ N.mark_room board.old.net }
 {
     let mut schedule = Schedule::new(alloc);
-    let ask = first_tray_ask(machine, 1)?;
+    let ask = first_tray_ask(machine, 1, MONO)?;
     let (Ok(()), Ok(mut work)) = (schedule.reserve(), Workspace::new(alloc, machine, 1000)) else {
         return Err(Fail::from("memory"));
     };

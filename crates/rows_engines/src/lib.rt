@@ -4,6 +4,8 @@
 #[cfg(test)]
 mod board_rows;
 #[cfg(test)]
+mod both_networks_rows;
+#[cfg(test)]
 mod by_hand;
 #[cfg(test)]
 mod duo_rows;

@@ -1,9 +1,11 @@
 ghost use Rattle.std.specs.Prelude.{◌≡◌, ℕ, ◌+◌, ◌<◌, ◌≤◌, [], length};
+ghost use Rattle.tp_base.specs.Net.{empty_net};
 
 use std::process::Abort;
 use std::test::Fail;
 use tp_base::{Edge, Mark, Network, PointId, Undo};
 use tp_stn_core::PlainNet;
+use tp_stn_undo::LiveNet;
 
 /// The most points of a network.
 const POINTS: u32 = 16_642;
@@ -14,16 +16,16 @@ const MARKS: u32 = 330;
 const CAP: u32 = 1_000_000;
 
 /// Each point one tick after the one before.
-fn lay_chain(rt: &impl Abort, net: &mut PlainNet)
-    requires points { net.old.net.lows ≡ [] }
-    requires edges { net.old.net.edges ≡ [] }
-    requires point_room { net.old.point_room ≡ 16642 }
-    requires edge_room { 16642 ≤ net.old.edge_room }
-    ensures points { length net.new.net.lows ≡ 16642 }
-    ensures edges { length net.new.net.edges ≤ 16642 }
-    ensures past { net.new.past ≡ net.old.past }
-    ensures edge_room { net.new.edge_room ≡ net.old.edge_room }
-    ensures mark_room { net.new.mark_room ≡ net.old.mark_room }
+fn lay_chain<N: Network>(rt: &impl Abort, net: &mut N)
+    requires points { (N.net net.old).lows ≡ [] }
+    requires edges { (N.net net.old).edges ≡ [] }
+    requires point_room { N.point_room net.old ≡ 16642 }
+    requires edge_room { 16642 ≤ N.edge_room net.old }
+    ensures points { length (N.net net.new).lows ≡ 16642 }
+    ensures edges { length (N.net net.new).edges ≤ 16642 }
+    ensures past { N.past net.new ≡ N.past net.old }
+    ensures edge_room { N.edge_room net.new ≡ N.edge_room net.old }
+    ensures mark_room { N.mark_room net.new ≡ N.mark_room net.old }
 {
     'chain: for number in 0..POINTS {
         assert_eq!(rt; net.point(0, CAP), Ok(PointId(number)));
@@ -40,12 +42,12 @@ fn lay_chain(rt: &impl Abort, net: &mut PlainNet)
 }
 
 /// A hundred edges from the first point to the last, each a tick longer.
-fn lengthen(rt: &impl Abort, net: &mut PlainNet)
-    requires points { length net.old.net.lows ≡ 16642 }
-    requires edges { length net.old.net.edges ≤ 16642 }
-    requires room { 16742 ≤ net.old.edge_room }
-    ensures past { net.new.past ≡ net.old.past }
-    ensures mark_room { net.new.mark_room ≡ net.old.mark_room }
+fn lengthen<N: Network>(rt: &impl Abort, net: &mut N)
+    requires points { length (N.net net.old).lows ≡ 16642 }
+    requires edges { length (N.net net.old).edges ≤ 16642 }
+    requires room { 16742 ≤ N.edge_room net.old }
+    ensures past { N.past net.new ≡ N.past net.old }
+    ensures mark_room { N.mark_room net.new ≡ N.mark_room net.old }
 {
     'edges: for more in 0..100_u32 {
         let edge = Edge {
@@ -59,11 +61,11 @@ fn lengthen(rt: &impl Abort, net: &mut PlainNet)
 }
 
 /// As many marks as there can be, with a lower bound that is saved for each.
-fn mark_all(rt: &impl Abort, net: &mut PlainNet)
-    requires points { length net.old.net.lows ≡ 16642 }
-    requires past { net.old.past ≡ [] }
-    requires marks { net.old.mark_room ≡ 330 }
-    ensures past { length net.new.past ≡ 330 }
+fn mark_all<N: Network>(rt: &impl Abort, net: &mut N)
+    requires points { length (N.net net.old).lows ≡ 16642 }
+    requires past { N.past net.old ≡ [] }
+    requires marks { N.mark_room net.old ≡ 330 }
+    ensures past { length (N.past net.new) ≡ 330 }
 {
     'marks: for number in 0..MARKS {
         assert_eq!(rt; net.mark(), Mark(number));
@@ -74,17 +76,34 @@ fn mark_all(rt: &impl Abort, net: &mut PlainNet)
 }
 
 /// A chain of as many points as there can be and as many edges; a mark, a hundred changes and a way back; then all marks.
-#[test]
-fn long_chain(rt: HostRuntime) -> Result<(), Fail> {
-    let mut net = PlainNet::new(rt.alloc(), POINTS, 100_000, MARKS)?;
-    lay_chain(&rt, &mut net);
+fn go_along<N: Network>(rt: &impl Abort, net: &mut N)
+    requires empty { N.net net.old ≡ empty_net }
+    requires past { N.past net.old ≡ [] }
+    requires points { N.point_room net.old ≡ 16642 }
+    requires edges { 16742 ≤ N.edge_room net.old }
+    requires marks { N.mark_room net.old ≡ 330 }
+{
+    lay_chain(rt, net);
     let mark = net.mark();
-    lengthen(&rt, &mut net);
+    lengthen(rt, net);
     net.undo_to(mark);
     assert_eq!(rt; net.earliest(PointId(POINTS - 1)), 16_641);
-    mark_all(&rt, &mut net);
+    mark_all(rt, net);
     assert_eq!(rt; net.spare_marks(), 0);
     net.undo_to(Mark(0));
     assert_eq!(rt; net.spare_marks(), MARKS);
+}
+
+#[test]
+fn long_chain(rt: HostRuntime) -> Result<(), Fail> {
+    let mut net = PlainNet::new(rt.alloc(), POINTS, 100_000, MARKS)?;
+    go_along(&rt, &mut net);
+    Ok(())
+}
+
+#[test]
+fn long_live_chain(rt: HostRuntime) -> Result<(), Fail> {
+    let mut net = LiveNet::new(rt.alloc(), POINTS, 100_000, MARKS)?;
+    go_along(&rt, &mut net);
     Ok(())
 }

@@ -5,8 +5,9 @@ ghost use Rattle.rows_engines.specs.Rows.{edge_of, three_points};
 use crate::probing::could_take;
 use std::process::Abort;
 use std::test::Fail;
-use tp_base::{Edge, Full, Late, Network, PointId, Proof, Undo};
+use tp_base::{Edge, Full, Late, Network, PointId, Proof, Trail, Undo};
 use tp_stn_core::PlainNet;
+use tp_stn_undo::LiveNet;
 
 const A: PointId = PointId(0);
 
@@ -103,32 +104,52 @@ fn shows_a_closed_walk<N: Network>(rt: &impl Abort, net: &mut N)
     }
 }
 
-#[test]
-fn network_rows(rt: HostRuntime) -> Result<(), Fail> {
-    let mut net = PlainNet::new(rt.alloc(), 3, 5, 1)?;
-    lay_out(&rt, &mut net);
-    goes_back(&rt, &mut net);
-    assert!(rt; could_take(&mut net, edge(A, C, 9)));
-    shows_a_chain(&rt, &mut net);
-    shows_a_closed_walk(&rt, &mut net);
+/// All rows of one network.
+fn look_at_net<N: Network>(rt: &impl Abort, net: &mut N)
+    requires empty { N.net net.old ≡ empty_net }
+    requires past { N.past net.old ≡ [] }
+    requires points { N.point_room net.old ≡ 3 }
+    requires edges { N.edge_room net.old ≡ 5 }
+    requires marks { N.mark_room net.old ≡ 1 }
+{
+    lay_out(rt, net);
+    goes_back(rt, net);
+    assert!(rt; could_take(net, edge(A, C, 9)));
+    shows_a_chain(rt, net);
+    shows_a_closed_walk(rt, net);
     assert_eq!(rt; net.spare_edges(), 3);
     assert_eq!(rt; net.spare_marks(), 1);
     net.clear();
     assert_eq!(rt; net.spare_edges(), 5);
+}
+
+/// C comes by the edges from A over B, 0 + 5 + 2. A trail of one item has no room for both.
+fn shows_its_support(rt: &impl Abort, net: &LiveNet, two: &mut Trail<Edge>, one: &mut Trail<Edge>)
+    requires net { net.now.net ≡ three_points }
+    requires two { two.old.items ≡ [] }
+    requires one { one.old.items ≡ [] }
+{
+    assert_eq!(rt; net.chain_of(C, two), Ok(A));
+    assert_eq!(rt; two.as_slice(), [edge(A, B, 5), edge(B, C, 2)].as_slice());
+    assert_eq!(rt; net.chain_of(C, one), Err(Full));
+    assert_eq!(rt; one.len(), 0);
+    assert_eq!(rt; net.chain_of(A, one), Ok(A));
+}
+
+#[test]
+fn network_rows(rt: HostRuntime) -> Result<(), Fail> {
+    let mut net = PlainNet::new(rt.alloc(), 3, 5, 1)?;
+    look_at_net(&rt, &mut net);
     Ok(())
 }
 
-/// A closed walk is found as it closes, and not by the time that an upper bound is reached.
 #[test]
-fn closes_at_once(rt: HostRuntime) -> Result<(), Fail> {
-    let mut net = PlainNet::new(rt.alloc(), 2, 2, 0)?;
-    assert_eq!(rt; net.point(0, 1_000_000_000), Ok(A));
-    assert_eq!(rt; net.point(0, 1_000_000_000), Ok(B));
-    assert_eq!(rt; net.require(edge(A, B, 1)), Ok(()));
-    assert_eq!(rt; net.require(edge(B, A, 0)), Err(Late));
-    match net.proof() {
-        Proof::Chain { first: _, edges: _ } => assert!(rt; false),
-        Proof::Circle { edges } => assert_eq!(rt; edges.len(), 2),
-    }
+fn live_network_rows(rt: HostRuntime) -> Result<(), Fail> {
+    let mut net = LiveNet::new(rt.alloc(), 3, 5, 1)?;
+    look_at_net(&rt, &mut net);
+    let mut net = LiveNet::new(rt.alloc(), 3, 2, 0)?;
+    lay_out(&rt, &mut net);
+    let (mut two, mut one) = (Trail::new(rt.alloc(), 2)?, Trail::new(rt.alloc(), 1)?);
+    shows_its_support(&rt, &net, &mut two, &mut one);
     Ok(())
 }

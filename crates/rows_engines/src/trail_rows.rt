@@ -9,8 +9,10 @@ fn trail_rows(rt: HostRuntime) -> Result<(), Fail> {
     assert_eq!(rt; trail.push(9), Err(Full));
     assert_eq!(rt; trail.len(), 2);
     assert_eq!(rt; trail.get(1), 8);
+    trail.reverse();
+    assert_eq!(rt; trail.as_slice(), [8, 7].as_slice());
     trail.cut_to(1);
-    assert_eq!(rt; trail.as_slice(), [7].as_slice());
+    assert_eq!(rt; trail.as_slice(), [8].as_slice());
     proofs_refute();
     Ok(())
 }

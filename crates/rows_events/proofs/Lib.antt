@@ -1,2 +1,1 @@
 pub mod ClockFacts
-pub mod TurnFacts

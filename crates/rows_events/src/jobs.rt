@@ -369,6 +369,37 @@ fn look_at_next(rt: &impl Abort, alloc: Global, lines: &mut Lines) -> Result<(),
     Ok(())
 }
 
+/// Takes a copy, breaks a job, and goes back to a mark made before. Tells whether the job was broken.
+fn change_and_undo(lines: &mut Lines) -> Result<bool, Fail> {
+    match lines.mark() {
+        Ok(()) => {}
+        Err(_) => return Err(Fail::from("memory")),
+    }
+    retake(lines, &only_blocked(1), false)?;
+    let broken = is_broken_after(lines)?;
+    lines.undo();
+    Ok(broken)
+}
+
+fn is_first_broken(lines: &Lines) -> Result<bool, Fail> {
+    match lines.next_to_try(None, &Blocked::none()) {
+        Some(first) => Ok(lines.is_broken(first.job)),
+        None => Err(Fail::from("no copy")),
+    }
+}
+
+fn look_back(rt: &impl Abort, alloc: Global, lines: &mut Lines) -> Result<(), Fail> {
+    assert!(rt; change_and_undo(lines)?);
+    assert!(rt; !is_first_broken(lines)?);
+    look_at_both(rt, alloc, lines)
+}
+
+#[test]
+fn back_to_a_mark(rt: HostRuntime) -> Result<(), Fail> {
+    let mut lines = three_jobs(rt.alloc())?;
+    look_back(&rt, rt.alloc(), &mut lines)
+}
+
 fn one_on_duo(alloc: Global) -> Result<Lines, Fail> {
     let machine = machine_of(alloc, DUO)?;
     one_job(alloc, &machine, b"job j t plain MM:F")

@@ -4,9 +4,13 @@
 #[cfg(test)]
 mod clocks;
 #[cfg(test)]
+mod driving;
+#[cfg(test)]
 mod jobs;
 #[cfg(test)]
 mod logs;
+#[cfg(test)]
+mod outages;
 #[cfg(test)]
 mod records;
 #[cfg(test)]

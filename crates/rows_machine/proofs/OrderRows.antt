@@ -1,5 +1,6 @@
 -- Orders and holders of the rows' schedules, by computation: the definitions give what the rows say.
 use Rattle.std.proofs.Common.{◌≡◌, ℕ, true, false, List, [], ◌∷◌, refl, codes}
+use Rattle.tp_machine.specs.Modes.{gap_at}
 use Rattle.tp_machine.specs.declared.parts.ActId.{ActId}
 use Rattle.tp_machine.specs.declared.parts.Sheet.{Sheet}
 use Rattle.tp_schedule.specs.Holding.{held}
@@ -64,7 +65,9 @@ pub free_at_10 : held tail (one ∷ []) 0 10 ≡ []
 free_at_10 = refl
 
 pub live_at_9 : is_live tail 9 one ≡ true
+unfolding gap_at
 live_at_9 = refl
 
 pub past_at_10 : is_live tail 10 one ≡ false
+unfolding gap_at
 past_at_10 = refl

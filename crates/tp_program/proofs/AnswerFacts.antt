@@ -73,6 +73,7 @@ legal_none machine = record {
   in_order = λ i j d h k. absurd (omega arith);
   timed = All-nil (IsTimedPlan machine);
   single = λ resource tick. omega arith;
+  spread = λ resource tick other m n h. absurd (omega (arith, h.planned.1));
   rise = λ i j d h k. absurd (omega arith);
 }
 
@@ -80,6 +81,7 @@ pub legal_one : (machine : Machine) → has_hold machine ≡ false → (plan : P
 legal_one machine free plan timed = record {
   in_order = λ i j d h k. absurd (omega arith);
   timed = All-cons (IsTimedPlan machine) plan [] timed (All-nil (IsTimedPlan machine));
+  spread = λ resource tick other m n h. absurd (let e = ap length (no_holds machine free h.run.act.0) in omega (arith, e, h.holds.1));
   single = λ resource tick. (let e = ap length (nothing_held machine free (plan ∷ []) resource tick) in omega (arith, e));
   rise = λ i j d h k. absurd (omega arith);
 }
