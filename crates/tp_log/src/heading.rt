@@ -1,6 +1,7 @@
-ghost use Rattle.std.specs.Prelude.{◌≡◌, find};
-ghost use Rattle.std.specs.Str.{bytes_eq};
+ghost use Rattle.std.specs.Prelude.{◌≡◌};
 ghost use Rattle.tp_log.specs.Headings.{heading_text, heading_of};
+
+use tp_words::{Spelled, first_spelled};
 
 /// The first word of a record's line.
 #[derive(Clone, Copy, PartialEq, Eq, Debug)]
@@ -44,10 +45,10 @@ const HEADINGS: [Heading; 17] = [
     Heading::Refused,
 ];
 
-impl Heading {
-    pub fn text(&self) -> &'static [u8]
-        ensures { result.now ≡ heading_text self.now }
-    {
+impl Spelled for Heading {
+    ghost word = { heading_text };
+
+    fn text(&self) -> &'static [u8] {
         match self {
             Heading::Plan => b"plan",
             Heading::Move => b"move",
@@ -68,19 +69,12 @@ impl Heading {
             Heading::Refused => b"refused",
         }
     }
+}
 
+impl Heading {
     pub fn read(word: &[u8]) -> Option<Heading>
         ensures { result ≡ heading_of word.now }
     {
-        first_named(&HEADINGS, word)
+        first_spelled(&HEADINGS, word)
     }
-}
-
-fn first_named(headings: &[Heading], word: &[u8]) -> Option<Heading>
-    ensures { result ≡ find (λ heading. bytes_eq (heading_text heading) word.now) headings.now }
-{
-    headings
-        .iter()
-        .copied()
-        .find(|heading| heading.text() == word)
 }

@@ -1,6 +1,7 @@
-ghost use Rattle.std.specs.Prelude.{◌≡◌, find};
-ghost use Rattle.std.specs.Str.{bytes_eq};
+ghost use Rattle.std.specs.Prelude.{◌≡◌};
 ghost use Rattle.tp_log.specs.Headings.{reason_text, reason_of};
+
+use tp_words::{Spelled, first_spelled};
 
 /// The word for a cause, behind `refused`.
 #[derive(Clone, Copy, PartialEq, Eq, Debug)]
@@ -30,10 +31,10 @@ const REASONS: [Reason; 10] = [
     Reason::NotOn,
 ];
 
-impl Reason {
-    pub fn text(&self) -> &'static [u8]
-        ensures { result.now ≡ reason_text self.now }
-    {
+impl Spelled for Reason {
+    ghost word = { reason_text };
+
+    fn text(&self) -> &'static [u8] {
         match self {
             Reason::Syntax => b"syntax",
             Reason::Tray => b"tray",
@@ -47,16 +48,12 @@ impl Reason {
             Reason::NotOn => b"noton",
         }
     }
+}
 
+impl Reason {
     pub fn read(word: &[u8]) -> Option<Reason>
         ensures { result ≡ reason_of word.now }
     {
-        first_named(&REASONS, word)
+        first_spelled(&REASONS, word)
     }
-}
-
-fn first_named(reasons: &[Reason], word: &[u8]) -> Option<Reason>
-    ensures { result ≡ find (λ reason. bytes_eq (reason_text reason) word.now) reasons.now }
-{
-    reasons.iter().copied().find(|reason| reason.text() == word)
 }
