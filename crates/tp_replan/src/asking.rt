@@ -131,7 +131,7 @@ pub(crate) fn ask_planner<P: Planner>(
         return Err(Halt::Memory);
     };
     let reply = planner.ask(machine, schedule, ask)?;
-    let Ok(()) = tell_reply(alloc, machine, &before, ask, reply, schedule, notes) else {
+    let Ok(()) = tell_reply(machine, &before, ask, reply, schedule, notes) else {
         return Err(Halt::Memory);
     };
     Ok(reply)

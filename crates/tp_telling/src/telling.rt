@@ -18,7 +18,6 @@ use tp_schedule::{Acts, Ask, Plan, Points, Record, Reply, Schedule, SheetId, She
 /// Notes what an answer says: the plan, and each other plan that moved; or that there is none; or that the budget was
 /// spent. The schedules are those before and after the answer.
 pub fn tell_reply(
-    alloc: Global,
     machine: &Machine,
     before: &Schedule,
     ask: &Ask,
@@ -31,6 +30,7 @@ pub fn tell_reply(
     ensures { OnOk result (notes.new.items ≡ notes.old.items
         ++ told_of_reply machine.now before.now.plans ask.entry.now reply after.now.plans) }
 {
+    let alloc = *notes.allocator();
     let sheet = label(ask.name, ask.sheet);
     match reply {
         Reply::Planned => {
