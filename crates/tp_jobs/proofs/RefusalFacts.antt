@@ -4,7 +4,7 @@ use Rattle.std.specs.Prelude.{nat_lt}
 use Rattle.std.proofs.lemmas.Bool.Decides.{nat_tests}
 use Rattle.tp_machine.specs.declared.whole.Machine.{Machine}
 use Rattle.tp_script.specs.Form.{GroupForm}
-use Rattle.tp_jobs.specs.Refusing.{has_media, is_taken, is_tray_name, job_refusal, most_waiting, sheet_count}
+use Rattle.tp_jobs.specs.Refusing.{has_media, is_taken, is_tray_name, job_fault, most_waiting, sheet_count}
 use Rattle.tp_jobs.specs.declared.fault.JobFault.TheVariants.{UnknownTray, UnknownMedia, TwiceNamed, TooManyWaiting}
 use Rattle.tp_jobs.specs.declared.parts.Job.{Job}
 
@@ -12,7 +12,7 @@ pub record IsAccepted (jobs : List Job) (waiting : ℕ) (name : List ℕ) (group
   pub new : is_taken jobs name ≡ false
   pub few : waiting + sheet_count groups ≤ 4096
 
-pub accepted : (machine : Machine) (jobs : List Job) (waiting : ℕ) (name tray media : List ℕ) (groups : List GroupForm) → None ≡ job_refusal machine jobs waiting name tray media groups → IsAccepted jobs waiting name groups
+pub accepted : (machine : Machine) (jobs : List Job) (waiting : ℕ) (name tray media : List ℕ) (groups : List GroupForm) → None ≡ job_fault machine jobs waiting name tray media groups → IsAccepted jobs waiting name groups
 accepted machine jobs waiting name tray media groups none =
     go (is_tray_name machine tray) (has_media machine media) (is_taken jobs name) refl (nat_lt most_waiting (waiting + sheet_count groups)) refl none where
       go : (t m n : Bool) → is_taken jobs name ≡ n → (w : Bool) → nat_lt most_waiting (waiting + sheet_count groups) ≡ w

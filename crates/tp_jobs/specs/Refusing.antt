@@ -39,8 +39,8 @@ abbrev pub sheet_count : List GroupForm → ℕ
 sheet_count groups = sum_by (λ g. g.count) groups
 
 -- why a job is refused, where these jobs came and so many copies wait
-abbrev pub job_refusal : Machine → List Job → ℕ → List ℕ → List ℕ → List ℕ → List GroupForm → Option JobFault
-job_refusal machine jobs waiting name tray media groups =
+abbrev pub job_fault : Machine → List Job → ℕ → List ℕ → List ℕ → List ℕ → List GroupForm → Option JobFault
+job_fault machine jobs waiting name tray media groups =
     if not (is_tray_name machine tray) then Some (UnknownTray tray)
     else (if not (has_media machine media) then Some (UnknownMedia media)
     else (if is_taken jobs name then Some (TwiceNamed name)

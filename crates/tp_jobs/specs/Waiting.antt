@@ -1,19 +1,24 @@
 -- The copies that wait: one more, one less, and those of a new job.
-use Rattle.std.specs.Prelude.{ℕ, ◌+◌, false, not, List, [], ◌∷◌, ◌++◌, length, filter, find, flat_map, replicate, Option, Some, None, if◌then◌else◌}
+use Rattle.std.specs.Prelude.{ℕ, ◌+◌, ◌==◌, Bool, false, not, List, [], ◌∷◌, ◌++◌, length, filter, find, flat_map, replicate, Option, Some, None, if◌then◌else◌}
+use Rattle.std.specs.List.{list_any}
 use Rattle.tp_machine.specs.declared.parts.LocId.{LocId}
 use Rattle.tp_machine.specs.declared.parts.Sheet.{Sheet}
 use Rattle.tp_machine.specs.declared.whole.Machine.{Machine}
 use Rattle.tp_schedule.specs.Plans.{is_before, is_same_copy}
 use Rattle.tp_schedule.specs.declared.parts.SheetId.{SheetId}
 use Rattle.tp_script.specs.Form.{GroupForm}
-use Rattle.tp_jobs.specs.Backlogs.{Backlog}
-use Rattle.tp_jobs.specs.Refusing.{sheet_count, tray_named}
+use Rattle.tp_jobs.specs.Backlogs.{Backlog, tray_of}
+use Rattle.tp_jobs.specs.Refusing.{tray_named}
 use Rattle.tp_jobs.specs.declared.parts.Job.{Job}
 use Rattle.tp_jobs.specs.declared.parts.WaitingCopy.{WaitingCopy}
 
 -- the copy among those that wait
 abbrev pub find_waiting : SheetId → List WaitingCopy → Option WaitingCopy
 find_waiting copy waiting = find (λ w. is_same_copy w.sheet copy) waiting
+
+-- a copy waits whose job is for the tray, and so in the tray's line
+abbrev pub has_waiting : List Job → List WaitingCopy → LocId → Bool
+has_waiting jobs waiting tray = list_any (λ w. (tray_of jobs w.sheet).0 == tray.0) waiting
 
 -- the waiting copies with one more, in its place in the order
 abbrev pub put_waiting : List WaitingCopy → WaitingCopy → List WaitingCopy

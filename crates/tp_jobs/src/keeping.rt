@@ -1,13 +1,14 @@
-ghost use Rattle.std.specs.Prelude.{◌≡◌, ◌+◌, ◌<◌, ◌^◌, length, slice_get, option_map, Some, None, IsSome, IsSomeAnd, IfSome, IfOk, OnOk, OnErr};
+ghost use Rattle.std.specs.Prelude.{◌≡◌, ◌≢◌, ◌+◌, ◌<◌, ◌^◌, length, slice_get, option_map, Some, None, IsSome, IsSomeAnd, IfSome, IfOk, IfErr, OnOk, OnErr};
 ghost use Rattle.tp_jobs.specs.Backlogs.{mark_broken, next_copy};
-ghost use Rattle.tp_jobs.specs.Refusing.{job_refusal, refusal_in, tray_named};
-ghost use Rattle.tp_jobs.specs.Waiting.{find_waiting, put_waiting, without_waiting, sheets_of, new_job, with_job};
+ghost use Rattle.tp_jobs.specs.Refusing.{job_fault, refusal_in, tray_named};
+ghost use Rattle.tp_jobs.specs.Waiting.{find_waiting, has_waiting, put_waiting, without_waiting, sheets_of, new_job, with_job};
+ghost use Rattle.tp_jobs.specs.declared.fault.JobFault.TheVariants.{Memory as WantsMemory};
 
 use crate::blocking::Blocked;
 use crate::fault::JobFault;
 use crate::making::make_copies;
 use crate::parts::{Job, WaitingCopy};
-use crate::queueing::{first_open, place_behind, place_of};
+use crate::queueing::{first_open, has_copy_for, place_behind, place_of};
 use crate::refusing::{count_sheets, find_tray, has_feeder};
 use crate::undoing::{break_in, keep_waiting, make_whole};
 use indexmap::IndexSet;
@@ -76,11 +77,25 @@ impl Lines {
         let _ = self.names.len();
     }
 
+    /// How many jobs came.
+    pub fn jobs(&self) -> u32
+        ensures { result ≡ length self.now.jobs }
+    {
+        self.jobs.len() as u32
+    }
+
     /// How many copies wait.
     pub fn waiting(&self) -> u32
         ensures { result ≡ length self.now.waiting }
     {
         self.waiting.len() as u32
+    }
+
+    /// Whether a copy waits whose job is for the tray.
+    pub fn waits_for(&self, tray: LocId) -> bool
+        ensures { result ≡ has_waiting self.now.jobs self.now.waiting tray }
+    {
+        has_copy_for(self.waiting.as_slice(), self.jobs.as_slice(), tray)
     }
 
     pub fn name_of(&self, job: u32) -> Name
@@ -173,12 +188,14 @@ impl Lines {
     ) -> Result<u32, JobFault>
         requires jobs { length self.old.jobs + 1 < 2 ^ 32 }
         requires groups { length groups.now < 2 ^ 32 }
-        ensures refused { refusal_in result ≡ job_refusal machine.now self.old.jobs (length self.old.waiting) name tray media groups.now }
+        ensures refused { refusal_in result ≡ job_fault machine.now self.old.jobs
+            (length self.old.waiting) name tray media groups.now }
         ensures number { IfOk result (λ job. job ≡ length self.old.jobs) }
-        ensures added { OnOk result (self.new ≡ with_job (new_job machine.now name tray groups.now) (sheets_of media groups.now) self.old) }
+        ensures added { OnOk result (self.new ≡ with_job (new_job machine.now name tray groups.now)
+            (sheets_of media groups.now) self.old) }
         ensures kept { OnErr result (self.new ≡ self.old) }
     {
-        let tray = self.admit(machine, &name, &tray, &media, groups)?;
+        let tray = self.check(machine, &name, &tray, &media, groups)?;
         let number = self.jobs.len() as u32;
         let mut copies = make_copies(*self.jobs.allocator(), number, media, groups)?;
         self.jobs.reserve(1)?;
@@ -196,8 +213,8 @@ impl Lines {
         Ok(number)
     }
 
-    /// The tray of a job that nothing refuses.
-    fn admit(
+    /// The tray of a job, or why it would be refused now. Takes no memory.
+    pub fn check(
         &self,
         machine: &Machine,
         name: &Name,
@@ -206,8 +223,10 @@ impl Lines {
         groups: &[Group],
     ) -> Result<LocId, JobFault>
         requires { length groups.now < 2 ^ 32 }
-        ensures refused { refusal_in result ≡ job_refusal machine.now self.now.jobs (length self.now.waiting) name.now tray.now media.now groups.now }
+        ensures refused { refusal_in result ≡ job_fault machine.now self.now.jobs
+            (length self.now.waiting) name.now tray.now media.now groups.now }
         ensures tray { IfOk result (λ place. tray_named machine.now tray.now ≡ Some place) }
+        ensures no_memory { IfErr result (λ fault. fault ≢ WantsMemory) }
     {
         let Some(place) = find_tray(machine, tray) else {
             return Err(JobFault::UnknownTray(*tray));
@@ -232,7 +251,9 @@ impl Lines {
         requires new_copy { find_waiting sheet self.old.waiting ≡ None }
         requires room { length self.old.waiting + 1 < 2 ^ 32 }
         ensures waits { OnOk result
-            (self.new ≡ record self.old { waiting = put_waiting self.old.waiting (record { sheet = sheet; want = want }) }) }
+            (self.new ≡ record self.old {
+              waiting = put_waiting self.old.waiting (record { sheet = sheet; want = want });
+            }) }
         ensures memory { OnErr result (self.new ≡ self.old) }
     {
         let at = place_behind(self.waiting.as_slice(), sheet);
@@ -240,7 +261,8 @@ impl Lines {
         Ok(())
     }
 
-    /// The next copy of the sheet waits with this want, in its place in the order of copies, and is the answer.
+    /// The next copy of the sheet waits with this want, in its place in the order of copies, and is
+    /// the answer.
     pub fn again(&mut self, sheet: SheetId, want: Sheet) -> Result<SheetId, Memory>
         requires job { sheet.job < length self.old.jobs }
         requires number { sheet.copy + 1 < 2 ^ 32 }
@@ -249,7 +271,8 @@ impl Lines {
         ensures next { IfOk result (λ copy. copy ≡ next_copy sheet) }
         ensures waits { OnOk result
             (self.new ≡ record self.old {
-              waiting = put_waiting self.old.waiting (record { sheet = next_copy sheet; want = want });
+              waiting = put_waiting self.old.waiting
+                  (record { sheet = next_copy sheet; want = want });
             }) }
         ensures memory { OnErr result (self.new ≡ self.old) }
     {

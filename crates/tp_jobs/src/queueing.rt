@@ -2,11 +2,12 @@ ghost use Rattle.std.specs.Prelude.{◌≡◌, ◌<◌, ◌≤◌, length, slice
 ghost use Rattle.std.specs.List.{position_or_len};
 ghost use Rattle.tp_schedule.specs.Plans.{is_before};
 ghost use Rattle.tp_jobs.specs.Backlogs.{WaitsBefore, IsOfJob};
-ghost use Rattle.tp_jobs.specs.Waiting.{find_waiting, without_waiting};
+ghost use Rattle.tp_jobs.specs.Waiting.{find_waiting, has_waiting, without_waiting};
 ghost use Rattle.tp_jobs.specs.Trying.{is_open};
 
 use crate::blocking::Blocked;
 use crate::parts::{Job, WaitingCopy};
+use tp_machine::LocId;
 use tp_schedule::{SheetId, is_earlier};
 
 /// The place of the first copy that waits behind this one, by a binary search.
@@ -45,4 +46,18 @@ pub(crate) fn first_open(
         }
     }
     None
+}
+
+/// Whether one of the copies is of a job for the tray.
+pub(crate) fn has_copy_for(waiting: &[WaitingCopy], jobs: &[Job], tray: LocId) -> bool
+    requires { All (IsOfJob jobs.now) waiting.now }
+    ensures { result ≡ has_waiting jobs.now waiting.now tray }
+{
+    for copy in waiting {
+        let own = jobs[copy.sheet.job as usize].tray;
+        if own.0 == tray.0 {
+            return true;
+        }
+    }
+    false
 }

@@ -5,9 +5,13 @@ use Rattle.tp_schedule.specs.declared.recording.Cause.TheVariants.{Back, End}
 use Rattle.tp_release.specs.declared.fault.AdvanceFault.{AdvanceFault}
 use Rattle.tp_release.specs.declared.fault.AdvanceFault.TheVariants.{Memory, ClockBack, ClockEnd}
 
--- the cause in an answer, which want of memory is not
+-- the cause by which a move of the clock is refused, which want of memory is not
+abbrev pub clock_cause : AdvanceFault → Option Cause
+clock_cause Memory = None
+clock_cause (ClockBack now) = Some (Back now)
+clock_cause ClockEnd = Some End
+
+-- the cause in an answer
 abbrev pub cause_in : {X : Type 0} → Result X AdvanceFault → Option Cause
 cause_in (Ok x) = None
-cause_in (Err Memory) = None
-cause_in (Err (ClockBack now)) = Some (Back now)
-cause_in (Err ClockEnd) = Some End
+cause_in (Err fault) = clock_cause fault

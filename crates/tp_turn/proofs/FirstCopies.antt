@@ -1,5 +1,5 @@
 -- The first copies of a new job, pair by pair, and what an accepted job was asked with.
-use Rattle.std.proofs.Common.{◌≡◌, ℕ, ◌+◌, ◌<◌, ◌≤◌, Bool, true, false, cond, not, List, [], ◌∷◌, length, refl, sym, arith, All, AllPairs, nat_lt, Some, None}
+use Rattle.std.proofs.Common.{◌≡◌, ℕ, ◌+◌, ◌<◌, ◌≤◌, Bool, true, false, cond, not, List, [], ◌∷◌, length, refl, sym, arith, All, AllPairs, nat_lt, Some, None, option_and_then}
 use Rattle.std.proofs.lemmas.Bool.Decides.{nat_tests}
 use Rattle.std.proofs.lemmas.List.Elements.{All-nil, All-cons, All-weaker}
 use Rattle.tp_machine.specs.declared.parts.Sheet.{Sheet}
@@ -8,10 +8,10 @@ use Rattle.tp_jobs.specs.declared.parts.Job.{Job}
 use Rattle.tp_jobs.specs.declared.parts.WaitingCopy.{WaitingCopy}
 use Rattle.tp_schedule.proofs.Pairs.{AllPairs-nil, AllPairs-cons}
 use Rattle.tp_script.specs.Form.{GroupForm}
-use Rattle.tp_schedule.specs.declared.recording.Cause.TheVariants.{Tray, Media, Named, Waiting}
+use Rattle.tp_jobs.specs.declared.fault.JobFault.TheVariants.{UnknownTray, UnknownMedia, TwiceNamed, TooManyWaiting}
 use Rattle.tp_jobs.specs.Refusing.{has_media, sheet_count, most_waiting, is_taken, is_tray_name}
 use Rattle.tp_jobs.specs.Waiting.{first_copies}
-use Rattle.tp_turn.specs.Refusals.{first_of_causes, job_refusal}
+use Rattle.tp_turn.specs.Refusals.{job_cause, job_refusal}
 
 -- a first copy of the job, with a number from this one on
 pub record IsFirstCopy (job low high : ℕ) (w : WaitingCopy) : Type 0 where
@@ -48,7 +48,8 @@ pub accepted-job : (machine : Machine) (jobs : List Job) (waiting : ℕ) (name t
 accepted-job machine jobs waiting name tray media groups e =
     go (is_tray_name machine tray) refl (has_media machine media) (is_taken jobs name) refl (nat_lt most_waiting (waiting + sheet_count groups)) refl e where
       go : (a : Bool) → is_tray_name machine tray ≡ a → (b c : Bool) → is_taken jobs name ≡ c → (d : Bool) → nat_lt most_waiting (waiting + sheet_count groups) ≡ d
-          → first_of_causes (cond (not a) (Some (Tray tray)) None ∷ cond (not b) (Some (Media media)) None ∷ cond c (Some (Named name)) None ∷ cond d (Some Waiting) None ∷ []) ≡ None
+          → option_and_then job_cause (cond (not a) (Some (UnknownTray tray)) (cond (not b) (Some (UnknownMedia media)) (cond c (Some (TwiceNamed name))
+          (cond d (Some (TooManyWaiting waiting (sheet_count groups))) None)))) ≡ None
           → IsAccepted machine jobs waiting name tray groups
       go false e b c f d g h = absurd (cc)
       go true e false c f d g h = absurd (cc)

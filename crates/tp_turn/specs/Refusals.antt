@@ -1,5 +1,5 @@
 -- Which events are refused, and by which cause: the first that applies.
-use Rattle.std.specs.Prelude.{ℕ, ◌+◌, Bool, false, not, nat_lt, List, [], ◌∷◌, length, Option, Some, None, position, is_some, if◌then◌else◌}
+use Rattle.std.specs.Prelude.{ℕ, Bool, false, not, nat_lt, List, [], ◌∷◌, length, Option, Some, None, option_and_then, position, is_some, if◌then◌else◌}
 use Rattle.std.specs.Str.{bytes_eq}
 use Rattle.tp_machine.specs.Using.{is_out}
 use Rattle.tp_machine.specs.declared.parts.Outs.{Outs}
@@ -10,7 +10,9 @@ use Rattle.tp_script.specs.declared.event.Event.TheVariants.{Bad, Job as NewJob,
 use Rattle.tp_schedule.specs.Planning.{last_tick}
 use Rattle.tp_schedule.specs.declared.recording.Cause.{Cause}
 use Rattle.tp_schedule.specs.declared.recording.Cause.TheVariants.{Syntax, Tray, Media, Named, Waiting, Back, End, Module, Out, NotOn}
-use Rattle.tp_jobs.specs.Refusing.{is_tray_name, has_media, is_taken, most_waiting, sheet_count}
+use Rattle.tp_jobs.specs.Refusing.{job_fault}
+use Rattle.tp_jobs.specs.declared.fault.JobFault.{JobFault}
+use Rattle.tp_jobs.specs.declared.fault.JobFault.TheVariants.{Memory, UnknownTray, UnknownMedia, TwiceNamed, TooManyWaiting}
 use Rattle.tp_jobs.specs.declared.parts.Job.{Job}
 use Rattle.tp_turn.specs.States.{SessionState}
 
@@ -35,13 +37,18 @@ first_of_causes [] = None
 first_of_causes (Some cause ∷ causes) = Some cause
 first_of_causes (None ∷ causes) = first_of_causes causes
 
+-- the cause by which the lines refuse a job, which want of memory is not
+abbrev pub job_cause : JobFault → Option Cause
+job_cause Memory = None
+job_cause (UnknownTray name) = Some (Tray name)
+job_cause (UnknownMedia name) = Some (Media name)
+job_cause (TwiceNamed name) = Some (Named name)
+job_cause (TooManyWaiting waiting asked) = Some Waiting
+
 -- why a job is refused where these jobs came and so many copies wait
 abbrev pub job_refusal : Machine → List Job → ℕ → List ℕ → List ℕ → List ℕ → List GroupForm → Option Cause
-job_refusal machine jobs waiting name tray media groups = first_of_causes (
-    cause_if (not (is_tray_name machine tray)) (Tray tray) ∷
-    cause_if (not (has_media machine media)) (Media media) ∷
-    cause_if (is_taken jobs name) (Named name) ∷
-    cause_if (nat_lt most_waiting (waiting + sheet_count groups)) Waiting ∷ [])
+job_refusal machine jobs waiting name tray media groups =
+    option_and_then job_cause (job_fault machine jobs waiting name tray media groups)
 
 -- why a move of the clock is refused
 abbrev pub clock_refusal : ℕ → ℕ → Option Cause

@@ -4,41 +4,27 @@ use Rattle.std.specs.Option.{MatchOption}
 use Rattle.std.specs.Prelude.{IsSomeAnd, Err}
 use Rattle.tp_machine.specs.declared.whole.Machine.{Machine}
 use Rattle.tp_schedule.specs.declared.recording.Cause.{Cause}
-use Rattle.tp_schedule.specs.declared.recording.Cause.TheVariants.{Tray, Media, Named, Waiting}
 use Rattle.tp_schedule.specs.declared.recording.Record.{Record}
 use Rattle.tp_schedule.specs.declared.recording.Record.TheVariants.{Refused}
 use Rattle.tp_script.specs.Form.{GroupForm}
 use Rattle.tp_script.specs.declared.event.Event.{Event}
 use Rattle.tp_script.specs.declared.event.Event.TheVariants.{Bad, Job as NewJob, Clock, Jam, Off, On}
 use Rattle.tp_jobs.specs.Backlogs.{Backlog, Kept}
-use Rattle.tp_jobs.specs.Refusing.{has_media, is_taken, is_tray_name, job_refusal as job_fault, most_waiting, refusal_in, sheet_count}
+use Rattle.tp_jobs.specs.Refusing.{job_fault, refusal_in}
 use Rattle.tp_jobs.specs.Waiting.{new_job, sheets_of, with_job as lines_with_job}
 use Rattle.tp_jobs.specs.declared.fault.JobFault.{JobFault}
 use Rattle.tp_jobs.specs.declared.fault.JobFault.TheVariants.{Memory, UnknownTray, UnknownMedia, TwiceNamed, TooManyWaiting}
 use Rattle.tp_jobs.specs.declared.parts.Job.{Job}
 use Rattle.tp_turn.specs.Planners.{PlannerSteps}
-use Rattle.tp_turn.specs.Refusals.{first_of_causes, job_refusal, refusal}
+use Rattle.tp_turn.specs.Refusals.{job_cause, job_refusal, refusal}
 use Rattle.tp_turn.specs.States.{SessionState}
 use Rattle.tp_turn.specs.Turns.{Accepts, Begins, Turn, with_job}
-use Rattle.tp_turning.specs.Events.{NotesEvent, job_cause}
+use Rattle.tp_turning.specs.Events.{NotesEvent}
 use Rattle.tp_turning.specs.Checking.{is_of_module, module_refusal}
 use Rattle.tp_turning.specs.Stops.{NotesStop, StopsTurn}
 use Rattle.tp_turning.specs.Phases.{NotesAsks}
 
--- the fault of a job is told as the cause of the same test
-cause-of : (machine : Machine) (jobs : List Job) (waiting : ℕ) (name tray media : List ℕ) (groups : List GroupForm)
-    → option_and_then job_cause (job_fault machine jobs waiting name tray media groups) ≡ job_refusal machine jobs waiting name tray media groups
-cause-of machine jobs waiting name tray media groups =
-    go (is_tray_name machine tray) (has_media machine media) (is_taken jobs name) (nat_lt most_waiting (waiting + sheet_count groups)) where
-      go : (a b c d : Bool)
-          → option_and_then job_cause (cond (not a) (Some (UnknownTray tray)) (cond (not b) (Some (UnknownMedia media)) (cond c (Some (TwiceNamed name)) (cond d (Some (TooManyWaiting waiting (sheet_count groups))) None))))
-          ≡ first_of_causes (cond (not a) (Some (Tray tray)) None ∷ cond (not b) (Some (Media media)) None ∷ cond c (Some (Named name)) None ∷ cond d (Some Waiting) None ∷ [])
-      go false b c d = refl
-      go true false c d = refl
-      go true true true d = refl
-      go true true false true = refl
-      go true true false false = refl
-
+-- the cause that a fault of the lines is
 fault-cause : (fault : JobFault) → option_and_then job_cause (refusal_in {X = ℕ} (Err fault)) ≡ job_cause fault
 fault-cause Memory = refl
 fault-cause (UnknownTray name) = refl
@@ -50,10 +36,10 @@ fault-cause (TooManyWaiting waiting asked) = refl
 module _ (machine : Machine) (jobs : List Job) (waiting : ℕ) (name tray media : List ℕ) (groups : List GroupForm) where
   pub refused-by : (fault : JobFault) (cause : Cause) → refusal_in {X = ℕ} (Err fault) ≡ job_fault machine jobs waiting name tray media groups
       → job_cause fault ≡ Some cause → job_refusal machine jobs waiting name tray media groups ≡ Some cause
-  refused-by fault cause e is = sym (cause-of machine jobs waiting name tray media groups) ∙ ap (option_and_then job_cause) (sym e) ∙ fault-cause fault ∙ is
+  refused-by fault cause e is = ap (option_and_then job_cause) (sym e) ∙ fault-cause fault ∙ is
 
   pub accepted-by : None ≡ job_fault machine jobs waiting name tray media groups → job_refusal machine jobs waiting name tray media groups ≡ None
-  accepted-by e = sym (cause-of machine jobs waiting name tray media groups) ∙ ap (option_and_then job_cause) (sym e)
+  accepted-by e = ap (option_and_then job_cause) (sym e)
 
 -- the lines with a new job, as they are seen
 pub seen-added : (machine : Machine) (s : SessionState) (kept : Kept) (name tray media : List ℕ) (groups : List GroupForm) (lines' : Backlog)

@@ -1,15 +1,9 @@
 -- The turns of events, as calls give them.
-use Rattle.std.specs.Prelude.{◌≡◌, List, ◌++◌, Option, Some, None, Result, Ok, Err, ℕ, [], ◌∷◌}
+use Rattle.std.specs.Prelude.{◌≡◌, List, ◌++◌, ℕ, [], ◌∷◌}
 use Rattle.std.specs.Option.{MatchOption}
 use Rattle.tp_machine.specs.declared.whole.Machine.{Machine}
-use Rattle.tp_schedule.specs.declared.recording.Cause.{Cause}
-use Rattle.tp_schedule.specs.declared.recording.Cause.TheVariants.{Tray, Media, Named, Waiting, Back, End}
 use Rattle.tp_schedule.specs.declared.recording.Record.{Record}
 use Rattle.tp_schedule.specs.declared.recording.Record.TheVariants.{Refused}
-use Rattle.tp_jobs.specs.declared.fault.JobFault.{JobFault}
-use Rattle.tp_jobs.specs.declared.fault.JobFault.TheVariants.{Memory, UnknownTray, UnknownMedia, TwiceNamed, TooManyWaiting}
-use Rattle.tp_release.specs.declared.fault.AdvanceFault.{AdvanceFault}
-use Rattle.tp_release.specs.declared.fault.AdvanceFault.TheVariants.{Memory as WantsMemory, ClockBack, ClockEnd}
 use Rattle.tp_script.specs.declared.event.Event.{Event}
 use Rattle.tp_script.specs.declared.event.Event.TheVariants.{Clock}
 use Rattle.tp_turn.specs.Asking.{Asks}
@@ -19,25 +13,6 @@ use Rattle.tp_turn.specs.Planners.{PlannerSteps}
 use Rattle.tp_turn.specs.Refusals.{clock_refusal}
 use Rattle.tp_turn.specs.States.{SessionState}
 use Rattle.tp_turn.specs.Turns.{Turn}
-
--- the cause by which a job is refused, which want of memory is not
-abbrev pub job_cause : JobFault → Option Cause
-job_cause Memory = None
-job_cause (UnknownTray name) = Some (Tray name)
-job_cause (UnknownMedia name) = Some (Media name)
-job_cause (TwiceNamed name) = Some (Named name)
-job_cause (TooManyWaiting waiting asked) = Some Waiting
-
--- the cause by which a move of the clock is refused, which want of memory is not
-abbrev pub clock_cause : AdvanceFault → Option Cause
-clock_cause WantsMemory = None
-clock_cause (ClockBack now) = Some (Back now)
-clock_cause ClockEnd = Some End
-
--- the cause in an answer
-abbrev pub cause_in : {X : Type 0} → Result X Cause → Option Cause
-cause_in (Ok x) = None
-cause_in (Err cause) = Some cause
 
 module _ {P : Type 0} (planner_steps : PlannerSteps P) (machine : Machine) where
   -- the clock moves: its records, and then those of the phase of asks on what is still live

@@ -60,7 +60,8 @@ fn ask_planner<P: Planner>(
     ensures told { IfOk result (λ reply. notes.new.items ≡ notes.old.items
         ++ told_of_reply machine.now schedule.old.plans ask.entry.now reply schedule.new.plans) }
     ensures stopped { result ≡ Err Stopped → (notes.new.items ≡ notes.old.items)
-        × P.stop_steps planner.old machine.now schedule.old.plans (asking ask.entry.now) planner.new }
+        × P.stop_steps planner.old machine.now schedule.old.plans
+        (asking ask.entry.now) planner.new }
     ensures stops_only { IfErr result (StopsOnlyWhere (P.stops planner.old) (P.stops planner.new)) }
     ensures counted { P.stops planner.old ≤ P.stops planner.new }
     ensures still_serves { (other : Machine)
@@ -71,7 +72,7 @@ fn ask_planner<P: Planner>(
         return Err(Halt::Memory);
     };
     let reply = planner.ask(machine, schedule, ask)?;
-    let Ok(()) = tell_reply(alloc, machine, &before, ask, reply, schedule, notes) else {
+    let Ok(()) = tell_reply(machine, &before, ask, reply, schedule, notes) else {
         return Err(Halt::Memory);
     };
     Ok(reply)

@@ -5,8 +5,8 @@ use Rattle.tp_jobs.specs.Backlogs.{Backlog}
 use Rattle.tp_script.specs.declared.event.Event.TheVariants.{Job as NewJob}
 use Rattle.tp_turn.specs.LiveStates.{seen}
 use Rattle.tp_turn.specs.Planners.{right_steps}
+use Rattle.tp_turn.specs.Refusals.{job_cause}
 use Rattle.tp_turn.specs.Ready.{CanTakeEvents, KeepsLive, last_copy}
-use Rattle.tp_turning.specs.Events.{job_cause}
 use Rattle.tp_turning.proofs.EventFacts.{accepted-by, refused-by, refused-event, seen-added}
 use Rattle.tp_turning.proofs.KeptEvents.{events-job}
 use Rattle.tp_turning.proofs.arriving.take_job.Goals as goal
