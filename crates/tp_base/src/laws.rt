@@ -6,6 +6,7 @@ ghost use Rattle.tp_base.specs.Refute.{IsLateChain, IsLateCircle};
 
 /// What refutes a net leaves it no solution.
 pub fn proofs_refute()
-    ensures chain { (net : Net) (first : ℕ) (edges : List Edge) → IsLateChain net first edges → HasNoSolution net }
+    ensures chain { (net : Net) (first : ℕ) (edges : List Edge) → IsLateChain net first edges
+        → HasNoSolution net }
     ensures circle { (net : Net) (edges : List Edge) → IsLateCircle net edges → HasNoSolution net }
 {}

@@ -17,12 +17,14 @@ pub fn raise_end(
     requires caps { length caps.now ≡ length times.old }
     requires causes { length causes.old ≡ length times.old }
     requires within { AreWithin caps.now times.old }
-    ensures rises { OnOk result ((edges : _) → Contains edges edge.now → Rises edges times.old causes.old times.new causes.new) }
+    ensures rises { OnOk result ((edges : _) → Contains edges edge.now
+        → Rises edges times.old causes.old times.new causes.new) }
     ensures within { AreWithin caps.now times.new }
     ensures keeps { result ≡ Ok false → Keeps (slice_index times.new) edge.now }
     ensures same { result ≡ Ok false → times.new ≡ times.old }
     ensures less { result ≡ Ok true → slack caps.now times.new < slack caps.now times.old }
-    ensures late { IfErr result (λ p. (edges : _) → Contains edges edge.now → PassesCap caps.now edges times.old causes.old causes.new p.0) }
+    ensures late { IfErr result (λ p. (edges : _) → Contains edges edge.now
+        → PassesCap caps.now edges times.old causes.old causes.new p.0) }
 {
     let from = edge.from.0 as usize;
     let to = edge.to.0 as usize;

@@ -36,7 +36,8 @@ impl<T: Copy> Trail<T> {
 
     pub fn push(&mut self, item: T) -> Result<(), Full>
         ensures full { IsErr result ↔ (length self.old.items ≡ self.old.room) }
-        ensures ok { OnOk result (self.new ≡ record { items = self.old.items ++ item ∷ []; room = self.old.room }) }
+        ensures ok { OnOk result (self.new
+            ≡ record { items = self.old.items ++ item ∷ []; room = self.old.room }) }
         ensures stays { OnErr result (self.new ≡ self.old) }
     {
         if self.items.len() == self.room as usize {

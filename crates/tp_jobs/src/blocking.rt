@@ -35,7 +35,8 @@ impl Blocked {
     /// This location too.
     pub fn add(&mut self, loc: LocId)
         requires { loc.0 < 256 }
-        ensures { (place : LocId) → is_blocked self.new place ≡ ((place.0 == loc.0) || is_blocked self.old place) }
+        ensures { (place : LocId)
+            → is_blocked self.new place ≡ ((place.0 == loc.0) || is_blocked self.old place) }
     {
         self.marks[usize::from(loc.0)] = true;
     }

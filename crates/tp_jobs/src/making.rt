@@ -17,7 +17,8 @@ pub(crate) fn make_copies(
     groups: &[Group],
 ) -> Result<Vec<WaitingCopy>, Memory>
     requires { sheet_count groups.now + 1 < 2 ^ 32 }
-    ensures { IfOk result (λ copies. copies.items ≡ first_copies job 1 (sheets_of media groups.now)) }
+    ensures { IfOk result (λ copies. copies.items
+        ≡ first_copies job 1 (sheets_of media groups.now)) }
 {
     let mut copies = Vec::new(alloc);
     for group in groups {
@@ -40,7 +41,8 @@ fn put_copies(
     count: u32,
 ) -> Result<(), Memory>
     requires { vec_len copies.old + count + 1 < 2 ^ 32 }
-    ensures { OnOk result (copies.new.items ≡ copies.old.items ++ first_copies job (vec_len copies.old + 1) (replicate count want.now)) }
+    ensures { OnOk result (copies.new.items ≡ copies.old.items
+        ++ first_copies job (vec_len copies.old + 1) (replicate count want.now)) }
 {
     for put in 0..count {
         let number = copies.len() as u32 + 1;

@@ -27,7 +27,8 @@ pub(crate) fn break_in(jobs: &mut Vec<Job>, broken: &mut Vec<u32>, job: u32)
     requires job { job < length jobs.old.items }
     requires room { vec_len broken.old + whole_count jobs.old.items ≤ vec_capacity broken.old }
     ensures jobs { jobs.new.items ≡ mark_broken job jobs.old.items }
-    ensures kept { (came : ℕ) → jobs_then came broken.new.items jobs.new.items ≡ jobs_then came broken.old.items jobs.old.items }
+    ensures kept { (came : ℕ) → jobs_then came broken.new.items jobs.new.items
+        ≡ jobs_then came broken.old.items jobs.old.items }
     ensures room { vec_len broken.new + whole_count jobs.new.items ≤ vec_capacity broken.new }
 {
     let place = job as usize;

@@ -50,7 +50,8 @@ pub fn read_cause(words: &[&[u8]]) -> Option<Cause>
 }
 
 pub fn put_cause(out: &mut Vec<u8>, cause: &Cause) -> Result<(), Memory>
-    ensures { OnOk result (out.new.items ≡ out.old.items ++ flat_map (λ word. 32 ∷ word) (cause_words cause.now)) }
+    ensures { OnOk result (out.new.items ≡ out.old.items
+        ++ flat_map (λ word. 32 ∷ word) (cause_words cause.now)) }
 {
     match cause {
         Cause::Syntax => put_word(out, b"syntax"),

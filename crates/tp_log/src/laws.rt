@@ -5,10 +5,12 @@ ghost use Rattle.tp_log.specs.Grammar.{IsItem, item_text, IsLog, log_text};
 
 /// No line is that of two items.
 pub fn one_item()
-    ensures { (item other : Item) → IsItem item → IsItem other → item_text item ≡ item_text other → item ≡ other }
+    ensures { (item other : Item) → IsItem item → IsItem other → item_text item ≡ item_text other
+        → item ≡ other }
 {}
 
 /// No text is that of two logs.
 pub fn one_log()
-    ensures { (items others : List Item) → IsLog items → IsLog others → log_text items ≡ log_text others → items ≡ others }
+    ensures { (items others : List Item) → IsLog items → IsLog others → log_text items
+        ≡ log_text others → items ≡ others }
 {}

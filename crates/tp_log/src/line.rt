@@ -29,14 +29,16 @@ pub fn print_echo(event: &Event, out: &mut Vec<u8>) -> Result<(), Memory>
 
 /// What stands before the LF at the end.
 fn without_newline(line: &[u8]) -> Option<&[u8]>
-    ensures { MatchOption result ((text : List ℕ) → line.now ≢ text ++ 10 ∷ []) (λ text. line.now ≡ text.now ++ 10 ∷ []) }
+    ensures { MatchOption result ((text : List ℕ) → line.now ≢ text ++ 10 ∷ [])
+        (λ text. line.now ≡ text.now ++ 10 ∷ []) }
 {
     line.strip_suffix(b"\n")
 }
 
 /// What stands behind the mark of an echo.
 fn echoed(text: &[u8]) -> Option<&[u8]>
-    ensures { MatchOption result ((event : List ℕ) → text.now ≢ 62 ∷ 32 ∷ event) (λ event. text.now ≡ 62 ∷ 32 ∷ event.now) }
+    ensures { MatchOption result ((event : List ℕ) → text.now ≢ 62 ∷ 32 ∷ event)
+        (λ event. text.now ≡ 62 ∷ 32 ∷ event.now) }
 {
     match text {
         [b'>', b' ', event @ ..] => Some(event),

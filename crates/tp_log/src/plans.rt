@@ -122,7 +122,8 @@ pub fn read_move(alloc: Global, words: &[&[u8]]) -> Result<Record, LineFault>
 /// Writes points and actions in turn.
 pub fn put_turns(out: &mut Vec<u8>, points: &[Tick], acts: &[Name]) -> Result<(), Memory>
     requires { length points.now ≡ length acts.now + 1 }
-    ensures { OnOk result (out.new.items ≡ out.old.items ++ flat_map (λ word. 32 ∷ word) (turns_words points.now acts.now)) }
+    ensures { OnOk result (out.new.items ≡ out.old.items
+        ++ flat_map (λ word. 32 ∷ word) (turns_words points.now acts.now)) }
 {
     put_number_word(out, points[0])?;
     for i in 0..acts.len() {
@@ -133,7 +134,8 @@ pub fn put_turns(out: &mut Vec<u8>, points: &[Tick], acts: &[Name]) -> Result<()
 }
 
 pub fn put_points(out: &mut Vec<u8>, points: &[Tick]) -> Result<(), Memory>
-    ensures { OnOk result (out.new.items ≡ out.old.items ++ flat_map (λ word. 32 ∷ word) (map decimal points.now)) }
+    ensures { OnOk result (out.new.items ≡ out.old.items
+        ++ flat_map (λ word. 32 ∷ word) (map decimal points.now)) }
 {
     for point in points {
         put_number_word(out, *point)?;

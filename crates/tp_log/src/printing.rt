@@ -11,7 +11,8 @@ use tp_schedule::{Record, SheetName};
 
 /// Writes a heading and the copy that it is about.
 fn put_heading(out: &mut Vec<u8>, heading: &[u8], sheet: &SheetName) -> Result<(), Memory>
-    ensures { OnOk result (out.new.items ≡ out.old.items ++ (heading.now ++ 32 ∷ sheet_text sheet.now)) }
+    ensures { OnOk result (out.new.items ≡ out.old.items
+        ++ (heading.now ++ 32 ∷ sheet_text sheet.now)) }
 {
     out.extend_from_slice(heading)?;
     put_sheet_word(out, sheet)
@@ -24,7 +25,8 @@ fn put_with_word(
     sheet: &SheetName,
     word: &[u8],
 ) -> Result<(), Memory>
-    ensures { OnOk result (out.new.items ≡ out.old.items ++ (heading.now ++ 32 ∷ sheet_text sheet.now) ++ 32 ∷ word.now) }
+    ensures { OnOk result (out.new.items ≡ out.old.items
+        ++ (heading.now ++ 32 ∷ sheet_text sheet.now) ++ 32 ∷ word.now) }
 {
     put_heading(out, heading, sheet)?;
     put_word(out, word)
@@ -38,7 +40,9 @@ fn put_release(
     start: Tick,
     end: Tick,
 ) -> Result<(), Memory>
-    ensures { OnOk result (out.new.items ≡ out.old.items ++ spaced (codes "release" ∷ sheet_text sheet.now ∷ decimal act ∷ name.now ∷ decimal start ∷ decimal end ∷ [])) }
+    ensures { OnOk result (out.new.items ≡ out.old.items
+        ++ spaced (codes "release" ∷ sheet_text sheet.now ∷ decimal act ∷ name.now ∷ decimal start ∷
+        decimal end ∷ [])) }
 {
     put_heading(out, b"release", sheet)?;
     put_number_word(out, act)?;

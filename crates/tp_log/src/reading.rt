@@ -46,7 +46,8 @@ pub fn read_log(alloc: Global, text: &[u8]) -> Result<Vec<Item>, LogFault>
     ensures bad { IfErr result (λ fault. IfBad fault (λ n. IsFirstOff n text.now)) }
 
     // A printed log is read back.
-    ensures printed { (items : List Item) → IsLog items → text.now ≡ log_text items → MatchResult result (λ log. log.items ≡ items) (λ fault. fault ≡ Memory) }
+    ensures printed { (items : List Item) → IsLog items → text.now ≡ log_text items
+        → MatchResult result (λ log. log.items ≡ items) (λ fault. fault ≡ Memory) }
 {
     let mut items = Vec::new(alloc);
     let mut rest = text;

@@ -29,7 +29,8 @@ fn read_never(words: &[&[u8]]) -> Option<Record>
 
 #[tactic(auto, unfolding(crate::specs::Reading::three_of))]
 fn read_budget(words: &[&[u8]]) -> Option<Record>
-    ensures { result ≡ three_of sheet_of goal_of number_of (λ s g n. Record.Budget s g n) (shown words.now) }
+    ensures { result ≡ three_of sheet_of goal_of number_of (λ s g n. Record.Budget s g n)
+        (shown words.now) }
 {
     let [sheet, goal, bound] = words else {
         return None;
@@ -42,7 +43,8 @@ fn read_budget(words: &[&[u8]]) -> Option<Record>
 
 #[tactic(auto, unfolding(tp_words::specs::Fields::five_of))]
 fn read_release(words: &[&[u8]]) -> Option<Record>
-    ensures { result ≡ five_of sheet_of number_of name_of number_of number_of (λ s i a p q. Record.Release s i a p q) (shown words.now) }
+    ensures { result ≡ five_of sheet_of number_of name_of number_of number_of
+        (λ s i a p q. Record.Release s i a p q) (shown words.now) }
 {
     let [sheet, act, name, start, end] = words else {
         return None;
@@ -63,7 +65,8 @@ fn read_release(words: &[&[u8]]) -> Option<Record>
 
 #[tactic(auto, unfolding(crate::specs::Reading::three_of))]
 fn read_done(words: &[&[u8]]) -> Option<Record>
-    ensures { result ≡ three_of sheet_of name_of number_of (λ s l n. Record.Done s l n) (shown words.now) }
+    ensures { result ≡ three_of sheet_of name_of number_of (λ s l n. Record.Done s l n)
+        (shown words.now) }
 {
     let [sheet, place, at] = words else {
         return None;

@@ -17,7 +17,8 @@ use tp_machine::{Action, HoldRule, Holds, ResId};
 
 fn resource_of(resources: Option<&Table>, text: &str) -> ResId
     requires { length (keys_of (members_of (option_map (λ m. table_view m.now) resources))) ≤ 256 }
-    ensures { result ≡ resource_of (keys_of (members_of (option_map (λ m. table_view m.now) resources.entry))) text.now }
+    ensures { result ≡ resource_of
+        (keys_of (members_of (option_map (λ m. table_view m.now) resources.entry))) text.now }
 {
     match resources {
         Some(table) => ResId(place_of_key(table, text) as u16),
@@ -36,9 +37,12 @@ fn narrow(offset: i64) -> i32
 
 #[tactic(auto, unfolding(crate::specs::TheMachine::hold_of))]
 fn hold_of(resources: Option<&Table>, hold: &Value) -> HoldRule
-    requires few { length (keys_of (members_of (option_map (λ m. table_view m.now) resources))) ≤ 256 }
-    requires kept { is_hold (keys_of (members_of (option_map (λ m. table_view m.now) resources))) (view hold.now) ≡ true }
-    ensures { result ≡ hold_of (keys_of (members_of (option_map (λ m. table_view m.now) resources.entry))) (view hold.now) }
+    requires few { length (keys_of (members_of (option_map (λ m. table_view m.now) resources)))
+        ≤ 256 }
+    requires kept { is_hold (keys_of (members_of (option_map (λ m. table_view m.now) resources)))
+        (view hold.now) ≡ true }
+    ensures { result ≡ hold_of (keys_of
+        (members_of (option_map (λ m. table_view m.now) resources.entry))) (view hold.now) }
 {
     let begin = point_at(hold, "begin");
     let end = point_at(hold, "end");
@@ -53,10 +57,15 @@ fn hold_of(resources: Option<&Table>, hold: &Value) -> HoldRule
 
 /// The holds of an action, in the order of the text.
 fn holds_in(resources: Option<&Table>, holds: &[Value]) -> Holds
-    requires few { length (keys_of (members_of (option_map (λ m. table_view m.now) resources))) ≤ 256 }
+    requires few { length (keys_of (members_of (option_map (λ m. table_view m.now) resources)))
+        ≤ 256 }
     requires counted { length holds.now ≤ 4 }
-    requires kept { list_all (is_hold (keys_of (members_of (option_map (λ m. table_view m.now) resources)))) (map view holds.now) ≡ true }
-    ensures { result ≡ map (hold_of (keys_of (members_of (option_map (λ m. table_view m.now) resources.entry)))) (map view holds.now) }
+    requires kept { list_all (is_hold
+        (keys_of (members_of (option_map (λ m. table_view m.now) resources)))) (map view holds.now)
+        ≡ true }
+    ensures { result ≡ map (hold_of
+        (keys_of (members_of (option_map (λ m. table_view m.now) resources.entry))))
+        (map view holds.now) }
 {
     let mut made = Holds::new();
     let mut rest = holds;
@@ -69,9 +78,13 @@ fn holds_in(resources: Option<&Table>, holds: &[Value]) -> Holds
 
 #[tactic(auto, unfolding(crate::specs::HoldRules::has_holds))]
 fn action_holds(resources: Option<&Table>, action: &Value) -> Holds
-    requires few { length (keys_of (members_of (option_map (λ m. table_view m.now) resources))) ≤ 256 }
-    requires kept { has_holds (keys_of (members_of (option_map (λ m. table_view m.now) resources))) (view action.now) ≡ true }
-    ensures { result ≡ map (hold_of (keys_of (members_of (option_map (λ m. table_view m.now) resources.entry)))) (holds (view action.now)) }
+    requires few { length (keys_of (members_of (option_map (λ m. table_view m.now) resources)))
+        ≤ 256 }
+    requires kept { has_holds (keys_of (members_of (option_map (λ m. table_view m.now) resources)))
+        (view action.now) ≡ true }
+    ensures { result ≡ map (hold_of
+        (keys_of (members_of (option_map (λ m. table_view m.now) resources.entry))))
+        (holds (view action.now)) }
 {
     holds_in(resources, holds_of(action))
 }
@@ -100,11 +113,16 @@ fn action_of(
 ) -> Action
     requires few_locations { length locations.now ≤ 256 }
     requires few_modules { length modules.now ≤ 64 }
-    requires few { length (keys_of (members_of (option_map (λ m. table_view m.now) resources))) ≤ 256 }
+    requires few { length (keys_of (members_of (option_map (λ m. table_view m.now) resources)))
+        ≤ 256 }
     requires named { is_named (view action.now) ≡ true }
     requires lasting { has_durations (view action.now) ≡ true }
-    requires held { has_holds (keys_of (members_of (option_map (λ m. table_view m.now) resources))) (view action.now) ≡ true }
-    ensures { result ≡ action_of (map text_of (map view locations.now)) (map text_of (map view modules.now)) (keys_of (members_of (option_map (λ m. table_view m.now) resources.entry))) (view action.now) }
+    requires held { has_holds (keys_of (members_of (option_map (λ m. table_view m.now) resources)))
+        (view action.now) ≡ true }
+    ensures { result ≡ action_of (map text_of (map view locations.now))
+        (map text_of (map view modules.now))
+        (keys_of (members_of (option_map (λ m. table_view m.now) resources.entry)))
+        (view action.now) }
 {
     Action {
         name: name_in(text_at(action, "name")),
@@ -130,12 +148,18 @@ pub(crate) fn actions_of(
 ) -> Result<Items<Action>, Memory>
     requires few_locations { length locations.now ≤ 256 }
     requires few_modules { length modules.now ≤ 64 }
-    requires few { length (keys_of (members_of (option_map (λ m. table_view m.now) resources))) ≤ 256 }
+    requires few { length (keys_of (members_of (option_map (λ m. table_view m.now) resources)))
+        ≤ 256 }
     requires counted { length actions.now ≤ 512 }
     requires named { list_all is_named (map view actions.now) ≡ true }
     requires lasting { list_all has_durations (map view actions.now) ≡ true }
-    requires held { list_all (has_holds (keys_of (members_of (option_map (λ m. table_view m.now) resources)))) (map view actions.now) ≡ true }
-    ensures { IfOk result (λ made. made ≡ map (action_of (map text_of (map view locations.now)) (map text_of (map view modules.now)) (keys_of (members_of (option_map (λ m. table_view m.now) resources.entry)))) (map view actions.now)) }
+    requires held { list_all (has_holds
+        (keys_of (members_of (option_map (λ m. table_view m.now) resources))))
+        (map view actions.now) ≡ true }
+    ensures { IfOk result (λ made. made
+        ≡ map (action_of (map text_of (map view locations.now)) (map text_of (map view modules.now))
+        (keys_of (members_of (option_map (λ m. table_view m.now) resources.entry))))
+        (map view actions.now)) }
 {
     let mut made = Items::new(alloc);
     let mut rest = actions;

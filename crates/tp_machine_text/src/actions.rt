@@ -83,7 +83,8 @@ fn has_action_keys(action: &Value) -> bool
 }
 
 fn are_action_keys(table: &Table) -> bool
-    ensures { result ≡ list_all (λ key. is_text_among action_keys (string_bytes key)) (keys table.now) }
+    ensures { result ≡ list_all (λ key. is_text_among action_keys (string_bytes key))
+        (keys table.now) }
 {
     table.keys().all(|key| is_action_key(key.as_str()))
 }
@@ -128,7 +129,8 @@ fn has_modules(table: &Table) -> bool
 }
 
 fn have_modules(modules: &[Value], actions: &[Value]) -> bool
-    ensures { result ≡ list_all (λ v. is_of_module (map text_of (map view modules.now)) (view v)) actions.now }
+    ensures { result ≡ list_all (λ v. is_of_module (map text_of (map view modules.now)) (view v))
+        actions.now }
 {
     actions.iter().all(|action| is_of_module(modules, action))
 }
@@ -150,7 +152,8 @@ fn has_all_ends(table: &Table) -> bool
 }
 
 fn have_ends(locations: &[Value], actions: &[Value]) -> bool
-    ensures { result ≡ list_all (λ v. has_ends (map text_of (map view locations.now)) (view v)) actions.now }
+    ensures { result ≡ list_all (λ v. has_ends (map text_of (map view locations.now)) (view v))
+        actions.now }
 {
     actions.iter().all(|action| has_ends(locations, action))
 }
@@ -175,7 +178,10 @@ fn has_ways(table: &Table) -> bool
 }
 
 fn are_ways(trays: &[Value], purges: &[Value], feeders: Option<&Table>, actions: &[Value]) -> bool
-    ensures { result ≡ list_all (λ v. is_way (map text_of (map view trays.now)) (map text_of (map view purges.now)) (keys_of (members_of (option_map (λ m. table_view m.now) feeders.entry))) (view v)) actions.now }
+    ensures { result ≡ list_all (λ v. is_way (map text_of (map view trays.now))
+        (map text_of (map view purges.now))
+        (keys_of (members_of (option_map (λ m. table_view m.now) feeders.entry))) (view v))
+        actions.now }
 {
     actions
         .iter()
@@ -184,7 +190,9 @@ fn are_ways(trays: &[Value], purges: &[Value], feeders: Option<&Table>, actions:
 
 #[tactic(auto, unfolding(crate::specs::ActionRules::is_way))]
 fn is_way(trays: &[Value], purges: &[Value], feeders: Option<&Table>, action: &Value) -> bool
-    ensures { result ≡ is_way (map text_of (map view trays.now)) (map text_of (map view purges.now)) (keys_of (members_of (option_map (λ m. table_view m.now) feeders.entry))) (view action.now) }
+    ensures { result ≡ is_way (map text_of (map view trays.now)) (map text_of (map view purges.now))
+        (keys_of (members_of (option_map (λ m. table_view m.now) feeders.entry)))
+        (view action.now) }
 {
     let from = text_at(action, "from");
     !is_among(trays, from) && !is_among(purges, from) && !is_key(feeders, text_at(action, "to"))

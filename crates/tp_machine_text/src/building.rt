@@ -15,7 +15,8 @@ use tp_machine::{LocId, ModId, Names};
 
 /// The whole number at the key, or `absent`.
 pub(crate) fn number_at(table: &Table, key: &str, absent: u32) -> u32
-    requires { IsTrue (is_fit (is_whole (pos 0) (pos 200000)) (get_member key.now (table_view table.now))) }
+    requires { IsTrue (is_fit (is_whole (pos 0) (pos 200000))
+        (get_member key.now (table_view table.now))) }
     ensures { result ≡ number_or absent (get_member key.now (table_view table.now)) }
 {
     match value_at(table, key) {
@@ -106,7 +107,8 @@ pub(crate) fn locs_of(
 ) -> Result<Items<LocId>, Memory>
     requires few { length locations.now ≤ 256 }
     requires within { length values.now ≤ 256 }
-    ensures { IfOk result (λ locs. locs ≡ map (loc_of (map text_of (map view locations.now))) (map text_of (map view values.now))) }
+    ensures { IfOk result (λ locs. locs
+        ≡ map (loc_of (map text_of (map view locations.now))) (map text_of (map view values.now))) }
 {
     let mut locs = Items::new(alloc);
     let mut rest = values;

@@ -48,14 +48,17 @@ fn has_all_holds(table: &Table) -> bool
 }
 
 fn have_holds(resources: Option<&Table>, actions: &[Value]) -> bool
-    ensures { result ≡ list_all (λ v. has_holds (keys_of (members_of (option_map (λ m. table_view m.now) resources.entry))) (view v)) actions.now }
+    ensures { result ≡ list_all (λ v.
+        has_holds (keys_of (members_of (option_map (λ m. table_view m.now) resources.entry)))
+        (view v)) actions.now }
 {
     actions.iter().all(|action| has_holds(resources, action))
 }
 
 #[tactic(auto, using(crate::proofs::Seen::seen), unfolding(crate::specs::HoldRules::has_holds))]
 fn has_holds(resources: Option<&Table>, action: &Value) -> bool
-    ensures { result ≡ has_holds (keys_of (members_of (option_map (λ m. table_view m.now) resources.entry))) (view action.now) }
+    ensures { result ≡ has_holds (keys_of
+        (members_of (option_map (λ m. table_view m.now) resources.entry))) (view action.now) }
 {
     let holds = holds_of(action);
     is_array_or_absent(field(action, "holds"))
@@ -65,14 +68,17 @@ fn has_holds(resources: Option<&Table>, action: &Value) -> bool
 }
 
 fn are_holds(resources: Option<&Table>, holds: &[Value]) -> bool
-    ensures { result ≡ list_all (λ v. is_hold (keys_of (members_of (option_map (λ m. table_view m.now) resources.entry))) (view v)) holds.now }
+    ensures { result ≡ list_all (λ v.
+        is_hold (keys_of (members_of (option_map (λ m. table_view m.now) resources.entry)))
+        (view v)) holds.now }
 {
     holds.iter().all(|hold| is_hold(resources, hold))
 }
 
 #[tactic(auto, unfolding(crate::specs::HoldRules::is_hold))]
 fn is_hold(resources: Option<&Table>, hold: &Value) -> bool
-    ensures { result ≡ is_hold (keys_of (members_of (option_map (λ m. table_view m.now) resources.entry))) (view hold.now) }
+    ensures { result ≡ is_hold (keys_of
+        (members_of (option_map (λ m. table_view m.now) resources.entry))) (view hold.now) }
 {
     hold.is_table()
         && has_hold_keys(hold)
@@ -92,7 +98,8 @@ fn has_hold_keys(hold: &Value) -> bool
 }
 
 fn are_hold_keys(table: &Table) -> bool
-    ensures { result ≡ list_all (λ key. is_text_among hold_keys (string_bytes key)) (keys table.now) }
+    ensures { result ≡ list_all (λ key. is_text_among hold_keys (string_bytes key))
+        (keys table.now) }
 {
     table
         .keys()
@@ -100,7 +107,9 @@ fn are_hold_keys(table: &Table) -> bool
 }
 
 fn holds_resource(resources: Option<&Table>, hold: &Value) -> bool
-    ensures { result ≡ is_there (is_text_of (keys_of (members_of (option_map (λ m. table_view m.now) resources.entry)))) (get (codes "resource") (view hold.now)) }
+    ensures { result ≡ is_there (is_text_of
+        (keys_of (members_of (option_map (λ m. table_view m.now) resources.entry))))
+        (get (codes "resource") (view hold.now)) }
 {
     match field(hold, "resource") {
         Some(resource) => is_key_text(resources, resource),
@@ -109,7 +118,8 @@ fn holds_resource(resources: Option<&Table>, hold: &Value) -> bool
 }
 
 fn is_key_text(table: Option<&Table>, value: &Value) -> bool
-    ensures { result ≡ is_text_of (keys_of (members_of (option_map (λ m. table_view m.now) table.entry))) (view value.now) }
+    ensures { result ≡ is_text_of (keys_of
+        (members_of (option_map (λ m. table_view m.now) table.entry))) (view value.now) }
 {
     match value.as_str() {
         Some(text) => is_key(table, text),

@@ -12,7 +12,8 @@ use tp_base::Name;
 
 /// The value at a key of a table.
 pub(crate) fn value_at<'a>(table: &'a Table, key: &str) -> Option<&'a Value>
-    ensures { option_map (λ value. view value.now) result ≡ get_member key.now (table_view table.now) }
+    ensures { option_map (λ value. view value.now) result
+        ≡ get_member key.now (table_view table.now) }
 {
     table.get(key)
 }
@@ -56,7 +57,8 @@ pub(crate) fn values_at<'a>(table: &'a Table, key: &str) -> &'a [Value]
 
 /// The table that a value is.
 pub(crate) fn table_in(value: Option<&Value>) -> Option<&Table>
-    ensures { option_map (λ m. table_view m.now) result ≡ table_in (option_map (λ v. view v.now) value.entry) }
+    ensures { option_map (λ m. table_view m.now) result
+        ≡ table_in (option_map (λ v. view v.now) value.entry) }
 {
     match value {
         Some(value) => value.as_table(),
@@ -166,7 +168,8 @@ pub(crate) fn is_one_of(values: &[Value], value: &Value) -> bool
 /// Whether the text is a key of the table.
 #[tactic(auto, using(crate::proofs::Seen::seen))]
 pub(crate) fn is_key(table: Option<&Table>, text: &str) -> bool
-    ensures { result ≡ is_among (keys_of (members_of (option_map (λ m. table_view m.now) table.entry))) text.now }
+    ensures { result ≡ is_among (keys_of
+        (members_of (option_map (λ m. table_view m.now) table.entry))) text.now }
 {
     match table {
         Some(table) => has_key(table, text),
@@ -243,7 +246,8 @@ pub(crate) fn are_from(texts: &[Value], values: &[Value]) -> bool
 }
 
 fn are_all_from(texts: &[Value], values: &[Value]) -> bool
-    ensures { result ≡ list_all (λ v. is_one_of (map text_of (map view texts.now)) (view v)) values.now }
+    ensures { result ≡ list_all (λ v. is_one_of (map text_of (map view texts.now)) (view v))
+        values.now }
 {
     values.iter().all(|value| is_one_of(texts, value))
 }

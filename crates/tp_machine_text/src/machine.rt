@@ -57,7 +57,9 @@ fn modules(alloc: Global, table: &Table) -> Result<Names, Memory>
 
 fn trays(alloc: Global, table: &Table) -> Result<Items<LocId>, Memory>
     requires { KeepsRules (table_view table.now) }
-    ensures { IfOk result (λ locs. locs ≡ map (loc_of (text.locations (table_view table.now))) (text.trays (table_view table.now))) }
+    ensures { IfOk result (λ locs. locs
+        ≡ map (loc_of (text.locations (table_view table.now)))
+        (text.trays (table_view table.now))) }
 {
     locs_of(
         alloc,
@@ -68,7 +70,9 @@ fn trays(alloc: Global, table: &Table) -> Result<Items<LocId>, Memory>
 
 fn purges(alloc: Global, table: &Table) -> Result<Items<LocId>, Memory>
     requires { KeepsRules (table_view table.now) }
-    ensures { IfOk result (λ locs. locs ≡ map (loc_of (text.locations (table_view table.now))) (text.purges (table_view table.now))) }
+    ensures { IfOk result (λ locs. locs
+        ≡ map (loc_of (text.locations (table_view table.now)))
+        (text.purges (table_view table.now))) }
 {
     locs_of(
         alloc,
@@ -79,7 +83,9 @@ fn purges(alloc: Global, table: &Table) -> Result<Items<LocId>, Memory>
 
 fn feeders(alloc: Global, table: &Table) -> Result<Items<Feeder>, Memory>
     requires { KeepsRules (table_view table.now) }
-    ensures feeders { IfOk result (λ feeders. feeders ≡ feeders_of (text.locations (table_view table.now)) (members_at (codes "feeders") (table_view table.now))) }
+    ensures feeders { IfOk result (λ feeders. feeders
+        ≡ feeders_of (text.locations (table_view table.now))
+        (members_at (codes "feeders") (table_view table.now))) }
     ensures rise { IfOk result (λ _. IsTrue (do_names_rise (text.feeders (table_view table.now)))) }
 {
     match table_in(value_at(table, "feeders")) {
@@ -90,8 +96,11 @@ fn feeders(alloc: Global, table: &Table) -> Result<Items<Feeder>, Memory>
 
 fn resources(alloc: Global, table: &Table) -> Result<Items<Resource>, Memory>
     requires { KeepsRules (table_view table.now) }
-    ensures resources { IfOk result (λ resources. resources ≡ resources_of (text.modules (table_view table.now)) (members_at (codes "resources") (table_view table.now))) }
-    ensures rise { IfOk result (λ _. IsTrue (do_names_rise (text.resources (table_view table.now)))) }
+    ensures resources { IfOk result
+        (λ resources. resources ≡ resources_of (text.modules (table_view table.now))
+        (members_at (codes "resources") (table_view table.now))) }
+    ensures rise { IfOk result (λ _.
+        IsTrue (do_names_rise (text.resources (table_view table.now)))) }
 {
     match table_in(value_at(table, "resources")) {
         Some(resources) => resources_of(alloc, values_at(table, "modules"), resources),
@@ -101,7 +110,10 @@ fn resources(alloc: Global, table: &Table) -> Result<Items<Resource>, Memory>
 
 fn actions(alloc: Global, table: &Table) -> Result<Items<Action>, Memory>
     requires { KeepsRules (table_view table.now) }
-    ensures { IfOk result (λ actions. actions ≡ map (action_of (text.locations (table_view table.now)) (text.modules (table_view table.now)) (text.resources (table_view table.now))) (text.actions (table_view table.now))) }
+    ensures { IfOk result (λ actions. actions
+        ≡ map (action_of (text.locations (table_view table.now))
+        (text.modules (table_view table.now)) (text.resources (table_view table.now)))
+        (text.actions (table_view table.now))) }
 {
     actions_of(
         alloc,

@@ -14,7 +14,8 @@ use tp_machine::{Anchor, Feeder, HoldRule, LocId, Names, Resource};
 /// Puts a value at a key of a table.
 #[tactic(auto, using(crate::proofs::Put::puts))]
 pub(crate) fn put(alloc: Global, table: &mut Table, key: &str, value: Value) -> Result<(), Memory>
-    ensures { OnOk result (table_view table.new ≡ put_member key.now (view value) (table_view table.old)) }
+    ensures { OnOk result (table_view table.new
+        ≡ put_member key.now (view value) (table_view table.old)) }
 {
     table.insert(String::from_str(alloc, key)?, value)?;
     Ok(())
@@ -143,7 +144,8 @@ pub(crate) fn hold_value(
     hold: &HoldRule,
 ) -> Result<Value, Memory>
     requires { hold.now.resource.0 < length resources.now }
-    ensures { IfOk result (λ value. view value ≡ hold_data (resource_names resources.now) hold.now) }
+    ensures { IfOk result (λ value. view value
+        ≡ hold_data (resource_names resources.now) hold.now) }
 {
     let mut table = Table::new(alloc);
     let begin = begin_value(alloc, hold)?;

@@ -68,7 +68,8 @@ fn are_no_trays(table: &Table, purges: &[Value]) -> bool
 
 /// Whether none of the values is one of these texts.
 fn are_none_of(texts: &[Value], values: &[Value]) -> bool
-    ensures { result ≡ list_all (λ v. is_apart (map text_of (map view texts.now)) (view v)) values.now }
+    ensures { result ≡ list_all (λ v. is_apart (map text_of (map view texts.now)) (view v))
+        values.now }
 {
     values.iter().all(|value| !is_one_of(texts, value))
 }

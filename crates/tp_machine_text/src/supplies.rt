@@ -43,7 +43,9 @@ fn has_feeders(table: &Table) -> bool
 }
 
 fn are_feeders_open(table: &Table, feeders: &Table) -> bool
-    ensures { result ≡ list_all (is_open_place (locations (table_view table.now)) (trays (table_view table.now)) (purges (table_view table.now))) (keys_of (table_view feeders.now)) }
+    ensures { result ≡ list_all (is_open_place (locations (table_view table.now))
+        (trays (table_view table.now)) (purges (table_view table.now)))
+        (keys_of (table_view feeders.now)) }
 {
     let locations = values_at(table, "locations");
     let trays = values_at(table, "trays");
@@ -52,14 +54,17 @@ fn are_feeders_open(table: &Table, feeders: &Table) -> bool
 }
 
 fn are_open_places(locations: &[Value], trays: &[Value], purges: &[Value], feeders: &Table) -> bool
-    ensures { result ≡ list_all (λ key. is_open_place (map text_of (map view locations.now)) (map text_of (map view trays.now)) (map text_of (map view purges.now)) (string_bytes key)) (keys feeders.now) }
+    ensures { result ≡ list_all (λ key. is_open_place (map text_of (map view locations.now))
+        (map text_of (map view trays.now)) (map text_of (map view purges.now)) (string_bytes key))
+        (keys feeders.now) }
 {
     feeders.keys().all(|key| is_open_place(locations, trays, purges, key.as_str()))
 }
 
 /// Whether the text is a location, and neither a tray nor a purge tray.
 fn is_open_place(locations: &[Value], trays: &[Value], purges: &[Value], text: &str) -> bool
-    ensures { result ≡ is_open_place (map text_of (map view locations.now)) (map text_of (map view trays.now)) (map text_of (map view purges.now)) text.now }
+    ensures { result ≡ is_open_place (map text_of (map view locations.now))
+        (map text_of (map view trays.now)) (map text_of (map view purges.now)) text.now }
 {
     is_among(locations, text) && !is_among(trays, text) && !is_among(purges, text)
 }
@@ -110,13 +115,15 @@ fn has_resource_modules(table: &Table) -> bool
 }
 
 fn have_modules(table: &Table, resources: &Table) -> bool
-    ensures { result ≡ list_all (is_text_of (modules (table_view table.now))) (data_of (table_view resources.now)) }
+    ensures { result ≡ list_all (is_text_of (modules (table_view table.now)))
+        (data_of (table_view resources.now)) }
 {
     are_modules(values_at(table, "modules"), resources)
 }
 
 fn are_modules(modules: &[Value], resources: &Table) -> bool
-    ensures { result ≡ list_all (λ v. is_text_of (map text_of (map view modules.now)) (view v)) (values resources.now) }
+    ensures { result ≡ list_all (λ v. is_text_of (map text_of (map view modules.now)) (view v))
+        (values resources.now) }
 {
     resources.values().all(|value| is_one_of(modules, value))
 }

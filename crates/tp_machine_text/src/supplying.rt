@@ -20,9 +20,11 @@ pub(crate) fn feeders_of(
     table: &Table,
 ) -> Result<Items<Feeder>, Memory>
     requires few { length locations.now ≤ 256 }
-    requires known { list_all (is_among (map text_of (map view locations.now))) (keys_of (table_view table.now)) ≡ true }
+    requires known { list_all (is_among (map text_of (map view locations.now)))
+        (keys_of (table_view table.now)) ≡ true }
     requires named { list_all is_name (data_of (table_view table.now)) ≡ true }
-    ensures feeders { IfOk result (λ feeders. feeders ≡ feeders_of (map text_of (map view locations.now)) (table_view table.now)) }
+    ensures feeders { IfOk result (λ feeders. feeders
+        ≡ feeders_of (map text_of (map view locations.now)) (table_view table.now)) }
     ensures rise { IfOk result (λ _. IsTrue (do_names_rise (keys_of (table_view table.now)))) }
 {
     let mut feeders = Items::new(alloc);
@@ -45,7 +47,9 @@ pub(crate) fn resources_of(
     requires few { length modules.now ≤ 64 }
     requires counted { length (keys_of (table_view table.now)) ≤ 256 }
     requires named { list_all is_name_text (keys_of (table_view table.now)) ≡ true }
-    ensures resources { IfOk result (λ resources. resources ≡ resources_of (map text_of (map view modules.now)) (table_view table.now)) }
+    ensures resources { IfOk result
+        (λ resources. resources ≡ resources_of (map text_of (map view modules.now))
+        (table_view table.now)) }
     ensures rise { IfOk result (λ _. IsTrue (do_names_rise (keys_of (table_view table.now)))) }
 {
     let mut resources = Items::new(alloc);

@@ -17,7 +17,8 @@ use tp_machine::{Action, HoldRule, Machine, Names, Resource};
 #[tactic(auto, unfolding(crate::specs::Printed::is_of_resource))]
 fn holds_value(alloc: Global, resources: &[Resource], holds: &[HoldRule]) -> Result<Value, Memory>
     requires { list_all (is_of_resource (length resources.now)) holds.now ≡ true }
-    ensures { IfOk result (λ value. view value ≡ array (items_of (map (hold_data (resource_names resources.now)) holds.now))) }
+    ensures { IfOk result (λ value. view value
+        ≡ array (items_of (map (hold_data (resource_names resources.now)) holds.now))) }
 {
     let mut array = Array::new(alloc);
     let mut rest = holds;
@@ -78,8 +79,10 @@ fn action_value(
     resources: &[Resource],
     action: &Action,
 ) -> Result<Value, Memory>
-    requires { is_known (length locations.now) (length modules.now) (length resources.now) action.now ≡ true }
-    ensures { IfOk result (λ value. view value ≡ action_data locations.now modules.now (resource_names resources.now) action.now) }
+    requires { is_known (length locations.now) (length modules.now) (length resources.now)
+        action.now ≡ true }
+    ensures { IfOk result (λ value. view value
+        ≡ action_data locations.now modules.now (resource_names resources.now) action.now) }
 {
     let mut table = Table::new(alloc);
     put_way(alloc, &mut table, locations, modules, action)?;
@@ -96,8 +99,11 @@ fn actions_value(
     resources: &[Resource],
     actions: &[Action],
 ) -> Result<Value, Memory>
-    requires { list_all (is_known (length locations.now) (length modules.now) (length resources.now)) actions.now ≡ true }
-    ensures { IfOk result (λ value. view value ≡ array (items_of (map (action_data locations.now modules.now (resource_names resources.now)) actions.now))) }
+    requires { list_all (is_known (length locations.now) (length modules.now)
+        (length resources.now)) actions.now ≡ true }
+    ensures { IfOk result (λ value. view value
+        ≡ array (items_of (map (action_data locations.now modules.now
+        (resource_names resources.now)) actions.now))) }
 {
     let mut array = Array::new(alloc);
     let mut rest = actions;
@@ -128,7 +134,8 @@ fn put_places(alloc: Global, table: &mut Table, machine: &Machine) -> Result<(),
         put_member (codes "purge") (texts_data (loc_names machine.now.locations machine.now.purges))
         (put_member (codes "trays") (texts_data (loc_names machine.now.locations machine.now.trays))
         (put_member (codes "modules") (texts_data machine.now.modules)
-        (put_member (codes "locations") (texts_data machine.now.locations) (table_view table.old))))) }
+        (put_member (codes "locations") (texts_data machine.now.locations)
+        (table_view table.old))))) }
 {
     let locations = names_value(alloc, &machine.locations)?;
     put(alloc, table, "locations", locations)?;
@@ -143,9 +150,13 @@ fn put_places(alloc: Global, table: &mut Table, machine: &Machine) -> Result<(),
 /// Puts the feeders, the resources and the actions.
 fn put_parts(alloc: Global, table: &mut Table, machine: &Machine) -> Result<(), Memory>
     ensures { OnOk result (table_view table.new ≡
-        put_member (codes "actions") (array (items_of (map (action_data machine.now.locations machine.now.modules (resource_names machine.now.resources)) machine.now.actions)))
-        (put_member (codes "resources") (table_data (resource_members machine.now.modules machine.now.resources))
-        (put_member (codes "feeders") (table_data (feeder_members machine.now.locations machine.now.feeders)) (table_view table.old)))) }
+        put_member (codes "actions") (array
+        (items_of (map (action_data machine.now.locations machine.now.modules
+        (resource_names machine.now.resources)) machine.now.actions)))
+        (put_member (codes "resources")
+        (table_data (resource_members machine.now.modules machine.now.resources))
+        (put_member (codes "feeders") (table_data
+        (feeder_members machine.now.locations machine.now.feeders)) (table_view table.old)))) }
 {
     let feeders = feeders_table(alloc, &machine.locations, machine.feeders.as_slice())?;
     put(alloc, table, "feeders", Value::from(feeders))?;

@@ -41,7 +41,8 @@ pub fn read_table(alloc: Global, table: &Table) -> Result<Machine, MachineFault>
     ensures ok { IfOk result (IsMachineOf (table_view table.now)) }
     ensures kept { IfOk result (λ _. first_broken (table_view table.now) ≡ None) }
     ensures toml { IfErr result (λ e. ¬ (e ≡ MachineFault.NotToml)) }
-    ensures rule { IfErr result (λ e. (n : ℕ) → e ≡ MachineFault.Rule n → first_broken (table_view table.now) ≡ Some n) }
+    ensures rule { IfErr result (λ e. (n : ℕ) → e ≡ MachineFault.Rule n
+        → first_broken (table_view table.now) ≡ Some n) }
 {
     if let Some(rule) = first_broken(table) {
         return Err(MachineFault::Rule(rule));

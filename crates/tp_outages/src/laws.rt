@@ -12,9 +12,11 @@ use tp_schedule::Planner;
 /// copy that waits or has a whole plan to the tray, and that copy is its newest.
 pub fn outages_keep_state<P: Planner>()
     ensures through { (machine : Machine)
-        → OutagesKeep (right_steps P.spent P.steps P.stop_steps machine) machine (KeepsThrough machine) }
+        → OutagesKeep (right_steps P.spent P.steps P.stop_steps machine) machine
+        (KeepsThrough machine) }
     ensures order { (machine : Machine) (totals : List ℕ)
-        → OutagesKeep (right_steps P.spent P.steps P.stop_steps machine) machine (KeepsOrder machine totals) }
+        → OutagesKeep (right_steps P.spent P.steps P.stop_steps machine) machine
+        (KeepsOrder machine totals) }
 {}
 
 /// A live state that is kept before a module goes out is kept after it, and is least, so that any event can be taken. Of each sheet

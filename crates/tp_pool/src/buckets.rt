@@ -35,7 +35,8 @@ impl Buckets {
     /// A queue for nodes below a number, and for bounds from 0 on up to, and without, a width. Takes all the memory that
     /// it will ever hold: 8 bytes for each node and each bound.
     pub fn new(alloc: Global, nodes: u32, width: u32) -> Result<Buckets, Memory>
-        ensures { IfOk result (λ buckets. buckets ≡ record { nodes = nodes; width = width; base = 0; queued = [] }) }
+        ensures { IfOk result (λ buckets. buckets
+            ≡ record { nodes = nodes; width = width; base = 0; queued = [] }) }
     {
         Ok(Buckets {
             heads: vec![in alloc; None; width as usize]?,
@@ -47,7 +48,12 @@ impl Buckets {
 
     /// Leaves no node, and is from now on for bounds from this base on. Costs a step for each bound.
     pub fn clear(&mut self, base: Tick)
-        ensures { self.new ≡ record { nodes = self.old.nodes; width = self.old.width; base = base; queued = [] } }
+        ensures { self.new ≡ record {
+          nodes = self.old.nodes;
+          width = self.old.width;
+          base = base;
+          queued = [];
+        } }
     {
         empty(&mut self.heads);
         self.base = base;
@@ -60,7 +66,8 @@ impl Buckets {
         requires from { self.old.base ≤ bound }
         requires below { bound < self.old.base + self.old.width }
         requires out { ¬ IsIn node self.old.queued }
-        ensures queued { IsPermutation (record { node = node; bound = bound } ∷ self.old.queued) self.new.queued }
+        ensures queued { IsPermutation (record { node = node; bound = bound } ∷ self.old.queued)
+            self.new.queued }
         ensures nodes { self.new.nodes ≡ self.old.nodes }
         ensures width { self.new.width ≡ self.old.width }
         ensures base { self.new.base ≡ self.old.base }

@@ -57,7 +57,13 @@ impl Pool {
     pub fn add(&mut self, parent: Option<u32>, choice: Choice, bound: Tick) -> Result<u32, Full>
         requires parent { IsParentOf (length self.old.entries) parent }
         ensures full { IsErr result ↔ (length self.old.entries ≡ self.old.room) }
-        ensures ok { OnOk result (self.new ≡ record { room = self.old.room; entries = self.old.entries ++ record { choices = choice ∷ choices_before self.old.entries parent; bound = bound } ∷ [] }) }
+        ensures ok { OnOk result (self.new
+            ≡ record {
+              room = self.old.room;
+              entries = self.old.entries
+                  ++ record { choices = choice ∷ choices_before self.old.entries parent; bound = bound } ∷
+                  [];
+            }) }
         ensures number { IfOk result (λ node. node ≡ length self.old.entries) }
         ensures stays { OnErr result (self.new ≡ self.old) }
     {

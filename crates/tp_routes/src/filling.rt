@@ -28,10 +28,13 @@ pub(crate) fn offer(
     ensures filling { IsFilling machine.now ask.entry.now sums.new waiting.new.items }
     ensures lowers { Lowers sums.old sums.new }
     ensures there { HasAtMost sums.new state sum }
-    ensures spread { (busy count : ℕ) → IsSpreadTo machine.now ask.entry.now sums.old waiting.old.items busy count → IsSpreadTo machine.now ask.entry.now sums.new waiting.new.items busy count }
+    ensures spread { (busy count : ℕ)
+        → IsSpreadTo machine.now ask.entry.now sums.old waiting.old.items busy count
+        → IsSpreadTo machine.now ask.entry.now sums.new waiting.new.items busy count }
     ensures busy { (n v : ℕ) → v ≤ sum → sum_at sums.old n ≡ Some v → sum_at sums.new n ≡ Some v }
     ensures room { length sums.new ≤ vec_capacity waiting.new }
-    ensures nearer { left_to_fill sums.new waiting.new.items ≤ left_to_fill sums.old waiting.old.items }
+    ensures nearer { left_to_fill sums.new waiting.new.items
+        ≤ left_to_fill sums.old waiting.old.items }
 {
     lower(sums, waiting, number_of(state), sum);
 }
@@ -53,11 +56,13 @@ fn step_on(
     requires busy { sum_at sums.old number ≡ Some sum }
     requires room { length sums.old ≤ vec_capacity waiting.old }
     ensures filling { IsFilling machine.now ask.entry.now sums.new waiting.new.items }
-    ensures spread { IsSpreadTo machine.now ask.entry.now sums.new waiting.new.items number (act.0 + 1) }
+    ensures spread { IsSpreadTo machine.now ask.entry.now sums.new waiting.new.items number
+        (act.0 + 1) }
     ensures busy { sum_at sums.new number ≡ Some sum }
     ensures lowers { Lowers sums.old sums.new }
     ensures room { length sums.new ≤ vec_capacity waiting.new }
-    ensures nearer { left_to_fill sums.new waiting.new.items ≤ left_to_fill sums.old waiting.old.items }
+    ensures nearer { left_to_fill sums.new waiting.new.items
+        ≤ left_to_fill sums.old waiting.old.items }
 {
     if !allowed(machine, ask.outs, act) {
         return;
@@ -86,10 +91,12 @@ fn spread(
     requires busy { sum_at sums.old number ≡ Some sum }
     requires room { length sums.old ≤ vec_capacity waiting.old }
     ensures filling { IsFilling machine.now ask.entry.now sums.new waiting.new.items }
-    ensures spread { IsSpreadTo machine.now ask.entry.now sums.new waiting.new.items number (length machine.now.actions) }
+    ensures spread { IsSpreadTo machine.now ask.entry.now sums.new waiting.new.items number
+        (length machine.now.actions) }
     ensures lowers { Lowers sums.old sums.new }
     ensures room { length sums.new ≤ vec_capacity waiting.new }
-    ensures nearer { left_to_fill sums.new waiting.new.items ≤ left_to_fill sums.old waiting.old.items }
+    ensures nearer { left_to_fill sums.new waiting.new.items
+        ≤ left_to_fill sums.old waiting.old.items }
 {
     let mut cursor = firsts[number as usize / 8];
     'actions: while let Some(at) = cursor {
@@ -109,10 +116,12 @@ pub(crate) fn settle(
 )
     requires index { IsIndexOf machine.now firsts.now nexts.now }
     requires filling { IsFilling machine.now ask.now sums.old waiting.old.items }
-    requires spread { (busy : ℕ) → IsSpreadTo machine.now ask.now sums.old waiting.old.items busy (length machine.now.actions) }
+    requires spread { (busy : ℕ) → IsSpreadTo machine.now ask.now sums.old waiting.old.items busy
+        (length machine.now.actions) }
     requires room { length sums.old ≤ vec_capacity waiting.old }
     ensures filling { IsFilling machine.now ask.entry.now sums.new waiting.new.items }
-    ensures spread { (busy : ℕ) → IsSpreadTo machine.now ask.entry.now sums.new waiting.new.items busy (length machine.now.actions) }
+    ensures spread { (busy : ℕ) → IsSpreadTo machine.now ask.entry.now sums.new waiting.new.items
+        busy (length machine.now.actions) }
     ensures lowers { Lowers sums.old sums.new }
     ensures rest { waiting.new.items ≡ [] }
     ensures room { length sums.new ≤ vec_capacity waiting.new }

@@ -11,9 +11,11 @@ pub(crate) fn lower(sums: &mut [Option<u32>], waiting: &mut Vec<u32>, number: u3
     ensures queue { IsQueue waiting.new.items (length sums.new) }
     ensures room { length sums.new ≤ vec_capacity waiting.new }
     ensures kept { (n : ℕ) → Waits waiting.old.items n → Waits waiting.new.items n }
-    ensures waits { IsTrue (is_lower sum (sum_at sums.old number)) → Waits waiting.new.items number }
+    ensures waits { IsTrue (is_lower sum (sum_at sums.old number))
+        → Waits waiting.new.items number }
     ensures longer { length waiting.new.items ≤ length waiting.old.items + 1 }
-    ensures same { is_lower sum (sum_at sums.old number) ≡ false → waiting.new.items ≡ waiting.old.items }
+    ensures same { is_lower sum (sum_at sums.old number) ≡ false → waiting.new.items
+        ≡ waiting.old.items }
 {
     if !is_lower(sum, sums[number as usize]) {
         return;

@@ -46,7 +46,8 @@ impl Rooms {
     /// takes all the memory that the table will ever need. No state has room before `fill`.
     pub fn new(alloc: Global, machine: &Machine) -> Result<Rooms, Memory>
         ensures made { IfOk result (λ rooms. IsMadeFor rooms machine.now) }
-        ensures empty { IfOk result (λ rooms. rooms.sums ≡ replicate (8 * length machine.now.locations) None) }
+        ensures empty { IfOk result (λ rooms. rooms.sums
+            ≡ replicate (8 * length machine.now.locations) None) }
     {
         let locations = machine.locations.len();
         let states = locations as usize * 8;

@@ -20,7 +20,8 @@ fn first_later(plans: &[Plan], copy: SheetId) -> Option<usize>
 
 /// Where a plan of the copy goes in the order of copies.
 pub(crate) fn place_of(plans: &[Plan], copy: SheetId) -> usize
-    ensures { result ≡ unwrap_or (position (λ q. is_before copy q.sheet) plans.now) (length plans.now) }
+    ensures { result ≡ unwrap_or (position (λ q. is_before copy q.sheet) plans.now)
+        (length plans.now) }
 {
     first_later(plans, copy).unwrap_or(plans.len())
 }

@@ -44,7 +44,9 @@ pub(crate) fn count_holders(
     acts: &[ActId],
     points: &[Tick],
 ) -> u64
-    ensures count { (sheet : SheetId) (number : ℕ) → length (filter (holds_at machine.now resource.0 at) (runs_from sheet number acts.now points.now)) ≡ result }
+    ensures count { (sheet : SheetId) (number : ℕ)
+        → length (filter (holds_at machine.now resource.0 at)
+        (runs_from sheet number acts.now points.now)) ≡ result }
     ensures within { result ≤ length acts.now }
 {
     if let [act, later @ ..] = acts
@@ -84,7 +86,9 @@ fn does_any_end_after(
 
 /// Whether a hold of the actions, with the gap behind it, ends after the moment.
 fn is_any_held_after(machine: &Machine, now: Tick, acts: &[ActId], points: &[Tick]) -> bool
-    ensures { (sheet : SheetId) (number : ℕ) → list_any (is_held_after machine.now now) (runs_from sheet number acts.now points.now) ≡ result }
+    ensures { (sheet : SheetId) (number : ℕ)
+        → list_any (is_held_after machine.now now) (runs_from sheet number acts.now points.now)
+        ≡ result }
 {
     if let [act, later @ ..] = acts
         && let [start, end, ..] = points

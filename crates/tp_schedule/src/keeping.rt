@@ -120,7 +120,8 @@ impl Schedule {
     }
 
     pub fn set_points(&mut self, sheet: SheetId, points: &Points)
-        requires planned { IsSomeAnd (plan_of sheet self.old.plans) (λ p. length points.now ≡ length p.points) }
+        requires planned { IsSomeAnd (plan_of sheet self.old.plans)
+            (λ p. length points.now ≡ length p.points) }
         ensures plans { self.new.plans ≡ change_plan sheet (with_points points.now) self.old.plans }
         ensures spare { self.new.spare ≡ self.old.spare }
     {
@@ -143,7 +144,8 @@ impl Schedule {
     /// The same for the plan at the place, without a look for its copy.
     pub fn freeze_at(&mut self, at: u32, count: u32)
         requires planned { IsSomeAnd (slice_get self.old.plans at) (λ p. count ≤ length p.acts) }
-        ensures plans { IsSomeAnd (slice_get self.old.plans at) (λ p. self.new.plans ≡ set self.old.plans at (with_released count p)) }
+        ensures plans { IsSomeAnd (slice_get self.old.plans at)
+            (λ p. self.new.plans ≡ set self.old.plans at (with_released count p)) }
         ensures spare { self.new.spare ≡ self.old.spare }
     {
         self.plans[at as usize].released = count;
@@ -168,7 +170,8 @@ impl Schedule {
     pub fn withdraw(&mut self, sheet: SheetId)
         requires planned { IsSome (plan_of sheet self.old.plans) }
         ensures plans { self.new.plans ≡ without sheet self.old.plans }
-        ensures spare { self.new.spare + length self.new.plans ≡ self.old.spare + length self.old.plans }
+        ensures spare { self.new.spare + length self.new.plans
+            ≡ self.old.spare + length self.old.plans }
     {
         self.plans.retain(|plan| plan.sheet != sheet);
     }
@@ -177,7 +180,8 @@ impl Schedule {
     /// memory stays, as room for others.
     pub fn forget(&mut self, machine: &Machine, now: Tick)
         ensures plans { self.new.plans ≡ filter (is_live machine.now now) self.old.plans }
-        ensures spare { self.new.spare + length self.new.plans ≡ self.old.spare + length self.old.plans }
+        ensures spare { self.new.spare + length self.new.plans
+            ≡ self.old.spare + length self.old.plans }
     {
         self.plans.retain(|plan| is_plan_live(machine, now, plan));
     }
@@ -205,7 +209,8 @@ impl Schedule {
     /// Whether at most one action holds the resource at the tick, and none holds it in another mode at a tick that differs
     /// by at most its gap. Looks at all plans.
     pub fn legal_at(&self, machine: &Machine, resource: ResId, at: Tick) -> bool
-        ensures { IsTrue result ↔ ((length (held machine.now self.now.plans resource.0 at) ≤ 1) × IsSpreadAt machine.now self.now.plans resource.0 at) }
+        ensures { IsTrue result ↔ ((length (held machine.now self.now.plans resource.0 at) ≤ 1)
+            × IsSpreadAt machine.now self.now.plans resource.0 at) }
     {
         let once = self.is_held_once(machine, resource, at);
         let spread = self.is_spread(machine, resource, at);
@@ -220,7 +225,8 @@ impl Schedule {
         resource: ResId,
     ) -> Result<Vec<Hold>, Memory>
         requires legal { IsLegal machine.now self.now.plans }
-        ensures { IfOk result (λ holds. holds.items ≡ order_of machine.now self.now.plans resource.0) }
+        ensures { IfOk result (λ holds. holds.items
+            ≡ order_of machine.now self.now.plans resource.0) }
     {
         holds_by_time(alloc, machine, resource, self.plans.as_slice())
     }

@@ -18,7 +18,8 @@ pub fn new_sheet(loc: LocId) -> State
 }
 
 fn is_at_feeder(feeders: &[Feeder], sheet: &Sheet, state: State) -> bool
-    ensures { IsTrue result ↔ Any (λ f. (f.media ≡ sheet.now.media) × (state ≡ fresh f.loc)) feeders.now }
+    ensures { IsTrue result ↔ Any (λ f. (f.media ≡ sheet.now.media) × (state ≡ fresh f.loc))
+        feeders.now }
 {
     feeders.iter().any(|feeder| feeder.media == sheet.media && state == new_sheet(feeder.loc))
 }

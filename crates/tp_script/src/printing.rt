@@ -17,7 +17,8 @@ fn put_word(out: &mut Vec<u8>, word: &[u8]) -> Result<(), Memory>
 }
 
 fn put_groups(out: &mut Vec<u8>, groups: &[Group]) -> Result<(), Memory>
-    ensures { OnOk result (out.new.items ≡ out.old.items ++ flat_map (λ word. 32 ∷ word) (map group_text groups.now)) }
+    ensures { OnOk result (out.new.items ≡ out.old.items
+        ++ flat_map (λ word. 32 ∷ word) (map group_text groups.now)) }
 {
     for group in groups {
         out.push(b' ')?;

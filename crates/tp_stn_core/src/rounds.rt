@@ -20,9 +20,11 @@ fn round(
     ensures rises { OnOk result (Rises edges.now times.old causes.old times.new causes.new) }
     ensures within { AreWithin caps.now times.new }
     ensures keeps { result ≡ Ok None → All (Keeps (slice_index times.new)) edges.now }
-    ensures less { IfOk result (λ last. IsSome last → slack caps.now times.new < slack caps.now times.old) }
+    ensures less { IfOk result (λ last. IsSome last → slack caps.now times.new
+        < slack caps.now times.old) }
     ensures known_last { IfOk result (λ last. IfSome last (λ p. p.0 < length times.old)) }
-    ensures late { IfErr result (λ p. PassesCap caps.now edges.now times.old causes.old causes.new p.0) }
+    ensures late { IfErr result (λ p. PassesCap caps.now edges.now times.old causes.old causes.new
+        p.0) }
 {
     let mut last = None;
     'edges: for edge in edges {
@@ -56,8 +58,10 @@ pub(crate) fn settle(
     requires within { AreWithin caps.now lows.now }
     requires path_room { length lows.now ≤ vec_capacity path.old }
     requires places_room { length lows.now ≤ vec_capacity places.old }
-    ensures least { OnOk result (IsLeast (net_of lows.now caps.now edges.now) (slice_index times.new)) }
-    ensures refuted { IfErr result (λ kept. KeptRefutes (net_of lows.now caps.now edges.now) kept path.new.items) }
+    ensures least { OnOk result (IsLeast (net_of lows.now caps.now edges.now)
+        (slice_index times.new)) }
+    ensures refuted { IfErr result
+        (λ kept. KeptRefutes (net_of lows.now caps.now edges.now) kept path.new.items) }
     ensures path_kept { vec_capacity path.old ≤ vec_capacity path.new }
     ensures places_kept { vec_capacity places.old ≤ vec_capacity places.new }
 {

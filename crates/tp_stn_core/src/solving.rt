@@ -62,11 +62,14 @@ pub(crate) fn solve(
     requires within { AreWithin caps.now lows.now }
     requires known { All (IsKnown (length lows.now)) edges.now }
     requires room { HasWorkingRoom (length lows.now) working.old }
-    ensures least { OnOk result (IsLeast (net_of lows.now caps.now edges.now) (slice_index working.new.times.items)) }
+    ensures least { OnOk result (IsLeast (net_of lows.now caps.now edges.now)
+        (slice_index working.new.times.items)) }
     ensures len { OnOk result (length working.new.times.items ≡ length lows.now) }
     ensures none { OnErr result (HasNoSolution (net_of lows.now caps.now edges.now)) }
-    ensures refuted { IfErr result (λ kept. KeptRefutes (net_of lows.now caps.now edges.now) kept working.new.path.items) }
-    ensures room { (points : ℕ) → HasWorkingRoom points working.old → HasWorkingRoom points working.new }
+    ensures refuted { IfErr result
+        (λ kept. KeptRefutes (net_of lows.now caps.now edges.now) kept working.new.path.items) }
+    ensures room { (points : ℕ) → HasWorkingRoom points working.old
+        → HasWorkingRoom points working.new }
 {
     fill(lows, &mut working.times, &mut working.causes);
     settle(

@@ -22,11 +22,17 @@ fn restore(
     requires known { place < length marks.old.items }
     requires same { length newest.old.items ≡ length lows.old.items }
     requires before { IsAt marks.old.items place (λ m. m.saved ≤ length saved.old.items) }
-    ensures lows { IsAt marks.old.items place (λ m. lows.new.items ≡ restored (drop m.saved saved.old.items) (take m.points lows.old.items)) }
+    ensures lows { IsAt marks.old.items place
+        (λ m. lows.new.items ≡ restored (drop m.saved saved.old.items)
+        (take m.points lows.old.items)) }
     ensures caps { IsAt marks.old.items place (λ m. caps.new.items ≡ take m.points caps.old.items) }
-    ensures edges { IsAt marks.old.items place (λ m. edges.new.items ≡ take m.edges edges.old.items) }
-    ensures saved { IsAt marks.old.items place (λ m. saved.new.items ≡ take m.saved saved.old.items) }
-    ensures newest { IsAt marks.old.items place (λ m. newest.new.items ≡ relinked (drop m.saved saved.old.items) (take m.points newest.old.items)) }
+    ensures edges { IsAt marks.old.items place
+        (λ m. edges.new.items ≡ take m.edges edges.old.items) }
+    ensures saved { IsAt marks.old.items place
+        (λ m. saved.new.items ≡ take m.saved saved.old.items) }
+    ensures newest { IsAt marks.old.items place
+        (λ m. newest.new.items ≡ relinked (drop m.saved saved.old.items)
+        (take m.points newest.old.items)) }
     ensures marks { marks.new.items ≡ take place marks.old.items }
     ensures lows_room { vec_capacity lows.new ≡ vec_capacity lows.old }
     ensures caps_room { vec_capacity caps.new ≡ vec_capacity caps.old }

@@ -85,13 +85,15 @@ pub fn answer_script<T: Teller + Drop, S: Source, K: Sink>(
     requires fresh { T.answered teller ≡ 0 }
     requires clear { T.text teller ≡ [] }
     // The script is answered whole, and the source was read to its end.
-    ensures all { OnOk result (IsTaken T.tells (T.state teller) (S.left source.old) (K.taken sink.old)
+    ensures all { OnOk result (IsTaken T.tells (T.state teller) (S.left source.old)
+        (K.taken sink.old)
         (S.left source.new) (K.taken sink.new)) }
     ensures end { OnOk result (IfSome (S.left source.old) (λ _. S.left source.new ≡ Some [])) }
     // Else its first lines are answered, up to the cause.
     ensures stops { IfErr result (λ stop. IsStopped T.tells (T.state teller) (S.left source.old)
         (K.taken sink.old) stop (S.left source.new) (K.taken sink.new)) }
-    ensures source { IsErrOf result Stop.Source → Rises (S.faults source.old) (S.faults source.new) }
+    ensures source { IsErrOf result Stop.Source
+        → Rises (S.faults source.old) (S.faults source.new) }
     ensures sink { IsErrOf result Stop.Sink → Rises (K.faults sink.old) (K.faults sink.new) }
     ensures source_counted { IsCounted (S.faults source.old) (S.faults source.new) }
     ensures sink_counted { IsCounted (K.faults sink.old) (K.faults sink.new) }

@@ -70,12 +70,16 @@ pub fn stream<T: LineTaker, S: Source, K: Sink>(
     // All lines are answered, and the source was read to its end.
     ensures all { OnOk result ((bytes : List ℕ) × IsReadFrom (S.left source.old) bytes
         (S.left source.new)
-        × TakesAll T.answers limits.bytes limits.lines (place_of (T.state taker.old) 0 (K.taken sink.old)) bytes (T.state taker.new) (K.taken sink.new)) }
+        × TakesAll T.answers limits.bytes limits.lines
+        (place_of (T.state taker.old) 0 (K.taken sink.old)) bytes (T.state taker.new)
+        (K.taken sink.new)) }
     ensures end { OnOk result (IfSome (S.left source.old) (λ _. S.left source.new ≡ Some [])) }
     // Else the first lines are answered, up to the cause.
     ensures stops { IfErr result (λ stop.
         (bytes : List ℕ) × IsReadFrom (S.left source.old) bytes (S.left source.new)
-        × Stops T.answers T.refuses limits.bytes limits.lines (place_of (T.state taker.old) 0 (K.taken sink.old)) bytes stop (T.state taker.new) (K.taken sink.new)) }
+        × Stops T.answers T.refuses limits.bytes limits.lines
+        (place_of (T.state taker.old) 0 (K.taken sink.old)) bytes stop (T.state taker.new)
+        (K.taken sink.new)) }
     ensures source { IsErrOf result Stop.Source → Rises (S.faults source.old)
         (S.faults source.new) }
     ensures sink { IsErrOf result Stop.Sink → Rises (K.faults sink.old) (K.faults sink.new) }

@@ -28,7 +28,8 @@ pub trait Teller {
     fn event(&mut self, event: &Event) -> Result<(), Memory>
         requires few { answered self.old < most_events }
         requires echoed { IsEchoed event.now }
-        ensures told { OnOk result ((told : List ℕ) × tells (state self.old) event.now told (state self.new)
+        ensures told { OnOk result ((told : List ℕ)
+            × tells (state self.old) event.now told (state self.new)
             × (text self.new ≡ text self.old ++ told)) }
         ensures counted { OnOk result (answered self.new ≡ answered self.old + 1) }
         ensures state_stays { OnErr result (state self.new ≡ state self.old) }

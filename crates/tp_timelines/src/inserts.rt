@@ -44,10 +44,12 @@ pub(crate) fn empty_all(orders: &mut Vec<Vec<u32>>)
 pub(crate) fn take_back(orders: &mut Vec<Vec<u32>>, inserted: &mut Vec<Insert>, to: usize)
     requires to { to ≤ length inserted.old.items }
     requires stand { StandAt (numbers_of orders.old.items) inserted.old.items }
-    ensures numbers { numbers_of orders.new.items ≡ taken_back (drop to inserted.old.items) (numbers_of orders.old.items) }
+    ensures numbers { numbers_of orders.new.items
+        ≡ taken_back (drop to inserted.old.items) (numbers_of orders.old.items) }
     ensures inserted { inserted.new.items ≡ take to inserted.old.items }
     ensures stand { StandAt (numbers_of orders.new.items) inserted.new.items }
-    ensures all { total (numbers_of orders.old.items) ≡ length inserted.old.items → total (numbers_of orders.new.items) ≡ length inserted.new.items }
+    ensures all { total (numbers_of orders.old.items) ≡ length inserted.old.items
+        → total (numbers_of orders.new.items) ≡ length inserted.new.items }
     ensures room { (holds : ℕ) → HaveRoom holds orders.old.items → HaveRoom holds orders.new.items }
     ensures capacity { vec_capacity inserted.new ≡ vec_capacity inserted.old }
 {

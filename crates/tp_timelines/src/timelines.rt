@@ -84,7 +84,9 @@ impl Timelines {
         requires known { resource.0 < length self.old.orders }
         requires within { place ≤ length (order_on self.old.orders resource.0) }
         ensures full { IsErr result ↔ (total self.old.orders ≡ self.old.hold_room) }
-        ensures ok { OnOk result (self.new.orders ≡ slice_set self.old.orders resource.0 (insert (order_on self.old.orders resource.0) place id)) }
+        ensures ok { OnOk result (self.new.orders
+            ≡ slice_set self.old.orders resource.0
+            (insert (order_on self.old.orders resource.0) place id)) }
         ensures err { OnErr result (self.new.orders ≡ self.old.orders) }
         ensures past { self.new.past ≡ self.old.past }
         ensures holds { self.new.hold_room ≡ self.old.hold_room }

@@ -36,17 +36,20 @@ pub fn refused_events_change_nothing<P: Planner>()
 pub fn turns_keep_planning<P: Planner>()
     ensures empty { (machine : Machine) → IsPlannable machine empty_state }
     ensures turn { (machine : Machine)
-        → TurnsKeep (right_steps P.spent P.steps P.stop_steps machine) machine IsAny (IsPlannable machine) }
+        → TurnsKeep (right_steps P.spent P.steps P.stop_steps machine) machine IsAny
+        (IsPlannable machine) }
 {}
 
 /// Turns of jobs, of moves of the clock, of modules that come back and of refused events keep jobs, plans, lines and sheets,
 /// from the empty state on; an accepted job brings a total of sheets. That the schedule is least stays through every turn but one that moves the clock.
 pub fn turns_keep_state<P: Planner>()
-    ensures empty { (machine : Machine) → KeepsState machine [] empty_state × IsLeastAt machine empty_state }
+    ensures empty { (machine : Machine) → KeepsState machine [] empty_state
+        × IsLeastAt machine empty_state }
     ensures state { (machine : Machine)
         → TurnsKeepState (right_steps P.spent P.steps P.stop_steps machine) machine IsNoOutage }
     ensures least { (machine : Machine)
-        → TurnsKeep (right_steps P.spent P.steps P.stop_steps machine) machine IsNoClock (IsLeastAt machine) }
+        → TurnsKeep (right_steps P.spent P.steps P.stop_steps machine) machine IsNoClock
+        (IsLeastAt machine) }
 {}
 
 /// What befalls copies, a break, a fall-back and an outage leave a schedule that can be planned on at the same moment. No more
