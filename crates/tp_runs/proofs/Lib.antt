@@ -4,3 +4,4 @@ pub mod OnWhole
 pub mod OutageLines
 pub mod Scripts
 pub mod TurnLines
+pub mod Promises

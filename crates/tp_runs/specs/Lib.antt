@@ -3,3 +3,4 @@ pub mod Carrying
 pub mod Wholes
 pub mod Ends
 pub mod Told
+pub mod Promised

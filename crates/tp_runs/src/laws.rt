@@ -4,6 +4,7 @@ ghost use Rattle.std.specs.Prelude.{ℕ};
 ghost use Rattle.tp_machine.specs.declared.whole.Machine.{Machine};
 ghost use Rattle.tp_runs.specs.Carrying.{RightTurns};
 ghost use Rattle.tp_runs.specs.Ends.{ScriptsAreLawful, StopsAreLawful};
+ghost use Rattle.tp_runs.specs.Promised.{AnswersKeepPromises, LawfulRunsKeepPromises, StopsKeepPromises};
 ghost use Rattle.tp_runs.specs.Told.{LiveTurnsHaveLines, TurnsHaveLines};
 ghost use Rattle.tp_turn.specs.Planners.{right_steps};
 ghost use Rattle.tp_runs.specs.Wholes.{LinesAreLawful, TurnsOnWhole};
@@ -45,4 +46,14 @@ pub fn answered_scripts_are_lawful()
 /// Where a run over a script stops, what was written is the text of a lawful run over its first lines.
 pub fn stopped_scripts_are_lawful()
     ensures { (machine : Machine) (nodes : ℕ) → StopsAreLawful machine nodes }
+{}
+
+/// The headline, of every lawful run, of every script that was answered, and of the first lines of one where the run stopped:
+/// the last schedule is legal, past included, and no resource is held twice; each tray receives its line in order, and only
+/// sheets of broken jobs are skipped; each plan is earliest and least; each none means no alternative by the horizon; and each
+/// budget that as many different open lists with choices were stored as the budget allows, when one more had to be.
+pub fn runs_keep_promises()
+    ensures lawful { (machine : Machine) (nodes : ℕ) → LawfulRunsKeepPromises machine nodes }
+    ensures answered { (machine : Machine) (nodes : ℕ) → AnswersKeepPromises machine nodes }
+    ensures stopped { (machine : Machine) (nodes : ℕ) → StopsKeepPromises machine nodes }
 {}

@@ -1,0 +1,50 @@
+-- The headline of a run: what its log promises, past included.
+use Rattle.std.specs.Prelude.{◌≡◌, ℕ, ◌≤◌, List, ◌∷◌, ◌++◌, length, Option, IsTrue}
+use Rattle.tp_machine.specs.declared.whole.Machine.{Machine}
+use Rattle.tp_jobs.specs.Refusing.{is_tray_name}
+use Rattle.tp_schedule.specs.Holding.{held}
+use Rattle.tp_schedule.specs.Legality.{IsLegal}
+use Rattle.tp_schedule.specs.declared.recording.Record.{Record}
+use Rattle.tp_schedule.specs.declared.recording.Record.TheVariants.{Plan, Never, Budget}
+use Rattle.tp_schedule.specs.declared.recording.SheetName.{SheetName}
+use Rattle.tp_script.specs.declared.event.Event.{Event}
+use Rattle.tp_stream.specs.declared.stop.Stop.{Stop}
+use Rattle.tp_turn.specs.Logs.{Entry}
+use Rattle.tp_turn.specs.Receiving.{ReceivesInOrder, records_of}
+use Rattle.tp_turn.specs.States.{SessionState}
+use Rattle.tp_headline.specs.Given.{IsEarliestThere, IsNoneThere, IsSpentThere}
+use Rattle.tp_runs.specs.Ends.{IsAnswered, IsAnsweredTo}
+use Rattle.tp_runs.specs.Runs.{IsLawfulRun, NoTree, spent_by}
+
+module _ (machine : Machine) (nodes : ℕ) where
+  pub record KeepsPromises (log : List (Entry NoTree)) (last : SessionState) : Type 0 where
+    -- the last schedule is legal, and no resource has two holders at any tick
+    pub legal : IsLegal machine last.plans
+    pub held_once : (resource tick : ℕ) → length (held machine last.plans resource tick) ≤ 1
+    -- each tray of the machine receives its line in order, no sheet twice, and only sheets of broken jobs are skipped
+    pub received : (tray : List ℕ) → IsTrue (is_tray_name machine tray) → ReceivesInOrder log tray
+    -- each plan ends its copy first among all alternatives, and is least
+    pub earliest : (before after : List Record) (copy : SheetName) (place points : List ℕ) (acts : List (List ℕ))
+        → records_of log ≡ before ++ Plan copy place points acts ∷ after
+        → IsEarliestThere (spent_by nodes) machine log last before (Plan copy place points acts)
+    -- each none means that there is no alternative by the horizon
+    pub none : (before after : List Record) (copy : SheetName) (goal : Option (List ℕ))
+        → records_of log ≡ before ++ Never copy goal ∷ after
+        → IsNoneThere (spent_by nodes) machine log last before (Never copy goal)
+    -- each budget means that as many different lists with choices as the budget were open, and one more
+    pub spent : (before after : List Record) (copy : SheetName) (goal : Option (List ℕ)) (bound : ℕ)
+        → records_of log ≡ before ++ Budget copy goal bound ∷ after
+        → IsSpentThere (spent_by nodes) machine log last before (Budget copy goal bound)
+
+  -- of every lawful run, of every script that was answered, and of the first lines of one where the run stopped
+  abbrev pub LawfulRunsKeepPromises : Type 0
+  LawfulRunsKeepPromises = (events : List Event) (log : List (Entry NoTree)) (run : IsLawfulRun machine nodes events log)
+      → KeepsPromises log run.lawful.last
+
+  abbrev pub AnswersKeepPromises : Type 0
+  AnswersKeepPromises = (script : List ℕ) (taken taken' : Option (List ℕ)) (answered : IsAnswered machine nodes script taken taken')
+      → KeepsPromises answered.run.log answered.run.lawful.lawful.last
+
+  abbrev pub StopsKeepPromises : Type 0
+  StopsKeepPromises = (stop : Stop) (script : List ℕ) (taken taken' : Option (List ℕ)) (answered : IsAnsweredTo machine nodes stop script taken taken')
+      → KeepsPromises answered.run.log answered.run.lawful.lawful.last
