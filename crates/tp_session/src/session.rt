@@ -17,8 +17,16 @@ use tp_schedule::Schedule;
 use tp_script::Event;
 use tp_search::Engine;
 use tp_stn_undo::LiveNet;
+use tp_stream::Teller;
 use tp_turn::LiveState;
 use tp_turning::empty_state_can_begin;
+
+/// How many points, edges and marks in force the network of a session is made for.
+const POINTS: u32 = 16_642;
+
+const EDGES: u32 = 100_000;
+
+const MARKS: u32 = 330;
 
 /// A session over the live network.
 pub type Session = SessionOver<LiveNet>;
@@ -51,6 +59,20 @@ impl<N: Network> Model for SessionOver<N> {
 
     ghost invariant = { λ s. IsSession
         (record { machine = s.machine; budget = s.budget; state = seen s.state }) s.engine s.answered };
+}
+
+impl SessionOver<LiveNet> {
+    ghost use Rattle.tp_session.specs.Sessions.{start_of};
+
+    /// A session at the moment 0 with nothing planned. It takes all the memory that its network and its search will ever
+    /// hold.
+    pub fn new(alloc: Global, machine: Machine, settings: Settings) -> Result<Session, Memory>
+        ensures standing { IfOk result (λ s. s.standing ≡ start_of machine settings.budget) }
+        ensures fresh { IfOk result (λ s. (s.answered ≡ 0) × (s.text ≡ [])) }
+    {
+        let net = LiveNet::new(alloc, POINTS, EDGES, MARKS)?;
+        SessionOver::over(alloc, machine, net, settings)
+    }
 }
 
 impl<N: Network + Drop> SessionOver<N> {
@@ -161,5 +183,35 @@ impl<N: Network> SessionOver<N> {
         ensures { result.now ≡ self.now.engine.board }
     {
         self.engine.board()
+    }
+}
+
+impl<N: Network> Teller for SessionOver<N> {
+    ghost use Rattle.tp_session.specs.Sessions.{Standing, Tells};
+
+    ghost State = { Standing };
+
+    ghost state = { λ s. s.standing };
+
+    ghost text = { λ s. s.text };
+
+    ghost answered = { λ s. s.answered };
+
+    ghost tells = { Tells };
+
+    fn event(&mut self, event: &Event) -> Result<(), Memory> {
+        self.event(event)
+    }
+
+    fn text(&self) -> &[u8] {
+        self.text()
+    }
+
+    fn clear_text(&mut self) {
+        self.clear_text();
+    }
+
+    fn events(&self) -> u32 {
+        self.events()
     }
 }
