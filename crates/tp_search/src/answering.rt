@@ -1,15 +1,16 @@
 //! The answer to an ask on a schedule: the earliest plan, that there is none, or that the budget is spent.
-ghost use Rattle.std.specs.Prelude.{◌≡◌, ◌≢◌, ◌+◌, ◌<◌, ◌≤◌, None, IsSome};
+ghost use Rattle.std.specs.Prelude.{◌≡◌, ◌≢◌, ◌+◌, ◌<◌, ◌≤◌, None, IfErr, IfOk, IsSome};
 ghost use Rattle.tp_schedule.specs.Planning.{CanAsk, IsAnswer};
 ghost use Rattle.tp_schedule.specs.Plans.{plan_of};
 ghost use Rattle.tp_schedule.specs.Spending.{FewListsOpen};
 ghost use Rattle.tp_schedule.specs.declared.parts.Reply.TheVariants.{Never, Planned};
 ghost use Rattle.tp_placing.specs.Standing.{IsMadeFor};
+ghost use Rattle.tp_search.specs.Trials.{EndsEarliest, IsNoPlan};
 ghost use Rattle.tp_search.specs.Workspaces.{IsFor, IsSpentOf};
 
 use crate::trying::{NoPlan, plan};
 use crate::workspace::Workspace;
-use tp_base::{Network, Undo};
+use tp_base::{Network, Tick, Undo};
 use tp_machine::Machine;
 use tp_placing::Board;
 use tp_schedule::{Ask, Reply, Schedule};
@@ -47,5 +48,36 @@ pub fn answer<N: Network>(
         }
         Err(NoPlan::Never) => Reply::Never,
         Err(NoPlan::Spent { bound }) => Reply::Spent { bound },
+    }
+}
+
+/// The tick at which the earliest plans of an ask end, or why there is none. The schedule stays, and the board carries no plan of
+/// the ask. Takes no memory.
+pub(crate) fn earliest_end<N: Network>(
+    work: &mut Workspace,
+    board: &mut Board<N>,
+    machine: &Machine,
+    schedule: &Schedule,
+    ask: &Ask,
+) -> Result<Tick, NoPlan>
+    requires work { IsFor work.old machine.now }
+    requires board { IsMadeFor board.old.made_for machine.now }
+    requires marks { 8 ≤ N.mark_room board.old.net }
+    requires can { CanAsk machine.now schedule.now.plans ask.now }
+    ensures end { IfOk result (EndsEarliest machine.now schedule.now.plans ask.entry.now) }
+    ensures none { IfErr result
+        (IsNoPlan machine.now schedule.now.plans ask.entry.now work.old.nodes) }
+    ensures work { work.new ≡ work.old }
+    ensures board { board.new.made_for ≡ board.old.made_for }
+    ensures marks { N.mark_room board.new.net ≡ N.mark_room board.old.net }
+{
+    board.load(machine, schedule, ask);
+    match plan(board, work, machine, ask) {
+        Ok(trial) => {
+            let end = trial.end();
+            trial.abandon();
+            Ok(end)
+        }
+        Err(none) => Err(none),
     }
 }

@@ -5,9 +5,11 @@ ghost use Rattle.tp_schedule.specs.Planning.Deed.{replied};
 ghost use Rattle.tp_schedule.specs.declared.parts.Origin.TheVariants.{Feeder};
 ghost use Rattle.tp_placing.specs.Inside.{most_edges, most_points};
 ghost use Rattle.tp_search.specs.Engines.{HasFewLists, IsSameEngine, StepsOn, is_engine_for};
+ghost use Rattle.tp_search.specs.Trials.{EndsEarliest, IsNoPlan};
 ghost use Rattle.tp_search.specs.Workspaces.{IsSpentOf};
 
-use crate::answering::answer;
+use crate::answering::{answer, earliest_end};
+use crate::trying::NoPlan;
 use crate::workspace::Workspace;
 use std::alloc::Global;
 use std::marker::Model;
@@ -58,6 +60,24 @@ impl<N: Network> Engine<N> {
         ensures { result.now ≡ self.now.board }
     {
         &self.board
+    }
+
+    /// The tick at which the earliest plans of an ask end, or why there is none. No plan is made: the schedule stays as it is.
+    /// Takes no memory.
+    pub fn probe(
+        &mut self,
+        machine: &Machine,
+        schedule: &Schedule,
+        ask: &Ask,
+    ) -> Result<Tick, NoPlan>
+        requires served { IsTrue (is_engine_for self.old machine.now) }
+        requires can_ask { CanAsk machine.now schedule.now.plans ask.now }
+        ensures end { IfOk result (EndsEarliest machine.now schedule.now.plans ask.entry.now) }
+        ensures none { IfErr result
+            (IsNoPlan machine.now schedule.now.plans ask.entry.now self.old.work.nodes) }
+        ensures same { IsSameEngine N.mark_room self.old self.new }
+    {
+        earliest_end(&mut self.work, &mut self.board, machine, schedule, ask)
     }
 }
 

@@ -1,0 +1,9 @@
+-- The trial ends where the earliest plans of the whole schedule end.
+use Rattle.std.proofs.Common.{sym, subst}
+use Rattle.tp_search.specs.Trials.{EndsEarliest}
+use Rattle.tp_search.proofs.answering.earliest_end.Goals as goal
+
+pub returns-in-Ok-clause-end : goal.returns-in-Ok-clause-end
+returns-in-Ok-clause-end g c =
+    subst (EndsEarliest c.args.machine.now c.args.schedule.now.plans c.args.ask.now) (sym c.end-end.ensures)
+    (c.in-Ok.ensures.end c.args.schedule.now.plans (record { can_ask = c.requires.can; live_part = c.load.ensures.plans }))
