@@ -31,14 +31,6 @@ actions = [
 ]
 ";
 
-const HELD: &str = "resources = { rf = 'FEED' }
-locations = ['f', 't']
-modules = ['FEED']
-trays = ['t']
-feeders = { f = 'plain' }
-actions = [{ name = 'feed', module = 'FEED', from = 'f', to = 't', least = 2, most = 2, holds = [{ resource = 'rf', begin = ['start', 0], end = ['end', 0] }] }]
-";
-
 /// What may fail in a run: the numbers of the calls that are to.
 #[derive(Clone, Copy)]
 struct Failing<'a> {
@@ -85,7 +77,7 @@ type Row = (u32, &'static str, &'static [u8], Status, &'static [u8]);
 fn plans_and_refusals(rt: HostRuntime) -> Result<(), Fail> {
     let job: &[u8] = b"job j1 t plain M-:F\n";
     let planned: &[u8] = b"> job j1 t plain M-:F\nplan j1.1.1 t 3 feed 5 print2 11 out 14\n";
-    let rows: [Row; 14] = [
+    let rows: [Row; 8] = [
         (200, DUO, job, Status::Done, planned),
         (14, DUO, job, Status::Done, planned),
         (
@@ -116,12 +108,6 @@ fn plans_and_refusals(rt: HostRuntime) -> Result<(), Fail> {
             Status::Done,
             b"> job j1 t plain MM:F\nplan j1.1.1 t 3 feed 5 print 7 print 9 out 12\n",
         ),
-        (200, DUO, b"", Status::NotBuilt, b""),
-        (200, DUO, b"job j1 t plain M-:F", Status::NotBuilt, b""),
-        (200, DUO, b"job  j1 t plain M-:F\n", Status::NotBuilt, b""),
-        (200, DUO, b"job j1 x plain M-:F\n", Status::NotBuilt, b""),
-        (200, DUO, b"job j1 t glossy M-:F\n", Status::NotBuilt, b""),
-        (200, HELD, job, Status::NotBuilt, b""),
         (0, DUO, job, Status::Machine(MachineFault::Rule(4)), b""),
         (
             200,

@@ -1,18 +1,3 @@
-pub mod TableFacts
-pub mod Leasts
-pub mod Places
-pub mod WayFacts
-pub mod RowFacts
-pub mod LegFacts
-pub mod FollowFacts
-pub mod PointFacts
-pub mod AloneFacts
-pub mod FreeFacts
-pub mod TripFacts
-pub mod BoundFacts
-pub mod AnswerFacts
-pub mod ChosenFacts
-pub mod ScriptFacts
-pub mod WayTextFacts
-pub mod RunFacts
-pub mod InOrderFacts
+mod InOrderFacts
+mod RunFacts
+mod Sizes

@@ -1,30 +1,34 @@
--- What the top call knows of what it read and answered.
-use Rattle.std.proofs.Common.{◌≡◌, ℕ, ◌+◌, ◌<◌, ◌≤◌, List, [], length, Option, Some, None, sym, subst, arith}
-use Rattle.std.specs.Prelude.{IfSome}
-use Rattle.std.proofs.lemmas.List.Elements.{All-head}
-use Rattle.tp_outside.specs.Outside.{Files, file_at}
+-- What a session answered, as a run on its machine.
+use Rattle.std.proofs.Common.{◌≡◌, ℕ, List, [], Option, refl, subst, arith}
+use Rattle.std.specs.Prelude.{unwrap_or}
 use Rattle.tp_machine.specs.declared.whole.Machine.{Machine}
-use Rattle.tp_schedule.specs.Plans.{IsTimedPlan}
-use Rattle.tp_schedule.specs.declared.parts.Plan.{Plan}
-use Rattle.tp_program.specs.Causes.{OfText}
-use Rattle.tp_program.specs.Firsts.{IsAnswered, first_ask}
-use Rattle.tp_program.specs.Scripts.{IsOffForm}
-use Rattle.tp_program.specs.Words.{run_arg}
-use Rattle.tp_program.specs.declared.job.Job.{Job}
+use Rattle.tp_session.specs.Sessions.{Standing, SessionsLawful, SessionsStopLawful, Tells, start_of}
+use Rattle.tp_stream.specs.Scripts.{AnswersLine, NoRefusal, line_bytes, most_lines}
+use Rattle.tp_stream.specs.Takes.{IsReadFrom, Stops, TakesAll, place_of}
+use Rattle.tp_stream.specs.declared.stop.Stop.{Stop}
+use Rattle.tp_stream.specs.declared.stop.Stop.TheVariants.{Memory}
+use Rattle.tp_stream.proofs.TakesFacts.{read_none, takes_none}
+use Rattle.tp_program.specs.Causes.{DoneOn, StopsOn}
 
-pub of_text : (words : List (List ℕ)) (told : Option Files) (P : List ℕ → Type 0) (text name : List ℕ) → run_arg words ≡ Some name
-    → IfSome told (λ files. file_at files name ≡ Some text) → length text ≤ 1048576 → P text → OfText words told P
-of_text words told P text name named is_told fits has = record { text = text; name = name; named = named; is_told = is_told; fits = fits; has = has }
+-- what a session answered from its start
+pub done_on : (machine : Machine) (budget : Option ℕ) (left left' taken taken' : Option (List ℕ)) (start : Standing) → SessionsLawful machine budget → start ≡ start_of machine budget
+    → (bytes : List ℕ) × IsReadFrom left bytes left' × ((s : Standing) × TakesAll (AnswersLine Tells) line_bytes most_lines (place_of start 0 taken) bytes s taken')
+    → DoneOn machine (unwrap_or budget machine.budget) left left' taken taken'
+done_on machine budget left left' taken taken' start lawful e (bytes, read, (s, takes)) =
+    (bytes, read, lawful bytes taken taken' s (subst (λ x. TakesAll (AnswersLine Tells) line_bytes most_lines (place_of x 0 taken) bytes s taken') e takes))
 
--- an answer's plan has one point more than actions
-pub formed : (machine : Machine) (job : Job) (answer : Option Plan) → IsAnswered machine (first_ask job) answer → IfSome answer (λ p. length p.points ≡ length p.acts + 1)
-formed machine job None h = tt
-formed machine job (Some p) h = (All-head (IsTimedPlan machine) p [] h.0.alternative.legal.timed).one_more
+pub stops_on : (machine : Machine) (budget : Option ℕ) (left left' taken taken' : Option (List ℕ)) (start : Standing) (stop : Stop) → SessionsStopLawful machine budget → start ≡ start_of machine budget
+    → (bytes : List ℕ) × IsReadFrom left bytes left' × ((s : Standing) × Stops (AnswersLine Tells) NoRefusal line_bytes most_lines (place_of start 0 taken) bytes stop s taken')
+    → StopsOn stop machine (unwrap_or budget machine.budget) left left' taken taken'
+stops_on machine budget left left' taken taken' start stop lawful e (bytes, read, (s, stops)) =
+    (bytes, read, lawful stop bytes taken taken' s (subst (λ x. Stops (AnswersLine Tells) NoRefusal line_bytes most_lines (place_of x 0 taken) bytes stop s taken') e stops))
 
-pub long_off : (machine : Machine) (left : Option (List ℕ)) (Q : List ℕ → Type 0) → IfSome left (λ bytes. (4097 < length bytes) × Q bytes) → IfSome left (IsOffForm machine)
-long_off machine None Q h = tt
-long_off machine (Some bytes) Q h = λ job s. (let short = s.line.short in let long = h.0 in absurd (omega arith))
-
-pub off_left : (machine : Machine) (left : Option (List ℕ)) (script : List ℕ) → IfSome left (λ bytes. bytes ≡ script) → IsOffForm machine script → IfSome left (IsOffForm machine)
-off_left machine None script same off = tt
-off_left machine (Some bytes) script same off = let P : List ℕ → Type 0 = λ list. IsOffForm machine list in subst P (sym same) off
+-- where no session could be made
+pub never_began : (machine : Machine) (budget : Option ℕ) (left taken : Option (List ℕ)) → SessionsStopLawful machine budget
+    → StopsOn Memory machine (unwrap_or budget machine.budget) left left taken taken
+never_began machine budget left taken lawful = (
+  [],
+  read_none left,
+  lawful Memory [] taken taken (start_of machine budget)
+      (record { rest = []; at = place_of (start_of machine budget) 0 taken; takes = takes_none (AnswersLine Tells) line_bytes (place_of (start_of machine budget) 0 taken) []; few = omega arith; stops = refl }),
+)

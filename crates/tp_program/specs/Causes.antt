@@ -1,52 +1,57 @@
 -- What a run read and what it wrote, and when each status comes.
-use Rattle.std.specs.Prelude.{◌≡◌, ℕ, ◌<◌, ◌≤◌, true, false, List, length, Option, Some, IfSome}
+use Rattle.std.specs.Prelude.{◌≡◌, ℕ, ◌<◌, ◌≤◌, List, length, Option, Some, IfSome, unwrap_or}
 use Rattle.std.specs.Option.{IsSomeAnd}
 use Rattle.tp_outside.specs.Outside.{Files, file_at}
 use Rattle.tp_machine.specs.declared.whole.Machine.{Machine}
 use Rattle.tp_machine_text.specs.Texts.{IsMachineText}
-use Rattle.tp_program.specs.Firsts.{has_hold}
-use Rattle.tp_program.specs.Outputs.{IsOutput}
-use Rattle.tp_program.specs.Scripts.{IsOffForm}
-use Rattle.tp_program.specs.Words.{run_arg}
+use Rattle.tp_command.specs.Form.{Asked}
+use Rattle.tp_stream.specs.Takes.{IsReadFrom}
+use Rattle.tp_stream.specs.declared.stop.Stop.{Stop}
+use Rattle.tp_runs.specs.Ends.{IsAnswered, IsAnsweredTo}
+use Rattle.tp_program.specs.Requests.{run_asked}
 
--- a machine text of at most 1,048,576 bytes of which P holds; it is the one that the words name, where the shelf tells it
-pub record OfText (words : List (List ℕ)) (told : Option Files) (P : List ℕ → Type 0) : Type 0 where
+abbrev pub most_text : ℕ
+most_text = 1048576
+
+-- a machine text of at most 1,048,576 bytes of which P holds; it is the one of this name, where the shelf tells it
+pub record IsShelved (told : Option Files) (name : List ℕ) (P : List ℕ → Type 0) : Type 0 where
   pub text : List ℕ
-  pub name : List ℕ
-  pub named : run_arg words ≡ Some name
   pub is_told : IfSome told (λ files. file_at files name ≡ Some text)
-  pub fits : length text ≤ 1048576
+  pub fits : length text ≤ most_text
   pub has : P text
 
--- the words name a text of more bytes
-abbrev pub IsTooLong : List (List ℕ) → Option Files → Type 0
-IsTooLong words told = IsSomeAnd (run_arg words) (λ name. IfSome told (λ files. IsSomeAnd (file_at files name) (λ text. 1048576 < length text)))
+-- the text of this name has more bytes
+abbrev pub IsLongText : Option Files → List ℕ → Type 0
+IsLongText told name = IfSome told (λ files. IsSomeAnd (file_at files name) (λ text. most_text < length text))
 
--- the text of a machine without holds
-pub record IsPlain (text : List ℕ) : Type 0 where
-  pub machine : Machine
-  pub is_text : IsMachineText text machine
-  pub free : has_hold machine ≡ false
+-- the script that the source gave was answered on the machine, and the log was written
+abbrev pub DoneOn : Machine → ℕ → Option (List ℕ) → Option (List ℕ) → Option (List ℕ) → Option (List ℕ) → Type 0
+DoneOn machine budget left left' taken taken' = (script : List ℕ) × IsReadFrom left script left' × IsAnswered machine budget script taken taken'
 
-pub record HasHold (text : List ℕ) : Type 0 where
-  pub machine : Machine
-  pub is_text : IsMachineText text machine
-  pub holds : has_hold machine ≡ true
+-- its first lines were, up to where the run stopped
+abbrev pub StopsOn : Stop → Machine → ℕ → Option (List ℕ) → Option (List ℕ) → Option (List ℕ) → Option (List ℕ) → Type 0
+StopsOn stop machine budget left left' taken taken' = (script : List ℕ) × IsReadFrom left script left' × IsAnsweredTo machine budget stop script taken taken'
 
--- the text of a machine without holds, and bytes that ask for no job of it
-pub record IsUnknown (left : Option (List ℕ)) (text : List ℕ) : Type 0 where
-  pub machine : Machine
-  pub is_text : IsMachineText text machine
-  pub free : has_hold machine ≡ false
-  pub off_form : IfSome left (IsOffForm machine)
+module _ (words : List (List ℕ)) (told : Option Files) where
+  -- the words name a text of which P holds
+  pub record NamesText (P : List ℕ → Type 0) : Type 0 where
+    pub asked : Asked
+    pub named : run_asked words ≡ Some asked
+    pub text : IsShelved told asked.arg P
 
--- the text of a machine without holds, the bytes of the source where it tells them, and the output for them, of which P holds
-pub record Answers (left : Option (List ℕ)) (P : List ℕ → Type 0) (text : List ℕ) : Type 0 where
-  pub machine : Machine
-  pub is_text : IsMachineText text machine
-  pub free : has_hold machine ≡ false
-  pub script : List ℕ
-  pub is_script : IfSome left (λ bytes. bytes ≡ script)
-  pub output : List ℕ
-  pub is_output : IsOutput machine script output
-  pub has : P output
+  abbrev pub NamesLongText : Type 0
+  NamesLongText = IsSomeAnd (run_asked words) (λ asked. IsLongText told asked.arg)
+
+  -- the words name the text of a machine, and the run on it with the budget of the words, or else the machine's, did this
+  pub record RunsOn (Did : Machine → ℕ → Type 0) : Type 0 where
+    pub asked : Asked
+    pub named : run_asked words ≡ Some asked
+    pub machine : Machine
+    pub text : IsShelved told asked.arg (λ text. IsMachineText text machine)
+    pub did : Did machine (unwrap_or asked.budget machine.budget)
+
+  abbrev pub IsDone : Option (List ℕ) → Option (List ℕ) → Option (List ℕ) → Option (List ℕ) → Type 0
+  IsDone left left' taken taken' = RunsOn (λ machine budget. DoneOn machine budget left left' taken taken')
+
+  abbrev pub StopsBy : Stop → Option (List ℕ) → Option (List ℕ) → Option (List ℕ) → Option (List ℕ) → Type 0
+  StopsBy stop left left' taken taken' = RunsOn (λ machine budget. StopsOn stop machine budget left left' taken taken')

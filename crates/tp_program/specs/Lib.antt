@@ -1,10 +1,4 @@
-pub mod Tables
-pub mod Trips
-pub mod Ways
-pub mod Firsts
-pub mod Scripts
-pub mod Outputs
-pub mod Words
+pub mod Requests
 pub mod Statuses
 pub mod Causes
 pub mod InOrder

@@ -1,8 +1,9 @@
 -- The number and the line of each status.
-use Rattle.std.specs.Prelude.{ℕ, List, ◌++◌, codes}
+use Rattle.std.specs.Prelude.{ℕ, Bool, true, false, List, ◌++◌, codes}
 use Rattle.std.specs.Fmt.{decimal}
 use Rattle.tp_machine_text.specs.declared.text.MachineFault.{MachineFault}
 use Rattle.tp_machine_text.specs.declared.text.MachineFault.TheVariants as fault
+use Rattle.tp_program.specs.declared.status.Long.TheVariants as size
 use Rattle.tp_program.specs.declared.status.Status.{Status}
 use Rattle.tp_program.specs.declared.status.Status.TheVariants as status
 
@@ -15,7 +16,6 @@ status_number status.Shelf = 4
 status_number status.Source = 5
 status_number status.Sink = 6
 status_number (status.TooLong long) = 7
-status_number status.NotBuilt = 20
 
 abbrev pub fault_line : MachineFault → List ℕ
 fault_line fault.Memory = codes "out of memory"
@@ -31,4 +31,15 @@ status_line status.Shelf = codes "printer: cannot read the machine text"
 status_line status.Source = codes "printer: cannot read the input"
 status_line status.Sink = codes "printer: cannot write the output"
 status_line (status.TooLong long) = codes "printer: input too long"
-status_line status.NotBuilt = codes "printer: not built"
+
+-- the machine text can't be read, or is none
+abbrev pub is_of_machine : Status → Bool
+is_of_machine (status.Machine f) = true
+is_of_machine status.Shelf = true
+is_of_machine (status.TooLong size.MachineText) = true
+is_of_machine _ = false
+
+-- the run hasn't begun: nothing is written, and the script is not touched
+abbrev pub comes_before_run : Status → Bool
+comes_before_run status.Usage = true
+comes_before_run s = is_of_machine s

@@ -1,16 +1,12 @@
 //! The program over its outside.
 #![tactic(auto)]
 
-mod first;
-mod job;
+mod machine;
 mod order;
-mod output;
-mod route;
+mod request;
 mod run;
-mod script;
+mod session;
 mod status;
-mod table;
-mod words;
 
 pub use order::runs_in_order_are_answered;
 pub use run::printer_main;

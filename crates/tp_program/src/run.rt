@@ -1,59 +1,26 @@
-// A run, from the words to the bytes of the log.
-ghost use Rattle.std.specs.Prelude.{◌≡◌, ◌≢◌, ◌↔◌, ◌⊎◌, ◌++◌, ◌≤◌, ℕ, [], Some, None, false, map, length, string_bytes, IfSome, IsSome, IfOk, MatchOption};
-ghost use Rattle.tp_outside.specs.Outside.{Rises, file_at};
-ghost use Rattle.tp_outside.specs.Reading.{IsCutShort};
-ghost use Rattle.tp_machine_text.specs.Texts.{IsNotToml, IsBrokenAt};
-ghost use Rattle.tp_program.specs.Causes.{OfText, IsTooLong, IsPlain, HasHold, IsUnknown, Answers};
-ghost use Rattle.tp_program.specs.Firsts.{has_hold};
-ghost use Rattle.tp_program.specs.Outputs.{IsOutput};
-ghost use Rattle.tp_program.specs.Scripts.{IsOffForm};
-ghost use Rattle.tp_program.specs.Words.{run_arg};
+//! A run, from the words to the bytes of the log.
 
-use crate::first::plan_first;
-use crate::output::put_record;
-use crate::script::{SCRIPT_BYTES, read_script};
-use crate::words::run_arg;
+ghost use Rattle.std.specs.Prelude.{◌≡◌, ◌≢◌, ◌⊎◌, ℕ, [], Some, None, map, string_bytes, IfSome, IsSome, IsTrue};
+ghost use Rattle.tp_machine_text.specs.Texts.{IsBrokenAt, IsNotToml};
+ghost use Rattle.tp_outside.specs.Outside.{Rises, file_at};
+ghost use Rattle.tp_stream.specs.declared.stop.Stop.{Stop};
+ghost use Rattle.tp_program.specs.Causes.{IsDone, NamesLongText, NamesText, StopsBy};
+ghost use Rattle.tp_program.specs.Requests.{run_asked};
+ghost use Rattle.tp_program.specs.Statuses.{comes_before_run};
+
+use crate::machine::find_machine;
+use crate::request::read_run;
+use crate::session::run_on;
 use crate::{Long, Status};
 use std::alloc::Global;
-use tp_base::Memory;
-use tp_machine::Machine;
-use tp_machine_text::{MachineFault, read_machine};
-use tp_outside::{ReadError, Shelf, Sink, Source, read_all, read_file, write_all};
+use tp_command::WordsFault;
+use tp_machine_text::MachineFault;
+use tp_outside::{Shelf, Sink, Source};
 
-const MACHINE_BYTES: usize = 1_048_576;
-
-fn has_hold(machine: &Machine) -> bool
-    ensures { result ≡ has_hold machine.now }
-{
-    machine
-        .actions
-        .as_slice()
-        .iter()
-        .any(|action| action.holds.len() > 0)
-}
-
-/// What is written for the script, if it is of the form.
-fn answer(alloc: Global, machine: &Machine, script: &[u8]) -> Result<Option<Vec<u8>>, Memory>
-    requires free { has_hold machine.now ≡ false }
-    requires short { length script.now ≤ 4097 }
-    ensures off_form { IfOk result (λ found. MatchOption found (IsOffForm machine.now script.now) (λ text. IsOutput machine.now script.now text.items)) }
-{
-    let Some(job) = read_script(alloc, machine, script)? else {
-        return Ok(None);
-    };
-    let plan = plan_first(alloc, machine, &job)?;
-    let mut out = Vec::new(alloc);
-    out.extend_from_slice(b"> ")?;
-    out.extend_from_slice(script)?;
-    put_record(&mut out, machine, &job, &plan)?;
-    Ok(Some(out))
-}
-
-/// Runs the words over this outside: reads the machine text that they name, then the script of one
-/// job, and writes its echo and the earliest plan of its sheet, or that it has none. The first check
-/// that fails ends the run: the words; the shelf, the length and the rules of the machine text, and
-/// that it has no hold; the source; the script; the sink. Only the sink's failure leaves anything
-/// written, a first part of the text.
+/// Runs the words, given without the program's name, over this outside: reads the machine text that they name, then the
+/// script line by line, and writes the log of each event before the next line is handled. The first check that fails ends
+/// the run: the words; the shelf, the length and the rules of the machine text; then for each line the source, its length,
+/// its turn and the sink.
 pub fn printer_main<H: Shelf, S: Source, K: Sink>(
     alloc: Global,
     words: &[String],
@@ -61,66 +28,65 @@ pub fn printer_main<H: Shelf, S: Source, K: Sink>(
     source: &mut S,
     sink: &mut K,
 ) -> Status
-    // Exactly where the words aren't `run` and a name.
-    ensures usage { (result ≡ Status.Usage) ↔ (run_arg (map string_bytes words.now) ≡ None) }
+    // The words ask for no run. Want of memory may come first.
+    ensures usage { result ≡ Status.Usage → run_asked (map string_bytes words.now) ≡ None }
+    ensures used { run_asked (map string_bytes words.now) ≡ None
+        → (result ≡ Status.Usage) ⊎ (result ≡ Status.Memory) }
 
     // The machine text is too long, or is none.
-    ensures too_long { result ≡ Status.TooLong Long.MachineText → IsTooLong (map string_bytes words.now) (H.told shelf.old) }
-    ensures not_toml { result ≡ Status.Machine MachineFault.NotToml → OfText (map string_bytes words.now) (H.told shelf.old) IsNotToml }
-    ensures rule { (n : ℕ) → result ≡ Status.Machine (MachineFault.Rule n) → OfText (map string_bytes words.now) (H.told shelf.old) (IsBrokenAt n) }
+    ensures too_long { result ≡ Status.TooLong Long.MachineText
+        → NamesLongText (map string_bytes words.now) (H.told shelf.old) }
+    ensures not_toml { result ≡ Status.Machine MachineFault.NotToml
+        → NamesText (map string_bytes words.now) (H.told shelf.old) IsNotToml }
+    ensures rule { (n : ℕ) → result ≡ Status.Machine (MachineFault.Rule n)
+        → NamesText (map string_bytes words.now) (H.told shelf.old) (IsBrokenAt n) }
     ensures no_memory { result ≢ Status.Machine MachineFault.Memory }
 
-    // The machine has a hold, or the script asks for no job.
-    ensures not_built { result ≡ Status.NotBuilt → OfText (map string_bytes words.now) (H.told shelf.old) (λ text. HasHold text ⊎ IsUnknown (S.left source.old) text) }
+    // Nothing is written before the run begins, and the script is not touched.
+    ensures silent { IsTrue (comes_before_run result)
+        → (sink.new ≡ sink.old) × (source.new ≡ source.old) }
 
     // The outside failed.
     ensures shelf { result ≡ Status.Shelf → Rises (H.faults shelf.old) (H.faults shelf.new) }
-    ensures amiss { result ≡ Status.Shelf → IfSome (H.told shelf.old) (λ files. IfSome (run_arg (map string_bytes words.now)) (λ name. IsSome (file_at files name) → Rises (H.amiss shelf.old) (H.amiss shelf.new))) }
+    ensures amiss { result ≡ Status.Shelf → IfSome (H.told shelf.old) (λ files.
+        IfSome (run_asked (map string_bytes words.now)) (λ asked. IsSome (file_at files asked.arg)
+        → Rises (H.amiss shelf.old) (H.amiss shelf.new))) }
     ensures source { result ≡ Status.Source → Rises (S.faults source.old) (S.faults source.new) }
     ensures sink { result ≡ Status.Sink → Rises (K.faults sink.old) (K.faults sink.new) }
 
-    // The source failed after the machine text was read, and the sink in the echo or the record.
-    ensures after_machine { result ≡ Status.Source → OfText (map string_bytes words.now) (H.told shelf.old) IsPlain }
-    ensures part { result ≡ Status.Sink → OfText (map string_bytes words.now) (H.told shelf.old) (Answers (S.left source.old)
-        (λ text. IfSome (K.taken sink.old) (IsCutShort text (K.taken sink.new)))) }
+    // The source was read to its end, and the sink took the text of the log that answers the script's events by a lawful
+    // run on the machine.
+    ensures done { result ≡ Status.Done
+        → IsDone (map string_bytes words.now) (H.told shelf.old)
+        (S.left source.old) (S.left source.new) (K.taken sink.old) (K.taken sink.new) }
+    ensures end { result ≡ Status.Done
+        → IfSome (S.left source.old) (λ _. S.left source.new ≡ Some []) }
 
-    // The source was read to its end, and the sink took the echo and the record.
-    ensures done { result ≡ Status.Done → OfText (map string_bytes words.now) (H.told shelf.old) (Answers (S.left source.old)
-        (λ text. IfSome (K.taken sink.old) (λ before. K.taken sink.new ≡ Some (before ++ text)))) }
-    ensures end { result ≡ Status.Done → IfSome (S.left source.old) (λ _. S.left source.new ≡ Some []) }
-    ensures silent { result ≢ Status.Done → result ≢ Status.Sink → K.taken sink.new ≡ K.taken sink.old }
+    // Else the sink took that text for the first lines, up to the cause.
+    ensures source_stops { result ≡ Status.Source
+        → StopsBy (map string_bytes words.now) (H.told shelf.old) Stop.Source
+        (S.left source.old) (S.left source.new) (K.taken sink.old) (K.taken sink.new) }
+    ensures sink_stops { result ≡ Status.Sink
+        → StopsBy (map string_bytes words.now) (H.told shelf.old) Stop.Sink
+        (S.left source.old) (S.left source.new) (K.taken sink.old) (K.taken sink.new) }
+    ensures line_stops { (n : ℕ) → result ≡ Status.TooLong (Long.Line n)
+        → StopsBy (map string_bytes words.now) (H.told shelf.old) (Stop.Line n)
+        (S.left source.old) (S.left source.new) (K.taken sink.old) (K.taken sink.new) }
+    ensures lines_stop { result ≡ Status.TooLong Long.Lines
+        → StopsBy (map string_bytes words.now) (H.told shelf.old) Stop.Lines
+        (S.left source.old) (S.left source.new) (K.taken sink.old) (K.taken sink.new) }
+    ensures memory_stops { result ≡ Status.Memory
+        → ((sink.new ≡ sink.old) × (source.new ≡ source.old))
+        ⊎ StopsBy (map string_bytes words.now) (H.told shelf.old) Stop.Memory
+        (S.left source.old) (S.left source.new) (K.taken sink.old) (K.taken sink.new) }
 {
-    let Some(name) = run_arg(words) else {
-        return Status::Usage;
+    let request = match read_run(alloc, words) {
+        Ok(request) => request,
+        Err(WordsFault::Memory) => return Status::Memory,
+        Err(WordsFault::Usage) => return Status::Usage,
     };
-    let text = match read_file(alloc, shelf, name, MACHINE_BYTES) {
-        Ok(text) => text,
-        Err(ReadError::Memory) => return Status::Memory,
-        Err(ReadError::Failed) => return Status::Shelf,
-        Err(ReadError::TooLong) => return Status::TooLong(Long::MachineText),
-    };
-    let machine = match read_machine(alloc, &text) {
-        Ok(machine) => machine,
-        Err(MachineFault::Memory) => return Status::Memory,
-        Err(MachineFault::NotToml) => return Status::Machine(MachineFault::NotToml),
-        Err(MachineFault::Rule(n)) => return Status::Machine(MachineFault::Rule(n)),
-    };
-    if has_hold(&machine) {
-        return Status::NotBuilt;
-    }
-    let script = match read_all(alloc, source, SCRIPT_BYTES) {
-        Ok(script) => script,
-        Err(ReadError::Memory) => return Status::Memory,
-        Err(ReadError::Failed) => return Status::Source,
-        Err(ReadError::TooLong) => return Status::NotBuilt,
-    };
-    let text = match answer(alloc, &machine, &script) {
-        Ok(Some(text)) => text,
-        Ok(None) => return Status::NotBuilt,
-        Err(Memory) => return Status::Memory,
-    };
-    match write_all(sink, &text) {
-        Ok(()) => Status::Done,
-        Err(_) => Status::Sink,
+    match find_machine(alloc, shelf, request.arg) {
+        Ok(machine) => run_on(alloc, machine, request.budget, source, sink),
+        Err(status) => status,
     }
 }

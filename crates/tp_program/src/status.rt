@@ -5,10 +5,15 @@ ghost use Rattle.tp_program.specs.Statuses.{status_number};
 use std::fmt;
 use tp_machine_text::MachineFault;
 
-/// What is too long: the machine text, with more than 1,048,576 bytes.
+/// What is too long.
 #[derive(Clone, Copy, Debug, PartialEq, Eq)]
 pub enum Long {
+    /// The machine text has more than 1,048,576 bytes.
     MachineText,
+    /// The line of this number, counted from 1, has more than 4,096 bytes without its LF.
+    Line(u64),
+    /// The script has more than 1,000,000 lines.
+    Lines,
 }
 
 /// How a run ended, with the number and the line that tell it.
@@ -28,9 +33,8 @@ pub enum Status {
     Source,
     /// The sink failed.
     Sink,
+    /// The machine text, a line or the script is longer than it may be.
     TooLong(Long),
-    /// The machine has a hold, or the script is not one line for a job of one sheet.
-    NotBuilt,
 }
 
 impl Status {
@@ -47,7 +51,6 @@ impl Status {
             Status::Source => 5,
             Status::Sink => 6,
             Status::TooLong(_) => 7,
-            Status::NotBuilt => 20,
         }
     }
 }
@@ -74,7 +77,6 @@ impl fmt::Display for Status {
             Status::Source => f.write_str("printer: cannot read the input"),
             Status::Sink => f.write_str("printer: cannot write the output"),
             Status::TooLong(_) => f.write_str("printer: input too long"),
-            Status::NotBuilt => f.write_str("printer: not built"),
         }
     }
 }

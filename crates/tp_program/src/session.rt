@@ -1,0 +1,80 @@
+//! A script answered on a machine.
+
+ghost use Rattle.std.specs.Prelude.{◌≡◌, ℕ, [], Some, IfErr, IfSome, IsErrOf, IsFalse, OnOk, unwrap_or};
+ghost use Rattle.tp_outside.specs.Outside.{Rises};
+ghost use Rattle.tp_stream.specs.declared.stop.Stop.{Stop};
+ghost use Rattle.tp_program.specs.Causes.{DoneOn, StopsOn};
+ghost use Rattle.tp_program.specs.Statuses.{comes_before_run};
+
+use crate::{Long, Status};
+use std::alloc::Global;
+use tp_machine::Machine;
+use tp_outside::{Sink, Source};
+use tp_session::{Session, Settings, sessions_are_lawful};
+use tp_stream::{Stop, answer_script};
+
+/// Answers the script of the source on the machine, with this budget or else the machine's.
+fn answer_on<S: Source, K: Sink>(
+    alloc: Global,
+    machine: Machine,
+    budget: Option<u32>,
+    source: &mut S,
+    sink: &mut K,
+) -> Result<(), Stop>
+    ensures done { OnOk result (DoneOn machine (unwrap_or budget machine.budget)
+        (S.left source.old) (S.left source.new) (K.taken sink.old) (K.taken sink.new)) }
+    ensures end { OnOk result (IfSome (S.left source.old) (λ _. S.left source.new ≡ Some [])) }
+    ensures stops { IfErr result (λ stop. StopsOn stop machine (unwrap_or budget machine.budget)
+        (S.left source.old) (S.left source.new) (K.taken sink.old) (K.taken sink.new)) }
+    ensures source { IsErrOf result Stop.Source → Rises (S.faults source.old) (S.faults source.new) }
+    ensures sink { IsErrOf result Stop.Sink → Rises (K.faults sink.old) (K.faults sink.new) }
+{
+    sessions_are_lawful();
+    match Session::new(alloc, machine, Settings { budget }) {
+        Ok(session) => answer_script(alloc, session, source, sink),
+        Err(_) => Err(Stop::Memory),
+    }
+}
+
+/// Runs the script of the source on the machine, with this budget or else the machine's, and tells how the run ended.
+pub(crate) fn run_on<S: Source, K: Sink>(
+    alloc: Global,
+    machine: Machine,
+    budget: Option<u32>,
+    source: &mut S,
+    sink: &mut K,
+) -> Status
+    ensures done { result ≡ Status.Done → DoneOn machine (unwrap_or budget machine.budget)
+        (S.left source.old) (S.left source.new) (K.taken sink.old) (K.taken sink.new) }
+    ensures end { result ≡ Status.Done
+        → IfSome (S.left source.old) (λ _. S.left source.new ≡ Some []) }
+    ensures memory_stops { result ≡ Status.Memory
+        → StopsOn Stop.Memory machine (unwrap_or budget machine.budget)
+        (S.left source.old) (S.left source.new) (K.taken sink.old) (K.taken sink.new) }
+    ensures source_stops { result ≡ Status.Source
+        → StopsOn Stop.Source machine (unwrap_or budget machine.budget)
+        (S.left source.old) (S.left source.new) (K.taken sink.old) (K.taken sink.new) }
+    ensures sink_stops { result ≡ Status.Sink
+        → StopsOn Stop.Sink machine (unwrap_or budget machine.budget)
+        (S.left source.old) (S.left source.new) (K.taken sink.old) (K.taken sink.new) }
+    ensures line_stops { (n : ℕ) → result ≡ Status.TooLong (Long.Line n)
+        → StopsOn (Stop.Line n) machine (unwrap_or budget machine.budget)
+        (S.left source.old) (S.left source.new) (K.taken sink.old) (K.taken sink.new) }
+    ensures lines_stop { result ≡ Status.TooLong Long.Lines
+        → StopsOn Stop.Lines machine (unwrap_or budget machine.budget)
+        (S.left source.old) (S.left source.new) (K.taken sink.old) (K.taken sink.new) }
+    ensures source { result ≡ Status.Source → Rises (S.faults source.old) (S.faults source.new) }
+    ensures sink { result ≡ Status.Sink → Rises (K.faults sink.old) (K.faults sink.new) }
+    ensures begun { IsFalse (comes_before_run result) }
+{
+    match answer_on(alloc, machine, budget, source, sink) {
+        Ok(()) => Status::Done,
+        Err(Stop::Memory) => Status::Memory,
+        Err(Stop::Source) => Status::Source,
+        Err(Stop::Sink) => Status::Sink,
+        Err(Stop::Line(n)) => Status::TooLong(Long::Line(n)),
+        Err(Stop::Lines) => Status::TooLong(Long::Lines),
+        // No line of a script is refused.
+        Err(Stop::Refused) => unreachable!(),
+    }
+}
