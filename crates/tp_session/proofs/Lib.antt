@@ -1,2 +1,3 @@
 pub mod Lawfully
+pub mod ProbeFacts
 pub mod ToldText

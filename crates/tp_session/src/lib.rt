@@ -2,11 +2,14 @@
 #![tactic(auto)]
 
 mod laws;
+mod probe;
+mod probing;
 mod session;
 mod settings;
 mod telling;
 mod turning;
 
 pub use laws::{engines_answer_alone, sessions_are_lawful};
+pub use probe::Probe;
 pub use session::{Session, SessionOver};
 pub use settings::Settings;

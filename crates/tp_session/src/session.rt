@@ -1,11 +1,13 @@
 //! A session keeps the live part of its state alone.
 
-ghost use Rattle.std.specs.Prelude.{◌≡◌, ◌+◌, ◌<◌, ◌≤◌, ◌++◌, ℕ, List, [], OnOk, OnErr, IfOk};
+ghost use Rattle.std.specs.Prelude.{◌≡◌, ◌+◌, ◌<◌, ◌≤◌, ◌++◌, ℕ, List, [], OnOk, OnErr, IfOk, IsOk};
 ghost use Rattle.tp_placing.specs.Inside.{most_edges, most_points};
 ghost use Rattle.tp_script.specs.Printed.{IsEchoed};
 ghost use Rattle.tp_stream.specs.Scripts.{most_events};
 ghost use Rattle.tp_turn.specs.LiveStates.{seen};
 
+use crate::probe::Probe;
+use crate::probing::{first_ask, try_ask};
 use crate::settings::Settings;
 use crate::turning::take_turn;
 use std::alloc::Global;
@@ -108,6 +110,7 @@ impl<N: Network + Drop> SessionOver<N> {
 }
 
 impl<N: Network> SessionOver<N> {
+    ghost use Rattle.tp_session.specs.Probes.{Probes};
     ghost use Rattle.tp_session.specs.Sessions.{Tells};
 
     /// Does the turn of one event, and appends its text. After `Memory` all is as before, but for the board that asks are
@@ -140,6 +143,26 @@ impl<N: Network> SessionOver<N> {
                 self.state.go_back(before);
                 Err(error)
             }
+        }
+    }
+
+    /// What an ask for the first sheet of the job would give in the schedule as it stands; that a copy of the job's line waits, or that
+    /// 256 copies are live; or that the event would be refused, as one that is no job is told too. Nothing changes but the board
+    /// that asks are answered on. It takes no memory.
+    pub fn probe(&mut self, event: &Event) -> Result<Probe, Memory>
+        requires echoed { IsEchoed event.now }
+        ensures told { IfOk result (Probes self.old.standing event.now) }
+        ensures done { IsOk result }
+        ensures standing_stays { self.new.standing ≡ self.old.standing }
+        ensures text_stays { self.new.text ≡ self.old.text }
+        ensures count_stays { self.new.answered ≡ self.old.answered }
+    {
+        match first_ask(&self.machine, &self.state, event) {
+            Ok(ask) => {
+                let given = try_ask(&mut self.engine, &self.machine, &self.state.schedule, &ask);
+                Ok(given)
+            }
+            Err(told) => Ok(told),
         }
     }
 

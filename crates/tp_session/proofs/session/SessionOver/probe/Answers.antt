@@ -1,0 +1,19 @@
+-- What was told of the live part, with the engine's nodes, is told of the session.
+use Rattle.std.proofs.Common.{ℕ, subst}
+use Rattle.tp_turn.specs.LiveStates.{seen}
+use Rattle.tp_session.specs.Probes.{Probes}
+use Rattle.tp_session.proofs.ProbeFacts.{probes-behind}
+use Rattle.tp_session.proofs.session.SessionOver.probe.Goals as goal
+
+pub returns-in-Ok-clause-told : goal.returns-in-Ok-clause-told
+returns-in-Ok-clause-told g c =
+    let i = c.self.inside in
+    subst (λ v. Probes v.standing c.args.event.now c.try_ask-given.result) c.self.view_is
+    (subst (λ (nodes : ℕ). Probes (record { machine = i.machine; budget = nodes; state = seen i.state }) c.args.event.now c.try_ask-given.result) c.self.invariant.nodes
+    (probes-behind i.machine i.engine.work.nodes (seen i.state) c.args.event.now c.try_ask-given.result (c.in-Ok.ensures.asked i.engine.work.nodes c.try_ask-given.result c.try_ask-given.ensures.gives)))
+
+pub returns-in-Err-clause-told : goal.returns-in-Err-clause-told
+returns-in-Err-clause-told g c =
+    let i = c.self.inside in
+    subst (λ v. Probes v.standing c.args.event.now c.in-Err.told) c.self.view_is
+    (probes-behind i.machine i.budget (seen i.state) c.args.event.now c.in-Err.told (c.in-Err.ensures.told i.budget))
