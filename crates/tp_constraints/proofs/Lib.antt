@@ -24,3 +24,4 @@ pub mod PointTable
 pub mod Supporting
 pub mod GapPoints
 pub mod Closing
+pub mod Walking

@@ -20,7 +20,7 @@ use Rattle.tp_constraints.proofs.Placing.{put_places-push}
 use Rattle.tp_constraints.proofs.Runs.{acts-replaced}
 
 -- what stood before another still does after a hold was put in
-abbrev moved : ℕ → ℕ → ℕ
+abbrev pub moved : ℕ → ℕ → ℕ
 moved zero k = suc k
 moved (suc p) zero = 0
 moved (suc p) (suc k) = suc (moved p k)
@@ -46,6 +46,11 @@ get-here (x ∷ xs) (suc p) s le = get-here xs p s (omega arith)
 moved-before : (p : ℕ) → moved (suc p) p < suc p
 moved-before zero = omega arith
 moved-before (suc p) = let r = moved-before p in omega arith
+
+pub moved-over : (p k : ℕ) → p ≤ k → p < moved p k
+moved-over zero k le = omega arith
+moved-over (suc p) zero le = absurd (omega (arith, le))
+moved-over (suc p) (suc k) le = let r = moved-over p k (omega (arith, le)) in omega (arith, r)
 
 moved-after : (p : ℕ) → p < moved p p
 moved-after zero = omega arith
@@ -76,10 +81,10 @@ module _ (machine : Machine) (plans : List Plan) (ask : Ask) (rooms : List ℕ) 
         (subst (λ xs. slice_get xs (moved place j) ≡ Some b) (sym is) (get-moved (order_in machine plans old r) place slot j b f))
     go false is = by_order r i j a b less (subst (λ xs. slice_get xs i ≡ Some a) (sym is) e) (subst (λ xs. slice_get xs j ≡ Some b) (sym is) f)
 
-  at-place : slice_get (order_in machine plans new rule.resource.0) place ≡ Some slot
+  pub at-place : slice_get (order_in machine plans new rule.resource.0) place ≡ Some slot
   at-place = subst (λ xs. slice_get xs place ≡ Some slot) (sym order-there) (get-here (order_in machine plans old rule.resource.0) place slot le)
 
-  at-moved : (k : ℕ) (a : Slot) → slice_get (order_in machine plans old rule.resource.0) k ≡ Some a → slice_get (order_in machine plans new rule.resource.0) (moved place k) ≡ Some a
+  pub at-moved : (k : ℕ) (a : Slot) → slice_get (order_in machine plans old rule.resource.0) k ≡ Some a → slice_get (order_in machine plans new rule.resource.0) (moved place k) ≡ Some a
   at-moved k a e = subst (λ xs. slice_get xs (moved place k) ≡ Some a) (sym order-there) (get-moved (order_in machine plans old rule.resource.0) place slot k a e)
 
   before-hop : (o : Option Slot) → ((a : Slot) → o ≡ Some a → IsHop machine plans ask new (slot_hop machine rule.resource.0 a slot)) → All (IsHop machine plans ask new) (hop_after machine rule.resource.0 o slot)
@@ -101,6 +106,10 @@ module _ (machine : Machine) (plans : List Plan) (ask : Ask) (rooms : List ℕ) 
       (All-append (IsHop machine plans ask new) (hop_after machine rule.resource.0 (before_place (order_in machine plans old rule.resource.0) place) slot) (hop_until machine rule.resource.0 slot (slice_get (order_in machine plans old rule.resource.0) place))
       (before-hop (before_place (order_in machine plans old rule.resource.0) place) (λ a e. before-is place a refl e))
       (after-hop (slice_get (order_in machine plans old rule.resource.0) place) (λ a e. by_order rule.resource.0 place (moved place place) slot a (moved-after place) at-place (at-moved place a e))))
+
+  -- and before each hold behind
+  pub ahead-hops : (later : ℕ) → place ≤ later → All (IsHop machine plans ask new) (hop_until machine rule.resource.0 slot (slice_get (order_in machine plans old rule.resource.0) later))
+  ahead-hops later over = after-hop (slice_get (order_in machine plans old rule.resource.0) later) (λ a e. by_order rule.resource.0 place (moved place later) slot a (moved-over place later over) at-place (at-moved later a e))
 
 pub places_hops : PlaceHops
 places_hops machine plans ask x c choices rule place hs is next le all =

@@ -6,3 +6,4 @@ pub mod Nets
 pub mod Leasts
 pub mod Hops
 pub mod Supports
+pub mod Walks

@@ -8,6 +8,7 @@ ghost use Rattle.tp_constraints.specs.Leasts.{BoundLaw, CommitLaw, SettleLaw};
 ghost use Rattle.tp_constraints.specs.Nets.{ActionNet, BoardLate, BoardLeast, BoardSolutions, GoalNet, LoadNet, LoadedSolutions, PlaceNet, StopNet};
 ghost use Rattle.tp_constraints.specs.Numbers.{TableLaw};
 ghost use Rattle.tp_constraints.specs.Supports.{LeastIsSupported, SupportedIsLeast, UnmarkedIsLater};
+ghost use Rattle.tp_constraints.specs.Walks.{BeforeHops, BeforeNet, EarlierNet, StandHops, StandNet, StartHops, StartNet, WalkAhead, WalkLate, WalkPlace, WalkShut, WalkSolutions, WalkStart, WalkStep};
 
 /// Ticks keep a schedule's shape and its orders exactly where they keep bounds and gaps. Neighbours in an order are
 /// enough, since no hold is empty.
@@ -73,4 +74,31 @@ pub fn supports_are_least_schedules()
     ensures least { SupportedIsLeast }
     ensures supported { LeastIsSupported }
     ensures later { UnmarkedIsLater }
+{}
+
+/// The next hold may be placed by a walk from the end of its order: each step adds one gap, to the hold before which it then
+/// stands, and none is taken back. Where one leaves no ticks, its place and all before it are late.
+pub fn places_are_walks()
+    ensures start { WalkStart }
+    ensures ahead { WalkAhead }
+    ensures step { WalkStep }
+    ensures place { WalkPlace }
+    ensures late { WalkLate }
+{}
+
+/// The network of such a walk: each step adds one edge to it, and it serves all earlier places where it has no solution.
+pub fn walks_add_edges()
+    ensures start { StartNet }
+    ensures before { BeforeNet }
+    ensures stand { StandNet }
+    ensures earlier { EarlierNet }
+    ensures solutions { WalkSolutions }
+    ensures shut { WalkShut }
+{}
+
+/// Each edge of a walk is a hop that a reason may cite for its place and for each before.
+pub fn walks_are_hops()
+    ensures start { StartHops }
+    ensures before { BeforeHops }
+    ensures stand { StandHops }
 {}
