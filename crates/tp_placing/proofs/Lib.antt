@@ -48,3 +48,6 @@ pub mod LoadSlots
 pub mod LoadedTicks
 pub mod WriteSettle
 pub mod NameFacts
+pub mod SwapFacts
+pub mod WalkFacts
+pub mod BackFacts

@@ -12,13 +12,14 @@ use Rattle.tp_schedule.specs.declared.parts.Plan.{Plan}
 use Rattle.tp_constraints.specs.Laws.{IsLoadable}
 use Rattle.tp_constraints.specs.Nets.{IsBoardNet}
 use Rattle.tp_constraints.specs.Numbers.{table_of}
-use Rattle.tp_constraints.specs.Suffixes.{Suffix}
+use Rattle.tp_constraints.specs.Suffixes.{Suffix, with_place}
 use Rattle.tp_constraints.proofs.Lists.{contains-get, get-contains}
 use Rattle.tp_placing.specs.Boards.{BoardValue, BoardContent, BoardAside, content_of, aside_of, past_of}
 use Rattle.tp_placing.specs.Causes.{ArePlain, IsNamedHop, limit_tag}
-use Rattle.tp_placing.specs.Laws.{AsideKeepsEndReasons, AsideKeepsReasons, MarkKeeps, UndoKeeps}
+use Rattle.tp_placing.specs.Laws.{AsideKeepsEndReasons, AsideKeepsReasons, AsideKeepsReasonsUpTo, MarkKeeps, UndoKeeps}
 use Rattle.tp_placing.specs.Reasons.{HasEndReason, HasReason, IsEndReason, IsReason, IsShown, with_limit}
 use Rattle.tp_placing.specs.Standing.{AreCaused, AreFirsts, IsAt, IsMadeFor, StandsOn, table_with}
+use Rattle.tp_placing.specs.Walking.{HasReasonUpTo, IsPartReason}
 use Rattle.tp_placing.specs.declared.causes.Cause.TheVariants.{Limit}
 use Rattle.tp_placing.proofs.StandFacts.{and-some, some-and}
 
@@ -122,6 +123,22 @@ module _ {N A : Type 0} (aside : N → A) (refutes : N → Net → Type 0) (refu
         shown = shown-kept r.net r.shown;
       })
 
+  reasons-kept : (m : Machine) (place : ℕ) (x : Suffix) → HasReasonUpTo refutes m a place x → HasReasonUpTo refutes m b place x
+  reasons-kept m place x h =
+      let s = some-and a.ask (λ ask. (earlier : ℕ) → earlier ≤ place → IsPartReason refutes a m ask (with_place earlier x)) h in
+      and-some b.ask s.0 (λ ask. (earlier : ℕ) → earlier ≤ place → IsPartReason refutes b m ask (with_place earlier x)) (asked-kept ∙ s.1)
+      (λ earlier le.
+      let r = s.2 earlier le in
+      record {
+        net = r.net;
+        is_net = net-kept m s.0 (with_place earlier x) r.net r.is_net;
+        late = r.late;
+        part = r.part;
+        hops = hops-kept m s.0 (with_place earlier x) r.late r.hops;
+        no_limit = limit-kept ∙ r.no_limit;
+        shown = refutes_by a.net b.net r.late (sym (ap (λ (y : BoardAside A). y.net) e)) r.shown;
+      })
+
   end-reason-kept : (m : Machine) (x : Suffix) (last : ℕ) → HasEndReason refutes m a x last → HasEndReason refutes m b x last
   end-reason-kept m x last h =
       let s = some-and a.ask (λ ask. IsEndReason refutes a m ask x last) h in
@@ -140,6 +157,9 @@ module _ {N A : Type 0} (aside : N → A) (refutes : N → Net → Type 0) (refu
 
 pub keep_reasons : {N A : Type 0} (aside : N → A) (refutes : N → Net → Type 0) → ((a b : N) (late : Net) → aside a ≡ aside b → refutes a late → refutes b late) → AsideKeepsReasons aside refutes
 keep_reasons aside refutes refutes_by a b m x e = reason-kept aside refutes refutes_by a b e m x
+
+pub keep_reasons_up_to : {N A : Type 0} (aside : N → A) (refutes : N → Net → Type 0) → ((a b : N) (late : Net) → aside a ≡ aside b → refutes a late → refutes b late) → AsideKeepsReasonsUpTo aside refutes
+keep_reasons_up_to aside refutes refutes_by a b m place x e = reasons-kept aside refutes refutes_by a b e m place x
 
 pub keep_end_reasons : {N A : Type 0} (aside : N → A) (refutes : N → Net → Type 0) → ((a b : N) (late : Net) → aside a ≡ aside b → refutes a late → refutes b late) → AsideKeepsEndReasons aside refutes
 keep_end_reasons aside refutes refutes_by a b m x last e = end-reason-kept aside refutes refutes_by a b e m x last

@@ -40,7 +40,7 @@ use Rattle.tp_placing.specs.Edges.{edges_around, held_before, held_behind}
 use Rattle.tp_placing.specs.Standing.{AreCaused, choices_of, IsAtWith, IsAtHand, IsSlotOf, AreSlots, HasSmallOffsets, AreFewSteps, StandsOn, newest_in, table_with}
 use Rattle.tp_placing.specs.Boards.{BoardValue, suffix_after}
 use Rattle.tp_placing.specs.Calls.{CanPlace}
-use Rattle.tp_placing.specs.Reasons.{IsReason}
+use Rattle.tp_placing.specs.Reasons.{IsReason, IsShown}
 use Rattle.tp_placing.specs.Trying.{CanRequire, IsRefused}
 use Rattle.tp_placing.proofs.BoardFacts.{steps-room}
 use Rattle.tp_placing.proofs.CauseFacts.{AreMade, Keeps, caused-kept, caused-more, hops-more, keeps-around}
@@ -261,7 +261,7 @@ module _ {N : Type 0} (net : N → Net) (b : BoardValue N) (m : Machine) (ask : 
   abbrev pub causes_here : List Cause
   causes_here = causes_around (held_before b.held order_here place) h (held_behind b.held order_here place) (step_tag (length b.steps)) b.causes
 
-  slots-here : AreSlots points b.held order_here (order_in m b.plans suffix_here rule.resource.0)
+  pub slots-here : AreSlots points b.held order_here (order_in m b.plans suffix_here rule.resource.0)
   slots-here = p.at.orders rule.resource.0 resource
 
   pub fits-here : place ≤ length order_here
@@ -273,16 +273,16 @@ module _ {N : Type 0} (net : N → Net) (b : BoardValue N) (m : Machine) (ask : 
   few-places : length p.choice.places < 4
   few-places = let e = p.next in omega arith
 
-  start-here : slice_get points h.start.0 ≡ Some (own (suc (length p.choices)))
+  pub start-here : slice_get points h.start.0 ≡ Some (own (suc (length p.choices)))
   start-here = start-own m b.plans ask p.choice p.choices p.rooms p.stopped rule place p.is_rule b.steps (net b.net) b.orders.orders b.held h newest p.at p.hand p.some known resource p.within few-places fits-here rule_is start_is end_is
 
-  end-here : slice_get points h.end.0 ≡ Some (own (length p.choices))
+  pub end-here : slice_get points h.end.0 ≡ Some (own (length p.choices))
   end-here = end-own m b.plans ask p.choice p.choices p.rooms p.stopped rule place p.is_rule b.steps (net b.net) b.orders.orders b.held h newest p.at p.hand p.some known resource p.within few-places fits-here rule_is start_is end_is
 
   lows-points : length (net b.net).lows ≡ length points
   lows-points = ap length p.at.net.lows ∙ length-map points (suffix_low m b.plans ask suffix_here)
 
-  can-points : All (CanRequire (length points)) edges_here
+  pub can-points : All (CanRequire (length points)) edges_here
   can-points = can-neighbours (gap_at m rule.resource.0) points b.held order_here (order_in m b.plans suffix_here rule.resource.0) place h (step_tag (length b.steps)) slots-here p.at.small (record {
     start = slice_get_within points h.start.0 _ start-here;
     end = slice_get_within points h.end.0 _ end-here;
@@ -297,7 +297,7 @@ module _ {N : Type 0} (net : N → Net) (b : BoardValue N) (m : Machine) (ask : 
       place-refused m b.plans ask p.choice p.choices p.rooms p.stopped rule place p.is_rule b.steps (net b.net) b.orders.orders b.held h newest p.at p.hand p.some known resource p.within few-places fits-here rule_is start_is end_is
       place_net late (edges-of points edges_here can-points) none
 
-  few-here : length b.steps + 1 ≤ 330
+  pub few-here : length b.steps + 1 ≤ 330
   few-here = steps-room (kept_of ask) (length b.steps) suffix_here p.at.few_steps
 
   pub keeps-here : Keeps (length b.steps) b.causes causes_here
@@ -312,20 +312,24 @@ module _ {N : Type 0} (net : N → Net) (b : BoardValue N) (m : Machine) (ask : 
       → All (IsHop m b.plans ask (with_place place suffix_here)) (os ++ place_hops m rule.resource.0 (order_in m b.plans suffix_here rule.resource.0) place (choice_slot rule (length p.choices)))
   lift-here law os all = law m b.plans ask suffix_here p.choice p.choices rule place os refl p.is_rule p.within all
 
-  kept-here : ArePlain b.causes → AreCaused m b.plans ask b.causes b.steps (net b.net) → AreCaused m b.plans ask causes_here b.steps (net b.net)
+  pub kept-here : ArePlain b.causes → AreCaused m b.plans ask b.causes b.steps (net b.net) → AreCaused m b.plans ask causes_here b.steps (net b.net)
   kept-here plain caused = caused-kept m b.plans ask (length b.steps) b.causes causes_here b.steps (net b.net) keeps-here (omega arith) caused
 
-  pub reason-here : (refutes : N → Net → Type 0) (k : N) → PlaceNet → PlaceHops → ArePlain b.causes → AreCaused m b.plans ask b.causes b.steps (net b.net) → IsRefused refutes k (net b.net) edges_here
+  pub reason-shown : (refutes : N → Net → Type 0) (k : N) → PlaceNet → PlaceHops → ArePlain b.causes → AreCaused m b.plans ask b.causes b.steps (net b.net) → IsShown refutes k (with_edges (net b.net) edges_here)
       → IsReason refutes (record b { net = k; causes = causes_here; limit = None }) m ask (with_place place suffix_here)
-  reason-here refutes k place_net law plain caused refused = record {
+  reason-shown refutes k place_net law plain caused shown = record {
     net = with_edges (net b.net) edges_here;
     is_net = place-net m b.plans ask p.choice p.choices p.rooms p.stopped rule place p.is_rule b.steps (net b.net) b.orders.orders b.held h newest p.at p.hand p.some known resource p.within few-places fits-here rule_is start_is end_is
         place_net (edges-of points edges_here can-points);
     hops = hops-more m b.plans ask suffix_here (with_place place suffix_here) (length b.steps + 1) causes_here (net b.net).edges edges_here _
         (subst (λ y. All (IsNamedHop m b.plans ask y causes_here) (net b.net).edges) (ap choices_of p.suffix) (kept-here plain caused).hops) (made-here plain) (lift-here law);
     no_limit = refl;
-    shown = shown-edges refutes k (net b.net) edges_here refused;
+    shown = shown;
   }
+
+  pub reason-here : (refutes : N → Net → Type 0) (k : N) → PlaceNet → PlaceHops → ArePlain b.causes → AreCaused m b.plans ask b.causes b.steps (net b.net) → IsRefused refutes k (net b.net) edges_here
+      → IsReason refutes (record b { net = k; causes = causes_here; limit = None }) m ask (with_place place suffix_here)
+  reason-here refutes k place_net law plain caused refused = reason-shown refutes k place_net law plain caused (shown-edges refutes k (net b.net) edges_here refused)
 
   pub caused-here : PlaceHops → ArePlain b.causes → AreCaused m b.plans ask b.causes b.steps (net b.net) → (s : Step) → suffix_after (b.steps ++ s ∷ []) ≡ Some (with_place place suffix_here)
       → AreCaused m b.plans ask causes_here (b.steps ++ s ∷ []) (with_edges (net b.net) edges_here)

@@ -87,7 +87,7 @@ after-gap : (g : ℕ) (table : List Spot) (held : List Held) (o : Option Held) (
 after-gap g table held o q h s none a b c tag = refl
 after-gap g table held o q h s (some k r x y z) a b c tag = ap (λ e. e ∷ []) (hold-gap g table k h r s x y z a b c tag)
 
-until-gap : (g : ℕ) (table : List Spot) (held : List Held) (o : Option Held) (q : Option Slot) (h : Held) (s : Slot) → AtPlace table held o q → h.rule ≡ s.rule → slice_get table h.start.0 ≡ Some s.from → slice_get table h.end.0 ≡ Some s.to
+pub until-gap : (g : ℕ) (table : List Spot) (held : List Held) (o : Option Held) (q : Option Slot) (h : Held) (s : Slot) → AtPlace table held o q → h.rule ≡ s.rule → slice_get table h.start.0 ≡ Some s.from → slice_get table h.end.0 ≡ Some s.to
     → (tag : ℕ) → map (gap_by table) (edge_until g h o tag) ≡ gap_until g s q
 until-gap g table held o q h s none a b c tag = refl
 until-gap g table held o q h s (some k r x y z) a b c tag = ap (λ e. e ∷ []) (hold-gap g table h k s r a b c x y z tag)

@@ -111,7 +111,7 @@ module _ (machine : Machine) (plans : List Plan) (count : ℕ) (held : List Held
       hop-gap plans count causes (hold_edge (gap_at machine resource) k h tag) (All-head (IsEdgeOf table) (hold_edge (gap_at machine resource) k h tag) [] known) ∙ (λ i. hop (kind i) (hold-gap (gap_at machine resource) table k h a s x y z rule start end tag i)) in
       ap (λ g. g ∷ []) one
 
-  until-hop : (o : Option Held) (q : Option Slot) (tag : ℕ) → AtPlace table held o q → ((y : Held) → o ≡ Some y → slice_get causes tag ≡ Some (cause_between h y))
+  pub until-hop : (o : Option Held) (q : Option Slot) (tag : ℕ) → AtPlace table held o q → ((y : Held) → o ≡ Some y → slice_get causes tag ≡ Some (cause_between h y))
       → All (IsEdgeOf table) (edge_until (gap_at machine resource) h o tag) → map (hop_by plans causes) (edge_until (gap_at machine resource) h o tag) ≡ hop_until machine resource s q
   until-hop o q tag none cause known = refl
   until-hop o q tag (some k a x y z) cause known =

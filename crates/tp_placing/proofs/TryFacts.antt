@@ -28,6 +28,10 @@ edge-at net before es i e is within read =
 pub not-late : (net : Net) → HasNoSolution net → HasLeast net → ⊥
 not-late net none least = none least.0 least.1.solution
 
+-- some edges more, and then others
+pub edges-twice : (net : Net) (es others : List Edge) → with_edges (with_edges net es) others ≡ with_edges net (es ++ others)
+edges-twice net es others = ap (λ all. record { lows = net.lows; caps = net.caps; edges = all }) (append_assoc net.edges es others)
+
 -- a point that is raised at once is a point with that low
 pub raised-point : (net : Net) (low cap p : ℕ) → p ≡ length net.lows → with_low (with_point net 0 cap) p low ≡ with_point net low cap
 raised-point net low cap p e = ap (λ ls. record { lows = ls; caps = net.caps ++ cap ∷ []; edges = net.edges }) (set-last net.lows p e)

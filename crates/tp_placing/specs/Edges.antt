@@ -41,6 +41,10 @@ edge_until gap h (Some y) tag = hold_edge gap h y tag ∷ []
 abbrev pub edges_around : ℕ → Option Held → Held → Option Held → ℕ → List Edge
 edges_around gap before h behind tag = edge_after gap before h tag ++ edge_until gap h behind (tag + 1)
 
+-- the same, that to the hold behind first
+abbrev pub edges_back : ℕ → Option Held → Held → Option Held → ℕ → List Edge
+edges_back gap before h behind tag = edge_until gap h behind (tag + 1) ++ edge_after gap before h tag
+
 -- the holds that stand before and behind a place of an order
 abbrev pub held_of : List Held → Option ℕ → Option Held
 held_of held None = None

@@ -9,6 +9,7 @@ use Rattle.tp_placing.specs.Boards.{BoardValue, content_of, aside_of, past_of}
 use Rattle.tp_placing.specs.Causes.{numbered}
 use Rattle.tp_placing.specs.Reasons.{HasReason, HasEndReason}
 use Rattle.tp_placing.specs.Standing.{Stands, table_with}
+use Rattle.tp_placing.specs.Walking.{HasReasonUpTo}
 
 module _ {N C A : Type 0} (net : N → Net) (content : N → C) (past : N → List C) (aside : N → A) where
   -- a board that stands on a machine stands on it after a mark
@@ -28,6 +29,10 @@ AsideKeepsReasons {N} aside refutes = (a b : BoardValue N) (machine : Machine) (
 abbrev pub AsideKeepsEndReasons : {N A : Type 0} → (N → A) → (N → Net → Type 0) → Type 0
 AsideKeepsEndReasons {N} aside refutes =
     (a b : BoardValue N) (machine : Machine) (x : Suffix) (last : ℕ) → aside_of aside b ≡ aside_of aside a → HasEndReason refutes machine a x last → HasEndReason refutes machine b x last
+
+abbrev pub AsideKeepsReasonsUpTo : {N A : Type 0} → (N → A) → (N → Net → Type 0) → Type 0
+AsideKeepsReasonsUpTo {N} aside refutes =
+    (a b : BoardValue N) (machine : Machine) (place : ℕ) (x : Suffix) → aside_of aside b ≡ aside_of aside a → HasReasonUpTo refutes machine a place x → HasReasonUpTo refutes machine b place x
 
 -- the points of a table have their numbers
 abbrev pub TablesAreNumbered : Type 0

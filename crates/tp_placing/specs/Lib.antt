@@ -12,3 +12,4 @@ pub mod Standing
 pub mod Writing
 pub mod Loaded
 pub mod Reasons
+pub mod Walking

@@ -1,4 +1,4 @@
-ghost use Rattle.tp_placing.specs.Laws.{AsideKeepsEndReasons, AsideKeepsReasons, MarkKeeps, TablesAreNumbered, UndoKeeps};
+ghost use Rattle.tp_placing.specs.Laws.{AsideKeepsEndReasons, AsideKeepsReasons, AsideKeepsReasonsUpTo, MarkKeeps, TablesAreNumbered, UndoKeeps};
 
 use tp_base::Network;
 
@@ -8,6 +8,7 @@ pub fn marks_keep_boards<N: Network>()
     ensures mark { MarkKeeps N.net N.content N.past N.aside }
     ensures back { UndoKeeps N.net N.content N.past N.aside }
     ensures reasons { AsideKeepsReasons N.aside N.refutes }
+    ensures reasons_up_to { AsideKeepsReasonsUpTo N.aside N.refutes }
     ensures end_reasons { AsideKeepsEndReasons N.aside N.refutes }
 {}
 

@@ -27,9 +27,11 @@ mod reasons;
 mod settling;
 mod trying;
 mod undoing;
+mod walking;
 mod writing;
 
 pub use board::Board;
 pub use laws::{marks_keep_boards, tables_are_numbered};
 pub use names::{Grip, Spot, Why};
 pub use parts::MadeFor;
+pub use walking::Refused;

@@ -26,8 +26,8 @@ fn held_at(lines: &Timelines, held: &[Held], resource: ResId, place: u32) -> Opt
 /// The holds before and behind a place of an order.
 #[derive(Clone, Copy)]
 pub(crate) struct Neighbours {
-    before: Option<Held>,
-    behind: Option<Held>,
+    pub(crate) before: Option<Held>,
+    pub(crate) behind: Option<Held>,
 }
 
 /// The holds before and behind a place of a resource's order.

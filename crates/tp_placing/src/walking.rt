@@ -1,0 +1,211 @@
+//! Places of a hold, tried from the end of its order to the front.
+ghost use Rattle.std.specs.Prelude.{◌≡◌, ◌+◌, ◌^◌, ◌<◌, ◌≤◌, All, length, IsSomeAnd, OnOk, OnErr, IfErr, Some};
+ghost use Rattle.tp_base.specs.Net.{HasLeast, HasNoSolution};
+ghost use Rattle.tp_constraints.specs.Numbers.{with_edges};
+ghost use Rattle.tp_constraints.specs.Suffixes.{with_place};
+ghost use Rattle.tp_placing.specs.Boards.{past_of, suffix_of};
+ghost use Rattle.tp_placing.specs.Calls.{CanPlace, HasNoTimes, HasTimes, IsSameLoad};
+ghost use Rattle.tp_placing.specs.Edges.{edge_after, edge_until, edges_back};
+ghost use Rattle.tp_placing.specs.Reasons.{HasReason};
+ghost use Rattle.tp_placing.specs.Standing.{Stands};
+ghost use Rattle.tp_placing.specs.Trying.{CanRequire, IsRefused};
+ghost use Rattle.tp_placing.specs.Walking.{HasNoTimesUpTo, HasReasonUpTo, StandsBack};
+ghost use Rattle.tp_placing.specs.declared.walking.Refused.TheVariants.{UpToHere};
+
+use crate::board::Board;
+use crate::causes::step_tag;
+use crate::edges::following;
+use crate::neighbours::{Neighbours, neighbours_of, note_neighbours};
+use crate::parts::{Change, Held, Step};
+use tp_base::{Late, Network, PointId};
+use tp_constraints::{
+    gaps_are_hops, solutions_are_ticks, steps_add_edges, walks_add_edges, walks_are_hops,
+};
+use tp_machine::{Machine, gap_at};
+
+/// Where a hold has no times: at the place where it was tried, or there and at each place before.
+#[derive(Clone, Copy, PartialEq, Eq, Debug)]
+pub enum Refused {
+    Here,
+    UpToHere,
+}
+
+/// Requires that a hold is apart from the one behind it, if there is one.
+fn require_until<N: Network>(
+    net: &mut N,
+    gap: u32,
+    new: &Held,
+    behind: &Option<Held>,
+    tag: u32,
+) -> Result<(), Late>
+    requires can { All (CanRequire (length (N.net net.old).lows))
+        (edge_until gap new.now behind.now tag) }
+    requires spare { length (N.net net.old).edges < N.edge_room net.old }
+    requires least { HasLeast (N.net net.old) }
+    ensures added { OnOk result (N.net net.new
+        ≡ with_edges (N.net net.old) (edge_until gap new.now behind.now tag)) }
+    ensures solved { OnOk result (HasLeast (N.net net.new)) }
+    ensures late { OnErr result (HasNoSolution
+        (with_edges (N.net net.old) (edge_until gap new.now behind.now tag))) }
+    ensures refused { OnErr result (N.refutes net.new
+        (with_edges (N.net net.old) (edge_until gap new.now behind.now tag))) }
+    ensures past { N.past net.new ≡ N.past net.old }
+    ensures marks { N.mark_room net.new ≡ N.mark_room net.old }
+    ensures points { N.point_room net.new ≡ N.point_room net.old }
+    ensures edges { N.edge_room net.new ≡ N.edge_room net.old }
+{
+    match behind {
+        Some(behind) => match net.require(following(gap, new, behind, tag)) {
+            Ok(()) => Ok(()),
+            Err(Late) => Err(Late),
+        },
+        None => Ok(()),
+    }
+}
+
+/// Requires that a hold is apart from the one before it, if there is one.
+fn require_after<N: Network>(
+    net: &mut N,
+    gap: u32,
+    before: &Option<Held>,
+    new: &Held,
+    tag: u32,
+) -> Result<(), Late>
+    requires can { All (CanRequire (length (N.net net.old).lows))
+        (edge_after gap before.now new.now tag) }
+    requires spare { length (N.net net.old).edges < N.edge_room net.old }
+    requires least { HasLeast (N.net net.old) }
+    ensures added { OnOk result (N.net net.new
+        ≡ with_edges (N.net net.old) (edge_after gap before.now new.now tag)) }
+    ensures solved { OnOk result (HasLeast (N.net net.new)) }
+    ensures late { OnErr result (HasNoSolution
+        (with_edges (N.net net.old) (edge_after gap before.now new.now tag))) }
+    ensures refused { OnErr result (N.refutes net.new
+        (with_edges (N.net net.old) (edge_after gap before.now new.now tag))) }
+    ensures past { N.past net.new ≡ N.past net.old }
+    ensures marks { N.mark_room net.new ≡ N.mark_room net.old }
+    ensures points { N.point_room net.new ≡ N.point_room net.old }
+    ensures edges { N.edge_room net.new ≡ N.edge_room net.old }
+{
+    match before {
+        Some(before) => match net.require(following(gap, before, new, tag)) {
+            Ok(()) => Ok(()),
+            Err(Late) => Err(Late),
+        },
+        None => Ok(()),
+    }
+}
+
+/// Requires that a new hold is apart from the one behind it, and then from the one before it. What was required before a
+/// refusal stays.
+fn require_around<N: Network>(
+    net: &mut N,
+    neighbours: &Neighbours,
+    new: &Held,
+    gap: u32,
+    tag: u32,
+) -> Result<(), Refused>
+    requires can { All (CanRequire (length (N.net net.old).lows))
+        (edges_back gap neighbours.now.before new.now neighbours.now.behind tag) }
+    requires spare { length (N.net net.old).edges + 2 ≤ N.edge_room net.old }
+    requires least { HasLeast (N.net net.old) }
+    requires fits { tag + 1 < 2 ^ 32 }
+    ensures added { OnOk result (N.net net.new ≡ with_edges (N.net net.old)
+        (edges_back gap neighbours.now.before new.now neighbours.now.behind tag)) }
+    ensures solved { OnOk result (HasLeast (N.net net.new)) }
+    ensures late { OnErr result (HasNoSolution (with_edges (N.net net.old)
+        (edges_back gap neighbours.now.before new.now neighbours.now.behind tag))) }
+    ensures refused { OnErr result (IsRefused N.refutes net.new (N.net net.old)
+        (edges_back gap neighbours.now.before new.now neighbours.now.behind tag)) }
+    ensures late_behind { IfErr result (λ e. e ≡ UpToHere
+        → HasNoSolution (with_edges (N.net net.old)
+        (edge_until gap new.now neighbours.now.behind (tag + 1)))) }
+    ensures refused_behind { IfErr result (λ e. e ≡ UpToHere
+        → N.refutes net.new (with_edges (N.net net.old)
+        (edge_until gap new.now neighbours.now.behind (tag + 1)))) }
+    ensures past { N.past net.new ≡ N.past net.old }
+    ensures marks { N.mark_room net.new ≡ N.mark_room net.old }
+    ensures points { N.point_room net.new ≡ N.point_room net.old }
+    ensures edges { N.edge_room net.new ≡ N.edge_room net.old }
+{
+    match require_until(net, gap, new, &neighbours.behind, tag + 1) {
+        Ok(()) => match require_after(net, gap, &neighbours.before, new, tag) {
+            Ok(()) => Ok(()),
+            Err(Late) => Err(Refused::Here),
+        },
+        Err(Late) => Err(Refused::UpToHere),
+    }
+}
+
+impl<N: Network> Board<N> {
+    /// Places the next hold of the newest action as `place` does, where the caller takes a refused place back to a mark. Who
+    /// tries the places from the end of the order can stop at the first `UpToHere`.
+    pub fn try_place(&mut self, machine: &Machine, hold: u32, place: u32) -> Result<(), Refused>
+        requires stands { Stands N.net N.content N.past self.old machine.now }
+        requires next { IsSomeAnd (suffix_of self.old)
+            (λ x. CanPlace machine.now self.old.plans x hold place) }
+        // The list is the one with the place, and it has times.
+        ensures suffix { OnOk result (IsSomeAnd (suffix_of self.old)
+            (λ x. suffix_of self.new ≡ Some (with_place place x))) }
+        ensures times { OnOk result (IsSomeAnd (suffix_of self.new)
+            (HasTimes machine.now self.new)) }
+        ensures stands { OnOk result (Stands N.net N.content N.past self.new machine.now) }
+        // There are no times with it, and a reason shows that; the same for each place before.
+        ensures late { OnErr result (IsSomeAnd (suffix_of self.old)
+            (λ x. HasNoTimes machine.now self.old (with_place place x))) }
+        ensures shown { OnErr result (IsSomeAnd (suffix_of self.old)
+            (λ x. HasReason N.refutes machine.now self.new (with_place place x))) }
+        ensures late_before { IfErr result (λ e. e ≡ UpToHere
+            → IsSomeAnd (suffix_of self.old) (HasNoTimesUpTo machine.now self.old place)) }
+        ensures shown_before { IfErr result (λ e. e ≡ UpToHere
+            → IsSomeAnd (suffix_of self.old)
+            (HasReasonUpTo N.refutes machine.now self.new place)) }
+        ensures back { OnErr result
+            (StandsBack N.net N.content N.past N.aside self.new machine.now) }
+        ensures past { past_of N.past self.new ≡ past_of N.past self.old }
+        ensures loaded { IsSameLoad self.old self.new }
+        ensures marks { N.mark_room self.new.net ≡ N.mark_room self.old.net }
+    {
+        gaps_are_hops();
+        solutions_are_ticks();
+        steps_add_edges();
+        walks_add_edges();
+        walks_are_hops();
+        self.limit = None;
+        let newest = self.steps[self.steps.len() - 1];
+        let Some(act) = newest.newest else {
+            unreachable!()
+        };
+        let holds = &machine.actions.get(act.0 as u32).holds;
+        let _within = holds.len();
+        let new = Held {
+            rule: *holds.get(hold),
+            start: newest.first,
+            end: PointId(newest.first.0 - 1),
+        };
+        let neighbours = neighbours_of(&self.lines, &self.held, new.rule.resource, place);
+        let tag = step_tag(self.steps.len());
+        note_neighbours(&mut self.causes, &neighbours, &new, tag);
+        let gap = gap_at(machine, new.rule.resource);
+        match require_around(&mut self.net, &neighbours, &new, gap, tag) {
+            Ok(()) => {}
+            Err(refused) => return Err(refused),
+        }
+        let id = self.held.len() as u32;
+        let Ok(()) = self.lines.insert(new.rule.resource, place, id) else {
+            unreachable!()
+        };
+        let Ok(()) = self.held.push(new) else {
+            unreachable!()
+        };
+        let step = Step {
+            change: Change::Place { place },
+            newest: newest.newest,
+            first: newest.first,
+        };
+        let Ok(()) = self.steps.push(step) else {
+            unreachable!()
+        };
+        Ok(())
+    }
+}
