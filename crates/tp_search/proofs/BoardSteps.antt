@@ -20,6 +20,7 @@ use Rattle.tp_placing.specs.Boards.{BoardValue, BoardContent, BoardAside, conten
 use Rattle.tp_placing.specs.Calls.{IsSameLoad}
 use Rattle.tp_placing.specs.Laws.{MarkKeeps, UndoKeeps}
 use Rattle.tp_placing.specs.Standing.{Stands}
+use Rattle.tp_placing.specs.Walking.{StandsBack}
 use Rattle.tp_placing.proofs.StandFacts.{and-some, some-and}
 use Rattle.tp_search.specs.Boards.{IsBack, IsLaid, IsWayOf}
 use Rattle.tp_search.specs.States.{IsBefore}
@@ -149,6 +150,21 @@ module _ {N C A : Type 0} (net : N → Net) (content : N → C) (past : N → Li
     pub aside_same : aside_of aside b' ≡ aside_of aside b
     pub room_same : mark_room b'.net - 1 ≡ mark_room b.net - 1
 
+  -- what is taken back to a mark, where the board may stand only then
+  pub record IsSinceMark (b b' : BoardValue N) (machine : Machine) : Type 0 where
+    pub past_same : past_of past b' ≡ past_of past b
+    pub load : IsSameLoad b b'
+    pub room : mark_room b'.net - 1 ≡ mark_room b.net - 1
+    pub back : Stands net content past b machine → StandsBack net content past aside b' machine
+
+  pub since-mark : UndoKeeps net content past aside → (b b' : BoardValue N) (machine : Machine) → IsSince net content past mark_room b b' machine → IsSinceMark b b' machine
+  since-mark undoes b b' machine since = record {
+    past_same = since.past_same;
+    load = since.load;
+    room = since.room;
+    back = λ s back k there aside_same less. undoes b' back machine k there aside_same less (since.stands s);
+  }
+
   -- the load of a board is aside
   pub load-of : (a b : BoardValue N) → aside_of aside b ≡ aside_of aside a → IsSameLoad a b
   load-of a b e = record {
@@ -158,9 +174,9 @@ module _ {N C A : Type 0} (net : N → Net) (content : N → C) (past : N → Li
   }
 
   -- a board that is undone to the newest mark, which was made on another board, is as that one
-  pub undone-back : UndoKeeps net content past aside → (b0 b2 b3 : BoardValue N) (machine : Machine) (mark : ℕ) → mark ≡ length (past_of past b0) → past_of past b2 ≡ past_of past b0 ++ content_of content b0 ∷ []
-      → IsSameLoad b0 b2 → mark_room b2.net - 1 ≡ mark_room b0.net - 1 → (Stands net content past b0 machine → Stands net content past b2 machine) → IsUndone b2 b3 mark → IsBack net content past mark_room b0 b3 machine
-  undone-back undoes b0 b2 b3 machine mark number was load room stands u =
+  pub undone-mark : (b0 b2 b3 : BoardValue N) (machine : Machine) (mark : ℕ) → mark ≡ length (past_of past b0) → past_of past b2 ≡ past_of past b0 ++ content_of content b0 ∷ []
+      → IsSameLoad b0 b2 → mark_room b2.net - 1 ≡ mark_room b0.net - 1 → (Stands net content past b0 machine → StandsBack net content past aside b2 machine) → IsUndone b2 b3 mark → IsBack net content past mark_room b0 b3 machine
+  undone-mark b0 b2 b3 machine mark number was load room stands u =
       let at : slice_get (past_of past b2) mark ≡ Some (content_of content b0) = (λ i. slice_get (was i) (number i)) ∙ slice_get_last (past_of past b0) (content_of content b0) in
       let content_back : content_of content b3 ≡ content_of content b0 = same_Some (content_of content b3) (content_of content b0) (sym u.content_then ∙ at) in
       let past_back : past_of past b3 ≡ past_of past b0 = u.past_less ∙ (λ i. take (number i) (was i)) ∙ take-append_seam (past_of past b0) (content_of content b0 ∷ []) in
@@ -169,19 +185,28 @@ module _ {N C A : Type 0} (net : N → Net) (content : N → C) (past : N → Li
         same_past = past_back;
         loaded = load-trans net content past mark_room b0 b2 b3 load (load-of b2 b3 u.aside_same);
         marks = u.room_same ∙ room;
-        stands = λ s. undoes b2 b3 machine mark u.content_then u.aside_same u.past_less (stands s);
+        stands = λ s. stands s b3 mark u.content_then u.aside_same u.past_less;
       }
 
+  pub undone-back : UndoKeeps net content past aside → (b0 b2 b3 : BoardValue N) (machine : Machine) (mark : ℕ) → mark ≡ length (past_of past b0) → past_of past b2 ≡ past_of past b0 ++ content_of content b0 ∷ []
+      → IsSameLoad b0 b2 → mark_room b2.net - 1 ≡ mark_room b0.net - 1 → (Stands net content past b0 machine → Stands net content past b2 machine) → IsUndone b2 b3 mark → IsBack net content past mark_room b0 b3 machine
+  undone-back undoes b0 b2 b3 machine mark number was load room stands u =
+      undone-mark b0 b2 b3 machine mark number was load room (λ s back k there aside_same less. undoes b2 back machine k there aside_same less (stands s)) u
+
   -- what was done since a mark is taken back
+  pub mark-back : MarkKeeps net content past aside → (b0 b1 b2 b3 : BoardValue N) (machine : Machine) (mark : ℕ) → IsMarked b0 b1 mark → IsSinceMark b1 b2 machine → IsUndone b2 b3 mark
+      → IsBack net content past mark_room b0 b3 machine
+  mark-back keeps b0 b1 b2 b3 machine mark m since =
+      undone-mark b0 b2 b3 machine mark m.number (since.past_same ∙ m.past_more) (load-trans net content past mark_room b0 b1 b2 (load-of b0 b1 m.aside_same) since.load) (since.room ∙ m.room_same)
+      (λ s. since.back (keeps b0 b1 machine m.content_same m.aside_same m.past_more s))
+
   pub taken-back : MarkKeeps net content past aside → UndoKeeps net content past aside → (b0 b1 b2 b3 : BoardValue N) (machine : Machine) (mark : ℕ) → IsMarked b0 b1 mark → IsSince net content past mark_room b1 b2 machine → IsUndone b2 b3 mark
       → IsBack net content past mark_room b0 b3 machine
-  taken-back keeps undoes b0 b1 b2 b3 machine mark m since =
-      undone-back undoes b0 b2 b3 machine mark m.number (since.past_same ∙ m.past_more) (load-trans net content past mark_room b0 b1 b2 (load-of b0 b1 m.aside_same) since.load) (since.room ∙ m.room_same)
-      (λ s. since.stands (keeps b0 b1 machine m.content_same m.aside_same m.past_more s))
+  taken-back keeps undoes b0 b1 b2 b3 machine mark m since = mark-back keeps b0 b1 b2 b3 machine mark m (since-mark undoes b1 b2 machine since)
 
   -- the mark is in force until then
-  pub mark-known : (b0 b1 b2 : BoardValue N) (machine : Machine) (mark : ℕ) → IsMarked b0 b1 mark → IsSince net content past mark_room b1 b2 machine → mark < length (past_of past b2)
-  mark-known b0 b1 b2 machine mark m since = omega (arith, ap length (since.past_same ∙ m.past_more), length-append (past_of past b0) (content_of content b0 ∷ []), m.number)
+  pub mark-known : (b0 b1 b2 : BoardValue N) (mark : ℕ) → IsMarked b0 b1 mark → past_of past b2 ≡ past_of past b1 → mark < length (past_of past b2)
+  mark-known b0 b1 b2 mark m same = omega (arith, ap length (same ∙ m.past_more), length-append (past_of past b0) (content_of content b0 ∷ []), m.number)
 
   pub laid-marked : MarkKeeps net content past aside → (b b' : BoardValue N) (mark : ℕ) (machine : Machine) (ask : Ask) (goal first : State) (choices : List Choice) → IsMarked b b' mark
       → IsLaid net content past mark_room b machine ask goal first choices → IsLaid net content past mark_room b' machine ask goal first choices

@@ -19,7 +19,7 @@ use Rattle.tp_search.specs.Stores.{StoreValue, after_keep, better, entry_of, wit
 use Rattle.tp_search.specs.declared.opening.Opening.{Opening}
 use Rattle.tp_search.proofs.ChildFacts.{child-form, child-through, child_by-act, child_by-stop, open-as_many}
 use Rattle.tp_search.proofs.OpeningParts.{IsStep, opening-answered, opening-full, opening-stored}
-use Rattle.tp_search.proofs.ProgressFacts.{less-itself, less-none}
+use Rattle.tp_search.proofs.ProgressFacts.{tried-itself, tried-none}
 use Rattle.tp_search.proofs.StoreFacts.{choices-stay}
 
 -- one open child more is looked at
@@ -72,7 +72,7 @@ step-child machine plans ask p act places many = record {
   new : IsLooked (up_to act.0 places) (going p.goal (record { act = act; places = places } ∷ p.choices)) → ⊥
   new (inl is-stopped) = absurd (let e : false ≡ true = is-stopped in cc)
   new (inr (inl lower)) = omega arith
-  new (inr (inr same)) = less-itself places same.1
+  new (inr (inr same)) = tried-itself places same.1
 
 -- the stopped child is the only one that stands before the first action
 step-stop : (machine : Machine) (plans : List Plan) (ask : Ask) (p : ChoiceList) → IsStep machine plans ask p nothing (up_to 0 []) (stopping p.goal p.choices)
@@ -88,7 +88,7 @@ step-stop machine plans ask p = record {
   only l (inl (c, is)) (inr ahead) = absurd (none-ahead (subst (λ (x : ChoiceList). IsAhead 0 [] x.choices) is ahead)) where
     none-ahead : IsAhead 0 [] (c ∷ p.choices) → ⊥
     none-ahead (inl lower) = omega arith
-    none-ahead (inr same) = less-none c.places same.1
+    none-ahead (inr same) = tried-none c.places same.1
 
 -- the child of an action with these places is looked at
 pub opening-child : (machine : Machine) (plans : List Plan) (ask : Ask) (o : Opening) (s : StoreValue) (act : ActId) (places : List ℕ) (c : Stored) (b : ℕ) (complete : Bool)

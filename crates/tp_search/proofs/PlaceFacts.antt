@@ -1,6 +1,7 @@
 -- Looking at the children under some first places: those that are shut, the next place, and all places of a hold.
-use Rattle.std.proofs.Common.{◌≡◌, ◌⊎◌, inl, inr, ℕ, suc, ◌+◌, ◌<◌, ◌≤◌, IsTrue, IsSomeAnd, List, [], ◌∷◌, ◌++◌, length, Some, refl, sym, ap, subst, ◌∙◌, arith}
+use Rattle.std.proofs.Common.{◌≡◌, ◌⊎◌, inl, inr, ℕ, suc, ◌+◌, ◌<◌, ◌≤◌, IsTrue, IsSomeAnd, List, [], ◌∷◌, ◌++◌, length, Some, sym, ap, subst, ◌∙◌, arith}
 use Rattle.std.specs.Prelude.{slice_get}
+use Rattle.std.proofs.lemmas.List.{append_assoc}
 use Rattle.tp_base.specs.Net.{Net}
 use Rattle.tp_machine.specs.Using.{action_at}
 use Rattle.tp_machine.specs.declared.parts.ActId.{ActId}
@@ -11,19 +12,22 @@ use Rattle.tp_schedule.specs.Choices.{Choice, ChoiceList, IsChild, IsOpen, going
 use Rattle.tp_schedule.specs.Holding.{holds_of_act}
 use Rattle.tp_schedule.specs.declared.parts.Ask.{Ask}
 use Rattle.tp_schedule.specs.declared.parts.Plan.{Plan}
-use Rattle.tp_constraints.specs.Suffixes.{with_place}
+use Rattle.tp_schedule.specs.Spots.{Ticks}
+use Rattle.tp_constraints.specs.Suffixes.{SuffixTimes, with_place}
 use Rattle.tp_placing.specs.Boards.{BoardValue, suffix_of}
 use Rattle.tp_placing.specs.Calls.{HasNoTimes}
 use Rattle.tp_placing.specs.Standing.{order_after}
+use Rattle.tp_placing.specs.Walking.{HasNoTimesUpTo}
+use Rattle.tp_placing.proofs.StandFacts.{and-some, some-and}
 use Rattle.tp_search.specs.Boards.{IsLaid}
-use Rattle.tp_search.specs.Opening.{IsAhead, IsAtProgress, IsLess, IsLooked, IsUnder, parent_of}
+use Rattle.tp_search.specs.Opening.{IsAtProgress, IsLooked, IsUnder, parent_of}
 use Rattle.tp_search.specs.Opening.Progress.{through, up_to}
 use Rattle.tp_search.specs.Stores.{StoreValue}
 use Rattle.tp_search.specs.declared.opening.Opening.{Opening}
 use Rattle.tp_search.proofs.ChildBoards.{beyond-shut, few-shut, place-shut}
 use Rattle.tp_search.proofs.ChildFacts.{child-form}
 use Rattle.tp_search.proofs.OpeningFacts.{opening-on}
-use Rattle.tp_search.proofs.ProgressFacts.{IsBehind, all-places, deeper, first-place, next-act, next-place}
+use Rattle.tp_search.proofs.ProgressFacts.{IsAlone, IsNext, from-all, from-beyond, from-first, next-act, next-place, to-all, to-beyond, to-first}
 
 -- a choice with this action and these first places
 choice-under : (act : ActId) (places : List ℕ) (c : Choice) → c.act.0 ≡ act.0 → (rest : List ℕ) → c.places ≡ places ++ rest → c ≡ record { act = act; places = places ++ rest }
@@ -58,74 +62,81 @@ opening-shut machine plans ask o s goal olds act places parent shut opening = op
   only l child (inr (inl ahead)) = inl (inr ahead)
   only l child (inr (inr here)) = under l (child-under machine ask goal olds act places l (subst (λ p. IsChild machine ask p l) parent child) here)
 
--- before the first place of the next hold
-pub opening-first : (machine : Machine) (plans : List Plan) (ask : Ask) (o : Opening) (s : StoreValue) (act : ℕ) (places : List ℕ) → IsAtProgress machine plans ask o s (up_to act places) → IsAtProgress machine plans ask o s (up_to act (places ++ 0 ∷ []))
-opening-first machine plans ask o s act places opening =
-    opening-on machine plans ask o s (up_to act places) (up_to act (places ++ 0 ∷ [])) opening (λ l looked. deeper act places 0 l looked) (λ l child looked. inl (first-place act places l looked))
+-- a child that has these places with a next one, or alone, is stopped, or closed where none of these opens
+closed-as : (machine : Machine) (plans : List Plan) (ask : Ask) (goal : State) (olds : List Choice) (act : ActId) (all : List ℕ) (l : ChoiceList) → IsChild machine ask (going goal olds) l
+    → (c : Choice) (choices : List Choice) → l.choices ≡ c ∷ choices → c.act.0 ≡ act.0 → c.places ≡ all → (IsOpen machine plans ask (going goal (record { act = act; places = all } ∷ olds)) → ⊥)
+    → IsTrue l.stopped ⊎ (IsOpen machine plans ask l → ⊥)
+closed-as machine plans ask goal olds act all l child c choices newest same starts shut = go (child-form child) where
+  go : ((d : Choice) × (l ≡ going goal (d ∷ olds))) ⊎ (l ≡ stopping goal olds) → IsTrue l.stopped ⊎ (IsOpen machine plans ask l → ⊥)
+  go (inl (d, is)) =
+      let first : d ∷ olds ≡ c ∷ choices = sym (ap (λ (x : ChoiceList). x.choices) is) ∙ newest in
+      let d-is : d ≡ c = cc in
+      let act_same : c.act ≡ act = ap {B = ActId} (λ n. record { 0 = n }) same in
+      let now : d ≡ record { act = act; places = all } = d-is ∙ (λ i. record { act = act_same i; places = starts i }) in
+      inr (λ opens. shut (subst (λ e. IsOpen machine plans ask (going goal (e ∷ olds))) now (subst (IsOpen machine plans ask) is opens)))
+  go (inr is) = inl (ap (λ (x : ChoiceList). x.stopped) is)
 
--- and from one place to the next
+next-shut : (machine : Machine) (plans : List Plan) (ask : Ask) (goal : State) (olds : List Choice) (act : ActId) (places : List ℕ) (P : ℕ → Type 0)
+    → ((k : ℕ) (rest : List ℕ) → P k → IsOpen machine plans ask (going goal (record { act = act; places = places ++ k ∷ rest } ∷ olds)) → ⊥)
+    → (l : ChoiceList) → IsChild machine ask (going goal olds) l → IsNext P act.0 places l → IsTrue l.stopped ⊎ (IsOpen machine plans ask l → ⊥)
+next-shut machine plans ask goal olds act places P shut l child next =
+    closed-as machine plans ask goal olds act (places ++ next.place ∷ next.rest) l child next.choice next.choices next.newest next.same next.starts (shut next.place next.rest next.is)
+
+alone-shut : (machine : Machine) (plans : List Plan) (ask : Ask) (goal : State) (olds : List Choice) (act : ActId) (places : List ℕ)
+    → (IsOpen machine plans ask (going goal (record { act = act; places = places } ∷ olds)) → ⊥)
+    → (l : ChoiceList) → IsChild machine ask (going goal olds) l → IsAlone act.0 places l → IsTrue l.stopped ⊎ (IsOpen machine plans ask l → ⊥)
+alone-shut machine plans ask goal olds act places shut l child a = closed-as machine plans ask goal olds act places l child a.choice a.choices a.newest a.same a.alone shut
+
+-- behind the last place of the next hold, where no child opens
+pub opening-beyond : (machine : Machine) (plans : List Plan) (ask : Ask) (o : Opening) (s : StoreValue) (goal : State) (olds : List Choice) (act : ActId) (places : List ℕ) (n : ℕ) → parent_of machine s.entries o.goal o.parent ≡ going goal olds
+    → ((k : ℕ) (rest : List ℕ) → n ≤ k → IsOpen machine plans ask (going goal (record { act = act; places = places ++ k ∷ rest } ∷ olds)) → ⊥)
+    → IsAtProgress machine plans ask o s (up_to act.0 places) → IsAtProgress machine plans ask o s (through act.0 (places ++ n ∷ []))
+opening-beyond machine plans ask o s goal olds act places n parent beyond opening =
+    opening-on machine plans ask o s (up_to act.0 places) (through act.0 (places ++ n ∷ [])) opening (from-beyond act.0 places n) (λ l child looked. elim (to-beyond act.0 places n l looked) [
+      | inl earlier ↦ inl earlier
+      | inr next ↦ (elim (next-shut machine plans ask goal olds act places (λ k. n ≤ k) beyond l (subst (λ p. IsChild machine ask p l) parent child) next) [
+        | inl is-stopped ↦ inl (inl is-stopped)
+        | inr closed ↦ inr closed
+      ])
+    ])
+
+-- from one place to the one before
 pub opening-next : (machine : Machine) (plans : List Plan) (ask : Ask) (o : Opening) (s : StoreValue) (act : ℕ) (places : List ℕ) (place : ℕ)
-    → IsAtProgress machine plans ask o s (through act (places ++ place ∷ [])) → IsAtProgress machine plans ask o s (up_to act (places ++ (place + 1) ∷ []))
+    → IsAtProgress machine plans ask o s (through act (places ++ suc place ∷ [])) → IsAtProgress machine plans ask o s (up_to act (places ++ place ∷ []))
 opening-next machine plans ask o s act places place opening =
-    let one : suc place ≡ place + 1 = omega arith in
-    subst (λ n. IsAtProgress machine plans ask o s (up_to act (places ++ n ∷ []))) one
-    (opening-on machine plans ask o s (through act (places ++ place ∷ [])) (up_to act (places ++ suc place ∷ [])) opening (λ l looked. (next-place act places place l).1 looked) (λ l child looked. inl ((next-place act places place l).0 looked)))
+    opening-on machine plans ask o s (through act (places ++ suc place ∷ [])) (up_to act (places ++ place ∷ [])) opening (λ l looked. (next-place act places place l).1 looked) (λ l child looked. inl ((next-place act places place l).0 looked))
+
+-- and to the first, where no child opens with the place or one before
+pub opening-first : (machine : Machine) (plans : List Plan) (ask : Ask) (o : Opening) (s : StoreValue) (goal : State) (olds : List Choice) (act : ActId) (places : List ℕ) (n : ℕ) → parent_of machine s.entries o.goal o.parent ≡ going goal olds
+    → ((k : ℕ) (rest : List ℕ) → k ≤ n → IsOpen machine plans ask (going goal (record { act = act; places = places ++ k ∷ rest } ∷ olds)) → ⊥)
+    → IsAtProgress machine plans ask o s (up_to act.0 (places ++ n ∷ [])) → IsAtProgress machine plans ask o s (through act.0 (places ++ 0 ∷ []))
+opening-first machine plans ask o s goal olds act places n parent shut opening =
+    opening-on machine plans ask o s (up_to act.0 (places ++ n ∷ [])) (through act.0 (places ++ 0 ∷ [])) opening (from-first act.0 places n) (λ l child looked. elim (to-first act.0 places n l looked) [
+      | inl earlier ↦ inl earlier
+      | inr next ↦ (elim (next-shut machine plans ask goal olds act places (λ k. k ≤ n) shut l (subst (λ p. IsChild machine ask p l) parent child) next) [
+        | inl is-stopped ↦ inl (inl is-stopped)
+        | inr closed ↦ inr closed
+      ])
+    ])
+
+-- where no child with these places alone opens, all were looked at
+pub opening-all : (machine : Machine) (plans : List Plan) (ask : Ask) (o : Opening) (s : StoreValue) (goal : State) (olds : List Choice) (act : ActId) (places : List ℕ) → parent_of machine s.entries o.goal o.parent ≡ going goal olds
+    → (IsOpen machine plans ask (going goal (record { act = act; places = places } ∷ olds)) → ⊥)
+    → IsAtProgress machine plans ask o s (through act.0 (places ++ 0 ∷ [])) → IsAtProgress machine plans ask o s (through act.0 places)
+opening-all machine plans ask o s goal olds act places parent few opening =
+    opening-on machine plans ask o s (through act.0 (places ++ 0 ∷ [])) (through act.0 places) opening (from-all act.0 places) (λ l child looked. elim (to-all act.0 places l looked) [
+      | inl earlier ↦ inl earlier
+      | inr is-alone ↦ (elim (alone-shut machine plans ask goal olds act places few l (subst (λ p. IsChild machine ask p l) parent child) is-alone) [
+        | inl is-stopped ↦ inl (inl is-stopped)
+        | inr closed ↦ inr closed
+      ])
+    ])
 
 -- from an action to the next
 pub opening-next_act : (machine : Machine) (plans : List Plan) (ask : Ask) (o : Opening) (s : StoreValue) (act : ℕ)
     → IsAtProgress machine plans ask o s (through act []) → IsAtProgress machine plans ask o s (up_to (act + 1) [])
 opening-next_act machine plans ask o s act opening =
     opening-on machine plans ask o s (through act []) (up_to (act + 1) []) opening (λ l looked. (next-act act l).1 looked) (λ l child looked. inl ((next-act act l).0 looked))
-
--- smaller first places with one more are smaller, or the same but for the last
-less-under : (xs ys : List ℕ) (n : ℕ) → IsLess xs (ys ++ n ∷ []) → IsLess xs ys ⊎ ((rest : List ℕ) × (xs ≡ ys ++ rest))
-less-under [] ys n less = absurd less
-less-under (x ∷ xs) [] n less = inr (x ∷ xs, refl)
-less-under (x ∷ xs) (y ∷ ys) n (inl less) = inl (inl less)
-less-under (x ∷ xs) (y ∷ ys) n (inr same) = elim (less-under xs ys n same.1) [
-  | inl less ↦ inl (inr (same.0, less))
-  | inr starts ↦ inr (starts.0, ap (λ m. m ∷ xs) same.0 ∙ ap (λ ns. y ∷ ns) starts.1)
-]
-
--- what was looked at up to a next place was so through the places before it
-shallower : (act : ℕ) (places : List ℕ) (n : ℕ) (l : ChoiceList) → IsLooked (up_to act (places ++ n ∷ [])) l → IsLooked (through act places) l
-shallower act places n l (inl is-stopped) = inl is-stopped
-shallower act places n l (inr ahead) = inr (go l.choices ahead) where
-  go : (choices : List Choice) → IsAhead act (places ++ n ∷ []) choices → IsAhead act places choices ⊎ IsUnder act places choices
-  go [] none = absurd none
-  go (c ∷ choices) (inl lower) = inl (inl lower)
-  go (c ∷ choices) (inr same) = elim (less-under c.places places n same.1) [
-    | inl less ↦ inl (inr (same.0, less))
-    | inr starts ↦ inr (same.0, starts)
-  ]
-
--- where no child with these places alone opens, nor one with a later next place, all were looked at
-opening-all : (machine : Machine) (plans : List Plan) (ask : Ask) (o : Opening) (s : StoreValue) (goal : State) (olds : List Choice) (act : ActId) (places : List ℕ) (n : ℕ) → parent_of machine s.entries o.goal o.parent ≡ going goal olds
-    → (IsOpen machine plans ask (going goal (record { act = act; places = places } ∷ olds)) → ⊥)
-    → ((k : ℕ) (rest : List ℕ) → n ≤ k → IsOpen machine plans ask (going goal (record { act = act; places = places ++ k ∷ rest } ∷ olds)) → ⊥)
-    → IsAtProgress machine plans ask o s (up_to act.0 (places ++ n ∷ [])) → IsAtProgress machine plans ask o s (through act.0 places)
-opening-all machine plans ask o s goal olds act places n parent few beyond opening = opening-on machine plans ask o s (up_to act.0 (places ++ n ∷ [])) (through act.0 places) opening (shallower act.0 places n) only where
-  closed : (c : Choice) (l : ChoiceList) → l ≡ going goal (c ∷ olds) → c.act.0 ≡ act.0 → (c.places ≡ places) ⊎ ((k : ℕ) × (rest : List ℕ) × (n ≤ k) × (c.places ≡ places ++ k ∷ rest)) → IsOpen machine plans ask l → ⊥
-  closed c l is same (inl alone) opens =
-      let act_same : c.act ≡ act = ap {B = ActId} (λ m. record { 0 = m }) same in
-      let now : c ≡ record { act = act; places = places } = λ i. record { act = act_same i; places = alone i } in
-      few (subst (λ d. IsOpen machine plans ask (going goal (d ∷ olds))) now (subst (IsOpen machine plans ask) is opens))
-  closed c l is same (inr later) opens =
-      let now : c ≡ record { act = act; places = places ++ later.0 ∷ later.1 } = choice-under act places c same (later.0 ∷ later.1) later.3 in
-      beyond later.0 later.1 later.2 (subst (λ d. IsOpen machine plans ask (going goal (d ∷ olds))) now (subst (IsOpen machine plans ask) is opens))
-
-  behind : (l : ChoiceList) → IsBehind act.0 places n l → ((c : Choice) × (l ≡ going goal (c ∷ olds))) ⊎ (l ≡ stopping goal olds) → IsLooked (up_to act.0 (places ++ n ∷ [])) l ⊎ (IsOpen machine plans ask l → ⊥)
-  behind l is-behind (inl (c, is)) =
-      let first : c ∷ olds ≡ is-behind.0 ∷ is-behind.1 = sym (ap (λ (x : ChoiceList). x.choices) is) ∙ is-behind.2 in
-      let same : c ≡ is-behind.0 = cc in
-      inr (closed c l is (ap (λ (d : Choice). d.act.0) same ∙ is-behind.3) (subst (λ (d : Choice). (d.places ≡ places) ⊎ ((k : ℕ) × (rest : List ℕ) × (n ≤ k) × (d.places ≡ places ++ k ∷ rest))) (sym same) is-behind.4))
-  behind l is-behind (inr is) = inl (inl (ap (λ (x : ChoiceList). x.stopped) is))
-
-  only : (l : ChoiceList) → IsChild machine ask (parent_of machine s.entries o.goal o.parent) l → IsLooked (through act.0 places) l → IsLooked (up_to act.0 (places ++ n ∷ [])) l ⊎ (IsOpen machine plans ask l → ⊥)
-  only l child looked = elim (all-places act.0 places n l looked) [
-    | inl earlier ↦ inl earlier
-    | inr is-behind ↦ behind l is-behind (child-form (subst (λ p. IsChild machine ask p l) parent child))
-  ]
 
 module _ {N C : Type 0} (net : N → Net) (content : N → C) (past : N → List C) (mark_room : N → ℕ) (b : BoardValue N) (machine : Machine) (ask : Ask) (goal first : State) (olds : List Choice) (act : ActId) (places : List ℕ)
     (l : IsLaid net content past mark_room b machine ask goal first (record { act = act; places = places } ∷ olds)) (rule : HoldRule) (is_rule : slice_get (holds_of_act (action_at machine act.0)) (length places) ≡ Some rule) (o : Opening) (s : StoreValue)
@@ -136,9 +147,31 @@ module _ {N C : Type 0} (net : N → Net) (content : N → C) (past : N → List
   place-late place within late opening =
       opening-shut machine b.plans ask o s goal olds act (places ++ place ∷ []) parent (λ rest opens. place-shut net content past mark_room b machine ask goal first olds act places l place rule is_rule within late rest opens) opening
 
-  -- after the last place all were looked at
-  pub places-end : (n : ℕ) → length (order_after machine b.plans (suffix_of b) rule.resource.0) < n → length places < length (holds_of_act (action_at machine act.0))
-      → IsAtProgress machine b.plans ask o s (up_to act.0 (places ++ n ∷ [])) → IsAtProgress machine b.plans ask o s (through act.0 places)
-  places-end n beyond few opening =
-      opening-all machine b.plans ask o s goal olds act places n parent (λ opens. few-shut net content past mark_room b machine ask goal first olds act places l few opens)
-      (λ k rest later opens. beyond-shut net content past mark_room b machine ask goal first olds act places l k rule rest is_rule (omega arith) opens) opening
+  -- nothing lies beyond the order
+  pub places-begin : (n : ℕ) → length (order_after machine b.plans (suffix_of b) rule.resource.0) < n
+      → IsAtProgress machine b.plans ask o s (up_to act.0 places) → IsAtProgress machine b.plans ask o s (through act.0 (places ++ n ∷ []))
+  places-begin n beyond opening =
+      opening-beyond machine b.plans ask o s goal olds act places n parent
+      (λ k rest later opens. beyond-shut net content past mark_room b machine ask goal first olds act places l k rule rest is_rule (omega (arith, beyond, later)) opens) opening
+
+  -- a place that is late with all before it
+  late-at : (place earlier : ℕ) → earlier ≤ place → IsSomeAnd (suffix_of b) (HasNoTimesUpTo machine b place) → IsSomeAnd (suffix_of b) (λ x. HasNoTimes machine b (with_place earlier x))
+  late-at place earlier le late =
+      let s = some-and (suffix_of b) (HasNoTimesUpTo machine b place) late in
+      let a = some-and b.ask (λ k. (earlier : ℕ) → earlier ≤ place → (t : Ticks) → ¬ SuffixTimes machine b.plans k (with_place earlier s.0) t) s.2 in
+      and-some (suffix_of b) s.0 (λ x. HasNoTimes machine b (with_place earlier x)) s.1 (and-some b.ask a.0 (λ k. (t : Ticks) → ¬ SuffixTimes machine b.plans k (with_place earlier s.0) t) a.1 (a.2 earlier le))
+
+  pub places-shut : (place : ℕ) → place ≤ length (order_after machine b.plans (suffix_of b) rule.resource.0) → IsSomeAnd (suffix_of b) (HasNoTimesUpTo machine b place)
+      → IsAtProgress machine b.plans ask o s (up_to act.0 (places ++ place ∷ [])) → IsAtProgress machine b.plans ask o s (through act.0 (places ++ 0 ∷ []))
+  places-shut place within late opening =
+      opening-first machine b.plans ask o s goal olds act places place parent
+      (λ k rest le opens.
+      place-shut net content past mark_room b machine ask goal first olds act places l k rule is_rule (omega (arith, within, le)) (late-at place k le late) rest
+      (subst (λ ps. IsOpen machine b.plans ask (going goal (record { act = act; places = ps } ∷ olds))) (sym (append_assoc places (k ∷ []) rest)) opens))
+      opening
+
+  -- after the first place all were looked at
+  pub places-end : length places < length (holds_of_act (action_at machine act.0))
+      → IsAtProgress machine b.plans ask o s (through act.0 (places ++ 0 ∷ [])) → IsAtProgress machine b.plans ask o s (through act.0 places)
+  places-end few opening =
+      opening-all machine b.plans ask o s goal olds act places parent (λ opens. few-shut net content past mark_room b machine ask goal first olds act places l few opens) opening

@@ -25,6 +25,7 @@ use Rattle.tp_placing.specs.Boards.{BoardValue, content_of, past_of, suffix_of}
 use Rattle.tp_placing.specs.Calls.{CanPlace, HasNoTimes, IsSameLoad}
 use Rattle.tp_placing.specs.Laws.{MarkKeeps, UndoKeeps}
 use Rattle.tp_placing.specs.Standing.{Stands, order_after}
+use Rattle.tp_placing.specs.Walking.{HasNoTimesUpTo, StandsBack}
 use Rattle.tp_placing.specs.Ticks.{HasLeastTick}
 use Rattle.tp_search.specs.Boards.{HasMarks, IsBack, IsLaid}
 use Rattle.tp_search.specs.Opening.{IsAtProgress, IsFresh, IsSameOpening, Progress, opening_after, parent_of, store_after}
@@ -32,12 +33,12 @@ use Rattle.tp_search.specs.Opening.Progress.{through, up_to}
 use Rattle.tp_search.specs.Stored.{child_by, choices_by}
 use Rattle.tp_search.specs.Stores.{HasBounds, IsInRange, StoreValue}
 use Rattle.tp_search.specs.declared.opening.Opening.{Opening}
-use Rattle.tp_search.proofs.BoardSteps.{IsMarked, IsSince, IsUndone, back-trans, laid-back, laid-marked, laid-place, load-of, since-back, suffix-back, taken-back}
+use Rattle.tp_search.proofs.BoardSteps.{IsMarked, IsSince, IsSinceMark, IsUndone, back-trans, laid-back, laid-marked, laid-place, load-of, mark-back, since-back, since-mark, suffix-back}
 use Rattle.tp_search.proofs.ChildBoards.{bound-range, can-place, is-child-more, laid-bound, laid-complete, place-within}
 use Rattle.tp_search.proofs.ChildFacts.{child_by-act}
 use Rattle.tp_search.proofs.OpeningFacts.{opening-child}
 use Rattle.tp_search.proofs.OpeningSame.{before-same, opening-same, same-itself, same-trans}
-use Rattle.tp_search.proofs.PlaceFacts.{opening-next, place-late, places-end}
+use Rattle.tp_search.proofs.PlaceFacts.{opening-next, place-late, places-begin, places-end, places-shut}
 
 -- a hold's resource is one of the machine's
 pub resource-known : (machine : Machine) (act : ℕ) (a : Action) (hold : ℕ) (rule : HoldRule) → action_at machine act ≡ Some a → slice_get a.holds hold ≡ Some rule → rule.resource.0 < length machine.resources
@@ -107,7 +108,7 @@ module _ {N C A : Type 0} (net : N → Net) (content : N → C) (past : N → Li
 
   -- what holds after: the children under the place were looked at
   pub record IsTried (b3 : BoardValue N) (o2 : Opening) (s2 : StoreValue) : Type 0 where
-    pub since : IsSince net content past mark_room b2 b3 machine
+    pub since : IsSinceMark net content past aside mark_room b2 b3 machine
     pub same : IsSameOpening o1 o2 s1 s2
     pub progress : IsAtProgress machine b2.plans ask o2 s2 (through act.0 (places ++ place ∷ []))
 
@@ -179,8 +180,12 @@ module _ {N C A : Type 0} (net : N → Net) (content : N → C) (past : N → Li
         let rooms = ap (λ n. n - 1) room ∙ t.marked.room_same ∙ t.back.marks in
         omega (arith, marks)
 
+    -- a place that was refused
+    pub refused-since : (b3 : BoardValue N) → past_of past b3 ≡ past_of past b2 → IsSameLoad b2 b3 → mark_room b3.net ≡ mark_room b2.net → StandsBack net content past aside b3 machine → IsSinceMark net content past aside mark_room b2 b3 machine
+    refused-since b3 same load room back = record { past_same = same; load = load; room = ap (λ n. n - 1) room; back = λ s. back }
+
     -- the place is late
-    pub tried-late : (b3 : BoardValue N) → IsSince net content past mark_room b2 b3 machine → IsSomeAnd (suffix_of b2) (λ x. HasNoTimes machine b2 (with_place place x)) → IsTried b3 o1 s1
+    pub tried-late : (b3 : BoardValue N) → IsSinceMark net content past aside mark_room b2 b3 machine → IsSomeAnd (suffix_of b2) (λ x. HasNoTimes machine b2 (with_place place x)) → IsTried b3 o1 s1
     tried-late b3 since late = record {
       since = since;
       same = same-itself o1 s1;
@@ -188,11 +193,21 @@ module _ {N C A : Type 0} (net : N → Net) (content : N → C) (past : N → Li
           (parent-same machine ask o o1 s s1 t.same t.fresh) place within-now late progress-now;
     }
 
+    -- the place is late with all before it
+    pub shut-now : length places < length (holds_of_act (action_at machine act.0)) → IsSomeAnd (suffix_of b2) (HasNoTimesUpTo machine b2 place) → IsAtProgress machine b.plans ask o1 s1 (through act.0 places)
+    shut-now few late =
+        let plans : b2.plans ≡ b.plans = plans-now ∙ t.back.loaded.plans in
+        let parent = parent-same machine ask o o1 s s1 t.same t.fresh in
+        let olds = choices_by machine (choices_before s.entries o.parent) in
+        subst (λ ps. IsAtProgress machine ps ask o1 s1 (through act.0 places)) plans
+        (places-end net content past mark_room b2 machine ask o.goal first olds act places marked-laid rule t.is_rule o1 s1 parent few
+        (places-shut net content past mark_room b2 machine ask o.goal first olds act places marked-laid rule t.is_rule o1 s1 parent place within-now late progress-now))
+
     -- the holds behind it were placed
     pub tried-placed : (b3 b4 : BoardValue N) (o2 : Opening) (s2 : StoreValue) → IsSince net content past mark_room b2 b3 machine → IsSameOpening o1 o2 s1 s2 → IsBack net content past mark_room b3 b4 machine
         → IsAtProgress machine b3.plans ask o2 s2 (through act.0 (places ++ place ∷ [])) → IsTried b4 o2 s2
     tried-placed b3 b4 o2 s2 since same back progress = record {
-      since = since-back net content past mark_room b2 b3 b4 machine since back;
+      since = since-mark net content past aside mark_room t.undoes b2 b4 machine (since-back net content past mark_room b2 b3 b4 machine since back);
       same = same;
       progress = subst (λ ps. IsAtProgress machine ps ask o2 s2 (through act.0 (places ++ place ∷ []))) since.load.plans progress;
     }
@@ -200,22 +215,35 @@ module _ {N C A : Type 0} (net : N → Net) (content : N → C) (past : N → Li
     module _ (b3 b4 : BoardValue N) (o2 : Opening) (s2 : StoreValue) (r : IsTried b3 o2 s2) where
       -- it is taken back
       pub back-now : IsUndone net content past aside mark_room b3 b4 mark → IsBack net content past mark_room b b4 machine
-      back-now undone =
-          back-trans net content past mark_room b b1 b4 machine t.back (taken-back net content past aside mark_room t.keeps t.undoes b1 b2 b3 b4 machine mark t.marked r.since undone)
+      back-now undone = back-trans net content past mark_room b b1 b4 machine t.back (mark-back net content past aside mark_room t.keeps b1 b2 b3 b4 machine mark t.marked r.since undone)
 
       pub same-now : IsSameOpening o o2 s s2
       same-now = same-trans o o1 o2 s s1 s2 t.same r.same
 
-      at-place : IsAtProgress machine b.plans ask o2 s2 (up_to act.0 (places ++ (place + 1) ∷ []))
+      at-place : IsAtProgress machine b.plans ask o2 s2 (through act.0 (places ++ place ∷ []))
       at-place =
           let plans : b2.plans ≡ b.plans = plans-now ∙ t.back.loaded.plans in
-          opening-next machine b.plans ask o2 s2 act.0 places place (subst (λ ps. IsAtProgress machine ps ask o2 s2 (through act.0 (places ++ place ∷ []))) plans r.progress)
+          subst (λ ps. IsAtProgress machine ps ask o2 s2 (through act.0 (places ++ place ∷ []))) plans r.progress
 
-      pub next-now : IsBack net content past mark_room b b4 machine → IsAtProgress machine b4.plans ask o2 s2 (up_to act.0 (places ++ (place + 1) ∷ []))
-      next-now back = subst (λ ps. IsAtProgress machine ps ask o2 s2 (up_to act.0 (places ++ (place + 1) ∷ []))) (sym back.loaded.plans) at-place
+      -- the place before is next
+      pub next-now : (before : ℕ) → place ≡ suc before → IsBack net content past mark_room b b4 machine → IsAtProgress machine b4.plans ask o2 s2 (up_to act.0 (places ++ before ∷ []))
+      next-now before is back =
+          subst (λ ps. IsAtProgress machine ps ask o2 s2 (up_to act.0 (places ++ before ∷ []))) (sym back.loaded.plans)
+          (opening-next machine b.plans ask o2 s2 act.0 places before (subst (λ n. IsAtProgress machine b.plans ask o2 s2 (through act.0 (places ++ n ∷ []))) is at-place))
 
-      -- and the last place was tried
-      pub end-now : length (order_after machine b.plans (suffix_of b) rule.resource.0) ≤ place → length places < length (holds_of_act (action_at machine act.0)) → IsAtProgress machine b.plans ask o2 s2 (through act.0 places)
-      end-now last few =
+      -- or there is none
+      pub end-now : place ≡ 0 → length places < length (holds_of_act (action_at machine act.0)) → IsAtProgress machine b.plans ask o2 s2 (through act.0 places)
+      end-now is few =
           places-end net content past mark_room b machine ask o.goal first (choices_by machine (choices_before s.entries o.parent)) act places t.laid rule t.is_rule o2 s2
-          (parent-same machine ask o o2 s s2 same-now t.fresh) (place + 1) (omega arith) few at-place
+          (parent-same machine ask o o2 s s2 same-now t.fresh) few (subst (λ n. IsAtProgress machine b.plans ask o2 s2 (through act.0 (places ++ n ∷ []))) is at-place)
+
+-- the last place is the first that is tried
+pub begin-now : {N C : Type 0} (net : N → Net) (content : N → C) (past : N → List C) (mark_room : N → ℕ) (machine : Machine) (ask : Ask) (first : State) (act : ActId) (o : Opening) (s : StoreValue) (b : BoardValue N) (places : List ℕ) (rule : HoldRule)
+    → IsLaid net content past mark_room b machine ask o.goal first (record { act = act; places = places } ∷ choices_by machine (choices_before s.entries o.parent)) → IsFresh machine ask o s
+    → slice_get (holds_of_act (action_at machine act.0)) (length places) ≡ Some rule → (last : ℕ) → ((m : Machine) → Stands net content past b m → last ≡ length (order_after m b.plans (suffix_of b) rule.resource.0))
+    → IsAtProgress machine b.plans ask o s (up_to act.0 places) → IsAtProgress machine b.plans ask o s (up_to act.0 (places ++ last ∷ []))
+begin-now net content past mark_room machine ask first act o s b places rule laid fresh is_rule last counted progress =
+    let c = counted machine laid.stands in
+    opening-next machine b.plans ask o s act.0 places last
+    (places-begin net content past mark_room b machine ask o.goal first (choices_by machine (choices_before s.entries o.parent)) act places laid rule is_rule o s
+    (parent-same machine ask o o s s (same-itself o s) fresh) (suc last) (omega (arith, c)) progress)

@@ -29,7 +29,7 @@ use Rattle.tp_search.proofs.BoardSteps.{TheWay, the-way}
 use Rattle.tp_search.proofs.ChildBoards.{bound-range}
 use Rattle.tp_search.proofs.ChildFacts.{child-form, child_by-stop}
 use Rattle.tp_search.proofs.OpeningFacts.{opening-on, opening-stop}
-use Rattle.tp_search.proofs.ProgressFacts.{less-none}
+use Rattle.tp_search.proofs.ProgressFacts.{tried-none}
 use Rattle.tp_search.proofs.WayChildren.{stop-late}
 use Rattle.tp_search.proofs.WayLists.{first-only, way-bound, way-walk}
 use Rattle.tp_search.proofs.WaySteps.{stop-way}
@@ -43,7 +43,7 @@ stopped-can (stopped can) is = can
 pub none-ahead : (choices : List Choice) → IsAhead 0 [] choices → ⊥
 none-ahead [] none = none
 none-ahead (c ∷ choices) (inl lower) = omega arith
-none-ahead (c ∷ choices) (inr same) = less-none c.places same.1
+none-ahead (c ∷ choices) (inr same) = tried-none c.places same.1
 
 -- where no stopped child opens, it was looked at
 pub opening-going : (machine : Machine) (plans : List Plan) (ask : Ask) (o : Opening) (s : StoreValue)

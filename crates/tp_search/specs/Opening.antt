@@ -11,24 +11,24 @@ use Rattle.tp_search.specs.declared.opening.Opening.{Opening}
 use Rattle.tp_search.specs.Stored.{HasBest, child_by, choices_by, list_by, lists_by}
 use Rattle.tp_search.specs.Stores.{StoreGrows, StoreValue, after_keep}
 
--- the first places differ, and where they do those of the first list are smaller
-abbrev pub IsLess : List ℕ → List ℕ → Type 0
-IsLess [] ys = ⊥
-IsLess (x ∷ xs) [] = ⊥
-IsLess (x ∷ xs) (y ∷ ys) = (x < y) ⊎ ((x ≡ y) × IsLess xs ys)
+-- places are tried from the last to the first: the first places differ, and where they do those of the first list are greater
+abbrev pub AreTriedBefore : List ℕ → List ℕ → Type 0
+AreTriedBefore [] ys = ⊥
+AreTriedBefore (x ∷ xs) [] = ⊥
+AreTriedBefore (x ∷ xs) (y ∷ ys) = (y < x) ⊎ ((x ≡ y) × AreTriedBefore xs ys)
 
--- the newest choice has a smaller action, or this one with smaller first places
+-- the newest choice has a smaller action, or this one with first places that are tried before
 abbrev pub IsAhead : ℕ → List ℕ → List Choice → Type 0
 IsAhead act places [] = ⊥
-IsAhead act places (c ∷ choices) = (c.act.0 < act) ⊎ ((c.act.0 ≡ act) × IsLess c.places places)
+IsAhead act places (c ∷ choices) = (c.act.0 < act) ⊎ ((c.act.0 ≡ act) × AreTriedBefore c.places places)
 
 -- the newest choice has this action and these first places
 abbrev pub IsUnder : ℕ → List ℕ → List Choice → Type 0
 IsUnder act places [] = ⊥
 IsUnder act places (c ∷ choices) = (c.act.0 ≡ act) × ((rest : List ℕ) × (c.places ≡ places ++ rest))
 
--- how far the children were looked at: not at all; the stop, and the choices of smaller actions and places; or those under
--- these first places too
+-- how far the children were looked at: not at all; the stop, and the choices of smaller actions and of places that are tried
+-- before; or those under these first places too
 pub data Progress : Type 0 where
   nothing : Progress
   up_to : ℕ → List ℕ → Progress

@@ -19,7 +19,7 @@ use crate::states::{Before, state_before};
 use crate::store::Store;
 use tp_base::{Late, Network, Tick, Undo};
 use tp_machine::{ActId, Machine, State};
-use tp_placing::{Board, marks_keep_boards};
+use tp_placing::{Board, Refused, marks_keep_boards};
 use tp_pool::Choice;
 use tp_routes::Rooms;
 use tp_schedule::{Ask, Origin, is_start};
@@ -38,7 +38,8 @@ fn keep_child(store: &mut Store, opening: &mut Opening, choice: Choice, bound: T
     }
 }
 
-/// Places the holds of the newest choice, from this one on, in all ways, and keeps each child that is left.
+/// Places the holds of the newest choice, from this one on, in all ways, and keeps each child that is left. Each hold is tried
+/// from the end of its order to the front, until no place before is left.
 fn place_rest<N: Network>(
     store: &mut Store,
     opening: &mut Opening,
@@ -74,11 +75,11 @@ fn place_rest<N: Network>(
     marks_keep_boards::<N>();
     let resource = holds.get(hold).resource;
     let last = board.places(resource);
-    for place in 0..=last {
+    for place in (0..=last).rev() {
         let mark = board.mark();
         let mut placed = choice;
         placed.places[hold as usize] = place;
-        match board.place(machine, hold, place) {
+        match board.try_place(machine, hold, place) {
             Ok(()) => place_rest(
                 store,
                 opening,
@@ -91,7 +92,11 @@ fn place_rest<N: Network>(
                 hold + 1,
                 complete,
             ),
-            Err(Late) => {}
+            Err(Refused::Here) => {}
+            Err(Refused::UpToHere) => {
+                board.undo_to(mark);
+                return;
+            }
         }
         board.undo_to(mark);
     }

@@ -1,4 +1,5 @@
 use Rattle.std.proofs.Common.{◌≡◌, suc, length-set, ◌∙◌, ap, subst, sym, ◌+◌, ◌-◌, ◌<◌, ◌∷◌, length, take, length-take-le, arith, IsSomeAnd}
+use Rattle.std.specs.Prelude.{slice_get}
 use Rattle.tp_machine.specs.Using.{action_at}
 use Rattle.tp_schedule.specs.Holding.{holds_of_act}
 use Rattle.tp_placing.specs.Boards.{suffix_of}
@@ -10,10 +11,9 @@ use Rattle.tp_search.specs.Stored.{choices_by}
 use Rattle.tp_pool.specs.Entries.{choices_before}
 use Rattle.tp_search.proofs.BoardSteps.{back-itself, mark-known, since-step}
 use Rattle.tp_search.proofs.OpeningSame.{bounds-same, fresh-same, same-itself}
-use Rattle.tp_search.proofs.PlaceFacts.{opening-first}
-use Rattle.tp_search.proofs.PlaceSteps.{all-placed, back-now, end-now, kept-at, kept-same, marked-stands, may-place, next-now, next-places, placed-laid, placed-marks, placed-progress, resource-known, same-now, tried-late, tried-placed, trying, IsTried, tried-as}
+use Rattle.tp_search.proofs.PlaceSteps.{all-placed, back-now, begin-now, refused-since, shut-now, end-now, kept-at, kept-same, marked-stands, may-place, next-now, next-places, placed-laid, placed-marks, placed-progress, resource-known, same-now, tried-late, tried-placed, trying, IsTried, tried-as}
 use Rattle.tp_search.proofs.children.+place_rest.Goals as goal
-use Rattle.tp_search.proofs.children.+place_rest.Goals.{in-Ok, in-Err}
+use Rattle.tp_search.proofs.children.+place_rest.Goals.{in-Ok, in-Err-Here}
 
 pub keep_child-requires-clause-range : goal.keep_child-requires-clause-range
 keep_child-requires-clause-range g t c =
@@ -44,14 +44,19 @@ places-last-requires g t c =
     record { known = omega (arith, known, stands.1.made.1) }
 
 pub loop-place-init : goal.loop-place-init
-loop-place-init g t c = record {
-  progress = opening-first c.args.machine.now c.args.board.now.plans c.args.ask.now c.args.opening.now c.args.store.now c.args.act.0 (take c.args.hold c.args.choice.places) c.requires.progress;
-  same = same-itself c.args.opening.now c.args.store.now;
-  back = back-itself g.N.Network.net g.N.Undo.content g.N.Undo.past g.N.Undo.mark_room c.args.board.now c.args.machine.now;
-}
+loop-place-init g t c =
+    let known = ap length (ap holds_of_act c.get.ensures) in
+    let count : length (take c.args.hold c.args.choice.places) ≡ c.args.hold = length-take-le c.args.hold c.args.choice.places (omega arith) in
+    let is_rule = (λ i. slice_get (ap holds_of_act c.get.ensures i) (count i)) ∙ c.get-2.ensures in
+    record {
+      progress = begin-now g.N.Network.net g.N.Undo.content g.N.Undo.past g.N.Undo.mark_room c.args.machine.now c.args.ask.now c.args.first c.args.act c.args.opening.now c.args.store.now c.args.board.now (take c.args.hold c.args.choice.places) c.get-2.result.now
+          c.requires.laid c.requires.fresh is_rule c.places-last.result c.places-last.ensures c.requires.progress;
+      same = same-itself c.args.opening.now c.args.store.now;
+      back = back-itself g.N.Network.net g.N.Undo.content g.N.Undo.past g.N.Undo.mark_room c.args.board.now c.args.machine.now;
+    }
 
-pub place-requires-clause-stands : goal.place-requires-clause-stands
-place-requires-clause-stands g t c =
+pub try_place-requires-clause-stands : goal.try_place-requires-clause-stands
+try_place-requires-clause-stands g t c =
     let known = ap length (ap holds_of_act c.get.ensures) in
     let count : length (take c.args.hold c.args.choice.places) ≡ c.args.hold = length-take-le c.args.hold c.args.choice.places (omega arith) in
     let m = c.mark-mark.ensures in
@@ -63,8 +68,8 @@ place-requires-clause-stands g t c =
     marked-stands g.N.Network.net g.N.Undo.content g.N.Undo.past g.N.Undo.aside g.N.Undo.mark_room c.args.machine.now c.args.ask.now c.args.first c.args.act c.args.opening.now c.loop-place.opening c.args.store.now c.loop-place.store c.args.board.now c.loop-place.board c.mark-mark.new.self c.mark-mark.result.0
     (take c.args.hold c.args.choice.places) c.loop-place.place c.get-2.result.now tried
 
-pub place-requires-clause-next : goal.place-requires-clause-next
-place-requires-clause-next g t c =
+pub try_place-requires-clause-next : goal.try_place-requires-clause-next
+try_place-requires-clause-next g t c =
     let known = ap length (ap holds_of_act c.get.ensures) in
     let count : length (take c.args.hold c.args.choice.places) ≡ c.args.hold = length-take-le c.args.hold c.args.choice.places (omega arith) in
     let m = c.mark-mark.ensures in
@@ -87,21 +92,21 @@ place_rest-requires g t c κs within =
     (take c.args.hold c.args.choice.places) c.loop-place.place c.get-2.result.now
     c.get.result.now c.args.hold c.places-last.result c.marks_keep_boards.ensures.mark c.marks_keep_boards.ensures.back c.requires.laid c.requires.fresh c.get.ensures c.get-2.ensures count c.places-last.ensures (omega arith)
     v.same v.back v.progress (record { number = m.number; past_more = m.past; content_same = m.content; aside_same = m.aside; room_same = m.room }) in
-    let p = c.place.ensures in
+    let p = c.try_place.ensures in
     let put = c.in-Ok.ensures.suffix in
     let some : c.args.hold < length c.args.choice.places = omega arith in
     let next = next-places c.args.choice.places c.args.hold c.loop-place.place some in
     let olds = choices_by c.args.machine.now (choices_before c.loop-place.store.entries c.loop-place.opening.parent) in
-    let laid = subst (λ ps. IsLaid g.N.Network.net g.N.Undo.content g.N.Undo.past g.N.Undo.mark_room c.place.new.self c.args.machine.now c.args.ask.now c.loop-place.opening.goal c.args.first (record { act = c.args.act; places = ps } ∷ olds)) (sym next)
+    let laid = subst (λ ps. IsLaid g.N.Network.net g.N.Undo.content g.N.Undo.past g.N.Undo.mark_room c.try_place.new.self c.args.machine.now c.args.ask.now c.loop-place.opening.goal c.args.first (record { act = c.args.act; places = ps } ∷ olds)) (sym next)
     (placed-laid g.N.Network.net g.N.Undo.content g.N.Undo.past g.N.Undo.aside g.N.Undo.mark_room c.args.machine.now c.args.ask.now c.args.first c.args.act c.args.opening.now c.loop-place.opening c.args.store.now c.loop-place.store c.args.board.now c.loop-place.board c.mark-mark.new.self c.mark-mark.result.0
-    (take c.args.hold c.args.choice.places) c.loop-place.place c.get-2.result.now tried c.place.new.self put p.stands p.loaded) in
-    let progress = subst (λ ps. IsAtProgress c.args.machine.now c.place.new.self.plans c.args.ask.now c.loop-place.opening c.loop-place.store (up_to c.args.act.0 ps)) (sym next)
+    (take c.args.hold c.args.choice.places) c.loop-place.place c.get-2.result.now tried c.try_place.new.self put c.in-Ok.ensures.stands p.loaded) in
+    let progress = subst (λ ps. IsAtProgress c.args.machine.now c.try_place.new.self.plans c.args.ask.now c.loop-place.opening c.loop-place.store (up_to c.args.act.0 ps)) (sym next)
     (placed-progress g.N.Network.net g.N.Undo.content g.N.Undo.past g.N.Undo.aside g.N.Undo.mark_room c.args.machine.now c.args.ask.now c.args.first c.args.act c.args.opening.now c.loop-place.opening c.args.store.now c.loop-place.store c.args.board.now c.loop-place.board c.mark-mark.new.self c.mark-mark.result.0
-    (take c.args.hold c.args.choice.places) c.loop-place.place c.get-2.result.now tried c.place.new.self p.loaded) in
+    (take c.args.hold c.args.choice.places) c.loop-place.place c.get-2.result.now tried c.try_place.new.self p.loaded) in
     let more : suc (5 - (c.args.hold + 1)) ≡ 5 - c.args.hold = omega arith in
     let spare = subst (λ n. HasMarks g.N.Network.net g.N.Undo.content g.N.Undo.past g.N.Undo.mark_room n c.args.board.now) (sym more) c.requires.marks in
     let marks = placed-marks g.N.Network.net g.N.Undo.content g.N.Undo.past g.N.Undo.aside g.N.Undo.mark_room c.args.machine.now c.args.ask.now c.args.first c.args.act c.args.opening.now c.loop-place.opening c.args.store.now c.loop-place.store c.args.board.now c.loop-place.board c.mark-mark.new.self c.mark-mark.result.0
-    (take c.args.hold c.args.choice.places) c.loop-place.place c.get-2.result.now tried (5 - (c.args.hold + 1)) c.place.new.self spare p.past p.marks in (
+    (take c.args.hold c.args.choice.places) c.loop-place.place c.get-2.result.now tried (5 - (c.args.hold + 1)) c.try_place.new.self spare p.past p.marks in (
       omega arith,
       (
         within,
@@ -136,8 +141,8 @@ place_rest-requires g t c κs within =
       ),
     )
 
-pub undo_to-requires : goal.undo_to-requires
-undo_to-requires g t c =
+pub undo_to-requires-in-loop-place : goal.undo_to-requires-in-loop-place
+undo_to-requires-in-loop-place g t c =
     let known = ap length (ap holds_of_act c.get.ensures) in
     let count : length (take c.args.hold c.args.choice.places) ≡ c.args.hold = length-take-le c.args.hold c.args.choice.places (omega arith) in
     let m = c.mark-mark.ensures in
@@ -146,23 +151,25 @@ undo_to-requires g t c =
     (take c.args.hold c.args.choice.places) c.loop-place.place c.get-2.result.now
     c.get.result.now c.args.hold c.places-last.result c.marks_keep_boards.ensures.mark c.marks_keep_boards.ensures.back c.requires.laid c.requires.fresh c.get.ensures c.get-2.ensures count c.places-last.ensures (omega arith)
     v.same v.back v.progress (record { number = m.number; past_more = m.past; content_same = m.content; aside_same = m.aside; room_same = m.room }) in
-    let p = c.place.ensures in
+    let p = c.try_place.ensures in
     let some : c.args.hold < length c.args.choice.places = omega arith in
     let next = next-places c.args.choice.places c.args.hold c.loop-place.place some in
-    let since = since-step g.N.Network.net g.N.Undo.content g.N.Undo.past g.N.Undo.mark_room c.mark-mark.new.self c.place.new.self c.args.machine.now p.past p.loaded p.marks (λ s. p.stands) in
     let after : IsTried g.N.Network.net g.N.Undo.content g.N.Undo.past g.N.Undo.aside g.N.Undo.mark_room c.args.machine.now c.args.ask.now c.args.first c.args.act c.args.opening.now c.loop-place.opening c.args.store.now c.loop-place.store c.args.board.now c.loop-place.board c.mark-mark.new.self c.mark-mark.result.0
-    (take c.args.hold c.args.choice.places) c.loop-place.place c.get-2.result.now c.match-place.board c.match-place.opening c.match-place.store = elim c.match-place.branch [
+    (take c.args.hold c.args.choice.places) c.loop-place.place c.get-2.result.now c.match-try_place.board c.match-try_place.opening c.match-try_place.store = elim c.match-try_place.branch [
       | in-Ok w ↦ tried-as g.N.Network.net g.N.Undo.content g.N.Undo.past g.N.Undo.aside g.N.Undo.mark_room c.args.machine.now c.args.ask.now c.args.first c.args.act c.args.opening.now c.loop-place.opening c.args.store.now c.loop-place.store c.args.board.now c.loop-place.board c.mark-mark.new.self c.mark-mark.result.0
-          (take c.args.hold c.args.choice.places) c.loop-place.place c.get-2.result.now w.place_rest.new.board c.match-place.board w.place_rest.new.opening c.match-place.opening w.place_rest.new.store c.match-place.store w.board-is w.opening-is w.store-is
+          (take c.args.hold c.args.choice.places) c.loop-place.place c.get-2.result.now w.place_rest.new.board c.match-try_place.board w.place_rest.new.opening c.match-try_place.opening w.place_rest.new.store c.match-try_place.store w.board-is w.opening-is w.store-is
           (tried-placed g.N.Network.net g.N.Undo.content g.N.Undo.past g.N.Undo.aside g.N.Undo.mark_room c.args.machine.now c.args.ask.now c.args.first c.args.act c.args.opening.now c.loop-place.opening c.args.store.now c.loop-place.store c.args.board.now c.loop-place.board c.mark-mark.new.self c.mark-mark.result.0
-          (take c.args.hold c.args.choice.places) c.loop-place.place c.get-2.result.now tried c.place.new.self w.place_rest.new.board w.place_rest.new.opening w.place_rest.new.store since w.place_rest.ensures.same w.place_rest.ensures.back
-          (subst (λ ps. IsAtProgress c.args.machine.now c.place.new.self.plans c.args.ask.now w.place_rest.new.opening w.place_rest.new.store (through c.args.act.0 ps)) next w.place_rest.ensures.progress))
-      | in-Err w ↦ tried-as g.N.Network.net g.N.Undo.content g.N.Undo.past g.N.Undo.aside g.N.Undo.mark_room c.args.machine.now c.args.ask.now c.args.first c.args.act c.args.opening.now c.loop-place.opening c.args.store.now c.loop-place.store c.args.board.now c.loop-place.board c.mark-mark.new.self c.mark-mark.result.0
-          (take c.args.hold c.args.choice.places) c.loop-place.place c.get-2.result.now c.place.new.self c.match-place.board c.loop-place.opening c.match-place.opening c.loop-place.store c.match-place.store w.board-is w.opening-is w.store-is
+          (take c.args.hold c.args.choice.places) c.loop-place.place c.get-2.result.now tried c.try_place.new.self w.place_rest.new.board w.place_rest.new.opening w.place_rest.new.store
+          (since-step g.N.Network.net g.N.Undo.content g.N.Undo.past g.N.Undo.mark_room c.mark-mark.new.self c.try_place.new.self c.args.machine.now p.past p.loaded p.marks (λ s. w.in-Ok.ensures.stands)) w.place_rest.ensures.same w.place_rest.ensures.back
+          (subst (λ ps. IsAtProgress c.args.machine.now c.try_place.new.self.plans c.args.ask.now w.place_rest.new.opening w.place_rest.new.store (through c.args.act.0 ps)) next w.place_rest.ensures.progress))
+      | in-Err-Here w ↦ tried-as g.N.Network.net g.N.Undo.content g.N.Undo.past g.N.Undo.aside g.N.Undo.mark_room c.args.machine.now c.args.ask.now c.args.first c.args.act c.args.opening.now c.loop-place.opening c.args.store.now c.loop-place.store c.args.board.now c.loop-place.board c.mark-mark.new.self c.mark-mark.result.0
+          (take c.args.hold c.args.choice.places) c.loop-place.place c.get-2.result.now c.try_place.new.self c.match-try_place.board c.loop-place.opening c.match-try_place.opening c.loop-place.store c.match-try_place.store w.board-is w.opening-is w.store-is
           (tried-late g.N.Network.net g.N.Undo.content g.N.Undo.past g.N.Undo.aside g.N.Undo.mark_room c.args.machine.now c.args.ask.now c.args.first c.args.act c.args.opening.now c.loop-place.opening c.args.store.now c.loop-place.store c.args.board.now c.loop-place.board c.mark-mark.new.self c.mark-mark.result.0
-          (take c.args.hold c.args.choice.places) c.loop-place.place c.get-2.result.now tried c.place.new.self since w.in-Err.ensures.late)
+          (take c.args.hold c.args.choice.places) c.loop-place.place c.get-2.result.now tried c.try_place.new.self
+          (refused-since g.N.Network.net g.N.Undo.content g.N.Undo.past g.N.Undo.aside g.N.Undo.mark_room c.args.machine.now c.args.ask.now c.args.first c.args.act c.args.opening.now c.loop-place.opening c.args.store.now c.loop-place.store c.args.board.now c.loop-place.board c.mark-mark.new.self c.mark-mark.result.0
+          (take c.args.hold c.args.choice.places) c.loop-place.place c.get-2.result.now tried c.try_place.new.self p.past p.loaded p.marks w.in-Err-Here.ensures.back) w.in-Err-Here.ensures.late)
     ] in
-    mark-known g.N.Network.net g.N.Undo.content g.N.Undo.past g.N.Undo.aside g.N.Undo.mark_room c.loop-place.board c.mark-mark.new.self c.match-place.board c.args.machine.now c.mark-mark.result.0 tried.marked after.since
+    mark-known g.N.Network.net g.N.Undo.content g.N.Undo.past g.N.Undo.aside g.N.Undo.mark_room c.loop-place.board c.mark-mark.new.self c.match-try_place.board c.mark-mark.result.0 tried.marked after.since.past_same
 
 pub loop-place-preserved : goal.loop-place-preserved
 loop-place-preserved g t c =
@@ -174,36 +181,39 @@ loop-place-preserved g t c =
     (take c.args.hold c.args.choice.places) c.loop-place.place c.get-2.result.now
     c.get.result.now c.args.hold c.places-last.result c.marks_keep_boards.ensures.mark c.marks_keep_boards.ensures.back c.requires.laid c.requires.fresh c.get.ensures c.get-2.ensures count c.places-last.ensures (omega arith)
     v.same v.back v.progress (record { number = m.number; past_more = m.past; content_same = m.content; aside_same = m.aside; room_same = m.room }) in
-    let p = c.place.ensures in
+    let p = c.try_place.ensures in
     let some : c.args.hold < length c.args.choice.places = omega arith in
     let next = next-places c.args.choice.places c.args.hold c.loop-place.place some in
-    let since = since-step g.N.Network.net g.N.Undo.content g.N.Undo.past g.N.Undo.mark_room c.mark-mark.new.self c.place.new.self c.args.machine.now p.past p.loaded p.marks (λ s. p.stands) in
     let after : IsTried g.N.Network.net g.N.Undo.content g.N.Undo.past g.N.Undo.aside g.N.Undo.mark_room c.args.machine.now c.args.ask.now c.args.first c.args.act c.args.opening.now c.loop-place.opening c.args.store.now c.loop-place.store c.args.board.now c.loop-place.board c.mark-mark.new.self c.mark-mark.result.0
-    (take c.args.hold c.args.choice.places) c.loop-place.place c.get-2.result.now c.match-place.board c.match-place.opening c.match-place.store = elim c.match-place.branch [
+    (take c.args.hold c.args.choice.places) c.loop-place.place c.get-2.result.now c.match-try_place.board c.match-try_place.opening c.match-try_place.store = elim c.match-try_place.branch [
       | in-Ok w ↦ tried-as g.N.Network.net g.N.Undo.content g.N.Undo.past g.N.Undo.aside g.N.Undo.mark_room c.args.machine.now c.args.ask.now c.args.first c.args.act c.args.opening.now c.loop-place.opening c.args.store.now c.loop-place.store c.args.board.now c.loop-place.board c.mark-mark.new.self c.mark-mark.result.0
-          (take c.args.hold c.args.choice.places) c.loop-place.place c.get-2.result.now w.place_rest.new.board c.match-place.board w.place_rest.new.opening c.match-place.opening w.place_rest.new.store c.match-place.store w.board-is w.opening-is w.store-is
+          (take c.args.hold c.args.choice.places) c.loop-place.place c.get-2.result.now w.place_rest.new.board c.match-try_place.board w.place_rest.new.opening c.match-try_place.opening w.place_rest.new.store c.match-try_place.store w.board-is w.opening-is w.store-is
           (tried-placed g.N.Network.net g.N.Undo.content g.N.Undo.past g.N.Undo.aside g.N.Undo.mark_room c.args.machine.now c.args.ask.now c.args.first c.args.act c.args.opening.now c.loop-place.opening c.args.store.now c.loop-place.store c.args.board.now c.loop-place.board c.mark-mark.new.self c.mark-mark.result.0
-          (take c.args.hold c.args.choice.places) c.loop-place.place c.get-2.result.now tried c.place.new.self w.place_rest.new.board w.place_rest.new.opening w.place_rest.new.store since w.place_rest.ensures.same w.place_rest.ensures.back
-          (subst (λ ps. IsAtProgress c.args.machine.now c.place.new.self.plans c.args.ask.now w.place_rest.new.opening w.place_rest.new.store (through c.args.act.0 ps)) next w.place_rest.ensures.progress))
-      | in-Err w ↦ tried-as g.N.Network.net g.N.Undo.content g.N.Undo.past g.N.Undo.aside g.N.Undo.mark_room c.args.machine.now c.args.ask.now c.args.first c.args.act c.args.opening.now c.loop-place.opening c.args.store.now c.loop-place.store c.args.board.now c.loop-place.board c.mark-mark.new.self c.mark-mark.result.0
-          (take c.args.hold c.args.choice.places) c.loop-place.place c.get-2.result.now c.place.new.self c.match-place.board c.loop-place.opening c.match-place.opening c.loop-place.store c.match-place.store w.board-is w.opening-is w.store-is
+          (take c.args.hold c.args.choice.places) c.loop-place.place c.get-2.result.now tried c.try_place.new.self w.place_rest.new.board w.place_rest.new.opening w.place_rest.new.store
+          (since-step g.N.Network.net g.N.Undo.content g.N.Undo.past g.N.Undo.mark_room c.mark-mark.new.self c.try_place.new.self c.args.machine.now p.past p.loaded p.marks (λ s. w.in-Ok.ensures.stands)) w.place_rest.ensures.same w.place_rest.ensures.back
+          (subst (λ ps. IsAtProgress c.args.machine.now c.try_place.new.self.plans c.args.ask.now w.place_rest.new.opening w.place_rest.new.store (through c.args.act.0 ps)) next w.place_rest.ensures.progress))
+      | in-Err-Here w ↦ tried-as g.N.Network.net g.N.Undo.content g.N.Undo.past g.N.Undo.aside g.N.Undo.mark_room c.args.machine.now c.args.ask.now c.args.first c.args.act c.args.opening.now c.loop-place.opening c.args.store.now c.loop-place.store c.args.board.now c.loop-place.board c.mark-mark.new.self c.mark-mark.result.0
+          (take c.args.hold c.args.choice.places) c.loop-place.place c.get-2.result.now c.try_place.new.self c.match-try_place.board c.loop-place.opening c.match-try_place.opening c.loop-place.store c.match-try_place.store w.board-is w.opening-is w.store-is
           (tried-late g.N.Network.net g.N.Undo.content g.N.Undo.past g.N.Undo.aside g.N.Undo.mark_room c.args.machine.now c.args.ask.now c.args.first c.args.act c.args.opening.now c.loop-place.opening c.args.store.now c.loop-place.store c.args.board.now c.loop-place.board c.mark-mark.new.self c.mark-mark.result.0
-          (take c.args.hold c.args.choice.places) c.loop-place.place c.get-2.result.now tried c.place.new.self since w.in-Err.ensures.late)
+          (take c.args.hold c.args.choice.places) c.loop-place.place c.get-2.result.now tried c.try_place.new.self
+          (refused-since g.N.Network.net g.N.Undo.content g.N.Undo.past g.N.Undo.aside g.N.Undo.mark_room c.args.machine.now c.args.ask.now c.args.first c.args.act c.args.opening.now c.loop-place.opening c.args.store.now c.loop-place.store c.args.board.now c.loop-place.board c.mark-mark.new.self c.mark-mark.result.0
+          (take c.args.hold c.args.choice.places) c.loop-place.place c.get-2.result.now tried c.try_place.new.self p.past p.loaded p.marks w.in-Err-Here.ensures.back) w.in-Err-Here.ensures.late)
     ] in
-    let u = c.undo_to.ensures in
+    let u = c.undo_to-in-loop-place.ensures in
     let back = back-now g.N.Network.net g.N.Undo.content g.N.Undo.past g.N.Undo.aside g.N.Undo.mark_room c.args.machine.now c.args.ask.now c.args.first c.args.act c.args.opening.now c.loop-place.opening c.args.store.now c.loop-place.store c.args.board.now c.loop-place.board c.mark-mark.new.self c.mark-mark.result.0
-    (take c.args.hold c.args.choice.places) c.loop-place.place c.get-2.result.now tried c.match-place.board c.undo_to.new.self c.match-place.opening c.match-place.store after
+    (take c.args.hold c.args.choice.places) c.loop-place.place c.get-2.result.now tried c.match-try_place.board c.undo_to-in-loop-place.new.self c.match-try_place.opening c.match-try_place.store after
     (record { content_then = u.content; past_less = u.past; aside_same = u.aside; room_same = u.room }) in
     record {
       progress = next-now g.N.Network.net g.N.Undo.content g.N.Undo.past g.N.Undo.aside g.N.Undo.mark_room c.args.machine.now c.args.ask.now c.args.first c.args.act c.args.opening.now c.loop-place.opening c.args.store.now c.loop-place.store c.args.board.now c.loop-place.board c.mark-mark.new.self c.mark-mark.result.0
-          (take c.args.hold c.args.choice.places) c.loop-place.place c.get-2.result.now tried c.match-place.board c.undo_to.new.self c.match-place.opening c.match-place.store after back;
+          (take c.args.hold c.args.choice.places) c.loop-place.place c.get-2.result.now tried c.match-try_place.board c.undo_to-in-loop-place.new.self c.match-try_place.opening c.match-try_place.store after
+          (c.loop-place.place - 1) (omega arith) back;
       same = same-now g.N.Network.net g.N.Undo.content g.N.Undo.past g.N.Undo.aside g.N.Undo.mark_room c.args.machine.now c.args.ask.now c.args.first c.args.act c.args.opening.now c.loop-place.opening c.args.store.now c.loop-place.store c.args.board.now c.loop-place.board c.mark-mark.new.self c.mark-mark.result.0
-          (take c.args.hold c.args.choice.places) c.loop-place.place c.get-2.result.now tried c.match-place.board c.undo_to.new.self c.match-place.opening c.match-place.store after;
+          (take c.args.hold c.args.choice.places) c.loop-place.place c.get-2.result.now tried c.match-try_place.board c.undo_to-in-loop-place.new.self c.match-try_place.opening c.match-try_place.store after;
       back = back;
     }
 
-pub returns-after-place-clause-progress : goal.returns-after-place-clause-progress
-returns-after-place-clause-progress g t c =
+pub returns-after-try_place-clause-progress : goal.returns-after-try_place-clause-progress
+returns-after-try_place-clause-progress g t c =
     let known = ap length (ap holds_of_act c.get.ensures) in
     let count : length (take c.args.hold c.args.choice.places) ≡ c.args.hold = length-take-le c.args.hold c.args.choice.places (omega arith) in
     let m = c.mark-mark.ensures in
@@ -212,28 +222,29 @@ returns-after-place-clause-progress g t c =
     (take c.args.hold c.args.choice.places) c.loop-place.place c.get-2.result.now
     c.get.result.now c.args.hold c.places-last.result c.marks_keep_boards.ensures.mark c.marks_keep_boards.ensures.back c.requires.laid c.requires.fresh c.get.ensures c.get-2.ensures count c.places-last.ensures (omega arith)
     v.same v.back v.progress (record { number = m.number; past_more = m.past; content_same = m.content; aside_same = m.aside; room_same = m.room }) in
-    let p = c.place.ensures in
+    let p = c.try_place.ensures in
     let some : c.args.hold < length c.args.choice.places = omega arith in
     let next = next-places c.args.choice.places c.args.hold c.loop-place.place some in
-    let since = since-step g.N.Network.net g.N.Undo.content g.N.Undo.past g.N.Undo.mark_room c.mark-mark.new.self c.place.new.self c.args.machine.now p.past p.loaded p.marks (λ s. p.stands) in
     let after : IsTried g.N.Network.net g.N.Undo.content g.N.Undo.past g.N.Undo.aside g.N.Undo.mark_room c.args.machine.now c.args.ask.now c.args.first c.args.act c.args.opening.now c.loop-place.opening c.args.store.now c.loop-place.store c.args.board.now c.loop-place.board c.mark-mark.new.self c.mark-mark.result.0
-    (take c.args.hold c.args.choice.places) c.loop-place.place c.get-2.result.now c.match-place.board c.match-place.opening c.match-place.store = elim c.match-place.branch [
+    (take c.args.hold c.args.choice.places) c.loop-place.place c.get-2.result.now c.match-try_place.board c.match-try_place.opening c.match-try_place.store = elim c.match-try_place.branch [
       | in-Ok w ↦ tried-as g.N.Network.net g.N.Undo.content g.N.Undo.past g.N.Undo.aside g.N.Undo.mark_room c.args.machine.now c.args.ask.now c.args.first c.args.act c.args.opening.now c.loop-place.opening c.args.store.now c.loop-place.store c.args.board.now c.loop-place.board c.mark-mark.new.self c.mark-mark.result.0
-          (take c.args.hold c.args.choice.places) c.loop-place.place c.get-2.result.now w.place_rest.new.board c.match-place.board w.place_rest.new.opening c.match-place.opening w.place_rest.new.store c.match-place.store w.board-is w.opening-is w.store-is
+          (take c.args.hold c.args.choice.places) c.loop-place.place c.get-2.result.now w.place_rest.new.board c.match-try_place.board w.place_rest.new.opening c.match-try_place.opening w.place_rest.new.store c.match-try_place.store w.board-is w.opening-is w.store-is
           (tried-placed g.N.Network.net g.N.Undo.content g.N.Undo.past g.N.Undo.aside g.N.Undo.mark_room c.args.machine.now c.args.ask.now c.args.first c.args.act c.args.opening.now c.loop-place.opening c.args.store.now c.loop-place.store c.args.board.now c.loop-place.board c.mark-mark.new.self c.mark-mark.result.0
-          (take c.args.hold c.args.choice.places) c.loop-place.place c.get-2.result.now tried c.place.new.self w.place_rest.new.board w.place_rest.new.opening w.place_rest.new.store since w.place_rest.ensures.same w.place_rest.ensures.back
-          (subst (λ ps. IsAtProgress c.args.machine.now c.place.new.self.plans c.args.ask.now w.place_rest.new.opening w.place_rest.new.store (through c.args.act.0 ps)) next w.place_rest.ensures.progress))
-      | in-Err w ↦ tried-as g.N.Network.net g.N.Undo.content g.N.Undo.past g.N.Undo.aside g.N.Undo.mark_room c.args.machine.now c.args.ask.now c.args.first c.args.act c.args.opening.now c.loop-place.opening c.args.store.now c.loop-place.store c.args.board.now c.loop-place.board c.mark-mark.new.self c.mark-mark.result.0
-          (take c.args.hold c.args.choice.places) c.loop-place.place c.get-2.result.now c.place.new.self c.match-place.board c.loop-place.opening c.match-place.opening c.loop-place.store c.match-place.store w.board-is w.opening-is w.store-is
+          (take c.args.hold c.args.choice.places) c.loop-place.place c.get-2.result.now tried c.try_place.new.self w.place_rest.new.board w.place_rest.new.opening w.place_rest.new.store
+          (since-step g.N.Network.net g.N.Undo.content g.N.Undo.past g.N.Undo.mark_room c.mark-mark.new.self c.try_place.new.self c.args.machine.now p.past p.loaded p.marks (λ s. w.in-Ok.ensures.stands)) w.place_rest.ensures.same w.place_rest.ensures.back
+          (subst (λ ps. IsAtProgress c.args.machine.now c.try_place.new.self.plans c.args.ask.now w.place_rest.new.opening w.place_rest.new.store (through c.args.act.0 ps)) next w.place_rest.ensures.progress))
+      | in-Err-Here w ↦ tried-as g.N.Network.net g.N.Undo.content g.N.Undo.past g.N.Undo.aside g.N.Undo.mark_room c.args.machine.now c.args.ask.now c.args.first c.args.act c.args.opening.now c.loop-place.opening c.args.store.now c.loop-place.store c.args.board.now c.loop-place.board c.mark-mark.new.self c.mark-mark.result.0
+          (take c.args.hold c.args.choice.places) c.loop-place.place c.get-2.result.now c.try_place.new.self c.match-try_place.board c.loop-place.opening c.match-try_place.opening c.loop-place.store c.match-try_place.store w.board-is w.opening-is w.store-is
           (tried-late g.N.Network.net g.N.Undo.content g.N.Undo.past g.N.Undo.aside g.N.Undo.mark_room c.args.machine.now c.args.ask.now c.args.first c.args.act c.args.opening.now c.loop-place.opening c.args.store.now c.loop-place.store c.args.board.now c.loop-place.board c.mark-mark.new.self c.mark-mark.result.0
-          (take c.args.hold c.args.choice.places) c.loop-place.place c.get-2.result.now tried c.place.new.self since w.in-Err.ensures.late)
+          (take c.args.hold c.args.choice.places) c.loop-place.place c.get-2.result.now tried c.try_place.new.self
+          (refused-since g.N.Network.net g.N.Undo.content g.N.Undo.past g.N.Undo.aside g.N.Undo.mark_room c.args.machine.now c.args.ask.now c.args.first c.args.act c.args.opening.now c.loop-place.opening c.args.store.now c.loop-place.store c.args.board.now c.loop-place.board c.mark-mark.new.self c.mark-mark.result.0
+          (take c.args.hold c.args.choice.places) c.loop-place.place c.get-2.result.now tried c.try_place.new.self p.past p.loaded p.marks w.in-Err-Here.ensures.back) w.in-Err-Here.ensures.late)
     ] in
-    let all = c.places-last.ensures c.args.machine.now c.requires.laid.stands in
     end-now g.N.Network.net g.N.Undo.content g.N.Undo.past g.N.Undo.aside g.N.Undo.mark_room c.args.machine.now c.args.ask.now c.args.first c.args.act c.args.opening.now c.loop-place.opening c.args.store.now c.loop-place.store c.args.board.now c.loop-place.board c.mark-mark.new.self c.mark-mark.result.0
-    (take c.args.hold c.args.choice.places) c.loop-place.place c.get-2.result.now tried c.match-place.board c.undo_to.new.self c.match-place.opening c.match-place.store after (omega arith) (omega arith)
+    (take c.args.hold c.args.choice.places) c.loop-place.place c.get-2.result.now tried c.match-try_place.board c.undo_to-in-loop-place.new.self c.match-try_place.opening c.match-try_place.store after (omega arith) (omega arith)
 
-pub returns-after-place-clause-same : goal.returns-after-place-clause-same
-returns-after-place-clause-same g t c =
+pub returns-after-try_place-clause-same : goal.returns-after-try_place-clause-same
+returns-after-try_place-clause-same g t c =
     let known = ap length (ap holds_of_act c.get.ensures) in
     let count : length (take c.args.hold c.args.choice.places) ≡ c.args.hold = length-take-le c.args.hold c.args.choice.places (omega arith) in
     let m = c.mark-mark.ensures in
@@ -242,27 +253,29 @@ returns-after-place-clause-same g t c =
     (take c.args.hold c.args.choice.places) c.loop-place.place c.get-2.result.now
     c.get.result.now c.args.hold c.places-last.result c.marks_keep_boards.ensures.mark c.marks_keep_boards.ensures.back c.requires.laid c.requires.fresh c.get.ensures c.get-2.ensures count c.places-last.ensures (omega arith)
     v.same v.back v.progress (record { number = m.number; past_more = m.past; content_same = m.content; aside_same = m.aside; room_same = m.room }) in
-    let p = c.place.ensures in
+    let p = c.try_place.ensures in
     let some : c.args.hold < length c.args.choice.places = omega arith in
     let next = next-places c.args.choice.places c.args.hold c.loop-place.place some in
-    let since = since-step g.N.Network.net g.N.Undo.content g.N.Undo.past g.N.Undo.mark_room c.mark-mark.new.self c.place.new.self c.args.machine.now p.past p.loaded p.marks (λ s. p.stands) in
     let after : IsTried g.N.Network.net g.N.Undo.content g.N.Undo.past g.N.Undo.aside g.N.Undo.mark_room c.args.machine.now c.args.ask.now c.args.first c.args.act c.args.opening.now c.loop-place.opening c.args.store.now c.loop-place.store c.args.board.now c.loop-place.board c.mark-mark.new.self c.mark-mark.result.0
-    (take c.args.hold c.args.choice.places) c.loop-place.place c.get-2.result.now c.match-place.board c.match-place.opening c.match-place.store = elim c.match-place.branch [
+    (take c.args.hold c.args.choice.places) c.loop-place.place c.get-2.result.now c.match-try_place.board c.match-try_place.opening c.match-try_place.store = elim c.match-try_place.branch [
       | in-Ok w ↦ tried-as g.N.Network.net g.N.Undo.content g.N.Undo.past g.N.Undo.aside g.N.Undo.mark_room c.args.machine.now c.args.ask.now c.args.first c.args.act c.args.opening.now c.loop-place.opening c.args.store.now c.loop-place.store c.args.board.now c.loop-place.board c.mark-mark.new.self c.mark-mark.result.0
-          (take c.args.hold c.args.choice.places) c.loop-place.place c.get-2.result.now w.place_rest.new.board c.match-place.board w.place_rest.new.opening c.match-place.opening w.place_rest.new.store c.match-place.store w.board-is w.opening-is w.store-is
+          (take c.args.hold c.args.choice.places) c.loop-place.place c.get-2.result.now w.place_rest.new.board c.match-try_place.board w.place_rest.new.opening c.match-try_place.opening w.place_rest.new.store c.match-try_place.store w.board-is w.opening-is w.store-is
           (tried-placed g.N.Network.net g.N.Undo.content g.N.Undo.past g.N.Undo.aside g.N.Undo.mark_room c.args.machine.now c.args.ask.now c.args.first c.args.act c.args.opening.now c.loop-place.opening c.args.store.now c.loop-place.store c.args.board.now c.loop-place.board c.mark-mark.new.self c.mark-mark.result.0
-          (take c.args.hold c.args.choice.places) c.loop-place.place c.get-2.result.now tried c.place.new.self w.place_rest.new.board w.place_rest.new.opening w.place_rest.new.store since w.place_rest.ensures.same w.place_rest.ensures.back
-          (subst (λ ps. IsAtProgress c.args.machine.now c.place.new.self.plans c.args.ask.now w.place_rest.new.opening w.place_rest.new.store (through c.args.act.0 ps)) next w.place_rest.ensures.progress))
-      | in-Err w ↦ tried-as g.N.Network.net g.N.Undo.content g.N.Undo.past g.N.Undo.aside g.N.Undo.mark_room c.args.machine.now c.args.ask.now c.args.first c.args.act c.args.opening.now c.loop-place.opening c.args.store.now c.loop-place.store c.args.board.now c.loop-place.board c.mark-mark.new.self c.mark-mark.result.0
-          (take c.args.hold c.args.choice.places) c.loop-place.place c.get-2.result.now c.place.new.self c.match-place.board c.loop-place.opening c.match-place.opening c.loop-place.store c.match-place.store w.board-is w.opening-is w.store-is
+          (take c.args.hold c.args.choice.places) c.loop-place.place c.get-2.result.now tried c.try_place.new.self w.place_rest.new.board w.place_rest.new.opening w.place_rest.new.store
+          (since-step g.N.Network.net g.N.Undo.content g.N.Undo.past g.N.Undo.mark_room c.mark-mark.new.self c.try_place.new.self c.args.machine.now p.past p.loaded p.marks (λ s. w.in-Ok.ensures.stands)) w.place_rest.ensures.same w.place_rest.ensures.back
+          (subst (λ ps. IsAtProgress c.args.machine.now c.try_place.new.self.plans c.args.ask.now w.place_rest.new.opening w.place_rest.new.store (through c.args.act.0 ps)) next w.place_rest.ensures.progress))
+      | in-Err-Here w ↦ tried-as g.N.Network.net g.N.Undo.content g.N.Undo.past g.N.Undo.aside g.N.Undo.mark_room c.args.machine.now c.args.ask.now c.args.first c.args.act c.args.opening.now c.loop-place.opening c.args.store.now c.loop-place.store c.args.board.now c.loop-place.board c.mark-mark.new.self c.mark-mark.result.0
+          (take c.args.hold c.args.choice.places) c.loop-place.place c.get-2.result.now c.try_place.new.self c.match-try_place.board c.loop-place.opening c.match-try_place.opening c.loop-place.store c.match-try_place.store w.board-is w.opening-is w.store-is
           (tried-late g.N.Network.net g.N.Undo.content g.N.Undo.past g.N.Undo.aside g.N.Undo.mark_room c.args.machine.now c.args.ask.now c.args.first c.args.act c.args.opening.now c.loop-place.opening c.args.store.now c.loop-place.store c.args.board.now c.loop-place.board c.mark-mark.new.self c.mark-mark.result.0
-          (take c.args.hold c.args.choice.places) c.loop-place.place c.get-2.result.now tried c.place.new.self since w.in-Err.ensures.late)
+          (take c.args.hold c.args.choice.places) c.loop-place.place c.get-2.result.now tried c.try_place.new.self
+          (refused-since g.N.Network.net g.N.Undo.content g.N.Undo.past g.N.Undo.aside g.N.Undo.mark_room c.args.machine.now c.args.ask.now c.args.first c.args.act c.args.opening.now c.loop-place.opening c.args.store.now c.loop-place.store c.args.board.now c.loop-place.board c.mark-mark.new.self c.mark-mark.result.0
+          (take c.args.hold c.args.choice.places) c.loop-place.place c.get-2.result.now tried c.try_place.new.self p.past p.loaded p.marks w.in-Err-Here.ensures.back) w.in-Err-Here.ensures.late)
     ] in
     same-now g.N.Network.net g.N.Undo.content g.N.Undo.past g.N.Undo.aside g.N.Undo.mark_room c.args.machine.now c.args.ask.now c.args.first c.args.act c.args.opening.now c.loop-place.opening c.args.store.now c.loop-place.store c.args.board.now c.loop-place.board c.mark-mark.new.self c.mark-mark.result.0
-    (take c.args.hold c.args.choice.places) c.loop-place.place c.get-2.result.now tried c.match-place.board c.undo_to.new.self c.match-place.opening c.match-place.store after
+    (take c.args.hold c.args.choice.places) c.loop-place.place c.get-2.result.now tried c.match-try_place.board c.undo_to-in-loop-place.new.self c.match-try_place.opening c.match-try_place.store after
 
-pub returns-after-place-clause-back : goal.returns-after-place-clause-back
-returns-after-place-clause-back g t c =
+pub returns-after-try_place-clause-back : goal.returns-after-try_place-clause-back
+returns-after-try_place-clause-back g t c =
     let known = ap length (ap holds_of_act c.get.ensures) in
     let count : length (take c.args.hold c.args.choice.places) ≡ c.args.hold = length-take-le c.args.hold c.args.choice.places (omega arith) in
     let m = c.mark-mark.ensures in
@@ -271,24 +284,58 @@ returns-after-place-clause-back g t c =
     (take c.args.hold c.args.choice.places) c.loop-place.place c.get-2.result.now
     c.get.result.now c.args.hold c.places-last.result c.marks_keep_boards.ensures.mark c.marks_keep_boards.ensures.back c.requires.laid c.requires.fresh c.get.ensures c.get-2.ensures count c.places-last.ensures (omega arith)
     v.same v.back v.progress (record { number = m.number; past_more = m.past; content_same = m.content; aside_same = m.aside; room_same = m.room }) in
-    let p = c.place.ensures in
+    let p = c.try_place.ensures in
     let some : c.args.hold < length c.args.choice.places = omega arith in
     let next = next-places c.args.choice.places c.args.hold c.loop-place.place some in
-    let since = since-step g.N.Network.net g.N.Undo.content g.N.Undo.past g.N.Undo.mark_room c.mark-mark.new.self c.place.new.self c.args.machine.now p.past p.loaded p.marks (λ s. p.stands) in
     let after : IsTried g.N.Network.net g.N.Undo.content g.N.Undo.past g.N.Undo.aside g.N.Undo.mark_room c.args.machine.now c.args.ask.now c.args.first c.args.act c.args.opening.now c.loop-place.opening c.args.store.now c.loop-place.store c.args.board.now c.loop-place.board c.mark-mark.new.self c.mark-mark.result.0
-    (take c.args.hold c.args.choice.places) c.loop-place.place c.get-2.result.now c.match-place.board c.match-place.opening c.match-place.store = elim c.match-place.branch [
+    (take c.args.hold c.args.choice.places) c.loop-place.place c.get-2.result.now c.match-try_place.board c.match-try_place.opening c.match-try_place.store = elim c.match-try_place.branch [
       | in-Ok w ↦ tried-as g.N.Network.net g.N.Undo.content g.N.Undo.past g.N.Undo.aside g.N.Undo.mark_room c.args.machine.now c.args.ask.now c.args.first c.args.act c.args.opening.now c.loop-place.opening c.args.store.now c.loop-place.store c.args.board.now c.loop-place.board c.mark-mark.new.self c.mark-mark.result.0
-          (take c.args.hold c.args.choice.places) c.loop-place.place c.get-2.result.now w.place_rest.new.board c.match-place.board w.place_rest.new.opening c.match-place.opening w.place_rest.new.store c.match-place.store w.board-is w.opening-is w.store-is
+          (take c.args.hold c.args.choice.places) c.loop-place.place c.get-2.result.now w.place_rest.new.board c.match-try_place.board w.place_rest.new.opening c.match-try_place.opening w.place_rest.new.store c.match-try_place.store w.board-is w.opening-is w.store-is
           (tried-placed g.N.Network.net g.N.Undo.content g.N.Undo.past g.N.Undo.aside g.N.Undo.mark_room c.args.machine.now c.args.ask.now c.args.first c.args.act c.args.opening.now c.loop-place.opening c.args.store.now c.loop-place.store c.args.board.now c.loop-place.board c.mark-mark.new.self c.mark-mark.result.0
-          (take c.args.hold c.args.choice.places) c.loop-place.place c.get-2.result.now tried c.place.new.self w.place_rest.new.board w.place_rest.new.opening w.place_rest.new.store since w.place_rest.ensures.same w.place_rest.ensures.back
-          (subst (λ ps. IsAtProgress c.args.machine.now c.place.new.self.plans c.args.ask.now w.place_rest.new.opening w.place_rest.new.store (through c.args.act.0 ps)) next w.place_rest.ensures.progress))
-      | in-Err w ↦ tried-as g.N.Network.net g.N.Undo.content g.N.Undo.past g.N.Undo.aside g.N.Undo.mark_room c.args.machine.now c.args.ask.now c.args.first c.args.act c.args.opening.now c.loop-place.opening c.args.store.now c.loop-place.store c.args.board.now c.loop-place.board c.mark-mark.new.self c.mark-mark.result.0
-          (take c.args.hold c.args.choice.places) c.loop-place.place c.get-2.result.now c.place.new.self c.match-place.board c.loop-place.opening c.match-place.opening c.loop-place.store c.match-place.store w.board-is w.opening-is w.store-is
+          (take c.args.hold c.args.choice.places) c.loop-place.place c.get-2.result.now tried c.try_place.new.self w.place_rest.new.board w.place_rest.new.opening w.place_rest.new.store
+          (since-step g.N.Network.net g.N.Undo.content g.N.Undo.past g.N.Undo.mark_room c.mark-mark.new.self c.try_place.new.self c.args.machine.now p.past p.loaded p.marks (λ s. w.in-Ok.ensures.stands)) w.place_rest.ensures.same w.place_rest.ensures.back
+          (subst (λ ps. IsAtProgress c.args.machine.now c.try_place.new.self.plans c.args.ask.now w.place_rest.new.opening w.place_rest.new.store (through c.args.act.0 ps)) next w.place_rest.ensures.progress))
+      | in-Err-Here w ↦ tried-as g.N.Network.net g.N.Undo.content g.N.Undo.past g.N.Undo.aside g.N.Undo.mark_room c.args.machine.now c.args.ask.now c.args.first c.args.act c.args.opening.now c.loop-place.opening c.args.store.now c.loop-place.store c.args.board.now c.loop-place.board c.mark-mark.new.self c.mark-mark.result.0
+          (take c.args.hold c.args.choice.places) c.loop-place.place c.get-2.result.now c.try_place.new.self c.match-try_place.board c.loop-place.opening c.match-try_place.opening c.loop-place.store c.match-try_place.store w.board-is w.opening-is w.store-is
           (tried-late g.N.Network.net g.N.Undo.content g.N.Undo.past g.N.Undo.aside g.N.Undo.mark_room c.args.machine.now c.args.ask.now c.args.first c.args.act c.args.opening.now c.loop-place.opening c.args.store.now c.loop-place.store c.args.board.now c.loop-place.board c.mark-mark.new.self c.mark-mark.result.0
-          (take c.args.hold c.args.choice.places) c.loop-place.place c.get-2.result.now tried c.place.new.self since w.in-Err.ensures.late)
+          (take c.args.hold c.args.choice.places) c.loop-place.place c.get-2.result.now tried c.try_place.new.self
+          (refused-since g.N.Network.net g.N.Undo.content g.N.Undo.past g.N.Undo.aside g.N.Undo.mark_room c.args.machine.now c.args.ask.now c.args.first c.args.act c.args.opening.now c.loop-place.opening c.args.store.now c.loop-place.store c.args.board.now c.loop-place.board c.mark-mark.new.self c.mark-mark.result.0
+          (take c.args.hold c.args.choice.places) c.loop-place.place c.get-2.result.now tried c.try_place.new.self p.past p.loaded p.marks w.in-Err-Here.ensures.back) w.in-Err-Here.ensures.late)
     ] in
+    let u = c.undo_to-in-loop-place.ensures in
+    back-now g.N.Network.net g.N.Undo.content g.N.Undo.past g.N.Undo.aside g.N.Undo.mark_room c.args.machine.now c.args.ask.now c.args.first c.args.act c.args.opening.now c.loop-place.opening c.args.store.now c.loop-place.store c.args.board.now c.loop-place.board c.mark-mark.new.self c.mark-mark.result.0
+    (take c.args.hold c.args.choice.places) c.loop-place.place c.get-2.result.now tried c.match-try_place.board c.undo_to-in-loop-place.new.self c.match-try_place.opening c.match-try_place.store after
+    (record { content_then = u.content; past_less = u.past; aside_same = u.aside; room_same = u.room })
+
+pub returns-in-Err-UpToHere-clause-progress : goal.returns-in-Err-UpToHere-clause-progress
+returns-in-Err-UpToHere-clause-progress g t c =
+    let known = ap length (ap holds_of_act c.get.ensures) in
+    let count : length (take c.args.hold c.args.choice.places) ≡ c.args.hold = length-take-le c.args.hold c.args.choice.places (omega arith) in
+    let m = c.mark-mark.ensures in
+    let v = c.loop-place.invariant in
+    let tried = trying g.N.Network.net g.N.Undo.content g.N.Undo.past g.N.Undo.aside g.N.Undo.mark_room c.args.machine.now c.args.ask.now c.args.first c.args.act c.args.opening.now c.loop-place.opening c.args.store.now c.loop-place.store c.args.board.now c.loop-place.board c.mark-mark.new.self c.mark-mark.result.0
+    (take c.args.hold c.args.choice.places) c.loop-place.place c.get-2.result.now
+    c.get.result.now c.args.hold c.places-last.result c.marks_keep_boards.ensures.mark c.marks_keep_boards.ensures.back c.requires.laid c.requires.fresh c.get.ensures c.get-2.ensures count c.places-last.ensures (omega arith)
+    v.same v.back v.progress (record { number = m.number; past_more = m.past; content_same = m.content; aside_same = m.aside; room_same = m.room }) in
+    shut-now g.N.Network.net g.N.Undo.content g.N.Undo.past g.N.Undo.aside g.N.Undo.mark_room c.args.machine.now c.args.ask.now c.args.first c.args.act c.args.opening.now c.loop-place.opening c.args.store.now c.loop-place.store c.args.board.now c.loop-place.board c.mark-mark.new.self c.mark-mark.result.0
+    (take c.args.hold c.args.choice.places) c.loop-place.place c.get-2.result.now tried (omega arith) (c.in-Err-UpToHere.ensures.late_before c.in-Err-UpToHere.field-0-is)
+
+pub returns-in-Err-UpToHere-clause-back : goal.returns-in-Err-UpToHere-clause-back
+returns-in-Err-UpToHere-clause-back g t c =
+    let known = ap length (ap holds_of_act c.get.ensures) in
+    let count : length (take c.args.hold c.args.choice.places) ≡ c.args.hold = length-take-le c.args.hold c.args.choice.places (omega arith) in
+    let m = c.mark-mark.ensures in
+    let v = c.loop-place.invariant in
+    let tried = trying g.N.Network.net g.N.Undo.content g.N.Undo.past g.N.Undo.aside g.N.Undo.mark_room c.args.machine.now c.args.ask.now c.args.first c.args.act c.args.opening.now c.loop-place.opening c.args.store.now c.loop-place.store c.args.board.now c.loop-place.board c.mark-mark.new.self c.mark-mark.result.0
+    (take c.args.hold c.args.choice.places) c.loop-place.place c.get-2.result.now
+    c.get.result.now c.args.hold c.places-last.result c.marks_keep_boards.ensures.mark c.marks_keep_boards.ensures.back c.requires.laid c.requires.fresh c.get.ensures c.get-2.ensures count c.places-last.ensures (omega arith)
+    v.same v.back v.progress (record { number = m.number; past_more = m.past; content_same = m.content; aside_same = m.aside; room_same = m.room }) in
+    let p = c.try_place.ensures in
     let u = c.undo_to.ensures in
-    let back = back-now g.N.Network.net g.N.Undo.content g.N.Undo.past g.N.Undo.aside g.N.Undo.mark_room c.args.machine.now c.args.ask.now c.args.first c.args.act c.args.opening.now c.loop-place.opening c.args.store.now c.loop-place.store c.args.board.now c.loop-place.board c.mark-mark.new.self c.mark-mark.result.0
-    (take c.args.hold c.args.choice.places) c.loop-place.place c.get-2.result.now tried c.match-place.board c.undo_to.new.self c.match-place.opening c.match-place.store after
-    (record { content_then = u.content; past_less = u.past; aside_same = u.aside; room_same = u.room }) in
-    back
+    let after = tried-late g.N.Network.net g.N.Undo.content g.N.Undo.past g.N.Undo.aside g.N.Undo.mark_room c.args.machine.now c.args.ask.now c.args.first c.args.act c.args.opening.now c.loop-place.opening c.args.store.now c.loop-place.store c.args.board.now c.loop-place.board c.mark-mark.new.self c.mark-mark.result.0
+    (take c.args.hold c.args.choice.places) c.loop-place.place c.get-2.result.now tried c.try_place.new.self
+    (refused-since g.N.Network.net g.N.Undo.content g.N.Undo.past g.N.Undo.aside g.N.Undo.mark_room c.args.machine.now c.args.ask.now c.args.first c.args.act c.args.opening.now c.loop-place.opening c.args.store.now c.loop-place.store c.args.board.now c.loop-place.board c.mark-mark.new.self c.mark-mark.result.0
+    (take c.args.hold c.args.choice.places) c.loop-place.place c.get-2.result.now tried c.try_place.new.self p.past p.loaded p.marks c.in-Err-UpToHere.ensures.back) c.in-Err-UpToHere.ensures.late in
+    back-now g.N.Network.net g.N.Undo.content g.N.Undo.past g.N.Undo.aside g.N.Undo.mark_room c.args.machine.now c.args.ask.now c.args.first c.args.act c.args.opening.now c.loop-place.opening c.args.store.now c.loop-place.store c.args.board.now c.loop-place.board c.mark-mark.new.self c.mark-mark.result.0
+    (take c.args.hold c.args.choice.places) c.loop-place.place c.get-2.result.now tried c.try_place.new.self c.undo_to.new.self c.loop-place.opening c.loop-place.store after
+    (record { content_then = u.content; past_less = u.past; aside_same = u.aside; room_same = u.room })

@@ -10,7 +10,7 @@ use Rattle.tp_search.proofs.children.+place_rest.Given as goal
 abbrev pub decreases-place_rest : goal.decreases-place_rest
 decreases-place_rest g l = length (holds_of_act (action_at l.machine.now l.act.0)) - l.hold
 
--- the children with smaller places were looked at, and the board is back
+-- the children with later places were looked at, and the board is back
 abbrev pub invariant-loop-place : goal.invariant-loop-place
 invariant-loop-place g l = record {
   progress : IsAtProgress l.machine l.board.plans l.ask l.opening l.store (up_to l.act.0 (take l.hold l.choice.places ++ l.place ∷ []));
