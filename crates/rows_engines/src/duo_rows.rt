@@ -6,7 +6,9 @@ ghost use Rattle.tp_routes.specs.Tables.{IsMadeFor as IsTableFor};
 use crate::board_rows::bounds;
 use crate::by_hand::{board_for, machine_of};
 use crate::flying_rows::way_out_behind_a_front;
-use crate::planned_rows::{choices_of_the_second, place_before_the_first_is_late, plans_in_turn};
+use crate::planned_rows::{
+    choices_of_the_second, place_before_the_first_is_late, places_from_the_end, plans_in_turn,
+};
 use crate::reason_rows::{late_end_is_a_chain, late_place_is_a_circle};
 use crate::rooms_rows::{copy_in_flight, new_copies, rooms_for};
 use crate::search_rows::{
@@ -52,6 +54,7 @@ fn look_at_plans<N: Network>(
     plans_in_turn(rt, alloc, board, rooms, machine)?;
     choices_of_the_second(rt, alloc, board, rooms, machine)?;
     place_before_the_first_is_late(rt, alloc, board, rooms, machine)?;
+    places_from_the_end(rt, alloc, board, rooms, machine)?;
     way_out_behind_a_front(rt, alloc, board, rooms, machine)?;
     late_place_is_a_circle(rt, alloc, board, rooms, machine)?;
     late_end_is_a_chain(rt, alloc, board, rooms, machine)

@@ -15,7 +15,7 @@ ghost use Rattle.rows_engines.specs.Telling.{IsTold};
 use std::test::Fail;
 use tp_base::{Late, Network, Tick, Undo};
 use tp_machine::{ActId, Machine, State, allowed, regress};
-use tp_placing::{Board, marks_keep_boards};
+use tp_placing::{Board, Refused, marks_keep_boards};
 use tp_routes::Rooms;
 use tp_schedule::{Ask, Goal, Schedule, finished, is_plan_live, is_start};
 
@@ -238,6 +238,40 @@ pub(crate) fn bounds_where_late<N: Network>(
     }
     let bounds = [before, opened, board.end_bound()];
     Ok((bounds, board.places(resource)))
+}
+
+/// What becomes of the hold of an action at a place, once the action is opened: None where it stands there.
+pub(crate) fn tried_at<N: Network>(
+    board: &mut Board<N>,
+    machine: &Machine,
+    ask: &Ask,
+    state: State,
+    choice: (ActId, u32, u32),
+) -> Result<Option<Refused>, Fail>
+    requires kept { kept_of ask.now ≤ 10 }
+    requires laid { IsLaid N.net N.content N.past board.old machine.now ask.now state 0 }
+    ensures { IsSameLoad board.old board.new }
+{
+    let (act, room, place) = choice;
+    if u32::from(act.0) >= machine.actions.len() {
+        return Err(Fail::from("the action is lost"));
+    }
+    let holds = &machine.actions.get(act.0 as u32).holds;
+    if holds.len() != 1 {
+        return Err(Fail::from("the action has not one hold"));
+    }
+    let resource = holds.get(0).resource;
+    if u32::from(resource.0) >= machine.resources.len() || place > board.places(resource) {
+        return Err(Fail::from("there is no such place"));
+    }
+    match board.open_action(machine, act, room) {
+        Ok(()) => {}
+        Err(Late) => return Err(Fail::from("the action is refused")),
+    }
+    match board.try_place(machine, 0, place) {
+        Ok(()) => Ok(None),
+        Err(refused) => Ok(Some(refused)),
+    }
 }
 
 /// Lays a way, of which the last choice is told first, from the goal on.

@@ -8,13 +8,13 @@ ghost use Rattle.tp_schedule.specs.declared.parts.Origin.TheVariants.{Feeder};
 ghost use Rattle.rows_engines.specs.Laying.{IsLaid};
 
 use crate::by_hand::{FEED, OUT, PRINT1, PRINT2, ask_for, goal_of, name_of};
-use crate::laying::{begin, bound_with, bounds_where_late, follow, is_askable, lay};
+use crate::laying::{begin, bound_with, bounds_where_late, follow, is_askable, lay, tried_at};
 use std::alloc::Global;
 use std::process::Abort;
 use std::test::Fail;
 use tp_base::{Network, Tick};
 use tp_machine::{ActId, Machine, State};
-use tp_placing::Board;
+use tp_placing::{Board, Refused};
 use tp_routes::Rooms;
 use tp_schedule::{Ask, Schedule};
 
@@ -278,5 +278,27 @@ pub(crate) fn place_before_the_first_is_late<N: Network>(
     let (ask, state) = second_begun(alloc, board, rooms, machine, &[])?;
     let told = bounds_where_late(board, machine, &ask, state, OUT, 8)?;
     assert_eq!(rt; told, ([15, 15, 15], 1));
+    Ok(())
+}
+
+/// The second sheet's way out, tried from the end of the order: behind the first sheet, and at no place before.
+pub(crate) fn places_from_the_end<N: Network>(
+    rt: &impl Abort,
+    alloc: Global,
+    board: &mut Board<N>,
+    rooms: &mut Rooms,
+    machine: &Machine,
+) -> Result<(), Fail>
+    requires made { IsMadeFor board.old.made_for machine.now }
+    requires table { IsTableFor rooms.old machine.now }
+    ensures made { OnOk result (IsMadeFor board.new.made_for machine.now) }
+    ensures table { OnOk result (IsTableFor rooms.new machine.now) }
+{
+    let (ask, state) = second_begun(alloc, board, rooms, machine, &[])?;
+    let behind = tried_at(board, machine, &ask, state, (OUT, 8, 1))?;
+    assert_eq!(rt; behind, None);
+    let (ask, state) = second_begun(alloc, board, rooms, machine, &[])?;
+    let before = tried_at(board, machine, &ask, state, (OUT, 8, 0))?;
+    assert_eq!(rt; before, Some(Refused::UpToHere));
     Ok(())
 }
