@@ -3,17 +3,13 @@ ghost use Rattle.std.specs.Prelude.{◌≡◌, ℕ, ◌<◌, ◌≤◌, length, 
 ghost use Rattle.tp_stn_undo.specs.Flags.{AreIdle, AreBelow};
 
 use std::alloc::{AllocError, Global};
+use std::collections::VecDeque;
 use std::marker::Model;
-use std::mem;
 
 /// The points whose edges have to be followed, each once, first come first served.
 #[derive(Drop)]
 pub(crate) struct Waiting {
-    /// Those from `at` on come next,
-    now: Vec<u32>,
-    at: usize,
-    /// and these after them.
-    later: Vec<u32>,
+    line: VecDeque<u32>,
     /// For each point whether it is among them.
     waits: Vec<bool>,
 }
@@ -41,9 +37,7 @@ impl Waiting {
             unreachable!()
         };
         Ok(Waiting {
-            now: Vec::with_capacity(alloc, points)?,
-            at: 0,
-            later: Vec::with_capacity(alloc, points)?,
+            line: VecDeque::with_capacity(alloc, points)?,
             waits,
         })
     }
@@ -58,7 +52,7 @@ impl Waiting {
     {
         if !self.waits[point as usize] {
             self.waits[point as usize] = true;
-            self.later.push_reserved(point);
+            self.line.push_back_reserved(point);
         }
     }
 
@@ -71,19 +65,13 @@ impl Waiting {
         ensures same { IfNone result (self.new.flags ≡ self.old.flags) }
         ensures none { IfNone result (self.new.points ≡ []) }
     {
-        if self.at == self.now.len() {
-            self.now.clear();
-            self.at = 0;
-            mem::swap(&mut self.now, &mut self.later);
-            let count = self.now.len();
-            if count == 0 {
-                return None;
+        match self.line.pop_front() {
+            Some(point) => {
+                self.waits[point as usize] = false;
+                Some(point)
             }
+            None => None,
         }
-        let point = self.now[self.at];
-        self.at += 1;
-        self.waits[point as usize] = false;
-        Some(point)
     }
 
     /// Takes all.

@@ -1,11 +1,10 @@
-use Rattle.std.proofs.Common.{arith, ◌≡◌, ◌∙◌, ◌++◌, [], ◌∷◌, ◌<◌, ◌≤◌, false, true, ap, sym, length, drop, subst, set, append_assoc}
-use Rattle.std.proofs.lemmas.List.{length-set, length-append, get_or_read}
+use Rattle.std.proofs.Common.{arith, ◌≡◌, ◌∙◌, ◌++◌, [], ◌∷◌, ◌<◌, ◌≤◌, false, true, ap, sym, length, subst, set}
+use Rattle.std.proofs.lemmas.List.{length-set, get_or_read}
 use Rattle.std.proofs.lemmas.List.Elements.{All-push}
 use Rattle.tp_stn_undo.specs.Flags.{flag, AreHeld, AreBelow, Waits}
-use Rattle.tp_stn_undo.specs.Waits.{points_left}
 use Rattle.tp_stn_undo.proofs.FlagFacts.{held_push, held_few, flagged-lt}
 use Rattle.tp_stn_undo.proofs.waiting.Waiting.push.Goals as goal
-use Rattle.tp_stn_undo.proofs.waiting.Waiting.push.Goals.{After-index, After-push_reserved}
+use Rattle.tp_stn_undo.proofs.waiting.Waiting.push.Goals.{After-index, After-push_back_reserved}
 
 known : (c : After-index) → c.args.point < length c.self.inside.waits.items
 known c = let v = ap (λ (w : Waits). length w.flags) c.self.view_is in let r = c.requires in omega arith
@@ -13,47 +12,39 @@ known c = let v = ap (λ (w : Waits). length w.flags) c.self.view_is in let r = 
 free : (c : After-index) → c.index.result.now ≡ false → flag c.self.inside.waits.items c.args.point ≡ false
 free c e = sym (get_or_read c.self.inside.waits.items c.args.point c.index.result.now (known c) c.index.ensures false) ∙ e
 
-after : (c : After-push_reserved) → AreHeld (set c.self.inside.waits.items c.args.point true) (drop c.self.inside.at c.self.inside.now.items ++ c.push_reserved.new.self.items)
+after : (c : After-push_back_reserved) → AreHeld (set c.self.inside.waits.items c.args.point true) c.push_back_reserved.new.self.items
 after c =
     let a = c.self.inside in
     let k = (goal.at.invariant_of-self c).After-index in
-    rw c.push_reserved.ensures.items (subst (AreHeld (set a.waits.items c.args.point true)) (append_assoc (drop a.at a.now.items) a.later.items (c.args.point ∷ [])) (held_push a.waits.items (points_left a) c.args.point (known k) (free k c.if-not-index.true) c.self.invariant.held))
+    rw c.push_back_reserved.ensures.items (held_push a.waits.items a.line.items c.args.point (known k) (free k c.if-not-index.true) c.self.invariant.held)
 
 pub invariant_of-self : goal.invariant_of-self
 invariant_of-self c =
-    let inv = c.self.invariant in
     let a = c.self.inside in
     let l = length-set a.waits.items c.args.point true in
-    let n = inv.now in
-    let m = inv.later in
-    let cap = c.push_reserved.ensures.capacity in
-    record {
-      held = after c;
-      within = inv.within;
-      now = omega arith;
-      later = omega arith;
-    }
+    let n = c.self.invariant.room in
+    let cap = c.push_back_reserved.ensures.capacity in
+    record { held = after c; room = omega arith }
 
-pub push_reserved-requires : goal.push_reserved-requires
-push_reserved-requires c =
-    let k = (goal.at.push_reserved-requires c).After-index in
+pub push_back_reserved-requires : goal.push_back_reserved-requires
+push_back_reserved-requires c =
+    let k = (goal.at.push_back_reserved-requires c).After-index in
     let inv = c.self.invariant in
     let a = c.self.inside in
-    let m = inv.later in
+    let m = inv.room in
     let lt = flagged-lt a.waits.items c.args.point (known k) (free k c.if-not-index.true) in
     let s = inv.held.short in
-    let l = length-append (drop a.at a.now.items) a.later.items in
-    let ok = a.later.ok.0 in
+    let ok = a.line.ok in
     omega arith
 
 pub returns-then-not-index-clause-few : goal.returns-then-not-index-clause-few
-returns-then-not-index-clause-few c = held_few (set c.self.inside.waits.items c.args.point true) (drop c.self.inside.at c.self.inside.now.items ++ c.push_reserved.new.self.items) (after (goal.at.returns-then-not-index-clause-few c).After-push_reserved)
+returns-then-not-index-clause-few c = held_few (set c.self.inside.waits.items c.args.point true) c.push_back_reserved.new.self.items (after (goal.at.returns-then-not-index-clause-few c).After-push_back_reserved)
 
 pub returns-else-not-index-clause-few : goal.returns-else-not-index-clause-few
-returns-else-not-index-clause-few c = subst (λ (w : Waits). length w.points ≤ length w.flags) c.self.view_is (held_few c.self.inside.waits.items (points_left c.self.inside) c.self.invariant.held)
+returns-else-not-index-clause-few c = subst (λ (w : Waits). length w.points ≤ length w.flags) c.self.view_is (held_few c.self.inside.waits.items c.self.inside.line.items c.self.invariant.held)
 
 pub returns-then-not-index-clause-known : goal.returns-then-not-index-clause-known
 returns-then-not-index-clause-known c = λ count h all.
     let a = c.self.inside in
-    rw c.push_reserved.ensures.items (subst (AreBelow count) (append_assoc (drop a.at a.now.items) a.later.items (c.args.point ∷ []))
-    (All-push (λ q. q < count) (points_left a) c.args.point (subst (λ (w : Waits). AreBelow count w.points) (sym c.self.view_is) all) h))
+    rw c.push_back_reserved.ensures.items
+    (All-push (λ q. q < count) a.line.items c.args.point (subst (λ (w : Waits). AreBelow count w.points) (sym c.self.view_is) all) h)
