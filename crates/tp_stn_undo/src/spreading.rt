@@ -22,6 +22,7 @@ use tp_base::{Kept, PointId};
 
 /// Raises the end of an edge, given by its number counted from 1, to what the edge asks for, which is more; or, where that
 /// passes the upper bound, says which point that is.
+#[inline(always)]
 fn raise_along(
     caps: &[u32],
     links: &[Link],
@@ -79,6 +80,7 @@ fn raise_along(
 
 /// Follows an edge that asks for more, given by its number counted from 1. Where a point has to pass its upper bound, or the
 /// watched point rises and the causes lead round, writes what shows that there is no solution.
+#[inline(always)]
 pub(crate) fn follow(
     caps: &[u32],
     links: &[Link],

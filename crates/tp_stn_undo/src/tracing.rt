@@ -13,6 +13,7 @@ use tp_base::{Edge, Full, PointId, Trail};
 /// Writes the causes that lead to a point, the first first. Gives the point that they begin at, which has none; or
 /// `None` where they lead round, and then the path is the way round. `places` is working space of zeros. Takes time for
 /// the path alone.
+#[inline(never)]
 pub(crate) fn trace_causes(
     spots: &[Spot],
     links: &[Link],
