@@ -18,3 +18,4 @@ pub mod LiveFacts
 pub mod LinkedFacts
 pub mod SoundFacts
 pub mod ChangeFacts
+pub mod BitFacts

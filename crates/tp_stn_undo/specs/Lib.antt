@@ -4,6 +4,7 @@ pub mod Marks
 pub mod Stacks
 pub mod LiveState
 pub mod Flags
+pub mod Bits
 pub mod Waits
 pub mod Notes
 pub mod Spreading
