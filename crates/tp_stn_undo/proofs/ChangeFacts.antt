@@ -13,8 +13,9 @@ use Rattle.tp_stn_undo.specs.declared.links.Link.{Link}
 use Rattle.tp_stn_undo.specs.declared.spots.SavedSpot.{SavedSpot}
 use Rattle.tp_stn_undo.specs.declared.live.LiveNet.TheInside.{Inside}
 use Rattle.tp_stn_undo.specs.Spots.{IsSound, lows_of, times_of, edges_of, causes_of}
-use Rattle.tp_stn_undo.specs.Marks.{past_of, AreStacked, AreSaved, AreLinks}
-use Rattle.tp_stn_undo.specs.Stacks.{IsStack, CanSave}
+use Rattle.tp_stn_undo.specs.Flags.{AreKnown}
+use Rattle.tp_stn_undo.specs.Marks.{past_of, AreLinks}
+use Rattle.tp_stn_undo.specs.Stacks.{IsStack, CanSave, CanRestore}
 use Rattle.tp_stn_undo.specs.Spreading.{SpotsRise, LeadsBack}
 use Rattle.tp_stn_undo.specs.Lifting.{Lifts}
 use Rattle.tp_stn_undo.specs.Live.{HasRoom, IsLive}
@@ -25,37 +26,44 @@ use Rattle.tp_stn_undo.proofs.FollowFacts.{risen_supported}
 use Rattle.tp_stn_undo.proofs.SoundFacts.{edges_push, supported_more, numbered_longer, known_push, solution_less, sound_risen}
 
 module _ (a : Inside) (inv : IsLive a) where
-  pub stack_of : (edges : ℕ) → length a.links.items ≤ edges → IsStack a.marks.items a.saved.items a.newest.items edges a.point_room
-  stack_of edges h =
-      let n = inv.kept.len in
-      let p = inv.points in
-      record {
-        stacked = stacked_grown a.marks.items _ _ _ _ _ _ _ (omega arith) h (omega arith) inv.stacked;
-        kept = rw n inv.kept;
-        fits = omega arith;
-        filled = inv.saved;
-      }
+  pub stack_of : (edges : ℕ) → length a.links.items ≤ edges → IsStack a.saves.marks.items a.saves.saved.items a.saves.since.words.items (length a.spots.items) edges a.saves.points
+  stack_of edges h = record {
+    stacked = stacked_grown a.saves.marks.items _ _ _ _ _ _ _ (omega arith) h (omega arith) inv.stacked;
+    kept = inv.kept;
+    flagged = inv.flagged;
+    fits = inv.points;
+    filled = inv.saved;
+  }
 
-  pub can_save : CanSave a.marks.items a.saved.items a.newest.items (vec_capacity a.saved)
-  can_save =
-      let m = mul-le-mul_left a.point_room inv.marks in
+  pub can_save : (changed : List SavedSpot) → AreKnown (length a.spots.items) changed → CanSave a.saves.marks.items a.saves.saved.items a.saves.since.words.items a.saves.points (vec_capacity a.saves.saved) changed
+  can_save changed known =
+      let m = mul-le-mul_left a.saves.points inv.marks in
       let s = inv.room.saved in
       let t = inv.room.small in
-      record { edges = length a.links.items; room = a.point_room; stack = stack_of (length a.links.items) (omega arith); enough = omega arith; small = omega arith }
+      let f = inv.room.flags in
+      record { points = length a.spots.items; edges = length a.links.items; stack = stack_of (length a.links.items) (omega arith); known = known; enough = omega arith; flags = omega arith; small = omega arith }
+
+  pub can_restore : CanRestore a.saves
+  can_restore =
+      let m = mul-le-mul_left a.saves.points inv.marks in
+      let t = inv.room.small in
+      let f = inv.room.flags in
+      record { points = length a.spots.items; edges = length a.links.items; stack = stack_of (length a.links.items) (omega arith); flags = omega arith; small = omega arith }
 
 -- what holds of lists holds of the network that has them
-pub live_of : (a : Inside) (S : List Spot) (L : List Link) (H N : List ℕ) (V : List SavedSpot) → a.spots.items ≡ S → a.links.items ≡ L → a.heads.items ≡ H → a.newest.items ≡ N → a.saved.items ≡ V
-    → length S ≤ a.point_room → length L ≤ a.edge_room → length a.marks.items ≤ a.mark_room → HasRoom a → AtRest a.working → IsStack a.marks.items V N (length L) a.point_room → length N ≡ length S → AreLinks L H (length S)
-    → IsSound (record { spots = S; caps = a.caps.items; links = L }) → All IsSound (past_of a.marks.items V S a.caps.items L) → IsLive a
-live_of a S L H N V es el eh en ev points edges marks room rest stack n linked sound past = record {
+pub live_of : (a : Inside) (S : List Spot) (L : List Link) (H : List ℕ) (V : List SavedSpot) → a.spots.items ≡ S → a.links.items ≡ L → a.heads.items ≡ H → a.saves.saved.items ≡ V
+    → length S ≤ a.saves.points → length L ≤ a.edge_room → length a.saves.marks.items ≤ a.mark_room → HasRoom a → AtRest a.working → IsStack a.saves.marks.items V a.saves.since.words.items (length S) (length L) a.saves.points → AreLinks L H (length S)
+    → IsSound (record { spots = S; caps = a.caps.items; links = L }) → All IsSound (past_of a.saves.marks.items V S a.caps.items L) → IsLive a
+live_of a S L H V es el eh ev points edges marks room rest stack linked sound past = record {
   points = rw es points;
   edges = rw el edges;
   marks = marks;
   saved = rw ev stack.filled;
   room = room;
   rest = rest;
-  stacked = rw (es, el, ev) (subst (λ (k : ℕ). AreStacked a.marks.items k (length L) (length V) a.point_room) n stack.stacked);
-  kept = rw (es, en, ev) (subst (λ (k : ℕ). AreSaved a.marks.items V N k) n stack.kept);
+  stacked = rw (es, el, ev) stack.stacked;
+  kept = rw (es, ev) stack.kept;
+  flagged = rw ev stack.flagged;
   linked = rw (es, el, eh) linked;
   sound = rw (es, el) sound;
   past = rw (es, el, ev) past;

@@ -1,9 +1,11 @@
 pub mod SavedFacts
 pub mod StackFacts
 pub mod LinkFacts
+pub mod FlaggedFacts
 pub mod KeepFacts
 pub mod PastFacts
 pub mod UndoFacts
+pub mod BackFacts
 pub mod StackedFacts
 pub mod FlagFacts
 pub mod NoteFacts

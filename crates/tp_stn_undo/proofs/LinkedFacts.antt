@@ -50,13 +50,13 @@ links_pointed links heads points known a = record {
 }
 
 -- back to a mark
-pub links_undone : (links : List Link) (heads : List ℕ) (points edges n : ℕ) → edges ≤ length links → n ≤ points → AreLinks links heads points → AreLinks (take edges links) (relinked by_link (drop edges links) (take n heads)) n
+pub links_undone : (links : List Link) (heads : List ℕ) (points edges n : ℕ) → edges ≤ length links → n ≤ points → AreLinks links heads points → AreLinks (take edges links) (relinked (drop edges links) (take n heads)) n
 links_undone links heads points edges n below fewer a =
     let len : length (take n heads) ≡ n = (let l = a.len in length-take-le n heads (omega arith)) in
     let whole : take edges links ++ drop edges links ≡ links = take-append-drop edges links in
     record {
-      len = length-relinked by_link (drop edges links) (take n heads) ∙ len;
-      head_is = λ v h. relinked_newest by_link (take edges links) (drop edges links) (take n heads) v (omega arith) (rw whole a.linked)
+      len = length-relinked (drop edges links) (take n heads) ∙ len;
+      head_is = λ v h. relinked_newest (take edges links) (drop edges links) (take n heads) v (omega arith) (rw whole a.linked)
           (get_or-take n heads v 0 h ∙ a.head_is v (omega arith) ∙ ap (λ (xs : List Link). newest_of by_link xs v) (sym whole));
       linked = λ j e g. (let t = slice_get_take edges links j e g in let i = t.0 in
           a.linked j e t.1 ∙ ap (λ (xs : List Link). newest_of by_link xs e.edge.from.0) (sym (take-take j edges links (omega arith))));

@@ -1,16 +1,15 @@
 -- The networks at the marks in force stay as the net changes, and going back gives them.
-use Rattle.std.proofs.Common.{◌≡◌, ℕ, ◌-◌, ◌<◌, ◌≤◌, Bool, true, false, List, [], ◌∷◌, ◌++◌, length, slice_index, get_or, take, drop, set, Some, sym, refl, ap, ◌∙◌, arith, cond, inl, inr}
+use Rattle.std.proofs.Common.{◌≡◌, ℕ, ◌-◌, ◌+◌, ◌<◌, ◌≤◌, Bool, true, false, List, [], ◌∷◌, ◌++◌, length, get_or, take, drop, set, Some, sym, refl, ap, ◌∙◌, arith, inl, inr}
 use Rattle.std.proofs.lemmas.List.{map-append, drop-append-le, take-append-le, take_all, take-take, take-map, take-append-drop, set-set, set-get_or, length-take-le, drop_all}
 use Rattle.std.specs.List.{slice_get}
-use Rattle.tp_base.specs.declared.edges.PointId.{PointId}
 use Rattle.tp_stn_undo.specs.Spots.{Core}
 use Rattle.tp_stn_undo.specs.declared.spots.Spot.{Spot}
 use Rattle.tp_stn_undo.specs.declared.links.Link.{Link}
 use Rattle.tp_base.proofs.SliceFacts.{map_same, take_set, slice_get_take, slice_get_drop}
 use Rattle.tp_stn_undo.specs.declared.marks.LiveMark.{LiveMark}
 use Rattle.tp_stn_undo.specs.declared.spots.SavedSpot.{SavedSpot}
-use Rattle.tp_stn_undo.specs.Saved.{restored, by_saved, is_due, saved_after}
-use Rattle.tp_stn_undo.specs.Marks.{core_at, past_of, AreStacked, AreSaved}
+use Rattle.tp_stn_undo.specs.Saved.{restored, by_saved, newest_of, is_saved, saved_after}
+use Rattle.tp_stn_undo.specs.Marks.{core_at, past_of, AreStacked}
 use Rattle.tp_stn_undo.proofs.SavedFacts.{restored-append, take-restored, restored_ignores, newest_names}
 use Rattle.tp_stn_undo.proofs.LinkFacts.{not_due}
 
@@ -37,37 +36,32 @@ module _ (marks : List LiveMark) (saved : List SavedSpot) (spots : List Spot) (c
       map-append (core_at saved spots caps links) marks (m ∷ []) ∙ ap (λ n. past_of marks saved spots caps links ++ n ∷ []) new
 
   -- a point changes, and what it was is saved where it is due
-  module _ (newest : List ℕ) (p : PointId) (x spot d : Spot) (a : AreSaved marks saved newest (length spots)) (h : p.0 < length spots) (was : spot ≡ get_or spots p.0 d) where
-    abbrev entry : SavedSpot
-    entry = record { point = p; spot = spot; older = slice_index newest p.0 }
-
-    raised_due : (m : LiveMark) → m.saved ≤ length saved → restored (drop m.saved (saved ++ entry ∷ [])) (take m.points (set spots p.0 x)) ≡ restored (drop m.saved saved) (take m.points spots)
+  module _ (entry : SavedSpot) (x d : Spot) (j : ℕ) (last : j + 1 ≡ length marks) (was : entry.spot ≡ get_or spots entry.point.0 d) where
+    raised_due : (m : LiveMark) → m.saved ≤ length saved → restored (drop m.saved (saved ++ entry ∷ [])) (take m.points (set spots entry.point.0 x)) ≡ restored (drop m.saved saved) (take m.points spots)
     raised_due m b =
-        ap (λ ss. restored ss (take m.points (set spots p.0 x))) (drop-append-le m.saved saved (entry ∷ []) b)
-        ∙ restored-append (drop m.saved saved) (entry ∷ []) (take m.points (set spots p.0 x))
+        let p = entry.point.0 in
+        ap (λ ss. restored ss (take m.points (set spots p x))) (drop-append-le m.saved saved (entry ∷ []) b)
+        ∙ restored-append (drop m.saved saved) (entry ∷ []) (take m.points (set spots p x))
         ∙ ap (restored (drop m.saved saved))
-        (sym (take_set m.points (set spots p.0 x) p.0 spot)
-        ∙ ap (take m.points) (set-set spots p.0 x spot ∙ ap (set spots p.0) was ∙ set-get_or spots p.0 d))
+        (sym (take_set m.points (set spots p x) p entry.spot)
+        ∙ ap (take m.points) (set-set spots p x entry.spot ∙ ap (set spots p) was ∙ set-get_or spots p d))
 
-    raised_not_due : (m : LiveMark) → m.saved < slice_index newest p.0 → restored (drop m.saved saved) (take m.points (set spots p.0 x)) ≡ restored (drop m.saved saved) (take m.points spots)
+    raised_not_due : (m : LiveMark) → m.saved < newest_of by_saved saved entry.point.0 → restored (drop m.saved saved) (take m.points (set spots entry.point.0 x)) ≡ restored (drop m.saved saved) (take m.points spots)
     raised_not_due m b =
-        let is = a.newest_is p.0 h in
-        elim (newest_names by_saved saved p.0) [
+        let p = entry.point.0 in
+        elim (newest_names by_saved saved p) [
           | inl z ↦ absurd (omega arith)
           | inr n ↦ (
               let place = n.place_is in
               let at : slice_get (drop m.saved saved) (n.at - m.saved) ≡ Some n.entry = slice_get_drop m.saved saved (n.at - m.saved) ∙ ap (slice_get saved) (omega arith) ∙ n.get in
-              ap (restored (drop m.saved saved)) (take_set m.points spots p.0 x) ∙ restored_ignores (drop m.saved saved) (take m.points spots) p.0 x (n.at - m.saved) n.entry at n.point)
+              ap (restored (drop m.saved saved)) (take_set m.points spots p x) ∙ restored_ignores (drop m.saved saved) (take m.points spots) p x (n.at - m.saved) n.entry at n.point)
         ]
 
-    past_raised_by : (b : Bool) → is_due marks (slice_index newest p.0) ≡ b → past_of marks (cond b (saved ++ entry ∷ []) saved) (set spots p.0 x) caps links ≡ past_of marks saved spots caps links
-    past_raised_by true e = map_same (core_at (saved ++ entry ∷ []) (set spots p.0 x) caps links) (core_at saved spots caps links) marks (λ k m g.
+    pub past_raised : (b : Bool) → is_saved marks saved j entry.point.0 ≡ b → past_of marks (saved_after b saved entry) (set spots entry.point.0 x) caps links ≡ past_of marks saved spots caps links
+    past_raised false e = map_same (core_at (saved ++ entry ∷ []) (set spots entry.point.0 x) caps links) (core_at saved spots caps links) marks (λ k m g.
         same_core _ _ _ _ _ _ (raised_due m (s.saved_below k m g)) refl refl)
-    past_raised_by false e = map_same (core_at saved (set spots p.0 x) caps links) (core_at saved spots caps links) marks (λ k m g.
-        same_core _ _ _ _ _ _ (raised_not_due m (not_due marks (length spots) (length links) (length saved) room (slice_index newest p.0) k m s e g)) refl refl)
-
-    pub past_raised : past_of marks (saved_after marks saved newest p spot) (set spots p.0 x) caps links ≡ past_of marks saved spots caps links
-    past_raised = past_raised_by (is_due marks (slice_index newest p.0)) refl
+    past_raised true e = map_same (core_at saved (set spots entry.point.0 x) caps links) (core_at saved spots caps links) marks (λ k m g.
+        same_core _ _ _ _ _ _ (raised_not_due m (not_due marks saved (length spots) (length links) room j entry.point.0 k m s last e g)) refl refl)
 
   -- back to a mark
   pub past_undone : (k : ℕ) (m : LiveMark) → slice_get marks k ≡ Some m

@@ -3,7 +3,7 @@ use Rattle.std.specs.Prelude.{◌*◌, ◌≤◌, ◌<◌, ◌^◌, List, length
 use Rattle.std.specs.List.{All}
 use Rattle.tp_stn_undo.specs.declared.live.LiveNet.TheInside.{Inside}
 use Rattle.tp_stn_undo.specs.Spots.{Core, IsSound, net_of_core, edges_of, causes_of}
-use Rattle.tp_stn_undo.specs.Marks.{past_of, nets_of, AreStacked, AreSaved, AreLinks}
+use Rattle.tp_stn_undo.specs.Marks.{past_of, nets_of, AreStacked, AreSaved, AreFlagged, AreLinks}
 use Rattle.tp_stn_undo.specs.LiveState.{LiveState}
 use Rattle.tp_stn_undo.specs.Working.{HasWorkingRoom, AtRest}
 
@@ -11,14 +11,14 @@ abbrev pub core_in : Inside → Core
 core_in a = record { spots = a.spots.items; caps = a.caps.items; links = a.links.items }
 
 abbrev pub past_in : Inside → List Core
-past_in a = past_of a.marks.items a.saved.items a.spots.items a.caps.items a.links.items
+past_in a = past_of a.saves.marks.items a.saves.saved.items a.spots.items a.caps.items a.links.items
 
 abbrev pub state_of : Inside → LiveState
 state_of a = record {
   net = net_of_core (core_in a);
   past = nets_of (past_in a);
   causes = causes_of (edges_of a.links.items) a.spots.items;
-  point_room = a.point_room;
+  point_room = a.saves.points;
   edge_room = a.edge_room;
   mark_room = a.mark_room;
   kept = a.kept;
@@ -27,26 +27,27 @@ state_of a = record {
 
 -- room for all that the network was made for
 pub record HasRoom (a : Inside) : Type 0 where
-  pub spots : a.point_room ≤ vec_capacity a.spots
-  pub caps : a.point_room ≤ vec_capacity a.caps
+  pub spots : a.saves.points ≤ vec_capacity a.spots
+  pub caps : a.saves.points ≤ vec_capacity a.caps
   pub links : a.edge_room ≤ vec_capacity a.links
-  pub heads : a.point_room ≤ vec_capacity a.heads
-  pub working : HasWorkingRoom a.point_room a.working
-  pub saved : a.point_room * a.mark_room ≤ vec_capacity a.saved
-  pub newest : a.point_room ≤ vec_capacity a.newest
-  pub marks : a.mark_room ≤ vec_capacity a.marks
-  pub small : a.point_room * a.mark_room < 2 ^ 32
-  pub narrow : a.point_room < 2 ^ 32
+  pub heads : a.saves.points ≤ vec_capacity a.heads
+  pub working : HasWorkingRoom a.saves.points a.working
+  pub saved : a.saves.points * a.mark_room ≤ vec_capacity a.saves.saved
+  pub flags : a.saves.points * a.mark_room ≤ 64 * length a.saves.since.words.items
+  pub marks : a.mark_room ≤ vec_capacity a.saves.marks
+  pub small : a.saves.points * a.mark_room < 2 ^ 32
+  pub narrow : a.saves.points < 2 ^ 32
 
 pub record IsLive (a : Inside) : Type 0 where
-  pub points : length a.spots.items ≤ a.point_room
+  pub points : length a.spots.items ≤ a.saves.points
   pub edges : length a.links.items ≤ a.edge_room
-  pub marks : length a.marks.items ≤ a.mark_room
-  pub saved : length a.saved.items ≤ length a.marks.items * a.point_room
+  pub marks : length a.saves.marks.items ≤ a.mark_room
+  pub saved : length a.saves.saved.items ≤ length a.saves.marks.items * a.saves.points
   pub room : HasRoom a
   pub rest : AtRest a.working
-  pub stacked : AreStacked a.marks.items (length a.spots.items) (length a.links.items) (length a.saved.items) a.point_room
-  pub kept : AreSaved a.marks.items a.saved.items a.newest.items (length a.spots.items)
+  pub stacked : AreStacked a.saves.marks.items (length a.spots.items) (length a.links.items) (length a.saves.saved.items) a.saves.points
+  pub kept : AreSaved a.saves.marks.items a.saves.saved.items (length a.spots.items)
+  pub flagged : AreFlagged a.saves.marks.items a.saves.saved.items a.saves.since.words.items a.saves.points
   pub linked : AreLinks a.links.items a.heads.items (length a.spots.items)
   pub sound : IsSound (core_in a)
   pub past : All IsSound (past_in a)

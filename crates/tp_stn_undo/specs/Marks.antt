@@ -1,12 +1,13 @@
 -- What stands at the marks in force.
-use Rattle.std.specs.Prelude.{◌≡◌, ℕ, ◌*◌, ◌<◌, ◌≤◌, List, length, take, drop, map, slice_get, slice_index, Some}
+use Rattle.std.specs.Prelude.{◌≡◌, ℕ, ◌+◌, ◌*◌, ◌<◌, ◌≤◌, List, length, take, drop, map, slice_get, slice_index, Some}
 use Rattle.tp_base.specs.Net.{Net}
 use Rattle.tp_stn_undo.specs.declared.spots.Spot.{Spot}
 use Rattle.tp_stn_undo.specs.declared.links.Link.{Link}
 use Rattle.tp_stn_undo.specs.declared.marks.LiveMark.{LiveMark}
 use Rattle.tp_stn_undo.specs.declared.spots.SavedSpot.{SavedSpot}
 use Rattle.tp_stn_undo.specs.Spots.{Core, net_of_core}
-use Rattle.tp_stn_undo.specs.Saved.{restored, newest_of, by_saved, by_link}
+use Rattle.tp_stn_undo.specs.Bits.{has_bit}
+use Rattle.tp_stn_undo.specs.Saved.{restored, newest_of, by_saved, by_link, is_saved}
 
 -- the network at a mark
 abbrev pub core_at : List SavedSpot → List Spot → List ℕ → List Link → LiveMark → Core
@@ -32,14 +33,15 @@ pub record AreStacked (marks : List LiveMark) (points edges saved room : ℕ) : 
   pub edges_rise : (j k : ℕ) (m n : LiveMark) → j < k → slice_get marks j ≡ Some m → slice_get marks k ≡ Some n → m.edges ≤ n.edges
   pub saved_rise : (j k : ℕ) (m n : LiveMark) → j < k → slice_get marks j ≡ Some m → slice_get marks k ≡ Some n → m.saved ≤ n.saved
 
--- saved points; for each the one that was saved before it for its point, and a mark between the two
-pub record AreSaved (marks : List LiveMark) (saved : List SavedSpot) (newest : List ℕ) (points : ℕ) : Type 0 where
-  pub len : length newest ≡ points
-  pub newest_is : (v : ℕ) → v < points → slice_index newest v ≡ newest_of by_saved saved v
-  pub linked : (j : ℕ) (s : SavedSpot) → slice_get saved j ≡ Some s → s.older ≡ newest_of by_saved (take j saved) s.point.0
-  pub parted : (j : ℕ) (s : SavedSpot) → slice_get saved j ≡ Some s → (k : ℕ) × (m : LiveMark) × (slice_get marks k ≡ Some m) × (s.older ≤ m.saved) × (m.saved ≤ j)
+-- saved points; and a mark between each and the one before it for its point
+pub record AreSaved (marks : List LiveMark) (saved : List SavedSpot) (points : ℕ) : Type 0 where
+  pub parted : (j : ℕ) (s : SavedSpot) → slice_get saved j ≡ Some s → (k : ℕ) × (m : LiveMark) × (slice_get marks k ≡ Some m) × (newest_of by_saved (take j saved) s.point.0 ≤ m.saved) × (m.saved ≤ j)
   pub known : (j : ℕ) (s : SavedSpot) → slice_get saved j ≡ Some s → s.point.0 < points
   pub known_then : (k : ℕ) (m : LiveMark) (j : ℕ) (s : SavedSpot) → slice_get marks k ≡ Some m → j < m.saved → slice_get saved j ≡ Some s → s.point.0 < m.points
+
+-- a row of flags for each mark, that tell which points were saved after it and before the next
+abbrev pub AreFlagged : List LiveMark → List SavedSpot → List ℕ → ℕ → Type 0
+AreFlagged marks saved words room = (k v : ℕ) → v < room → has_bit words (k * room + v) ≡ is_saved marks saved k v
 
 -- for each point the newest edge that begins there, and for each edge the one before it
 pub record AreLinks (links : List Link) (heads : List ℕ) (points : ℕ) : Type 0 where

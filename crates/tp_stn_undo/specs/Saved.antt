@@ -1,6 +1,5 @@
 -- What points were before they changed, and how it is put back; and which entry of a list is the newest for a point.
-use Rattle.std.specs.Prelude.{ℕ, suc, ◌+◌, ◌-◌, Bool, false, ◌==◌, nat_le, if◌then◌else◌, List, [], ◌∷◌, ◌++◌, length, slice_get, slice_index, slice_set, Option, Some, None}
-use Rattle.tp_base.specs.declared.edges.PointId.{PointId}
+use Rattle.std.specs.Prelude.{ℕ, suc, Bool, false, ◌==◌, nat_lt, if◌then◌else◌, List, [], ◌∷◌, ◌++◌, take, slice_get, slice_set, Option, Some, None}
 use Rattle.tp_stn_undo.specs.declared.spots.Spot.{Spot}
 use Rattle.tp_stn_undo.specs.declared.links.Link.{Link}
 use Rattle.tp_stn_undo.specs.declared.spots.SavedSpot.{SavedSpot}
@@ -11,42 +10,40 @@ abbrev pub restored : List SavedSpot → List Spot → List Spot
 restored [] spots = spots
 restored (s ∷ ss) spots = slice_set (restored ss spots) s.point.0 s.spot
 
--- the point of an entry, and the place of the one before it for the same point
-pub record Chained (X : Type 0) : Type 0 where
-  pub point : X → ℕ
-  pub older : X → ℕ
+-- for each point the newest edge put back to the one before it, the last first
+abbrev pub relinked : List Link → List ℕ → List ℕ
+relinked [] heads = heads
+relinked (l ∷ ls) heads = slice_set (relinked ls heads) l.edge.from.0 l.older
 
-abbrev pub by_saved : Chained SavedSpot
-by_saved = record { point = λ (s : SavedSpot). s.point.0; older = λ (s : SavedSpot). s.older }
+-- the point of an entry
+abbrev pub by_saved : SavedSpot → ℕ
+by_saved s = s.point.0
 
-abbrev pub by_link : Chained Link
-by_link = record { point = λ (l : Link). l.edge.from.0; older = λ (l : Link). l.older }
-
--- the places of the newest ones put back, the same way
-abbrev pub relinked : {X : Type 0} → Chained X → List X → List ℕ → List ℕ
-relinked by [] newest = newest
-relinked by (s ∷ ss) newest = slice_set (relinked by ss newest) (by.point s) (by.older s)
+abbrev pub by_link : Link → ℕ
+by_link l = l.edge.from.0
 
 -- where the point's last one stands from place k on, counted from 1; where there is none, this
-abbrev pub newest_from : {X : Type 0} → Chained X → ℕ → ℕ → List X → ℕ → ℕ
+abbrev pub newest_from : {X : Type 0} → (X → ℕ) → ℕ → ℕ → List X → ℕ → ℕ
 newest_from by k last [] point = last
-newest_from by k last (s ∷ ss) point = newest_from by (suc k) (if by.point s == point then suc k else last) ss point
+newest_from by k last (s ∷ ss) point = newest_from by (suc k) (if by s == point then suc k else last) ss point
 
-abbrev pub newest_of : {X : Type 0} → Chained X → List X → ℕ → ℕ
+abbrev pub newest_of : {X : Type 0} → (X → ℕ) → List X → ℕ → ℕ
 newest_of by ss point = newest_from by 0 0 ss point
 
--- a mark is in force, and what was saved last for the point was saved before it
-abbrev pub is_due_at : Option LiveMark → ℕ → Bool
-is_due_at None newest = false
-is_due_at (Some m) newest = nat_le newest m.saved
+-- the mark is there, and what stands at the place, counted from 1, was saved after it
+abbrev pub is_after : Option LiveMark → ℕ → Bool
+is_after None place = false
+is_after (Some m) place = nat_lt m.saved place
 
-abbrev pub is_due : List LiveMark → ℕ → Bool
-is_due marks newest = is_due_at (slice_get marks (length marks - 1)) newest
+-- what was saved before the mark; all, where there is none
+abbrev pub saved_before : Option LiveMark → List SavedSpot → List SavedSpot
+saved_before None saved = saved
+saved_before (Some m) saved = take m.saved saved
 
-abbrev pub saved_after : List LiveMark → List SavedSpot → List ℕ → PointId → Spot → List SavedSpot
-saved_after marks saved newest point spot =
-    if is_due marks (slice_index newest point.0) then saved ++ record { point = point; spot = spot; older = slice_index newest point.0 } ∷ [] else saved
+-- the point was saved after the mark with the number and before the next
+abbrev pub is_saved : List LiveMark → List SavedSpot → ℕ → ℕ → Bool
+is_saved marks saved k point = is_after (slice_get marks k) (newest_of by_saved (saved_before (slice_get marks (suc k)) saved) point)
 
-abbrev pub newest_after : List LiveMark → List SavedSpot → List ℕ → PointId → List ℕ
-newest_after marks saved newest point =
-    if is_due marks (slice_index newest point.0) then slice_set newest point.0 (length saved + 1) else newest
+-- one more, unless it is there
+abbrev pub saved_after : Bool → List SavedSpot → SavedSpot → List SavedSpot
+saved_after there saved entry = if there then saved else saved ++ entry ∷ []

@@ -58,11 +58,7 @@ impl Changes {
         let at = point.0 as usize;
         if !self.noted[at] {
             self.noted[at] = true;
-            self.entries.push_reserved(SavedSpot {
-                point,
-                spot,
-                older: 0,
-            });
+            self.entries.push_reserved(SavedSpot { point, spot });
         }
     }
 

@@ -31,17 +31,16 @@ impl Network for LiveNet {
     ghost edges_by_aside = { λ a b e. ap (λ (x : LiveAside). x.edges) e };
 
     fn clear(&mut self) {
+        self.back_to(0);
         self.spots.clear();
         self.caps.clear();
         self.links.clear();
         self.heads.clear();
-        self.saved.clear();
-        self.newest.clear();
-        self.marks.clear();
+        self.saves.saved.clear();
     }
 
     fn point(&mut self, low: Tick, cap: Tick) -> Result<PointId, Full> {
-        if self.spots.len() == self.point_room as usize {
+        if self.spots.len() == self.saves.points as usize {
             return Err(Full);
         }
         let number = self.spots.len() as u32;
@@ -57,9 +56,6 @@ impl Network for LiveNet {
             unreachable!()
         };
         let Ok(()) = self.heads.push(0) else {
-            unreachable!()
-        };
-        let Ok(()) = self.newest.push(0) else {
             unreachable!()
         };
         Ok(PointId(number))
@@ -87,9 +83,10 @@ impl Network for LiveNet {
         ) {
             Ok(()) => {
                 save_all(
-                    &mut self.saved,
-                    &mut self.newest,
-                    &self.marks,
+                    &mut self.saves.saved,
+                    &mut self.saves.since,
+                    &self.saves.marks,
+                    self.saves.points,
                     self.working.changes.as_slice(),
                 );
                 self.working.changes.clear();
@@ -130,9 +127,10 @@ impl Network for LiveNet {
         ) {
             Ok(()) => {
                 save_all(
-                    &mut self.saved,
-                    &mut self.newest,
-                    &self.marks,
+                    &mut self.saves.saved,
+                    &mut self.saves.since,
+                    &self.saves.marks,
+                    self.saves.points,
                     self.working.changes.as_slice(),
                 );
                 self.working.changes.clear();

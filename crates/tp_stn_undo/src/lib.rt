@@ -9,6 +9,7 @@ mod linking;
 mod links;
 mod live;
 mod marks;
+mod saves;
 mod saving;
 mod spots;
 mod spreading;

@@ -1,13 +1,15 @@
 //! The live network.
-ghost use Rattle.std.specs.Prelude.{◌≡◌, ◌<◌, ◌↔◌, [], length, IfOk, OnErr, IsErr};
-ghost use Rattle.tp_base.specs.Net.{empty_net};
+ghost use Rattle.std.specs.Prelude.{◌≡◌, ◌-◌, ◌<◌, ◌≤◌, ◌↔◌, [], length, take, slice_get, Some, IfOk, OnErr, IsErr};
+ghost use Rattle.tp_base.specs.Net.{Net, empty_net};
 ghost use Rattle.tp_base.specs.Refute.{IsCauseChain};
+ghost use Rattle.tp_stn_undo.specs.LiveState.{aside_of};
 ghost use Rattle.tp_stn_undo.specs.Chains.{IsSupport, HasMoreCauses};
 
 use crate::links::Link;
-use crate::marks::LiveMark;
-use crate::spots::{SavedSpot, Spot};
+use crate::saves::Saves;
+use crate::spots::Spot;
 use crate::tracing::write_causes;
+use crate::undoing::restore;
 use crate::working::Working;
 use std::alloc::{AllocError, Global};
 use std::marker::Model;
@@ -18,7 +20,6 @@ use tp_base::{Edge, Full, Kept, Memory, PointId, Trail};
 /// saves each point at most once, when it changes for the first time after the mark.
 #[derive(Drop)]
 pub struct LiveNet {
-    pub(crate) point_room: u32,
     pub(crate) edge_room: u32,
     pub(crate) mark_room: u32,
     pub(crate) spots: Vec<Spot>,
@@ -28,10 +29,7 @@ pub struct LiveNet {
     pub(crate) heads: Vec<u32>,
     pub(crate) working: Working,
     pub(crate) kept: Kept,
-    pub(crate) saved: Vec<SavedSpot>,
-    /// For each point where the last one that was saved stands, counted from 1, or 0.
-    pub(crate) newest: Vec<u32>,
-    pub(crate) marks: Vec<LiveMark>,
+    pub(crate) saves: Saves,
 }
 
 // Clauses see the net, the nets at the marks in force, and what the network was made for.
@@ -57,12 +55,10 @@ impl LiveNet {
         ensures marks { IfOk result (λ n. n.mark_room ≡ marks) }
     {
         let room = points as usize;
-        let saves = room * marks as usize;
-        if saves > u32::MAX as usize {
+        if room * marks as usize > u32::MAX as usize {
             return Err(Memory);
         }
         Ok(LiveNet {
-            point_room: points,
             edge_room: edges,
             mark_room: marks,
             spots: Vec::with_capacity(alloc, room)?,
@@ -71,11 +67,10 @@ impl LiveNet {
             heads: Vec::with_capacity(alloc, room)?,
             working: Working::new(alloc, room)?,
             kept: Kept::Nothing,
-            saved: Vec::with_capacity(alloc, saves)?,
-            newest: Vec::with_capacity(alloc, room)?,
-            marks: Vec::with_capacity(alloc, marks as usize)?,
+            saves: Saves::new(alloc, points, marks)?,
         })
     }
+
     /// Why a point is no earlier: the edges that support its time, one after another, and the point whose lower bound they
     /// start from.
     pub fn chain_of(&self, point: PointId, into: &mut Trail<Edge>) -> Result<PointId, Full>
@@ -90,5 +85,36 @@ impl LiveNet {
         ensures room { into.new.room ≡ into.old.room }
     {
         write_causes(&self.spots, &self.links, point, into)
+    }
+
+    /// Goes back to the newest mark.
+    fn undo_last(&mut self)
+        requires { 0 < length self.old.past }
+        ensures content { slice_get self.old.past (length self.old.past - 1) ≡ Some self.new.net }
+        ensures past { self.new.past ≡ take (length self.old.past - 1) self.old.past }
+        ensures aside { aside_of self.new ≡ aside_of self.old }
+        ensures room { self.new.mark_room ≡ self.old.mark_room }
+    {
+        restore(
+            &mut self.spots,
+            &mut self.caps,
+            &mut self.links,
+            &mut self.heads,
+            &mut self.saves,
+        );
+    }
+
+    /// Goes back mark by mark until so many are left.
+    pub(crate) fn back_to(&mut self, place: usize)
+        requires { place ≤ length self.old.past }
+        ensures content { (net : Net) → slice_get self.old.past place ≡ Some net
+            → net ≡ self.new.net }
+        ensures past { self.new.past ≡ take place self.old.past }
+        ensures aside { aside_of self.new ≡ aside_of self.old }
+        ensures room { self.new.mark_room ≡ self.old.mark_room }
+    {
+        'marks: while self.saves.marks.len() > place {
+            self.undo_last();
+        }
     }
 }

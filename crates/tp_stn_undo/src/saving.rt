@@ -1,87 +1,87 @@
 //! Saving points once for each mark, and putting them back.
-ghost use Rattle.std.specs.Prelude.{◌≡◌, ℕ, ◌+◌, ◌<◌, ◌≤◌, ◌^◌, List, length, take, drop, slice_index, IsTrue, vec_capacity};
+ghost use Rattle.std.specs.Prelude.{◌≡◌, ◌≢◌, ℕ, ◌+◌, ◌*◌, ◌<◌, ◌≤◌, ◌^◌, List, length, take, drop, true, false, vec_capacity};
 ghost use Rattle.tp_stn_undo.specs.declared.spots.Spot.{Spot};
 ghost use Rattle.tp_stn_undo.specs.declared.links.Link.{Link};
-ghost use Rattle.tp_stn_undo.specs.Saved.{is_due, saved_after, newest_after, restored, relinked, by_saved};
-ghost use Rattle.tp_stn_undo.specs.Marks.{past_of};
-ghost use Rattle.tp_stn_undo.specs.Stacks.{IsStack, CanSave};
+ghost use Rattle.tp_stn_undo.specs.declared.marks.LiveMark.{LiveMark};
+ghost use Rattle.tp_stn_undo.specs.Bits.{has_bit};
+ghost use Rattle.tp_stn_undo.specs.Saved.{saved_after, restored};
+ghost use Rattle.tp_stn_undo.specs.Marks.{past_of, IsAt, AreFlagged};
+ghost use Rattle.tp_stn_undo.specs.Stacks.{IsStack, CanSave, HasFlags};
 ghost use Rattle.tp_stn_undo.specs.Flags.{AreKnown};
 
+use crate::bits::Bits;
 use crate::marks::LiveMark;
 use crate::spots::{SavedSpot, Spot};
-use tp_base::PointId;
 
-/// Whether a point was not saved since the newest mark in force, if there is one.
-fn is_due(marks: &[LiveMark], newest: u32) -> bool
-    ensures { result ≡ is_due marks.now newest }
-{
-    match marks.last() {
-        None => false,
-        Some(mark) => newest <= mark.saved,
-    }
-}
-
-/// Saves what a point was, once for each mark. `newest` says for each point where its last one stands, counted from 1.
-pub(crate) fn save(
-    saved: &mut Vec<SavedSpot>,
-    newest: &mut [u32],
-    marks: &[LiveMark],
-    point: PointId,
-    spot: Spot,
-)
-    requires known { point.0 < length newest.old }
-    requires room { IsTrue (is_due marks.now (slice_index newest.old point.0))
+/// Saves what a point was, where its flag is not set, and sets it.
+fn save(saved: &mut Vec<SavedSpot>, since: &mut Bits, at: usize, entry: SavedSpot)
+    requires flag { at < 64 * length since.old.words.items }
+    requires room { has_bit since.old.words.items at ≡ false
         → length saved.old.items < vec_capacity saved.old }
-    requires small { IsTrue (is_due marks.now (slice_index newest.old point.0))
-        → length saved.old.items + 1 < 2 ^ 32 }
-    ensures saved { saved.new.items ≡ saved_after marks.now saved.old.items newest.old point spot }
-    ensures newest { newest.new ≡ newest_after marks.now saved.old.items newest.old point }
-    ensures capacity { vec_capacity saved.old ≤ vec_capacity saved.new }
+    ensures saved { saved.new.items
+        ≡ saved_after (has_bit since.old.words.items at) saved.old.items entry }
+    ensures set { has_bit since.new.words.items at ≡ true }
+    ensures others { (k : ℕ) → k ≢ at
+        → has_bit since.new.words.items k ≡ has_bit since.old.words.items k }
+    ensures flags { length since.new.words.items ≡ length since.old.words.items }
+    ensures capacity { vec_capacity saved.new ≡ vec_capacity saved.old }
 {
-    let at = point.0 as usize;
-    let older = newest[at];
-    if is_due(marks, older) {
-        saved.push_reserved(SavedSpot { point, spot, older });
-        newest[at] = saved.len() as u32;
+    if !since.has(at) {
+        since.set(at);
+        saved.push_reserved(entry);
     }
 }
 
-/// Saves what the points were before a change.
+/// Saves what the points were before a change, where they were not saved since the newest mark. `since` has so many flags
+/// for each mark as there can be points.
 pub(crate) fn save_all(
     saved: &mut Vec<SavedSpot>,
-    newest: &mut [u32],
+    since: &mut Bits,
     marks: &[LiveMark],
+    points: u32,
     changed: &[SavedSpot],
 )
-    requires known { AreKnown (length newest.old) changed.now }
-    requires ready { CanSave marks.now saved.old.items newest.old (vec_capacity saved.old) }
-    ensures stack { (edges room : ℕ)
-        → IsStack marks.now saved.old.items newest.old edges room
-        → IsStack marks.now saved.new.items newest.new edges room }
-    ensures past { (spots : List Spot) (caps : List ℕ) (links : List Link) (room : ℕ)
-        → length spots ≡ length newest.old
-        → IsStack marks.now saved.old.items newest.old (length links) room
+    requires ready { CanSave marks.now saved.old.items since.old.words.items points
+        (vec_capacity saved.old) changed.now }
+    ensures stack { (count edges : ℕ) → AreKnown count changed.now
+        → IsStack marks.now saved.old.items since.old.words.items count edges points
+        → IsStack marks.now saved.new.items since.new.words.items count edges points }
+    ensures past { (spots : List Spot) (caps : List ℕ) (links : List Link)
+        → AreKnown (length spots) changed.now
+        → IsStack marks.now saved.old.items since.old.words.items
+        (length spots) (length links) points
         → past_of marks.now saved.new.items spots caps links
         ≡ past_of marks.now saved.old.items (restored changed.now spots) caps links }
-    ensures capacity { vec_capacity saved.old ≤ vec_capacity saved.new }
+    ensures flags { length since.new.words.items ≡ length since.old.words.items }
+    ensures capacity { vec_capacity saved.new ≡ vec_capacity saved.old }
 {
+    if marks.is_empty() {
+        return;
+    }
+    let row = (marks.len() - 1) * points as usize;
     'each: for entry in changed {
-        save(saved, newest, marks, entry.point, entry.spot);
+        save(saved, since, row + entry.point.0 as usize, *entry);
     }
 }
 
-/// Puts back what was saved after the first `to`, the last first, for the points that are still there.
+/// Puts back what was saved after the first `to`, the last first, for the points that are still there. `row` is the place
+/// of the newest mark's first flag.
 pub(crate) fn put_back(
     saved: &mut Vec<SavedSpot>,
-    spots: &mut [Spot],
-    newest: &mut [u32],
+    since: &mut Bits,
+    row: usize,
     to: usize,
+    spots: &mut [Spot],
 )
-    requires len { length newest.old ≡ length spots.old }
     requires to { to ≤ length saved.old.items }
+    requires ready { HasFlags saved.old.items since.old.words.items row }
     ensures spots { spots.new ≡ restored (drop to saved.old.items) spots.old }
-    ensures newest { newest.new ≡ relinked by_saved (drop to saved.old.items) newest.old }
     ensures saved { saved.new.items ≡ take to saved.old.items }
+    ensures flagged { (marks : List LiveMark) (k count edges room : ℕ)
+        → k + 1 ≡ length marks → row ≡ k * room → IsAt marks k (λ m. m.saved ≡ to)
+        → IsStack marks saved.old.items since.old.words.items count edges room
+        → AreFlagged (take k marks) saved.new.items since.new.words.items room }
+    ensures flags { length since.new.words.items ≡ length since.old.words.items }
     ensures capacity { vec_capacity saved.new ≡ vec_capacity saved.old }
 {
     'back: while saved.len() > to {
@@ -91,7 +91,7 @@ pub(crate) fn put_back(
         let at = last.point.0 as usize;
         if at < spots.len() {
             spots[at] = last.spot;
-            newest[at] = last.older;
         }
+        since.clear(row + at);
     }
 }

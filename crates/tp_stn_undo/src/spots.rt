@@ -10,10 +10,9 @@ pub(crate) struct Spot {
     pub(crate) cause: u32,
 }
 
-/// What a point was before it changed, and where the one that was saved before it for its point stands, counted from 1, or 0.
+/// What a point was before it changed.
 #[derive(Clone, Copy)]
 pub(crate) struct SavedSpot {
     pub(crate) point: PointId,
     pub(crate) spot: Spot,
-    pub(crate) older: u32,
 }

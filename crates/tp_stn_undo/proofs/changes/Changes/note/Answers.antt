@@ -21,7 +21,7 @@ invariant_of-self c =
     let l = length-set a.noted.items c.args.point.0 true in
     let n = c.self.invariant.room in
     let cap = c.push_reserved.ensures.capacity in
-    let e : SavedSpot = record { point = c.args.point; spot = c.args.spot; older = 0 } in
+    let e : SavedSpot = record { point = c.args.point; spot = c.args.spot } in
     record {
       held = rw (c.push_reserved.ensures.items, points_in-push a.entries.items e) (held_push a.noted.items (points_in a.entries.items) c.args.point.0 (known k) (is k false c.if-not-index.true) c.self.invariant.held);
       room = omega arith;
@@ -41,7 +41,7 @@ push_reserved-requires c =
 pub returns-then-not-index-clause-back : goal.returns-then-not-index-clause-back
 returns-then-not-index-clause-back c = λ spots x g.
     let a = c.self.inside in
-    let e : SavedSpot = record { point = c.args.point; spot = c.args.spot; older = 0 } in
+    let e : SavedSpot = record { point = c.args.point; spot = c.args.spot } in
     ap (λ (es : _). restored es (set spots c.args.point.0 x)) c.push_reserved.ensures.items ∙ noted_first a.entries.items e spots x g ∙ ap (λ (w : Noted). restored w.entries spots) c.self.view_is
 
 pub returns-else-not-index-clause-back : goal.returns-else-not-index-clause-back

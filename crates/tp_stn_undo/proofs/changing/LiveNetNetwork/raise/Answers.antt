@@ -10,6 +10,7 @@ use Rattle.tp_base.proofs.RisenFacts.{kept_refutes}
 use Rattle.tp_stn_undo.specs.declared.spots.Spot.{Spot}
 use Rattle.tp_stn_undo.specs.declared.spots.SavedSpot.{SavedSpot}
 use Rattle.tp_stn_undo.specs.Spots.{IsSound, net_of_core, lows_of, times_of, edges_of}
+use Rattle.tp_stn_undo.specs.Flags.{AreKnown}
 use Rattle.tp_stn_undo.specs.Live.{core_in}
 use Rattle.tp_stn_undo.specs.Marks.{past_of, nets_of}
 use Rattle.tp_stn_undo.specs.Saved.{restored}
@@ -77,8 +78,17 @@ spread-requires-clause-kept c =
     let a = c.self.inside in
     rw (c.deref_mut-2.ensures.value ∙ lifted k, c.deref-2.ensures.value) ((lifts k).kept (edges_of a.links.items) (kept_of (edges_of a.links.items) (slice_index (times_of a.spots.items)) a.working.waiting.flags c.self.invariant.sound.least.solution.keeps))
 
-pub save_all-requires-clause-ready : goal.save_all-requires-clause-ready
-save_all-requires-clause-ready c = rw (c.deref-in-Ok.ensures.value, c.deref_mut-in-Ok.ensures.value) (can_save c.self.inside c.self.invariant)
+noted : (c : After-lift) → AreKnown (length c.self.inside.spots.items) c.lift.new.changes.entries
+noted c = (rw c.deref_mut.ensures.value at c.lift.ensures.known) (λ k d h. absurd (let e = ap length c.self.invariant.rest.unchanged in omega arith))
+
+changed : (c : After-lift) (spots' : List Spot) (entries' : List SavedSpot) → LeadsBack c.self.inside.links.items c.lift.new.spots spots' c.lift.new.changes.entries entries' → AreKnown (length c.self.inside.spots.items) entries'
+changed c spots' entries' b = subst (λ n. AreKnown n entries') (lifts c).len (b.known (subst (λ n. AreKnown n c.lift.new.changes.entries) (sym (lifts c).len) (noted c)))
+
+pub save_all-requires : goal.save_all-requires
+save_all-requires c =
+    let k = (goal.at.save_all-requires c).After-lift in
+    let b : LeadsBack c.self.inside.links.items c.lift.new.spots c.spread.new.spots c.lift.new.changes.entries c.spread.new.working.changes.entries = rw (c.deref-2.ensures.value, c.deref_mut-2.ensures.value ∙ lifted k) at c.spread.ensures.back in
+    rw (c.deref-in-Ok.ensures.value, c.as_slice.ensures) (record { ready = can_save c.self.inside c.self.invariant c.spread.new.working.changes.entries (changed k _ _ b) })
 
 back : (c : After-clear-in-Ok) → LeadsBack c.self.inside.links.items c.lift.new.spots c.spread.new.spots c.lift.new.changes.entries c.spread.new.working.changes.entries
 back c = rw (c.deref-2.ensures.value, c.deref_mut-2.ensures.value ∙ lifted (goal.at.invariant_of-self-in-Ok c).After-lift) at c.spread.ensures.back
@@ -98,15 +108,16 @@ sound c =
     (rw c.deref.ensures.value at c.spread.ensures.below)
     (rw c.deref-2.ensures.value at c.in-Ok.ensures.kept)
 
-past_is : (c : After-clear-in-Ok) → past_of c.self.inside.marks.items c.save_all.new.saved.items c.spread.new.spots c.self.inside.caps.items c.self.inside.links.items ≡ past_of c.self.inside.marks.items c.self.inside.saved.items c.self.inside.spots.items c.self.inside.caps.items c.self.inside.links.items
+past_is : (c : After-clear-in-Ok) → past_of c.self.inside.saves.marks.items c.save_all.new.saved.items c.spread.new.spots c.self.inside.caps.items c.self.inside.links.items ≡ past_of c.self.inside.saves.marks.items c.self.inside.saves.saved.items c.self.inside.spots.items c.self.inside.caps.items c.self.inside.links.items
 past_is c =
     let k = (goal.at.invariant_of-self-in-Ok c).After-lift in
     let a = c.self.inside in
     let inv = c.self.invariant in
     let b = back c in
-    let past = rw (c.deref-in-Ok.ensures.value, c.deref_mut-in-Ok.ensures.value, c.as_slice.ensures) at c.save_all.ensures.past in
-    past c.spread.new.spots a.caps.items a.links.items a.point_room (b.len ∙ (lifts k).len ∙ sym inv.kept.len) (stack_of a inv (length a.links.items) (omega arith))
-    ∙ ap (λ (ss : List Spot). past_of a.marks.items a.saved.items ss a.caps.items a.links.items) (b.back ∙ before k)
+    let past = rw (c.deref-in-Ok.ensures.value, c.as_slice.ensures) at c.save_all.ensures.past in
+    let n : length c.spread.new.spots ≡ length a.spots.items = b.len ∙ (lifts k).len in
+    past c.spread.new.spots a.caps.items a.links.items (rw n (changed k _ _ b)) (rw n (stack_of a inv (length a.links.items) (omega arith)))
+    ∙ ap (λ (ss : List Spot). past_of a.saves.marks.items a.saves.saved.items ss a.caps.items a.links.items) (b.back ∙ before k)
 
 pub invariant_of-self-in-Ok : goal.invariant_of-self-in-Ok
 invariant_of-self-in-Ok c =
@@ -114,8 +125,7 @@ invariant_of-self-in-Ok c =
     let a = c.self.inside in
     let inv = c.self.invariant in
     let bl = (back c).len ∙ (lifts k).len in
-    let stack = rw (c.deref-in-Ok.ensures.value, c.deref_mut-in-Ok.ensures.value) at c.save_all.ensures.stack in
-    let nn = c.save_all.auto.newest ∙ ap length c.deref_mut-in-Ok.ensures.value in
+    let stack = rw (c.deref-in-Ok.ensures.value, c.as_slice.ensures) at c.save_all.ensures.stack in
     let p = inv.points in
     let cap2 = c.spread.ensures.sizes.path in
     let r2 = inv.room.working.path in
@@ -130,9 +140,8 @@ invariant_of-self-in-Ok c =
     let m3 = inv.room.working.noted in
     let pl = inv.room.working.places in
     let np = c.spread.ensures.sizes.places in
-    live_of _ c.spread.new.spots a.links.items a.heads.items c.save_all.new.newest c.save_all.new.saved.items
+    live_of _ c.spread.new.spots a.links.items a.heads.items c.save_all.new.saved.items
     (same_spots c) refl refl
-    (mut_items a.newest.len c.save_all.new.newest a.newest.items (nn ∙ sym a.newest.ok.0))
     refl
     (omega arith) inv.edges inv.marks
     (record {
@@ -142,7 +151,7 @@ invariant_of-self-in-Ok c =
       heads = inv.room.heads;
       working = record { waits = omega arith; noted = omega arith; path = omega arith; places = omega arith };
       saved = omega arith;
-      newest = inv.room.newest;
+      flags = omega (arith, inv.room.flags, c.save_all.ensures.flags);
       marks = inv.room.marks;
       small = inv.room.small;
       narrow = inv.room.narrow;
@@ -153,8 +162,8 @@ invariant_of-self-in-Ok c =
       unchanged = c.clear-in-Ok.ensures.entries;
       zeros = c.spread.ensures.zeros;
     })
-    (stack (length a.links.items) a.point_room (stack_of a inv (length a.links.items) (omega arith)))
-    (nn ∙ inv.kept.len ∙ sym bl) (rw bl inv.linked) (sound c) (subst (All IsSound) (sym (past_is c)) inv.past)
+    (stack (length c.spread.new.spots) (length a.links.items) (rw bl (changed k _ _ (back c))) (rw bl (stack_of a inv (length a.links.items) (omega arith))))
+    (rw bl inv.linked) (sound c) (subst (All IsSound) (sym (past_is c)) inv.past)
 
 pub returns-in-Ok-clause-solved : goal.returns-in-Ok-clause-solved
 returns-in-Ok-clause-solved c = (_, (invariant_of-self-in-Ok c).sound.least)
@@ -184,8 +193,8 @@ invariant_of-self-in-Err c =
     let m3 = inv.room.working.noted in
     let pl = inv.room.working.places in
     let np = c.spread.ensures.sizes.places in
-    live_of _ a.spots.items a.links.items a.heads.items a.newest.items a.saved.items
-    again refl refl refl refl
+    live_of _ a.spots.items a.links.items a.heads.items a.saves.saved.items
+    again refl refl refl
     inv.points inv.edges inv.marks
     (record {
       spots = inv.room.spots;
@@ -194,7 +203,7 @@ invariant_of-self-in-Err c =
       heads = inv.room.heads;
       working = record { waits = omega arith; noted = omega arith; path = omega arith; places = omega arith };
       saved = inv.room.saved;
-      newest = inv.room.newest;
+      flags = inv.room.flags;
       marks = inv.room.marks;
       small = inv.room.small;
       narrow = inv.room.narrow;
@@ -205,7 +214,7 @@ invariant_of-self-in-Err c =
       unchanged = c.put_back.ensures.entries;
       zeros = c.spread.ensures.zeros;
     })
-    (stack_of a inv (length a.links.items) (omega arith)) inv.kept.len inv.linked inv.sound inv.past
+    (stack_of a inv (length a.links.items) (omega arith)) inv.linked inv.sound inv.past
 
 pub returns-in-Err-clause-late : goal.returns-in-Err-clause-late
 returns-in-Err-clause-late c =

@@ -11,6 +11,7 @@ use Rattle.tp_stn_undo.specs.declared.links.Link.{Link}
 use Rattle.tp_stn_undo.specs.declared.spots.SavedSpot.{SavedSpot}
 use Rattle.tp_stn_undo.specs.Spots.{IsSound, lows_of, times_of, edges_of}
 use Rattle.tp_stn_undo.specs.Marks.{past_of, nets_of, AreLinks}
+use Rattle.tp_stn_undo.specs.Flags.{AreKnown}
 use Rattle.tp_stn_undo.specs.Saved.{restored}
 use Rattle.tp_stn_undo.specs.Spreading.{LeadsBack}
 use Rattle.tp_stn_undo.specs.LiveState.{LiveState}
@@ -69,8 +70,14 @@ settle-requires-clause-kept c =
     let n : c.len-number.result ≡ length a.links.items + 1 = omega (arith, c.len-number.ensures, c.in-Ok.ensures.len, a.links.ok.0) in
     rw (c.deref-2.ensures.value, c.deref_mut.ensures.value, c.in-Ok.ensures.items) (kept_before a.links.items (link k) (slice_index (times_of a.spots.items)) a.working.waiting.flags c.len-number.result n c.self.invariant.sound.least.solution.keeps)
 
-pub save_all-requires-clause-ready : goal.save_all-requires-clause-ready
-save_all-requires-clause-ready c = rw (c.deref-in-Ok-settle.ensures.value, c.deref_mut-in-Ok-settle.ensures.value) (can_save c.self.inside c.self.invariant)
+noted : (c : In-Ok) (spots' : List Spot) (entries' : List SavedSpot) → LeadsBack (c.self.inside.links.items ++ link c ∷ []) c.self.inside.spots.items spots' c.self.inside.working.changes.entries entries' → AreKnown (length c.self.inside.spots.items) entries'
+noted c spots' entries' b = b.known (λ k d h. absurd (let e = ap length c.self.invariant.rest.unchanged in omega arith))
+
+pub save_all-requires : goal.save_all-requires
+save_all-requires c =
+    let k = (goal.at.save_all-requires c).In-Ok in
+    let b : LeadsBack (c.self.inside.links.items ++ record { edge = c.args.edge; older = c.index-older.result.now } ∷ []) c.self.inside.spots.items c.settle.new.spots c.self.inside.working.changes.entries c.settle.new.working.changes.entries = rw (c.deref-2.ensures.value, c.deref_mut.ensures.value, c.in-Ok.ensures.items) at c.settle.ensures.back in
+    rw (c.deref-in-Ok-settle.ensures.value, c.as_slice.ensures) (record { ready = can_save c.self.inside c.self.invariant c.settle.new.working.changes.entries (noted k _ _ b) })
 
 same_spots : (c : After-clear) → take c.self.inside.spots.len (c.settle.new.spots ++ drop (length c.settle.new.spots) c.self.inside.spots.items) ≡ c.settle.new.spots
 same_spots c = mut_items c.self.inside.spots.len c.settle.new.spots c.self.inside.spots.items (c.settle.auto.spots ∙ ap length c.deref_mut.ensures.value ∙ sym c.self.inside.spots.ok.0)
@@ -88,7 +95,7 @@ sound c =
     (rw c.deref.ensures.value at c.settle.ensures.below)
     (rw (c.deref-2.ensures.value, c.in-Ok.ensures.items) at c.in-Ok-settle.ensures.kept)
 
-past_is : (c : After-clear) → past_of c.self.inside.marks.items c.save_all.new.saved.items c.settle.new.spots c.self.inside.caps.items (c.self.inside.links.items ++ record { edge = c.args.edge; older = c.index-older.result.now } ∷ []) ≡ past_of c.self.inside.marks.items c.self.inside.saved.items c.self.inside.spots.items c.self.inside.caps.items c.self.inside.links.items
+past_is : (c : After-clear) → past_of c.self.inside.saves.marks.items c.save_all.new.saved.items c.settle.new.spots c.self.inside.caps.items (c.self.inside.links.items ++ record { edge = c.args.edge; older = c.index-older.result.now } ∷ []) ≡ past_of c.self.inside.saves.marks.items c.self.inside.saves.saved.items c.self.inside.spots.items c.self.inside.caps.items c.self.inside.links.items
 past_is c =
     let k = (goal.at.invariant_of-self c).In-Ok in
     let a = c.self.inside in
@@ -96,10 +103,10 @@ past_is c =
     let b = back c in
     let links : List Link = a.links.items ++ link k ∷ [] in
     let n = length-append a.links.items (link k ∷ []) in
-    let past = rw (c.deref-in-Ok-settle.ensures.value, c.deref_mut-in-Ok-settle.ensures.value, c.as_slice.ensures) at c.save_all.ensures.past in
-    past c.settle.new.spots a.caps.items links a.point_room (b.len ∙ sym inv.kept.len) (stack_of a inv (length links) (omega arith))
-    ∙ ap (λ (ss : List Spot). past_of a.marks.items a.saved.items ss a.caps.items links) (b.back ∙ ap (λ (es : List SavedSpot). restored es a.spots.items) inv.rest.unchanged)
-    ∙ past_edge a.marks.items a.saved.items a.spots.items a.caps.items a.links.items a.point_room inv.stacked (link k ∷ [])
+    let past = rw (c.deref-in-Ok-settle.ensures.value, c.as_slice.ensures) at c.save_all.ensures.past in
+    past c.settle.new.spots a.caps.items links (rw b.len (noted k _ _ b)) (rw b.len (stack_of a inv (length links) (omega arith)))
+    ∙ ap (λ (ss : List Spot). past_of a.saves.marks.items a.saves.saved.items ss a.caps.items links) (b.back ∙ ap (λ (es : List SavedSpot). restored es a.spots.items) inv.rest.unchanged)
+    ∙ past_edge a.saves.marks.items a.saves.saved.items a.spots.items a.caps.items a.links.items a.saves.points inv.stacked (link k ∷ [])
 
 pub invariant_of-self : goal.invariant_of-self
 invariant_of-self c =
@@ -114,8 +121,7 @@ invariant_of-self c =
     let v2 = links_len a.links.items in
     let r = ap (λ (s : LiveState). s.edge_room) c.self.view_is in
     let q = c.requires.spare in
-    let stack = rw (c.deref-in-Ok-settle.ensures.value, c.deref_mut-in-Ok-settle.ensures.value) at c.save_all.ensures.stack in
-    let nn = c.save_all.auto.newest ∙ ap length c.deref_mut-in-Ok-settle.ensures.value in
+    let stack = rw (c.deref-in-Ok-settle.ensures.value, c.as_slice.ensures) at c.save_all.ensures.stack in
     let bl = b.len in
     let p = inv.points in
     let cap1 = c.in-Ok.ensures.capacity in
@@ -131,9 +137,8 @@ invariant_of-self c =
     let m3 = inv.room.working.noted in
     let pl = inv.room.working.places in
     let np = c.settle.ensures.sizes.places in
-    live_of _ c.settle.new.spots links (set a.heads.items c.args.edge.from.0 (length a.links.items + 1)) c.save_all.new.newest c.save_all.new.saved.items
+    live_of _ c.settle.new.spots links (set a.heads.items c.args.edge.from.0 (length a.links.items + 1)) c.save_all.new.saved.items
     (same_spots c) c.in-Ok.ensures.items (ap (set a.heads.items c.args.edge.from.0) num)
-    (mut_items a.newest.len c.save_all.new.newest a.newest.items (nn ∙ sym a.newest.ok.0))
     refl
     (omega arith) (omega arith) inv.marks
     (record {
@@ -143,7 +148,7 @@ invariant_of-self c =
       heads = inv.room.heads;
       working = record { waits = omega arith; noted = omega arith; path = omega arith; places = omega arith };
       saved = omega arith;
-      newest = inv.room.newest;
+      flags = omega (arith, inv.room.flags, c.save_all.ensures.flags);
       marks = inv.room.marks;
       small = inv.room.small;
       narrow = inv.room.narrow;
@@ -154,8 +159,7 @@ invariant_of-self c =
       unchanged = c.clear.ensures.entries;
       zeros = c.settle.ensures.zeros;
     })
-    (stack (length links) a.point_room (stack_of a inv (length links) (omega arith)))
-    (nn ∙ inv.kept.len ∙ sym bl)
+    (stack (length c.settle.new.spots) (length links) (rw bl (noted k _ _ b)) (rw bl (stack_of a inv (length links) (omega arith))))
     (subst (λ (m : ℕ). AreLinks links (set a.heads.items c.args.edge.from.0 (length a.links.items + 1)) m) (sym bl) (linked k))
     (sound c)
     (subst (All IsSound) (sym (past_is c)) inv.past)
@@ -200,8 +204,8 @@ invariant_of-self-in-Err c =
     let m3 = inv.room.working.noted in
     let pl = inv.room.working.places in
     let np = c.settle.ensures.sizes.places in
-    live_of _ a.spots.items a.links.items a.heads.items a.newest.items a.saved.items
-    (spots_again (goal.at.invariant_of-self-in-Err c).After-put_back) cut heads refl refl
+    live_of _ a.spots.items a.links.items a.heads.items a.saves.saved.items
+    (spots_again (goal.at.invariant_of-self-in-Err c).After-put_back) cut heads refl
     inv.points inv.edges inv.marks
     (record {
       spots = inv.room.spots;
@@ -210,7 +214,7 @@ invariant_of-self-in-Err c =
       heads = inv.room.heads;
       working = record { waits = omega arith; noted = omega arith; path = omega arith; places = omega arith };
       saved = inv.room.saved;
-      newest = inv.room.newest;
+      flags = inv.room.flags;
       marks = inv.room.marks;
       small = inv.room.small;
       narrow = inv.room.narrow;
@@ -221,7 +225,7 @@ invariant_of-self-in-Err c =
       unchanged = c.put_back.ensures.entries;
       zeros = c.settle.ensures.zeros;
     })
-    (stack_of a inv (length a.links.items) (omega arith)) inv.kept.len inv.linked inv.sound inv.past
+    (stack_of a inv (length a.links.items) (omega arith)) inv.linked inv.sound inv.past
 
 pub returns-in-Err-clause-late : goal.returns-in-Err-clause-late
 returns-in-Err-clause-late c =
