@@ -5,7 +5,7 @@ ghost use Rattle.tp_jobs.specs.Waiting.{sheets_of};
 ghost use Rattle.tp_schedule.specs.Planning.{CanAsk};
 ghost use Rattle.tp_schedule.specs.declared.parts.Goal.TheVariants.{Tray};
 ghost use Rattle.tp_schedule.specs.declared.parts.Origin.TheVariants.{Feeder};
-ghost use Rattle.tp_script.specs.Printed.{IsCounted, IsEchoed};
+ghost use Rattle.tp_script.specs.Printed.{IsEchoed};
 ghost use Rattle.tp_script.specs.declared.event.Event.TheVariants.{Job as NewJob};
 ghost use Rattle.tp_search.specs.Engines.{IsSameEngine, is_engine_for};
 ghost use Rattle.tp_session.specs.Probes.{AskGives, GivesProbe, IsProbe};
@@ -19,9 +19,7 @@ use tp_schedule::{Ask, Goal, Origin, Schedule, SheetId};
 use tp_script::{Event, Group};
 use tp_search::{Engine, NoPlan};
 use tp_turn::LiveState;
-
-/// The most copies that are live at once.
-const MOST_LIVE: u32 = 256;
+use tp_turning::MOST_LIVE;
 
 /// The sheet that the first of the groups asks for.
 fn first_sheet(media: Name, groups: &[Group]) -> Sheet

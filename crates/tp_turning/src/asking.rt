@@ -23,7 +23,7 @@ use tp_telling::{label, tell_full, tell_reply};
 use tp_turn::LiveState;
 
 /// The most copies that are live at once.
-const MOST_LIVE: u32 = 256;
+pub const MOST_LIVE: u32 = 256;
 
 /// The ask for a copy that waits, with its tray as goal.
 fn make_ask(state: &LiveState, copy: SheetId) -> Ask

@@ -13,6 +13,7 @@ mod out_fault;
 mod refusing;
 mod turning;
 
+pub use asking::MOST_LIVE;
 pub use checking::check_module;
 pub use laws::empty_state_can_begin;
 pub use living::{
