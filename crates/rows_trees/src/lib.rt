@@ -1,0 +1,7 @@
+//! Worked rows of printed bounds: a crate of tests alone.
+#![tactic(auto)]
+
+#[cfg(test)]
+mod made;
+#[cfg(test)]
+mod texts;
