@@ -1,0 +1,3 @@
+mod Duo
+mod DuoTrees
+mod FlightTrees
