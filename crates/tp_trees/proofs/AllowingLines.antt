@@ -98,11 +98,11 @@ module _ (ask : Ask) (plans : List Plan) (in_order : AllPairs IsEarlier plans) w
 some-hop : (h k : TreeHop) → Some h ≡ Some k → h ≡ k
 some-hop h k e = cc
 
-more-points : (plans : List Plan) (m n : ℕ) (s : Spot) → m ≤ n → IsPoint plans m s → IsPoint plans n s
+pub more-points : (plans : List Plan) (m n : ℕ) (s : Spot) → m ≤ n → IsPoint plans m s → IsPoint plans n s
 more-points plans m n (kept c i) le known = known
 more-points plans m n (own k) le known = omega (arith, known, le)
 
-run-known : (machine : Machine) (plans : List Plan) (b : Branch) (a : Action) (from to : Spot) → IsRun machine plans b.x.choices a from to → IsPoint plans (suc (length b.x.choices)) from × IsPoint plans (suc (length b.x.choices)) to
+pub run-known : (machine : Machine) (plans : List Plan) (b : Branch) (a : Action) (from to : Spot) → IsRun machine plans b.x.choices a from to → IsPoint plans (suc (length b.x.choices)) from × IsPoint plans (suc (length b.x.choices)) to
 run-known machine plans b a _ _ (kept_run p i act in' at is) = let w = slice_get_within p.acts i act at in ((p, in', refl, omega arith), (p, in', refl, omega arith))
 run-known machine plans b a _ _ (own_run n c at is) =
     let w = slice_get_within _ n c at in

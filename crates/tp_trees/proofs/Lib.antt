@@ -20,5 +20,6 @@ pub mod ApartStarts
 pub mod Allowing
 pub mod AllowingHolds
 pub mod AllowingLines
+pub mod HopsTold
 pub mod AllowingSpans
 pub mod AllowingSides

@@ -5,7 +5,7 @@
 ghost use Rattle.tp_trees.specs.Claims.{LessAnswers, TreeTells};
 ghost use Rattle.tp_trees.specs.Flaws.{FlawlessIsBound};
 ghost use Rattle.tp_trees.specs.Laws.{TreeBounds};
-ghost use Rattle.tp_trees.specs.Told.{HopsAreAllowed, SpanHopsAreAllowed};
+ghost use Rattle.tp_trees.specs.Told.{HopsAreAllowed, HopsAreTold, SpanHopsAreAllowed};
 
 mod claim;
 
@@ -23,9 +23,10 @@ pub fn flawless_trees_are_bound()
     ensures { FlawlessIsBound }
 {}
 
-/// Each hop of a board's reason is allowed where it is told in a tree, and says the same there. So it
-/// is at all places on its side of the one that was tried.
+/// Each hop of a board's reason but a stop and a limit is told in a tree, is allowed there, and says
+/// the same. So it is at all places on its side of the one that was tried.
 pub fn reasons_are_allowed_hops()
+    ensures told { HopsAreTold }
     ensures alone { HopsAreAllowed }
     ensures spanned { SpanHopsAreAllowed }
 {}
