@@ -1,19 +1,15 @@
-//! Worked rows of the script, the log, jobs, the clock and turns: a crate of tests alone.
+//! Worked rows of the script, the log, jobs, the clock and sessions: a crate of tests alone.
 #![tactic(auto)]
 
 #[cfg(test)]
 mod clocks;
 #[cfg(test)]
-mod driving;
-#[cfg(test)]
 mod jobs;
 #[cfg(test)]
 mod logs;
-#[cfg(test)]
-mod outages;
 #[cfg(test)]
 mod records;
 #[cfg(test)]
 mod scripts;
 #[cfg(test)]
-mod turns;
+mod sessions;

@@ -1,4 +1,4 @@
-//! Worked rows of machines and schedules: a crate of tests, and the machine texts of all rows.
+//! Worked rows of machines and schedules: a crate of tests, with the machine texts and the worked scripts of all rows.
 #![tactic(auto)]
 
 pub mod machines;
@@ -8,3 +8,4 @@ mod prints;
 mod schedules;
 #[cfg(test)]
 mod texts;
+pub mod worked;

@@ -1,5 +1,13 @@
-//! Worked rows of the product: a crate of tests alone.
+//! Rows of the whole program: words, a machine text and a script in, a status and a log out. A crate of tests alone.
 #![tactic(auto)]
 
 #[cfg(test)]
-mod first;
+mod faults;
+#[cfg(test)]
+mod long_scripts;
+#[cfg(test)]
+mod running;
+#[cfg(test)]
+mod statuses;
+#[cfg(test)]
+mod worked;

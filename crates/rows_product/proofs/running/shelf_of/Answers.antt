@@ -2,7 +2,7 @@
 use Rattle.std.specs.Ordering.{nat_cmp}
 use Rattle.std.specs.Cmp.Lexicographic.{slice_cmp}
 use Rattle.std.specs.FinMap.{get-empty}
-use Rattle.rows_product.proofs.first.run.Goals as goal
+use Rattle.rows_product.proofs.running.shelf_of.Goals as goal
 
 pub add-requires : goal.add-requires
 add-requires c = rw c.new-shelf.ensures.files (get-empty (slice_cmp nat_cmp) _)

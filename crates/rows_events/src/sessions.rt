@@ -1,0 +1,239 @@
+//! The worked scripts, budgets and probes through a session.
+
+ghost use Rattle.std.specs.Prelude.{IfOk};
+ghost use Rattle.tp_script.specs.Printed.{IsEchoed};
+
+use rows_machine::machines::{DUO, LINE};
+use rows_machine::worked::WORKED;
+use std::alloc::Global;
+use std::test::Fail;
+use tp_machine::Machine;
+use tp_machine_text::read_machine;
+use tp_outside::{MemSink, MemSource};
+use tp_script::{Event, LineFault, read_printed};
+use tp_session::{Probe, Session, Settings};
+use tp_stream::answer_script;
+
+fn machine_of(alloc: Global, text: &str) -> Result<Machine, Fail> {
+    match read_machine(alloc, text.as_bytes()) {
+        Ok(machine) => Ok(machine),
+        Err(_) => Err(Fail::from("a machine of the rows is refused")),
+    }
+}
+
+fn session_on(alloc: Global, text: &str, budget: Option<u32>) -> Result<Session, Fail> {
+    let machine = machine_of(alloc, text)?;
+    match Session::new(alloc, machine, Settings { budget }) {
+        Ok(session) => Ok(session),
+        Err(_) => Err(Fail::from("memory")),
+    }
+}
+
+fn event_of(alloc: Global, line: &[u8]) -> Result<Event, Fail>
+    ensures { IfOk result IsEchoed }
+{
+    if line.len() > 99 {
+        return Err(Fail::from("a longer line than a row has"));
+    }
+    match read_printed(alloc, line) {
+        Ok(event) => Ok(event),
+        Err(LineFault::Syntax) => Ok(Event::Bad),
+        Err(LineFault::Memory) => Err(Fail::from("memory")),
+    }
+}
+
+fn take_line(alloc: Global, session: &mut Session, line: &[u8]) -> Result<(), Fail> {
+    let event = event_of(alloc, line)?;
+    if session.events() > 999 {
+        return Err(Fail::from("more lines than a row has"));
+    }
+    match session.event(&event) {
+        Ok(()) => Ok(()),
+        Err(_) => Err(Fail::from("memory")),
+    }
+}
+
+fn take_lines(alloc: Global, session: &mut Session, lines: &[&[u8]]) -> Result<(), Fail> {
+    for line in lines {
+        take_line(alloc, session, line)?;
+    }
+    Ok(())
+}
+
+// A function that owns a session takes long to prove for each of its ways out. So each of these owns one, and lends it to
+// the next.
+fn text_after(alloc: Global, session: &mut Session, lines: &[&[u8]]) -> Result<Vec<u8>, Fail> {
+    take_lines(alloc, session, lines)?;
+    Ok(session.text().to_vec(alloc)?)
+}
+
+/// The log of a script, which the session answers as a stream of lines.
+fn log_of(alloc: Global, text: &str, budget: Option<u32>, script: &[u8]) -> Result<Vec<u8>, Fail> {
+    let mut source = MemSource::new(script.to_vec(alloc)?, 7, Vec::new(alloc));
+    let mut sink = MemSink::new(alloc, 65_536, 4096, Vec::new(alloc))
+        .ok()
+        .ok_or("memory")?;
+    let session = session_on(alloc, text, budget)?;
+    match answer_script(alloc, session, &mut source, &mut sink) {
+        Ok(()) => Ok(sink.bytes().to_vec(alloc)?),
+        Err(_) => Err(Fail::from("the script is not answered")),
+    }
+}
+
+#[test]
+fn worked_scripts(rt: HostRuntime) -> Result<(), Fail> {
+    for row in WORKED {
+        let log = log_of(rt.alloc(), row.machine, None, row.script)?;
+        assert_eq!(rt; log.as_slice(), row.log);
+    }
+    Ok(())
+}
+
+#[test]
+fn budgets(rt: HostRuntime) -> Result<(), Fail> {
+    let one = b"job j1 t plain M-:F\n";
+    let two = b"job j1 t plain 2*M-:F\n";
+    let rows: [(u32, &[u8], &[u8]); 5] = [
+        (1, one, b"> job j1 t plain M-:F\nbudget j1.1.1 t 14\n"),
+        (2, one, b"> job j1 t plain M-:F\nbudget j1.1.1 t 14\n"),
+        (
+            3,
+            one,
+            b"> job j1 t plain M-:F\nplan j1.1.1 t 3 feed 5 print2 11 out 14\n",
+        ),
+        (
+            3,
+            two,
+            b"> job j1 t plain 2*M-:F\n\
+              plan j1.1.1 t 3 feed 5 print2 11 out 14\n\
+              budget j1.2.1 t 15\n",
+        ),
+        (
+            4,
+            two,
+            b"> job j1 t plain 2*M-:F\n\
+              plan j1.1.1 t 3 feed 5 print2 11 out 14\n\
+              plan j1.2.1 t 3 feed 5 print1 14 out 17\n\
+              move j1.1.1 5 7 13 16\n",
+        ),
+    ];
+    for (budget, script, wanted) in rows {
+        let log = log_of(rt.alloc(), DUO, Some(budget), script)?;
+        assert_eq!(rt; log.as_slice(), wanted);
+    }
+    Ok(())
+}
+
+/// What is kept after a script: the moment, how many events came, and how many plans are live.
+type Kept = (u32, u32, u32);
+
+fn kept(session: &Session) -> Kept {
+    (session.now(), session.events(), session.schedule().len())
+}
+
+/// What is kept after the first script, and the text of the second.
+fn kept_between(
+    alloc: Global,
+    session: &mut Session,
+    first: &[&[u8]],
+    second: &[&[u8]],
+) -> Result<(Kept, Vec<u8>), Fail> {
+    take_lines(alloc, session, first)?;
+    let kept = kept(session);
+    session.clear_text();
+    Ok((kept, text_after(alloc, session, second)?))
+}
+
+fn kept_on_duo(alloc: Global, first: &[&[u8]], second: &[&[u8]]) -> Result<(Kept, Vec<u8>), Fail> {
+    let mut session = session_on(alloc, DUO, None)?;
+    kept_between(alloc, &mut session, first, second)
+}
+
+#[test]
+fn what_a_session_keeps(rt: HostRuntime) -> Result<(), Fail> {
+    let first: [&[u8]; 2] = [b"job j1 t plain M-:F", b"clock 1"];
+    let (kept, text) = kept_on_duo(rt.alloc(), &first, &[b"clock 14"])?;
+    let wanted = b"> clock 14\n\
+                   release j1.1.1 2 print2 5 11\n\
+                   release j1.1.1 3 out 11 14\n\
+                   done j1.1.1 t 14\n";
+    assert_eq!(rt; kept, (1, 2, 1));
+    assert_eq!(rt; text.as_slice(), wanted.as_slice());
+    Ok(())
+}
+
+/// A machine text, the budget, the lines of a script, and an event.
+#[derive(Clone, Copy)]
+struct Probed {
+    machine: &'static str,
+    budget: Option<u32>,
+    lines: &'static [&'static [u8]],
+    event: &'static [u8],
+}
+
+/// What a probe of the event tells after the script, and whether all that can be seen is as before.
+fn probe_after(alloc: Global, session: &mut Session, row: Probed) -> Result<(Probe, bool), Fail> {
+    let text = text_after(alloc, session, row.lines)?;
+    let before = kept(session);
+    let event = event_of(alloc, row.event)?;
+    match session.probe(&event) {
+        Ok(told) => Ok((
+            told,
+            kept(session) == before && session.text() == text.as_slice(),
+        )),
+        Err(_) => Err(Fail::from("memory")),
+    }
+}
+
+fn probe_of(alloc: Global, row: Probed) -> Result<(Probe, bool), Fail> {
+    let mut session = session_on(alloc, row.machine, row.budget)?;
+    probe_after(alloc, &mut session, row)
+}
+
+/// A row on DUO by the machine's budget.
+fn on_duo(lines: &'static [&'static [u8]], event: &'static [u8]) -> Probed {
+    Probed {
+        machine: DUO,
+        budget: None,
+        lines,
+        event,
+    }
+}
+
+#[test]
+fn probes(rt: HostRuntime) -> Result<(), Fail> {
+    let one: &[u8] = b"job j1 t plain M-:F";
+    let two: &[u8] = b"job j2 t plain C-:F";
+    let rows: [(Probed, Probe); 9] = [
+        (on_duo(&[], one), Probe::Ends(14)),
+        (on_duo(&[b"job j1 t plain M-:F"], two), Probe::Ends(17)),
+        (on_duo(&[b"job j1 t plain M-:F"], one), Probe::Refused),
+        (on_duo(&[], b"clock 1"), Probe::Refused),
+        (on_duo(&[], b"job j1 p plain M-:F"), Probe::Refused),
+        (on_duo(&[b"off ENG1", b"off ENG2"], one), Probe::Never),
+        (
+            on_duo(&[b"off ENG1", b"job j1 t plain C-:F"], two),
+            Probe::Waits,
+        ),
+        (
+            Probed {
+                budget: Some(1),
+                ..on_duo(&[], one)
+            },
+            Probe::Spent(14),
+        ),
+        (
+            Probed {
+                machine: LINE,
+                ..on_duo(&[b"job big t plain 256*M-:F"], b"job j2 t plain M-:F")
+            },
+            Probe::Full,
+        ),
+    ];
+    for (row, wanted) in rows {
+        let (told, stays) = probe_of(rt.alloc(), row)?;
+        assert_eq!(rt; told, wanted);
+        assert!(rt; stays);
+    }
+    Ok(())
+}
