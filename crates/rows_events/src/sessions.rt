@@ -1,6 +1,6 @@
 //! The worked scripts, budgets and probes through a session.
 
-ghost use Rattle.std.specs.Prelude.{IfOk};
+ghost use Rattle.std.specs.Prelude.{◌≡◌, [], IfOk};
 ghost use Rattle.tp_script.specs.Printed.{IsEchoed};
 
 use rows_machine::machines::{DUO, LINE};
@@ -21,7 +21,9 @@ fn machine_of(alloc: Global, text: &str) -> Result<Machine, Fail> {
     }
 }
 
-fn session_on(alloc: Global, text: &str, budget: Option<u32>) -> Result<Session, Fail> {
+fn session_on(alloc: Global, text: &str, budget: Option<u32>) -> Result<Session, Fail>
+    ensures { IfOk result (λ session. (session.answered ≡ 0) × (session.text ≡ [])) }
+{
     let machine = machine_of(alloc, text)?;
     match Session::new(alloc, machine, Settings { budget }) {
         Ok(session) => Ok(session),
