@@ -72,6 +72,48 @@ fn machine_texts(rt: HostRuntime) -> Result<(), Fail> {
     Ok(())
 }
 
+// A name that the shelf lacks is no word off the form.
+#[test]
+fn a_name_that_the_shelf_lacks(rt: HostRuntime) -> Result<(), Fail> {
+    let given = Given {
+        machine: DUO.as_bytes(),
+        words: &["run", "n.toml"],
+        script: ONE,
+    };
+    let (status, log) = run(rt.alloc(), given, SOUND)?;
+    assert_eq!(rt; status, Status::Shelf);
+    assert_eq!(rt; log.len(), 0);
+    Ok(())
+}
+
+/// DUO with 252 locations more.
+fn many_locations(alloc: Global) -> Result<String, Fail> {
+    let Some((before, after)) = DUO.split_once(r#"locations = ["f","#) else {
+        return Err(Fail::from("DUO has no such locations"));
+    };
+    let mut text = format!(in alloc; r#"{before}locations = ["f","#)?;
+    for k in 0..252u32 {
+        text.push_str(format!(in alloc; r#""more{k}","#)?.as_str())?;
+    }
+    text.push_str(after)?;
+    Ok(text)
+}
+
+#[test]
+fn too_many_locations(rt: HostRuntime) -> Result<(), Fail> {
+    let alloc = rt.alloc();
+    let machine = many_locations(alloc)?;
+    let given = Given {
+        machine: machine.as_bytes(),
+        words: &RUN,
+        script: ONE,
+    };
+    let (status, log) = run(alloc, given, SOUND)?;
+    assert_eq!(rt; status, Status::Machine(MachineFault::Rule(6)));
+    assert_eq!(rt; log.len(), 0);
+    Ok(())
+}
+
 #[test]
 fn a_machine_text_of_too_many_bytes(rt: HostRuntime) -> Result<(), Fail> {
     let alloc = rt.alloc();

@@ -1,8 +1,9 @@
 //! The worked scripts through the program, and budgets.
 
 use crate::running::{Given, RUN, SOUND, run};
-use rows_machine::machines::DUO;
+use rows_machine::machines::{DUO, TAIL};
 use rows_machine::worked::WORKED;
+use std::alloc::Global;
 use std::test::Fail;
 use tp_program::Status;
 
@@ -82,23 +83,39 @@ fn free_forms(rt: HostRuntime) -> Result<(), Fail> {
     Ok(())
 }
 
+/// The machine text with this window in place of the other.
+fn with_window(alloc: Global, text: &str, old: u32, new: u32) -> Result<String, Fail> {
+    let line = format!(in alloc; "window = {old}\n")?;
+    let Some((before, after)) = text.split_once(line.as_str()) else {
+        return Err(Fail::from("the machine has no such window"));
+    };
+    Ok(format!(in alloc; "{before}window = {new}\n{after}")?)
+}
+
 // The horizon: a sheet that ends just at it, and one that would end a tick later.
 #[test]
 fn windows(rt: HostRuntime) -> Result<(), Fail> {
     let alloc = rt.alloc();
-    let rows: [(&str, &[u8]); 2] = [
-        ("window = 14\n", ONE_PLANNED),
-        ("window = 13\n", b"> job j1 t plain M-:F\nnone j1.1.1 t\n"),
+    let tails: &[u8] = b"job j1 t plain 2*--:F\n";
+    let rows: [(&str, u32, u32, &[u8], &[u8]); 3] = [
+        (DUO, 200, 14, ONE, ONE_PLANNED),
+        (DUO, 200, 13, ONE, b"> job j1 t plain M-:F\nnone j1.1.1 t\n"),
+        (
+            TAIL,
+            15,
+            14,
+            tails,
+            b"> job j1 t plain 2*--:F\n\
+              plan j1.1.1 t 3 feed 5 out 8\n\
+              none j1.2.1 t\n",
+        ),
     ];
-    let Some((before, after)) = DUO.split_once("window = 200\n") else {
-        return Err(Fail::from("DUO has no such window"));
-    };
-    for (window, wanted) in rows {
-        let machine = format!(in alloc; "{before}{window}{after}")?;
+    for (text, old, new, script, wanted) in rows {
+        let machine = with_window(alloc, text, old, new)?;
         let given = Given {
             machine: machine.as_bytes(),
             words: &RUN,
-            script: ONE,
+            script,
         };
         let (status, log) = run(alloc, given, SOUND)?;
         assert_eq!(rt; status, Status::Done);
