@@ -127,9 +127,13 @@ fn tried_end<N: Network>(
     ask: &Ask,
 ) -> Result<Tick, Fail>
     requires work { IsFor work.old machine.now }
-    requires ready { (plans : List Plan) × IsReady N.net N.content N.past N.mark_room board.old machine.now plans ask.now }
+    requires ready { (plans : List Plan)
+        × IsReady N.net N.content N.past N.mark_room board.old machine.now plans ask.now }
     ensures work { work.new ≡ work.old }
-    ensures ready { (plans : List Plan) → IsReady N.net N.content N.past N.mark_room board.old machine.now plans ask.entry.now → OnOk result (IsReady N.net N.content N.past N.mark_room board.new machine.now plans ask.entry.now) }
+    ensures ready { (plans : List Plan)
+        → IsReady N.net N.content N.past N.mark_room board.old machine.now plans ask.entry.now
+        → OnOk result (IsReady N.net N.content N.past N.mark_room board.new machine.now plans
+        ask.entry.now) }
 {
     match plan(board, work, machine, ask) {
         Ok(trial) => {
@@ -150,7 +154,8 @@ fn commit_plan<N: Network>(
     ask: &Ask,
 ) -> Result<(), Fail>
     requires work { IsFor work.old machine.now }
-    requires ready { IsReady N.net N.content N.past N.mark_room board.old machine.now schedule.old.plans ask.now }
+    requires ready { IsReady N.net N.content N.past N.mark_room board.old machine.now
+        schedule.old.plans ask.now }
     requires spare { 0 < schedule.old.spare }
 {
     match plan(board, work, machine, ask) {

@@ -69,8 +69,10 @@ pub(crate) fn begin<N: Network>(
     ensures made { OnOk result (IsMadeFor board.new.made_for machine.now) }
     ensures table { OnOk result (IsTableFor rooms.new machine.now) }
     ensures rooms { OnOk result (AreRooms machine.now ask.entry.now rooms.new.sums) }
-    ensures laid { IfOk result (λ goal. IsLaid N.net N.content N.past board.new machine.now ask.entry.now goal 0) }
-    ensures loaded { OnOk result (IsLoadedFrom machine.now schedule.now.plans ask.entry.now board.new.plans) }
+    ensures laid { IfOk result
+        (λ goal. IsLaid N.net N.content N.past board.new machine.now ask.entry.now goal 0) }
+    ensures loaded { OnOk result
+        (IsLoadedFrom machine.now schedule.now.plans ask.entry.now board.new.plans) }
 {
     let Goal::Tray(tray) = ask.goal else {
         return Err(Fail::from("the goal is no tray"));
@@ -120,8 +122,11 @@ fn put<N: Network>(
 ) -> Result<(), Fail>
     requires stands { Stands N.net N.content N.past board.old machine.now }
     requires known { act.0 < length machine.now.actions }
-    requires ready { IsSomeAnd board.old.ask (λ ask. IsSomeAnd (suffix_of board.old) (CanGoOn ask)) }
-    ensures put { OnOk result (IsSomeAnd (suffix_of board.old) (IsPut machine.now board.old.plans act room place (suffix_of board.new))) }
+    requires ready { IsSomeAnd board.old.ask
+        (λ ask. IsSomeAnd (suffix_of board.old) (CanGoOn ask)) }
+    ensures put { OnOk result
+        (IsSomeAnd (suffix_of board.old)
+        (IsPut machine.now board.old.plans act room place (suffix_of board.new))) }
     ensures stands { Stands N.net N.content N.past board.new machine.now }
     ensures same { IsSameLoad board.old board.new }
     ensures past { past_of N.past board.new ≡ past_of N.past board.old }
@@ -159,7 +164,9 @@ fn lay_next<N: Network>(
     requires kept { kept_of ask.now ≤ 10 }
     requires laid { IsLaid N.net N.content N.past board.old machine.now ask.now state others }
     requires few { others ≤ 50 }
-    ensures laid { IfOk result (λ before. IsLaid N.net N.content N.past board.new machine.now ask.entry.now before (others + 1)) }
+    ensures laid { IfOk result
+        (λ before. IsLaid N.net N.content N.past board.new machine.now ask.entry.now before
+        (others + 1)) }
     ensures same { IsSameLoad board.old board.new }
     ensures past { past_of N.past board.new ≡ past_of N.past board.old }
 {
@@ -187,7 +194,8 @@ pub(crate) fn bound_with<N: Network>(
     requires kept { kept_of ask.now ≤ 10 }
     requires laid { IsLaid N.net N.content N.past board.old machine.now ask.now state others }
     requires few { others ≤ 50 }
-    ensures { OnOk result (IsLaid N.net N.content N.past board.new machine.now ask.entry.now state others) }
+    ensures { OnOk result
+        (IsLaid N.net N.content N.past board.new machine.now ask.entry.now state others) }
 {
     marks_keep_boards::<N>();
     if board.spare_marks() == 0 {
@@ -288,7 +296,9 @@ pub(crate) fn lay<N: Network>(
     requires kept { kept_of ask.now ≤ 10 }
     requires laid { IsLaid N.net N.content N.past board.old machine.now ask.now goal 0 }
     requires few { length way.now ≤ 50 }
-    ensures laid { IfOk result (λ first. IsLaid N.net N.content N.past board.new machine.now ask.entry.now first (length way.now)) }
+    ensures laid { IfOk result
+        (λ first. IsLaid N.net N.content N.past board.new machine.now ask.entry.now first
+        (length way.now)) }
     ensures same { OnOk result (IsSameLoad board.old board.new) }
 {
     let mut first = goal;

@@ -159,7 +159,9 @@ fn begun_behind<N: Network>(
     ensures table { OnOk result (IsTableFor rooms.new machine.now) }
     ensures rooms { IfOk result (λ begun. AreRooms machine.now begun.0 rooms.new.sums) }
     ensures kept { IfOk result (λ begun. kept_of begun.0 ≤ 10) }
-    ensures laid { IfOk result (λ begun. IsLaid N.net N.content N.past board.new machine.now begun.0 begun.1 (length way.now)) }
+    ensures laid { IfOk result
+        (λ begun. IsLaid N.net N.content N.past board.new machine.now begun.0 begun.1
+        (length way.now)) }
 {
     let ask = new_ask(machine, 2)?;
     if !is_askable(machine, schedule, &ask) {
@@ -184,7 +186,9 @@ pub(crate) fn second_begun<N: Network>(
     ensures table { OnOk result (IsTableFor rooms.new machine.now) }
     ensures rooms { IfOk result (λ begun. AreRooms machine.now begun.0 rooms.new.sums) }
     ensures kept { IfOk result (λ begun. kept_of begun.0 ≤ 10) }
-    ensures laid { IfOk result (λ begun. IsLaid N.net N.content N.past board.new machine.now begun.0 begun.1 (length way.now)) }
+    ensures laid { IfOk result
+        (λ begun. IsLaid N.net N.content N.past board.new machine.now begun.0 begun.1
+        (length way.now)) }
 {
     let schedule = one_planned(alloc, board, rooms, machine)?;
     begun_behind(board, rooms, machine, &schedule, way)

@@ -43,5 +43,8 @@ with_point net low cap = record { lows = net.lows ++ low ∷ []; caps = net.caps
 abbrev pub with_edge : Net → Edge → Net
 with_edge net e = record { lows = net.lows; caps = net.caps; edges = net.edges ++ e ∷ [] }
 
+abbrev pub with_edges : Net → List Edge → Net
+with_edges net es = record { lows = net.lows; caps = net.caps; edges = net.edges ++ es }
+
 abbrev pub with_low : Net → ℕ → ℕ → Net
 with_low net p low = record { lows = slice_set net.lows p low; caps = net.caps; edges = net.edges }

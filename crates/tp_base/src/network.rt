@@ -1,5 +1,6 @@
-ghost use Rattle.std.specs.Prelude.{◌≡◌, ℕ, ◌+◌, ◌<◌, ◌≤◌, ◌≤ℤ◌, pos, negsuc, ◌↔◌, [], length, slice_index, OnOk, OnErr, IfOk, IsErr};
-ghost use Rattle.tp_base.specs.Net.{Net, HasLeast, HasNoSolution, IsEarliest, empty_net, with_point, with_edge, with_low};
+ghost use Rattle.std.specs.Prelude.{◌≡◌, ℕ, ◌+◌, ◌<◌, ◌≤◌, ◌≤ℤ◌, pos, negsuc, ◌↔◌, [], length, slice_index, All, OnOk, OnErr, IfOk, IsErr};
+ghost use Rattle.tp_base.specs.Grows.{IsKnown};
+ghost use Rattle.tp_base.specs.Net.{Net, HasLeast, HasNoSolution, IsEarliest, IsSolution, empty_net, with_point, with_edge, with_edges, with_low};
 
 use crate::edges::{Edge, PointId, Proof};
 use crate::refusals::{Full, Late};
@@ -63,6 +64,50 @@ pub trait Network: Undo {
         ensures points { point_room self.new ≡ point_room self.old }
         ensures edges { edge_room self.new ≡ edge_room self.old };
 
+    /// Adds edges, all of them, or leaves the content where no solution would be left.
+    fn require_all(&mut self, edges: &[Edge]) -> Result<(), Late>
+        requires known { All (IsKnown (length (net self.old).lows)) edges.now }
+        requires spare { length (net self.old).edges + length edges.now ≤ edge_room self.old }
+        ensures added { OnOk result (net self.new ≡ with_edges (net self.old) edges.now) }
+        ensures solved { OnOk result (HasLeast (net self.new)) }
+        ensures late { OnErr result (HasNoSolution (with_edges (net self.old) edges.now)) }
+        ensures kept { OnErr result (Self.content self.new ≡ Self.content self.old) }
+        ensures refused { OnErr result (refutes self.new (with_edges (net self.old) edges.now)) }
+        ensures past { Self.past self.new ≡ Self.past self.old }
+        ensures marks { Self.mark_room self.new ≡ Self.mark_room self.old }
+        ensures points { point_room self.new ≡ point_room self.old }
+        ensures edges { edge_room self.new ≡ edge_room self.old };
+
+    /// Adds a point, which gets the next number, and edges, all of it, or leaves the content where no solution would be left.
+    fn extend(&mut self, low: u32, cap: u32, edges: &[Edge]) -> Result<(), Late>
+        requires room { length (net self.old).lows < point_room self.old }
+        requires known { All (IsKnown (length (net self.old).lows + 1)) edges.now }
+        requires spare { length (net self.old).edges + length edges.now ≤ edge_room self.old }
+        ensures added { OnOk result
+            (net self.new ≡ with_edges (with_point (net self.old) low cap) edges.now) }
+        ensures solved { OnOk result (HasLeast (net self.new)) }
+        ensures late { OnErr result
+            (HasNoSolution (with_edges (with_point (net self.old) low cap) edges.now)) }
+        ensures kept { OnErr result (Self.content self.new ≡ Self.content self.old) }
+        ensures refused { OnErr result
+            (refutes self.new (with_edges (with_point (net self.old) low cap) edges.now)) }
+        ensures past { Self.past self.new ≡ Self.past self.old }
+        ensures marks { Self.mark_room self.new ≡ Self.mark_room self.old }
+        ensures points { point_room self.new ≡ point_room self.old }
+        ensures edges { edge_room self.new ≡ edge_room self.old };
+
+    /// Adds edges that leave a solution. The times are worked out once for all of them, so that many edges cost little.
+    fn load(&mut self, edges: &[Edge])
+        requires known { All (IsKnown (length (net self.old).lows)) edges.now }
+        requires spare { length (net self.old).edges + length edges.now ≤ edge_room self.old }
+        requires solution { (x : ℕ → ℕ) × IsSolution (with_edges (net self.old) edges.now) x }
+        ensures added { net self.new ≡ with_edges (net self.old) edges.now }
+        ensures solved { HasLeast (net self.new) }
+        ensures past { Self.past self.new ≡ Self.past self.old }
+        ensures marks { Self.mark_room self.new ≡ Self.mark_room self.old }
+        ensures points { point_room self.new ≡ point_room self.old }
+        ensures edges { edge_room self.new ≡ edge_room self.old };
+
     /// Raises the lower bound of a point, or leaves the content where no solution would be left.
     fn raise(&mut self, point: PointId, low: u32) -> Result<(), Late>
         requires known { point.0 < length (net self.old).lows }
@@ -91,10 +136,13 @@ pub trait Network: Undo {
     ghost net_by_content: { (a b : Self) → Self.content a ≡ Self.content b → net a ≡ net b };
 
     /// What marks leave alone has what is kept of the last refusal,
-    ghost refutes_by_aside: { (a b : Self) (late : Net) → Self.aside a ≡ Self.aside b → refutes a late → refutes b late };
+    ghost refutes_by_aside: { (a b : Self) (late : Net) → Self.aside a ≡ Self.aside b
+        → refutes a late → refutes b late };
 
     /// and the numbers that the network was made for.
-    ghost points_by_aside: { (a b : Self) → Self.aside a ≡ Self.aside b → point_room a ≡ point_room b };
+    ghost points_by_aside: { (a b : Self) → Self.aside a ≡ Self.aside b
+        → point_room a ≡ point_room b };
 
-    ghost edges_by_aside: { (a b : Self) → Self.aside a ≡ Self.aside b → edge_room a ≡ edge_room b };
+    ghost edges_by_aside: { (a b : Self) → Self.aside a ≡ Self.aside b
+        → edge_room a ≡ edge_room b };
 }

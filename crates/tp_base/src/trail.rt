@@ -21,7 +21,8 @@ impl<T: Copy> Model for Trail<T> {
 
     ghost view = { λ s. record { items = s.items.items; room = s.room } };
 
-    ghost invariant = { λ s. (length s.items.items ≤ s.room) × (s.room ≤ vec_capacity s.items) × (s.room < 2 ^ 32) };
+    ghost invariant = { λ s. (length s.items.items ≤ s.room) × (s.room ≤ vec_capacity s.items)
+        × (s.room < 2 ^ 32) };
 }
 
 impl<T: Copy> Trail<T> {

@@ -1,13 +1,13 @@
 -- The network of a schedule, and what each step of a board adds to it.
 use Rattle.tp_constraints.proofs.Lists.{all-by}
 use Rattle.std.proofs.Common.{◌≡◌, suc, ◌+◌, ◌≤◌, false, List, [], ◌∷◌, ◌++◌, length, map, refl, sym, arith, ap, subst}
-use Rattle.tp_base.specs.Net.{with_point}
+use Rattle.tp_base.specs.Net.{with_point, with_edges}
 use Rattle.tp_schedule.specs.Spots.{Spot}
 use Rattle.tp_schedule.specs.Spots.Spot.{kept, own}
 use Rattle.tp_schedule.specs.Choices.{Choice, start_floor}
 use Rattle.tp_constraints.specs.Gaps.{KeepsGap, KeepsGaps, IsPoint, low_at}
 use Rattle.tp_constraints.specs.Suffixes.{SuffixTimes, IsSuffixPoint, suffix_low, suffix_cap, with_action, with_place, with_stop, with_goal, place_first}
-use Rattle.tp_constraints.specs.Numbers.{gap_by, IsNetFor, with_edges}
+use Rattle.tp_constraints.specs.Numbers.{gap_by, IsNetFor}
 use Rattle.tp_constraints.specs.Laws.{no_own, plans_gaps, LoadedTimes}
 use Rattle.tp_constraints.specs.Nets.{LoadNet, GoalNet, ActionNet, PlaceNet, StopNet}
 use Rattle.tp_choices.proofs.Completing.{ChoicesLast-rise}

@@ -4,12 +4,12 @@ use Rattle.std.specs.Prelude.{◌↔◌}
 use Rattle.std.proofs.lemmas.List.{length-append, map-append}
 use Rattle.std.proofs.lemmas.List.Elements.{All-nil, All-cons, All-head, All-tail, All-append}
 use Rattle.tp_base.specs.declared.edges.Edge.{Edge}
-use Rattle.tp_base.specs.Net.{Net, with_point}
+use Rattle.tp_base.specs.Net.{Net, with_point, with_edges}
 use Rattle.tp_schedule.specs.declared.parts.Plan.{Plan}
 use Rattle.tp_schedule.specs.Spots.{Spot, Ticks}
 use Rattle.tp_schedule.specs.Spots.Spot.{kept, own}
 use Rattle.tp_constraints.specs.Gaps.{KeepsGap, KeepsGaps, IsPoint}
-use Rattle.tp_constraints.specs.Numbers.{gap_by, IsTable, IsEdgeOf, IsNetFor, with_edges}
+use Rattle.tp_constraints.specs.Numbers.{gap_by, IsTable, IsEdgeOf, IsNetFor}
 use Rattle.std.proofs.lemmas.Bool.{cases_lt}
 use Rattle.tp_choices.proofs.Lists.{slice_get-left, slice_get-right}
 use Rattle.std.proofs.lemmas.List.Quantifiers.{all_pairs_push}

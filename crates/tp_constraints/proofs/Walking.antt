@@ -3,7 +3,7 @@ use Rattle.std.proofs.Common.{◌≡◌, ℕ, zero, suc, ◌≤◌, ◌<◌, Lis
 use Rattle.std.specs.Prelude.{slice_get, ◌↔◌}
 use Rattle.std.proofs.lemmas.Option.{slice_get_within}
 use Rattle.std.proofs.lemmas.List.Elements.{All-nil, All-cons, All-head, All-tail, All-append}
-use Rattle.tp_base.specs.Net.{Net}
+use Rattle.tp_base.specs.Net.{Net, with_edges}
 use Rattle.tp_machine.specs.declared.whole.Machine.{Machine}
 use Rattle.tp_schedule.specs.Choices.{Choice, placed}
 use Rattle.tp_schedule.specs.Spots.{Spot, Slot, Ticks, slot_order, IsApart, IsSoundSlot}
@@ -13,7 +13,7 @@ use Rattle.tp_schedule.proofs.SlotOrder.{apart_behind}
 use Rattle.tp_schedule.proofs.Pairs.{AllPairs-head, AllPairs-tail}
 use Rattle.tp_constraints.specs.Gaps.{IsPoint, KeepsGap, KeepsGaps, slot_gap}
 use Rattle.tp_constraints.specs.Hops.{IsHop, hop_after, hop_until, place_hops}
-use Rattle.tp_constraints.specs.Numbers.{spot_at, IsNetFor, with_edges}
+use Rattle.tp_constraints.specs.Numbers.{spot_at, IsNetFor}
 use Rattle.tp_constraints.specs.Suffixes.{Suffix, SuffixTimes, IsSuffixPoint, before_place, choice_slot, gap_after, gap_until, place_gaps, place_first, suffix_cap, suffix_low, with_place}
 use Rattle.tp_constraints.specs.Walks.{IsNextHold, gap_for, order_for, WalkTimes, WalkStart, WalkAhead, WalkStep, WalkPlace, WalkLate, StartNet, BeforeNet, StandNet, EarlierNet, WalkSolutions, WalkShut, IsWalkHop, StartHops, BeforeHops, StandHops}
 use Rattle.tp_constraints.proofs.Growing.{edges-step}

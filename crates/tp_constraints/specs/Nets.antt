@@ -1,7 +1,7 @@
 -- The network of a loaded schedule and that of a board with choices: its solutions are the ticks, and each step of the
 -- board adds points and edges to it.
 use Rattle.std.specs.Prelude.{◌≡◌, ◌↔◌, ℕ, suc, ◌+◌, ◌≤◌, Bool, false, List, [], ◌∷◌, ◌++◌, length, map, All, Contains, slice_get, Some, IsFalse, IsSome}
-use Rattle.tp_base.specs.Net.{Net, IsSolution, IsLeast, IsEarliest, HasNoSolution, with_point}
+use Rattle.tp_base.specs.Net.{Net, IsSolution, IsLeast, IsEarliest, HasNoSolution, with_point, with_edges}
 use Rattle.tp_base.specs.declared.edges.Edge.{Edge}
 use Rattle.tp_machine.specs.Modes.{gap_at}
 use Rattle.tp_machine.specs.Using.{action_at}
@@ -17,7 +17,7 @@ use Rattle.tp_schedule.specs.declared.parts.Ask.{Ask}
 use Rattle.tp_schedule.specs.declared.parts.Plan.{Plan}
 use Rattle.tp_constraints.specs.Gaps.{IsPoint, low_at, cap_at, range_gaps}
 use Rattle.tp_constraints.specs.Laws.{IsLoadable, LoadedTimes, plans_gaps, no_own}
-use Rattle.tp_constraints.specs.Numbers.{ticks_by, number, gap_by, IsTable, IsEdgeOf, IsNetFor, with_edges}
+use Rattle.tp_constraints.specs.Numbers.{ticks_by, number, gap_by, IsTable, IsEdgeOf, IsNetFor}
 use Rattle.tp_constraints.specs.Suffixes.{Suffix, SuffixTimes, IsInFlight, suffix_low, suffix_cap, IsSuffixPoint, order_in, place_gaps, choice_slot, with_action, with_place, with_stop, with_goal, stop_gaps, end_gaps}
 
 abbrev pub IsLoadedNet : Machine → ℕ → (Plan → Bool) → List Plan → List Spot → Net → Type 0

@@ -51,10 +51,6 @@ pub record IsNetFor (known : Spot → Type 0) (low cap : Spot → ℕ) (times : 
   pub edges : All (IsEdgeOf table) net.edges
   pub says : (t : Ticks) → times t ↔ KeepsConstraints known low cap (map (gap_by table) net.edges) t
 
--- a network with more edges
-abbrev pub with_edges : Net → List Edge → Net
-with_edges net es = record { lows = net.lows; caps = net.caps; edges = net.edges ++ es }
-
 -- the table of the points of a schedule, plan by plan
 abbrev pub points_from : SheetId → ℕ → ℕ → List Spot
 points_from copy i zero = kept copy i ∷ []

@@ -1,7 +1,7 @@
 -- A walk through the places of an order from its end: the next hold of the newest choice stands before the hold at a place,
 -- and so before all behind it.
 use Rattle.std.specs.Prelude.{◌≡◌, ◌↔◌, ℕ, ◌≤◌, List, ◌∷◌, ◌++◌, length, map, All, slice_get, Some}
-use Rattle.tp_base.specs.Net.{Net, IsSolution, HasNoSolution}
+use Rattle.tp_base.specs.Net.{Net, IsSolution, HasNoSolution, with_edges}
 use Rattle.tp_base.specs.declared.edges.Edge.{Edge}
 use Rattle.tp_machine.specs.Modes.{gap_at}
 use Rattle.tp_machine.specs.Using.{action_at}
@@ -14,7 +14,7 @@ use Rattle.tp_schedule.specs.declared.parts.Plan.{Plan}
 use Rattle.tp_constraints.specs.Gaps.{KeepsGaps}
 use Rattle.tp_constraints.specs.Hops.{Hop, IsHop, hop_after, hop_until}
 use Rattle.tp_constraints.specs.Nets.{IsBoardNet}
-use Rattle.tp_constraints.specs.Numbers.{gap_by, ticks_by, IsEdgeOf, IsNetFor, with_edges}
+use Rattle.tp_constraints.specs.Numbers.{gap_by, ticks_by, IsEdgeOf, IsNetFor}
 use Rattle.tp_constraints.specs.Suffixes.{Suffix, SuffixTimes, IsSuffixPoint, before_place, choice_slot, gap_after, gap_until, order_in, place_gaps, suffix_cap, suffix_low, with_place}
 
 -- the slot is that of the next hold of the newest choice

@@ -7,7 +7,7 @@ use Rattle.std.proofs.lemmas.List.{length-append, length-map, append-nil}
 use Rattle.std.proofs.lemmas.List.Elements.{All-cons, All-nil}
 use Rattle.tp_base.specs.declared.edges.Edge.{Edge}
 use Rattle.tp_base.specs.declared.edges.PointId.{PointId}
-use Rattle.tp_base.specs.Net.{Net, HasLeast, HasNoSolution, with_point}
+use Rattle.tp_base.specs.Net.{Net, HasLeast, HasNoSolution, with_point, with_edges}
 use Rattle.tp_machine.specs.Using.{action_at}
 use Rattle.tp_machine.specs.declared.parts.ActId.{ActId}
 use Rattle.tp_machine.specs.declared.parts.Action.{Action}
@@ -24,7 +24,7 @@ use Rattle.tp_timelines.specs.Orders.{order_on}
 use Rattle.tp_constraints.specs.Gaps.{range_gaps}
 use Rattle.tp_constraints.specs.Hops.{Hop, IsHop, ActionHops, range_hops}
 use Rattle.tp_constraints.specs.Nets.{ActionNet, BoardLate, IsBoardNet}
-use Rattle.tp_constraints.specs.Numbers.{gap_by, table_of, IsEdgeOf, with_edges}
+use Rattle.tp_constraints.specs.Numbers.{gap_by, table_of, IsEdgeOf}
 use Rattle.tp_constraints.specs.Suffixes.{Suffix, SuffixTimes, order_in, suffix_cap, suffix_low, with_action}
 use Rattle.tp_placing.specs.declared.parts.Step.{Step}
 use Rattle.tp_placing.specs.Boards.{BoardValue, suffix_after}

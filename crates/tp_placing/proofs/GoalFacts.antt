@@ -3,7 +3,7 @@ use Rattle.std.proofs.Common.{◌≡◌, ℕ, ◌+◌, ◌≤◌, min, List, [],
 use Rattle.std.proofs.lemmas.List.{append-nil, length-append, length-map}
 use Rattle.tp_base.specs.declared.edges.Edge.{Edge}
 use Rattle.tp_base.specs.declared.edges.PointId.{PointId}
-use Rattle.tp_base.specs.Net.{Net, HasLeast, HasNoSolution, with_point}
+use Rattle.tp_base.specs.Net.{Net, HasLeast, HasNoSolution, with_point, with_edges}
 use Rattle.tp_machine.specs.declared.whole.Machine.{Machine}
 use Rattle.tp_schedule.specs.Choices.{start_floor}
 use Rattle.tp_schedule.specs.Spots.{Spot, Ticks, slot_order}
@@ -16,7 +16,7 @@ use Rattle.tp_constraints.specs.Hops.{GoalHops, hop, no_choices}
 use Rattle.tp_constraints.specs.Hops.HopKind.{line}
 use Rattle.tp_constraints.specs.Laws.{no_own}
 use Rattle.tp_constraints.specs.Nets.{GoalNet, BoardLate, IsBoardNet}
-use Rattle.tp_constraints.specs.Numbers.{gap_by, table_of, with_edges}
+use Rattle.tp_constraints.specs.Numbers.{gap_by, table_of}
 use Rattle.tp_constraints.specs.Suffixes.{SuffixTimes, end_gaps, with_goal}
 use Rattle.tp_placing.specs.declared.parts.Step.{Step}
 use Rattle.tp_placing.specs.Boards.{BoardValue, suffix_after}

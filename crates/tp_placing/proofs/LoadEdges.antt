@@ -1,9 +1,8 @@
 -- Edges that a solution keeps, added in parts.
 use Rattle.std.proofs.Common.{◌≡◌, ℕ, ◌+◌, ◌<◌, List, ◌∷◌, ◌++◌, length, drop, get_or, ap, sym, arith, ◌∙◌, subst}
 use Rattle.std.proofs.lemmas.List.{append_assoc, length-append, drop_more}
-use Rattle.tp_base.specs.Net.{Net, IsSolution, HasLeast, HasNoSolution, Keeps}
+use Rattle.tp_base.specs.Net.{Net, IsSolution, HasLeast, HasNoSolution, Keeps, with_edges}
 use Rattle.tp_base.specs.declared.edges.Edge.{Edge}
-use Rattle.tp_constraints.specs.Numbers.{with_edges}
 use Rattle.tp_constraints.proofs.Lists.{All-split}
 use Rattle.std.proofs.lemmas.List.Elements.{All-append}
 use Rattle.tp_placing.specs.Loading.{AreAddable}

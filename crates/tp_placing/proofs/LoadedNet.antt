@@ -3,7 +3,7 @@ use Rattle.std.proofs.Common.{◌≡◌, ℕ, ◌+◌, ◌<◌, ◌≤◌, false
 use Rattle.std.specs.Prelude.{slice_get, slice_index}
 use Rattle.std.proofs.lemmas.List.{length-append, length-map, take_all}
 use Rattle.std.proofs.lemmas.List.Elements.{All-contains, All-weaker, All-contains_itself}
-use Rattle.tp_base.specs.Net.{Net, IsSolution, HasLeast, Keeps, empty_net}
+use Rattle.tp_base.specs.Net.{Net, IsSolution, HasLeast, Keeps, empty_net, with_edges}
 use Rattle.tp_base.specs.declared.edges.PointId.{PointId}
 use Rattle.tp_machine.specs.declared.whole.Machine.{Machine}
 use Rattle.tp_schedule.specs.Spots.{Spot, slot_order, by_begin, ticks_of}
@@ -13,7 +13,7 @@ use Rattle.tp_constraints.specs.Gaps.{KeepsGap, KeepsGaps, IsPoint, low_at, cap_
 use Rattle.tp_constraints.specs.Hops.{Hop, IsHop, hop, no_choices, duration_hops, all_chain_hops, plans_hops}
 use Rattle.tp_constraints.specs.Hops.HopKind.{line}
 use Rattle.tp_constraints.specs.Laws.{plans_gaps, no_own}
-use Rattle.tp_constraints.specs.Numbers.{table_of, gap_by, spot_at, spot_in, IsTable, IsEdgeOf, with_edges}
+use Rattle.tp_constraints.specs.Numbers.{table_of, gap_by, spot_at, spot_in, IsTable, IsEdgeOf}
 use Rattle.tp_constraints.proofs.BoardNets.{load_net}
 use Rattle.tp_constraints.proofs.HopGaps.{plans-hop-gaps}
 use Rattle.tp_constraints.proofs.Hopping.{load_hops}

@@ -3,8 +3,7 @@ use Rattle.std.proofs.Common.{◌≡◌, ℕ, ◌+◌, ◌<◌, min, List, [], �
 use Rattle.std.proofs.lemmas.Bool.{cases_lt}
 use Rattle.std.proofs.lemmas.List.{length-append, get_or_at}
 use Rattle.tp_base.specs.declared.edges.Edge.{Edge}
-use Rattle.tp_base.specs.Net.{Net, HasLeast, HasNoSolution, with_point}
-use Rattle.tp_constraints.specs.Numbers.{with_edges}
+use Rattle.tp_base.specs.Net.{Net, HasLeast, HasNoSolution, with_point, with_edges}
 
 -- no solution has a point whose low is above its cap
 pub no-solution-above : (net : Net) (low top : ℕ) (es : List Edge) → length net.caps ≡ length net.lows → top < low → HasNoSolution (with_edges (with_point net low top) es)

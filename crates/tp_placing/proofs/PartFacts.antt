@@ -7,9 +7,8 @@ use Rattle.std.proofs.lemmas.List.Elements.{All-append, All-take, All-contains_i
 use Rattle.tp_base.specs.declared.edges.Edge.{Edge}
 use Rattle.tp_base.specs.declared.edges.Proof.{Proof}
 use Rattle.tp_base.specs.declared.edges.Proof.TheVariants.{Chain, Circle}
-use Rattle.tp_base.specs.Net.{Net, with_point}
+use Rattle.tp_base.specs.Net.{Net, with_point, with_edges}
 use Rattle.tp_base.specs.Refute.{Refutes}
-use Rattle.tp_constraints.specs.Numbers.{with_edges}
 use Rattle.tp_constraints.proofs.Lists.{all-by}
 use Rattle.tp_placing.specs.Reasons.{IsPart, IsShown}
 use Rattle.tp_placing.specs.Trying.{IsRefused}

@@ -10,7 +10,7 @@ use Rattle.std.proofs.lemmas.List.Sums.{sum_by-set}
 use Rattle.tp_base.proofs.SliceFacts.{slice_get_last}
 use Rattle.tp_base.specs.declared.edges.Edge.{Edge}
 use Rattle.tp_base.specs.declared.edges.PointId.{PointId}
-use Rattle.tp_base.specs.Net.{Net, HasLeast, HasNoSolution}
+use Rattle.tp_base.specs.Net.{Net, HasLeast, HasNoSolution, with_edges}
 use Rattle.tp_machine.proofs.MachineFacts.{is_machine}
 use Rattle.tp_machine.specs.Modes.{gap_at}
 use Rattle.tp_machine.specs.Using.{action_at}
@@ -29,7 +29,7 @@ use Rattle.tp_schedule.specs.declared.parts.Plan.{Plan}
 use Rattle.tp_timelines.specs.Orders.{order_on, total}
 use Rattle.tp_constraints.specs.Hops.{Hop, IsHop, PlaceHops, place_hops}
 use Rattle.tp_constraints.specs.Nets.{PlaceNet, BoardLate, IsBoardNet}
-use Rattle.tp_constraints.specs.Numbers.{gap_by, table_of, IsEdgeOf, with_edges}
+use Rattle.tp_constraints.specs.Numbers.{gap_by, table_of, IsEdgeOf}
 use Rattle.tp_constraints.specs.Suffixes.{Suffix, SuffixTimes, suffix_low, choice_slot, order_in, place_gaps, with_place}
 use Rattle.tp_constraints.proofs.Placing.{put_places-push}
 use Rattle.tp_placing.specs.declared.causes.Cause.{Cause}

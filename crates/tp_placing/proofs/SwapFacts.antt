@@ -3,14 +3,14 @@ use Rattle.std.proofs.Common.{◌≡◌, ℕ, List, ◌++◌, length, map, arith
 use Rattle.std.proofs.lemmas.List.{length-append}
 use Rattle.std.proofs.lemmas.List.Elements.{All-append, All-map, All-contains_itself, Contains-append_left, Contains-append_right}
 use Rattle.tp_base.specs.declared.edges.Edge.{Edge}
-use Rattle.tp_base.specs.Net.{Net, IsSolution, HasLeast, HasNoSolution, Keeps}
+use Rattle.tp_base.specs.Net.{Net, IsSolution, HasLeast, HasNoSolution, Keeps, with_edges}
 use Rattle.tp_machine.specs.declared.whole.Machine.{Machine}
 use Rattle.tp_schedule.specs.Spots.{Spot, Ticks}
 use Rattle.tp_schedule.specs.declared.parts.Ask.{Ask}
 use Rattle.tp_schedule.specs.declared.parts.Plan.{Plan}
 use Rattle.tp_choices.proofs.Lists.{All-map_from}
 use Rattle.tp_constraints.specs.Gaps.{KeepsGap}
-use Rattle.tp_constraints.specs.Numbers.{IsEdgeOf, IsNetFor, gap_by, with_edges}
+use Rattle.tp_constraints.specs.Numbers.{IsEdgeOf, IsNetFor, gap_by}
 use Rattle.tp_constraints.specs.Suffixes.{Suffix}
 use Rattle.tp_constraints.proofs.Lists.{All-split, all-by}
 use Rattle.tp_placing.specs.declared.causes.Cause.{Cause}

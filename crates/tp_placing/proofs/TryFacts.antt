@@ -3,8 +3,7 @@ use Rattle.std.proofs.Common.{zero, suc, set, ◌≡◌, ℕ, ◌+◌, ◌<◌, 
 use Rattle.std.proofs.lemmas.List.{append_assoc, take_more, append-nil}
 use Rattle.std.proofs.lemmas.List.Elements.{All-append, All-take}
 use Rattle.tp_base.specs.declared.edges.Edge.{Edge}
-use Rattle.tp_base.specs.Net.{Net, IsSolution, HasLeast, HasNoSolution, Keeps, with_edge, with_low, with_point}
-use Rattle.tp_constraints.specs.Numbers.{with_edges}
+use Rattle.tp_base.specs.Net.{Net, IsSolution, HasLeast, HasNoSolution, Keeps, with_edge, with_low, with_point, with_edges}
 use Rattle.tp_constraints.proofs.Lists.{All-split}
 
 solution-fewer : (net : Net) (es : List Edge) (n : ℕ) (x : ℕ → ℕ) → IsSolution (with_edges net es) x → IsSolution (with_edges net (take n es)) x

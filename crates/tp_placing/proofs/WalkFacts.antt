@@ -6,7 +6,7 @@ use Rattle.std.proofs.lemmas.List.{length-append}
 use Rattle.std.proofs.lemmas.List.Elements.{All-cons, All-contains_itself, All-nil, Contains-append_left}
 use Rattle.std.proofs.lemmas.Option.{slice_get_within}
 use Rattle.tp_base.specs.declared.edges.Edge.{Edge}
-use Rattle.tp_base.specs.Net.{Net, HasLeast, HasNoSolution}
+use Rattle.tp_base.specs.Net.{Net, HasLeast, HasNoSolution, with_edges}
 use Rattle.tp_machine.proofs.MachineFacts.{is_machine}
 use Rattle.tp_machine.specs.Modes.{gap_at}
 use Rattle.tp_machine.specs.declared.parts.ActId.{ActId}
@@ -16,7 +16,7 @@ use Rattle.tp_schedule.specs.Spots.{Spot, Slot, Ticks}
 use Rattle.tp_schedule.specs.declared.parts.Ask.{Ask}
 use Rattle.tp_constraints.specs.Hops.{PlaceHops, hop_until}
 use Rattle.tp_constraints.specs.Nets.{PlaceNet, BoardLate}
-use Rattle.tp_constraints.specs.Numbers.{IsEdgeOf, gap_by, with_edges}
+use Rattle.tp_constraints.specs.Numbers.{IsEdgeOf, gap_by}
 use Rattle.tp_constraints.specs.Suffixes.{SuffixTimes, choice_slot, gap_until, order_in, with_place}
 use Rattle.tp_constraints.specs.Walks.{BeforeHops, BeforeNet, EarlierNet, IsNextHold, IsWalkNet, StartHops, StartNet, WalkShut}
 use Rattle.tp_constraints.proofs.Lists.{All-split, all-by}

@@ -1,6 +1,6 @@
 -- The network of a loaded schedule: its points one plan after another, and an edge for each of its gaps.
 use Rattle.std.specs.Prelude.{◌≡◌, ℕ, zero, suc, ◌+◌, ◌<◌, ◌≤◌, false, List, [], ◌∷◌, ◌++◌, flat_map, length, pos, Option, Some, None, slice_get, All, if◌then◌else◌}
-use Rattle.tp_base.specs.Net.{Net, IsSolution, HasLeast}
+use Rattle.tp_base.specs.Net.{Net, IsSolution, HasLeast, with_edges}
 use Rattle.tp_base.specs.declared.edges.Edge.{Edge}
 use Rattle.tp_base.specs.declared.edges.PointId.{PointId}
 use Rattle.tp_machine.specs.Modes.{gap_at}
@@ -12,7 +12,6 @@ use Rattle.tp_schedule.specs.Plans.{IsFormed}
 use Rattle.tp_schedule.specs.Times.{ticks_from}
 use Rattle.tp_schedule.specs.declared.parts.Plan.{Plan}
 use Rattle.tp_constraints.specs.Gaps.{low_of, cap_of, is_same_line}
-use Rattle.tp_constraints.specs.Numbers.{with_edges}
 use Rattle.tp_timelines.specs.Orders.{order_on}
 use Rattle.tp_placing.specs.Causes.{line_tag, cause_between}
 use Rattle.tp_placing.specs.declared.causes.Cause.{Cause}

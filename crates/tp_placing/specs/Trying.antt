@@ -1,8 +1,7 @@
 -- Several edges at once.
 use Rattle.std.specs.Prelude.{ℕ, ◌<◌, ◌≤◌, List, length, take, ◌≤ℤ◌, negsuc, pos}
 use Rattle.tp_base.specs.declared.edges.Edge.{Edge}
-use Rattle.tp_base.specs.Net.{Net}
-use Rattle.tp_constraints.specs.Numbers.{with_edges}
+use Rattle.tp_base.specs.Net.{Net, with_edges}
 
 -- the edge may be asked of a network with so many points
 pub record CanRequire (points : ℕ) (e : Edge) : Type 0 where

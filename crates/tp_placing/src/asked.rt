@@ -33,7 +33,8 @@ fn starts_so_far<N: Network>(net: &N, plans: &[Plan], firsts: &[PointId], copy: 
     requires firsts { AreFirsts 0 plans.now firsts.now }
     requires known { length (table_of plans.now) ≤ length (N.net net.now).lows }
     requires fits { length (table_of plans.now) < 2 ^ 32 }
-    ensures times { (t : Ticks) → AreLeastTicks (N.net net.now) (table_of plans.now) t → result ≡ ticks_from (λ i. t (kept copy i)) 0 (length (kept_acts copy plans.now)) }
+    ensures times { (t : Ticks) → AreLeastTicks (N.net net.now) (table_of plans.now) t → result
+        ≡ ticks_from (λ i. t (kept copy i)) 0 (length (kept_acts copy plans.now)) }
     ensures count { length result ≡ length (kept_acts copy plans.now) }
 {
     match copy_place(plans, copy) {
@@ -62,7 +63,8 @@ fn add_back<N: Network>(points: &mut Points, net: &N, first: PointId, count: u32
     requires few { length points.old + count < 65 }
     requires known { first.0 < length (N.net net.now).lows }
     requires within { count ≤ first.0 }
-    ensures times { (sol : ℕ → ℕ) → IsLeast (N.net net.now) sol → points.new ≡ points.old ++ ticks_from (back_from sol first.0) 0 (suc count) }
+    ensures times { (sol : ℕ → ℕ) → IsLeast (N.net net.now) sol → points.new ≡ points.old
+        ++ ticks_from (back_from sol first.0) 0 (suc count) }
     ensures count { length points.new ≡ length points.old + suc count }
 {
     for at in 0..count + 1 {
@@ -88,7 +90,10 @@ pub(crate) fn plan_by_steps<N: Network>(
     requires opened { IsSomeAnd (suffix_after steps.now) (λ x. length x.choices ≡ count) }
     requires first { first.0 ≡ length (table_of plans.now) + count }
     requires known { first.0 < length (N.net net.now).lows }
-    ensures plan { (t : Ticks) (x : Suffix) → suffix_after steps.now ≡ Some x → AreLeastTicks (N.net net.now) (board_table plans.now (Some x)) t → result ≡ timed_by (settled_ticks ask.entry.now (total_of ask.entry.now x.choices) t) (asked_plan plans.now ask.entry.now x.choices) }
+    ensures plan { (t : Ticks) (x : Suffix) → suffix_after steps.now ≡ Some x
+        → AreLeastTicks (N.net net.now) (board_table plans.now (Some x)) t → result
+        ≡ timed_by (settled_ticks ask.entry.now (total_of ask.entry.now x.choices) t)
+        (asked_plan plans.now ask.entry.now x.choices) }
     ensures formed { IsFormed result }
     ensures sheet { result.sheet ≡ ask.entry.now.sheet }
 {

@@ -19,13 +19,23 @@ impl<N: Network> Board<N> {
     /// one spare plan for a new copy, and no memory.
     pub fn commit(&self, machine: &Machine, schedule: &mut Schedule)
         requires stands { Stands N.net N.content N.past self.now machine.now }
-        requires loaded { IsSomeAnd self.now.ask (λ ask. IsLoadedFrom machine.now schedule.old.plans ask self.now.plans) }
-        requires complete { IsSomeAnd self.now.ask (λ ask. IsSomeAnd (suffix_of self.now) (CanCommit machine.now self.now.plans ask)) }
-        requires spare { IsSomeAnd self.now.ask (λ ask. plan_of ask.sheet schedule.old.plans ≡ None → 0 < schedule.old.spare) }
-        ensures alternative { IsSomeAnd self.now.ask (λ ask. (a : IsAlternative machine.now schedule.old.plans ask schedule.new.plans) × HasLeastTick machine.now self.now (own 0) (end_of_plan a.plan)) }
-        ensures least { IsSomeAnd self.now.ask (λ ask. IsLeast machine.now ask.now (follows_front ask) schedule.new.plans) }
-        ensures new_copy { IsSomeAnd self.now.ask (λ ask. plan_of ask.sheet schedule.old.plans ≡ None → schedule.new.spare + 1 ≡ schedule.old.spare) }
-        ensures in_flight { IsSomeAnd self.now.ask (λ ask. IsSome (plan_of ask.sheet schedule.old.plans) → schedule.new.spare ≡ schedule.old.spare) }
+        requires loaded { IsSomeAnd self.now.ask
+            (λ ask. IsLoadedFrom machine.now schedule.old.plans ask self.now.plans) }
+        requires complete { IsSomeAnd self.now.ask
+            (λ ask. IsSomeAnd (suffix_of self.now) (CanCommit machine.now self.now.plans ask)) }
+        requires spare { IsSomeAnd self.now.ask
+            (λ ask. plan_of ask.sheet schedule.old.plans ≡ None → 0 < schedule.old.spare) }
+        ensures alternative { IsSomeAnd self.now.ask
+            (λ ask. (a : IsAlternative machine.now schedule.old.plans ask schedule.new.plans)
+            × HasLeastTick machine.now self.now (own 0) (end_of_plan a.plan)) }
+        ensures least { IsSomeAnd self.now.ask
+            (λ ask. IsLeast machine.now ask.now (follows_front ask) schedule.new.plans) }
+        ensures new_copy { IsSomeAnd self.now.ask
+            (λ ask. plan_of ask.sheet schedule.old.plans ≡ None → schedule.new.spare + 1
+            ≡ schedule.old.spare) }
+        ensures in_flight { IsSomeAnd self.now.ask
+            (λ ask. IsSome (plan_of ask.sheet schedule.old.plans) → schedule.new.spare
+            ≡ schedule.old.spare) }
     {
         let Some(ask) = self.ask else { unreachable!() };
         let newest = self.steps[self.steps.len() - 1];

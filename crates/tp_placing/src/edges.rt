@@ -42,7 +42,8 @@ fn anchored(anchor: Anchor, start: PointId, end: PointId) -> PointId
 
 /// How far the second hold's anchor is behind the first one's, on a resource with this gap.
 fn weight(gap: u32, before: &HoldRule, after: &HoldRule) -> i64
-    ensures { result ≡ (before.now.end_off -ℤ after.now.begin_off) +ℤ pos (gap_between gap before.now after.now) }
+    ensures { result ≡ (before.now.end_off -ℤ after.now.begin_off) +ℤ pos
+        (gap_between gap before.now after.now) }
 {
     let offsets = before.end_off as i64 - after.begin_off as i64;
     offsets + gap_between(gap, before, after) as i64

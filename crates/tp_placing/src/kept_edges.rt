@@ -1,9 +1,8 @@
 //! The edges of a schedule that is loaded. Its own ticks keep them, so none is refused.
 ghost use Rattle.std.specs.Prelude.{◌≡◌, ◌+◌, ◌<◌, ◌^◌, length, IfSome};
-ghost use Rattle.tp_base.specs.Net.{HasLeast};
+ghost use Rattle.tp_base.specs.Net.{HasLeast, with_edges};
 ghost use Rattle.tp_machine.specs.Using.{action_at};
 ghost use Rattle.tp_constraints.specs.Gaps.{is_same_line};
-ghost use Rattle.tp_constraints.specs.Numbers.{with_edges};
 ghost use Rattle.tp_placing.specs.Loading.{AreAddable, act_edges, acts_edges, line_edge, lines_edges, next_end, plans_edges, point_count};
 
 use crate::causes::LINE;
@@ -32,9 +31,11 @@ pub(crate) fn add_kept<N: Network>(net: &mut N, edges: &[Edge])
 
 /// Adds the duration of an action that starts at the point.
 fn add_act<N: Network>(net: &mut N, machine: &Machine, from: u32, act: ActId)
-    requires can { AreAddable (N.edge_room net.old) (N.net net.old) (act_edges (action_at machine.now act.0) from) }
+    requires can { AreAddable (N.edge_room net.old) (N.net net.old)
+        (act_edges (action_at machine.now act.0) from) }
     requires fits { from + 1 < 2 ^ 32 }
-    ensures added { N.net net.new ≡ with_edges (N.net net.old) (act_edges (action_at machine.now act.0) from) }
+    ensures added { N.net net.new
+        ≡ with_edges (N.net net.old) (act_edges (action_at machine.now act.0) from) }
     ensures solved { HasLeast (N.net net.new) }
     ensures past { N.past net.new ≡ N.past net.old }
     ensures marks { N.mark_room net.new ≡ N.mark_room net.old }
@@ -49,9 +50,11 @@ fn add_act<N: Network>(net: &mut N, machine: &Machine, from: u32, act: ActId)
 
 /// Adds the durations of actions, of which the first starts at the point.
 fn add_acts<N: Network>(net: &mut N, machine: &Machine, from: u32, acts: &[ActId])
-    requires can { AreAddable (N.edge_room net.old) (N.net net.old) (acts_edges machine.now from acts.now) }
+    requires can { AreAddable (N.edge_room net.old) (N.net net.old)
+        (acts_edges machine.now from acts.now) }
     requires fits { from + length acts.now < 2 ^ 32 }
-    ensures added { N.net net.new ≡ with_edges (N.net net.old) (acts_edges machine.now from acts.now) }
+    ensures added { N.net net.new
+        ≡ with_edges (N.net net.old) (acts_edges machine.now from acts.now) }
     ensures solved { HasLeast (N.net net.new) }
     ensures past { N.past net.new ≡ N.past net.old }
     ensures marks { N.mark_room net.new ≡ N.mark_room net.old }
@@ -67,9 +70,11 @@ fn add_acts<N: Network>(net: &mut N, machine: &Machine, from: u32, acts: &[ActId
 
 /// Adds the durations of plans, whose points stand one plan after another.
 pub(crate) fn add_durations<N: Network>(net: &mut N, machine: &Machine, plans: &[Plan])
-    requires can { AreAddable (N.edge_room net.old) (N.net net.old) (plans_edges machine.now 0 plans.now) }
+    requires can { AreAddable (N.edge_room net.old) (N.net net.old)
+        (plans_edges machine.now 0 plans.now) }
     requires fits { point_count plans.now < 2 ^ 32 }
-    ensures added { N.net net.new ≡ with_edges (N.net net.old) (plans_edges machine.now 0 plans.now) }
+    ensures added { N.net net.new
+        ≡ with_edges (N.net net.old) (plans_edges machine.now 0 plans.now) }
     ensures solved { HasLeast (N.net net.new) }
     ensures past { N.past net.new ≡ N.past net.old }
     ensures marks { N.mark_room net.new ≡ N.mark_room net.old }

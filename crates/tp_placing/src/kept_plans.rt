@@ -1,9 +1,8 @@
 //! A schedule's live plans as a network with orders.
 ghost use Rattle.std.specs.Prelude.{◌≡◌, ℕ, ◌+◌, ◌<◌, ◌≤◌, ◌^◌, ◌++◌, [], length, filter, vec_capacity};
-ghost use Rattle.tp_base.specs.Net.{HasLeast};
+ghost use Rattle.tp_base.specs.Net.{HasLeast, with_edges};
 ghost use Rattle.tp_schedule.specs.Living.{is_live};
 ghost use Rattle.tp_timelines.specs.Orders.{order_on};
-ghost use Rattle.tp_constraints.specs.Numbers.{with_edges};
 ghost use Rattle.tp_placing.specs.Causes.{most_causes, step_causes};
 ghost use Rattle.tp_placing.specs.Inside.{most_edges, most_holds, most_plans, most_points};
 ghost use Rattle.tp_placing.specs.Loaded.{CanLoad, IsLoaded, all_edges};
@@ -22,7 +21,8 @@ use tp_timelines::Timelines;
 
 /// Copies the plans that are live at the moment.
 pub(crate) fn keep_live(plans: &mut Vec<Plan>, machine: &Machine, schedule: &Schedule, now: Tick)
-    requires space { length (filter (is_live machine.now now) schedule.now.plans) ≤ vec_capacity plans.old }
+    requires space { length (filter (is_live machine.now now) schedule.now.plans)
+        ≤ vec_capacity plans.old }
     ensures plans { plans.new.items ≡ filter (is_live machine.now now) schedule.now.plans }
     ensures space { vec_capacity plans.old ≤ vec_capacity plans.new }
 {
@@ -47,14 +47,20 @@ fn add_edges<N: Network>(
     machine: &Machine,
     plans: &[Plan],
 )
-    requires can { AreAddable (N.edge_room net.old) (N.net net.old) (all_edges machine.now plans.now lines.now.orders held.now) }
+    requires can { AreAddable (N.edge_room net.old) (N.net net.old)
+        (all_edges machine.now plans.now lines.now.orders held.now) }
     requires causes { length causes.old ≡ step_causes }
-    requires room { step_causes + length (chains_causes (holds_on held.now lines.now.orders) (length machine.now.resources)) ≤ most_causes }
+    requires room { step_causes
+        + length (chains_causes (holds_on held.now lines.now.orders) (length machine.now.resources))
+        ≤ most_causes }
     requires fits { point_count plans.now < 2 ^ 32 }
     requires resources { length lines.now.orders ≡ length machine.now.resources }
-    requires ids { (resource : ℕ) → resource < length lines.now.orders → AreIds held.now (order_on lines.now.orders resource) }
-    ensures added { N.net net.new ≡ with_edges (N.net net.old) (all_edges machine.now plans.now lines.now.orders held.now) }
-    ensures causes { causes.new ≡ causes.old ++ chains_causes (holds_on held.now lines.now.orders) (length machine.now.resources) }
+    requires ids { (resource : ℕ) → resource < length lines.now.orders
+        → AreIds held.now (order_on lines.now.orders resource) }
+    ensures added { N.net net.new
+        ≡ with_edges (N.net net.old) (all_edges machine.now plans.now lines.now.orders held.now) }
+    ensures causes { causes.new ≡ causes.old
+        ++ chains_causes (holds_on held.now lines.now.orders) (length machine.now.resources) }
     ensures solved { HasLeast (N.net net.new) }
     ensures past { N.past net.new ≡ N.past net.old }
     ensures marks { N.mark_room net.new ≡ N.mark_room net.old }
@@ -86,7 +92,8 @@ pub(crate) fn load_plans<N: Network>(
     requires hold_space { most_holds ≤ vec_capacity held.old }
     requires begin_space { most_holds ≤ vec_capacity begins.old }
     requires first_space { most_plans ≤ vec_capacity firsts.old }
-    ensures loaded { IsLoaded machine.now now plans.now (N.net net.new) lines.new.orders held.new.items firsts.new.items causes.new }
+    ensures loaded { IsLoaded machine.now now plans.now
+        (N.net net.new) lines.new.orders held.new.items firsts.new.items causes.new }
     ensures count { result ≡ point_count plans.now }
     ensures past { N.past net.new ≡ [] }
     ensures marks { N.mark_room net.new ≡ N.mark_room net.old }

@@ -49,10 +49,12 @@ fn highest(plan: &Plan, at: u32, horizon: Tick) -> Tick
 /// Adds the points of a plan.
 fn add_plan<N: Network>(net: &mut N, plan: &Plan, floor: Tick, horizon: Tick)
     requires bounds { HasBounds floor horizon plan.now }
-    requires room { length (N.net net.old).lows + (length plan.now.acts + 1) ≤ N.point_room net.old }
+    requires room { length (N.net net.old).lows + (length plan.now.acts + 1)
+        ≤ N.point_room net.old }
     requires fits { floor + 1 < 2 ^ 32 }
     requires least { HasLeast (N.net net.old) }
-    ensures added { N.net net.new ≡ with_bounds (lows_of floor plan.now) (caps_of horizon plan.now) (N.net net.old) }
+    ensures added { N.net net.new ≡ with_bounds (lows_of floor plan.now) (caps_of horizon plan.now)
+        (N.net net.old) }
     ensures solved { HasLeast (N.net net.new) }
     ensures past { N.past net.new ≡ N.past net.old }
     ensures marks { N.mark_room net.new ≡ N.mark_room net.old }

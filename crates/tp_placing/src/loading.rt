@@ -29,7 +29,8 @@ impl<N: Network> Board<N> {
         requires made { IsMadeFor self.old.made_for machine.now }
         requires can_ask { CanAsk machine.now schedule.now.plans ask.now }
         ensures made { self.new.made_for ≡ self.old.made_for }
-        ensures plans { self.new.plans ≡ filter (is_live machine.now ask.entry.now.now) schedule.now.plans }
+        ensures plans { self.new.plans
+            ≡ filter (is_live machine.now ask.entry.now.now) schedule.now.plans }
         ensures asked { self.new.ask ≡ Some ask.entry.now }
         ensures closed { self.new.steps ≡ [] }
         ensures stands { Stands N.net N.content N.past self.new machine.now }

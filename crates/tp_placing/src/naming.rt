@@ -26,8 +26,10 @@ impl<N: Network> Board<N> {
     fn kept_point(&self, point: PointId) -> (SheetName, u32)
         requires stands { (m : Machine) × Stands N.net N.content N.past self.now m }
         requires kept { point.0 < self.now.last.0 }
-        ensures spot { spot_name self.now.plans (numbered self.now.plans point.0) ≡ Some (Spot.Kept result.0 result.1) }
-        ensures grip { grip_name self.now.plans (numbered self.now.plans point.0) ≡ Some (Grip.Kept result.0 (result.1 + 1)) }
+        ensures spot { spot_name self.now.plans (numbered self.now.plans point.0)
+            ≡ Some (Spot.Kept result.0 result.1) }
+        ensures grip { grip_name self.now.plans (numbered self.now.plans point.0)
+            ≡ Some (Grip.Kept result.0 (result.1 + 1)) }
         ensures few { result.1 ≤ 64 }
     {
         let place = count_to(&self.firsts, point) - 1;
@@ -71,7 +73,8 @@ impl<N: Network> Board<N> {
     pub fn why_of(&self, edge: Edge) -> Why
         requires stands { (m : Machine) × Stands N.net N.content N.past self.now m }
         requires told { edge.tag < length self.now.causes }
-        ensures { why_name self.now.plans (kind_of self.now.plans (slice_get self.now.causes edge.tag)) ≡ Some result }
+        ensures { why_name self.now.plans
+            (kind_of self.now.plans (slice_get self.now.causes edge.tag)) ≡ Some result }
     {
         match self.causes.get(edge.tag) {
             Cause::Forward => Why::Forward,

@@ -39,8 +39,10 @@ pub(crate) fn neighbours_of(
 ) -> Neighbours
     requires known { resource.0 < length lines.now.orders }
     requires numbers { All (λ id. id < length held.now) (order_on lines.now.orders resource.0) }
-    ensures before { result.before ≡ held_before held.now (order_on lines.now.orders resource.0) place }
-    ensures behind { result.behind ≡ held_behind held.now (order_on lines.now.orders resource.0) place }
+    ensures before { result.before
+        ≡ held_before held.now (order_on lines.now.orders resource.0) place }
+    ensures behind { result.behind
+        ≡ held_behind held.now (order_on lines.now.orders resource.0) place }
 {
     let before = if place > 0 {
         held_at(lines, held, resource, place - 1)
@@ -64,7 +66,8 @@ pub(crate) fn neighbour_edges(
 )
     requires room { 2 ≤ vec_capacity edges.old }
     requires fits { tag + 1 < 2 ^ 32 }
-    ensures edges { edges.new.items ≡ edges_around gap neighbours.now.before new.now neighbours.now.behind tag }
+    ensures edges { edges.new.items
+        ≡ edges_around gap neighbours.now.before new.now neighbours.now.behind tag }
     ensures capacity { vec_capacity edges.old ≤ vec_capacity edges.new }
 {
     edges.clear();
@@ -84,7 +87,8 @@ pub(crate) fn neighbour_edges(
 pub(crate) fn note_neighbours(causes: &mut Causes, neighbours: &Neighbours, new: &Held, tag: u32)
     requires behind { 5 ≤ tag }
     requires within { tag + 1 < step_causes }
-    ensures { causes.new ≡ causes_around neighbours.now.before new.now neighbours.now.behind tag causes.old }
+    ensures { causes.new
+        ≡ causes_around neighbours.now.before new.now neighbours.now.behind tag causes.old }
 {
     if let Some(before) = &neighbours.before {
         causes.set(tag, between(before, new));

@@ -25,12 +25,21 @@ impl<N: Network> Board<N> {
         requires stands { (m : Machine) × Stands N.net N.content N.past self.old m }
         requires going { IsSomeAnd (suffix_of self.old) (λ x. IsFalse x.stopped) }
         requires flying { IsSomeAnd self.old.ask (λ ask. IsInFlight ask.origin) }
-        ensures suffix { OnOk result (IsSomeAnd (suffix_of self.old) (λ x. suffix_of self.new ≡ Some (with_stop x))) }
-        ensures times { OnOk result ((m : Machine) → Stands N.net N.content N.past self.old m → IsSomeAnd (suffix_of self.new) (HasTimes m self.new)) }
-        ensures late { OnErr result ((m : Machine) → Stands N.net N.content N.past self.old m → IsSomeAnd (suffix_of self.old) (λ x. HasNoTimes m self.old (with_stop x))) }
-        ensures shown { OnErr result ((m : Machine) → Stands N.net N.content N.past self.old m → IsSomeAnd (suffix_of self.old) (λ x. HasReason N.refutes m self.new (with_stop x))) }
-        ensures same { OnErr result (content_of N.content self.new ≡ content_of N.content self.old) }
-        ensures stands { (m : Machine) → Stands N.net N.content N.past self.old m → Stands N.net N.content N.past self.new m }
+        ensures suffix { OnOk result
+            (IsSomeAnd (suffix_of self.old) (λ x. suffix_of self.new ≡ Some (with_stop x))) }
+        ensures times { OnOk result
+            ((m : Machine) → Stands N.net N.content N.past self.old m
+            → IsSomeAnd (suffix_of self.new) (HasTimes m self.new)) }
+        ensures late { OnErr result
+            ((m : Machine) → Stands N.net N.content N.past self.old m
+            → IsSomeAnd (suffix_of self.old) (λ x. HasNoTimes m self.old (with_stop x))) }
+        ensures shown { OnErr result
+            ((m : Machine) → Stands N.net N.content N.past self.old m
+            → IsSomeAnd (suffix_of self.old) (λ x. HasReason N.refutes m self.new (with_stop x))) }
+        ensures same { OnErr result
+            (content_of N.content self.new ≡ content_of N.content self.old) }
+        ensures stands { (m : Machine) → Stands N.net N.content N.past self.old m
+            → Stands N.net N.content N.past self.new m }
         ensures past { past_of N.past self.new ≡ past_of N.past self.old }
         ensures loaded { IsSameLoad self.old self.new }
         ensures marks { N.mark_room self.new.net ≡ N.mark_room self.old.net }
@@ -64,12 +73,20 @@ impl<N: Network> Board<N> {
     /// left.
     pub fn place(&mut self, machine: &Machine, hold: u32, place: u32) -> Result<(), Late>
         requires stands { Stands N.net N.content N.past self.old machine.now }
-        requires next { IsSomeAnd (suffix_of self.old) (λ x. CanPlace machine.now self.old.plans x hold place) }
-        ensures suffix { OnOk result (IsSomeAnd (suffix_of self.old) (λ x. suffix_of self.new ≡ Some (with_place place x))) }
-        ensures times { OnOk result (IsSomeAnd (suffix_of self.new) (HasTimes machine.now self.new)) }
-        ensures late { OnErr result (IsSomeAnd (suffix_of self.old) (λ x. HasNoTimes machine.now self.old (with_place place x))) }
-        ensures shown { OnErr result (IsSomeAnd (suffix_of self.old) (λ x. HasReason N.refutes machine.now self.new (with_place place x))) }
-        ensures same { OnErr result (content_of N.content self.new ≡ content_of N.content self.old) }
+        requires next { IsSomeAnd (suffix_of self.old)
+            (λ x. CanPlace machine.now self.old.plans x hold place) }
+        ensures suffix { OnOk result
+            (IsSomeAnd (suffix_of self.old) (λ x. suffix_of self.new ≡ Some (with_place place x))) }
+        ensures times { OnOk result
+            (IsSomeAnd (suffix_of self.new) (HasTimes machine.now self.new)) }
+        ensures late { OnErr result
+            (IsSomeAnd (suffix_of self.old)
+            (λ x. HasNoTimes machine.now self.old (with_place place x))) }
+        ensures shown { OnErr result
+            (IsSomeAnd (suffix_of self.old)
+            (λ x. HasReason N.refutes machine.now self.new (with_place place x))) }
+        ensures same { OnErr result
+            (content_of N.content self.new ≡ content_of N.content self.old) }
         ensures stands { Stands N.net N.content N.past self.new machine.now }
         ensures past { past_of N.past self.new ≡ past_of N.past self.old }
         ensures loaded { IsSameLoad self.old self.new }
@@ -122,12 +139,21 @@ impl<N: Network> Board<N> {
     pub fn open_action(&mut self, machine: &Machine, act: ActId, room: u32) -> Result<(), Late>
         requires stands { Stands N.net N.content N.past self.old machine.now }
         requires known { act.0 < length machine.now.actions }
-        requires ready { IsSomeAnd self.old.ask (λ ask. IsSomeAnd (suffix_of self.old) (CanGoOn ask)) }
-        ensures suffix { OnOk result (IsSomeAnd (suffix_of self.old) (λ x. suffix_of self.new ≡ Some (with_action act room x))) }
-        ensures times { OnOk result (IsSomeAnd (suffix_of self.new) (HasTimes machine.now self.new)) }
-        ensures late { OnErr result (IsSomeAnd (suffix_of self.old) (λ x. HasNoTimes machine.now self.old (with_action act room x))) }
-        ensures shown { OnErr result (IsSomeAnd (suffix_of self.old) (λ x. HasReason N.refutes machine.now self.new (with_action act room x))) }
-        ensures same { OnErr result (content_of N.content self.new ≡ content_of N.content self.old) }
+        requires ready { IsSomeAnd self.old.ask
+            (λ ask. IsSomeAnd (suffix_of self.old) (CanGoOn ask)) }
+        ensures suffix { OnOk result
+            (IsSomeAnd (suffix_of self.old)
+            (λ x. suffix_of self.new ≡ Some (with_action act room x))) }
+        ensures times { OnOk result
+            (IsSomeAnd (suffix_of self.new) (HasTimes machine.now self.new)) }
+        ensures late { OnErr result
+            (IsSomeAnd (suffix_of self.old)
+            (λ x. HasNoTimes machine.now self.old (with_action act room x))) }
+        ensures shown { OnErr result
+            (IsSomeAnd (suffix_of self.old)
+            (λ x. HasReason N.refutes machine.now self.new (with_action act room x))) }
+        ensures same { OnErr result
+            (content_of N.content self.new ≡ content_of N.content self.old) }
         ensures stands { Stands N.net N.content N.past self.new machine.now }
         ensures past { past_of N.past self.new ≡ past_of N.past self.old }
         ensures loaded { IsSameLoad self.old self.new }
@@ -161,11 +187,19 @@ impl<N: Network> Board<N> {
         requires stands { (m : Machine) × Stands N.net N.content N.past self.old m }
         requires closed { suffix_of self.old ≡ None }
         ensures suffix { OnOk result (suffix_of self.new ≡ Some (with_goal room)) }
-        ensures times { OnOk result ((m : Machine) → Stands N.net N.content N.past self.old m → HasTimes m self.new (with_goal room)) }
-        ensures late { OnErr result ((m : Machine) → Stands N.net N.content N.past self.old m → HasNoTimes m self.old (with_goal room)) }
-        ensures shown { OnErr result ((m : Machine) → Stands N.net N.content N.past self.old m → HasReason N.refutes m self.new (with_goal room)) }
-        ensures same { OnErr result (content_of N.content self.new ≡ content_of N.content self.old) }
-        ensures stands { (m : Machine) → Stands N.net N.content N.past self.old m → Stands N.net N.content N.past self.new m }
+        ensures times { OnOk result
+            ((m : Machine) → Stands N.net N.content N.past self.old m
+            → HasTimes m self.new (with_goal room)) }
+        ensures late { OnErr result
+            ((m : Machine) → Stands N.net N.content N.past self.old m
+            → HasNoTimes m self.old (with_goal room)) }
+        ensures shown { OnErr result
+            ((m : Machine) → Stands N.net N.content N.past self.old m
+            → HasReason N.refutes m self.new (with_goal room)) }
+        ensures same { OnErr result
+            (content_of N.content self.new ≡ content_of N.content self.old) }
+        ensures stands { (m : Machine) → Stands N.net N.content N.past self.old m
+            → Stands N.net N.content N.past self.new m }
         ensures past { past_of N.past self.new ≡ past_of N.past self.old }
         ensures loaded { IsSameLoad self.old self.new }
         ensures marks { N.mark_room self.new.net ≡ N.mark_room self.old.net }

@@ -24,7 +24,8 @@ impl<N: Network> Board<N> {
     pub fn end_bound(&self) -> Tick
         requires stands { (m : Machine) × Stands N.net N.content N.past self.now m }
         requires open { IsSome (suffix_of self.now) }
-        ensures { (m : Machine) → Stands N.net N.content N.past self.now m → HasLeastTick m self.now (own 0) result }
+        ensures { (m : Machine) → Stands N.net N.content N.past self.now m
+            → HasLeastTick m self.now (own 0) result }
     {
         self.net.earliest(self.last)
     }
@@ -33,7 +34,8 @@ impl<N: Network> Board<N> {
     pub fn time_of(&self, sheet: SheetId, point: u32) -> Tick
         requires stands { (m : Machine) × Stands N.net N.content N.past self.now m }
         requires there { IsSomeAnd (plan_of sheet self.now.plans) (λ p. point ≤ length p.acts) }
-        ensures { (m : Machine) → Stands N.net N.content N.past self.now m → HasLeastTick m self.now (kept sheet point) result }
+        ensures { (m : Machine) → Stands N.net N.content N.past self.now m
+            → HasLeastTick m self.now (kept sheet point) result }
     {
         let number = point_of(&self.plans, &self.firsts, sheet, point);
         self.net.earliest(number)
@@ -42,7 +44,8 @@ impl<N: Network> Board<N> {
     /// The length of a resource's order with the holds placed so far, in constant time.
     pub fn places(&self, resource: ResId) -> u32
         requires known { resource.0 < self.now.made_for.resources }
-        ensures { (m : Machine) → Stands N.net N.content N.past self.now m → result ≡ length (order_after m self.now.plans (suffix_of self.now) resource.0) }
+        ensures { (m : Machine) → Stands N.net N.content N.past self.now m → result
+            ≡ length (order_after m self.now.plans (suffix_of self.now) resource.0) }
     {
         self.lines.len(resource)
     }

@@ -48,11 +48,14 @@ fn refuse_by<N: Network>(net: &mut N, point: PointId, last: Tick) -> PointId
 impl<N: Network> Board<N> {
     /// Leaves the board as it is, but for what `reason` tells: that the end comes after a tick below `end_bound`.
     pub fn refuse_end(&mut self, last: Tick)
-        requires below { (m : Machine) × (bound : ℕ) × Stands N.net N.content N.past self.old m × HasLeastTick m self.old (own 0) bound × (last < bound) }
+        requires below { (m : Machine) × (bound : ℕ) × Stands N.net N.content N.past self.old m
+            × HasLeastTick m self.old (own 0) bound × (last < bound) }
         requires open { IsSome (suffix_of self.old) }
-        ensures shown { (m : Machine) → Stands N.net N.content N.past self.old m → IsSomeAnd (suffix_of self.new) (λ x. HasEndReason N.refutes m self.new x last) }
+        ensures shown { (m : Machine) → Stands N.net N.content N.past self.old m
+            → IsSomeAnd (suffix_of self.new) (λ x. HasEndReason N.refutes m self.new x last) }
         ensures same { content_of N.content self.new ≡ content_of N.content self.old }
-        ensures stands { (m : Machine) → Stands N.net N.content N.past self.old m → Stands N.net N.content N.past self.new m }
+        ensures stands { (m : Machine) → Stands N.net N.content N.past self.old m
+            → Stands N.net N.content N.past self.new m }
         ensures past { past_of N.past self.new ≡ past_of N.past self.old }
         ensures loaded { IsSameLoad self.old self.new }
         ensures marks { N.mark_room self.new.net ≡ N.mark_room self.old.net }

@@ -1,7 +1,6 @@
 //! Several changes of a network at once, or none of them.
 ghost use Rattle.std.specs.Prelude.{◌≡◌, ◌+◌, ◌<◌, ◌≤◌, length, All, OnOk, OnErr};
-ghost use Rattle.tp_base.specs.Net.{HasLeast, HasNoSolution, with_point};
-ghost use Rattle.tp_constraints.specs.Numbers.{with_edges};
+ghost use Rattle.tp_base.specs.Net.{HasLeast, HasNoSolution, with_point, with_edges};
 ghost use Rattle.tp_placing.specs.Trying.{CanRequire, IsRefused};
 
 use tp_base::{Edge, Late, Network, Tick};
@@ -80,10 +79,13 @@ fn extend<N: Network>(net: &mut N, low: Tick, cap: Tick, edges: &[Edge]) -> Resu
     requires room { length (N.net net.old).lows < N.point_room net.old }
     requires can { All (CanRequire (length (N.net net.old).lows + 1)) edges.now }
     requires spare { length (N.net net.old).edges + length edges.now ≤ N.edge_room net.old }
-    ensures added { OnOk result (N.net net.new ≡ with_edges (with_point (N.net net.old) low cap) edges.now) }
+    ensures added { OnOk result
+        (N.net net.new ≡ with_edges (with_point (N.net net.old) low cap) edges.now) }
     ensures solved { OnOk result (HasLeast (N.net net.new)) }
-    ensures late { OnErr result (HasNoSolution (with_edges (with_point (N.net net.old) low cap) edges.now)) }
-    ensures refused { OnErr result (IsRefused N.refutes net.new (with_point (N.net net.old) low cap) edges.now) }
+    ensures late { OnErr result
+        (HasNoSolution (with_edges (with_point (N.net net.old) low cap) edges.now)) }
+    ensures refused { OnErr result
+        (IsRefused N.refutes net.new (with_point (N.net net.old) low cap) edges.now) }
     ensures past { N.past net.new ≡ N.past net.old }
     ensures marks { N.mark_room net.new ≡ N.mark_room net.old }
     ensures points { N.point_room net.new ≡ N.point_room net.old }
@@ -106,10 +108,13 @@ pub(crate) fn extend_all<N: Network>(
     requires can { All (CanRequire (length (N.net net.old).lows + 1)) edges.now }
     requires spare { length (N.net net.old).edges + length edges.now ≤ N.edge_room net.old }
     requires mark { length (N.past net.old) < N.mark_room net.old }
-    ensures added { OnOk result (N.net net.new ≡ with_edges (with_point (N.net net.old) low cap) edges.now) }
+    ensures added { OnOk result
+        (N.net net.new ≡ with_edges (with_point (N.net net.old) low cap) edges.now) }
     ensures solved { OnOk result (HasLeast (N.net net.new)) }
-    ensures late { OnErr result (HasNoSolution (with_edges (with_point (N.net net.old) low cap) edges.now)) }
-    ensures refused { OnErr result (IsRefused N.refutes net.new (with_point (N.net net.old) low cap) edges.now) }
+    ensures late { OnErr result
+        (HasNoSolution (with_edges (with_point (N.net net.old) low cap) edges.now)) }
+    ensures refused { OnErr result
+        (IsRefused N.refutes net.new (with_point (N.net net.old) low cap) edges.now) }
     ensures same { OnErr result (N.content net.new ≡ N.content net.old) }
     ensures past { N.past net.new ≡ N.past net.old }
     ensures marks { N.mark_room net.new ≡ N.mark_room net.old }

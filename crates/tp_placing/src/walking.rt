@@ -1,7 +1,6 @@
 //! Places of a hold, tried from the end of its order to the front.
 ghost use Rattle.std.specs.Prelude.{◌≡◌, ◌+◌, ◌^◌, ◌<◌, ◌≤◌, All, length, IsSomeAnd, OnOk, OnErr, IfErr, Some};
-ghost use Rattle.tp_base.specs.Net.{HasLeast, HasNoSolution};
-ghost use Rattle.tp_constraints.specs.Numbers.{with_edges};
+ghost use Rattle.tp_base.specs.Net.{HasLeast, HasNoSolution, with_edges};
 ghost use Rattle.tp_constraints.specs.Suffixes.{with_place};
 ghost use Rattle.tp_placing.specs.Boards.{past_of, suffix_of};
 ghost use Rattle.tp_placing.specs.Calls.{CanPlace, HasNoTimes, HasTimes, IsSameLoad};

@@ -16,7 +16,8 @@ pub(crate) fn times_from<N: Network>(net: &N, first: PointId, count: u32) -> Poi
     requires few { count ≤ 65 }
     requires known { first.0 + count ≤ length (N.net net.now).lows }
     requires fits { first.0 + count < 2 ^ 32 }
-    ensures times { (sol : ℕ → ℕ) → IsLeast (N.net net.now) sol → result ≡ ticks_from sol first.0 count }
+    ensures times { (sol : ℕ → ℕ) → IsLeast (N.net net.now) sol → result
+        ≡ ticks_from sol first.0 count }
     ensures count { length result ≡ count }
 {
     let mut points = Points::new();
@@ -32,7 +33,9 @@ fn write_points<N: Network>(net: &N, plan: &Plan, first: PointId, schedule: &mut
     requires planned { plan_of plan.now.sheet schedule.old.plans ≡ Some plan.now }
     requires known { first.0 + length plan.now.acts < length (N.net net.now).lows }
     requires fits { first.0 + length plan.now.acts + 1 < 2 ^ 32 }
-    ensures plans { (sol : ℕ → ℕ) → IsLeast (N.net net.now) sol → schedule.new.plans ≡ change_plan plan.now.sheet (with_points (ticks_from sol first.0 (suc (length plan.now.acts)))) schedule.old.plans }
+    ensures plans { (sol : ℕ → ℕ) → IsLeast (N.net net.now) sol → schedule.new.plans
+        ≡ change_plan plan.now.sheet
+        (with_points (ticks_from sol first.0 (suc (length plan.now.acts)))) schedule.old.plans }
     ensures spare { schedule.new.spare ≡ schedule.old.spare }
 {
     let points = times_from(net, first, plan.acts.len() + 1);
@@ -56,7 +59,8 @@ pub(crate) fn write_times<N: Network>(
     requires schedule { AllPairs IsEarlier schedule.old.plans }
     requires planned { All (λ p. plan_of p.sheet schedule.old.plans ≡ Some p) plans.now }
     requires solved { HasLeast (N.net net.now) }
-    ensures times { (t : Ticks) → AreLeastTicks (N.net net.now) (table_of plans.now) t → schedule.new.plans ≡ map (retimed_in plans.now t) schedule.old.plans }
+    ensures times { (t : Ticks) → AreLeastTicks (N.net net.now) (table_of plans.now) t
+        → schedule.new.plans ≡ map (retimed_in plans.now t) schedule.old.plans }
     ensures spare { schedule.new.spare ≡ schedule.old.spare }
 {
     for (at, plan) in plans.iter().enumerate() {
@@ -70,8 +74,10 @@ pub(crate) fn write_plan(schedule: &mut Schedule, plan: Plan)
     requires room { plan_of plan.sheet schedule.old.plans ≡ None → 0 < schedule.old.spare }
     ensures plans { schedule.new.plans ≡ put_plan plan (without plan.sheet schedule.old.plans) }
     ensures in_order { AllPairs IsEarlier schedule.new.plans }
-    ensures new_copy { plan_of plan.sheet schedule.old.plans ≡ None → schedule.new.spare + 1 ≡ schedule.old.spare }
-    ensures in_flight { IsSome (plan_of plan.sheet schedule.old.plans) → schedule.new.spare ≡ schedule.old.spare }
+    ensures new_copy { plan_of plan.sheet schedule.old.plans ≡ None → schedule.new.spare + 1
+        ≡ schedule.old.spare }
+    ensures in_flight { IsSome (plan_of plan.sheet schedule.old.plans) → schedule.new.spare
+        ≡ schedule.old.spare }
 {
     schedule.ordered();
     match schedule.find(plan.sheet) {

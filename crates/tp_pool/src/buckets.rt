@@ -26,7 +26,12 @@ impl Model for Buckets {
 
     ghost Value = { BucketQueue };
 
-    ghost view = { λ b. record { nodes = length b.nexts.items; width = length b.heads.items; base = b.base; queued = queued_of b.base b.nexts.items b.heads.items } };
+    ghost view = { λ b. record {
+      nodes = length b.nexts.items;
+      width = length b.heads.items;
+      base = b.base;
+      queued = queued_of b.base b.nexts.items b.heads.items;
+    } };
 
     ghost invariant = { λ b. IsBuckets b.base b.cursor b.heads.items b.nexts.items };
 }

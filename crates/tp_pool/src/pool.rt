@@ -61,8 +61,10 @@ impl Pool {
             ≡ record {
               room = self.old.room;
               entries = self.old.entries
-                  ++ record { choices = choice ∷ choices_before self.old.entries parent; bound = bound } ∷
-                  [];
+                  ++ record {
+                    choices = choice ∷ choices_before self.old.entries parent;
+                    bound = bound;
+                  } ∷ [];
             }) }
         ensures number { IfOk result (λ node. node ≡ length self.old.entries) }
         ensures stays { OnErr result (self.new ≡ self.old) }

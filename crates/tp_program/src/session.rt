@@ -26,7 +26,8 @@ fn answer_on<S: Source, K: Sink>(
     ensures end { OnOk result (IfSome (S.left source.old) (λ _. S.left source.new ≡ Some [])) }
     ensures stops { IfErr result (λ stop. StopsOn stop machine (unwrap_or budget machine.budget)
         (S.left source.old) (S.left source.new) (K.taken sink.old) (K.taken sink.new)) }
-    ensures source { IsErrOf result Stop.Source → Rises (S.faults source.old) (S.faults source.new) }
+    ensures source { IsErrOf result Stop.Source
+        → Rises (S.faults source.old) (S.faults source.new) }
     ensures sink { IsErrOf result Stop.Sink → Rises (K.faults sink.old) (K.faults sink.new) }
 {
     sessions_are_lawful();

@@ -36,9 +36,12 @@ impl Model for Rooms {
 
     ghost Value = { RoomTable };
 
-    ghost view = { λ r. record { locations = r.locations; resources = r.resources; window = r.window; sums = r.sums.items } };
+    ghost view = { λ r. record { locations = r.locations; resources = r.resources;
+        window = r.window; sums = r.sums.items } };
 
-    ghost invariant = { λ r. (length r.sums.items ≡ 8 * r.locations) × (8 * r.locations ≤ vec_capacity r.waiting) × (length r.firsts.items ≡ r.locations) × (length r.nexts.items ≡ 512) };
+    ghost invariant = { λ r. (length r.sums.items ≡ 8 * r.locations)
+        × (8 * r.locations ≤ vec_capacity r.waiting)
+        × (length r.firsts.items ≡ r.locations) × (length r.nexts.items ≡ 512) };
 }
 
 impl Rooms {

@@ -23,7 +23,10 @@ impl Model for Schedule {
 
     ghost Value = { Timetable };
 
-    ghost view = { λ s. record { plans = s.plans.items; spare = min (vec_capacity s.plans) (2 ^ 32 - 1) - vec_len s.plans } };
+    ghost view = { λ s. record {
+      plans = s.plans.items;
+      spare = min (vec_capacity s.plans) (2 ^ 32 - 1) - vec_len s.plans;
+    } };
 
     ghost invariant = { λ s. (vec_len s.plans < 2 ^ 32) × IsOrdered s.plans.items };
 }

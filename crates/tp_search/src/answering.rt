@@ -30,11 +30,15 @@ pub fn answer<N: Network>(
     requires marks { 8 ≤ N.mark_room board.old.net }
     requires can { CanAsk machine.now schedule.old.plans ask.now }
     requires spare { plan_of ask.now.sheet schedule.old.plans ≡ None → 0 < schedule.old.spare }
-    ensures answer { IsAnswer (IsSpentOf work.old.nodes) machine.now schedule.old.plans ask.entry.now result schedule.new.plans }
+    ensures answer { IsAnswer
+        (IsSpentOf work.old.nodes) machine.now schedule.old.plans ask.entry.now result
+        schedule.new.plans }
     ensures few { result ≡ Never
         → FewListsOpen machine.now schedule.old.plans ask.entry.now work.old.nodes }
-    ensures new_copy { result ≡ Planned → plan_of ask.entry.now.sheet schedule.old.plans ≡ None → schedule.new.spare + 1 ≡ schedule.old.spare }
-    ensures in_flight { result ≡ Planned → IsSome (plan_of ask.entry.now.sheet schedule.old.plans) → schedule.new.spare ≡ schedule.old.spare }
+    ensures new_copy { result ≡ Planned → plan_of ask.entry.now.sheet schedule.old.plans ≡ None
+        → schedule.new.spare + 1 ≡ schedule.old.spare }
+    ensures in_flight { result ≡ Planned → IsSome (plan_of ask.entry.now.sheet schedule.old.plans)
+        → schedule.new.spare ≡ schedule.old.spare }
     ensures stays { result ≢ Planned → schedule.new ≡ schedule.old }
     ensures work { work.new ≡ work.old }
     ensures board { board.new.made_for ≡ board.old.made_for }

@@ -57,13 +57,19 @@ fn place_rest<N: Network>(
     requires known { act.0 < length machine.now.actions }
     requires hold { hold ≤ length (holds_of_act (action_at machine.now act.0)) }
     requires goal { choice.goal ≡ opening.old.goal }
-    requires complete { IsTrue complete ↔ ((ask.now.origin ≡ Feeder) × IsStart machine.now ask.now first) }
-    requires laid { IsLaid N.net N.content N.past N.mark_room board.old machine.now ask.now opening.old.goal first (record { act = act; places = take hold choice.places } ∷ choices_by machine.now (choices_before store.old.entries opening.old.parent)) }
+    requires complete { IsTrue complete
+        ↔ ((ask.now.origin ≡ Feeder) × IsStart machine.now ask.now first) }
+    requires laid { IsLaid N.net N.content N.past N.mark_room board.old machine.now ask.now
+        opening.old.goal first
+        (record { act = act; places = take hold choice.places } ∷ choices_by machine.now
+        (choices_before store.old.entries opening.old.parent)) }
     requires marks { HasMarks N.net N.content N.past N.mark_room (5 - hold) board.old }
     requires fresh { IsFresh machine.now ask.now opening.old store.old }
     requires bounds { HasBounds machine.now ask.now store.old }
-    requires progress { IsAtProgress machine.now board.old.plans ask.now opening.old store.old (up_to act.0 (take hold choice.places)) }
-    ensures progress { IsAtProgress machine.now board.old.plans ask.entry.now opening.new store.new (through act.0 (take hold choice.places)) }
+    requires progress { IsAtProgress machine.now board.old.plans ask.now opening.old store.old
+        (up_to act.0 (take hold choice.places)) }
+    ensures progress { IsAtProgress machine.now board.old.plans ask.entry.now opening.new store.new
+        (through act.0 (take hold choice.places)) }
     ensures same { IsSameOpening opening.old opening.new store.old store.new }
     ensures back { IsBack N.net N.content N.past N.mark_room board.old board.new machine.now }
 {
@@ -116,14 +122,21 @@ fn open_act<N: Network>(
     requires known { act.0 < length machine.now.actions }
     requires table { IsMadeFor rooms.now machine.now }
     requires rooms { AreRooms machine.now ask.now rooms.now.sums }
-    requires laid { IsLaid N.net N.content N.past N.mark_room board.old machine.now ask.now opening.old.goal first (choices_by machine.now (choices_before store.old.entries opening.old.parent)) }
-    requires placed { IsPlaced machine.now (choices_by machine.now (choices_before store.old.entries opening.old.parent)) }
+    requires laid { IsLaid N.net N.content N.past N.mark_room board.old machine.now ask.now
+        opening.old.goal first
+        (choices_by machine.now (choices_before store.old.entries opening.old.parent)) }
+    requires placed { IsPlaced machine.now
+        (choices_by machine.now (choices_before store.old.entries opening.old.parent)) }
     requires marks { HasMarks N.net N.content N.past N.mark_room 6 board.old }
     requires fresh { IsFresh machine.now ask.now opening.old store.old }
     requires bounds { HasBounds machine.now ask.now store.old }
-    requires fewer { kept_of ask.now + length (choices_by machine.now (choices_before store.old.entries opening.old.parent)) < 64 }
-    requires progress { IsAtProgress machine.now board.old.plans ask.now opening.old store.old (up_to act.0 []) }
-    ensures progress { IsAtProgress machine.now board.old.plans ask.entry.now opening.new store.new (up_to (act.0 + 1) []) }
+    requires fewer { kept_of ask.now
+        + length (choices_by machine.now (choices_before store.old.entries opening.old.parent))
+        < 64 }
+    requires progress { IsAtProgress machine.now board.old.plans ask.now opening.old store.old
+        (up_to act.0 []) }
+    ensures progress { IsAtProgress machine.now board.old.plans ask.entry.now opening.new store.new
+        (up_to (act.0 + 1) []) }
     ensures same { IsSameOpening opening.old opening.new store.old store.new }
     ensures back { IsBack N.net N.content N.past N.mark_room board.old board.new machine.now }
 {
@@ -175,14 +188,20 @@ fn open_stop<N: Network>(
     first: State,
     count: u32,
 )
-    requires count { count ≡ length (choices_by machine.now (choices_before store.old.entries opening.old.parent)) }
-    requires laid { IsLaid N.net N.content N.past N.mark_room board.old machine.now ask.now opening.old.goal first (choices_by machine.now (choices_before store.old.entries opening.old.parent)) }
-    requires placed { IsPlaced machine.now (choices_by machine.now (choices_before store.old.entries opening.old.parent)) }
+    requires count { count
+        ≡ length (choices_by machine.now (choices_before store.old.entries opening.old.parent)) }
+    requires laid { IsLaid N.net N.content N.past N.mark_room board.old machine.now ask.now
+        opening.old.goal first
+        (choices_by machine.now (choices_before store.old.entries opening.old.parent)) }
+    requires placed { IsPlaced machine.now
+        (choices_by machine.now (choices_before store.old.entries opening.old.parent)) }
     requires marks { HasMarks N.net N.content N.past N.mark_room 1 board.old }
     requires fresh { IsFresh machine.now ask.now opening.old store.old }
     requires bounds { HasBounds machine.now ask.now store.old }
-    requires progress { IsAtProgress machine.now board.old.plans ask.now opening.old store.old nothing }
-    ensures progress { IsAtProgress machine.now board.old.plans ask.entry.now opening.new store.new (up_to 0 []) }
+    requires progress { IsAtProgress machine.now board.old.plans ask.now opening.old store.old
+        nothing }
+    ensures progress { IsAtProgress machine.now board.old.plans ask.entry.now opening.new store.new
+        (up_to 0 []) }
     ensures same { IsSameOpening opening.old opening.new store.old store.new }
     ensures back { IsBack N.net N.content N.past N.mark_room board.old board.new machine.now }
 {
@@ -219,16 +238,22 @@ pub(crate) fn open_list<N: Network>(
     first: State,
     count: u32,
 )
-    requires count { count ≡ length (choices_by machine.now (choices_before store.old.entries opening.old.parent)) }
+    requires count { count
+        ≡ length (choices_by machine.now (choices_before store.old.entries opening.old.parent)) }
     requires table { IsMadeFor rooms.now machine.now }
     requires rooms { AreRooms machine.now ask.now rooms.now.sums }
-    requires laid { IsLaid N.net N.content N.past N.mark_room board.old machine.now ask.now opening.old.goal first (choices_by machine.now (choices_before store.old.entries opening.old.parent)) }
-    requires placed { IsPlaced machine.now (choices_by machine.now (choices_before store.old.entries opening.old.parent)) }
+    requires laid { IsLaid N.net N.content N.past N.mark_room board.old machine.now ask.now
+        opening.old.goal first
+        (choices_by machine.now (choices_before store.old.entries opening.old.parent)) }
+    requires placed { IsPlaced machine.now
+        (choices_by machine.now (choices_before store.old.entries opening.old.parent)) }
     requires marks { HasMarks N.net N.content N.past N.mark_room 6 board.old }
     requires fresh { IsFresh machine.now ask.now opening.old store.old }
     requires bounds { HasBounds machine.now ask.now store.old }
-    requires progress { IsAtProgress machine.now board.old.plans ask.now opening.old store.old nothing }
-    ensures progress { IsAtProgress machine.now board.old.plans ask.entry.now opening.new store.new (up_to (length machine.now.actions) []) }
+    requires progress { IsAtProgress machine.now board.old.plans ask.now opening.old store.old
+        nothing }
+    ensures progress { IsAtProgress machine.now board.old.plans ask.entry.now opening.new store.new
+        (up_to (length machine.now.actions) []) }
     ensures same { IsSameOpening opening.old opening.new store.old store.new }
     ensures back { IsBack N.net N.content N.past N.mark_room board.old board.new machine.now }
 {

@@ -113,9 +113,12 @@ impl<N: Network> Planner for Engine<N> {
     fn ask(&mut self, machine: &Machine, schedule: &mut Schedule, ask: &Ask) -> Result<Reply, Halt>
         requires served { IsTrue (is_engine_for self.old machine.now) }
         requires can_ask { CanAsk machine.now schedule.old.plans ask.now }
-        ensures answer { IfOk result (λ reply. IsAnswer (IsSpentOf self.old.work.nodes) machine.now schedule.old.plans ask.entry.now reply schedule.new.plans) }
+        ensures answer { IfOk result
+            (λ reply. IsAnswer (IsSpentOf self.old.work.nodes) machine.now schedule.old.plans
+            ask.entry.now reply schedule.new.plans) }
         ensures few { IfOk result
-            (λ reply. HasFewLists self.old.work.nodes machine.now schedule.old.plans (replied ask.entry.now reply)) }
+            (λ reply. HasFewLists self.old.work.nodes machine.now schedule.old.plans
+            (replied ask.entry.now reply)) }
         ensures same { IsSameEngine N.mark_room self.old self.new }
         ensures memory { IfErr result (λ halt. halt ≡ Halt.Memory) }
         ensures new_copy { OnErr result (ask.entry.now.origin ≡ Feeder) }

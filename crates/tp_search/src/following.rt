@@ -23,9 +23,14 @@ use tp_schedule::Ask;
 fn place_all<N: Network>(board: &mut Board<N>, machine: &Machine, act: ActId, places: &[u32; 4])
     requires stands { Stands N.net N.content N.past board.old machine.now }
     requires known { act.0 < length machine.now.actions }
-    requires waits { IsSomeAnd board.old.ask (λ ask. IsSomeAnd (suffix_of board.old) (AwaitsPlaces machine.now board.old.plans ask act places.now)) }
+    requires waits { IsSomeAnd board.old.ask
+        (λ ask. IsSomeAnd (suffix_of board.old)
+        (AwaitsPlaces machine.now board.old.plans ask act places.now)) }
     ensures stands { Stands N.net N.content N.past board.new machine.now }
-    ensures suffix { IsSomeAnd (suffix_of board.old) (λ x. suffix_of board.new ≡ Some (with_places (take (length (holds_of_act (action_at machine.now act.0))) places.now) x)) }
+    ensures suffix { IsSomeAnd (suffix_of board.old)
+        (λ x. suffix_of board.new
+        ≡ Some (with_places (take (length (holds_of_act (action_at machine.now act.0))) places.now)
+        x)) }
     ensures same { IsSameButSteps N.past N.mark_room board.old board.new }
 {
     let holds = &machine.actions.get(act.0 as u32).holds;
@@ -48,9 +53,12 @@ pub(crate) fn lay<N: Network>(
 ) -> State
     requires table { IsMadeFor rooms.now machine.now }
     requires rooms { AreRooms machine.now ask.now rooms.now.sums }
-    requires laid { HasList N.net N.content N.past board.old machine.now ask.now first (going choice.now.goal (choices_of (suffix_of board.old)).choices) }
-    requires opens { IsOpen machine.now board.old.plans ask.now (child_by machine.now choice.now.goal (choices_of (suffix_of board.old)).choices choice.now) }
-    ensures laid { HasList N.net N.content N.past board.new machine.now ask.entry.now result (child_by machine.now choice.now.goal (choices_of (suffix_of board.old)).choices choice.now) }
+    requires laid { HasList N.net N.content N.past board.old machine.now ask.now first
+        (going choice.now.goal (choices_of (suffix_of board.old)).choices) }
+    requires opens { IsOpen machine.now board.old.plans ask.now
+        (child_by machine.now choice.now.goal (choices_of (suffix_of board.old)).choices choice.now) }
+    ensures laid { HasList N.net N.content N.past board.new machine.now ask.entry.now result
+        (child_by machine.now choice.now.goal (choices_of (suffix_of board.old)).choices choice.now) }
     ensures same { IsSameButSteps N.past N.mark_room board.old board.new }
 {
     let Some(act) = choice.act else {
@@ -85,7 +93,8 @@ pub(crate) fn follow_goal<N: Network>(
     requires asked { board.old.ask ≡ Some ask.now }
     requires closed { suffix_of board.old ≡ None }
     requires opens { IsOpen machine.now board.old.plans ask.now (going goal []) }
-    ensures laid { HasList N.net N.content N.past board.new machine.now ask.entry.now goal (going goal []) }
+    ensures laid { HasList N.net N.content N.past board.new machine.now ask.entry.now goal
+        (going goal []) }
     ensures same { IsSameButSteps N.past N.mark_room board.old board.new }
 {
     let Some(room) = room_of(rooms, machine, ask, goal) else {
@@ -113,9 +122,12 @@ pub(crate) fn follow<N: Network>(
     requires asked { board.old.ask ≡ Some ask.now }
     requires closed { suffix_of board.old ≡ None }
     requires there { node < length store.now.entries }
-    requires stored { let choices = stored_at store.now.entries node in IsStoredList (list_by machine.now choices).goal choices }
-    requires opens { IsOpen machine.now board.old.plans ask.now (list_by machine.now (stored_at store.now.entries node)) }
-    ensures laid { HasList N.net N.content N.past board.new machine.now ask.entry.now result (list_by machine.now (stored_at store.now.entries node)) }
+    requires stored { let choices = stored_at store.now.entries node in IsStoredList
+        (list_by machine.now choices).goal choices }
+    requires opens { IsOpen machine.now board.old.plans ask.now
+        (list_by machine.now (stored_at store.now.entries node)) }
+    ensures laid { HasList N.net N.content N.past board.new machine.now ask.entry.now result
+        (list_by machine.now (stored_at store.now.entries node)) }
     ensures same { IsSameButSteps N.past N.mark_room board.old board.new }
 {
     let depth = store.depth(node);

@@ -40,8 +40,10 @@ fn try_goal<N: Network>(
     requires closed { suffix_of board.old ≡ None }
     requires marks { HasMarks N.net N.content N.past N.mark_room 1 board.old }
     ensures state { IfSome result (λ g. g.state ≡ state_at number) }
-    ensures bound { IfSome result (λ g. IsBound machine.now board.old.plans ask.entry.now (list_of_goal g) g.bound) }
-    ensures none { IfNone result (¬ IsOpen machine.now board.old.plans ask.entry.now (going (state_at number) [])) }
+    ensures bound { IfSome result
+        (λ g. IsBound machine.now board.old.plans ask.entry.now (list_of_goal g) g.bound) }
+    ensures none { IfNone result
+        (¬ IsOpen machine.now board.old.plans ask.entry.now (going (state_at number) [])) }
     ensures back { IsBack N.net N.content N.past N.mark_room board.old board.new machine.now }
 {
     marks_keep_boards::<N>();

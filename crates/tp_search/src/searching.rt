@@ -79,8 +79,10 @@ fn lay_next<N: Network>(
     requires asked { board.old.ask ≡ Some ask.now }
     requires closed { suffix_of board.old ≡ None }
     requires can { CanLay machine.now board.old.plans ask.now store.now next.now }
-    ensures laid { HasList N.net N.content N.past board.new machine.now ask.entry.now result.first (next_list machine.now store.now next.entry.now) }
-    ensures count { result.count ≡ length (choices_before store.now.entries (next_node next.entry.now)) }
+    ensures laid { HasList N.net N.content N.past board.new machine.now ask.entry.now result.first
+        (next_list machine.now store.now next.entry.now) }
+    ensures count { result.count
+        ≡ length (choices_before store.now.entries (next_node next.entry.now)) }
     ensures same { IsSameButSteps N.past N.mark_room board.old board.new }
 {
     match *next {
@@ -103,7 +105,9 @@ fn lay_next<N: Network>(
 
 /// How the opening of the list that was taken begins.
 fn opening_of(store: &Store, next: &Next) -> Opening
-    requires { IfSome (next_node next.now) (λ node. (node < length store.now.entries) × (1 ≤ length (choices_before store.now.entries (Some node)))) }
+    requires { IfSome (next_node next.now)
+        (λ node. (node < length store.now.entries)
+        × (1 ≤ length (choices_before store.now.entries (Some node)))) }
     ensures { (machine : Machine) → result ≡ opening_of machine store.now next.now }
 {
     match *next {
@@ -141,8 +145,11 @@ fn open_next<N: Network>(
     requires closed { suffix_of board.old ≡ None }
     requires marks { HasMarks N.net N.content N.past N.mark_room 6 board.old }
     requires can { CanOpen machine.now board.old.plans ask.now store.old next.now }
-    ensures opened { IsAllOpened machine.now board.old.plans ask.entry.now store.old next.entry.now result store.new }
-    ensures answer { IfSome result.answer (HasChild N.net N.content N.past N.mark_room board.new machine.now ask.entry.now store.old next.entry.now) }
+    ensures opened { IsAllOpened machine.now board.old.plans ask.entry.now store.old next.entry.now
+        result store.new }
+    ensures answer { IfSome result.answer
+        (HasChild N.net N.content N.past N.mark_room board.new machine.now ask.entry.now store.old
+        next.entry.now) }
     ensures stands { Stands N.net N.content N.past board.new machine.now }
     ensures same { IsSameButSteps N.past N.mark_room board.old board.new }
 {
@@ -184,11 +191,17 @@ fn step<N: Network>(
     requires asked { board.old.ask ≡ Some ask.now }
     requires closed { suffix_of board.old ≡ None }
     requires marks { HasMarks N.net N.content N.past N.mark_room 7 board.old }
-    requires searching { (bound : ℕ) × IsSearching machine.now board.old.plans ask.now goals.old.items store.old bound }
-    ensures ends { IfSome result (IsOutcome N.net N.content N.past N.mark_room board.old board.new machine.now ask.entry.now store.old.room) }
-    ensures goes_on { result ≡ None → (bound : ℕ) × IsSearching machine.now board.old.plans ask.entry.now goals.new.items store.new bound }
-    ensures back { result ≡ None → IsBack N.net N.content N.past N.mark_room board.old board.new machine.now }
-    ensures less { result ≡ None → still_to_take goals.new.items store.new < still_to_take goals.old.items store.old }
+    requires searching { (bound : ℕ)
+        × IsSearching machine.now board.old.plans ask.now goals.old.items store.old bound }
+    ensures ends { IfSome result
+        (IsOutcome N.net N.content N.past N.mark_room board.old board.new machine.now ask.entry.now
+        store.old.room) }
+    ensures goes_on { result ≡ None → (bound : ℕ)
+        × IsSearching machine.now board.old.plans ask.entry.now goals.new.items store.new bound }
+    ensures back { result ≡ None
+        → IsBack N.net N.content N.past N.mark_room board.old board.new machine.now }
+    ensures less { result ≡ None → still_to_take goals.new.items store.new
+        < still_to_take goals.old.items store.old }
     ensures same { IsSameSpace goals.old goals.new store.old store.new }
 {
     machine_law(machine);
@@ -231,8 +244,10 @@ pub(crate) fn search<N: Network>(
     requires asked { board.old.ask ≡ Some ask.now }
     requires closed { suffix_of board.old ≡ None }
     requires marks { HasMarks N.net N.content N.past N.mark_room 7 board.old }
-    requires searching { (bound : ℕ) × IsSearching machine.now board.old.plans ask.now goals.old.items store.old bound }
-    ensures outcome { IsOutcome N.net N.content N.past N.mark_room board.old board.new machine.now ask.entry.now store.old.room result }
+    requires searching { (bound : ℕ)
+        × IsSearching machine.now board.old.plans ask.now goals.old.items store.old bound }
+    ensures outcome { IsOutcome N.net N.content N.past N.mark_room board.old board.new machine.now
+        ask.entry.now store.old.room result }
     ensures same { IsSameSpace goals.old goals.new store.old store.new }
 {
     'steps: loop {

@@ -40,7 +40,9 @@ pub(crate) fn state_before(
     requires rooms { AreRooms machine.now ask.now rooms.now.sums }
     requires known { act.0 < length machine.now.actions }
     ensures some { IfSome result (IsBefore machine.now ask.entry.now act state) }
-    ensures only { IfSome result (λ r. (other : State) → step_by machine.now ask.entry.now.want act other ≡ Some state → other ≡ r.state) }
+    ensures only { IfSome result
+        (λ r. (other : State) → step_by machine.now ask.entry.now.want act other ≡ Some state
+        → other ≡ r.state) }
     ensures none { IfNone result (HasNoneBefore machine.now ask.entry.now act state) }
     ensures within { IfSome result (λ r. r.state.loc.0 < length machine.now.locations) }
 {

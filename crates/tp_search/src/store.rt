@@ -116,7 +116,8 @@ impl Store {
 
     /// The best complete list where one more is stored.
     fn best_with(&self, bound: Tick, complete: bool) -> Option<u32>
-        ensures { result ≡ better self.now.entries complete bound (length self.now.entries) self.now.best }
+        ensures { result ≡ better self.now.entries complete bound
+            (length self.now.entries) self.now.best }
     {
         if complete && self.is_sooner(bound) {
             Some(self.pool.len())

@@ -15,7 +15,9 @@ pub(crate) enum Next {
 /// The place of a goal of least bound.
 fn first_goal(goals: &[OpenGoal]) -> Option<usize>
     ensures none { result ≡ None ↔ (goals.now ≡ []) }
-    ensures first { IfSome result (λ place. IfSome (slice_get goals.now place) (λ first. All (λ g. first.bound ≤ g.bound) goals.now)) }
+    ensures first { IfSome result
+        (λ place. IfSome (slice_get goals.now place)
+        (λ first. All (λ g. first.bound ≤ g.bound) goals.now)) }
     ensures within { IfSome result (λ place. place < length goals.now) }
 {
     goals

@@ -49,11 +49,16 @@ pub fn plan<'b, N: Network>(
     requires closed { board.old.steps ≡ [] }
     requires unmarked { past_of N.past board.old ≡ [] }
     requires marks { 8 ≤ N.mark_room board.old.net }
-    ensures* rests { sem 𝓛 (RestsIfErr (the_row N.row N.Network.own N.Undo) board.entry borrow_in result (λ new. IsBack N.net N.content N.past N.mark_room board.old new machine.now)) }
+    ensures* rests { sem 𝓛
+        (RestsIfErr (the_row N.row N.Network.own N.Undo) board.entry borrow_in result
+        (λ new. IsBack N.net N.content N.past N.mark_room board.old new machine.now)) }
     ensures same_reference { IfOk result (λ trial. borrow_in trial ≡ board.entry.ghost_name) }
     ensures trial { IfOk result (IsTrial N.net N.content N.past N.mark_room board.old machine.now) }
-    ensures end { (plans : List Plan) → IsLoadedFrom machine.now plans ask.entry.now board.old.plans → IfOk result (λ trial. EndsEarliest machine.now plans ask.entry.now (end_in trial)) }
-    ensures none { (plans : List Plan) → IsLoadedFrom machine.now plans ask.entry.now board.old.plans → IfErr result (IsNoPlan machine.now plans ask.entry.now work.old.nodes) }
+    ensures end { (plans : List Plan) → IsLoadedFrom machine.now plans ask.entry.now board.old.plans
+        → IfOk result (λ trial. EndsEarliest machine.now plans ask.entry.now (end_in trial)) }
+    ensures none { (plans : List Plan)
+        → IsLoadedFrom machine.now plans ask.entry.now board.old.plans
+        → IfErr result (IsNoPlan machine.now plans ask.entry.now work.old.nodes) }
     ensures work { work.new ≡ work.old }
 {
     match work.search(board, machine, ask) {
@@ -78,13 +83,23 @@ impl<N: Network> Trial<'_, N> {
     /// spare plan for a new copy, and no memory. The board is no longer right for that schedule: whoever asks next loads it
     /// again.
     pub fn commit(self, machine: &Machine, schedule: &mut Schedule)
-        requires trial { (b : BoardValue N) × IsTrial N.net N.content N.past N.mark_room b machine.now self }
-        requires loaded { IsSomeAnd (board_in self).ask (λ ask. IsLoadedFrom machine.now schedule.old.plans ask (board_in self).plans) }
-        requires spare { IsSomeAnd (board_in self).ask (λ ask. plan_of ask.sheet schedule.old.plans ≡ None → 0 < schedule.old.spare) }
-        ensures earliest { IsSomeAnd (board_in self.entry).ask (λ ask. IsEarliestTo machine.now schedule.old.plans ask (end_in self.entry) schedule.new.plans) }
-        ensures least { IsSomeAnd (board_in self.entry).ask (λ ask. IsLeast machine.now ask.now (follows_front ask) schedule.new.plans) }
-        ensures new_copy { IsSomeAnd (board_in self.entry).ask (λ ask. plan_of ask.sheet schedule.old.plans ≡ None → schedule.new.spare + 1 ≡ schedule.old.spare) }
-        ensures in_flight { IsSomeAnd (board_in self.entry).ask (λ ask. IsSome (plan_of ask.sheet schedule.old.plans) → schedule.new.spare ≡ schedule.old.spare) }
+        requires trial { (b : BoardValue N)
+            × IsTrial N.net N.content N.past N.mark_room b machine.now self }
+        requires loaded { IsSomeAnd (board_in self).ask
+            (λ ask. IsLoadedFrom machine.now schedule.old.plans ask (board_in self).plans) }
+        requires spare { IsSomeAnd (board_in self).ask
+            (λ ask. plan_of ask.sheet schedule.old.plans ≡ None → 0 < schedule.old.spare) }
+        ensures earliest { IsSomeAnd (board_in self.entry).ask
+            (λ ask. IsEarliestTo machine.now schedule.old.plans ask
+            (end_in self.entry) schedule.new.plans) }
+        ensures least { IsSomeAnd (board_in self.entry).ask
+            (λ ask. IsLeast machine.now ask.now (follows_front ask) schedule.new.plans) }
+        ensures new_copy { IsSomeAnd (board_in self.entry).ask
+            (λ ask. plan_of ask.sheet schedule.old.plans ≡ None → schedule.new.spare + 1
+            ≡ schedule.old.spare) }
+        ensures in_flight { IsSomeAnd (board_in self.entry).ask
+            (λ ask. IsSome (plan_of ask.sheet schedule.old.plans) → schedule.new.spare
+            ≡ schedule.old.spare) }
         ensures board { self.exit.0.now ≡ board_in self.entry }
     {
         let Trial {
@@ -97,8 +112,11 @@ impl<N: Network> Trial<'_, N> {
 
     /// Takes the plan off the board, which is then as before `plan`.
     pub fn abandon(self)
-        requires trial { (b : BoardValue N) × (machine : Machine) × IsTrial N.net N.content N.past N.mark_room b machine self }
-        ensures back { (b : BoardValue N) (machine : Machine) → IsTrial N.net N.content N.past N.mark_room b machine self.entry → IsBack N.net N.content N.past N.mark_room b self.exit.0.now machine }
+        requires trial { (b : BoardValue N) × (machine : Machine)
+            × IsTrial N.net N.content N.past N.mark_room b machine self }
+        ensures back { (b : BoardValue N) (machine : Machine)
+            → IsTrial N.net N.content N.past N.mark_room b machine self.entry
+            → IsBack N.net N.content N.past N.mark_room b self.exit.0.now machine }
     {
         marks_keep_boards::<N>();
         let Trial {

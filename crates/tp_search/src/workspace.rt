@@ -32,7 +32,12 @@ impl Model for Workspace {
 
     ghost Value = { WorkspaceValue };
 
-    ghost view = { λ w. record { locations = w.rooms.locations; resources = w.rooms.resources; window = w.rooms.window; nodes = w.store.room } };
+    ghost view = { λ w. record {
+      locations = w.rooms.locations;
+      resources = w.rooms.resources;
+      window = w.rooms.window;
+      nodes = w.store.room;
+    } };
 
     ghost invariant = { λ w. IsWorkspace w.rooms w.store w.goals };
 }
@@ -60,13 +65,15 @@ impl Workspace {
         ask: &Ask,
     ) -> Outcome
         requires made { IsFor self.old machine.now }
-        requires loaded { (plans : List Plan) × IsLoadedFrom machine.now plans ask.now board.old.plans }
+        requires loaded { (plans : List Plan)
+            × IsLoadedFrom machine.now plans ask.now board.old.plans }
         requires stands { Stands N.net N.content N.past board.old machine.now }
         requires asked { board.old.ask ≡ Some ask.now }
         requires closed { board.old.steps ≡ [] }
         requires unmarked { past_of N.past board.old ≡ [] }
         requires marks { 8 ≤ N.mark_room board.old.net }
-        ensures outcome { IsOutcome N.net N.content N.past N.mark_room board.old board.new machine.now ask.entry.now self.old.nodes result }
+        ensures outcome { IsOutcome N.net N.content N.past N.mark_room board.old board.new
+            machine.now ask.entry.now self.old.nodes result }
         ensures same { self.new ≡ self.old }
     {
         self.rooms.fill(machine, ask);

@@ -21,7 +21,8 @@ pub fn engines_answer_alone<N: Network>()
         (right_steps ⟦<Engine<N> as Planner>⟧.spent ⟦<Engine<N> as Planner>⟧.steps
         ⟦<Engine<N> as Planner>⟧.stop_steps machine) machine }
     ensures nodes { (machine : Machine) → KeepsNodes ⟦<Engine<N> as Planner>⟧.spent
-        ⟦<Engine<N> as Planner>⟧.steps ⟦<Engine<N> as Planner>⟧.stop_steps machine (λ e. e.work.nodes) }
+        ⟦<Engine<N> as Planner>⟧.steps ⟦<Engine<N> as Planner>⟧.stop_steps machine
+        (λ e. e.work.nodes) }
 {}
 
 /// The script that a session answers from its start is answered by a lawful run, and so are the first lines where it stops.

@@ -60,7 +60,8 @@ impl<N: Network> Model for SessionOver<N> {
     } };
 
     ghost invariant = { λ s. IsSession
-        (record { machine = s.machine; budget = s.budget; state = seen s.state }) s.engine s.answered };
+        (record { machine = s.machine; budget = s.budget; state = seen s.state })
+        s.engine s.answered };
 }
 
 impl SessionOver<LiveNet> {
@@ -118,7 +119,8 @@ impl<N: Network> SessionOver<N> {
     pub fn event(&mut self, event: &Event) -> Result<(), Memory>
         requires few { self.old.answered < most_events }
         requires echoed { IsEchoed event.now }
-        ensures told { OnOk result ((told : List ℕ) × Tells self.old.standing event.now told self.new.standing
+        ensures told { OnOk result
+            ((told : List ℕ) × Tells self.old.standing event.now told self.new.standing
             × (self.new.text ≡ self.old.text ++ told)) }
         ensures counted { OnOk result (self.new.answered ≡ self.old.answered + 1) }
         ensures standing_stays { OnErr result (self.new.standing ≡ self.old.standing) }

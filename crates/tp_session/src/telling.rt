@@ -35,7 +35,8 @@ fn put_records(records: &[Record], out: &mut Vec<u8>) -> Result<(), Memory>
 fn put_turn(event: &Event, records: &[Record], text: &mut Vec<u8>) -> Result<(), Memory>
     requires { All IsPrintable records.now }
     ensures told { OnOk result (
-        text.new.items ≡ text.old.items ++ (echo_text event.now ++ flat_map record_text records.now)) }
+        text.new.items ≡ text.old.items
+        ++ (echo_text event.now ++ flat_map record_text records.now)) }
     ensures grows { IsLonger text.old.items text.new.items }
 {
     print_echo(event, text)?;
@@ -46,7 +47,8 @@ fn put_turn(event: &Event, records: &[Record], text: &mut Vec<u8>) -> Result<(),
 pub(crate) fn tell(event: &Event, records: &[Record], text: &mut Vec<u8>) -> Result<(), Memory>
     requires { All IsPrintable records.now }
     ensures told { OnOk result (
-        text.new.items ≡ text.old.items ++ (echo_text event.now ++ flat_map record_text records.now)) }
+        text.new.items ≡ text.old.items
+        ++ (echo_text event.now ++ flat_map record_text records.now)) }
     ensures memory { OnErr result (text.new.items ≡ text.old.items) }
 {
     let before = text.len();

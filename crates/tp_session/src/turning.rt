@@ -33,14 +33,16 @@ pub(crate) fn take_turn<N: Network>(
     requires can { CanTakeEvents machine.now last_copy (seen state.old) }
     requires echoed { IsEchoed event.now }
     ensures told { OnOk result ((told : List ℕ)
-        × TellsTurn machine.now engine.old.work.nodes event.now (seen state.old) told (seen state.new)
+        × TellsTurn machine.now engine.old.work.nodes event.now (seen state.old) told
+        (seen state.new)
         × (text.new.items ≡ text.old.items ++ told)) }
     ensures kept { OnOk result ((copies : ℕ) → CanTakeEvents machine.now copies (seen state.old)
         → CanTakeEvents machine.now (copies + 1) (seen state.new)) }
     ensures text { OnErr result (text.new.items ≡ text.old.items) }
     ensures marked { state.new.lines.kept ≡ state.old.lines.kept }
     ensures nodes { engine.new.work.nodes ≡ engine.old.work.nodes }
-    ensures serves { (other : Machine) → is_engine_for engine.new other ≡ is_engine_for engine.old other }
+    ensures serves { (other : Machine) → is_engine_for engine.new other
+        ≡ is_engine_for engine.old other }
 {
     engines_answer_alone::<N>();
     live_turns_are_whole::<Engine<N>>();

@@ -62,7 +62,12 @@ impl Network for PlainNet {
     }
 
     fn require(&mut self, edge: Edge) -> Result<(), Late> {
-        let Ok(()) = self.edges.push(edge) else {
+        self.require_all(&[edge])
+    }
+
+    fn require_all(&mut self, edges: &[Edge]) -> Result<(), Late> {
+        let count = self.edges.len();
+        let Ok(()) = self.edges.extend_from_slice(edges) else {
             unreachable!()
         };
         match solve(&self.lows, &self.caps, &self.edges, &mut self.working) {
@@ -71,12 +76,49 @@ impl Network for PlainNet {
                 Ok(())
             }
             Err(kept) => {
-                let count = self.edges.len() - 1;
                 self.edges.truncate(count);
                 mem::swap(&mut self.path, &mut self.working.path);
                 self.kept = kept;
                 Err(Late)
             }
+        }
+    }
+
+    fn extend(&mut self, low: Tick, cap: Tick, edges: &[Edge]) -> Result<(), Late> {
+        let points = self.lows.len();
+        if low > cap {
+            self.path.clear();
+            self.kept = Kept::Chain(PointId(points as u32));
+            return Err(Late);
+        }
+        let count = self.edges.len();
+        self.lows.push_reserved(low);
+        self.caps.push_reserved(cap);
+        self.newest.push_reserved(0);
+        let Ok(()) = self.edges.extend_from_slice(edges) else {
+            unreachable!()
+        };
+        match solve(&self.lows, &self.caps, &self.edges, &mut self.working) {
+            Ok(()) => {
+                mem::swap(&mut self.times, &mut self.working.times);
+                Ok(())
+            }
+            Err(kept) => {
+                self.lows.truncate(points);
+                self.caps.truncate(points);
+                self.newest.truncate(points);
+                self.edges.truncate(count);
+                mem::swap(&mut self.path, &mut self.working.path);
+                self.kept = kept;
+                Err(Late)
+            }
+        }
+    }
+
+    fn load(&mut self, edges: &[Edge]) {
+        match self.require_all(edges) {
+            Ok(()) => {}
+            Err(Late) => unreachable!(),
         }
     }
 

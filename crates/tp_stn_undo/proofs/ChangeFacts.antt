@@ -1,5 +1,5 @@
 -- What a change makes of a network.
-use Rattle.std.proofs.Common.{◌≡◌, ℕ, ◌<◌, ◌≤◌, Bool, List, [], ◌∷◌, ◌++◌, length, slice_index, set, sym, ap, ◌∙◌, subst, arith, vec_capacity, inl, inr}
+use Rattle.std.proofs.Common.{◌≡◌, ℕ, ◌<◌, ◌≤◌, Bool, List, ◌++◌, length, slice_index, set, sym, ap, ◌∙◌, subst, arith, vec_capacity, inl, inr}
 use Rattle.std.proofs.Math.Nat.{mul-le-mul_left}
 use Rattle.std.proofs.lemmas.Bool.{cases_eq}
 use Rattle.std.proofs.lemmas.List.{length-set, get_or-set_same, get_or-set_other}
@@ -14,16 +14,14 @@ use Rattle.tp_stn_undo.specs.declared.spots.SavedSpot.{SavedSpot}
 use Rattle.tp_stn_undo.specs.declared.live.LiveNet.TheInside.{Inside}
 use Rattle.tp_stn_undo.specs.Spots.{IsSound, lows_of, times_of, edges_of, causes_of}
 use Rattle.tp_stn_undo.specs.Flags.{AreKnown}
-use Rattle.tp_stn_undo.specs.Marks.{past_of, AreLinks}
 use Rattle.tp_stn_undo.specs.Stacks.{IsStack, CanSave, CanRestore}
 use Rattle.tp_stn_undo.specs.Spreading.{SpotsRise, LeadsBack}
 use Rattle.tp_stn_undo.specs.Lifting.{Lifts}
-use Rattle.tp_stn_undo.specs.Live.{HasRoom, IsLive}
-use Rattle.tp_stn_undo.specs.Working.{AtRest}
+use Rattle.tp_stn_undo.specs.Live.{IsLive}
 use Rattle.tp_stn_undo.proofs.StackFacts.{stacked_grown}
 use Rattle.tp_stn_undo.proofs.RaiseFacts.{times_len, lows_len}
 use Rattle.tp_stn_undo.proofs.FollowFacts.{risen_supported}
-use Rattle.tp_stn_undo.proofs.SoundFacts.{edges_push, supported_more, numbered_longer, known_push, solution_less, sound_risen}
+use Rattle.tp_stn_undo.proofs.SoundFacts.{edges_more, supported_more, numbered_longer, known_more, solution_less, sound_risen}
 
 module _ (a : Inside) (inv : IsLive a) where
   pub stack_of : (edges : ℕ) → length a.links.items ≤ edges → IsStack a.saves.marks.items a.saves.saved.items a.saves.since.words.items (length a.spots.items) edges a.saves.points
@@ -50,40 +48,21 @@ module _ (a : Inside) (inv : IsLive a) where
       let f = inv.room.flags in
       record { points = length a.spots.items; edges = length a.links.items; stack = stack_of (length a.links.items) (omega arith); flags = omega arith; small = omega arith }
 
--- what holds of lists holds of the network that has them
-pub live_of : (a : Inside) (S : List Spot) (L : List Link) (H : List ℕ) (V : List SavedSpot) → a.spots.items ≡ S → a.links.items ≡ L → a.heads.items ≡ H → a.saves.saved.items ≡ V
-    → length S ≤ a.saves.points → length L ≤ a.edge_room → length a.saves.marks.items ≤ a.mark_room → HasRoom a → AtRest a.working → IsStack a.saves.marks.items V a.saves.since.words.items (length S) (length L) a.saves.points → AreLinks L H (length S)
-    → IsSound (record { spots = S; caps = a.caps.items; links = L }) → All IsSound (past_of a.saves.marks.items V S a.caps.items L) → IsLive a
-live_of a S L H V es el eh ev points edges marks room rest stack linked sound past = record {
-  points = rw es points;
-  edges = rw el edges;
-  marks = marks;
-  saved = rw ev stack.filled;
-  room = room;
-  rest = rest;
-  stacked = rw (es, el, ev) stack.stacked;
-  kept = rw (es, ev) stack.kept;
-  flagged = rw ev stack.flagged;
-  linked = rw (es, el, eh) linked;
-  sound = rw (es, el) sound;
-  past = rw (es, el, ev) past;
-}
-
--- an edge is added, and points rise
-module _ (spots spots' : List Spot) (caps : List ℕ) (links : List Link) (l : Link) (noted noted' : List SavedSpot) (s : IsSound (record { spots = spots; caps = caps; links = links }))
-    (k : IsKnown (length spots) l.edge) (back : LeadsBack (links ++ l ∷ []) spots spots' noted noted') (rises : SpotsRise (links ++ l ∷ []) spots spots')
-    (within : AreWithin caps (times_of spots')) (keeps : All (Keeps (slice_index (times_of spots'))) (edges_of (links ++ l ∷ []))) where
+-- edges are added, and points rise
+module _ (spots spots' : List Spot) (caps : List ℕ) (links more : List Link) (noted noted' : List SavedSpot) (s : IsSound (record { spots = spots; caps = caps; links = links }))
+    (k : All (IsKnown (length spots)) (edges_of more)) (back : LeadsBack (links ++ more) spots spots' noted noted') (rises : SpotsRise (links ++ more) spots spots')
+    (within : AreWithin caps (times_of spots')) (keeps : All (Keeps (slice_index (times_of spots'))) (edges_of (links ++ more))) where
   nt : length (times_of spots) ≡ length spots
   nt = times_len spots
 
   nl : length (lows_of spots) ≡ length spots
   nl = lows_len spots
 
-  below : (y : ℕ → ℕ) → IsSolution (net_of (lows_of spots') caps (edges_of (links ++ l ∷ []))) y → (i : ℕ) → i < length spots → slice_index (times_of spots') i ≤ y i
+  below : (y : ℕ → ℕ) → IsSolution (net_of (lows_of spots') caps (edges_of (links ++ more))) y → (i : ℕ) → i < length spots → slice_index (times_of spots') i ≤ y i
   below y sol i h =
-      let sol1 : IsSolution (net_of (lows_of spots) caps (edges_of (links ++ l ∷ []))) y = subst (λ (ls : List ℕ). IsSolution (net_of ls caps (edges_of (links ++ l ∷ []))) y) back.lows sol in
-      let sol2 : IsSolution (net_of (lows_of spots) caps (edges_of links ++ l.edge ∷ [])) y = subst (λ (es : List Edge). IsSolution (net_of (lows_of spots) caps es) y) (edges_push links l) sol1 in
-      let sol3 : IsSolution (net_of (lows_of spots) caps (edges_of links)) y = solution_less (net_of (lows_of spots) caps (edges_of links)) l.edge y sol2 in
+      let sol1 : IsSolution (net_of (lows_of spots) caps (edges_of (links ++ more))) y = subst (λ (ls : List ℕ). IsSolution (net_of ls caps (edges_of (links ++ more))) y) back.lows sol in
+      let sol2 : IsSolution (net_of (lows_of spots) caps (edges_of links ++ edges_of more)) y = subst (λ (es : List Edge). IsSolution (net_of (lows_of spots) caps es) y) (edges_more links more) sol1 in
+      let sol3 : IsSolution (net_of (lows_of spots) caps (edges_of links)) y = solution_less (net_of (lows_of spots) caps (edges_of links)) (edges_of more) y sol2 in
       let a = nt in
       let b = nl in
       rises.below y sol1.keeps (λ j g. s.least.least y sol3 j (omega arith)) i (omega arith)
@@ -97,10 +76,10 @@ module _ (spots spots' : List Spot) (caps : List ℕ) (links : List Link) (l : L
       let e = ap (λ (ls : List ℕ). slice_index ls i) back.lows in
       omega arith
 
-  pub sound_edge : IsSound (record { spots = spots'; caps = caps; links = links ++ l ∷ [] })
-  sound_edge =
-      sound_risen caps (links ++ l ∷ []) spots spots' (λ i. i) s.caps back.len (known_push links l (length spots) s.known k) (back.numbered (numbered_longer links l spots s.numbered))
-      (subst (λ (ls : List ℕ). IsSupported ls (edges_of (links ++ l ∷ [])) (slice_index (times_of spots')) (cause_of (causes_of (edges_of (links ++ l ∷ [])) spots'))) (sym back.lows) (risen_supported (links ++ l ∷ []) spots spots' caps (supported_more links l spots s.numbered s.supported) back.len rises))
+  pub sound_edges : IsSound (record { spots = spots'; caps = caps; links = links ++ more })
+  sound_edges =
+      sound_risen caps (links ++ more) spots spots' (λ i. i) s.caps back.len (known_more links more (length spots) s.known k) (back.numbered (numbered_longer links more spots s.numbered))
+      (subst (λ (ls : List ℕ). IsSupported ls (edges_of (links ++ more)) (slice_index (times_of spots')) (cause_of (causes_of (edges_of (links ++ more)) spots'))) (sym back.lows) (risen_supported (links ++ more) spots spots' caps (supported_more links more spots s.numbered s.supported) back.len rises))
       within keeps above below
 
 -- a lower bound is raised, and points rise

@@ -20,4 +20,6 @@ pub mod LiveFacts
 pub mod LinkedFacts
 pub mod SoundFacts
 pub mod ChangeFacts
+pub mod AddFacts
+pub mod ChangedFacts
 pub mod BitFacts

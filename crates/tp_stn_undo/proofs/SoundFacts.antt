@@ -1,13 +1,13 @@
 -- What holds between two changes holds after each.
-use Rattle.std.proofs.Common.{zero, suc, ◌≡◌, ℕ, ◌+◌, ◌-◌, ◌<◌, ◌≤◌, List, [], ◌∷◌, ◌++◌, length, slice_index, take, Option, None, sym, refl, ap, ◌∙◌, subst, arith, inl, inr, cond, Bool}
+use Rattle.std.proofs.Common.{zero, suc, ◌≡◌, ℕ, ◌+◌, ◌<◌, ◌≤◌, List, [], ◌∷◌, ◌++◌, length, slice_index, take, Option, None, sym, refl, ap, ◌∙◌, subst, arith, inl, inr, cond, Bool}
 use Rattle.std.proofs.lemmas.Bool.{cases_eq, cases_lt, eq-eqb, ne_eqb}
 use Rattle.std.proofs.lemmas.Int.{ints}
 use Rattle.std.proofs.lemmas.Option.{none-some}
 use Rattle.std.proofs.lemmas.List.{length-map, length-append, map-append, get_or_append_left, get_or_at, take_at}
-use Rattle.std.proofs.lemmas.List.Elements.{All-push, Contains-append_left}
+use Rattle.std.proofs.lemmas.List.Elements.{All-push, All-append, Contains-append_left}
 use Rattle.std.specs.List.{All}
 use Rattle.tp_base.specs.declared.edges.Edge.{Edge}
-use Rattle.tp_base.specs.Net.{Net, Keeps, IsLeast, IsSolution}
+use Rattle.tp_base.specs.Net.{Net, Keeps, IsLeast, IsSolution, with_edges}
 use Rattle.tp_base.specs.Grows.{IsKnown, IsSupported, AreWithin, cause_of}
 use Rattle.tp_base.specs.Kept.{net_of}
 use Rattle.tp_base.proofs.SliceFacts.{map_same, slice_get_left, All-at}
@@ -23,38 +23,38 @@ use Rattle.tp_stn_undo.proofs.FollowFacts.{Supported}
 pub links_len : (links : List Link) → length (edges_of links) ≡ length links
 links_len links = length-map links (λ (l : Link). l.edge)
 
-pub edges_push : (links : List Link) (l : Link) → edges_of (links ++ l ∷ []) ≡ edges_of links ++ l.edge ∷ []
-edges_push links l = map-append (λ (l : Link). l.edge) links (l ∷ [])
+pub edges_more : (links more : List Link) → edges_of (links ++ more) ≡ edges_of links ++ edges_of more
+edges_more links more = map-append (λ (l : Link). l.edge) links more
 
--- ---- one more edge
-numbered_more : (edges : List Edge) (e : Edge) (n : ℕ) → n ≤ length edges → numbered (edges ++ e ∷ []) n ≡ numbered edges n
-numbered_more edges e zero h = refl
-numbered_more edges e (suc k) h = slice_get_left edges (e ∷ []) k (omega arith)
+-- ---- more edges
+numbered_more : (edges more : List Edge) (n : ℕ) → n ≤ length edges → numbered (edges ++ more) n ≡ numbered edges n
+numbered_more edges more zero h = refl
+numbered_more edges more (suc k) h = slice_get_left edges more k (omega arith)
 
-pub causes_more : (links : List Link) (l : Link) (spots : List Spot) → AreNumbered links spots → causes_of (edges_of (links ++ l ∷ [])) spots ≡ causes_of (edges_of links) spots
-causes_more links l spots n =
-    map_same (λ (s : Spot). numbered (edges_of (links ++ l ∷ [])) s.cause) (λ (s : Spot). numbered (edges_of links) s.cause) spots (λ k s g.
+causes_more : (links more : List Link) (spots : List Spot) → AreNumbered links spots → causes_of (edges_of (links ++ more)) spots ≡ causes_of (edges_of links) spots
+causes_more links more spots n =
+    map_same (λ (s : Spot). numbered (edges_of (links ++ more)) s.cause) (λ (s : Spot). numbered (edges_of links) s.cause) spots (λ k s g.
     let h = All-at (λ (s : Spot). s.cause ≤ length links) spots k s n g in
     let len = links_len links in
-    ap (λ (es : List Edge). numbered es s.cause) (edges_push links l) ∙ numbered_more (edges_of links) l.edge s.cause (omega arith))
+    ap (λ (es : List Edge). numbered es s.cause) (edges_more links more) ∙ numbered_more (edges_of links) (edges_of more) s.cause (omega arith))
 
-pub supported_more : (links : List Link) (l : Link) (spots : List Spot) → AreNumbered links spots → Supported links spots spots → Supported (links ++ l ∷ []) spots spots
-supported_more links l spots n s =
-    subst (λ (cs : List (Option Edge)). IsSupported (lows_of spots) (edges_of (links ++ l ∷ [])) (slice_index (times_of spots)) (cause_of cs)) (sym (causes_more links l spots n))
-    (subst (λ (es : List Edge). IsSupported (lows_of spots) es (slice_index (times_of spots)) (cause_of (causes_of (edges_of links) spots))) (sym (edges_push links l))
+pub supported_more : (links more : List Link) (spots : List Spot) → AreNumbered links spots → Supported links spots spots → Supported (links ++ more) spots spots
+supported_more links more spots n s =
+    subst (λ (cs : List (Option Edge)). IsSupported (lows_of spots) (edges_of (links ++ more)) (slice_index (times_of spots)) (cause_of cs)) (sym (causes_more links more spots n))
+    (subst (λ (es : List Edge). IsSupported (lows_of spots) es (slice_index (times_of spots)) (cause_of (causes_of (edges_of links) spots))) (sym (edges_more links more))
     (record {
       stamp = s.stamp;
       next = s.next;
       early = s.early;
       root = s.root;
-      caused = λ v e h some. (let c = s.caused v e h some in record { in_list = Contains-append_left (edges_of links) (l.edge ∷ []) e c.in_list; to = c.to; from = c.from; at_most = c.at_most; tie = c.tie });
+      caused = λ v e h some. (let c = s.caused v e h some in record { in_list = Contains-append_left (edges_of links) (edges_of more) e c.in_list; to = c.to; from = c.from; at_most = c.at_most; tie = c.tie });
     }))
 
-pub numbered_longer : (links : List Link) (l : Link) (spots : List Spot) → AreNumbered links spots → AreNumbered (links ++ l ∷ []) spots
-numbered_longer links l spots n k d h = let a = n k d h in let len = length-append links (l ∷ []) in omega arith
+pub numbered_longer : (links more : List Link) (spots : List Spot) → AreNumbered links spots → AreNumbered (links ++ more) spots
+numbered_longer links more spots n k d h = let a = n k d h in let len = length-append links more in omega arith
 
-pub known_push : (links : List Link) (l : Link) (count : ℕ) → All (IsKnown count) (edges_of links) → IsKnown count l.edge → All (IsKnown count) (edges_of (links ++ l ∷ []))
-known_push links l count all k = subst (All (IsKnown count)) (sym (edges_push links l)) (All-push (IsKnown count) (edges_of links) l.edge all k)
+pub known_more : (links more : List Link) (count : ℕ) → All (IsKnown count) (edges_of links) → All (IsKnown count) (edges_of more) → All (IsKnown count) (edges_of (links ++ more))
+known_more links more count all k = subst (All (IsKnown count)) (sym (edges_more links more)) (All-append (IsKnown count) (edges_of links) (edges_of more) all k)
 
 pub within_of : (c : Core) → IsSound c → AreWithin c.caps (times_of c.spots)
 within_of c s i h = s.least.solution.below_cap i (let a = times_len c.spots in let b = lows_len c.spots in omega arith)
@@ -62,19 +62,18 @@ within_of c s i h = s.least.solution.below_cap i (let a = times_len c.spots in l
 pub kept_of : (edges : List Edge) (t : ℕ → ℕ) (flags : List Bool) → All (Keeps t) edges → AreKept edges t flags
 kept_of edges t flags all k e g f = All-at (Keeps t) edges k e all g
 
-pub kept_before : (links : List Link) (l : Link) (t : ℕ → ℕ) (flags : List Bool) (n : ℕ) → n ≡ length links + 1 → All (Keeps t) (edges_of links) → AreKept (take (n - 1) (edges_of (links ++ l ∷ []))) t flags
-kept_before links l t flags n is all =
-    let len = links_len links in
-    subst (λ (es : List Edge). AreKept es t flags) (sym (ap (take (n - 1)) (edges_push links l) ∙ take_at (edges_of links) (l.edge ∷ []) (n - 1) (omega arith))) (kept_of (edges_of links) t flags all)
+pub kept_before : (links : List Link) (l : Link) (t : ℕ → ℕ) (flags : List Bool) → All (Keeps t) (edges_of links) → AreKept (take (length links) (edges_of (links ++ l ∷ []))) t flags
+kept_before links l t flags all =
+    subst (λ (es : List Edge). AreKept es t flags) (sym (ap (take (length links)) (edges_more links (l ∷ [])) ∙ take_at (edges_of links) (l.edge ∷ []) (length links) (links_len links))) (kept_of (edges_of links) t flags all)
 
--- a solution with one edge more is one without it
-pub solution_less : (net : Net) (e : Edge) (y : ℕ → ℕ) → IsSolution (record { lows = net.lows; caps = net.caps; edges = net.edges ++ e ∷ [] }) y → IsSolution net y
-solution_less net e y s = record {
+-- a solution with more edges is one without them
+pub solution_less : (net : Net) (more : List Edge) (y : ℕ → ℕ) → IsSolution (with_edges net more) y → IsSolution net y
+solution_less net more y s = record {
   above_low = s.above_low;
   below_cap = s.below_cap;
   keeps = λ k d h. (
-      let l = length-append net.edges (e ∷ []) in
-      subst (Keeps y) (get_or_append_left net.edges (e ∷ []) d k h) (s.keeps k d (omega arith)));
+      let l = length-append net.edges more in
+      subst (Keeps y) (get_or_append_left net.edges more d k h) (s.keeps k d (omega arith)));
 }
 
 -- ---- after a change

@@ -12,4 +12,5 @@ pub mod Tracing
 pub mod Lifting
 pub mod Chains
 pub mod Working
+pub mod Adding
 pub mod Live

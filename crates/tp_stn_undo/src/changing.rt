@@ -1,10 +1,9 @@
 //! The live network as a network.
+use crate::adding::{add_edges, load_edges, push_point};
 use crate::lifting::lift;
-use crate::links::Link;
 use crate::live::LiveNet;
-use crate::saving::save_all;
-use crate::spots::Spot;
-use crate::spreading::{settle, spread};
+use crate::saving::save_changes;
+use crate::spreading::spread;
 use tp_base::{Edge, Full, Kept, Late, Network, PointId, Proof, Tick};
 
 impl Network for LiveNet {
@@ -44,20 +43,7 @@ impl Network for LiveNet {
             return Err(Full);
         }
         let number = self.spots.len() as u32;
-        let Ok(()) = self.spots.push(Spot {
-            low,
-            time: low,
-            cause: 0,
-        })
-        else {
-            unreachable!()
-        };
-        let Ok(()) = self.caps.push(cap) else {
-            unreachable!()
-        };
-        let Ok(()) = self.heads.push(0) else {
-            unreachable!()
-        };
+        push_point(low, cap, &mut self.spots, &mut self.caps, &mut self.heads);
         Ok(PointId(number))
     }
 
@@ -66,41 +52,69 @@ impl Network for LiveNet {
     }
 
     fn require(&mut self, edge: Edge) -> Result<(), Late> {
-        let from = edge.from.0 as usize;
-        let older = self.heads[from];
-        let Ok(()) = self.links.push(Link { edge, older }) else {
-            unreachable!()
-        };
-        let number = self.links.len() as u32;
-        self.heads[from] = number;
-        match settle(
+        self.require_all(&[edge])
+    }
+
+    fn require_all(&mut self, edges: &[Edge]) -> Result<(), Late> {
+        match add_edges(
+            edges,
             &self.caps,
-            &self.links,
-            &self.heads,
-            number,
+            &mut self.links,
+            &mut self.heads,
             &mut self.spots,
             &mut self.working,
         ) {
             Ok(()) => {
-                save_all(
-                    &mut self.saves.saved,
-                    &mut self.saves.since,
-                    &self.saves.marks,
-                    self.saves.points,
-                    self.working.changes.as_slice(),
-                );
-                self.working.changes.clear();
+                save_changes(&mut self.saves, &mut self.working.changes);
                 Ok(())
             }
             Err(kept) => {
-                self.working.waiting.clear();
-                self.working.changes.put_back(&mut self.spots);
-                self.heads[from] = older;
-                self.links.truncate(number as usize - 1);
                 self.kept = kept;
                 Err(Late)
             }
         }
+    }
+
+    fn extend(&mut self, low: Tick, cap: Tick, edges: &[Edge]) -> Result<(), Late> {
+        let count = self.spots.len();
+        if low > cap {
+            self.working.path.clear();
+            self.kept = Kept::Chain(PointId(count as u32));
+            return Err(Late);
+        }
+        push_point(low, cap, &mut self.spots, &mut self.caps, &mut self.heads);
+        match add_edges(
+            edges,
+            &self.caps,
+            &mut self.links,
+            &mut self.heads,
+            &mut self.spots,
+            &mut self.working,
+        ) {
+            Ok(()) => {
+                save_changes(&mut self.saves, &mut self.working.changes);
+                Ok(())
+            }
+            Err(kept) => {
+                self.spots.truncate(count);
+                self.caps.truncate(count);
+                self.heads.truncate(count);
+                self.kept = kept;
+                Err(Late)
+            }
+        }
+    }
+
+    fn load(&mut self, edges: &[Edge]) {
+        load_edges(
+            edges,
+            &self.caps,
+            &mut self.links,
+            &mut self.heads,
+            &mut self.spots,
+            &mut self.working,
+        );
+        save_changes(&mut self.saves, &mut self.working.changes);
     }
 
     fn raise(&mut self, point: PointId, low: Tick) -> Result<(), Late> {
@@ -126,14 +140,7 @@ impl Network for LiveNet {
             &mut self.working,
         ) {
             Ok(()) => {
-                save_all(
-                    &mut self.saves.saved,
-                    &mut self.saves.since,
-                    &self.saves.marks,
-                    self.saves.points,
-                    self.working.changes.as_slice(),
-                );
-                self.working.changes.clear();
+                save_changes(&mut self.saves, &mut self.working.changes);
                 Ok(())
             }
             Err(kept) => {

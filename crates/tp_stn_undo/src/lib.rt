@@ -1,6 +1,7 @@
 //! The live network: it keeps its least solution by a worklist, with a cause for each point.
 #![tactic(auto)]
 
+mod adding;
 mod bits;
 mod changes;
 mod changing;

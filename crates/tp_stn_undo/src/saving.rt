@@ -1,5 +1,5 @@
 //! Saving points once for each mark, and putting them back.
-ghost use Rattle.std.specs.Prelude.{◌≡◌, ◌≢◌, ℕ, ◌+◌, ◌*◌, ◌<◌, ◌≤◌, ◌^◌, List, length, take, drop, true, false, vec_capacity};
+ghost use Rattle.std.specs.Prelude.{◌≡◌, ◌≢◌, ℕ, ◌+◌, ◌*◌, ◌<◌, ◌≤◌, ◌^◌, List, [], length, take, drop, true, false, vec_capacity};
 ghost use Rattle.tp_stn_undo.specs.declared.spots.Spot.{Spot};
 ghost use Rattle.tp_stn_undo.specs.declared.links.Link.{Link};
 ghost use Rattle.tp_stn_undo.specs.declared.marks.LiveMark.{LiveMark};
@@ -10,7 +10,9 @@ ghost use Rattle.tp_stn_undo.specs.Stacks.{IsStack, CanSave, HasFlags};
 ghost use Rattle.tp_stn_undo.specs.Flags.{AreKnown};
 
 use crate::bits::Bits;
+use crate::changes::Changes;
 use crate::marks::LiveMark;
+use crate::saves::Saves;
 use crate::spots::{SavedSpot, Spot};
 
 /// Saves what a point was, where its flag is not set, and sets it.
@@ -34,7 +36,7 @@ fn save(saved: &mut Vec<SavedSpot>, since: &mut Bits, at: usize, entry: SavedSpo
 
 /// Saves what the points were before a change, where they were not saved since the newest mark. `since` has so many flags
 /// for each mark as there can be points.
-pub(crate) fn save_all(
+fn save_all(
     saved: &mut Vec<SavedSpot>,
     since: &mut Bits,
     marks: &[LiveMark],
@@ -62,6 +64,41 @@ pub(crate) fn save_all(
     'each: for entry in changed {
         save(saved, since, row + entry.point.0 as usize, *entry);
     }
+}
+
+/// Saves what the points were before a change, where they were not saved since the newest mark, and forgets the change.
+pub(crate) fn save_changes(saves: &mut Saves, changes: &mut Changes)
+    requires ready { CanSave saves.old.marks.items saves.old.saved.items
+        saves.old.since.words.items saves.old.points (vec_capacity saves.old.saved)
+        changes.old.entries }
+    ensures marks { saves.new.marks.items ≡ saves.old.marks.items }
+    ensures marks_room { vec_capacity saves.new.marks ≡ vec_capacity saves.old.marks }
+    ensures points { saves.new.points ≡ saves.old.points }
+    ensures stack { (count edges : ℕ) → AreKnown count changes.old.entries
+        → IsStack saves.old.marks.items saves.old.saved.items saves.old.since.words.items
+        count edges saves.old.points
+        → IsStack saves.old.marks.items saves.new.saved.items saves.new.since.words.items
+        count edges saves.old.points }
+    ensures past { (spots : List Spot) (caps : List ℕ) (links : List Link)
+        → AreKnown (length spots) changes.old.entries
+        → IsStack saves.old.marks.items saves.old.saved.items saves.old.since.words.items
+        (length spots) (length links) saves.old.points
+        → past_of saves.old.marks.items saves.new.saved.items spots caps links
+        ≡ past_of saves.old.marks.items saves.old.saved.items
+        (restored changes.old.entries spots) caps links }
+    ensures flags { length saves.new.since.words.items ≡ length saves.old.since.words.items }
+    ensures capacity { vec_capacity saves.new.saved ≡ vec_capacity saves.old.saved }
+    ensures none { changes.new.entries ≡ [] }
+    ensures room { changes.new.room ≡ changes.old.room }
+{
+    save_all(
+        &mut saves.saved,
+        &mut saves.since,
+        &saves.marks,
+        saves.points,
+        changes.as_slice(),
+    );
+    changes.clear();
 }
 
 /// Puts back what was saved after the first `to`, the last first, for the points that are still there. `row` is the place

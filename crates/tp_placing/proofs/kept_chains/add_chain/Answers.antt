@@ -1,7 +1,7 @@
 use Rattle.std.proofs.Common.{◌∙◌, ◌+◌, refl, sym, ap, arith, ◌++◌, length, append-nil}
 use Rattle.std.proofs.lemmas.List.{length-append, length_push}
 use Rattle.tp_timelines.specs.Orders.{order_on}
-use Rattle.tp_constraints.specs.Numbers.{with_edges}
+use Rattle.tp_base.specs.Net.{with_edges}
 use Rattle.tp_placing.specs.Loading.{chain_causes, holds_on}
 use Rattle.tp_placing.proofs.LoadEdges.{first-of, rest-of, whole-of, same-room}
 use Rattle.tp_placing.proofs.LoadChains.{two-read, edges-read, causes-read, cause-fits, none-left}

@@ -1,5 +1,5 @@
 use Rattle.std.proofs.Common.{◌≡◌, ◌-◌, ◌++◌, drop, length}
-use Rattle.tp_constraints.specs.Numbers.{with_edges}
+use Rattle.tp_base.specs.Net.{with_edges}
 use Rattle.tp_placing.specs.Loading.{AreAddable, chain_causes, chain_edges, holds_on}
 use Rattle.tp_placing.proofs.kept_chains.add_chain.Given as goal
 

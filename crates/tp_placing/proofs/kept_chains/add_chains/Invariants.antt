@@ -1,5 +1,5 @@
 use Rattle.std.proofs.Common.{◌≡◌, ◌≤◌, ◌++◌, length}
-use Rattle.tp_constraints.specs.Numbers.{with_edges}
+use Rattle.tp_base.specs.Net.{with_edges}
 use Rattle.tp_placing.specs.Loading.{AreAddable, chains_causes, chains_edges, holds_on}
 use Rattle.tp_placing.proofs.kept_chains.add_chains.Given as goal
 

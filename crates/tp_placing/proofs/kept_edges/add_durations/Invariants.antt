@@ -1,5 +1,5 @@
 use Rattle.std.proofs.Common.{◌≡◌, ◌+◌, drop}
-use Rattle.tp_constraints.specs.Numbers.{with_edges}
+use Rattle.tp_base.specs.Net.{with_edges}
 use Rattle.tp_placing.specs.Loading.{AreAddable, plans_edges, point_count}
 use Rattle.tp_placing.proofs.kept_edges.add_durations.Given as goal
 

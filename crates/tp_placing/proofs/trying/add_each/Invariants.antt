@@ -1,6 +1,5 @@
 use Rattle.std.proofs.Common.{◌≡◌, take}
-use Rattle.tp_base.specs.Net.{HasLeast}
-use Rattle.tp_constraints.specs.Numbers.{with_edges}
+use Rattle.tp_base.specs.Net.{HasLeast, with_edges}
 use Rattle.tp_placing.proofs.trying.add_each.Given as goal
 
 abbrev pub invariant-loop-edge : goal.invariant-loop-edge

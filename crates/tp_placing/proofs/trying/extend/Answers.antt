@@ -1,6 +1,5 @@
 use Rattle.std.proofs.Common.{subst, sym, OnErr}
-use Rattle.tp_base.specs.Net.{Net, HasNoSolution}
-use Rattle.tp_constraints.specs.Numbers.{with_edges}
+use Rattle.tp_base.specs.Net.{Net, HasNoSolution, with_edges}
 use Rattle.tp_placing.proofs.TryFacts.{late-fewer, no-edges}
 use Rattle.tp_placing.proofs.trying.extend.Goals as goal
 

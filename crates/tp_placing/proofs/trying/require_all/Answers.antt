@@ -1,7 +1,6 @@
 use Rattle.std.proofs.Common.{◌∙◌, sym, ap, subst}
-use Rattle.tp_base.specs.Net.{HasLeast, HasNoSolution}
+use Rattle.tp_base.specs.Net.{HasLeast, HasNoSolution, with_edges}
 use Rattle.tp_base.proofs.MarkFacts.{last_mark}
-use Rattle.tp_constraints.specs.Numbers.{with_edges}
 use Rattle.tp_placing.proofs.TryFacts.{not-late}
 use Rattle.tp_placing.proofs.trying.require_all.Goals as goal
 

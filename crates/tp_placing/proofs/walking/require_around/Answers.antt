@@ -1,8 +1,7 @@
 use Rattle.std.proofs.Common.{◌≡◌, ◌++◌, ◌+◌, length, take, ap, sym, ◌∙◌, subst, arith}
 use Rattle.std.proofs.lemmas.List.{take_all}
 use Rattle.std.proofs.Math.Seq.{take-append_seam}
-use Rattle.tp_base.specs.Net.{HasNoSolution}
-use Rattle.tp_constraints.specs.Numbers.{with_edges}
+use Rattle.tp_base.specs.Net.{HasNoSolution, with_edges}
 use Rattle.tp_placing.specs.Edges.{edge_after, edge_until}
 use Rattle.tp_placing.proofs.TryFacts.{edges-twice, late-fewer}
 use Rattle.tp_placing.proofs.walking.require_around.Goals as goal

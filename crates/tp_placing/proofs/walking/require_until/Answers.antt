@@ -1,6 +1,5 @@
 use Rattle.std.proofs.Common.{◌≡◌, [], ◌∷◌, ap, sym, ◌∙◌, subst}
-use Rattle.tp_base.specs.Net.{HasNoSolution}
-use Rattle.tp_constraints.specs.Numbers.{with_edges}
+use Rattle.tp_base.specs.Net.{HasNoSolution, with_edges}
 use Rattle.tp_placing.specs.Edges.{edge_until}
 use Rattle.tp_placing.proofs.walking.require_until.Goals as goal
 

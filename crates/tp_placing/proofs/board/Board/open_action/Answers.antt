@@ -3,12 +3,12 @@ use Rattle.std.specs.List.{slice_get}
 use Rattle.std.proofs.lemmas.Option.{slice_get_read}
 use Rattle.std.proofs.lemmas.List.{length-append}
 use Rattle.tp_base.specs.declared.edges.Edge.{Edge}
-use Rattle.tp_base.specs.Net.{Net, HasNoSolution, HasLeast, with_point}
+use Rattle.tp_base.specs.Net.{Net, HasNoSolution, HasLeast, with_point, with_edges}
 use Rattle.tp_machine.specs.Using.{action_at}
 use Rattle.tp_machine.specs.declared.parts.Action.{Action}
 use Rattle.tp_schedule.specs.Answers.{kept_of}
 use Rattle.tp_schedule.specs.Choices.{start_floor}
-use Rattle.tp_constraints.specs.Numbers.{table_of, with_edges}
+use Rattle.tp_constraints.specs.Numbers.{table_of}
 use Rattle.tp_constraints.specs.Suffixes.{Suffix, with_action}
 use Rattle.tp_placing.specs.declared.parts.Change.TheVariants.{Action as ActionOpened}
 use Rattle.tp_placing.specs.declared.parts.Step.{Step}

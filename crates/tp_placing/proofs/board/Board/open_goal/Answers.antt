@@ -1,12 +1,11 @@
 use Rattle.std.proofs.Common.{arith, sym, refl, ap, ◌∙◌, subst, ◌≡◌, ℕ, ◌+◌, min, length, Some, None, List, ◌++◌, ◌∷◌, []}
 use Rattle.std.proofs.lemmas.List.{length-append}
 use Rattle.tp_base.specs.declared.edges.Edge.{Edge}
-use Rattle.tp_base.specs.Net.{Net, HasNoSolution, HasLeast, with_point}
+use Rattle.tp_base.specs.Net.{Net, HasNoSolution, HasLeast, with_point, with_edges}
 use Rattle.tp_machine.specs.declared.whole.Machine.{Machine}
 use Rattle.tp_schedule.specs.Choices.{start_floor}
 use Rattle.tp_base.specs.declared.edges.PointId.{PointId}
 use Rattle.tp_schedule.specs.declared.parts.Plan.{Plan}
-use Rattle.tp_constraints.specs.Numbers.{with_edges}
 use Rattle.tp_constraints.specs.Suffixes.{with_goal}
 use Rattle.tp_placing.specs.declared.parts.Change.TheVariants.{Goal}
 use Rattle.tp_placing.specs.declared.parts.Step.{Step}

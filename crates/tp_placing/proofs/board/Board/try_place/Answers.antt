@@ -4,7 +4,7 @@ use Rattle.std.specs.Prelude.{slice_set}
 use Rattle.std.proofs.lemmas.Option.{slice_get_read, slice_get_within, same_Some}
 use Rattle.std.proofs.lemmas.List.{length-append, length-set}
 use Rattle.tp_base.specs.declared.edges.Edge.{Edge}
-use Rattle.tp_base.specs.Net.{Net, HasNoSolution, HasLeast}
+use Rattle.tp_base.specs.Net.{Net, HasNoSolution, HasLeast, with_edges}
 use Rattle.tp_machine.specs.Modes.{gap_at}
 use Rattle.tp_machine.specs.declared.parts.ActId.{ActId}
 use Rattle.tp_machine.specs.declared.parts.Action.{Action}
@@ -13,7 +13,6 @@ use Rattle.tp_constraints.proofs.Lists.{contains-get}
 use Rattle.tp_machine.proofs.MachineFacts.{is_machine}
 use Rattle.tp_schedule.specs.Answers.{kept_of}
 use Rattle.tp_timelines.specs.Orders.{order_on}
-use Rattle.tp_constraints.specs.Numbers.{with_edges}
 use Rattle.tp_constraints.specs.Suffixes.{Suffix, SuffixTimes, with_place}
 use Rattle.tp_schedule.specs.Spots.{Ticks}
 use Rattle.tp_placing.specs.declared.parts.Change.TheVariants.{Place}

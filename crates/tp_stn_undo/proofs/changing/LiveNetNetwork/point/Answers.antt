@@ -11,43 +11,43 @@ use Rattle.tp_stn_undo.proofs.LinkedFacts.{links_pointed}
 use Rattle.tp_stn_undo.proofs.PastFacts.{past_point}
 use Rattle.tp_stn_undo.proofs.SoundFacts.{sound_pushed}
 use Rattle.tp_stn_undo.proofs.changing.LiveNetNetwork.point.Goals as goal
-use Rattle.tp_stn_undo.proofs.changing.LiveNetNetwork.point.Goals.{In-Ok-push-2}
+use Rattle.tp_stn_undo.proofs.changing.LiveNetNetwork.point.Goals.{After-push_point}
 
-sound : (c : In-Ok-push-2) → IsSound (record { spots = c.push.new.self.items; caps = c.push-2.new.self.items; links = c.self.inside.links.items })
+sound : (c : After-push_point) → IsSound (record { spots = c.push_point.new.spots.items; caps = c.push_point.new.caps.items; links = c.self.inside.links.items })
 sound c =
     let a = c.self.inside in
-    rw (c.in-Ok.ensures.items, c.in-Ok-push.ensures.items) (sound_pushed a.spots.items a.caps.items a.links.items c.args.low c.args.cap c.self.invariant.sound c.requires)
+    rw (c.push_point.ensures.spots, c.push_point.ensures.caps) (sound_pushed a.spots.items a.caps.items a.links.items c.args.low c.args.cap c.self.invariant.sound c.requires)
 
 pub returns-clause-solved : goal.returns-clause-solved
-returns-clause-solved c = (slice_index (times_of c.push.new.self.items), (sound (goal.at.returns-clause-solved c).In-Ok-push-2).least)
+returns-clause-solved c = (slice_index (times_of c.push_point.new.spots.items), (sound (goal.at.returns-clause-solved c).After-push_point).least)
 
-past_is : (c : In-Ok-push-2) → past_of c.self.inside.saves.marks.items c.self.inside.saves.saved.items c.push.new.self.items c.push-2.new.self.items c.self.inside.links.items ≡ past_of c.self.inside.saves.marks.items c.self.inside.saves.saved.items c.self.inside.spots.items c.self.inside.caps.items c.self.inside.links.items
+past_is : (c : After-push_point) → past_of c.self.inside.saves.marks.items c.self.inside.saves.saved.items c.push_point.new.spots.items c.push_point.new.caps.items c.self.inside.links.items ≡ past_of c.self.inside.saves.marks.items c.self.inside.saves.saved.items c.self.inside.spots.items c.self.inside.caps.items c.self.inside.links.items
 past_is c =
     let a = c.self.inside in
     let inv = c.self.invariant in
     let s : Spot = record { low = c.args.low; time = c.args.low; cause = 0 } in
-    ap (λ ls. past_of a.saves.marks.items a.saves.saved.items ls c.push-2.new.self.items a.links.items) c.in-Ok.ensures.items
-    ∙ ap (λ cs. past_of a.saves.marks.items a.saves.saved.items (a.spots.items ++ s ∷ []) cs a.links.items) c.in-Ok-push.ensures.items
+    ap (λ ls. past_of a.saves.marks.items a.saves.saved.items ls c.push_point.new.caps.items a.links.items) c.push_point.ensures.spots
+    ∙ ap (λ cs. past_of a.saves.marks.items a.saves.saved.items (a.spots.items ++ s ∷ []) cs a.links.items) c.push_point.ensures.caps
     ∙ past_point a.saves.marks.items a.saves.saved.items a.spots.items a.caps.items a.links.items a.saves.points inv.stacked s c.args.cap inv.sound.caps
 
 pub returns-clause-past : goal.returns-clause-past
-returns-clause-past c = ap nets_of (past_is (goal.at.returns-clause-past c).In-Ok-push-2) ∙ ap (λ (s : LiveState). s.past) c.self.view_is
+returns-clause-past c = ap nets_of (past_is (goal.at.returns-clause-past c).After-push_point) ∙ ap (λ (s : LiveState). s.past) c.self.view_is
 
 pub invariant_of-self : goal.invariant_of-self
 invariant_of-self c =
-    let k = (goal.at.invariant_of-self c).In-Ok-push-2 in
+    let k = (goal.at.invariant_of-self c).After-push_point in
     let inv = c.self.invariant in
     let a = c.self.inside in
     let s : Spot = record { low = c.args.low; time = c.args.low; cause = 0 } in
-    let el = c.in-Ok.ensures.items in
+    let el = c.push_point.ensures.spots in
     let nl = ap length el ∙ length-append a.spots.items (s ∷ []) in
     let p = inv.points in
     let full = c.if-len-self.false in
     let len = c.len.ensures in
     let ok = a.spots.ok.0 in
-    let k1 = c.in-Ok.ensures.capacity in
-    let k2 = c.in-Ok-push.ensures.capacity in
-    let k3 = c.in-Ok-push-2.ensures.capacity in
+    let k1 = c.push_point.ensures.spots_kept in
+    let k2 = c.push_point.ensures.caps_kept in
+    let k3 = c.push_point.ensures.heads_kept in
     let r1 = inv.room.spots in
     let r2 = inv.room.caps in
     let r3 = inv.room.heads in
@@ -72,7 +72,7 @@ invariant_of-self c =
       stacked = stacked_grown a.saves.marks.items _ _ _ _ _ _ _ (omega arith) (omega arith) (omega arith) inv.stacked;
       kept = rw nl (saved_pointed a.saves.marks.items a.saves.saved.items (length a.spots.items) inv.kept);
       flagged = inv.flagged;
-      linked = rw (c.in-Ok-push-2.ensures.items, nl) (links_pointed a.links.items a.heads.items (length a.spots.items) inv.sound.known inv.linked);
+      linked = rw (c.push_point.ensures.heads, nl) (links_pointed a.links.items a.heads.items (length a.spots.items) inv.sound.known inv.linked);
       sound = sound k;
       past = subst (All IsSound) (sym (past_is k)) inv.past;
     }

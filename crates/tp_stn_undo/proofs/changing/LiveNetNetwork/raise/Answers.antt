@@ -1,6 +1,7 @@
 use Rattle.std.proofs.Common.{arith, ◌≡◌, ℕ, ◌<◌, ◌≤◌, List, [], ◌++◌, length, ap, subst, sym, refl, ◌∙◌, slice_index, take, drop}
 use Rattle.std.proofs.lemmas.List.{get_or_read}
-use Rattle.std.specs.List.{All}
+use Rattle.std.specs.Vec.{with_items}
+use Rattle.tp_stn_undo.specs.declared.live.LiveNet.TheInside.{Inside}
 use Rattle.tp_base.specs.Net.{HasNoSolution, with_low}
 use Rattle.tp_base.specs.Refute.{IsLateChain}
 use Rattle.tp_base.specs.Grows.{AreWithin}
@@ -14,15 +15,16 @@ use Rattle.tp_stn_undo.specs.Flags.{AreKnown}
 use Rattle.tp_stn_undo.specs.Live.{core_in}
 use Rattle.tp_stn_undo.specs.Marks.{past_of, nets_of}
 use Rattle.tp_stn_undo.specs.Saved.{restored}
+use Rattle.tp_stn_undo.specs.Stacks.{IsStack}
 use Rattle.tp_stn_undo.specs.Lifting.{Lifts}
 use Rattle.tp_stn_undo.specs.Spreading.{LeadsBack}
 use Rattle.tp_stn_undo.specs.LiveState.{LiveState}
 use Rattle.tp_stn_undo.proofs.RaiseFacts.{times_len, lows_len}
-use Rattle.tp_stn_undo.proofs.UndoFacts.{same_past}
 use Rattle.tp_stn_undo.proofs.SoundFacts.{within_of, kept_of}
-use Rattle.tp_stn_undo.proofs.ChangeFacts.{can_save, stack_of, live_of, sound_lift}
+use Rattle.tp_stn_undo.proofs.ChangeFacts.{can_save, stack_of, sound_lift}
+use Rattle.tp_stn_undo.proofs.ChangedFacts.{IsChanged, HoldsTogether, as_it_was, changed_live, changed_past}
 use Rattle.tp_stn_undo.proofs.changing.LiveNetNetwork.raise.Goals as goal
-use Rattle.tp_stn_undo.proofs.changing.LiveNetNetwork.raise.Goals.{After-lift, After-clear-in-Ok}
+use Rattle.tp_stn_undo.proofs.changing.LiveNetNetwork.raise.Goals.{After-lift, After-save_changes}
 
 known : (c : After-lift) → c.args.point.0 < length c.self.inside.spots.items
 known c = let v = ap (λ (s : LiveState). length s.net.lows) c.self.view_is in let n = lows_len c.self.inside.spots.items in let k = c.requires.known in omega arith
@@ -84,22 +86,22 @@ noted c = (rw c.deref_mut.ensures.value at c.lift.ensures.known) (λ k d h. absu
 changed : (c : After-lift) (spots' : List Spot) (entries' : List SavedSpot) → LeadsBack c.self.inside.links.items c.lift.new.spots spots' c.lift.new.changes.entries entries' → AreKnown (length c.self.inside.spots.items) entries'
 changed c spots' entries' b = subst (λ n. AreKnown n entries') (lifts c).len (b.known (subst (λ n. AreKnown n c.lift.new.changes.entries) (sym (lifts c).len) (noted c)))
 
-pub save_all-requires : goal.save_all-requires
-save_all-requires c =
-    let k = (goal.at.save_all-requires c).After-lift in
+pub save_changes-requires : goal.save_changes-requires
+save_changes-requires c =
+    let k = (goal.at.save_changes-requires c).After-lift in
     let b : LeadsBack c.self.inside.links.items c.lift.new.spots c.spread.new.spots c.lift.new.changes.entries c.spread.new.working.changes.entries = rw (c.deref-2.ensures.value, c.deref_mut-2.ensures.value ∙ lifted k) at c.spread.ensures.back in
-    rw (c.deref-in-Ok.ensures.value, c.as_slice.ensures) (record { ready = can_save c.self.inside c.self.invariant c.spread.new.working.changes.entries (changed k _ _ b) })
+    record { ready = can_save c.self.inside c.self.invariant c.spread.new.working.changes.entries (changed k _ _ b) }
 
-back : (c : After-clear-in-Ok) → LeadsBack c.self.inside.links.items c.lift.new.spots c.spread.new.spots c.lift.new.changes.entries c.spread.new.working.changes.entries
+back : (c : After-save_changes) → LeadsBack c.self.inside.links.items c.lift.new.spots c.spread.new.spots c.lift.new.changes.entries c.spread.new.working.changes.entries
 back c = rw (c.deref-2.ensures.value, c.deref_mut-2.ensures.value ∙ lifted (goal.at.invariant_of-self-in-Ok c).After-lift) at c.spread.ensures.back
 
 before : (c : After-lift) → restored c.lift.new.changes.entries c.lift.new.spots ≡ c.self.inside.spots.items
 before c = (rw c.deref_mut.ensures.value at c.lift.ensures.back) ∙ ap (λ (es : List SavedSpot). restored es c.self.inside.spots.items) c.self.invariant.rest.unchanged
 
-same_spots : (c : After-clear-in-Ok) → take c.self.inside.spots.len (c.spread.new.spots ++ drop (length c.spread.new.spots) (take c.self.inside.spots.len (c.lift.new.spots ++ drop (length c.lift.new.spots) c.self.inside.spots.items))) ≡ c.spread.new.spots
+same_spots : (c : After-save_changes) → take c.self.inside.spots.len (c.spread.new.spots ++ drop (length c.spread.new.spots) (take c.self.inside.spots.len (c.lift.new.spots ++ drop (length c.lift.new.spots) c.self.inside.spots.items))) ≡ c.spread.new.spots
 same_spots c = mut_items c.self.inside.spots.len c.spread.new.spots _ ((back c).len ∙ lift_len (goal.at.invariant_of-self-in-Ok c).After-lift)
 
-sound : (c : After-clear-in-Ok) → IsSound (record { spots = c.spread.new.spots; caps = c.self.inside.caps.items; links = c.self.inside.links.items })
+sound : (c : After-save_changes) → IsSound (record { spots = c.spread.new.spots; caps = c.self.inside.caps.items; links = c.self.inside.links.items })
 sound c =
     let k = (goal.at.invariant_of-self-in-Ok c).After-lift in
     let a = c.self.inside in
@@ -108,68 +110,70 @@ sound c =
     (rw c.deref.ensures.value at c.spread.ensures.below)
     (rw c.deref-2.ensures.value at c.in-Ok.ensures.kept)
 
-past_is : (c : After-clear-in-Ok) → past_of c.self.inside.saves.marks.items c.save_all.new.saved.items c.spread.new.spots c.self.inside.caps.items c.self.inside.links.items ≡ past_of c.self.inside.saves.marks.items c.self.inside.saves.saved.items c.self.inside.spots.items c.self.inside.caps.items c.self.inside.links.items
-past_is c =
+holds : (c : After-save_changes) → HoldsTogether c.self.inside c.spread.new.spots c.self.inside.caps.items c.self.inside.links.items c.self.inside.heads.items c.save_changes.new.saves.saved.items c.save_changes.new.saves.since.words.items
+holds c =
     let k = (goal.at.invariant_of-self-in-Ok c).After-lift in
     let a = c.self.inside in
     let inv = c.self.invariant in
     let b = back c in
-    let past = rw (c.deref-in-Ok.ensures.value, c.as_slice.ensures) at c.save_all.ensures.past in
     let n : length c.spread.new.spots ≡ length a.spots.items = b.len ∙ (lifts k).len in
-    past c.spread.new.spots a.caps.items a.links.items (rw n (changed k _ _ b)) (rw n (stack_of a inv (length a.links.items) (omega arith)))
-    ∙ ap (λ (ss : List Spot). past_of a.saves.marks.items a.saves.saved.items ss a.caps.items a.links.items) (b.back ∙ before k)
+    let known : AreKnown (length c.spread.new.spots) c.spread.new.working.changes.entries = rw n (changed k _ _ b) in
+    let base : IsStack a.saves.marks.items a.saves.saved.items a.saves.since.words.items (length c.spread.new.spots) (length a.links.items) a.saves.points = rw n (stack_of a inv (length a.links.items) (omega arith)) in
+    let p = inv.points in
+    record {
+      points = omega arith;
+      edges = inv.edges;
+      stack = c.save_changes.ensures.stack (length c.spread.new.spots) (length a.links.items) known base;
+      past = c.save_changes.ensures.past c.spread.new.spots a.caps.items a.links.items known base ∙ ap (λ (ss : List Spot). past_of a.saves.marks.items a.saves.saved.items ss a.caps.items a.links.items) (b.back ∙ before k);
+      linked = rw n inv.linked;
+      sound = sound c;
+    }
+
+abbrev after : After-save_changes → Inside
+after c = record {
+  edge_room = c.self.inside.edge_room;
+  mark_room = c.self.inside.mark_room;
+  spots = with_items (with_items c.self.inside.spots c.lift.new.spots) c.spread.new.spots;
+  caps = c.self.inside.caps;
+  links = c.self.inside.links;
+  heads = c.self.inside.heads;
+  working = record { waiting = c.spread.new.working.waiting; changes = c.save_changes.new.changes; path = c.spread.new.working.path; places = c.spread.new.working.places };
+  kept = c.self.inside.kept;
+  saves = c.save_changes.new.saves;
+}
+
+changed_to : (c : After-save_changes) → IsChanged c.self.inside (after c) c.spread.new.spots c.self.inside.caps.items c.self.inside.links.items c.self.inside.heads.items
+changed_to c =
+    let e = c.spread.ensures in
+    let s = c.save_changes.ensures in
+    record {
+      spots = same_spots c;
+      caps = refl;
+      links = refl;
+      heads = refl;
+      marks = s.marks;
+      points_same = s.points;
+      edges_same = refl;
+      marks_same = refl;
+      spots_room = refl;
+      caps_room = refl;
+      links_room = refl;
+      heads_room = refl;
+      saved_room = s.capacity;
+      marks_room = s.marks_room;
+      flags_room = s.flags;
+      sizes = record { waits = e.sizes.waits ∙ c.lift.ensures.waits; noted = s.room ∙ e.sizes.noted ∙ c.lift.ensures.room; path = e.sizes.path; places = e.sizes.places };
+      rest = record { idle = c.in-Ok.ensures.idle; none = c.in-Ok.ensures.none; unchanged = s.none; zeros = e.zeros };
+    }
 
 pub invariant_of-self-in-Ok : goal.invariant_of-self-in-Ok
-invariant_of-self-in-Ok c =
-    let k = (goal.at.invariant_of-self-in-Ok c).After-lift in
-    let a = c.self.inside in
-    let inv = c.self.invariant in
-    let bl = (back c).len ∙ (lifts k).len in
-    let stack = rw (c.deref-in-Ok.ensures.value, c.as_slice.ensures) at c.save_all.ensures.stack in
-    let p = inv.points in
-    let cap2 = c.spread.ensures.sizes.path in
-    let r2 = inv.room.working.path in
-    let cap3 = c.save_all.ensures.capacity in
-    let r3 = inv.room.saved in
-    let w0 = c.lift.ensures.waits in
-    let w1 = c.spread.ensures.sizes.waits in
-    let w2 = inv.room.working.waits in
-    let m0 = c.lift.ensures.room in
-    let m1 = c.spread.ensures.sizes.noted in
-    let m2 = c.clear-in-Ok.ensures.room in
-    let m3 = inv.room.working.noted in
-    let pl = inv.room.working.places in
-    let np = c.spread.ensures.sizes.places in
-    live_of _ c.spread.new.spots a.links.items a.heads.items c.save_all.new.saved.items
-    (same_spots c) refl refl
-    refl
-    (omega arith) inv.edges inv.marks
-    (record {
-      spots = inv.room.spots;
-      caps = inv.room.caps;
-      links = inv.room.links;
-      heads = inv.room.heads;
-      working = record { waits = omega arith; noted = omega arith; path = omega arith; places = omega arith };
-      saved = omega arith;
-      flags = omega (arith, inv.room.flags, c.save_all.ensures.flags);
-      marks = inv.room.marks;
-      small = inv.room.small;
-      narrow = inv.room.narrow;
-    })
-    (record {
-      idle = c.in-Ok.ensures.idle;
-      none = c.in-Ok.ensures.none;
-      unchanged = c.clear-in-Ok.ensures.entries;
-      zeros = c.spread.ensures.zeros;
-    })
-    (stack (length c.spread.new.spots) (length a.links.items) (rw bl (changed k _ _ (back c))) (rw bl (stack_of a inv (length a.links.items) (omega arith))))
-    (rw bl inv.linked) (sound c) (subst (All IsSound) (sym (past_is c)) inv.past)
+invariant_of-self-in-Ok c = changed_live c.self.inside c.self.invariant (after c) c.spread.new.spots c.self.inside.caps.items c.self.inside.links.items c.self.inside.heads.items (changed_to c) (holds c)
 
 pub returns-in-Ok-clause-solved : goal.returns-in-Ok-clause-solved
 returns-in-Ok-clause-solved c = (_, (invariant_of-self-in-Ok c).sound.least)
 
 pub returns-in-Ok-clause-past : goal.returns-in-Ok-clause-past
-returns-in-Ok-clause-past c = ap nets_of (same_past _ _ _ _ _ _ _ _ _ _ refl refl (same_spots c) refl refl ∙ past_is c) ∙ ap (λ (s : LiveState). s.past) c.self.view_is
+returns-in-Ok-clause-past c = ap nets_of (changed_past c.self.inside c.self.invariant (after c) c.spread.new.spots c.self.inside.caps.items c.self.inside.links.items c.self.inside.heads.items (changed_to c) (holds c)) ∙ ap (λ (s : LiveState). s.past) c.self.view_is
 
 pub invariant_of-self-in-Err : goal.invariant_of-self-in-Err
 invariant_of-self-in-Err c =
@@ -181,40 +185,28 @@ invariant_of-self-in-Err c =
     let again : take c.self.inside.spots.len (c.put_back.new.spots ++ drop (length c.put_back.new.spots) (take c.self.inside.spots.len (c.spread.new.spots ++ drop (length c.spread.new.spots) (take c.self.inside.spots.len (c.lift.new.spots ++ drop (length c.lift.new.spots) c.self.inside.spots.items))))) ≡ c.self.inside.spots.items =
     mut_items a.spots.len c.put_back.new.spots _ (c.put_back.auto.spots ∙ ap length v ∙ b.len ∙ lift_len k)
     ∙ c.put_back.ensures.spots ∙ ap (restored c.spread.new.working.changes.entries) v ∙ b.back ∙ before k in
-    let cap2 = c.spread.ensures.sizes.path in
-    let r2 = inv.room.working.path in
-    let w = c.clear-in-Err.ensures.len in
-    let w0 = c.lift.ensures.waits in
-    let w1 = c.spread.ensures.sizes.waits in
-    let w2 = inv.room.working.waits in
-    let m0 = c.lift.ensures.room in
-    let m1 = c.spread.ensures.sizes.noted in
-    let m2 = c.put_back.ensures.room in
-    let m3 = inv.room.working.noted in
-    let pl = inv.room.working.places in
-    let np = c.spread.ensures.sizes.places in
-    live_of _ a.spots.items a.links.items a.heads.items a.saves.saved.items
-    again refl refl refl
-    inv.points inv.edges inv.marks
+    let e = c.spread.ensures in
+    changed_live a inv _ a.spots.items a.caps.items a.links.items a.heads.items
     (record {
-      spots = inv.room.spots;
-      caps = inv.room.caps;
-      links = inv.room.links;
-      heads = inv.room.heads;
-      working = record { waits = omega arith; noted = omega arith; path = omega arith; places = omega arith };
-      saved = inv.room.saved;
-      flags = inv.room.flags;
-      marks = inv.room.marks;
-      small = inv.room.small;
-      narrow = inv.room.narrow;
+      spots = again;
+      caps = refl;
+      links = refl;
+      heads = refl;
+      marks = refl;
+      points_same = refl;
+      edges_same = refl;
+      marks_same = refl;
+      spots_room = refl;
+      caps_room = refl;
+      links_room = refl;
+      heads_room = refl;
+      saved_room = refl;
+      marks_room = refl;
+      flags_room = refl;
+      sizes = record { waits = c.clear-in-Err.ensures.len ∙ e.sizes.waits ∙ c.lift.ensures.waits; noted = c.put_back.ensures.room ∙ e.sizes.noted ∙ c.lift.ensures.room; path = e.sizes.path; places = e.sizes.places };
+      rest = record { idle = c.clear-in-Err.ensures.idle; none = c.clear-in-Err.ensures.none; unchanged = c.put_back.ensures.entries; zeros = e.zeros };
     })
-    (record {
-      idle = c.clear-in-Err.ensures.idle;
-      none = c.clear-in-Err.ensures.none;
-      unchanged = c.put_back.ensures.entries;
-      zeros = c.spread.ensures.zeros;
-    })
-    (stack_of a inv (length a.links.items) (omega arith)) inv.linked inv.sound inv.past
+    (as_it_was a inv)
 
 pub returns-in-Err-clause-late : goal.returns-in-Err-clause-late
 returns-in-Err-clause-late c =

@@ -1,6 +1,6 @@
-use Rattle.std.proofs.Common.{arith, ◌≡◌, ◌-◌, [], ◌∷◌, ◌++◌, length, ap, subst, sym, ◌∙◌, slice_index, vec_capacity, take}
+use Rattle.std.proofs.Common.{arith, ◌≡◌, ◌++◌, length, ap, subst, sym, ◌∙◌, slice_index, vec_capacity, take}
 use Rattle.std.proofs.lemmas.List.{length-append, take_at}
-use Rattle.std.proofs.lemmas.List.Elements.{All-push}
+use Rattle.std.proofs.lemmas.List.Elements.{All-append}
 use Rattle.std.specs.List.{All}
 use Rattle.tp_base.specs.Grows.{IsKnown}
 use Rattle.tp_stn_core.specs.Marks.{past_of}
@@ -8,16 +8,14 @@ use Rattle.tp_stn_core.specs.Sound.{IsSound}
 use Rattle.tp_stn_core.specs.PlainState.{PlainState}
 use Rattle.tp_stn_core.proofs.StackFacts.{stacked_grown}
 use Rattle.tp_stn_core.proofs.PastFacts.{past_edge}
-use Rattle.tp_stn_core.proofs.changing.PlainNetNetwork.require.Goals as goal
-use Rattle.tp_stn_core.proofs.changing.PlainNetNetwork.require.Goals.{In-Ok}
+use Rattle.tp_stn_core.proofs.changing.PlainNetNetwork.require_all.Goals as goal
+use Rattle.tp_stn_core.proofs.changing.PlainNetNetwork.require_all.Goals.{In-Ok}
 
-known : (c : In-Ok) → All (IsKnown (length c.self.inside.lows.items)) c.push.new.self.items
+known : (c : In-Ok) → All (IsKnown (length c.self.inside.lows.items)) c.extend_from_slice.new.self.items
 known c =
     let a = c.self.inside in
     let p = ap (λ (s : PlainState). length s.net.lows) c.self.view_is in
-    let from = c.requires.from in
-    let to = c.requires.to in
-    rw c.in-Ok.ensures.items (All-push (IsKnown (length a.lows.items)) a.edges.items c.args.edge c.self.invariant.sound.known (record { from = omega arith; to = omega arith; least = c.requires.least; most = c.requires.most }))
+    rw c.in-Ok.ensures.items (All-append (IsKnown (length a.lows.items)) a.edges.items c.args.edges.now c.self.invariant.sound.known (subst (λ n. All (IsKnown n) c.args.edges.now) (sym p) c.requires.known))
 
 pub solve-requires-clause-known : goal.solve-requires-clause-known
 solve-requires-clause-known k =
@@ -27,8 +25,8 @@ pub invariant_of-self : goal.invariant_of-self
 invariant_of-self k =
     let inv = k.self.invariant in
     let a = k.self.inside in
-    let e : k.push.new.self.items ≡ a.edges.items ++ k.args.edge ∷ [] = k.in-Ok.ensures.items in
-    let n = ap length e ∙ length-append a.edges.items (k.args.edge ∷ []) in
+    let e : k.extend_from_slice.new.self.items ≡ a.edges.items ++ k.args.edges.now = k.in-Ok.ensures.items in
+    let n = ap length e ∙ length-append a.edges.items k.args.edges.now in
     let v = ap (λ (s : PlainState). length s.net.edges) k.self.view_is in
     let r = ap (λ (s : PlainState). s.edge_room) k.self.view_is in
     let q = k.requires.spare in
@@ -67,13 +65,13 @@ invariant_of-self k =
       };
       times = ap (λ v. length v.items) x ∙ k.in-Ok-solve.ensures.len ∙ ap length k.deref.ensures.value;
       least = rw x least;
-      past = subst (All IsSound) (sym (ap (past_of a.marks.items a.saved.items a.lows.items a.caps.items) e ∙ past_edge a.marks.items a.saved.items a.lows.items a.caps.items a.edges.items a.point_room inv.stacked (k.args.edge ∷ []))) inv.past;
+      past = subst (All IsSound) (sym (ap (past_of a.marks.items a.saved.items a.lows.items a.caps.items) e ∙ past_edge a.marks.items a.saved.items a.lows.items a.caps.items a.edges.items a.point_room inv.stacked k.args.edges.now)) inv.past;
     }
 
 pub returns-in-Ok-solve-clause-past : goal.returns-in-Ok-solve-clause-past
 returns-in-Ok-solve-clause-past c =
     let a = c.self.inside in
-    ap (past_of a.marks.items a.saved.items a.lows.items a.caps.items) c.in-Ok.ensures.items ∙ past_edge a.marks.items a.saved.items a.lows.items a.caps.items a.edges.items a.point_room c.self.invariant.stacked (c.args.edge ∷ []) ∙ ap (λ (s : PlainState). s.past) c.self.view_is
+    ap (past_of a.marks.items a.saved.items a.lows.items a.caps.items) c.in-Ok.ensures.items ∙ past_edge a.marks.items a.saved.items a.lows.items a.caps.items a.edges.items a.point_room c.self.invariant.stacked c.args.edges.now ∙ ap (λ (s : PlainState). s.past) c.self.view_is
 
 pub returns-in-Err-clause-late : goal.returns-in-Err-clause-late
 returns-in-Err-clause-late c =
@@ -84,12 +82,9 @@ pub invariant_of-self-in-Err : goal.invariant_of-self-in-Err
 invariant_of-self-in-Err c =
     let inv = c.self.invariant in
     let a = c.self.inside in
-    let l1 = c.len-count.ensures in
-    let l2 = c.in-Ok.ensures.len in
-    let l3 = a.edges.ok.0 in
-    let k : length a.edges.items ≡ c.len-count.result - 1 = omega arith in
+    let k : length a.edges.items ≡ c.len-count.result = omega (arith, c.len-count.ensures, a.edges.ok.0) in
     let e : c.truncate.new.self.items ≡ a.edges.items =
-    c.truncate.ensures.items ∙ ap (take (c.len-count.result - 1)) c.in-Ok.ensures.items ∙ take_at a.edges.items (c.args.edge ∷ []) (c.len-count.result - 1) k in
+    c.truncate.ensures.items ∙ ap (take c.len-count.result) c.in-Ok.ensures.items ∙ take_at a.edges.items c.args.edges.now c.len-count.result k in
     let en = ap length e in
     let re = inv.edges in
     let r4 = inv.room.path in

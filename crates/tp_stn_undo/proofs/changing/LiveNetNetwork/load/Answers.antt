@@ -1,0 +1,81 @@
+use Rattle.std.proofs.Common.{arith, length, ap, sym, refl, ◌∙◌}
+use Rattle.std.specs.Vec.{with_items}
+use Rattle.tp_base.proofs.LeastFacts.{mut_items}
+use Rattle.tp_stn_undo.specs.declared.live.LiveNet.TheInside.{Inside}
+use Rattle.tp_stn_undo.specs.Marks.{nets_of}
+use Rattle.tp_stn_undo.specs.LiveState.{LiveState}
+use Rattle.tp_stn_undo.specs.Adding.{Adds}
+use Rattle.tp_stn_undo.proofs.SoundFacts.{links_len}
+use Rattle.tp_stn_undo.proofs.ChangeFacts.{can_save}
+use Rattle.tp_stn_undo.proofs.AddFacts.{linked_len}
+use Rattle.tp_stn_undo.proofs.ChangedFacts.{IsChanged, HoldsTogether, as_it_was, changed_live, changed_past, added_holds}
+use Rattle.tp_stn_undo.proofs.changing.LiveNetNetwork.load.Goals as goal
+use Rattle.tp_stn_undo.proofs.changing.LiveNetNetwork.load.Goals.{After-load_edges, After-save_changes}
+
+added : (c : After-load_edges) → Adds c.args.edges.now c.self.inside.caps.items c.self.inside.links.items c.load_edges.new.links.items c.self.inside.spots.items c.load_edges.new.spots c.load_edges.new.working.changes.entries
+added c = rw (c.deref.ensures.value, c.deref_mut-2.ensures.value) at c.load_edges.ensures.added
+
+pub save_changes-requires : goal.save_changes-requires
+save_changes-requires c =
+    let k = (goal.at.save_changes-requires c).After-load_edges in
+    record { ready = can_save c.self.inside c.self.invariant c.load_edges.new.working.changes.entries (added k).known }
+
+abbrev after : After-save_changes → Inside
+after c = record {
+  edge_room = c.self.inside.edge_room;
+  mark_room = c.self.inside.mark_room;
+  spots = with_items c.self.inside.spots c.load_edges.new.spots;
+  caps = c.self.inside.caps;
+  links = c.load_edges.new.links;
+  heads = with_items c.self.inside.heads c.load_edges.new.heads;
+  working = record { waiting = c.load_edges.new.working.waiting; changes = c.save_changes.new.changes; path = c.load_edges.new.working.path; places = c.load_edges.new.working.places };
+  kept = c.self.inside.kept;
+  saves = c.save_changes.new.saves;
+}
+
+changed : (c : After-save_changes) → IsChanged c.self.inside (after c) c.load_edges.new.spots c.self.inside.caps.items c.load_edges.new.links.items c.load_edges.new.heads
+changed c =
+    let a = c.self.inside in
+    let e = c.load_edges.ensures in
+    let s = c.save_changes.ensures in
+    record {
+      spots = mut_items a.spots.len c.load_edges.new.spots _ (c.load_edges.auto.spots ∙ ap length c.deref_mut-2.ensures.value ∙ sym a.spots.ok.0);
+      caps = refl;
+      links = refl;
+      heads = mut_items a.heads.len c.load_edges.new.heads _ (c.load_edges.auto.heads ∙ ap length c.deref_mut.ensures.value ∙ sym a.heads.ok.0);
+      marks = s.marks;
+      points_same = s.points;
+      edges_same = refl;
+      marks_same = refl;
+      spots_room = refl;
+      caps_room = refl;
+      links_room = e.capacity;
+      heads_room = refl;
+      saved_room = s.capacity;
+      marks_room = s.marks_room;
+      flags_room = s.flags;
+      sizes = record { waits = e.sizes.waits; noted = s.room ∙ e.sizes.noted; path = e.sizes.path; places = e.sizes.places };
+      rest = record { idle = e.idle; none = e.none; unchanged = s.none; zeros = e.zeros };
+    }
+
+holds : (c : After-save_changes) → HoldsTogether c.self.inside c.load_edges.new.spots c.self.inside.caps.items c.load_edges.new.links.items c.load_edges.new.heads c.save_changes.new.saves.saved.items c.save_changes.new.saves.since.words.items
+holds c =
+    let a = c.self.inside in
+    let k = (goal.at.invariant_of-self c).After-load_edges in
+    let ad = added k in
+    let n = linked_len a.links.items c.load_edges.new.links.items c.args.edges.now ad.linked in
+    let v = ap (λ (s : LiveState). length s.net.edges) c.self.view_is in
+    let r = ap (λ (s : LiveState). s.edge_room) c.self.view_is in
+    let l = links_len a.links.items in
+    let q = c.requires.spare in
+    added_holds a c.self.invariant a.spots.items c.load_edges.new.spots a.caps.items c.load_edges.new.links.items a.heads.items c.args.edges.now c.load_edges.new.working.changes.entries c.save_changes.new.saves.saved.items c.save_changes.new.saves.since.words.items
+    (as_it_was a c.self.invariant) ad (omega arith) c.load_edges.new.heads (rw c.deref_mut-2.ensures.value at c.load_edges.ensures.linked) c.save_changes.ensures.stack c.save_changes.ensures.past
+
+pub invariant_of-self : goal.invariant_of-self
+invariant_of-self c = changed_live c.self.inside c.self.invariant (after c) c.load_edges.new.spots c.self.inside.caps.items c.load_edges.new.links.items c.load_edges.new.heads (changed c) (holds c)
+
+pub returns-clause-solved : goal.returns-clause-solved
+returns-clause-solved c = (_, (invariant_of-self c).sound.least)
+
+pub returns-clause-past : goal.returns-clause-past
+returns-clause-past c = ap nets_of (changed_past c.self.inside c.self.invariant (after c) c.load_edges.new.spots c.self.inside.caps.items c.load_edges.new.links.items c.load_edges.new.heads (changed c) (holds c)) ∙ ap (λ (s : LiveState). s.past) c.self.view_is
