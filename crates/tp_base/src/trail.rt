@@ -44,9 +44,7 @@ impl<T: Copy> Trail<T> {
         if self.items.len() == self.room as usize {
             return Err(Full);
         }
-        let Ok(()) = self.items.push(item) else {
-            unreachable!()
-        };
+        self.items.push_reserved(item);
         Ok(())
     }
 

@@ -39,9 +39,7 @@ pub fn trace_causes(
             path.reverse();
             return Some(at);
         };
-        let Ok(()) = path.push(edge) else {
-            unreachable!()
-        };
+        path.push_reserved(edge);
         places[at.0 as usize] = path.len();
         at = edge.from;
     }

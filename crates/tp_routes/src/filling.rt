@@ -6,6 +6,7 @@ ghost use Rattle.tp_routes.specs.Numbers.{number_of, state_at};
 ghost use Rattle.tp_routes.specs.Tables.{sum_at, IsKnownOrigin};
 ghost use Rattle.tp_routes.specs.Filling.{IsFilling, IsSpreadTo, IsStepIn, IsSum, HasAtMost, Lowers, filled, left_to_fill};
 
+use crate::index::ActionIndex;
 use crate::numbering::{number_of, state_at};
 use crate::queueing::lower;
 use tp_machine::{ActId, Machine, State, allowed, step};
@@ -39,6 +40,13 @@ pub(crate) fn offer(
     lower(sums, waiting, number_of(state), sum);
 }
 
+/// A state by its number, and its sum in the table.
+#[derive(Clone, Copy)]
+struct Reached {
+    number: u32,
+    sum: u32,
+}
+
 /// Puts the step of an action from a state with this sum into the table, where it is allowed.
 fn step_on(
     machine: &Machine,
@@ -46,19 +54,18 @@ fn step_on(
     sums: &mut [Option<u32>],
     waiting: &mut Vec<u32>,
     act: ActId,
-    number: u32,
-    sum: u32,
+    from: Reached,
 )
     requires act { act.0 < length machine.now.actions }
     requires filling { IsFilling machine.now ask.now sums.old waiting.old.items }
-    requires spread { IsSpreadTo machine.now ask.now sums.old waiting.old.items number act.0 }
-    requires known { number < length sums.old }
-    requires busy { sum_at sums.old number ≡ Some sum }
+    requires spread { IsSpreadTo machine.now ask.now sums.old waiting.old.items from.number act.0 }
+    requires known { from.number < length sums.old }
+    requires busy { sum_at sums.old from.number ≡ Some from.sum }
     requires room { length sums.old ≤ vec_capacity waiting.old }
     ensures filling { IsFilling machine.now ask.entry.now sums.new waiting.new.items }
-    ensures spread { IsSpreadTo machine.now ask.entry.now sums.new waiting.new.items number
+    ensures spread { IsSpreadTo machine.now ask.entry.now sums.new waiting.new.items from.number
         (act.0 + 1) }
-    ensures busy { sum_at sums.new number ≡ Some sum }
+    ensures busy { sum_at sums.new from.number ≡ Some from.sum }
     ensures lowers { Lowers sums.old sums.new }
     ensures room { length sums.new ≤ vec_capacity waiting.new }
     ensures nearer { left_to_fill sums.new waiting.new.items
@@ -68,8 +75,8 @@ fn step_on(
         return;
     }
     let action = machine.actions.get(act.0 as u32);
-    if let Some(next) = step(action, &ask.want, state_at(number)) {
-        offer(machine, ask, sums, waiting, next, sum + action.least);
+    if let Some(next) = step(action, &ask.want, state_at(from.number)) {
+        offer(machine, ask, sums, waiting, next, from.sum + action.least);
     }
 }
 
@@ -77,30 +84,30 @@ fn step_on(
 fn spread(
     machine: &Machine,
     ask: &Ask,
-    firsts: &[Option<u16>],
-    nexts: &[Option<u16>],
+    index: &ActionIndex,
     sums: &mut [Option<u32>],
     waiting: &mut Vec<u32>,
-    number: u32,
-    sum: u32,
+    from: Reached,
 )
-    requires index { IsIndexOf machine.now firsts.now nexts.now }
+    requires index { IsIndexOf machine.now index.now.firsts.items index.now.nexts.items }
     requires filling { IsFilling machine.now ask.now sums.old waiting.old.items }
-    requires spread { IsSpreadTo machine.now ask.now sums.old waiting.old.items number 0 }
-    requires known { number < length sums.old }
-    requires busy { sum_at sums.old number ≡ Some sum }
+    requires spread { IsSpreadTo machine.now ask.now sums.old waiting.old.items from.number 0 }
+    requires known { from.number < length sums.old }
+    requires busy { sum_at sums.old from.number ≡ Some from.sum }
     requires room { length sums.old ≤ vec_capacity waiting.old }
     ensures filling { IsFilling machine.now ask.entry.now sums.new waiting.new.items }
-    ensures spread { IsSpreadTo machine.now ask.entry.now sums.new waiting.new.items number
+    ensures spread { IsSpreadTo machine.now ask.entry.now sums.new waiting.new.items from.number
         (length machine.now.actions) }
     ensures lowers { Lowers sums.old sums.new }
     ensures room { length sums.new ≤ vec_capacity waiting.new }
     ensures nearer { left_to_fill sums.new waiting.new.items
         ≤ left_to_fill sums.old waiting.old.items }
 {
-    let mut cursor = firsts[number as usize / 8];
+    let firsts = index.firsts.as_slice();
+    let nexts = index.nexts.as_slice();
+    let mut cursor = firsts[from.number as usize / 8];
     'actions: while let Some(at) = cursor {
-        step_on(machine, ask, sums, waiting, ActId(at), number, sum);
+        step_on(machine, ask, sums, waiting, ActId(at), from);
         cursor = nexts[at as usize];
     }
 }
@@ -109,12 +116,11 @@ fn spread(
 pub(crate) fn settle(
     machine: &Machine,
     ask: &Ask,
-    firsts: &[Option<u16>],
-    nexts: &[Option<u16>],
+    index: &ActionIndex,
     sums: &mut [Option<u32>],
     waiting: &mut Vec<u32>,
 )
-    requires index { IsIndexOf machine.now firsts.now nexts.now }
+    requires index { IsIndexOf machine.now index.now.firsts.items index.now.nexts.items }
     requires filling { IsFilling machine.now ask.now sums.old waiting.old.items }
     requires spread { (busy : ℕ) → IsSpreadTo machine.now ask.now sums.old waiting.old.items busy
         (length machine.now.actions) }
@@ -128,7 +134,7 @@ pub(crate) fn settle(
 {
     'states: while let Some(number) = waiting.pop() {
         if let Some(sum) = sums[number as usize] {
-            spread(machine, ask, firsts, nexts, sums, waiting, number, sum);
+            spread(machine, ask, index, sums, waiting, Reached { number, sum });
         }
     }
 }

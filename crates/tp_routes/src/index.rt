@@ -1,15 +1,47 @@
-ghost use Rattle.std.specs.Prelude.{◌≡◌, ◌<◌, ◌≤◌, None, length, replicate, slice_get, IfSome};
-ghost use Rattle.tp_routes.specs.Index.{AreIndexed};
+ghost use Rattle.std.specs.Prelude.{◌≡◌, ◌<◌, ◌≤◌, None, length, replicate, slice_get, IfOk, IfSome};
+ghost use Rattle.tp_routes.specs.Index.{AreIndexed, IsIndexOf};
 
+use std::alloc::{AllocError, Global};
 use tp_machine::Machine;
+
+/// A machine has at most so many actions.
+const MOST_ACTIONS: usize = 512;
+
+/// The actions of a machine by the location that they start from.
+#[derive(Drop)]
+pub(crate) struct ActionIndex {
+    /// The first action from each location.
+    pub(crate) firsts: Vec<Option<u16>>,
+    /// Behind each action the next one from the same location.
+    pub(crate) nexts: Vec<Option<u16>>,
+}
+
+impl ActionIndex {
+    /// An index for machines with so many locations.
+    pub(crate) fn new(alloc: Global, locations: u32) -> Result<ActionIndex, AllocError>
+        ensures places { IfOk result (λ i. length i.firsts.items ≡ locations) }
+        ensures room { IfOk result (λ i. length i.nexts.items ≡ 512) }
+    {
+        Ok(ActionIndex {
+            firsts: vec![in alloc; None; locations as usize]?,
+            nexts: vec![in alloc; None; MOST_ACTIONS]?,
+        })
+    }
+
+    /// Indexes the actions of the machine, in place of what was there.
+    pub(crate) fn fill(&mut self, machine: &Machine)
+        requires places { length self.old.firsts.items ≡ length machine.now.locations }
+        requires room { length self.old.nexts.items ≡ 512 }
+        ensures index { IsIndexOf machine.now self.new.firsts.items self.new.nexts.items }
+        ensures room { length self.new.nexts.items ≡ 512 }
+    {
+        index_actions(machine, &mut self.firsts, &mut self.nexts);
+    }
+}
 
 /// Finds the first action from each location, and behind each action the next one from the same
 /// location: one pass over the actions, the last one first.
-pub(crate) fn index_actions(
-    machine: &Machine,
-    firsts: &mut [Option<u16>],
-    nexts: &mut [Option<u16>],
-)
+fn index_actions(machine: &Machine, firsts: &mut [Option<u16>], nexts: &mut [Option<u16>])
     requires places { length firsts.old ≡ length machine.now.locations }
     requires room { length machine.now.actions ≤ length nexts.old }
     ensures { AreIndexed machine.now.actions firsts.new nexts.new 0 }

@@ -4,7 +4,7 @@ ghost use Rattle.tp_routes.specs.Numbers.{number_of};
 ghost use Rattle.tp_routes.specs.Tables.{sum_at, IsMadeFor, AreRooms, IsKnownOrigin};
 
 use crate::filling::settle;
-use crate::index::index_actions;
+use crate::index::ActionIndex;
 use crate::numbering::number_of;
 use crate::starting::start;
 use std::alloc::Global;
@@ -12,9 +12,6 @@ use std::marker::Model;
 use tp_base::{Memory, Tick};
 use tp_machine::{Machine, State};
 use tp_schedule::Ask;
-
-/// A machine has at most so many actions.
-const MOST_ACTIONS: usize = 512;
 
 /// For each state of a sheet the least time that any way from a start state takes: its room, in
 /// ticks. One table by state, which `fill` makes anew for an ask.
@@ -25,8 +22,7 @@ pub struct Rooms {
     window: Tick,
     sums: Vec<Option<u32>>,
     waiting: Vec<u32>,
-    firsts: Vec<Option<u16>>,
-    nexts: Vec<Option<u16>>,
+    index: ActionIndex,
 }
 
 // Clauses see the table, and the numbers of the machine that it was made for.
@@ -36,12 +32,17 @@ impl Model for Rooms {
 
     ghost Value = { RoomTable };
 
-    ghost view = { λ r. record { locations = r.locations; resources = r.resources;
-        window = r.window; sums = r.sums.items } };
+    ghost view = { λ r. record {
+      locations = r.locations;
+      resources = r.resources;
+      window = r.window;
+      sums = r.sums.items;
+    } };
 
     ghost invariant = { λ r. (length r.sums.items ≡ 8 * r.locations)
         × (8 * r.locations ≤ vec_capacity r.waiting)
-        × (length r.firsts.items ≡ r.locations) × (length r.nexts.items ≡ 512) };
+        × (length r.index.firsts.items ≡ r.locations)
+        × (length r.index.nexts.items ≡ 512) };
 }
 
 impl Rooms {
@@ -60,8 +61,7 @@ impl Rooms {
             window: machine.window,
             sums: vec![in alloc; None; states]?,
             waiting: Vec::with_capacity(alloc, states)?,
-            firsts: vec![in alloc; None; locations as usize]?,
-            nexts: vec![in alloc; None; MOST_ACTIONS]?,
+            index: ActionIndex::new(alloc, locations)?,
         })
     }
 
@@ -73,15 +73,8 @@ impl Rooms {
         ensures rooms { AreRooms machine.now ask.entry.now self.new.sums }
         ensures made { IsMadeFor self.new machine.now }
     {
-        index_actions(machine, &mut self.firsts, &mut self.nexts);
-        fill_table(
-            machine,
-            ask,
-            &self.firsts,
-            &self.nexts,
-            &mut self.sums,
-            &mut self.waiting,
-        );
+        self.index.fill(machine);
+        fill_table(machine, ask, &self.index, &mut self.sums, &mut self.waiting);
     }
 
     /// The room of a state for the last ask, or None where no list of allowed actions leads there.
@@ -96,12 +89,11 @@ impl Rooms {
 fn fill_table(
     machine: &Machine,
     ask: &Ask,
-    firsts: &[Option<u16>],
-    nexts: &[Option<u16>],
+    index: &ActionIndex,
     sums: &mut [Option<u32>],
     waiting: &mut Vec<u32>,
 )
-    requires index { IsIndexOf machine.now firsts.now nexts.now }
+    requires index { IsIndexOf machine.now index.now.firsts.items index.now.nexts.items }
     requires states { length sums.old ≡ 8 * length machine.now.locations }
     requires room { length sums.old ≤ vec_capacity waiting.old }
     requires origin { IsKnownOrigin machine.now ask.now.origin }
@@ -112,7 +104,7 @@ fn fill_table(
     clear(sums);
     waiting.clear();
     start(machine, ask, sums, waiting);
-    settle(machine, ask, firsts, nexts, sums, waiting);
+    settle(machine, ask, index, sums, waiting);
 }
 
 fn clear(sums: &mut [Option<u32>])

@@ -98,9 +98,7 @@ impl Timelines {
         let Ok(()) = self.orders[resource.0 as usize].insert(place as usize, id) else {
             unreachable!()
         };
-        let Ok(()) = self.inserted.push(Insert { resource, place }) else {
-            unreachable!()
-        };
+        self.inserted.push_reserved(Insert { resource, place });
         Ok(())
     }
 
@@ -149,9 +147,7 @@ impl Undo for Timelines {
     /// Takes constant time.
     fn mark(&mut self) -> Mark {
         let number = self.marks.len() as u32;
-        let Ok(()) = self.marks.push(self.inserted.len() as u32) else {
-            unreachable!()
-        };
+        self.marks.push_reserved(self.inserted.len() as u32);
         Mark(number)
     }
 

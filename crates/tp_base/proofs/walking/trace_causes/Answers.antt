@@ -10,11 +10,10 @@ overflow_sub-len c =
     let l = c.reverse.ensures.len in
     omega arith
 
-pub unreachable-requires-in_default-push : goal.unreachable-requires-in_default-push
-unreachable-requires-in_default-push c =
+pub push_reserved-requires : goal.push_reserved-requires
+push_reserved-requires c =
     let none = free_at (length c.args.causes.now) c.back.places.items c.back.path.items c.back.at.0 c.index-place.result.now c.back.invariant.marked c.back.invariant.way.known c.index-place.ensures c.if-place-gt0.false in
     let k : length c.back.path.items < length c.args.causes.now = WayBack-short c.args.causes.now c.args.from.0 c.back.at.0 c.back.path.items c.back.invariant.way none in
-    let h = c.in_default-push.ensures.full in
     let n = c.back.path.ok.0 in
     let r = c.requires.path_room in
     let p = c.back.invariant.path_kept in
@@ -24,9 +23,9 @@ pub back-smaller : goal.back-smaller
 back-smaller c =
     let none = free_at (length c.args.causes.now) c.back.places.items c.back.path.items c.back.at.0 c.index-place.result.now c.back.invariant.marked c.back.invariant.way.known c.index-place.ensures c.if-place-gt0.false in
     let k : length c.back.path.items < length c.args.causes.now = WayBack-short c.args.causes.now c.args.from.0 c.back.at.0 c.back.path.items c.back.invariant.way none in
-    let h = c.in-Ok-push.ensures.len in
+    let h = c.push_reserved.ensures.len in
     let n = c.back.path.ok.0 in
-    let m = c.push.new.self.ok.0 in
+    let m = c.push_reserved.new.self.ok.0 in
     omega arith
 
 pub back-preserved : goal.back-preserved
@@ -34,10 +33,10 @@ back-preserved c =
     let none = free_at (length c.args.causes.now) c.back.places.items c.back.path.items c.back.at.0 c.index-place.result.now c.back.invariant.marked c.back.invariant.way.known c.index-place.ensures c.if-place-gt0.false in
     let e = c.in-Some.edge in
     let to = (c.requires.causes c.back.at.0 e c.back.invariant.way.known c.in-Some.is).0 in
-    let n : c.len-in-back.result ≡ length c.back.path.items + 1 = omega (arith, c.len-in-back.ensures, c.in-Ok-push.ensures.len, c.back.path.ok.0) in
+    let n : c.len-in-back.result ≡ length c.back.path.items + 1 = omega (arith, c.len-in-back.ensures, c.push_reserved.ensures.len, c.back.path.ok.0) in
     record {
-      way = rw c.in-Ok-push.ensures.items (WayBack-push c.args.causes.now c.args.from.0 c.back.at.0 c.back.path.items e c.back.invariant.way none c.requires.causes c.in-Some.is);
-      marked = rw (c.in-Ok-push.ensures.items, n) (AreMarked-push (length c.args.causes.now) c.back.places.items c.back.path.items c.back.at.0 e c.back.invariant.marked c.back.invariant.way.known to);
+      way = rw c.push_reserved.ensures.items (WayBack-push c.args.causes.now c.args.from.0 c.back.at.0 c.back.path.items e c.back.invariant.way none c.requires.causes c.in-Some.is);
+      marked = rw (c.push_reserved.ensures.items, n) (AreMarked-push (length c.args.causes.now) c.back.places.items c.back.path.items c.back.at.0 e c.back.invariant.marked c.back.invariant.way.known to);
       path_kept = omega arith;
       places_kept = omega arith;
     }

@@ -8,24 +8,24 @@ use Rattle.tp_timelines.proofs.InsertFacts.{taken_back-insert, total-insert, Sta
 use Rattle.tp_timelines.proofs.VectorFacts.{length-numbers, numbers-insert, HaveRoom-set}
 use Rattle.tp_timelines.proofs.MarkFacts.{marks_grown, past_same}
 use Rattle.tp_timelines.proofs.timelines.Timelines.insert.Goals as goal
-use Rattle.tp_timelines.proofs.timelines.Timelines.insert.Goals.{In-Ok-push}
+use Rattle.tp_timelines.proofs.timelines.Timelines.insert.Goals.{After-push_reserved}
 
-abbrev entry : In-Ok-push → Insert
+abbrev entry : After-push_reserved → Insert
 entry c = record { resource = c.args.resource; place = c.args.place }
 
-known : (c : In-Ok-push) → c.args.resource.0 < length c.self.inside.orders.items
+known : (c : After-push_reserved) → c.args.resource.0 < length c.self.inside.orders.items
 known c =
     let v = ap (λ (o : Orders). length o.orders) c.self.view_is in
     let k = c.requires.known in
     omega (arith, length-numbers c.self.inside.orders.items)
 
-within : (c : In-Ok-push) → c.args.place ≤ length (order_on (numbers_of c.self.inside.orders.items) c.args.resource.0)
+within : (c : After-push_reserved) → c.args.place ≤ length (order_on (numbers_of c.self.inside.orders.items) c.args.resource.0)
 within c =
     let v = ap (λ (o : Orders). length (order_on o.orders c.args.resource.0)) c.self.view_is in
     let k = c.requires.within in
     omega arith
 
-now : (c : In-Ok-push) → numbers_of (set c.self.inside.orders.items c.args.resource.0 c.insert.new.self) ≡ set (numbers_of c.self.inside.orders.items) c.args.resource.0 (insert (order_on (numbers_of c.self.inside.orders.items) c.args.resource.0) c.args.place c.args.id)
+now : (c : After-push_reserved) → numbers_of (set c.self.inside.orders.items c.args.resource.0 c.insert.new.self) ≡ set (numbers_of c.self.inside.orders.items) c.args.resource.0 (insert (order_on (numbers_of c.self.inside.orders.items) c.args.resource.0) c.args.place c.args.id)
 now c = numbers-insert c.self.inside.orders.items c.args.resource.0 c.index_mut.result.now (known c) c.index_mut.ensures.value c.insert.new.self c.args.place c.args.id c.in-Ok.ensures.items
 
 pub invariant_of-self : goal.invariant_of-self
@@ -35,7 +35,7 @@ invariant_of-self c =
     let vs = a.orders.items in
     let os = numbers_of vs in
     let k : c.args.resource.0 < length os = omega (arith, known c, length-numbers vs) in
-    let e = c.in-Ok-push.ensures.items in
+    let e = c.push_reserved.ensures.items in
     let n = ap length e ∙ length_push a.inserted.items (entry c) in
     let t = total-insert os a.inserted.items (entry c) c.args.id k (within c) in
     let full = c.if-len-self.false in
@@ -45,13 +45,13 @@ invariant_of-self c =
     let all = inv.all in
     record {
       all = ap total (now c) ∙ omega arith;
-      stand = subst (λ ns. StandAt ns c.push.new.self.items) (sym (now c)) (rw e (StandAt-insert os a.inserted.items (entry c) c.args.id k (within c) inv.stand));
+      stand = subst (λ ns. StandAt ns c.push_reserved.new.self.items) (sym (now c)) (rw e (StandAt-insert os a.inserted.items (entry c) c.args.id k (within c) inv.stand));
       at_marks = marks_grown a.marks.items (length a.inserted.items) _ (omega arith) inv.at_marks;
       holds = omega arith;
       marks = inv.marks;
       fits = inv.fits;
       room = HaveRoom-set vs c.args.resource.0 c.index_mut.result.now (known c) c.index_mut.ensures.value c.insert.new.self a.hold_room (omega (arith, c.in-Ok.ensures.capacity)) inv.room;
-      insert_room = omega (arith, inv.insert_room, c.in-Ok-push.ensures.capacity);
+      insert_room = omega (arith, inv.insert_room, c.push_reserved.ensures.capacity);
       mark_space = inv.mark_space;
     }
 
@@ -64,8 +64,8 @@ returns-clause-past c =
     let vs = a.orders.items in
     let os = numbers_of vs in
     let k : c.args.resource.0 < length os = omega (arith, known c, length-numbers vs) in
-    past_same a.marks.items os (numbers_of (set vs c.args.resource.0 c.insert.new.self)) a.inserted.items c.push.new.self.items c.self.invariant.at_marks
-    (λ n h. ap (λ is. taken_back (drop n is) (numbers_of (set vs c.args.resource.0 c.insert.new.self))) c.in-Ok-push.ensures.items
+    past_same a.marks.items os (numbers_of (set vs c.args.resource.0 c.insert.new.self)) a.inserted.items c.push_reserved.new.self.items c.self.invariant.at_marks
+    (λ n h. ap (λ is. taken_back (drop n is) (numbers_of (set vs c.args.resource.0 c.insert.new.self))) c.push_reserved.ensures.items
     ∙ ap (taken_back (drop n (a.inserted.items ++ entry c ∷ []))) (now c)
     ∙ taken_back-insert os a.inserted.items (entry c) c.args.id k (within c) n h)
     ∙ ap (λ (o : Orders). o.past) c.self.view_is
