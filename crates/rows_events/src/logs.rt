@@ -18,7 +18,7 @@ fn put_item(item: &Item, out: &mut Vec<u8>) -> Result<(), Memory>
     }
 }
 
-#[tactic(auto, using(tp_log::proofs::TextLines::short_lines))]
+#[tactic(auto, using(tp_words::proofs::Texts::short_lines))]
 fn read(alloc: Global, text: &[u8]) -> Result<Vec<Item>, LogFault> {
     if text.len() > MOST {
         return Err(LogFault::Memory);
@@ -27,7 +27,7 @@ fn read(alloc: Global, text: &[u8]) -> Result<Vec<Item>, LogFault> {
 }
 
 /// Fails where the text is no log, or is printed as another one.
-#[tactic(auto, using(tp_log::proofs::TextLines::short_lines))]
+#[tactic(auto, using(tp_words::proofs::Texts::short_lines))]
 fn is_log(alloc: Global, text: &[u8]) -> Result<(), Fail> {
     if text.len() > MOST {
         return Err(Fail::from("a longer text than a row has"));

@@ -6,7 +6,7 @@ use tp_bounds::{BoundTree, TreeFault, print_tree, read_tree};
 /// The longest text of a row.
 const MOST: usize = 4096;
 
-#[tactic(auto, using(tp_bounds::proofs::Texts::short_lines))]
+#[tactic(auto, using(tp_words::proofs::Texts::short_lines))]
 fn read(alloc: Global, text: &[u8]) -> Result<BoundTree, TreeFault> {
     if text.len() > MOST {
         return Err(TreeFault::Memory);
@@ -15,7 +15,7 @@ fn read(alloc: Global, text: &[u8]) -> Result<BoundTree, TreeFault> {
 }
 
 /// Fails where the text is no tree, or is printed as another one.
-#[tactic(auto, using(tp_bounds::proofs::Texts::short_lines, tp_bounds::proofs::TreeFacts::tree_printable))]
+#[tactic(auto, using(tp_words::proofs::Texts::short_lines, tp_bounds::proofs::TreeFacts::tree_printable))]
 fn is_tree(alloc: Global, text: &[u8]) -> Result<(), Fail> {
     if text.len() > MOST {
         return Err(Fail::from("a longer text than a row has"));

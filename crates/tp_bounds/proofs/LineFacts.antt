@@ -19,21 +19,17 @@ use Rattle.tp_bounds.specs.declared.tree.Head.TheVariants.{Goal, Act, At, Stop}
 use Rattle.tp_bounds.specs.declared.tree.NamedState.{NamedState}
 use Rattle.tp_bounds.specs.declared.tree.Node.{Node}
 use Rattle.tp_bounds.specs.declared.tree.TreeRow.{TreeRow}
-use Rattle.tp_words.specs.Fields.{name_of}
-use Rattle.tp_words.specs.Numbers.{digits_of, number_of}
+use Rattle.tp_words.specs.Fields.{IsName, name_of}
+use Rattle.tp_words.specs.Numbers.{IsNumber, digits_of, number_of}
 use Rattle.tp_words.specs.Parts.{parts_at}
 use Rattle.tp_words.proofs.Lists.{list_takes, list_again}
-use Rattle.tp_words.proofs.Spelling.{name_spells, number_spells}
+use Rattle.tp_words.proofs.Spelling.{Tells, name_spells, number_spells}
 use Rattle.tp_words.proofs.Steps.{and_then_some, map_some}
 use Rattle.tp_bounds.specs.Lines.{IsBound, IsClose, IsHead, IsNode, IsRow, ReadsBound, act_node_of, at_node_of, bare_of, bound_after, bound_of, bound_text, bound_words, chain_of, close_of, close_words, closed_by, goal_node_of, head_words, hops_of, loop_of, loop_with, node_from, node_of, node_words, row_of, row_words}
-use Rattle.tp_script.specs.Script.{IsName, spaced}
-use Rattle.tp_bounds.specs.Words.{IsHop, IsNumber, IsPoint, hop_text, point_of, point_text, state_of, state_text}
-use Rattle.tp_bounds.proofs.Texts.{AllVisible, IsVisible, parts-spaced, spaced-parts, visible, visible-append}
+use Rattle.tp_words.specs.Texts.{spaced}
+use Rattle.tp_bounds.specs.Words.{IsHop, IsPoint, hop_text, point_of, point_text, state_of, state_text}
+use Rattle.tp_words.proofs.Texts.{AllVisible, IsVisible, name_visible, number_visible, parts-spaced, spaced-parts, visible, visible-append}
 use Rattle.tp_bounds.proofs.WordFacts.{hop_spells, point_spells, state_spells}
-
--- these are its words, and it is one
-abbrev Tells : {X : Type 0} → (X → List (List ℕ)) → (X → Type 0) → List (List ℕ) → X → Type 0
-Tells words_of Is words x = (words ≡ words_of x) × Is x
 
 is_text : (word text : List ℕ) → bytes_eq word text ≡ true → word ≡ text
 is_text word text h = (bytes_eq-Decides word text).0 h
@@ -277,12 +273,6 @@ bound_again (Room row) h = ap (option_map (λ r. Room r)) (row_again row h)
 bound_again (ANode node) h = rw (no_room node.depth h.depth) (ap (option_map (λ n. ANode n)) (node_again node h))
 
 -- ---- words have neither a space nor a line end in them
-name_visible : (name : List ℕ) → IsName name → IsVisible name
-name_visible = visible name_spells refl refl
-
-number_visible : (n : ℕ) → IsNumber n → IsVisible (decimal n)
-number_visible = visible number_spells refl refl
-
 state_visible : (s : NamedState) → IsName s.place → IsVisible (state_text s)
 state_visible s h = visible state_spells refl refl s (h, tt)
 

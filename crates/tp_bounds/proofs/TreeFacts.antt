@@ -16,11 +16,11 @@ use Rattle.tp_bounds.specs.declared.tree.Node.{Node}
 use Rattle.tp_bounds.specs.declared.tree.TreeRow.{TreeRow}
 use Rattle.tp_words.specs.Parts.{lacks, parts_at}
 use Rattle.tp_bounds.specs.Lines.{IsBound, IsClose, IsNode, IsRow, bound_of, bound_text, bound_words, node_text, node_words, row_text, row_words}
-use Rattle.tp_script.specs.Lines.{lines_of}
-use Rattle.tp_script.specs.Script.{spaced}
+use Rattle.tp_words.specs.Texts.{lines_of}
+use Rattle.tp_words.specs.Texts.{spaced}
 use Rattle.tp_bounds.specs.Trees.{HasALine, HasHops, HasLines, IfBad, IsFirstOff, IsPrintable, IsTree, ReadsNth, StandsBehind, tree_lines, tree_text}
 use Rattle.tp_bounds.proofs.LineFacts.{bound-front, bound_visible, text_again}
-use Rattle.tp_bounds.proofs.Texts.{lines_at, spaced_lacks}
+use Rattle.tp_words.proofs.Texts.{lines_at, spaced_lacks}
 
 abbrev pub tree_of : List TreeRow → List Node → BoundTree
 tree_of rows nodes = record { rows = rows; nodes = nodes }

@@ -17,15 +17,16 @@ use Rattle.tp_bounds.specs.declared.words.Holders.{Holders}
 use Rattle.tp_machine.specs.declared.parts.Face.{Face}
 use Rattle.tp_machine.specs.declared.parts.Face.TheVariants.{Front, Back}
 use Rattle.tp_schedule.specs.declared.recording.SheetName.{SheetName}
-use Rattle.tp_words.specs.Fields.{begins_with}
+use Rattle.tp_words.specs.Fields.{IsName, begins_with}
+use Rattle.tp_words.specs.Numbers.{IsNumber}
 use Rattle.tp_words.specs.Parts.{lacks}
 use Rattle.tp_words.proofs.Choices.{after_spells, begins-not, choice_spells, mapped_spells, refit, with_byte}
 use Rattle.tp_words.proofs.PartFacts.{lacks_from}
 use Rattle.tp_words.proofs.Spelling.{Spells, either, name_spells, number_spells, pair_spells}
 use Rattle.tp_words.proofs.Steps.{and_then_some}
 use Rattle.tp_script.specs.Reading.{face_of}
-use Rattle.tp_script.specs.Script.{IsName, face_byte}
-use Rattle.tp_bounds.specs.Words.{IsHold, IsHop, IsNumber, IsPoint, IsSheet, bit_byte, bit_of, duration_hop_of, flags_of, flags_text, hold_of, hold_text, holders_of, holders_text, hop_of, hop_text, line_hop_of, named_holders_of, resource_hop_from, numbers_of, own_hold_of, own_point_of, point_of, point_text, numbered_of, resource_hop_of, sheet_from, sheet_of, sheet_text, state_from, state_of, state_text}
+use Rattle.tp_script.specs.Script.{face_byte}
+use Rattle.tp_bounds.specs.Words.{IsHold, IsHop, IsPoint, IsSheet, bit_byte, bit_of, duration_hop_of, flags_of, flags_text, hold_of, hold_text, holders_of, holders_text, hop_of, hop_text, line_hop_of, named_holders_of, resource_hop_from, numbers_of, own_hold_of, own_point_of, point_of, point_text, numbered_of, resource_hop_of, sheet_from, sheet_of, sheet_text, state_from, state_of, state_text}
 
 -- ---- copies
 numbers_spell : Spells numbers_of (λ nc. decimal nc.0 ++ 46 ∷ decimal nc.1) (λ nc. IsNumber nc.0 × IsNumber nc.1) (either 46 is_ascii_digit is_ascii_digit)

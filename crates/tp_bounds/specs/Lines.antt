@@ -13,10 +13,10 @@ use Rattle.tp_bounds.specs.declared.tree.Head.TheVariants.{Goal, Act, At, Stop}
 use Rattle.tp_bounds.specs.declared.tree.Node.{Node}
 use Rattle.tp_bounds.specs.declared.tree.TreeRow.{TreeRow}
 use Rattle.tp_words.specs.Each.{each_read}
-use Rattle.tp_words.specs.Fields.{name_of, ◌>>=◌}
-use Rattle.tp_words.specs.Numbers.{number_of}
-use Rattle.tp_script.specs.Script.{IsName, spaced}
-use Rattle.tp_bounds.specs.Words.{IsHop, IsNumber, IsPoint, hop_of, hop_text, point_of, point_text, state_of, state_text}
+use Rattle.tp_words.specs.Fields.{IsName, name_of, ◌>>=◌}
+use Rattle.tp_words.specs.Numbers.{IsNumber, number_of}
+use Rattle.tp_words.specs.Texts.{spaced}
+use Rattle.tp_bounds.specs.Words.{IsHop, IsPoint, hop_of, hop_text, point_of, point_text, state_of, state_text}
 
 -- ---- written
 

@@ -9,7 +9,7 @@ use Rattle.tp_bounds.specs.declared.tree.Close.{Close}
 use Rattle.tp_bounds.specs.declared.tree.Close.TheVariants.{Loop}
 use Rattle.tp_bounds.specs.declared.tree.Node.{Node}
 use Rattle.tp_bounds.specs.Lines.{IsRow, IsNode, row_text, node_text, bound_text}
-use Rattle.tp_script.specs.Lines.{lines_of}
+use Rattle.tp_words.specs.Texts.{lines_of}
 
 -- its rows, and then its nodes
 abbrev pub tree_text : BoundTree → List ℕ

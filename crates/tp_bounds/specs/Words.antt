@@ -1,5 +1,5 @@
 -- The words of bound lines, written and read: states, points, holds and hops.
-use Rattle.std.specs.Prelude.{◌≡◌, ℕ, ◌^◌, ◌<◌, Bool, true, false, ◌==◌, List, [], ◌∷◌, ◌++◌, Option, Some, None, option_map, decimal, if◌then◌else◌}
+use Rattle.std.specs.Prelude.{ℕ, Bool, true, false, ◌==◌, List, [], ◌∷◌, ◌++◌, Option, Some, None, option_map, decimal, if◌then◌else◌}
 use Rattle.tp_bounds.specs.declared.hops.Hop.{Hop}
 use Rattle.tp_bounds.specs.declared.hops.Hop.TheVariants.{Duration, Line, «Resource» as Res}
 use Rattle.tp_bounds.specs.declared.hops.TreeHold.{TreeHold}
@@ -9,12 +9,11 @@ use Rattle.tp_bounds.specs.declared.hops.TreePoint.TheVariants.{Own as OwnPoint,
 use Rattle.tp_bounds.specs.declared.tree.NamedState.{NamedState}
 use Rattle.tp_bounds.specs.declared.words.Flags.{Flags}
 use Rattle.tp_bounds.specs.declared.words.Holders.{Holders}
-use Rattle.tp_machine.specs.declared.parts.Face.{Face}
 use Rattle.tp_schedule.specs.declared.recording.SheetName.{SheetName}
 use Rattle.tp_script.specs.Reading.{face_of}
-use Rattle.tp_script.specs.Script.{IsName, face_byte}
-use Rattle.tp_words.specs.Fields.{after_of, begins_with, name_of, pair_of, ◌>>=◌}
-use Rattle.tp_words.specs.Numbers.{number_of}
+use Rattle.tp_script.specs.Script.{face_byte}
+use Rattle.tp_words.specs.Fields.{IsName, after_of, begins_with, name_of, pair_of, ◌>>=◌}
+use Rattle.tp_words.specs.Numbers.{IsNumber, number_of}
 use Rattle.tp_words.specs.Parts.{lacks}
 
 -- ---- copies, as in a log: `NAME.NUMBER.COPY`
@@ -120,9 +119,6 @@ unfoldable pub hop_of : List ℕ → Option Hop
 hop_of word = if lacks 62 word then (if begins_with 100 word then duration_hop_of word else line_hop_of word) else resource_hop_of word
 
 -- ---- what has a text: names are names, and numbers fit in 32 bits
-
-abbrev pub IsNumber : ℕ → Type 0
-IsNumber n = n < 2 ^ 32
 
 abbrev pub IsSheet : SheetName → Type 0
 IsSheet s = IsName s.job × (IsNumber s.number × IsNumber s.copy)

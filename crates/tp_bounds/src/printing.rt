@@ -6,10 +6,9 @@ ghost use Rattle.tp_bounds.specs.declared.tree.Node.{Node};
 ghost use Rattle.tp_bounds.specs.Trees.{HasHops, IsPrintable, IsTree, tree_text};
 
 use crate::tree::{BoundTree, Close, Head, Node, TreeRow};
-use crate::writing::{
-    put_hop_words, put_name_word, put_number_word, put_point_word, put_state_word, put_word,
-};
+use crate::writing::{put_hop_words, put_point_word, put_state_word};
 use tp_base::Memory;
+use tp_words::{put_name_word, put_number_word, put_word};
 
 fn put_row(out: &mut Vec<u8>, row: &TreeRow) -> Result<(), Memory>
     ensures written { OnOk result (out.new.items ≡ out.old.items ++ row_text row.now) }

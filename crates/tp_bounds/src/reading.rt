@@ -1,9 +1,9 @@
 // Bound lines and trees read.
-ghost use Rattle.std.specs.Prelude.{◌≡◌, ◌≢◌, ◌+◌, ◌<◌, ◌^◌, ℕ, List, [], ◌∷◌, ◌++◌, All, length, IfOk, IfErr, MatchOption, MatchResult};
+ghost use Rattle.std.specs.Prelude.{◌≡◌, ◌+◌, ◌<◌, ◌^◌, All, length, IfOk, IfErr, MatchResult};
 ghost use Rattle.tp_words.specs.Parts.{parts_at};
 ghost use Rattle.tp_bounds.specs.declared.tree.BoundTree.{BoundTree};
+ghost use Rattle.tp_words.specs.Texts.{lines_of};
 ghost use Rattle.tp_bounds.specs.Lines.{bound_of, ReadsBound};
-ghost use Rattle.tp_script.specs.Lines.{lines_of};
 ghost use Rattle.tp_bounds.specs.Trees.{IfBad, IsFirstOff, IsTree, ReadsNth, tree_text};
 
 use crate::fault::TreeFault;
@@ -13,15 +13,7 @@ use crate::nodes::read_bound_words;
 use crate::tree::BoundTree;
 use std::alloc::Global;
 use tp_base::Memory;
-use tp_words::{cut, parts};
-
-/// What stands before the LF at the end.
-fn without_newline(line: &[u8]) -> Option<&[u8]>
-    ensures { MatchOption result ((text : List ℕ) → line.now ≢ text ++ 10 ∷ [])
-        (λ text. line.now ≡ text.now ++ 10 ∷ []) }
-{
-    line.strip_suffix(b"\n")
-}
+use tp_words::{first_line, parts, without_newline};
 
 fn read_text(alloc: Global, text: &[u8]) -> Result<Option<BoundLine>, Memory>
     requires { length text.now + 1 < 2 ^ 32 }
@@ -39,19 +31,6 @@ pub fn read_bound_line(alloc: Global, line: &[u8]) -> Result<Option<BoundLine>, 
     match without_newline(line) {
         None => Ok(None),
         Some(text) => read_text(alloc, text),
-    }
-}
-
-/// The first line, with its LF if it has one, and what stands behind it.
-fn first_line(text: &[u8]) -> (&[u8], &[u8])
-    requires { 0 < length text.now }
-    ensures lines { lines_of text.now ≡ result.0.now ∷ lines_of result.1.now }
-    ensures whole { text.now ≡ result.0.now ++ result.1.now }
-    ensures shorter { length result.1.now < length text.now }
-{
-    match cut(text, b'\n') {
-        Some((line, _)) => text.split_at(line.len() + 1),
-        None => text.split_at(text.len()),
     }
 }
 

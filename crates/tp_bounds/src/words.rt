@@ -2,13 +2,13 @@
 ghost use Rattle.std.specs.Prelude.{◌≡◌, ◌≤◌};
 ghost use Rattle.tp_words.specs.Fields.{begins_with};
 ghost use Rattle.tp_words.specs.Parts.{lacks};
-ghost use Rattle.tp_script.specs.Reading.{face_of};
 ghost use Rattle.tp_bounds.specs.Words.{numbers_of, sheet_of, bit_of, flags_of, state_of, numbered_of, own_point_of, point_of, own_hold_of, hold_of, holders_of, resource_hop_of, duration_hop_of, line_hop_of, hop_of};
 
 use crate::hops::{Hop, TreeHold, TreePoint};
 use crate::tree::NamedState;
 use tp_machine::Face;
 use tp_schedule::SheetName;
+use tp_script::read_face;
 use tp_words::{cut, read_name, read_number};
 
 /// What stands behind the place of a state.
@@ -45,16 +45,6 @@ pub fn read_sheet(word: &[u8]) -> Option<SheetName>
     let job = read_name(job)?;
     let (number, copy) = read_numbers(numbers)?;
     Some(SheetName { job, number, copy })
-}
-
-fn read_face(byte: u8) -> Option<Face>
-    ensures { result ≡ face_of byte }
-{
-    match byte {
-        b'F' => Some(Face::Front),
-        b'B' => Some(Face::Back),
-        _ => None,
-    }
 }
 
 fn read_bit(byte: u8) -> Option<bool>

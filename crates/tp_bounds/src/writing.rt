@@ -1,46 +1,15 @@
 // The words of bound lines written.
 ghost use Rattle.std.specs.Prelude.{◌≡◌, ◌++◌, ◌∷◌, [], All, OnOk, decimal, map};
 ghost use Rattle.tp_bounds.specs.Lines.{behind_spaces};
-ghost use Rattle.tp_script.specs.Script.{IsName, face_byte};
+ghost use Rattle.tp_words.specs.Fields.{IsName};
 ghost use Rattle.tp_bounds.specs.Words.{IsSheet, IsPoint, IsHold, IsHop, sheet_text, bit_byte, state_text, point_text, hold_text, hop_text};
 
 use crate::hops::{Hop, TreeHold, TreePoint};
 use crate::tree::NamedState;
-use tp_base::{Memory, Name};
-use tp_machine::Face;
+use tp_base::Memory;
 use tp_schedule::SheetName;
-use tp_words::put_number;
-
-/// Writes a space and the word.
-pub fn put_word(out: &mut Vec<u8>, word: &[u8]) -> Result<(), Memory>
-    ensures { OnOk result (out.new.items ≡ out.old.items ++ 32 ∷ word.now) }
-{
-    out.push(b' ')?;
-    out.extend_from_slice(word)?;
-    Ok(())
-}
-
-/// The bytes of a name, which are those of a name.
-fn name_bytes(name: &Name) -> &[u8]
-    ensures value { result.now ≡ name.now }
-    ensures spelled { IsName name.now }
-{
-    name.as_bytes()
-}
-
-pub fn put_name_word(out: &mut Vec<u8>, name: &Name) -> Result<(), Memory>
-    ensures written { OnOk result (out.new.items ≡ out.old.items ++ 32 ∷ name.now) }
-    ensures spelled { OnOk result (IsName name.now) }
-{
-    put_word(out, name_bytes(name))
-}
-
-pub fn put_number_word(out: &mut Vec<u8>, number: u32) -> Result<(), Memory>
-    ensures { OnOk result (out.new.items ≡ out.old.items ++ 32 ∷ decimal number) }
-{
-    out.push(b' ')?;
-    put_number(out, number)
-}
+use tp_script::face_letter;
+use tp_words::{name_bytes, put_name_word, put_number};
 
 fn put_sheet(out: &mut Vec<u8>, sheet: &SheetName) -> Result<(), Memory>
     ensures written { OnOk result (out.new.items ≡ out.old.items ++ sheet_text sheet.now) }
@@ -67,15 +36,6 @@ fn put_numbered(
     put_sheet(out, sheet)?;
     out.push(separator)?;
     put_number(out, number)
-}
-
-fn face_letter(face: Face) -> u8
-    ensures { result ≡ face_byte face }
-{
-    match face {
-        Face::Front => b'F',
-        Face::Back => b'B',
-    }
 }
 
 fn bit_letter(bit: bool) -> u8

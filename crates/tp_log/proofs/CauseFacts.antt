@@ -6,7 +6,8 @@ use Rattle.std.proofs.lemmas.Bool.{cases_Bool}
 use Rattle.std.proofs.lemmas.Option.{same_Some}
 use Rattle.std.proofs.lemmas.Slice.Eq.{bytes_eq-Decides}
 use Rattle.tp_words.proofs.Steps.{and_then_some}
-use Rattle.tp_words.proofs.Spelling.{name_spells, number_spells}
+use Rattle.tp_words.proofs.Spelling.{Tells, name_spells, number_spells}
+use Rattle.tp_words.proofs.Texts.{AllVisible, name_visible, number_visible}
 use Rattle.tp_schedule.specs.declared.recording.Cause.{Cause}
 use Rattle.tp_schedule.specs.declared.recording.Cause.TheVariants.{Syntax, Tray, Media, Named, Waiting, Back, End, «Module», Out, NotOn}
 use Rattle.tp_log.specs.declared.reason.Reason.{Reason}
@@ -15,8 +16,7 @@ use Rattle.tp_log.specs.Headings.{reason_text, reason_of, reasons as all_reasons
 use Rattle.tp_log.specs.Records.{cause_words}
 use Rattle.tp_log.specs.Grammar.{IsCause}
 use Rattle.tp_log.specs.Reading.{bare_of, cause_after, cause_of}
-use Rattle.tp_log.proofs.WordFacts.{AllVisible, name_visible, number_visible}
-use Rattle.tp_log.proofs.Forms.{Tells, one_again, one_made}
+use Rattle.tp_log.proofs.Forms.{one_again, one_made}
 
 pub find_passes : {A : Type 0} (p : A → Bool) (xs : List A) (x : A) → find p xs ≡ Some x → p x ≡ true
 find_passes p [] x e = absurd cc

@@ -12,7 +12,7 @@ use Rattle.tp_script.specs.declared.event.Event.TheVariants.{Bad as BadLine, Job
 use Rattle.tp_script.specs.Form.{GroupForm}
 use Rattle.tp_script.specs.Printed.{IsCounted, IsWhole, IsEchoed}
 use Rattle.tp_script.specs.Script.{want_byte, face_byte, spec_text, group_text, event_words}
-use Rattle.tp_log.proofs.WordFacts.{is_visible, IsVisible, AllVisible, name_visible, number_visible}
+use Rattle.tp_words.proofs.Texts.{is_visible, IsVisible, AllVisible, name_visible, number_visible}
 
 want_visible : (w : Want) → is_visible (want_byte w) ≡ true
 want_visible Blank = refl

@@ -6,6 +6,5 @@ pub mod CauseFacts
 pub mod RecordFacts
 pub mod LineFacts
 pub mod EventWords
-pub mod TextLines
 pub mod LogLines
 pub mod LogFacts

@@ -1,32 +1,21 @@
 -- A line: what is read is spelled so, and what is spelled so is read.
-use Rattle.std.proofs.Common.{◌≡◌, ◌≢◌, ℕ, ◌<◌, false, List, [], ◌∷◌, ◌++◌, length, Some, None, Err, refl, sym, ap, ◌∙◌, arith}
-use Rattle.std.specs.List.{join_with_byte}
+use Rattle.std.proofs.Common.{◌≡◌, ◌≢◌, ℕ, ◌<◌, List, [], ◌∷◌, ◌++◌, length, Some, None, Err, refl, sym, ap, ◌∙◌, arith}
 use Rattle.std.proofs.lemmas.List.{append_cancel_right}
 use Rattle.tp_words.specs.Parts.{parts_at}
-use Rattle.tp_words.proofs.PartFacts.{AllLack, lacks_from, parts-join, join-parts}
 use Rattle.tp_schedule.specs.declared.recording.Record.{Record}
 use Rattle.tp_script.specs.declared.fault.LineFault.{LineFault}
 use Rattle.tp_script.specs.declared.fault.LineFault.TheVariants.{Memory, Syntax}
 use Rattle.tp_script.specs.Printed.{Echoes}
 use Rattle.tp_script.specs.Reading.{Gives}
-use Rattle.tp_script.specs.Script.{spaced, event_text}
-use Rattle.tp_script.proofs.Printed.{spaced-join}
+use Rattle.tp_words.specs.Texts.{spaced}
+use Rattle.tp_script.specs.Script.{event_text}
+use Rattle.tp_words.proofs.Texts.{parts-spaced, spaced-parts}
 use Rattle.tp_log.specs.declared.item.Item.{Item}
 use Rattle.tp_log.specs.declared.item.Item.TheVariants.{Event, Note}
 use Rattle.tp_log.specs.Records.{record_words, record_text}
 use Rattle.tp_log.specs.Grammar.{IsRecord, IsItem, item_text, ReadsLine}
 use Rattle.tp_log.specs.Reading.{record_of}
-use Rattle.tp_log.proofs.WordFacts.{is_visible, AllVisible}
 use Rattle.tp_log.proofs.RecordFacts.{record_takes, record_again, record_visible}
-
--- ---- the words of a line
-pub all_lack : (c : ℕ) → is_visible c ≡ false → (words : List (List ℕ)) → AllVisible words → AllLack c words
-all_lack c outside [] h = tt
-all_lack c outside (w ∷ ws) h = (lacks_from is_visible c w outside h.0, all_lack c outside ws h.1)
-
-parts-visible : (words : List (List ℕ)) → 0 < length words → AllVisible words → parts_at 32 (join_with_byte 32 words) ≡ words
-parts-visible [] some h = absurd (omega arith)
-parts-visible (w ∷ ws) some h = parts-join 32 w ws (lacks_from is_visible 32 w refl h.0) (all_lack 32 refl ws h.1)
 
 some_words : (words : List (List ℕ)) (r : Record) → record_of words ≡ Some r → 0 < length words
 unfolding record_of
@@ -36,12 +25,12 @@ some_words (w ∷ ws) r e = omega arith
 text_takes : (text : List ℕ) (r : Record) → record_of (parts_at 32 text) ≡ Some r → IsRecord r × (text ≡ spaced (record_words r))
 text_takes text r e =
     let t = record_takes (parts_at 32 text) r e in
-    (t.1, sym (join-parts 32 text) ∙ ap (join_with_byte 32) t.0 ∙ sym (spaced-join (record_words r)))
+    (t.1, sym (spaced-parts text) ∙ ap spaced t.0)
 
 pub text_again : (r : Record) → IsRecord r → record_of (parts_at 32 (spaced (record_words r))) ≡ Some r
 text_again r h =
     let again = record_again r h in
-    ap (λ text. record_of (parts_at 32 text)) (spaced-join (record_words r)) ∙ ap record_of (parts-visible (record_words r) (some_words (record_words r) r again) (record_visible r h)) ∙ again
+    ap record_of (parts-spaced (record_words r) (some_words (record_words r) r again) (record_visible r h)) ∙ again
 
 -- no record begins as an echo does
 no_echo : (event : List ℕ) → record_of (parts_at 32 (62 ∷ 32 ∷ event)) ≡ None

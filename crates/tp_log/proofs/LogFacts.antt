@@ -4,7 +4,7 @@ use Rattle.std.specs.List.{AllByRecursion}
 use Rattle.std.proofs.lemmas.List.{append-nil, length-append, length-map, take_at}
 use Rattle.std.proofs.lemmas.List.Elements.{All-append, All-from_recursion, recursion_from_All}
 use Rattle.std.proofs.lemmas.List.Concat.{flat_map-append}
-use Rattle.tp_script.specs.Lines.{lines_of}
+use Rattle.tp_words.specs.Texts.{lines_of}
 use Rattle.tp_log.specs.declared.fault.LogFault.{LogFault}
 use Rattle.tp_log.specs.declared.fault.LogFault.TheVariants.{Bad, Memory as OutOfMemory}
 use Rattle.tp_log.specs.declared.item.Item.{Item}

@@ -1,35 +1,25 @@
 -- The lines of a log are those of its items, and no text is that of two logs.
 use Rattle.std.proofs.Common.{◌≡◌, ℕ, zero, suc, true, List, [], ◌∷◌, ◌++◌, map, take, refl, sym, ap, ◌∙◌, append_assoc}
-use Rattle.std.specs.List.{All, AllByRecursion, join_with_byte}
+use Rattle.std.specs.List.{All, AllByRecursion}
 use Rattle.std.proofs.lemmas.List.{append-nil, append_cancel_right, take-map}
 use Rattle.std.proofs.lemmas.List.Elements.{All-take, recursion_from_All}
 use Rattle.std.proofs.lemmas.Option.{same_Some}
 use Rattle.tp_words.specs.Parts.{parts_at, lacks}
-use Rattle.tp_words.proofs.PartFacts.{AllLack, lacks-append}
-use Rattle.tp_script.specs.Lines.{lines_of}
-use Rattle.tp_script.specs.Script.{event_words, event_text, spaced}
-use Rattle.tp_script.proofs.Printed.{spaced-join}
+use Rattle.tp_words.specs.Texts.{lines_of}
+use Rattle.tp_words.specs.Texts.{spaced}
+use Rattle.tp_script.specs.Script.{event_words, event_text}
 use Rattle.tp_script.proofs.Echoed.{same_event}
 use Rattle.tp_log.specs.declared.item.Item.{Item}
 use Rattle.tp_log.specs.declared.item.Item.TheVariants.{Event, Note}
 use Rattle.tp_log.specs.Records.{record_words}
 use Rattle.tp_log.specs.Grammar.{IsItem, item_text, BeginsWithEcho, IsLog, log_text, IsFirstOff}
 use Rattle.tp_log.specs.Reading.{record_of}
-use Rattle.tp_log.proofs.WordFacts.{AllVisible}
 use Rattle.tp_log.proofs.RecordFacts.{record_visible}
-use Rattle.tp_log.proofs.LineFacts.{all_lack, text_again, not_told}
+use Rattle.tp_log.proofs.LineFacts.{text_again, not_told}
 use Rattle.tp_log.proofs.EventWords.{event_visible}
-use Rattle.tp_log.proofs.TextLines.{lines_at}
+use Rattle.tp_words.proofs.Texts.{lines_at, spaced_lacks}
 
 -- ---- a line ends with its only LF
-join_lacks : (words : List (List ℕ)) → AllLack 10 words → lacks 10 (join_with_byte 32 words) ≡ true
-join_lacks [] h = refl
-join_lacks (x ∷ []) h = h.0
-join_lacks (x ∷ y ∷ ys) h = lacks-append 10 x (32 ∷ join_with_byte 32 (y ∷ ys)) h.0 (join_lacks (y ∷ ys) h.1)
-
-spaced_lacks : (words : List (List ℕ)) → AllVisible words → lacks 10 (spaced words) ≡ true
-spaced_lacks words h = rw (spaced-join words) (join_lacks words (all_lack 10 refl words h))
-
 abbrev front : Item → List ℕ
 front (Event event) = 62 ∷ 32 ∷ event_text event
 front (Note told) = spaced (record_words told)

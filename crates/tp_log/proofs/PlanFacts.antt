@@ -5,23 +5,23 @@ use Rattle.std.specs.List.{AllByRecursion}
 use Rattle.std.proofs.lemmas.Bool.{ltb-true, lt-ltb}
 use Rattle.std.proofs.lemmas.Option.{cond_some, same_Some}
 use Rattle.std.proofs.lemmas.List.{length-map}
-use Rattle.tp_words.specs.Numbers.{number_of}
+use Rattle.tp_words.specs.Numbers.{IsNumber, number_of}
 use Rattle.tp_words.specs.Each.{each_read}
 use Rattle.tp_words.specs.Fields.{name_of}
 use Rattle.tp_words.proofs.Steps.{and_then_some}
-use Rattle.tp_words.proofs.Spelling.{name_spells, number_spells}
+use Rattle.tp_words.proofs.Spelling.{Tells, name_spells, number_spells}
+use Rattle.tp_words.proofs.Texts.{AllVisible, name_visible, number_visible}
 use Rattle.tp_words.proofs.Lists.{list_takes, list_again}
 use Rattle.tp_schedule.specs.declared.recording.Record.{Record}
 use Rattle.tp_schedule.specs.declared.recording.Record.TheVariants.{Plan, Move}
 use Rattle.tp_schedule.specs.declared.recording.SheetName.{SheetName}
-use Rattle.tp_script.specs.Script.{IsName}
+use Rattle.tp_words.specs.Fields.{IsName}
 use Rattle.tp_log.specs.declared.heading.Heading.TheVariants as headings
 use Rattle.tp_log.specs.Headings.{heading_text}
 use Rattle.tp_log.specs.Records.{sheet_text, turns_words, record_words}
-use Rattle.tp_log.specs.Grammar.{IsNumber, IsSheet, IsRecord}
+use Rattle.tp_log.specs.Grammar.{IsSheet, IsRecord}
 use Rattle.tp_log.specs.Reading.{sheet_of, turns_of, plan_with, plan_of, move_with, move_of}
-use Rattle.tp_log.proofs.WordFacts.{AllVisible, sheet_spells, name_visible, number_visible}
-use Rattle.tp_log.proofs.Forms.{Tells}
+use Rattle.tp_log.proofs.WordFacts.{sheet_spells}
 
 -- ---- points and actions in turn
 record TurnsTake (words : List (List ℕ)) (t : List ℕ × List (List ℕ)) : Type 0 where

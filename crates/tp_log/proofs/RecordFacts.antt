@@ -4,7 +4,8 @@ use Rattle.std.specs.Prelude.{option_map}
 use Rattle.std.specs.Str.{bytes_eq}
 use Rattle.std.proofs.lemmas.Slice.Eq.{bytes_eq-Decides}
 use Rattle.tp_words.proofs.Steps.{and_then_some, map_some}
-use Rattle.tp_words.proofs.Spelling.{name_spells, number_spells, two_again, five_again}
+use Rattle.tp_words.proofs.Spelling.{Tells, name_spells, number_spells, two_again, five_again}
+use Rattle.tp_words.proofs.Texts.{AllVisible, name_visible, number_visible}
 use Rattle.tp_schedule.specs.declared.recording.Record.{Record}
 use Rattle.tp_schedule.specs.declared.recording.Record.TheVariants.{Plan, Move, Never, Budget, FullUp, Release, Done, Lost, Recall, Withdraw, Cut, Purge, Again, Stuck, Broken, Drop, Refused}
 use Rattle.tp_schedule.specs.declared.recording.SheetName.{SheetName}
@@ -14,8 +15,8 @@ use Rattle.tp_log.specs.Headings.{heading_text, heading_of, headings as all_head
 use Rattle.tp_log.specs.Records.{sheet_text, record_words}
 use Rattle.tp_log.specs.Grammar.{IsSheet, IsRecord}
 use Rattle.tp_log.specs.Reading.{one_of, sheet_of, cause_of, record_after, record_of}
-use Rattle.tp_log.proofs.WordFacts.{AllVisible, sheet_spells, goal_spells, sheet_visible, goal_visible, name_visible, number_visible}
-use Rattle.tp_log.proofs.Forms.{Tells, one_again, one_made, two_made, three_again, three_made, five_made}
+use Rattle.tp_log.proofs.WordFacts.{sheet_spells, goal_spells, sheet_visible, goal_visible}
+use Rattle.tp_log.proofs.Forms.{one_again, one_made, two_made, three_again, three_made, five_made}
 use Rattle.tp_log.proofs.PlanFacts.{plan_takes, plan_again, turns_visible, move_takes, move_again, points_visible}
 use Rattle.tp_log.proofs.CauseFacts.{find_passes, cause_takes, cause_again, cause_visible}
 

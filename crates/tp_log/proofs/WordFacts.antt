@@ -1,23 +1,21 @@
 -- Copies and goals: what is read is spelled so, and what is spelled so is read.
-use Rattle.std.proofs.Common.{◌≡◌, inl, inr, ℕ, ◌+◌, ◌<◌, ◌≤◌, Bool, false, true, not, ◌&&◌, ◌||◌, eqb, List, ◌∷◌, ◌++◌, length, Option, Some, None, refl, ap, subst, arith, decimal}
+use Rattle.std.proofs.Common.{◌≡◌, inl, inr, ℕ, ◌<◌, Bool, true, ◌||◌, eqb, List, ◌∷◌, ◌++◌, length, Option, Some, None, refl, subst, arith, decimal}
 use Rattle.std.specs.Prelude.{option_map, codes}
-use Rattle.std.specs.List.{AllByRecursion, list_all}
+use Rattle.std.specs.List.{list_all}
 use Rattle.std.specs.Str.{bytes_eq}
 use Rattle.std.specs.Char.{is_ascii_digit}
 use Rattle.std.proofs.lemmas.Slice.Eq.{bytes_eq-Decides}
-use Rattle.std.proofs.lemmas.Bool.{cases_Bool, or_right, and_from, ne_eqb}
+use Rattle.std.proofs.lemmas.Bool.{cases_Bool, or_right}
 use Rattle.std.proofs.lemmas.Option.{same_Some}
-use Rattle.std.proofs.lemmas.List.Splits.{length-slice_split}
-use Rattle.std.proofs.lemmas.List.Sums.{count_by-le-length}
 use Rattle.tp_base.specs.NameText.{is_name_byte}
-use Rattle.tp_words.specs.Parts.{parts_at}
-use Rattle.tp_words.specs.Fields.{name_of}
+use Rattle.tp_words.specs.Fields.{IsName, name_of}
+use Rattle.tp_words.specs.Numbers.{IsNumber}
 use Rattle.tp_words.proofs.Steps.{map_some}
 use Rattle.tp_words.proofs.Spelling.{Spells, name_spells, number_spells, pair_spells, either, weaker}
+use Rattle.tp_words.proofs.Texts.{IsVisible, visible}
 use Rattle.tp_schedule.specs.declared.recording.SheetName.{SheetName}
-use Rattle.tp_script.specs.Script.{IsName}
 use Rattle.tp_log.specs.Records.{sheet_text, goal_text}
-use Rattle.tp_log.specs.Grammar.{IsNumber, IsSheet, IsGoal}
+use Rattle.tp_log.specs.Grammar.{IsSheet, IsGoal}
 use Rattle.tp_log.specs.Reading.{numbers_of, sheet_from, sheet_of, goal_of}
 
 -- ---- a copy
@@ -72,33 +70,8 @@ pub goal_spells : Spells goal_of goal_text IsGoal goal_byte
 goal_spells = record { takes = goal_takes; again = goal_again; bytes = goal_bytes; filled = goal_filled }
 
 -- ---- words have neither a space nor a line end in them
-abbrev pub is_visible : ℕ → Bool
-is_visible b = not (eqb b 10) && not (eqb b 32)
-
-abbrev pub IsVisible : List ℕ → Type 0
-IsVisible text = list_all is_visible text ≡ true
-
-abbrev pub AllVisible : List (List ℕ) → Type 0
-AllVisible words = AllByRecursion IsVisible words
-
-other_byte : (p : ℕ → Bool) (b c : ℕ) → p c ≡ false → p b ≡ true → not (eqb b c) ≡ true
-other_byte p b c outside h = ap not (ne_eqb b c (λ e. (let both : p c ≡ true = subst (λ x. p x ≡ true) e h in cc)))
-
-visible : {X : Type 0} {read : List ℕ → Option X} {text : X → List ℕ} {Fits : X → Type 0} {byte : ℕ → Bool} → Spells read text Fits byte → byte 10 ≡ false → byte 32 ≡ false → (x : X) → Fits x → IsVisible (text x)
-visible {text = text} {byte = byte} s no_end no_space x fits = weaker byte is_visible (λ b h. and_from (not (eqb b 10)) (not (eqb b 32)) (other_byte byte b 10 no_end h) (other_byte byte b 32 no_space h)) (text x) (s.bytes x fits)
-
-pub name_visible : (name : List ℕ) → IsName name → IsVisible name
-name_visible = visible name_spells refl refl
-
-pub number_visible : (n : ℕ) → IsNumber n → IsVisible (decimal n)
-number_visible = visible number_spells refl refl
-
 pub sheet_visible : (s : SheetName) → IsSheet s → IsVisible (sheet_text s)
 sheet_visible = visible sheet_spells refl refl
 
 pub goal_visible : (g : Option (List ℕ)) → IsGoal g → IsVisible (goal_text g)
 goal_visible = visible goal_spells refl refl
-
--- a text has at most one part more than bytes
-pub length-parts : (text : List ℕ) → length (parts_at 32 text) ≤ length text + 1
-length-parts text = omega (arith, length-slice_split (λ b. eqb b 32) text, count_by-le-length (λ b. eqb b 32) text)

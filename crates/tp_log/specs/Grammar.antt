@@ -1,5 +1,5 @@
 -- What a log is, what its text is, and which line is the first that is off the grammar.
-use Rattle.std.specs.Prelude.{◌≡◌, ◌≢◌, ℕ, ◌-◌, ◌≤◌, ◌<◌, ◌^◌, List, [], ◌∷◌, ◌++◌, length, map, take, Option, Some, None, Result, Ok, Err}
+use Rattle.std.specs.Prelude.{◌≡◌, ◌≢◌, ℕ, ◌-◌, ◌≤◌, List, [], ◌∷◌, ◌++◌, length, map, take, Option, Some, None, Result, Ok, Err}
 use Rattle.std.specs.List.{All, AllByRecursion, flat_map}
 use Rattle.tp_schedule.specs.declared.recording.Cause.{Cause}
 use Rattle.tp_schedule.specs.declared.recording.Cause.TheVariants.{Syntax as SyntaxCause, Tray, Media, Named, Waiting, Back, End, «Module», Out, NotOn}
@@ -7,8 +7,10 @@ use Rattle.tp_schedule.specs.declared.recording.Record.{Record}
 use Rattle.tp_schedule.specs.declared.recording.Record.TheVariants.{Plan, Move, Never, Budget, FullUp, Release, Done, Lost, Recall, Withdraw, Cut, Purge, Again, Stuck, Broken, Drop, Refused}
 use Rattle.tp_schedule.specs.declared.recording.SheetName.{SheetName}
 use Rattle.tp_script.specs.Printed.{IsEchoed}
-use Rattle.tp_script.specs.Script.{IsName, event_text}
-use Rattle.tp_script.specs.Lines.{lines_of}
+use Rattle.tp_words.specs.Fields.{IsName}
+use Rattle.tp_words.specs.Numbers.{IsNumber}
+use Rattle.tp_script.specs.Script.{event_text}
+use Rattle.tp_words.specs.Texts.{lines_of}
 use Rattle.tp_script.specs.declared.event.Event.{Event as AnyEvent}
 use Rattle.tp_script.specs.declared.fault.LineFault.{LineFault}
 use Rattle.tp_script.specs.declared.fault.LineFault.TheVariants.{Memory, Syntax}
@@ -19,9 +21,6 @@ use Rattle.tp_log.specs.declared.item.Item.TheVariants.{Event, Note}
 use Rattle.tp_log.specs.Records.{record_text, IsPrintable}
 
 -- ---- values that have a text: names are names, and numbers fit in 32 bits
-
-abbrev pub IsNumber : ℕ → Type 0
-IsNumber n = n < 2 ^ 32
 
 abbrev pub IsSheet : SheetName → Type 0
 IsSheet s = IsName s.job × (IsNumber s.number × IsNumber s.copy)

@@ -5,7 +5,7 @@ use Rattle.tp_schedule.specs.declared.recording.Cause.TheVariants.{Syntax, Tray,
 use Rattle.tp_schedule.specs.declared.recording.Record.{Record}
 use Rattle.tp_schedule.specs.declared.recording.Record.TheVariants.{Plan, Move, Never, Budget, FullUp, Release, Done, Lost, Recall, Withdraw, Cut, Purge, Again, Stuck, Broken, Drop, Refused}
 use Rattle.tp_schedule.specs.declared.recording.SheetName.{SheetName}
-use Rattle.tp_script.specs.Script.{spaced}
+use Rattle.tp_words.specs.Texts.{spaced}
 
 -- a copy: `NAME.NUMBER.COPY`
 abbrev pub sheet_text : SheetName → List ℕ

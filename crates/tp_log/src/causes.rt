@@ -5,10 +5,11 @@ ghost use Rattle.tp_words.specs.Parts.{shown};
 ghost use Rattle.tp_log.specs.Records.{cause_words};
 ghost use Rattle.tp_log.specs.Reading.{bare_of, cause_after, cause_of};
 
-use crate::fields::{only_name, only_number, put_number_word, put_word};
+use crate::fields::{only_name, only_number};
 use crate::reason::Reason;
 use tp_base::{Memory, Name};
 use tp_schedule::Cause;
+use tp_words::{put_number_word, put_word};
 
 /// The cause, if no word follows.
 #[tactic(auto, unfolding(crate::specs::Reading::bare_of))]

@@ -1,5 +1,5 @@
 // Words of records, read and written: copies, goals and numbers.
-ghost use Rattle.std.specs.Prelude.{◌≡◌, ◌++◌, ◌∷◌, OnOk, decimal};
+ghost use Rattle.std.specs.Prelude.{◌≡◌, ◌++◌, ◌∷◌, OnOk};
 ghost use Rattle.tp_words.specs.Parts.{shown};
 ghost use Rattle.tp_words.specs.Fields.{name_of};
 ghost use Rattle.tp_words.specs.Numbers.{number_of};
@@ -8,7 +8,7 @@ ghost use Rattle.tp_log.specs.Reading.{numbers_of, sheet_of, goal_of, one_of};
 
 use tp_base::{Memory, Name};
 use tp_schedule::SheetName;
-use tp_words::{cut, put_number, read_name, read_number};
+use tp_words::{cut, put_number, put_word, read_name, read_number};
 
 #[tactic(auto, unfolding(tp_words::specs::Fields::pair_of))]
 fn read_numbers(word: &[u8]) -> Option<(u32, u32)>
@@ -68,22 +68,6 @@ pub fn only_number(words: &[&[u8]]) -> Option<u32>
         return None;
     };
     read_number(number)
-}
-
-/// Writes a space and the word.
-pub fn put_word(out: &mut Vec<u8>, word: &[u8]) -> Result<(), Memory>
-    ensures { OnOk result (out.new.items ≡ out.old.items ++ 32 ∷ word.now) }
-{
-    out.push(b' ')?;
-    out.extend_from_slice(word)?;
-    Ok(())
-}
-
-pub fn put_number_word(out: &mut Vec<u8>, number: u32) -> Result<(), Memory>
-    ensures { OnOk result (out.new.items ≡ out.old.items ++ 32 ∷ decimal number) }
-{
-    out.push(b' ')?;
-    put_number(out, number)
 }
 
 pub fn put_sheet_word(out: &mut Vec<u8>, sheet: &SheetName) -> Result<(), Memory>

@@ -1,5 +1,5 @@
 // One line of a log.
-ghost use Rattle.std.specs.Prelude.{◌≡◌, ◌≢◌, ◌+◌, ◌<◌, ◌^◌, ℕ, List, [], ◌∷◌, ◌++◌, length, MatchOption, OnOk, OnErr};
+ghost use Rattle.std.specs.Prelude.{◌≡◌, ◌≢◌, ◌+◌, ◌<◌, ◌^◌, ℕ, List, ◌∷◌, ◌++◌, length, MatchOption, OnOk, OnErr};
 ghost use Rattle.tp_words.specs.Parts.{parts_at};
 ghost use Rattle.tp_script.specs.Reading.{Gives};
 ghost use Rattle.tp_log.specs.Reading.{record_of};
@@ -11,7 +11,7 @@ use std::alloc::Global;
 use tp_base::Memory;
 use tp_schedule::Record;
 use tp_script::{Event, LineFault, print_event, read_printed};
-use tp_words::parts;
+use tp_words::{parts, without_newline};
 
 /// Appends the echo of an event: a line of `> ` and the event as printed, with its LF. After `Memory`
 /// the buffer is as before.
@@ -25,14 +25,6 @@ pub fn print_echo(event: &Event, out: &mut Vec<u8>) -> Result<(), Memory>
     text.push(b'\n')?;
     out.extend_from_slice(&text)?;
     Ok(())
-}
-
-/// What stands before the LF at the end.
-fn without_newline(line: &[u8]) -> Option<&[u8]>
-    ensures { MatchOption result ((text : List ℕ) → line.now ≢ text ++ 10 ∷ [])
-        (λ text. line.now ≡ text.now ++ 10 ∷ []) }
-{
-    line.strip_suffix(b"\n")
 }
 
 /// What stands behind the mark of an echo.

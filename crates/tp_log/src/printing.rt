@@ -1,13 +1,14 @@
 // Records written.
 ghost use Rattle.std.specs.Prelude.{◌≡◌, [], ◌++◌, ◌∷◌, OnOk, OnErr, codes, decimal};
-ghost use Rattle.tp_script.specs.Script.{spaced};
+ghost use Rattle.tp_words.specs.Texts.{spaced};
 ghost use Rattle.tp_log.specs.Records.{sheet_text, record_words, record_text, IsPrintable};
 
 use crate::causes::put_cause;
-use crate::fields::{put_goal_word, put_number_word, put_sheet_word, put_word};
+use crate::fields::{put_goal_word, put_sheet_word};
 use crate::plans::{put_points, put_turns};
 use tp_base::{Memory, Name, Tick};
 use tp_schedule::{Record, SheetName};
+use tp_words::{put_number_word, put_word};
 
 /// Writes a heading and the copy that it is about.
 fn put_heading(out: &mut Vec<u8>, heading: &[u8], sheet: &SheetName) -> Result<(), Memory>

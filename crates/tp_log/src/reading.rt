@@ -1,6 +1,6 @@
 // A whole log.
-ghost use Rattle.std.specs.Prelude.{◌≡◌, ◌+◌, ◌<◌, ◌^◌, List, ◌∷◌, ◌++◌, All, length, IfOk, IfErr, MatchResult};
-ghost use Rattle.tp_script.specs.Lines.{lines_of};
+ghost use Rattle.std.specs.Prelude.{◌≡◌, ◌+◌, ◌<◌, ◌^◌, List, All, length, IfOk, IfErr, MatchResult};
+ghost use Rattle.tp_words.specs.Texts.{lines_of};
 ghost use Rattle.tp_log.specs.declared.fault.LogFault.TheVariants.{Memory};
 ghost use Rattle.tp_log.specs.declared.item.Item.{Item};
 ghost use Rattle.tp_log.specs.Grammar.{IsLog, log_text, IsFirstOff, IfBad, ReadsNth};
@@ -10,20 +10,7 @@ use crate::item::Item;
 use crate::line::read_log_line;
 use std::alloc::Global;
 use tp_script::LineFault;
-use tp_words::cut;
-
-/// The first line, with its LF if it has one, and what stands behind it.
-fn first_line(text: &[u8]) -> (&[u8], &[u8])
-    requires { 0 < length text.now }
-    ensures lines { lines_of text.now ≡ result.0.now ∷ lines_of result.1.now }
-    ensures whole { text.now ≡ result.0.now ++ result.1.now }
-    ensures shorter { length result.1.now < length text.now }
-{
-    match cut(text, b'\n') {
-        Some((line, _)) => text.split_at(line.len() + 1),
-        None => text.split_at(text.len()),
-    }
-}
+use tp_words::first_line;
 
 /// The item of line `number`, counted from 1. The first one is an event.
 fn read_nth(alloc: Global, number: u64, line: &[u8]) -> Result<Item, LogFault>

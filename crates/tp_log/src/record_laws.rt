@@ -1,8 +1,9 @@
 //! What holds of every record, as its parts are. The calls change nothing: their contracts are the laws.
 
 ghost use Rattle.std.specs.List.{AllByRecursion};
-ghost use Rattle.tp_log.specs.Grammar.{HasFields, IsCause, IsGoal, IsNumber, IsSheet};
-ghost use Rattle.tp_script.specs.Script.{IsName};
+ghost use Rattle.tp_log.specs.Grammar.{HasFields, IsCause, IsGoal, IsSheet};
+ghost use Rattle.tp_words.specs.Fields.{IsName};
+ghost use Rattle.tp_words.specs.Numbers.{IsNumber};
 
 use tp_base::{Name, Tick};
 use tp_schedule::{Cause, Record, SheetName};

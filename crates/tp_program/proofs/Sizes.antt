@@ -3,7 +3,7 @@ use Rattle.std.proofs.Common.{◌≡◌, inl, inr, ℕ, ◌<◌, ◌≤◌, Bool
 use Rattle.std.specs.List.{All}
 use Rattle.std.proofs.lemmas.Bool.{cases_Bool}
 use Rattle.std.proofs.lemmas.List.Elements.{All-head, All-tail}
-use Rattle.tp_script.specs.Lines.{lines_of, onto_line}
+use Rattle.tp_words.specs.Texts.{lines_of, onto_line}
 use Rattle.tp_stream.specs.Takes.{BeginsTooLong, FitsIn, body_of, ends_whole}
 use Rattle.tp_stream.proofs.Lines.{lines_after, some_line}
 

@@ -4,7 +4,7 @@ use Rattle.tp_outside.specs.Outside.{Files, file_at}
 use Rattle.tp_machine.specs.declared.whole.Machine.{Machine}
 use Rattle.tp_machine_text.specs.Texts.{IsBrokenAt, IsMachineText, IsNotToml}
 use Rattle.tp_command.specs.Form.{Asked}
-use Rattle.tp_script.specs.Lines.{lines_of}
+use Rattle.tp_words.specs.Texts.{lines_of}
 use Rattle.tp_stream.specs.Scripts.{line_bytes, most_lines}
 use Rattle.tp_stream.specs.Takes.{FitsIn}
 use Rattle.tp_stream.specs.declared.stop.Stop.TheVariants.{Line, Lines}

@@ -3,7 +3,7 @@ use Rattle.std.proofs.Common.{◌≡◌, ℕ, ◌+◌, List, [], ◌∷◌, ◌+
 use Rattle.tp_machine.specs.declared.whole.Machine.{Machine}
 use Rattle.tp_outside.specs.Reading.{IsCutShort}
 use Rattle.tp_outside.proofs.Parts.{IfSome-at, IfSome-from}
-use Rattle.tp_script.specs.Lines.{lines_of}
+use Rattle.tp_words.specs.Texts.{lines_of}
 use Rattle.tp_stream.specs.Takes.{IsWritten, Place, StopsBefore, Takes, place_of}
 use Rattle.tp_stream.specs.declared.stop.Stop.{Stop}
 use Rattle.tp_stream.specs.declared.stop.Stop.TheVariants.{Memory, Refused, Source, Sink, Line, Lines}

@@ -3,7 +3,7 @@ use Rattle.std.specs.Prelude.{◌≡◌, ℕ, ◌+◌, ◌<◌, ◌≤◌, true,
 use Rattle.std.specs.List.{All}
 use Rattle.tp_machine.specs.declared.whole.Machine.{Machine}
 use Rattle.tp_outside.specs.Reading.{IsCutShort}
-use Rattle.tp_script.specs.Lines.{lines_of}
+use Rattle.tp_words.specs.Texts.{lines_of}
 use Rattle.tp_words.specs.Parts.{lacks}
 use Rattle.tp_stream.specs.Scripts.{NoRefusal, line_bytes, most_lines}
 use Rattle.tp_stream.specs.Takes.{BeginsTooLong, FitsIn, IsWritten, Stops, TakesAll, ends_whole, place_of}

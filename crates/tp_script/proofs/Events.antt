@@ -7,6 +7,7 @@ use Rattle.std.proofs.lemmas.Slice.Eq.{bytes_eq-Decides}
 use Rattle.std.proofs.lemmas.Bool.{cases_Bool, ltb-true, lt-ltb}
 use Rattle.std.proofs.lemmas.Option.{cond_some, same_Some}
 use Rattle.tp_base.specs.NameText.{is_name_text}
+use Rattle.tp_words.specs.Fields.{IsName}
 use Rattle.tp_words.specs.Numbers.{digits_of}
 use Rattle.tp_words.proofs.Steps.{and_then_some}
 use Rattle.tp_words.proofs.EachFacts.{each_takes, each_again}
@@ -19,7 +20,7 @@ use Rattle.tp_script.specs.declared.fault.LineFault.{LineFault}
 use Rattle.tp_script.specs.declared.fault.LineFault.TheVariants.{Memory, Syntax}
 use Rattle.tp_script.specs.Form.{GroupForm}
 use Rattle.tp_script.specs.Verbs.{verb_text, verb_of, verbs as verbs-all}
-use Rattle.tp_script.specs.Script.{IsGroup, IsEvent, IsName, Reads, is_passed}
+use Rattle.tp_script.specs.Script.{IsGroup, IsEvent, Reads, is_passed}
 use Rattle.tp_words.specs.Fields.{name_of}
 use Rattle.tp_script.specs.Reading.{Gives, group_of, groups_of, one_name, after_clock, job_of, after_job, event_after, event_of}
 use Rattle.tp_script.proofs.Groups.{group_takes, group_only}

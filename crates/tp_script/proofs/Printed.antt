@@ -1,16 +1,20 @@
 -- A printed event is in the grammar, and its line has just its words.
 use Rattle.std.proofs.Common.{◌≡◌, inl, inr, ℕ, ◌-◌, ◌<◌, ◌≤◌, ◌^◌, Bool, true, false, not, ◌&&◌, ◌||◌, eqb, leb, List, [], ◌∷◌, ◌++◌, length, get_or, take, map, refl, ap, ◌∙◌, arith, decimal}
-use Rattle.std.specs.List.{AllZip, AllByRecursion, list_all, flat_map, join_with_byte}
+use Rattle.std.specs.List.{AllZip, AllByRecursion, list_all, flat_map}
 use Rattle.std.specs.Char.{is_ascii_digit}
 use Rattle.std.proofs.lemmas.Bool.{and_parts, and_from, cases_Bool, ne_eqb, leb-true}
 use Rattle.std.proofs.lemmas.Bool.Decides.{nat_tests}
-use Rattle.std.proofs.lemmas.List.{length-map, append-nil, take_at, get_or_at, length-append}
+use Rattle.std.proofs.lemmas.List.{length-map, take_at, get_or_at, length-append}
 use Rattle.std.proofs.lemmas.List.Folds.{list_all-append, list_all_at}
 use Rattle.std.proofs.lemmas.Fmt.{digits_decimal, decimal_nonempty}
 use Rattle.tp_base.specs.NameText.{is_name_byte}
+use Rattle.tp_words.specs.Fields.{IsName}
 use Rattle.tp_words.specs.Parts.{words_in, is_word, lacks}
+use Rattle.tp_words.specs.Texts.{spaced}
 use Rattle.tp_words.proofs.PartFacts.{IsWord, AllWords, words-join, lacks_from}
 use Rattle.tp_words.proofs.NumberFacts.{own, digits_take, digits_again}
+use Rattle.tp_words.proofs.Spelling.{weaker}
+use Rattle.tp_words.proofs.Texts.{spaced-join}
 use Rattle.tp_machine.specs.declared.parts.Want.{Want}
 use Rattle.tp_machine.specs.declared.parts.Want.TheVariants.{Blank, Mono, Colour}
 use Rattle.tp_machine.specs.declared.parts.Face.{Face}
@@ -18,7 +22,7 @@ use Rattle.tp_machine.specs.declared.parts.Face.TheVariants.{Front, Back}
 use Rattle.tp_script.specs.declared.event.Event.{Event}
 use Rattle.tp_script.specs.declared.event.Event.TheVariants.{Bad, Job, Clock, Jam, Off, On}
 use Rattle.tp_script.specs.Form.{GroupForm}
-use Rattle.tp_script.specs.Script.{IsGroup, IsEvent, IsName, want_byte, face_byte, spec_text, group_text, event_words, event_text, spaced, bare, words_of_line, ends_with_byte}
+use Rattle.tp_script.specs.Script.{IsGroup, IsEvent, want_byte, face_byte, spec_text, group_text, event_words, event_text, bare, words_of_line, ends_with_byte}
 use Rattle.tp_script.specs.Printed.{IsCounted, IsWhole}
 use Rattle.tp_script.proofs.Groups.{group_printed}
 
@@ -39,13 +43,6 @@ event_printed (On n) h = (refl, h)
 -- the bytes that words are printed with
 abbrev is_plain : ℕ → Bool
 is_plain b = is_name_byte b || (eqb b 42) || (eqb b 58)
-
--- a test that lets through what another does
-weaker : (p q : ℕ → Bool) → ((b : ℕ) → p b ≡ true → q b ≡ true) → (text : List ℕ) → list_all p text ≡ true → list_all q text ≡ true
-weaker p q h [] all = refl
-weaker p q h (b ∷ text) all =
-    let parts = and_parts (p b) (list_all p text) all in
-    and_from (q b) (list_all q text) (h b parts.0) (weaker p q h text parts.1)
 
 plain_name_byte : (b : ℕ) → is_name_byte b ≡ true → is_plain b ≡ true
 plain_name_byte b h = rw h refl
@@ -122,11 +119,6 @@ AllWords-plain [] h = tt
 AllWords-plain (x ∷ xs) h = (word_of_plain x h.0, AllWords-plain xs h.1)
 
 -- ---- the line
-
-pub spaced-join : (texts : List (List ℕ)) → spaced texts ≡ join_with_byte 32 texts
-spaced-join [] = refl
-spaced-join (x ∷ []) = append-nil x
-spaced-join (x ∷ y ∷ ys) = ap (λ t. x ++ 32 ∷ t) (spaced-join (y ∷ ys))
 
 abbrev is_line_byte : ℕ → Bool
 is_line_byte b = is_plain b || eqb b 32

@@ -1,20 +1,11 @@
--- A whole script: its lines, and the events that they give.
-use Rattle.std.specs.Prelude.{ℕ, ◌==◌, List, [], ◌∷◌, Option, Some, None, unwrap_or, if◌then◌else◌}
+-- A whole script: the events that its lines give.
+use Rattle.std.specs.Prelude.{ℕ, List, Option, Some, None, unwrap_or, if◌then◌else◌}
 use Rattle.std.specs.List.{filter_map}
+use Rattle.tp_words.specs.Texts.{lines_of}
 use Rattle.tp_script.specs.declared.event.Event.{Event}
 use Rattle.tp_script.specs.declared.event.Event.TheVariants.{Bad}
 use Rattle.tp_script.specs.Reading.{event_of}
 use Rattle.tp_script.specs.Script.{is_passed, words_of_line}
-
--- the byte before the first line, or a line of its own where there is none
-abbrev pub onto_line : ℕ → List (List ℕ) → List (List ℕ)
-onto_line byte [] = (byte ∷ []) ∷ []
-onto_line byte (line ∷ lines) = (byte ∷ line) ∷ lines
-
--- the lines of a script. Each ends with its LF, which the last may lack; behind a last LF stands no line
-abbrev pub lines_of : List ℕ → List (List ℕ)
-lines_of [] = []
-lines_of (byte ∷ text) = if byte == 10 then (10 ∷ []) ∷ lines_of text else onto_line byte (lines_of text)
 
 -- the event of a line: none for a blank line or a comment, and `Bad` off the grammar
 abbrev pub line_event : List ℕ → Option Event

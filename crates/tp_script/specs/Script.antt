@@ -1,10 +1,11 @@
 -- The grammar of a script's lines, and how an event is printed.
 use Rattle.std.specs.Prelude.{◌≡◌, ◌⊎◌, ℕ, ◌<◌, ◌≤◌, ◌^◌, ◌-◌, Bool, ◌==◌, true, false, List, Result, Ok, Err, Option, Some, None, [], ◌∷◌, ◌++◌, length, map, take, slice_index, decimal, codes, if◌then◌else◌}
-use Rattle.std.specs.List.{flat_map, AllZip}
+use Rattle.std.specs.List.{AllZip}
 use Rattle.std.specs.Str.Parse.{digits_value}
-use Rattle.tp_base.specs.NameText.{is_name_text}
 use Rattle.tp_words.specs.Numbers.{is_digits}
+use Rattle.tp_words.specs.Fields.{IsName}
 use Rattle.tp_words.specs.Parts.{words_in}
+use Rattle.tp_words.specs.Texts.{spaced}
 use Rattle.tp_machine.specs.declared.parts.Want.{Want}
 use Rattle.tp_machine.specs.declared.parts.Want.TheVariants.{Blank, Mono, Colour}
 use Rattle.tp_machine.specs.declared.parts.Face.{Face}
@@ -14,9 +15,6 @@ use Rattle.tp_script.specs.declared.fault.LineFault.{LineFault}
 use Rattle.tp_script.specs.declared.fault.LineFault.TheVariants.{Memory, Syntax}
 use Rattle.tp_script.specs.declared.event.Event.{Event}
 use Rattle.tp_script.specs.declared.event.Event.TheVariants.{Bad, Job, Clock, Jam, Off, On}
-
-abbrev pub IsName : List ℕ → Type 0
-IsName text = is_name_text text ≡ true
 
 -- 1 to `most` digits, zeros in front among them, that write n
 abbrev pub Writes : ℕ → List ℕ → ℕ → Type 0
@@ -98,11 +96,6 @@ event_words (Clock to) = codes "clock" ∷ decimal to ∷ []
 event_words (Jam name) = codes "jam" ∷ name ∷ []
 event_words (Off name) = codes "off" ∷ name ∷ []
 event_words (On name) = codes "on" ∷ name ∷ []
-
--- words with one space between each two
-abbrev pub spaced : List (List ℕ) → List ℕ
-spaced [] = []
-spaced (first ∷ others) = first ++ flat_map (λ word. 32 ∷ word) others
 
 abbrev pub event_text : Event → List ℕ
 event_text event = spaced (event_words event)

@@ -22,8 +22,12 @@ impl Model for Group {
 
     ghost invariant = { λ g. (1 ≤ g.count) × (g.count ≤ 4096) };
 
-    ghost inverse = { λ f. record { count = f.count; front = f.front;
-        back = f.back; face = f.face } };
+    ghost inverse = { λ f. record {
+      count = f.count;
+      front = f.front;
+      back = f.back;
+      face = f.face;
+    } };
 }
 
 /// What a line of a script asks for. A job has at least one group; `to` is a tick.

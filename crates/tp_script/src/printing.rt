@@ -4,17 +4,8 @@ ghost use Rattle.tp_script.specs.Script.{group_text, event_text};
 
 use crate::event::{Event, Group};
 use crate::group::put_group;
-use tp_base::{Memory, Name};
-use tp_words::put_number;
-
-/// Writes a space and the word.
-fn put_word(out: &mut Vec<u8>, word: &[u8]) -> Result<(), Memory>
-    ensures { OnOk result (out.new.items ≡ out.old.items ++ 32 ∷ word.now) }
-{
-    out.push(b' ')?;
-    out.extend_from_slice(word)?;
-    Ok(())
-}
+use tp_base::Memory;
+use tp_words::{put_number, put_word};
 
 fn put_groups(out: &mut Vec<u8>, groups: &[Group]) -> Result<(), Memory>
     ensures { OnOk result (out.new.items ≡ out.old.items

@@ -2,7 +2,8 @@
 use Rattle.std.proofs.Common.{◌≡◌, ℕ, List, [], ◌∷◌, Option, Some, None, refl, sym, ap, subst, ◌∙◌}
 use Rattle.std.specs.Option.{MatchOption}
 use Rattle.tp_machine.specs.declared.whole.Machine.{Machine}
-use Rattle.tp_script.specs.Lines.{line_event, lines_of}
+use Rattle.tp_words.specs.Texts.{lines_of}
+use Rattle.tp_script.specs.Lines.{line_event}
 use Rattle.tp_script.specs.declared.event.Event.{Event}
 use Rattle.tp_stream.specs.Answers.{AnswersAll}
 use Rattle.tp_stream.specs.Scripts.{AnswersLine, NoRefusal}

@@ -1,5 +1,5 @@
 -- A reader and the text that it reads, and how such readers join.
-use Rattle.std.proofs.Common.{◌≡◌, ℕ, ◌<◌, ◌≤◌, ◌^◌, Bool, true, false, not, ◌&&◌, ◌||◌, eqb, leb, List, [], ◌∷◌, ◌++◌, length, Option, Some, refl, ap, subst, ◌∙◌, arith, decimal}
+use Rattle.std.proofs.Common.{◌≡◌, ℕ, ◌<◌, ◌≤◌, Bool, true, false, not, ◌&&◌, ◌||◌, eqb, leb, List, [], ◌∷◌, ◌++◌, length, Option, Some, refl, ap, subst, ◌∙◌, arith, decimal}
 use Rattle.std.specs.Prelude.{option_and_then}
 use Rattle.std.specs.List.{list_all}
 use Rattle.std.specs.Char.{is_ascii_digit}
@@ -9,9 +9,9 @@ use Rattle.std.proofs.lemmas.List.Folds.{list_all-append}
 use Rattle.std.proofs.lemmas.Option.{cond_some, same_Some}
 use Rattle.std.proofs.lemmas.Fmt.{digits_decimal, decimal_nonempty}
 use Rattle.tp_base.specs.NameText.{is_name_text, is_name_byte}
-use Rattle.tp_words.specs.Numbers.{number_of}
+use Rattle.tp_words.specs.Numbers.{IsNumber, number_of}
 use Rattle.tp_words.specs.Parts.{cut_at, is_word}
-use Rattle.tp_words.specs.Fields.{name_of, pair_of, two_of, five_of}
+use Rattle.tp_words.specs.Fields.{IsName, name_of, pair_of, two_of, five_of}
 use Rattle.tp_words.proofs.Steps.{and_then_some}
 use Rattle.tp_words.proofs.NumberFacts.{own, number_takes, number_again}
 use Rattle.tp_words.proofs.PartFacts.{IsWord, lacks_from, cut_takes, cut_again}
@@ -23,6 +23,10 @@ pub record Spells {X : Type 0} (read : List ℕ → Option X) (text : X → List
   pub bytes : (x : X) → Fits x → list_all byte (text x) ≡ true
   pub filled : (x : X) → Fits x → 0 < length (text x)
 
+-- these are its words, and it is one
+abbrev pub Tells : {X : Type 0} → (X → List (List ℕ)) → (X → Type 0) → List (List ℕ) → X → Type 0
+Tells words_of Is words x = (words ≡ words_of x) × Is x
+
 pub filled_from : (text : List ℕ) → 0 < length text → is_word text ≡ true
 filled_from text h = ap not (ne_eqb (length text) 0 (λ e. omega arith))
 
@@ -33,12 +37,6 @@ word_from {text = text} {byte = byte} s not_space x fits = record {
 }
 
 -- ---- names and numbers
-abbrev pub IsName : List ℕ → Type 0
-IsName text = is_name_text text ≡ true
-
-abbrev pub IsNumber : ℕ → Type 0
-IsNumber n = n < 2 ^ 32
-
 name_parts : (text : List ℕ) → IsName text → (1 ≤ length text) × (list_all is_name_byte text ≡ true)
 name_parts text h =
     let both = and_parts (leb 1 (length text) && leb (length text) 32) (list_all is_name_byte text) h in

@@ -1,11 +1,14 @@
 -- Words of fixed parts, and lines of fixed fields.
-use Rattle.std.specs.Prelude.{ℕ, Bool, ◌==◌, slice_index, List, [], ◌∷◌, Option, Some, None, option_and_then, if◌then◌else◌}
+use Rattle.std.specs.Prelude.{◌≡◌, ℕ, Bool, true, ◌==◌, slice_index, List, [], ◌∷◌, Option, Some, None, option_and_then, if◌then◌else◌}
 use Rattle.tp_base.specs.NameText.{is_name_text}
 use Rattle.tp_words.specs.Parts.{cut_at}
 
 infixl 10 ◌>>=◌
 abbrev pub ◌>>=◌ : {A B : Type 0} → Option A → (A → Option B) → Option B
 o >>= f = option_and_then f o
+
+abbrev pub IsName : List ℕ → Type 0
+IsName text = is_name_text text ≡ true
 
 unfoldable pub name_of : List ℕ → Option (List ℕ)
 name_of word = if is_name_text word then Some word else None

@@ -1,8 +1,12 @@
 -- Numbers as decimal digits.
-use Rattle.std.specs.Prelude.{ℕ, ◌^◌, Bool, ◌&&◌, nat_le, nat_lt, ◌==◌, List, length, slice_index, Option, Some, None, option_and_then, if◌then◌else◌}
+use Rattle.std.specs.Prelude.{ℕ, ◌^◌, ◌<◌, Bool, ◌&&◌, nat_le, nat_lt, ◌==◌, List, length, slice_index, Option, Some, None, option_and_then, if◌then◌else◌}
 use Rattle.std.specs.List.{list_all}
 use Rattle.std.specs.Char.{is_ascii_digit}
 use Rattle.std.specs.Str.Parse.{digits_value}
+
+-- a number that fits in 32 bits
+abbrev pub IsNumber : ℕ → Type 0
+IsNumber n = n < 2 ^ 32
 
 -- 1 to `most` digits
 abbrev pub is_digits : ℕ → List ℕ → Bool

@@ -2,9 +2,9 @@ use Rattle.std.proofs.Common.{◌≡◌, ◌+◌, ◌<◌, ◌^◌, ◌∷◌, [
 use Rattle.std.specs.List.{All}
 use Rattle.std.proofs.lemmas.List.Elements.{All-tail}
 use Rattle.tp_bounds.specs.Lines.{IsNode, IsRow}
-use Rattle.tp_script.specs.Lines.{lines_of}
+use Rattle.tp_words.specs.Texts.{lines_of}
 use Rattle.tp_bounds.specs.Trees.{ReadsNth, tree_text}
-use Rattle.tp_bounds.proofs.Texts.{nothing_left}
+use Rattle.tp_words.proofs.Texts.{nothing_left}
 use Rattle.tp_bounds.proofs.TreeFacts.{All-last, empty_off, fault_bad, fault_printed, more_node, more_row, one_tree, tree_of}
 use Rattle.tp_bounds.proofs.reading.read_tree.Goals as goal
 

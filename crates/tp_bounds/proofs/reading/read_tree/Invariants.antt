@@ -1,7 +1,7 @@
 use Rattle.std.proofs.Common.{◌≡◌, ◌+◌, ◌<◌, ◌≤◌, ◌^◌, ◌++◌, length}
 use Rattle.std.specs.List.{All}
 use Rattle.tp_bounds.specs.Lines.{IsNode, IsRow}
-use Rattle.tp_script.specs.Lines.{lines_of}
+use Rattle.tp_words.specs.Texts.{lines_of}
 use Rattle.tp_bounds.specs.Trees.{tree_text}
 use Rattle.tp_bounds.proofs.reading.read_tree.Given as goal
 

@@ -1,7 +1,7 @@
 use Rattle.std.proofs.Common.{◌≡◌, length, ap, ◌∙◌, arith}
 use Rattle.std.proofs.lemmas.List.{length-map}
 use Rattle.tp_words.specs.Parts.{shown, parts_at}
-use Rattle.tp_log.proofs.WordFacts.{length-parts}
+use Rattle.tp_words.proofs.Texts.{length-parts}
 use Rattle.tp_log.proofs.line.read_words.Goals as goal
 
 -- a text has at most one part more than bytes

@@ -1,9 +1,9 @@
 use Rattle.std.proofs.Common.{◌≡◌, ◌+◌, ◌<◌, ◌^◌, ◌++◌, List, ℕ, length, sym, subst, ◌∙◌}
 use Rattle.std.specs.List.{All}
 use Rattle.std.proofs.lemmas.List.Elements.{All-head, All-tail}
-use Rattle.tp_script.specs.Lines.{lines_of}
+use Rattle.tp_words.specs.Texts.{lines_of}
 use Rattle.tp_log.specs.Grammar.{IsLog, log_text}
-use Rattle.tp_log.proofs.TextLines.{nothing_left}
+use Rattle.tp_words.proofs.Texts.{nothing_left}
 use Rattle.tp_log.proofs.LogLines.{one_log}
 use Rattle.tp_log.proofs.LogFacts.{fault_bad, fault_printed, log_more, text_more}
 use Rattle.tp_log.proofs.reading.read_log.Goals as goal

@@ -1,6 +1,6 @@
 use Rattle.std.proofs.Common.{◌≡◌, ◌+◌, ◌<◌, ◌^◌, ◌++◌, length}
 use Rattle.std.specs.List.{All}
-use Rattle.tp_script.specs.Lines.{lines_of}
+use Rattle.tp_words.specs.Texts.{lines_of}
 use Rattle.tp_log.specs.Grammar.{IsLog, log_text}
 use Rattle.tp_log.proofs.reading.read_log.Given as goal
 

@@ -1,13 +1,74 @@
--- The lines of a text, one after the other.
-use Rattle.std.proofs.Common.{◌≡◌, inl, inr, ℕ, zero, suc, ◌+◌, ◌<◌, ◌≤◌, ◌^◌, true, not, eqb, ltb, List, [], ◌∷◌, ◌++◌, length, take, drop, Some, None, refl, sym, ap, ◌∙◌, append_assoc, arith}
-use Rattle.std.specs.List.{All, position_or_len}
-use Rattle.std.proofs.lemmas.Bool.{cases_Bool, and_parts, and_from, not-true, ltb-false, eqb-true}
+-- The lines of a text, and the words of a line.
+use Rattle.std.proofs.Common.{◌≡◌, inl, inr, ℕ, zero, suc, ◌+◌, ◌<◌, ◌≤◌, ◌^◌, Bool, true, false, not, ◌&&◌, eqb, ltb, List, [], ◌∷◌, ◌++◌, length, take, drop, Option, Some, None, refl, sym, ap, subst, ◌∙◌, append_assoc, arith, decimal}
+use Rattle.std.specs.List.{All, AllByRecursion, join_with_byte, list_all, position_or_len}
+use Rattle.std.proofs.lemmas.Bool.{cases_Bool, and_parts, and_from, not-true, ltb-false, eqb-true, ne_eqb}
 use Rattle.std.proofs.lemmas.List.{append-nil, length-append, take_at, drop_at, drop_all, take_all}
 use Rattle.std.proofs.lemmas.List.Elements.{All-nil}
-use Rattle.tp_words.specs.Parts.{cut_at, lacks}
-use Rattle.tp_words.proofs.PartFacts.{cut_takes}
-use Rattle.tp_script.specs.Lines.{lines_of, onto_line}
+use Rattle.std.proofs.lemmas.List.Splits.{length-slice_split}
+use Rattle.std.proofs.lemmas.List.Sums.{count_by-le-length}
+use Rattle.tp_words.specs.Fields.{IsName}
+use Rattle.tp_words.specs.Numbers.{IsNumber}
+use Rattle.tp_words.specs.Parts.{cut_at, lacks, parts_at}
+use Rattle.tp_words.proofs.PartFacts.{AllLack, cut_takes, join-parts, lacks_from, lacks-append, parts-join}
+use Rattle.tp_words.proofs.Spelling.{Spells, name_spells, number_spells, weaker}
+use Rattle.tp_words.specs.Texts.{lines_of, onto_line, spaced}
 
+-- ---- words have neither a space nor a line end in them
+abbrev pub is_visible : ℕ → Bool
+is_visible b = not (eqb b 10) && not (eqb b 32)
+
+abbrev pub IsVisible : List ℕ → Type 0
+IsVisible text = list_all is_visible text ≡ true
+
+abbrev pub AllVisible : List (List ℕ) → Type 0
+AllVisible words = AllByRecursion IsVisible words
+
+other_byte : (p : ℕ → Bool) (b c : ℕ) → p c ≡ false → p b ≡ true → not (eqb b c) ≡ true
+other_byte p b c outside h = ap not (ne_eqb b c (λ e. (let both : p c ≡ true = subst (λ x. p x ≡ true) e h in cc)))
+
+pub visible : {X : Type 0} {read : List ℕ → Option X} {text : X → List ℕ} {Fits : X → Type 0} {byte : ℕ → Bool} → Spells read text Fits byte → byte 10 ≡ false → byte 32 ≡ false → (x : X) → Fits x → IsVisible (text x)
+visible {text = text} {byte = byte} s no_end no_space x fits = weaker byte is_visible (λ b h. and_from (not (eqb b 10)) (not (eqb b 32)) (other_byte byte b 10 no_end h) (other_byte byte b 32 no_space h)) (text x) (s.bytes x fits)
+
+pub name_visible : (name : List ℕ) → IsName name → IsVisible name
+name_visible = visible name_spells refl refl
+
+pub number_visible : (n : ℕ) → IsNumber n → IsVisible (decimal n)
+number_visible = visible number_spells refl refl
+
+all_lack : (c : ℕ) → is_visible c ≡ false → (words : List (List ℕ)) → AllVisible words → AllLack c words
+all_lack c outside [] h = tt
+all_lack c outside (w ∷ ws) h = (lacks_from is_visible c w outside h.0, all_lack c outside ws h.1)
+
+pub visible-append : (words more : List (List ℕ)) → AllVisible words → AllVisible more → AllVisible (words ++ more)
+visible-append [] more h k = k
+visible-append (w ∷ ws) more h k = (h.0, visible-append ws more h.1 k)
+
+-- ---- the words of a line
+pub spaced-join : (texts : List (List ℕ)) → spaced texts ≡ join_with_byte 32 texts
+spaced-join [] = refl
+spaced-join (x ∷ []) = append-nil x
+spaced-join (x ∷ y ∷ ys) = ap (λ t. x ++ 32 ∷ t) (spaced-join (y ∷ ys))
+
+pub parts-spaced : (words : List (List ℕ)) → 0 < length words → AllVisible words → parts_at 32 (spaced words) ≡ words
+parts-spaced [] some h = absurd (omega arith)
+parts-spaced (w ∷ ws) some h = ap (parts_at 32) (spaced-join (w ∷ ws)) ∙ parts-join 32 w ws (lacks_from is_visible 32 w refl h.0) (all_lack 32 refl ws h.1)
+
+pub spaced-parts : (text : List ℕ) → spaced (parts_at 32 text) ≡ text
+spaced-parts text = spaced-join (parts_at 32 text) ∙ join-parts 32 text
+
+join_lacks : (words : List (List ℕ)) → AllLack 10 words → lacks 10 (join_with_byte 32 words) ≡ true
+join_lacks [] h = refl
+join_lacks (x ∷ []) h = h.0
+join_lacks (x ∷ y ∷ ys) h = lacks-append 10 x (32 ∷ join_with_byte 32 (y ∷ ys)) h.0 (join_lacks (y ∷ ys) h.1)
+
+pub spaced_lacks : (words : List (List ℕ)) → AllVisible words → lacks 10 (spaced words) ≡ true
+spaced_lacks words h = rw (spaced-join words) (join_lacks words (all_lack 10 refl words h))
+
+-- a text has at most one part more than bytes
+pub length-parts : (text : List ℕ) → length (parts_at 32 text) ≤ length text + 1
+length-parts text = omega (arith, length-slice_split (λ b. eqb b 32) text, count_by-le-length (λ b. eqb b 32) text)
+
+-- ---- the lines of a text, one after the other
 pub lines_at : (line rest : List ℕ) → lacks 10 line ≡ true → lines_of (line ++ 10 ∷ rest) ≡ (line ++ 10 ∷ []) ∷ lines_of rest
 lines_at [] rest h = refl
 lines_at (b ∷ line) rest h =
