@@ -117,6 +117,87 @@ least = 3
 most = 3
 "#;
 
+/// LINE with a second colour on its engine, and these gaps.
+macro_rules! gap_machine {
+    ($gaps:literal) => {
+        concat!(
+            r#"format = 2
+lead = 2
+window = 200
+locations = ["f", "a", "b", "t", "p"]
+modules = ["FEED", "ENG2", "OUT", "DUMP"]
+trays = ["t"]
+purge = ["p"]
+
+[feeders]
+f = "plain"
+
+"#,
+            $gaps,
+            r#"[resources]
+rf = "FEED"
+r2 = "ENG2"
+rt = "OUT"
+
+[[actions]]
+name = "feed"
+module = "FEED"
+from = "f"
+to = "a"
+least = 2
+most = 4
+holds = [{ resource = "rf", begin = ["start", 0], end = ["start", 2] }]
+
+[[actions]]
+name = "print2"
+module = "ENG2"
+from = "a"
+to = "b"
+least = 6
+most = 8
+prints = ["mono"]
+holds = [{ resource = "r2", begin = ["start", 0], end = ["end", 0] }]
+
+[[actions]]
+name = "tint"
+module = "ENG2"
+from = "a"
+to = "b"
+least = 6
+most = 8
+prints = ["colour"]
+holds = [{ resource = "r2", begin = ["start", 0], end = ["end", 0], mode = 1 }]
+
+[[actions]]
+name = "out"
+module = "OUT"
+from = "b"
+to = "t"
+least = 3
+most = 30
+holds = [{ resource = "rt", begin = ["end", -1], end = ["end", 0] }]
+
+[[actions]]
+name = "dump"
+module = "DUMP"
+from = "b"
+to = "p"
+least = 3
+most = 3
+"#
+        )
+    };
+}
+
+/// A changeover takes 4 ticks.
+pub const GAP: &str = gap_machine!("[gaps]\nr2 = 4\n\n");
+
+/// A changeover takes no time.
+pub const GAPLESS: &str = gap_machine!("");
+
+/// A changeover takes 10 ticks.
+pub const WIDE_GAP: &str = gap_machine!("[gaps]\nr2 = 10\n\n");
+
 pub const TWIN: &str = r#"format = 1
 lead = 2
 window = 200

@@ -1,5 +1,5 @@
 // What is printed for a machine, and read back.
-use crate::machines::{DUO, LINE, LOOP, TAIL, TWIN};
+use crate::machines::{DUO, GAP, LINE, LOOP, TAIL, TWIN};
 use std::alloc::Global;
 use std::test::Fail;
 use tp_machine::Machine;
@@ -19,7 +19,7 @@ fn text_of(alloc: Global, machine: &Machine) -> Result<Vec<u8>, Fail> {
 
 #[test]
 fn machines_of_the_rows(rt: HostRuntime) -> Result<(), Fail> {
-    for text in [DUO, LINE, TWIN, TAIL, LOOP] {
+    for text in [DUO, LINE, GAP, TWIN, TAIL, LOOP] {
         let once = printed(rt.alloc(), text.as_bytes())?;
         let twice = printed(rt.alloc(), once.as_slice())?;
         assert_eq!(rt; twice.as_slice(), once.as_slice(), "{text}");
@@ -41,7 +41,7 @@ fn line_ends_and_comments(rt: HostRuntime) -> Result<(), Fail> {
 }
 
 const PRINTED_TAIL: &str = r#"budget = 20000
-format = 1
+format = 2
 lead = 2
 locations = ["f", "a", "t"]
 modules = ["FEED", "OUT"]
@@ -62,6 +62,7 @@ to = "a"
 [[actions.holds]]
 begin = ["start", 0]
 end = ["end", 5]
+mode = 0
 resource = "rf"
 
 [[actions]]
@@ -77,14 +78,21 @@ to = "t"
 [[actions.holds]]
 begin = ["end", -1]
 end = ["end", 0]
+mode = 0
 resource = "rt"
 
 [feeders]
 f = "plain"
 
+[gaps]
+rf = 0
+rt = 0
+
 [resources]
 rf = "FEED"
 rt = "OUT"
+
+[stock]
 "#;
 
 #[test]

@@ -1,5 +1,5 @@
 // Machine texts that are read, and those that are refused.
-use crate::machines::DUO;
+use crate::machines::{DUO, GAP};
 use std::alloc::Global;
 use std::test::Fail;
 use tp_machine_text::{MachineFault, read_machine};
@@ -16,9 +16,9 @@ fn edited(alloc: Global, text: &str, old: &str, new: &str) -> Result<String, Fai
 }
 
 /// Of each rule but 14 the edit of DUO that breaks it alone. The texts for rule 14 stand in `NO_ACTIONS`.
-const EDITS: [(u8, &str, &str); 23] = [
+const EDITS: [(u8, &str, &str); 25] = [
     (1, "[feeders]", "speed = 3\n\n[feeders]"),
-    (2, "format = 1", "format = 2"),
+    (2, "format = 1", "format = 3"),
     (3, "lead = 2", "lead = 4097"),
     (4, "window = 200", "window = 0"),
     (5, "[feeders]", "budget = 0\n\n[feeders]"),
@@ -40,6 +40,8 @@ const EDITS: [(u8, &str, &str); 23] = [
     (22, "resource = \"rt\"", "resource = \"rx\""),
     (23, "begin = [\"end\", -1]", "begin = [\"end\", -5]"),
     (24, "end = [\"start\", 2]", "end = [\"start\", 0]"),
+    (25, "[resources]", "[gaps]\nr1 = 4\n\n[resources]"),
+    (26, "[feeders]", "[stock]\nf = 9\n\n[feeders]"),
 ];
 
 fn fault_of(alloc: Global, text: &str) -> Option<MachineFault> {
@@ -65,6 +67,41 @@ fn each_rule_alone_and_with_the_next(rt: HostRuntime) -> Result<(), Fail> {
                 "{rule} and {later}"
             );
         }
+    }
+    Ok(())
+}
+
+/// Edits of GAP, each with the rule that it breaks, or none.
+const EDITS_OF_GAP: [(Option<u8>, &str, &str); 17] = [
+    (None, "r2 = 4", ""),
+    (None, "r2 = 4", "r2 = 4096\nrt = 0"),
+    (None, "mode = 1", "mode = 255"),
+    (None, "[gaps]", "[stock]\nf = 0\n\n[gaps]"),
+    (None, "[gaps]", "[stock]\nf = 1000000\n\n[gaps]"),
+    (Some(2), "format = 2", "format = 3"),
+    (Some(22), "format = 2", "format = 1"),
+    (Some(22), "mode = 1", "mode = 256"),
+    (Some(22), "mode = 1", "mode = -1"),
+    (Some(22), "mode = 1", "mode = \"one\""),
+    (Some(25), "r2 = 4", "rx = 4"),
+    (Some(25), "r2 = 4", "r2 = 4097"),
+    (Some(25), "r2 = 4", "r2 = -1"),
+    (Some(26), "[gaps]", "[stock]\na = 1\n\n[gaps]"),
+    (Some(26), "[gaps]", "[stock]\nf = 1000001\n\n[gaps]"),
+    (Some(26), "[gaps]", "[stock]\nf = 1.5\n\n[gaps]"),
+    (Some(25), "[gaps]", "[stock]\na = 1\n\n[gaps]\nrx = 1"),
+];
+
+#[test]
+fn gaps_modes_and_stocks(rt: HostRuntime) -> Result<(), Fail> {
+    let alloc = rt.alloc();
+    for (rule, old, new) in EDITS_OF_GAP {
+        let text = edited(alloc, GAP, old, new)?;
+        assert_eq!(rt;
+            fault_of(alloc, text.as_str()),
+            rule.map(MachineFault::Rule),
+            "{new}"
+        );
     }
     Ok(())
 }

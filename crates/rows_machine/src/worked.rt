@@ -1,6 +1,6 @@
 //! Scripts that were worked out by hand, and their logs.
 
-use crate::machines::{DUO, LOOP, TAIL, TWIN};
+use crate::machines::{DUO, GAP, GAPLESS, LOOP, TAIL, TWIN, WIDE_GAP};
 
 /// A machine text, a script, and its log.
 #[derive(Clone, Copy)]
@@ -10,7 +10,7 @@ pub struct Worked {
     pub log: &'static [u8],
 }
 
-pub const WORKED: [Worked; 16] = [
+pub const WORKED: [Worked; 20] = [
     // One sheet.
     Worked {
         machine: DUO,
@@ -252,6 +252,47 @@ pub const WORKED: [Worked; 16] = [
         script: b"job j1 t plain MM:F\n",
         log: b"> job j1 t plain MM:F\n\
               plan j1.1.1 t 3 feed 5 print 7 turn 11 print 13 out 16\n",
+    },
+    // Two colours on one engine: the later sheet waits for the changeover.
+    Worked {
+        machine: GAP,
+        script: b"job j1 t plain M-:F C-:F\n",
+        log: b"> job j1 t plain M-:F C-:F\n\
+              plan j1.1.1 t 3 feed 5 print2 11 out 14\n\
+              plan j1.2.1 t 11 feed 15 tint 21 out 24\n",
+    },
+    // The same where a changeover takes no time.
+    Worked {
+        machine: GAPLESS,
+        script: b"job j1 t plain M-:F C-:F\n",
+        log: b"> job j1 t plain M-:F C-:F\n\
+              plan j1.1.1 t 3 feed 5 print2 11 out 14\n\
+              plan j1.2.1 t 7 feed 11 tint 17 out 20\n",
+    },
+    // Two sheets of one colour need no changeover.
+    Worked {
+        machine: GAP,
+        script: b"job j1 t plain 2*M-:F\n",
+        log: b"> job j1 t plain 2*M-:F\n\
+              plan j1.1.1 t 3 feed 5 print2 11 out 14\n\
+              plan j1.2.1 t 7 feed 11 print2 17 out 20\n",
+    },
+    // The first sheet is out, but the changeover from its colour is not over: its hold ended at 11, so the other begins at
+    // 21.
+    Worked {
+        machine: WIDE_GAP,
+        script: b"job j1 t plain M-:F\n\
+                 clock 14\n\
+                 job j2 t plain C-:F\n",
+        log: b"> job j1 t plain M-:F\n\
+              plan j1.1.1 t 3 feed 5 print2 11 out 14\n\
+              > clock 14\n\
+              release j1.1.1 1 feed 3 5\n\
+              release j1.1.1 2 print2 5 11\n\
+              release j1.1.1 3 out 11 14\n\
+              done j1.1.1 t 14\n\
+              > job j2 t plain C-:F\n\
+              plan j2.1.1 t 17 feed 21 tint 27 out 30\n",
     },
     // Jobs and a line that are refused, and a job that is taken.
     Worked {

@@ -1,5 +1,5 @@
 -- DUO with its asks, and the words of trees over it.
-use Rattle.std.proofs.Common.{ℕ, Bool, true, false, List, [], ◌∷◌, Option, refl, codes, ℤ, pos, negsuc}
+use Rattle.std.proofs.Common.{ℕ, Bool, true, false, List, [], ◌∷◌, Option, None, refl, codes, ℤ, pos, negsuc}
 use Rattle.tp_bounds.specs.declared.hops.Hop.{Hop}
 use Rattle.tp_bounds.specs.declared.hops.Hop.TheVariants.{Duration}
 use Rattle.tp_bounds.specs.declared.hops.TreePoint.TheVariants.{Own as OwnPoint, Kept as KeptPoint}
@@ -19,6 +19,7 @@ use Rattle.tp_machine.specs.declared.parts.LocId.{LocId}
 use Rattle.tp_machine.specs.declared.parts.Sheet.{Sheet}
 use Rattle.tp_machine.specs.declared.parts.Want.TheVariants.{Blank, Mono}
 use Rattle.tp_machine.specs.declared.whole.Machine.{Machine}
+use Rattle.tp_machine.proofs.Amounts.{amounts_by}
 use Rattle.tp_machine.proofs.NameFacts.{named_by, few_by}
 use Rattle.tp_schedule.specs.declared.parts.Ask.{Ask}
 use Rattle.tp_schedule.specs.declared.parts.Goal.TheVariants.{Tray}
@@ -39,7 +40,7 @@ abbrev pub act : ℕ → ActId
 act n = record { 0 = n }
 
 abbrev pub hold : ℕ → Anchor → ℤ → Anchor → ℤ → HoldRule
-hold r b boff e eoff = record { resource = record { 0 = r }; begin = b; begin_off = boff; end = e; end_off = eoff }
+hold r b boff e eoff = record { resource = record { 0 = r }; begin = b; begin_off = boff; end = e; end_off = eoff; mode = 0 }
 
 abbrev pub action : List ℕ → ℕ → ℕ → ℕ → ℕ → ℕ → Bool → Bool → List HoldRule → Action
 action name m from to least most mono colour holds = record {
@@ -64,9 +65,9 @@ duo = record {
   modules = codes "FEED" ∷ codes "ENG1" ∷ codes "ENG2" ∷ codes "OUT" ∷ codes "DUMP" ∷ [];
   trays = loc 3 ∷ [];
   purges = loc 4 ∷ [];
-  feeders = record { loc = loc 0; media = codes "plain" } ∷ [];
-  resources = record { name = codes "r1"; «module» = record { 0 = 1 } } ∷ record { name = codes "r2"; «module» = record { 0 = 2 } }
-      ∷ record { name = codes "rf"; «module» = record { 0 = 0 } } ∷ record { name = codes "rt"; «module» = record { 0 = 3 } } ∷ [];
+  feeders = record { loc = loc 0; media = codes "plain"; stock = None } ∷ [];
+  resources = record { name = codes "r1"; «module» = record { 0 = 1 }; gap = 0 } ∷ record { name = codes "r2"; «module» = record { 0 = 2 }; gap = 0 }
+      ∷ record { name = codes "rf"; «module» = record { 0 = 0 }; gap = 0 } ∷ record { name = codes "rt"; «module» = record { 0 = 3 }; gap = 0 } ∷ [];
   actions =
       action (codes "feed") 0 0 1 2 4 false false (hold 2 Start (pos 0) Start (pos 2) ∷ [])
       ∷ action (codes "print1") 1 1 2 9 12 true true (hold 0 Start (pos 0) End (pos 0) ∷ [])
@@ -81,6 +82,7 @@ duo = record {
   good_purges = refl;
   good_feeders = refl;
   good_resources = refl;
+  amounts = amounts_by _ _ _ refl;
   names_differ = refl;
   ways = refl;
   durations = refl;

@@ -19,7 +19,8 @@ use Rattle.tp_machine.specs.declared.parts.Resource.{Resource}
 use Rattle.tp_machine.specs.declared.whole.Machine.{Machine}
 use Rattle.tp_machine.proofs.NameFacts.{action_names, all_names, few_holds_at, media_names, name_tests, names_differ, resource_names}
 use Rattle.tp_machine.proofs.RisingNames.{rising_names_differ}
-use Rattle.tp_machine.proofs.ModeFacts.{gap_at-most}
+use Rattle.tp_machine.proofs.Amounts.{amounts_of, stocks_within, modes_at}
+use Rattle.tp_machine.proofs.ModeFacts.{gap_at_most}
 use Rattle.tp_machine.proofs.Lists.{list_all-at, All-from_test, All-from_none, not_contained, AllPairs-nil, AllPairs-cons}
 
 -- a location that is not among others is not one of them
@@ -187,12 +188,14 @@ is_machine machine =
       feeders_rise = grind arith;
       resources_rise = grind arith;
       resource_modules = All-from_test (λ r. nat_lt r.module.0 (length machine.modules)) (λ r. r.module.0 < length machine.modules) (λ r test. less_than r.module.0 (length machine.modules) test) machine.resources (grind arith);
-      gaps = gap_at-most machine;
+      gaps = gap_at_most machine;
+      stocks = stocks_within machine.feeders (amounts_of machine).stocks;
       ways = λ n a at. (action_facts machine n a at).way;
       lasts = λ n a at. let d = (action_facts machine n a at).durations in at_most 1 a.least (grind arith);
       in_range = λ n a at. let d = (action_facts machine n a at).durations in (at_most a.least a.most (grind arith), at_most a.most 4096 (grind arith));
       known = λ n a at rule has. let t = hold_tests machine.resources a rule (hold_facts machine a rule (action_facts machine n a at).holds has) in less_than rule.resource.0 (length machine.resources) t.known;
       offsets = λ n a at rule has. let t = hold_tests machine.resources a rule (hold_facts machine a rule (action_facts machine n a at).holds has) in (offset_within rule.begin_off t.begin, offset_within rule.end_off t.end);
+      modes = λ n a at rule has. All-contains (λ h. h.mode ≤ 255) a.holds rule (All-from_test (λ h. nat_le h.mode 255) (λ h. h.mode ≤ 255) (λ h t. at_most h.mode 255 t) a.holds (modes_at machine n a at)) has;
       sound = λ n a at rule has. sound_rule machine.resources a rule (hold_facts machine a rule (action_facts machine n a at).holds has);
       differ = λ n a at. let h = (action_facts machine n a at).holds in holds_differ a.holds (grind arith);
     }

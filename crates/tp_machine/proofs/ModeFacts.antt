@@ -1,9 +1,14 @@
 -- How far apart two holds stand on a resource, by their modes.
-use Rattle.std.proofs.Common.{◌≡◌, ◌≢◌, ◌⊎◌, inl, inr, ℕ, ◌+◌, ◌≤◌, Bool, true, false, cond, ◌==◌, refl, arith}
+use Rattle.std.proofs.Common.{◌≡◌, ◌≢◌, ◌⊎◌, inl, inr, ℕ, ◌+◌, ◌≤◌, Bool, true, false, cond, ◌==◌, List, Option, Some, None, slice_get, refl, arith}
+use Rattle.std.specs.Prelude.{nat_le}
 use Rattle.std.proofs.lemmas.Bool.Decides.{nat_tests}
-use Rattle.tp_machine.specs.Modes.{mode_of, gap_at, gap_between}
+use Rattle.tp_machine.specs.Modes.{mode_of, gap_of, gap_at, gap_between}
+use Rattle.tp_machine.specs.Rules.{have_gaps}
 use Rattle.tp_machine.specs.declared.parts.HoldRule.{HoldRule}
+use Rattle.tp_machine.specs.declared.parts.Resource.{Resource}
 use Rattle.tp_machine.specs.declared.whole.Machine.{Machine}
+use Rattle.tp_machine.proofs.Amounts.{amounts_of}
+use Rattle.tp_machine.proofs.Lists.{list_all-at}
 
 -- two modes are the same or not
 pub modes_differ_or_not : (h k : HoldRule) → (mode_of h ≡ mode_of k) ⊎ (mode_of h ≢ mode_of k)
@@ -48,6 +53,10 @@ gap_between-by_third gap h j k = go (mode_of h) (mode_of j) (mode_of k) where
     by b e c f = grind (arith, nat_tests)
 
 -- gaps are small
-pub gap_at-most : (machine : Machine) (resource : ℕ) → gap_at machine resource ≤ 4096
+small_gap : (rs : List Resource) (n : ℕ) (o : Option Resource) → slice_get rs n ≡ o → have_gaps rs ≡ true → gap_of o ≤ 4096
+small_gap rs n None at small = omega arith
+small_gap rs n (Some r) at small = let e = list_all-at (λ r. nat_le r.gap 4096) rs n r small at in grind (arith, nat_tests)
+
+pub gap_at_most : (machine : Machine) (resource : ℕ) → gap_at machine resource ≤ 4096
 unfolding gap_at
-gap_at-most machine resource = omega arith
+gap_at_most machine resource = small_gap machine.resources resource (slice_get machine.resources resource) refl (amounts_of machine).gaps

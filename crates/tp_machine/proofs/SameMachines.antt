@@ -3,7 +3,7 @@ use mathlib.Core.HLevel.{is_prop→PathP}
 use mathlib.Core.Bool.{Bool-set}
 use mathlib.Core.Path.{PathP}
 use Rattle.std.proofs.Common.{◌≡◌, Bool, IsTrue}
-use Rattle.tp_machine.specs.Rules.{are_named, are_numbers, are_counts, are_trays, are_purges, are_feeders, are_resources, do_actions_differ, are_ways, have_durations, have_few_holds, have_holds}
+use Rattle.tp_machine.specs.Rules.{are_named, are_numbers, are_counts, are_trays, are_purges, are_feeders, are_resources, are_amounts, do_actions_differ, are_ways, have_durations, have_few_holds, have_holds}
 use Rattle.tp_machine.specs.declared.whole.Machine.{Machine}
 
 -- two machines have the same parts
@@ -42,6 +42,7 @@ same_machines m n s = λ i. record {
   good_purges = passed_alike _ _ (λ j. are_purges (s.locations j) (s.trays j) (s.purges j)) m.good_purges n.good_purges i;
   good_feeders = passed_alike _ _ (λ j. are_feeders (s.locations j) (s.trays j) (s.purges j) (s.feeders j)) m.good_feeders n.good_feeders i;
   good_resources = passed_alike _ _ (λ j. are_resources (s.modules j) (s.resources j)) m.good_resources n.good_resources i;
+  amounts = passed_alike _ _ (λ j. are_amounts (s.feeders j) (s.resources j) (s.actions j)) m.amounts n.amounts i;
   names_differ = passed_alike _ _ (λ j. do_actions_differ (s.actions j)) m.names_differ n.names_differ i;
   ways = passed_alike _ _ (λ j. are_ways (s.locations j) (s.modules j) (s.trays j) (s.purges j) (s.feeders j) (s.actions j)) m.ways n.ways i;
   durations = passed_alike _ _ (λ j. have_durations (s.actions j)) m.durations n.durations i;

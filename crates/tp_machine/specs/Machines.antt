@@ -1,5 +1,5 @@
 -- What every machine keeps: the rules of its text, said of the machine itself.
-use Rattle.std.specs.Prelude.{◌≡◌, ◌≢◌, ℕ, ◌+◌, ◌≤◌, ◌<◌, List, length, Some, All, AllPairs, Contains, IsTrue, ℤ, pos, negsuc, ◌≤ℤ◌, ◌<ℤ◌, map}
+use Rattle.std.specs.Prelude.{◌≡◌, ◌≢◌, ℕ, ◌+◌, ◌≤◌, ◌<◌, List, length, Some, IfSome, All, AllPairs, Contains, IsTrue, ℤ, pos, negsuc, ◌≤ℤ◌, ◌<ℤ◌, map}
 use Rattle.tp_base.specs.NameText.{is_name_text}
 use Rattle.tp_machine.specs.Modes.{gap_at}
 use Rattle.tp_machine.specs.Rules.{do_names_rise, feeder_names}
@@ -62,11 +62,13 @@ pub record IsMachine (machine : Machine) : Type 0 where
   pub resources_rise : IsTrue (do_names_rise (map (λ r. r.name) machine.resources))
   pub resource_modules : All (λ r. r.module.0 < length machine.modules) machine.resources
   pub gaps : (resource : ℕ) → gap_at machine resource ≤ 4096
+  pub stocks : All (λ f. IfSome f.stock (λ n. n ≤ 1000000)) machine.feeders
   pub ways : (n : ℕ) (a : Action) → action_at machine n ≡ Some a → IsWay machine a
   pub lasts : (n : ℕ) (a : Action) → action_at machine n ≡ Some a → 1 ≤ a.least
   pub in_range : (n : ℕ) (a : Action) → action_at machine n ≡ Some a → (a.least ≤ a.most) × (a.most ≤ 4096)
   pub few_holds : (n : ℕ) (a : Action) → action_at machine n ≡ Some a → length a.holds ≤ 4
   pub known : (n : ℕ) (a : Action) → action_at machine n ≡ Some a → (rule : HoldRule) → Contains a.holds rule → rule.resource.0 < length machine.resources
   pub offsets : (n : ℕ) (a : Action) → action_at machine n ≡ Some a → (rule : HoldRule) → Contains a.holds rule → IsOffset rule.begin_off × IsOffset rule.end_off
+  pub modes : (n : ℕ) (a : Action) → action_at machine n ≡ Some a → (rule : HoldRule) → Contains a.holds rule → rule.mode ≤ 255
   pub sound : (n : ℕ) (a : Action) → action_at machine n ≡ Some a → (rule : HoldRule) → Contains a.holds rule → IsSoundRule a rule
   pub differ : (n : ℕ) (a : Action) → action_at machine n ≡ Some a → AllPairs (λ h k. h.resource.0 ≢ k.resource.0) a.holds

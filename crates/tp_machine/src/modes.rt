@@ -1,24 +1,33 @@
-ghost use Rattle.std.specs.Prelude.{◌≡◌, ◌≤◌};
-ghost use Rattle.tp_machine.specs.Modes.{mode_of, gap_at, gap_between};
+ghost use Rattle.std.specs.Prelude.{◌≡◌, ◌≤◌, slice_get};
+ghost use Rattle.tp_machine.specs.Modes.{mode_of, gap_of, gap_at, gap_between};
 
-use crate::parts::{HoldRule, ResId};
+use crate::parts::{HoldRule, ResId, Resource};
 use crate::whole::Machine;
 
-/// The mode of a hold: each is 0, since machine texts have no modes yet.
+/// The mode of a hold.
 #[tactic(auto, unfolding(crate::specs::Modes::mode_of))]
-fn mode_of(_hold: &HoldRule) -> u8
-    ensures { result ≡ mode_of _hold.now }
+pub fn mode_of(hold: &HoldRule) -> u8
+    ensures { result ≡ mode_of hold.now }
 {
-    0
+    hold.mode
 }
 
-/// The gap of a resource, in ticks: each is 0, since machine texts have no gaps yet.
+/// The gap of a resource, in ticks. A number that names no resource has the gap 0.
 #[tactic(auto, unfolding(crate::specs::Modes::gap_at))]
-pub fn gap_at(_machine: &Machine, _resource: ResId) -> u32
-    ensures gap { result ≡ gap_at _machine.now _resource.0 }
+pub fn gap_at(machine: &Machine, resource: ResId) -> u32
+    ensures gap { result ≡ gap_at machine.now resource.0 }
     ensures within { result ≤ 4096 }
 {
-    0
+    gap_in(machine.resources.as_slice(), resource)
+}
+
+fn gap_in(resources: &[Resource], resource: ResId) -> u32
+    ensures { result ≡ gap_of (slice_get resources.now resource.0) }
+{
+    match resources.get(usize::from(resource.0)) {
+        Some(resource) => resource.gap,
+        None => 0,
+    }
 }
 
 /// How far apart two holds stand on a resource with this gap.

@@ -30,10 +30,10 @@ action_names locations modules resources (a ∷ deeds) = ap (λ t. text_at (code
 
 -- ---- ways
 
-module _ (locations modules resources trays purges : List (List ℕ)) (ms : Members) where
+module _ (locations modules resources trays purges : List (List ℕ)) (stocks ms : Members) where
   way_of : (a : Data) → list_all (is_among locations) trays ≡ true → list_all (is_among locations) purges ≡ true → list_all (is_among locations) (keys_of ms) ≡ true
       → is_of_module modules a ≡ true → has_ends locations a ≡ true → is_way trays purges (keys_of ms) a ≡ true
-      → machine.is_way locations modules (map (loc_of locations) trays) (map (loc_of locations) purges) (feeders_of locations ms) (action_of locations modules resources a) ≡ true
+      → machine.is_way locations modules (map (loc_of locations) trays) (map (loc_of locations) purges) (feeders_of locations stocks ms) (action_of locations modules resources a) ≡ true
   unfolding is_of_module has_ends is_way action_of
   way_of a kt kp kf of_module ends way =
       let (from_there, to_there) = and_parts (is_there (is_one_of locations) (get (codes "from") a)) (is_there (is_one_of locations) (get (codes "to") a)) ends in
@@ -51,14 +51,14 @@ module _ (locations modules resources trays purges : List (List ℕ)) (ms : Memb
         no_tray,
         loc_among locations purges (text_at (codes "from") a) kp from,
         no_purge,
-        feeder_locs locations ms,
+        feeder_locs locations stocks ms,
         loc_among locations (keys_of ms) (text_at (codes "to") a) kf to,
         no_feeder,
       )
 
   pub sound_ways : (deeds : List Data) → list_all (is_among locations) trays ≡ true → list_all (is_among locations) purges ≡ true → list_all (is_among locations) (keys_of ms) ≡ true
       → list_all (is_of_module modules) deeds ≡ true → list_all (has_ends locations) deeds ≡ true → list_all (is_way trays purges (keys_of ms)) deeds ≡ true
-      → machine.are_ways locations modules (map (loc_of locations) trays) (map (loc_of locations) purges) (feeders_of locations ms) (map (action_of locations modules resources) deeds) ≡ true
+      → machine.are_ways locations modules (map (loc_of locations) trays) (map (loc_of locations) purges) (feeders_of locations stocks ms) (map (action_of locations modules resources) deeds) ≡ true
   sound_ways [] kt kp kf of_module ends way = refl
   sound_ways (a ∷ deeds) kt kp kf of_module ends way =
       let (m, ms_rest) = and_parts (is_of_module modules a) (list_all (is_of_module modules) deeds) of_module in

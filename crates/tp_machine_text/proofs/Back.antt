@@ -1,14 +1,14 @@
 -- The names of a machine's numbers lead back to the numbers.
-use Rattle.std.proofs.Common.{◌≡◌, ℕ, zero, suc, ◌<◌, Bool, true, false, Ordering, Less, Equal, Greater, List, [], ◌∷◌, length, map, refl, ap, sym, ◌∙◌, arith}
+use Rattle.std.proofs.Common.{◌≡◌, ℕ, zero, suc, ◌<◌, Bool, true, false, Ordering, Less, Equal, Greater, List, [], ◌∷◌, length, map, Some, refl, ap, sym, ◌∙◌, arith}
 use Rattle.std.specs.Prelude.{nat_lt, codes}
-use Rattle.std.specs.List.{list_all}
+use Rattle.std.specs.List.{list_all, AllByRecursion}
 use Rattle.std.specs.Ordering.{is_lt, is_eq, nat_cmp}
 use Rattle.std.specs.Str.{bytes_eq}
 use Rattle.std.specs.Cmp.Lexicographic.{slice_cmp, nat_list_eq_equiv, nat_list_cmp_total}
 use Rattle.std.proofs.lemmas.Bool.{and_parts}
 use Rattle.std.proofs.lemmas.Bool.Decides.{nat_tests}
 use Rattle.std.proofs.lemmas.Map.Text.{is_eq-slice_cmp}
-use Rattle.toml.specs.Data.{string}
+use Rattle.toml.specs.Data.{string, Members}
 use Rattle.toml.specs.View.{items_of}
 use Rattle.tp_machine.specs.Rules.{do_names_rise, is_below}
 use Rattle.tp_machine.specs.declared.parts.Action.{Action}
@@ -20,8 +20,9 @@ use Rattle.tp_machine.specs.declared.parts.LocId.{LocId}
 use Rattle.tp_machine.specs.declared.parts.Resource.{Resource}
 use Rattle.tp_machine_text.specs.Words.{text_of, values_of, keys_of, is_among, are_different}
 use Rattle.tp_machine_text.specs.HoldRules.{anchor_of}
-use Rattle.tp_machine_text.specs.TheMachine.{place_in, loc_of, feeders_of, resources_of, hold_of, action_of}
-use Rattle.tp_machine_text.specs.Printed.{is_place, is_of_resource, is_known, name_at, loc_names, feeder_members, resource_members, resource_names, anchor_text, kind_words, hold_data, action_data}
+use Rattle.tp_machine_text.specs.TheMachine.{place_in, amount_at, loc_of, feeders_of, resources_of, hold_of, action_of}
+use Rattle.tp_machine_text.specs.Printed.{is_place, is_of_resource, is_known, name_at, loc_names, feeder_members, resource_members, gaps_of, stocks_of, resource_names, anchor_text, kind_words, hold_data, action_data}
+use Rattle.tp_machine_text.proofs.AmountsBack.{HasAmount}
 use Rattle.tp_machine_text.proofs.Fitting.{knows}
 use Rattle.tp_machine_text.proofs.Seen.{values_of-items}
 
@@ -94,17 +95,21 @@ locs_back names (l ∷ locs) differ known =
 lt_of : (n m : ℕ) → nat_lt n m ≡ true → n < m
 lt_of n m test = grind (arith, nat_tests)
 
-pub feeders_back : (names : List (List ℕ)) (fs : List Feeder) → are_different names ≡ true → list_all (λ f. nat_lt f.loc.0 (length names)) fs ≡ true → feeders_of names (feeder_members names fs) ≡ fs
-feeders_back names [] differ known = refl
-feeders_back names (f ∷ fs) differ known =
+pub feeders_back : (names : List (List ℕ)) (stocks : Members) (fs : List Feeder) → are_different names ≡ true → list_all (λ f. nat_lt f.loc.0 (length names)) fs ≡ true → AllByRecursion (HasAmount stocks) (stocks_of names fs)
+    → feeders_of names stocks (feeder_members names fs) ≡ fs
+feeders_back names stocks [] differ known found = refl
+feeders_back names stocks (f ∷ fs) differ known found =
     let (here, rest) = and_parts (nat_lt f.loc.0 (length names)) (list_all (λ f. nat_lt f.loc.0 (length names)) fs) known in
-    rw (place_back names f.loc.0 differ (lt_of f.loc.0 (length names) here), feeders_back names fs differ rest)
+    let stock : amount_at (name_at names f.loc.0) stocks ≡ f.stock = found.0 in
+    rw (place_back names f.loc.0 differ (lt_of f.loc.0 (length names) here), stock, feeders_back names stocks fs differ rest found.1)
 
-pub resources_back : (modules : List (List ℕ)) (rs : List Resource) → are_different modules ≡ true → list_all (λ r. nat_lt r.module.0 (length modules)) rs ≡ true → resources_of modules (resource_members modules rs) ≡ rs
-resources_back modules [] differ known = refl
-resources_back modules (r ∷ rs) differ known =
+pub resources_back : (modules : List (List ℕ)) (gaps : Members) (rs : List Resource) → are_different modules ≡ true → list_all (λ r. nat_lt r.module.0 (length modules)) rs ≡ true → AllByRecursion (HasAmount gaps) (gaps_of rs)
+    → resources_of modules gaps (resource_members modules rs) ≡ rs
+resources_back modules gaps [] differ known found = refl
+resources_back modules gaps (r ∷ rs) differ known found =
     let (here, rest) = and_parts (nat_lt r.module.0 (length modules)) (list_all (λ r. nat_lt r.module.0 (length modules)) rs) known in
-    rw (place_back modules r.module.0 differ (lt_of r.module.0 (length modules) here), resources_back modules rs differ rest)
+    let gap : amount_at r.name gaps ≡ Some r.gap = found.0 in
+    rw (place_back modules r.module.0 differ (lt_of r.module.0 (length modules) here), gap, resources_back modules gaps rs differ rest found.1)
 
 pub resource_keys : (modules : List (List ℕ)) (rs : List Resource) → keys_of (resource_members modules rs) ≡ resource_names rs
 resource_keys modules [] = refl

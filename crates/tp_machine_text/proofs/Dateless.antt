@@ -1,5 +1,5 @@
 -- The table of a machine holds no date.
-use Rattle.std.proofs.Common.{◌≡◌, ℕ, true, false, List, [], ◌∷◌, map, refl, ap, ◌∙◌}
+use Rattle.std.proofs.Common.{◌≡◌, ℕ, true, false, Option, Some, None, List, [], ◌∷◌, map, refl, ap, ◌∙◌}
 use Rattle.toml.specs.Data.{Members, string, has_valid_dates, items_have_valid_dates, members_have_valid_dates}
 use Rattle.toml.specs.View.{items_of}
 use Rattle.tp_machine.specs.declared.parts.Action.{Action}
@@ -7,7 +7,7 @@ use Rattle.tp_machine.specs.declared.parts.Feeder.{Feeder}
 use Rattle.tp_machine.specs.declared.parts.HoldRule.{HoldRule}
 use Rattle.tp_machine.specs.declared.parts.Resource.{Resource}
 use Rattle.tp_machine.specs.declared.whole.Machine.{Machine}
-use Rattle.tp_machine_text.specs.Printed.{feeder_members, resource_members, resource_names, loc_names, kind_words, hold_data, action_data, table_of}
+use Rattle.tp_machine_text.specs.Printed.{feeder_members, resource_members, amount_members, gaps_of, stocks_of, resource_names, loc_names, kind_words, hold_data, action_data, table_of}
 
 texts_dateless : (xs : List (List ℕ)) → items_have_valid_dates (items_of (map string xs)) ≡ true
 texts_dateless [] = refl
@@ -20,6 +20,11 @@ feeders_dateless names (f ∷ fs) = feeders_dateless names fs
 resources_dateless : (modules : List (List ℕ)) (rs : List Resource) → members_have_valid_dates (resource_members modules rs) ≡ true
 resources_dateless modules [] = refl
 resources_dateless modules (r ∷ rs) = resources_dateless modules rs
+
+amounts_dateless : (amounts : List (List ℕ × Option ℕ)) → members_have_valid_dates (amount_members amounts) ≡ true
+amounts_dateless [] = refl
+amounts_dateless ((k, None) ∷ amounts) = amounts_dateless amounts
+amounts_dateless ((k, Some n) ∷ amounts) = amounts_dateless amounts
 
 holds_dateless : (rs : List (List ℕ)) (hs : List HoldRule) → items_have_valid_dates (items_of (map (hold_data rs) hs)) ≡ true
 unfolding hold_data
@@ -40,10 +45,12 @@ table_dateless m =
     rw (
       actions_dateless m.locations m.modules (resource_names m.resources) m.actions,
       feeders_dateless m.locations m.feeders,
+      amounts_dateless (gaps_of m.resources),
       texts_dateless m.locations,
       texts_dateless m.modules,
       texts_dateless (loc_names m.locations m.purges),
       resources_dateless m.modules m.resources,
+      amounts_dateless (stocks_of m.locations m.feeders),
       texts_dateless (loc_names m.locations m.trays),
     )
 

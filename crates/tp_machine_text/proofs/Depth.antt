@@ -1,5 +1,5 @@
 -- The table of a machine is not deep.
-use Rattle.std.proofs.Common.{ℕ, max, ◌≤◌, List, [], ◌∷◌, map, arith}
+use Rattle.std.proofs.Common.{ℕ, max, ◌≤◌, Option, Some, None, List, [], ◌∷◌, map, arith}
 use Rattle.toml.specs.Data.{string, depth, items_depth, members_depth}
 use Rattle.toml.specs.View.{items_of}
 use Rattle.tp_machine.specs.declared.parts.Action.{Action}
@@ -7,7 +7,7 @@ use Rattle.tp_machine.specs.declared.parts.Feeder.{Feeder}
 use Rattle.tp_machine.specs.declared.parts.HoldRule.{HoldRule}
 use Rattle.tp_machine.specs.declared.parts.Resource.{Resource}
 use Rattle.tp_machine.specs.declared.whole.Machine.{Machine}
-use Rattle.tp_machine_text.specs.Printed.{feeder_members, resource_members, resource_names, loc_names, kind_words, hold_data, action_data, table_of}
+use Rattle.tp_machine_text.specs.Printed.{feeder_members, resource_members, amount_members, gaps_of, stocks_of, resource_names, loc_names, kind_words, hold_data, action_data, table_of}
 
 max_le : (a b n : ℕ) → a ≤ n → b ≤ n → max a b ≤ n
 max_le a b n p q = omega arith
@@ -23,6 +23,11 @@ feeders_depth names (f ∷ fs) = max_le 0 (members_depth (feeder_members names f
 resources_depth : (modules : List (List ℕ)) (rs : List Resource) → members_depth (resource_members modules rs) ≤ 0
 resources_depth modules [] = omega arith
 resources_depth modules (r ∷ rs) = max_le 0 (members_depth (resource_members modules rs)) 0 (omega arith) (resources_depth modules rs)
+
+amounts_depth : (amounts : List (List ℕ × Option ℕ)) → members_depth (amount_members amounts) ≤ 0
+amounts_depth [] = omega arith
+amounts_depth ((k, None) ∷ amounts) = amounts_depth amounts
+amounts_depth ((k, Some n) ∷ amounts) = max_le 0 (members_depth (amount_members amounts)) 0 (omega arith) (amounts_depth amounts)
 
 hold_depth : (rs : List (List ℕ)) (h : HoldRule) → depth (hold_data rs h) ≤ 2
 unfolding hold_data
@@ -49,6 +54,8 @@ table_depth m =
     let deeds = actions_depth m.locations m.modules (resource_names m.resources) m.actions in
     let feeders = feeders_depth m.locations m.feeders in
     let resources = resources_depth m.modules m.resources in
+    let gaps = amounts_depth (gaps_of m.resources) in
+    let stocks = amounts_depth (stocks_of m.locations m.feeders) in
     let locations = texts_depth m.locations in
     let modules = texts_depth m.modules in
     let trays = texts_depth (loc_names m.locations m.trays) in

@@ -4,7 +4,7 @@ use Rattle.std.specs.Prelude.{int_le, codes}
 use Rattle.std.proofs.lemmas.Int.{ints}
 use Rattle.std.proofs.lemmas.Bool.{and_parts}
 use Rattle.toml.specs.Data.{Data, string, integer, float, boolean, datetime, array, table, get}
-use Rattle.tp_machine_text.specs.Words.{elements_in, whole_of, is_whole, is_there, is_table, is_one_of}
+use Rattle.tp_machine_text.specs.Words.{elements_in, whole_of, is_whole, is_there, is_fit, is_table, is_one_of}
 use Rattle.tp_machine_text.specs.Keys.{anchors, hold_keys}
 use Rattle.tp_machine_text.specs.ActionRules.{are_keys_among}
 use Rattle.tp_machine_text.specs.HoldRules.{is_point, has_point, is_hold, offset_in, offset_at}
@@ -13,14 +13,17 @@ pub record IsHeld (resources : List (List ℕ)) (h : Data) : Type 0 where
   pub resource : is_there (is_one_of resources) (get (codes "resource") h) ≡ true
   pub begin : has_point (codes "begin") h ≡ true
   pub end : has_point (codes "end") h ≡ true
+  pub mode : is_fit (is_whole (pos 0) (pos 255)) (get (codes "mode") h) ≡ true
 
 pub held : (resources : List (List ℕ)) (h : Data) → is_hold resources h ≡ true → IsHeld resources h
 unfolding is_hold
 held resources h test =
-    let (first, end) = and_parts (is_table h && are_keys_among hold_keys h && is_there (is_one_of resources) (get (codes "resource") h) && has_point (codes "begin") h) (has_point (codes "end") h) test in
+    let (whole, mode) =
+    and_parts (is_table h && are_keys_among hold_keys h && is_there (is_one_of resources) (get (codes "resource") h) && has_point (codes "begin") h && has_point (codes "end") h) (is_fit (is_whole (pos 0) (pos 255)) (get (codes "mode") h)) test in
+    let (first, end) = and_parts (is_table h && are_keys_among hold_keys h && is_there (is_one_of resources) (get (codes "resource") h) && has_point (codes "begin") h) (has_point (codes "end") h) whole in
     let (second, begin) = and_parts (is_table h && are_keys_among hold_keys h && is_there (is_one_of resources) (get (codes "resource") h)) (has_point (codes "begin") h) first in
     let (third, resource) = and_parts (is_table h && are_keys_among hold_keys h) (is_there (is_one_of resources) (get (codes "resource") h)) second in
-    record { resource = resource; begin = begin; end = end }
+    record { resource = resource; begin = begin; end = end; mode = mode }
 
 -- an offset that passes is in its range
 whole_within : (d : Data) → is_whole (negsuc 8191) (pos 8192) d ≡ true → (int_le (negsuc 8191) (whole_of d) ≡ true) × (int_le (whole_of d) (pos 8192) ≡ true)

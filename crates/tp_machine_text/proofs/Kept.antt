@@ -6,6 +6,7 @@ use Rattle.tp_machine_text.specs.TopRules.{number_rules, place_rules}
 use Rattle.tp_machine_text.specs.SupplyRules.{supply_rules}
 use Rattle.tp_machine_text.specs.ActionRules.{action_rules}
 use Rattle.tp_machine_text.specs.HoldRules.{hold_rules}
+use Rattle.tp_machine_text.specs.AmountRules.{amount_rules}
 use Rattle.tp_machine_text.specs.Broken.{first_broken}
 use Rattle.tp_machine_text.specs.Kept.{KeepsRules}
 
@@ -27,12 +28,14 @@ kept t none =
     let (numbers, later) = or_else-None (first_from 1 (number_rules t)) _ none in
     let (places, later_still) = or_else-None (first_from 6 (place_rules t)) _ later in
     let (supplies, last) = or_else-None (first_from 10 (supply_rules t)) _ later_still in
-    let (deeds, ties) = or_else-None (first_from 14 (action_rules t)) (first_from 22 (hold_rules t)) last in
+    let (deeds, still) = or_else-None (first_from 14 (action_rules t)) _ last in
+    let (ties, amounts) = or_else-None (first_from 22 (hold_rules t)) (first_from 25 (amount_rules t)) still in
     let a = all_kept 1 (number_rules t) numbers in
     let b = all_kept 6 (place_rules t) places in
     let c = all_kept 10 (supply_rules t) supplies in
     let d = all_kept 14 (action_rules t) deeds in
     let e = all_kept 22 (hold_rules t) ties in
+    let f = all_kept 25 (amount_rules t) amounts in
     record {
       known_keys = a.0;
       format = a.1.0;
@@ -58,4 +61,6 @@ kept t none =
       holds = e.0;
       begins = e.1.0;
       lengths = e.1.1.0;
+      gaps = f.0;
+      stock = f.1.0;
     }

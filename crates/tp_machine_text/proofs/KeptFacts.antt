@@ -1,15 +1,18 @@
 -- What a table that keeps the rules has, as the building of its machine asks it.
-use Rattle.std.proofs.Common.{◌≡◌, ℕ, ◌≤◌, true, ◌&&◌, List, length, map, arith}
+use Rattle.std.proofs.Common.{◌≡◌, ℕ, ℤ, pos, ◌≤◌, true, not, ◌&&◌, ◌||◌, is_some, List, length, map, arith}
 use Rattle.std.specs.Prelude.{nat_le, codes}
 use Rattle.std.specs.List.{list_all}
 use Rattle.std.proofs.lemmas.Bool.{and_parts}
 use Rattle.std.proofs.lemmas.Bool.Decides.{nat_tests}
 use Rattle.tp_base.specs.NameText.{is_name_text}
 use Rattle.toml.specs.Data.{Data, Members, get_member}
-use Rattle.tp_machine_text.specs.Words.{elements_at, text_of, is_fit, is_array, is_table, is_name, is_among, is_one_of, is_apart, is_count, are_names, are_from, are_different}
+use Rattle.tp_machine_text.specs.Words.{elements_at, members_at, keys_of, data_of, is_whole, text_of, is_fit, is_array, is_table, is_name, is_among, is_one_of, is_apart, is_count, are_names, are_from, are_different}
 use Rattle.tp_machine_text.specs.Keys as text
 use Rattle.tp_machine_text.specs.SupplyRules.{is_open_place}
+use Rattle.tp_machine_text.specs.TopRules.{is_second}
 use Rattle.tp_machine_text.specs.ActionRules.{is_named}
+use Rattle.tp_machine_text.specs.HoldRules.{has_holds, lacks_modes}
+use Rattle.tp_machine_text.specs.AmountRules.{are_amounts, is_amount_table, has_amounts}
 use Rattle.tp_machine_text.specs.Kept.{KeepsRules}
 use Rattle.tp_machine_text.proofs.NumberFacts.{length_texts}
 use Rattle.tp_machine_text.proofs.TextFacts.{all_one_of}
@@ -96,6 +99,20 @@ module _ (t : Members) (k : KeepsRules t) where
 
   pub actions_differ : are_different (map text.action_name (text.actions t)) ≡ true
   actions_differ = name_parts.1
+
+  pub holds_kept : list_all (has_holds (text.resources t)) (text.actions t) ≡ true
+  holds_kept = (and_parts (list_all (has_holds (text.resources t)) (text.actions t)) (is_second t || list_all lacks_modes (text.actions t)) k.holds).0
+
+  amounts_kept : (key : List ℕ) (names : List (List ℕ)) (most : ℤ) → has_amounts key names most t ≡ true → are_amounts names most (members_at key t) ≡ true
+  amounts_kept key names most test =
+      let fit = (and_parts (is_second t || not (is_some (get_member key t))) (is_amount_table names most (get_member key t)) test).1 in
+      (and_parts (is_fit is_table (get_member key t)) (are_amounts names most (members_at key t)) fit).1
+
+  pub gaps_whole : list_all (is_whole (pos 0) (pos 4096)) (data_of (text.gaps t)) ≡ true
+  gaps_whole = (and_parts (list_all (is_among (text.resources t)) (keys_of (text.gaps t))) (list_all (is_whole (pos 0) (pos 4096)) (data_of (text.gaps t))) (amounts_kept (codes "gaps") (text.resources t) (pos 4096) k.gaps)).1
+
+  pub stocks_whole : list_all (is_whole (pos 0) (pos 1000000)) (data_of (text.stocks t)) ≡ true
+  stocks_whole = (and_parts (list_all (is_among (text.feeders t)) (keys_of (text.stocks t))) (list_all (is_whole (pos 0) (pos 1000000)) (data_of (text.stocks t))) (amounts_kept (codes "stock") (text.feeders t) (pos 1000000) k.stock)).1
 
 -- different texts among names are no more than those
 pub few_from : (names : List (List ℕ)) (ds : List Data) → are_from names ds ≡ true → length ds ≤ length names

@@ -11,12 +11,15 @@ pub mod ActionFacts
 pub mod HoldsFacts
 pub mod KeptFacts
 pub mod Named
+pub mod AmountFacts
 pub mod Sound
+pub mod AllowedAmounts
 pub mod Given
 pub mod OneTable
 pub mod OneMachine
 pub mod Put
 pub mod NameBytes
+pub mod AmountsBack
 pub mod Built
 pub mod Fitting
 pub mod Back

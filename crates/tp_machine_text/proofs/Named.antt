@@ -35,21 +35,33 @@ names_sound most ds test =
     let p = names_parts most ds test in
     rw (texts_named ds p.named, same_differ (map text_of ds), p.differ)
 
-pub media_sound : (names : List (List ℕ)) (ms : Members) → list_all is_name (data_of ms) ≡ true → list_all (λ f. is_name_text f.media) (feeders_of names ms) ≡ true
-media_sound names no_members named = refl
-media_sound names (member k d ms) named =
+pub media_sound : (names : List (List ℕ)) (stocks ms : Members) → list_all is_name (data_of ms) ≡ true → list_all (λ f. is_name_text f.media) (feeders_of names stocks ms) ≡ true
+media_sound names stocks no_members named = refl
+media_sound names stocks (member k d ms) named =
     let (here, rest) = and_parts (is_name d) (list_all is_name (data_of ms)) named in
-    rw (text_named d here, media_sound names ms rest)
+    rw (text_named d here, media_sound names stocks ms rest)
 
-pub resource_names_sound : (modules : List (List ℕ)) (ms : Members) → list_all is_name_text (keys_of ms) ≡ true → list_all (λ r. is_name_text r.name) (resources_of modules ms) ≡ true
-resource_names_sound modules no_members named = refl
-resource_names_sound modules (member k d ms) named =
+pub resource_names_sound : (modules : List (List ℕ)) (gaps ms : Members) → list_all is_name_text (keys_of ms) ≡ true → list_all (λ r. is_name_text r.name) (resources_of modules gaps ms) ≡ true
+resource_names_sound modules gaps no_members named = refl
+resource_names_sound modules gaps (member k d ms) named =
     let (here, rest) = and_parts (is_name_text k) (list_all is_name_text (keys_of ms)) named in
-    rw (here, resource_names_sound modules ms rest)
+    rw (here, resource_names_sound modules gaps ms rest)
 
 there_named : (o : Option Data) → is_there is_name o ≡ true → is_name_text (text_in o) ≡ true
 there_named None named = cc
 there_named (Some d) named = text_named d named
+
+-- the parts of the test of an action's holds
+pub record HeldParts (rs : List (List ℕ)) (a : Data) : Type 0 where
+  pub few : nat_le (length (holds a)) 4 ≡ true
+  pub all : list_all (is_hold rs) (holds a) ≡ true
+
+pub held_parts : (rs : List (List ℕ)) (a : Data) → has_holds rs a ≡ true → HeldParts rs a
+unfolding has_holds
+held_parts rs a test =
+    let (three, differ) = and_parts (is_fit is_array (get (codes "holds") a) && nat_le (length (holds a)) 4 && list_all (is_hold rs) (holds a)) (are_different (map (text_at (codes "resource")) (holds a))) test in
+    let (two, all) = and_parts (is_fit is_array (get (codes "holds") a) && nat_le (length (holds a)) 4) (list_all (is_hold rs) (holds a)) three in
+    record { few = (and_parts (is_fit is_array (get (codes "holds") a)) (nat_le (length (holds a)) 4) two).1; all = all }
 
 module _ (ls ms rs : List (List ℕ)) where
   action_named : (a : Data) → is_named a ≡ true → is_name_text (action_of ls ms rs a).name ≡ true
@@ -63,11 +75,8 @@ module _ (ls ms rs : List (List ℕ)) where
       rw (action_named a here, action_names_sound deeds rest)
 
   few_of : (a : Data) → has_holds rs a ≡ true → nat_le (length (action_of ls ms rs a).holds) 4 ≡ true
-  unfolding has_holds action_of
-  few_of a test =
-      let (three, differ) = and_parts (is_fit is_array (get (codes "holds") a) && nat_le (length (holds a)) 4 && list_all (is_hold rs) (holds a)) (are_different (map (text_at (codes "resource")) (holds a))) test in
-      let (two, all) = and_parts (is_fit is_array (get (codes "holds") a) && nat_le (length (holds a)) 4) (list_all (is_hold rs) (holds a)) three in
-      rw (length-map (holds a) (hold_of rs)) (and_parts (is_fit is_array (get (codes "holds") a)) (nat_le (length (holds a)) 4) two).1
+  unfolding action_of
+  few_of a test = rw (length-map (holds a) (hold_of rs)) (held_parts rs a test).few
 
   pub few_holds_sound : (deeds : List Data) → list_all (has_holds rs) deeds ≡ true → machine.have_few_holds (map (action_of ls ms rs) deeds) ≡ true
   unfolding have_few_holds

@@ -53,10 +53,10 @@ wider low high (Some d) top test = wider_whole low high d top test
 pub length_texts : (ds : List Data) → length (map text_of ds) ≡ length ds
 length_texts ds = length-map ds text_of
 
-pub length_feeders : (locations : List (List ℕ)) (ms : Members) → length (feeders_of locations ms) ≡ length (keys_of ms)
-length_feeders locations no_members = refl
-length_feeders locations (member k d ms) = grind (arith, length_feeders locations ms)
+pub length_feeders : (locations : List (List ℕ)) (stocks ms : Members) → length (feeders_of locations stocks ms) ≡ length (keys_of ms)
+length_feeders locations stocks no_members = refl
+length_feeders locations stocks (member k d ms) = grind (arith, length_feeders locations stocks ms)
 
-pub length_resources : (modules : List (List ℕ)) (ms : Members) → length (resources_of modules ms) ≡ length (keys_of ms)
-length_resources modules no_members = refl
-length_resources modules (member k d ms) = grind (arith, length_resources modules ms)
+pub length_resources : (modules : List (List ℕ)) (gaps ms : Members) → length (resources_of modules gaps ms) ≡ length (keys_of ms)
+length_resources modules gaps no_members = refl
+length_resources modules gaps (member k d ms) = grind (arith, length_resources modules gaps ms)

@@ -1,13 +1,13 @@
 -- The actions and holds that are printed for a machine keep the rules on them.
 use Rattle.std.proofs.Common.{◌≡◌, ℕ, ◌<◌, Bool, true, false, not, ◌&&◌, List, [], ◌∷◌, length, map, refl, ap, arith}
-use Rattle.std.specs.Prelude.{nat_lt, nat_le, codes}
+use Rattle.std.specs.Prelude.{nat_lt, nat_le, pos, codes}
 use Rattle.std.specs.List.{list_all}
 use Rattle.std.proofs.lemmas.Bool.{and_parts}
 use Rattle.std.proofs.lemmas.Bool.Decides.{nat_tests}
 use Rattle.std.proofs.lemmas.Int.{ints}
 use Rattle.std.proofs.lemmas.List.{length-map}
 use Rattle.tp_base.specs.NameText.{is_name_text}
-use Rattle.toml.specs.Data.{Data, string}
+use Rattle.toml.specs.Data.{Data, string, integer}
 use Rattle.toml.specs.View.{items_of}
 use Rattle.tp_machine.specs.Rules as machine
 use Rattle.tp_machine.specs.declared.parts.Action.{Action}
@@ -16,7 +16,7 @@ use Rattle.tp_machine.specs.declared.parts.Anchor.TheVariants.{Start, End}
 use Rattle.tp_machine.specs.declared.parts.HoldRule.{HoldRule}
 use Rattle.tp_machine.specs.declared.parts.LocId.{LocId}
 use Rattle.tp_machine.specs.declared.parts.Resource.{Resource}
-use Rattle.tp_machine_text.specs.Words.{values_of, text_at, is_table, is_one_of, are_different, are_from}
+use Rattle.tp_machine_text.specs.Words.{values_of, text_at, is_table, is_whole, is_one_of, are_different, are_from}
 use Rattle.tp_machine_text.specs.Keys.{action_keys, anchors, kinds}
 use Rattle.tp_machine_text.specs.ActionRules.{are_keys_among, is_named, is_of_module, has_ends, is_way, has_durations, has_prints}
 use Rattle.tp_machine_text.specs.HoldRules.{is_hold, has_holds, begins_in_action, begins_all, is_filled, fills_all}
@@ -111,13 +111,16 @@ sound_parts rs a h test =
 lt_of : (n m : ℕ) → nat_lt n m ≡ true → n < m
 lt_of n m test = grind (arith, nat_tests)
 
+mode_printed : (mode : ℕ) → nat_le mode 255 ≡ true → is_whole (pos 0) (pos 255) (integer (pos mode)) ≡ true
+mode_printed mode small = grind (arith, ints, nat_tests)
+
 module _ (names : List (List ℕ)) (rs : List Resource) (same : length names ≡ length rs) (a : Action) where
-  hold_printed : (h : HoldRule) → machine.is_sound_hold rs a h ≡ true → is_hold names (hold_data names h) ≡ true
+  hold_printed : (h : HoldRule) → machine.is_sound_hold rs a h ≡ true → nat_le h.mode 255 ≡ true → is_hold names (hold_data names h) ≡ true
   unfolding hold_data is_hold
-  hold_printed h test =
+  hold_printed h test mode =
       let s = sound_parts rs a h test in
       let within : h.resource.0 < length names = omega (arith, same, lt_of h.resource.0 (length rs) s.known) in
-      rw (at_known names h.resource.0 within, anchor_printed h.begin, s.begin_off, anchor_printed h.end, s.end_off)
+      rw (at_known names h.resource.0 within, anchor_printed h.begin, s.begin_off, anchor_printed h.end, s.end_off, mode_printed h.mode mode)
 
   begin_printed : (h : HoldRule) → machine.is_sound_hold rs a h ≡ true → begins_in_action a.least (hold_data names h) ≡ true
   unfolding hold_data begins_in_action
@@ -133,11 +136,11 @@ module _ (names : List (List ℕ)) (rs : List Resource) (same : length names ≡
   sound_of : machine.has_holds rs a ≡ true → list_all (machine.is_sound_hold rs a) a.holds ≡ true
   sound_of held = (and_parts (list_all (machine.is_sound_hold rs a) a.holds) (machine.do_holds_differ a.holds) held).0
 
-  pub holds_printed : (ls ms : List (List ℕ)) → are_different names ≡ true → machine.has_holds rs a ≡ true → nat_le (length a.holds) 4 ≡ true → has_holds names (action_data ls ms names a) ≡ true
+  pub holds_printed : (ls ms : List (List ℕ)) → are_different names ≡ true → machine.has_holds rs a ≡ true → nat_le (length a.holds) 4 ≡ true → machine.has_modes a ≡ true → has_holds names (action_data ls ms names a) ≡ true
   unfolding action_data has_holds
-  holds_printed ls ms dn held few =
+  holds_printed ls ms dn held few modes =
       let (sound, differ) = and_parts (list_all (machine.is_sound_hold rs a) a.holds) (machine.do_holds_differ a.holds) held in
-      let all = all_of (is_hold names) hold_printed a.holds sound in
+      let all = all_printed (hold_data names) (machine.is_sound_hold rs a) (λ h. nat_le h.mode 255) (is_hold names) a.holds hold_printed sound modes in
       let known : list_all (is_of_resource (length names)) a.holds ≡ true = rw same (all_held rs a a.holds sound) in
       rw (
         values_of-items (map (hold_data names) a.holds),

@@ -1,17 +1,19 @@
 -- The table that is printed for a machine is that of the machine.
 use Rattle.std.proofs.Common.{◌≡◌, ℕ, true, ◌&&◌, List, map, refl, sym}
-use Rattle.std.specs.Prelude.{codes, nat_lt, length}
-use Rattle.std.specs.List.{list_all}
+use Rattle.std.specs.Prelude.{codes, nat_le, nat_lt, length}
+use Rattle.std.specs.List.{list_all, AllByRecursion}
 use Rattle.std.proofs.lemmas.Bool.{and_parts}
 use Rattle.std.proofs.lemmas.List.{length-map}
-use Rattle.tp_machine.specs.Rules.{do_names_rise}
+use Rattle.tp_machine.specs.Rules.{do_names_rise, is_feeder_place, feeder_names}
 use Rattle.tp_machine.specs.declared.parts.Resource.{Resource}
 use Rattle.tp_machine.specs.declared.whole.Machine.{Machine}
 use Rattle.tp_machine_text.specs.Words.{elements_at, are_different}
 use Rattle.tp_machine_text.specs.Keys as text
 use Rattle.tp_machine_text.specs.Kept.{KeepsRules}
 use Rattle.tp_machine_text.specs.TheMachine.{IsMachineOf}
-use Rattle.tp_machine_text.specs.Printed.{loc_names, resource_names, is_known, action_data, table_of}
+use Rattle.tp_machine_text.specs.Printed.{loc_names, gaps_of, gap_members, stocks_of, stock_members, resource_names, is_known, action_data, table_of}
+use Rattle.tp_machine_text.proofs.AmountsBack.{HasAmount, amounts_found}
+use Rattle.tp_machine_text.proofs.Built.{gap_names, stock_names}
 use Rattle.tp_machine_text.proofs.Seen.{values_of-items}
 use Rattle.tp_machine_text.proofs.KeptFacts.{names_parts}
 use Rattle.tp_machine_text.proofs.Fitting.{trays_fit, purges_fit, feeders_fit, actions_fit}
@@ -52,6 +54,15 @@ resource_count : (m : Machine) → list_all (is_known (length m.locations) (leng
     → list_all (is_known (length m.locations) (length m.modules) (length (resource_names m.resources))) m.actions ≡ true
 resource_count m known = rw (length-map m.resources (λ r. r.name)) known
 
+-- the gaps and the stocks are found at their names
+gaps_found : (rs : List Resource) → are_different (resource_names rs) ≡ true → AllByRecursion (HasAmount (gap_members rs)) (gaps_of rs)
+gaps_found rs differ = amounts_found (gaps_of rs) (rw (gap_names rs) differ)
+
+stocks_found : (m : Machine) → AllByRecursion (HasAmount (stock_members m.locations m.feeders)) (stocks_of m.locations m.feeders)
+stocks_found m =
+    let (first, rise) = and_parts (nat_le 1 (length m.feeders) && list_all (is_feeder_place m.locations m.trays m.purges) m.feeders) (do_names_rise (feeder_names m.locations m.feeders)) m.good_feeders in
+    amounts_found (stocks_of m.locations m.feeders) (rw (stock_names m.locations m.feeders) (rise_differ (feeder_names m.locations m.feeders) rise))
+
 pub printed_back : (m : Machine) → are_different m.locations ≡ true → are_different m.modules ≡ true → IsMachineOf (table_of m) m
 unfolding table_of
 printed_back m dl dm =
@@ -64,8 +75,8 @@ printed_back m dl dm =
       modules = sym (texts_back m.modules);
       trays = rw (texts_back m.locations, texts_back (loc_names m.locations m.trays)) (sym (locs_back m.locations m.trays dl (trays_fit m.locations m.trays m.good_trays)));
       purges = rw (texts_back m.locations, texts_back (loc_names m.locations m.purges)) (sym (locs_back m.locations m.purges dl (purges_fit m.locations m.trays m.purges m.good_purges)));
-      feeders = rw (texts_back m.locations) (sym (feeders_back m.locations m.feeders dl (feeders_fit m.locations m.trays m.purges m.feeders m.good_feeders)));
-      resources = rw (texts_back m.modules) (sym (resources_back m.modules m.resources dm rk));
+      feeders = rw (texts_back m.locations) (sym (feeders_back m.locations (stock_members m.locations m.feeders) m.feeders dl (feeders_fit m.locations m.trays m.purges m.feeders m.good_feeders) (stocks_found m)));
+      resources = rw (texts_back m.modules) (sym (resources_back m.modules (gap_members m.resources) m.resources dm rk (gaps_found m.resources dr)));
       actions =
           rw (texts_back m.locations, texts_back m.modules, resource_keys m.modules m.resources, values_of-items (map (action_data m.locations m.modules (resource_names m.resources)) m.actions))
           (sym (actions_back m.locations m.modules (resource_names m.resources) m.actions dl dm dr

@@ -1,7 +1,8 @@
 -- The table that is printed for a machine keeps every rule.
-use Rattle.std.proofs.Common.{◌≡◌, Bool, true, not, ◌&&◌, None, length, map, sym, ◌∙◌, arith}
+use Rattle.std.proofs.Common.{◌≡◌, Bool, true, not, ◌&&◌, None, List, [], ◌∷◌, refl, length, map, sym, ◌∙◌, arith}
 use Rattle.std.specs.Prelude.{nat_le}
 use Rattle.std.specs.List.{list_all}
+use Rattle.std.proofs.lemmas.Bool.{and_parts}
 use Rattle.std.proofs.lemmas.List.{length-map}
 use Rattle.tp_base.specs.NameText.{is_name_text}
 use Rattle.toml.specs.Data.{Data, Members}
@@ -15,9 +16,11 @@ use Rattle.tp_machine_text.specs.Broken.{first_broken}
 use Rattle.tp_machine_text.specs.Kept.{KeepsRules}
 use Rattle.tp_machine_text.specs.Words.{is_table}
 use Rattle.tp_machine_text.specs.Keys as text
+use Rattle.tp_machine_text.specs.TopRules.{is_second}
 use Rattle.tp_machine_text.specs.ActionRules.{is_named, is_of_module, has_ends, is_way, has_durations, has_prints, are_keys_among, has_actions, has_known_action_keys, has_action_names, has_action_modules, has_action_ends, has_ways, has_action_durations, has_action_prints}
 use Rattle.tp_machine_text.specs.HoldRules.{has_holds, begins_all, fills_all, has_action_holds, has_hold_begins, has_hold_lengths}
 use Rattle.tp_machine_text.specs.Printed.{is_known, name_at, loc_names, resource_names, action_data, table_of}
+use Rattle.tp_machine.proofs.Amounts.{amounts_of}
 use Rattle.tp_machine.proofs.NameFacts.{name_tests}
 use Rattle.tp_machine_text.proofs.MachineParts.{count_tests, locations_differ, known_trays, known_purges, known_feeders, resources_differ, same_count, known_actions}
 use Rattle.tp_machine_text.proofs.PrintedTops as tops
@@ -55,7 +58,16 @@ unbroken t k =
       k.holds,
       k.begins,
       k.lengths,
+      k.gaps,
+      k.stock,
     )
+
+both_all : {X : Type 0} (p q : X → Bool) (xs : List X) → list_all p xs ≡ true → list_all q xs ≡ true → list_all (λ x. p x && q x) xs ≡ true
+both_all p q [] ps qs = refl
+both_all p q (x ∷ xs) ps qs =
+    let (p_here, p_rest) = and_parts (p x) (list_all p xs) ps in
+    let (q_here, q_rest) = and_parts (q x) (list_all q xs) qs in
+    rw (p_here, q_here, both_all p q xs p_rest q_rest)
 
 module _ (m : Machine) where
   abbrev printed : Action → Data
@@ -126,12 +138,23 @@ module _ (m : Machine) where
 
   -- ---- holds
 
-  holds : has_action_holds (table_of m) ≡ true
+  few_and_modes : list_all (λ a. nat_le (length a.holds) 4 && machine.has_modes a) m.actions ≡ true
   unfolding have_few_holds
+  few_and_modes = both_all (λ a. nat_le (length a.holds) 4) machine.has_modes m.actions m.few_holds (amounts_of m).modes
+
+  second : is_second (table_of m) ≡ true
+  unfolding table_of
+  second = refl
+
+  holds : has_action_holds (table_of m) ≡ true
   holds =
-      rw (actions_are, resources_are m)
-      (each_action (machine.has_holds m.resources) (λ a. nat_le (length a.holds) 4) (has_holds (resource_names m.resources))
-      (λ a p q. deeds.holds_printed (resource_names m.resources) m.resources (same_count m) a m.locations m.modules (resources_differ m) p q) m.holds m.few_holds)
+      rw (
+        actions_are,
+        resources_are m,
+        second,
+        each_action (machine.has_holds m.resources) (λ a. nat_le (length a.holds) 4 && machine.has_modes a) (has_holds (resource_names m.resources))
+            (λ a p q. let (few, modes) = and_parts (nat_le (length a.holds) 4) (machine.has_modes a) q in deeds.holds_printed (resource_names m.resources) m.resources (same_count m) a m.locations m.modules (resources_differ m) p few modes) m.holds few_and_modes,
+      )
 
   begins : has_hold_begins (table_of m) ≡ true
   begins =
@@ -171,6 +194,8 @@ module _ (m : Machine) where
     holds = holds;
     begins = begins;
     lengths = lengths;
+    gaps = tops.gaps m;
+    stock = tops.stock m;
   }
 
   pub none_broken : first_broken (table_of m) ≡ None

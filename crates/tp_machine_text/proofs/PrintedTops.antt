@@ -1,5 +1,5 @@
 -- The numbers, places, feeders and resources of a printed table keep their rules.
-use Rattle.std.proofs.Common.{◌≡◌, ℕ, true, not, ◌&&◌, length, map, refl, ◌∙◌, arith}
+use Rattle.std.proofs.Common.{◌≡◌, ℕ, true, not, ◌&&◌, Option, Some, None, List, [], ◌∷◌, length, map, refl, ◌∙◌, arith}
 use Rattle.std.specs.Prelude.{nat_le, pos}
 use Rattle.std.specs.List.{list_all}
 use Rattle.std.proofs.lemmas.Bool.{and_parts}
@@ -15,8 +15,12 @@ use Rattle.tp_machine.specs.declared.whole.Machine.{Machine}
 use Rattle.tp_machine_text.specs.Words.{is_whole}
 use Rattle.tp_machine_text.specs.TopRules.{has_known_keys, has_format, has_lead, has_window, has_budget, has_locations, has_modules, has_trays, has_purges}
 use Rattle.tp_machine_text.specs.SupplyRules.{has_feeders, has_media, has_resources, has_resource_modules}
-use Rattle.tp_machine_text.specs.Printed.{name_at, loc_names, table_of}
+use Rattle.tp_machine_text.specs.AmountRules.{has_gaps, has_stock}
+use Rattle.tp_machine_text.specs.Printed.{name_at, loc_names, gaps_of, stocks_of, resource_names, table_of}
+use Rattle.tp_machine.proofs.Amounts.{amounts_of}
 use Rattle.tp_machine.proofs.NameFacts.{name_tests}
+use Rattle.tp_machine_text.proofs.AmountsBack.{is_small, amounts_printed, all_among}
+use Rattle.tp_machine_text.proofs.Built.{gap_names, stock_names}
 use Rattle.tp_machine_text.proofs.MachineParts.{number_tests, count_tests, locations_differ, modules_differ, known_trays, known_purges, known_resources, same_count}
 use Rattle.tp_machine_text.proofs.Back.{texts_back, feeder_keys, resource_keys}
 use Rattle.tp_machine_text.proofs.PrintedPlaces as places
@@ -27,6 +31,15 @@ at_most_printed high n test = grind (arith, ints, nat_tests)
 
 between_printed : (low high n : ℕ) → is_between low high n ≡ true → is_whole (pos low) (pos high) (integer (pos n)) ≡ true
 between_printed low high n test = grind (arith, ints, nat_tests)
+
+stocks_small : (names : List (List ℕ)) (fs : List Feeder) → machine.have_stocks fs ≡ true → list_all (λ a. is_small 1000000 a.1) (stocks_of names fs) ≡ true
+stocks_small names [] small = refl
+stocks_small names (f ∷ fs) small =
+    let (here, rest) = and_parts (machine.is_stock f.stock) (machine.have_stocks fs) small in
+    rw (same f.stock here, stocks_small names fs rest) where
+      same : (o : Option ℕ) → machine.is_stock o ≡ true → is_small 1000000 o ≡ true
+      same None test = refl
+      same (Some n) test = test
 
 module _ (m : Machine) where
   pub known_keys : has_known_keys (table_of m) ≡ true
@@ -101,6 +114,14 @@ module _ (m : Machine) where
   pub resources : has_resources (table_of m) ≡ true
   unfolding table_of
   resources = rw (resource_keys m.modules m.resources, (same_count m), (count_tests m).resources) (list_all-map is_name_text (λ (r : Resource). r.name) m.resources ∙ (name_tests m).resources)
+
+  pub gaps : has_gaps (table_of m) ≡ true
+  unfolding table_of
+  gaps = rw (resource_keys m.modules m.resources) (amounts_printed (resource_names m.resources) 4096 (gaps_of m.resources) (rw (gap_names m.resources) (all_among (resource_names m.resources))) (list_all-map (λ a. is_small 4096 a.1) (λ (r : Resource). (r.name, Some r.gap)) m.resources ∙ (amounts_of m).gaps))
+
+  pub stock : has_stock (table_of m) ≡ true
+  unfolding table_of
+  stock = rw (feeder_keys m.locations m.feeders) (amounts_printed (machine.feeder_names m.locations m.feeders) 1000000 (stocks_of m.locations m.feeders) (rw (stock_names m.locations m.feeders) (all_among (machine.feeder_names m.locations m.feeders))) (stocks_small m.locations m.feeders (amounts_of m).stocks))
 
   pub resource_modules : has_resource_modules (table_of m) ≡ true
   unfolding table_of

@@ -13,9 +13,10 @@ use Rattle.tp_machine_text.specs.Keys as text
 use Rattle.tp_machine_text.specs.Kept.{KeepsRules}
 use Rattle.tp_machine_text.specs.TheMachine.{number_or, loc_of, feeders_of, resources_of, action_of}
 use Rattle.tp_machine_text.proofs.NumberFacts.{number_between, length_texts, length_resources, length_feeders}
-use Rattle.tp_machine_text.proofs.KeptFacts.{names_parts, trays_from, purges_from, purges_apart, some_feeder, feeders_open, feeders_known, few_resources_test, actions_counted, actions_named, actions_differ, resources_named, texts_known}
+use Rattle.tp_machine_text.proofs.KeptFacts.{names_parts, trays_from, purges_from, purges_apart, some_feeder, feeders_open, feeders_known, few_resources_test, actions_counted, actions_named, actions_differ, resources_named, texts_known, holds_kept, gaps_whole, stocks_whole}
 use Rattle.tp_machine_text.proofs.SupplyFacts.{sound_trays, sound_purges, feeder_places, feeder_names_are, sound_resources}
 use Rattle.tp_machine_text.proofs.ActionFacts.{same_differ, action_names, sound_ways, sound_durations}
+use Rattle.tp_machine_text.proofs.AmountFacts.{amounts_sound}
 use Rattle.tp_machine_text.proofs.HoldsFacts.{actions_held}
 use Rattle.tp_machine_text.proofs.Named.{names_sound, media_sound, resource_names_sound, action_names_sound, few_holds_sound}
 
@@ -37,7 +38,7 @@ module _ (t : Members) (k : KeepsRules t) where
         number_between 1 200000 20000 (get_member (codes "budget") t) k.budget refl,
       )
 
-  pub counts : machine.are_counts (text.locations t) (text.modules t) (resources_of (text.modules t) (resource_table t)) (map (action_of (text.locations t) (text.modules t) (text.resources t)) (text.actions t)) ≡ true
+  pub counts : machine.are_counts (text.locations t) (text.modules t) (resources_of (text.modules t) (text.gaps t) (resource_table t)) (map (action_of (text.locations t) (text.modules t) (text.resources t)) (text.actions t)) ≡ true
   counts =
       let places = names_parts 256 (elements_at (codes "locations") t) k.locations in
       let parts = names_parts 64 (elements_at (codes "modules") t) k.modules in
@@ -48,7 +49,7 @@ module _ (t : Members) (k : KeepsRules t) where
         length_texts (elements_at (codes "modules") t),
         parts.some,
         parts.few,
-        length_resources (text.modules t) (resource_table t),
+        length_resources (text.modules t) (text.gaps t) (resource_table t),
         few_resources_test t k,
         length-map (text.actions t) (action_of (text.locations t) (text.modules t) (text.resources t)),
       )
@@ -67,45 +68,49 @@ module _ (t : Members) (k : KeepsRules t) where
   purges_known = texts_known (text.locations t) (elements_at (codes "purge") t) (purges_from t k)
 
   pub feeders : machine.do_names_rise (text.feeders t) ≡ true
-      → machine.are_feeders (text.locations t) (map (loc_of (text.locations t)) (text.trays t)) (map (loc_of (text.locations t)) (text.purges t)) (feeders_of (text.locations t) (feeder_table t)) ≡ true
+      → machine.are_feeders (text.locations t) (map (loc_of (text.locations t)) (text.trays t)) (map (loc_of (text.locations t)) (text.purges t)) (feeders_of (text.locations t) (text.stocks t) (feeder_table t)) ≡ true
   feeders rise =
       rw (
-        length_feeders (text.locations t) (feeder_table t),
+        length_feeders (text.locations t) (text.stocks t) (feeder_table t),
         some_feeder t k,
-        feeder_places (text.locations t) (text.trays t) (text.purges t) (feeder_table t) trays_known purges_known (feeders_open t k),
-        feeder_names_are (text.locations t) (feeder_table t) (feeders_known t k),
+        feeder_places (text.locations t) (text.trays t) (text.purges t) (text.stocks t) (feeder_table t) trays_known purges_known (feeders_open t k),
+        feeder_names_are (text.locations t) (text.stocks t) (feeder_table t) (feeders_known t k),
         rise,
       )
 
-  pub resources : machine.do_names_rise (text.resources t) ≡ true → machine.are_resources (text.modules t) (resources_of (text.modules t) (resource_table t)) ≡ true
-  resources rise = sound_resources (text.modules t) (resource_table t) k.resource_modules rise
+  pub resources : machine.do_names_rise (text.resources t) ≡ true → machine.are_resources (text.modules t) (resources_of (text.modules t) (text.gaps t) (resource_table t)) ≡ true
+  resources rise = sound_resources (text.modules t) (text.gaps t) (resource_table t) k.resource_modules rise
 
   pub names : machine.do_actions_differ (map (action_of (text.locations t) (text.modules t) (text.resources t)) (text.actions t)) ≡ true
   names =
       rw (action_names (text.locations t) (text.modules t) (text.resources t) (text.actions t)) (same_differ (map text.action_name (text.actions t)) ∙ actions_differ t k)
 
-  pub ways : machine.are_ways (text.locations t) (text.modules t) (map (loc_of (text.locations t)) (text.trays t)) (map (loc_of (text.locations t)) (text.purges t)) (feeders_of (text.locations t) (feeder_table t))
+  pub ways : machine.are_ways (text.locations t) (text.modules t) (map (loc_of (text.locations t)) (text.trays t)) (map (loc_of (text.locations t)) (text.purges t)) (feeders_of (text.locations t) (text.stocks t) (feeder_table t))
       (map (action_of (text.locations t) (text.modules t) (text.resources t)) (text.actions t)) ≡ true
-  ways = sound_ways (text.locations t) (text.modules t) (text.resources t) (text.trays t) (text.purges t) (feeder_table t) (text.actions t)
+  ways = sound_ways (text.locations t) (text.modules t) (text.resources t) (text.trays t) (text.purges t) (text.stocks t) (feeder_table t) (text.actions t)
       trays_known purges_known (feeders_known t k) k.action_modules k.action_ends k.ways
 
   pub durations : machine.have_durations (map (action_of (text.locations t) (text.modules t) (text.resources t)) (text.actions t)) ≡ true
   durations = sound_durations (text.locations t) (text.modules t) (text.resources t) (text.actions t) k.durations
 
-  pub holds : machine.have_holds (resources_of (text.modules t) (resource_table t)) (map (action_of (text.locations t) (text.modules t) (text.resources t)) (text.actions t)) ≡ true
-  holds = actions_held (text.locations t) (text.modules t) (resource_table t) (text.actions t) k.holds k.begins k.lengths
+  pub holds : machine.have_holds (resources_of (text.modules t) (text.gaps t) (resource_table t)) (map (action_of (text.locations t) (text.modules t) (text.resources t)) (text.actions t)) ≡ true
+  holds = actions_held (text.locations t) (text.modules t) (text.gaps t) (resource_table t) (text.actions t) (holds_kept t k) k.begins k.lengths
 
-  pub named : machine.are_named (text.locations t) (text.modules t) (feeders_of (text.locations t) (feeder_table t)) (resources_of (text.modules t) (resource_table t))
+  pub named : machine.are_named (text.locations t) (text.modules t) (feeders_of (text.locations t) (text.stocks t) (feeder_table t)) (resources_of (text.modules t) (text.gaps t) (resource_table t))
       (map (action_of (text.locations t) (text.modules t) (text.resources t)) (text.actions t)) ≡ true
   unfolding are_named
   named =
       rw (
         names_sound 256 (elements_at (codes "locations") t) k.locations,
         names_sound 64 (elements_at (codes "modules") t) k.modules,
-        media_sound (text.locations t) (feeder_table t) k.media,
-        resource_names_sound (text.modules t) (resource_table t) (resources_named t k),
+        media_sound (text.locations t) (text.stocks t) (feeder_table t) k.media,
+        resource_names_sound (text.modules t) (text.gaps t) (resource_table t) (resources_named t k),
         action_names_sound (text.locations t) (text.modules t) (text.resources t) (text.actions t) (actions_named t k),
       )
 
   pub few_holds : machine.have_few_holds (map (action_of (text.locations t) (text.modules t) (text.resources t)) (text.actions t)) ≡ true
-  few_holds = few_holds_sound (text.locations t) (text.modules t) (text.resources t) (text.actions t) k.holds
+  few_holds = few_holds_sound (text.locations t) (text.modules t) (text.resources t) (text.actions t) (holds_kept t k)
+
+  pub amounts : machine.are_amounts (feeders_of (text.locations t) (text.stocks t) (feeder_table t)) (resources_of (text.modules t) (text.gaps t) (resource_table t))
+      (map (action_of (text.locations t) (text.modules t) (text.resources t)) (text.actions t)) ≡ true
+  amounts = amounts_sound (text.locations t) (text.modules t) (text.resources t) (text.stocks t) (feeder_table t) (text.gaps t) (resource_table t) (text.actions t) (stocks_whole t k) (gaps_whole t k) (holds_kept t k)

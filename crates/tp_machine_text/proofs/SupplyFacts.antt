@@ -41,9 +41,9 @@ sound_purges names ts ds trays from apart =
 
 -- ---- feeders
 
-pub feeder_locs : (names : List (List ℕ)) (ms : Members) → map (λ f. f.loc) (feeders_of names ms) ≡ map (loc_of names) (keys_of ms)
-feeder_locs names no_members = refl
-feeder_locs names (member k d ms) = ap (λ t. loc_of names k ∷ t) (feeder_locs names ms)
+pub feeder_locs : (names : List (List ℕ)) (stocks ms : Members) → map (λ f. f.loc) (feeders_of names stocks ms) ≡ map (loc_of names) (keys_of ms)
+feeder_locs names stocks no_members = refl
+feeder_locs names stocks (member k d ms) = ap (λ t. loc_of names k ∷ t) (feeder_locs names stocks ms)
 
 open_parts : (names trays purges : List (List ℕ)) (k : List ℕ) → is_open_place names trays purges k ≡ true → (is_among names k ≡ true) × (is_among trays k ≡ false) × (is_among purges k ≡ false)
 open_parts names trays purges k test = (grind arith, grind arith, grind arith)
@@ -54,32 +54,32 @@ keys_known names trays purges (k ∷ ks) test =
     let (here, rest) = and_parts (is_open_place names trays purges k) (list_all (is_open_place names trays purges) ks) test in
     rw ((open_parts names trays purges k here).0, keys_known names trays purges ks rest)
 
-pub feeder_places : (names trays purges : List (List ℕ)) (ms : Members) → list_all (is_among names) trays ≡ true → list_all (is_among names) purges ≡ true
+pub feeder_places : (names trays purges : List (List ℕ)) (stocks ms : Members) → list_all (is_among names) trays ≡ true → list_all (is_among names) purges ≡ true
     → list_all (is_open_place names trays purges) (keys_of ms) ≡ true
-    → list_all (machine.is_feeder_place names (map (loc_of names) trays) (map (loc_of names) purges)) (feeders_of names ms) ≡ true
-feeder_places names trays purges no_members kt kp test = refl
-feeder_places names trays purges (member k d ms) kt kp test =
+    → list_all (machine.is_feeder_place names (map (loc_of names) trays) (map (loc_of names) purges)) (feeders_of names stocks ms) ≡ true
+feeder_places names trays purges stocks no_members kt kp test = refl
+feeder_places names trays purges stocks (member k d ms) kt kp test =
     let (here, rest) = and_parts (is_open_place names trays purges k) (list_all (is_open_place names trays purges) (keys_of ms)) test in
     let p = open_parts names trays purges k here in
-    rw (place_known names k p.0, loc_among names trays k kt p.0, p.1, loc_among names purges k kp p.0, p.2, feeder_places names trays purges ms kt kp rest)
+    rw (place_known names k p.0, loc_among names trays k kt p.0, p.1, loc_among names purges k kp p.0, p.2, feeder_places names trays purges stocks ms kt kp rest)
 
-pub feeder_names_are : (names : List (List ℕ)) (ms : Members) → list_all (is_among names) (keys_of ms) ≡ true → machine.feeder_names names (feeders_of names ms) ≡ keys_of ms
-feeder_names_are names no_members known = refl
-feeder_names_are names (member k d ms) known =
+pub feeder_names_are : (names : List (List ℕ)) (stocks ms : Members) → list_all (is_among names) (keys_of ms) ≡ true → machine.feeder_names names (feeders_of names stocks ms) ≡ keys_of ms
+feeder_names_are names stocks no_members known = refl
+feeder_names_are names stocks (member k d ms) known =
     let here : is_among names k ≡ true = grind arith in
-    rw (place_named names k here, feeder_names_are names ms (grind arith))
+    rw (place_named names k here, feeder_names_are names stocks ms (grind arith))
 
 -- ---- resources
 
-pub resource_names : (modules : List (List ℕ)) (ms : Members) → map (λ r. r.name) (resources_of modules ms) ≡ keys_of ms
-resource_names modules no_members = refl
-resource_names modules (member k d ms) = ap (λ t. k ∷ t) (resource_names modules ms)
+pub resource_names : (modules : List (List ℕ)) (gaps ms : Members) → map (λ r. r.name) (resources_of modules gaps ms) ≡ keys_of ms
+resource_names modules gaps no_members = refl
+resource_names modules gaps (member k d ms) = ap (λ t. k ∷ t) (resource_names modules gaps ms)
 
-pub resource_modules_known : (modules : List (List ℕ)) (ms : Members) → list_all (is_one_of modules) (data_of ms) ≡ true → list_all (λ r. nat_lt r.module.0 (length modules)) (resources_of modules ms) ≡ true
-resource_modules_known modules no_members known = refl
-resource_modules_known modules (member k d ms) known =
+pub resource_modules_known : (modules : List (List ℕ)) (gaps ms : Members) → list_all (is_one_of modules) (data_of ms) ≡ true → list_all (λ r. nat_lt r.module.0 (length modules)) (resources_of modules gaps ms) ≡ true
+resource_modules_known modules gaps no_members known = refl
+resource_modules_known modules gaps (member k d ms) known =
     let here : is_one_of modules d ≡ true = grind arith in
-    rw (place_known modules (text_of d) (one_of modules d here), resource_modules_known modules ms (grind arith))
+    rw (place_known modules (text_of d) (one_of modules d here), resource_modules_known modules gaps ms (grind arith))
 
-pub sound_resources : (modules : List (List ℕ)) (ms : Members) → list_all (is_one_of modules) (data_of ms) ≡ true → machine.do_names_rise (keys_of ms) ≡ true → machine.are_resources modules (resources_of modules ms) ≡ true
-sound_resources modules ms known rise = rw (resource_modules_known modules ms known, resource_names modules ms, rise)
+pub sound_resources : (modules : List (List ℕ)) (gaps ms : Members) → list_all (is_one_of modules) (data_of ms) ≡ true → machine.do_names_rise (keys_of ms) ≡ true → machine.are_resources modules (resources_of modules gaps ms) ≡ true
+sound_resources modules gaps ms known rise = rw (resource_modules_known modules gaps ms known, resource_names modules gaps ms, rise)

@@ -1,5 +1,5 @@
 -- The rules on holds. A hold begins and ends at an anchor of its action, less or more some ticks.
-use Rattle.std.specs.Prelude.{ℕ, ℤ, pos, negsuc, Bool, false, ◌&&◌, if◌then◌else◌, nat_le, List, [], ◌∷◌, length, map, codes}
+use Rattle.std.specs.Prelude.{ℕ, ℤ, pos, negsuc, Bool, false, not, is_some, ◌&&◌, ◌||◌, if◌then◌else◌, nat_le, List, [], ◌∷◌, length, map, codes}
 use Rattle.std.specs.List.{list_all}
 use Rattle.std.specs.Str.{bytes_eq}
 use Rattle.toml.specs.Data.{Data, Members, get}
@@ -8,6 +8,7 @@ use Rattle.tp_machine.specs.declared.parts.Anchor.{Anchor}
 use Rattle.tp_machine.specs.declared.parts.Anchor.TheVariants.{Start, End}
 use Rattle.tp_machine_text.specs.Words.{elements_in, text_of, text_at, whole_of, whole_at, is_there, is_fit, is_array, is_table, is_whole, is_one_of, are_different}
 use Rattle.tp_machine_text.specs.Keys.{hold_keys, anchors, resources, actions}
+use Rattle.tp_machine_text.specs.TopRules.{is_second}
 use Rattle.tp_machine_text.specs.ActionRules.{are_keys_among}
 
 abbrev pub holds : Data → List Data
@@ -21,11 +22,11 @@ is_point _ = false
 abbrev pub has_point : List ℕ → Data → Bool
 has_point key h = is_point (elements_in (get key h))
 
--- a table with exactly the keys resource, begin and end, the resource being one that there is
+-- a table with the keys resource, begin and end, and perhaps mode, the resource being one that there is and the mode a byte
 unfoldable pub is_hold : List (List ℕ) → Data → Bool
 is_hold resources h =
     is_table h && are_keys_among hold_keys h && is_there (is_one_of resources) (get (codes "resource") h)
-    && has_point (codes "begin") h && has_point (codes "end") h
+    && has_point (codes "begin") h && has_point (codes "end") h && is_fit (is_whole (pos 0) (pos 255)) (get (codes "mode") h)
 
 -- `holds`, where it is there, is an array of at most 4 holds, and their resources differ within the action
 unfoldable pub has_holds : List (List ℕ) → Data → Bool
@@ -33,8 +34,16 @@ has_holds resources a =
     is_fit is_array (get (codes "holds") a) && nat_le (length (holds a)) 4 && list_all (is_hold resources) (holds a)
     && are_different (map (text_at (codes "resource")) (holds a))
 
+-- no hold of the action has a mode
+unfoldable pub lacks_mode : Data → Bool
+lacks_mode h = not (is_some (get (codes "mode") h))
+
+abbrev pub lacks_modes : Data → Bool
+lacks_modes a = list_all lacks_mode (holds a)
+
+-- the same of all actions; holds have modes in a text of format 2 alone
 abbrev pub has_action_holds : Members → Bool
-has_action_holds t = list_all (has_holds (resources t)) (actions t)
+has_action_holds t = list_all (has_holds (resources t)) (actions t) && (is_second t || list_all lacks_modes (actions t))
 
 -- the anchor and the offset of `begin` or `end`
 abbrev pub anchor_of : Data → Anchor

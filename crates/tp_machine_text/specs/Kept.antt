@@ -5,6 +5,7 @@ use Rattle.tp_machine_text.specs.TopRules.{has_known_keys, has_format, has_lead,
 use Rattle.tp_machine_text.specs.SupplyRules.{has_feeders, has_media, has_resources, has_resource_modules}
 use Rattle.tp_machine_text.specs.ActionRules.{has_actions, has_known_action_keys, has_action_names, has_action_modules, has_action_ends, has_ways, has_action_durations, has_action_prints}
 use Rattle.tp_machine_text.specs.HoldRules.{has_action_holds, has_hold_begins, has_hold_lengths}
+use Rattle.tp_machine_text.specs.AmountRules.{has_gaps, has_stock}
 
 pub record KeepsRules (t : Members) : Type 0 where
   pub known_keys : IsTrue (has_known_keys t)
@@ -31,3 +32,5 @@ pub record KeepsRules (t : Members) : Type 0 where
   pub holds : IsTrue (has_action_holds t)
   pub begins : IsTrue (has_hold_begins t)
   pub lengths : IsTrue (has_hold_lengths t)
+  pub gaps : IsTrue (has_gaps t)
+  pub stock : IsTrue (has_stock t)

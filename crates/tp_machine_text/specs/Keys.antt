@@ -4,13 +4,13 @@ use Rattle.toml.specs.Data.{Data, Members}
 use Rattle.tp_machine_text.specs.Words.{elements_at, text_of, text_at, keys_of, members_at}
 
 abbrev pub top_keys : List (List ℕ)
-top_keys = codes "format" ∷ codes "lead" ∷ codes "window" ∷ codes "budget" ∷ codes "locations" ∷ codes "modules" ∷ codes "trays" ∷ codes "purge" ∷ codes "feeders" ∷ codes "resources" ∷ codes "actions" ∷ []
+top_keys = codes "format" ∷ codes "lead" ∷ codes "window" ∷ codes "budget" ∷ codes "locations" ∷ codes "modules" ∷ codes "trays" ∷ codes "purge" ∷ codes "feeders" ∷ codes "resources" ∷ codes "actions" ∷ codes "gaps" ∷ codes "stock" ∷ []
 
 abbrev pub action_keys : List (List ℕ)
 action_keys = codes "name" ∷ codes "module" ∷ codes "from" ∷ codes "to" ∷ codes "least" ∷ codes "most" ∷ codes "prints" ∷ codes "flip" ∷ codes "holds" ∷ []
 
 abbrev pub hold_keys : List (List ℕ)
-hold_keys = codes "resource" ∷ codes "begin" ∷ codes "end" ∷ []
+hold_keys = codes "resource" ∷ codes "begin" ∷ codes "end" ∷ codes "mode" ∷ []
 
 -- what an action may print, and where a hold may be tied to its action
 abbrev pub kinds : List (List ℕ)
@@ -41,6 +41,13 @@ feeders t = keys_of (members_at (codes "feeders") t)
 
 abbrev pub resources : Members → List (List ℕ)
 resources t = keys_of (members_at (codes "resources") t)
+
+-- the gaps of resources, and the stocks of feeders
+abbrev pub gaps : Members → Members
+gaps t = members_at (codes "gaps") t
+
+abbrev pub stocks : Members → Members
+stocks t = members_at (codes "stock") t
 
 abbrev pub actions : Members → List Data
 actions t = elements_at (codes "actions") t

@@ -5,6 +5,7 @@ pub mod TopRules
 pub mod SupplyRules
 pub mod ActionRules
 pub mod HoldRules
+pub mod AmountRules
 pub mod Broken
 pub mod Kept
 pub mod TheMachine

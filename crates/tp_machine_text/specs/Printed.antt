@@ -1,5 +1,5 @@
 -- The table that is printed for a machine.
-use Rattle.std.specs.Prelude.{ℕ, pos, ℤ, Bool, if◌then◌else◌, List, [], ◌∷◌, ◌++◌, ◌&&◌, map, slice_get, codes, nat_lt}
+use Rattle.std.specs.Prelude.{ℕ, pos, ℤ, Bool, if◌then◌else◌, List, [], ◌∷◌, ◌++◌, ◌&&◌, map, slice_get, Option, Some, None, codes, nat_lt}
 use Rattle.std.specs.List.{list_all}
 use Rattle.std.specs.Ordering.{match_ordering, nat_cmp}
 use Rattle.std.specs.Cmp.Lexicographic.{slice_cmp}
@@ -52,6 +52,33 @@ abbrev pub resource_members : List (List ℕ) → List Resource → Members
 resource_members modules [] = no_members
 resource_members modules (r ∷ rs) = member r.name (string (name_at modules r.module.0)) (resource_members modules rs)
 
+abbrev pub amount_first : List ℕ → Option ℕ → Members → Members
+amount_first key None ms = ms
+amount_first key (Some n) ms = member key (integer (pos n)) ms
+
+abbrev pub put_amount : List ℕ → Option ℕ → Members → Members
+put_amount key None ms = ms
+put_amount key (Some n) ms = put_member key (integer (pos n)) ms
+
+-- the numbers of those keys that have one
+abbrev pub amount_members : List (List ℕ × Option ℕ) → Members
+amount_members [] = no_members
+amount_members (a ∷ amounts) = amount_first a.0 a.1 (amount_members amounts)
+
+-- the gap of each resource
+abbrev pub gaps_of : List Resource → List (List ℕ × Option ℕ)
+gaps_of rs = map (λ r. (r.name, Some r.gap)) rs
+
+abbrev pub gap_members : List Resource → Members
+gap_members rs = amount_members (gaps_of rs)
+
+-- the stock of each feeder that has one
+abbrev pub stocks_of : List (List ℕ) → List Feeder → List (List ℕ × Option ℕ)
+stocks_of locations fs = map (λ f. (name_at locations f.loc.0, f.stock)) fs
+
+abbrev pub stock_members : List (List ℕ) → List Feeder → Members
+stock_members locations fs = amount_members (stocks_of locations fs)
+
 abbrev pub resource_names : List Resource → List (List ℕ)
 resource_names rs = map (λ r. r.name) rs
 
@@ -66,7 +93,8 @@ unfoldable pub hold_data : List (List ℕ) → HoldRule → Data
 hold_data resources h =
     table (member (codes "begin") (point_data h.begin h.begin_off)
     (member (codes "end") (point_data h.end h.end_off)
-    (member (codes "resource") (string (name_at resources h.resource.0)) no_members)))
+    (member (codes "mode") (integer (pos h.mode))
+    (member (codes "resource") (string (name_at resources h.resource.0)) no_members))))
 
 -- the words for what an action prints
 abbrev pub kind_words : Bool → Bool → List (List ℕ)
@@ -89,11 +117,13 @@ table_of m =
     member (codes "actions") (array (items_of (map (action_data m.locations m.modules (resource_names m.resources)) m.actions)))
     (member (codes "budget") (integer (pos m.budget))
     (member (codes "feeders") (table (feeder_members m.locations m.feeders))
-    (member (codes "format") (integer (pos 1))
+    (member (codes "format") (integer (pos 2))
+    (member (codes "gaps") (table (gap_members m.resources))
     (member (codes "lead") (integer (pos m.lead))
     (member (codes "locations") (texts_data m.locations)
     (member (codes "modules") (texts_data m.modules)
     (member (codes "purge") (texts_data (loc_names m.locations m.purges))
     (member (codes "resources") (table (resource_members m.modules m.resources))
+    (member (codes "stock") (table (stock_members m.locations m.feeders))
     (member (codes "trays") (texts_data (loc_names m.locations m.trays))
-    (member (codes "window") (integer (pos m.window)) no_members))))))))))
+    (member (codes "window") (integer (pos m.window)) no_members))))))))))))

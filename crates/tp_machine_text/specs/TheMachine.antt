@@ -1,5 +1,5 @@
 -- The machine of a table. Where a rule says that a value is there, what stands here for its absence is never used.
-use Rattle.std.specs.Prelude.{◌≡◌, ℕ, suc, Bool, false, if◌then◌else◌, List, [], ◌∷◌, map, Option, Some, None, codes}
+use Rattle.std.specs.Prelude.{◌≡◌, ℕ, suc, Bool, false, if◌then◌else◌, List, [], ◌∷◌, map, option_map, Option, Some, None, codes}
 use Rattle.std.specs.Str.{bytes_eq}
 use Rattle.toml.specs.Data.{Data, boolean, Members, no_members, member, get_member, get}
 use Rattle.tp_machine.specs.declared.parts.Action.{Action}
@@ -33,15 +33,23 @@ abbrev pub number_or : ℕ → Option Data → ℕ
 number_or absent None = absent
 number_or absent (Some d) = number_of (whole_of d)
 
--- a feeder for each location of the table, with its medium
-abbrev pub feeders_of : List (List ℕ) → Members → List Feeder
-feeders_of locations no_members = []
-feeders_of locations (member key d ms) = record { loc = loc_of locations key; media = text_of d } ∷ feeders_of locations ms
+-- the whole number at a key of a table, where it is there
+unfoldable pub amount_at : List ℕ → Members → Option ℕ
+amount_at key amounts = option_map (λ d. number_of (whole_of d)) (get_member key amounts)
 
--- a resource for each key of the table, with its module
-abbrev pub resources_of : List (List ℕ) → Members → List Resource
-resources_of modules no_members = []
-resources_of modules (member key d ms) = record { name = key; «module» = module_of modules (text_of d) } ∷ resources_of modules ms
+abbrev pub or_zero : Option ℕ → ℕ
+or_zero None = 0
+or_zero (Some n) = n
+
+-- a feeder for each location of the table, with its medium, and its stock by another table
+abbrev pub feeders_of : List (List ℕ) → Members → Members → List Feeder
+feeders_of locations stocks no_members = []
+feeders_of locations stocks (member key d ms) = record { loc = loc_of locations key; media = text_of d; stock = amount_at key stocks } ∷ feeders_of locations stocks ms
+
+-- a resource for each key of the table, with its module, and its gap by another table
+abbrev pub resources_of : List (List ℕ) → Members → Members → List Resource
+resources_of modules gaps no_members = []
+resources_of modules gaps (member key d ms) = record { name = key; «module» = module_of modules (text_of d); gap = or_zero (amount_at key gaps) } ∷ resources_of modules gaps ms
 
 unfoldable pub hold_of : List (List ℕ) → Data → HoldRule
 hold_of resources h = record {
@@ -50,6 +58,7 @@ hold_of resources h = record {
   begin_off = offset_at (codes "begin") h;
   end = anchor_at (codes "end") h;
   end_off = offset_at (codes "end") h;
+  mode = number_or 0 (get (codes "mode") h);
 }
 
 abbrev pub prints_word : List ℕ → Data → Bool
@@ -83,6 +92,6 @@ pub record IsMachineOf (t : Members) (machine : Machine) : Type 0 where
   pub modules : machine.modules ≡ text.modules t
   pub trays : machine.trays ≡ map (loc_of (text.locations t)) (text.trays t)
   pub purges : machine.purges ≡ map (loc_of (text.locations t)) (text.purges t)
-  pub feeders : machine.feeders ≡ feeders_of (text.locations t) (members_at (codes "feeders") t)
-  pub resources : machine.resources ≡ resources_of (text.modules t) (members_at (codes "resources") t)
+  pub feeders : machine.feeders ≡ feeders_of (text.locations t) (text.stocks t) (members_at (codes "feeders") t)
+  pub resources : machine.resources ≡ resources_of (text.modules t) (text.gaps t) (members_at (codes "resources") t)
   pub actions : machine.actions ≡ map (action_of (text.locations t) (text.modules t) (text.resources t)) (text.actions t)

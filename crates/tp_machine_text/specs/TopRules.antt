@@ -9,9 +9,13 @@ use Rattle.tp_machine_text.specs.Keys.{top_keys, locations, trays}
 abbrev pub has_known_keys : Members → Bool
 has_known_keys t = list_all (is_among top_keys) (keys_of t)
 
--- `format` is there and is the whole number 1
+-- `format` is there and is the whole number 1 or 2
 abbrev pub has_format : Members → Bool
-has_format t = is_there (is_whole (pos 1) (pos 1)) (get_member (codes "format") t)
+has_format t = is_there (is_whole (pos 1) (pos 2)) (get_member (codes "format") t)
+
+-- the text is of format 2
+abbrev pub is_second : Members → Bool
+is_second t = is_there (is_whole (pos 2) (pos 2)) (get_member (codes "format") t)
 
 -- `lead`, where it is there, is a whole number from 0 to 4,096
 abbrev pub has_lead : Members → Bool

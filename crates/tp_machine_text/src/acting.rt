@@ -1,14 +1,15 @@
-ghost use Rattle.std.specs.Prelude.{◌≡◌, ◌≤◌, ◌≤ℤ◌, pos, negsuc, true, IfOk, length, map, option_map, codes};
+ghost use Rattle.std.specs.Prelude.{◌≡◌, ◌≤◌, ◌≤ℤ◌, pos, negsuc, true, IsTrue, IfOk, length, map, option_map, codes};
 ghost use Rattle.std.specs.List.{list_all};
+ghost use Rattle.toml.specs.Data.{get};
 ghost use Rattle.toml.specs.View.{table_view, view};
-ghost use Rattle.tp_machine_text.specs.Words.{text_of, keys_of, members_of};
+ghost use Rattle.tp_machine_text.specs.Words.{text_of, keys_of, members_of, is_fit, is_whole};
 ghost use Rattle.tp_machine_text.specs.ActionRules.{is_named, has_durations};
 ghost use Rattle.tp_machine_text.specs.HoldRules.{is_hold, has_holds, holds};
-ghost use Rattle.tp_machine_text.specs.TheMachine.{resource_of, hold_of, prints_word, truth_in, action_of};
+ghost use Rattle.tp_machine_text.specs.TheMachine.{number_or, resource_of, hold_of, prints_word, truth_in, action_of};
 
 use crate::building::{loc_of, module_of, name_in};
 use crate::holds::{holds_of, least_of, most_of, point_at};
-use crate::looking::{field, is_among, text_at, values_in};
+use crate::looking::{field, is_among, text_at, values_in, whole_of};
 use crate::supplying::place_of_key;
 use std::alloc::Global;
 use toml::{Table, Value};
@@ -35,6 +36,17 @@ fn narrow(offset: i64) -> i32
     offset as i32
 }
 
+/// The mode of a hold, which is 0 where it is absent.
+fn mode_of(hold: &Value) -> u8
+    requires { IsTrue (is_fit (is_whole (pos 0) (pos 255)) (get (codes "mode") (view hold.now))) }
+    ensures { result ≡ number_or 0 (get (codes "mode") (view hold.now)) }
+{
+    match field(hold, "mode") {
+        Some(mode) => whole_of(mode) as u8,
+        None => 0,
+    }
+}
+
 #[tactic(auto, unfolding(crate::specs::TheMachine::hold_of))]
 fn hold_of(resources: Option<&Table>, hold: &Value) -> HoldRule
     requires few { length (keys_of (members_of (option_map (λ m. table_view m.now) resources)))
@@ -52,6 +64,7 @@ fn hold_of(resources: Option<&Table>, hold: &Value) -> HoldRule
         begin_off: narrow(begin.1),
         end: end.0,
         end_off: narrow(end.1),
+        mode: mode_of(hold),
     }
 }
 

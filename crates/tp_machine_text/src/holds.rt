@@ -1,19 +1,20 @@
-ghost use Rattle.std.specs.Prelude.{◌≡◌, map, option_map, string_bytes, codes};
+ghost use Rattle.std.specs.Prelude.{◌≡◌, pos, map, option_map, string_bytes, codes};
 ghost use Rattle.std.specs.List.{list_all};
 ghost use Rattle.std.specs.BTreeMap.{keys};
 ghost use Rattle.toml.specs.Data.{get};
 ghost use Rattle.toml.specs.View.{table_view, view};
 ghost use Rattle.tp_machine.specs.Rules.{begins_within, is_never_empty};
-ghost use Rattle.tp_machine_text.specs.Words.{is_among as is_text_among, is_one_of as is_text_of, is_there, keys_of, members_of};
-ghost use Rattle.tp_machine_text.specs.Keys.{anchors, hold_keys};
+ghost use Rattle.tp_machine_text.specs.Words.{is_among as is_text_among, is_one_of as is_text_of, is_there, is_fit, is_whole as is_whole_from, keys_of, members_of};
+ghost use Rattle.tp_machine_text.specs.Keys.{anchors, hold_keys, resources, actions};
 ghost use Rattle.tp_machine_text.specs.Order.{first_from};
 ghost use Rattle.tp_machine_text.specs.ActionRules.{are_keys_among};
-ghost use Rattle.tp_machine_text.specs.HoldRules.{holds, is_point, has_point, is_hold, has_holds, has_action_holds, has_hold_begins, has_hold_lengths, anchor_of, anchor_in, offset_in, anchor_at, offset_at, number_of, least_of, most_of, begins_in_action, begins_all, is_filled, fills_all, hold_rules};
+ghost use Rattle.tp_machine_text.specs.HoldRules.{holds, is_point, has_point, is_hold, has_holds, lacks_mode, lacks_modes, has_action_holds, has_hold_begins, has_hold_lengths, anchor_of, anchor_in, offset_in, anchor_at, offset_at, number_of, least_of, most_of, begins_in_action, begins_all, is_filled, fills_all, hold_rules};
 
 use crate::looking::{
     differ_at, field, is_array_or_absent, is_key, is_whole, table_in, text_of, value_at, values_at,
     values_in, whole_at, whole_of,
 };
+use crate::numbers::is_second;
 use toml::{Table, Value};
 use tp_machine::Anchor;
 
@@ -43,8 +44,50 @@ pub(crate) fn holds_of(action: &Value) -> &[Value]
 fn has_all_holds(table: &Table) -> bool
     ensures { result ≡ has_action_holds (table_view table.now) }
 {
+    has_sound_holds(table) && (is_second(table) || has_no_modes(table))
+}
+
+fn has_sound_holds(table: &Table) -> bool
+    ensures { result ≡ list_all (has_holds (resources (table_view table.now)))
+        (actions (table_view table.now)) }
+{
     let resources = table_in(value_at(table, "resources"));
     have_holds(resources, values_at(table, "actions"))
+}
+
+#[tactic(auto, using(crate::proofs::Seen::seen))]
+fn has_no_modes(table: &Table) -> bool
+    ensures { result ≡ list_all lacks_modes (actions (table_view table.now)) }
+{
+    lack_modes(values_at(table, "actions"))
+}
+
+fn lack_modes(actions: &[Value]) -> bool
+    ensures { result ≡ list_all (λ v. lacks_modes (view v)) actions.now }
+{
+    actions.iter().all(lacks_modes)
+}
+
+fn lacks_modes(action: &Value) -> bool
+    ensures { result ≡ lacks_modes (view action.now) }
+{
+    lack_mode(holds_of(action))
+}
+
+fn lack_mode(holds: &[Value]) -> bool
+    ensures { result ≡ list_all (λ v. lacks_mode (view v)) holds.now }
+{
+    holds.iter().all(lacks_mode)
+}
+
+#[tactic(auto, unfolding(crate::specs::HoldRules::lacks_mode))]
+fn lacks_mode(hold: &Value) -> bool
+    ensures { result ≡ lacks_mode (view hold.now) }
+{
+    match field(hold, "mode") {
+        Some(_) => false,
+        None => true,
+    }
 }
 
 fn have_holds(resources: Option<&Table>, actions: &[Value]) -> bool
@@ -85,6 +128,18 @@ fn is_hold(resources: Option<&Table>, hold: &Value) -> bool
         && holds_resource(resources, hold)
         && has_point(hold, "begin")
         && has_point(hold, "end")
+        && has_mode(hold)
+}
+
+/// Whether the mode, where it is there, is a byte.
+fn has_mode(hold: &Value) -> bool
+    ensures { result ≡ is_fit (is_whole_from (pos 0) (pos 255))
+        (get (codes "mode") (view hold.now)) }
+{
+    match field(hold, "mode") {
+        Some(mode) => is_whole(mode, 0, 255),
+        None => true,
+    }
 }
 
 #[tactic(auto, using(crate::proofs::Seen::keys_pass))]
@@ -101,9 +156,7 @@ fn are_hold_keys(table: &Table) -> bool
     ensures { result ≡ list_all (λ key. is_text_among hold_keys (string_bytes key))
         (keys table.now) }
 {
-    table
-        .keys()
-        .all(|key| matches!(key.as_str(), "resource" | "begin" | "end"))
+    table.keys().all(|key| matches!(key.as_str(), "resource" | "begin" | "end" | "mode"))
 }
 
 fn holds_resource(resources: Option<&Table>, hold: &Value) -> bool

@@ -3,6 +3,7 @@
 
 mod acting;
 mod actions;
+mod amounts;
 mod building;
 mod holds;
 mod laws;

@@ -85,11 +85,15 @@ fn feeders(alloc: Global, table: &Table) -> Result<Items<Feeder>, Memory>
     requires { KeepsRules (table_view table.now) }
     ensures feeders { IfOk result (λ feeders. feeders
         ≡ feeders_of (text.locations (table_view table.now))
+        (text.stocks (table_view table.now))
         (members_at (codes "feeders") (table_view table.now))) }
     ensures rise { IfOk result (λ _. IsTrue (do_names_rise (text.feeders (table_view table.now)))) }
 {
     match table_in(value_at(table, "feeders")) {
-        Some(feeders) => feeders_of(alloc, values_at(table, "locations"), feeders),
+        Some(feeders) => {
+            let stocks = table_in(value_at(table, "stock"));
+            feeders_of(alloc, values_at(table, "locations"), stocks, feeders)
+        }
         None => Ok(Items::new(alloc)),
     }
 }
@@ -98,12 +102,16 @@ fn resources(alloc: Global, table: &Table) -> Result<Items<Resource>, Memory>
     requires { KeepsRules (table_view table.now) }
     ensures resources { IfOk result
         (λ resources. resources ≡ resources_of (text.modules (table_view table.now))
+        (text.gaps (table_view table.now))
         (members_at (codes "resources") (table_view table.now))) }
     ensures rise { IfOk result (λ _.
         IsTrue (do_names_rise (text.resources (table_view table.now)))) }
 {
     match table_in(value_at(table, "resources")) {
-        Some(resources) => resources_of(alloc, values_at(table, "modules"), resources),
+        Some(resources) => {
+            let gaps = table_in(value_at(table, "gaps"));
+            resources_of(alloc, values_at(table, "modules"), gaps, resources)
+        }
         None => Ok(Items::new(alloc)),
     }
 }

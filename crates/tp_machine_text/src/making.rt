@@ -1,9 +1,9 @@
-ghost use Rattle.std.specs.Prelude.{◌≡◌, ◌<◌, ◌≤◌, true, IsTrue, IfOk, OnOk, length, nat_lt};
+ghost use Rattle.std.specs.Prelude.{◌≡◌, ◌<◌, ◌≤◌, pos, true, IsTrue, IfOk, OnOk, length, nat_lt};
 ghost use Rattle.std.specs.List.{list_all};
-ghost use Rattle.toml.specs.Data.{string};
+ghost use Rattle.toml.specs.Data.{string, integer};
 ghost use Rattle.toml.specs.View.{table_view, view};
 ghost use Rattle.tp_machine.specs.Rules.{do_names_rise, feeder_names};
-ghost use Rattle.tp_machine_text.specs.Printed.{put_member, is_place, texts_data, loc_names, feeder_members, resource_members, resource_names, anchor_text, point_data, hold_data, kind_words};
+ghost use Rattle.tp_machine_text.specs.Printed.{put_member, is_place, texts_data, loc_names, feeder_members, resource_members, put_amount, gap_members, stock_members, resource_names, anchor_text, point_data, hold_data, kind_words};
 
 use std::alloc::Global;
 use toml::value::Array;
@@ -108,6 +108,63 @@ pub(crate) fn resources_table(
     }
 }
 
+/// Puts a whole number at a key of a table, where there is one.
+fn put_amount(
+    alloc: Global,
+    table: &mut Table,
+    key: &str,
+    amount: Option<u32>,
+) -> Result<(), Memory>
+    ensures { OnOk result (table_view table.new
+        ≡ put_amount key.now amount (table_view table.old)) }
+{
+    match amount {
+        Some(amount) => put(alloc, table, key, Value::from(amount)),
+        None => Ok(()),
+    }
+}
+
+/// The table of gaps, filled in the same way.
+pub(crate) fn gaps_table(alloc: Global, resources: &[Resource]) -> Result<Table, Memory>
+    requires rise { do_names_rise (resource_names resources.now) ≡ true }
+    ensures { IfOk result (λ table. table_view table ≡ gap_members resources.now) }
+{
+    match resources {
+        [resource, rest @ ..] => {
+            let mut table = gaps_table(alloc, rest)?;
+            put(
+                alloc,
+                &mut table,
+                text_of_name(&resource.name),
+                Value::from(resource.gap),
+            )?;
+            Ok(table)
+        }
+        [] => Ok(Table::new(alloc)),
+    }
+}
+
+/// The table of stocks, of the feeders that have one, filled in the same way.
+pub(crate) fn stocks_table(
+    alloc: Global,
+    names: &Names,
+    feeders: &[Feeder],
+) -> Result<Table, Memory>
+    requires known { list_all (λ f. nat_lt f.loc.0 (length names.now)) feeders.now ≡ true }
+    requires rise { do_names_rise (feeder_names names.now feeders.now) ≡ true }
+    ensures { IfOk result (λ table. table_view table ≡ stock_members names.now feeders.now) }
+{
+    match feeders {
+        [feeder, rest @ ..] => {
+            let mut table = stocks_table(alloc, names, rest)?;
+            let place = names.get(feeder.loc.0);
+            put_amount(alloc, &mut table, text_of_name(&place), feeder.stock)?;
+            Ok(table)
+        }
+        [] => Ok(Table::new(alloc)),
+    }
+}
+
 fn anchor_text(anchor: Anchor) -> &'static str
     ensures { result.now ≡ anchor_text anchor }
 {
@@ -138,6 +195,12 @@ fn end_value(alloc: Global, hold: &HoldRule) -> Result<Value, Memory>
     point_value(alloc, hold.end, hold.end_off)
 }
 
+fn mode_value(hold: &HoldRule) -> Value
+    ensures { view result ≡ integer (pos hold.now.mode) }
+{
+    Value::from(u32::from(hold.mode))
+}
+
 pub(crate) fn hold_value(
     alloc: Global,
     resources: &[Resource],
@@ -152,6 +215,7 @@ pub(crate) fn hold_value(
     put(alloc, &mut table, "begin", begin)?;
     let end = end_value(alloc, hold)?;
     put(alloc, &mut table, "end", end)?;
+    put(alloc, &mut table, "mode", mode_value(hold))?;
     let held = &resources[usize::from(hold.resource.0)];
     let resource = name_value(alloc, &held.name)?;
     put(alloc, &mut table, "resource", resource)?;

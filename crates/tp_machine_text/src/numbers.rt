@@ -6,7 +6,7 @@ ghost use Rattle.toml.specs.View.{table_view};
 ghost use Rattle.tp_machine_text.specs.Words.{is_among, is_fit, is_whole as is_whole_from};
 ghost use Rattle.tp_machine_text.specs.Keys.{top_keys};
 ghost use Rattle.tp_machine_text.specs.Order.{first_from};
-ghost use Rattle.tp_machine_text.specs.TopRules.{has_known_keys, has_format, number_rules};
+ghost use Rattle.tp_machine_text.specs.TopRules.{has_known_keys, has_format, is_second, number_rules};
 
 use crate::looking::{is_whole, value_at};
 use toml::Table;
@@ -18,7 +18,7 @@ pub(crate) fn first_broken_number(table: &Table) -> Option<u8>
     if !are_keys_known(table) {
         return Some(1);
     }
-    if !is_format_one(table) {
+    if !is_format_known(table) {
         return Some(2);
     }
     if !is_fit(table, "lead", 0, 4096) {
@@ -62,14 +62,26 @@ fn is_known(key: &str) -> bool
             | "feeders"
             | "resources"
             | "actions"
+            | "gaps"
+            | "stock"
     )
 }
 
-fn is_format_one(table: &Table) -> bool
+fn is_format_known(table: &Table) -> bool
     ensures { result ≡ has_format (table_view table.now) }
 {
     match value_at(table, "format") {
-        Some(value) => is_whole(value, 1, 1),
+        Some(value) => is_whole(value, 1, 2),
+        None => false,
+    }
+}
+
+/// Whether the text is of format 2.
+pub(crate) fn is_second(table: &Table) -> bool
+    ensures { result ≡ is_second (table_view table.now) }
+{
+    match value_at(table, "format") {
+        Some(value) => is_whole(value, 2, 2),
         None => false,
     }
 }

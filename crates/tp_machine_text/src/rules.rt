@@ -3,6 +3,7 @@ ghost use Rattle.toml.specs.View.{table_view};
 ghost use Rattle.tp_machine_text.specs.Broken.{first_broken};
 
 use crate::actions::first_broken_action;
+use crate::amounts::first_broken_amount;
 use crate::holds::first_broken_hold;
 use crate::numbers::first_broken_number;
 use crate::places::first_broken_place;
@@ -26,5 +27,8 @@ pub fn first_broken(table: &Table) -> Option<u8>
     if let Some(rule) = first_broken_action(table) {
         return Some(rule);
     }
-    first_broken_hold(table)
+    if let Some(rule) = first_broken_hold(table) {
+        return Some(rule);
+    }
+    first_broken_amount(table)
 }

@@ -2,11 +2,11 @@ ghost use Rattle.std.specs.Prelude.{◌≡◌, ◌<◌, ◌≤◌, true, IfOk, O
 ghost use Rattle.std.specs.List.{list_all};
 ghost use Rattle.toml.specs.Data.{string, integer, boolean, array, table as table_data};
 ghost use Rattle.toml.specs.View.{table_view, view, items_of};
-ghost use Rattle.tp_machine_text.specs.Printed.{put_member, name_at, texts_data, loc_names, feeder_members, resource_members, resource_names, is_of_resource, is_known, hold_data, kind_words, action_data, table_of};
+ghost use Rattle.tp_machine_text.specs.Printed.{put_member, name_at, texts_data, loc_names, feeder_members, resource_members, gap_members, stock_members, resource_names, is_of_resource, is_known, hold_data, kind_words, action_data, table_of};
 
 use crate::making::{
-    feeders_table, hold_value, kinds_value, locs_value, name_value, names_value, put,
-    resources_table,
+    feeders_table, gaps_table, hold_value, kinds_value, locs_value, name_value, names_value, put,
+    resources_table, stocks_table,
 };
 use std::alloc::Global;
 use toml::value::Array;
@@ -120,9 +120,9 @@ fn put_numbers(alloc: Global, table: &mut Table, machine: &Machine) -> Result<()
         put_member (codes "budget") (integer (pos machine.now.budget))
         (put_member (codes "window") (integer (pos machine.now.window))
         (put_member (codes "lead") (integer (pos machine.now.lead))
-        (put_member (codes "format") (integer (pos 1)) (table_view table.old))))) }
+        (put_member (codes "format") (integer (pos 2)) (table_view table.old))))) }
 {
-    put(alloc, table, "format", Value::from(1u32))?;
+    put(alloc, table, "format", Value::from(2u32))?;
     put(alloc, table, "lead", Value::from(machine.lead))?;
     put(alloc, table, "window", Value::from(machine.window))?;
     put(alloc, table, "budget", Value::from(machine.budget))
@@ -172,6 +172,20 @@ fn put_parts(alloc: Global, table: &mut Table, machine: &Machine) -> Result<(), 
     put(alloc, table, "actions", actions)
 }
 
+/// Puts the gaps and the stocks.
+fn put_amounts(alloc: Global, table: &mut Table, machine: &Machine) -> Result<(), Memory>
+    ensures { OnOk result (table_view table.new ≡
+        put_member (codes "stock") (table_data
+        (stock_members machine.now.locations machine.now.feeders))
+        (put_member (codes "gaps") (table_data (gap_members machine.now.resources))
+        (table_view table.old))) }
+{
+    let gaps = gaps_table(alloc, machine.resources.as_slice())?;
+    put(alloc, table, "gaps", Value::from(gaps))?;
+    let stocks = stocks_table(alloc, &machine.locations, machine.feeders.as_slice())?;
+    put(alloc, table, "stock", Value::from(stocks))
+}
+
 /// The table of a machine.
 pub(crate) fn table_of(alloc: Global, machine: &Machine) -> Result<Table, Memory>
     ensures { IfOk result (λ table. table_view table ≡ table_of machine.now) }
@@ -180,5 +194,6 @@ pub(crate) fn table_of(alloc: Global, machine: &Machine) -> Result<Table, Memory
     put_numbers(alloc, &mut table, machine)?;
     put_places(alloc, &mut table, machine)?;
     put_parts(alloc, &mut table, machine)?;
+    put_amounts(alloc, &mut table, machine)?;
     Ok(table)
 }

@@ -18,7 +18,7 @@ pub enum MachineFault {
     Memory,
     /// The bytes are not UTF-8, or not TOML.
     NotToml,
-    /// The number of the first rule, from 1 to 24, that the text breaks.
+    /// The number of the first rule, from 1 to 26, that the text breaks.
     Rule(u8),
 }
 

@@ -8,6 +8,7 @@ pub mod SlotOrder
 pub mod Covering
 pub mod HeldCount
 pub mod HeldModes
+pub mod SpreadFacts
 pub mod LegalOrders
 pub mod LegalFacts
 pub mod RoomFacts

@@ -3,6 +3,7 @@ pub mod Plans
 pub mod Timetables
 pub mod Holding
 pub mod Legality
+pub mod Spreading
 pub mod Spots
 pub mod Times
 pub mod Answers

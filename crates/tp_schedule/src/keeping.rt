@@ -5,6 +5,7 @@ use crate::holding::{count_holders, count_live, is_plan_live};
 use crate::ordering::holds_by_time;
 use crate::parts::{Hold, Kind, Plan, SheetId};
 use crate::series::Points;
+use crate::spreading::is_spread;
 use std::alloc::Global;
 use std::marker::Model;
 use tp_base::{Memory, Tick};
@@ -200,15 +201,6 @@ impl Schedule {
         holders <= 1
     }
 
-    /// Whether the resource is held in no other mode at a tick that differs by at most its gap. It is so, since all holds have
-    /// one mode yet.
-    #[tactic(auto, unfolding(tp_machine::specs::Modes::mode_of))]
-    fn is_spread(&self, _machine: &Machine, _resource: ResId, _at: Tick) -> bool
-        ensures { IsTrue result ↔ IsSpreadAt _machine.now self.now.plans _resource.0 _at }
-    {
-        true
-    }
-
     /// Whether at most one action holds the resource at the tick, and none holds it in another mode at a tick that differs
     /// by at most its gap. Looks at all plans.
     pub fn legal_at(&self, machine: &Machine, resource: ResId, at: Tick) -> bool
@@ -216,7 +208,7 @@ impl Schedule {
             × IsSpreadAt machine.now self.now.plans resource.0 at) }
     {
         let once = self.is_held_once(machine, resource, at);
-        let spread = self.is_spread(machine, resource, at);
+        let spread = is_spread(machine, self.plans.as_slice(), resource, at);
         once && spread
     }
 

@@ -12,6 +12,7 @@ mod parts;
 mod planning;
 mod recording;
 mod series;
+mod spreading;
 mod starting;
 
 pub use copies::{copy_place, is_earlier};

@@ -20,3 +20,6 @@ narrow-requires-2 c =
     let range = offset_within (codes "end") (view c.args.hold.now) kept.end in
     let e : c.point_at-end.result.1 ≡ offset_at (codes "end") (view c.args.hold.now) = c.point_at-end.ensures.offset in
     record { low = omega (arith, ints); high = omega (arith, ints) }
+
+pub mode_of-requires : goal.mode_of-requires
+mode_of-requires c = (held (keys_of (members_of (option_map (λ m. table_view m.now) c.args.resources))) (view c.args.hold.now) c.requires.kept).mode

@@ -1,9 +1,10 @@
-use Rattle.std.proofs.Common.{◌≡◌, Some, ap, ◌∙◌}
+use Rattle.std.proofs.Common.{◌≡◌, pos, true, Some, ap, sym, subst, ◌∙◌}
 use Rattle.std.specs.Prelude.{codes}
 use Rattle.toml.specs.Data.{get_member}
 use Rattle.toml.specs.View.{table_view}
-use Rattle.tp_machine_text.specs.Words.{table_in}
-use Rattle.tp_machine_text.proofs.KeptFacts.{few_locations}
+use Rattle.std.specs.List.{list_all}
+use Rattle.tp_machine_text.specs.Words.{table_in, members_of, data_of, is_whole}
+use Rattle.tp_machine_text.proofs.KeptFacts.{few_locations, stocks_whole}
 use Rattle.tp_machine_text.proofs.Given.{few_seen, feeders_given, media_given}
 use Rattle.tp_machine_text.proofs.machine.feeders.Goals as goal
 
@@ -16,4 +17,5 @@ feeders_of-requires c =
       few = few_seen _ _ 256 c.values_at.ensures (few_locations t c.requires);
       known = feeders_given t c.requires ms _ some c.values_at.ensures;
       named = media_given t c.requires ms some;
+      stocked = subst (λ o. list_all (is_whole (pos 0) (pos 1000000)) (data_of (members_of o)) ≡ true) (sym (c.table_in-stocks.ensures ∙ ap table_in c.value_at-in-Some.ensures)) (stocks_whole t c.requires);
     }

@@ -34,6 +34,7 @@ invariant_of-result c =
       good_purges = rw (es, ts, ps) (sound.purges t k);
       good_feeders = rw (es, ts, ps, fs.feeders) (sound.feeders t k fs.rise);
       good_resources = rw (ms, rs.resources) (sound.resources t k rs.rise);
+      amounts = rw (fs.feeders, rs.resources, ds) (sound.amounts t k);
       names_differ = rw ds (sound.names t k);
       ways = rw (es, ms, ts, ps, fs.feeders, ds) (sound.ways t k);
       durations = rw ds (sound.durations t k);

@@ -4,7 +4,7 @@ use Rattle.tp_machine_text.specs.Words.{keys_of, members_of}
 use Rattle.tp_machine_text.specs.Keys.{resources}
 use Rattle.tp_machine_text.specs.HoldRules.{has_holds}
 use Rattle.tp_machine_text.proofs.Seen.{all_seen}
-use Rattle.tp_machine_text.proofs.holds.has_all_holds.Goals as goal
+use Rattle.tp_machine_text.proofs.holds.has_sound_holds.Goals as goal
 
 pub returns : goal.returns
 returns c =
