@@ -22,6 +22,7 @@ pub mod PastFacts
 pub mod LiveOrders
 pub mod LiveSlots
 pub mod PointFacts
+pub mod Fewer
 pub mod WholeAnswers
 pub mod LiveAnswers
 pub mod LiveTimes

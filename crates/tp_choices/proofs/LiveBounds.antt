@@ -9,9 +9,9 @@ use Rattle.tp_schedule.specs.Choices.{Choice, ChoiceList, OpensTo}
 use Rattle.tp_schedule.specs.Holding.{holds_of_act}
 use Rattle.tp_schedule.specs.Plans.{end_of_plan}
 use Rattle.tp_choices.specs.LiveParts.{less, shift_places, shift_choice, shifted, forgotten_on, LiveBounds, LiveIsEarliest, LiveBoundsAnswers, LiveHasNone}
+use Rattle.tp_choices.proofs.Fewer.{less_answers}
 use Rattle.tp_choices.proofs.LiveAnswers.{live_answers}
 use Rattle.tp_choices.proofs.LiveLists.{live_opens}
-use Rattle.tp_choices.proofs.WholeAnswers.{whole_answers}
 use Rattle.tp_choices.proofs.WholeLists.{whole_opens}
 
 tail_of : {X : Type 0} → List X → List X
@@ -86,11 +86,11 @@ live_bounds machine plans ask gone list bound f b = (
 
 pub live_bounds_answers : LiveBoundsAnswers
 live_bounds_answers machine plans ask gone bound f stays none new a =
-    let live = (whole_answers machine plans new ask gone f stays a).1 in
+    let live = less_answers machine plans new ask gone stays a in
     subst (λ p. bound ≤ end_of_plan p) live.1 (none (less gone new) live.0)
 
 pub live_has_none : LiveHasNone
-live_has_none machine plans ask gone f stays none new a = none (less gone new) (whole_answers machine plans new ask gone f stays a).1.0
+live_has_none machine plans ask gone f stays none new a = none (less gone new) (less_answers machine plans new ask gone stays a).0
 
 pub live_is_earliest : LiveIsEarliest
 live_is_earliest machine plans live new ask gone f b joined earliest =

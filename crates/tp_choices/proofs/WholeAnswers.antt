@@ -1,30 +1,22 @@
 -- From the whole schedule to its live part: filters of plans, orders and slots. What is forgotten stays, since all its
 -- points are fixed.
-use Rattle.std.proofs.Common.{◌≡◌, ℕ, Bool, true, false, not, List, ◌++◌, map, length, filter, refl, ap, sym, Contains, ◌∙◌, subst, Some}
+use Rattle.std.proofs.Common.{◌≡◌, ℕ, Bool, true, false, not, List, map, length, filter, refl, ap, sym, Contains, ◌∙◌, subst, Some}
 use Rattle.std.proofs.lemmas.List.Elements.{All-contains}
 use Rattle.tp_machine.specs.declared.whole.Machine.{Machine}
 use Rattle.tp_schedule.specs.declared.parts.Plan.{Plan}
 use Rattle.tp_schedule.specs.declared.parts.SheetId.{SheetId}
-use Rattle.tp_schedule.specs.Answers.{unmoved, acts_in, is_new, KeepsFixed}
+use Rattle.tp_schedule.specs.Answers.{unmoved, KeepsFixed}
 use Rattle.tp_schedule.specs.Legality.{IsLegal}
 use Rattle.tp_schedule.specs.Plans.{plan_of, without, is_same_copy, IsTimedPlan}
-use Rattle.tp_schedule.specs.Spots.{slot_order}
 use Rattle.tp_schedule.proofs.CopyFacts.{plan_of-itself, same_copy-is}
 use Rattle.tp_schedule.proofs.Membership.{Contains-filter_from, All-from_contains}
 use Rattle.tp_choices.specs.LiveParts.{only, MayForget, WholeAnswers, WholeRetimes}
+use Rattle.tp_choices.proofs.Fewer.{fixed-staying, less_answers, unmoved-without}
 use Rattle.tp_choices.proofs.Lists.{filter-all}
 use Rattle.tp_choices.proofs.LiveOrders.{others_of}
-use Rattle.tp_choices.proofs.Parts.{filter-swap}
 use Rattle.tp_choices.proofs.PointFacts.{past-fixed, same-by_points, points-equal}
 use Rattle.tp_choices.proofs.SameTicks.{order-staying}
-use Rattle.tp_choices.proofs.Staying.{staying, stays, plan_of-staying, without-staying, unmoved-staying, legal-staying}
-
--- the plans that stay, but for their points and for one copy
-pub unmoved-without : (f : SheetId → Bool) (copy : SheetId) (plans new : List Plan) → map unmoved (without copy new) ≡ map unmoved (without copy plans)
-    → map unmoved (without copy (staying f new)) ≡ map unmoved (without copy (staying f plans))
-unmoved-without f copy plans new e =
-    ap (map unmoved) (without-staying f copy new) ∙ unmoved-staying f (without copy new) ∙ ap (staying f) e
-    ∙ sym (unmoved-staying f (without copy plans)) ∙ ap (map unmoved) (sym (without-staying f copy plans))
+use Rattle.tp_choices.proofs.Staying.{staying, stays, unmoved-staying, legal-staying}
 
 -- where the copy goes anyway, it need not be left out
 pub without-gone : (f : SheetId → Bool) (copy : SheetId) (plans : List Plan) → f copy ≡ false → without copy (staying f plans) ≡ staying f plans
@@ -32,12 +24,6 @@ without-gone f copy plans e = filter-all (λ p. not (is_same_copy p.sheet copy))
   go : (p : Plan) → f p.sheet ≡ true → (b : Bool) → is_same_copy p.sheet copy ≡ b → not b ≡ true
   go p stays true same = let is = same_copy-is p.sheet copy same in let no : f p.sheet ≡ false = subst (λ c. f c ≡ false) (sym is) e in absurd (cc)
   go p stays false same = refl
-
--- fixed points of the plans that stay
-pub fixed-staying : (f : SheetId → Bool) (plans new : List Plan) → KeepsFixed plans new → KeepsFixed (staying f plans) (staying f new)
-fixed-staying f plans new fixed p p' in' planned i is within =
-    let from = Contains-filter_from (λ q. f q.sheet) plans p in' in
-    fixed p p' from.0 (sym (plan_of-staying f p.sheet new from.1) ∙ planned) i is within
 
 -- what is forgotten stays as it is, where it is the same but for points and its fixed points stay
 pub past-stays : (machine : Machine) (now : ℕ) (plans new : List Plan) (gone : SheetId → Bool) → MayForget machine now plans gone → IsLegal machine new → map unmoved (only gone new) ≡ map unmoved (only gone plans) → KeepsFixed plans new
@@ -55,40 +41,8 @@ past-stays machine now plans new gone f legal same fixed = same-by_points (only 
 pub whole_answers : WholeAnswers
 whole_answers machine plans new ask gone f stays-asked a = (
   record { in_order = a.legal.in_order; live_part = refl; past_part = past-stays machine ask.now plans new gone f a.legal past-unmoved a.fixed },
-  (
-    record {
-      legal_before = legal-staying (others_of gone) machine plans a.legal_before;
-      legal = legal-staying (others_of gone) machine new a.legal;
-      others = unmoved-without (others_of gone) ask.sheet plans new a.others;
-      plan = a.plan;
-      planned = plan_of-staying (others_of gone) ask.sheet new asked-stays ∙ a.planned;
-      answers = record {
-        sheet = a.answers.sheet;
-        name = a.answers.name;
-        want = a.answers.want;
-        goal = a.answers.goal;
-        whole = a.answers.whole;
-        route = a.answers.route;
-        acts = a.answers.acts ∙ ap (λ o. acts_in o ++ a.answers.route) (sym (plan_of-staying (others_of gone) ask.sheet plans asked-stays));
-        is_route = a.answers.is_route;
-        allowed = a.answers.allowed;
-        released = a.answers.released;
-      };
-      fixed = fixed-staying (others_of gone) plans new a.fixed;
-      orders = λ resource.
-          ap (filter (λ s. not (is_new ask s))) (order-staying true (others_of gone) machine new resource a.legal)
-          ∙ filter-swap (λ s. not (is_new ask s)) (stays true (others_of gone)) (slot_order machine new resource)
-          ∙ ap (filter (stays true (others_of gone))) (a.orders resource)
-          ∙ sym (order-staying true (others_of gone) machine plans resource a.legal_before);
-      floors = λ p in'. a.floors p (Contains-filter_from (λ q. not (gone q.sheet)) new p in').0;
-      horizon = λ p in'. a.horizon p (Contains-filter_from (λ q. not (gone q.sheet)) new p in').0;
-    },
-    refl,
-  ),
+  less_answers machine plans new ask gone stays-asked a,
 ) where
-  asked-stays : not (gone ask.sheet) ≡ true
-  asked-stays = rw stays-asked refl
-
   past-unmoved : map unmoved (only gone new) ≡ map unmoved (only gone plans)
   past-unmoved = ap (map unmoved) (sym (without-gone gone ask.sheet new stays-asked)) ∙ unmoved-without gone ask.sheet plans new a.others ∙ ap (map unmoved) (without-gone gone ask.sheet plans stays-asked)
 

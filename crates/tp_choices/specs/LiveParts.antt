@@ -50,6 +50,11 @@ pub record MayAskBeside (machine : Machine) (plans : List Plan) (ask : Ask) (gon
   pub ends_ahead : EndsAhead ask.now ask.origin
   pub earlier : (p : Plan) → Contains plans p → IsTrue (gone p.sheet) → (tray : ℕ) → IsTrue (goes_to ask.goal tray) → IsTrue (is_delivered_to p tray) → IsTrue (is_before p.sheet ask.sheet)
 
+-- an alternative, less the plans of other copies, is one on the schedule less those, whether they may be forgotten or not
+abbrev pub LessAnswers : Type 0
+LessAnswers = (machine : Machine) (plans new : List Plan) (ask : Ask) (gone : SheetId → Bool) → IsFalse (gone ask.sheet)
+    → (a : IsAlternative machine plans ask new) → (b : IsAlternative machine (less gone plans) ask (less gone new)) × (b.plan ≡ a.plan)
+
 -- an alternative on the whole schedule leaves what is forgotten, and less that it is an alternative on the live part
 abbrev pub WholeAnswers : Type 0
 WholeAnswers = (machine : Machine) (plans new : List Plan) (ask : Ask) (gone : SheetId → Bool) → MayForget machine ask.now plans gone → IsFalse (gone ask.sheet)

@@ -4,7 +4,7 @@
 
 ghost use Rattle.tp_choices.specs.Answering.{AnswerOpens, CompleteAnswers, TicksFixPlaces};
 ghost use Rattle.tp_choices.specs.Frontiers.{FrontierBegins, FrontierBounds, FrontierEnds, FrontierGoesOn, TakenIsEarliest};
-ghost use Rattle.tp_choices.specs.LiveParts.{JoinExists, LiveAnswers, LiveBounds, LiveBoundsAnswers, LiveHasFew, LiveHasNone, LiveIsEarliest, LiveIsLeast, LiveOpens, LiveRetimes, LiveSpends, WholeAnswers, WholeIsLeast, WholeOpens, WholeRetimes};
+ghost use Rattle.tp_choices.specs.LiveParts.{JoinExists, LessAnswers, LiveAnswers, LiveBounds, LiveBoundsAnswers, LiveHasFew, LiveHasNone, LiveIsEarliest, LiveIsLeast, LiveOpens, LiveRetimes, LiveSpends, WholeAnswers, WholeIsLeast, WholeOpens, WholeRetimes};
 ghost use Rattle.tp_choices.specs.Parents.{ParentBound, ParentOpens};
 ghost use Rattle.tp_choices.specs.Retimings.{LeastAnswers, RetimedTicks, TicksRetime};
 ghost use Rattle.tp_choices.specs.Searches.{EndedHasFew, FullSpends, SearchBelow, SearchFronts, SearchReaches};
@@ -53,6 +53,11 @@ pub fn searches_know_open_lists()
     ensures below { SearchBelow }
     ensures spends { FullSpends }
     ensures few { EndedHasFew }
+{}
+
+/// An alternative, less the plans of other copies, is one on the schedule less those.
+pub fn alternatives_need_no_others()
+    ensures { LessAnswers }
 {}
 
 /// The alternatives of a schedule are those of its live part, joined with what was forgotten.

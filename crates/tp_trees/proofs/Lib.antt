@@ -13,7 +13,6 @@ pub mod Covering
 pub mod GoalsDue
 pub mod Building
 pub mod Bounding
-pub mod Fewer
 pub mod Telling
 pub mod Flawless
 pub mod ApartStarts

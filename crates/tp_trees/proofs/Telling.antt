@@ -17,12 +17,12 @@ use Rattle.std.proofs.Common.{[], ◌∷◌}
 use Rattle.tp_schedule.proofs.Membership.{Contains-here, Contains-later}
 use Rattle.tp_schedule.proofs.CopyFacts.{plan_of-itself}
 use Rattle.tp_choices.proofs.AnswerOpens.{answer_opens}
+use Rattle.tp_choices.proofs.Fewer.{stay-answers}
 use Rattle.tp_choices.proofs.PlansOf.{plan_of-contains}
 use Rattle.tp_trees.specs.declared.claim.Claim.{Claim}
 use Rattle.tp_trees.specs.declared.claim.Claim.TheVariants.{Earliest, Never}
 use Rattle.tp_trees.proofs.Bounding.{tree_bounds}
 use Rattle.tp_trees.specs.Claims.{IsTold, TreeTells, limit_of, live_part}
-use Rattle.tp_trees.proofs.Fewer.{stay-answers}
 
 -- the live part, by copies
 module _ (machine : Machine) (ask : Ask) (plans : List Plan) where

@@ -2,7 +2,7 @@
 //! nothing: their contracts are the laws.
 #![tactic(auto)]
 
-ghost use Rattle.tp_trees.specs.Claims.{LessAnswers, TreeTells};
+ghost use Rattle.tp_trees.specs.Claims.{TreeTells};
 ghost use Rattle.tp_trees.specs.Flaws.{FlawlessIsBound};
 ghost use Rattle.tp_trees.specs.Laws.{TreeBounds};
 ghost use Rattle.tp_trees.specs.Told.{HopsAreAllowed, HopsAreTold, SpanHopsAreAllowed};
@@ -29,9 +29,4 @@ pub fn reasons_are_allowed_hops()
     ensures told { HopsAreTold }
     ensures alone { HopsAreAllowed }
     ensures spanned { SpanHopsAreAllowed }
-{}
-
-/// An alternative, less the plans of other copies, is one on the schedule less those.
-pub fn alternatives_need_no_others()
-    ensures { LessAnswers }
 {}

@@ -1,17 +1,30 @@
 -- An alternative, less the plans of other copies, is one on the schedule less those.
-use Rattle.std.proofs.Common.{◌≡◌, Bool, true, not, List, ◌++◌, filter, refl, sym, ◌∙◌, ap}
+use Rattle.std.proofs.Common.{◌≡◌, Bool, true, not, List, ◌++◌, map, filter, refl, sym, ◌∙◌, ap}
 use Rattle.tp_machine.specs.declared.whole.Machine.{Machine}
-use Rattle.tp_schedule.specs.Answers.{IsAlternative, acts_in, is_new}
+use Rattle.tp_schedule.specs.Answers.{IsAlternative, KeepsFixed, acts_in, is_new, unmoved}
+use Rattle.tp_schedule.specs.Plans.{without}
 use Rattle.tp_schedule.specs.Spots.{slot_order}
 use Rattle.tp_schedule.specs.declared.parts.Ask.{Ask}
 use Rattle.tp_schedule.specs.declared.parts.Plan.{Plan}
 use Rattle.tp_schedule.specs.declared.parts.SheetId.{SheetId}
 use Rattle.tp_schedule.proofs.Membership.{Contains-filter_from}
+use Rattle.tp_choices.specs.LiveParts.{LessAnswers}
 use Rattle.tp_choices.proofs.Parts.{filter-swap}
 use Rattle.tp_choices.proofs.SameTicks.{order-staying}
-use Rattle.tp_choices.proofs.Staying.{legal-staying, plan_of-staying, staying, stays}
-use Rattle.tp_choices.proofs.WholeAnswers.{fixed-staying, unmoved-without}
-use Rattle.tp_trees.specs.Claims.{LessAnswers}
+use Rattle.tp_choices.proofs.Staying.{legal-staying, plan_of-staying, staying, stays, unmoved-staying, without-staying}
+
+-- the plans that stay, but for their points and for one copy
+pub unmoved-without : (f : SheetId → Bool) (copy : SheetId) (plans new : List Plan) → map unmoved (without copy new) ≡ map unmoved (without copy plans)
+    → map unmoved (without copy (staying f new)) ≡ map unmoved (without copy (staying f plans))
+unmoved-without f copy plans new e =
+    ap (map unmoved) (without-staying f copy new) ∙ unmoved-staying f (without copy new) ∙ ap (staying f) e
+    ∙ sym (unmoved-staying f (without copy plans)) ∙ ap (map unmoved) (sym (without-staying f copy plans))
+
+-- fixed points of the plans that stay
+pub fixed-staying : (f : SheetId → Bool) (plans new : List Plan) → KeepsFixed plans new → KeepsFixed (staying f plans) (staying f new)
+fixed-staying f plans new fixed p p' in' planned i is within =
+    let from = Contains-filter_from (λ q. f q.sheet) plans p in' in
+    fixed p p' from.0 (sym (plan_of-staying f p.sheet new from.1) ∙ planned) i is within
 
 -- which copies stay, told by the copies alone
 pub stay-answers : (machine : Machine) (plans new : List Plan) (ask : Ask) (f : SheetId → Bool) → f ask.sheet ≡ true → (a : IsAlternative machine plans ask new)

@@ -1,5 +1,0 @@
-use Rattle.tp_trees.proofs.Fewer.{less_answers}
-use Rattle.tp_trees.proofs.alternatives_need_no_others.Goals as goal
-
-pub returns : goal.returns
-returns c = less_answers
