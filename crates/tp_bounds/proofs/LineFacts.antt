@@ -308,8 +308,8 @@ pub bound-front : (b : BoundLine) → bound_text b ≡ spaced (bound_words b) ++
 bound-front (Room row) = refl
 bound-front (ANode node) = refl
 
--- a bound line begins with `b ` (no event's line and no record's does)
-pub bound_begins : (b : BoundLine) → (rest : List ℕ) × (bound_text b ≡ 98 ∷ 32 ∷ rest)
+-- a bound line begins with `b `, as no event's line and no record's does
+pub bound_begins : (b : BoundLine) → (rest : List ℕ) × (spaced (bound_words b) ≡ 98 ∷ 32 ∷ rest)
 bound_begins (Room row) = (_, refl)
 bound_begins (ANode node) = (_, refl)
 

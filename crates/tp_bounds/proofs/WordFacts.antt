@@ -26,18 +26,9 @@ use Rattle.tp_words.proofs.Spelling.{Spells, either, name_spells, number_spells,
 use Rattle.tp_words.proofs.Steps.{and_then_some}
 use Rattle.tp_script.specs.Reading.{face_of}
 use Rattle.tp_script.specs.Script.{face_byte}
-use Rattle.tp_bounds.specs.Words.{IsHold, IsHop, IsPoint, IsSheet, bit_byte, bit_of, duration_hop_of, flags_of, flags_text, hold_of, hold_text, holders_of, holders_text, hop_of, hop_text, line_hop_of, named_holders_of, resource_hop_from, numbers_of, own_hold_of, own_point_of, point_of, point_text, numbered_of, resource_hop_of, sheet_from, sheet_of, sheet_text, state_from, state_of, state_text}
-
--- ---- copies
-numbers_spell : Spells numbers_of (λ nc. decimal nc.0 ++ 46 ∷ decimal nc.1) (λ nc. IsNumber nc.0 × IsNumber nc.1) (either 46 is_ascii_digit is_ascii_digit)
-numbers_spell = pair_spells 46 number_spells number_spells (λ n c. (n, c)) (λ nc. nc.0) (λ nc. nc.1) (λ nc. refl) (λ n c. refl) (λ n c. refl) refl
-
-abbrev pub sheet_byte : ℕ → Bool
-sheet_byte = either 46 is_name_byte (either 46 is_ascii_digit is_ascii_digit)
-
-pub sheet_spells : Spells sheet_of sheet_text IsSheet sheet_byte
-unfolding sheet_of
-sheet_spells = pair_spells 46 name_spells numbers_spell sheet_from (λ s. s.job) (λ s. (s.number, s.copy)) (λ s. refl) (λ j nc. refl) (λ j nc. refl) refl
+use Rattle.tp_bounds.specs.Sheets.{IsSheet, sheet_text}
+use Rattle.tp_bounds.specs.Words.{IsHold, IsHop, IsPoint, bit_byte, bit_of, duration_hop_of, flags_of, flags_text, hold_of, hold_text, holders_of, holders_text, hop_of, hop_text, line_hop_of, named_holders_of, resource_hop_from, own_hold_of, own_point_of, point_of, point_text, numbered_of, resource_hop_of, state_from, state_of, state_text}
+use Rattle.tp_bounds.proofs.SheetFacts.{sheet_byte, sheet_spells}
 
 -- ---- states
 abbrev pub flag_byte : ℕ → Bool

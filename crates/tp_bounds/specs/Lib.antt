@@ -1,3 +1,4 @@
+pub mod Sheets
 pub mod Words
 pub mod Lines
 pub mod Trees

@@ -15,20 +15,7 @@ use Rattle.tp_script.specs.Script.{face_byte}
 use Rattle.tp_words.specs.Fields.{IsName, after_of, begins_with, name_of, pair_of, ◌>>=◌}
 use Rattle.tp_words.specs.Numbers.{IsNumber, number_of}
 use Rattle.tp_words.specs.Parts.{lacks}
-
--- ---- copies, as in a log: `NAME.NUMBER.COPY`
-
-abbrev pub sheet_text : SheetName → List ℕ
-sheet_text s = s.job ++ 46 ∷ (decimal s.number ++ 46 ∷ decimal s.copy)
-
-abbrev pub numbers_of : List ℕ → Option (ℕ × ℕ)
-numbers_of word = pair_of 46 number_of number_of (λ number copy. (number, copy)) word
-
-abbrev pub sheet_from : List ℕ → ℕ × ℕ → SheetName
-sheet_from job numbers = record { job = job; number = numbers.0; copy = numbers.1 }
-
-unfoldable pub sheet_of : List ℕ → Option SheetName
-sheet_of word = pair_of 46 name_of numbers_of sheet_from word
+use Rattle.tp_bounds.specs.Sheets.{IsSheet, sheet_of, sheet_text}
 
 -- ---- states: `NAME:F01`
 
@@ -119,9 +106,6 @@ unfoldable pub hop_of : List ℕ → Option Hop
 hop_of word = if lacks 62 word then (if begins_with 100 word then duration_hop_of word else line_hop_of word) else resource_hop_of word
 
 -- ---- what has a text: names are names, and numbers fit in 32 bits
-
-abbrev pub IsSheet : SheetName → Type 0
-IsSheet s = IsName s.job × (IsNumber s.number × IsNumber s.copy)
 
 abbrev pub IsPoint : TreePoint → Type 0
 IsPoint (OwnPoint n) = IsNumber n

@@ -1,10 +1,11 @@
-// The words of bound lines read: copies, states, points, holds and hops.
+// The words of bound lines read: states, points, holds and hops.
 ghost use Rattle.std.specs.Prelude.{◌≡◌, ◌≤◌};
 ghost use Rattle.tp_words.specs.Fields.{begins_with};
 ghost use Rattle.tp_words.specs.Parts.{lacks};
-ghost use Rattle.tp_bounds.specs.Words.{numbers_of, sheet_of, bit_of, flags_of, state_of, numbered_of, own_point_of, point_of, own_hold_of, hold_of, holders_of, resource_hop_of, duration_hop_of, line_hop_of, hop_of};
+ghost use Rattle.tp_bounds.specs.Words.{bit_of, flags_of, state_of, numbered_of, own_point_of, point_of, own_hold_of, hold_of, holders_of, resource_hop_of, duration_hop_of, line_hop_of, hop_of};
 
 use crate::hops::{Hop, TreeHold, TreePoint};
+use crate::sheets::read_sheet;
 use crate::tree::NamedState;
 use tp_machine::Face;
 use tp_schedule::SheetName;
@@ -24,27 +25,6 @@ pub struct Flags {
 pub struct Holders {
     pub before: TreeHold,
     pub after: TreeHold,
-}
-
-#[tactic(auto, unfolding(tp_words::specs::Fields::pair_of))]
-fn read_numbers(word: &[u8]) -> Option<(u32, u32)>
-    ensures { result ≡ numbers_of word.now }
-{
-    let (number, copy) = cut(word, b'.')?;
-    let number = read_number(number)?;
-    let copy = read_number(copy)?;
-    Some((number, copy))
-}
-
-/// The copy that the word names.
-#[tactic(auto, unfolding(crate::specs::Words::sheet_of, tp_words::specs::Fields::pair_of))]
-pub fn read_sheet(word: &[u8]) -> Option<SheetName>
-    ensures { result ≡ sheet_of word.now }
-{
-    let (job, numbers) = cut(word, b'.')?;
-    let job = read_name(job)?;
-    let (number, copy) = read_numbers(numbers)?;
-    Some(SheetName { job, number, copy })
 }
 
 fn read_bit(byte: u8) -> Option<bool>

@@ -2,25 +2,16 @@
 ghost use Rattle.std.specs.Prelude.{◌≡◌, ◌++◌, ◌∷◌, [], All, OnOk, decimal, map};
 ghost use Rattle.tp_bounds.specs.Lines.{behind_spaces};
 ghost use Rattle.tp_words.specs.Fields.{IsName};
-ghost use Rattle.tp_bounds.specs.Words.{IsSheet, IsPoint, IsHold, IsHop, sheet_text, bit_byte, state_text, point_text, hold_text, hop_text};
+ghost use Rattle.tp_bounds.specs.Sheets.{IsSheet, sheet_text};
+ghost use Rattle.tp_bounds.specs.Words.{IsPoint, IsHold, IsHop, bit_byte, state_text, point_text, hold_text, hop_text};
 
 use crate::hops::{Hop, TreeHold, TreePoint};
+use crate::sheets::put_sheet;
 use crate::tree::NamedState;
 use tp_base::Memory;
 use tp_schedule::SheetName;
 use tp_script::face_letter;
-use tp_words::{name_bytes, put_name_word, put_number};
-
-fn put_sheet(out: &mut Vec<u8>, sheet: &SheetName) -> Result<(), Memory>
-    ensures written { OnOk result (out.new.items ≡ out.old.items ++ sheet_text sheet.now) }
-    ensures spelled { OnOk result (IsSheet sheet.now) }
-{
-    out.extend_from_slice(name_bytes(&sheet.job))?;
-    out.push(b'.')?;
-    put_number(out, sheet.number)?;
-    out.push(b'.')?;
-    put_number(out, sheet.copy)
-}
+use tp_words::{put_name_word, put_number};
 
 /// Writes a copy and a number, with the byte between.
 fn put_numbered(

@@ -8,3 +8,4 @@ pub mod LineFacts
 pub mod EventWords
 pub mod LogLines
 pub mod LogFacts
+pub mod BoundLines

@@ -13,7 +13,7 @@ use Rattle.tp_words.proofs.Texts.{parts-spaced, spaced-parts}
 use Rattle.tp_log.specs.declared.item.Item.{Item}
 use Rattle.tp_log.specs.declared.item.Item.TheVariants.{Event, Note}
 use Rattle.tp_log.specs.Records.{record_words, record_text}
-use Rattle.tp_log.specs.Grammar.{IsRecord, IsItem, item_text, ReadsLine}
+use Rattle.tp_log.specs.Grammar.{IsRecord, IsItem, item_text, ReadsItem}
 use Rattle.tp_log.specs.Reading.{record_of}
 use Rattle.tp_log.proofs.RecordFacts.{record_takes, record_again, record_visible}
 
@@ -54,7 +54,7 @@ pub no_newline : (line : List ℕ) → ((text : List ℕ) → line ≢ text ++ 1
 no_newline line h (Event event) is same = h (62 ∷ 32 ∷ event_text event) same
 no_newline line h (Note told) is same = h (spaced (record_words told)) same
 
-pub note_fault : (line text : List ℕ) (fault : LineFault) → line ≡ text ++ 10 ∷ [] → ((event : List ℕ) → text ≢ 62 ∷ 32 ∷ event) → Gives (Err fault) (record_of (parts_at 32 text)) → ReadsLine line (Err fault)
+pub note_fault : (line text : List ℕ) (fault : LineFault) → line ≡ text ++ 10 ∷ [] → ((event : List ℕ) → text ≢ 62 ∷ 32 ∷ event) → Gives (Err fault) (record_of (parts_at 32 text)) → ReadsItem line (Err fault)
 note_fault line text Memory is other h = tt
 note_fault line text Syntax is other h = off
   where
@@ -65,7 +65,7 @@ note_fault line text Syntax is other h = off
         let again : record_of (parts_at 32 text) ≡ Some told = ap (λ t. record_of (parts_at 32 t)) front ∙ text_again told good in
         cc
 
-pub echo_fault : (line text event : List ℕ) (fault : LineFault) → line ≡ text ++ 10 ∷ [] → text ≡ 62 ∷ 32 ∷ event → Echoes event (Err fault) → ReadsLine line (Err fault)
+pub echo_fault : (line text event : List ℕ) (fault : LineFault) → line ≡ text ++ 10 ∷ [] → text ≡ 62 ∷ 32 ∷ event → Echoes event (Err fault) → ReadsItem line (Err fault)
 echo_fault line text event Memory is front h = tt
 echo_fault line text event Syntax is front h = off
   where

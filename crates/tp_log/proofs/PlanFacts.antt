@@ -10,18 +10,19 @@ use Rattle.tp_words.specs.Each.{each_read}
 use Rattle.tp_words.specs.Fields.{name_of}
 use Rattle.tp_words.proofs.Steps.{and_then_some}
 use Rattle.tp_words.proofs.Spelling.{Tells, name_spells, number_spells}
+use Rattle.tp_bounds.proofs.SheetFacts.{sheet_spells}
 use Rattle.tp_words.proofs.Texts.{AllVisible, name_visible, number_visible}
 use Rattle.tp_words.proofs.Lists.{list_takes, list_again}
 use Rattle.tp_schedule.specs.declared.recording.Record.{Record}
 use Rattle.tp_schedule.specs.declared.recording.Record.TheVariants.{Plan, Move}
 use Rattle.tp_schedule.specs.declared.recording.SheetName.{SheetName}
 use Rattle.tp_words.specs.Fields.{IsName}
+use Rattle.tp_bounds.specs.Sheets.{IsSheet, sheet_of, sheet_text}
 use Rattle.tp_log.specs.declared.heading.Heading.TheVariants as headings
 use Rattle.tp_log.specs.Headings.{heading_text}
-use Rattle.tp_log.specs.Records.{sheet_text, turns_words, record_words}
-use Rattle.tp_log.specs.Grammar.{IsSheet, IsRecord}
-use Rattle.tp_log.specs.Reading.{sheet_of, turns_of, plan_with, plan_of, move_with, move_of}
-use Rattle.tp_log.proofs.WordFacts.{sheet_spells}
+use Rattle.tp_log.specs.Records.{turns_words, record_words}
+use Rattle.tp_log.specs.Grammar.{IsRecord}
+use Rattle.tp_log.specs.Reading.{turns_of, plan_with, plan_of, move_with, move_of}
 
 -- ---- points and actions in turn
 record TurnsTake (words : List (List ℕ)) (t : List ℕ × List (List ℕ)) : Type 0 where

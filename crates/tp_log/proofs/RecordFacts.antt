@@ -5,17 +5,19 @@ use Rattle.std.specs.Str.{bytes_eq}
 use Rattle.std.proofs.lemmas.Slice.Eq.{bytes_eq-Decides}
 use Rattle.tp_words.proofs.Steps.{and_then_some, map_some}
 use Rattle.tp_words.proofs.Spelling.{Tells, name_spells, number_spells, two_again, five_again}
+use Rattle.tp_bounds.proofs.SheetFacts.{sheet_spells, sheet_visible}
 use Rattle.tp_words.proofs.Texts.{AllVisible, name_visible, number_visible}
 use Rattle.tp_schedule.specs.declared.recording.Record.{Record}
 use Rattle.tp_schedule.specs.declared.recording.Record.TheVariants.{Plan, Move, Never, Budget, FullUp, Release, Done, Lost, Recall, Withdraw, Cut, Purge, Again, Stuck, Broken, Drop, Refused}
 use Rattle.tp_schedule.specs.declared.recording.SheetName.{SheetName}
+use Rattle.tp_bounds.specs.Sheets.{IsSheet, sheet_of, sheet_text}
 use Rattle.tp_log.specs.declared.heading.Heading.{Heading}
 use Rattle.tp_log.specs.declared.heading.Heading.TheVariants as headings
 use Rattle.tp_log.specs.Headings.{heading_text, heading_of, headings as all_headings}
-use Rattle.tp_log.specs.Records.{sheet_text, record_words}
-use Rattle.tp_log.specs.Grammar.{IsSheet, IsRecord}
-use Rattle.tp_log.specs.Reading.{one_of, sheet_of, cause_of, record_after, record_of}
-use Rattle.tp_log.proofs.WordFacts.{sheet_spells, goal_spells, sheet_visible, goal_visible}
+use Rattle.tp_log.specs.Records.{record_words}
+use Rattle.tp_log.specs.Grammar.{IsRecord}
+use Rattle.tp_log.specs.Reading.{one_of, cause_of, record_after, record_of}
+use Rattle.tp_log.proofs.WordFacts.{goal_spells, goal_visible}
 use Rattle.tp_log.proofs.Forms.{one_again, one_made, two_made, three_again, three_made, five_made}
 use Rattle.tp_log.proofs.PlanFacts.{plan_takes, plan_again, turns_visible, move_takes, move_again, points_visible}
 use Rattle.tp_log.proofs.CauseFacts.{find_passes, cause_takes, cause_again, cause_visible}

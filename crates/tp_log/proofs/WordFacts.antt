@@ -1,33 +1,19 @@
--- Copies and goals: what is read is spelled so, and what is spelled so is read.
-use Rattle.std.proofs.Common.{◌≡◌, inl, inr, ℕ, ◌<◌, Bool, true, ◌||◌, eqb, List, ◌∷◌, ◌++◌, length, Option, Some, None, refl, subst, arith, decimal}
+-- Goals: what is read is spelled so, and what is spelled so is read.
+use Rattle.std.proofs.Common.{◌≡◌, inl, inr, ℕ, ◌<◌, Bool, true, ◌||◌, eqb, List, length, Option, Some, None, refl, subst, arith}
 use Rattle.std.specs.Prelude.{option_map, codes}
 use Rattle.std.specs.List.{list_all}
 use Rattle.std.specs.Str.{bytes_eq}
-use Rattle.std.specs.Char.{is_ascii_digit}
 use Rattle.std.proofs.lemmas.Slice.Eq.{bytes_eq-Decides}
 use Rattle.std.proofs.lemmas.Bool.{cases_Bool, or_right}
 use Rattle.std.proofs.lemmas.Option.{same_Some}
 use Rattle.tp_base.specs.NameText.{is_name_byte}
 use Rattle.tp_words.specs.Fields.{IsName, name_of}
-use Rattle.tp_words.specs.Numbers.{IsNumber}
 use Rattle.tp_words.proofs.Steps.{map_some}
-use Rattle.tp_words.proofs.Spelling.{Spells, name_spells, number_spells, pair_spells, either, weaker}
+use Rattle.tp_words.proofs.Spelling.{Spells, name_spells, weaker}
 use Rattle.tp_words.proofs.Texts.{IsVisible, visible}
-use Rattle.tp_schedule.specs.declared.recording.SheetName.{SheetName}
-use Rattle.tp_log.specs.Records.{sheet_text, goal_text}
-use Rattle.tp_log.specs.Grammar.{IsSheet, IsGoal}
-use Rattle.tp_log.specs.Reading.{numbers_of, sheet_from, sheet_of, goal_of}
-
--- ---- a copy
-numbers_spell : Spells numbers_of (λ nc. decimal nc.0 ++ 46 ∷ decimal nc.1) (λ nc. IsNumber nc.0 × IsNumber nc.1) (either 46 is_ascii_digit is_ascii_digit)
-numbers_spell = pair_spells 46 number_spells number_spells (λ n c. (n, c)) (λ nc. nc.0) (λ nc. nc.1) (λ nc. refl) (λ n c. refl) (λ n c. refl) refl
-
-abbrev pub sheet_byte : ℕ → Bool
-sheet_byte = either 46 is_name_byte (either 46 is_ascii_digit is_ascii_digit)
-
-pub sheet_spells : Spells sheet_of sheet_text IsSheet sheet_byte
-unfolding sheet_of
-sheet_spells = pair_spells 46 name_spells numbers_spell sheet_from (λ s. s.job) (λ s. (s.number, s.copy)) (λ s. refl) (λ j nc. refl) (λ j nc. refl) refl
+use Rattle.tp_log.specs.Records.{goal_text}
+use Rattle.tp_log.specs.Grammar.{IsGoal}
+use Rattle.tp_log.specs.Reading.{goal_of}
 
 -- ---- a goal
 abbrev pub goal_byte : ℕ → Bool
@@ -70,8 +56,5 @@ pub goal_spells : Spells goal_of goal_text IsGoal goal_byte
 goal_spells = record { takes = goal_takes; again = goal_again; bytes = goal_bytes; filled = goal_filled }
 
 -- ---- words have neither a space nor a line end in them
-pub sheet_visible : (s : SheetName) → IsSheet s → IsVisible (sheet_text s)
-sheet_visible = visible sheet_spells refl refl
-
 pub goal_visible : (g : Option (List ℕ)) → IsGoal g → IsVisible (goal_text g)
 goal_visible = visible goal_spells refl refl

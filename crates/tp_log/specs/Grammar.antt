@@ -5,10 +5,10 @@ use Rattle.tp_schedule.specs.declared.recording.Cause.{Cause}
 use Rattle.tp_schedule.specs.declared.recording.Cause.TheVariants.{Syntax as SyntaxCause, Tray, Media, Named, Waiting, Back, End, «Module», Out, NotOn}
 use Rattle.tp_schedule.specs.declared.recording.Record.{Record}
 use Rattle.tp_schedule.specs.declared.recording.Record.TheVariants.{Plan, Move, Never, Budget, FullUp, Release, Done, Lost, Recall, Withdraw, Cut, Purge, Again, Stuck, Broken, Drop, Refused}
-use Rattle.tp_schedule.specs.declared.recording.SheetName.{SheetName}
 use Rattle.tp_script.specs.Printed.{IsEchoed}
 use Rattle.tp_words.specs.Fields.{IsName}
 use Rattle.tp_words.specs.Numbers.{IsNumber}
+use Rattle.tp_bounds.specs.Sheets.{IsSheet}
 use Rattle.tp_script.specs.Script.{event_text}
 use Rattle.tp_words.specs.Texts.{lines_of}
 use Rattle.tp_script.specs.declared.event.Event.{Event as AnyEvent}
@@ -21,9 +21,6 @@ use Rattle.tp_log.specs.declared.item.Item.TheVariants.{Event, Note}
 use Rattle.tp_log.specs.Records.{record_text, IsPrintable}
 
 -- ---- values that have a text: names are names, and numbers fit in 32 bits
-
-abbrev pub IsSheet : SheetName → Type 0
-IsSheet s = IsName s.job × (IsNumber s.number × IsNumber s.copy)
 
 abbrev pub IsGoal : Option (List ℕ) → Type 0
 IsGoal None = Unit {0}
@@ -80,10 +77,10 @@ item_text (Event event) = echo_text event
 item_text (Note told) = record_text told
 
 -- what reading a line answers
-abbrev pub ReadsLine : List ℕ → Result Item LineFault → Type 0
-ReadsLine line (Ok item) = IsItem item × (line ≡ item_text item)
-ReadsLine line (Err Syntax) = (item : Item) → IsItem item → line ≢ item_text item
-ReadsLine line (Err Memory) = Unit {0}
+abbrev pub ReadsItem : List ℕ → Result Item LineFault → Type 0
+ReadsItem line (Ok item) = IsItem item × (line ≡ item_text item)
+ReadsItem line (Err Syntax) = (item : Item) → IsItem item → line ≢ item_text item
+ReadsItem line (Err Memory) = Unit {0}
 
 -- ---- logs
 

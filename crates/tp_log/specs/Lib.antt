@@ -1,4 +1,5 @@
 pub mod Records
 pub mod Headings
 pub mod Grammar
+pub mod LogLines
 pub mod Reading

@@ -3,12 +3,12 @@ use Rattle.std.specs.Prelude.{ℕ, List, [], ◌∷◌, length, nat_lt, Option, 
 use Rattle.std.specs.Str.{bytes_eq}
 use Rattle.tp_words.specs.Numbers.{number_of}
 use Rattle.tp_words.specs.Each.{each_read}
-use Rattle.tp_words.specs.Fields.{◌>>=◌, name_of, pair_of, two_of, five_of}
+use Rattle.tp_words.specs.Fields.{◌>>=◌, name_of, two_of, five_of}
 use Rattle.tp_schedule.specs.declared.recording.Cause.{Cause}
 use Rattle.tp_schedule.specs.declared.recording.Cause.TheVariants as causes
 use Rattle.tp_schedule.specs.declared.recording.Record.{Record}
 use Rattle.tp_schedule.specs.declared.recording.Record.TheVariants.{Plan, Move, Never, Budget, FullUp, Release, Done, Lost, Recall, Withdraw, Cut, Purge, Again, Stuck, Broken, Drop, Refused}
-use Rattle.tp_schedule.specs.declared.recording.SheetName.{SheetName}
+use Rattle.tp_bounds.specs.Sheets.{sheet_of}
 use Rattle.tp_log.specs.declared.heading.Heading.{Heading}
 use Rattle.tp_log.specs.declared.heading.Heading.TheVariants as headings
 use Rattle.tp_log.specs.declared.reason.Reason.{Reason}
@@ -16,15 +16,6 @@ use Rattle.tp_log.specs.declared.reason.Reason.TheVariants as reasons
 use Rattle.tp_log.specs.Headings.{heading_of, reason_of}
 
 -- ---- words
-
-abbrev pub numbers_of : List ℕ → Option (ℕ × ℕ)
-numbers_of word = pair_of 46 number_of number_of (λ number copy. (number, copy)) word
-
-abbrev pub sheet_from : List ℕ → ℕ × ℕ → SheetName
-sheet_from job numbers = record { job = job; number = numbers.0; copy = numbers.1 }
-
-unfoldable pub sheet_of : List ℕ → Option SheetName
-sheet_of word = pair_of 46 name_of numbers_of sheet_from word
 
 unfoldable pub goal_of : List ℕ → Option (Option (List ℕ))
 goal_of word = if bytes_eq word (codes "*") then Some None else option_map (λ tray. Some tray) (name_of word)

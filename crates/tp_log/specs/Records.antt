@@ -4,12 +4,8 @@ use Rattle.tp_schedule.specs.declared.recording.Cause.{Cause}
 use Rattle.tp_schedule.specs.declared.recording.Cause.TheVariants.{Syntax, Tray, Media, Named, Waiting, Back, End, «Module», Out, NotOn}
 use Rattle.tp_schedule.specs.declared.recording.Record.{Record}
 use Rattle.tp_schedule.specs.declared.recording.Record.TheVariants.{Plan, Move, Never, Budget, FullUp, Release, Done, Lost, Recall, Withdraw, Cut, Purge, Again, Stuck, Broken, Drop, Refused}
-use Rattle.tp_schedule.specs.declared.recording.SheetName.{SheetName}
 use Rattle.tp_words.specs.Texts.{spaced}
-
--- a copy: `NAME.NUMBER.COPY`
-abbrev pub sheet_text : SheetName → List ℕ
-sheet_text s = s.job ++ 46 ∷ (decimal s.number ++ 46 ∷ decimal s.copy)
+use Rattle.tp_bounds.specs.Sheets.{sheet_text}
 
 -- a goal: the tray's name, or `*` for a purge
 abbrev pub goal_text : Option (List ℕ) → List ℕ

@@ -3,32 +3,14 @@ ghost use Rattle.std.specs.Prelude.{◌≡◌, ◌++◌, ◌∷◌, OnOk};
 ghost use Rattle.tp_words.specs.Parts.{shown};
 ghost use Rattle.tp_words.specs.Fields.{name_of};
 ghost use Rattle.tp_words.specs.Numbers.{number_of};
-ghost use Rattle.tp_log.specs.Records.{sheet_text, goal_text};
-ghost use Rattle.tp_log.specs.Reading.{numbers_of, sheet_of, goal_of, one_of};
+ghost use Rattle.tp_bounds.specs.Sheets.{sheet_of, sheet_text};
+ghost use Rattle.tp_log.specs.Records.{goal_text};
+ghost use Rattle.tp_log.specs.Reading.{goal_of, one_of};
 
 use tp_base::{Memory, Name};
+use tp_bounds::{put_sheet, read_sheet};
 use tp_schedule::SheetName;
-use tp_words::{cut, put_number, put_word, read_name, read_number};
-
-#[tactic(auto, unfolding(tp_words::specs::Fields::pair_of))]
-fn read_numbers(word: &[u8]) -> Option<(u32, u32)>
-    ensures { result ≡ numbers_of word.now }
-{
-    let (number, copy) = cut(word, b'.')?;
-    let number = read_number(number)?;
-    let copy = read_number(copy)?;
-    Some((number, copy))
-}
-
-#[tactic(auto, unfolding(crate::specs::Reading::sheet_of, tp_words::specs::Fields::pair_of))]
-pub fn read_sheet(word: &[u8]) -> Option<SheetName>
-    ensures { result ≡ sheet_of word.now }
-{
-    let (job, numbers) = cut(word, b'.')?;
-    let job = read_name(job)?;
-    let (number, copy) = read_numbers(numbers)?;
-    Some(SheetName { job, number, copy })
-}
+use tp_words::{put_word, read_name, read_number};
 
 #[tactic(auto, unfolding(crate::specs::Reading::goal_of))]
 pub fn read_goal(word: &[u8]) -> Option<Option<Name>>
@@ -74,11 +56,7 @@ pub fn put_sheet_word(out: &mut Vec<u8>, sheet: &SheetName) -> Result<(), Memory
     ensures { OnOk result (out.new.items ≡ out.old.items ++ 32 ∷ sheet_text sheet.now) }
 {
     out.push(b' ')?;
-    out.extend_from_slice(sheet.job.as_bytes())?;
-    out.push(b'.')?;
-    put_number(out, sheet.number)?;
-    out.push(b'.')?;
-    put_number(out, sheet.copy)
+    put_sheet(out, sheet)
 }
 
 pub fn put_goal_word(out: &mut Vec<u8>, goal: &Option<Name>) -> Result<(), Memory>

@@ -1,9 +1,9 @@
-// One line of a log.
+// One line of a log without bounds.
 ghost use Rattle.std.specs.Prelude.{◌≡◌, ◌≢◌, ◌+◌, ◌<◌, ◌^◌, ℕ, List, ◌∷◌, ◌++◌, length, MatchOption, OnOk, OnErr};
 ghost use Rattle.tp_words.specs.Parts.{parts_at};
 ghost use Rattle.tp_script.specs.Reading.{Gives};
 ghost use Rattle.tp_log.specs.Reading.{record_of};
-ghost use Rattle.tp_log.specs.Grammar.{echo_text, ReadsLine};
+ghost use Rattle.tp_log.specs.Grammar.{echo_text, ReadsItem};
 
 use crate::item::Item;
 use crate::records::read_record;
@@ -47,9 +47,9 @@ fn read_words(alloc: Global, text: &[u8]) -> Result<Record, LineFault>
 }
 
 /// The event or record of one line, given with its LF. `Syntax` off the grammar.
-pub fn read_log_line(alloc: Global, line: &[u8]) -> Result<Item, LineFault>
+pub fn read_item(alloc: Global, line: &[u8]) -> Result<Item, LineFault>
     requires { length line.now + 1 < 2 ^ 32 }
-    ensures { ReadsLine line.now result }
+    ensures { ReadsItem line.now result }
 {
     let Some(text) = without_newline(line) else {
         return Err(LineFault::Syntax);

@@ -8,9 +8,9 @@ ghost use Rattle.tp_script.specs.Reading.{Gives};
 ghost use Rattle.tp_log.specs.Records.{turns_words};
 ghost use Rattle.tp_log.specs.Reading.{turns_of, plan_with, plan_of, move_with, move_of};
 
-use crate::fields::read_sheet;
 use std::alloc::Global;
 use tp_base::{Items, Memory, Name, Tick};
+use tp_bounds::read_sheet;
 use tp_schedule::Record;
 use tp_script::LineFault;
 use tp_words::{put_number_word, put_word, read_name, read_number};

@@ -1,7 +1,8 @@
 // Records written.
 ghost use Rattle.std.specs.Prelude.{◌≡◌, [], ◌++◌, ◌∷◌, OnOk, OnErr, codes, decimal};
 ghost use Rattle.tp_words.specs.Texts.{spaced};
-ghost use Rattle.tp_log.specs.Records.{sheet_text, record_words, record_text, IsPrintable};
+ghost use Rattle.tp_bounds.specs.Sheets.{sheet_text};
+ghost use Rattle.tp_log.specs.Records.{record_words, record_text, IsPrintable};
 
 use crate::causes::put_cause;
 use crate::fields::{put_goal_word, put_sheet_word};

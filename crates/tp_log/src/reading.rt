@@ -7,7 +7,7 @@ ghost use Rattle.tp_log.specs.Grammar.{IsLog, log_text, IsFirstOff, IfBad, Reads
 
 use crate::fault::LogFault;
 use crate::item::Item;
-use crate::line::read_log_line;
+use crate::line::read_item;
 use std::alloc::Global;
 use tp_script::LineFault;
 use tp_words::first_line;
@@ -17,7 +17,7 @@ fn read_nth(alloc: Global, number: u64, line: &[u8]) -> Result<Item, LogFault>
     requires { length line.now + 1 < 2 ^ 32 }
     ensures { ReadsNth number line.now result }
 {
-    match read_log_line(alloc, line) {
+    match read_item(alloc, line) {
         Err(LineFault::Memory) => Err(LogFault::Memory),
         Err(LineFault::Syntax) => Err(LogFault::Bad(number)),
         Ok(Item::Note(_)) if number == 1 => Err(LogFault::Bad(number)),

@@ -1,7 +1,8 @@
 //! What holds of every record, as its parts are. The calls change nothing: their contracts are the laws.
 
 ghost use Rattle.std.specs.List.{AllByRecursion};
-ghost use Rattle.tp_log.specs.Grammar.{HasFields, IsCause, IsGoal, IsSheet};
+ghost use Rattle.tp_bounds.specs.Sheets.{IsSheet};
+ghost use Rattle.tp_log.specs.Grammar.{HasFields, IsCause, IsGoal};
 ghost use Rattle.tp_words.specs.Fields.{IsName};
 ghost use Rattle.tp_words.specs.Numbers.{IsNumber};
 

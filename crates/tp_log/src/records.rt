@@ -4,13 +4,15 @@ ghost use Rattle.tp_words.specs.Parts.{shown};
 ghost use Rattle.tp_words.specs.Fields.{name_of, two_of, five_of};
 ghost use Rattle.tp_words.specs.Numbers.{number_of};
 ghost use Rattle.tp_script.specs.Reading.{Gives};
-ghost use Rattle.tp_log.specs.Reading.{sheet_of, goal_of, three_of, record_after, record_of};
+ghost use Rattle.tp_bounds.specs.Sheets.{sheet_of};
+ghost use Rattle.tp_log.specs.Reading.{goal_of, three_of, record_after, record_of};
 
 use crate::causes::read_cause;
-use crate::fields::{only_name, only_sheet, read_goal, read_sheet};
+use crate::fields::{only_name, only_sheet, read_goal};
 use crate::heading::Heading;
 use crate::plans::{read_move, read_plan};
 use std::alloc::Global;
+use tp_bounds::read_sheet;
 use tp_schedule::Record;
 use tp_script::LineFault;
 use tp_words::{read_name, read_number};
