@@ -33,7 +33,7 @@ use Rattle.tp_placing.specs.Causes.{ArePlain, IsNamedHop, back_tag, forward_tag}
 use Rattle.tp_placing.specs.Edges.{duration_edges, edge_of}
 use Rattle.tp_placing.specs.Standing.{AreCaused, choices_of, IsAtWith, IsAtHand, AreSlots, AreFewSteps, StandsOn, table_with}
 use Rattle.tp_placing.specs.Reasons.{IsReason}
-use Rattle.tp_placing.specs.Trying.{CanRequire, IsRefused}
+use Rattle.tp_base.specs.Grows.{IsKnown}
 use Rattle.tp_placing.proofs.CauseFacts.{AreMade, caused-more, hops-more}
 use Rattle.tp_placing.proofs.PartFacts.{shown-point}
 use Rattle.tp_placing.proofs.BoardFacts.{choices-room}
@@ -109,14 +109,14 @@ module _ {N : Type 0} (net : N → Net) (b : BoardValue N) (m : Machine) (ask : 
   small : (a.least ≤ 4096) × (a.most ≤ 4096)
   small = let r = (is_machine m).in_range act.0 a is_action in (omega (arith, r.0, r.1), r.1)
 
-  pub can-open : All (CanRequire (length (net b.net).lows + 1)) es
+  pub can-open : All (IsKnown (length (net b.net).lows + 1)) es
   can-open =
       let s = slice_get_within points start.0 _ from-own in
       let t = slice_get_within points newest.first.0 _ to-own in
       let l = length-points in
       let least = small.0 in
       let most = small.1 in
-      let P : Edge → Type 0 = CanRequire (length (net b.net).lows + 1) in
+      let P : Edge → Type 0 = IsKnown (length (net b.net).lows + 1) in
       let forth : P (edge_of start newest.first (pos a.least) forward_tag) = record { from = omega arith; to = omega arith; least = omega (arith, ints); most = omega (arith, ints) } in
       let back : P (edge_of newest.first start (neg_ℤ (pos a.most)) back_tag) = record { from = omega arith; to = omega arith; least = omega (arith, ints); most = omega (arith, ints) } in
       All-cons P (edge_of start newest.first (pos a.least) forward_tag) (edge_of newest.first start (neg_ℤ (pos a.most)) back_tag ∷ []) forth (All-cons P (edge_of newest.first start (neg_ℤ (pos a.most)) back_tag) [] back (All-nil P))
@@ -153,7 +153,7 @@ module _ {N : Type 0} (net : N → Net) (b : BoardValue N) (m : Machine) (ask : 
   lift law os all = law m b.plans ask o.x act room os o.can.going all
 
   pub open-reason : (refutes : N → Net → Type 0) (n : N) → ActionNet → ActionHops → ArePlain b.causes → AreCaused m b.plans ask b.causes b.steps (net b.net)
-      → IsRefused refutes n (with_point (net b.net) (min sum (horizon + 1)) horizon) es → IsReason refutes (record b { net = n; limit = None }) m ask (with_action act room o.x)
+      → refutes n (Extended (min sum (horizon + 1))) → IsReason refutes (record b { net = n; limit = None }) m ask (with_action act room o.x)
   open-reason refutes n action_net law plain caused refused = record {
     net = Extended sum;
     is_net = board-net action_net;

@@ -24,7 +24,7 @@ use Rattle.tp_placing.specs.Causes.{IsNamedHop, line_tag}
 use Rattle.tp_placing.specs.Edges.{end_edges}
 use Rattle.tp_placing.specs.Standing.{AreCaused, choices_of, IsAtWith, AreSlots, AreFewSteps, StandsOn, table_with, step_edges}
 use Rattle.tp_placing.specs.Reasons.{IsReason}
-use Rattle.tp_placing.specs.Trying.{CanRequire, IsRefused}
+use Rattle.tp_base.specs.Grows.{IsKnown}
 use Rattle.tp_placing.proofs.CauseFacts.{AreMade, caused-more, hops-more}
 use Rattle.tp_placing.proofs.PartFacts.{shown-point}
 use Rattle.tp_placing.proofs.LineFacts.{end-tags, goal-can, goal-gaps, length-edges}
@@ -59,11 +59,11 @@ module _ {N C : Type 0} (net : N → Net) (content : N → C) (past : N → List
   pub caps-lows : length (net b.net).caps ≡ length (net b.net).lows
   caps-lows = ap length at-none.net.caps ∙ length-map (table_of b.plans) (cap_at (ask.now + m.window) b.plans) ∙ sym lows-loaded
 
-  can-points : All (CanRequire (length points)) es
+  can-points : All (IsKnown (length points)) es
   can-points = goal-can ask b.plans b.firsts b.last s.firsts s.last
 
-  pub can-open : All (CanRequire (length (net b.net).lows + 1)) es
-  can-open = let l = length-table b.plans 1 in let k = lows-loaded in let e : length points ≡ length (net b.net).lows + 1 = omega arith in subst (λ n. All (CanRequire n) es) e can-points
+  pub can-open : All (IsKnown (length (net b.net).lows + 1)) es
+  can-open = let l = length-table b.plans 1 in let k = lows-loaded in let e : length points ≡ length (net b.net).lows + 1 = omega arith in subst (λ n. All (IsKnown n) es) e can-points
 
   pub few-edges : length (net b.net).edges + length es ≤ 98600 + 257
   few-edges =
@@ -100,7 +100,7 @@ module _ {N C : Type 0} (net : N → Net) (content : N → C) (past : N → List
   none-chosen : choices_of (suffix_after b.steps) ≡ no_choices
   none-chosen = ap choices_of closed
 
-  pub goal-reason : (refutes : N → Net → Type 0) (n : N) → GoalNet → GoalHops → IsRefused refutes n (with_point (net b.net) (min sum (horizon + 1)) horizon) es
+  pub goal-reason : (refutes : N → Net → Type 0) (n : N) → GoalNet → GoalHops → refutes n (Extended (min sum (horizon + 1)))
       → IsReason refutes (record b { net = n; limit = None }) m ask (with_goal room)
   goal-reason refutes n goal_net law refused = record {
     net = Extended sum;

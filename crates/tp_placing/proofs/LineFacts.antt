@@ -18,7 +18,7 @@ use Rattle.tp_constraints.specs.Suffixes.{end_gap, end_gaps}
 use Rattle.tp_placing.specs.Causes.{line_tag}
 use Rattle.tp_placing.specs.Edges.{edge_of, end_edge, edge_list, plan_end, end_edges}
 use Rattle.tp_placing.specs.Standing.{AreFirsts, table_with}
-use Rattle.tp_placing.specs.Trying.{CanRequire}
+use Rattle.tp_base.specs.Grows.{IsKnown}
 use Rattle.tp_placing.proofs.TableFacts.{begins-at, get-right, length-firsts, length-points, points-get, table-own}
 use Rattle.tp_base.proofs.SliceFacts.{slice_get_left}
 
@@ -43,13 +43,13 @@ one-gap table ask p last end a b = go (is_in_line ask.goal p) (is_before p.sheet
   go false y z = refl
 
 -- the points of the edges
-one-can : (points : ℕ) (ask : Ask) (p : Plan) (last end : PointId) → last.0 < points → end.0 < points → All (CanRequire points) (edge_list (end_edge ask p last end))
+one-can : (points : ℕ) (ask : Ask) (p : Plan) (last end : PointId) → last.0 < points → end.0 < points → All (IsKnown points) (edge_list (end_edge ask p last end))
 one-can points ask p last end a b = go (is_in_line ask.goal p) (is_before p.sheet ask.sheet) (is_before ask.sheet p.sheet) where
-  go : (x y z : Bool) → All (CanRequire points) (edge_list (cond x (cond y (Some (edge_of last end (pos 1) line_tag)) (cond z (Some (edge_of end last (pos 1) line_tag)) None)) None))
-  go true true z = All-cons (CanRequire points) (edge_of last end (pos 1) line_tag) [] (record { from = a; to = b; least = omega (arith, ints); most = omega (arith, ints) }) (All-nil (CanRequire points))
-  go true false true = All-cons (CanRequire points) (edge_of end last (pos 1) line_tag) [] (record { from = b; to = a; least = omega (arith, ints); most = omega (arith, ints) }) (All-nil (CanRequire points))
-  go true false false = All-nil (CanRequire points)
-  go false y z = All-nil (CanRequire points)
+  go : (x y z : Bool) → All (IsKnown points) (edge_list (cond x (cond y (Some (edge_of last end (pos 1) line_tag)) (cond z (Some (edge_of end last (pos 1) line_tag)) None)) None))
+  go true true z = All-cons (IsKnown points) (edge_of last end (pos 1) line_tag) [] (record { from = a; to = b; least = omega (arith, ints); most = omega (arith, ints) }) (All-nil (IsKnown points))
+  go true false true = All-cons (IsKnown points) (edge_of end last (pos 1) line_tag) [] (record { from = b; to = a; least = omega (arith, ints); most = omega (arith, ints) }) (All-nil (IsKnown points))
+  go true false false = All-nil (IsKnown points)
+  go false y z = All-nil (IsKnown points)
 
 one-tag : (ask : Ask) (p : Plan) (last end : PointId) → All (λ e. e.tag ≡ line_tag) (edge_list (end_edge ask p last end))
 one-tag ask p last end = go (is_in_line ask.goal p) (is_before p.sheet ask.sheet) (is_before ask.sheet p.sheet) where
@@ -98,11 +98,11 @@ all-gaps table ask (p ∷ plans) (f ∷ firsts) end h e o =
     let y = all-gaps table ask plans firsts end (omega arith) e.1 o in
     map-append (gap_by table) (edge_list (end_edge ask p (plan_end p f) end)) (end_edges ask plans firsts end) ∙ (λ i. x i ++ y i)
 
-all-can : (table : List Spot) (ask : Ask) (plans : List Plan) (firsts : List PointId) (end : PointId) → EndsInTable table plans firsts → end.0 < length table → All (CanRequire (length table)) (end_edges ask plans firsts end)
-all-can table ask [] firsts end e o = All-nil (CanRequire (length table))
-all-can table ask (p ∷ plans) [] end e o = All-nil (CanRequire (length table))
+all-can : (table : List Spot) (ask : Ask) (plans : List Plan) (firsts : List PointId) (end : PointId) → EndsInTable table plans firsts → end.0 < length table → All (IsKnown (length table)) (end_edges ask plans firsts end)
+all-can table ask [] firsts end e o = All-nil (IsKnown (length table))
+all-can table ask (p ∷ plans) [] end e o = All-nil (IsKnown (length table))
 all-can table ask (p ∷ plans) (f ∷ firsts) end e o =
-    All-append (CanRequire (length table)) (edge_list (end_edge ask p (plan_end p f) end)) (end_edges ask plans firsts end)
+    All-append (IsKnown (length table)) (edge_list (end_edge ask p (plan_end p f) end)) (end_edges ask plans firsts end)
     (one-can (length table) ask p (plan_end p f) end (slice_get_within table (plan_end p f).0 (end_spot p) e.0) o) (all-can table ask plans firsts end e.1 o)
 
 -- one plan more of a list, where it has been read
@@ -165,5 +165,5 @@ module _ (ask : Ask) (plans : List Plan) (firsts : List PointId) (end : PointId)
   pub goal-gaps : map (gap_by (table_with plans 1)) (end_edges ask plans firsts end) ≡ end_gaps ask plans
   goal-gaps = all-gaps (table_with plans 1) ask plans firsts end (length-firsts 0 plans firsts a) in-table (rw end-own refl)
 
-  pub goal-can : All (CanRequire (length (table_with plans 1))) (end_edges ask plans firsts end)
+  pub goal-can : All (IsKnown (length (table_with plans 1))) (end_edges ask plans firsts end)
   goal-can = all-can (table_with plans 1) ask plans firsts end in-table (slice_get_within (table_with plans 1) end.0 _ end-own)

@@ -26,7 +26,7 @@ use Rattle.tp_placing.specs.Causes.{ArePlain, IsSafe, forward_tag, back_tag, lin
 use Rattle.tp_placing.specs.declared.causes.Cause.{Cause}
 use Rattle.tp_placing.specs.Edges.{edge_of}
 use Rattle.tp_placing.specs.Loading.{point_id, act_edges, acts_edges, plans_edges, next_end, line_edge, lines_edges}
-use Rattle.tp_placing.specs.Trying.{CanRequire}
+use Rattle.tp_base.specs.Grows.{IsKnown}
 use Rattle.tp_placing.proofs.CauseFacts.{numbered-in}
 use Rattle.tp_placing.proofs.LoadTable.{StandsAt, AreNumbered}
 
@@ -34,17 +34,17 @@ use Rattle.tp_placing.proofs.LoadTable.{StandsAt, AreNumbered}
 -- points of the plans
 pub record AreHops (plans : List Plan) (causes : List Cause) (es : List Edge) (hs : List Hop) : Type 0 where
   pub hops : map (hop_by plans causes) es ≡ hs
-  pub can : All (CanRequire (length (table_of plans))) es
+  pub can : All (IsKnown (length (table_of plans))) es
   pub tags : All (λ e. e.tag < length causes) es
   pub safe : All (IsSafe 0) es
 
 pub hops-none : (plans : List Plan) (causes : List Cause) → AreHops plans causes [] []
-hops-none plans causes = record { hops = refl; can = All-nil (CanRequire (length (table_of plans))); tags = All-nil (λ (e : Edge). e.tag < length causes); safe = All-nil (IsSafe 0) }
+hops-none plans causes = record { hops = refl; can = All-nil (IsKnown (length (table_of plans))); tags = All-nil (λ (e : Edge). e.tag < length causes); safe = All-nil (IsSafe 0) }
 
-pub hops-one : (plans : List Plan) (causes : List Cause) (e : Edge) (h : Hop) → hop_by plans causes e ≡ h → CanRequire (length (table_of plans)) e → e.tag < length causes → IsSafe 0 e → AreHops plans causes (e ∷ []) (h ∷ [])
+pub hops-one : (plans : List Plan) (causes : List Cause) (e : Edge) (h : Hop) → hop_by plans causes e ≡ h → IsKnown (length (table_of plans)) e → e.tag < length causes → IsSafe 0 e → AreHops plans causes (e ∷ []) (h ∷ [])
 hops-one plans causes e h is can tag safe = record {
   hops = ap (λ x. x ∷ []) is;
-  can = All-cons (CanRequire (length (table_of plans))) e [] can (All-nil (CanRequire (length (table_of plans))));
+  can = All-cons (IsKnown (length (table_of plans))) e [] can (All-nil (IsKnown (length (table_of plans))));
   tags = All-cons (λ (f : Edge). f.tag < length causes) e [] tag (All-nil (λ (f : Edge). f.tag < length causes));
   safe = All-cons (IsSafe 0) e [] safe (All-nil (IsSafe 0));
 }
@@ -55,7 +55,7 @@ hops-append plans causes es fs gs hs a b =
     let q = b.hops in
     record {
       hops = map-append (hop_by plans causes) es fs ∙ (λ i. p i ++ q i);
-      can = All-append (CanRequire (length (table_of plans))) es fs a.can b.can;
+      can = All-append (IsKnown (length (table_of plans))) es fs a.can b.can;
       tags = All-append (λ (e : Edge). e.tag < length causes) es fs a.tags b.tags;
       safe = All-append (IsSafe 0) es fs a.safe b.safe;
     }
@@ -65,13 +65,13 @@ pub number-spot : (plans : List Plan) (n : ℕ) → n < length (table_of plans) 
 number-spot plans n within = let f = found (table_of plans) n within in numbered-in plans 0 n f.0 f.1 ∙ sym (ap spot_in f.1)
 
 -- the gap of an edge is that of its hop
-pub gaps-by : (plans : List Plan) (causes : List Cause) (es : List Edge) → All (CanRequire (length (table_of plans))) es → map (gap_by (table_of plans)) es ≡ map (λ h. h.gap) (map (hop_by plans causes) es)
+pub gaps-by : (plans : List Plan) (causes : List Cause) (es : List Edge) → All (IsKnown (length (table_of plans))) es → map (gap_by (table_of plans)) es ≡ map (λ h. h.gap) (map (hop_by plans causes) es)
 gaps-by plans causes [] can = refl
 gaps-by plans causes (e ∷ es) can =
-    let one = All-head (CanRequire (length (table_of plans))) e es can in
+    let one = All-head (IsKnown (length (table_of plans))) e es can in
     let a = number-spot plans e.from.0 one.from in
     let b = number-spot plans e.to.0 one.to in
-    let rest = gaps-by plans causes es (All-tail (CanRequire (length (table_of plans))) e es can) in
+    let rest = gaps-by plans causes es (All-tail (IsKnown (length (table_of plans))) e es can) in
     λ i. gap (sym a i) (sym b i) e.weight ∷ rest i
 
 -- the edges of plans among all plans, whose causes stand first in the table

@@ -27,10 +27,10 @@ use Rattle.tp_placing.specs.declared.causes.Cause.{Cause}
 use Rattle.tp_placing.specs.declared.parts.Held.{Held}
 use Rattle.tp_placing.specs.Inside.{most_edges}
 use Rattle.tp_placing.specs.Loaded.{CanLoad, IsLoaded, all_edges}
-use Rattle.tp_placing.specs.Loading.{AreAddable, AreIds, chains_causes, chains_edges, firsts_from, holds_on, lines_edges, plans_edges, with_plans}
+use Rattle.tp_placing.specs.Loading.{AreIds, chains_causes, chains_edges, firsts_from, holds_on, lines_edges, plans_edges, with_plans}
 use Rattle.tp_placing.specs.LoadedHolds.{AreInOrder, IsHeldWithin, held_plans, is_on, ticks_in}
-use Rattle.tp_placing.specs.Standing.{AreFirsts, AreSlots, HasSmallOffsets}
-use Rattle.tp_placing.specs.Trying.{CanRequire}
+use Rattle.tp_placing.specs.Standing.{AreFirsts, AreSlots, HasSmallOffsets, loaded_edges}
+use Rattle.tp_base.specs.Grows.{IsKnown}
 use Rattle.tp_placing.proofs.LoadCauses.{AreCausesFrom, causes-behind, plain-more}
 use Rattle.tp_placing.proofs.LoadHops.{AreHops, gaps-by, hops-append, durations-hops, lines-hops, durations-count, lines-count}
 use Rattle.tp_placing.proofs.SlotResources.{IsOn, order-on}
@@ -40,7 +40,7 @@ use Rattle.tp_placing.proofs.LoadTable.{numbered, ticks-by-number, length-table-
 use Rattle.tp_placing.proofs.LoadedTicks.{timed, times, few-acts, ticks-count, lows-map, caps-map}
 use Rattle.tp_placing.proofs.LoadPoints.{firsts-right}
 
-module _ (machine : Machine) (now : ℕ) (plans : List Plan) (can : CanLoad machine now plans) (room : ℕ) (enough : most_edges ≤ room) (net : Net) (is : net ≡ with_plans (now + machine.lead) (now + machine.window) plans empty_net) (least : HasLeast net)
+module _ (machine : Machine) (now : ℕ) (plans : List Plan) (can : CanLoad machine now plans) (net : Net) (is : net ≡ with_plans (now + machine.lead) (now + machine.window) plans empty_net)
     (lines : Orders) (held : List Held) (put : AreInOrder machine plans lines held)
     (base : List Cause) (plain : ArePlain base) (based : length base ≡ step_causes) where
   sorted : (r : ℕ) → r < length machine.resources → map (slot_by (table_of plans)) (holds_on held lines.orders r) ≡ slot_order machine plans r
@@ -96,7 +96,7 @@ module _ (machine : Machine) (now : ℕ) (plans : List Plan) (can : CanLoad mach
   pub causes-fit : step_causes + length (chains_causes (holds_on held lines.orders) (length machine.resources)) ≤ most_causes
   causes-fit = let c = chains in omega arith
 
-  count : length (all_edges machine plans lines.orders held) ≤ 98600
+  pub count : length (all_edges machine plans lines.orders held) ≤ loaded_edges
   count =
       let d = durations-count machine 0 plans (few-acts machine now plans can) in
       let l = lines-count 0 plans in
@@ -122,9 +122,7 @@ module _ (machine : Machine) (now : ℕ) (plans : List Plan) (can : CanLoad mach
   spots : IsTable (IsPoint plans 0) (table_of plans)
   spots = table_law plans can.loadable.legal.in_order
 
-  present : ℕ → ℕ
-  present i = ticks_of plans (spot_at (table_of plans) i)
-
+  -- their own ticks keep the edges
   solution : IsSolution (with_edges net (all_edges machine plans lines.orders held)) (λ i. ticks_of plans (spot_at (table_of plans) i))
   solution =
       let constraints = (gaps_law machine now (λ _. false) plans (ticks_of plans) can.loadable).0 (times machine now plans can) in
@@ -152,13 +150,14 @@ module _ (machine : Machine) (now : ℕ) (plans : List Plan) (can : CanLoad mach
         contains-spot : (i : ℕ) (s : Spot) → slice_get (table_of plans) i ≡ Some s → Contains (table_of plans) s
         contains-spot i s at = contains-get (table_of plans) i s at
 
-  pub addable : AreAddable room net (all_edges machine plans lines.orders held)
-  addable = record {
-    can = subst (λ n. All (CanRequire n) (all_edges machine plans lines.orders held)) (sym points) hops.can;
-    spare = let c = count in let e = ap length none-added in omega arith;
-    solution = (λ i. ticks_of plans (spot_at (table_of plans) i), solution);
-    least = least;
-  }
+  pub edges-known : All (IsKnown (length net.lows)) (all_edges machine plans lines.orders held)
+  edges-known = subst (λ n. All (IsKnown n) (all_edges machine plans lines.orders held)) (sym points) hops.can
+
+  pub edges-fit : (room : ℕ) → most_edges ≤ room → length net.edges + length (all_edges machine plans lines.orders held) ≤ room
+  edges-fit room enough = let c = count in let e = ap length none-added in omega arith
+
+  pub edges-kept : (x : ℕ → ℕ) × IsSolution (with_edges net (all_edges machine plans lines.orders held)) x
+  edges-kept = (λ i. ticks_of plans (spot_at (table_of plans) i), solution)
 
   named : (ask : Ask) → All (IsNamedHop machine plans ask no_choices causes) (all_edges machine plans lines.orders held)
   named ask =
@@ -172,7 +171,7 @@ module _ (machine : Machine) (now : ℕ) (plans : List Plan) (can : CanLoad mach
       let mapped : map (gap_by (table_of plans)) n.edges ≡ plans_gaps machine plans = ap (map (gap_by (table_of plans))) edges ∙ gaps in
       subst (IsLoaded machine now plans n lines.orders held firsts) (sym caused) (record {
         net = load_net machine now (λ _. false) plans (table_of plans) n can.loadable spots (ap (λ (m : Net). m.lows) same ∙ lows) (ap (λ (m : Net). m.caps) same ∙ caps)
-            (subst (λ es. All (IsEdgeOf (table_of plans)) es) (sym edges) (All-weaker (CanRequire (length (table_of plans))) (IsEdgeOf (table_of plans)) (λ e c. (c.from, c.to)) (all_edges machine plans lines.orders held) hops.can))
+            (subst (λ es. All (IsEdgeOf (table_of plans)) es) (sym edges) (All-weaker (IsKnown (length (table_of plans))) (IsEdgeOf (table_of plans)) (λ e c. (c.from, c.to)) (all_edges machine plans lines.orders held) hops.can))
             (subst (λ gs. All (Contains gs) (plans_gaps machine plans)) (sym mapped) (All-contains_itself (plans_gaps machine plans)))
             (subst (λ gs. All (Contains (plans_gaps machine plans)) gs) (sym mapped) (All-contains_itself (plans_gaps machine plans)));
         solved = solved;

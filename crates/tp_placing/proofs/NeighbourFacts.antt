@@ -16,7 +16,7 @@ use Rattle.tp_schedule.specs.Spots.{Spot, Slot}
 use Rattle.tp_placing.specs.declared.parts.Held.{Held}
 use Rattle.tp_placing.specs.Edges.{anchor_point, hold_edge, edge_after, edge_until, edges_around, held_of, held_before, held_behind}
 use Rattle.tp_placing.specs.Standing.{AreSlots, HasSmallOffsets}
-use Rattle.tp_placing.specs.Trying.{CanRequire}
+use Rattle.tp_base.specs.Grows.{IsKnown}
 
 -- a hold whose points are there and whose offsets are in their range
 pub record IsSmallHold (points : ℕ) (h : Held) : Type 0 where
@@ -31,7 +31,7 @@ anchor-within points End start end s e = e
 pub small-weight : (a b : ℤ) (n : ℕ) → IsOffset a → IsOffset b → n ≤ 4096 → (negsuc 999999 ≤ℤ ((a -ℤ b) +ℤ pos n)) × (((a -ℤ b) +ℤ pos n) ≤ℤ pos 1000000)
 small-weight a b n x y few = let x0 = x.0 in let x1 = x.1 in let y0 = y.0 in let y1 = y.1 in (omega (arith, ints), omega (arith, ints))
 
-pub can-hold : (g points : ℕ) (h k : Held) (tag : ℕ) → IsSmallHold points h → IsSmallHold points k → g ≤ 4096 → CanRequire points (hold_edge g h k tag)
+pub can-hold : (g points : ℕ) (h k : Held) (tag : ℕ) → IsSmallHold points h → IsSmallHold points k → g ≤ 4096 → IsKnown points (hold_edge g h k tag)
 can-hold g points h k tag x y few =
     let most = gap_between-most g h.rule k.rule in
     let w = small-weight h.rule.end_off k.rule.begin_off (gap_between g h.rule k.rule) x.small.1 y.small.0 (omega arith) in
@@ -62,18 +62,18 @@ small-before : (table : List Spot) (held : List Held) (ids : List ℕ) (slots : 
 small-before table held ids slots zero a small = tt
 small-before table held ids slots (suc place) a small = small-at table held ids slots place a small
 
-can-after : (g points : ℕ) (o : Option Held) (h : Held) (tag : ℕ) → IsSmallIf points o → IsSmallHold points h → g ≤ 4096 → All (CanRequire points) (edge_after g o h tag)
-can-after g points None h tag x y few = All-nil (CanRequire points)
-can-after g points (Some k) h tag x y few = All-cons (CanRequire points) (hold_edge g k h tag) [] (can-hold g points k h tag x y few) (All-nil (CanRequire points))
+can-after : (g points : ℕ) (o : Option Held) (h : Held) (tag : ℕ) → IsSmallIf points o → IsSmallHold points h → g ≤ 4096 → All (IsKnown points) (edge_after g o h tag)
+can-after g points None h tag x y few = All-nil (IsKnown points)
+can-after g points (Some k) h tag x y few = All-cons (IsKnown points) (hold_edge g k h tag) [] (can-hold g points k h tag x y few) (All-nil (IsKnown points))
 
-can-until : (g points : ℕ) (o : Option Held) (h : Held) (tag : ℕ) → IsSmallIf points o → IsSmallHold points h → g ≤ 4096 → All (CanRequire points) (edge_until g h o tag)
-can-until g points None h tag x y few = All-nil (CanRequire points)
-can-until g points (Some k) h tag x y few = All-cons (CanRequire points) (hold_edge g h k tag) [] (can-hold g points h k tag y x few) (All-nil (CanRequire points))
+can-until : (g points : ℕ) (o : Option Held) (h : Held) (tag : ℕ) → IsSmallIf points o → IsSmallHold points h → g ≤ 4096 → All (IsKnown points) (edge_until g h o tag)
+can-until g points None h tag x y few = All-nil (IsKnown points)
+can-until g points (Some k) h tag x y few = All-cons (IsKnown points) (hold_edge g h k tag) [] (can-hold g points h k tag y x few) (All-nil (IsKnown points))
 
 pub can-neighbours : (g : ℕ) (table : List Spot) (held : List Held) (ids : List ℕ) (slots : List Slot) (place : ℕ) (h : Held) (tag : ℕ) → AreSlots table held ids slots → All (λ h. HasSmallOffsets h.rule) held → IsSmallHold (length table) h → g ≤ 4096
-    → All (CanRequire (length table)) (edges_around g (held_before held ids place) h (held_behind held ids place) tag)
+    → All (IsKnown (length table)) (edges_around g (held_before held ids place) h (held_behind held ids place) tag)
 can-neighbours g table held ids slots place h tag a small new few =
-    All-append (CanRequire (length table)) (edge_after g (held_before held ids place) h tag) (edge_until g h (held_behind held ids place) (tag + 1))
+    All-append (IsKnown (length table)) (edge_after g (held_before held ids place) h tag) (edge_until g h (held_behind held ids place) (tag + 1))
     (can-after g (length table) (held_before held ids place) h tag (small-before table held ids slots place a small) new few)
     (can-until g (length table) (held_behind held ids place) h (tag + 1) (small-at table held ids slots place a small) new few)
 

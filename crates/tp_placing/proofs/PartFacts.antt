@@ -11,7 +11,7 @@ use Rattle.tp_base.specs.Net.{Net, with_point, with_edges}
 use Rattle.tp_base.specs.Refute.{Refutes}
 use Rattle.tp_constraints.proofs.Lists.{all-by}
 use Rattle.tp_placing.specs.Reasons.{IsPart, IsShown}
-use Rattle.tp_placing.specs.Trying.{IsRefused}
+use Rattle.tp_placing.specs.Walking.{IsRefused}
 
 pub part-refutes : (part whole : Net) → IsPart part whole → (p : Proof) → Refutes part p → Refutes whole p
 part-refutes part whole is (Chain first edges) late =
@@ -40,6 +40,10 @@ part-refutes part whole is (Circle edges) late = record {
 pub whole-is-part : (net : Net) → IsPart net net
 whole-is-part net = record { points = refl; lows = λ i w. omega arith; caps = refl; edges = All-contains_itself net.edges }
 
+-- what is kept of a refusal shows all of the net
+pub shown-whole : {N : Type 0} (refutes : N → Net → Type 0) (n : N) (net : Net) → refutes n net → IsShown refutes n net
+shown-whole refutes n net shown = record { late = net; shown = shown; part = whole-is-part net }
+
 -- the first few of the edges that are added
 fewer-edges : (edges es : List Edge) (n : ℕ) → All (Contains (edges ++ es)) (edges ++ take n es)
 fewer-edges edges es n = All-append (Contains (edges ++ es)) edges (take n es)
@@ -60,13 +64,13 @@ last-later (x ∷ lows) low sum zero h = omega arith
 last-later (x ∷ lows) low sum (suc i) h = last-later lows low sum i h
 
 -- a point that is refused with a low is refused with a later one
-pub shown-point : {N : Type 0} (refutes : N → Net → Type 0) (n : N) (net : Net) (low sum cap : ℕ) (es : List Edge) → low ≤ sum → IsRefused refutes n (with_point net low cap) es
+pub shown-point : {N : Type 0} (refutes : N → Net → Type 0) (n : N) (net : Net) (low sum cap : ℕ) (es : List Edge) → low ≤ sum → refutes n (with_edges (with_point net low cap) es)
     → IsShown refutes n (with_edges (with_point net sum cap) es)
-shown-point refutes n net low sum cap es later r =
+shown-point refutes n net low sum cap es later shown =
     let a = length-append net.lows (low ∷ []) in
     let b = length-append net.lows (sum ∷ []) in
     record {
-      late = with_edges (with_point net low cap) (take r.count es);
-      shown = r.shown;
-      part = record { points = omega arith; lows = λ i w. last-later net.lows low sum i later; caps = refl; edges = fewer-edges net.edges es r.count };
+      late = with_edges (with_point net low cap) es;
+      shown = shown;
+      part = record { points = omega arith; lows = λ i w. last-later net.lows low sum i later; caps = refl; edges = All-contains_itself (net.edges ++ es) };
     }

@@ -41,10 +41,10 @@ use Rattle.tp_placing.specs.Standing.{AreCaused, choices_of, IsAtWith, IsAtHand,
 use Rattle.tp_placing.specs.Boards.{BoardValue, suffix_after}
 use Rattle.tp_placing.specs.Calls.{CanPlace}
 use Rattle.tp_placing.specs.Reasons.{IsReason, IsShown}
-use Rattle.tp_placing.specs.Trying.{CanRequire, IsRefused}
+use Rattle.tp_base.specs.Grows.{IsKnown}
 use Rattle.tp_placing.proofs.BoardFacts.{steps-room}
 use Rattle.tp_placing.proofs.CauseFacts.{AreMade, Keeps, caused-kept, caused-more, hops-more, keeps-around}
-use Rattle.tp_placing.proofs.PartFacts.{shown-edges}
+use Rattle.tp_placing.proofs.PartFacts.{shown-whole}
 use Rattle.tp_placing.proofs.StandFacts.{some-and, at-suffix}
 use Rattle.tp_placing.proofs.NeighbourFacts.{two-neighbours, can-neighbours, slots-known}
 use Rattle.tp_placing.proofs.SlotFacts.{length-slots, neighbour-gaps, slots-grown-held, slots-insert}
@@ -63,7 +63,7 @@ total-more lines r place id h w =
     let l = length-insert (order_on lines r) place id w in
     omega arith
 
-pub edges-of : (points : List Spot) (es : List Edge) → All (CanRequire (length points)) es → All (IsEdgeOf points) es
+pub edges-of : (points : List Spot) (es : List Edge) → All (IsKnown (length points)) es → All (IsEdgeOf points) es
 edges-of points es can = λ k d w. ((can k d w).from, (can k d w).to)
 
 -- ---- the suffix with a newest choice c, and one place more
@@ -282,15 +282,15 @@ module _ {N : Type 0} (net : N → Net) (b : BoardValue N) (m : Machine) (ask : 
   lows-points : length (net b.net).lows ≡ length points
   lows-points = ap length p.at.net.lows ∙ length-map points (suffix_low m b.plans ask suffix_here)
 
-  pub can-points : All (CanRequire (length points)) edges_here
+  pub can-points : All (IsKnown (length points)) edges_here
   can-points = can-neighbours (gap_at m rule.resource.0) points b.held order_here (order_in m b.plans suffix_here rule.resource.0) place h (step_tag (length b.steps)) slots-here p.at.small (record {
     start = slice_get_within points h.start.0 _ start-here;
     end = slice_get_within points h.end.0 _ end-here;
     small = subst HasSmallOffsets (sym rule_is) offsets;
   }) ((is_machine m).gaps rule.resource.0)
 
-  pub can-here : All (CanRequire (length (net b.net).lows)) edges_here
-  can-here = subst (λ k. All (CanRequire k) edges_here) (sym lows-points) can-points
+  pub can-here : All (IsKnown (length (net b.net).lows)) edges_here
+  can-here = subst (λ k. All (IsKnown k) edges_here) (sym lows-points) can-points
 
   pub refused-here : PlaceNet → BoardLate → HasNoSolution (with_edges (net b.net) edges_here) → (t : Ticks) → ¬ SuffixTimes m b.plans ask (with_place place suffix_here) t
   refused-here place_net late none =
@@ -327,9 +327,9 @@ module _ {N : Type 0} (net : N → Net) (b : BoardValue N) (m : Machine) (ask : 
     shown = shown;
   }
 
-  pub reason-here : (refutes : N → Net → Type 0) (k : N) → PlaceNet → PlaceHops → ArePlain b.causes → AreCaused m b.plans ask b.causes b.steps (net b.net) → IsRefused refutes k (net b.net) edges_here
+  pub reason-here : (refutes : N → Net → Type 0) (k : N) → PlaceNet → PlaceHops → ArePlain b.causes → AreCaused m b.plans ask b.causes b.steps (net b.net) → refutes k (with_edges (net b.net) edges_here)
       → IsReason refutes (record b { net = k; causes = causes_here; limit = None }) m ask (with_place place suffix_here)
-  reason-here refutes k place_net law plain caused refused = reason-shown refutes k place_net law plain caused (shown-edges refutes k (net b.net) edges_here refused)
+  reason-here refutes k place_net law plain caused refused = reason-shown refutes k place_net law plain caused (shown-whole refutes k (with_edges (net b.net) edges_here) refused)
 
   pub caused-here : PlaceHops → ArePlain b.causes → AreCaused m b.plans ask b.causes b.steps (net b.net) → (s : Step) → suffix_after (b.steps ++ s ∷ []) ≡ Some (with_place place suffix_here)
       → AreCaused m b.plans ask causes_here (b.steps ++ s ∷ []) (with_edges (net b.net) edges_here)

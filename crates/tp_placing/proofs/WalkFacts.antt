@@ -28,7 +28,8 @@ use Rattle.tp_placing.specs.Causes.{ArePlain, IsNamedHop, step_tag}
 use Rattle.tp_placing.specs.Edges.{edge_after, edge_until, edges_around, edges_back, hold_edge, held_before, held_behind}
 use Rattle.tp_placing.specs.Reasons.{IsReason}
 use Rattle.tp_placing.specs.Standing.{AreCaused, HasSmallOffsets, IsAtWith, choices_of, table_with}
-use Rattle.tp_placing.specs.Trying.{CanRequire, IsRefused}
+use Rattle.tp_base.specs.Grows.{IsKnown}
+use Rattle.tp_placing.specs.Walking.{IsRefused}
 use Rattle.tp_placing.specs.Walking.{IsPartReason}
 use Rattle.tp_placing.proofs.CauseFacts.{AreMade, IsSafeTag, behind-around, hops-more, length-around}
 use Rattle.tp_placing.proofs.NeighbourFacts.{can-neighbours}
@@ -80,8 +81,8 @@ module _ {N : Type 0} (net : N → Net) (b : BoardValue N) (m : Machine) (ask : 
   back = swapped after until
 
   -- as with the edges in the other order
-  pub can-back : All (CanRequire (length (net b.net).lows)) edges_back_here
-  can-back = all-by (CanRequire (length (net b.net).lows)) edges_back_here around there (can-here net b m ask newest act rule hold place p h known resource four rule_is start_is end_is offsets)
+  pub can-back : All (IsKnown (length (net b.net).lows)) edges_back_here
+  can-back = all-by (IsKnown (length (net b.net).lows)) edges_back_here around there (can-here net b m ask newest act rule hold place p h known resource four rule_is start_is end_is offsets)
 
   pub refused-back : PlaceNet → BoardLate → HasNoSolution (with_edges (net b.net) edges_back_here) → (t : Ticks) → ¬ SuffixTimes m b.plans ask (with_place place (suffix_here net b m ask newest act rule hold place p h known resource four rule_is start_is end_is offsets)) t
   refused-back place_net late none = refused-here net b m ask newest act rule hold place p h known resource four rule_is start_is end_is offsets place_net late (none-there (net b.net) around edges_back_here there none)

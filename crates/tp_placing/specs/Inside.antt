@@ -77,7 +77,7 @@ pub record HasRoom (point_room edge_room : ℕ) (lines : Orders) (held : Vec Hel
   pub steps_space : most_steps ≤ vec_capacity steps
   pub plan_space : most_plans ≤ vec_capacity plans
   pub first_space : most_plans ≤ vec_capacity firsts
-  pub edge_space : most_plans ≤ vec_capacity made
+  pub edge_space : most_edges ≤ vec_capacity made
 
 pub record IsBoard (pasts mark_room point_room edge_room : ℕ) (lines : Orders) (held : Vec Held Global) (begins : Vec Begin Global) (plans : Vec Plan Global) (firsts : Vec PointId Global) (steps : Vec Step Global)
     (marks : Vec BoardMark Global) (made : Vec Edge Global) (made_for : MadeFor) : Type 0 where

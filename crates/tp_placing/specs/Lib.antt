@@ -6,7 +6,6 @@ pub mod Inside
 pub mod Ticks
 pub mod Loading
 pub mod LoadedHolds
-pub mod Trying
 pub mod Laws
 pub mod Standing
 pub mod Writing

@@ -1,6 +1,6 @@
 -- The network of a loaded schedule: its points one plan after another, and an edge for each of its gaps.
 use Rattle.std.specs.Prelude.{◌≡◌, ℕ, zero, suc, ◌+◌, ◌<◌, ◌≤◌, false, List, [], ◌∷◌, ◌++◌, flat_map, length, pos, Option, Some, None, slice_get, All, if◌then◌else◌}
-use Rattle.tp_base.specs.Net.{Net, IsSolution, HasLeast, with_edges}
+use Rattle.tp_base.specs.Net.{Net}
 use Rattle.tp_base.specs.declared.edges.Edge.{Edge}
 use Rattle.tp_base.specs.declared.edges.PointId.{PointId}
 use Rattle.tp_machine.specs.Modes.{gap_at}
@@ -17,7 +17,6 @@ use Rattle.tp_placing.specs.Causes.{line_tag, cause_between}
 use Rattle.tp_placing.specs.declared.causes.Cause.{Cause}
 use Rattle.tp_placing.specs.declared.parts.Held.{Held}
 use Rattle.tp_placing.specs.Edges.{edge_of, duration_edges, hold_edge}
-use Rattle.tp_placing.specs.Trying.{CanRequire}
 
 abbrev pub point_id : ℕ → PointId
 point_id n = record { 0 = n }
@@ -119,10 +118,3 @@ chain_edges gap tag (x ∷ y ∷ ys) = hold_edge gap x y tag ∷ chain_edges gap
 abbrev pub chains_edges : Machine → ℕ → (ℕ → List Held) → ℕ → List Edge
 chains_edges machine tag orders zero = []
 chains_edges machine tag orders (suc n) = chain_edges (gap_at machine n) tag (orders n) ++ chains_edges machine (tag + length (chain_causes (orders n))) orders n
-
--- edges for which there is room, and that some solution of the net keeps
-pub record AreAddable (room : ℕ) (net : Net) (es : List Edge) : Type 0 where
-  pub can : All (CanRequire (length net.lows)) es
-  pub spare : length net.edges + length es ≤ room
-  pub solution : (x : ℕ → ℕ) × IsSolution (with_edges net es) x
-  pub least : HasLeast net

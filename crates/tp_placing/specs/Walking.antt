@@ -1,6 +1,7 @@
 -- Where a hold that is tried at a place has no times, what shows it, and what stands until it is taken back.
 use Rattle.std.specs.Prelude.{◌≡◌, ℕ, suc, ◌≤◌, List, length, take, slice_get, Some, None, All, IsSomeAnd}
-use Rattle.tp_base.specs.Net.{Net}
+use Rattle.tp_base.specs.Net.{Net, with_edges}
+use Rattle.tp_base.specs.declared.edges.Edge.{Edge}
 use Rattle.tp_machine.specs.declared.whole.Machine.{Machine}
 use Rattle.tp_schedule.specs.Spots.{Ticks}
 use Rattle.tp_schedule.specs.declared.parts.Ask.{Ask}
@@ -10,6 +11,12 @@ use Rattle.tp_placing.specs.Boards.{BoardValue, aside_of, content_of, past_of}
 use Rattle.tp_placing.specs.Causes.{IsNamedHop}
 use Rattle.tp_placing.specs.Reasons.{IsPart}
 use Rattle.tp_placing.specs.Standing.{Stands, table_with}
+
+-- what is kept of a refusal shows that the net has no solution with the first few of the edges
+pub record IsRefused {N : Type 0} (refutes : N → Net → Type 0) (n : N) (net : Net) (es : List Edge) : Type 0 where
+  pub count : ℕ
+  pub within : count ≤ length es
+  pub shown : refutes n (with_edges net (take count es))
 
 -- taken back to a mark, the board stands on the machine
 abbrev pub StandsBack : {N C A : Type 0} → (N → Net) → (N → C) → (N → List C) → (N → A) → BoardValue N → Machine → Type 0

@@ -72,24 +72,29 @@ fn add_back<N: Network>(points: &mut Points, net: &N, first: PointId, count: u32
     }
 }
 
-/// The asked copy's plan by the steps, at its least times. So many actions were opened, the first of which starts at this
-/// point.
+/// The own actions of the asked copy: how many were opened, and the point where the newest of them starts.
+#[derive(Clone, Copy)]
+pub(crate) struct OwnActs {
+    pub(crate) count: u32,
+    pub(crate) start: PointId,
+}
+
+/// The asked copy's plan by the steps, which opened these actions, at its least times.
 pub(crate) fn plan_by_steps<N: Network>(
     net: &N,
     plans: &[Plan],
     firsts: &[PointId],
     ask: &Ask,
     steps: &[Step],
-    first: PointId,
-    count: u32,
+    own: OwnActs,
 ) -> Plan
     requires firsts { AreFirsts 0 plans.now firsts.now }
     requires kept { length (kept_acts ask.now.sheet plans.now) ≡ kept_of ask.now }
-    requires few { kept_of ask.now + count ≤ 64 }
-    requires some { 0 < count }
-    requires opened { IsSomeAnd (suffix_after steps.now) (λ x. length x.choices ≡ count) }
-    requires first { first.0 ≡ length (table_of plans.now) + count }
-    requires known { first.0 < length (N.net net.now).lows }
+    requires few { kept_of ask.now + own.count ≤ 64 }
+    requires some { 0 < own.count }
+    requires opened { IsSomeAnd (suffix_after steps.now) (λ x. length x.choices ≡ own.count) }
+    requires start { own.start.0 ≡ length (table_of plans.now) + own.count }
+    requires known { own.start.0 < length (N.net net.now).lows }
     ensures plan { (t : Ticks) (x : Suffix) → suffix_after steps.now ≡ Some x
         → AreLeastTicks (N.net net.now) (board_table plans.now (Some x)) t → result
         ≡ timed_by (settled_ticks ask.entry.now (total_of ask.entry.now x.choices) t)
@@ -99,9 +104,9 @@ pub(crate) fn plan_by_steps<N: Network>(
 {
     let mut acts = acts_so_far(plans, ask.sheet);
     let released = acts.len();
-    add_opened(&mut acts, steps, released + count);
+    add_opened(&mut acts, steps, released + own.count);
     let mut points = starts_so_far(net, plans, firsts, ask.sheet);
-    add_back(&mut points, net, first, count);
+    add_back(&mut points, net, own.start, own.count);
     Plan {
         sheet: ask.sheet,
         name: ask.name,

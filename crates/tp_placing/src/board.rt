@@ -26,7 +26,7 @@ pub struct Board<N: Network> {
     pub(crate) steps: Vec<Step>,
     pub(crate) marks: Vec<BoardMark>,
     pub(crate) made_for: MadeFor,
-    /// Where the edges of one step are made.
+    /// Where the edges of one step are made, and those of a schedule.
     pub(crate) edges: Vec<Edge>,
     /// Why the edges of the network stand, by their tags.
     pub(crate) causes: Causes,

@@ -7,7 +7,7 @@ ghost use Rattle.tp_placing.specs.Standing.{Stands};
 ghost use Rattle.tp_placing.specs.Ticks.{HasLeastTick};
 ghost use Rattle.tp_placing.specs.Writing.{CanCommit, IsLoadedFrom};
 
-use crate::asked::plan_by_steps;
+use crate::asked::{OwnActs, plan_by_steps};
 use crate::board::Board;
 use crate::writing::{write_plan, write_times};
 use tp_base::Network;
@@ -39,17 +39,12 @@ impl<N: Network> Board<N> {
     {
         let Some(ask) = self.ask else { unreachable!() };
         let newest = self.steps[self.steps.len() - 1];
-        let count = newest.first.0 - self.last.0;
+        let own = OwnActs {
+            count: newest.first.0 - self.last.0,
+            start: newest.first,
+        };
         write_times(&self.net, &self.plans, &self.firsts, schedule);
-        let plan = plan_by_steps(
-            &self.net,
-            &self.plans,
-            &self.firsts,
-            &ask,
-            &self.steps,
-            newest.first,
-            count,
-        );
+        let plan = plan_by_steps(&self.net, &self.plans, &self.firsts, &ask, &self.steps, own);
         write_plan(schedule, plan);
     }
 }

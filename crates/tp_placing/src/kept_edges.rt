@@ -1,89 +1,62 @@
-//! The edges of a schedule that is loaded. Its own ticks keep them, so none is refused.
-ghost use Rattle.std.specs.Prelude.{◌≡◌, ◌+◌, ◌<◌, ◌^◌, length, IfSome};
-ghost use Rattle.tp_base.specs.Net.{HasLeast, with_edges};
+//! The edges of a schedule that is loaded, which its own ticks keep: the durations of its actions, and the order in which the
+//! plans of a line end.
+ghost use Rattle.std.specs.Prelude.{◌≡◌, ◌+◌, ◌<◌, ◌≤◌, ◌^◌, ◌++◌, length, vec_len, vec_capacity};
 ghost use Rattle.tp_machine.specs.Using.{action_at};
 ghost use Rattle.tp_constraints.specs.Gaps.{is_same_line};
-ghost use Rattle.tp_placing.specs.Loading.{AreAddable, act_edges, acts_edges, line_edge, lines_edges, next_end, plans_edges, point_count};
+ghost use Rattle.tp_placing.specs.Loading.{act_edges, acts_edges, line_edge, lines_edges, next_end, plans_edges, point_count};
 
 use crate::causes::LINE;
 use crate::edges::{edge_between, lasting};
 use crate::lining::goes_along;
-use crate::trying::add_each;
-use tp_base::{Edge, Late, Network, PointId};
+use tp_base::{Edge, PointId};
 use tp_machine::{ActId, Machine};
 use tp_schedule::{Kind, Plan};
 
-/// Requires edges that a solution keeps.
-pub(crate) fn add_kept<N: Network>(net: &mut N, edges: &[Edge])
-    requires can { AreAddable (N.edge_room net.old) (N.net net.old) edges.now }
-    ensures added { N.net net.new ≡ with_edges (N.net net.old) edges.now }
-    ensures solved { HasLeast (N.net net.new) }
-    ensures past { N.past net.new ≡ N.past net.old }
-    ensures marks { N.mark_room net.new ≡ N.mark_room net.old }
-    ensures points { N.point_room net.new ≡ N.point_room net.old }
-    ensures edges { N.edge_room net.new ≡ N.edge_room net.old }
-{
-    match add_each(net, edges) {
-        Ok(()) => {}
-        Err(Late) => unreachable!(),
-    }
-}
-
 /// Adds the duration of an action that starts at the point.
-fn add_act<N: Network>(net: &mut N, machine: &Machine, from: u32, act: ActId)
-    requires can { AreAddable (N.edge_room net.old) (N.net net.old)
-        (act_edges (action_at machine.now act.0) from) }
+fn add_act(edges: &mut Vec<Edge>, machine: &Machine, from: u32, act: ActId)
+    requires space { vec_len edges.old + length (act_edges (action_at machine.now act.0) from)
+        ≤ vec_capacity edges.old }
     requires fits { from + 1 < 2 ^ 32 }
-    ensures added { N.net net.new
-        ≡ with_edges (N.net net.old) (act_edges (action_at machine.now act.0) from) }
-    ensures solved { HasLeast (N.net net.new) }
-    ensures past { N.past net.new ≡ N.past net.old }
-    ensures marks { N.mark_room net.new ≡ N.mark_room net.old }
-    ensures points { N.point_room net.new ≡ N.point_room net.old }
-    ensures edges { N.edge_room net.new ≡ N.edge_room net.old }
+    ensures added { edges.new.items
+        ≡ edges.old.items ++ act_edges (action_at machine.now act.0) from }
+    ensures space { vec_capacity edges.old ≤ vec_capacity edges.new }
 {
     match machine.actions.as_slice().get(usize::from(act.0)) {
-        Some(action) => add_kept(net, &lasting(action, PointId(from), PointId(from + 1))),
+        Some(action) => {
+            let [forward, back] = lasting(action, PointId(from), PointId(from + 1));
+            edges.push_reserved(forward);
+            edges.push_reserved(back);
+        }
         None => {}
     }
 }
 
 /// Adds the durations of actions, of which the first starts at the point.
-fn add_acts<N: Network>(net: &mut N, machine: &Machine, from: u32, acts: &[ActId])
-    requires can { AreAddable (N.edge_room net.old) (N.net net.old)
-        (acts_edges machine.now from acts.now) }
+fn add_acts(edges: &mut Vec<Edge>, machine: &Machine, from: u32, acts: &[ActId])
+    requires space { vec_len edges.old + length (acts_edges machine.now from acts.now)
+        ≤ vec_capacity edges.old }
     requires fits { from + length acts.now < 2 ^ 32 }
-    ensures added { N.net net.new
-        ≡ with_edges (N.net net.old) (acts_edges machine.now from acts.now) }
-    ensures solved { HasLeast (N.net net.new) }
-    ensures past { N.past net.new ≡ N.past net.old }
-    ensures marks { N.mark_room net.new ≡ N.mark_room net.old }
-    ensures points { N.point_room net.new ≡ N.point_room net.old }
-    ensures edges { N.edge_room net.new ≡ N.edge_room net.old }
+    ensures added { edges.new.items ≡ edges.old.items ++ acts_edges machine.now from acts.now }
+    ensures space { vec_capacity edges.old ≤ vec_capacity edges.new }
 {
     let mut start = from;
     for act in acts {
-        add_act(net, machine, start, *act);
+        add_act(edges, machine, start, *act);
         start += 1;
     }
 }
 
 /// Adds the durations of plans, whose points stand one plan after another.
-pub(crate) fn add_durations<N: Network>(net: &mut N, machine: &Machine, plans: &[Plan])
-    requires can { AreAddable (N.edge_room net.old) (N.net net.old)
-        (plans_edges machine.now 0 plans.now) }
+pub(crate) fn add_durations(edges: &mut Vec<Edge>, machine: &Machine, plans: &[Plan])
+    requires space { vec_len edges.old + length (plans_edges machine.now 0 plans.now)
+        ≤ vec_capacity edges.old }
     requires fits { point_count plans.now < 2 ^ 32 }
-    ensures added { N.net net.new
-        ≡ with_edges (N.net net.old) (plans_edges machine.now 0 plans.now) }
-    ensures solved { HasLeast (N.net net.new) }
-    ensures past { N.past net.new ≡ N.past net.old }
-    ensures marks { N.mark_room net.new ≡ N.mark_room net.old }
-    ensures points { N.point_room net.new ≡ N.point_room net.old }
-    ensures edges { N.edge_room net.new ≡ N.edge_room net.old }
+    ensures added { edges.new.items ≡ edges.old.items ++ plans_edges machine.now 0 plans.now }
+    ensures space { vec_capacity edges.old ≤ vec_capacity edges.new }
 {
     let mut first = 0;
     for plan in plans {
-        add_acts(net, machine, first, plan.acts.as_slice());
+        add_acts(edges, machine, first, plan.acts.as_slice());
         first = first + plan.acts.len() + 1;
     }
 }
@@ -112,37 +85,30 @@ fn end_of_next(plan: &Plan, from: u32, later: &[Plan]) -> Option<PointId>
 }
 
 /// Adds that a plan ends before the next one of its line, if there is one.
-fn add_line<N: Network>(net: &mut N, end: PointId, next: Option<PointId>)
-    requires can { AreAddable (N.edge_room net.old) (N.net net.old) (line_edge end next) }
-    ensures added { N.net net.new ≡ with_edges (N.net net.old) (line_edge end next) }
-    ensures solved { HasLeast (N.net net.new) }
-    ensures past { N.past net.new ≡ N.past net.old }
-    ensures marks { N.mark_room net.new ≡ N.mark_room net.old }
-    ensures points { N.point_room net.new ≡ N.point_room net.old }
-    ensures edges { N.edge_room net.new ≡ N.edge_room net.old }
+fn add_line(edges: &mut Vec<Edge>, end: PointId, next: Option<PointId>)
+    requires space { vec_len edges.old + length (line_edge end next) ≤ vec_capacity edges.old }
+    ensures added { edges.new.items ≡ edges.old.items ++ line_edge end next }
+    ensures space { vec_capacity edges.old ≤ vec_capacity edges.new }
 {
     match next {
-        Some(next) => add_kept(net, &[edge_between(end, next, 1, LINE)]),
+        Some(next) => edges.push_reserved(edge_between(end, next, 1, LINE)),
         None => {}
     }
 }
 
 /// Adds that plans end before the next ones of their lines.
-pub(crate) fn add_lines<N: Network>(net: &mut N, plans: &[Plan])
-    requires can { AreAddable (N.edge_room net.old) (N.net net.old) (lines_edges 0 plans.now) }
+pub(crate) fn add_lines(edges: &mut Vec<Edge>, plans: &[Plan])
+    requires space { vec_len edges.old + length (lines_edges 0 plans.now)
+        ≤ vec_capacity edges.old }
     requires fits { point_count plans.now < 2 ^ 32 }
-    ensures added { N.net net.new ≡ with_edges (N.net net.old) (lines_edges 0 plans.now) }
-    ensures solved { HasLeast (N.net net.new) }
-    ensures past { N.past net.new ≡ N.past net.old }
-    ensures marks { N.mark_room net.new ≡ N.mark_room net.old }
-    ensures points { N.point_room net.new ≡ N.point_room net.old }
-    ensures edges { N.edge_room net.new ≡ N.edge_room net.old }
+    ensures added { edges.new.items ≡ edges.old.items ++ lines_edges 0 plans.now }
+    ensures space { vec_capacity edges.old ≤ vec_capacity edges.new }
 {
     let mut first = 0;
     for (at, plan) in plans.iter().enumerate() {
         let end = first + plan.acts.len();
         let next = end_of_next(plan, end + 1, &plans[at + 1..]);
-        add_line(net, PointId(end), next);
+        add_line(edges, PointId(end), next);
         first = end + 1;
     }
 }

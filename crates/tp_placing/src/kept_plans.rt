@@ -1,26 +1,27 @@
 //! A schedule's live plans as a network with orders.
-ghost use Rattle.std.specs.Prelude.{◌≡◌, ℕ, ◌+◌, ◌<◌, ◌≤◌, ◌^◌, ◌++◌, [], length, filter, vec_capacity};
-ghost use Rattle.tp_base.specs.Net.{HasLeast, with_edges};
+ghost use Rattle.std.specs.Prelude.{◌≡◌, ℕ, ◌+◌, ◌<◌, ◌≤◌, ◌^◌, ◌++◌, [], None, length, filter, vec_len, vec_capacity};
 ghost use Rattle.tp_schedule.specs.Living.{is_live};
 ghost use Rattle.tp_timelines.specs.Orders.{order_on};
+ghost use Rattle.tp_placing.specs.Boards.{past_of};
 ghost use Rattle.tp_placing.specs.Causes.{most_causes, step_causes};
-ghost use Rattle.tp_placing.specs.Inside.{most_edges, most_holds, most_plans, most_points};
 ghost use Rattle.tp_placing.specs.Loaded.{CanLoad, IsLoaded, all_edges};
-ghost use Rattle.tp_placing.specs.Loading.{AreAddable, AreIds, chains_causes, holds_on, point_count};
+ghost use Rattle.tp_placing.specs.Loading.{AreIds, chains_causes, holds_on, point_count};
+ghost use Rattle.tp_placing.specs.Standing.{IsMadeFor};
 
+use crate::board::Board;
 use crate::causes::Causes;
 use crate::kept_chains::add_chains;
 use crate::kept_edges::{add_durations, add_lines};
 use crate::kept_holds::put_plans;
 use crate::kept_points::add_points;
-use crate::parts::{Begin, Held};
-use tp_base::{Network, PointId, Tick, Undo};
+use crate::parts::Held;
+use tp_base::{Edge, Network, PointId, Tick};
 use tp_machine::Machine;
 use tp_schedule::{Plan, Schedule, is_plan_live};
 use tp_timelines::Timelines;
 
 /// Copies the plans that are live at the moment.
-pub(crate) fn keep_live(plans: &mut Vec<Plan>, machine: &Machine, schedule: &Schedule, now: Tick)
+fn keep_live(plans: &mut Vec<Plan>, machine: &Machine, schedule: &Schedule, now: Tick)
     requires space { length (filter (is_live machine.now now) schedule.now.plans)
         ≤ vec_capacity plans.old }
     ensures plans { plans.new.items ≡ filter (is_live machine.now now) schedule.now.plans }
@@ -38,17 +39,19 @@ pub(crate) fn keep_live(plans: &mut Vec<Plan>, machine: &Machine, schedule: &Sch
     }
 }
 
-/// Adds an edge for each gap of the plans.
-fn add_edges<N: Network>(
-    net: &mut N,
+/// Adds an edge for each gap of the plans. The durations come first, plan by plan, so that a network that follows the edges in
+/// this order comes to most points after those that they depend on.
+fn add_edges(
+    edges: &mut Vec<Edge>,
     causes: &mut Causes,
     lines: &Timelines,
     held: &[Held],
     machine: &Machine,
     plans: &[Plan],
 )
-    requires can { AreAddable (N.edge_room net.old) (N.net net.old)
-        (all_edges machine.now plans.now lines.now.orders held.now) }
+    requires space { vec_len edges.old
+        + length (all_edges machine.now plans.now lines.now.orders held.now)
+        ≤ vec_capacity edges.old }
     requires causes { length causes.old ≡ step_causes }
     requires room { step_causes
         + length (chains_causes (holds_on held.now lines.now.orders) (length machine.now.resources))
@@ -57,63 +60,69 @@ fn add_edges<N: Network>(
     requires resources { length lines.now.orders ≡ length machine.now.resources }
     requires ids { (resource : ℕ) → resource < length lines.now.orders
         → AreIds held.now (order_on lines.now.orders resource) }
-    ensures added { N.net net.new
-        ≡ with_edges (N.net net.old) (all_edges machine.now plans.now lines.now.orders held.now) }
+    ensures added { edges.new.items
+        ≡ edges.old.items ++ all_edges machine.now plans.now lines.now.orders held.now }
     ensures causes { causes.new ≡ causes.old
         ++ chains_causes (holds_on held.now lines.now.orders) (length machine.now.resources) }
-    ensures solved { HasLeast (N.net net.new) }
-    ensures past { N.past net.new ≡ N.past net.old }
-    ensures marks { N.mark_room net.new ≡ N.mark_room net.old }
-    ensures points { N.point_room net.new ≡ N.point_room net.old }
-    ensures edges { N.edge_room net.new ≡ N.edge_room net.old }
+    ensures space { vec_capacity edges.old ≤ vec_capacity edges.new }
 {
-    add_durations(net, machine, plans);
-    add_lines(net, plans);
-    add_chains(net, causes, lines, held, machine, machine.resources.len());
+    add_durations(edges, machine, plans);
+    add_lines(edges, plans);
+    add_chains(edges, causes, lines, held, machine, machine.resources.len());
 }
 
-/// Leaves nothing but the live plans in the network and the orders. Answers how many points there are.
-pub(crate) fn load_plans<N: Network>(
-    net: &mut N,
-    causes: &mut Causes,
-    lines: &mut Timelines,
-    held: &mut Vec<Held>,
-    begins: &mut Vec<Begin>,
-    firsts: &mut Vec<PointId>,
-    plans: &[Plan],
-    machine: &Machine,
-    now: Tick,
-) -> u32
-    requires can { CanLoad machine.now now plans.now }
-    requires points { most_points ≤ N.point_room net.old }
-    requires edges { most_edges ≤ N.edge_room net.old }
-    requires resources { length lines.old.orders ≡ length machine.now.resources }
-    requires holds { most_holds ≤ lines.old.hold_room }
-    requires hold_space { most_holds ≤ vec_capacity held.old }
-    requires begin_space { most_holds ≤ vec_capacity begins.old }
-    requires first_space { most_plans ≤ vec_capacity firsts.old }
-    ensures loaded { IsLoaded machine.now now plans.now
-        (N.net net.new) lines.new.orders held.new.items firsts.new.items causes.new }
-    ensures count { result ≡ point_count plans.now }
-    ensures past { N.past net.new ≡ [] }
-    ensures marks { N.mark_room net.new ≡ N.mark_room net.old }
-    ensures points { N.point_room net.new ≡ N.point_room net.old }
-    ensures edges { N.edge_room net.new ≡ N.edge_room net.old }
-    ensures resources { length lines.new.orders ≡ length lines.old.orders }
-    ensures line_past { lines.new.past ≡ [] }
-    ensures line_holds { lines.new.hold_room ≡ lines.old.hold_room }
-    ensures line_marks { lines.new.mark_room ≡ lines.old.mark_room }
-    ensures hold_space { vec_capacity held.old ≤ vec_capacity held.new }
-    ensures begin_space { vec_capacity begins.old ≤ vec_capacity begins.new }
-    ensures first_space { vec_capacity firsts.old ≤ vec_capacity firsts.new }
-{
-    net.clear();
-    causes.clear();
-    lines.clear();
-    held.clear();
-    firsts.clear();
-    let points = add_points(net, firsts, plans, now + machine.lead, now + machine.window);
-    put_plans(lines, held, begins, plans, firsts.as_slice(), machine);
-    add_edges(net, causes, lines, held.as_slice(), machine, plans);
-    points
+impl<N: Network> Board<N> {
+    /// Holds the schedule's live plans from now on and nothing else, to be asked nothing. Their own ticks keep each edge, so
+    /// that the network takes all of them at once.
+    pub(crate) fn load_live(&mut self, machine: &Machine, schedule: &Schedule, now: Tick)
+        requires made { IsMadeFor self.old.made_for machine.now }
+        requires can { CanLoad machine.now now
+            (filter (is_live machine.now now) schedule.now.plans) }
+        ensures made { self.new.made_for ≡ self.old.made_for }
+        ensures plans { self.new.plans ≡ filter (is_live machine.now now) schedule.now.plans }
+        ensures loaded { IsLoaded machine.now now self.new.plans (N.net self.new.net)
+            self.new.orders.orders self.new.held self.new.firsts self.new.causes }
+        ensures last { self.new.last.0 ≡ point_count self.new.plans }
+        ensures asked { self.new.ask ≡ None }
+        ensures closed { self.new.steps ≡ [] }
+        ensures past { past_of N.past self.new ≡ [] }
+        ensures marks { N.mark_room self.new.net ≡ N.mark_room self.old.net }
+    {
+        keep_live(&mut self.plans, machine, schedule, now);
+        self.net.clear();
+        self.causes.clear();
+        self.lines.clear();
+        self.held.clear();
+        self.firsts.clear();
+        self.edges.clear();
+        let points = add_points(
+            &mut self.net,
+            &mut self.firsts,
+            &self.plans,
+            now + machine.lead,
+            now + machine.window,
+        );
+        put_plans(
+            &mut self.lines,
+            &mut self.held,
+            &mut self.begins,
+            &self.plans,
+            &self.firsts,
+            machine,
+        );
+        add_edges(
+            &mut self.edges,
+            &mut self.causes,
+            &self.lines,
+            &self.held,
+            machine,
+            &self.plans,
+        );
+        self.net.load(&self.edges);
+        self.last = PointId(points);
+        self.ask = None;
+        self.steps.clear();
+        self.marks.clear();
+        self.limit = None;
+    }
 }

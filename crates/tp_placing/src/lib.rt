@@ -25,7 +25,6 @@ mod parts;
 mod reading;
 mod reasons;
 mod settling;
-mod trying;
 mod undoing;
 mod walking;
 mod writing;

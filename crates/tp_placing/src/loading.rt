@@ -1,4 +1,4 @@
-ghost use Rattle.std.specs.Prelude.{◌≡◌, ◌+◌, ◌<◌, ◌^◌, [], length, filter, Some};
+ghost use Rattle.std.specs.Prelude.{◌≡◌, ◌+◌, ◌<◌, ◌^◌, [], filter, Some};
 ghost use Rattle.tp_schedule.specs.Choices.{start_floor};
 ghost use Rattle.tp_schedule.specs.Living.{is_live};
 ghost use Rattle.tp_schedule.specs.Planning.{CanAsk};
@@ -6,8 +6,7 @@ ghost use Rattle.tp_placing.specs.Boards.{past_of};
 ghost use Rattle.tp_placing.specs.Standing.{IsMadeFor, Stands};
 
 use crate::board::Board;
-use crate::kept_plans::{keep_live, load_plans};
-use tp_base::{Network, PointId, Tick};
+use tp_base::{Network, Tick};
 use tp_machine::Machine;
 use tp_schedule::{Ask, Origin, Schedule};
 
@@ -37,24 +36,9 @@ impl<N: Network> Board<N> {
         ensures past { past_of N.past self.new ≡ [] }
         ensures marks { N.mark_room self.new.net ≡ N.mark_room self.old.net }
     {
-        keep_live(&mut self.plans, machine, schedule, ask.now);
-        let points = load_plans(
-            &mut self.net,
-            &mut self.causes,
-            &mut self.lines,
-            &mut self.held,
-            &mut self.begins,
-            &mut self.firsts,
-            self.plans.as_slice(),
-            machine,
-            ask.now,
-        );
-        self.last = PointId(points);
+        self.load_live(machine, schedule, ask.now);
         self.floor = start_floor(machine, ask);
         self.horizon = ask.now + machine.window;
         self.ask = Some(*ask);
-        self.steps.clear();
-        self.marks.clear();
-        self.limit = None;
     }
 }

@@ -18,6 +18,9 @@ const STEPS: usize = 330;
 
 const HOLDS: u32 = 66000;
 
+/// How many edges there can be.
+const EDGES: usize = 100000;
+
 impl<N: Network + Drop> Board<N> {
     /// Takes all the memory that the board will ever hold beside its network, which was made for at least 16,642 points,
     /// 100,000 edges and 330 marks. The board is for machines with the same numbers of locations and resources and the same
@@ -53,7 +56,7 @@ impl<N: Network + Drop> Board<N> {
             steps: Vec::with_capacity(alloc, STEPS)?,
             marks: Vec::with_capacity(alloc, marks as usize)?,
             made_for,
-            edges: Vec::with_capacity(alloc, PLANS)?,
+            edges: Vec::with_capacity(alloc, EDGES)?,
             causes: Causes::new(alloc)?,
             limit: None,
         })

@@ -13,7 +13,6 @@ use crate::finding::point_of;
 use crate::lining::line_edges;
 use crate::neighbours::{neighbour_edges, neighbours_of, note_neighbours};
 use crate::parts::{Change, Held, Step};
-use crate::trying::{extend_all, require_all};
 use tp_base::{Late, Network, PointId};
 use tp_constraints::{gaps_are_hops, solutions_are_ticks, steps_add_edges};
 use tp_machine::{ActId, Machine, gap_at};
@@ -112,7 +111,7 @@ impl<N: Network> Board<N> {
         note_neighbours(&mut self.causes, &neighbours, &new, tag);
         let gap = gap_at(machine, new.rule.resource);
         neighbour_edges(&mut self.edges, &neighbours, &new, gap, tag);
-        match require_all(&mut self.net, &self.edges) {
+        match self.net.require_all(&self.edges) {
             Ok(()) => {}
             Err(Late) => return Err(Late),
         }
@@ -167,7 +166,7 @@ impl<N: Network> Board<N> {
         let start = PointId(newest.first.0 + 1);
         let low = lowest(self.floor, room, self.horizon);
         let edges = lasting(machine.actions.get(act.0 as u32), start, newest.first);
-        match extend_all(&mut self.net, low, self.horizon, &edges) {
+        match self.net.extend(low, self.horizon, &edges) {
             Ok(()) => {}
             Err(Late) => return Err(Late),
         }
@@ -211,7 +210,7 @@ impl<N: Network> Board<N> {
         let Some(ask) = self.ask else { unreachable!() };
         let low = lowest(self.floor, room, self.horizon);
         line_edges(&mut self.edges, &self.plans, &self.firsts, &ask, self.last);
-        match extend_all(&mut self.net, low, self.horizon, &self.edges) {
+        match self.net.extend(low, self.horizon, &self.edges) {
             Ok(()) => {}
             Err(Late) => return Err(Late),
         }

@@ -4,9 +4,8 @@ ghost use Rattle.tp_placing.specs.Boards.{past_of};
 ghost use Rattle.tp_placing.specs.Standing.{IsMadeFor};
 
 use crate::board::Board;
-use crate::kept_plans::{keep_live, load_plans};
 use crate::writing::write_times;
-use tp_base::{Network, PointId, Tick};
+use tp_base::{Network, Tick};
 use tp_machine::Machine;
 use tp_schedule::Schedule;
 
@@ -24,23 +23,7 @@ impl<N: Network> Board<N> {
         ensures past { past_of N.past self.new ≡ [] }
         ensures marks { N.mark_room self.new.net ≡ N.mark_room self.old.net }
     {
-        keep_live(&mut self.plans, machine, schedule, now);
-        let points = load_plans(
-            &mut self.net,
-            &mut self.causes,
-            &mut self.lines,
-            &mut self.held,
-            &mut self.begins,
-            &mut self.firsts,
-            self.plans.as_slice(),
-            machine,
-            now,
-        );
-        self.last = PointId(points);
-        self.ask = None;
-        self.steps.clear();
-        self.marks.clear();
-        self.limit = None;
+        self.load_live(machine, schedule, now);
         write_times(&self.net, &self.plans, &self.firsts, schedule);
     }
 }

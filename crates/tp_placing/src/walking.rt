@@ -1,5 +1,6 @@
 //! Places of a hold, tried from the end of its order to the front.
 ghost use Rattle.std.specs.Prelude.{◌≡◌, ◌+◌, ◌^◌, ◌<◌, ◌≤◌, All, length, IsSomeAnd, OnOk, OnErr, IfErr, Some};
+ghost use Rattle.tp_base.specs.Grows.{IsKnown};
 ghost use Rattle.tp_base.specs.Net.{HasLeast, HasNoSolution, with_edges};
 ghost use Rattle.tp_constraints.specs.Suffixes.{with_place};
 ghost use Rattle.tp_placing.specs.Boards.{past_of, suffix_of};
@@ -7,8 +8,7 @@ ghost use Rattle.tp_placing.specs.Calls.{CanPlace, HasNoTimes, HasTimes, IsSameL
 ghost use Rattle.tp_placing.specs.Edges.{edge_after, edge_until, edges_back};
 ghost use Rattle.tp_placing.specs.Reasons.{HasReason};
 ghost use Rattle.tp_placing.specs.Standing.{Stands};
-ghost use Rattle.tp_placing.specs.Trying.{CanRequire, IsRefused};
-ghost use Rattle.tp_placing.specs.Walking.{HasNoTimesUpTo, HasReasonUpTo, StandsBack};
+ghost use Rattle.tp_placing.specs.Walking.{HasNoTimesUpTo, HasReasonUpTo, IsRefused, StandsBack};
 ghost use Rattle.tp_placing.specs.declared.walking.Refused.TheVariants.{UpToHere};
 
 use crate::board::Board;
@@ -37,7 +37,7 @@ fn require_until<N: Network>(
     behind: &Option<Held>,
     tag: u32,
 ) -> Result<(), Late>
-    requires can { All (CanRequire (length (N.net net.old).lows))
+    requires can { All (IsKnown (length (N.net net.old).lows))
         (edge_until gap new.now behind.now tag) }
     requires spare { length (N.net net.old).edges < N.edge_room net.old }
     requires least { HasLeast (N.net net.old) }
@@ -70,7 +70,7 @@ fn require_after<N: Network>(
     new: &Held,
     tag: u32,
 ) -> Result<(), Late>
-    requires can { All (CanRequire (length (N.net net.old).lows))
+    requires can { All (IsKnown (length (N.net net.old).lows))
         (edge_after gap before.now new.now tag) }
     requires spare { length (N.net net.old).edges < N.edge_room net.old }
     requires least { HasLeast (N.net net.old) }
@@ -104,7 +104,7 @@ fn require_around<N: Network>(
     gap: u32,
     tag: u32,
 ) -> Result<(), Refused>
-    requires can { All (CanRequire (length (N.net net.old).lows))
+    requires can { All (IsKnown (length (N.net net.old).lows))
         (edges_back gap neighbours.now.before new.now neighbours.now.behind tag) }
     requires spare { length (N.net net.old).edges + 2 ≤ N.edge_room net.old }
     requires least { HasLeast (N.net net.old) }

@@ -1,16 +1,10 @@
-use Rattle.std.proofs.Common.{◌≡◌, ◌+◌, drop}
-use Rattle.tp_base.specs.Net.{with_edges}
-use Rattle.tp_placing.specs.Loading.{AreAddable, lines_edges, point_count}
+use Rattle.std.proofs.Common.{◌≡◌, ◌≤◌, ◌+◌, ◌++◌, drop, vec_capacity}
+use Rattle.tp_placing.specs.Loading.{lines_edges, point_count}
 use Rattle.tp_placing.proofs.kept_edges.add_lines.Given as goal
 
--- what is left can be added, and makes all
 abbrev pub invariant-loop-at : goal.invariant-loop-at
-invariant-loop-at g l = record {
+invariant-loop-at l = record {
   count : l.first + point_count (drop l.at l.plans) ≡ point_count l.plans;
-  rest : AreAddable (g.N.Network.edge_room l.net) (g.N.Network.net l.net) (lines_edges l.first (drop l.at l.plans));
-  all : with_edges (g.N.Network.net l.net) (lines_edges l.first (drop l.at l.plans)) ≡ with_edges (g.N.Network.net l.fn.net) (lines_edges 0 l.plans);
-  past : g.N.Undo.past l.net ≡ g.N.Undo.past l.fn.net;
-  marks : g.N.Undo.mark_room l.net ≡ g.N.Undo.mark_room l.fn.net;
-  points : g.N.Network.point_room l.net ≡ g.N.Network.point_room l.fn.net;
-  edges : g.N.Network.edge_room l.net ≡ g.N.Network.edge_room l.fn.net;
+  all : l.edges.items ++ lines_edges l.first (drop l.at l.plans) ≡ l.fn.edges.items ++ lines_edges 0 l.plans;
+  space : vec_capacity l.fn.edges ≤ vec_capacity l.edges;
 }

@@ -58,9 +58,9 @@ here g c =
     let last : slice_get a.steps.items (length a.steps.items - 1) ≡ Some c.index-newest.result.now = ap (slice_get a.steps.items) (sym k) ∙ at in
     ready g.N.Network.net g.N.Undo.content g.N.Undo.past (board g c) c.args.machine.now c.in-Some.ask c.index-newest.result.now (stands-here g c) (complete-here g c) last
 
-pub overflow_sub-count : goal.overflow_sub-count
-overflow_sub-count g k =
-    let c = (goal.at.overflow_sub-count g k).After-index-newest in
+pub overflow_sub-own : goal.overflow_sub-own
+overflow_sub-own g k =
+    let c = (goal.at.overflow_sub-own g k).After-index-newest in
     let first = (here g c).first in
     let last = (stands-here g c).last in
     omega arith
@@ -104,9 +104,9 @@ plan_by_steps-plan-requires-clause-opened g k =
     let h = here g c in
     subst (λ ss. IsSomeAnd (suffix_after ss) (λ x. length x.choices ≡ c.index-newest.result.now.first.0 - c.self.inside.last.0)) (sym k.deref-5.ensures.value) (and-some (suffix_after c.self.inside.steps.items) h.x _ h.suffix (sym (count-here g c)))
 
-pub plan_by_steps-plan-requires-clause-first : goal.plan_by_steps-plan-requires-clause-first
-plan_by_steps-plan-requires-clause-first g k =
-    let c = (goal.at.plan_by_steps-plan-requires-clause-first g k).After-index-newest in
+pub plan_by_steps-plan-requires-clause-start : goal.plan_by_steps-plan-requires-clause-start
+plan_by_steps-plan-requires-clause-start g k =
+    let c = (goal.at.plan_by_steps-plan-requires-clause-start g k).After-index-newest in
     let first = (here g c).first in
     let last = (stands-here g c).last in
     subst (λ ps. c.index-newest.result.now.first.0 ≡ length (table_of ps) + (c.index-newest.result.now.first.0 - c.self.inside.last.0)) (sym k.deref-3.ensures.value) (omega arith)

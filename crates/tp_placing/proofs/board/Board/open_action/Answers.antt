@@ -17,7 +17,6 @@ use Rattle.tp_placing.specs.Calls.{CanGoOn}
 use Rattle.tp_placing.specs.Edges.{duration_edges}
 use Rattle.tp_placing.specs.Inside.{board_of}
 use Rattle.tp_placing.specs.Standing.{AreCaused, Stands, IsAtWith}
-use Rattle.tp_placing.specs.Trying.{IsRefused}
 use Rattle.tp_placing.proofs.ActionFacts.{OpensHere, opens-here, can-open, open-reason, open-refused, open-at, open-caused}
 use Rattle.tp_placing.proofs.CauseFacts.{keeps-all}
 use Rattle.tp_placing.proofs.BoardFacts.{board-step, steps-room}
@@ -74,16 +73,16 @@ overflow_add-start g k =
     let w : c.index-newest.result.now.first.0 + 1 < 2 ^ 32 = omega arith in
     search (rules, w)
 
-pub extend_all-requires-clause-room : goal.extend_all-requires-clause-room
-extend_all-requires-clause-room g k =
-    let c = (goal.at.extend_all-requires-clause-room g k).After-index-newest in
+pub extend-requires-clause-room : goal.extend-requires-clause-room
+extend-requires-clause-room g k =
+    let c = (goal.at.extend-requires-clause-room g k).After-index-newest in
     let r = room-here g c in
     let p = k.self.invariant.room.points in
     omega arith
 
-pub extend_all-requires-clause-can : goal.extend_all-requires-clause-can
-extend_all-requires-clause-can g k =
-    let c = (goal.at.extend_all-requires-clause-can g k).After-index-newest in
+pub extend-requires-clause-known : goal.extend-requires-clause-known
+extend-requires-clause-known g k =
+    let c = (goal.at.extend-requires-clause-known g k).After-index-newest in
     rw k.lasting-edges.ensures (can-open g.N.Network.net (board g c) c.args.machine.now (standing g c).0 c.index-newest.result.now (here g c) c.args.act k.get.result.now k.get.ensures c.args.room (record { 0 = c.index-newest.result.now.first.0 + 1 }) refl)
 
 -- the low and the edges of the call
@@ -105,18 +104,6 @@ net-asked g c a low edges low_is edges_are =
     let h = (standing g c).1.horizon in
     λ i. with_edges (with_point (g.N.Network.net c.self.inside.net) (low_sum i) (h i)) (edges_are i)
 
--- the refusal of the point and edges that the call asks for
-point-asked : (g : _) (c : After-index-newest g) (a : Action) (low : ℕ) (edges : List Edge) (n : g.row.N.Denot) → low ≡ min (c.self.inside.floor + c.args.room) (c.self.inside.horizon + 1)
-    → edges ≡ duration_edges a (record { 0 = c.index-newest.result.now.first.0 + 1 }) c.index-newest.result.now.first
-    → IsRefused g.N.Network.refutes n (with_point (g.N.Network.net c.self.inside.net) low c.self.inside.horizon) edges
-    → IsRefused g.N.Network.refutes n (with_point (g.N.Network.net c.self.inside.net) (min (start_floor c.args.machine.now (standing g c).0.now (standing g c).0.origin + c.args.room) ((standing g c).0.now + c.args.machine.now.window + 1)) ((standing g c).0.now + c.args.machine.now.window))
-    (duration_edges a (record { 0 = c.index-newest.result.now.first.0 + 1 }) c.index-newest.result.now.first)
-point-asked g c a low edges n low_is edges_are refused =
-    let low_sum = low-is-sum g c low low_is in
-    let h = (standing g c).1.horizon in
-    let net : with_point (g.N.Network.net c.self.inside.net) low c.self.inside.horizon ≡ with_point (g.N.Network.net c.self.inside.net) (min (start_floor c.args.machine.now (standing g c).0.now (standing g c).0.origin + c.args.room) ((standing g c).0.now + c.args.machine.now.window + 1)) ((standing g c).0.now + c.args.machine.now.window) = λ i. with_point (g.N.Network.net c.self.inside.net) (low_sum i) (h i) in
-    subst (IsRefused g.N.Network.refutes n _) edges_are (subst (λ k. IsRefused g.N.Network.refutes n k edges) net refused)
-
 pub returns-in-Err-clause-late : goal.returns-in-Err-clause-late
 returns-in-Err-clause-late g k =
     let c = (goal.at.returns-in-Err-clause-late g k).After-index-newest in
@@ -130,15 +117,15 @@ pub returns-in-Err-clause-shown : goal.returns-in-Err-clause-shown
 returns-in-Err-clause-shown g k =
     let c = (goal.at.returns-in-Err-clause-shown g k).After-index-newest in
     let o = here g c in
-    let refused = point-asked g c k.get.result.now k.lowest-low.result k.lasting-edges.result k.extend_all.new.net k.lowest-low.ensures k.lasting-edges.ensures k.in-Err.ensures.refused in
+    let refused = subst (g.N.Network.refutes k.extend.new.self) (net-asked g c k.get.result.now k.lowest-low.result k.lasting-edges.result k.lowest-low.ensures k.lasting-edges.ensures) k.in-Err.ensures.refused in
     rw (← c.self.view_is) (and-some (suffix_of (board g c)) o.x _ o.suffix (and-some (board g c).ask (standing g c).0 _ (standing g c).1.asked
     (open-reason g.N.Network.net (board g c) c.args.machine.now (standing g c).0 c.index-newest.result.now o c.args.act k.get.result.now k.get.ensures c.args.room (record { 0 = c.index-newest.result.now.first.0 + 1 }) refl
-    g.N.Network.refutes k.extend_all.new.net c.steps_add_edges.ensures.action c.gaps_are_hops.ensures.action (standing g c).1.plain (standing g c).1.caused refused)))
+    g.N.Network.refutes k.extend.new.self c.steps_add_edges.ensures.action c.gaps_are_hops.ensures.action (standing g c).1.plain (standing g c).1.caused refused)))
 
 pub returns-in-Err-clause-stands : goal.returns-in-Err-clause-stands
 returns-in-Err-clause-stands g k =
     let c = (goal.at.returns-in-Err-clause-stands g k).After-index-newest in
-    ((standing g c).0, stands-still g.N.Network.net g.N.Undo.content g.N.Undo.past g.met.N.Network.net_by_content (board g c) k.extend_all.new.net c.self.inside.causes None c.args.machine.now (standing g c).0 (standing g c).1 k.in-Err.ensures.same k.in-Err.ensures.past (keeps-all _ _))
+    ((standing g c).0, stands-still g.N.Network.net g.N.Undo.content g.N.Undo.past g.met.N.Network.net_by_content (board g c) k.extend.new.self c.self.inside.causes None c.args.machine.now (standing g c).0 (standing g c).1 k.in-Err.ensures.kept k.in-Err.ensures.past (keeps-all _ _))
 
 few-steps : (g : _) (c : After-index-newest g) → length c.self.inside.steps.items + 1 ≤ 330
 few-steps g c = steps-room (kept_of (standing g c).0) (length c.self.inside.steps.items) (here g c).x (here g c).at.few_steps
@@ -207,7 +194,7 @@ pub returns-clause-times : goal.returns-clause-times
 returns-clause-times g k =
     let c = (goal.at.returns-clause-times g k).After-index-newest in
     let x = (here g c).x in
-    let at = after g c k.get.result.now (g.N.Network.net k.extend_all.new.net) k.lowest-low.result k.lasting-edges.result k.push.new.self.items _ k.get.ensures k.lowest-low.ensures k.lasting-edges.ensures k.in-Ok.ensures.added k.in-Ok.ensures.solved k.in-Ok-push.ensures.items refl refl in
+    let at = after g c k.get.result.now (g.N.Network.net k.extend.new.self) k.lowest-low.result k.lasting-edges.result k.push.new.self.items _ k.get.ensures k.lowest-low.ensures k.lasting-edges.ensures k.in-Ok.ensures.added k.in-Ok.ensures.solved k.in-Ok-push.ensures.items refl refl in
     and-some (suffix_after k.push.new.self.items) (with_action c.args.act c.args.room x) _ (suffix-now g c x k.push.new.self.items _ (here g c).suffix k.in-Ok-push.ensures.items refl) (and-some k.self.inside.ask (standing g c).0 _ (standing g c).1.asked
     (has-times c.args.machine.now k.self.inside.plans.items (standing g c).0 (with_action c.args.act c.args.room x) _ _ _ _ c.solutions_are_ticks.ensures.board at))
 
@@ -217,11 +204,11 @@ returns-clause-stands g k =
     let a = k.self.inside in
     let i = k.self.invariant.marked.at_marks in
     let x = (here g c).x in
-    let at = after g c k.get.result.now (g.N.Network.net k.extend_all.new.net) k.lowest-low.result k.lasting-edges.result k.push.new.self.items _ k.get.ensures k.lowest-low.ensures k.lasting-edges.ensures k.in-Ok.ensures.added k.in-Ok.ensures.solved k.in-Ok-push.ensures.items refl refl in
+    let at = after g c k.get.result.now (g.N.Network.net k.extend.new.self) k.lowest-low.result k.lasting-edges.result k.push.new.self.items _ k.get.ensures k.lowest-low.ensures k.lasting-edges.ensures k.in-Ok.ensures.added k.in-Ok.ensures.solved k.in-Ok-push.ensures.items refl refl in
     let now = suffix-now g c x k.push.new.self.items _ (here g c).suffix k.in-Ok-push.ensures.items refl in
-    let caused = caused-after g c k.get.result.now (g.N.Network.net k.extend_all.new.net) k.lowest-low.result k.lasting-edges.result k.push.new.self.items _ k.get.ensures k.lowest-low.ensures k.lasting-edges.ensures k.in-Ok.ensures.added k.in-Ok-push.ensures.items now in (
+    let caused = caused-after g c k.get.result.now (g.N.Network.net k.extend.new.self) k.lowest-low.result k.lasting-edges.result k.push.new.self.items _ k.get.ensures k.lowest-low.ensures k.lasting-edges.ensures k.in-Ok.ensures.added k.in-Ok-push.ensures.items now in (
       (standing g c).0,
-      stands-after g.N.Network.net g.N.Undo.content g.N.Undo.past (board g c) k.extend_all.new.net a.lines a.held.items k.push.new.self.items a.causes c.args.machine.now (standing g c).0 (with_action c.args.act c.args.room x) (standing g c).1
+      stands-after g.N.Network.net g.N.Undo.content g.N.Undo.past (board g c) k.extend.new.self a.lines a.held.items k.push.new.self.items a.causes c.args.machine.now (standing g c).0 (with_action c.args.act c.args.room x) (standing g c).1
           (rw (k.in-Ok.ensures.past, k.in-Ok-push.ensures.items) (side-steps a.held.items a.steps.items (_ ∷ []) (g.N.Undo.past a.net) a.lines.past a.marks.items (λ j n z. i.steps_below j n z)))
           now at (keeps-all _ _) caused,
     )

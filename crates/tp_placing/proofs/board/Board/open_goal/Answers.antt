@@ -13,7 +13,6 @@ use Rattle.tp_placing.specs.Boards.{BoardValue, after_change, suffix_after}
 use Rattle.tp_placing.specs.Edges.{end_edges}
 use Rattle.tp_placing.specs.Inside.{board_of}
 use Rattle.tp_placing.specs.Standing.{AreCaused, Stands, StandsOn, IsAtWith}
-use Rattle.tp_placing.specs.Trying.{IsRefused}
 use Rattle.tp_placing.proofs.BoardFacts.{board-step}
 use Rattle.tp_placing.proofs.CauseFacts.{keeps-all}
 use Rattle.tp_placing.proofs.GoalFacts.{goal-caused, empty, can-open, few-edges, goal-reason, goal-refused, goal-at}
@@ -47,15 +46,15 @@ edges-are : (g : _) (c : In-Some g) (plans : List Plan) (firsts : List PointId) 
     → made ≡ end_edges c.in-Some.ask plans firsts c.self.inside.last → edges ≡ es g c
 edges-are g c plans firsts edges made p f e m = e ∙ m ∙ (λ i. end_edges c.in-Some.ask (p i) (f i) c.self.inside.last)
 
-pub extend_all-requires-clause-can : goal.extend_all-requires-clause-can
-extend_all-requires-clause-can g k =
-    let c = (goal.at.extend_all-requires-clause-can g k).In-Some in
+pub extend-requires-clause-known : goal.extend-requires-clause-known
+extend-requires-clause-known g k =
+    let c = (goal.at.extend-requires-clause-known g k).In-Some in
     let e = edges-are g c _ _ _ _ k.deref.ensures.value k.deref-2.ensures.value k.deref-3.ensures.value k.line_edges.ensures.edges in
     rw e (can-open g.N.Network.net g.N.Undo.content g.N.Undo.past (board g c) c.requires.stands.0 c.in-Some.ask (known g c) (closed g c) k.args.room)
 
-pub extend_all-requires-clause-spare : goal.extend_all-requires-clause-spare
-extend_all-requires-clause-spare g k =
-    let c = (goal.at.extend_all-requires-clause-spare g k).In-Some in
+pub extend-requires-clause-spare : goal.extend-requires-clause-spare
+extend-requires-clause-spare g k =
+    let c = (goal.at.extend-requires-clause-spare g k).In-Some in
     let e = ap length (edges-are g c _ _ _ _ k.deref.ensures.value k.deref-2.ensures.value k.deref-3.ensures.value k.line_edges.ensures.edges) in
     let few = few-edges g.N.Network.net g.N.Undo.content g.N.Undo.past (board g c) c.requires.stands.0 c.in-Some.ask (known g c) (closed g c) k.args.room in
     let r = k.self.invariant.room.edges in
@@ -72,18 +71,6 @@ net-asked g c m room s low edges low_is edges_are =
     let low_sum : low ≡ min (start_floor m c.in-Some.ask.now c.in-Some.ask.origin + room) (c.in-Some.ask.now + m.window + 1) = low_is ∙ (λ i. min (f i + room) (h i + 1)) in
     λ i. with_edges (with_point (g.N.Network.net c.self.inside.net) (low_sum i) (h i)) (edges_are i)
 
--- the refusal of the point and edges that the call asks for
-point-asked : (g : _) (c : In-Some g) (m : Machine) (room : ℕ) (s : StandsOn g.N.Network.net g.N.Undo.content g.N.Undo.past (board g c) m c.in-Some.ask) (low : ℕ) (edges : List Edge) (n : g.row.N.Denot)
-    → low ≡ min (c.self.inside.floor + room) (c.self.inside.horizon + 1) → edges ≡ es g c
-    → IsRefused g.N.Network.refutes n (with_point (g.N.Network.net c.self.inside.net) low c.self.inside.horizon) edges
-    → IsRefused g.N.Network.refutes n (with_point (g.N.Network.net c.self.inside.net) (min (start_floor m c.in-Some.ask.now c.in-Some.ask.origin + room) (c.in-Some.ask.now + m.window + 1)) (c.in-Some.ask.now + m.window)) (es g c)
-point-asked g c m room s low edges n low_is edges_are refused =
-    let f = s.floor in
-    let h = s.horizon in
-    let low_sum : low ≡ min (start_floor m c.in-Some.ask.now c.in-Some.ask.origin + room) (c.in-Some.ask.now + m.window + 1) = low_is ∙ (λ i. min (f i + room) (h i + 1)) in
-    let net : with_point (g.N.Network.net c.self.inside.net) low c.self.inside.horizon ≡ with_point (g.N.Network.net c.self.inside.net) (min (start_floor m c.in-Some.ask.now c.in-Some.ask.origin + room) (c.in-Some.ask.now + m.window + 1)) (c.in-Some.ask.now + m.window) = λ i. with_point (g.N.Network.net c.self.inside.net) (low_sum i) (h i) in
-    subst (IsRefused g.N.Network.refutes n _) edges_are (subst (λ k. IsRefused g.N.Network.refutes n k edges) net refused)
-
 pub returns-in-Err-clause-late : goal.returns-in-Err-clause-late
 returns-in-Err-clause-late g k m st =
     let c = (goal.at.returns-in-Err-clause-late g k).In-Some in
@@ -98,14 +85,14 @@ returns-in-Err-clause-shown g k m st =
     let c = (goal.at.returns-in-Err-clause-shown g k).In-Some in
     let s = stands-here g c m st in
     let e = edges-are g c _ _ _ _ k.deref.ensures.value k.deref-2.ensures.value k.deref-3.ensures.value k.line_edges.ensures.edges in
-    let refused = point-asked g c m k.args.room s k.lowest-low.result _ k.extend_all.new.net k.lowest-low.ensures e k.in-Err.ensures.refused in
+    let refused = subst (g.N.Network.refutes k.extend.new.self) (net-asked g c m k.args.room s k.lowest-low.result _ k.lowest-low.ensures e) k.in-Err.ensures.refused in
     and-some (board g c).ask c.in-Some.ask _ c.in-Some.is
-    (goal-reason g.N.Network.net g.N.Undo.content g.N.Undo.past (board g c) m c.in-Some.ask s (closed g c) k.args.room g.N.Network.refutes k.extend_all.new.net c.steps_add_edges.ensures.goal c.gaps_are_hops.ensures.goal refused)
+    (goal-reason g.N.Network.net g.N.Undo.content g.N.Undo.past (board g c) m c.in-Some.ask s (closed g c) k.args.room g.N.Network.refutes k.extend.new.self c.steps_add_edges.ensures.goal c.gaps_are_hops.ensures.goal refused)
 
 pub returns-in-Err-clause-stands : goal.returns-in-Err-clause-stands
 returns-in-Err-clause-stands g k m st =
     let c = (goal.at.returns-in-Err-clause-stands g k).In-Some in
-    (c.in-Some.ask, stands-still g.N.Network.net g.N.Undo.content g.N.Undo.past g.met.N.Network.net_by_content (board g c) k.extend_all.new.net c.self.inside.causes None m c.in-Some.ask (stands-here g c m st) k.in-Err.ensures.same k.in-Err.ensures.past (keeps-all _ _))
+    (c.in-Some.ask, stands-still g.N.Network.net g.N.Undo.content g.N.Undo.past g.met.N.Network.net_by_content (board g c) k.extend.new.self c.self.inside.causes None m c.in-Some.ask (stands-here g c m st) k.in-Err.ensures.kept k.in-Err.ensures.past (keeps-all _ _))
 
 pub invariant_of-self-2 : goal.invariant_of-self-2
 invariant_of-self-2 g k =
@@ -155,7 +142,7 @@ returns-clause-times g k m st =
     let c = (goal.at.returns-clause-times g k).In-Some in
     let s = stands-here g c m st in
     let e = edges-are g c _ _ _ _ k.deref.ensures.value k.deref-2.ensures.value k.deref-3.ensures.value k.line_edges.ensures.edges in
-    let at = after g c m k.args.room s (g.N.Network.net k.extend_all.new.net) k.lowest-low.result _ k.push.new.self.items _ k.lowest-low.ensures e k.in-Ok.ensures.added k.in-Ok.ensures.solved k.in-Ok-push.ensures.items refl refl in
+    let at = after g c m k.args.room s (g.N.Network.net k.extend.new.self) k.lowest-low.result _ k.push.new.self.items _ k.lowest-low.ensures e k.in-Ok.ensures.added k.in-Ok.ensures.solved k.in-Ok-push.ensures.items refl refl in
     and-some k.self.inside.ask c.in-Some.ask _ c.in-Some.is (has-times m k.self.inside.plans.items c.in-Some.ask (with_goal k.args.room) _ _ _ _ c.solutions_are_ticks.ensures.board at)
 
 pub returns-clause-stands : goal.returns-clause-stands
@@ -165,11 +152,11 @@ returns-clause-stands g k m st =
     let i = k.self.invariant.marked.at_marks in
     let s = stands-here g c m st in
     let e = edges-are g c _ _ _ _ k.deref.ensures.value k.deref-2.ensures.value k.deref-3.ensures.value k.line_edges.ensures.edges in
-    let at = after g c m k.args.room s (g.N.Network.net k.extend_all.new.net) k.lowest-low.result _ k.push.new.self.items _ k.lowest-low.ensures e k.in-Ok.ensures.added k.in-Ok.ensures.solved k.in-Ok-push.ensures.items refl refl in
+    let at = after g c m k.args.room s (g.N.Network.net k.extend.new.self) k.lowest-low.result _ k.push.new.self.items _ k.lowest-low.ensures e k.in-Ok.ensures.added k.in-Ok.ensures.solved k.in-Ok-push.ensures.items refl refl in
     let now = suffix-now g c k.args.room k.push.new.self.items _ k.in-Ok-push.ensures.items refl in
-    let caused = caused-after g c m k.args.room s (g.N.Network.net k.extend_all.new.net) k.lowest-low.result _ k.push.new.self.items _ k.lowest-low.ensures e k.in-Ok.ensures.added k.in-Ok-push.ensures.items now in (
+    let caused = caused-after g c m k.args.room s (g.N.Network.net k.extend.new.self) k.lowest-low.result _ k.push.new.self.items _ k.lowest-low.ensures e k.in-Ok.ensures.added k.in-Ok-push.ensures.items now in (
       c.in-Some.ask,
-      stands-after g.N.Network.net g.N.Undo.content g.N.Undo.past (board g c) k.extend_all.new.net a.lines a.held.items k.push.new.self.items a.causes m c.in-Some.ask (with_goal k.args.room) s
+      stands-after g.N.Network.net g.N.Undo.content g.N.Undo.past (board g c) k.extend.new.self a.lines a.held.items k.push.new.self.items a.causes m c.in-Some.ask (with_goal k.args.room) s
           (rw (k.in-Ok.ensures.past, k.in-Ok-push.ensures.items) (side-steps a.held.items a.steps.items (_ ∷ []) (g.N.Undo.past a.net) a.lines.past a.marks.items (λ j n z. i.steps_below j n z)))
           now at (keeps-all _ _) caused,
     )

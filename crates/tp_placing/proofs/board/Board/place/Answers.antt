@@ -26,7 +26,7 @@ use Rattle.tp_placing.specs.Edges.{edges_around, held_before, held_behind}
 use Rattle.tp_placing.specs.Inside.{board_of}
 use Rattle.tp_placing.specs.Standing.{AreCaused, Stands, IsAtWith, HasSmallOffsets}
 use Rattle.tp_placing.specs.Reasons.{IsReason}
-use Rattle.tp_placing.specs.Trying.{CanRequire, IsRefused}
+use Rattle.tp_base.specs.Grows.{IsKnown}
 use Rattle.tp_placing.proofs.CauseFacts.{Keeps}
 use Rattle.tp_placing.proofs.BoardFacts.{board-step, steps-room}
 use Rattle.tp_placing.proofs.PastFacts.{side-more}
@@ -139,7 +139,7 @@ module _ (g : _) (c : After-index-newest g) (act : ActId) (rule : HoldRule) (r :
   numbers : All (λ id. id < length c.self.inside.held.items) order
   numbers = numbers-here g.N.Network.net (board g c) c.args.machine.now (standing g c).0 c.index-newest.result.now act rule c.args.hold c.args.place r.places (new rule c.index-newest.result.now) r.known r.resource r.four refl refl refl r.offsets
 
-  can : All (CanRequire (length (g.N.Network.net c.self.inside.net).lows)) es
+  can : All (IsKnown (length (g.N.Network.net c.self.inside.net).lows)) es
   can = can-here g.N.Network.net (board g c) c.args.machine.now (standing g c).0 c.index-newest.result.now act rule c.args.hold c.args.place r.places (new rule c.index-newest.result.now) r.known r.resource r.four refl refl refl r.offsets
 
   fits : c.args.place ≤ length order
@@ -152,7 +152,7 @@ module _ (g : _) (c : After-index-newest g) (act : ActId) (rule : HoldRule) (r :
   refused = refused-here g.N.Network.net (board g c) c.args.machine.now (standing g c).0 c.index-newest.result.now act rule c.args.hold c.args.place r.places (new rule c.index-newest.result.now) r.known r.resource r.four refl refl refl r.offsets
       c.steps_add_edges.ensures.place c.solutions_are_ticks.ensures.late
 
-  reason : (n : g.row.N.Denot) → IsRefused g.N.Network.refutes n (g.N.Network.net c.self.inside.net) es → IsReason g.N.Network.refutes (record (board g c) { net = n; causes = causes; limit = None }) c.args.machine.now (standing g c).0 (with_place c.args.place suffix)
+  reason : (n : g.row.N.Denot) → g.N.Network.refutes n (with_edges (g.N.Network.net c.self.inside.net) es) → IsReason g.N.Network.refutes (record (board g c) { net = n; causes = causes; limit = None }) c.args.machine.now (standing g c).0 (with_place c.args.place suffix)
   reason n = reason-here g.N.Network.net (board g c) c.args.machine.now (standing g c).0 c.index-newest.result.now act rule c.args.hold c.args.place r.places (new rule c.index-newest.result.now) r.known r.resource r.four refl refl refl r.offsets
       g.N.Network.refutes n c.steps_add_edges.ensures.place c.gaps_are_hops.ensures.place (standing g c).1.plain (standing g c).1.caused
 
@@ -206,13 +206,13 @@ causes-made g c act rule r held before behind tag count made h b d t n m =
     let t' = t ∙ ap step_tag n in
     m ∙ (λ i. causes_around (b' i) (new rule c.index-newest.result.now) (d' i) (t' i) c.self.inside.causes)
 
-pub require_all-requires-clause-can : goal.require_all-requires-clause-can
-require_all-requires-clause-can g k =
-    let c = (goal.at.require_all-requires-clause-can g k).After-index-newest in
+pub require_all-requires-clause-known : goal.require_all-requires-clause-known
+require_all-requires-clause-known g k =
+    let c = (goal.at.require_all-requires-clause-known g k).After-index-newest in
     let r = read g c k.in-Some.act k.get.result.now k.get-2.result.now k.in-Some.is k.get.ensures k.len-within.ensures.within k.get-2.ensures in
     let e = edges-made g c k.in-Some.act k.get-2.result.now r k.deref.result.now k.neighbours_of-neighbours.result.before k.neighbours_of-neighbours.result.behind k.step_tag-tag.result k.len-2.result k.gap_at-gap.result k.neighbour_edges.new.edges.items k.deref-2.result.now
     k.deref.ensures.value k.neighbours_of-neighbours.ensures.before k.neighbours_of-neighbours.ensures.behind k.step_tag-tag.ensures (k.len-2.ensures ∙ c.self.inside.steps.ok.0) k.gap_at-gap.ensures.gap k.neighbour_edges.ensures.edges k.deref-2.ensures.value in
-    subst (All (CanRequire (length (g.N.Network.net c.self.inside.net).lows))) (sym e) (can g c k.in-Some.act k.get-2.result.now r)
+    subst (All (IsKnown (length (g.N.Network.net c.self.inside.net).lows))) (sym e) (can g c k.in-Some.act k.get-2.result.now r)
 
 pub require_all-requires-clause-spare : goal.require_all-requires-clause-spare
 require_all-requires-clause-spare g k =
@@ -243,9 +243,9 @@ returns-in-Err-clause-shown g k =
     k.deref.ensures.value k.neighbours_of-neighbours.ensures.before k.neighbours_of-neighbours.ensures.behind k.step_tag-tag.ensures (k.len-2.ensures ∙ c.self.inside.steps.ok.0) k.gap_at-gap.ensures.gap k.neighbour_edges.ensures.edges k.deref-2.ensures.value in
     let kept = causes-made g c k.in-Some.act k.get-2.result.now r k.deref.result.now k.neighbours_of-neighbours.result.before k.neighbours_of-neighbours.result.behind k.step_tag-tag.result k.len-2.result k.note_neighbours.new.causes
     k.deref.ensures.value k.neighbours_of-neighbours.ensures.before k.neighbours_of-neighbours.ensures.behind k.step_tag-tag.ensures (k.len-2.ensures ∙ c.self.inside.steps.ok.0) k.note_neighbours.ensures in
-    let refused = subst (IsRefused g.N.Network.refutes k.require_all.new.net (g.N.Network.net c.self.inside.net)) e k.in-Err.ensures.refused in
-    let shown = subst (λ cs. IsReason g.N.Network.refutes (record (board g c) { net = k.require_all.new.net; causes = cs; limit = None }) c.args.machine.now (standing g c).0 (with_place c.args.place (suffix g c k.in-Some.act k.get-2.result.now r))) (sym kept)
-    (reason g c k.in-Some.act k.get-2.result.now r k.require_all.new.net refused) in
+    let refused = subst (λ es. g.N.Network.refutes k.require_all.new.self (with_edges (g.N.Network.net c.self.inside.net) es)) e k.in-Err.ensures.refused in
+    let shown = subst (λ cs. IsReason g.N.Network.refutes (record (board g c) { net = k.require_all.new.self; causes = cs; limit = None }) c.args.machine.now (standing g c).0 (with_place c.args.place (suffix g c k.in-Some.act k.get-2.result.now r))) (sym kept)
+    (reason g c k.in-Some.act k.get-2.result.now r k.require_all.new.self refused) in
     rw (← c.self.view_is) (and-some (suffix_of (board g c)) (suffix g c k.in-Some.act k.get-2.result.now r) _ r.places.suffix
     (and-some (board g c).ask (standing g c).0 _ (standing g c).1.asked shown))
 
@@ -257,8 +257,8 @@ returns-in-Err-clause-stands g k =
     k.deref.ensures.value k.neighbours_of-neighbours.ensures.before k.neighbours_of-neighbours.ensures.behind k.step_tag-tag.ensures (k.len-2.ensures ∙ c.self.inside.steps.ok.0) k.note_neighbours.ensures in
     let safe = subst (Keeps (length c.self.inside.steps.items) c.self.inside.causes) (sym kept) (keeps g c k.in-Some.act k.get-2.result.now r) in (
       (standing g c).0,
-      stands-still g.N.Network.net g.N.Undo.content g.N.Undo.past g.met.N.Network.net_by_content (board g c) k.require_all.new.net k.note_neighbours.new.causes None c.args.machine.now (standing g c).0 (standing g c).1
-          k.in-Err.ensures.same k.in-Err.ensures.past safe,
+      stands-still g.N.Network.net g.N.Undo.content g.N.Undo.past g.met.N.Network.net_by_content (board g c) k.require_all.new.self k.note_neighbours.new.causes None c.args.machine.now (standing g c).0 (standing g c).1
+          k.in-Err.ensures.kept k.in-Err.ensures.past safe,
     )
 
 pub insert-requires-clause-known : goal.insert-requires-clause-known
@@ -324,7 +324,7 @@ returns-clause-times g k =
     let e = edges-made g c k.in-Some.act k.get-2.result.now r k.deref.result.now k.neighbours_of-neighbours.result.before k.neighbours_of-neighbours.result.behind k.step_tag-tag.result k.len-2.result k.gap_at-gap.result k.neighbour_edges.new.edges.items k.deref-2.result.now
     k.deref.ensures.value k.neighbours_of-neighbours.ensures.before k.neighbours_of-neighbours.ensures.behind k.step_tag-tag.ensures (k.len-2.ensures ∙ c.self.inside.steps.ok.0) k.gap_at-gap.ensures.gap k.neighbour_edges.ensures.edges k.deref-2.ensures.value in
     let added = k.in-Ok.ensures.added ∙ ap (with_edges (g.N.Network.net c.self.inside.net)) e in
-    let at = after g c k.in-Some.act k.get-2.result.now r (g.N.Network.net k.require_all.new.net) k.insert.new.self.orders k.push.new.self.items k.push-2.new.self.items _ added k.in-Ok.ensures.solved
+    let at = after g c k.in-Some.act k.get-2.result.now r (g.N.Network.net k.require_all.new.self) k.insert.new.self.orders k.push.new.self.items k.push-2.new.self.items _ added k.in-Ok.ensures.solved
     (line-is g c k.get-2.result.now k.insert.new.self.orders k.len-id.result k.in-Ok-insert.ensures.ok (k.len-id.ensures ∙ k.self.inside.held.ok.0)) k.in-Ok-push.ensures.items k.in-Ok-push-2.ensures.items refl refl in
     and-some (suffix_after k.push-2.new.self.items) (with_place c.args.place x) _ (suffix-now g c x k.push-2.new.self.items _ r.places.suffix k.in-Ok-push-2.ensures.items refl) (and-some k.self.inside.ask (standing g c).0 _ (standing g c).1.asked
     (has-times c.args.machine.now k.self.inside.plans.items (standing g c).0 (with_place c.args.place x) _ _ _ _ c.solutions_are_ticks.ensures.board at))
@@ -339,16 +339,16 @@ returns-clause-stands g k =
     let e = edges-made g c k.in-Some.act k.get-2.result.now r k.deref.result.now k.neighbours_of-neighbours.result.before k.neighbours_of-neighbours.result.behind k.step_tag-tag.result k.len-2.result k.gap_at-gap.result k.neighbour_edges.new.edges.items k.deref-2.result.now
     k.deref.ensures.value k.neighbours_of-neighbours.ensures.before k.neighbours_of-neighbours.ensures.behind k.step_tag-tag.ensures (k.len-2.ensures ∙ c.self.inside.steps.ok.0) k.gap_at-gap.ensures.gap k.neighbour_edges.ensures.edges k.deref-2.ensures.value in
     let added = k.in-Ok.ensures.added ∙ ap (with_edges (g.N.Network.net c.self.inside.net)) e in
-    let at = after g c k.in-Some.act k.get-2.result.now r (g.N.Network.net k.require_all.new.net) k.insert.new.self.orders k.push.new.self.items k.push-2.new.self.items _ added k.in-Ok.ensures.solved
+    let at = after g c k.in-Some.act k.get-2.result.now r (g.N.Network.net k.require_all.new.self) k.insert.new.self.orders k.push.new.self.items k.push-2.new.self.items _ added k.in-Ok.ensures.solved
     (line-is g c k.get-2.result.now k.insert.new.self.orders k.len-id.result k.in-Ok-insert.ensures.ok (k.len-id.ensures ∙ k.self.inside.held.ok.0)) k.in-Ok-push.ensures.items k.in-Ok-push-2.ensures.items refl refl in
     let kept = causes-made g c k.in-Some.act k.get-2.result.now r k.deref.result.now k.neighbours_of-neighbours.result.before k.neighbours_of-neighbours.result.behind k.step_tag-tag.result k.len-2.result k.note_neighbours.new.causes
     k.deref.ensures.value k.neighbours_of-neighbours.ensures.before k.neighbours_of-neighbours.ensures.behind k.step_tag-tag.ensures (k.len-2.ensures ∙ c.self.inside.steps.ok.0) k.note_neighbours.ensures in
     let safe = subst (Keeps (length c.self.inside.steps.items) c.self.inside.causes) (sym kept) (keeps g c k.in-Some.act k.get-2.result.now r) in
     let now = suffix-now g c x k.push-2.new.self.items _ r.places.suffix k.in-Ok-push-2.ensures.items refl in
-    let caused = subst (λ cs. AreCaused c.args.machine.now c.self.inside.plans.items (standing g c).0 cs k.push-2.new.self.items (g.N.Network.net k.require_all.new.net)) (sym kept)
-    (caused-after g c k.in-Some.act k.get-2.result.now r (g.N.Network.net k.require_all.new.net) k.push-2.new.self.items _ added k.in-Ok-push-2.ensures.items now) in (
+    let caused = subst (λ cs. AreCaused c.args.machine.now c.self.inside.plans.items (standing g c).0 cs k.push-2.new.self.items (g.N.Network.net k.require_all.new.self)) (sym kept)
+    (caused-after g c k.in-Some.act k.get-2.result.now r (g.N.Network.net k.require_all.new.self) k.push-2.new.self.items _ added k.in-Ok-push-2.ensures.items now) in (
       (standing g c).0,
-      stands-after g.N.Network.net g.N.Undo.content g.N.Undo.past (board g c) k.require_all.new.net k.insert.new.self k.push.new.self.items k.push-2.new.self.items k.note_neighbours.new.causes c.args.machine.now (standing g c).0 (with_place c.args.place x) (standing g c).1
+      stands-after g.N.Network.net g.N.Undo.content g.N.Undo.past (board g c) k.require_all.new.self k.insert.new.self k.push.new.self.items k.push-2.new.self.items k.note_neighbours.new.causes c.args.machine.now (standing g c).0 (with_place c.args.place x) (standing g c).1
           (rw (k.in-Ok.ensures.past, k.in-Ok-insert.ensures.past, k.in-Ok-push-2.ensures.items, k.in-Ok-push.ensures.items)
           (side-more a.held.items (_ ∷ []) a.steps.items (_ ∷ []) (g.N.Undo.past a.net) a.lines.past a.marks.items (λ j n z. (i.held_below j n z, i.steps_below j n z))))
           now at safe caused,

@@ -27,7 +27,8 @@ use Rattle.tp_placing.specs.Inside.{board_of}
 use Rattle.tp_placing.specs.Standing.{AreCaused, Stands, IsAtWith, HasSmallOffsets}
 use Rattle.tp_placing.specs.Reasons.{IsReason}
 use Rattle.tp_placing.specs.Walking.{IsPartReason}
-use Rattle.tp_placing.specs.Trying.{CanRequire, IsRefused}
+use Rattle.tp_base.specs.Grows.{IsKnown}
+use Rattle.tp_placing.specs.Walking.{IsRefused}
 use Rattle.tp_placing.proofs.CauseFacts.{Keeps}
 use Rattle.tp_placing.proofs.BoardFacts.{board-step, steps-room}
 use Rattle.tp_placing.proofs.PastFacts.{side-more}
@@ -142,7 +143,7 @@ module _ (g : _) (c : After-index-newest g) (act : ActId) (rule : HoldRule) (r :
   numbers : All (λ id. id < length c.self.inside.held.items) order
   numbers = numbers-here g.N.Network.net (board g c) c.args.machine.now (standing g c).0 c.index-newest.result.now act rule c.args.hold c.args.place r.places (new rule c.index-newest.result.now) r.known r.resource r.four refl refl refl r.offsets
 
-  can : All (CanRequire (length (g.N.Network.net c.self.inside.net).lows)) es
+  can : All (IsKnown (length (g.N.Network.net c.self.inside.net).lows)) es
   can = can-back g.N.Network.net (board g c) c.args.machine.now (standing g c).0 c.index-newest.result.now act rule c.args.hold c.args.place r.places (new rule c.index-newest.result.now) r.known r.resource r.four refl refl refl r.offsets
 
   fits : c.args.place ≤ length order
@@ -235,7 +236,7 @@ require_around-requires-clause-can g k =
     let r = read g c k.in-Some.act k.get.result.now k.get-2.result.now k.in-Some.is k.get.ensures k.len-within.ensures.within k.get-2.ensures in
     let e = edges-made g c k.in-Some.act k.get-2.result.now r k.deref.result.now k.neighbours_of-neighbours.result.before k.neighbours_of-neighbours.result.behind k.step_tag-tag.result k.len-2.result k.gap_at-gap.result
     k.deref.ensures.value k.neighbours_of-neighbours.ensures.before k.neighbours_of-neighbours.ensures.behind k.step_tag-tag.ensures (k.len-2.ensures ∙ c.self.inside.steps.ok.0) k.gap_at-gap.ensures.gap in
-    subst (All (CanRequire (length (g.N.Network.net c.self.inside.net).lows))) (sym e) (can g c k.in-Some.act k.get-2.result.now r)
+    subst (All (IsKnown (length (g.N.Network.net c.self.inside.net).lows))) (sym e) (can g c k.in-Some.act k.get-2.result.now r)
 
 pub require_around-requires-clause-spare : goal.require_around-requires-clause-spare
 require_around-requires-clause-spare g k =
