@@ -22,7 +22,7 @@ use Rattle.tp_placing.specs.Laws.{MarkKeeps, UndoKeeps}
 use Rattle.tp_placing.specs.Standing.{Stands}
 use Rattle.tp_placing.specs.Walking.{StandsBack}
 use Rattle.tp_placing.proofs.StandFacts.{and-some, some-and}
-use Rattle.tp_search.specs.Boards.{IsBack, IsLaid, IsWayOf}
+use Rattle.tp_search.specs.Boards.{IsBack, IsLaid, IsReady, IsWayOf}
 use Rattle.tp_search.specs.States.{IsBefore}
 use Rattle.tp_search.specs.Ways.{IsPlaced, IsWay}
 use Rattle.tp_search.proofs.WaySteps.{action-way, place-way}
@@ -41,6 +41,14 @@ module _ {N C : Type 0} (net : N → Net) (content : N → C) (past : N → List
     loaded = load-trans a b c x.loaded y.loaded;
     marks = y.marks ∙ x.marks;
     stands = λ s. y.stands (x.stands s);
+  }
+
+  -- a board that is back is ready where it was
+  pub ready-back : (b b' : BoardValue N) (machine : Machine) (ask : Ask) → IsBack net content past mark_room b b' machine → IsReady net content past mark_room b machine ask → IsReady net content past mark_room b' machine ask
+  ready-back b b' machine ask back r = record {
+    stands = back.stands r.stands;
+    asked = back.loaded.ask ∙ r.asked;
+    closed = ap (λ (x : BoardContent C). suffix_after x.steps) back.same_content ∙ r.closed;
   }
 
   -- what is taken back to a mark: the marks and the load are the same

@@ -13,12 +13,12 @@ use Rattle.tp_schedule.specs.declared.parts.Plan.{Plan}
 use Rattle.tp_placing.specs.Boards.{BoardValue}
 use Rattle.tp_placing.specs.Laws.{MarkKeeps}
 use Rattle.tp_placing.specs.Standing.{Stands}
-use Rattle.tp_search.specs.Boards.{IsBack}
+use Rattle.tp_search.specs.Boards.{IsBack, IsReady}
 use Rattle.tp_search.specs.Following.{HasList, IsSameButSteps}
 use Rattle.tp_search.specs.Outcomes.{HasAnswer, IsOutcome}
 use Rattle.tp_search.specs.declared.searching.Outcome.{Outcome}
 use Rattle.tp_search.specs.declared.searching.Outcome.TheVariants.{Found, Never, Spent}
-use Rattle.tp_search.proofs.BoardSteps.{IsMarked, back-trans, load-of, load-trans}
+use Rattle.tp_search.proofs.BoardSteps.{IsMarked, back-trans, load-of, load-trans, suffix-back}
 
 module _ {N C : Type 0} (net : N → Net) (content : N → C) (past : N → List C) where
   -- the plans are legal, and the ask can be put on them
@@ -29,8 +29,13 @@ module _ {N C : Type 0} (net : N → Net) (content : N → C) (past : N → List
   stands-asked b machine ask stands asked = subst (IsAsked machine b.plans) (same_Some stands.0 ask (sym stands.1.asked ∙ asked)) stands.1.origin
 
 module _ {N C A : Type 0} (net : N → Net) (content : N → C) (past : N → List C) (aside : N → A) (mark_room : N → ℕ) where
-  pub marked-stands : MarkKeeps net content past aside → (b b' : BoardValue N) (machine : Machine) (mark : ℕ) → IsMarked net content past aside mark_room b b' mark → Stands net content past b machine → Stands net content past b' machine
-  marked-stands keeps b b' machine mark m stands = keeps b b' machine m.content_same m.aside_same m.past_more stands
+  -- a mark leaves a board ready
+  pub marked-ready : MarkKeeps net content past aside → (b b' : BoardValue N) (machine : Machine) (ask : Ask) (mark : ℕ) → IsMarked net content past aside mark_room b b' mark → IsReady net content past mark_room b machine ask → IsReady net content past mark_room b' machine ask
+  marked-ready keeps b b' machine ask mark m r = record {
+    stands = keeps b b' machine m.content_same m.aside_same m.past_more r.stands;
+    asked = (load-of net content past aside mark_room b b' m.aside_same).ask ∙ r.asked;
+    closed = suffix-back net content past mark_room b b' m.content_same ∙ r.closed;
+  }
 
   pub marked-plans : (b b' : BoardValue N) (mark : ℕ) → IsMarked net content past aside mark_room b b' mark → b'.plans ≡ b.plans
   marked-plans b b' mark m = (load-of net content past aside mark_room b b' m.aside_same).plans

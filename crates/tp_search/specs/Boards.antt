@@ -1,5 +1,5 @@
 -- What a board carries while a list is opened, and that it is left as it was.
-use Rattle.std.specs.Prelude.{◌≡◌, ℕ, ◌+◌, ◌-◌, ◌≤◌, List, length, Some, IsFalse, IsSomeAnd}
+use Rattle.std.specs.Prelude.{◌≡◌, ℕ, ◌+◌, ◌-◌, ◌≤◌, List, length, None, Some, IsFalse, IsSomeAnd}
 use Rattle.tp_base.specs.Net.{Net}
 use Rattle.tp_machine.specs.declared.parts.State.{State}
 use Rattle.tp_machine.specs.declared.whole.Machine.{Machine}
@@ -24,6 +24,12 @@ module _ {N C : Type 0} (net : N → Net) (content : N → C) (past : N → List
     pub stands : Stands net content past b machine
     pub asked : b.ask ≡ Some ask
     pub way : IsSomeAnd (suffix_of b) (IsWayOf machine b.plans ask goal first choices)
+
+  -- the board stands on the machine, is loaded for the ask, and has no goal open
+  pub record IsReady (b : BoardValue N) (machine : Machine) (ask : Ask) : Type 0 where
+    pub stands : Stands net content past b machine
+    pub asked : b.ask ≡ Some ask
+    pub closed : suffix_of b ≡ None
 
   -- so many marks of the board are spare, one of the network being its own
   abbrev pub HasMarks : ℕ → BoardValue N → Type 0

@@ -11,3 +11,5 @@ pub mod Outcomes
 pub mod Trials
 pub mod Workspaces
 pub mod Engines
+pub mod Problems
+pub mod Children

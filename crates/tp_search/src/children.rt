@@ -1,28 +1,35 @@
 //! The children of a list on a board, each of which is tried, and kept where it is open.
-ghost use Rattle.std.specs.Prelude.{◌≡◌, ◌+◌, ◌-◌, ◌<◌, ◌≤◌, ◌↔◌, [], ◌∷◌, length, take, Some, IsTrue};
-ghost use Rattle.tp_machine.specs.Using.{action_at};
+ghost use Rattle.std.specs.Prelude.{◌≡◌, ◌+◌, ◌-◌, ◌<◌, ◌↔◌, [], ◌∷◌, length, take, IsTrue};
 ghost use Rattle.tp_pool.specs.Entries.{IsParentOf, choices_before};
-ghost use Rattle.tp_routes.specs.Tables.{AreRooms, IsMadeFor};
 ghost use Rattle.tp_schedule.specs.Answers.{kept_of};
-ghost use Rattle.tp_schedule.specs.Holding.{holds_of_act};
-ghost use Rattle.tp_schedule.specs.Routes.{IsStart};
-ghost use Rattle.tp_schedule.specs.declared.parts.Origin.TheVariants.{Feeder};
 ghost use Rattle.tp_search.specs.Boards.{HasMarks, IsBack, IsLaid};
+ghost use Rattle.tp_search.specs.Children.{CarriesOpened, IsNewChild};
 ghost use Rattle.tp_search.specs.Opening.{IsAtProgress, IsFresh, IsSameOpening, opening_after, store_after};
 ghost use Rattle.tp_search.specs.Opening.Progress.{nothing, through, up_to};
+ghost use Rattle.tp_search.specs.Problems.{IsPosed};
 ghost use Rattle.tp_search.specs.Stored.{choices_by};
 ghost use Rattle.tp_search.specs.Stores.{HasBounds, IsInRange};
-ghost use Rattle.tp_search.specs.Ways.{IsPlaced};
 
+use crate::following::Laid;
 use crate::opening::Opening;
+use crate::problem::Problem;
 use crate::states::{Before, state_before};
 use crate::store::Store;
 use tp_base::{Late, Network, Tick, Undo};
-use tp_machine::{ActId, Machine, State};
+use tp_machine::{ActId, State};
 use tp_placing::{Board, Refused, marks_keep_boards};
 use tp_pool::Choice;
-use tp_routes::Rooms;
-use tp_schedule::{Ask, Origin, is_start};
+use tp_schedule::{Origin, is_start};
+
+/// A child that is tried: its newest action, the stored choice with the places so far, the state that it begins in, and
+/// whether it is complete there.
+#[derive(Clone, Copy)]
+struct Child {
+    act: ActId,
+    choice: Choice,
+    first: State,
+    complete: bool,
+}
 
 /// Takes a complete child with the parent's bound as the answer, and stores any other one.
 fn keep_child(store: &mut Store, opening: &mut Opening, choice: Choice, bound: Tick, complete: bool)
@@ -38,44 +45,41 @@ fn keep_child(store: &mut Store, opening: &mut Opening, choice: Choice, bound: T
     }
 }
 
-/// Places the holds of the newest choice, from this one on, in all ways, and keeps each child that is left. Each hold is tried
-/// from the end of its order to the front, until no place before is left.
+/// Places the holds of the child's newest action, from this one on, in all ways, and keeps each child that is left. Each hold
+/// is tried from the end of its order to the front, until no place before is left.
 fn place_rest<N: Network>(
     store: &mut Store,
     opening: &mut Opening,
     board: &mut Board<N>,
-    machine: &Machine,
-    ask: &Ask,
-    first: State,
-    act: ActId,
-    choice: Choice,
+    problem: Problem,
+    child: Child,
     hold: u32,
-    complete: bool,
 )
-    requires act { choice.act ≡ Some act }
-    requires four { length choice.places ≡ 4 }
-    requires known { act.0 < length machine.now.actions }
-    requires hold { hold ≤ length (holds_of_act (action_at machine.now act.0)) }
-    requires goal { choice.goal ≡ opening.old.goal }
-    requires complete { IsTrue complete
-        ↔ ((ask.now.origin ≡ Feeder) × IsStart machine.now ask.now first) }
-    requires laid { IsLaid N.net N.content N.past N.mark_room board.old machine.now ask.now
-        opening.old.goal first
-        (record { act = act; places = take hold choice.places } ∷ choices_by machine.now
-        (choices_before store.old.entries opening.old.parent)) }
+    requires child { IsNewChild problem.machine.now problem.ask.now opening.old.goal child hold }
+    requires laid { IsLaid N.net N.content N.past N.mark_room board.old problem.machine.now
+        problem.ask.now opening.old.goal child.first
+        (record { act = child.act; places = take hold child.choice.places } ∷ choices_by
+        problem.machine.now (choices_before store.old.entries opening.old.parent)) }
     requires marks { HasMarks N.net N.content N.past N.mark_room (5 - hold) board.old }
-    requires fresh { IsFresh machine.now ask.now opening.old store.old }
-    requires bounds { HasBounds machine.now ask.now store.old }
-    requires progress { IsAtProgress machine.now board.old.plans ask.now opening.old store.old
-        (up_to act.0 (take hold choice.places)) }
-    ensures progress { IsAtProgress machine.now board.old.plans ask.entry.now opening.new store.new
-        (through act.0 (take hold choice.places)) }
+    requires fresh { IsFresh problem.machine.now problem.ask.now opening.old store.old }
+    requires bounds { HasBounds problem.machine.now problem.ask.now store.old }
+    requires progress { IsAtProgress problem.machine.now board.old.plans problem.ask.now opening.old
+        store.old (up_to child.act.0 (take hold child.choice.places)) }
+    ensures progress { IsAtProgress problem.entry.machine.now board.old.plans problem.entry.ask.now
+        opening.new store.new (through child.act.0 (take hold child.choice.places)) }
     ensures same { IsSameOpening opening.old opening.new store.old store.new }
-    ensures back { IsBack N.net N.content N.past N.mark_room board.old board.new machine.now }
+    ensures back { IsBack N.net N.content N.past N.mark_room board.old board.new
+        problem.entry.machine.now }
 {
-    let holds = &machine.actions.get(act.0 as u32).holds;
+    let holds = &problem.machine.actions.get(child.act.0 as u32).holds;
     if hold == holds.len() {
-        keep_child(store, opening, choice, board.end_bound(), complete);
+        keep_child(
+            store,
+            opening,
+            child.choice,
+            board.end_bound(),
+            child.complete,
+        );
         return;
     }
     marks_keep_boards::<N>();
@@ -83,21 +87,10 @@ fn place_rest<N: Network>(
     let last = board.places(resource);
     for place in (0..=last).rev() {
         let mark = board.mark();
-        let mut placed = choice;
-        placed.places[hold as usize] = place;
-        match board.try_place(machine, hold, place) {
-            Ok(()) => place_rest(
-                store,
-                opening,
-                board,
-                machine,
-                ask,
-                first,
-                act,
-                placed,
-                hold + 1,
-                complete,
-            ),
+        let mut placed = child;
+        placed.choice.places[hold as usize] = place;
+        match board.try_place(problem.machine, hold, place) {
+            Ok(()) => place_rest(store, opening, board, problem, placed, hold + 1),
             Err(Refused::Here) => {}
             Err(Refused::UpToHere) => {
                 board.undo_to(mark);
@@ -108,63 +101,52 @@ fn place_rest<N: Network>(
     }
 }
 
-/// Keeps the children that have this action more.
+/// Keeps the children that have this action more, before the state in which the list begins.
 fn open_act<N: Network>(
     store: &mut Store,
     opening: &mut Opening,
     board: &mut Board<N>,
-    rooms: &Rooms,
-    machine: &Machine,
-    ask: &Ask,
+    problem: Problem,
     first: State,
     act: ActId,
 )
-    requires known { act.0 < length machine.now.actions }
-    requires table { IsMadeFor rooms.now machine.now }
-    requires rooms { AreRooms machine.now ask.now rooms.now.sums }
-    requires laid { IsLaid N.net N.content N.past N.mark_room board.old machine.now ask.now
-        opening.old.goal first
-        (choices_by machine.now (choices_before store.old.entries opening.old.parent)) }
-    requires placed { IsPlaced machine.now
-        (choices_by machine.now (choices_before store.old.entries opening.old.parent)) }
+    requires known { act.0 < length problem.machine.now.actions }
+    requires posed { IsPosed problem }
+    requires opened { CarriesOpened N.net N.content N.past N.mark_room board.old problem.machine.now
+        problem.ask.now opening.old store.old first }
     requires marks { HasMarks N.net N.content N.past N.mark_room 6 board.old }
-    requires fresh { IsFresh machine.now ask.now opening.old store.old }
-    requires bounds { HasBounds machine.now ask.now store.old }
-    requires fewer { kept_of ask.now
-        + length (choices_by machine.now (choices_before store.old.entries opening.old.parent))
-        < 64 }
-    requires progress { IsAtProgress machine.now board.old.plans ask.now opening.old store.old
-        (up_to act.0 []) }
-    ensures progress { IsAtProgress machine.now board.old.plans ask.entry.now opening.new store.new
-        (up_to (act.0 + 1) []) }
+    requires fewer { kept_of problem.ask.now
+        + length (choices_by problem.machine.now
+        (choices_before store.old.entries opening.old.parent)) < 64 }
+    requires progress { IsAtProgress problem.machine.now board.old.plans problem.ask.now opening.old
+        store.old (up_to act.0 []) }
+    ensures progress { IsAtProgress problem.entry.machine.now board.old.plans problem.entry.ask.now
+        opening.new store.new (up_to (act.0 + 1) []) }
     ensures same { IsSameOpening opening.old opening.new store.old store.new }
-    ensures back { IsBack N.net N.content N.past N.mark_room board.old board.new machine.now }
+    ensures back { IsBack N.net N.content N.past N.mark_room board.old board.new
+        problem.entry.machine.now }
 {
     marks_keep_boards::<N>();
-    let Some(before) = state_before(rooms, machine, ask, first, act) else {
+    let Some(before) = state_before(problem, first, act) else {
         return;
     };
     let mark = board.mark();
-    match board.open_action(machine, act, before.room) {
+    match board.open_action(problem.machine, act, before.room) {
         Ok(()) => {
             let choice = Choice {
                 act: Some(act),
                 goal: opening.goal,
                 places: [0; 4],
             };
-            let complete = ask.origin == Origin::Feeder && is_start(machine, ask, before.state);
-            place_rest(
-                store,
-                opening,
-                board,
-                machine,
-                ask,
-                before.state,
+            let complete = problem.ask.origin == Origin::Feeder
+                && is_start(problem.machine, problem.ask, before.state);
+            let child = Child {
                 act,
                 choice,
-                0,
+                first: before.state,
                 complete,
-            );
+            };
+            place_rest(store, opening, board, problem, child, 0);
         }
         Err(Late) => {}
     }
@@ -183,30 +165,26 @@ fn open_stop<N: Network>(
     store: &mut Store,
     opening: &mut Opening,
     board: &mut Board<N>,
-    machine: &Machine,
-    ask: &Ask,
-    first: State,
-    count: u32,
+    problem: Problem,
+    laid: Laid,
 )
-    requires count { count
-        ≡ length (choices_by machine.now (choices_before store.old.entries opening.old.parent)) }
-    requires laid { IsLaid N.net N.content N.past N.mark_room board.old machine.now ask.now
-        opening.old.goal first
-        (choices_by machine.now (choices_before store.old.entries opening.old.parent)) }
-    requires placed { IsPlaced machine.now
-        (choices_by machine.now (choices_before store.old.entries opening.old.parent)) }
+    requires count { laid.count
+        ≡ length (choices_by problem.machine.now
+        (choices_before store.old.entries opening.old.parent)) }
+    requires opened { CarriesOpened N.net N.content N.past N.mark_room board.old problem.machine.now
+        problem.ask.now opening.old store.old laid.first }
     requires marks { HasMarks N.net N.content N.past N.mark_room 1 board.old }
-    requires fresh { IsFresh machine.now ask.now opening.old store.old }
-    requires bounds { HasBounds machine.now ask.now store.old }
-    requires progress { IsAtProgress machine.now board.old.plans ask.now opening.old store.old
-        nothing }
-    ensures progress { IsAtProgress machine.now board.old.plans ask.entry.now opening.new store.new
-        (up_to 0 []) }
+    requires progress { IsAtProgress problem.machine.now board.old.plans problem.ask.now opening.old
+        store.old nothing }
+    ensures progress { IsAtProgress problem.entry.machine.now board.old.plans problem.entry.ask.now
+        opening.new store.new (up_to 0 []) }
     ensures same { IsSameOpening opening.old opening.new store.old store.new }
-    ensures back { IsBack N.net N.content N.past N.mark_room board.old board.new machine.now }
+    ensures back { IsBack N.net N.content N.past N.mark_room board.old board.new
+        problem.entry.machine.now }
 {
     marks_keep_boards::<N>();
-    let Origin::Front { state, .. } = ask.origin else {
+    let Laid { first, count } = laid;
+    let Origin::Front { state, .. } = problem.ask.origin else {
         return;
     };
     if count == 0 || !is_at(state, first) {
@@ -227,50 +205,35 @@ fn open_stop<N: Network>(
     board.undo_to(mark);
 }
 
-/// Keeps all open children of the list of so many choices that the board carries, unless one of them is an answer.
+/// Keeps all open children of the list that the board carries, unless one of them is an answer.
 pub(crate) fn open_list<N: Network>(
     store: &mut Store,
     opening: &mut Opening,
     board: &mut Board<N>,
-    rooms: &Rooms,
-    machine: &Machine,
-    ask: &Ask,
-    first: State,
-    count: u32,
+    problem: Problem,
+    laid: Laid,
 )
-    requires count { count
-        ≡ length (choices_by machine.now (choices_before store.old.entries opening.old.parent)) }
-    requires table { IsMadeFor rooms.now machine.now }
-    requires rooms { AreRooms machine.now ask.now rooms.now.sums }
-    requires laid { IsLaid N.net N.content N.past N.mark_room board.old machine.now ask.now
-        opening.old.goal first
-        (choices_by machine.now (choices_before store.old.entries opening.old.parent)) }
-    requires placed { IsPlaced machine.now
-        (choices_by machine.now (choices_before store.old.entries opening.old.parent)) }
+    requires count { laid.count
+        ≡ length (choices_by problem.machine.now
+        (choices_before store.old.entries opening.old.parent)) }
+    requires posed { IsPosed problem }
+    requires opened { CarriesOpened N.net N.content N.past N.mark_room board.old problem.machine.now
+        problem.ask.now opening.old store.old laid.first }
     requires marks { HasMarks N.net N.content N.past N.mark_room 6 board.old }
-    requires fresh { IsFresh machine.now ask.now opening.old store.old }
-    requires bounds { HasBounds machine.now ask.now store.old }
-    requires progress { IsAtProgress machine.now board.old.plans ask.now opening.old store.old
-        nothing }
-    ensures progress { IsAtProgress machine.now board.old.plans ask.entry.now opening.new store.new
-        (up_to (length machine.now.actions) []) }
+    requires progress { IsAtProgress problem.machine.now board.old.plans problem.ask.now opening.old
+        store.old nothing }
+    ensures progress { IsAtProgress problem.entry.machine.now board.old.plans problem.entry.ask.now
+        opening.new store.new (up_to (length problem.entry.machine.now.actions) []) }
     ensures same { IsSameOpening opening.old opening.new store.old store.new }
-    ensures back { IsBack N.net N.content N.past N.mark_room board.old board.new machine.now }
+    ensures back { IsBack N.net N.content N.past N.mark_room board.old board.new
+        problem.entry.machine.now }
 {
-    open_stop(store, opening, board, machine, ask, first, count);
-    if ask.origin.kept() + count == 64 {
+    let Laid { first, count } = laid;
+    open_stop(store, opening, board, problem, laid);
+    if problem.ask.origin.kept() + count == 64 {
         return;
     }
-    for at in 0..machine.actions.len() {
-        open_act(
-            store,
-            opening,
-            board,
-            rooms,
-            machine,
-            ask,
-            first,
-            ActId(at as u16),
-        );
+    for at in 0..problem.machine.actions.len() {
+        open_act(store, opening, board, problem, first, ActId(at as u16));
     }
 }

@@ -1,23 +1,30 @@
 //! A stored list on a board: its choices one after another, from the goal on. The list is open, so that no step is late.
-ghost use Rattle.std.specs.Prelude.{◌≡◌, ◌<◌, [], length, take, None, Some, IsSomeAnd};
+ghost use Rattle.std.specs.Prelude.{◌≡◌, ◌<◌, [], length, take, Some, IsSomeAnd};
 ghost use Rattle.tp_machine.specs.Using.{action_at};
 ghost use Rattle.tp_pool.specs.Entries.{choices_of as stored_at};
-ghost use Rattle.tp_routes.specs.Tables.{AreRooms, IsKnownOrigin, IsMadeFor};
 ghost use Rattle.tp_schedule.specs.Choices.{IsOpen, going};
 ghost use Rattle.tp_schedule.specs.Holding.{holds_of_act};
 ghost use Rattle.tp_placing.specs.Boards.{suffix_of};
 ghost use Rattle.tp_placing.specs.Standing.{Stands, choices_of};
+ghost use Rattle.tp_search.specs.Boards.{IsReady};
 ghost use Rattle.tp_search.specs.Following.{AwaitsPlaces, HasList, IsSameButSteps, IsStoredList, with_places};
+ghost use Rattle.tp_search.specs.Problems.{IsPosed};
 ghost use Rattle.tp_search.specs.Stored.{child_by, list_by};
 
+use crate::problem::Problem;
 use crate::states::{room_of, state_before};
 use crate::store::Store;
 use tp_base::{Late, Network};
 use tp_machine::{ActId, Machine, State};
 use tp_placing::Board;
 use tp_pool::Choice;
-use tp_routes::Rooms;
-use tp_schedule::Ask;
+
+/// A list on a board: the state that it begins in, and how many choices it has.
+#[derive(Clone, Copy)]
+pub(crate) struct Laid {
+    pub(crate) first: State,
+    pub(crate) count: u32,
+}
 
 /// Places each hold of the newest choice, which has no place yet.
 fn place_all<N: Network>(board: &mut Board<N>, machine: &Machine, act: ActId, places: &[u32; 4])
@@ -45,20 +52,20 @@ fn place_all<N: Network>(board: &mut Board<N>, machine: &Machine, act: ActId, pl
 /// One stored choice more, before those of the board. Answers the first state then.
 pub(crate) fn lay<N: Network>(
     board: &mut Board<N>,
-    rooms: &Rooms,
-    machine: &Machine,
-    ask: &Ask,
+    problem: Problem,
     first: State,
     choice: &Choice,
 ) -> State
-    requires table { IsMadeFor rooms.now machine.now }
-    requires rooms { AreRooms machine.now ask.now rooms.now.sums }
-    requires laid { HasList N.net N.content N.past board.old machine.now ask.now first
-        (going choice.now.goal (choices_of (suffix_of board.old)).choices) }
-    requires opens { IsOpen machine.now board.old.plans ask.now
-        (child_by machine.now choice.now.goal (choices_of (suffix_of board.old)).choices choice.now) }
-    ensures laid { HasList N.net N.content N.past board.new machine.now ask.entry.now result
-        (child_by machine.now choice.now.goal (choices_of (suffix_of board.old)).choices choice.now) }
+    requires posed { IsPosed problem }
+    requires laid { HasList N.net N.content N.past board.old problem.machine.now problem.ask.now
+        first (going choice.now.goal (choices_of (suffix_of board.old)).choices) }
+    requires opens { IsOpen problem.machine.now board.old.plans problem.ask.now
+        (child_by problem.machine.now choice.now.goal
+        (choices_of (suffix_of board.old)).choices choice.now) }
+    ensures laid { HasList N.net N.content N.past board.new problem.entry.machine.now
+        problem.entry.ask.now result
+        (child_by problem.entry.machine.now choice.now.goal
+        (choices_of (suffix_of board.old)).choices choice.now) }
     ensures same { IsSameButSteps N.past N.mark_room board.old board.new }
 {
     let Some(act) = choice.act else {
@@ -67,37 +74,28 @@ pub(crate) fn lay<N: Network>(
             Err(Late) => unreachable!(),
         }
     };
-    let Some(before) = state_before(rooms, machine, ask, first, act) else {
+    let Some(before) = state_before(problem, first, act) else {
         unreachable!()
     };
-    match board.open_action(machine, act, before.room) {
+    match board.open_action(problem.machine, act, before.room) {
         Ok(()) => {}
         Err(Late) => unreachable!(),
     }
-    place_all(board, machine, act, &choice.places);
+    place_all(board, problem.machine, act, &choice.places);
     before.state
 }
 
 /// Lays the list of a goal without choices, which is open, on a board that has no choices.
-pub(crate) fn follow_goal<N: Network>(
-    board: &mut Board<N>,
-    rooms: &Rooms,
-    machine: &Machine,
-    ask: &Ask,
-    goal: State,
-)
-    requires table { IsMadeFor rooms.now machine.now }
-    requires rooms { AreRooms machine.now ask.now rooms.now.sums }
-    requires origin { IsKnownOrigin machine.now ask.now.origin }
-    requires stands { Stands N.net N.content N.past board.old machine.now }
-    requires asked { board.old.ask ≡ Some ask.now }
-    requires closed { suffix_of board.old ≡ None }
-    requires opens { IsOpen machine.now board.old.plans ask.now (going goal []) }
-    ensures laid { HasList N.net N.content N.past board.new machine.now ask.entry.now goal
-        (going goal []) }
+pub(crate) fn follow_goal<N: Network>(board: &mut Board<N>, problem: Problem, goal: State)
+    requires posed { IsPosed problem }
+    requires ready { IsReady N.net N.content N.past N.mark_room board.old problem.machine.now
+        problem.ask.now }
+    requires opens { IsOpen problem.machine.now board.old.plans problem.ask.now (going goal []) }
+    ensures laid { HasList N.net N.content N.past board.new problem.entry.machine.now
+        problem.entry.ask.now goal (going goal []) }
     ensures same { IsSameButSteps N.past N.mark_room board.old board.new }
 {
-    let Some(room) = room_of(rooms, machine, ask, goal) else {
+    let Some(room) = room_of(problem, goal) else {
         unreachable!()
     };
     match board.open_goal(room) {
@@ -110,32 +108,28 @@ pub(crate) fn follow_goal<N: Network>(
 pub(crate) fn follow<N: Network>(
     store: &Store,
     board: &mut Board<N>,
-    rooms: &Rooms,
-    machine: &Machine,
-    ask: &Ask,
+    problem: Problem,
     node: u32,
 ) -> State
-    requires table { IsMadeFor rooms.now machine.now }
-    requires rooms { AreRooms machine.now ask.now rooms.now.sums }
-    requires origin { IsKnownOrigin machine.now ask.now.origin }
-    requires stands { Stands N.net N.content N.past board.old machine.now }
-    requires asked { board.old.ask ≡ Some ask.now }
-    requires closed { suffix_of board.old ≡ None }
+    requires posed { IsPosed problem }
+    requires ready { IsReady N.net N.content N.past N.mark_room board.old problem.machine.now
+        problem.ask.now }
     requires there { node < length store.now.entries }
     requires stored { let choices = stored_at store.now.entries node in IsStoredList
-        (list_by machine.now choices).goal choices }
-    requires opens { IsOpen machine.now board.old.plans ask.now
-        (list_by machine.now (stored_at store.now.entries node)) }
-    ensures laid { HasList N.net N.content N.past board.new machine.now ask.entry.now result
-        (list_by machine.now (stored_at store.now.entries node)) }
+        (list_by problem.machine.now choices).goal choices }
+    requires opens { IsOpen problem.machine.now board.old.plans problem.ask.now
+        (list_by problem.machine.now (stored_at store.now.entries node)) }
+    ensures laid { HasList N.net N.content N.past board.new problem.entry.machine.now
+        problem.entry.ask.now result
+        (list_by problem.entry.machine.now (stored_at store.now.entries node)) }
     ensures same { IsSameButSteps N.past N.mark_room board.old board.new }
 {
     let depth = store.depth(node);
     let mut first = store.choice_at(node, depth).goal;
-    follow_goal(board, rooms, machine, ask, first);
+    follow_goal(board, problem, first);
     'depths: for at in 0..depth {
         let choice = store.choice_at(node, at + 1);
-        first = lay(board, rooms, machine, ask, first, &choice);
+        first = lay(board, problem, first, &choice);
     }
     first
 }

@@ -1,20 +1,17 @@
 //! The goal states of an ask whose lists without choices are open.
-ghost use Rattle.std.specs.Prelude.{◌≡◌, ◌*◌, ◌<◌, ◌≤◌, [], length, vec_capacity, Some, None, IfNone, IfSome};
+ghost use Rattle.std.specs.Prelude.{◌≡◌, ◌*◌, ◌<◌, ◌≤◌, [], length, vec_capacity, IfNone, IfSome};
 ghost use Rattle.tp_routes.specs.Numbers.{state_at};
-ghost use Rattle.tp_routes.specs.Tables.{AreRooms, IsKnownOrigin, IsMadeFor};
 ghost use Rattle.tp_schedule.specs.Answers.{kept_of};
 ghost use Rattle.tp_schedule.specs.Choices.{IsBound, IsOpen, going};
-ghost use Rattle.tp_placing.specs.Boards.{suffix_of};
-ghost use Rattle.tp_placing.specs.Standing.{Stands};
-ghost use Rattle.tp_search.specs.Boards.{HasMarks, IsBack};
+ghost use Rattle.tp_search.specs.Boards.{HasMarks, IsBack, IsReady};
+ghost use Rattle.tp_search.specs.Problems.{IsPosed};
 ghost use Rattle.tp_search.specs.Searching.{AreOpenGoals, list_of_goal};
 
+use crate::problem::Problem;
 use crate::states::goal_at;
 use tp_base::{Late, Network, Tick, Undo};
-use tp_machine::{Machine, State};
+use tp_machine::State;
 use tp_placing::{Board, marks_keep_boards};
-use tp_routes::Rooms;
-use tp_schedule::Ask;
 
 /// A goal state whose list without choices is open, with the list's bound, in ticks.
 #[derive(Clone, Copy)]
@@ -24,30 +21,25 @@ pub(crate) struct OpenGoal {
 }
 
 /// The goal of this number with its bound, if it is open. Leaves the board as it was.
-fn try_goal<N: Network>(
-    board: &mut Board<N>,
-    rooms: &Rooms,
-    machine: &Machine,
-    ask: &Ask,
-    number: u32,
-) -> Option<OpenGoal>
-    requires table { IsMadeFor rooms.now machine.now }
-    requires rooms { AreRooms machine.now ask.now rooms.now.sums }
-    requires known { number < 8 * length machine.now.locations }
-    requires kept { kept_of ask.now ≤ 64 }
-    requires stands { Stands N.net N.content N.past board.old machine.now }
-    requires asked { board.old.ask ≡ Some ask.now }
-    requires closed { suffix_of board.old ≡ None }
+fn try_goal<N: Network>(board: &mut Board<N>, problem: Problem, number: u32) -> Option<OpenGoal>
+    requires posed { IsPosed problem }
+    requires known { number < 8 * length problem.machine.now.locations }
+    requires kept { kept_of problem.ask.now ≤ 64 }
+    requires ready { IsReady N.net N.content N.past N.mark_room board.old problem.machine.now
+        problem.ask.now }
     requires marks { HasMarks N.net N.content N.past N.mark_room 1 board.old }
     ensures state { IfSome result (λ g. g.state ≡ state_at number) }
     ensures bound { IfSome result
-        (λ g. IsBound machine.now board.old.plans ask.entry.now (list_of_goal g) g.bound) }
+        (λ g. IsBound problem.entry.machine.now board.old.plans problem.entry.ask.now
+        (list_of_goal g) g.bound) }
     ensures none { IfNone result
-        (¬ IsOpen machine.now board.old.plans ask.entry.now (going (state_at number) [])) }
-    ensures back { IsBack N.net N.content N.past N.mark_room board.old board.new machine.now }
+        (¬ IsOpen problem.entry.machine.now board.old.plans problem.entry.ask.now
+        (going (state_at number) [])) }
+    ensures back { IsBack N.net N.content N.past N.mark_room board.old board.new
+        problem.entry.machine.now }
 {
     marks_keep_boards::<N>();
-    let Some(goal) = goal_at(rooms, machine, ask, number) else {
+    let Some(goal) = goal_at(problem, number) else {
         return None;
     };
     let mark = board.mark();
@@ -66,26 +58,23 @@ fn try_goal<N: Network>(
 pub(crate) fn find_goals<N: Network>(
     goals: &mut Vec<OpenGoal>,
     board: &mut Board<N>,
-    rooms: &Rooms,
-    machine: &Machine,
-    ask: &Ask,
+    problem: Problem,
 )
-    requires table { IsMadeFor rooms.now machine.now }
-    requires rooms { AreRooms machine.now ask.now rooms.now.sums }
-    requires origin { IsKnownOrigin machine.now ask.now.origin }
-    requires kept { kept_of ask.now ≤ 64 }
-    requires stands { Stands N.net N.content N.past board.old machine.now }
-    requires asked { board.old.ask ≡ Some ask.now }
-    requires closed { suffix_of board.old ≡ None }
+    requires posed { IsPosed problem }
+    requires kept { kept_of problem.ask.now ≤ 64 }
+    requires ready { IsReady N.net N.content N.past N.mark_room board.old problem.machine.now
+        problem.ask.now }
     requires marks { HasMarks N.net N.content N.past N.mark_room 1 board.old }
-    requires space { 8 * length machine.now.locations ≤ vec_capacity goals.old }
-    ensures goals { AreOpenGoals machine.now board.old.plans ask.entry.now goals.new.items }
-    ensures back { IsBack N.net N.content N.past N.mark_room board.old board.new machine.now }
+    requires space { 8 * length problem.machine.now.locations ≤ vec_capacity goals.old }
+    ensures goals { AreOpenGoals problem.entry.machine.now board.old.plans problem.entry.ask.now
+        goals.new.items }
+    ensures back { IsBack N.net N.content N.past N.mark_room board.old board.new
+        problem.entry.machine.now }
     ensures space { vec_capacity goals.old ≤ vec_capacity goals.new }
 {
     goals.clear();
-    'numbers: for number in 0..machine.locations.len() * 8 {
-        if let Some(goal) = try_goal(board, rooms, machine, ask, number) {
+    'numbers: for number in 0..problem.machine.locations.len() * 8 {
+        if let Some(goal) = try_goal(board, problem, number) {
             let Ok(()) = goals.push(goal) else {
                 unreachable!()
             };

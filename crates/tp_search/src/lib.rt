@@ -8,6 +8,7 @@ mod following;
 mod goals;
 mod laws;
 mod opening;
+mod problem;
 mod searching;
 mod states;
 mod store;

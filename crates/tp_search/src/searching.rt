@@ -1,26 +1,25 @@
 //! A best-first search: lists are opened by rising bound, until a complete one has the least bound of all that wait.
 ghost use Rattle.std.specs.Prelude.{ℕ, ◌≡◌, ◌<◌, ◌≤◌, length, vec_capacity, None, Some, IfNone, IfSome};
+ghost use Rattle.tp_machine.specs.declared.whole.Machine.{Machine};
 ghost use Rattle.tp_pool.specs.Entries.{bound_of, choices_before};
-ghost use Rattle.tp_routes.specs.Tables.{AreRooms, IsKnownOrigin, IsMadeFor};
-ghost use Rattle.tp_placing.specs.Boards.{suffix_of};
 ghost use Rattle.tp_placing.specs.Standing.{Stands};
 ghost use Rattle.tp_schedule.specs.Planning.{IsKnownGoal};
-ghost use Rattle.tp_search.specs.Boards.{HasMarks, IsBack};
+ghost use Rattle.tp_search.specs.Boards.{HasMarks, IsBack, IsReady};
 ghost use Rattle.tp_search.specs.Following.{HasList, IsSameButSteps};
 ghost use Rattle.tp_search.specs.Outcomes.{CanLay, CanOpen, HasChild, IsAllOpened, IsOutcome};
+ghost use Rattle.tp_search.specs.Problems.{IsPosed};
 ghost use Rattle.tp_search.specs.Searching.{IsBestLater, IsSameSpace, IsSearching, next_bound, next_list, next_node, opening_of, still_to_take};
 
 use crate::children::open_list;
-use crate::following::{follow, follow_goal, lay};
+use crate::following::{Laid, follow, follow_goal, lay};
 use crate::goals::OpenGoal;
 use crate::opening::Opening;
+use crate::problem::Problem;
 use crate::store::Store;
 use crate::taking::{Next, take_next};
 use tp_base::{Mark, Network, Tick, Undo};
-use tp_machine::{Machine, State, machine_law};
+use tp_machine::machine_law;
 use tp_placing::{Board, marks_keep_boards};
-use tp_routes::Rooms;
-use tp_schedule::Ask;
 
 /// How a search ended. With `Found` the board carries an earliest plan since the mark `base`: it is to be committed, or undone
 /// to that mark. With `Spent` no plan ends before the bound, in ticks.
@@ -28,13 +27,6 @@ pub(crate) enum Outcome {
     Found { base: Mark },
     Never,
     Spent { bound: Tick },
-}
-
-/// A list on a board: its first state, and how many choices it has.
-#[derive(Clone, Copy)]
-struct Laid {
-    first: State,
-    count: u32,
 }
 
 /// The bound of the list that was taken.
@@ -64,37 +56,28 @@ fn best_by(store: &Store, bound: Tick) -> Option<u32>
 }
 
 /// Lays the list that was taken on the board.
-fn lay_next<N: Network>(
-    store: &Store,
-    board: &mut Board<N>,
-    rooms: &Rooms,
-    machine: &Machine,
-    ask: &Ask,
-    next: &Next,
-) -> Laid
-    requires table { IsMadeFor rooms.now machine.now }
-    requires rooms { AreRooms machine.now ask.now rooms.now.sums }
-    requires origin { IsKnownOrigin machine.now ask.now.origin }
-    requires stands { Stands N.net N.content N.past board.old machine.now }
-    requires asked { board.old.ask ≡ Some ask.now }
-    requires closed { suffix_of board.old ≡ None }
-    requires can { CanLay machine.now board.old.plans ask.now store.now next.now }
-    ensures laid { HasList N.net N.content N.past board.new machine.now ask.entry.now result.first
-        (next_list machine.now store.now next.entry.now) }
+fn lay_next<N: Network>(store: &Store, board: &mut Board<N>, problem: Problem, next: &Next) -> Laid
+    requires posed { IsPosed problem }
+    requires ready { IsReady N.net N.content N.past N.mark_room board.old problem.machine.now
+        problem.ask.now }
+    requires can { CanLay problem.machine.now board.old.plans problem.ask.now store.now next.now }
+    ensures laid { HasList N.net N.content N.past board.new problem.entry.machine.now
+        problem.entry.ask.now result.first
+        (next_list problem.entry.machine.now store.now next.entry.now) }
     ensures count { result.count
         ≡ length (choices_before store.now.entries (next_node next.entry.now)) }
     ensures same { IsSameButSteps N.past N.mark_room board.old board.new }
 {
     match *next {
         Next::Goal(goal) => {
-            follow_goal(board, rooms, machine, ask, goal.state);
+            follow_goal(board, problem, goal.state);
             Laid {
                 first: goal.state,
                 count: 0,
             }
         }
         Next::Node(node) => {
-            let first = follow(store, board, rooms, machine, ask, node);
+            let first = follow(store, board, problem, node);
             Laid {
                 first,
                 count: store.depth(node),
@@ -132,42 +115,28 @@ fn opening_of(store: &Store, next: &Next) -> Opening
 fn open_next<N: Network>(
     store: &mut Store,
     board: &mut Board<N>,
-    rooms: &Rooms,
-    machine: &Machine,
-    ask: &Ask,
+    problem: Problem,
     next: &Next,
 ) -> Opening
-    requires table { IsMadeFor rooms.now machine.now }
-    requires rooms { AreRooms machine.now ask.now rooms.now.sums }
-    requires origin { IsKnownOrigin machine.now ask.now.origin }
-    requires stands { Stands N.net N.content N.past board.old machine.now }
-    requires asked { board.old.ask ≡ Some ask.now }
-    requires closed { suffix_of board.old ≡ None }
+    requires posed { IsPosed problem }
+    requires ready { IsReady N.net N.content N.past N.mark_room board.old problem.machine.now
+        problem.ask.now }
     requires marks { HasMarks N.net N.content N.past N.mark_room 6 board.old }
-    requires can { CanOpen machine.now board.old.plans ask.now store.old next.now }
-    ensures opened { IsAllOpened machine.now board.old.plans ask.entry.now store.old next.entry.now
-        result store.new }
+    requires can { CanOpen problem.machine.now board.old.plans problem.ask.now store.old next.now }
+    ensures opened { IsAllOpened problem.entry.machine.now board.old.plans problem.entry.ask.now
+        store.old next.entry.now result store.new }
     ensures answer { IfSome result.answer
-        (HasChild N.net N.content N.past N.mark_room board.new machine.now ask.entry.now store.old
-        next.entry.now) }
-    ensures stands { Stands N.net N.content N.past board.new machine.now }
+        (HasChild N.net N.content N.past N.mark_room board.new problem.entry.machine.now
+        problem.entry.ask.now store.old next.entry.now) }
+    ensures stands { Stands N.net N.content N.past board.new problem.entry.machine.now }
     ensures same { IsSameButSteps N.past N.mark_room board.old board.new }
 {
     let mut opening = opening_of(store, next);
-    let laid = lay_next(store, board, rooms, machine, ask, next);
-    open_list(
-        store,
-        &mut opening,
-        board,
-        rooms,
-        machine,
-        ask,
-        laid.first,
-        laid.count,
-    );
+    let laid = lay_next(store, board, problem, next);
+    open_list(store, &mut opening, board, problem, laid);
     match opening.answer {
         Some(answer) => {
-            lay(board, rooms, machine, ask, laid.first, &answer);
+            lay(board, problem, laid.first, &answer);
         }
         None => {}
     }
@@ -179,32 +148,29 @@ fn step<N: Network>(
     goals: &mut Vec<OpenGoal>,
     store: &mut Store,
     board: &mut Board<N>,
-    rooms: &Rooms,
-    machine: &Machine,
-    ask: &Ask,
+    problem: Problem,
 ) -> Option<Outcome>
-    requires table { IsMadeFor rooms.now machine.now }
-    requires rooms { AreRooms machine.now ask.now rooms.now.sums }
-    requires origin { IsKnownOrigin machine.now ask.now.origin }
-    requires goal { IsKnownGoal machine.now ask.now.goal }
-    requires stands { Stands N.net N.content N.past board.old machine.now }
-    requires asked { board.old.ask ≡ Some ask.now }
-    requires closed { suffix_of board.old ≡ None }
+    requires posed { IsPosed problem }
+    requires goal { IsKnownGoal problem.machine.now problem.ask.now.goal }
+    requires ready { IsReady N.net N.content N.past N.mark_room board.old problem.machine.now
+        problem.ask.now }
     requires marks { HasMarks N.net N.content N.past N.mark_room 7 board.old }
     requires searching { (bound : ℕ)
-        × IsSearching machine.now board.old.plans ask.now goals.old.items store.old bound }
+        × IsSearching problem.machine.now board.old.plans problem.ask.now goals.old.items store.old
+        bound }
     ensures ends { IfSome result
-        (IsOutcome N.net N.content N.past N.mark_room board.old board.new machine.now ask.entry.now
-        store.old.room) }
+        (IsOutcome N.net N.content N.past N.mark_room board.old board.new problem.entry.machine.now
+        problem.entry.ask.now store.old.room) }
     ensures goes_on { result ≡ None → (bound : ℕ)
-        × IsSearching machine.now board.old.plans ask.entry.now goals.new.items store.new bound }
+        × IsSearching problem.entry.machine.now board.old.plans problem.entry.ask.now
+        goals.new.items store.new bound }
     ensures back { result ≡ None
-        → IsBack N.net N.content N.past N.mark_room board.old board.new machine.now }
+        → IsBack N.net N.content N.past N.mark_room board.old board.new problem.entry.machine.now }
     ensures less { result ≡ None → still_to_take goals.new.items store.new
         < still_to_take goals.old.items store.old }
     ensures same { IsSameSpace goals.old goals.new store.old store.new }
 {
-    machine_law(machine);
+    machine_law(problem.machine);
     marks_keep_boards::<N>();
     let Some(next) = take_next(goals, store) else {
         return Some(Outcome::Never);
@@ -212,10 +178,10 @@ fn step<N: Network>(
     let bound = bound_of(store, &next);
     let base = board.mark();
     if let Some(best) = best_by(store, bound) {
-        follow(store, board, rooms, machine, ask, best);
+        follow(store, board, problem, best);
         return Some(Outcome::Found { base });
     }
-    let opening = open_next(store, board, rooms, machine, ask, &next);
+    let opening = open_next(store, board, problem, &next);
     if opening.answer.is_some() {
         return Some(Outcome::Found { base });
     }
@@ -232,26 +198,22 @@ pub(crate) fn search<N: Network>(
     goals: &mut Vec<OpenGoal>,
     store: &mut Store,
     board: &mut Board<N>,
-    rooms: &Rooms,
-    machine: &Machine,
-    ask: &Ask,
+    problem: Problem,
 ) -> Outcome
-    requires table { IsMadeFor rooms.now machine.now }
-    requires rooms { AreRooms machine.now ask.now rooms.now.sums }
-    requires origin { IsKnownOrigin machine.now ask.now.origin }
-    requires goal { IsKnownGoal machine.now ask.now.goal }
-    requires stands { Stands N.net N.content N.past board.old machine.now }
-    requires asked { board.old.ask ≡ Some ask.now }
-    requires closed { suffix_of board.old ≡ None }
+    requires posed { IsPosed problem }
+    requires goal { IsKnownGoal problem.machine.now problem.ask.now.goal }
+    requires ready { IsReady N.net N.content N.past N.mark_room board.old problem.machine.now
+        problem.ask.now }
     requires marks { HasMarks N.net N.content N.past N.mark_room 7 board.old }
     requires searching { (bound : ℕ)
-        × IsSearching machine.now board.old.plans ask.now goals.old.items store.old bound }
-    ensures outcome { IsOutcome N.net N.content N.past N.mark_room board.old board.new machine.now
-        ask.entry.now store.old.room result }
+        × IsSearching problem.machine.now board.old.plans problem.ask.now goals.old.items store.old
+        bound }
+    ensures outcome { IsOutcome N.net N.content N.past N.mark_room board.old board.new
+        problem.entry.machine.now problem.entry.ask.now store.old.room result }
     ensures same { IsSameSpace goals.old goals.new store.old store.new }
 {
     'steps: loop {
-        if let Some(outcome) = step(goals, store, board, rooms, machine, ask) {
+        if let Some(outcome) = step(goals, store, board, problem) {
             return outcome;
         }
     }

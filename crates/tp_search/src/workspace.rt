@@ -8,6 +8,7 @@ ghost use Rattle.tp_search.specs.Outcomes.{IsOutcome};
 ghost use Rattle.tp_search.specs.Workspaces.{IsFor};
 
 use crate::goals::{OpenGoal, find_goals};
+use crate::problem::Problem;
 use crate::searching::{Outcome, search};
 use crate::store::Store;
 use std::alloc::Global;
@@ -78,14 +79,12 @@ impl Workspace {
     {
         self.rooms.fill(machine, ask);
         self.store.clear(ask.now);
-        find_goals(&mut self.goals, board, &self.rooms, machine, ask);
-        search(
-            &mut self.goals,
-            &mut self.store,
-            board,
-            &self.rooms,
+        let problem = Problem {
+            rooms: &self.rooms,
             machine,
             ask,
-        )
+        };
+        find_goals(&mut self.goals, board, problem);
+        search(&mut self.goals, &mut self.store, board, problem)
     }
 }

@@ -1,10 +1,11 @@
-use Rattle.std.proofs.Common.{◌≡◌, suc, length-set, ◌∙◌, ap, subst, sym, ◌+◌, ◌-◌, ◌<◌, ◌∷◌, length, take, length-take-le, arith, IsSomeAnd}
+use Rattle.std.proofs.Common.{◌≡◌, suc, length-set, ◌∙◌, ap, subst, sym, ◌+◌, ◌-◌, ◌<◌, ◌∷◌, length, set, take, length-take-le, arith, IsSomeAnd}
 use Rattle.std.specs.Prelude.{slice_get}
 use Rattle.tp_machine.specs.Using.{action_at}
 use Rattle.tp_schedule.specs.Holding.{holds_of_act}
 use Rattle.tp_placing.specs.Boards.{suffix_of}
 use Rattle.tp_placing.specs.Calls.{CanPlace}
 use Rattle.tp_search.specs.Boards.{HasMarks, IsLaid}
+use Rattle.tp_search.specs.Children.{IsNewChild}
 use Rattle.tp_search.specs.Opening.{IsAtProgress}
 use Rattle.tp_search.specs.Opening.Progress.{through, up_to}
 use Rattle.tp_search.specs.Stored.{choices_by}
@@ -18,324 +19,304 @@ use Rattle.tp_search.proofs.children.+place_rest.Goals.{in-Ok, in-Err-Here}
 pub keep_child-requires-clause-range : goal.keep_child-requires-clause-range
 keep_child-requires-clause-range g t c =
     let held = ap length (ap holds_of_act c.get.ensures) in
-    let all : c.args.hold ≡ length (holds_of_act (action_at c.args.machine.now c.args.act.0)) = omega arith in
+    let all : c.args.hold ≡ length (holds_of_act (action_at c.args.problem.machine.now c.args.child.act.0)) = omega arith in
     let r = c.requires in
-    let end = all-placed g.N.Network.net g.N.Undo.content g.N.Undo.past g.N.Undo.mark_room c.args.machine.now c.args.ask.now c.args.first c.args.opening.now c.args.store.now c.args.board.now
-    c.args.act c.args.choice (take c.args.hold c.args.choice.places) c.args.complete c.end_bound.result r.act r.goal (ap (λ n. take n c.args.choice.places) all) (omega arith) r.complete r.laid r.fresh r.bounds r.progress (c.end_bound.ensures c.args.machine.now r.laid.stands) in
+    let end = all-placed g.N.Network.net g.N.Undo.content g.N.Undo.past g.N.Undo.mark_room c.args.problem.machine.now c.args.problem.ask.now c.args.child.first c.args.opening.now c.args.store.now c.args.board.now
+    c.args.child.act c.args.child.choice (take c.args.hold c.args.child.choice.places) c.args.child.complete c.end_bound.result r.child.act r.child.goal (ap (λ n. take n c.args.child.choice.places) all) (omega arith) r.child.complete r.laid r.fresh r.bounds r.progress (c.end_bound.ensures c.args.problem.machine.now r.laid.stands) in
     end.0
 
 pub returns-then-hold-len-clause-progress : goal.returns-then-hold-len-clause-progress
 returns-then-hold-len-clause-progress g t c =
     let held = ap length (ap holds_of_act c.get.ensures) in
-    let all : c.args.hold ≡ length (holds_of_act (action_at c.args.machine.now c.args.act.0)) = omega arith in
+    let all : c.args.hold ≡ length (holds_of_act (action_at c.args.problem.machine.now c.args.child.act.0)) = omega arith in
     let r = c.requires in
-    let end = all-placed g.N.Network.net g.N.Undo.content g.N.Undo.past g.N.Undo.mark_room c.args.machine.now c.args.ask.now c.args.first c.args.opening.now c.args.store.now c.args.board.now
-    c.args.act c.args.choice (take c.args.hold c.args.choice.places) c.args.complete c.end_bound.result r.act r.goal (ap (λ n. take n c.args.choice.places) all) (omega arith) r.complete r.laid r.fresh r.bounds r.progress (c.end_bound.ensures c.args.machine.now r.laid.stands) in
-    kept-at c.args.opening.now c.args.store.now c.args.choice c.end_bound.result c.args.complete c.keep_child.new.opening c.keep_child.new.store c.keep_child.ensures.opening c.keep_child.ensures.store
-    c.args.machine.now c.args.board.now.plans c.args.ask.now (through c.args.act.0 (take c.args.hold c.args.choice.places)) end.1
+    let end = all-placed g.N.Network.net g.N.Undo.content g.N.Undo.past g.N.Undo.mark_room c.args.problem.machine.now c.args.problem.ask.now c.args.child.first c.args.opening.now c.args.store.now c.args.board.now
+    c.args.child.act c.args.child.choice (take c.args.hold c.args.child.choice.places) c.args.child.complete c.end_bound.result r.child.act r.child.goal (ap (λ n. take n c.args.child.choice.places) all) (omega arith) r.child.complete r.laid r.fresh r.bounds r.progress (c.end_bound.ensures c.args.problem.machine.now r.laid.stands) in
+    kept-at c.args.opening.now c.args.store.now c.args.child.choice c.end_bound.result c.args.child.complete c.keep_child.new.opening c.keep_child.new.store c.keep_child.ensures.opening c.keep_child.ensures.store
+    c.args.problem.machine.now c.args.board.now.plans c.args.problem.ask.now (through c.args.child.act.0 (take c.args.hold c.args.child.choice.places)) end.1
 
 pub returns-then-hold-len-clause-same : goal.returns-then-hold-len-clause-same
-returns-then-hold-len-clause-same g t c = kept-same c.args.opening.now c.args.store.now c.args.choice c.end_bound.result c.args.complete c.keep_child.new.opening c.keep_child.new.store c.keep_child.ensures.opening c.keep_child.ensures.store
+returns-then-hold-len-clause-same g t c = kept-same c.args.opening.now c.args.store.now c.args.child.choice c.end_bound.result c.args.child.complete c.keep_child.new.opening c.keep_child.new.store c.keep_child.ensures.opening c.keep_child.ensures.store
 
 pub places-last-requires : goal.places-last-requires
 places-last-requires g t c =
     let stands = c.requires.laid.stands in
-    let known = resource-known c.args.machine.now c.args.act.0 c.get.result.now c.args.hold c.get-2.result.now c.get.ensures c.get-2.ensures in
+    let known = resource-known c.args.problem.machine.now c.args.child.act.0 c.get.result.now c.args.hold c.get-2.result.now c.get.ensures c.get-2.ensures in
     record { known = omega (arith, known, stands.1.made.1) }
 
 pub loop-place-init : goal.loop-place-init
 loop-place-init g t c =
     let known = ap length (ap holds_of_act c.get.ensures) in
-    let count : length (take c.args.hold c.args.choice.places) ≡ c.args.hold = length-take-le c.args.hold c.args.choice.places (omega arith) in
+    let count : length (take c.args.hold c.args.child.choice.places) ≡ c.args.hold = length-take-le c.args.hold c.args.child.choice.places (omega arith) in
     let is_rule = (λ i. slice_get (ap holds_of_act c.get.ensures i) (count i)) ∙ c.get-2.ensures in
     record {
-      progress = begin-now g.N.Network.net g.N.Undo.content g.N.Undo.past g.N.Undo.mark_room c.args.machine.now c.args.ask.now c.args.first c.args.act c.args.opening.now c.args.store.now c.args.board.now (take c.args.hold c.args.choice.places) c.get-2.result.now
+      progress = begin-now g.N.Network.net g.N.Undo.content g.N.Undo.past g.N.Undo.mark_room c.args.problem.machine.now c.args.problem.ask.now c.args.child.first c.args.child.act c.args.opening.now c.args.store.now c.args.board.now (take c.args.hold c.args.child.choice.places) c.get-2.result.now
           c.requires.laid c.requires.fresh is_rule c.places-last.result c.places-last.ensures c.requires.progress;
       same = same-itself c.args.opening.now c.args.store.now;
-      back = back-itself g.N.Network.net g.N.Undo.content g.N.Undo.past g.N.Undo.mark_room c.args.board.now c.args.machine.now;
+      back = back-itself g.N.Network.net g.N.Undo.content g.N.Undo.past g.N.Undo.mark_room c.args.board.now c.args.problem.machine.now;
     }
 
 pub try_place-requires-clause-stands : goal.try_place-requires-clause-stands
 try_place-requires-clause-stands g t c =
     let known = ap length (ap holds_of_act c.get.ensures) in
-    let count : length (take c.args.hold c.args.choice.places) ≡ c.args.hold = length-take-le c.args.hold c.args.choice.places (omega arith) in
+    let count : length (take c.args.hold c.args.child.choice.places) ≡ c.args.hold = length-take-le c.args.hold c.args.child.choice.places (omega arith) in
     let m = c.mark-mark.ensures in
     let v = c.loop-place.invariant in
-    let tried = trying g.N.Network.net g.N.Undo.content g.N.Undo.past g.N.Undo.aside g.N.Undo.mark_room c.args.machine.now c.args.ask.now c.args.first c.args.act c.args.opening.now c.loop-place.opening c.args.store.now c.loop-place.store c.args.board.now c.loop-place.board c.mark-mark.new.self c.mark-mark.result.0
-    (take c.args.hold c.args.choice.places) c.loop-place.place c.get-2.result.now
+    let tried = trying g.N.Network.net g.N.Undo.content g.N.Undo.past g.N.Undo.aside g.N.Undo.mark_room c.args.problem.machine.now c.args.problem.ask.now c.args.child.first c.args.child.act c.args.opening.now c.loop-place.opening c.args.store.now c.loop-place.store c.args.board.now c.loop-place.board c.mark-mark.new.self c.mark-mark.result.0
+    (take c.args.hold c.args.child.choice.places) c.loop-place.place c.get-2.result.now
     c.get.result.now c.args.hold c.places-last.result c.marks_keep_boards.ensures.mark c.marks_keep_boards.ensures.back c.requires.laid c.requires.fresh c.get.ensures c.get-2.ensures count c.places-last.ensures (omega arith)
     v.same v.back v.progress (record { number = m.number; past_more = m.past; content_same = m.content; aside_same = m.aside; room_same = m.room }) in
-    marked-stands g.N.Network.net g.N.Undo.content g.N.Undo.past g.N.Undo.aside g.N.Undo.mark_room c.args.machine.now c.args.ask.now c.args.first c.args.act c.args.opening.now c.loop-place.opening c.args.store.now c.loop-place.store c.args.board.now c.loop-place.board c.mark-mark.new.self c.mark-mark.result.0
-    (take c.args.hold c.args.choice.places) c.loop-place.place c.get-2.result.now tried
+    marked-stands g.N.Network.net g.N.Undo.content g.N.Undo.past g.N.Undo.aside g.N.Undo.mark_room c.args.problem.machine.now c.args.problem.ask.now c.args.child.first c.args.child.act c.args.opening.now c.loop-place.opening c.args.store.now c.loop-place.store c.args.board.now c.loop-place.board c.mark-mark.new.self c.mark-mark.result.0
+    (take c.args.hold c.args.child.choice.places) c.loop-place.place c.get-2.result.now tried
 
 pub try_place-requires-clause-next : goal.try_place-requires-clause-next
 try_place-requires-clause-next g t c =
     let known = ap length (ap holds_of_act c.get.ensures) in
-    let count : length (take c.args.hold c.args.choice.places) ≡ c.args.hold = length-take-le c.args.hold c.args.choice.places (omega arith) in
+    let count : length (take c.args.hold c.args.child.choice.places) ≡ c.args.hold = length-take-le c.args.hold c.args.child.choice.places (omega arith) in
     let m = c.mark-mark.ensures in
     let v = c.loop-place.invariant in
-    let tried = trying g.N.Network.net g.N.Undo.content g.N.Undo.past g.N.Undo.aside g.N.Undo.mark_room c.args.machine.now c.args.ask.now c.args.first c.args.act c.args.opening.now c.loop-place.opening c.args.store.now c.loop-place.store c.args.board.now c.loop-place.board c.mark-mark.new.self c.mark-mark.result.0
-    (take c.args.hold c.args.choice.places) c.loop-place.place c.get-2.result.now
+    let tried = trying g.N.Network.net g.N.Undo.content g.N.Undo.past g.N.Undo.aside g.N.Undo.mark_room c.args.problem.machine.now c.args.problem.ask.now c.args.child.first c.args.child.act c.args.opening.now c.loop-place.opening c.args.store.now c.loop-place.store c.args.board.now c.loop-place.board c.mark-mark.new.self c.mark-mark.result.0
+    (take c.args.hold c.args.child.choice.places) c.loop-place.place c.get-2.result.now
     c.get.result.now c.args.hold c.places-last.result c.marks_keep_boards.ensures.mark c.marks_keep_boards.ensures.back c.requires.laid c.requires.fresh c.get.ensures c.get-2.ensures count c.places-last.ensures (omega arith)
     v.same v.back v.progress (record { number = m.number; past_more = m.past; content_same = m.content; aside_same = m.aside; room_same = m.room }) in
-    subst (λ n. IsSomeAnd (suffix_of c.mark-mark.new.self) (λ x. CanPlace c.args.machine.now c.mark-mark.new.self.plans x n c.loop-place.place)) count
-    (may-place g.N.Network.net g.N.Undo.content g.N.Undo.past g.N.Undo.aside g.N.Undo.mark_room c.args.machine.now c.args.ask.now c.args.first c.args.act c.args.opening.now c.loop-place.opening c.args.store.now c.loop-place.store c.args.board.now c.loop-place.board c.mark-mark.new.self c.mark-mark.result.0
-    (take c.args.hold c.args.choice.places) c.loop-place.place c.get-2.result.now tried)
+    subst (λ n. IsSomeAnd (suffix_of c.mark-mark.new.self) (λ x. CanPlace c.args.problem.machine.now c.mark-mark.new.self.plans x n c.loop-place.place)) count
+    (may-place g.N.Network.net g.N.Undo.content g.N.Undo.past g.N.Undo.aside g.N.Undo.mark_room c.args.problem.machine.now c.args.problem.ask.now c.args.child.first c.args.child.act c.args.opening.now c.loop-place.opening c.args.store.now c.loop-place.store c.args.board.now c.loop-place.board c.mark-mark.new.self c.mark-mark.result.0
+    (take c.args.hold c.args.child.choice.places) c.loop-place.place c.get-2.result.now tried)
 
 pub place_rest-requires : goal.place_rest-requires
 place_rest-requires g t c κs within =
     let known = ap length (ap holds_of_act c.get.ensures) in
-    let count : length (take c.args.hold c.args.choice.places) ≡ c.args.hold = length-take-le c.args.hold c.args.choice.places (omega arith) in
+    let count : length (take c.args.hold c.args.child.choice.places) ≡ c.args.hold = length-take-le c.args.hold c.args.child.choice.places (omega arith) in
     let m = c.mark-mark.ensures in
     let v = c.loop-place.invariant in
-    let tried = trying g.N.Network.net g.N.Undo.content g.N.Undo.past g.N.Undo.aside g.N.Undo.mark_room c.args.machine.now c.args.ask.now c.args.first c.args.act c.args.opening.now c.loop-place.opening c.args.store.now c.loop-place.store c.args.board.now c.loop-place.board c.mark-mark.new.self c.mark-mark.result.0
-    (take c.args.hold c.args.choice.places) c.loop-place.place c.get-2.result.now
+    let tried = trying g.N.Network.net g.N.Undo.content g.N.Undo.past g.N.Undo.aside g.N.Undo.mark_room c.args.problem.machine.now c.args.problem.ask.now c.args.child.first c.args.child.act c.args.opening.now c.loop-place.opening c.args.store.now c.loop-place.store c.args.board.now c.loop-place.board c.mark-mark.new.self c.mark-mark.result.0
+    (take c.args.hold c.args.child.choice.places) c.loop-place.place c.get-2.result.now
     c.get.result.now c.args.hold c.places-last.result c.marks_keep_boards.ensures.mark c.marks_keep_boards.ensures.back c.requires.laid c.requires.fresh c.get.ensures c.get-2.ensures count c.places-last.ensures (omega arith)
     v.same v.back v.progress (record { number = m.number; past_more = m.past; content_same = m.content; aside_same = m.aside; room_same = m.room }) in
     let p = c.try_place.ensures in
     let put = c.in-Ok.ensures.suffix in
-    let some : c.args.hold < length c.args.choice.places = omega arith in
-    let next = next-places c.args.choice.places c.args.hold c.loop-place.place some in
-    let olds = choices_by c.args.machine.now (choices_before c.loop-place.store.entries c.loop-place.opening.parent) in
-    let laid = subst (λ ps. IsLaid g.N.Network.net g.N.Undo.content g.N.Undo.past g.N.Undo.mark_room c.try_place.new.self c.args.machine.now c.args.ask.now c.loop-place.opening.goal c.args.first (record { act = c.args.act; places = ps } ∷ olds)) (sym next)
-    (placed-laid g.N.Network.net g.N.Undo.content g.N.Undo.past g.N.Undo.aside g.N.Undo.mark_room c.args.machine.now c.args.ask.now c.args.first c.args.act c.args.opening.now c.loop-place.opening c.args.store.now c.loop-place.store c.args.board.now c.loop-place.board c.mark-mark.new.self c.mark-mark.result.0
-    (take c.args.hold c.args.choice.places) c.loop-place.place c.get-2.result.now tried c.try_place.new.self put c.in-Ok.ensures.stands p.loaded) in
-    let progress = subst (λ ps. IsAtProgress c.args.machine.now c.try_place.new.self.plans c.args.ask.now c.loop-place.opening c.loop-place.store (up_to c.args.act.0 ps)) (sym next)
-    (placed-progress g.N.Network.net g.N.Undo.content g.N.Undo.past g.N.Undo.aside g.N.Undo.mark_room c.args.machine.now c.args.ask.now c.args.first c.args.act c.args.opening.now c.loop-place.opening c.args.store.now c.loop-place.store c.args.board.now c.loop-place.board c.mark-mark.new.self c.mark-mark.result.0
-    (take c.args.hold c.args.choice.places) c.loop-place.place c.get-2.result.now tried c.try_place.new.self p.loaded) in
+    let some : c.args.hold < length c.args.child.choice.places = omega arith in
+    let next = next-places c.args.child.choice.places c.args.hold c.loop-place.place some in
+    let olds = choices_by c.args.problem.machine.now (choices_before c.loop-place.store.entries c.loop-place.opening.parent) in
+    let laid = subst (λ ps. IsLaid g.N.Network.net g.N.Undo.content g.N.Undo.past g.N.Undo.mark_room c.try_place.new.self c.args.problem.machine.now c.args.problem.ask.now c.loop-place.opening.goal c.args.child.first (record { act = c.args.child.act; places = ps } ∷ olds)) (sym next)
+    (placed-laid g.N.Network.net g.N.Undo.content g.N.Undo.past g.N.Undo.aside g.N.Undo.mark_room c.args.problem.machine.now c.args.problem.ask.now c.args.child.first c.args.child.act c.args.opening.now c.loop-place.opening c.args.store.now c.loop-place.store c.args.board.now c.loop-place.board c.mark-mark.new.self c.mark-mark.result.0
+    (take c.args.hold c.args.child.choice.places) c.loop-place.place c.get-2.result.now tried c.try_place.new.self put c.in-Ok.ensures.stands p.loaded) in
+    let progress = subst (λ ps. IsAtProgress c.args.problem.machine.now c.try_place.new.self.plans c.args.problem.ask.now c.loop-place.opening c.loop-place.store (up_to c.args.child.act.0 ps)) (sym next)
+    (placed-progress g.N.Network.net g.N.Undo.content g.N.Undo.past g.N.Undo.aside g.N.Undo.mark_room c.args.problem.machine.now c.args.problem.ask.now c.args.child.first c.args.child.act c.args.opening.now c.loop-place.opening c.args.store.now c.loop-place.store c.args.board.now c.loop-place.board c.mark-mark.new.self c.mark-mark.result.0
+    (take c.args.hold c.args.child.choice.places) c.loop-place.place c.get-2.result.now tried c.try_place.new.self p.loaded) in
     let more : suc (5 - (c.args.hold + 1)) ≡ 5 - c.args.hold = omega arith in
     let spare = subst (λ n. HasMarks g.N.Network.net g.N.Undo.content g.N.Undo.past g.N.Undo.mark_room n c.args.board.now) (sym more) c.requires.marks in
-    let marks = placed-marks g.N.Network.net g.N.Undo.content g.N.Undo.past g.N.Undo.aside g.N.Undo.mark_room c.args.machine.now c.args.ask.now c.args.first c.args.act c.args.opening.now c.loop-place.opening c.args.store.now c.loop-place.store c.args.board.now c.loop-place.board c.mark-mark.new.self c.mark-mark.result.0
-    (take c.args.hold c.args.choice.places) c.loop-place.place c.get-2.result.now tried (5 - (c.args.hold + 1)) c.try_place.new.self spare p.past p.marks in (
-      omega arith,
-      (
-        within,
-        (
-          c.requires.act,
-          (
-            length-set c.args.choice.places c.args.hold c.loop-place.place ∙ c.requires.four,
-            (
-              c.requires.known,
-              (
-                omega arith,
-                (
-                  c.requires.goal ∙ sym v.same.goal,
-                  (
-                    c.requires.complete,
-                    (
-                      laid,
-                      (
-                        marks,
-                        (
-                          fresh-same c.args.machine.now c.args.ask.now c.args.opening.now c.loop-place.opening c.args.store.now c.loop-place.store v.same c.requires.fresh,
-                          (bounds-same c.args.machine.now c.args.ask.now c.args.opening.now c.loop-place.opening c.args.store.now c.loop-place.store v.same c.requires.bounds, progress),
-                        ),
-                      ),
-                    ),
-                  ),
-                ),
-              ),
-            ),
-          ),
-        ),
-      ),
-    )
+    let marks = placed-marks g.N.Network.net g.N.Undo.content g.N.Undo.past g.N.Undo.aside g.N.Undo.mark_room c.args.problem.machine.now c.args.problem.ask.now c.args.child.first c.args.child.act c.args.opening.now c.loop-place.opening c.args.store.now c.loop-place.store c.args.board.now c.loop-place.board c.mark-mark.new.self c.mark-mark.result.0
+    (take c.args.hold c.args.child.choice.places) c.loop-place.place c.get-2.result.now tried (5 - (c.args.hold + 1)) c.try_place.new.self spare p.past p.marks in
+    let same = v.same in
+    let r = c.requires in
+    let bounds = bounds-same c.args.problem.machine.now c.args.problem.ask.now c.args.opening.now c.loop-place.opening c.args.store.now c.loop-place.store same r.bounds in
+    let fresh = fresh-same c.args.problem.machine.now c.args.problem.ask.now c.args.opening.now c.loop-place.opening c.args.store.now c.loop-place.store same r.fresh in
+    let child : IsNewChild c.args.problem.machine.now c.args.problem.ask.now c.loop-place.opening.goal (record { act = c.args.child.act; choice = record c.args.child.choice { places = set c.args.child.choice.places c.args.hold c.loop-place.place }; first = c.args.child.first; complete = c.args.child.complete }) (c.args.hold + 1) = record {
+      act = r.child.act;
+      four = length-set c.args.child.choice.places c.args.hold c.loop-place.place ∙ r.child.four;
+      known = r.child.known;
+      hold = omega arith;
+      goal = r.child.goal ∙ sym same.goal;
+      complete = r.child.complete;
+    } in
+    (omega arith, (within, (child, (laid, (marks, (fresh, (bounds, progress)))))))
 
 pub undo_to-requires-in-loop-place : goal.undo_to-requires-in-loop-place
 undo_to-requires-in-loop-place g t c =
     let known = ap length (ap holds_of_act c.get.ensures) in
-    let count : length (take c.args.hold c.args.choice.places) ≡ c.args.hold = length-take-le c.args.hold c.args.choice.places (omega arith) in
+    let count : length (take c.args.hold c.args.child.choice.places) ≡ c.args.hold = length-take-le c.args.hold c.args.child.choice.places (omega arith) in
     let m = c.mark-mark.ensures in
     let v = c.loop-place.invariant in
-    let tried = trying g.N.Network.net g.N.Undo.content g.N.Undo.past g.N.Undo.aside g.N.Undo.mark_room c.args.machine.now c.args.ask.now c.args.first c.args.act c.args.opening.now c.loop-place.opening c.args.store.now c.loop-place.store c.args.board.now c.loop-place.board c.mark-mark.new.self c.mark-mark.result.0
-    (take c.args.hold c.args.choice.places) c.loop-place.place c.get-2.result.now
+    let tried = trying g.N.Network.net g.N.Undo.content g.N.Undo.past g.N.Undo.aside g.N.Undo.mark_room c.args.problem.machine.now c.args.problem.ask.now c.args.child.first c.args.child.act c.args.opening.now c.loop-place.opening c.args.store.now c.loop-place.store c.args.board.now c.loop-place.board c.mark-mark.new.self c.mark-mark.result.0
+    (take c.args.hold c.args.child.choice.places) c.loop-place.place c.get-2.result.now
     c.get.result.now c.args.hold c.places-last.result c.marks_keep_boards.ensures.mark c.marks_keep_boards.ensures.back c.requires.laid c.requires.fresh c.get.ensures c.get-2.ensures count c.places-last.ensures (omega arith)
     v.same v.back v.progress (record { number = m.number; past_more = m.past; content_same = m.content; aside_same = m.aside; room_same = m.room }) in
     let p = c.try_place.ensures in
-    let some : c.args.hold < length c.args.choice.places = omega arith in
-    let next = next-places c.args.choice.places c.args.hold c.loop-place.place some in
-    let after : IsTried g.N.Network.net g.N.Undo.content g.N.Undo.past g.N.Undo.aside g.N.Undo.mark_room c.args.machine.now c.args.ask.now c.args.first c.args.act c.args.opening.now c.loop-place.opening c.args.store.now c.loop-place.store c.args.board.now c.loop-place.board c.mark-mark.new.self c.mark-mark.result.0
-    (take c.args.hold c.args.choice.places) c.loop-place.place c.get-2.result.now c.match-try_place.board c.match-try_place.opening c.match-try_place.store = elim c.match-try_place.branch [
-      | in-Ok w ↦ tried-as g.N.Network.net g.N.Undo.content g.N.Undo.past g.N.Undo.aside g.N.Undo.mark_room c.args.machine.now c.args.ask.now c.args.first c.args.act c.args.opening.now c.loop-place.opening c.args.store.now c.loop-place.store c.args.board.now c.loop-place.board c.mark-mark.new.self c.mark-mark.result.0
-          (take c.args.hold c.args.choice.places) c.loop-place.place c.get-2.result.now w.place_rest.new.board c.match-try_place.board w.place_rest.new.opening c.match-try_place.opening w.place_rest.new.store c.match-try_place.store w.board-is w.opening-is w.store-is
-          (tried-placed g.N.Network.net g.N.Undo.content g.N.Undo.past g.N.Undo.aside g.N.Undo.mark_room c.args.machine.now c.args.ask.now c.args.first c.args.act c.args.opening.now c.loop-place.opening c.args.store.now c.loop-place.store c.args.board.now c.loop-place.board c.mark-mark.new.self c.mark-mark.result.0
-          (take c.args.hold c.args.choice.places) c.loop-place.place c.get-2.result.now tried c.try_place.new.self w.place_rest.new.board w.place_rest.new.opening w.place_rest.new.store
-          (since-step g.N.Network.net g.N.Undo.content g.N.Undo.past g.N.Undo.mark_room c.mark-mark.new.self c.try_place.new.self c.args.machine.now p.past p.loaded p.marks (λ s. w.in-Ok.ensures.stands)) w.place_rest.ensures.same w.place_rest.ensures.back
-          (subst (λ ps. IsAtProgress c.args.machine.now c.try_place.new.self.plans c.args.ask.now w.place_rest.new.opening w.place_rest.new.store (through c.args.act.0 ps)) next w.place_rest.ensures.progress))
-      | in-Err-Here w ↦ tried-as g.N.Network.net g.N.Undo.content g.N.Undo.past g.N.Undo.aside g.N.Undo.mark_room c.args.machine.now c.args.ask.now c.args.first c.args.act c.args.opening.now c.loop-place.opening c.args.store.now c.loop-place.store c.args.board.now c.loop-place.board c.mark-mark.new.self c.mark-mark.result.0
-          (take c.args.hold c.args.choice.places) c.loop-place.place c.get-2.result.now c.try_place.new.self c.match-try_place.board c.loop-place.opening c.match-try_place.opening c.loop-place.store c.match-try_place.store w.board-is w.opening-is w.store-is
-          (tried-late g.N.Network.net g.N.Undo.content g.N.Undo.past g.N.Undo.aside g.N.Undo.mark_room c.args.machine.now c.args.ask.now c.args.first c.args.act c.args.opening.now c.loop-place.opening c.args.store.now c.loop-place.store c.args.board.now c.loop-place.board c.mark-mark.new.self c.mark-mark.result.0
-          (take c.args.hold c.args.choice.places) c.loop-place.place c.get-2.result.now tried c.try_place.new.self
-          (refused-since g.N.Network.net g.N.Undo.content g.N.Undo.past g.N.Undo.aside g.N.Undo.mark_room c.args.machine.now c.args.ask.now c.args.first c.args.act c.args.opening.now c.loop-place.opening c.args.store.now c.loop-place.store c.args.board.now c.loop-place.board c.mark-mark.new.self c.mark-mark.result.0
-          (take c.args.hold c.args.choice.places) c.loop-place.place c.get-2.result.now tried c.try_place.new.self p.past p.loaded p.marks w.in-Err-Here.ensures.back) w.in-Err-Here.ensures.late)
+    let some : c.args.hold < length c.args.child.choice.places = omega arith in
+    let next = next-places c.args.child.choice.places c.args.hold c.loop-place.place some in
+    let after : IsTried g.N.Network.net g.N.Undo.content g.N.Undo.past g.N.Undo.aside g.N.Undo.mark_room c.args.problem.machine.now c.args.problem.ask.now c.args.child.first c.args.child.act c.args.opening.now c.loop-place.opening c.args.store.now c.loop-place.store c.args.board.now c.loop-place.board c.mark-mark.new.self c.mark-mark.result.0
+    (take c.args.hold c.args.child.choice.places) c.loop-place.place c.get-2.result.now c.match-try_place.board c.match-try_place.opening c.match-try_place.store = elim c.match-try_place.branch [
+      | in-Ok w ↦ tried-as g.N.Network.net g.N.Undo.content g.N.Undo.past g.N.Undo.aside g.N.Undo.mark_room c.args.problem.machine.now c.args.problem.ask.now c.args.child.first c.args.child.act c.args.opening.now c.loop-place.opening c.args.store.now c.loop-place.store c.args.board.now c.loop-place.board c.mark-mark.new.self c.mark-mark.result.0
+          (take c.args.hold c.args.child.choice.places) c.loop-place.place c.get-2.result.now w.place_rest.new.board c.match-try_place.board w.place_rest.new.opening c.match-try_place.opening w.place_rest.new.store c.match-try_place.store w.board-is w.opening-is w.store-is
+          (tried-placed g.N.Network.net g.N.Undo.content g.N.Undo.past g.N.Undo.aside g.N.Undo.mark_room c.args.problem.machine.now c.args.problem.ask.now c.args.child.first c.args.child.act c.args.opening.now c.loop-place.opening c.args.store.now c.loop-place.store c.args.board.now c.loop-place.board c.mark-mark.new.self c.mark-mark.result.0
+          (take c.args.hold c.args.child.choice.places) c.loop-place.place c.get-2.result.now tried c.try_place.new.self w.place_rest.new.board w.place_rest.new.opening w.place_rest.new.store
+          (since-step g.N.Network.net g.N.Undo.content g.N.Undo.past g.N.Undo.mark_room c.mark-mark.new.self c.try_place.new.self c.args.problem.machine.now p.past p.loaded p.marks (λ s. w.in-Ok.ensures.stands)) w.place_rest.ensures.same w.place_rest.ensures.back
+          (subst (λ ps. IsAtProgress c.args.problem.machine.now c.try_place.new.self.plans c.args.problem.ask.now w.place_rest.new.opening w.place_rest.new.store (through c.args.child.act.0 ps)) next w.place_rest.ensures.progress))
+      | in-Err-Here w ↦ tried-as g.N.Network.net g.N.Undo.content g.N.Undo.past g.N.Undo.aside g.N.Undo.mark_room c.args.problem.machine.now c.args.problem.ask.now c.args.child.first c.args.child.act c.args.opening.now c.loop-place.opening c.args.store.now c.loop-place.store c.args.board.now c.loop-place.board c.mark-mark.new.self c.mark-mark.result.0
+          (take c.args.hold c.args.child.choice.places) c.loop-place.place c.get-2.result.now c.try_place.new.self c.match-try_place.board c.loop-place.opening c.match-try_place.opening c.loop-place.store c.match-try_place.store w.board-is w.opening-is w.store-is
+          (tried-late g.N.Network.net g.N.Undo.content g.N.Undo.past g.N.Undo.aside g.N.Undo.mark_room c.args.problem.machine.now c.args.problem.ask.now c.args.child.first c.args.child.act c.args.opening.now c.loop-place.opening c.args.store.now c.loop-place.store c.args.board.now c.loop-place.board c.mark-mark.new.self c.mark-mark.result.0
+          (take c.args.hold c.args.child.choice.places) c.loop-place.place c.get-2.result.now tried c.try_place.new.self
+          (refused-since g.N.Network.net g.N.Undo.content g.N.Undo.past g.N.Undo.aside g.N.Undo.mark_room c.args.problem.machine.now c.args.problem.ask.now c.args.child.first c.args.child.act c.args.opening.now c.loop-place.opening c.args.store.now c.loop-place.store c.args.board.now c.loop-place.board c.mark-mark.new.self c.mark-mark.result.0
+          (take c.args.hold c.args.child.choice.places) c.loop-place.place c.get-2.result.now tried c.try_place.new.self p.past p.loaded p.marks w.in-Err-Here.ensures.back) w.in-Err-Here.ensures.late)
     ] in
     mark-known g.N.Network.net g.N.Undo.content g.N.Undo.past g.N.Undo.aside g.N.Undo.mark_room c.loop-place.board c.mark-mark.new.self c.match-try_place.board c.mark-mark.result.0 tried.marked after.since.past_same
 
 pub loop-place-preserved : goal.loop-place-preserved
 loop-place-preserved g t c =
     let known = ap length (ap holds_of_act c.get.ensures) in
-    let count : length (take c.args.hold c.args.choice.places) ≡ c.args.hold = length-take-le c.args.hold c.args.choice.places (omega arith) in
+    let count : length (take c.args.hold c.args.child.choice.places) ≡ c.args.hold = length-take-le c.args.hold c.args.child.choice.places (omega arith) in
     let m = c.mark-mark.ensures in
     let v = c.loop-place.invariant in
-    let tried = trying g.N.Network.net g.N.Undo.content g.N.Undo.past g.N.Undo.aside g.N.Undo.mark_room c.args.machine.now c.args.ask.now c.args.first c.args.act c.args.opening.now c.loop-place.opening c.args.store.now c.loop-place.store c.args.board.now c.loop-place.board c.mark-mark.new.self c.mark-mark.result.0
-    (take c.args.hold c.args.choice.places) c.loop-place.place c.get-2.result.now
+    let tried = trying g.N.Network.net g.N.Undo.content g.N.Undo.past g.N.Undo.aside g.N.Undo.mark_room c.args.problem.machine.now c.args.problem.ask.now c.args.child.first c.args.child.act c.args.opening.now c.loop-place.opening c.args.store.now c.loop-place.store c.args.board.now c.loop-place.board c.mark-mark.new.self c.mark-mark.result.0
+    (take c.args.hold c.args.child.choice.places) c.loop-place.place c.get-2.result.now
     c.get.result.now c.args.hold c.places-last.result c.marks_keep_boards.ensures.mark c.marks_keep_boards.ensures.back c.requires.laid c.requires.fresh c.get.ensures c.get-2.ensures count c.places-last.ensures (omega arith)
     v.same v.back v.progress (record { number = m.number; past_more = m.past; content_same = m.content; aside_same = m.aside; room_same = m.room }) in
     let p = c.try_place.ensures in
-    let some : c.args.hold < length c.args.choice.places = omega arith in
-    let next = next-places c.args.choice.places c.args.hold c.loop-place.place some in
-    let after : IsTried g.N.Network.net g.N.Undo.content g.N.Undo.past g.N.Undo.aside g.N.Undo.mark_room c.args.machine.now c.args.ask.now c.args.first c.args.act c.args.opening.now c.loop-place.opening c.args.store.now c.loop-place.store c.args.board.now c.loop-place.board c.mark-mark.new.self c.mark-mark.result.0
-    (take c.args.hold c.args.choice.places) c.loop-place.place c.get-2.result.now c.match-try_place.board c.match-try_place.opening c.match-try_place.store = elim c.match-try_place.branch [
-      | in-Ok w ↦ tried-as g.N.Network.net g.N.Undo.content g.N.Undo.past g.N.Undo.aside g.N.Undo.mark_room c.args.machine.now c.args.ask.now c.args.first c.args.act c.args.opening.now c.loop-place.opening c.args.store.now c.loop-place.store c.args.board.now c.loop-place.board c.mark-mark.new.self c.mark-mark.result.0
-          (take c.args.hold c.args.choice.places) c.loop-place.place c.get-2.result.now w.place_rest.new.board c.match-try_place.board w.place_rest.new.opening c.match-try_place.opening w.place_rest.new.store c.match-try_place.store w.board-is w.opening-is w.store-is
-          (tried-placed g.N.Network.net g.N.Undo.content g.N.Undo.past g.N.Undo.aside g.N.Undo.mark_room c.args.machine.now c.args.ask.now c.args.first c.args.act c.args.opening.now c.loop-place.opening c.args.store.now c.loop-place.store c.args.board.now c.loop-place.board c.mark-mark.new.self c.mark-mark.result.0
-          (take c.args.hold c.args.choice.places) c.loop-place.place c.get-2.result.now tried c.try_place.new.self w.place_rest.new.board w.place_rest.new.opening w.place_rest.new.store
-          (since-step g.N.Network.net g.N.Undo.content g.N.Undo.past g.N.Undo.mark_room c.mark-mark.new.self c.try_place.new.self c.args.machine.now p.past p.loaded p.marks (λ s. w.in-Ok.ensures.stands)) w.place_rest.ensures.same w.place_rest.ensures.back
-          (subst (λ ps. IsAtProgress c.args.machine.now c.try_place.new.self.plans c.args.ask.now w.place_rest.new.opening w.place_rest.new.store (through c.args.act.0 ps)) next w.place_rest.ensures.progress))
-      | in-Err-Here w ↦ tried-as g.N.Network.net g.N.Undo.content g.N.Undo.past g.N.Undo.aside g.N.Undo.mark_room c.args.machine.now c.args.ask.now c.args.first c.args.act c.args.opening.now c.loop-place.opening c.args.store.now c.loop-place.store c.args.board.now c.loop-place.board c.mark-mark.new.self c.mark-mark.result.0
-          (take c.args.hold c.args.choice.places) c.loop-place.place c.get-2.result.now c.try_place.new.self c.match-try_place.board c.loop-place.opening c.match-try_place.opening c.loop-place.store c.match-try_place.store w.board-is w.opening-is w.store-is
-          (tried-late g.N.Network.net g.N.Undo.content g.N.Undo.past g.N.Undo.aside g.N.Undo.mark_room c.args.machine.now c.args.ask.now c.args.first c.args.act c.args.opening.now c.loop-place.opening c.args.store.now c.loop-place.store c.args.board.now c.loop-place.board c.mark-mark.new.self c.mark-mark.result.0
-          (take c.args.hold c.args.choice.places) c.loop-place.place c.get-2.result.now tried c.try_place.new.self
-          (refused-since g.N.Network.net g.N.Undo.content g.N.Undo.past g.N.Undo.aside g.N.Undo.mark_room c.args.machine.now c.args.ask.now c.args.first c.args.act c.args.opening.now c.loop-place.opening c.args.store.now c.loop-place.store c.args.board.now c.loop-place.board c.mark-mark.new.self c.mark-mark.result.0
-          (take c.args.hold c.args.choice.places) c.loop-place.place c.get-2.result.now tried c.try_place.new.self p.past p.loaded p.marks w.in-Err-Here.ensures.back) w.in-Err-Here.ensures.late)
+    let some : c.args.hold < length c.args.child.choice.places = omega arith in
+    let next = next-places c.args.child.choice.places c.args.hold c.loop-place.place some in
+    let after : IsTried g.N.Network.net g.N.Undo.content g.N.Undo.past g.N.Undo.aside g.N.Undo.mark_room c.args.problem.machine.now c.args.problem.ask.now c.args.child.first c.args.child.act c.args.opening.now c.loop-place.opening c.args.store.now c.loop-place.store c.args.board.now c.loop-place.board c.mark-mark.new.self c.mark-mark.result.0
+    (take c.args.hold c.args.child.choice.places) c.loop-place.place c.get-2.result.now c.match-try_place.board c.match-try_place.opening c.match-try_place.store = elim c.match-try_place.branch [
+      | in-Ok w ↦ tried-as g.N.Network.net g.N.Undo.content g.N.Undo.past g.N.Undo.aside g.N.Undo.mark_room c.args.problem.machine.now c.args.problem.ask.now c.args.child.first c.args.child.act c.args.opening.now c.loop-place.opening c.args.store.now c.loop-place.store c.args.board.now c.loop-place.board c.mark-mark.new.self c.mark-mark.result.0
+          (take c.args.hold c.args.child.choice.places) c.loop-place.place c.get-2.result.now w.place_rest.new.board c.match-try_place.board w.place_rest.new.opening c.match-try_place.opening w.place_rest.new.store c.match-try_place.store w.board-is w.opening-is w.store-is
+          (tried-placed g.N.Network.net g.N.Undo.content g.N.Undo.past g.N.Undo.aside g.N.Undo.mark_room c.args.problem.machine.now c.args.problem.ask.now c.args.child.first c.args.child.act c.args.opening.now c.loop-place.opening c.args.store.now c.loop-place.store c.args.board.now c.loop-place.board c.mark-mark.new.self c.mark-mark.result.0
+          (take c.args.hold c.args.child.choice.places) c.loop-place.place c.get-2.result.now tried c.try_place.new.self w.place_rest.new.board w.place_rest.new.opening w.place_rest.new.store
+          (since-step g.N.Network.net g.N.Undo.content g.N.Undo.past g.N.Undo.mark_room c.mark-mark.new.self c.try_place.new.self c.args.problem.machine.now p.past p.loaded p.marks (λ s. w.in-Ok.ensures.stands)) w.place_rest.ensures.same w.place_rest.ensures.back
+          (subst (λ ps. IsAtProgress c.args.problem.machine.now c.try_place.new.self.plans c.args.problem.ask.now w.place_rest.new.opening w.place_rest.new.store (through c.args.child.act.0 ps)) next w.place_rest.ensures.progress))
+      | in-Err-Here w ↦ tried-as g.N.Network.net g.N.Undo.content g.N.Undo.past g.N.Undo.aside g.N.Undo.mark_room c.args.problem.machine.now c.args.problem.ask.now c.args.child.first c.args.child.act c.args.opening.now c.loop-place.opening c.args.store.now c.loop-place.store c.args.board.now c.loop-place.board c.mark-mark.new.self c.mark-mark.result.0
+          (take c.args.hold c.args.child.choice.places) c.loop-place.place c.get-2.result.now c.try_place.new.self c.match-try_place.board c.loop-place.opening c.match-try_place.opening c.loop-place.store c.match-try_place.store w.board-is w.opening-is w.store-is
+          (tried-late g.N.Network.net g.N.Undo.content g.N.Undo.past g.N.Undo.aside g.N.Undo.mark_room c.args.problem.machine.now c.args.problem.ask.now c.args.child.first c.args.child.act c.args.opening.now c.loop-place.opening c.args.store.now c.loop-place.store c.args.board.now c.loop-place.board c.mark-mark.new.self c.mark-mark.result.0
+          (take c.args.hold c.args.child.choice.places) c.loop-place.place c.get-2.result.now tried c.try_place.new.self
+          (refused-since g.N.Network.net g.N.Undo.content g.N.Undo.past g.N.Undo.aside g.N.Undo.mark_room c.args.problem.machine.now c.args.problem.ask.now c.args.child.first c.args.child.act c.args.opening.now c.loop-place.opening c.args.store.now c.loop-place.store c.args.board.now c.loop-place.board c.mark-mark.new.self c.mark-mark.result.0
+          (take c.args.hold c.args.child.choice.places) c.loop-place.place c.get-2.result.now tried c.try_place.new.self p.past p.loaded p.marks w.in-Err-Here.ensures.back) w.in-Err-Here.ensures.late)
     ] in
     let u = c.undo_to-in-loop-place.ensures in
-    let back = back-now g.N.Network.net g.N.Undo.content g.N.Undo.past g.N.Undo.aside g.N.Undo.mark_room c.args.machine.now c.args.ask.now c.args.first c.args.act c.args.opening.now c.loop-place.opening c.args.store.now c.loop-place.store c.args.board.now c.loop-place.board c.mark-mark.new.self c.mark-mark.result.0
-    (take c.args.hold c.args.choice.places) c.loop-place.place c.get-2.result.now tried c.match-try_place.board c.undo_to-in-loop-place.new.self c.match-try_place.opening c.match-try_place.store after
+    let back = back-now g.N.Network.net g.N.Undo.content g.N.Undo.past g.N.Undo.aside g.N.Undo.mark_room c.args.problem.machine.now c.args.problem.ask.now c.args.child.first c.args.child.act c.args.opening.now c.loop-place.opening c.args.store.now c.loop-place.store c.args.board.now c.loop-place.board c.mark-mark.new.self c.mark-mark.result.0
+    (take c.args.hold c.args.child.choice.places) c.loop-place.place c.get-2.result.now tried c.match-try_place.board c.undo_to-in-loop-place.new.self c.match-try_place.opening c.match-try_place.store after
     (record { content_then = u.content; past_less = u.past; aside_same = u.aside; room_same = u.room }) in
     record {
-      progress = next-now g.N.Network.net g.N.Undo.content g.N.Undo.past g.N.Undo.aside g.N.Undo.mark_room c.args.machine.now c.args.ask.now c.args.first c.args.act c.args.opening.now c.loop-place.opening c.args.store.now c.loop-place.store c.args.board.now c.loop-place.board c.mark-mark.new.self c.mark-mark.result.0
-          (take c.args.hold c.args.choice.places) c.loop-place.place c.get-2.result.now tried c.match-try_place.board c.undo_to-in-loop-place.new.self c.match-try_place.opening c.match-try_place.store after
+      progress = next-now g.N.Network.net g.N.Undo.content g.N.Undo.past g.N.Undo.aside g.N.Undo.mark_room c.args.problem.machine.now c.args.problem.ask.now c.args.child.first c.args.child.act c.args.opening.now c.loop-place.opening c.args.store.now c.loop-place.store c.args.board.now c.loop-place.board c.mark-mark.new.self c.mark-mark.result.0
+          (take c.args.hold c.args.child.choice.places) c.loop-place.place c.get-2.result.now tried c.match-try_place.board c.undo_to-in-loop-place.new.self c.match-try_place.opening c.match-try_place.store after
           (c.loop-place.place - 1) (omega arith) back;
-      same = same-now g.N.Network.net g.N.Undo.content g.N.Undo.past g.N.Undo.aside g.N.Undo.mark_room c.args.machine.now c.args.ask.now c.args.first c.args.act c.args.opening.now c.loop-place.opening c.args.store.now c.loop-place.store c.args.board.now c.loop-place.board c.mark-mark.new.self c.mark-mark.result.0
-          (take c.args.hold c.args.choice.places) c.loop-place.place c.get-2.result.now tried c.match-try_place.board c.undo_to-in-loop-place.new.self c.match-try_place.opening c.match-try_place.store after;
+      same = same-now g.N.Network.net g.N.Undo.content g.N.Undo.past g.N.Undo.aside g.N.Undo.mark_room c.args.problem.machine.now c.args.problem.ask.now c.args.child.first c.args.child.act c.args.opening.now c.loop-place.opening c.args.store.now c.loop-place.store c.args.board.now c.loop-place.board c.mark-mark.new.self c.mark-mark.result.0
+          (take c.args.hold c.args.child.choice.places) c.loop-place.place c.get-2.result.now tried c.match-try_place.board c.undo_to-in-loop-place.new.self c.match-try_place.opening c.match-try_place.store after;
       back = back;
     }
 
 pub returns-after-try_place-clause-progress : goal.returns-after-try_place-clause-progress
 returns-after-try_place-clause-progress g t c =
     let known = ap length (ap holds_of_act c.get.ensures) in
-    let count : length (take c.args.hold c.args.choice.places) ≡ c.args.hold = length-take-le c.args.hold c.args.choice.places (omega arith) in
+    let count : length (take c.args.hold c.args.child.choice.places) ≡ c.args.hold = length-take-le c.args.hold c.args.child.choice.places (omega arith) in
     let m = c.mark-mark.ensures in
     let v = c.loop-place.invariant in
-    let tried = trying g.N.Network.net g.N.Undo.content g.N.Undo.past g.N.Undo.aside g.N.Undo.mark_room c.args.machine.now c.args.ask.now c.args.first c.args.act c.args.opening.now c.loop-place.opening c.args.store.now c.loop-place.store c.args.board.now c.loop-place.board c.mark-mark.new.self c.mark-mark.result.0
-    (take c.args.hold c.args.choice.places) c.loop-place.place c.get-2.result.now
+    let tried = trying g.N.Network.net g.N.Undo.content g.N.Undo.past g.N.Undo.aside g.N.Undo.mark_room c.args.problem.machine.now c.args.problem.ask.now c.args.child.first c.args.child.act c.args.opening.now c.loop-place.opening c.args.store.now c.loop-place.store c.args.board.now c.loop-place.board c.mark-mark.new.self c.mark-mark.result.0
+    (take c.args.hold c.args.child.choice.places) c.loop-place.place c.get-2.result.now
     c.get.result.now c.args.hold c.places-last.result c.marks_keep_boards.ensures.mark c.marks_keep_boards.ensures.back c.requires.laid c.requires.fresh c.get.ensures c.get-2.ensures count c.places-last.ensures (omega arith)
     v.same v.back v.progress (record { number = m.number; past_more = m.past; content_same = m.content; aside_same = m.aside; room_same = m.room }) in
     let p = c.try_place.ensures in
-    let some : c.args.hold < length c.args.choice.places = omega arith in
-    let next = next-places c.args.choice.places c.args.hold c.loop-place.place some in
-    let after : IsTried g.N.Network.net g.N.Undo.content g.N.Undo.past g.N.Undo.aside g.N.Undo.mark_room c.args.machine.now c.args.ask.now c.args.first c.args.act c.args.opening.now c.loop-place.opening c.args.store.now c.loop-place.store c.args.board.now c.loop-place.board c.mark-mark.new.self c.mark-mark.result.0
-    (take c.args.hold c.args.choice.places) c.loop-place.place c.get-2.result.now c.match-try_place.board c.match-try_place.opening c.match-try_place.store = elim c.match-try_place.branch [
-      | in-Ok w ↦ tried-as g.N.Network.net g.N.Undo.content g.N.Undo.past g.N.Undo.aside g.N.Undo.mark_room c.args.machine.now c.args.ask.now c.args.first c.args.act c.args.opening.now c.loop-place.opening c.args.store.now c.loop-place.store c.args.board.now c.loop-place.board c.mark-mark.new.self c.mark-mark.result.0
-          (take c.args.hold c.args.choice.places) c.loop-place.place c.get-2.result.now w.place_rest.new.board c.match-try_place.board w.place_rest.new.opening c.match-try_place.opening w.place_rest.new.store c.match-try_place.store w.board-is w.opening-is w.store-is
-          (tried-placed g.N.Network.net g.N.Undo.content g.N.Undo.past g.N.Undo.aside g.N.Undo.mark_room c.args.machine.now c.args.ask.now c.args.first c.args.act c.args.opening.now c.loop-place.opening c.args.store.now c.loop-place.store c.args.board.now c.loop-place.board c.mark-mark.new.self c.mark-mark.result.0
-          (take c.args.hold c.args.choice.places) c.loop-place.place c.get-2.result.now tried c.try_place.new.self w.place_rest.new.board w.place_rest.new.opening w.place_rest.new.store
-          (since-step g.N.Network.net g.N.Undo.content g.N.Undo.past g.N.Undo.mark_room c.mark-mark.new.self c.try_place.new.self c.args.machine.now p.past p.loaded p.marks (λ s. w.in-Ok.ensures.stands)) w.place_rest.ensures.same w.place_rest.ensures.back
-          (subst (λ ps. IsAtProgress c.args.machine.now c.try_place.new.self.plans c.args.ask.now w.place_rest.new.opening w.place_rest.new.store (through c.args.act.0 ps)) next w.place_rest.ensures.progress))
-      | in-Err-Here w ↦ tried-as g.N.Network.net g.N.Undo.content g.N.Undo.past g.N.Undo.aside g.N.Undo.mark_room c.args.machine.now c.args.ask.now c.args.first c.args.act c.args.opening.now c.loop-place.opening c.args.store.now c.loop-place.store c.args.board.now c.loop-place.board c.mark-mark.new.self c.mark-mark.result.0
-          (take c.args.hold c.args.choice.places) c.loop-place.place c.get-2.result.now c.try_place.new.self c.match-try_place.board c.loop-place.opening c.match-try_place.opening c.loop-place.store c.match-try_place.store w.board-is w.opening-is w.store-is
-          (tried-late g.N.Network.net g.N.Undo.content g.N.Undo.past g.N.Undo.aside g.N.Undo.mark_room c.args.machine.now c.args.ask.now c.args.first c.args.act c.args.opening.now c.loop-place.opening c.args.store.now c.loop-place.store c.args.board.now c.loop-place.board c.mark-mark.new.self c.mark-mark.result.0
-          (take c.args.hold c.args.choice.places) c.loop-place.place c.get-2.result.now tried c.try_place.new.self
-          (refused-since g.N.Network.net g.N.Undo.content g.N.Undo.past g.N.Undo.aside g.N.Undo.mark_room c.args.machine.now c.args.ask.now c.args.first c.args.act c.args.opening.now c.loop-place.opening c.args.store.now c.loop-place.store c.args.board.now c.loop-place.board c.mark-mark.new.self c.mark-mark.result.0
-          (take c.args.hold c.args.choice.places) c.loop-place.place c.get-2.result.now tried c.try_place.new.self p.past p.loaded p.marks w.in-Err-Here.ensures.back) w.in-Err-Here.ensures.late)
+    let some : c.args.hold < length c.args.child.choice.places = omega arith in
+    let next = next-places c.args.child.choice.places c.args.hold c.loop-place.place some in
+    let after : IsTried g.N.Network.net g.N.Undo.content g.N.Undo.past g.N.Undo.aside g.N.Undo.mark_room c.args.problem.machine.now c.args.problem.ask.now c.args.child.first c.args.child.act c.args.opening.now c.loop-place.opening c.args.store.now c.loop-place.store c.args.board.now c.loop-place.board c.mark-mark.new.self c.mark-mark.result.0
+    (take c.args.hold c.args.child.choice.places) c.loop-place.place c.get-2.result.now c.match-try_place.board c.match-try_place.opening c.match-try_place.store = elim c.match-try_place.branch [
+      | in-Ok w ↦ tried-as g.N.Network.net g.N.Undo.content g.N.Undo.past g.N.Undo.aside g.N.Undo.mark_room c.args.problem.machine.now c.args.problem.ask.now c.args.child.first c.args.child.act c.args.opening.now c.loop-place.opening c.args.store.now c.loop-place.store c.args.board.now c.loop-place.board c.mark-mark.new.self c.mark-mark.result.0
+          (take c.args.hold c.args.child.choice.places) c.loop-place.place c.get-2.result.now w.place_rest.new.board c.match-try_place.board w.place_rest.new.opening c.match-try_place.opening w.place_rest.new.store c.match-try_place.store w.board-is w.opening-is w.store-is
+          (tried-placed g.N.Network.net g.N.Undo.content g.N.Undo.past g.N.Undo.aside g.N.Undo.mark_room c.args.problem.machine.now c.args.problem.ask.now c.args.child.first c.args.child.act c.args.opening.now c.loop-place.opening c.args.store.now c.loop-place.store c.args.board.now c.loop-place.board c.mark-mark.new.self c.mark-mark.result.0
+          (take c.args.hold c.args.child.choice.places) c.loop-place.place c.get-2.result.now tried c.try_place.new.self w.place_rest.new.board w.place_rest.new.opening w.place_rest.new.store
+          (since-step g.N.Network.net g.N.Undo.content g.N.Undo.past g.N.Undo.mark_room c.mark-mark.new.self c.try_place.new.self c.args.problem.machine.now p.past p.loaded p.marks (λ s. w.in-Ok.ensures.stands)) w.place_rest.ensures.same w.place_rest.ensures.back
+          (subst (λ ps. IsAtProgress c.args.problem.machine.now c.try_place.new.self.plans c.args.problem.ask.now w.place_rest.new.opening w.place_rest.new.store (through c.args.child.act.0 ps)) next w.place_rest.ensures.progress))
+      | in-Err-Here w ↦ tried-as g.N.Network.net g.N.Undo.content g.N.Undo.past g.N.Undo.aside g.N.Undo.mark_room c.args.problem.machine.now c.args.problem.ask.now c.args.child.first c.args.child.act c.args.opening.now c.loop-place.opening c.args.store.now c.loop-place.store c.args.board.now c.loop-place.board c.mark-mark.new.self c.mark-mark.result.0
+          (take c.args.hold c.args.child.choice.places) c.loop-place.place c.get-2.result.now c.try_place.new.self c.match-try_place.board c.loop-place.opening c.match-try_place.opening c.loop-place.store c.match-try_place.store w.board-is w.opening-is w.store-is
+          (tried-late g.N.Network.net g.N.Undo.content g.N.Undo.past g.N.Undo.aside g.N.Undo.mark_room c.args.problem.machine.now c.args.problem.ask.now c.args.child.first c.args.child.act c.args.opening.now c.loop-place.opening c.args.store.now c.loop-place.store c.args.board.now c.loop-place.board c.mark-mark.new.self c.mark-mark.result.0
+          (take c.args.hold c.args.child.choice.places) c.loop-place.place c.get-2.result.now tried c.try_place.new.self
+          (refused-since g.N.Network.net g.N.Undo.content g.N.Undo.past g.N.Undo.aside g.N.Undo.mark_room c.args.problem.machine.now c.args.problem.ask.now c.args.child.first c.args.child.act c.args.opening.now c.loop-place.opening c.args.store.now c.loop-place.store c.args.board.now c.loop-place.board c.mark-mark.new.self c.mark-mark.result.0
+          (take c.args.hold c.args.child.choice.places) c.loop-place.place c.get-2.result.now tried c.try_place.new.self p.past p.loaded p.marks w.in-Err-Here.ensures.back) w.in-Err-Here.ensures.late)
     ] in
-    end-now g.N.Network.net g.N.Undo.content g.N.Undo.past g.N.Undo.aside g.N.Undo.mark_room c.args.machine.now c.args.ask.now c.args.first c.args.act c.args.opening.now c.loop-place.opening c.args.store.now c.loop-place.store c.args.board.now c.loop-place.board c.mark-mark.new.self c.mark-mark.result.0
-    (take c.args.hold c.args.choice.places) c.loop-place.place c.get-2.result.now tried c.match-try_place.board c.undo_to-in-loop-place.new.self c.match-try_place.opening c.match-try_place.store after (omega arith) (omega arith)
+    end-now g.N.Network.net g.N.Undo.content g.N.Undo.past g.N.Undo.aside g.N.Undo.mark_room c.args.problem.machine.now c.args.problem.ask.now c.args.child.first c.args.child.act c.args.opening.now c.loop-place.opening c.args.store.now c.loop-place.store c.args.board.now c.loop-place.board c.mark-mark.new.self c.mark-mark.result.0
+    (take c.args.hold c.args.child.choice.places) c.loop-place.place c.get-2.result.now tried c.match-try_place.board c.undo_to-in-loop-place.new.self c.match-try_place.opening c.match-try_place.store after (omega arith) (omega arith)
 
 pub returns-after-try_place-clause-same : goal.returns-after-try_place-clause-same
 returns-after-try_place-clause-same g t c =
     let known = ap length (ap holds_of_act c.get.ensures) in
-    let count : length (take c.args.hold c.args.choice.places) ≡ c.args.hold = length-take-le c.args.hold c.args.choice.places (omega arith) in
+    let count : length (take c.args.hold c.args.child.choice.places) ≡ c.args.hold = length-take-le c.args.hold c.args.child.choice.places (omega arith) in
     let m = c.mark-mark.ensures in
     let v = c.loop-place.invariant in
-    let tried = trying g.N.Network.net g.N.Undo.content g.N.Undo.past g.N.Undo.aside g.N.Undo.mark_room c.args.machine.now c.args.ask.now c.args.first c.args.act c.args.opening.now c.loop-place.opening c.args.store.now c.loop-place.store c.args.board.now c.loop-place.board c.mark-mark.new.self c.mark-mark.result.0
-    (take c.args.hold c.args.choice.places) c.loop-place.place c.get-2.result.now
+    let tried = trying g.N.Network.net g.N.Undo.content g.N.Undo.past g.N.Undo.aside g.N.Undo.mark_room c.args.problem.machine.now c.args.problem.ask.now c.args.child.first c.args.child.act c.args.opening.now c.loop-place.opening c.args.store.now c.loop-place.store c.args.board.now c.loop-place.board c.mark-mark.new.self c.mark-mark.result.0
+    (take c.args.hold c.args.child.choice.places) c.loop-place.place c.get-2.result.now
     c.get.result.now c.args.hold c.places-last.result c.marks_keep_boards.ensures.mark c.marks_keep_boards.ensures.back c.requires.laid c.requires.fresh c.get.ensures c.get-2.ensures count c.places-last.ensures (omega arith)
     v.same v.back v.progress (record { number = m.number; past_more = m.past; content_same = m.content; aside_same = m.aside; room_same = m.room }) in
     let p = c.try_place.ensures in
-    let some : c.args.hold < length c.args.choice.places = omega arith in
-    let next = next-places c.args.choice.places c.args.hold c.loop-place.place some in
-    let after : IsTried g.N.Network.net g.N.Undo.content g.N.Undo.past g.N.Undo.aside g.N.Undo.mark_room c.args.machine.now c.args.ask.now c.args.first c.args.act c.args.opening.now c.loop-place.opening c.args.store.now c.loop-place.store c.args.board.now c.loop-place.board c.mark-mark.new.self c.mark-mark.result.0
-    (take c.args.hold c.args.choice.places) c.loop-place.place c.get-2.result.now c.match-try_place.board c.match-try_place.opening c.match-try_place.store = elim c.match-try_place.branch [
-      | in-Ok w ↦ tried-as g.N.Network.net g.N.Undo.content g.N.Undo.past g.N.Undo.aside g.N.Undo.mark_room c.args.machine.now c.args.ask.now c.args.first c.args.act c.args.opening.now c.loop-place.opening c.args.store.now c.loop-place.store c.args.board.now c.loop-place.board c.mark-mark.new.self c.mark-mark.result.0
-          (take c.args.hold c.args.choice.places) c.loop-place.place c.get-2.result.now w.place_rest.new.board c.match-try_place.board w.place_rest.new.opening c.match-try_place.opening w.place_rest.new.store c.match-try_place.store w.board-is w.opening-is w.store-is
-          (tried-placed g.N.Network.net g.N.Undo.content g.N.Undo.past g.N.Undo.aside g.N.Undo.mark_room c.args.machine.now c.args.ask.now c.args.first c.args.act c.args.opening.now c.loop-place.opening c.args.store.now c.loop-place.store c.args.board.now c.loop-place.board c.mark-mark.new.self c.mark-mark.result.0
-          (take c.args.hold c.args.choice.places) c.loop-place.place c.get-2.result.now tried c.try_place.new.self w.place_rest.new.board w.place_rest.new.opening w.place_rest.new.store
-          (since-step g.N.Network.net g.N.Undo.content g.N.Undo.past g.N.Undo.mark_room c.mark-mark.new.self c.try_place.new.self c.args.machine.now p.past p.loaded p.marks (λ s. w.in-Ok.ensures.stands)) w.place_rest.ensures.same w.place_rest.ensures.back
-          (subst (λ ps. IsAtProgress c.args.machine.now c.try_place.new.self.plans c.args.ask.now w.place_rest.new.opening w.place_rest.new.store (through c.args.act.0 ps)) next w.place_rest.ensures.progress))
-      | in-Err-Here w ↦ tried-as g.N.Network.net g.N.Undo.content g.N.Undo.past g.N.Undo.aside g.N.Undo.mark_room c.args.machine.now c.args.ask.now c.args.first c.args.act c.args.opening.now c.loop-place.opening c.args.store.now c.loop-place.store c.args.board.now c.loop-place.board c.mark-mark.new.self c.mark-mark.result.0
-          (take c.args.hold c.args.choice.places) c.loop-place.place c.get-2.result.now c.try_place.new.self c.match-try_place.board c.loop-place.opening c.match-try_place.opening c.loop-place.store c.match-try_place.store w.board-is w.opening-is w.store-is
-          (tried-late g.N.Network.net g.N.Undo.content g.N.Undo.past g.N.Undo.aside g.N.Undo.mark_room c.args.machine.now c.args.ask.now c.args.first c.args.act c.args.opening.now c.loop-place.opening c.args.store.now c.loop-place.store c.args.board.now c.loop-place.board c.mark-mark.new.self c.mark-mark.result.0
-          (take c.args.hold c.args.choice.places) c.loop-place.place c.get-2.result.now tried c.try_place.new.self
-          (refused-since g.N.Network.net g.N.Undo.content g.N.Undo.past g.N.Undo.aside g.N.Undo.mark_room c.args.machine.now c.args.ask.now c.args.first c.args.act c.args.opening.now c.loop-place.opening c.args.store.now c.loop-place.store c.args.board.now c.loop-place.board c.mark-mark.new.self c.mark-mark.result.0
-          (take c.args.hold c.args.choice.places) c.loop-place.place c.get-2.result.now tried c.try_place.new.self p.past p.loaded p.marks w.in-Err-Here.ensures.back) w.in-Err-Here.ensures.late)
+    let some : c.args.hold < length c.args.child.choice.places = omega arith in
+    let next = next-places c.args.child.choice.places c.args.hold c.loop-place.place some in
+    let after : IsTried g.N.Network.net g.N.Undo.content g.N.Undo.past g.N.Undo.aside g.N.Undo.mark_room c.args.problem.machine.now c.args.problem.ask.now c.args.child.first c.args.child.act c.args.opening.now c.loop-place.opening c.args.store.now c.loop-place.store c.args.board.now c.loop-place.board c.mark-mark.new.self c.mark-mark.result.0
+    (take c.args.hold c.args.child.choice.places) c.loop-place.place c.get-2.result.now c.match-try_place.board c.match-try_place.opening c.match-try_place.store = elim c.match-try_place.branch [
+      | in-Ok w ↦ tried-as g.N.Network.net g.N.Undo.content g.N.Undo.past g.N.Undo.aside g.N.Undo.mark_room c.args.problem.machine.now c.args.problem.ask.now c.args.child.first c.args.child.act c.args.opening.now c.loop-place.opening c.args.store.now c.loop-place.store c.args.board.now c.loop-place.board c.mark-mark.new.self c.mark-mark.result.0
+          (take c.args.hold c.args.child.choice.places) c.loop-place.place c.get-2.result.now w.place_rest.new.board c.match-try_place.board w.place_rest.new.opening c.match-try_place.opening w.place_rest.new.store c.match-try_place.store w.board-is w.opening-is w.store-is
+          (tried-placed g.N.Network.net g.N.Undo.content g.N.Undo.past g.N.Undo.aside g.N.Undo.mark_room c.args.problem.machine.now c.args.problem.ask.now c.args.child.first c.args.child.act c.args.opening.now c.loop-place.opening c.args.store.now c.loop-place.store c.args.board.now c.loop-place.board c.mark-mark.new.self c.mark-mark.result.0
+          (take c.args.hold c.args.child.choice.places) c.loop-place.place c.get-2.result.now tried c.try_place.new.self w.place_rest.new.board w.place_rest.new.opening w.place_rest.new.store
+          (since-step g.N.Network.net g.N.Undo.content g.N.Undo.past g.N.Undo.mark_room c.mark-mark.new.self c.try_place.new.self c.args.problem.machine.now p.past p.loaded p.marks (λ s. w.in-Ok.ensures.stands)) w.place_rest.ensures.same w.place_rest.ensures.back
+          (subst (λ ps. IsAtProgress c.args.problem.machine.now c.try_place.new.self.plans c.args.problem.ask.now w.place_rest.new.opening w.place_rest.new.store (through c.args.child.act.0 ps)) next w.place_rest.ensures.progress))
+      | in-Err-Here w ↦ tried-as g.N.Network.net g.N.Undo.content g.N.Undo.past g.N.Undo.aside g.N.Undo.mark_room c.args.problem.machine.now c.args.problem.ask.now c.args.child.first c.args.child.act c.args.opening.now c.loop-place.opening c.args.store.now c.loop-place.store c.args.board.now c.loop-place.board c.mark-mark.new.self c.mark-mark.result.0
+          (take c.args.hold c.args.child.choice.places) c.loop-place.place c.get-2.result.now c.try_place.new.self c.match-try_place.board c.loop-place.opening c.match-try_place.opening c.loop-place.store c.match-try_place.store w.board-is w.opening-is w.store-is
+          (tried-late g.N.Network.net g.N.Undo.content g.N.Undo.past g.N.Undo.aside g.N.Undo.mark_room c.args.problem.machine.now c.args.problem.ask.now c.args.child.first c.args.child.act c.args.opening.now c.loop-place.opening c.args.store.now c.loop-place.store c.args.board.now c.loop-place.board c.mark-mark.new.self c.mark-mark.result.0
+          (take c.args.hold c.args.child.choice.places) c.loop-place.place c.get-2.result.now tried c.try_place.new.self
+          (refused-since g.N.Network.net g.N.Undo.content g.N.Undo.past g.N.Undo.aside g.N.Undo.mark_room c.args.problem.machine.now c.args.problem.ask.now c.args.child.first c.args.child.act c.args.opening.now c.loop-place.opening c.args.store.now c.loop-place.store c.args.board.now c.loop-place.board c.mark-mark.new.self c.mark-mark.result.0
+          (take c.args.hold c.args.child.choice.places) c.loop-place.place c.get-2.result.now tried c.try_place.new.self p.past p.loaded p.marks w.in-Err-Here.ensures.back) w.in-Err-Here.ensures.late)
     ] in
-    same-now g.N.Network.net g.N.Undo.content g.N.Undo.past g.N.Undo.aside g.N.Undo.mark_room c.args.machine.now c.args.ask.now c.args.first c.args.act c.args.opening.now c.loop-place.opening c.args.store.now c.loop-place.store c.args.board.now c.loop-place.board c.mark-mark.new.self c.mark-mark.result.0
-    (take c.args.hold c.args.choice.places) c.loop-place.place c.get-2.result.now tried c.match-try_place.board c.undo_to-in-loop-place.new.self c.match-try_place.opening c.match-try_place.store after
+    same-now g.N.Network.net g.N.Undo.content g.N.Undo.past g.N.Undo.aside g.N.Undo.mark_room c.args.problem.machine.now c.args.problem.ask.now c.args.child.first c.args.child.act c.args.opening.now c.loop-place.opening c.args.store.now c.loop-place.store c.args.board.now c.loop-place.board c.mark-mark.new.self c.mark-mark.result.0
+    (take c.args.hold c.args.child.choice.places) c.loop-place.place c.get-2.result.now tried c.match-try_place.board c.undo_to-in-loop-place.new.self c.match-try_place.opening c.match-try_place.store after
 
 pub returns-after-try_place-clause-back : goal.returns-after-try_place-clause-back
 returns-after-try_place-clause-back g t c =
     let known = ap length (ap holds_of_act c.get.ensures) in
-    let count : length (take c.args.hold c.args.choice.places) ≡ c.args.hold = length-take-le c.args.hold c.args.choice.places (omega arith) in
+    let count : length (take c.args.hold c.args.child.choice.places) ≡ c.args.hold = length-take-le c.args.hold c.args.child.choice.places (omega arith) in
     let m = c.mark-mark.ensures in
     let v = c.loop-place.invariant in
-    let tried = trying g.N.Network.net g.N.Undo.content g.N.Undo.past g.N.Undo.aside g.N.Undo.mark_room c.args.machine.now c.args.ask.now c.args.first c.args.act c.args.opening.now c.loop-place.opening c.args.store.now c.loop-place.store c.args.board.now c.loop-place.board c.mark-mark.new.self c.mark-mark.result.0
-    (take c.args.hold c.args.choice.places) c.loop-place.place c.get-2.result.now
+    let tried = trying g.N.Network.net g.N.Undo.content g.N.Undo.past g.N.Undo.aside g.N.Undo.mark_room c.args.problem.machine.now c.args.problem.ask.now c.args.child.first c.args.child.act c.args.opening.now c.loop-place.opening c.args.store.now c.loop-place.store c.args.board.now c.loop-place.board c.mark-mark.new.self c.mark-mark.result.0
+    (take c.args.hold c.args.child.choice.places) c.loop-place.place c.get-2.result.now
     c.get.result.now c.args.hold c.places-last.result c.marks_keep_boards.ensures.mark c.marks_keep_boards.ensures.back c.requires.laid c.requires.fresh c.get.ensures c.get-2.ensures count c.places-last.ensures (omega arith)
     v.same v.back v.progress (record { number = m.number; past_more = m.past; content_same = m.content; aside_same = m.aside; room_same = m.room }) in
     let p = c.try_place.ensures in
-    let some : c.args.hold < length c.args.choice.places = omega arith in
-    let next = next-places c.args.choice.places c.args.hold c.loop-place.place some in
-    let after : IsTried g.N.Network.net g.N.Undo.content g.N.Undo.past g.N.Undo.aside g.N.Undo.mark_room c.args.machine.now c.args.ask.now c.args.first c.args.act c.args.opening.now c.loop-place.opening c.args.store.now c.loop-place.store c.args.board.now c.loop-place.board c.mark-mark.new.self c.mark-mark.result.0
-    (take c.args.hold c.args.choice.places) c.loop-place.place c.get-2.result.now c.match-try_place.board c.match-try_place.opening c.match-try_place.store = elim c.match-try_place.branch [
-      | in-Ok w ↦ tried-as g.N.Network.net g.N.Undo.content g.N.Undo.past g.N.Undo.aside g.N.Undo.mark_room c.args.machine.now c.args.ask.now c.args.first c.args.act c.args.opening.now c.loop-place.opening c.args.store.now c.loop-place.store c.args.board.now c.loop-place.board c.mark-mark.new.self c.mark-mark.result.0
-          (take c.args.hold c.args.choice.places) c.loop-place.place c.get-2.result.now w.place_rest.new.board c.match-try_place.board w.place_rest.new.opening c.match-try_place.opening w.place_rest.new.store c.match-try_place.store w.board-is w.opening-is w.store-is
-          (tried-placed g.N.Network.net g.N.Undo.content g.N.Undo.past g.N.Undo.aside g.N.Undo.mark_room c.args.machine.now c.args.ask.now c.args.first c.args.act c.args.opening.now c.loop-place.opening c.args.store.now c.loop-place.store c.args.board.now c.loop-place.board c.mark-mark.new.self c.mark-mark.result.0
-          (take c.args.hold c.args.choice.places) c.loop-place.place c.get-2.result.now tried c.try_place.new.self w.place_rest.new.board w.place_rest.new.opening w.place_rest.new.store
-          (since-step g.N.Network.net g.N.Undo.content g.N.Undo.past g.N.Undo.mark_room c.mark-mark.new.self c.try_place.new.self c.args.machine.now p.past p.loaded p.marks (λ s. w.in-Ok.ensures.stands)) w.place_rest.ensures.same w.place_rest.ensures.back
-          (subst (λ ps. IsAtProgress c.args.machine.now c.try_place.new.self.plans c.args.ask.now w.place_rest.new.opening w.place_rest.new.store (through c.args.act.0 ps)) next w.place_rest.ensures.progress))
-      | in-Err-Here w ↦ tried-as g.N.Network.net g.N.Undo.content g.N.Undo.past g.N.Undo.aside g.N.Undo.mark_room c.args.machine.now c.args.ask.now c.args.first c.args.act c.args.opening.now c.loop-place.opening c.args.store.now c.loop-place.store c.args.board.now c.loop-place.board c.mark-mark.new.self c.mark-mark.result.0
-          (take c.args.hold c.args.choice.places) c.loop-place.place c.get-2.result.now c.try_place.new.self c.match-try_place.board c.loop-place.opening c.match-try_place.opening c.loop-place.store c.match-try_place.store w.board-is w.opening-is w.store-is
-          (tried-late g.N.Network.net g.N.Undo.content g.N.Undo.past g.N.Undo.aside g.N.Undo.mark_room c.args.machine.now c.args.ask.now c.args.first c.args.act c.args.opening.now c.loop-place.opening c.args.store.now c.loop-place.store c.args.board.now c.loop-place.board c.mark-mark.new.self c.mark-mark.result.0
-          (take c.args.hold c.args.choice.places) c.loop-place.place c.get-2.result.now tried c.try_place.new.self
-          (refused-since g.N.Network.net g.N.Undo.content g.N.Undo.past g.N.Undo.aside g.N.Undo.mark_room c.args.machine.now c.args.ask.now c.args.first c.args.act c.args.opening.now c.loop-place.opening c.args.store.now c.loop-place.store c.args.board.now c.loop-place.board c.mark-mark.new.self c.mark-mark.result.0
-          (take c.args.hold c.args.choice.places) c.loop-place.place c.get-2.result.now tried c.try_place.new.self p.past p.loaded p.marks w.in-Err-Here.ensures.back) w.in-Err-Here.ensures.late)
+    let some : c.args.hold < length c.args.child.choice.places = omega arith in
+    let next = next-places c.args.child.choice.places c.args.hold c.loop-place.place some in
+    let after : IsTried g.N.Network.net g.N.Undo.content g.N.Undo.past g.N.Undo.aside g.N.Undo.mark_room c.args.problem.machine.now c.args.problem.ask.now c.args.child.first c.args.child.act c.args.opening.now c.loop-place.opening c.args.store.now c.loop-place.store c.args.board.now c.loop-place.board c.mark-mark.new.self c.mark-mark.result.0
+    (take c.args.hold c.args.child.choice.places) c.loop-place.place c.get-2.result.now c.match-try_place.board c.match-try_place.opening c.match-try_place.store = elim c.match-try_place.branch [
+      | in-Ok w ↦ tried-as g.N.Network.net g.N.Undo.content g.N.Undo.past g.N.Undo.aside g.N.Undo.mark_room c.args.problem.machine.now c.args.problem.ask.now c.args.child.first c.args.child.act c.args.opening.now c.loop-place.opening c.args.store.now c.loop-place.store c.args.board.now c.loop-place.board c.mark-mark.new.self c.mark-mark.result.0
+          (take c.args.hold c.args.child.choice.places) c.loop-place.place c.get-2.result.now w.place_rest.new.board c.match-try_place.board w.place_rest.new.opening c.match-try_place.opening w.place_rest.new.store c.match-try_place.store w.board-is w.opening-is w.store-is
+          (tried-placed g.N.Network.net g.N.Undo.content g.N.Undo.past g.N.Undo.aside g.N.Undo.mark_room c.args.problem.machine.now c.args.problem.ask.now c.args.child.first c.args.child.act c.args.opening.now c.loop-place.opening c.args.store.now c.loop-place.store c.args.board.now c.loop-place.board c.mark-mark.new.self c.mark-mark.result.0
+          (take c.args.hold c.args.child.choice.places) c.loop-place.place c.get-2.result.now tried c.try_place.new.self w.place_rest.new.board w.place_rest.new.opening w.place_rest.new.store
+          (since-step g.N.Network.net g.N.Undo.content g.N.Undo.past g.N.Undo.mark_room c.mark-mark.new.self c.try_place.new.self c.args.problem.machine.now p.past p.loaded p.marks (λ s. w.in-Ok.ensures.stands)) w.place_rest.ensures.same w.place_rest.ensures.back
+          (subst (λ ps. IsAtProgress c.args.problem.machine.now c.try_place.new.self.plans c.args.problem.ask.now w.place_rest.new.opening w.place_rest.new.store (through c.args.child.act.0 ps)) next w.place_rest.ensures.progress))
+      | in-Err-Here w ↦ tried-as g.N.Network.net g.N.Undo.content g.N.Undo.past g.N.Undo.aside g.N.Undo.mark_room c.args.problem.machine.now c.args.problem.ask.now c.args.child.first c.args.child.act c.args.opening.now c.loop-place.opening c.args.store.now c.loop-place.store c.args.board.now c.loop-place.board c.mark-mark.new.self c.mark-mark.result.0
+          (take c.args.hold c.args.child.choice.places) c.loop-place.place c.get-2.result.now c.try_place.new.self c.match-try_place.board c.loop-place.opening c.match-try_place.opening c.loop-place.store c.match-try_place.store w.board-is w.opening-is w.store-is
+          (tried-late g.N.Network.net g.N.Undo.content g.N.Undo.past g.N.Undo.aside g.N.Undo.mark_room c.args.problem.machine.now c.args.problem.ask.now c.args.child.first c.args.child.act c.args.opening.now c.loop-place.opening c.args.store.now c.loop-place.store c.args.board.now c.loop-place.board c.mark-mark.new.self c.mark-mark.result.0
+          (take c.args.hold c.args.child.choice.places) c.loop-place.place c.get-2.result.now tried c.try_place.new.self
+          (refused-since g.N.Network.net g.N.Undo.content g.N.Undo.past g.N.Undo.aside g.N.Undo.mark_room c.args.problem.machine.now c.args.problem.ask.now c.args.child.first c.args.child.act c.args.opening.now c.loop-place.opening c.args.store.now c.loop-place.store c.args.board.now c.loop-place.board c.mark-mark.new.self c.mark-mark.result.0
+          (take c.args.hold c.args.child.choice.places) c.loop-place.place c.get-2.result.now tried c.try_place.new.self p.past p.loaded p.marks w.in-Err-Here.ensures.back) w.in-Err-Here.ensures.late)
     ] in
     let u = c.undo_to-in-loop-place.ensures in
-    back-now g.N.Network.net g.N.Undo.content g.N.Undo.past g.N.Undo.aside g.N.Undo.mark_room c.args.machine.now c.args.ask.now c.args.first c.args.act c.args.opening.now c.loop-place.opening c.args.store.now c.loop-place.store c.args.board.now c.loop-place.board c.mark-mark.new.self c.mark-mark.result.0
-    (take c.args.hold c.args.choice.places) c.loop-place.place c.get-2.result.now tried c.match-try_place.board c.undo_to-in-loop-place.new.self c.match-try_place.opening c.match-try_place.store after
+    back-now g.N.Network.net g.N.Undo.content g.N.Undo.past g.N.Undo.aside g.N.Undo.mark_room c.args.problem.machine.now c.args.problem.ask.now c.args.child.first c.args.child.act c.args.opening.now c.loop-place.opening c.args.store.now c.loop-place.store c.args.board.now c.loop-place.board c.mark-mark.new.self c.mark-mark.result.0
+    (take c.args.hold c.args.child.choice.places) c.loop-place.place c.get-2.result.now tried c.match-try_place.board c.undo_to-in-loop-place.new.self c.match-try_place.opening c.match-try_place.store after
     (record { content_then = u.content; past_less = u.past; aside_same = u.aside; room_same = u.room })
 
 pub returns-in-Err-UpToHere-clause-progress : goal.returns-in-Err-UpToHere-clause-progress
 returns-in-Err-UpToHere-clause-progress g t c =
     let known = ap length (ap holds_of_act c.get.ensures) in
-    let count : length (take c.args.hold c.args.choice.places) ≡ c.args.hold = length-take-le c.args.hold c.args.choice.places (omega arith) in
+    let count : length (take c.args.hold c.args.child.choice.places) ≡ c.args.hold = length-take-le c.args.hold c.args.child.choice.places (omega arith) in
     let m = c.mark-mark.ensures in
     let v = c.loop-place.invariant in
-    let tried = trying g.N.Network.net g.N.Undo.content g.N.Undo.past g.N.Undo.aside g.N.Undo.mark_room c.args.machine.now c.args.ask.now c.args.first c.args.act c.args.opening.now c.loop-place.opening c.args.store.now c.loop-place.store c.args.board.now c.loop-place.board c.mark-mark.new.self c.mark-mark.result.0
-    (take c.args.hold c.args.choice.places) c.loop-place.place c.get-2.result.now
+    let tried = trying g.N.Network.net g.N.Undo.content g.N.Undo.past g.N.Undo.aside g.N.Undo.mark_room c.args.problem.machine.now c.args.problem.ask.now c.args.child.first c.args.child.act c.args.opening.now c.loop-place.opening c.args.store.now c.loop-place.store c.args.board.now c.loop-place.board c.mark-mark.new.self c.mark-mark.result.0
+    (take c.args.hold c.args.child.choice.places) c.loop-place.place c.get-2.result.now
     c.get.result.now c.args.hold c.places-last.result c.marks_keep_boards.ensures.mark c.marks_keep_boards.ensures.back c.requires.laid c.requires.fresh c.get.ensures c.get-2.ensures count c.places-last.ensures (omega arith)
     v.same v.back v.progress (record { number = m.number; past_more = m.past; content_same = m.content; aside_same = m.aside; room_same = m.room }) in
-    shut-now g.N.Network.net g.N.Undo.content g.N.Undo.past g.N.Undo.aside g.N.Undo.mark_room c.args.machine.now c.args.ask.now c.args.first c.args.act c.args.opening.now c.loop-place.opening c.args.store.now c.loop-place.store c.args.board.now c.loop-place.board c.mark-mark.new.self c.mark-mark.result.0
-    (take c.args.hold c.args.choice.places) c.loop-place.place c.get-2.result.now tried (omega arith) (c.in-Err-UpToHere.ensures.late_before c.in-Err-UpToHere.field-0-is)
+    shut-now g.N.Network.net g.N.Undo.content g.N.Undo.past g.N.Undo.aside g.N.Undo.mark_room c.args.problem.machine.now c.args.problem.ask.now c.args.child.first c.args.child.act c.args.opening.now c.loop-place.opening c.args.store.now c.loop-place.store c.args.board.now c.loop-place.board c.mark-mark.new.self c.mark-mark.result.0
+    (take c.args.hold c.args.child.choice.places) c.loop-place.place c.get-2.result.now tried (omega arith) (c.in-Err-UpToHere.ensures.late_before c.in-Err-UpToHere.field-0-is)
 
 pub returns-in-Err-UpToHere-clause-back : goal.returns-in-Err-UpToHere-clause-back
 returns-in-Err-UpToHere-clause-back g t c =
     let known = ap length (ap holds_of_act c.get.ensures) in
-    let count : length (take c.args.hold c.args.choice.places) ≡ c.args.hold = length-take-le c.args.hold c.args.choice.places (omega arith) in
+    let count : length (take c.args.hold c.args.child.choice.places) ≡ c.args.hold = length-take-le c.args.hold c.args.child.choice.places (omega arith) in
     let m = c.mark-mark.ensures in
     let v = c.loop-place.invariant in
-    let tried = trying g.N.Network.net g.N.Undo.content g.N.Undo.past g.N.Undo.aside g.N.Undo.mark_room c.args.machine.now c.args.ask.now c.args.first c.args.act c.args.opening.now c.loop-place.opening c.args.store.now c.loop-place.store c.args.board.now c.loop-place.board c.mark-mark.new.self c.mark-mark.result.0
-    (take c.args.hold c.args.choice.places) c.loop-place.place c.get-2.result.now
+    let tried = trying g.N.Network.net g.N.Undo.content g.N.Undo.past g.N.Undo.aside g.N.Undo.mark_room c.args.problem.machine.now c.args.problem.ask.now c.args.child.first c.args.child.act c.args.opening.now c.loop-place.opening c.args.store.now c.loop-place.store c.args.board.now c.loop-place.board c.mark-mark.new.self c.mark-mark.result.0
+    (take c.args.hold c.args.child.choice.places) c.loop-place.place c.get-2.result.now
     c.get.result.now c.args.hold c.places-last.result c.marks_keep_boards.ensures.mark c.marks_keep_boards.ensures.back c.requires.laid c.requires.fresh c.get.ensures c.get-2.ensures count c.places-last.ensures (omega arith)
     v.same v.back v.progress (record { number = m.number; past_more = m.past; content_same = m.content; aside_same = m.aside; room_same = m.room }) in
     let p = c.try_place.ensures in
     let u = c.undo_to.ensures in
-    let after = tried-late g.N.Network.net g.N.Undo.content g.N.Undo.past g.N.Undo.aside g.N.Undo.mark_room c.args.machine.now c.args.ask.now c.args.first c.args.act c.args.opening.now c.loop-place.opening c.args.store.now c.loop-place.store c.args.board.now c.loop-place.board c.mark-mark.new.self c.mark-mark.result.0
-    (take c.args.hold c.args.choice.places) c.loop-place.place c.get-2.result.now tried c.try_place.new.self
-    (refused-since g.N.Network.net g.N.Undo.content g.N.Undo.past g.N.Undo.aside g.N.Undo.mark_room c.args.machine.now c.args.ask.now c.args.first c.args.act c.args.opening.now c.loop-place.opening c.args.store.now c.loop-place.store c.args.board.now c.loop-place.board c.mark-mark.new.self c.mark-mark.result.0
-    (take c.args.hold c.args.choice.places) c.loop-place.place c.get-2.result.now tried c.try_place.new.self p.past p.loaded p.marks c.in-Err-UpToHere.ensures.back) c.in-Err-UpToHere.ensures.late in
-    back-now g.N.Network.net g.N.Undo.content g.N.Undo.past g.N.Undo.aside g.N.Undo.mark_room c.args.machine.now c.args.ask.now c.args.first c.args.act c.args.opening.now c.loop-place.opening c.args.store.now c.loop-place.store c.args.board.now c.loop-place.board c.mark-mark.new.self c.mark-mark.result.0
-    (take c.args.hold c.args.choice.places) c.loop-place.place c.get-2.result.now tried c.try_place.new.self c.undo_to.new.self c.loop-place.opening c.loop-place.store after
+    let after = tried-late g.N.Network.net g.N.Undo.content g.N.Undo.past g.N.Undo.aside g.N.Undo.mark_room c.args.problem.machine.now c.args.problem.ask.now c.args.child.first c.args.child.act c.args.opening.now c.loop-place.opening c.args.store.now c.loop-place.store c.args.board.now c.loop-place.board c.mark-mark.new.self c.mark-mark.result.0
+    (take c.args.hold c.args.child.choice.places) c.loop-place.place c.get-2.result.now tried c.try_place.new.self
+    (refused-since g.N.Network.net g.N.Undo.content g.N.Undo.past g.N.Undo.aside g.N.Undo.mark_room c.args.problem.machine.now c.args.problem.ask.now c.args.child.first c.args.child.act c.args.opening.now c.loop-place.opening c.args.store.now c.loop-place.store c.args.board.now c.loop-place.board c.mark-mark.new.self c.mark-mark.result.0
+    (take c.args.hold c.args.child.choice.places) c.loop-place.place c.get-2.result.now tried c.try_place.new.self p.past p.loaded p.marks c.in-Err-UpToHere.ensures.back) c.in-Err-UpToHere.ensures.late in
+    back-now g.N.Network.net g.N.Undo.content g.N.Undo.past g.N.Undo.aside g.N.Undo.mark_room c.args.problem.machine.now c.args.problem.ask.now c.args.child.first c.args.child.act c.args.opening.now c.loop-place.opening c.args.store.now c.loop-place.store c.args.board.now c.loop-place.board c.mark-mark.new.self c.mark-mark.result.0
+    (take c.args.hold c.args.child.choice.places) c.loop-place.place c.get-2.result.now tried c.try_place.new.self c.undo_to.new.self c.loop-place.opening c.loop-place.store after
     (record { content_then = u.content; past_less = u.past; aside_same = u.aside; room_same = u.room })

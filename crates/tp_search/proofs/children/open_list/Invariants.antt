@@ -7,7 +7,7 @@ use Rattle.tp_search.proofs.children.open_list.Given as goal
 -- the children with smaller actions were looked at, and the board is back
 abbrev pub invariant-loop-at : goal.invariant-loop-at
 invariant-loop-at g l = record {
-  progress : IsAtProgress l.machine l.board.plans l.ask l.opening l.store (up_to l.at []);
+  progress : IsAtProgress l.problem.machine.now l.board.plans l.problem.ask.now l.opening l.store (up_to l.at []);
   same : IsSameOpening l.fn.opening l.opening l.fn.store l.store;
-  back : IsBack g.N.Network.net g.N.Undo.content g.N.Undo.past g.N.Undo.mark_room l.fn.board l.board l.machine;
+  back : IsBack g.N.Network.net g.N.Undo.content g.N.Undo.past g.N.Undo.mark_room l.fn.board l.board l.problem.machine.now;
 }

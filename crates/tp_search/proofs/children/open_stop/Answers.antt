@@ -32,56 +32,56 @@ marked g c =
     record { number = m.number; past_more = m.past; content_same = m.content; aside_same = m.aside; room_same = m.room }
 
 -- it carries the list as before, with the same plans
-laid : (g : _) (c : After-mark-mark g) → IsLaid g.N.Network.net g.N.Undo.content g.N.Undo.past g.N.Undo.mark_room c.mark-mark.new.self c.args.machine.now c.args.ask.now c.args.opening.now.goal c.args.first
-    (choices_by c.args.machine.now (choices_before c.args.store.now.entries c.args.opening.now.parent))
+laid : (g : _) (c : After-mark-mark g) → IsLaid g.N.Network.net g.N.Undo.content g.N.Undo.past g.N.Undo.mark_room c.mark-mark.new.self c.args.problem.machine.now c.args.problem.ask.now c.args.opening.now.goal c.args.laid.first
+    (choices_by c.args.problem.machine.now (choices_before c.args.store.now.entries c.args.opening.now.parent))
 laid g c =
-    laid-marked g.N.Network.net g.N.Undo.content g.N.Undo.past g.N.Undo.aside g.N.Undo.mark_room c.marks_keep_boards.ensures.mark c.args.board.now c.mark-mark.new.self c.mark-mark.result.0 c.args.machine.now c.args.ask.now
-    c.args.opening.now.goal c.args.first (choices_by c.args.machine.now (choices_before c.args.store.now.entries c.args.opening.now.parent)) (marked g c) c.requires.laid
+    laid-marked g.N.Network.net g.N.Undo.content g.N.Undo.past g.N.Undo.aside g.N.Undo.mark_room c.marks_keep_boards.ensures.mark c.args.board.now c.mark-mark.new.self c.mark-mark.result.0 c.args.problem.machine.now c.args.problem.ask.now
+    c.args.opening.now.goal c.args.laid.first (choices_by c.args.problem.machine.now (choices_before c.args.store.now.entries c.args.opening.now.parent)) (marked g c) c.requires.opened.laid
 
 plans : (g : _) (c : After-mark-mark g) → c.args.board.now.plans ≡ c.mark-mark.new.self.plans
 plans g c = sym (load-of g.N.Network.net g.N.Undo.content g.N.Undo.past g.N.Undo.aside g.N.Undo.mark_room c.args.board.now c.mark-mark.new.self (marked g c).aside_same).plans
 
-progress : (g : _) (c : After-mark-mark g) → IsAtProgress c.args.machine.now c.mark-mark.new.self.plans c.args.ask.now c.args.opening.now c.args.store.now nothing
-progress g c = subst (λ ps. IsAtProgress c.args.machine.now ps c.args.ask.now c.args.opening.now c.args.store.now nothing) (plans g c) c.requires.progress
+progress : (g : _) (c : After-mark-mark g) → IsAtProgress c.args.problem.machine.now c.mark-mark.new.self.plans c.args.problem.ask.now c.args.opening.now c.args.store.now nothing
+progress g c = subst (λ ps. IsAtProgress c.args.problem.machine.now ps c.args.problem.ask.now c.args.opening.now c.args.store.now nothing) (plans g c) c.requires.progress
 
 -- where the list was stopped, it is looked at with its bound
-looked : (g : _) (c : After-stop g) → IsLaid g.N.Network.net g.N.Undo.content g.N.Undo.past g.N.Undo.mark_room c.mark-mark.new.self c.args.machine.now c.args.ask.now c.args.opening.now.goal c.args.first
-    (choices_by c.args.machine.now (choices_before c.args.store.now.entries c.args.opening.now.parent))
-    → IsAtProgress c.args.machine.now c.mark-mark.new.self.plans c.args.ask.now c.args.opening.now c.args.store.now nothing
+looked : (g : _) (c : After-stop g) → IsLaid g.N.Network.net g.N.Undo.content g.N.Undo.past g.N.Undo.mark_room c.mark-mark.new.self c.args.problem.machine.now c.args.problem.ask.now c.args.opening.now.goal c.args.laid.first
+    (choices_by c.args.problem.machine.now (choices_before c.args.store.now.entries c.args.opening.now.parent))
+    → IsAtProgress c.args.problem.machine.now c.mark-mark.new.self.plans c.args.problem.ask.now c.args.opening.now c.args.store.now nothing
     → IsSomeAnd (suffix_of c.mark-mark.new.self) (λ x. suffix_of c.stop.new.self ≡ Some (with_stop x)) → (tick : ℕ)
     → ((machine : Machine) → Stands g.N.Network.net g.N.Undo.content g.N.Undo.past c.stop.new.self machine → HasLeastTick machine c.stop.new.self (own 0) tick)
     → IsInRange c.args.store.now tick
-    × IsAtProgress c.args.machine.now c.mark-mark.new.self.plans c.args.ask.now (opening_after (stop_to c.args.opening.now.goal) tick true c.args.opening.now)
+    × IsAtProgress c.args.problem.machine.now c.mark-mark.new.self.plans c.args.problem.ask.now (opening_after (stop_to c.args.opening.now.goal) tick true c.args.opening.now)
     (store_after (stop_to c.args.opening.now.goal) tick true c.args.opening.now c.args.store.now) (up_to 0 [])
 looked g c carries before put tick least =
-    let at : c.in-Front.state ≡ c.args.first = c.is_at.ensures.0 c.if-not-is_at.false in
-    let some : 0 < length (choices_by c.args.machine.now (choices_before c.args.store.now.entries c.args.opening.now.parent)) = omega arith in
-    stop-looked g.N.Network.net g.N.Undo.content g.N.Undo.past g.N.Undo.mark_room c.args.machine.now c.args.ask.now c.args.first c.args.opening.now c.args.store.now c.in-Front.state c.in-Front.end c.in-Front.kept c.in-Front.is
+    let at : c.in-Front.state ≡ c.args.laid.first = c.is_at.ensures.0 c.if-not-is_at.false in
+    let some : 0 < length (choices_by c.args.problem.machine.now (choices_before c.args.store.now.entries c.args.opening.now.parent)) = omega arith in
+    stop-looked g.N.Network.net g.N.Undo.content g.N.Undo.past g.N.Undo.mark_room c.args.problem.machine.now c.args.problem.ask.now c.args.laid.first c.args.opening.now c.args.store.now c.in-Front.state c.in-Front.end c.in-Front.kept c.in-Front.is
     c.mark-mark.new.self carries at some (stop_to c.args.opening.now.goal) tick
-    (stopped-bound g.N.Network.net g.N.Undo.content g.N.Undo.past g.N.Undo.mark_room c.args.machine.now c.args.ask.now c.args.first c.args.opening.now c.args.store.now c.in-Front.state c.in-Front.end c.in-Front.kept c.in-Front.is
-    c.mark-mark.new.self carries at some c.stop.new.self tick c.requires.placed put c.stop.ensures.loaded (least c.args.machine.now (c.stop.ensures.stands c.args.machine.now carries.stands)))
-    refl refl c.requires.fresh c.requires.bounds before
+    (stopped-bound g.N.Network.net g.N.Undo.content g.N.Undo.past g.N.Undo.mark_room c.args.problem.machine.now c.args.problem.ask.now c.args.laid.first c.args.opening.now c.args.store.now c.in-Front.state c.in-Front.end c.in-Front.kept c.in-Front.is
+    c.mark-mark.new.self carries at some c.stop.new.self tick c.requires.opened.placed put c.stop.ensures.loaded (least c.args.problem.machine.now (c.stop.ensures.stands c.args.problem.machine.now carries.stands)))
+    refl refl c.requires.opened.fresh c.requires.opened.bounds before
 
 pub returns-in_default-clause-progress : goal.returns-in_default-clause-progress
-returns-in_default-clause-progress g c = new-going c.args.machine.now c.args.board.now.plans c.args.ask.now c.args.opening.now c.args.store.now c.in_default.is c.requires.progress
+returns-in_default-clause-progress g c = new-going c.args.problem.machine.now c.args.board.now.plans c.args.problem.ask.now c.args.opening.now c.args.store.now c.in_default.is c.requires.progress
 
 pub returns-then-count-eq0-clause-progress : goal.returns-then-count-eq0-clause-progress
 returns-then-count-eq0-clause-progress g c = elim c.then-count-eq0.branch [
   | then-count-eq0-via-then-count-eq0 w ↦
-      empty-going c.args.machine.now c.args.board.now.plans c.args.ask.now c.args.opening.now c.args.store.now c.in-Front.state c.in-Front.end c.in-Front.kept c.in-Front.is
+      empty-going c.args.problem.machine.now c.args.board.now.plans c.args.problem.ask.now c.args.opening.now c.args.store.now c.in-Front.state c.in-Front.end c.in-Front.kept c.in-Front.is
       (omega arith) c.requires.progress
   | then-count-eq0-via-else-count-eq0+then-not-is_at w ↦
-      other-going g.N.Network.net g.N.Undo.content g.N.Undo.past g.N.Undo.mark_room c.args.machine.now c.args.ask.now c.args.first c.args.opening.now c.args.store.now
-      c.in-Front.state c.in-Front.end c.in-Front.kept c.in-Front.is c.args.board.now c.requires.laid
+      other-going g.N.Network.net g.N.Undo.content g.N.Undo.past g.N.Undo.mark_room c.args.problem.machine.now c.args.problem.ask.now c.args.laid.first c.args.opening.now c.args.store.now
+      c.in-Front.state c.in-Front.end c.in-Front.kept c.in-Front.is c.args.board.now c.requires.opened.laid
       (λ same. both_ways w.is_at.result w.if-not-is_at.true (w.is_at.ensures.1 same)) c.requires.progress
 ]
 
 pub stop-requires-clause-stands : goal.stop-requires-clause-stands
-stop-requires-clause-stands g c = (c.args.machine.now, (laid g (goal.at.stop-requires-clause-stands g c).After-mark-mark).stands)
+stop-requires-clause-stands g c = (c.args.problem.machine.now, (laid g (goal.at.stop-requires-clause-stands g c).After-mark-mark).stands)
 
 pub end_bound-requires-clause-stands : goal.end_bound-requires-clause-stands
 end_bound-requires-clause-stands g c =
-    (c.args.machine.now, c.stop.ensures.stands c.args.machine.now (laid g (goal.at.end_bound-requires-clause-stands g c).After-mark-mark).stands)
+    (c.args.problem.machine.now, c.stop.ensures.stands c.args.problem.machine.now (laid g (goal.at.end_bound-requires-clause-stands g c).After-mark-mark).stands)
 
 pub keep_child-requires-clause-range : goal.keep_child-requires-clause-range
 keep_child-requires-clause-range g c =
@@ -93,19 +93,19 @@ returns-clause-progress g c =
     let at = goal.at.returns-clause-progress g c in
     let carries = laid g at.After-mark-mark in
     let before = progress g at.After-mark-mark in
-    let all : IsAtProgress c.args.machine.now c.mark-mark.new.self.plans c.args.ask.now c.match-stop.opening c.match-stop.store (up_to 0 []) = elim c.match-stop.branch [
+    let all : IsAtProgress c.args.problem.machine.now c.mark-mark.new.self.plans c.args.problem.ask.now c.match-stop.opening c.match-stop.store (up_to 0 []) = elim c.match-stop.branch [
       | in-Ok w ↦
           kept-at c.args.opening.now c.args.store.now (stop_to c.args.opening.now.goal) w.end_bound.result true c.match-stop.opening c.match-stop.store
-          (w.opening-is ∙ w.keep_child.ensures.opening) (w.store-is ∙ w.keep_child.ensures.store) c.args.machine.now c.mark-mark.new.self.plans c.args.ask.now (up_to 0 [])
+          (w.opening-is ∙ w.keep_child.ensures.opening) (w.store-is ∙ w.keep_child.ensures.store) c.args.problem.machine.now c.mark-mark.new.self.plans c.args.problem.ask.now (up_to 0 [])
           (looked g at.After-stop carries before w.in-Ok.ensures.suffix w.end_bound.result w.end_bound.ensures).1
       | in-Err w ↦
-          subst (λ s. IsAtProgress c.args.machine.now c.mark-mark.new.self.plans c.args.ask.now c.match-stop.opening s (up_to 0 [])) (sym w.store-is)
-          (subst (λ o. IsAtProgress c.args.machine.now c.mark-mark.new.self.plans c.args.ask.now o c.args.store.now (up_to 0 [])) (sym w.opening-is)
-          (late-going g.N.Network.net g.N.Undo.content g.N.Undo.past g.N.Undo.mark_room c.args.machine.now c.args.ask.now c.args.first c.args.opening.now c.args.store.now
+          subst (λ s. IsAtProgress c.args.problem.machine.now c.mark-mark.new.self.plans c.args.problem.ask.now c.match-stop.opening s (up_to 0 [])) (sym w.store-is)
+          (subst (λ o. IsAtProgress c.args.problem.machine.now c.mark-mark.new.self.plans c.args.problem.ask.now o c.args.store.now (up_to 0 [])) (sym w.opening-is)
+          (late-going g.N.Network.net g.N.Undo.content g.N.Undo.past g.N.Undo.mark_room c.args.problem.machine.now c.args.problem.ask.now c.args.laid.first c.args.opening.now c.args.store.now
           c.in-Front.state c.in-Front.end c.in-Front.kept c.in-Front.is c.mark-mark.new.self carries
-          (w.in-Err.ensures.late c.args.machine.now carries.stands) before))
+          (w.in-Err.ensures.late c.args.problem.machine.now carries.stands) before))
     ] in
-    subst (λ ps. IsAtProgress c.args.machine.now ps c.args.ask.now c.match-stop.opening c.match-stop.store (up_to 0 [])) (sym (plans g at.After-mark-mark)) all
+    subst (λ ps. IsAtProgress c.args.problem.machine.now ps c.args.problem.ask.now c.match-stop.opening c.match-stop.store (up_to 0 [])) (sym (plans g at.After-mark-mark)) all
 
 pub returns-clause-same : goal.returns-clause-same
 returns-clause-same g c = elim c.match-stop.branch [
@@ -122,7 +122,7 @@ returns-clause-back g c =
     let keeps = c.marks_keep_boards.ensures in
     let p = c.stop.ensures in
     let u = c.undo_to.ensures in
-    taken-back g.N.Network.net g.N.Undo.content g.N.Undo.past g.N.Undo.aside g.N.Undo.mark_room keeps.mark keeps.back c.args.board.now c.mark-mark.new.self c.stop.new.self c.undo_to.new.self c.args.machine.now
+    taken-back g.N.Network.net g.N.Undo.content g.N.Undo.past g.N.Undo.aside g.N.Undo.mark_room keeps.mark keeps.back c.args.board.now c.mark-mark.new.self c.stop.new.self c.undo_to.new.self c.args.problem.machine.now
     c.mark-mark.result.0 (marked g (goal.at.returns-clause-back g c).After-mark-mark)
-    (since-step g.N.Network.net g.N.Undo.content g.N.Undo.past g.N.Undo.mark_room c.mark-mark.new.self c.stop.new.self c.args.machine.now p.past p.loaded p.marks (λ s. p.stands c.args.machine.now s))
+    (since-step g.N.Network.net g.N.Undo.content g.N.Undo.past g.N.Undo.mark_room c.mark-mark.new.self c.stop.new.self c.args.problem.machine.now p.past p.loaded p.marks (λ s. p.stands c.args.problem.machine.now s))
     (record { content_then = u.content; past_less = u.past; aside_same = u.aside; room_same = u.room })

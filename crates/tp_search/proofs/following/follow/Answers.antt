@@ -11,17 +11,17 @@ use Rattle.tp_search.proofs.following.follow.Goals as goal
 use Rattle.tp_search.proofs.following.follow.Goals.{After-choice_at, After-choice_at-choice}
 
 -- the goal of the newest choice is that of the list
-goal-is : (g : _) (c : After-choice_at g) → c.choice_at.result.goal ≡ (list_by c.args.machine.now (stored_at c.args.store.now.entries c.args.node)).goal
+goal-is : (g : _) (c : After-choice_at g) → c.choice_at.result.goal ≡ (list_by c.args.problem.machine.now (stored_at c.args.store.now.entries c.args.node)).goal
 goal-is g c =
     let choices = stored_at c.args.store.now.entries c.args.node in
-    same-goal c.args.machine.now c.args.board.now.plans c.args.ask.now (list_by c.args.machine.now choices).goal choices c.requires.stored c.requires.opens (length choices - c.depth-depth.result) c.choice_at.result c.choice_at.ensures
+    same-goal c.args.problem.machine.now c.args.board.now.plans c.args.problem.ask.now (list_by c.args.problem.machine.now choices).goal choices c.requires.stored c.requires.opens (length choices - c.depth-depth.result) c.choice_at.result c.choice_at.ensures
 
 pub follow_goal-requires-clause-opens : goal.follow_goal-requires-clause-opens
 follow_goal-requires-clause-opens g k =
     let c = (goal.at.follow_goal-requires-clause-opens g k).After-choice_at in
     let choices = stored_at c.args.store.now.entries c.args.node in
-    subst (λ s. IsOpen c.args.machine.now c.args.board.now.plans c.args.ask.now (going s [])) (sym (goal-is g c))
-    (goal-open c.args.machine.now c.args.board.now.plans c.args.ask.now (list_by c.args.machine.now choices).goal choices c.requires.stored c.requires.opens)
+    subst (λ s. IsOpen c.args.problem.machine.now c.args.board.now.plans c.args.problem.ask.now (going s [])) (sym (goal-is g c))
+    (goal-open c.args.problem.machine.now c.args.board.now.plans c.args.problem.ask.now (list_by c.args.problem.machine.now choices).goal choices c.requires.stored c.requires.opens)
 
 pub depths-init : goal.depths-init
 depths-init g c =
@@ -29,8 +29,8 @@ depths-init g c =
     let goal_is = goal-is g (goal.at.depths-init g c).After-choice_at in
     let none : drop (length choices - 0) choices ≡ [] = ap (λ n. drop n choices) (omega arith) ∙ drop-length choices in
     record {
-      laid = subst (λ ds. HasList g.N.Network.net g.N.Undo.content g.N.Undo.past c.follow_goal.new.board c.args.machine.now c.args.ask.now c.choice_at.result.goal (list_from c.args.machine.now (list_by c.args.machine.now choices).goal ds)) (sym none)
-          (subst (λ s. HasList g.N.Network.net g.N.Undo.content g.N.Undo.past c.follow_goal.new.board c.args.machine.now c.args.ask.now c.choice_at.result.goal (going s [])) goal_is c.follow_goal.ensures.laid);
+      laid = subst (λ ds. HasList g.N.Network.net g.N.Undo.content g.N.Undo.past c.follow_goal.new.board c.args.problem.machine.now c.args.problem.ask.now c.choice_at.result.goal (list_from c.args.problem.machine.now (list_by c.args.problem.machine.now choices).goal ds)) (sym none)
+          (subst (λ s. HasList g.N.Network.net g.N.Undo.content g.N.Undo.past c.follow_goal.new.board c.args.problem.machine.now c.args.problem.ask.now c.choice_at.result.goal (going s [])) goal_is c.follow_goal.ensures.laid);
       same = c.follow_goal.ensures.same;
     }
 
@@ -43,14 +43,14 @@ pub lay-first-requires-clause-laid : goal.lay-first-requires-clause-laid
 lay-first-requires-clause-laid g k =
     let c = (goal.at.lay-first-requires-clause-laid g k).After-choice_at-choice in
     let choices = stored_at c.args.store.now.entries c.args.node in
-    next-laid c.args.machine.now c.args.board.now.plans c.args.ask.now (list_by c.args.machine.now choices).goal choices c.requires.stored c.requires.opens
+    next-laid c.args.problem.machine.now c.args.board.now.plans c.args.problem.ask.now (list_by c.args.problem.machine.now choices).goal choices c.requires.stored c.requires.opens
     c.depths.at c.choice_at-choice.result (read g c).0 (read g c).1 g.N.Network.net g.N.Undo.content g.N.Undo.past c.depths.board c.depths.first c.depths.invariant.laid
 
 pub lay-first-requires-clause-opens : goal.lay-first-requires-clause-opens
 lay-first-requires-clause-opens g k =
     let c = (goal.at.lay-first-requires-clause-opens g k).After-choice_at-choice in
     let choices = stored_at c.args.store.now.entries c.args.node in
-    next-open c.args.machine.now c.args.board.now.plans c.args.ask.now (list_by c.args.machine.now choices).goal choices c.requires.stored c.requires.opens
+    next-open c.args.problem.machine.now c.args.board.now.plans c.args.problem.ask.now (list_by c.args.problem.machine.now choices).goal choices c.requires.stored c.requires.opens
     c.depths.at c.choice_at-choice.result (read g c).0 (read g c).1 g.N.Network.net g.N.Undo.content g.N.Undo.past c.depths.board c.depths.first c.depths.invariant.laid c.depths.invariant.same.loaded.plans
 
 pub depths-preserved : goal.depths-preserved
@@ -58,7 +58,7 @@ depths-preserved g k =
     let c = (goal.at.depths-preserved g k).After-choice_at-choice in
     let choices = stored_at c.args.store.now.entries c.args.node in
     record {
-      laid = more-carried c.args.machine.now c.args.board.now.plans c.args.ask.now (list_by c.args.machine.now choices).goal choices c.requires.stored c.requires.opens
+      laid = more-carried c.args.problem.machine.now c.args.board.now.plans c.args.problem.ask.now (list_by c.args.problem.machine.now choices).goal choices c.requires.stored c.requires.opens
           c.depths.at c.choice_at-choice.result (read g c).0 (read g c).1 g.N.Network.net g.N.Undo.content g.N.Undo.past c.depths.board c.depths.first c.depths.invariant.laid
           k.lay-first.new.board k.lay-first.result k.lay-first.ensures.laid;
       same = search rules;
@@ -67,7 +67,7 @@ depths-preserved g k =
 pub returns-clause-laid : goal.returns-clause-laid
 returns-clause-laid g c =
     let choices = stored_at c.args.store.now.entries c.args.node in
-    let goal = (list_by c.args.machine.now choices).goal in
+    let goal = (list_by c.args.problem.machine.now choices).goal in
     let end : length choices - c.depths.at ≡ 0 = omega (arith, c.depth-depth.ensures) in
-    subst (λ l. HasList g.N.Network.net g.N.Undo.content g.N.Undo.past c.depths.board c.args.machine.now c.args.ask.now c.depths.first l) (whole-list c.args.machine.now goal choices c.requires.stored)
-    (subst (λ n. HasList g.N.Network.net g.N.Undo.content g.N.Undo.past c.depths.board c.args.machine.now c.args.ask.now c.depths.first (list_from c.args.machine.now goal (drop n choices))) end c.depths.invariant.laid)
+    subst (λ l. HasList g.N.Network.net g.N.Undo.content g.N.Undo.past c.depths.board c.args.problem.machine.now c.args.problem.ask.now c.depths.first l) (whole-list c.args.problem.machine.now goal choices c.requires.stored)
+    (subst (λ n. HasList g.N.Network.net g.N.Undo.content g.N.Undo.past c.depths.board c.args.problem.machine.now c.args.problem.ask.now c.depths.first (list_from c.args.problem.machine.now goal (drop n choices))) end c.depths.invariant.laid)

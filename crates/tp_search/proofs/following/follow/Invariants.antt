@@ -9,6 +9,6 @@ abbrev pub invariant-depths : goal.invariant-depths
 invariant-depths g l =
     let choices = stored_at l.store.entries l.node in
     record {
-      laid : HasList g.N.Network.net g.N.Undo.content g.N.Undo.past l.board l.machine l.ask l.first (list_from l.machine (list_by l.machine choices).goal (drop (length choices - l.at) choices));
+      laid : HasList g.N.Network.net g.N.Undo.content g.N.Undo.past l.board l.problem.machine.now l.problem.ask.now l.first (list_from l.problem.machine.now (list_by l.problem.machine.now choices).goal (drop (length choices - l.at) choices));
       same : IsSameButSteps g.N.Undo.past g.N.Undo.mark_room l.fn.board l.board;
     }

@@ -2,23 +2,26 @@ use Rattle.std.proofs.Common.{◌≡◌, ◌+◌, ◌*◌, ◌≤◌, ◌∷◌,
 use Rattle.tp_schedule.specs.Choices.{IsBound, IsOpen, going}
 use Rattle.tp_routes.specs.Numbers.{state_at}
 use Rattle.tp_search.specs.Searching.{list_of_goal}
-use Rattle.tp_search.proofs.BoardSteps.{back-trans}
+use Rattle.tp_search.proofs.BoardSteps.{back-trans, ready-back}
 use Rattle.tp_search.proofs.GoalFacts.{AreGoalsBelow, goals-all, goals-push, goals-skip}
 use Rattle.tp_search.proofs.goals.find_goals.Goals as goal
 use Rattle.tp_search.proofs.goals.find_goals.Goals.{in-Some+in-Ok, in_default}
 
+pub try_goal-requires-clause-ready : goal.try_goal-requires-clause-ready
+try_goal-requires-clause-ready g c = ready-back g.N.Network.net g.N.Undo.content g.N.Undo.past g.N.Undo.mark_room c.args.board.now c.numbers.board c.args.problem.machine.now c.args.problem.ask.now c.numbers.invariant.back c.requires.ready
+
 pub numbers-preserved : goal.numbers-preserved
 numbers-preserved g c =
     let i = c.numbers.invariant in
-    let found : AreGoalsBelow c.args.machine.now c.args.board.now.plans c.args.ask.now (c.numbers.number + 1) c.match-try_goal.goals.items = elim c.match-try_goal.branch [
+    let found : AreGoalsBelow c.args.problem.machine.now c.args.board.now.plans c.args.problem.ask.now (c.numbers.number + 1) c.match-try_goal.goals.items = elim c.match-try_goal.branch [
       | in-Some+in-Ok w ↦ (let more : c.match-try_goal.goals.items ≡ c.numbers.goals.items ++ w.in-Some.goal ∷ [] = cc w.in-Ok.ensures.items in
-          subst (AreGoalsBelow c.args.machine.now c.args.board.now.plans c.args.ask.now (c.numbers.number + 1)) (sym more)
-          (goals-push c.args.machine.now c.args.board.now.plans c.args.ask.now c.numbers.number c.numbers.goals.items w.in-Some.goal i.goals w.in-Some.ensures.state
-          (subst (λ ps. IsBound c.args.machine.now ps c.args.ask.now (list_of_goal w.in-Some.goal) w.in-Some.goal.bound) i.back.loaded.plans w.in-Some.ensures.bound)))
+          subst (AreGoalsBelow c.args.problem.machine.now c.args.board.now.plans c.args.problem.ask.now (c.numbers.number + 1)) (sym more)
+          (goals-push c.args.problem.machine.now c.args.board.now.plans c.args.problem.ask.now c.numbers.number c.numbers.goals.items w.in-Some.goal i.goals w.in-Some.ensures.state
+          (subst (λ ps. IsBound c.args.problem.machine.now ps c.args.problem.ask.now (list_of_goal w.in-Some.goal) w.in-Some.goal.bound) i.back.loaded.plans w.in-Some.ensures.bound)))
       | in_default w ↦ (let same : c.match-try_goal.goals.items ≡ c.numbers.goals.items = cc in
-          subst (AreGoalsBelow c.args.machine.now c.args.board.now.plans c.args.ask.now (c.numbers.number + 1)) (sym same)
-          (goals-skip c.args.machine.now c.args.board.now.plans c.args.ask.now c.numbers.number c.numbers.goals.items i.goals
-          (subst (λ ps. ¬ IsOpen c.args.machine.now ps c.args.ask.now (going (state_at c.numbers.number) [])) i.back.loaded.plans w.in_default.ensures.none)))
+          subst (AreGoalsBelow c.args.problem.machine.now c.args.board.now.plans c.args.problem.ask.now (c.numbers.number + 1)) (sym same)
+          (goals-skip c.args.problem.machine.now c.args.board.now.plans c.args.problem.ask.now c.numbers.number c.numbers.goals.items i.goals
+          (subst (λ ps. ¬ IsOpen c.args.problem.machine.now ps c.args.problem.ask.now (going (state_at c.numbers.number) [])) i.back.loaded.plans w.in_default.ensures.none)))
     ] in
     let space : vec_capacity c.args.goals.now ≤ vec_capacity c.match-try_goal.goals = elim c.match-try_goal.branch [
       | in-Some+in-Ok w ↦ (let same : vec_capacity c.match-try_goal.goals ≡ vec_capacity w.push.new.self = cc in omega (arith, w.push.ensures.capacity, i.space))
@@ -26,12 +29,12 @@ numbers-preserved g c =
     ] in
     record {
       goals = found;
-      back = back-trans g.N.Network.net g.N.Undo.content g.N.Undo.past g.N.Undo.mark_room c.args.board.now c.numbers.board c.try_goal.new.board c.args.machine.now i.back c.try_goal.ensures.back;
+      back = back-trans g.N.Network.net g.N.Undo.content g.N.Undo.past g.N.Undo.mark_room c.args.board.now c.numbers.board c.try_goal.new.board c.args.problem.machine.now i.back c.try_goal.ensures.back;
       space = space;
     }
 
 pub returns-clause-goals : goal.returns-clause-goals
 returns-clause-goals g c =
-    let last : c.numbers.number ≡ 8 * length c.args.machine.now.locations = omega arith in
-    goals-all c.args.machine.now c.args.board.now.plans c.args.ask.now c.numbers.goals.items c.requires.origin
-    (subst (λ n. AreGoalsBelow c.args.machine.now c.args.board.now.plans c.args.ask.now n c.numbers.goals.items) last c.numbers.invariant.goals)
+    let last : c.numbers.number ≡ 8 * length c.args.problem.machine.now.locations = omega arith in
+    goals-all c.args.problem.machine.now c.args.board.now.plans c.args.problem.ask.now c.numbers.goals.items c.requires.posed.origin
+    (subst (λ n. AreGoalsBelow c.args.problem.machine.now c.args.board.now.plans c.args.problem.ask.now n c.numbers.goals.items) last c.numbers.invariant.goals)

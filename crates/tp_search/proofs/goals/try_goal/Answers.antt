@@ -9,44 +9,44 @@ use Rattle.tp_search.proofs.goals.try_goal.Goals as goal
 use Rattle.tp_search.proofs.goals.try_goal.Goals.{in-Ok, in-Err}
 
 pub returns-in_default-clause-none : goal.returns-in_default-clause-none
-returns-in_default-clause-none g c = goal-shut c.args.machine.now c.args.board.now.plans c.args.ask.now (state_at c.args.number) c.in_default.ensures.none
+returns-in_default-clause-none g c = goal-shut c.args.problem.machine.now c.args.board.now.plans c.args.problem.ask.now (state_at c.args.number) c.in_default.ensures.none
 
 pub open_goal-requires-clause-stands : goal.open_goal-requires-clause-stands
 open_goal-requires-clause-stands g c =
     let m = c.mark-mark.ensures in
-    (c.args.machine.now, c.marks_keep_boards.ensures.mark c.args.board.now c.mark-mark.new.self c.args.machine.now m.content m.aside m.past c.requires.stands)
+    (c.args.problem.machine.now, c.marks_keep_boards.ensures.mark c.args.board.now c.mark-mark.new.self c.args.problem.machine.now m.content m.aside m.past c.requires.ready.stands)
 
 pub end_bound-requires-clause-stands : goal.end_bound-requires-clause-stands
 end_bound-requires-clause-stands g c =
     let m = c.mark-mark.ensures in
-    let stands = c.marks_keep_boards.ensures.mark c.args.board.now c.mark-mark.new.self c.args.machine.now m.content m.aside m.past c.requires.stands in
-    (c.args.machine.now, c.open_goal.ensures.stands c.args.machine.now stands)
+    let stands = c.marks_keep_boards.ensures.mark c.args.board.now c.mark-mark.new.self c.args.problem.machine.now m.content m.aside m.past c.requires.ready.stands in
+    (c.args.problem.machine.now, c.open_goal.ensures.stands c.args.problem.machine.now stands)
 
 pub returns-clause-bound : goal.returns-clause-bound
 returns-clause-bound g c =
     let m = c.mark-mark.ensures in
     let p = c.open_goal.ensures in
-    let stands = c.marks_keep_boards.ensures.mark c.args.board.now c.mark-mark.new.self c.args.machine.now m.content m.aside m.past c.requires.stands in
+    let stands = c.marks_keep_boards.ensures.mark c.args.board.now c.mark-mark.new.self c.args.problem.machine.now m.content m.aside m.past c.requires.ready.stands in
     let marked : IsSameLoad c.args.board.now c.mark-mark.new.self = load-of g.N.Network.net g.N.Undo.content g.N.Undo.past g.N.Undo.aside g.N.Undo.mark_room c.args.board.now c.mark-mark.new.self m.aside in
     let load = load-trans g.N.Network.net g.N.Undo.content g.N.Undo.past g.N.Undo.mark_room c.args.board.now c.mark-mark.new.self c.open_goal.new.self marked p.loaded in
     let at = c.in-Some.ensures.some in
     elim c.match-open_goal.branch [
-      | in-Ok w ↦ subst (λ o. IfSome o (λ x. IsBound c.args.machine.now c.args.board.now.plans c.args.ask.now (list_of_goal x) x.bound)) (sym w.opened-is)
-          (goal-bound c.args.machine.now c.args.board.now c.open_goal.new.self c.args.ask.now c.in-Some.goal.state c.in-Some.goal.room w.end_bound.result c.requires.asked load at.is_goal at.is_room c.requires.kept w.in-Ok.ensures.suffix (w.end_bound.ensures c.args.machine.now (p.stands c.args.machine.now stands)))
-      | in-Err w ↦ subst (λ o. IfSome o (λ x. IsBound c.args.machine.now c.args.board.now.plans c.args.ask.now (list_of_goal x) x.bound)) (sym w.opened-is) tt
+      | in-Ok w ↦ subst (λ o. IfSome o (λ x. IsBound c.args.problem.machine.now c.args.board.now.plans c.args.problem.ask.now (list_of_goal x) x.bound)) (sym w.opened-is)
+          (goal-bound c.args.problem.machine.now c.args.board.now c.open_goal.new.self c.args.problem.ask.now c.in-Some.goal.state c.in-Some.goal.room w.end_bound.result c.requires.ready.asked load at.is_goal at.is_room c.requires.kept w.in-Ok.ensures.suffix (w.end_bound.ensures c.args.problem.machine.now (p.stands c.args.problem.machine.now stands)))
+      | in-Err w ↦ subst (λ o. IfSome o (λ x. IsBound c.args.problem.machine.now c.args.board.now.plans c.args.problem.ask.now (list_of_goal x) x.bound)) (sym w.opened-is) tt
     ]
 
 pub returns-clause-none : goal.returns-clause-none
 returns-clause-none g c =
     let m = c.mark-mark.ensures in
-    let stands = c.marks_keep_boards.ensures.mark c.args.board.now c.mark-mark.new.self c.args.machine.now m.content m.aside m.past c.requires.stands in
+    let stands = c.marks_keep_boards.ensures.mark c.args.board.now c.mark-mark.new.self c.args.problem.machine.now m.content m.aside m.past c.requires.ready.stands in
     let marked : IsSameLoad c.args.board.now c.mark-mark.new.self = load-of g.N.Network.net g.N.Undo.content g.N.Undo.past g.N.Undo.aside g.N.Undo.mark_room c.args.board.now c.mark-mark.new.self m.aside in
     let at = c.in-Some.ensures.some in
     elim c.match-open_goal.branch [
-      | in-Ok w ↦ subst (λ o. IfNone o (¬ IsOpen c.args.machine.now c.args.board.now.plans c.args.ask.now (going (state_at c.args.number) []))) (sym w.opened-is) tt
-      | in-Err w ↦ subst (λ o. IfNone o (¬ IsOpen c.args.machine.now c.args.board.now.plans c.args.ask.now (going (state_at c.args.number) []))) (sym w.opened-is)
-          (subst (λ s. ¬ IsOpen c.args.machine.now c.args.board.now.plans c.args.ask.now (going s [])) at.numbered
-          (goal-refused c.args.machine.now c.args.board.now c.mark-mark.new.self c.args.ask.now c.in-Some.goal.state c.in-Some.goal.room c.requires.asked marked at.is_room (w.in-Err.ensures.late c.args.machine.now stands)))
+      | in-Ok w ↦ subst (λ o. IfNone o (¬ IsOpen c.args.problem.machine.now c.args.board.now.plans c.args.problem.ask.now (going (state_at c.args.number) []))) (sym w.opened-is) tt
+      | in-Err w ↦ subst (λ o. IfNone o (¬ IsOpen c.args.problem.machine.now c.args.board.now.plans c.args.problem.ask.now (going (state_at c.args.number) []))) (sym w.opened-is)
+          (subst (λ s. ¬ IsOpen c.args.problem.machine.now c.args.board.now.plans c.args.problem.ask.now (going s [])) at.numbered
+          (goal-refused c.args.problem.machine.now c.args.board.now c.mark-mark.new.self c.args.problem.ask.now c.in-Some.goal.state c.in-Some.goal.room c.requires.ready.asked marked at.is_room (w.in-Err.ensures.late c.args.problem.machine.now stands)))
     ]
 
 pub returns-clause-back : goal.returns-clause-back
@@ -56,6 +56,6 @@ returns-clause-back g c =
     let marked : IsMarked g.N.Network.net g.N.Undo.content g.N.Undo.past g.N.Undo.aside g.N.Undo.mark_room c.args.board.now c.mark-mark.new.self c.mark-mark.result.0 = record { number = m.number; past_more = m.past; content_same = m.content; aside_same = m.aside; room_same = m.room } in
     let p = c.open_goal.ensures in
     let u = c.undo_to.ensures in
-    taken-back g.N.Network.net g.N.Undo.content g.N.Undo.past g.N.Undo.aside g.N.Undo.mark_room keeps.mark keeps.back c.args.board.now c.mark-mark.new.self c.open_goal.new.self c.undo_to.new.self c.args.machine.now c.mark-mark.result.0 marked
-    (since-step g.N.Network.net g.N.Undo.content g.N.Undo.past g.N.Undo.mark_room c.mark-mark.new.self c.open_goal.new.self c.args.machine.now p.past p.loaded p.marks (λ s. p.stands c.args.machine.now s))
+    taken-back g.N.Network.net g.N.Undo.content g.N.Undo.past g.N.Undo.aside g.N.Undo.mark_room keeps.mark keeps.back c.args.board.now c.mark-mark.new.self c.open_goal.new.self c.undo_to.new.self c.args.problem.machine.now c.mark-mark.result.0 marked
+    (since-step g.N.Network.net g.N.Undo.content g.N.Undo.past g.N.Undo.mark_room c.mark-mark.new.self c.open_goal.new.self c.args.problem.machine.now p.past p.loaded p.marks (λ s. p.stands c.args.problem.machine.now s))
     (record { content_then = u.content; past_less = u.past; aside_same = u.aside; room_same = u.room })

@@ -8,24 +8,24 @@ use Rattle.tp_search.proofs.searching.open_next.Goals as goal
 
 pub open_list-requires-clause-count : goal.open_list-requires-clause-count
 open_list-requires-clause-count g c =
-    let parent = ap (λ (o : Opening). o.parent) (c.opening_of-opening.ensures c.args.machine.now) in
-    c.lay_next-laid.ensures.count ∙ next-many c.args.machine.now c.args.board.now.plans c.args.ask.now c.args.store.now c.args.next.now c.requires.can
-    ∙ ap (λ p. length (choices_by c.args.machine.now (choices_before c.args.store.now.entries p))) (sym parent)
+    let parent = ap (λ (o : Opening). o.parent) (c.opening_of-opening.ensures c.args.problem.machine.now) in
+    c.lay_next-laid.ensures.count ∙ next-many c.args.problem.machine.now c.args.board.now.plans c.args.problem.ask.now c.args.store.now c.args.next.now c.requires.can
+    ∙ ap (λ p. length (choices_by c.args.problem.machine.now (choices_before c.args.store.now.entries p))) (sym parent)
 
 pub lay-requires-clause-laid : goal.lay-requires-clause-laid
 lay-requires-clause-laid g c =
-    laid-answer g.N.Network.net g.N.Undo.content g.N.Undo.past g.N.Undo.mark_room c.args.machine.now c.args.board.now.plans c.args.ask.now c.args.store.now c.open_list.new.store c.args.next.now c.requires.can
-    c.lay_next-laid.new.board c.open_list.new.board c.lay_next-laid.result.first c.lay_next-laid.ensures.laid c.open_list.ensures.back c.opening_of-opening.result c.open_list.new.opening (c.opening_of-opening.ensures c.args.machine.now)
-    c.open_list.ensures.same (up_to (length c.args.machine.now.actions) []) c.open_list.ensures.progress c.in-Some.answer c.in-Some.is
+    laid-answer g.N.Network.net g.N.Undo.content g.N.Undo.past g.N.Undo.mark_room c.args.problem.machine.now c.args.board.now.plans c.args.problem.ask.now c.args.store.now c.open_list.new.store c.args.next.now c.requires.can
+    c.lay_next-laid.new.board c.open_list.new.board c.lay_next-laid.result.first c.lay_next-laid.ensures.laid c.open_list.ensures.back c.opening_of-opening.result c.open_list.new.opening (c.opening_of-opening.ensures c.args.problem.machine.now)
+    c.open_list.ensures.same (up_to (length c.args.problem.machine.now.actions) []) c.open_list.ensures.progress c.in-Some.answer c.in-Some.is
 
 pub lay-requires-clause-opens : goal.lay-requires-clause-opens
 lay-requires-clause-opens g c =
-    opens-answer g.N.Network.net g.N.Undo.content g.N.Undo.past g.N.Undo.mark_room c.args.machine.now c.args.board.now.plans c.args.ask.now c.args.store.now c.open_list.new.store c.args.next.now c.requires.can
-    c.lay_next-laid.new.board c.open_list.new.board c.lay_next-laid.result.first c.lay_next-laid.ensures.laid c.open_list.ensures.back c.opening_of-opening.result c.open_list.new.opening (c.opening_of-opening.ensures c.args.machine.now)
-    c.open_list.ensures.same (up_to (length c.args.machine.now.actions) []) c.open_list.ensures.progress c.in-Some.answer c.in-Some.is
+    opens-answer g.N.Network.net g.N.Undo.content g.N.Undo.past g.N.Undo.mark_room c.args.problem.machine.now c.args.board.now.plans c.args.problem.ask.now c.args.store.now c.open_list.new.store c.args.next.now c.requires.can
+    c.lay_next-laid.new.board c.open_list.new.board c.lay_next-laid.result.first c.lay_next-laid.ensures.laid c.open_list.ensures.back c.opening_of-opening.result c.open_list.new.opening (c.opening_of-opening.ensures c.args.problem.machine.now)
+    c.open_list.ensures.same (up_to (length c.args.problem.machine.now.actions) []) c.open_list.ensures.progress c.in-Some.answer c.in-Some.is
 
 pub returns-in-Some-clause-answer : goal.returns-in-Some-clause-answer
 returns-in-Some-clause-answer g c =
-    child-answer g.N.Network.net g.N.Undo.content g.N.Undo.past g.N.Undo.mark_room c.args.machine.now c.args.board.now.plans c.args.ask.now c.args.store.now c.open_list.new.store c.args.next.now c.requires.can
-    c.lay_next-laid.new.board c.open_list.new.board c.lay_next-laid.result.first c.lay_next-laid.ensures.laid c.open_list.ensures.back c.opening_of-opening.result c.open_list.new.opening (c.opening_of-opening.ensures c.args.machine.now)
-    c.open_list.ensures.same (up_to (length c.args.machine.now.actions) []) c.open_list.ensures.progress c.in-Some.answer c.in-Some.is c.lay.new.board c.lay.result c.lay.ensures.laid
+    child-answer g.N.Network.net g.N.Undo.content g.N.Undo.past g.N.Undo.mark_room c.args.problem.machine.now c.args.board.now.plans c.args.problem.ask.now c.args.store.now c.open_list.new.store c.args.next.now c.requires.can
+    c.lay_next-laid.new.board c.open_list.new.board c.lay_next-laid.result.first c.lay_next-laid.ensures.laid c.open_list.ensures.back c.opening_of-opening.result c.open_list.new.opening (c.opening_of-opening.ensures c.args.problem.machine.now)
+    c.open_list.ensures.same (up_to (length c.args.problem.machine.now.actions) []) c.open_list.ensures.progress c.in-Some.answer c.in-Some.is c.lay.new.board c.lay.result c.lay.ensures.laid

@@ -6,8 +6,8 @@ use Rattle.tp_search.proofs.searching.search.Given as goal
 -- the search has come to some bound, and the board is back
 abbrev pub invariant-steps : goal.invariant-steps
 invariant-steps g l = record {
-  back : IsBack g.N.Network.net g.N.Undo.content g.N.Undo.past g.N.Undo.mark_room l.fn.board l.board l.machine;
-  searching : (bound : ℕ) × IsSearching l.machine l.fn.board.plans l.ask l.goals.items l.store bound;
+  back : IsBack g.N.Network.net g.N.Undo.content g.N.Undo.past g.N.Undo.mark_room l.fn.board l.board l.problem.machine.now;
+  searching : (bound : ℕ) × IsSearching l.problem.machine.now l.fn.board.plans l.problem.ask.now l.goals.items l.store bound;
   same : IsSameSpace l.fn.goals l.goals l.fn.store l.store;
 }
 

@@ -6,5 +6,5 @@ use Rattle.tp_search.proofs.states.goal_at.Goals as goal
 
 pub returns-in_err-room-clause-none : goal.returns-in_err-room-clause-none
 returns-in_err-room-clause-none c =
-    let none = subst (λ (s : State). HasNoRoom c.args.machine.now c.args.ask.now s) c.state_at-state.ensures c.in_err-room.ensures.none in
+    let none = subst (λ (s : State). HasNoRoom c.args.problem.machine.now c.args.problem.ask.now s) c.state_at-state.ensures c.in_err-room.ensures.none in
     rw c.from_residual.ensures (λ is_goal. none)

@@ -1,20 +1,38 @@
 use Rattle.std.proofs.Common.{◌≡◌, ◌+◌, ap, sym, subst, ◌∙◌, arith}
+use Rattle.tp_placing.specs.Boards.{suffix_after}
 use Rattle.tp_search.specs.Outcomes.{IsOutcome}
 use Rattle.tp_search.specs.Searching.{IsSearching}
 use Rattle.tp_search.specs.Stores.{StoreValue}
 use Rattle.tp_search.specs.Workspaces.{WorkspaceValue}
 use Rattle.tp_search.proofs.AskedFacts.{asked-known, begins-with}
+use Rattle.tp_search.proofs.BoardSteps.{ready-back}
 use Rattle.tp_search.proofs.StepBoards.{outcome-back}
 use Rattle.tp_search.proofs.workspace.Workspace.search.Goals as goal
 
 pub fill-requires-clause-origin : goal.fill-requires-clause-origin
 fill-requires-clause-origin g c = asked-known c.args.machine.now c.requires.loaded.0 c.args.ask.now c.requires.loaded.1.can_ask.asked
 
-pub find_goals-requires-clause-origin : goal.find_goals-requires-clause-origin
-find_goals-requires-clause-origin g c = asked-known c.args.machine.now c.requires.loaded.0 c.args.ask.now c.requires.loaded.1.can_ask.asked
+pub find_goals-requires-clause-posed : goal.find_goals-requires-clause-posed
+find_goals-requires-clause-posed g c = record {
+  table = c.fill.ensures.made;
+  rooms = c.fill.ensures.rooms;
+  origin = asked-known c.args.machine.now c.requires.loaded.0 c.args.ask.now c.requires.loaded.1.can_ask.asked;
+}
 
-pub search-requires-clause-origin : goal.search-requires-clause-origin
-search-requires-clause-origin g c = asked-known c.args.machine.now c.requires.loaded.0 c.args.ask.now c.requires.loaded.1.can_ask.asked
+pub find_goals-requires-clause-ready : goal.find_goals-requires-clause-ready
+find_goals-requires-clause-ready g c = record { stands = c.requires.stands; asked = c.requires.asked; closed = ap suffix_after c.requires.closed }
+
+pub search-requires-clause-posed : goal.search-requires-clause-posed
+search-requires-clause-posed g c = record {
+  table = c.fill.ensures.made;
+  rooms = c.fill.ensures.rooms;
+  origin = asked-known c.args.machine.now c.requires.loaded.0 c.args.ask.now c.requires.loaded.1.can_ask.asked;
+}
+
+pub search-requires-clause-ready : goal.search-requires-clause-ready
+search-requires-clause-ready g c =
+    ready-back g.N.Network.net g.N.Undo.content g.N.Undo.past g.N.Undo.mark_room c.args.board.now c.find_goals.new.board c.args.machine.now c.args.ask.now c.find_goals.ensures.back
+    (record { stands = c.requires.stands; asked = c.requires.asked; closed = ap suffix_after c.requires.closed })
 
 pub search-requires-clause-searching : goal.search-requires-clause-searching
 search-requires-clause-searching g c =

@@ -1,0 +1,37 @@
+-- Opening a list on a board: what the board carries, and the child that is tried.
+use Rattle.std.specs.Prelude.{◌≡◌, ℕ, ◌<◌, ◌≤◌, ◌↔◌, List, length, Some, IsTrue}
+use Rattle.tp_base.specs.Net.{Net}
+use Rattle.tp_machine.specs.Using.{action_at}
+use Rattle.tp_machine.specs.declared.parts.State.{State}
+use Rattle.tp_machine.specs.declared.whole.Machine.{Machine}
+use Rattle.tp_pool.specs.Entries.{choices_before}
+use Rattle.tp_schedule.specs.Holding.{holds_of_act}
+use Rattle.tp_schedule.specs.Routes.{IsStart}
+use Rattle.tp_schedule.specs.declared.parts.Ask.{Ask}
+use Rattle.tp_schedule.specs.declared.parts.Origin.TheVariants.{Feeder}
+use Rattle.tp_placing.specs.Boards.{BoardValue}
+use Rattle.tp_search.specs.Boards.{IsLaid}
+use Rattle.tp_search.specs.Opening.{IsFresh}
+use Rattle.tp_search.specs.Stored.{choices_by}
+use Rattle.tp_search.specs.Stores.{HasBounds, StoreValue}
+use Rattle.tp_search.specs.Ways.{IsPlaced}
+use Rattle.tp_search.specs.declared.children.Child.{Child}
+use Rattle.tp_search.specs.declared.opening.Opening.{Opening}
+
+-- the child's choice is of its action and leads to the goal, so many of the holds have their places, and it is complete where
+-- it begins in a state in which a new copy starts
+pub record IsNewChild (machine : Machine) (ask : Ask) (end : State) (c : Child) (count : ℕ) : Type 0 where
+  pub act : c.choice.act ≡ Some c.act
+  pub four : length c.choice.places ≡ 4
+  pub known : c.act.0 < length machine.actions
+  pub hold : count ≤ length (holds_of_act (action_at machine c.act.0))
+  pub goal : c.choice.goal ≡ end
+  pub complete : IsTrue c.complete ↔ ((ask.origin ≡ Feeder) × IsStart machine ask c.first)
+
+module _ {N C : Type 0} (net : N → Net) (content : N → C) (past : N → List C) (mark_room : N → ℕ) where
+  -- the board carries the list that is opened, from this first state on, and no list that was stored before is its child
+  pub record CarriesOpened (b : BoardValue N) (machine : Machine) (ask : Ask) (o : Opening) (s : StoreValue) (first : State) : Type 0 where
+    pub laid : IsLaid net content past mark_room b machine ask o.goal first (choices_by machine (choices_before s.entries o.parent))
+    pub placed : IsPlaced machine (choices_by machine (choices_before s.entries o.parent))
+    pub fresh : IsFresh machine ask o s
+    pub bounds : HasBounds machine ask s
