@@ -12,9 +12,9 @@ use Rattle.tp_search.specs.Stored.{choices_by}
 use Rattle.tp_pool.specs.Entries.{choices_before}
 use Rattle.tp_search.proofs.BoardSteps.{back-itself, mark-known, since-step}
 use Rattle.tp_search.proofs.OpeningSame.{bounds-same, fresh-same, same-itself}
-use Rattle.tp_search.proofs.PlaceSteps.{all-placed, back-now, begin-now, refused-since, shut-now, end-now, kept-at, kept-same, marked-stands, may-place, next-now, next-places, placed-laid, placed-marks, placed-progress, resource-known, same-now, tried-late, tried-placed, trying, IsTried, tried-as}
+use Rattle.tp_search.proofs.PlaceSteps.{all-placed, back-now, begin-now, refused-since, shut-now, end-now, kept-at, kept-same, marked-stands, may-place, next-now, next-places, placed-laid, placed-marks, placed-progress, resource-known, same-now, tried-late, tried-placed, trying, IsTried, IsTrying, tried-as}
 use Rattle.tp_search.proofs.children.+place_rest.Goals as goal
-use Rattle.tp_search.proofs.children.+place_rest.Goals.{in-Ok, in-Err-Here}
+use Rattle.tp_search.proofs.children.+place_rest.Goals.{After-mark-mark, After-undo_to-in-loop-place, in-Ok, in-Err-Here}
 
 pub keep_child-requires-clause-range : goal.keep_child-requires-clause-range
 keep_child-requires-clause-range g t c =
@@ -56,16 +56,21 @@ loop-place-init g t c =
       back = back-itself g.N.Network.net g.N.Undo.content g.N.Undo.past g.N.Undo.mark_room c.args.board.now c.args.problem.machine.now;
     }
 
-pub try_place-requires-clause-stands : goal.try_place-requires-clause-stands
-try_place-requires-clause-stands g t c =
+-- a place is tried on a marked board
+trying-here : (g : _) (t : _) (c : After-mark-mark g t) → IsTrying g.N.Network.net g.N.Undo.content g.N.Undo.past g.N.Undo.aside g.N.Undo.mark_room c.args.problem.machine.now c.args.problem.ask.now c.args.child.first c.args.child.act c.args.opening.now c.loop-place.opening c.args.store.now c.loop-place.store c.args.board.now c.loop-place.board c.mark-mark.new.self c.mark-mark.result.0 (take c.args.hold c.args.child.choice.places) c.loop-place.place c.get-2.result.now
+trying-here g t c =
     let known = ap length (ap holds_of_act c.get.ensures) in
     let count : length (take c.args.hold c.args.child.choice.places) ≡ c.args.hold = length-take-le c.args.hold c.args.child.choice.places (omega arith) in
     let m = c.mark-mark.ensures in
     let v = c.loop-place.invariant in
-    let tried = trying g.N.Network.net g.N.Undo.content g.N.Undo.past g.N.Undo.aside g.N.Undo.mark_room c.args.problem.machine.now c.args.problem.ask.now c.args.child.first c.args.child.act c.args.opening.now c.loop-place.opening c.args.store.now c.loop-place.store c.args.board.now c.loop-place.board c.mark-mark.new.self c.mark-mark.result.0
+    trying g.N.Network.net g.N.Undo.content g.N.Undo.past g.N.Undo.aside g.N.Undo.mark_room c.args.problem.machine.now c.args.problem.ask.now c.args.child.first c.args.child.act c.args.opening.now c.loop-place.opening c.args.store.now c.loop-place.store c.args.board.now c.loop-place.board c.mark-mark.new.self c.mark-mark.result.0
     (take c.args.hold c.args.child.choice.places) c.loop-place.place c.get-2.result.now
     c.get.result.now c.args.hold c.places-last.result c.marks_keep_boards.ensures.mark c.marks_keep_boards.ensures.back c.requires.laid c.requires.fresh c.get.ensures c.get-2.ensures count c.places-last.ensures (omega arith)
-    v.same v.back v.progress (record { number = m.number; past_more = m.past; content_same = m.content; aside_same = m.aside; room_same = m.room }) in
+    v.same v.back v.progress (record { number = m.number; past_more = m.past; content_same = m.content; aside_same = m.aside; room_same = m.room })
+
+pub try_place-requires-clause-stands : goal.try_place-requires-clause-stands
+try_place-requires-clause-stands g t c =
+    let tried = trying-here g t (goal.at.try_place-requires-clause-stands g t c).After-mark-mark in
     marked-stands g.N.Network.net g.N.Undo.content g.N.Undo.past g.N.Undo.aside g.N.Undo.mark_room c.args.problem.machine.now c.args.problem.ask.now c.args.child.first c.args.child.act c.args.opening.now c.loop-place.opening c.args.store.now c.loop-place.store c.args.board.now c.loop-place.board c.mark-mark.new.self c.mark-mark.result.0
     (take c.args.hold c.args.child.choice.places) c.loop-place.place c.get-2.result.now tried
 
@@ -73,12 +78,7 @@ pub try_place-requires-clause-next : goal.try_place-requires-clause-next
 try_place-requires-clause-next g t c =
     let known = ap length (ap holds_of_act c.get.ensures) in
     let count : length (take c.args.hold c.args.child.choice.places) ≡ c.args.hold = length-take-le c.args.hold c.args.child.choice.places (omega arith) in
-    let m = c.mark-mark.ensures in
-    let v = c.loop-place.invariant in
-    let tried = trying g.N.Network.net g.N.Undo.content g.N.Undo.past g.N.Undo.aside g.N.Undo.mark_room c.args.problem.machine.now c.args.problem.ask.now c.args.child.first c.args.child.act c.args.opening.now c.loop-place.opening c.args.store.now c.loop-place.store c.args.board.now c.loop-place.board c.mark-mark.new.self c.mark-mark.result.0
-    (take c.args.hold c.args.child.choice.places) c.loop-place.place c.get-2.result.now
-    c.get.result.now c.args.hold c.places-last.result c.marks_keep_boards.ensures.mark c.marks_keep_boards.ensures.back c.requires.laid c.requires.fresh c.get.ensures c.get-2.ensures count c.places-last.ensures (omega arith)
-    v.same v.back v.progress (record { number = m.number; past_more = m.past; content_same = m.content; aside_same = m.aside; room_same = m.room }) in
+    let tried = trying-here g t (goal.at.try_place-requires-clause-next g t c).After-mark-mark in
     subst (λ n. IsSomeAnd (suffix_of c.mark-mark.new.self) (λ x. CanPlace c.args.problem.machine.now c.mark-mark.new.self.plans x n c.loop-place.place)) count
     (may-place g.N.Network.net g.N.Undo.content g.N.Undo.past g.N.Undo.aside g.N.Undo.mark_room c.args.problem.machine.now c.args.problem.ask.now c.args.child.first c.args.child.act c.args.opening.now c.loop-place.opening c.args.store.now c.loop-place.store c.args.board.now c.loop-place.board c.mark-mark.new.self c.mark-mark.result.0
     (take c.args.hold c.args.child.choice.places) c.loop-place.place c.get-2.result.now tried)
@@ -86,13 +86,8 @@ try_place-requires-clause-next g t c =
 pub place_rest-requires : goal.place_rest-requires
 place_rest-requires g t c κs within =
     let known = ap length (ap holds_of_act c.get.ensures) in
-    let count : length (take c.args.hold c.args.child.choice.places) ≡ c.args.hold = length-take-le c.args.hold c.args.child.choice.places (omega arith) in
-    let m = c.mark-mark.ensures in
     let v = c.loop-place.invariant in
-    let tried = trying g.N.Network.net g.N.Undo.content g.N.Undo.past g.N.Undo.aside g.N.Undo.mark_room c.args.problem.machine.now c.args.problem.ask.now c.args.child.first c.args.child.act c.args.opening.now c.loop-place.opening c.args.store.now c.loop-place.store c.args.board.now c.loop-place.board c.mark-mark.new.self c.mark-mark.result.0
-    (take c.args.hold c.args.child.choice.places) c.loop-place.place c.get-2.result.now
-    c.get.result.now c.args.hold c.places-last.result c.marks_keep_boards.ensures.mark c.marks_keep_boards.ensures.back c.requires.laid c.requires.fresh c.get.ensures c.get-2.ensures count c.places-last.ensures (omega arith)
-    v.same v.back v.progress (record { number = m.number; past_more = m.past; content_same = m.content; aside_same = m.aside; room_same = m.room }) in
+    let tried = trying-here g t (goal.at.place_rest-requires g t c).After-mark-mark in
     let p = c.try_place.ensures in
     let put = c.in-Ok.ensures.suffix in
     let some : c.args.hold < length c.args.child.choice.places = omega arith in
@@ -125,13 +120,7 @@ place_rest-requires g t c κs within =
 pub undo_to-requires-in-loop-place : goal.undo_to-requires-in-loop-place
 undo_to-requires-in-loop-place g t c =
     let known = ap length (ap holds_of_act c.get.ensures) in
-    let count : length (take c.args.hold c.args.child.choice.places) ≡ c.args.hold = length-take-le c.args.hold c.args.child.choice.places (omega arith) in
-    let m = c.mark-mark.ensures in
-    let v = c.loop-place.invariant in
-    let tried = trying g.N.Network.net g.N.Undo.content g.N.Undo.past g.N.Undo.aside g.N.Undo.mark_room c.args.problem.machine.now c.args.problem.ask.now c.args.child.first c.args.child.act c.args.opening.now c.loop-place.opening c.args.store.now c.loop-place.store c.args.board.now c.loop-place.board c.mark-mark.new.self c.mark-mark.result.0
-    (take c.args.hold c.args.child.choice.places) c.loop-place.place c.get-2.result.now
-    c.get.result.now c.args.hold c.places-last.result c.marks_keep_boards.ensures.mark c.marks_keep_boards.ensures.back c.requires.laid c.requires.fresh c.get.ensures c.get-2.ensures count c.places-last.ensures (omega arith)
-    v.same v.back v.progress (record { number = m.number; past_more = m.past; content_same = m.content; aside_same = m.aside; room_same = m.room }) in
+    let tried = trying-here g t (goal.at.undo_to-requires-in-loop-place g t c).After-mark-mark in
     let p = c.try_place.ensures in
     let some : c.args.hold < length c.args.child.choice.places = omega arith in
     let next = next-places c.args.child.choice.places c.args.hold c.loop-place.place some in
@@ -152,21 +141,15 @@ undo_to-requires-in-loop-place g t c =
     ] in
     mark-known g.N.Network.net g.N.Undo.content g.N.Undo.past g.N.Undo.aside g.N.Undo.mark_room c.loop-place.board c.mark-mark.new.self c.match-try_place.board c.mark-mark.result.0 tried.marked after.since.past_same
 
-pub loop-place-preserved : goal.loop-place-preserved
-loop-place-preserved g t c =
+-- and was tried, or is late
+tried-here : (g : _) (t : _) (c : After-undo_to-in-loop-place g t) → IsTrying g.N.Network.net g.N.Undo.content g.N.Undo.past g.N.Undo.aside g.N.Undo.mark_room c.args.problem.machine.now c.args.problem.ask.now c.args.child.first c.args.child.act c.args.opening.now c.loop-place.opening c.args.store.now c.loop-place.store c.args.board.now c.loop-place.board c.mark-mark.new.self c.mark-mark.result.0 (take c.args.hold c.args.child.choice.places) c.loop-place.place c.get-2.result.now
+    → IsTried g.N.Network.net g.N.Undo.content g.N.Undo.past g.N.Undo.aside g.N.Undo.mark_room c.args.problem.machine.now c.args.problem.ask.now c.args.child.first c.args.child.act c.args.opening.now c.loop-place.opening c.args.store.now c.loop-place.store c.args.board.now c.loop-place.board c.mark-mark.new.self c.mark-mark.result.0 (take c.args.hold c.args.child.choice.places) c.loop-place.place c.get-2.result.now c.match-try_place.board c.match-try_place.opening c.match-try_place.store
+tried-here g t c tried =
     let known = ap length (ap holds_of_act c.get.ensures) in
-    let count : length (take c.args.hold c.args.child.choice.places) ≡ c.args.hold = length-take-le c.args.hold c.args.child.choice.places (omega arith) in
-    let m = c.mark-mark.ensures in
-    let v = c.loop-place.invariant in
-    let tried = trying g.N.Network.net g.N.Undo.content g.N.Undo.past g.N.Undo.aside g.N.Undo.mark_room c.args.problem.machine.now c.args.problem.ask.now c.args.child.first c.args.child.act c.args.opening.now c.loop-place.opening c.args.store.now c.loop-place.store c.args.board.now c.loop-place.board c.mark-mark.new.self c.mark-mark.result.0
-    (take c.args.hold c.args.child.choice.places) c.loop-place.place c.get-2.result.now
-    c.get.result.now c.args.hold c.places-last.result c.marks_keep_boards.ensures.mark c.marks_keep_boards.ensures.back c.requires.laid c.requires.fresh c.get.ensures c.get-2.ensures count c.places-last.ensures (omega arith)
-    v.same v.back v.progress (record { number = m.number; past_more = m.past; content_same = m.content; aside_same = m.aside; room_same = m.room }) in
     let p = c.try_place.ensures in
     let some : c.args.hold < length c.args.child.choice.places = omega arith in
     let next = next-places c.args.child.choice.places c.args.hold c.loop-place.place some in
-    let after : IsTried g.N.Network.net g.N.Undo.content g.N.Undo.past g.N.Undo.aside g.N.Undo.mark_room c.args.problem.machine.now c.args.problem.ask.now c.args.child.first c.args.child.act c.args.opening.now c.loop-place.opening c.args.store.now c.loop-place.store c.args.board.now c.loop-place.board c.mark-mark.new.self c.mark-mark.result.0
-    (take c.args.hold c.args.child.choice.places) c.loop-place.place c.get-2.result.now c.match-try_place.board c.match-try_place.opening c.match-try_place.store = elim c.match-try_place.branch [
+    elim c.match-try_place.branch [
       | in-Ok w ↦ tried-as g.N.Network.net g.N.Undo.content g.N.Undo.past g.N.Undo.aside g.N.Undo.mark_room c.args.problem.machine.now c.args.problem.ask.now c.args.child.first c.args.child.act c.args.opening.now c.loop-place.opening c.args.store.now c.loop-place.store c.args.board.now c.loop-place.board c.mark-mark.new.self c.mark-mark.result.0
           (take c.args.hold c.args.child.choice.places) c.loop-place.place c.get-2.result.now w.place_rest.new.board c.match-try_place.board w.place_rest.new.opening c.match-try_place.opening w.place_rest.new.store c.match-try_place.store w.board-is w.opening-is w.store-is
           (tried-placed g.N.Network.net g.N.Undo.content g.N.Undo.past g.N.Undo.aside g.N.Undo.mark_room c.args.problem.machine.now c.args.problem.ask.now c.args.child.first c.args.child.act c.args.opening.now c.loop-place.opening c.args.store.now c.loop-place.store c.args.board.now c.loop-place.board c.mark-mark.new.self c.mark-mark.result.0
@@ -179,7 +162,14 @@ loop-place-preserved g t c =
           (take c.args.hold c.args.child.choice.places) c.loop-place.place c.get-2.result.now tried c.try_place.new.self
           (refused-since g.N.Network.net g.N.Undo.content g.N.Undo.past g.N.Undo.aside g.N.Undo.mark_room c.args.problem.machine.now c.args.problem.ask.now c.args.child.first c.args.child.act c.args.opening.now c.loop-place.opening c.args.store.now c.loop-place.store c.args.board.now c.loop-place.board c.mark-mark.new.self c.mark-mark.result.0
           (take c.args.hold c.args.child.choice.places) c.loop-place.place c.get-2.result.now tried c.try_place.new.self p.past p.loaded p.marks w.in-Err-Here.ensures.back) w.in-Err-Here.ensures.late)
-    ] in
+    ]
+
+pub loop-place-preserved : goal.loop-place-preserved
+loop-place-preserved g t c =
+    let known = ap length (ap holds_of_act c.get.ensures) in
+    let count : length (take c.args.hold c.args.child.choice.places) ≡ c.args.hold = length-take-le c.args.hold c.args.child.choice.places (omega arith) in
+    let tried = trying-here g t (goal.at.loop-place-preserved g t c).After-mark-mark in
+    let after = tried-here g t (goal.at.loop-place-preserved g t c).After-undo_to-in-loop-place tried in
     let u = c.undo_to-in-loop-place.ensures in
     let back = back-now g.N.Network.net g.N.Undo.content g.N.Undo.past g.N.Undo.aside g.N.Undo.mark_room c.args.problem.machine.now c.args.problem.ask.now c.args.child.first c.args.child.act c.args.opening.now c.loop-place.opening c.args.store.now c.loop-place.store c.args.board.now c.loop-place.board c.mark-mark.new.self c.mark-mark.result.0
     (take c.args.hold c.args.child.choice.places) c.loop-place.place c.get-2.result.now tried c.match-try_place.board c.undo_to-in-loop-place.new.self c.match-try_place.opening c.match-try_place.store after
@@ -197,92 +187,24 @@ pub returns-after-try_place-clause-progress : goal.returns-after-try_place-claus
 returns-after-try_place-clause-progress g t c =
     let known = ap length (ap holds_of_act c.get.ensures) in
     let count : length (take c.args.hold c.args.child.choice.places) ≡ c.args.hold = length-take-le c.args.hold c.args.child.choice.places (omega arith) in
-    let m = c.mark-mark.ensures in
-    let v = c.loop-place.invariant in
-    let tried = trying g.N.Network.net g.N.Undo.content g.N.Undo.past g.N.Undo.aside g.N.Undo.mark_room c.args.problem.machine.now c.args.problem.ask.now c.args.child.first c.args.child.act c.args.opening.now c.loop-place.opening c.args.store.now c.loop-place.store c.args.board.now c.loop-place.board c.mark-mark.new.self c.mark-mark.result.0
-    (take c.args.hold c.args.child.choice.places) c.loop-place.place c.get-2.result.now
-    c.get.result.now c.args.hold c.places-last.result c.marks_keep_boards.ensures.mark c.marks_keep_boards.ensures.back c.requires.laid c.requires.fresh c.get.ensures c.get-2.ensures count c.places-last.ensures (omega arith)
-    v.same v.back v.progress (record { number = m.number; past_more = m.past; content_same = m.content; aside_same = m.aside; room_same = m.room }) in
-    let p = c.try_place.ensures in
-    let some : c.args.hold < length c.args.child.choice.places = omega arith in
-    let next = next-places c.args.child.choice.places c.args.hold c.loop-place.place some in
-    let after : IsTried g.N.Network.net g.N.Undo.content g.N.Undo.past g.N.Undo.aside g.N.Undo.mark_room c.args.problem.machine.now c.args.problem.ask.now c.args.child.first c.args.child.act c.args.opening.now c.loop-place.opening c.args.store.now c.loop-place.store c.args.board.now c.loop-place.board c.mark-mark.new.self c.mark-mark.result.0
-    (take c.args.hold c.args.child.choice.places) c.loop-place.place c.get-2.result.now c.match-try_place.board c.match-try_place.opening c.match-try_place.store = elim c.match-try_place.branch [
-      | in-Ok w ↦ tried-as g.N.Network.net g.N.Undo.content g.N.Undo.past g.N.Undo.aside g.N.Undo.mark_room c.args.problem.machine.now c.args.problem.ask.now c.args.child.first c.args.child.act c.args.opening.now c.loop-place.opening c.args.store.now c.loop-place.store c.args.board.now c.loop-place.board c.mark-mark.new.self c.mark-mark.result.0
-          (take c.args.hold c.args.child.choice.places) c.loop-place.place c.get-2.result.now w.place_rest.new.board c.match-try_place.board w.place_rest.new.opening c.match-try_place.opening w.place_rest.new.store c.match-try_place.store w.board-is w.opening-is w.store-is
-          (tried-placed g.N.Network.net g.N.Undo.content g.N.Undo.past g.N.Undo.aside g.N.Undo.mark_room c.args.problem.machine.now c.args.problem.ask.now c.args.child.first c.args.child.act c.args.opening.now c.loop-place.opening c.args.store.now c.loop-place.store c.args.board.now c.loop-place.board c.mark-mark.new.self c.mark-mark.result.0
-          (take c.args.hold c.args.child.choice.places) c.loop-place.place c.get-2.result.now tried c.try_place.new.self w.place_rest.new.board w.place_rest.new.opening w.place_rest.new.store
-          (since-step g.N.Network.net g.N.Undo.content g.N.Undo.past g.N.Undo.mark_room c.mark-mark.new.self c.try_place.new.self c.args.problem.machine.now p.past p.loaded p.marks (λ s. w.in-Ok.ensures.stands)) w.place_rest.ensures.same w.place_rest.ensures.back
-          (subst (λ ps. IsAtProgress c.args.problem.machine.now c.try_place.new.self.plans c.args.problem.ask.now w.place_rest.new.opening w.place_rest.new.store (through c.args.child.act.0 ps)) next w.place_rest.ensures.progress))
-      | in-Err-Here w ↦ tried-as g.N.Network.net g.N.Undo.content g.N.Undo.past g.N.Undo.aside g.N.Undo.mark_room c.args.problem.machine.now c.args.problem.ask.now c.args.child.first c.args.child.act c.args.opening.now c.loop-place.opening c.args.store.now c.loop-place.store c.args.board.now c.loop-place.board c.mark-mark.new.self c.mark-mark.result.0
-          (take c.args.hold c.args.child.choice.places) c.loop-place.place c.get-2.result.now c.try_place.new.self c.match-try_place.board c.loop-place.opening c.match-try_place.opening c.loop-place.store c.match-try_place.store w.board-is w.opening-is w.store-is
-          (tried-late g.N.Network.net g.N.Undo.content g.N.Undo.past g.N.Undo.aside g.N.Undo.mark_room c.args.problem.machine.now c.args.problem.ask.now c.args.child.first c.args.child.act c.args.opening.now c.loop-place.opening c.args.store.now c.loop-place.store c.args.board.now c.loop-place.board c.mark-mark.new.self c.mark-mark.result.0
-          (take c.args.hold c.args.child.choice.places) c.loop-place.place c.get-2.result.now tried c.try_place.new.self
-          (refused-since g.N.Network.net g.N.Undo.content g.N.Undo.past g.N.Undo.aside g.N.Undo.mark_room c.args.problem.machine.now c.args.problem.ask.now c.args.child.first c.args.child.act c.args.opening.now c.loop-place.opening c.args.store.now c.loop-place.store c.args.board.now c.loop-place.board c.mark-mark.new.self c.mark-mark.result.0
-          (take c.args.hold c.args.child.choice.places) c.loop-place.place c.get-2.result.now tried c.try_place.new.self p.past p.loaded p.marks w.in-Err-Here.ensures.back) w.in-Err-Here.ensures.late)
-    ] in
+    let tried = trying-here g t (goal.at.returns-after-try_place-clause-progress g t c).After-mark-mark in
+    let after = tried-here g t (goal.at.returns-after-try_place-clause-progress g t c).After-undo_to-in-loop-place tried in
     end-now g.N.Network.net g.N.Undo.content g.N.Undo.past g.N.Undo.aside g.N.Undo.mark_room c.args.problem.machine.now c.args.problem.ask.now c.args.child.first c.args.child.act c.args.opening.now c.loop-place.opening c.args.store.now c.loop-place.store c.args.board.now c.loop-place.board c.mark-mark.new.self c.mark-mark.result.0
     (take c.args.hold c.args.child.choice.places) c.loop-place.place c.get-2.result.now tried c.match-try_place.board c.undo_to-in-loop-place.new.self c.match-try_place.opening c.match-try_place.store after (omega arith) (omega arith)
 
 pub returns-after-try_place-clause-same : goal.returns-after-try_place-clause-same
 returns-after-try_place-clause-same g t c =
     let known = ap length (ap holds_of_act c.get.ensures) in
-    let count : length (take c.args.hold c.args.child.choice.places) ≡ c.args.hold = length-take-le c.args.hold c.args.child.choice.places (omega arith) in
-    let m = c.mark-mark.ensures in
-    let v = c.loop-place.invariant in
-    let tried = trying g.N.Network.net g.N.Undo.content g.N.Undo.past g.N.Undo.aside g.N.Undo.mark_room c.args.problem.machine.now c.args.problem.ask.now c.args.child.first c.args.child.act c.args.opening.now c.loop-place.opening c.args.store.now c.loop-place.store c.args.board.now c.loop-place.board c.mark-mark.new.self c.mark-mark.result.0
-    (take c.args.hold c.args.child.choice.places) c.loop-place.place c.get-2.result.now
-    c.get.result.now c.args.hold c.places-last.result c.marks_keep_boards.ensures.mark c.marks_keep_boards.ensures.back c.requires.laid c.requires.fresh c.get.ensures c.get-2.ensures count c.places-last.ensures (omega arith)
-    v.same v.back v.progress (record { number = m.number; past_more = m.past; content_same = m.content; aside_same = m.aside; room_same = m.room }) in
-    let p = c.try_place.ensures in
-    let some : c.args.hold < length c.args.child.choice.places = omega arith in
-    let next = next-places c.args.child.choice.places c.args.hold c.loop-place.place some in
-    let after : IsTried g.N.Network.net g.N.Undo.content g.N.Undo.past g.N.Undo.aside g.N.Undo.mark_room c.args.problem.machine.now c.args.problem.ask.now c.args.child.first c.args.child.act c.args.opening.now c.loop-place.opening c.args.store.now c.loop-place.store c.args.board.now c.loop-place.board c.mark-mark.new.self c.mark-mark.result.0
-    (take c.args.hold c.args.child.choice.places) c.loop-place.place c.get-2.result.now c.match-try_place.board c.match-try_place.opening c.match-try_place.store = elim c.match-try_place.branch [
-      | in-Ok w ↦ tried-as g.N.Network.net g.N.Undo.content g.N.Undo.past g.N.Undo.aside g.N.Undo.mark_room c.args.problem.machine.now c.args.problem.ask.now c.args.child.first c.args.child.act c.args.opening.now c.loop-place.opening c.args.store.now c.loop-place.store c.args.board.now c.loop-place.board c.mark-mark.new.self c.mark-mark.result.0
-          (take c.args.hold c.args.child.choice.places) c.loop-place.place c.get-2.result.now w.place_rest.new.board c.match-try_place.board w.place_rest.new.opening c.match-try_place.opening w.place_rest.new.store c.match-try_place.store w.board-is w.opening-is w.store-is
-          (tried-placed g.N.Network.net g.N.Undo.content g.N.Undo.past g.N.Undo.aside g.N.Undo.mark_room c.args.problem.machine.now c.args.problem.ask.now c.args.child.first c.args.child.act c.args.opening.now c.loop-place.opening c.args.store.now c.loop-place.store c.args.board.now c.loop-place.board c.mark-mark.new.self c.mark-mark.result.0
-          (take c.args.hold c.args.child.choice.places) c.loop-place.place c.get-2.result.now tried c.try_place.new.self w.place_rest.new.board w.place_rest.new.opening w.place_rest.new.store
-          (since-step g.N.Network.net g.N.Undo.content g.N.Undo.past g.N.Undo.mark_room c.mark-mark.new.self c.try_place.new.self c.args.problem.machine.now p.past p.loaded p.marks (λ s. w.in-Ok.ensures.stands)) w.place_rest.ensures.same w.place_rest.ensures.back
-          (subst (λ ps. IsAtProgress c.args.problem.machine.now c.try_place.new.self.plans c.args.problem.ask.now w.place_rest.new.opening w.place_rest.new.store (through c.args.child.act.0 ps)) next w.place_rest.ensures.progress))
-      | in-Err-Here w ↦ tried-as g.N.Network.net g.N.Undo.content g.N.Undo.past g.N.Undo.aside g.N.Undo.mark_room c.args.problem.machine.now c.args.problem.ask.now c.args.child.first c.args.child.act c.args.opening.now c.loop-place.opening c.args.store.now c.loop-place.store c.args.board.now c.loop-place.board c.mark-mark.new.self c.mark-mark.result.0
-          (take c.args.hold c.args.child.choice.places) c.loop-place.place c.get-2.result.now c.try_place.new.self c.match-try_place.board c.loop-place.opening c.match-try_place.opening c.loop-place.store c.match-try_place.store w.board-is w.opening-is w.store-is
-          (tried-late g.N.Network.net g.N.Undo.content g.N.Undo.past g.N.Undo.aside g.N.Undo.mark_room c.args.problem.machine.now c.args.problem.ask.now c.args.child.first c.args.child.act c.args.opening.now c.loop-place.opening c.args.store.now c.loop-place.store c.args.board.now c.loop-place.board c.mark-mark.new.self c.mark-mark.result.0
-          (take c.args.hold c.args.child.choice.places) c.loop-place.place c.get-2.result.now tried c.try_place.new.self
-          (refused-since g.N.Network.net g.N.Undo.content g.N.Undo.past g.N.Undo.aside g.N.Undo.mark_room c.args.problem.machine.now c.args.problem.ask.now c.args.child.first c.args.child.act c.args.opening.now c.loop-place.opening c.args.store.now c.loop-place.store c.args.board.now c.loop-place.board c.mark-mark.new.self c.mark-mark.result.0
-          (take c.args.hold c.args.child.choice.places) c.loop-place.place c.get-2.result.now tried c.try_place.new.self p.past p.loaded p.marks w.in-Err-Here.ensures.back) w.in-Err-Here.ensures.late)
-    ] in
+    let tried = trying-here g t (goal.at.returns-after-try_place-clause-same g t c).After-mark-mark in
+    let after = tried-here g t (goal.at.returns-after-try_place-clause-same g t c).After-undo_to-in-loop-place tried in
     same-now g.N.Network.net g.N.Undo.content g.N.Undo.past g.N.Undo.aside g.N.Undo.mark_room c.args.problem.machine.now c.args.problem.ask.now c.args.child.first c.args.child.act c.args.opening.now c.loop-place.opening c.args.store.now c.loop-place.store c.args.board.now c.loop-place.board c.mark-mark.new.self c.mark-mark.result.0
     (take c.args.hold c.args.child.choice.places) c.loop-place.place c.get-2.result.now tried c.match-try_place.board c.undo_to-in-loop-place.new.self c.match-try_place.opening c.match-try_place.store after
 
 pub returns-after-try_place-clause-back : goal.returns-after-try_place-clause-back
 returns-after-try_place-clause-back g t c =
     let known = ap length (ap holds_of_act c.get.ensures) in
-    let count : length (take c.args.hold c.args.child.choice.places) ≡ c.args.hold = length-take-le c.args.hold c.args.child.choice.places (omega arith) in
-    let m = c.mark-mark.ensures in
-    let v = c.loop-place.invariant in
-    let tried = trying g.N.Network.net g.N.Undo.content g.N.Undo.past g.N.Undo.aside g.N.Undo.mark_room c.args.problem.machine.now c.args.problem.ask.now c.args.child.first c.args.child.act c.args.opening.now c.loop-place.opening c.args.store.now c.loop-place.store c.args.board.now c.loop-place.board c.mark-mark.new.self c.mark-mark.result.0
-    (take c.args.hold c.args.child.choice.places) c.loop-place.place c.get-2.result.now
-    c.get.result.now c.args.hold c.places-last.result c.marks_keep_boards.ensures.mark c.marks_keep_boards.ensures.back c.requires.laid c.requires.fresh c.get.ensures c.get-2.ensures count c.places-last.ensures (omega arith)
-    v.same v.back v.progress (record { number = m.number; past_more = m.past; content_same = m.content; aside_same = m.aside; room_same = m.room }) in
-    let p = c.try_place.ensures in
-    let some : c.args.hold < length c.args.child.choice.places = omega arith in
-    let next = next-places c.args.child.choice.places c.args.hold c.loop-place.place some in
-    let after : IsTried g.N.Network.net g.N.Undo.content g.N.Undo.past g.N.Undo.aside g.N.Undo.mark_room c.args.problem.machine.now c.args.problem.ask.now c.args.child.first c.args.child.act c.args.opening.now c.loop-place.opening c.args.store.now c.loop-place.store c.args.board.now c.loop-place.board c.mark-mark.new.self c.mark-mark.result.0
-    (take c.args.hold c.args.child.choice.places) c.loop-place.place c.get-2.result.now c.match-try_place.board c.match-try_place.opening c.match-try_place.store = elim c.match-try_place.branch [
-      | in-Ok w ↦ tried-as g.N.Network.net g.N.Undo.content g.N.Undo.past g.N.Undo.aside g.N.Undo.mark_room c.args.problem.machine.now c.args.problem.ask.now c.args.child.first c.args.child.act c.args.opening.now c.loop-place.opening c.args.store.now c.loop-place.store c.args.board.now c.loop-place.board c.mark-mark.new.self c.mark-mark.result.0
-          (take c.args.hold c.args.child.choice.places) c.loop-place.place c.get-2.result.now w.place_rest.new.board c.match-try_place.board w.place_rest.new.opening c.match-try_place.opening w.place_rest.new.store c.match-try_place.store w.board-is w.opening-is w.store-is
-          (tried-placed g.N.Network.net g.N.Undo.content g.N.Undo.past g.N.Undo.aside g.N.Undo.mark_room c.args.problem.machine.now c.args.problem.ask.now c.args.child.first c.args.child.act c.args.opening.now c.loop-place.opening c.args.store.now c.loop-place.store c.args.board.now c.loop-place.board c.mark-mark.new.self c.mark-mark.result.0
-          (take c.args.hold c.args.child.choice.places) c.loop-place.place c.get-2.result.now tried c.try_place.new.self w.place_rest.new.board w.place_rest.new.opening w.place_rest.new.store
-          (since-step g.N.Network.net g.N.Undo.content g.N.Undo.past g.N.Undo.mark_room c.mark-mark.new.self c.try_place.new.self c.args.problem.machine.now p.past p.loaded p.marks (λ s. w.in-Ok.ensures.stands)) w.place_rest.ensures.same w.place_rest.ensures.back
-          (subst (λ ps. IsAtProgress c.args.problem.machine.now c.try_place.new.self.plans c.args.problem.ask.now w.place_rest.new.opening w.place_rest.new.store (through c.args.child.act.0 ps)) next w.place_rest.ensures.progress))
-      | in-Err-Here w ↦ tried-as g.N.Network.net g.N.Undo.content g.N.Undo.past g.N.Undo.aside g.N.Undo.mark_room c.args.problem.machine.now c.args.problem.ask.now c.args.child.first c.args.child.act c.args.opening.now c.loop-place.opening c.args.store.now c.loop-place.store c.args.board.now c.loop-place.board c.mark-mark.new.self c.mark-mark.result.0
-          (take c.args.hold c.args.child.choice.places) c.loop-place.place c.get-2.result.now c.try_place.new.self c.match-try_place.board c.loop-place.opening c.match-try_place.opening c.loop-place.store c.match-try_place.store w.board-is w.opening-is w.store-is
-          (tried-late g.N.Network.net g.N.Undo.content g.N.Undo.past g.N.Undo.aside g.N.Undo.mark_room c.args.problem.machine.now c.args.problem.ask.now c.args.child.first c.args.child.act c.args.opening.now c.loop-place.opening c.args.store.now c.loop-place.store c.args.board.now c.loop-place.board c.mark-mark.new.self c.mark-mark.result.0
-          (take c.args.hold c.args.child.choice.places) c.loop-place.place c.get-2.result.now tried c.try_place.new.self
-          (refused-since g.N.Network.net g.N.Undo.content g.N.Undo.past g.N.Undo.aside g.N.Undo.mark_room c.args.problem.machine.now c.args.problem.ask.now c.args.child.first c.args.child.act c.args.opening.now c.loop-place.opening c.args.store.now c.loop-place.store c.args.board.now c.loop-place.board c.mark-mark.new.self c.mark-mark.result.0
-          (take c.args.hold c.args.child.choice.places) c.loop-place.place c.get-2.result.now tried c.try_place.new.self p.past p.loaded p.marks w.in-Err-Here.ensures.back) w.in-Err-Here.ensures.late)
-    ] in
+    let tried = trying-here g t (goal.at.returns-after-try_place-clause-back g t c).After-mark-mark in
+    let after = tried-here g t (goal.at.returns-after-try_place-clause-back g t c).After-undo_to-in-loop-place tried in
     let u = c.undo_to-in-loop-place.ensures in
     back-now g.N.Network.net g.N.Undo.content g.N.Undo.past g.N.Undo.aside g.N.Undo.mark_room c.args.problem.machine.now c.args.problem.ask.now c.args.child.first c.args.child.act c.args.opening.now c.loop-place.opening c.args.store.now c.loop-place.store c.args.board.now c.loop-place.board c.mark-mark.new.self c.mark-mark.result.0
     (take c.args.hold c.args.child.choice.places) c.loop-place.place c.get-2.result.now tried c.match-try_place.board c.undo_to-in-loop-place.new.self c.match-try_place.opening c.match-try_place.store after
@@ -292,25 +214,13 @@ pub returns-in-Err-UpToHere-clause-progress : goal.returns-in-Err-UpToHere-claus
 returns-in-Err-UpToHere-clause-progress g t c =
     let known = ap length (ap holds_of_act c.get.ensures) in
     let count : length (take c.args.hold c.args.child.choice.places) ≡ c.args.hold = length-take-le c.args.hold c.args.child.choice.places (omega arith) in
-    let m = c.mark-mark.ensures in
-    let v = c.loop-place.invariant in
-    let tried = trying g.N.Network.net g.N.Undo.content g.N.Undo.past g.N.Undo.aside g.N.Undo.mark_room c.args.problem.machine.now c.args.problem.ask.now c.args.child.first c.args.child.act c.args.opening.now c.loop-place.opening c.args.store.now c.loop-place.store c.args.board.now c.loop-place.board c.mark-mark.new.self c.mark-mark.result.0
-    (take c.args.hold c.args.child.choice.places) c.loop-place.place c.get-2.result.now
-    c.get.result.now c.args.hold c.places-last.result c.marks_keep_boards.ensures.mark c.marks_keep_boards.ensures.back c.requires.laid c.requires.fresh c.get.ensures c.get-2.ensures count c.places-last.ensures (omega arith)
-    v.same v.back v.progress (record { number = m.number; past_more = m.past; content_same = m.content; aside_same = m.aside; room_same = m.room }) in
+    let tried = trying-here g t (goal.at.returns-in-Err-UpToHere-clause-progress g t c).After-mark-mark in
     shut-now g.N.Network.net g.N.Undo.content g.N.Undo.past g.N.Undo.aside g.N.Undo.mark_room c.args.problem.machine.now c.args.problem.ask.now c.args.child.first c.args.child.act c.args.opening.now c.loop-place.opening c.args.store.now c.loop-place.store c.args.board.now c.loop-place.board c.mark-mark.new.self c.mark-mark.result.0
     (take c.args.hold c.args.child.choice.places) c.loop-place.place c.get-2.result.now tried (omega arith) (c.in-Err-UpToHere.ensures.late_before c.in-Err-UpToHere.field-0-is)
 
 pub returns-in-Err-UpToHere-clause-back : goal.returns-in-Err-UpToHere-clause-back
 returns-in-Err-UpToHere-clause-back g t c =
-    let known = ap length (ap holds_of_act c.get.ensures) in
-    let count : length (take c.args.hold c.args.child.choice.places) ≡ c.args.hold = length-take-le c.args.hold c.args.child.choice.places (omega arith) in
-    let m = c.mark-mark.ensures in
-    let v = c.loop-place.invariant in
-    let tried = trying g.N.Network.net g.N.Undo.content g.N.Undo.past g.N.Undo.aside g.N.Undo.mark_room c.args.problem.machine.now c.args.problem.ask.now c.args.child.first c.args.child.act c.args.opening.now c.loop-place.opening c.args.store.now c.loop-place.store c.args.board.now c.loop-place.board c.mark-mark.new.self c.mark-mark.result.0
-    (take c.args.hold c.args.child.choice.places) c.loop-place.place c.get-2.result.now
-    c.get.result.now c.args.hold c.places-last.result c.marks_keep_boards.ensures.mark c.marks_keep_boards.ensures.back c.requires.laid c.requires.fresh c.get.ensures c.get-2.ensures count c.places-last.ensures (omega arith)
-    v.same v.back v.progress (record { number = m.number; past_more = m.past; content_same = m.content; aside_same = m.aside; room_same = m.room }) in
+    let tried = trying-here g t (goal.at.returns-in-Err-UpToHere-clause-back g t c).After-mark-mark in
     let p = c.try_place.ensures in
     let u = c.undo_to.ensures in
     let after = tried-late g.N.Network.net g.N.Undo.content g.N.Undo.past g.N.Undo.aside g.N.Undo.mark_room c.args.problem.machine.now c.args.problem.ask.now c.args.child.first c.args.child.act c.args.opening.now c.loop-place.opening c.args.store.now c.loop-place.store c.args.board.now c.loop-place.board c.mark-mark.new.self c.mark-mark.result.0
