@@ -1,0 +1,14 @@
+pub mod TableFacts
+pub mod RowSteps
+pub mod ChoiceFacts
+pub mod StandFacts
+pub mod FollowFacts
+pub mod LookFacts
+pub mod TakeFacts
+pub mod NodeFacts
+pub mod FoundFacts
+pub mod CutFacts
+pub mod TrackFacts
+pub mod SortFacts
+pub mod SlotFacts
+pub mod KeptFacts

@@ -1,0 +1,27 @@
+-- Orders, and what stands on a machine.
+use Rattle.std.specs.Prelude.{◌≡◌, ◌≤◌, ℕ, List, length, Option, Some, None, slice_get, reverse, take}
+use Rattle.tp_machine.specs.declared.whole.Machine.{Machine}
+use Rattle.tp_schedule.specs.Choices.{placed}
+use Rattle.tp_schedule.specs.Spots.{Slot, slot_order}
+use Rattle.tp_schedule.specs.declared.parts.Plan.{Plan}
+use Rattle.tp_trees.specs.Places.{Branch, Span, Stand, next_rule}
+
+-- the orders of the first so many resources
+abbrev pub AreOrdersTo : Machine → List Plan → ℕ → List (List Slot) → Type 0
+AreOrdersTo machine plans n orders = (length orders ≡ n) × ((r : ℕ) (order : List Slot) → slice_get orders r ≡ Some order → order ≡ slot_order machine plans r)
+
+-- the order of each resource
+abbrev pub AreOrders : Machine → List Plan → List (List Slot) → Type 0
+AreOrders machine plans orders = AreOrdersTo machine plans (length machine.resources) orders
+
+-- the order of a resource with the holds of the first so many choices
+abbrev pub order_until : Machine → List Plan → Branch → ℕ → ℕ → List Slot
+order_until machine plans b resource n = placed machine resource (slot_order machine plans resource) (reverse (take n (reverse b.x.choices)))
+
+-- the hold with several places is the next one of the branch, and its places stand in their order
+abbrev pub IsSpanOf : Machine → Branch → Option Span → Type 0
+IsSpanOf machine b None = Unit {0}
+IsSpanOf machine b (Some span) = (next_rule machine b.x ≡ Some span.rule) × (span.lo ≤ span.hi)
+
+abbrev pub IsSoundStand : Machine → Stand → Type 0
+IsSoundStand machine s = IsSpanOf machine s.branch s.span

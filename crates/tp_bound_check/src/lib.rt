@@ -1,0 +1,26 @@
+//! The check of a bound tree. It uses no network and no search.
+#![tactic(auto)]
+
+mod branch;
+mod checking;
+mod choices;
+mod dues;
+mod following;
+mod found;
+mod hops;
+mod kept;
+mod looking;
+mod naming;
+mod nodes;
+mod orders;
+mod points;
+mod ranges;
+mod rows;
+mod sorting;
+mod standing;
+mod stands;
+mod table;
+mod taking;
+
+pub use checking::check_bound;
+pub use tp_trees::{Claim, TreeFlaw};

@@ -1,0 +1,139 @@
+//! Orders of resources with the holds of a branch.
+ghost use Rattle.std.specs.Prelude.{◌≡◌, ◌<◌, ◌≤◌, ◌^◌, length, Some, IfOk, All};
+ghost use Rattle.tp_bound_check.specs.Branches.{newest_in};
+ghost use Rattle.tp_bound_check.specs.Founds.{IsTrack, track_of};
+ghost use Rattle.tp_bound_check.specs.Points.{HasOffsets};
+ghost use Rattle.tp_bound_check.specs.Stands.{AreOrders};
+ghost use Rattle.tp_constraints.specs.Suffixes.{order_in};
+ghost use Rattle.tp_machine.specs.Using.{action_at};
+ghost use Rattle.tp_schedule.specs.Choices.{Choice};
+ghost use Rattle.tp_schedule.specs.Holding.{holds_of_act};
+ghost use Rattle.tp_schedule.specs.Spots.{slot_order};
+ghost use Rattle.tp_schedule.specs.Timetables.{IsOrdered};
+ghost use Rattle.tp_trees.specs.Places.{next_rule};
+
+use crate::branch::Branch;
+use crate::found::{Ends, Leg, Track, found_in};
+use crate::points::{Point, Slot};
+use crate::rows::Rows;
+use std::marker::Model;
+use tp_base::Memory;
+use tp_machine::{ActId, HoldRule, Machine, machine_law};
+use tp_schedule::Plan;
+
+/// The order of a resource.
+#[derive(Drop)]
+pub(crate) struct Order {
+    slots: Vec<Slot>,
+}
+
+impl Model for Order {
+    ghost use Rattle.std.specs.Prelude.{List, ◌<◌, ◌^◌, vec_len};
+    ghost use Rattle.tp_schedule.specs.Spots as spots;
+
+    ghost Value = { List spots.Slot };
+
+    ghost view = { λ o. o.slots.items };
+
+    ghost invariant = { λ o. vec_len o.slots < 2 ^ 32 };
+}
+
+impl Order {
+    /// An order of fewer than 2^32 holds. More would want more memory than there is.
+    pub(crate) fn new(slots: Vec<Slot>) -> Result<Order, Memory>
+        ensures { IfOk result (λ order. order ≡ slots.items) }
+    {
+        if slots.len() < 1 << 32 {
+            Ok(Order { slots })
+        } else {
+            Err(Memory)
+        }
+    }
+
+    fn as_slice(&self) -> &[Slot]
+        ensures slots { result.now ≡ self.now }
+        ensures few { length self.now < 2 ^ 32 }
+    {
+        self.slots.as_slice()
+    }
+}
+
+/// What a tree is checked against.
+#[derive(Clone, Copy)]
+pub(crate) struct Scene<'a> {
+    pub(crate) rows: Rows<'a>,
+    pub(crate) plans: &'a [Plan],
+    pub(crate) orders: &'a [Order],
+    pub(crate) limit: i64,
+    pub(crate) ghost ordered: { IsOrdered plans.now },
+    pub(crate) ghost in_order: { AreOrders rows.machine.now plans.now orders.now },
+}
+
+/// The holds of the action.
+pub(crate) fn holds_of(machine: &Machine, act: ActId) -> &[HoldRule]
+    ensures holds { result.now ≡ holds_of_act (action_at machine.now act.0) }
+    ensures offsets { All HasOffsets result.now }
+    ensures few { length result.now ≤ 4 }
+{
+    machine_law(machine);
+    match machine.actions.as_slice().get(usize::from(act.0)) {
+        Some(action) => {
+            let _count = action.holds.len();
+            action.holds.as_slice()
+        }
+        None => &[],
+    }
+}
+
+/// The next rule of a branch is one of the machine's. The call does nothing.
+pub(crate) fn rule_law(machine: &Machine, branch: &Branch, rule: HoldRule)
+    requires next { next_rule machine.now branch.now.x ≡ Some rule }
+    ensures offsets { HasOffsets rule }
+    ensures known { rule.resource.0 < length machine.now.resources }
+    ensures few { (c : Choice) → newest_in branch.now.x.choices ≡ Some c → length c.places < 4 }
+    ensures some { 0 < length branch.now.x.choices }
+{
+    machine_law(machine);
+}
+
+impl<'a> Scene<'a> {
+    /// The kept order of a resource: its length, and where the holds of two actions stand in it.
+    fn kept_track(&self, resource: u16, ends: &Ends) -> Track
+        requires { resource < length self.now.rows.machine.now.resources }
+        ensures order { result ≡ track_of ends.now.before ends.now.after
+            (slot_order self.now.rows.machine.now self.now.plans.now resource) }
+        ensures track { IsTrack result }
+        ensures few { result.len < 2 ^ 32 }
+    {
+        let order = &self.orders[usize::from(resource)];
+        let slots = order.as_slice();
+        Track {
+            len: slots.len() as u64,
+            before: found_in(ends.before, slots),
+            after: found_in(ends.after, slots),
+        }
+    }
+
+    /// The same of the order with the holds of the branch.
+    pub(crate) fn track(&self, branch: &Branch, resource: u16, ends: &Ends) -> Track
+        requires { resource < length self.now.rows.machine.now.resources }
+        ensures order { result ≡ track_of ends.now.before ends.now.after
+            (order_in self.now.rows.machine.now self.now.plans.now branch.now.x resource) }
+        ensures track { IsTrack result }
+        ensures few { result.len < 2 ^ 33 }
+    {
+        let mut track = self.kept_track(resource, ends);
+        'choices: for at in 0..branch.count() {
+            let Some(act) = branch.act(at) else {
+                unreachable!()
+            };
+            let leg = Leg {
+                from: Point::own(at + 1),
+                to: Point::own(at),
+            };
+            let rules = holds_of(self.rows.machine, act);
+            track = track.put_places(ends, resource, &leg, rules, branch.places(at));
+        }
+        track
+    }
+}

@@ -1,0 +1,154 @@
+//! The first of what is due.
+ghost use Rattle.std.specs.Prelude.{◌≡◌, ℕ, ◌+◌, ◌-◌, ◌<◌, ◌≤◌, ◌^◌, [], ◌∷◌, ◌++◌, length, Some, None, Option, IfOk, IfSome, IfNone, MatchOption, List, if◌then◌else◌};
+ghost use Rattle.tp_bound_check.specs.Looks.{IsSoundDue, IsSoundFrame, acts_from, due_by, dues_of};
+ghost use Rattle.tp_machine.specs.Using.{action_at};
+ghost use Rattle.tp_schedule.specs.Routes.{is_act_allowed};
+ghost use Rattle.tp_trees.specs.Places.{next_rule, places_from, state_before};
+ghost use Rattle.tp_bound_check.specs.declared.dues.Frame.TheVariants.{Goals};
+ghost use Rattle.tp_machine.specs.declared.parts.State.{State};
+
+use crate::branch::Branch;
+use crate::dues::{Frame, Next};
+use crate::orders::Scene;
+use tp_machine::{ActId, HoldRule, State, allowed, machine_law, regress};
+use tp_schedule::action_law;
+
+/// What is due first, and what is left of its frame.
+#[derive(Drop)]
+pub(crate) struct Taken {
+    pub(crate) next: Next,
+    pub(crate) rest: Frame,
+}
+
+impl<'a> Scene<'a> {
+    /// The state from which the action leads to the branch's state, if it is allowed.
+    fn before(&self, branch: &Branch, act: u16) -> Option<State>
+        requires { act < length self.now.rows.machine.now.actions }
+        ensures { result ≡ (if is_act_allowed self.now.rows.machine.now self.now.rows.ask.now.outs
+            (record { 0 = act }) then state_before self.now.rows.ask.now.want branch.now.first
+            (action_at self.now.rows.machine.now act) else None) }
+    {
+        action_law();
+        let machine = self.rows.machine;
+        if !allowed(machine, self.rows.ask.outs, ActId(act)) {
+            return None;
+        }
+        let action = machine.actions.get(u32::from(act));
+        regress(action, &self.rows.ask.want, branch.first())
+    }
+
+    fn take_act(&self, branch: Branch, from: u16) -> Option<Taken>
+        requires sound { from < length self.now.rows.machine.now.actions → length branch.x.choices <
+            64 }
+        ensures some { (goals : List State) → IfSome result (λ t. acts_from
+            self.now.rows.machine.now self.now.plans.now self.now.rows.ask.now
+            self.now.rows.rows.now self.now.limit branch from (length
+            self.now.rows.machine.now.actions - from) ≡ due_by t.next ∷ dues_of
+            self.now.rows.machine.now self.now.plans.now self.now.rows.ask.now
+            self.now.rows.rows.now self.now.limit goals t.rest) }
+        ensures none { IfNone result (acts_from self.now.rows.machine.now self.now.plans.now
+            self.now.rows.ask.now self.now.rows.rows.now self.now.limit branch from (length
+            self.now.rows.machine.now.actions - from) ≡ []) }
+        ensures next { IfSome result (λ t. IsSoundDue self.now.rows.machine.now (due_by t.next)) }
+        ensures rest { IfSome result (λ t. IsSoundFrame self.now.rows.machine.now t.rest) }
+    {
+        machine_law(self.rows.machine);
+        'acts: for act in from..self.rows.machine.actions.len() as u16 {
+            match self.before(&branch, act) {
+                Some(state) => {
+                    let next = Next::Action {
+                        branch: branch.copy(),
+                        act: ActId(act),
+                        state,
+                    };
+                    let rest = Frame::Acts {
+                        branch,
+                        with_stop: false,
+                        at: act + 1,
+                    };
+                    return Some(Taken { next, rest });
+                }
+                None => {}
+            }
+        }
+        None
+    }
+
+    fn take_place(&self, branch: Branch, rule: HoldRule, lo: u64) -> Option<Taken>
+        requires next { next_rule self.now.rows.machine.now branch.x ≡ Some rule }
+        ensures some { (goals : List State) → IfSome result (λ t. places_from
+            self.now.rows.machine.now self.now.plans.now self.now.rows.ask.now
+            self.now.rows.rows.now branch rule lo ≡ due_by t.next ∷ dues_of
+            self.now.rows.machine.now self.now.plans.now self.now.rows.ask.now
+            self.now.rows.rows.now self.now.limit goals t.rest) }
+        ensures none { IfNone result (places_from self.now.rows.machine.now self.now.plans.now
+            self.now.rows.ask.now self.now.rows.rows.now branch rule lo ≡ []) }
+        ensures next { IfSome result (λ t. IsSoundDue self.now.rows.machine.now (due_by t.next)) }
+        ensures rest { IfSome result (λ t. IsSoundFrame self.now.rows.machine.now t.rest) }
+    {
+        if lo <= self.order_length(&branch, rule) {
+            Some(Taken {
+                next: Next::Places { branch, rule, lo },
+                rest: Frame::Nothing,
+            })
+        } else {
+            None
+        }
+    }
+
+    fn take_goal(&self, goals: &[State], at: usize) -> Option<Taken>
+        ensures some { IfSome result (λ t. dues_of self.now.rows.machine.now self.now.plans.now
+            self.now.rows.ask.now self.now.rows.rows.now self.now.limit goals.now (Goals at) ≡
+            due_by t.next ∷ dues_of self.now.rows.machine.now self.now.plans.now
+            self.now.rows.ask.now self.now.rows.rows.now self.now.limit goals.now t.rest) }
+        ensures none { IfNone result (dues_of self.now.rows.machine.now self.now.plans.now
+            self.now.rows.ask.now self.now.rows.rows.now self.now.limit goals.now (Goals at) ≡ []) }
+        ensures next { IfSome result (λ t. IsSoundDue self.now.rows.machine.now (due_by t.next)) }
+        ensures rest { IfSome result (λ t. IsSoundFrame self.now.rows.machine.now t.rest) }
+    {
+        if at < goals.len() {
+            Some(Taken {
+                next: Next::Goal(goals[at]),
+                rest: Frame::Goals(at + 1),
+            })
+        } else {
+            None
+        }
+    }
+
+    /// The first that is due of a frame.
+    pub(crate) fn take(&self, goals: &[State], frame: Frame) -> Option<Taken>
+        requires sound { IsSoundFrame self.now.rows.machine.now frame }
+        ensures some { IfSome result (λ t. dues_of self.now.rows.machine.now self.now.plans.now
+            self.now.rows.ask.now self.now.rows.rows.now self.now.limit goals.now frame ≡ due_by
+            t.next ∷ dues_of self.now.rows.machine.now self.now.plans.now self.now.rows.ask.now
+            self.now.rows.rows.now self.now.limit goals.now t.rest) }
+        ensures none { IfNone result (dues_of self.now.rows.machine.now self.now.plans.now
+            self.now.rows.ask.now self.now.rows.rows.now self.now.limit goals.now frame ≡ []) }
+        ensures next { IfSome result (λ t. IsSoundDue self.now.rows.machine.now (due_by t.next)) }
+        ensures rest { IfSome result (λ t. IsSoundFrame self.now.rows.machine.now t.rest) }
+    {
+        match frame {
+            Frame::Nothing => None,
+            Frame::Goals(at) => self.take_goal(goals, at),
+            Frame::Held { branch, rule, lo } => self.take_place(branch, rule, lo),
+            Frame::Acts {
+                branch,
+                with_stop,
+                at,
+            } => {
+                if with_stop {
+                    let next = Next::Stop(branch.copy());
+                    let rest = Frame::Acts {
+                        branch,
+                        with_stop: false,
+                        at,
+                    };
+                    Some(Taken { next, rest })
+                } else {
+                    self.take_act(branch, at)
+                }
+            }
+        }
+    }
+}
