@@ -7,7 +7,7 @@ use tp_bounds::{BoundTree, TreeFault, print_tree, read_tree};
 const MOST: usize = 4096;
 
 #[tactic(auto, using(tp_words::proofs::Texts::short_lines))]
-fn read(alloc: Global, text: &[u8]) -> Result<BoundTree, TreeFault> {
+pub(crate) fn read(alloc: Global, text: &[u8]) -> Result<BoundTree, TreeFault> {
     if text.len() > MOST {
         return Err(TreeFault::Memory);
     }
