@@ -1,0 +1,6 @@
+use Rattle.std.proofs.Common.{◌≡◌, ◌++◌, map, take}
+use Rattle.tp_chart.specs.Bars.{hold_bar, holds_named}
+use Rattle.tp_chart.proofs.bars.add_holds.Given as goal
+
+abbrev pub invariant-loop-hold : goal.invariant-loop-hold
+invariant-loop-hold l = l.bars.items ≡ l.fn.bars.items ++ map (hold_bar l.course l.run) (take l.hold-index (holds_named l.machine l.run.act))

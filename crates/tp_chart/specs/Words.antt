@@ -1,0 +1,83 @@
+-- The form of the words: [--sheets] [--at T] MACHINE, as the library of command lines reads them.
+use Rattle.std.specs.Prelude.{ℕ, Bool, true, false, ◌==◌, nat_le, List, [], ◌∷◌, length, codes, find, Option, Some, None, option_map, map, if◌then◌else◌}
+use Rattle.std.specs.Str.{bytes_eq}
+use Rattle.std.specs.Borrow.{Bor}
+use Rattle.clap.specs.Words.{App, Kinds, Row, Rule, Text, fault_of, matches_of, new_app, new_rule, with_rule}
+use Rattle.clap.specs.Simple.{on_top}
+use Rattle.clap.specs.declared.builder.action.ArgAction.TheVariants.{Append}
+use Rattle.tp_words.specs.Numbers.{number_of}
+use Rattle.tp_chart.specs.declared.words.Request as code
+
+-- ---- the command: words, a flag `--sheets`, and an option `--at` with a value
+
+abbrev pub words_rule : Rule
+words_rule = record (new_rule (codes "words")) { action = Some Append }
+
+abbrev pub sheets_rule : Rule
+sheets_rule = record (new_rule (codes "sheets")) {
+  long = Some (codes "sheets");
+  action = Some Append;
+  range = Some (record { start_inclusive = 0; end_inclusive = 0 });
+  missing = codes "set" ∷ [];
+}
+
+abbrev pub at_rule : Rule
+at_rule = record (new_rule (codes "at")) { long = Some (codes "at"); action = Some Append }
+
+abbrev pub bare : App
+bare = on_top (λ s. record s { no_binary_name = true; disable_help_flag = true }) (new_app (codes "chart"))
+
+abbrev pub with_words : App
+with_words = with_rule bare words_rule
+
+abbrev pub with_flag : App
+with_flag = with_rule with_words sheets_rule
+
+abbrev pub chart : App
+chart = with_rule with_flag at_rule
+
+-- ---- what the words ask for
+
+pub record Asked : Type 0 where
+  pub machine : List ℕ
+  pub by_copies : Bool
+  pub until : Option ℕ
+
+-- at most one moment is given: a number below 2 ^ 32 without leading zeros
+abbrev pub moment_of : List Text → Option (Option ℕ)
+moment_of [] = Some None
+moment_of (text ∷ []) = option_map (λ moment. Some moment) (number_of text)
+moment_of _ = None
+
+-- exactly one word is no option, and the flag stands at most once
+abbrev pub asked_at : List Text → ℕ → List Text → Option Asked
+asked_at (machine ∷ []) sheets moments =
+    if nat_le sheets 1 then option_map (λ until. record { machine = machine; by_copies = sheets == 1; until = until }) (moment_of moments) else None
+asked_at _ sheets moments = None
+
+-- the values of an id, if it has a row
+abbrev pub values_in : Text → List Row → Option (List Text)
+values_in id rows = option_map (λ r. r.values) (find (λ r. bytes_eq r.id id) rows)
+
+abbrev pub values_or_none : Option (List Text) → List Text
+values_or_none None = []
+values_or_none (Some values) = values
+
+abbrev pub asked_in : List Row → Option Asked
+asked_in rows = asked_at (values_or_none (values_in (codes "words") rows)) (length (values_or_none (values_in (codes "sheets") rows))) (values_or_none (values_in (codes "at") rows))
+
+abbrev pub is_none : Kinds → Bool
+is_none [] = true
+is_none (k ∷ ks) = false
+
+-- what the words ask for, where the command finds no fault with them
+abbrev pub chart_asked : List Text → Option Asked
+chart_asked words = if is_none (fault_of chart words) then asked_in (matches_of chart words) else None
+
+-- a request as its texts and numbers
+abbrev pub seen : code.Request → Asked
+seen r = record { machine = r.machine.now; by_copies = r.by_copies; until = r.until }
+
+-- what references to texts point to
+abbrev pub shown : List (Bor Text) → List Text
+shown texts = map (λ text. text.now) texts

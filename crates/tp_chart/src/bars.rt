@@ -1,0 +1,154 @@
+// The bars of a picture.
+ghost use Rattle.std.specs.Prelude.{◌≡◌, ◌++◌, ℕ, List, map, flat_map, find, OnOk, IfOk, option_map};
+ghost use Rattle.std.specs.Str.{bytes_eq};
+ghost use Rattle.tp_chart.specs.Bars.{action_bar, action_bars, action_named, bars_from, hold_bar, hold_bars, hold_bars_in, holds_named, runs_of, way_bars};
+
+use crate::course::Course;
+use crate::runs::{Run, runs_of};
+use std::alloc::Global;
+use tp_base::{Memory, Name};
+use tp_machine::{Action, HoldRule, Machine, span};
+use tp_schedule::SheetName;
+
+/// A hold, or an action, of a copy: from the tick `begin` up to, and without, `end`. The row is the place of the resource in
+/// the machine's list, or of the copy in the list of courses.
+#[derive(Clone, Copy, Debug, PartialEq, Eq)]
+pub struct Bar {
+    pub row: usize,
+    pub begin: i64,
+    pub end: i64,
+    pub sheet: SheetName,
+    pub act: Name,
+    pub released: bool,
+    pub is_lost: bool,
+}
+
+fn action_bar(row: usize, course: &Course, run: &Run) -> Bar
+    ensures { result ≡ action_bar row course.now run.now }
+{
+    Bar {
+        row,
+        begin: i64::from(run.start),
+        end: i64::from(run.end),
+        sheet: *course.sheet(),
+        act: run.act,
+        released: run.number <= course.released(),
+        is_lost: course.is_lost(),
+    }
+}
+
+fn hold_bar(course: &Course, run: &Run, hold: &HoldRule) -> Bar
+    ensures { result ≡ hold_bar course.now run.now hold.now }
+{
+    let (begin, end) = span(hold, run.start, run.end);
+    Bar {
+        row: usize::from(hold.resource.0),
+        begin,
+        end,
+        ..action_bar(0, course, run)
+    }
+}
+
+fn action_named<'m>(machine: &'m Machine, name: &Name) -> Option<&'m Action>
+    ensures { option_map (λ a. a.now) result ≡ action_named machine.now name.now }
+{
+    machine
+        .actions
+        .as_slice()
+        .iter()
+        .find(|action| action.name == *name)
+}
+
+/// The holds of the machine's action of this name; none where it has no such action.
+fn holds_named<'m>(machine: &'m Machine, name: &Name) -> &'m [HoldRule]
+    ensures { result.now ≡ holds_named machine.now name.now }
+{
+    match action_named(machine, name) {
+        Some(action) => action.holds.as_slice(),
+        None => &[],
+    }
+}
+
+fn add_holds(
+    bars: &mut Vec<Bar>,
+    machine: &Machine,
+    course: &Course,
+    run: &Run,
+) -> Result<(), Memory>
+    ensures { OnOk result (bars.new.items
+        ≡ bars.old.items ++ hold_bars_in machine.now course.now run.now) }
+{
+    for hold in holds_named(machine, &run.act) {
+        bars.push(hold_bar(course, run, hold))?;
+    }
+    Ok(())
+}
+
+fn add_hold_bars(
+    bars: &mut Vec<Bar>,
+    machine: &Machine,
+    course: &Course,
+    runs: &[Run],
+) -> Result<(), Memory>
+    ensures { OnOk result (bars.new.items
+        ≡ bars.old.items ++ flat_map (hold_bars_in machine.now course.now) runs.now) }
+{
+    for run in runs {
+        add_holds(bars, machine, course, run)?;
+    }
+    Ok(())
+}
+
+fn add_action_bars(
+    bars: &mut Vec<Bar>,
+    row: usize,
+    course: &Course,
+    runs: &[Run],
+) -> Result<(), Memory>
+    ensures { OnOk result (bars.new.items
+        ≡ bars.old.items ++ map (action_bar row course.now) runs.now) }
+{
+    for run in runs {
+        bars.push(action_bar(row, course, run))?;
+    }
+    Ok(())
+}
+
+fn add_bars(
+    bars: &mut Vec<Bar>,
+    by_copies: bool,
+    machine: &Machine,
+    row: usize,
+    course: &Course,
+) -> Result<(), Memory>
+    ensures { OnOk result (bars.new.items
+        ≡ bars.old.items ++ way_bars by_copies machine.now row course.now) }
+{
+    let runs = runs_of(*bars.allocator(), course)?;
+    if by_copies {
+        add_action_bars(bars, row, course, &runs)
+    } else {
+        add_hold_bars(bars, machine, course, &runs)
+    }
+}
+
+/// The bars of the courses in turn: of their actions, a row for each copy, or else of their holds, a row for each resource.
+/// The holds of an action are those that the machine gives the action of its name.
+pub fn bars_of(
+    alloc: Global,
+    by_copies: bool,
+    machine: &Machine,
+    courses: &[Course],
+) -> Result<Vec<Bar>, Memory>
+    ensures { IfOk result (λ bars. bars.items ≡ bars_from by_copies machine.now 0 courses.now) }
+{
+    let mut bars = Vec::new(alloc);
+    let mut row: usize = 0;
+    let mut rest = courses;
+    'courses: while let [course, later @ ..] = rest {
+        add_bars(&mut bars, by_copies, machine, row, course)?;
+        row += 1;
+        rest = later;
+    }
+    Ok(bars)
+}

@@ -1,0 +1,161 @@
+// Where the parts of a picture stand, in pixels and in ticks.
+use crate::bars::Bar;
+use crate::scene::Scene;
+use tp_machine::Machine;
+
+/// The height of a row, in pixels.
+pub(crate) const ROW: u64 = 20;
+
+/// The height of what stands above the rows: the title, the key and the ticks of the axis.
+pub(crate) const HEAD: u64 = 96;
+
+/// The width of a letter.
+pub(crate) const LETTER: u64 = 8;
+
+/// The width of a picture's times where they are few, and at most, in millionths of a pixel.
+const FEW: u64 = 960_000_000;
+
+const MOST: u64 = 8_000_000_000;
+
+/// The width of a tick where there are many.
+const NARROW: u64 = 1_500_000;
+
+/// A label of the axis takes so much, in millionths of a pixel.
+const LABEL: u64 = 80_000_000;
+
+/// How far apart the ticks of the axis may be.
+const STEPS: [i64; 30] = [
+    1,
+    2,
+    5,
+    10,
+    20,
+    50,
+    100,
+    200,
+    500,
+    1_000,
+    2_000,
+    5_000,
+    10_000,
+    20_000,
+    50_000,
+    100_000,
+    200_000,
+    500_000,
+    1_000_000,
+    2_000_000,
+    5_000_000,
+    10_000_000,
+    20_000_000,
+    50_000_000,
+    100_000_000,
+    200_000_000,
+    500_000_000,
+    1_000_000_000,
+    2_000_000_000,
+    5_000_000_000,
+];
+
+/// The ticks from `first` to `last`, drawn from `left` on, `scale` millionths of a pixel wide each. The axis has a tick at
+/// each `step`.
+#[derive(Clone, Copy, Debug, PartialEq, Eq)]
+pub(crate) struct Frame {
+    pub(crate) first: i64,
+    pub(crate) last: i64,
+    pub(crate) step: i64,
+    pub(crate) scale: u64,
+    pub(crate) left: u64,
+    pub(crate) rows: u64,
+}
+
+/// The first and the last tick of what is drawn.
+fn extent(scene: &Scene, bars: &[Bar]) -> (i64, i64) {
+    let mut first = i64::MAX;
+    let mut last = 0;
+    for bar in bars {
+        first = first.min(bar.begin);
+        last = last.max(bar.end);
+    }
+    for course in scene.courses() {
+        if let Some(at) = course.done() {
+            last = last.max(i64::from(at));
+        }
+    }
+    if bars.is_empty() {
+        (0, i64::from(scene.moment()).max(10))
+    } else {
+        (first, last.max(first.saturating_add(1)))
+    }
+}
+
+/// How many millionths of a pixel a tick takes, where there are so many.
+fn scale_of(span: u64) -> u64 {
+    let span = span.max(1);
+    let wide = (FEW / span).max(NARROW);
+    wide.min(MOST / span).max(1)
+}
+
+fn step_of(scale: u64) -> i64 {
+    for step in STEPS {
+        if (step.unsigned_abs()).saturating_mul(scale) >= LABEL {
+            return step;
+        }
+    }
+    10_000_000_000
+}
+
+fn ticks_between(first: i64, last: i64) -> u64 {
+    last.saturating_sub(first).max(0).unsigned_abs()
+}
+
+impl Frame {
+    /// The frame of a picture with so many rows, whose longest label has so many letters.
+    pub(crate) fn of(scene: &Scene, bars: &[Bar], rows: u64, letters: u64) -> Frame {
+        let (first, last) = extent(scene, bars);
+        let step = step_of(scale_of(ticks_between(first, last)));
+        let first = first.saturating_sub(first % step.max(1));
+        Frame {
+            first,
+            last,
+            step,
+            scale: scale_of(ticks_between(first, last)),
+            left: letters.saturating_mul(LETTER).saturating_add(24),
+            rows,
+        }
+    }
+
+    /// How many pixels a tick is from the first one.
+    pub(crate) fn across(&self, tick: i64) -> u64 {
+        ticks_between(self.first, tick).saturating_mul(self.scale) / 1_000_000
+    }
+
+    /// Where a tick is, in pixels.
+    pub(crate) fn x(&self, tick: i64) -> u64 {
+        self.across(tick).saturating_add(self.left)
+    }
+
+    /// Where a row begins, in pixels.
+    pub(crate) fn y(&self, row: u64) -> u64 {
+        row.saturating_mul(ROW).saturating_add(HEAD)
+    }
+
+    /// Where the rows end.
+    pub(crate) fn bottom(&self) -> u64 {
+        self.y(self.rows)
+    }
+
+    /// Where the ticks end.
+    pub(crate) fn right(&self) -> u64 {
+        self.x(self.last)
+    }
+}
+
+/// How many rows there are: one for each copy, or else one for each resource, tray and purge tray.
+pub(crate) fn count_rows(by_copies: bool, machine: &Machine, scene: &Scene) -> u64 {
+    if by_copies {
+        return scene.courses().len() as u64;
+    }
+    let trays = u64::from(machine.trays.len()).saturating_add(u64::from(machine.purges.len()));
+    u64::from(machine.resources.len()).saturating_add(trays)
+}

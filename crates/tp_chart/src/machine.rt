@@ -1,0 +1,47 @@
+// The machine that the shelf has under a name.
+ghost use Rattle.std.specs.Prelude.{◌≡◌, ◌≢◌, ◌⊎◌, ℕ, IfOk, IfErr, IfSome, IsSome, IsTrue};
+ghost use Rattle.tp_machine_text.specs.Texts.{IsBrokenAt, IsMachineText, IsNotToml};
+ghost use Rattle.tp_outside.specs.Outside.{Rises, file_at};
+ghost use Rattle.tp_chart.specs.Runs.{IsLongText, IsShelved, is_of_machine};
+
+use crate::status::{Long, Status};
+use std::alloc::Global;
+use tp_machine::Machine;
+use tp_machine_text::{MachineFault, read_machine};
+use tp_outside::{ReadError, Shelf, read_file};
+
+/// The most bytes of a machine text.
+const MACHINE_BYTES: usize = 1_048_576;
+
+/// Reads the machine text of this name. An `Err` is the status that the run ends with.
+pub(crate) fn find_machine<H: Shelf>(
+    alloc: Global,
+    shelf: &mut H,
+    name: &str,
+) -> Result<Machine, Status>
+    ensures found { IfOk result (λ machine.
+        IsShelved (H.told shelf.old) name.now (λ text. IsMachineText text machine)) }
+    ensures too_long { IfErr result (λ s. s ≡ Status.TooLong Long.MachineText
+        → IsLongText (H.told shelf.old) name.now) }
+    ensures not_toml { IfErr result (λ s. s ≡ Status.Machine MachineFault.NotToml
+        → IsShelved (H.told shelf.old) name.now IsNotToml) }
+    ensures rule { IfErr result (λ s. (n : ℕ) → s ≡ Status.Machine (MachineFault.Rule n)
+        → IsShelved (H.told shelf.old) name.now (IsBrokenAt n)) }
+    ensures no_memory { IfErr result (λ s. s ≢ Status.Machine MachineFault.Memory) }
+    ensures shelf { IfErr result (λ s. s ≡ Status.Shelf
+        → Rises (H.faults shelf.old) (H.faults shelf.new)) }
+    ensures which { IfErr result (λ s. (s ≡ Status.Memory) ⊎ IsTrue (is_of_machine s)) }
+{
+    let text = match read_file(alloc, shelf, name, MACHINE_BYTES) {
+        Ok(text) => text,
+        Err(ReadError::Memory) => return Err(Status::Memory),
+        Err(ReadError::Failed) => return Err(Status::Shelf),
+        Err(ReadError::TooLong) => return Err(Status::TooLong(Long::MachineText)),
+    };
+    match read_machine(alloc, &text) {
+        Ok(machine) => Ok(machine),
+        Err(MachineFault::Memory) => Err(Status::Memory),
+        Err(MachineFault::NotToml) => Err(Status::Machine(MachineFault::NotToml)),
+        Err(MachineFault::Rule(n)) => Err(Status::Machine(MachineFault::Rule(n))),
+    }
+}

@@ -1,0 +1,57 @@
+// The modules that are out, and from when to when.
+ghost use Rattle.std.specs.Prelude.{◌≡◌, map, IfOk};
+ghost use Rattle.std.specs.List.{list_any};
+ghost use Rattle.tp_chart.specs.Scenes.{ended, is_out, is_out_in};
+
+use std::alloc::{AllocError, Global};
+use tp_base::Tick;
+
+/// A time in which a module is out. `number` is the module's place in the machine's list; without an end it is out still.
+#[derive(Clone, Copy, PartialEq, Eq, Debug)]
+pub struct Outage {
+    pub number: u16,
+    pub begin: Tick,
+    pub end: Option<Tick>,
+}
+
+fn is_out_in(number: u16, outage: &Outage) -> bool
+    ensures { result ≡ is_out_in number outage.now }
+{
+    outage.number == number && outage.end.is_none()
+}
+
+pub(crate) fn is_out(number: u16, outages: &[Outage]) -> bool
+    ensures { result ≡ is_out number outages.now }
+{
+    outages.iter().any(|outage| is_out_in(number, outage))
+}
+
+/// The outage, ended at the moment if it is one of the module that lasts.
+fn ended(number: u16, moment: Tick, outage: &Outage) -> Outage
+    ensures { result ≡ ended number moment outage.now }
+{
+    if is_out_in(number, outage) {
+        Outage {
+            number,
+            begin: outage.begin,
+            end: Some(moment),
+        }
+    } else {
+        *outage
+    }
+}
+
+/// The outages, those of the module ended at the moment.
+pub(crate) fn all_ended(
+    alloc: Global,
+    number: u16,
+    moment: Tick,
+    outages: &[Outage],
+) -> Result<Vec<Outage>, AllocError>
+    ensures { IfOk result (λ v. v.items ≡ map (ended number moment) outages.now) }
+{
+    outages
+        .iter()
+        .map(|outage| ended(number, moment, outage))
+        .collect(alloc)
+}

@@ -1,0 +1,20 @@
+// Pieces of a picture's text.
+use std::alloc::AllocError;
+use tp_base::Name;
+use tp_schedule::SheetName;
+
+/// Writes a name. It needs no escape: no byte of a name has a meaning in SVG.
+pub(crate) fn put_name(text: &mut String, name: &Name) -> Result<(), AllocError> {
+    for byte in name.as_bytes() {
+        text.push(char::from(*byte))?;
+    }
+    Ok(())
+}
+
+/// Writes a copy: its job, its sheet and its number, with dots between.
+pub(crate) fn put_copy(text: &mut String, sheet: &SheetName) -> Result<(), AllocError> {
+    put_name(text, &sheet.job)?;
+    let number = sheet.number;
+    let copy = sheet.copy;
+    write!(text, ".{number}.{copy}")
+}

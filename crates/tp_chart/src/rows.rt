@@ -1,0 +1,156 @@
+// The rows of a picture: their labels, the axis above them, and the times in which modules were out.
+use crate::frame::{Frame, HEAD, ROW};
+use crate::outage::Outage;
+use crate::putting::{put_copy, put_name};
+use crate::scene::Scene;
+use std::alloc::AllocError;
+use tp_base::Name;
+use tp_machine::{LocId, Machine};
+
+/// What stands before the name of a tray, and of a purge tray.
+const TRAY: &str = "tray ";
+
+const PURGE: &str = "purge ";
+
+/// The stripe of a row, and the beginning of its label.
+fn put_row(text: &mut String, frame: &Frame, row: u64) -> Result<(), AllocError> {
+    let y = frame.y(row);
+    let below = y.saturating_add(14);
+    let right = frame.right();
+    let beside = frame.left.saturating_sub(8);
+    if row % 2 == 0 {
+        write!(
+            text,
+            "<rect class=\"stripe\" x=\"8\" y=\"{y}\" width=\"{right}\" height=\"{ROW}\"/>\n"
+        )?;
+    }
+    write!(
+        text,
+        "<text class=\"ink\" x=\"{beside}\" y=\"{below}\" text-anchor=\"end\">"
+    )
+}
+
+fn put_named_row(
+    text: &mut String,
+    frame: &Frame,
+    row: u64,
+    kind: &str,
+    name: &Name,
+) -> Result<(), AllocError> {
+    put_row(text, frame, row)?;
+    text.push_str(kind)?;
+    put_name(text, name)?;
+    text.push_str("</text>\n")
+}
+
+/// The rows of trays, the first of this number.
+fn put_trays(
+    text: &mut String,
+    frame: &Frame,
+    machine: &Machine,
+    kind: &str,
+    row: u64,
+    trays: &[LocId],
+) -> Result<(), AllocError> {
+    let mut row = row;
+    for tray in trays {
+        if u32::from(tray.0) < machine.locations.len() {
+            let name = machine.locations.get(tray.0);
+            put_named_row(text, frame, row, kind, &name)?;
+        }
+        row = row.saturating_add(1);
+    }
+    Ok(())
+}
+
+fn put_machine_rows(text: &mut String, frame: &Frame, machine: &Machine) -> Result<(), AllocError> {
+    let mut row: u64 = 0;
+    for resource in machine.resources.as_slice() {
+        put_named_row(text, frame, row, "", &resource.name)?;
+        row = row.saturating_add(1);
+    }
+    let trays = machine.trays.as_slice();
+    put_trays(text, frame, machine, TRAY, row, trays)?;
+    let row = row.saturating_add(trays.len() as u64);
+    put_trays(text, frame, machine, PURGE, row, machine.purges.as_slice())
+}
+
+fn put_copy_rows(text: &mut String, frame: &Frame, scene: &Scene) -> Result<(), AllocError> {
+    let mut row: u64 = 0;
+    for course in scene.courses() {
+        put_row(text, frame, row)?;
+        put_copy(text, course.sheet())?;
+        text.push_str("</text>\n")?;
+        row = row.saturating_add(1);
+    }
+    Ok(())
+}
+
+/// The grey bands of one outage, on the rows of the module's resources.
+fn put_outage(
+    text: &mut String,
+    frame: &Frame,
+    machine: &Machine,
+    outage: &Outage,
+) -> Result<(), AllocError> {
+    let end = match outage.end {
+        Some(end) => i64::from(end).min(frame.last),
+        None => frame.last,
+    };
+    let begin = i64::from(outage.begin).max(frame.first);
+    let x = frame.x(begin);
+    let width = frame.x(end).saturating_sub(x);
+    let mut row: u64 = 0;
+    for resource in machine.resources.as_slice() {
+        if u16::from(resource.module.0) == outage.number && width > 0 {
+            let y = frame.y(row);
+            write!(
+                text,
+                "<rect class=\"out\" x=\"{x}\" y=\"{y}\" width=\"{width}\" height=\"{ROW}\"/>\n"
+            )?;
+        }
+        row = row.saturating_add(1);
+    }
+    Ok(())
+}
+
+/// A line of the axis with its label above it.
+fn put_tick(text: &mut String, frame: &Frame, tick: i64) -> Result<(), AllocError> {
+    let x = frame.x(tick);
+    let top = HEAD - 4;
+    let label = HEAD - 9;
+    let bottom = frame.bottom();
+    write!(
+        text,
+        "<path class=\"grid\" d=\"M{x} {top}V{bottom}\"/><text class=\"faint\" x=\"{x}\" y=\"{label}\" text-anchor=\"middle\">{tick}</text>\n"
+    )
+}
+
+fn put_axis(text: &mut String, frame: &Frame) -> Result<(), AllocError> {
+    let step = frame.step.max(1);
+    let count = frame.last.saturating_sub(frame.first).max(0) / step;
+    for number in 0..=count {
+        let tick = frame.first.saturating_add(number.saturating_mul(step));
+        put_tick(text, frame, tick)?;
+    }
+    Ok(())
+}
+
+pub(crate) fn put_rows(
+    text: &mut String,
+    by_copies: bool,
+    frame: &Frame,
+    machine: &Machine,
+    scene: &Scene,
+) -> Result<(), AllocError> {
+    if by_copies {
+        put_copy_rows(text, frame, scene)?;
+        return put_axis(text, frame);
+    }
+    put_machine_rows(text, frame, machine)?;
+    put_axis(text, frame)?;
+    for outage in scene.outages() {
+        put_outage(text, frame, machine, outage)?;
+    }
+    Ok(())
+}

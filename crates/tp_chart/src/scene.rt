@@ -1,0 +1,256 @@
+// The schedule that a log tells up to a moment.
+ghost use Rattle.std.specs.Prelude.{◌≡◌, ◌≤◌, IfOk, OnOk, position, filter, not, List};
+ghost use Rattle.tp_chart.specs.Courses.{Way, fresh, is_same_copy, joined, tell_course};
+ghost use Rattle.tp_chart.specs.Scenes.{back_by, begun, changed, comes_back, goes_out, is_past, moved_to, moves_past, nothing, out_by, place_of_module, planned, sight_from, sight_of, tell, tell_event, tell_record, with_changed, with_plan, without};
+ghost use Rattle.tp_schedule.specs.declared.recording.Record.TheVariants.{Plan};
+
+use crate::course::{Course, is_same_copy};
+use crate::outage::{Outage, all_ended, is_out};
+use std::alloc::Global;
+use std::marker::Model;
+use tp_base::{Items, Memory, Name, Tick};
+use tp_log::Item;
+use tp_machine::Machine;
+use tp_schedule::{Record, SheetName};
+use tp_script::Event;
+
+/// The last tick of the clock.
+const LAST_TICK: Tick = 1_000_000_000;
+
+/// The schedule that a log tells: the ways of its copies in the order of their first plans, and when modules were out.
+#[derive(Drop)]
+pub struct Scene {
+    moment: Tick,
+    courses: Vec<Course>,
+    outages: Vec<Outage>,
+}
+
+// Clauses see the lists.
+impl Model for Scene {
+    ghost use Rattle.tp_chart.specs.Scenes.{Sight};
+
+    ghost Value = { Sight };
+
+    ghost view = { λ s. record {
+      moment = s.moment;
+      courses = s.courses.items;
+      outages = s.outages.items;
+    } };
+}
+
+fn place_of(courses: &[Course], sheet: &SheetName) -> Option<usize>
+    ensures { result ≡ position (λ w. is_same_copy w.sheet sheet.now) courses.now }
+{
+    courses
+        .iter()
+        .position(|course| is_same_copy(course.sheet(), sheet))
+}
+
+/// The record changes the course of its copy, if it has one.
+fn change(
+    courses: &mut Vec<Course>,
+    moment: Tick,
+    sheet: &SheetName,
+    rec: &Record,
+) -> Result<(), Memory>
+    ensures { OnOk result (courses.new.items
+        ≡ changed sheet.now (tell_course moment rec.now) courses.old.items) }
+{
+    match place_of(courses, sheet) {
+        Some(at) => courses[at].tell(moment, rec),
+        None => Ok(()),
+    }
+}
+
+/// A plan of the copy: its course goes on by it, or begins.
+fn plan(
+    courses: &mut Vec<Course>,
+    sheet: &SheetName,
+    place: Name,
+    points: &[Tick],
+    acts: &[Name],
+) -> Result<(), Memory>
+    ensures { OnOk result (courses.new.items ≡ planned sheet.now (joined place points.now acts.now)
+        (fresh sheet.now place points.now acts.now) courses.old.items) }
+{
+    match place_of(courses, sheet) {
+        Some(at) => courses[at].join(place, points, acts),
+        None => {
+            let course = Course::new(*courses.allocator(), sheet, place, points, acts)?;
+            courses.push(course)?;
+            Ok(())
+        }
+    }
+}
+
+/// Whether the event moves the clock beyond the moment.
+fn moves_past(last: Tick, event: &Event) -> bool
+    ensures { result ≡ moves_past last event.now }
+{
+    match event {
+        Event::Clock { to } => last < *to && *to <= LAST_TICK,
+        _ => false,
+    }
+}
+
+fn is_past(until: Option<Tick>, item: &Item) -> bool
+    ensures { result ≡ is_past until item.now }
+{
+    match (until, item) {
+        (Some(last), Item::Event(event)) => moves_past(last, event),
+        _ => false,
+    }
+}
+
+impl Scene {
+    fn new(alloc: Global) -> Scene
+        ensures { result ≡ nothing }
+    {
+        Scene {
+            moment: 0,
+            courses: Vec::new(alloc),
+            outages: Vec::new(alloc),
+        }
+    }
+
+    /// The moment that it is.
+    pub fn moment(&self) -> Tick
+        ensures { result ≡ self.now.moment }
+    {
+        self.moment
+    }
+
+    pub fn courses(&self) -> &[Course]
+        ensures { result.now ≡ self.now.courses }
+    {
+        &self.courses
+    }
+
+    pub fn outages(&self) -> &[Outage]
+        ensures { result.now ≡ self.now.outages }
+    {
+        &self.outages
+    }
+
+    fn go_out(&mut self, machine: &Machine, name: &Name) -> Result<(), Memory>
+        ensures { OnOk result (self.new ≡ goes_out machine.now name.now self.old) }
+    {
+        if let Some(number) = machine.modules.find(name)
+            && !is_out(number, &self.outages)
+        {
+            self.outages.push(Outage {
+                number,
+                begin: self.moment,
+                end: None,
+            })?;
+        }
+        Ok(())
+    }
+
+    fn come_back(&mut self, machine: &Machine, name: &Name) -> Result<(), Memory>
+        ensures { OnOk result (self.new ≡ comes_back machine.now name.now self.old) }
+    {
+        if let Some(number) = machine.modules.find(name) {
+            let alloc = *self.outages.allocator();
+            self.outages = all_ended(alloc, number, self.moment, &self.outages)?;
+        }
+        Ok(())
+    }
+
+    fn leave(&mut self, sheet: &SheetName)
+        ensures { self.new ≡ record self.old { courses = without sheet.now self.old.courses } }
+    {
+        self.courses
+            .retain(|course| !is_same_copy(course.sheet(), sheet));
+    }
+
+    fn change(&mut self, sheet: &SheetName, rec: &Record) -> Result<(), Memory>
+        ensures { OnOk result (self.new ≡ with_changed sheet.now rec.now self.old) }
+    {
+        change(&mut self.courses, self.moment, sheet, rec)
+    }
+
+    fn tell_record(&mut self, machine: &Machine, rec: &Record) -> Result<(), Memory>
+        ensures { OnOk result (self.new ≡ tell_record machine.now rec.now self.old) }
+    {
+        match rec {
+            Record::Plan {
+                sheet,
+                place,
+                points,
+                acts,
+            } => plan(
+                &mut self.courses,
+                sheet,
+                *place,
+                points.as_slice(),
+                acts.as_slice(),
+            ),
+            Record::Move { sheet, .. } => self.change(sheet, rec),
+            Record::Release { sheet, .. } => self.change(sheet, rec),
+            Record::Done { sheet, .. } => self.change(sheet, rec),
+            Record::Lost { sheet } => self.change(sheet, rec),
+            Record::Recall { sheet, .. } => self.change(sheet, rec),
+            Record::Cut { sheet } => self.change(sheet, rec),
+            Record::Purge { sheet } => self.change(sheet, rec),
+            Record::Withdraw { sheet } => {
+                self.leave(sheet);
+                Ok(())
+            }
+            Record::Drop { sheet } => {
+                self.leave(sheet);
+                Ok(())
+            }
+            Record::Stuck { module, .. } => self.go_out(machine, module),
+            _ => Ok(()),
+        }
+    }
+
+    fn tell_event(&mut self, machine: &Machine, event: &Event) -> Result<(), Memory>
+        ensures { OnOk result (self.new ≡ tell_event machine.now event.now self.old) }
+    {
+        match event {
+            Event::Clock { to } => {
+                if self.moment <= *to && *to <= LAST_TICK {
+                    self.moment = *to;
+                }
+                Ok(())
+            }
+            Event::Jam { module } => self.go_out(machine, module),
+            Event::Off { module } => self.go_out(machine, module),
+            Event::On { module } => self.come_back(machine, module),
+            _ => Ok(()),
+        }
+    }
+
+    fn tell(&mut self, machine: &Machine, item: &Item) -> Result<(), Memory>
+        ensures { OnOk result (self.new ≡ tell machine.now item.now self.old) }
+    {
+        match item {
+            Item::Event(event) => self.tell_event(machine, event),
+            Item::Note(rec) => self.tell_record(machine, rec),
+        }
+    }
+}
+
+/// The schedule that the lines of a log tell, before the first event that moves the clock beyond the moment `until`, or all
+/// of them.
+pub fn scene_of(
+    alloc: Global,
+    machine: &Machine,
+    until: Option<Tick>,
+    items: &[Item],
+) -> Result<Scene, Memory>
+    ensures { IfOk result (λ s. s ≡ sight_of machine.now until items.now) }
+{
+    let mut scene = Scene::new(alloc);
+    let mut rest = items;
+    'items: while let [item, more @ ..] = rest {
+        if is_past(until, item) {
+            return Ok(scene);
+        }
+        scene.tell(machine, item)?;
+        rest = more;
+    }
+    Ok(scene)
+}
