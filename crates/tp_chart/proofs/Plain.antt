@@ -1,10 +1,10 @@
 -- No byte of a name has a meaning in SVG.
-use Rattle.std.proofs.Common.{◌≡◌, ℕ, Bool, true, false, ◌&&◌, ◌≤◌, List, [], ◌∷◌, length, IsTrue, refl, inl, inr, arith}
+use Rattle.std.proofs.Common.{◌≡◌, ℕ, true, ◌&&◌, List, [], ◌∷◌, length, refl, arith}
 use Rattle.std.specs.List.{list_all}
 use Rattle.std.specs.Prelude.{nat_le}
 use Rattle.std.proofs.lemmas.Bool.{and_parts, and_from}
 use Rattle.std.proofs.lemmas.Bool.Decides.{nat_tests}
-use Rattle.tp_base.specs.NameText.{is_name_byte, is_name_text}
+use Rattle.tp_base.specs.NameText.{is_name_byte}
 use Rattle.tp_words.specs.Fields.{IsName}
 use Rattle.tp_chart.specs.Pictures.{NeedsNoEscape, is_plain}
 

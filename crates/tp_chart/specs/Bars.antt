@@ -1,5 +1,5 @@
 -- The bars of a picture: the holds of a schedule, or its actions.
-use Rattle.std.specs.Prelude.{ℕ, ◌+◌, Bool, nat_le, ℤ, pos, List, [], ◌∷◌, ◌++◌, map, flat_map, find, Option, if◌then◌else◌}
+use Rattle.std.specs.Prelude.{ℕ, ◌+◌, Bool, nat_le, pos, List, [], ◌∷◌, ◌++◌, map, flat_map, find, Option, if◌then◌else◌}
 use Rattle.std.specs.Str.{bytes_eq}
 use Rattle.tp_machine.specs.Using.{begin_of, end_of}
 use Rattle.tp_machine.specs.declared.parts.Action.{Action}

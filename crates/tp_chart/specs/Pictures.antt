@@ -1,5 +1,5 @@
 -- The text of a picture: that of its bars, with something before and behind them.
-use Rattle.std.specs.Prelude.{◌≡◌, ℕ, Bool, true, false, not, ◌&&◌, ◌==◌, ◌%◌, List, [], ◌∷◌, ◌++◌, flat_map, position, codes, decimal, Option, Some, None, IsTrue, if◌then◌else◌}
+use Rattle.std.specs.Prelude.{◌≡◌, ℕ, Bool, not, ◌&&◌, ◌==◌, ◌%◌, List, [], ◌∷◌, ◌++◌, flat_map, position, codes, decimal, Option, Some, None, IsTrue, if◌then◌else◌}
 use Rattle.std.specs.List.{list_all}
 use Rattle.std.specs.Fmt.{signed_decimal}
 use Rattle.std.specs.Str.{bytes_eq}

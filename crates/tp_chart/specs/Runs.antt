@@ -1,5 +1,5 @@
 -- What a run read and what it wrote, and when each status comes.
-use Rattle.std.specs.Prelude.{◌≡◌, ℕ, ◌<◌, ◌≤◌, Bool, ◌||◌, List, ◌++◌, length, Option, Some, None, IfSome, IsTrue, true, false}
+use Rattle.std.specs.Prelude.{◌≡◌, ℕ, ◌<◌, ◌≤◌, Bool, ◌||◌, List, ◌++◌, length, Option, Some, IfSome, true, false}
 use Rattle.std.specs.Option.{IsSomeAnd}
 use Rattle.tp_outside.specs.Outside.{Files, file_at}
 use Rattle.tp_machine.specs.declared.whole.Machine.{Machine}

@@ -1,4 +1,4 @@
-use Rattle.std.proofs.Common.{◌≡◌, ◌∙◌, ap, sym, refl, List, [], ◌∷◌, Option, Some, None, if◌then◌else◌}
+use Rattle.std.proofs.Common.{◌≡◌, ◌∙◌, ap, sym, refl, List, [], ◌∷◌, Option, None, if◌then◌else◌}
 use Rattle.clap.specs.Words.{Kinds, Text, fault_of, matches_of}
 use Rattle.tp_chart.specs.Words.{Asked, asked_in, chart, chart_asked, is_none}
 use Rattle.tp_chart.proofs.words.read_words.Goals as goal
