@@ -1,23 +1,21 @@
 -- What stands after going back to a mark.
-use Rattle.std.proofs.Common.{◌≡◌, ℕ, ◌<◌, ◌≤◌, List, length, take, drop, Some, sym, ap, ◌∙◌, subst}
+use Rattle.std.proofs.Common.{◌≡◌, ℕ, ◌≤◌, List, length, take, drop, Some, sym, ap, ◌∙◌, subst}
 use Rattle.std.proofs.lemmas.Option.{slice_get-map}
 use Rattle.std.proofs.lemmas.List.{length-take-le}
 use Rattle.std.specs.List.{All, slice_get}
 use Rattle.std.specs.Option.{option_map}
 use Rattle.tp_base.specs.declared.edges.Edge.{Edge}
 use Rattle.tp_base.specs.Net.{Net}
-use Rattle.tp_base.proofs.SliceFacts.{found, All-at}
+use Rattle.tp_base.proofs.SliceFacts.{All-at}
 use Rattle.tp_stn_core.specs.declared.marks.PlainMark.{PlainMark}
 use Rattle.tp_stn_core.specs.declared.saving.SavedLow.{SavedLow}
 use Rattle.tp_stn_core.specs.Saved.{restored}
-use Rattle.tp_stn_core.specs.Marks.{net_at, past_of, IsAt, AreStacked}
+use Rattle.tp_stn_core.specs.Marks.{net_at, past_of, AreStacked}
 use Rattle.tp_stn_core.specs.Sound.{IsSound}
 use Rattle.tp_stn_core.proofs.SavedFacts.{length-restored}
 use Rattle.tp_stn_core.proofs.PastFacts.{same_net}
 
-pub record Undone (marks : List PlainMark) (saved : List SavedLow) (lows caps : List ℕ) (edges : List Edge) (k : ℕ) (lows' caps' : List ℕ) (edges' : List Edge) (saved' : List SavedLow) : Type 0 where
-  pub mark : PlainMark
-  pub at : slice_get marks k ≡ Some mark
+pub record Undone (marks : List PlainMark) (saved : List SavedLow) (lows caps : List ℕ) (edges : List Edge) (mark : PlainMark) (lows' caps' : List ℕ) (edges' : List Edge) (saved' : List SavedLow) : Type 0 where
   pub net : ◌≡◌ {A = Net} (record { lows = lows'; caps = caps'; edges = edges' }) (net_at saved lows caps edges mark)
   pub sound : IsSound (record { lows = lows'; caps = caps'; edges = edges' })
   pub lows_len : length lows' ≡ mark.points
@@ -26,22 +24,17 @@ pub record Undone (marks : List PlainMark) (saved : List SavedLow) (lows caps : 
   pub points_in : mark.points ≤ length lows
   pub edges_in : mark.edges ≤ length edges
 
-pub undone : (marks : List PlainMark) (saved : List SavedLow) (lows caps : List ℕ) (edges : List Edge) (room k : ℕ) (lows' caps' : List ℕ) (edges' : List Edge) (saved' : List SavedLow) → k < length marks
-    → IsAt marks k (λ m. lows' ≡ restored (drop m.saved saved) (take m.points lows)) → IsAt marks k (λ m. caps' ≡ take m.points caps) → IsAt marks k (λ m. edges' ≡ take m.edges edges) → IsAt marks k (λ m. saved' ≡ take m.saved saved)
-    → AreStacked marks (length lows) (length edges) (length saved) room → All IsSound (past_of marks saved lows caps edges) → Undone marks saved lows caps edges k lows' caps' edges' saved'
-undone marks saved lows caps edges room k lows' caps' edges' saved' h l c e s st all =
-    let f = found marks k h in
-    let m : PlainMark = f.0 in
-    let at : slice_get marks k ≡ Some m = f.1 in
-    let net = same_net lows' (restored (drop m.saved saved) (take m.points lows)) caps' (take m.points caps) edges' (take m.edges edges) (l m at) (c m at) (e m at) in
+pub undone : (marks : List PlainMark) (saved : List SavedLow) (lows caps : List ℕ) (edges : List Edge) (room k : ℕ) (m : PlainMark) (lows' caps' : List ℕ) (edges' : List Edge) (saved' : List SavedLow) → slice_get marks k ≡ Some m
+    → lows' ≡ restored (drop m.saved saved) (take m.points lows) → caps' ≡ take m.points caps → edges' ≡ take m.edges edges → saved' ≡ take m.saved saved
+    → AreStacked marks (length lows) (length edges) (length saved) room → All IsSound (past_of marks saved lows caps edges) → Undone marks saved lows caps edges m lows' caps' edges' saved'
+undone marks saved lows caps edges room k m lows' caps' edges' saved' at l c e s st all =
+    let net = same_net lows' (restored (drop m.saved saved) (take m.points lows)) caps' (take m.points caps) edges' (take m.edges edges) l c e in
     record {
-      mark = m;
-      at = at;
       net = net;
       sound = subst IsSound (sym net) (All-at IsSound (past_of marks saved lows caps edges) k (net_at saved lows caps edges m) all (slice_get-map (net_at saved lows caps edges) marks k ∙ ap (option_map (net_at saved lows caps edges)) at));
-      lows_len = ap length (l m at) ∙ length-restored (drop m.saved saved) (take m.points lows) ∙ length-take-le m.points lows (st.points_below k m at);
-      edges_len = ap length (e m at) ∙ length-take-le m.edges edges (st.edges_below k m at);
-      saved_len = ap length (s m at) ∙ length-take-le m.saved saved (st.saved_below k m at);
+      lows_len = ap length l ∙ length-restored (drop m.saved saved) (take m.points lows) ∙ length-take-le m.points lows (st.points_below k m at);
+      edges_len = ap length e ∙ length-take-le m.edges edges (st.edges_below k m at);
+      saved_len = ap length s ∙ length-take-le m.saved saved (st.saved_below k m at);
       points_in = st.points_below k m at;
       edges_in = st.edges_below k m at;
     }

@@ -13,10 +13,6 @@ net_at saved lows caps edges m = record { lows = restored (drop m.saved saved) (
 abbrev pub past_of : List PlainMark → List SavedLow → List ℕ → List ℕ → List Edge → List Net
 past_of marks saved lows caps edges = map (net_at saved lows caps edges) marks
 
--- P of the mark at the place
-abbrev pub IsAt : List PlainMark → ℕ → (PlainMark → Type 0) → Type 0
-IsAt marks place P = (m : PlainMark) → slice_get marks place ≡ Some m → P m
-
 -- each mark stands on a part of what there is, and on no less than the marks before it
 pub record AreStacked (marks : List PlainMark) (points edges saved room : ℕ) : Type 0 where
   pub points_below : (k : ℕ) (m : PlainMark) → slice_get marks k ≡ Some m → m.points ≤ points

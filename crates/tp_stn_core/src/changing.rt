@@ -42,18 +42,10 @@ impl Network for PlainNet {
             return Err(Full);
         }
         let number = self.lows.len() as u32;
-        let Ok(()) = self.lows.push(low) else {
-            unreachable!()
-        };
-        let Ok(()) = self.caps.push(cap) else {
-            unreachable!()
-        };
-        let Ok(()) = self.times.push(low) else {
-            unreachable!()
-        };
-        let Ok(()) = self.newest.push(0) else {
-            unreachable!()
-        };
+        self.lows.push_reserved(low);
+        self.caps.push_reserved(cap);
+        self.times.push_reserved(low);
+        self.newest.push_reserved(0);
         Ok(PointId(number))
     }
 

@@ -39,10 +39,9 @@ fn round(
     Ok(last)
 }
 
-/// Raises the times from the lower bounds until each edge is kept; or until one has to pass its upper bound, or the
-/// causes of the point that rose last lead round, and then writes what shows that there is no solution.
+/// Raises the times, which are the lower bounds at first, until each edge is kept; or until one has to pass its upper
+/// bound, or the causes of the point that rose last lead round, and then writes what shows that there is no solution.
 pub(crate) fn settle(
-    lows: &[u32],
     caps: &[u32],
     edges: &[Edge],
     times: &mut [u32],
@@ -50,18 +49,17 @@ pub(crate) fn settle(
     path: &mut Vec<Edge>,
     places: &mut Vec<usize>,
 ) -> Result<(), Kept>
-    requires start { times.old ≡ lows.now }
     requires causeless { (v : ℕ) → cause_of causes.old v ≡ None }
-    requires causes { length causes.old ≡ length lows.now }
-    requires caps { length caps.now ≡ length lows.now }
-    requires known { All (IsKnown (length lows.now)) edges.now }
-    requires within { AreWithin caps.now lows.now }
-    requires path_room { length lows.now ≤ vec_capacity path.old }
-    requires places_room { length lows.now ≤ vec_capacity places.old }
-    ensures least { OnOk result (IsLeast (net_of lows.now caps.now edges.now)
+    requires causes { length causes.old ≡ length times.old }
+    requires caps { length caps.now ≡ length times.old }
+    requires known { All (IsKnown (length times.old)) edges.now }
+    requires within { AreWithin caps.now times.old }
+    requires path_room { length times.old ≤ vec_capacity path.old }
+    requires places_room { length times.old ≤ vec_capacity places.old }
+    ensures least { OnOk result (IsLeast (net_of times.old caps.now edges.now)
         (slice_index times.new)) }
     ensures refuted { IfErr result
-        (λ kept. KeptRefutes (net_of lows.now caps.now edges.now) kept path.new.items) }
+        (λ kept. KeptRefutes (net_of times.old caps.now edges.now) kept path.new.items) }
     ensures path_kept { vec_capacity path.old ≤ vec_capacity path.new }
     ensures places_kept { vec_capacity places.old ≤ vec_capacity places.new }
 {

@@ -41,9 +41,7 @@ pub(crate) fn save(
     let at = point.0 as usize;
     let older = newest[at];
     if is_due(marks, older) {
-        let Ok(()) = saved.push(SavedLow { point, low, older }) else {
-            unreachable!()
-        };
+        saved.push_reserved(SavedLow { point, low, older });
         newest[at] = saved.len();
     }
 }

@@ -73,7 +73,6 @@ pub(crate) fn solve(
 {
     fill(lows, &mut working.times, &mut working.causes);
     settle(
-        lows,
         caps,
         edges,
         &mut working.times,

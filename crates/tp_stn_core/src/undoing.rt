@@ -1,5 +1,4 @@
-ghost use Rattle.std.specs.Prelude.{◌≡◌, ℕ, ◌<◌, ◌≤◌, length, take, drop, vec_capacity};
-ghost use Rattle.tp_stn_core.specs.Marks.{IsAt};
+ghost use Rattle.std.specs.Prelude.{◌≡◌, ◌≤◌, length, take, drop, vec_capacity};
 ghost use Rattle.tp_stn_core.specs.Saved.{restored, relinked};
 
 use crate::marks::PlainMark;
@@ -16,38 +15,28 @@ fn restore(
     edges: &mut Vec<Edge>,
     saved: &mut Vec<SavedLow>,
     newest: &mut Vec<usize>,
-    marks: &mut Vec<PlainMark>,
-    place: usize,
+    mark: &PlainMark,
 )
-    requires known { place < length marks.old.items }
     requires same { length newest.old.items ≡ length lows.old.items }
-    requires before { IsAt marks.old.items place (λ m. m.saved ≤ length saved.old.items) }
-    ensures lows { IsAt marks.old.items place
-        (λ m. lows.new.items ≡ restored (drop m.saved saved.old.items)
-        (take m.points lows.old.items)) }
-    ensures caps { IsAt marks.old.items place (λ m. caps.new.items ≡ take m.points caps.old.items) }
-    ensures edges { IsAt marks.old.items place
-        (λ m. edges.new.items ≡ take m.edges edges.old.items) }
-    ensures saved { IsAt marks.old.items place
-        (λ m. saved.new.items ≡ take m.saved saved.old.items) }
-    ensures newest { IsAt marks.old.items place
-        (λ m. newest.new.items ≡ relinked (drop m.saved saved.old.items)
-        (take m.points newest.old.items)) }
-    ensures marks { marks.new.items ≡ take place marks.old.items }
+    requires before { mark.now.saved ≤ length saved.old.items }
+    ensures lows { lows.new.items ≡ restored (drop mark.now.saved saved.old.items)
+        (take mark.now.points lows.old.items) }
+    ensures caps { caps.new.items ≡ take mark.now.points caps.old.items }
+    ensures edges { edges.new.items ≡ take mark.now.edges edges.old.items }
+    ensures saved { saved.new.items ≡ take mark.now.saved saved.old.items }
+    ensures newest { newest.new.items ≡ relinked (drop mark.now.saved saved.old.items)
+        (take mark.now.points newest.old.items) }
     ensures lows_room { vec_capacity lows.new ≡ vec_capacity lows.old }
     ensures caps_room { vec_capacity caps.new ≡ vec_capacity caps.old }
     ensures edges_room { vec_capacity edges.new ≡ vec_capacity edges.old }
     ensures saved_room { vec_capacity saved.new ≡ vec_capacity saved.old }
     ensures newest_room { vec_capacity newest.new ≡ vec_capacity newest.old }
-    ensures marks_room { vec_capacity marks.new ≡ vec_capacity marks.old }
 {
-    let at = marks[place];
-    lows.truncate(at.points as usize);
-    newest.truncate(at.points as usize);
-    caps.truncate(at.points as usize);
-    edges.truncate(at.edges as usize);
-    marks.truncate(place);
-    put_back(saved, lows, newest, at.saved);
+    lows.truncate(mark.points as usize);
+    newest.truncate(mark.points as usize);
+    caps.truncate(mark.points as usize);
+    edges.truncate(mark.edges as usize);
+    put_back(saved, lows, newest, mark.saved);
 }
 
 impl Undo for PlainNet {
@@ -78,22 +67,21 @@ impl Undo for PlainNet {
             edges: self.edges.len() as u32,
             saved: self.saved.len(),
         };
-        let Ok(()) = self.marks.push(mark) else {
-            unreachable!()
-        };
+        self.marks.push_reserved(mark);
         Mark(number)
     }
 
     fn undo_to(&mut self, mark: Mark) {
+        let place = mark.0 as usize;
         restore(
             &mut self.lows,
             &mut self.caps,
             &mut self.edges,
             &mut self.saved,
             &mut self.newest,
-            &mut self.marks,
-            mark.0 as usize,
+            &self.marks[place],
         );
+        self.marks.truncate(place);
         let Ok(()) = solve(&self.lows, &self.caps, &self.edges, &mut self.working) else {
             unreachable!()
         };

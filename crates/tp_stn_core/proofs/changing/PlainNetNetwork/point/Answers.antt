@@ -11,24 +11,24 @@ use Rattle.tp_stn_core.proofs.StackFacts.{stacked_grown}
 use Rattle.tp_stn_core.proofs.KeepFacts.{saved_pointed}
 use Rattle.tp_stn_core.proofs.PastFacts.{past_point}
 use Rattle.tp_stn_core.proofs.changing.PlainNetNetwork.point.Goals as goal
-use Rattle.tp_stn_core.proofs.changing.PlainNetNetwork.point.Goals.{In-Ok-push-3}
+use Rattle.tp_stn_core.proofs.changing.PlainNetNetwork.point.Goals.{After-push_reserved-4}
 
-solved : (c : In-Ok-push-3) → IsLeast (net_of c.push.new.self.items c.push-2.new.self.items c.self.inside.edges.items) (slice_index c.push-3.new.self.items)
+solved : (c : After-push_reserved-4) → IsLeast (net_of c.push_reserved.new.self.items c.push_reserved-2.new.self.items c.self.inside.edges.items) (slice_index c.push_reserved-3.new.self.items)
 solved c =
     let inv = c.self.invariant in
     let a = c.self.inside in
-    rw (c.in-Ok.ensures.items, c.in-Ok-push.ensures.items, c.in-Ok-push-2.ensures.items)
+    rw (c.push_reserved.ensures.items, c.push_reserved-2.ensures.items, c.push_reserved-3.ensures.items)
     (point_least a.lows.items a.caps.items a.times.items a.edges.items c.args.low c.args.cap inv.sound.caps inv.times c.requires inv.sound.known inv.least)
 
 pub returns-clause-solved : goal.returns-clause-solved
-returns-clause-solved c = (slice_index c.push-3.new.self.items, solved c)
+returns-clause-solved c = (slice_index c.push_reserved-3.new.self.items, solved c)
 
 pub returns-clause-past : goal.returns-clause-past
 returns-clause-past c =
     let a = c.self.inside in
     let inv = c.self.invariant in
-    ap (λ ls. past_of a.marks.items a.saved.items ls c.push-2.new.self.items a.edges.items) c.in-Ok.ensures.items
-    ∙ ap (λ cs. past_of a.marks.items a.saved.items (a.lows.items ++ c.args.low ∷ []) cs a.edges.items) c.in-Ok-push.ensures.items
+    ap (λ ls. past_of a.marks.items a.saved.items ls c.push_reserved-2.new.self.items a.edges.items) c.push_reserved.ensures.items
+    ∙ ap (λ cs. past_of a.marks.items a.saved.items (a.lows.items ++ c.args.low ∷ []) cs a.edges.items) c.push_reserved-2.ensures.items
     ∙ past_point a.marks.items a.saved.items a.lows.items a.caps.items a.edges.items a.point_room inv.stacked c.args.low c.args.cap inv.sound.caps
     ∙ ap (λ (s : PlainState). s.past) c.self.view_is
 
@@ -36,21 +36,21 @@ pub invariant_of-self : goal.invariant_of-self
 invariant_of-self c =
     let inv = c.self.invariant in
     let a = c.self.inside in
-    let el = c.in-Ok.ensures.items in
-    let ec = c.in-Ok-push.ensures.items in
+    let el = c.push_reserved.ensures.items in
+    let ec = c.push_reserved-2.ensures.items in
     let nl = ap length el ∙ length-append a.lows.items (c.args.low ∷ []) in
     let nc = ap length ec ∙ length-append a.caps.items (c.args.cap ∷ []) in
-    let nt = ap length c.in-Ok-push-2.ensures.items ∙ length-append a.times.items (c.args.low ∷ []) in
+    let nt = ap length c.push_reserved-3.ensures.items ∙ length-append a.times.items (c.args.low ∷ []) in
     let n = inv.sound.caps in
     let m = inv.times in
     let p = inv.points in
     let full = c.if-len-self.false in
     let len = c.len.ensures in
     let ok = a.lows.ok.0 in
-    let k1 = c.in-Ok.ensures.capacity in
-    let k2 = c.in-Ok-push.ensures.capacity in
-    let k3 = c.in-Ok-push-2.ensures.capacity in
-    let k4 = c.in-Ok-push-3.ensures.capacity in
+    let k1 = c.push_reserved.ensures.capacity in
+    let k2 = c.push_reserved-2.ensures.capacity in
+    let k3 = c.push_reserved-3.ensures.capacity in
+    let k4 = c.push_reserved-4.ensures.capacity in
     let r1 = inv.room.lows in
     let r2 = inv.room.caps in
     let r3 = inv.room.times in
@@ -72,16 +72,16 @@ invariant_of-self c =
         marks = inv.room.marks;
       };
       stacked = stacked_grown a.marks.items _ _ _ _ _ _ _ (omega arith) (omega arith) (omega arith) inv.stacked;
-      links = rw (c.in-Ok-push-3.ensures.items, nl) (saved_pointed a.marks.items a.saved.items a.newest.items (length a.lows.items) inv.links);
+      links = rw (c.push_reserved-4.ensures.items, nl) (saved_pointed a.marks.items a.saved.items a.newest.items (length a.lows.items) inv.links);
       sound = record {
         caps = omega arith;
         within = rw (ec, el) (point_within a.lows.items a.caps.items a.times.items a.edges.items c.args.low c.args.cap n m c.requires inv.sound.known inv.sound.within);
         known = rw el (point_known a.lows.items a.caps.items a.times.items a.edges.items c.args.low c.args.cap n m c.requires inv.sound.known);
-        solved = (slice_index c.push-3.new.self.items, solved c);
+        solved = (slice_index c.push_reserved-3.new.self.items, solved c);
       };
       times = omega arith;
       least = solved c;
-      past = subst (All IsSound) (sym (ap (λ ls. past_of a.marks.items a.saved.items ls c.push-2.new.self.items a.edges.items) el
+      past = subst (All IsSound) (sym (ap (λ ls. past_of a.marks.items a.saved.items ls c.push_reserved-2.new.self.items a.edges.items) el
           ∙ ap (λ cs. past_of a.marks.items a.saved.items (a.lows.items ++ c.args.low ∷ []) cs a.edges.items) ec
           ∙ past_point a.marks.items a.saved.items a.lows.items a.caps.items a.edges.items a.point_room inv.stacked c.args.low c.args.cap n)) inv.past;
     }

@@ -3,7 +3,7 @@ use Rattle.std.specs.List.{All, slice_get}
 use Rattle.std.specs.Option.{option_map}
 use Rattle.std.proofs.lemmas.List.{length-map, length-take-le}
 use Rattle.std.proofs.lemmas.List.Elements.{All-take}
-use Rattle.std.proofs.lemmas.Option.{slice_get-map}
+use Rattle.std.proofs.lemmas.Option.{slice_get-map, slice_get-get_or}
 use Rattle.tp_base.specs.Net.{Net}
 use Rattle.tp_stn_core.specs.Marks.{net_at}
 use Rattle.tp_stn_core.specs.Sound.{IsSound}
@@ -23,11 +23,14 @@ in_force c =
     let l = length-map a.marks.items (net_at a.saved.items a.lows.items a.caps.items a.edges.items) in
     omega arith
 
-went : (c : After-restore) → Undone c.self.inside.marks.items c.self.inside.saved.items c.self.inside.lows.items c.self.inside.caps.items c.self.inside.edges.items c.args.mark.0 c.restore.new.lows.items c.restore.new.caps.items c.restore.new.edges.items c.restore.new.saved.items
+at : (c : After-restore) → slice_get c.self.inside.marks.items c.args.mark.0 ≡ Some c.index.result.now
+at c = slice_get-get_or c.self.inside.marks.items c.args.mark.0 _ (in_force c) ∙ ap Some (sym c.index.ensures)
+
+went : (c : After-restore) → Undone c.self.inside.marks.items c.self.inside.saved.items c.self.inside.lows.items c.self.inside.caps.items c.self.inside.edges.items c.index.result.now c.restore.new.lows.items c.restore.new.caps.items c.restore.new.edges.items c.restore.new.saved.items
 went c =
     let a = c.self.inside in
     let inv = c.self.invariant in
-    undone a.marks.items a.saved.items a.lows.items a.caps.items a.edges.items a.point_room c.args.mark.0 _ _ _ _ (in_force c) c.restore.ensures.lows c.restore.ensures.caps c.restore.ensures.edges c.restore.ensures.saved inv.stacked inv.past
+    undone a.marks.items a.saved.items a.lows.items a.caps.items a.edges.items a.point_room c.args.mark.0 c.index.result.now _ _ _ _ (at c) c.restore.ensures.lows c.restore.ensures.caps c.restore.ensures.edges c.restore.ensures.saved inv.stacked inv.past
 
 pub solve-requires-clause-caps : goal.solve-requires-clause-caps
 solve-requires-clause-caps c =
@@ -66,18 +69,19 @@ unreachable-requires c =
 
 pub returns-clause-content : goal.returns-clause-content
 returns-clause-content c =
-    let u = went (goal.at.returns-clause-content c).After-restore in
+    let k = (goal.at.returns-clause-content c).After-restore in
     let a = c.self.inside in
     let f = net_at a.saved.items a.lows.items a.caps.items a.edges.items in
-    ap (λ (s : PlainState). slice_get s.past c.args.mark.0) (sym c.self.view_is) ∙ slice_get-map f a.marks.items c.args.mark.0 ∙ ap (option_map f) u.at ∙ ap (λ (n : Net). Some n) (sym u.net)
+    ap (λ (s : PlainState). slice_get s.past c.args.mark.0) (sym c.self.view_is) ∙ slice_get-map f a.marks.items c.args.mark.0 ∙ ap (option_map f) (at k) ∙ ap (λ (n : Net). Some n) (sym (went k).net)
 
 pub returns-clause-past : goal.returns-clause-past
 returns-clause-past c =
-    let u = went (goal.at.returns-clause-past c).After-restore in
+    let k = (goal.at.returns-clause-past c).After-restore in
     let a = c.self.inside in
-    let m = u.mark in
-    same_past _ _ _ _ _ _ _ _ _ _ c.restore.ensures.marks (c.restore.ensures.saved m u.at) (c.restore.ensures.lows m u.at) (c.restore.ensures.caps m u.at) (c.restore.ensures.edges m u.at)
-    ∙ (past_undone a.marks.items a.saved.items a.lows.items a.caps.items a.edges.items a.point_room c.self.invariant.stacked c.args.mark.0 m u.at
+    let m = c.index.result.now in
+    let r = c.restore.ensures in
+    same_past _ _ _ _ _ _ _ _ _ _ c.truncate.ensures.items r.saved r.lows r.caps r.edges
+    ∙ (past_undone a.marks.items a.saved.items a.lows.items a.caps.items a.edges.items a.point_room c.self.invariant.stacked c.args.mark.0 m (at k)
     ∙ ap (λ (s : PlainState). take c.args.mark.0 s.past) c.self.view_is)
 
 pub invariant_of-self : goal.invariant_of-self
@@ -86,12 +90,13 @@ invariant_of-self c =
     let u = went k in
     let inv = c.self.invariant in
     let a = c.self.inside in
-    let m = u.mark in
+    let m = c.index.result.now in
+    let here = at k in
     let force = in_force k in
-    let em = c.restore.ensures.marks in
+    let em = c.truncate.ensures.items in
     let nm = ap length em ∙ length-take-le c.args.mark.0 a.marks.items (omega arith) in
-    let p : length c.restore.new.marks.items * a.point_room ≡ c.args.mark.0 * a.point_room = ap (λ i. i * a.point_room) nm in
-    let b = inv.stacked.in_room c.args.mark.0 m u.at in
+    let p : length c.truncate.new.self.items * a.point_room ≡ c.args.mark.0 * a.point_room = ap (λ i. i * a.point_room) nm in
+    let b = inv.stacked.in_room c.args.mark.0 m here in
     let least = rw (c.deref.ensures.value, c.deref-2.ensures.value, c.deref-3.ensures.value) at c.in-Ok.ensures.least in
     let l1 = u.lows_len in
     let l2 = u.edges_len in
@@ -106,7 +111,7 @@ invariant_of-self c =
     let r2 = c.restore.ensures.caps_room in
     let r3 = c.restore.ensures.edges_room in
     let r4 = c.restore.ensures.saved_room in
-    let r5 = c.restore.ensures.marks_room in
+    let r5 = c.truncate.ensures.capacity in
     let r6 = c.restore.ensures.newest_room in
     let x = c.swap.ensures.x_after in
     let xc = ap (λ v. vec_capacity v) x in
@@ -129,11 +134,11 @@ invariant_of-self c =
         newest = omega arith;
         marks = omega arith;
       };
-      stacked = rw (em, l1, l2, l3) (stacked_undone a.marks.items (length a.lows.items) (length a.edges.items) (length a.saved.items) a.point_room c.args.mark.0 m u.at inv.stacked);
-      links = same_saved _ _ _ _ _ _ _ _ em (c.restore.ensures.saved m u.at) (c.restore.ensures.newest m u.at) l1 (saved_undone a.marks.items a.saved.items a.newest.items (length a.lows.items) (length a.edges.items) a.point_room c.args.mark.0 m u.at inv.stacked inv.links);
+      stacked = rw (em, l1, l2, l3) (stacked_undone a.marks.items (length a.lows.items) (length a.edges.items) (length a.saved.items) a.point_room c.args.mark.0 m here inv.stacked);
+      links = same_saved _ _ _ _ _ _ _ _ em c.restore.ensures.saved c.restore.ensures.newest l1 (saved_undone a.marks.items a.saved.items a.newest.items (length a.lows.items) (length a.edges.items) a.point_room c.args.mark.0 m here inv.stacked inv.links);
       sound = u.sound;
       times = ap (λ v. length v.items) x ∙ c.in-Ok.ensures.len ∙ ap length c.deref.ensures.value;
       least = rw x least;
-      past = subst (All IsSound) (sym (same_past _ _ _ _ _ _ _ _ _ _ em (c.restore.ensures.saved m u.at) (c.restore.ensures.lows m u.at) (c.restore.ensures.caps m u.at) (c.restore.ensures.edges m u.at)
-          ∙ past_undone a.marks.items a.saved.items a.lows.items a.caps.items a.edges.items a.point_room inv.stacked c.args.mark.0 m u.at)) (All-take IsSound c.args.mark.0 _ inv.past);
+      past = subst (All IsSound) (sym (same_past _ _ _ _ _ _ _ _ _ _ em c.restore.ensures.saved c.restore.ensures.lows c.restore.ensures.caps c.restore.ensures.edges
+          ∙ past_undone a.marks.items a.saved.items a.lows.items a.caps.items a.edges.items a.point_room inv.stacked c.args.mark.0 m here)) (All-take IsSound c.args.mark.0 _ inv.past);
     }
