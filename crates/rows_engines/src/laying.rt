@@ -149,24 +149,31 @@ fn put<N: Network>(
     }
 }
 
-/// Lays one choice more, behind which there are so many others: an action, its room and the place of its hold.
+/// A way that is laid: the state at which it begins, and how many choices it has.
+#[derive(Clone, Copy)]
+pub(crate) struct Laid {
+    pub(crate) first: State,
+    pub(crate) many: u32,
+}
+
+/// Lays one choice more before those of the way: an action, its room and the place of its hold. Gives the state at which
+/// the way then begins.
 fn lay_next<N: Network>(
     board: &mut Board<N>,
     rooms: &Rooms,
     machine: &Machine,
     ask: &Ask,
-    state: State,
-    others: u32,
+    way: Laid,
     choice: (ActId, u32, u32),
 ) -> Result<State, Fail>
     requires table { IsTableFor rooms.now machine.now }
     requires rooms { AreRooms machine.now ask.now rooms.now.sums }
     requires kept { kept_of ask.now ≤ 10 }
-    requires laid { IsLaid N.net N.content N.past board.old machine.now ask.now state others }
-    requires few { others ≤ 50 }
+    requires laid { IsLaid N.net N.content N.past board.old machine.now ask.now way.first way.many }
+    requires few { way.many ≤ 50 }
     ensures laid { IfOk result
         (λ before. IsLaid N.net N.content N.past board.new machine.now ask.entry.now before
-        (others + 1)) }
+        (way.many + 1)) }
     ensures same { IsSameLoad board.old board.new }
     ensures past { past_of N.past board.new ≡ past_of N.past board.old }
 {
@@ -174,7 +181,7 @@ fn lay_next<N: Network>(
     if u32::from(act.0) >= machine.actions.len() {
         return Err(Fail::from("the action is lost"));
     }
-    let before = state_before(rooms, machine, ask, state, act, room)?;
+    let before = state_before(rooms, machine, ask, way.first, act, room)?;
     put(board, machine, act, room, place)?;
     Ok(before)
 }
@@ -185,24 +192,23 @@ pub(crate) fn bound_with<N: Network>(
     rooms: &Rooms,
     machine: &Machine,
     ask: &Ask,
-    state: State,
-    others: u32,
+    way: Laid,
     choice: (ActId, u32, u32),
 ) -> Result<Tick, Fail>
     requires table { IsTableFor rooms.now machine.now }
     requires rooms { AreRooms machine.now ask.now rooms.now.sums }
     requires kept { kept_of ask.now ≤ 10 }
-    requires laid { IsLaid N.net N.content N.past board.old machine.now ask.now state others }
-    requires few { others ≤ 50 }
+    requires laid { IsLaid N.net N.content N.past board.old machine.now ask.now way.first way.many }
+    requires few { way.many ≤ 50 }
     ensures { OnOk result
-        (IsLaid N.net N.content N.past board.new machine.now ask.entry.now state others) }
+        (IsLaid N.net N.content N.past board.new machine.now ask.entry.now way.first way.many) }
 {
     marks_keep_boards::<N>();
     if board.spare_marks() == 0 {
         return Err(Fail::from("no mark is left"));
     }
     let mark = board.mark();
-    lay_next(board, rooms, machine, ask, state, others, choice)?;
+    lay_next(board, rooms, machine, ask, way, choice)?;
     let bound = board.end_bound();
     board.undo_to(mark);
     Ok(bound)
@@ -303,7 +309,8 @@ pub(crate) fn lay<N: Network>(
 {
     let mut first = goal;
     'choices: for at in 0..way.len() {
-        first = lay_next(board, rooms, machine, ask, first, at as u32, way[at])?;
+        let many = at as u32;
+        first = lay_next(board, rooms, machine, ask, Laid { first, many }, way[at])?;
     }
     Ok(first)
 }

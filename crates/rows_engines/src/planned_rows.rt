@@ -8,7 +8,9 @@ ghost use Rattle.tp_schedule.specs.declared.parts.Origin.TheVariants.{Feeder};
 ghost use Rattle.rows_engines.specs.Laying.{IsLaid};
 
 use crate::by_hand::{FEED, OUT, PRINT1, PRINT2, ask_for, goal_of, name_of};
-use crate::laying::{begin, bound_with, bounds_where_late, follow, is_askable, lay, tried_at};
+use crate::laying::{
+    Laid, begin, bound_with, bounds_where_late, follow, is_askable, lay, tried_at,
+};
 use std::alloc::Global;
 use std::process::Abort;
 use std::test::Fail;
@@ -209,12 +211,13 @@ fn bounds_of<N: Network>(
     ensures made { OnOk result (IsMadeFor board.new.made_for machine.now) }
     ensures table { OnOk result (IsTableFor rooms.new machine.now) }
 {
-    let (ask, state) = second_begun(alloc, board, rooms, machine, way)?;
+    let (ask, first) = second_begun(alloc, board, rooms, machine, way)?;
     let bound = board.end_bound();
-    let others = way.len() as u32;
+    let many = way.len() as u32;
+    let laid = Laid { first, many };
     let [one, other] = choices;
-    let with_one = bound_with(board, rooms, machine, &ask, state, others, one)?;
-    let with_other = bound_with(board, rooms, machine, &ask, state, others, other)?;
+    let with_one = bound_with(board, rooms, machine, &ask, laid, one)?;
+    let with_other = bound_with(board, rooms, machine, &ask, laid, other)?;
     Ok([bound, with_one, with_other])
 }
 
