@@ -12,3 +12,4 @@ pub mod TrackFacts
 pub mod SortFacts
 pub mod SlotFacts
 pub mod KeptFacts
+pub mod KeyFacts

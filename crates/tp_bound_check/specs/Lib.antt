@@ -6,3 +6,4 @@ pub mod Ranges
 pub mod Stands
 pub mod Branches
 pub mod Looks
+pub mod Keys

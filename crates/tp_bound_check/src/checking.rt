@@ -10,12 +10,13 @@ ghost use Rattle.tp_trees.specs.declared.claim.TreeFlaw.TheVariants.{Memory as N
 use crate::kept::{goal_states, kept_orders, live_part};
 use crate::orders::Scene;
 use crate::rows::Rows;
+use crate::sheets::Sheets;
 use crate::table::Table;
 use std::alloc::Global;
 use tp_base::Memory;
 use tp_bounds::BoundTree;
 use tp_machine::Machine;
-use tp_schedule::{Ask, Plan, Schedule};
+use tp_schedule::{Ask, Schedule};
 use tp_trees::{Claim, TreeFlaw, flawless_trees_are_bound, trees_show_bounds};
 
 /// The last tick that is claimed to be too early, or the horizon.
@@ -38,7 +39,7 @@ fn wanting(_memory: Memory) -> TreeFlaw
 fn check_kept(
     alloc: Global,
     rows: &Rows,
-    plans: &[Plan],
+    plans: &Sheets,
     limit: i64,
     tree: &BoundTree,
 ) -> Result<(), TreeFlaw>
@@ -51,7 +52,7 @@ fn check_kept(
         rows.now.ask.now tree.now.rows limit 0 (goals_due rows.now.machine.now plans.now
         rows.now.ask.now tree.now.rows limit) tree.now.nodes)) }
 {
-    let orders = match kept_orders(alloc, rows.machine, plans) {
+    let orders = match kept_orders(alloc, rows.machine, plans.as_slice()) {
         Ok(orders) => orders,
         Err(memory) => return Err(wanting(memory)),
     };
@@ -72,7 +73,7 @@ fn check_kept(
 fn check_tree(
     alloc: Global,
     machine: &Machine,
-    plans: &[Plan],
+    plans: &Sheets,
     ask: &Ask,
     limit: i64,
     tree: &BoundTree,
@@ -128,5 +129,5 @@ pub fn check_bound(
         Err(memory) => return Err(wanting(memory)),
     };
     let limit = limit_of(machine, ask, claim);
-    check_tree(alloc, machine, plans.as_slice(), ask, limit, tree)
+    check_tree(alloc, machine, &plans, ask, limit, tree)
 }

@@ -17,7 +17,7 @@ ghost use Rattle.tp_trees.specs.Places.{next_rule};
 use crate::branch::Branch;
 use crate::found::{Cut, Ends, Track};
 use crate::hops::{duration_gap, line_gap};
-use crate::naming::{plan_of, resource_of, spot_of, start_of};
+use crate::naming::{resource_of, spot_of, start_of};
 use crate::orders::{Scene, rule_law};
 use crate::points::{Gap, Point, Slot};
 use crate::stands::{Span, Stand};
@@ -122,7 +122,7 @@ impl<'a> Scene<'a> {
         let low = match point.copy() {
             Some(copy) => {
                 let floor = u64::from(ask.now) + u64::from(machine.lead);
-                low_in(floor, plan_of(self.plans, copy), point.at())
+                low_in(floor, self.plans.plan_of(copy), point.at())
             }
             None => start_floor(machine, ask) + u64::from(branch.room(point.at())),
         };
@@ -139,7 +139,7 @@ impl<'a> Scene<'a> {
         let ask = self.rows.ask;
         let horizon = u64::from(ask.now) + u64::from(machine.window);
         match point.copy() {
-            Some(copy) => cap_in(horizon, plan_of(self.plans, copy), point.at()) as i64,
+            Some(copy) => cap_in(horizon, self.plans.plan_of(copy), point.at()) as i64,
             None => {
                 if point.at() == 0 {
                     self.limit

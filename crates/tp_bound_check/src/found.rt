@@ -1,6 +1,6 @@
 //! Where the holds of two actions stand in the order of a resource.
 ghost use Rattle.std.specs.Prelude.{◌≡◌, ◌+◌, ◌<◌, ◌≤◌, ◌^◌, ◌==◌, List, All, insert, length, min, if◌then◌else◌};
-ghost use Rattle.tp_bound_check.specs.Founds.{IsBelow, IsTrack, earlier, found_in, gap_out, is_outside, put_found, shifted, track_of};
+ghost use Rattle.tp_bound_check.specs.Founds.{IsBelow, IsTrack, earlier, gap_out, is_outside, put_found, shifted, track_of};
 ghost use Rattle.tp_bound_check.specs.Points.{HasOffsets};
 ghost use Rattle.tp_schedule.specs.Choices.{put_places};
 ghost use Rattle.tp_schedule.specs.Spots as spots;
@@ -43,23 +43,6 @@ pub(crate) struct Track {
 pub(crate) struct Cut {
     pub(crate) lo: u64,
     pub(crate) hi: u64,
-}
-
-/// The first hold of the action that starts at the point.
-pub(crate) fn found_in(start: Point, slots: &[Slot]) -> Option<Found>
-    ensures found { result ≡ found_in start slots.now }
-    ensures below { IsBelow (length slots.now) result }
-{
-    'slots: for at in 0..slots.len() {
-        let slot = slots[at];
-        if slot.from.is(start) {
-            return Some(Found {
-                at: at as u64,
-                slot,
-            });
-        }
-    }
-    None
 }
 
 fn earlier(at: u64, slot: Slot, other: Option<Found>) -> Option<Found>

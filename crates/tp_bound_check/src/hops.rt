@@ -14,9 +14,10 @@ ghost use Rattle.tp_schedule.specs.Choices.{Choice};
 ghost use Rattle.tp_schedule.specs.declared.parts.Plan.{Plan};
 
 use crate::branch::Branch;
-use crate::naming::{act_from, plan_of};
+use crate::naming::act_from;
 use crate::points::{Gap, Point, Slot};
 use crate::ranges::{Range, range_of};
+use crate::sheets::Sheets;
 use std::marker::Model;
 use tp_machine::{Anchor, HoldRule, LocId, Machine, gap_between};
 use tp_schedule::{Ask, Goal, Kind, Plan, SheetId, is_earlier};
@@ -56,7 +57,7 @@ fn is_next(at: u32, next: u32) -> bool
     u64::from(next) == u64::from(at) + 1
 }
 
-fn kept_gap(machine: &Machine, plans: &[Plan], from: Point, to: Point, copy: SheetId) -> Option<Gap>
+fn kept_gap(machine: &Machine, plans: &Sheets, from: Point, to: Point, copy: SheetId) -> Option<Gap>
     requires from { copy_in from ≡ Some copy }
     requires to { copy_in to ≡ Some copy }
     ensures { (branch : List Choice) → result ≡ duration_gap machine.now plans.now branch from to }
@@ -92,7 +93,7 @@ fn own_gap(machine: &Machine, branch: &Branch, from: Point, to: Point) -> Option
 /// From a point to the next of the same plan, or back.
 pub(crate) fn duration_gap(
     machine: &Machine,
-    plans: &[Plan],
+    plans: &Sheets,
     branch: &Branch,
     from: Point,
     to: Point,
@@ -151,11 +152,11 @@ fn arrival_in(at: u32, plan: Option<&Plan>) -> Option<Arrival>
     }
 }
 
-fn arrival_of(ask: &Ask, plans: &[Plan], point: Point) -> Option<Arrival>
+fn arrival_of(ask: &Ask, plans: &Sheets, point: Point) -> Option<Arrival>
     ensures { result ≡ arrival_of ask.entry.now plans.now point }
 {
     match point.copy() {
-        Some(copy) => arrival_in(point.at(), plan_of(plans, copy)),
+        Some(copy) => arrival_in(point.at(), plans.plan_of(copy)),
         None => {
             if point.at() == 0 {
                 arrival_at(ask.sheet, ask.goal)
@@ -176,7 +177,7 @@ fn is_next_arrival(one: Option<Arrival>, other: Option<Arrival>) -> bool
 }
 
 /// On one line a later copy ends at least a tick later.
-pub(crate) fn line_gap(ask: &Ask, plans: &[Plan], from: Point, to: Point) -> Option<Gap>
+pub(crate) fn line_gap(ask: &Ask, plans: &Sheets, from: Point, to: Point) -> Option<Gap>
     ensures { result ≡ line_gap ask.entry.now plans.now from to }
 {
     if is_next_arrival(arrival_of(ask, plans, from), arrival_of(ask, plans, to)) {

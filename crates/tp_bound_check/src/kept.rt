@@ -11,6 +11,7 @@ ghost use Rattle.tp_trees.specs.Claims.{live_part};
 ghost use Rattle.tp_trees.specs.Places.{goal_states, is_done_wanted, is_purge, states_at};
 
 use crate::orders::Order;
+use crate::sheets::Sheets;
 use crate::sorting::kept_order;
 use std::alloc::Global;
 use tp_base::Memory;
@@ -52,7 +53,7 @@ fn keep_all(
 }
 
 /// The plans that are live, and the asked copy's front.
-pub(crate) fn live_part(
+fn live_plans(
     alloc: Global,
     machine: &Machine,
     ask: &Ask,
@@ -64,6 +65,21 @@ pub(crate) fn live_part(
 {
     schedule.ordered();
     keep_all(alloc, machine, ask, schedule)
+}
+
+/// The same, to be looked up.
+pub(crate) fn live_part(
+    alloc: Global,
+    machine: &Machine,
+    ask: &Ask,
+    schedule: &Schedule,
+) -> Result<Sheets, Memory>
+    ensures plans { IfOk result (λ plans. plans ≡ live_part machine.now ask.entry.now
+        schedule.now.plans) }
+    ensures ordered { IfOk result IsOrdered }
+{
+    let plans = live_plans(alloc, machine, ask, schedule)?;
+    Sheets::new(alloc, plans)
 }
 
 /// The orders of the holds of the plans, resource by resource.
@@ -79,7 +95,7 @@ pub(crate) fn kept_orders(
     let mut orders = Vec::new(alloc);
     'resources: for at in 0..machine.resources.len() as u16 {
         let slots = kept_order(alloc, machine, ResId(at), plans)?;
-        orders.push(Order::new(slots)?)?;
+        orders.push(Order::new(alloc, slots)?)?;
     }
     Ok(orders)
 }

@@ -1,7 +1,8 @@
 //! Orders of resources with the holds of a branch.
-ghost use Rattle.std.specs.Prelude.{◌≡◌, ◌<◌, ◌≤◌, ◌^◌, length, Some, IfOk, All};
+ghost use Rattle.std.specs.Prelude.{◌≡◌, ◌<◌, ◌≤◌, ◌^◌, length, map, Some, IfOk, All};
 ghost use Rattle.tp_bound_check.specs.Branches.{newest_in};
-ghost use Rattle.tp_bound_check.specs.Founds.{IsTrack, track_of};
+ghost use Rattle.tp_bound_check.specs.Founds.{IsBelow, IsTrack, found_in, track_of};
+ghost use Rattle.tp_bound_check.specs.Keys.{start_key};
 ghost use Rattle.tp_bound_check.specs.Points.{HasOffsets};
 ghost use Rattle.tp_bound_check.specs.Stands.{AreOrders};
 ghost use Rattle.tp_constraints.specs.Suffixes.{order_in};
@@ -13,48 +14,84 @@ ghost use Rattle.tp_schedule.specs.Timetables.{IsOrdered};
 ghost use Rattle.tp_trees.specs.Places.{next_rule};
 
 use crate::branch::Branch;
-use crate::found::{Ends, Leg, Track, found_in};
+use crate::found::{Ends, Found, Leg, Track};
+use crate::index::{StartKey, places_of, start_key};
 use crate::points::{Point, Slot};
 use crate::rows::Rows;
+use crate::sheets::Sheets;
+use std::alloc::Global;
+use std::collections::HashMap;
 use std::marker::Model;
 use tp_base::Memory;
 use tp_machine::{ActId, HoldRule, Machine, machine_law};
-use tp_schedule::Plan;
 
-/// The order of a resource.
+/// The order of a resource, with the places of its holds by the points where their actions start.
 #[derive(Drop)]
 pub(crate) struct Order {
     slots: Vec<Slot>,
+    by_start: HashMap<StartKey, usize>,
 }
 
 impl Model for Order {
     ghost use Rattle.std.specs.Prelude.{List, ◌<◌, ◌^◌, vec_len};
+    ghost use Rattle.std.specs.HashMap.{get};
+    ghost use Rattle.tp_bound_check.specs.Keys.{AreByStart};
     ghost use Rattle.tp_schedule.specs.Spots as spots;
 
     ghost Value = { List spots.Slot };
 
     ghost view = { λ o. o.slots.items };
 
-    ghost invariant = { λ o. vec_len o.slots < 2 ^ 32 };
+    ghost invariant = { λ o. (vec_len o.slots < 2 ^ 32) × AreByStart
+        (get ⟦<StartKey as PartialEq>⟧.eq o.by_start) o.slots.items };
+}
+
+/// The points where the actions of the holds start.
+fn start_keys(alloc: Global, slots: &[Slot]) -> Result<Vec<StartKey>, Memory>
+    ensures { IfOk result (λ keys. keys.items ≡ map (λ s. start_key s.from) slots.now) }
+{
+    Ok(
+        slots
+            .iter()
+            .map(|slot| start_key(slot.from))
+            .collect(alloc)?,
+    )
 }
 
 impl Order {
     /// An order of fewer than 2^32 holds. More would want more memory than there is.
-    pub(crate) fn new(slots: Vec<Slot>) -> Result<Order, Memory>
+    pub(crate) fn new(alloc: Global, slots: Vec<Slot>) -> Result<Order, Memory>
         ensures { IfOk result (λ order. order ≡ slots.items) }
     {
+        let keys = start_keys(alloc, slots.as_slice())?;
+        let by_start = places_of(alloc, keys.as_slice())?;
         if slots.len() < 1 << 32 {
-            Ok(Order { slots })
+            Ok(Order { slots, by_start })
         } else {
             Err(Memory)
         }
     }
 
-    fn as_slice(&self) -> &[Slot]
-        ensures slots { result.now ≡ self.now }
-        ensures few { length self.now < 2 ^ 32 }
+    /// How many holds it has.
+    fn len(&self) -> u64
+        ensures len { result ≡ length self.now }
+        ensures few { result < 2 ^ 32 }
     {
-        self.slots.as_slice()
+        self.slots.len() as u64
+    }
+
+    /// The hold of the action that starts at the point.
+    fn found(&self, start: Point) -> Option<Found>
+        ensures found { result ≡ found_in start self.now }
+        ensures below { IsBelow (length self.now) result }
+    {
+        match self.by_start.get(&start_key(start)) {
+            Some(at) => Some(Found {
+                at: *at as u64,
+                slot: self.slots[*at],
+            }),
+            None => None,
+        }
     }
 }
 
@@ -62,7 +99,7 @@ impl Order {
 #[derive(Clone, Copy)]
 pub(crate) struct Scene<'a> {
     pub(crate) rows: Rows<'a>,
-    pub(crate) plans: &'a [Plan],
+    pub(crate) plans: &'a Sheets,
     pub(crate) orders: &'a [Order],
     pub(crate) limit: i64,
     pub(crate) ghost ordered: { IsOrdered plans.now },
@@ -106,11 +143,10 @@ impl<'a> Scene<'a> {
         ensures few { result.len < 2 ^ 32 }
     {
         let order = &self.orders[usize::from(resource)];
-        let slots = order.as_slice();
         Track {
-            len: slots.len() as u64,
-            before: found_in(ends.before, slots),
-            after: found_in(ends.after, slots),
+            len: order.len(),
+            before: order.found(ends.before),
+            after: order.found(ends.after),
         }
     }
 

@@ -1,4 +1,4 @@
-use Rattle.std.proofs.Common.{w64, ◌≡◌, ◌∙◌, subst, List, Result, Ok, Err, None}
+use Rattle.std.proofs.Common.{w64, ◌≡◌, subst, List, Result, Ok, Err, None}
 use Rattle.std.specs.Prelude.{OnOk, IfOk, IfErr, ℤ}
 use Rattle.std.proofs.lemmas.Int.{to_z-of_z}
 use Rattle.tp_schedule.specs.declared.parts.Plan.{Plan}
@@ -16,8 +16,8 @@ returns-clause-tree c =
     let live = live_part m a c.args.schedule.now.plans in
     let L : ℤ → Type 0 = λ l. OnOk c.check_tree.result (tree_flaw m live a l t ≡ None) in
     let P : List Plan → Type 0 = λ ps. OnOk c.check_tree.result (tree_flaw m ps a c.limit_of-limit.result t ≡ None) in
-    let Z : ℤ → Type 0 = λ l. OnOk c.check_tree.result (tree_flaw m c.as_slice.result.now a l t ≡ None) in
-    let ok = subst L c.limit_of-limit.ensures (subst P (c.as_slice.ensures.value ∙ c.in-Ok.ensures.plans) (subst Z (to_z-of_z w64 c.limit_of-limit.result (record { sfits = c.limit_of-limit.type_inv })) c.check_tree.ensures.ok)) in
+    let Z : ℤ → Type 0 = λ l. OnOk c.check_tree.result (tree_flaw m c.in-Ok.plans a l t ≡ None) in
+    let ok = subst L c.limit_of-limit.ensures (subst P (c.in-Ok.ensures.plans) (subst Z (to_z-of_z w64 c.limit_of-limit.result (record { sfits = c.limit_of-limit.type_inv })) c.check_tree.ensures.ok)) in
     on-ok _ _ c.check_tree.result (c.flawless_trees_are_bound.ensures m live a (limit_of m a c.args.claim) t).1 ok
 
 pub returns-clause-told : goal.returns-clause-told
@@ -26,8 +26,8 @@ returns-clause-told c =
     let live = live_part m a c.args.schedule.now.plans in
     let L : ℤ → Type 0 = λ l. OnOk c.check_tree.result (tree_flaw m live a l t ≡ None) in
     let P : List Plan → Type 0 = λ ps. OnOk c.check_tree.result (tree_flaw m ps a c.limit_of-limit.result t ≡ None) in
-    let Z : ℤ → Type 0 = λ l. OnOk c.check_tree.result (tree_flaw m c.as_slice.result.now a l t ≡ None) in
-    let ok = subst L c.limit_of-limit.ensures (subst P (c.as_slice.ensures.value ∙ c.in-Ok.ensures.plans) (subst Z (to_z-of_z w64 c.limit_of-limit.result (record { sfits = c.limit_of-limit.type_inv })) c.check_tree.ensures.ok)) in
+    let Z : ℤ → Type 0 = λ l. OnOk c.check_tree.result (tree_flaw m c.in-Ok.plans a l t ≡ None) in
+    let ok = subst L c.limit_of-limit.ensures (subst P (c.in-Ok.ensures.plans) (subst Z (to_z-of_z w64 c.limit_of-limit.result (record { sfits = c.limit_of-limit.type_inv })) c.check_tree.ensures.ok)) in
     on-ok _ _ c.check_tree.result (λ e legal asked. c.trees_show_bounds.ensures.tells m c.args.schedule.now.plans a c.args.claim t legal asked ((c.flawless_trees_are_bound.ensures m live a (limit_of m a c.args.claim) t).1 e)) ok
 
 pub returns-clause-flaw : goal.returns-clause-flaw
@@ -36,5 +36,5 @@ returns-clause-flaw c =
     let live = live_part m a c.args.schedule.now.plans in
     let L : ℤ → Type 0 = λ l. IfErr c.check_tree.result (IsFlawOf (tree_flaw m live a l t)) in
     let P : List Plan → Type 0 = λ ps. IfErr c.check_tree.result (IsFlawOf (tree_flaw m ps a c.limit_of-limit.result t)) in
-    let Z : ℤ → Type 0 = λ l. IfErr c.check_tree.result (IsFlawOf (tree_flaw m c.as_slice.result.now a l t)) in
-    subst L c.limit_of-limit.ensures (subst P (c.as_slice.ensures.value ∙ c.in-Ok.ensures.plans) (subst Z (to_z-of_z w64 c.limit_of-limit.result (record { sfits = c.limit_of-limit.type_inv })) c.check_tree.ensures.flaw))
+    let Z : ℤ → Type 0 = λ l. IfErr c.check_tree.result (IsFlawOf (tree_flaw m c.in-Ok.plans a l t)) in
+    subst L c.limit_of-limit.ensures (subst P (c.in-Ok.ensures.plans) (subst Z (to_z-of_z w64 c.limit_of-limit.result (record { sfits = c.limit_of-limit.type_inv })) c.check_tree.ensures.flaw))
