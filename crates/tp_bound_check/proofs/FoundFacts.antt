@@ -69,9 +69,3 @@ insert-length [] zero s = refl
 insert-length [] (suc i) s = refl
 insert-length (x ∷ xs) zero s = omega arith
 insert-length (x ∷ xs) (suc i) s = let e = insert-length xs i s in omega (arith, e)
-
--- ---- one hold after the other
--- a hold that was found so many places further on
-abbrev pub ahead : ℕ → Option Found → Option Found
-ahead n None = None
-ahead n (Some f) = Some (record { at = n + f.at; slot = f.slot })

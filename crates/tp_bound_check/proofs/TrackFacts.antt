@@ -1,12 +1,16 @@
 -- Tracks of orders, as the orders grow, and what is between holds of a branch.
-use Rattle.std.proofs.Common.{◌≡◌, ℕ, suc, ◌+◌, ◌-◌, ◌≤◌, ◌<◌, cond, min, List, [], ◌∷◌, length, insert, sym, ◌∙◌, ap, subst, arith, AllPairs, Option, Some, None}
+use Rattle.std.proofs.Common.{◌≡◌, ℕ, zero, suc, ◌==◌, refl, ◌+◌, ◌-◌, ◌≤◌, ◌<◌, cond, min, List, [], ◌∷◌, ◌++◌, length, insert, take, get_or, sym, ◌∙◌, ap, subst, arith, AllPairs, Option, Some, None}
 use Rattle.tp_constraints.proofs.Placing.{put_places-push}
 use Rattle.tp_constraints.specs.Gaps.{Gap}
 use Rattle.tp_constraints.specs.Suffixes.{choice_slot, order_in, place_first, with_place, Suffix}
 use Rattle.tp_machine.specs.Using.{action_at}
 use Rattle.tp_machine.specs.declared.parts.HoldRule.{HoldRule}
 use Rattle.tp_machine.specs.declared.whole.Machine.{Machine}
-use Rattle.tp_schedule.specs.Choices.{Choice, placed}
+use Rattle.std.proofs.lemmas.List.{length-take-le}
+use Rattle.std.specs.List.{slice_get}
+use Rattle.tp_bound_check.proofs.ChoiceFacts.{slice-is}
+use Rattle.tp_bound_check.proofs.TableFacts.{take-one}
+use Rattle.tp_schedule.specs.Choices.{Choice, placed, put_places}
 use Rattle.tp_schedule.specs.Holding.{holds_of_act}
 use Rattle.tp_schedule.specs.Plans.{IsEarlier}
 use Rattle.tp_schedule.specs.Spots.{Slot, Spot, slot_order}
@@ -32,6 +36,27 @@ track-put b a order place s t at len before after is at-is len-is before-is afte
     let f : after ≡ found_in a (insert order place s) = after-is ∙ ap (λ k. put_found a k s t.after) m ∙ ap (put_found a (min place (length order)) s) (ap (λ (x : Track). x.after) is) ∙ sym (found-insert a order place s) in
     let G : ℕ → Option Found → Option Found → Track = λ n x y. record { len = n; before = x; after = y } in
     ap (λ n. G n before after) l ∙ ap (λ x. G (length (insert order place s)) x after) e ∙ ap (λ y. G (length (insert order place s)) (found_in b (insert order place s)) y) f
+
+-- one place more
+pub places-more : (b a : Spot) (resource : ℕ) (from to : Spot) (rules : List HoldRule) (places : List ℕ) (at : ℕ) (rule : HoldRule) (place : ℕ) (order : List Slot) (t new : Track) (d : HoldRule) → at < length rules → at < length places
+    → rule ≡ get_or rules at d → place ≡ get_or places at 0 → t ≡ track_of b a (put_places resource from to rules (take at places) order)
+    → ((o : List Slot) → t ≡ track_of b a o → new ≡ track_of b a (cond (rule.resource.0 == resource) (insert o place (record { rule = rule; from = from; to = to })) o))
+    → new ≡ track_of b a (put_places resource from to rules (take (at + 1) places) order)
+places-more b a resource from to rules places at rule place order t new d within inside rule-is place-is is put =
+    let l : length (take at places) ≡ at = length-take-le at places (omega arith) in
+    let here : slice_get rules (length (take at places)) ≡ Some rule = ap (slice_get rules) l ∙ slice-is rules at d within ∙ ap (λ r. Some r) (sym rule-is) in
+    let one : take (at + 1) places ≡ take at places ++ place ∷ [] = take-one places at place (slice-is places at 0 inside ∙ ap (λ p. Some p) (sym place-is)) in
+    put (put_places resource from to rules (take at places) order) is
+    ∙ ap (track_of b a) (sym (ap (λ ps. put_places resource from to rules ps order) one ∙ put_places-push resource from to rules (take at places) place rule order here))
+
+-- places for which there is no rule
+pub places-few : (resource : ℕ) (from to : Spot) (rules : List HoldRule) (places : List ℕ) (n : ℕ) (order : List Slot) → min (length rules) (length places) ≤ n → put_places resource from to rules (take n places) order ≡ put_places resource from to rules places order
+places-few resource from to [] places n order le = refl
+places-few resource from to (rule ∷ rules) [] zero order le = refl
+places-few resource from to (rule ∷ rules) [] (suc n) order le = refl
+places-few resource from to (rule ∷ rules) (place ∷ places) zero order le = absurd (omega arith)
+places-few resource from to (rule ∷ rules) (place ∷ places) (suc n) order le =
+    places-few resource from to rules places n (cond (rule.resource.0 == resource) (insert order place (record { rule = rule; from = from; to = to })) order) (omega arith)
 
 module _ (machine : Machine) (plans : List Plan) (in_order : AllPairs IsEarlier plans) where
   -- between two holds of an order

@@ -105,7 +105,7 @@ impl Track {
 
     /// The track with those holds of an action that are on the resource, each in its place.
     pub(crate) fn put_places(
-        &self,
+        self,
         ends: &Ends,
         resource: u16,
         leg: &Leg,
@@ -113,25 +113,21 @@ impl Track {
         places: &[u32],
     ) -> Track
         requires offsets { All HasOffsets rules.now }
-        requires room { self.now.len + length rules.now < 2 ^ 64 }
-        requires track { IsTrack self.now }
-        ensures order { (order : List spots.Slot) → self.now ≡ track_of ends.now.before
+        requires room { self.len + length rules.now < 2 ^ 64 }
+        requires track { IsTrack self }
+        ensures order { (order : List spots.Slot) → self ≡ track_of ends.now.before
             ends.now.after order
             → result ≡ track_of ends.now.before ends.now.after
             (put_places resource leg.now.from leg.now.to rules.now places.now order) }
-        ensures len { result.len ≤ self.now.len + length rules.now }
+        ensures len { result.len ≤ self.len + length rules.now }
         ensures track { IsTrack result }
     {
-        match rules {
-            [rule, later @ ..] => match places {
-                [place, others @ ..] => {
-                    let track = self.put_place(ends, resource, leg, rule, *place);
-                    track.put_places(ends, resource, leg, later, others)
-                }
-                [] => *self,
-            },
-            [] => *self,
+        let mut track = self;
+        let count = rules.len().min(places.len());
+        'places: for at in 0..count {
+            track = track.put_place(ends, resource, leg, &rules[at], places[at]);
         }
+        track
     }
 
     fn put_place(&self, ends: &Ends, resource: u16, leg: &Leg, rule: &HoldRule, place: u32) -> Track

@@ -4,15 +4,16 @@
 mod branch;
 mod checking;
 mod choices;
+mod closing;
 mod dues;
 mod following;
 mod found;
 mod hops;
 mod index;
 mod kept;
-mod looking;
 mod naming;
 mod nodes;
+mod opening;
 mod orders;
 mod points;
 mod ranges;
@@ -21,6 +22,7 @@ mod sheets;
 mod sorting;
 mod standing;
 mod stands;
+mod states;
 mod table;
 mod taking;
 

@@ -1,20 +1,24 @@
 //! Where a node stands.
-ghost use Rattle.std.specs.Prelude.{◌≡◌, ℕ, ◌+◌, ◌<◌, ◌≤◌, ◌==◌, [], ◌∷◌, ◌++◌, length, Some, None, Option, IfOk, IfErr, IfSome, List, suc};
+ghost use Rattle.std.specs.Prelude.{◌≡◌, ℕ, ◌+◌, ◌<◌, ◌≤◌, ◌==◌, [], ◌∷◌, ◌++◌, length, slice_get, Some, None, Option, IfOk, IfErr, IfSome, List, suc};
 ghost use Rattle.tp_bound_check.specs.Looks.{IsFaultOf, IsSoundDue, IsSoundFrame, at_depth, dues_of, due_by};
 ghost use Rattle.tp_bound_check.specs.Stands.{IsSoundStand};
 ghost use Rattle.tp_machine.specs.declared.parts.State.{State};
-ghost use Rattle.tp_trees.specs.Places.{due_behind, next_rule, stand_of};
+ghost use Rattle.tp_machine.specs.Using.{action_at};
+ghost use Rattle.tp_trees.specs.Places.{due_behind, is_name_of_act, is_name_of_resource, next_rule, order_length, room_at, stand_of};
 ghost use Rattle.tp_trees.specs.Places.Due.{goal, action, places, stop};
 ghost use Rattle.tp_trees.specs.Trees.{look};
 ghost use Rattle.tp_trees.specs.Trees.Look.{due};
 
 use crate::branch::Branch;
 use crate::dues::{Fault, Frame, Next};
-use crate::looking::is_named;
+use crate::found::Ends;
 use crate::orders::{Scene, rule_law};
+use crate::points::Point;
 use crate::stands::{Span, Stand};
+use crate::states::is_named;
+use tp_base::Name;
 use tp_bounds::{Head, Node};
-use tp_machine::{ActId, HoldRule, State};
+use tp_machine::{ActId, HoldRule, ResId, State};
 
 fn alone(branch: Branch) -> Stand
     ensures { result ≡ record { branch = branch; span = None } }
@@ -23,6 +27,55 @@ fn alone(branch: Branch) -> Stand
 }
 
 impl<'a> Scene<'a> {
+    pub(crate) fn is_name_of_act(&self, act: ActId, name: &Name) -> bool
+        ensures { result ≡ is_name_of_act self.now.rows.machine.now self.now.plans.now
+            self.now.rows.ask.now self.now.rows.rows.now name.now (action_at
+            self.now.rows.machine.now act.0) }
+    {
+        let machine = self.rows.machine;
+        match machine.actions.as_slice().get(usize::from(act.0)) {
+            Some(action) => *name == action.name,
+            None => false,
+        }
+    }
+
+    pub(crate) fn is_name_of_resource(&self, resource: ResId, name: &Name) -> bool
+        ensures { result ≡ is_name_of_resource self.now.rows.machine.now self.now.plans.now
+            self.now.rows.ask.now self.now.rows.rows.now name.now (slice_get
+            self.now.rows.machine.now.resources resource.0) }
+    {
+        let machine = self.rows.machine;
+        match machine.resources.as_slice().get(usize::from(resource.0)) {
+            Some(held) => *name == held.name,
+            None => false,
+        }
+    }
+
+    pub(crate) fn room_at(&self, state: State) -> u32
+        ensures { result ≡ room_at self.now.rows.machine.now self.now.plans.now
+            self.now.rows.ask.now self.now.rows.rows.now state }
+    {
+        match self.rows.row_of(state) {
+            Some(room) => room,
+            None => 0,
+        }
+    }
+
+    /// How many holds the order of the rule's resource has.
+    pub(crate) fn order_length(&self, branch: &Branch, rule: HoldRule) -> u64
+        requires next { next_rule self.now.rows.machine.now branch.now.x ≡ Some rule }
+        ensures { result ≡ order_length self.now.rows.machine.now self.now.plans.now
+            self.now.rows.ask.now self.now.rows.rows.now branch.now rule }
+    {
+        rule_law(self.rows.machine, branch, rule);
+        let end = Point::own(0);
+        let ends = Ends {
+            before: end,
+            after: end,
+        };
+        self.track(branch, rule.resource.0, &ends).len
+    }
+
     fn goal_stand(&self, state: State, head: &Head, depth: u32) -> Option<Stand>
         ensures stand { result ≡ at_depth depth (stand_of self.now.rows.machine.now
             self.now.plans.now self.now.rows.ask.now self.now.rows.rows.now (goal state) head.now) }

@@ -1,0 +1,163 @@
+//! What closes a node: a dead state, a chain or a loop; or what is due below it.
+ghost use Rattle.std.specs.Prelude.{◌≡◌, ◌++◌, [], length, Some, IfOk, IfErr, OnOk, List};
+ghost use Rattle.tp_bound_check.specs.Looks.{IsFaultOf, IsSoundFrame, dues_of};
+ghost use Rattle.tp_bound_check.specs.Stands.{IsSoundStand};
+ghost use Rattle.tp_machine.specs.declared.parts.State.{State};
+ghost use Rattle.tp_trees.specs.Chains.{spot_of};
+ghost use Rattle.tp_trees.specs.Rows.{row_of};
+ghost use Rattle.tp_trees.specs.Trees.{chain_look, close_look, dead_look, loop_look, may_be_dead, reach_look};
+ghost use Rattle.tp_trees.specs.Trees.Look.{due};
+
+use crate::dues::{Fault, Frame};
+use crate::following::Walk;
+use crate::naming::spot_of;
+use crate::orders::Scene;
+use crate::points::Point;
+use crate::stands::Stand;
+use tp_bounds::{Close, Head, Hops, TreePoint};
+
+fn may_be_dead(head: &Head) -> bool
+    ensures { result ≡ may_be_dead head.now }
+{
+    match head {
+        Head::Goal { .. } => true,
+        Head::Act { .. } => true,
+        Head::At { .. } => false,
+        Head::Stop => false,
+    }
+}
+
+/// A sum above its cap closes a node.
+fn reach_look(reach: i64, cap: i64) -> Result<(), Fault>
+    ensures ok { OnOk result (reach_look reach cap ≡ due []) }
+    ensures fault { IfErr result (IsFaultOf (reach_look reach cap)) }
+{
+    if cap < reach {
+        Ok(())
+    } else {
+        Err(Fault::Weak { reach, cap })
+    }
+}
+
+impl<'a> Scene<'a> {
+    /// A dead node's state has no row.
+    fn dead_look(&self, stand: &Stand, head: &Head) -> Result<(), Fault>
+        ensures ok { OnOk result (dead_look (may_be_dead head.now) (row_of self.now.rows.machine.now
+            self.now.rows.rows.now stand.now.branch.first) ≡ due []) }
+        ensures fault { IfErr result (IsFaultOf (dead_look (may_be_dead head.now) (row_of
+            self.now.rows.machine.now self.now.rows.rows.now stand.now.branch.first))) }
+    {
+        if !may_be_dead(head) {
+            return Err(Fault::NotDead);
+        }
+        match self.rows.row_of(stand.branch.first()) {
+            Some(_) => Err(Fault::NotDead),
+            None => Ok(()),
+        }
+    }
+
+    fn chain_look(&self, stand: &Stand, first: &TreePoint, hops: &Hops) -> Result<(), Fault>
+        requires sound { IsSoundStand self.now.rows.machine.now stand.now }
+        ensures ok { OnOk result (chain_look self.now.rows.machine.now self.now.plans.now
+            self.now.rows.ask.now self.now.rows.rows.now self.now.limit stand.now (spot_of
+            self.now.plans.now (length stand.now.branch.x.choices) first.now) hops.now ≡ due []) }
+        ensures fault { IfErr result (IsFaultOf (chain_look self.now.rows.machine.now
+            self.now.plans.now self.now.rows.ask.now self.now.rows.rows.now self.now.limit stand.now
+            (spot_of self.now.plans.now (length stand.now.branch.x.choices) first.now) hops.now)) }
+    {
+        match spot_of(self.plans, stand.branch.count(), first) {
+            Some(at) => self.chain_from(stand, at, hops),
+            None => Err(Fault::NoSuchHop(0)),
+        }
+    }
+
+    fn chain_from(&self, stand: &Stand, at: Point, hops: &Hops) -> Result<(), Fault>
+        requires sound { IsSoundStand self.now.rows.machine.now stand.now }
+        ensures ok { OnOk result (chain_look self.now.rows.machine.now self.now.plans.now
+            self.now.rows.ask.now self.now.rows.rows.now self.now.limit stand.now (Some at) hops.now
+            ≡ due []) }
+        ensures fault { IfErr result (IsFaultOf (chain_look self.now.rows.machine.now
+            self.now.plans.now self.now.rows.ask.now self.now.rows.rows.now self.now.limit stand.now
+            (Some at) hops.now)) }
+    {
+        let from = Walk {
+            at,
+            sum: self.low(&stand.branch, at),
+        };
+        match self.follow(stand, from, hops) {
+            Ok(walk) => reach_look(walk.sum, self.cap(&stand.branch, walk.at)),
+            Err(hop) => Err(Fault::NoSuchHop(hop)),
+        }
+    }
+
+    fn loop_look(&self, stand: &Stand, first: &TreePoint, hops: &Hops) -> Result<(), Fault>
+        requires sound { IsSoundStand self.now.rows.machine.now stand.now }
+        ensures ok { OnOk result (loop_look self.now.rows.machine.now self.now.plans.now
+            self.now.rows.ask.now self.now.rows.rows.now self.now.limit stand.now (spot_of
+            self.now.plans.now (length stand.now.branch.x.choices) first.now) hops.now ≡ due []) }
+        ensures fault { IfErr result (IsFaultOf (loop_look self.now.rows.machine.now
+            self.now.plans.now self.now.rows.ask.now self.now.rows.rows.now self.now.limit stand.now
+            (spot_of self.now.plans.now (length stand.now.branch.x.choices) first.now) hops.now)) }
+    {
+        match spot_of(self.plans, stand.branch.count(), first) {
+            Some(at) => self.loop_from(stand, at, hops),
+            None => Err(Fault::NoSuchHop(0)),
+        }
+    }
+
+    fn loop_from(&self, stand: &Stand, at: Point, hops: &Hops) -> Result<(), Fault>
+        requires sound { IsSoundStand self.now.rows.machine.now stand.now }
+        ensures ok { OnOk result (loop_look self.now.rows.machine.now self.now.plans.now
+            self.now.rows.ask.now self.now.rows.rows.now self.now.limit stand.now (Some at) hops.now
+            ≡ due []) }
+        ensures fault { IfErr result (IsFaultOf (loop_look self.now.rows.machine.now
+            self.now.plans.now self.now.rows.ask.now self.now.rows.rows.now self.now.limit stand.now
+            (Some at) hops.now)) }
+    {
+        let from = Walk { at, sum: 0 };
+        match self.follow(stand, from, hops) {
+            Ok(walk) => {
+                if walk.at.is(at) {
+                    reach_look(walk.sum, 0)
+                } else {
+                    Err(Fault::NoSuchHop(hops.len().saturating_sub(1)))
+                }
+            }
+            Err(hop) => Err(Fault::NoSuchHop(hop)),
+        }
+    }
+
+    /// What is due below a node that is closed here, or split.
+    pub(crate) fn close_look(
+        &self,
+        stand: &Stand,
+        head: &Head,
+        close: &Close,
+    ) -> Result<Frame, Fault>
+        requires sound { IsSoundStand self.now.rows.machine.now stand.now }
+        ensures ok { IfOk result (λ f. (goals : List State) → close_look self.now.rows.machine.now
+            self.now.plans.now self.now.rows.ask.now self.now.rows.rows.now self.now.limit stand.now
+            head.now close.now ≡ due (dues_of self.now.rows.machine.now self.now.plans.now
+            self.now.rows.ask.now self.now.rows.rows.now self.now.limit goals f)) }
+        ensures sound { IfOk result (IsSoundFrame self.now.rows.machine.now) }
+        ensures fault { IfErr result (IsFaultOf (close_look self.now.rows.machine.now
+            self.now.plans.now self.now.rows.ask.now self.now.rows.rows.now self.now.limit stand.now
+            head.now close.now)) }
+    {
+        match close {
+            Close::Split => self.split(stand),
+            Close::Dead => match self.dead_look(stand, head) {
+                Ok(()) => Ok(Frame::Nothing),
+                Err(fault) => Err(fault),
+            },
+            Close::Chain { first, hops } => match self.chain_look(stand, first, hops) {
+                Ok(()) => Ok(Frame::Nothing),
+                Err(fault) => Err(fault),
+            },
+            Close::Loop { first, hops } => match self.loop_look(stand, first, hops) {
+                Ok(()) => Ok(Frame::Nothing),
+                Err(fault) => Err(fault),
+            },
+        }
+    }
+}

@@ -1,0 +1,166 @@
+//! What is due below a node that is split.
+ghost use Rattle.std.specs.Prelude.{◌≡◌, ◌+◌, ◌<◌, ◌^◌, ◌&&◌, length, slice_get, None, IfOk, IfErr, List, nat_lt, if◌then◌else◌};
+ghost use Rattle.std.specs.List.{list_any};
+ghost use Rattle.std.specs.Str.{bytes_eq};
+ghost use Rattle.tp_bound_check.specs.Looks.{IsFaultOf, IsSoundFrame, dues_of};
+ghost use Rattle.tp_machine.specs.Using.{action_at};
+ghost use Rattle.tp_machine.specs.declared.parts.State.{State};
+ghost use Rattle.tp_schedule.specs.Answers.{kept_of};
+ghost use Rattle.tp_schedule.specs.Holding.{holds_of_act};
+ghost use Rattle.tp_schedule.specs.Routes.{fresh};
+ghost use Rattle.tp_trees.specs.Places.{children, children_of, has_choice, is_begun, is_front_state, next_rule};
+ghost use Rattle.tp_trees.specs.Rows.{is_same_state};
+ghost use Rattle.tp_trees.specs.Trees.{split_look};
+ghost use Rattle.tp_trees.specs.Trees.Look.{due};
+
+use crate::branch::Branch;
+use crate::dues::{Fault, Frame};
+use crate::orders::{Scene, holds_of};
+use crate::stands::Stand;
+use crate::states::is_same_state;
+use tp_machine::{ActId, Feeder, HoldRule, Machine, State, machine_law};
+use tp_schedule::{Origin, new_sheet};
+
+/// The hold of the action that has no place yet.
+fn rule_at(machine: &Machine, act: ActId, places: &[u32]) -> Option<HoldRule>
+    ensures { result ≡ slice_get (holds_of_act (action_at machine.now act.0)) (length places.now) }
+{
+    holds_of(machine, act).get(places.len()).copied()
+}
+
+impl<'a> Scene<'a> {
+    /// The hold of the newest choice that has no place yet.
+    fn next_rule(&self, branch: &Branch) -> Option<HoldRule>
+        ensures { result ≡ next_rule self.now.rows.machine.now branch.now.x }
+    {
+        let count = branch.count();
+        if count == 0 {
+            return None;
+        }
+        let places = branch.places(count - 1);
+        let Some(act) = branch.act(count - 1) else {
+            unreachable!()
+        };
+        rule_at(self.rows.machine, act, places)
+    }
+
+    fn is_begun(&self, state: State) -> bool
+        ensures { result ≡ is_begun self.now.rows.machine.now self.now.rows.ask.now.want
+            self.now.rows.ask.now.origin state }
+    {
+        match self.rows.ask.origin {
+            Origin::Feeder => self.is_at_feeder(self.rows.machine.feeders.as_slice(), state),
+            Origin::Front { .. } => false,
+        }
+    }
+
+    fn is_at_feeder(&self, feeders: &[Feeder], state: State) -> bool
+        ensures { result ≡ list_any (λ f. bytes_eq f.media self.now.rows.ask.now.want.media &&
+            is_same_state state (fresh f.loc)) feeders.now }
+    {
+        feeders.iter().any(|feeder| self.is_fresh(feeder, state))
+    }
+
+    fn is_fresh(&self, feeder: &Feeder, state: State) -> bool
+        ensures { result ≡ (bytes_eq feeder.now.media self.now.rows.ask.now.want.media &&
+            is_same_state state (fresh feeder.now.loc)) }
+    {
+        feeder.media == self.rows.ask.want.media && is_same_state(state, new_sheet(feeder.loc))
+    }
+
+    fn is_front_state(&self, state: State) -> bool
+        ensures { result ≡ is_front_state self.now.rows.ask.now.origin state }
+    {
+        match self.rows.ask.origin {
+            Origin::Feeder => false,
+            Origin::Front { state: front, .. } => is_same_state(state, front),
+        }
+    }
+
+    /// Whether the branch may be stopped.
+    fn can_stop(&self, branch: &Branch) -> bool
+        ensures { result ≡ (is_front_state self.now.rows.ask.now.origin branch.now.first &&
+            has_choice self.now.rows.machine.now self.now.plans.now self.now.rows.ask.now
+            self.now.rows.rows.now branch.now.x.choices) }
+    {
+        let some = 0 < branch.count();
+        self.is_front_state(branch.first()) && some
+    }
+
+    /// How many actions the asked copy keeps.
+    fn kept(&self) -> u64
+        ensures kept { result ≡ kept_of self.now.rows.ask.now }
+        ensures fits { result < 2 ^ 32 }
+    {
+        match self.rows.ask.origin {
+            Origin::Feeder => 0,
+            Origin::Front { kept, .. } => u64::from(kept),
+        }
+    }
+
+    /// The first of the actions that may go before a branch, or the number of all where none may.
+    fn first_act(&self, branch: &Branch) -> u16
+        ensures none { result ≡ (if nat_lt (kept_of self.now.rows.ask.now + length
+            branch.now.x.choices) 64 then 0 else length self.now.rows.machine.now.actions) }
+        ensures few { result < length self.now.rows.machine.now.actions → length
+            branch.now.x.choices < 64 }
+    {
+        machine_law(self.rows.machine);
+        if self.kept() + u64::from(branch.count()) < 64 {
+            0
+        } else {
+            self.rows.machine.actions.len() as u16
+        }
+    }
+
+    /// What is due below a complete or open branch all of whose holds have places.
+    fn open(&self, branch: &Branch) -> Result<Frame, Fault>
+        ensures ok { IfOk result (λ f. (goals : List State) → split_look (children_of
+            self.now.rows.machine.now self.now.plans.now self.now.rows.ask.now
+            self.now.rows.rows.now branch.now None) ≡ due (dues_of self.now.rows.machine.now
+            self.now.plans.now self.now.rows.ask.now self.now.rows.rows.now self.now.limit goals
+            f)) }
+        ensures sound { IfOk result (IsSoundFrame self.now.rows.machine.now) }
+        ensures fault { IfErr result (IsFaultOf (split_look (children_of self.now.rows.machine.now
+            self.now.plans.now self.now.rows.ask.now self.now.rows.rows.now branch.now None))) }
+    {
+        let first = branch.first();
+        if self.is_begun(first) {
+            return Err(Fault::Uncovered);
+        }
+        Ok(Frame::Acts {
+            branch: branch.copy(),
+            with_stop: self.can_stop(branch),
+            at: self.first_act(branch),
+        })
+    }
+
+    /// What is due below a node that is split.
+    pub(crate) fn split(&self, stand: &Stand) -> Result<Frame, Fault>
+        ensures ok { IfOk result (λ f. (goals : List State) → split_look (children
+            self.now.rows.machine.now self.now.plans.now self.now.rows.ask.now
+            self.now.rows.rows.now stand.now) ≡ due (dues_of self.now.rows.machine.now
+            self.now.plans.now self.now.rows.ask.now self.now.rows.rows.now self.now.limit goals
+            f)) }
+        ensures sound { IfOk result (IsSoundFrame self.now.rows.machine.now) }
+        ensures fault { IfErr result (IsFaultOf (split_look (children self.now.rows.machine.now
+            self.now.plans.now self.now.rows.ask.now self.now.rows.rows.now stand.now))) }
+    {
+        match stand.span {
+            Some(_) => Err(Fault::Uncovered),
+            None => {
+                if stand.branch.is_stopped() {
+                    return Err(Fault::Uncovered);
+                }
+                match self.next_rule(&stand.branch) {
+                    Some(rule) => Ok(Frame::Held {
+                        branch: stand.branch.copy(),
+                        rule,
+                        lo: 0,
+                    }),
+                    None => self.open(&stand.branch),
+                }
+            }
+        }
+    }
+}
