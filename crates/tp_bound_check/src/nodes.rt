@@ -1,6 +1,10 @@
 //! The pass over the nodes.
-ghost use Rattle.std.specs.Prelude.{◌≡◌, ℕ, ◌+◌, ◌<◌, ◌≤◌, ◌^◌, [], ◌∷◌, ◌++◌, length, Some, None, Option, IfOk, IfErr, OnOk, IfSome, IfNone, List, All, map, drop};
-ghost use Rattle.tp_bound_check.specs.Looks.{IsNodeFault, IsSoundDue, IsSoundFrame, due_by, due_on, dues_of, flaw_by};
+//!
+//! A frame of the stack is what is left to be due below one node on the way to the node that was looked at last, or of the
+//! goals: no two frames are of nodes of one depth, and the deeper one stands later. A way has a goal, at most 64 actions
+//! with at most 4 holds each, and maybe a stop, which has nothing below it. So there are at most 322 frames.
+ghost use Rattle.std.specs.Prelude.{◌≡◌, ℕ, ◌+◌, ◌<◌, ◌≤◌, ◌^◌, [], ◌∷◌, ◌++◌, length, Some, None, Option, IfOk, IfErr, OnOk, OnErr, IfSome, IfNone, List, All, map, drop};
+ghost use Rattle.tp_bound_check.specs.Looks.{IsNodeFault, IsSoundDue, IsSoundFrame, due_by, due_on, dues_of, flaw_by, has_due, with_frame};
 ghost use Rattle.tp_bound_check.specs.declared.dues.Frame.TheVariants.{Goals};
 ghost use Rattle.tp_machine.specs.declared.parts.State.{State};
 ghost use Rattle.tp_trees.specs.Flaws.{IsFlawOf, bad_node_from, flaw_at};
@@ -30,13 +34,35 @@ fn flaw_of(node: u64, fault: Fault) -> TreeFlaw
     }
 }
 
+fn has_due(frame: &Frame) -> bool
+    ensures { result ≡ has_due frame.now }
+{
+    match frame {
+        Frame::Nothing => false,
+        Frame::Goals(_) => true,
+        Frame::Held { .. } => true,
+        Frame::Acts { .. } => true,
+    }
+}
+
+/// A frame more, which comes first. An empty one is left out.
+fn put_one(stack: &mut Vec<Frame>, frame: Frame) -> Result<(), Memory>
+    ensures ok { OnOk result (stack.new.items ≡ with_frame frame stack.old.items) }
+    ensures memory { OnErr result (stack.new.items ≡ stack.old.items) }
+{
+    if has_due(&frame) {
+        stack.push(frame)?;
+    }
+    Ok(())
+}
+
 /// Two frames more, the second of which comes first.
 fn put(stack: &mut Vec<Frame>, behind: Frame, frame: Frame) -> Result<(), Memory>
-    ensures { OnOk result (stack.new.items ≡ (stack.old.items ++ behind ∷ []) ++ frame ∷ []) }
+    ensures { OnOk result (stack.new.items ≡ with_frame frame (with_frame behind
+        stack.old.items)) }
 {
-    stack.push(behind)?;
-    stack.push(frame)?;
-    Ok(())
+    put_one(stack, behind)?;
+    put_one(stack, frame)
 }
 
 /// The stack of all goals.
@@ -67,7 +93,7 @@ impl<'a> Scene<'a> {
         'frames: while let Some(frame) = stack.pop() {
             match self.take(goals, frame) {
                 Some(taken) => {
-                    stack.push(taken.rest)?;
+                    put_one(stack, taken.rest)?;
                     return Ok(Some(taken.next));
                 }
                 None => {}
