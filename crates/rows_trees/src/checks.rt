@@ -12,12 +12,12 @@ use tp_machine::{ActId, Face, LocId, Machine, Outs, Sheet, Want};
 use tp_machine_text::read_machine;
 use tp_schedule::{Acts, Ask, Goal, Kind, Origin, Plan, Points, Schedule, SheetId};
 
-const TRAY: LocId = LocId(3);
+pub(crate) const TRAY: LocId = LocId(3);
 
 /// Module OUT, so that the tray can't be reached.
-const OUT: Outs = Outs(8);
+pub(crate) const OUT: Outs = Outs(8);
 
-fn machine_of(alloc: Global, text: &str) -> Result<Machine, Fail> {
+pub(crate) fn machine_of(alloc: Global, text: &str) -> Result<Machine, Fail> {
     match read_machine(alloc, text.as_bytes()) {
         Ok(machine) => Ok(machine),
         Err(_) => Err(Fail::from("a machine of the rows is refused")),
@@ -73,7 +73,7 @@ fn first_points() -> Points
 }
 
 /// The first sheet's plan.
-fn first_plan() -> Result<Plan, Fail>
+pub(crate) fn first_plan() -> Result<Plan, Fail>
     ensures { IfOk result IsFormed }
 {
     Ok(Plan {
@@ -88,7 +88,7 @@ fn first_plan() -> Result<Plan, Fail>
     })
 }
 
-fn schedule_of(alloc: Global, plan: Plan) -> Result<Schedule, Fail>
+pub(crate) fn schedule_of(alloc: Global, plan: Plan) -> Result<Schedule, Fail>
     requires { IsFormed plan }
 {
     let mut schedule = Schedule::new(alloc);
@@ -98,7 +98,7 @@ fn schedule_of(alloc: Global, plan: Plan) -> Result<Schedule, Fail>
 }
 
 /// A sheet asked at 0.
-fn ask_of(number: u32, outs: Outs) -> Result<Ask, Fail> {
+pub(crate) fn ask_of(number: u32, outs: Outs) -> Result<Ask, Fail> {
     Ok(Ask {
         sheet: copy_of(number),
         name: name_of(b"j1")?,
