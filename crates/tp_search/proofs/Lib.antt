@@ -36,6 +36,7 @@ pub mod SearchEnds
 pub mod SearchFull
 pub mod StepFacts
 pub mod StepBoards
+pub mod HoldFacts
 pub mod AskedFacts
 pub mod AnswerFacts
 pub mod TrialFacts

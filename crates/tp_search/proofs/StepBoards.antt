@@ -1,11 +1,10 @@
 -- A step of a search on a board with a mark: what stands, and what it leaves.
-use Rattle.std.proofs.Common.{◌≡◌, ℕ, ◌-◌, List, [], ◌∷◌, ◌++◌, length, Some, sym, ap, subst, ◌∙◌}
+use Rattle.std.proofs.Common.{◌≡◌, ℕ, List, [], ◌∷◌, ◌++◌, length, Some, sym, ap, subst, ◌∙◌}
 use Rattle.std.proofs.lemmas.Option.{same_Some}
 use Rattle.tp_base.specs.Net.{Net}
-use Rattle.tp_machine.specs.declared.parts.State.{State}
 use Rattle.tp_machine.specs.declared.whole.Machine.{Machine}
 use Rattle.tp_schedule.specs.Answers.{IsAlternative, IsAsked, NoneBefore}
-use Rattle.tp_schedule.specs.Choices.{ChoiceList, IsBound, IsComplete}
+use Rattle.tp_schedule.specs.Choices.{IsBound}
 use Rattle.tp_schedule.specs.Legality.{IsLegal}
 use Rattle.tp_schedule.specs.Spending.{FewListsOpen, IsSpent}
 use Rattle.tp_schedule.specs.declared.parts.Ask.{Ask}
@@ -14,8 +13,7 @@ use Rattle.tp_placing.specs.Boards.{BoardValue}
 use Rattle.tp_placing.specs.Laws.{MarkKeeps}
 use Rattle.tp_placing.specs.Standing.{Stands}
 use Rattle.tp_search.specs.Boards.{IsBack, IsReady}
-use Rattle.tp_search.specs.Following.{HasList, IsSameButSteps}
-use Rattle.tp_search.specs.Outcomes.{HasAnswer, IsOutcome}
+use Rattle.tp_search.specs.Outcomes.{IsOutcome}
 use Rattle.tp_search.specs.declared.searching.Outcome.{Outcome}
 use Rattle.tp_search.specs.declared.searching.Outcome.TheVariants.{Found, Never, Spent}
 use Rattle.tp_search.proofs.BoardSteps.{IsMarked, back-trans, load-of, load-trans, suffix-back}
@@ -35,27 +33,6 @@ module _ {N C A : Type 0} (net : N → Net) (content : N → C) (past : N → Li
     stands = keeps b b' machine m.content_same m.aside_same m.past_more r.stands;
     asked = (load-of net content past aside mark_room b b' m.aside_same).ask ∙ r.asked;
     closed = suffix-back net content past mark_room b b' m.content_same ∙ r.closed;
-  }
-
-  pub marked-plans : (b b' : BoardValue N) (mark : ℕ) → IsMarked net content past aside mark_room b b' mark → b'.plans ≡ b.plans
-  marked-plans b b' mark m = (load-of net content past aside mark_room b b' m.aside_same).plans
-
-  -- a complete list that was laid since the mark, before whose bound no answer ends
-  pub answer-since : (b b1 b2 : BoardValue N) (machine : Machine) (ask : Ask) (mark : ℕ) → IsMarked net content past aside mark_room b b1 mark → IsSameButSteps past mark_room b1 b2
-      → (first : State) (list : ChoiceList) (bound : ℕ) → HasList net content past b2 machine ask first list → IsComplete machine ask list → IsBound machine b.plans ask list bound → NoneBefore machine b.plans ask bound
-      → HasAnswer net content past mark_room b b2 machine ask mark
-  answer-since b b1 b2 machine ask mark m same first list bound laid complete is-bound none = record {
-    number = m.number;
-    past_more = same.same_past ∙ m.past_more;
-    loaded = load-trans net content past mark_room b b1 b2 (load-of net content past aside mark_room b b1 m.aside_same) same.loaded;
-    marks = ap (λ n. n - 1) same.marks ∙ m.room_same;
-    first = first;
-    list = list;
-    bound = bound;
-    laid = laid;
-    complete = complete;
-    is_bound = is-bound;
-    none_before = none;
   }
 
 module _ {N C : Type 0} (net : N → Net) (content : N → C) (past : N → List C) (mark_room : N → ℕ) where

@@ -3,9 +3,11 @@ use Rattle.std.proofs.Common.{◌≡◌, ℕ, true, false, ◌+◌, ◌<◌, ◌
 use Rattle.std.specs.declared.alloc.Global.{Global}
 use Rattle.std.proofs.lemmas.Bool.{false≢true, true≢false}
 use Rattle.std.proofs.lemmas.List.{length-append}
+use Rattle.std.proofs.lemmas.List.Elements.{All-contains}
+use Rattle.tp_base.specs.Net.{Net}
 use Rattle.tp_machine.specs.Machines.{IsMachine}
 use Rattle.tp_machine.specs.declared.whole.Machine.{Machine}
-use Rattle.tp_pool.specs.Entries.{IsParentOf, bound_of}
+use Rattle.tp_pool.specs.Entries.{IsParentOf, bound_of, choices_before, choices_of, entry_at}
 use Rattle.tp_pool.specs.declared.choice.Choice.{Choice as Stored}
 use Rattle.tp_schedule.specs.Answers.{IsAsked, NoneBefore}
 use Rattle.tp_schedule.specs.Choices.{IsBound, IsComplete}
@@ -17,18 +19,24 @@ use Rattle.tp_schedule.specs.declared.parts.Plan.{Plan}
 use Rattle.tp_choices.proofs.Frontier.{frontier_bounds}
 use Rattle.tp_choices.proofs.Leaving.{parent_bound}
 use Rattle.tp_choices.proofs.Searching.{full_spends, search_fronts}
-use Rattle.tp_search.specs.Opening.{Answers, IsAtProgress, IsFresh, IsSameOpening, parent_of}
+use Rattle.tp_placing.specs.Boards.{BoardValue}
+use Rattle.tp_search.specs.Following.{HasList}
+use Rattle.tp_search.specs.Holding.{HoldsList, IsOneMore}
+use Rattle.tp_search.specs.Opening.{Answers, IsAtProgress, IsFresh, IsOpenChild, IsOpening, IsSameOpening, parent_of}
 use Rattle.tp_search.specs.Opening.Progress.{nothing, up_to}
 use Rattle.tp_search.specs.Outcomes.{CanLay, CanOpen, IsAllOpened}
 use Rattle.tp_search.specs.Searching.{IsBestLater, IsNext, IsSameSpace, IsSearching, next_bound, next_list, next_node, opening_of, still_to_take}
 use Rattle.tp_search.specs.Stored.{child_by}
 use Rattle.tp_search.specs.Stores.{HasBounds, StoreValue}
 use Rattle.tp_search.specs.declared.goals.OpenGoal.{OpenGoal}
+use Rattle.tp_search.specs.declared.holding.Held.{Held}
 use Rattle.tp_search.specs.declared.opening.Opening.{Opening}
 use Rattle.tp_search.specs.declared.taking.Next.{Next}
 use Rattle.tp_search.specs.declared.taking.Next.TheVariants.{Goal, Node}
 use Rattle.tp_search.proofs.SearchEnds.{IsBestList, next-incomplete, next-none_before, searching-best}
 use Rattle.tp_search.proofs.SearchFresh.{next-begins, next-fresh, next-going}
+use Rattle.tp_search.proofs.SearchGrown.{entry-new}
+use Rattle.tp_search.proofs.SearchOpened.{next-opening}
 use Rattle.tp_search.proofs.SearchFull.{searching-answered, searching-full}
 use Rattle.tp_search.proofs.SearchNext.{IsKnownNext, next-formed, next-known}
 use Rattle.tp_search.proofs.SearchOn.{searching-on}
@@ -65,7 +73,7 @@ opening-as machine s waits (Node n) = refl
 
 module _ (machine : Machine) (plans : List Plan) (ask : Ask) (goals : List OpenGoal) (s : StoreValue) (bound : ℕ) (searching : IsSearching machine plans ask goals s bound) (goals' : List OpenGoal) (s' : StoreValue) (next : Next)
     (is-next : IsNext goals s goals' s' next) where
-  known : IsKnownNext machine plans ask goals s bound goals' s' next
+  pub known : IsKnownNext machine plans ask goals s bound goals' s' next
   known = next-known machine plans ask goals s bound searching goals' s' next is-next
 
   list-same : next_list machine s' next ≡ next_list machine s next
@@ -150,6 +158,24 @@ module _ (machine : Machine) (plans : List Plan) (ask : Ask) (goals : List OpenG
         pub step-on : s''.full ≡ false → IsSearching machine plans ask goals' s'' (next_bound s' next)
         step-on not-full = subst (IsSearching machine plans ask goals' s'') (sym bound-same)
             (searching-on machine plans ask goals s bound goals' s' next o s'' searching is-next incomplete parent_bound same all.progress no-answer not-full)
+
+      -- a board that carries the list holds it: what was stored since are its children
+      pub step-holds : {N C : Type 0} (net : N → Net) (content : N → C) (past : N → List C) (b : BoardValue N) (held : Held) → HasList net content past b machine ask held.laid.first (next_list machine s' next) → held.stored ≡ length s'.entries
+          → HoldsList net content past b machine ask s'' held
+      step-holds net content past b held laid stored = record {
+        goal = (next_list machine s next).goal;
+        before = choices_before s.entries (next_node next);
+        laid = subst (HasList net content past b machine ask held.laid.first) (list-same ∙ next-going machine plans ask goals s bound goals' s' next searching known incomplete) laid;
+        children = λ node from within. child node (subst (λ n. n ≤ node) (stored ∙ ap (λ (t : StoreValue). length t.entries) known.same) from) within;
+      } where
+        opening : IsOpening machine plans ask (next_list machine s next) (next_bound s next) (choices_before s.entries (next_node next)) s.entries (up_to (length machine.actions) []) o.answer s''.entries s''.room s''.full s''.best
+        opening = next-opening machine plans ask goals s bound goals' s' next searching known incomplete o s'' (up_to (length machine.actions) []) same all.progress
+
+        child : (node : ℕ) → length s.entries ≤ node → node < length s''.entries → IsOneMore (next_list machine s next).goal (choices_before s.entries (next_node next)) (choices_of s''.entries node)
+        child node from within =
+            let e = All-contains (IsOpenChild machine plans ask (next_list machine s next) (next_bound s next) (choices_before s.entries (next_node next)) (up_to (length machine.actions) [])) opening.new (entry_at s''.entries node) opening.children
+            (entry-new machine goals s s'' opening.new opening.grown node from within) in
+            record { newest = e.newest; same = e.choices; same_goal = e.goal }
 
       pub step-less : length s''.entries ≤ s''.room → still_to_take goals' s'' < still_to_take goals s
       step-less within =

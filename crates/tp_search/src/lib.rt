@@ -6,6 +6,7 @@ mod children;
 mod engine;
 mod following;
 mod goals;
+mod holding;
 mod laws;
 mod opening;
 mod problem;

@@ -2,17 +2,20 @@
 ghost use Rattle.std.specs.Prelude.{ℕ, ◌≡◌, ◌<◌, ◌≤◌, length, vec_capacity, None, Some, IfNone, IfSome};
 ghost use Rattle.tp_machine.specs.declared.whole.Machine.{Machine};
 ghost use Rattle.tp_pool.specs.Entries.{bound_of, choices_before};
+ghost use Rattle.tp_placing.specs.Boards.{BoardValue};
 ghost use Rattle.tp_placing.specs.Standing.{Stands};
 ghost use Rattle.tp_schedule.specs.Planning.{IsKnownGoal};
-ghost use Rattle.tp_search.specs.Boards.{HasMarks, IsBack, IsReady};
+ghost use Rattle.tp_search.specs.Boards.{HasMarks, IsReady};
 ghost use Rattle.tp_search.specs.Following.{HasList, IsSameButSteps};
-ghost use Rattle.tp_search.specs.Outcomes.{CanLay, CanOpen, HasChild, IsAllOpened, IsOutcome};
+ghost use Rattle.tp_search.specs.Holding.{HoldsList, IsOver};
+ghost use Rattle.tp_search.specs.Outcomes.{CanOpen, HasChild, IsAllOpened, IsOutcome};
 ghost use Rattle.tp_search.specs.Problems.{IsPosed};
 ghost use Rattle.tp_search.specs.Searching.{IsBestLater, IsSameSpace, IsSearching, next_bound, next_list, next_node, opening_of, still_to_take};
 
 use crate::children::open_list;
-use crate::following::{Laid, follow, follow_goal, lay};
+use crate::following::{Laid, follow, lay};
 use crate::goals::OpenGoal;
+use crate::holding::{Held, lay_next, mark_anew, take_off};
 use crate::opening::Opening;
 use crate::problem::Problem;
 use crate::store::Store;
@@ -55,37 +58,6 @@ fn best_by(store: &Store, bound: Tick) -> Option<u32>
     }
 }
 
-/// Lays the list that was taken on the board.
-fn lay_next<N: Network>(store: &Store, board: &mut Board<N>, problem: Problem, next: &Next) -> Laid
-    requires posed { IsPosed problem }
-    requires ready { IsReady N.net N.content N.past N.mark_room board.old problem.machine.now
-        problem.ask.now }
-    requires can { CanLay problem.machine.now board.old.plans problem.ask.now store.now next.now }
-    ensures laid { HasList N.net N.content N.past board.new problem.entry.machine.now
-        problem.entry.ask.now result.first
-        (next_list problem.entry.machine.now store.now next.entry.now) }
-    ensures count { result.count
-        ≡ length (choices_before store.now.entries (next_node next.entry.now)) }
-    ensures same { IsSameButSteps N.past N.mark_room board.old board.new }
-{
-    match *next {
-        Next::Goal(goal) => {
-            follow_goal(board, problem, goal.state);
-            Laid {
-                first: goal.state,
-                count: 0,
-            }
-        }
-        Next::Node(node) => {
-            let first = follow(store, board, problem, node);
-            Laid {
-                first,
-                count: store.depth(node),
-            }
-        }
-    }
-}
-
 /// How the opening of the list that was taken begins.
 fn opening_of(store: &Store, next: &Next) -> Opening
     requires { IfSome (next_node next.now)
@@ -111,16 +83,19 @@ fn opening_of(store: &Store, next: &Next) -> Opening
     }
 }
 
-/// Opens the list that was taken: stores its open children, and lays it on the board, with the answer where there is one.
+/// Opens the list that was taken, which was laid: stores its open children. The board carries it still, or the answer where
+/// there is one.
 fn open_next<N: Network>(
     store: &mut Store,
     board: &mut Board<N>,
     problem: Problem,
     next: &Next,
+    laid: Laid,
 ) -> Opening
     requires posed { IsPosed problem }
-    requires ready { IsReady N.net N.content N.past N.mark_room board.old problem.machine.now
-        problem.ask.now }
+    requires laid { HasList N.net N.content N.past board.old problem.machine.now problem.ask.now
+        laid.first (next_list problem.machine.now store.old next.now) }
+    requires count { laid.count ≡ length (choices_before store.old.entries (next_node next.now)) }
     requires marks { HasMarks N.net N.content N.past N.mark_room 6 board.old }
     requires can { CanOpen problem.machine.now board.old.plans problem.ask.now store.old next.now }
     ensures opened { IsAllOpened problem.entry.machine.now board.old.plans problem.entry.ask.now
@@ -128,11 +103,13 @@ fn open_next<N: Network>(
     ensures answer { IfSome result.answer
         (HasChild N.net N.content N.past N.mark_room board.new problem.entry.machine.now
         problem.entry.ask.now store.old next.entry.now) }
+    ensures none { result.answer ≡ None → HasList N.net N.content N.past board.new
+        problem.entry.machine.now problem.entry.ask.now laid.first
+        (next_list problem.entry.machine.now store.old next.entry.now) }
     ensures stands { Stands N.net N.content N.past board.new problem.entry.machine.now }
     ensures same { IsSameButSteps N.past N.mark_room board.old board.new }
 {
     let mut opening = opening_of(store, next);
-    let laid = lay_next(store, board, problem, next);
     open_list(store, &mut opening, board, problem, laid);
     match opening.answer {
         Some(answer) => {
@@ -143,29 +120,43 @@ fn open_next<N: Network>(
     opening
 }
 
-/// Takes a list and opens it. Answers how the search ends, if it does so.
+/// Takes a list and opens it. Answers how the search ends, if it does so; if it goes on, the board holds the list.
 fn step<N: Network>(
     goals: &mut Vec<OpenGoal>,
     store: &mut Store,
     board: &mut Board<N>,
     problem: Problem,
+    held: &mut Option<Held>,
 ) -> Option<Outcome>
     requires posed { IsPosed problem }
     requires goal { IsKnownGoal problem.machine.now problem.ask.now.goal }
-    requires ready { IsReady N.net N.content N.past N.mark_room board.old problem.machine.now
-        problem.ask.now }
-    requires marks { HasMarks N.net N.content N.past N.mark_room 7 board.old }
+    requires over { (b : BoardValue N)
+        × IsReady N.net N.content N.past N.mark_room b problem.machine.now problem.ask.now
+        × HasMarks N.net N.content N.past N.mark_room 7 b
+        × IsOver N.net N.content N.past N.mark_room b board.old problem.machine.now held.old }
+    requires holds { IfSome held.old (HoldsList N.net N.content N.past board.old
+        problem.machine.now problem.ask.now store.old) }
     requires searching { (bound : ℕ)
         × IsSearching problem.machine.now board.old.plans problem.ask.now goals.old.items store.old
         bound }
-    ensures ends { IfSome result
-        (IsOutcome N.net N.content N.past N.mark_room board.old board.new problem.entry.machine.now
+    ensures ends { (b : BoardValue N)
+        → IsReady N.net N.content N.past N.mark_room b problem.entry.machine.now
+        problem.entry.ask.now
+        → IsOver N.net N.content N.past N.mark_room b board.old problem.entry.machine.now held.old
+        → IfSome result
+        (IsOutcome N.net N.content N.past N.mark_room b board.new problem.entry.machine.now
         problem.entry.ask.now store.old.room) }
     ensures goes_on { result ≡ None → (bound : ℕ)
         × IsSearching problem.entry.machine.now board.old.plans problem.entry.ask.now
         goals.new.items store.new bound }
-    ensures back { result ≡ None
-        → IsBack N.net N.content N.past N.mark_room board.old board.new problem.entry.machine.now }
+    ensures over { (b : BoardValue N)
+        → IsReady N.net N.content N.past N.mark_room b problem.entry.machine.now
+        problem.entry.ask.now
+        → IsOver N.net N.content N.past N.mark_room b board.old problem.entry.machine.now held.old
+        → result ≡ None
+        → IsOver N.net N.content N.past N.mark_room b board.new problem.entry.machine.now held.new }
+    ensures holds { result ≡ None → IfSome held.new (HoldsList N.net N.content N.past board.new
+        problem.entry.machine.now problem.entry.ask.now store.new) }
     ensures less { result ≡ None → still_to_take goals.new.items store.new
         < still_to_take goals.old.items store.old }
     ensures same { IsSameSpace goals.old goals.new store.old store.new }
@@ -173,24 +164,26 @@ fn step<N: Network>(
     machine_law(problem.machine);
     marks_keep_boards::<N>();
     let Some(next) = take_next(goals, store) else {
+        take_off(board, *held);
         return Some(Outcome::Never);
     };
     let bound = bound_of(store, &next);
-    let base = board.mark();
     if let Some(best) = best_by(store, bound) {
+        let base = mark_anew(board, *held);
         follow(store, board, problem, best);
         return Some(Outcome::Found { base });
     }
-    let opening = open_next(store, board, problem, &next);
+    let reached = lay_next(store, board, problem, &next, *held);
+    let opening = open_next(store, board, problem, &next, reached.laid);
     if opening.answer.is_some() {
-        return Some(Outcome::Found { base });
+        return Some(Outcome::Found { base: reached.base });
     }
-    board.undo_to(base);
     if store.is_full() {
-        Some(Outcome::Spent { bound })
-    } else {
-        None
+        board.undo_to(reached.base);
+        return Some(Outcome::Spent { bound });
     }
+    *held = Some(reached);
+    None
 }
 
 /// Searches from these goals on.
@@ -212,8 +205,9 @@ pub(crate) fn search<N: Network>(
         problem.entry.machine.now problem.entry.ask.now store.old.room result }
     ensures same { IsSameSpace goals.old goals.new store.old store.new }
 {
+    let mut held = None;
     'steps: loop {
-        if let Some(outcome) = step(goals, store, board, problem) {
+        if let Some(outcome) = step(goals, store, board, problem, &mut held) {
             return outcome;
         }
     }

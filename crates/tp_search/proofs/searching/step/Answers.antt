@@ -1,157 +1,176 @@
-use Rattle.std.proofs.Common.{◌≡◌, ◌≤◌, IfSome, sym, subst, ◌∙◌}
+use Rattle.std.proofs.Common.{◌≡◌, ◌≤◌, IfSome, List, sym, ap, subst, ◌∙◌}
 use Rattle.tp_machine.proofs.MachineFacts.{is_machine}
 use Rattle.tp_choices.proofs.FewLists.{ended_has_few}
 use Rattle.tp_choices.proofs.Frontier.{frontier_ends}
 use Rattle.tp_choices.proofs.Searching.{search_fronts}
 use Rattle.tp_pool.specs.Entries.{bound_of}
-use Rattle.tp_schedule.specs.Answers.{IsAsked}
-use Rattle.tp_schedule.specs.Choices.{IsOpen}
-use Rattle.tp_schedule.specs.Legality.{IsLegal}
-use Rattle.tp_schedule.specs.Spending.{IsSpent}
-use Rattle.tp_search.specs.Boards.{IsBack, IsReady}
+use Rattle.tp_placing.specs.Boards.{BoardValue}
+use Rattle.tp_schedule.specs.Answers.{IsAlternative, NoneBefore}
+use Rattle.tp_schedule.specs.Choices.{IsBound, IsOpen}
+use Rattle.tp_schedule.specs.Spending.{FewListsOpen, IsSpent}
+use Rattle.tp_schedule.specs.declared.parts.Plan.{Plan}
+use Rattle.tp_search.specs.Boards.{IsReady}
+use Rattle.tp_search.specs.Holding.{IsLaidSince, IsOver}
 use Rattle.tp_search.specs.Outcomes.{CanOpen, HasChild, IsAllOpened}
 use Rattle.tp_search.specs.Searching.{IsBestLater, list_at, next_bound, next_list}
 use Rattle.tp_search.specs.Stored.{child_by}
-use Rattle.tp_search.proofs.BoardSteps.{IsMarked, back-itself, since-step, taken-back}
+use Rattle.tp_search.specs.Stores.{StoreValue}
+use Rattle.tp_search.proofs.HoldFacts.{holds-taken, marks-some, over-can_ask, over-legal, over-plans, since-answer, since-known, since-marks, since-more, since-undone}
 use Rattle.tp_search.proofs.SearchEnds.{IsBestList, searching-few, searching-never}
-use Rattle.tp_search.proofs.StepBoards.{answer-since, marked-plans, marked-ready, stands-asked, stands-legal}
-use Rattle.tp_search.proofs.StepFacts.{best-list, can-open, none-of, some-of, next-there, space-then, step-answered, step-full, step-less, step-none_before, step-on}
+use Rattle.tp_search.proofs.StepFacts.{best-list, can-open, known, next-there, none-of, some-of, space-then, step-answered, step-full, step-holds, step-less, step-none_before, step-on}
 use Rattle.tp_search.proofs.searching.step.Goals as goal
-use Rattle.tp_search.proofs.searching.step.Goals.{After-best_by, After-open_next-opening, In-Some-best_by, In_default-best_by, After-undo_to}
-
--- the board is marked, and ready
-marked : (g : _) (c : After-best_by g) → IsMarked g.N.Network.net g.N.Undo.content g.N.Undo.past g.N.Undo.aside g.N.Undo.mark_room c.args.board.now c.mark-base.new.self c.mark-base.result.0
-marked g c = (let m = c.mark-base.ensures in record { number = m.number; past_more = m.past; content_same = m.content; aside_same = m.aside; room_same = m.room })
-
-ready : (g : _) (c : After-best_by g) → IsReady g.N.Network.net g.N.Undo.content g.N.Undo.past g.N.Undo.mark_room c.mark-base.new.self c.args.problem.machine.now c.args.problem.ask.now
-ready g c = marked-ready g.N.Network.net g.N.Undo.content g.N.Undo.past g.N.Undo.aside g.N.Undo.mark_room c.marks_keep_boards.ensures.mark c.args.board.now c.mark-base.new.self c.args.problem.machine.now c.args.problem.ask.now c.mark-base.result.0 (marked g c) c.requires.ready
-
-plans : (g : _) (c : After-best_by g) → c.mark-base.new.self.plans ≡ c.args.board.now.plans
-plans g c = marked-plans g.N.Network.net g.N.Undo.content g.N.Undo.past g.N.Undo.aside g.N.Undo.mark_room c.args.board.now c.mark-base.new.self c.mark-base.result.0 (marked g c)
-
-legal : (g : _) (c : After-best_by g) → IsLegal c.args.problem.machine.now c.args.board.now.plans
-legal g c = stands-legal g.N.Network.net g.N.Undo.content g.N.Undo.past c.args.board.now c.args.problem.machine.now c.requires.ready.stands
-
-asked : (g : _) (c : After-best_by g) → IsAsked c.args.problem.machine.now c.args.board.now.plans c.args.problem.ask.now
-asked g c = stands-asked g.N.Network.net g.N.Undo.content g.N.Undo.past c.args.board.now c.args.problem.machine.now c.args.problem.ask.now c.requires.ready.stands c.requires.ready.asked
+use Rattle.tp_search.proofs.searching.step.Goals.{After-open_next-opening, In-Some-best_by, In_default-best_by}
 
 -- a complete list that is stored is no later than the one that was taken
 best : (g : _) (c : In-Some-best_by g) → IsBestList c.args.problem.machine.now c.args.board.now.plans c.args.problem.ask.now c.take_next.new.store c.in-Some-best_by.best
 best g c =
-    best-list c.args.problem.machine.now c.args.board.now.plans c.args.problem.ask.now c.args.goals.now.items c.args.store.now c.requires.searching.0 c.requires.searching.1 c.take_next.new.goals.items c.take_next.new.store c.in-Some.next c.in-Some.ensures.next
-    (stands-legal g.N.Network.net g.N.Undo.content g.N.Undo.past c.args.board.now c.args.problem.machine.now c.requires.ready.stands) (stands-asked g.N.Network.net g.N.Undo.content g.N.Undo.past c.args.board.now c.args.problem.machine.now c.args.problem.ask.now c.requires.ready.stands c.requires.ready.asked)
+    best-list c.args.problem.machine.now c.args.board.now.plans c.args.problem.ask.now c.args.goals.now.items c.args.store.now c.requires.searching.0 c.requires.searching.1 c.take_next.new.goals.items c.take_next.new.store c.in-Some.next c.in-Some.ensures.next (over-legal g.N.Network.net g.N.Undo.content g.N.Undo.past g.N.Undo.mark_room c.requires.over.0 c.args.board.now c.args.problem.machine.now c.args.problem.ask.now c.args.held.now c.requires.over.1 c.requires.over.3)
+    (over-can_ask g.N.Network.net g.N.Undo.content g.N.Undo.past g.N.Undo.mark_room c.requires.over.0 c.args.board.now c.args.problem.machine.now c.args.problem.ask.now c.args.held.now c.requires.over.1 c.requires.over.3)
     c.in-Some-best_by.best c.in-Some-best_by.ensures.best (subst (λ b. bound_of c.take_next.new.store.entries c.in-Some-best_by.best ≤ b) c.bound_of-bound.ensures c.in-Some-best_by.ensures.bound)
 
 -- or there is none
 later : (g : _) (c : In_default-best_by g) → IsBestLater c.take_next.new.store (next_bound c.take_next.new.store c.in-Some.next)
 later g c = subst (IsBestLater c.take_next.new.store) c.bound_of-bound.ensures (c.best_by.ensures.later c.in_default-best_by.is)
 
+-- the plans are the same once it is laid
+plans-laid : (g : _) (c : After-open_next-opening g) → c.lay_next-reached.new.board.plans ≡ c.args.board.now.plans
+plans-laid g c = (c.lay_next-reached.ensures.since c.requires.over.0 c.requires.over.1 c.requires.over.3).loaded.plans ∙ sym (over-plans g.N.Network.net g.N.Undo.content g.N.Undo.past g.N.Undo.mark_room c.requires.over.0 c.args.board.now c.args.problem.machine.now c.args.held.now c.requires.over.3)
+
 -- the list was opened
 opened : (g : _) (c : After-open_next-opening g) → IsAllOpened c.args.problem.machine.now c.args.board.now.plans c.args.problem.ask.now c.take_next.new.store c.in-Some.next c.open_next-opening.result c.open_next-opening.new.store
-opened g c = subst (λ ps. IsAllOpened c.args.problem.machine.now ps c.args.problem.ask.now c.take_next.new.store c.in-Some.next c.open_next-opening.result c.open_next-opening.new.store)
-    (marked-plans g.N.Network.net g.N.Undo.content g.N.Undo.past g.N.Undo.aside g.N.Undo.mark_room c.args.board.now c.mark-base.new.self c.mark-base.result.0 (let m = c.mark-base.ensures in record { number = m.number; past_more = m.past; content_same = m.content; aside_same = m.aside; room_same = m.room }))
-    c.open_next-opening.ensures.opened
+opened g c = subst (λ ps. IsAllOpened c.args.problem.machine.now ps c.args.problem.ask.now c.take_next.new.store c.in-Some.next c.open_next-opening.result c.open_next-opening.new.store) (plans-laid g c) c.open_next-opening.ensures.opened
 
--- and what was done since the mark was taken back
-back : (g : _) (c : After-undo_to g) → IsBack g.N.Network.net g.N.Undo.content g.N.Undo.past g.N.Undo.mark_room c.args.board.now c.undo_to.new.self c.args.problem.machine.now
-back g c =
-    let m = c.mark-base.ensures in
-    let u = c.undo_to.ensures in
-    let same = c.open_next-opening.ensures.same in
-    taken-back g.N.Network.net g.N.Undo.content g.N.Undo.past g.N.Undo.aside g.N.Undo.mark_room c.marks_keep_boards.ensures.mark c.marks_keep_boards.ensures.back c.args.board.now c.mark-base.new.self c.open_next-opening.new.board c.undo_to.new.self c.args.problem.machine.now c.mark-base.result.0
-    (record { number = m.number; past_more = m.past; content_same = m.content; aside_same = m.aside; room_same = m.room })
-    (since-step g.N.Network.net g.N.Undo.content g.N.Undo.past g.N.Undo.mark_room c.mark-base.new.self c.open_next-opening.new.board c.args.problem.machine.now same.same_past same.loaded same.marks (λ _. c.open_next-opening.ensures.stands))
-    (record { content_then = u.content; past_less = u.past; aside_same = u.aside; room_same = u.room })
+-- all that the board carries was laid since the mark
+since : (g : _) (c : After-open_next-opening g) (b : BoardValue g.row.N.Denot) → IsReady g.N.Network.net g.N.Undo.content g.N.Undo.past g.N.Undo.mark_room b c.args.problem.machine.now c.args.problem.ask.now → IsOver g.N.Network.net g.N.Undo.content g.N.Undo.past g.N.Undo.mark_room b c.args.board.now c.args.problem.machine.now c.args.held.now → IsLaidSince g.N.Network.net g.N.Undo.content g.N.Undo.past g.N.Undo.mark_room b c.open_next-opening.new.board c.args.problem.machine.now c.lay_next-reached.result.base.0
+since g c b ready over = since-more g.N.Network.net g.N.Undo.content g.N.Undo.past g.N.Undo.mark_room b c.lay_next-reached.new.board c.args.problem.machine.now c.lay_next-reached.result.base.0 (c.lay_next-reached.ensures.since b ready over) c.open_next-opening.new.board c.open_next-opening.ensures.same c.open_next-opening.ensures.stands
+
+pub take_off-requires : goal.take_off-requires
+take_off-requires g c = record { over = (c.requires.over.0, c.args.problem.machine.now, c.requires.over.3) }
 
 pub returns-in_default-clause-ends : goal.returns-in_default-clause-ends
-returns-in_default-clause-ends g c =
-    let none = c.take_next.ensures.none.0 c.in_default.is in (
-      searching-never c.args.problem.machine.now c.args.board.now.plans c.args.problem.ask.now c.args.goals.now.items c.args.store.now c.requires.searching.0 c.requires.searching.1 search_fronts frontier_ends
-          (stands-legal g.N.Network.net g.N.Undo.content g.N.Undo.past c.args.board.now c.args.problem.machine.now c.requires.ready.stands)
-          (stands-asked g.N.Network.net g.N.Undo.content g.N.Undo.past c.args.board.now c.args.problem.machine.now c.args.problem.ask.now c.requires.ready.stands c.requires.ready.asked) none.0 none.1,
-      back-itself g.N.Network.net g.N.Undo.content g.N.Undo.past g.N.Undo.mark_room c.args.board.now c.args.problem.machine.now,
-      searching-few c.args.problem.machine.now c.args.board.now.plans c.args.problem.ask.now c.args.goals.now.items c.args.store.now c.requires.searching.0 c.requires.searching.1 ended_has_few (c.take_next.ensures.within c.in_default.is) none.0 none.1,
+returns-in_default-clause-ends g c b ready over =
+    let none = c.take_next.ensures.none.0 c.in_default.is in
+    let same = over-plans g.N.Network.net g.N.Undo.content g.N.Undo.past g.N.Undo.mark_room b c.args.board.now c.args.problem.machine.now c.args.held.now over in
+    let never = searching-never c.args.problem.machine.now c.args.board.now.plans c.args.problem.ask.now c.args.goals.now.items c.args.store.now c.requires.searching.0 c.requires.searching.1 search_fronts frontier_ends (over-legal g.N.Network.net g.N.Undo.content g.N.Undo.past g.N.Undo.mark_room c.requires.over.0 c.args.board.now c.args.problem.machine.now c.args.problem.ask.now c.args.held.now c.requires.over.1 c.requires.over.3)
+    (over-can_ask g.N.Network.net g.N.Undo.content g.N.Undo.past g.N.Undo.mark_room c.requires.over.0 c.args.board.now c.args.problem.machine.now c.args.problem.ask.now c.args.held.now c.requires.over.1 c.requires.over.3) none.0 none.1 in
+    let few = searching-few c.args.problem.machine.now c.args.board.now.plans c.args.problem.ask.now c.args.goals.now.items c.args.store.now c.requires.searching.0 c.requires.searching.1 ended_has_few (c.take_next.ensures.within c.in_default.is) none.0 none.1 in (
+      subst (λ ps. (plans' : List Plan) → ¬ IsAlternative c.args.problem.machine.now ps c.args.problem.ask.now plans') same never,
+      c.take_off.ensures.back b c.args.problem.machine.now over,
+      subst (λ ps. FewListsOpen c.args.problem.machine.now ps c.args.problem.ask.now c.args.store.now.room) same few,
     )
 
 pub bound_of-bound-requires : goal.bound_of-bound-requires
-bound_of-bound-requires g c =
-    next-there c.args.problem.machine.now c.args.board.now.plans c.args.problem.ask.now c.args.goals.now.items c.args.store.now c.requires.searching.0 c.requires.searching.1 c.take_next.new.goals.items c.take_next.new.store c.in-Some.next c.in-Some.ensures.next
+bound_of-bound-requires g c = next-there c.args.problem.machine.now c.args.board.now.plans c.args.problem.ask.now c.args.goals.now.items c.args.store.now c.requires.searching.0 c.requires.searching.1 c.take_next.new.goals.items c.take_next.new.store c.in-Some.next c.in-Some.ensures.next
+
+pub mark_anew-base-requires : goal.mark_anew-base-requires
+mark_anew-base-requires g c = record { over = (c.requires.over.0, c.args.problem.machine.now, marks-some g.N.Network.net g.N.Undo.content g.N.Undo.past g.N.Undo.mark_room c.requires.over.0 c.requires.over.2, c.requires.over.3) }
 
 pub follow-requires-clause-ready : goal.follow-requires-clause-ready
-follow-requires-clause-ready g c = ready g (goal.at.follow-requires-clause-ready g c).After-best_by
+follow-requires-clause-ready g c = c.mark_anew-base.ensures.ready c.requires.over.0 c.args.problem.machine.now c.args.problem.ask.now c.requires.over.1 c.requires.over.3
 
 pub follow-requires-clause-opens : goal.follow-requires-clause-opens
 follow-requires-clause-opens g c =
     let list = best g (goal.at.follow-requires-clause-opens g c).In-Some-best_by in
-    subst (λ ps. IsOpen c.args.problem.machine.now ps c.args.problem.ask.now (list_at c.args.problem.machine.now c.take_next.new.store.entries c.in-Some-best_by.best)) (sym (plans g (goal.at.follow-requires-clause-opens g c).After-best_by)) (bound_of c.take_next.new.store.entries c.in-Some-best_by.best, list.is_bound.opens)
+    let laid = (c.mark_anew-base.ensures.since c.requires.over.0 c.args.problem.machine.now c.args.problem.ask.now c.requires.over.1 c.requires.over.3).loaded.plans in
+    let same = laid ∙ sym (over-plans g.N.Network.net g.N.Undo.content g.N.Undo.past g.N.Undo.mark_room c.requires.over.0 c.args.board.now c.args.problem.machine.now c.args.held.now c.requires.over.3) in
+    subst (λ ps. IsOpen c.args.problem.machine.now ps c.args.problem.ask.now (list_at c.args.problem.machine.now c.take_next.new.store.entries c.in-Some-best_by.best)) (sym same) (bound_of c.take_next.new.store.entries c.in-Some-best_by.best, list.is_bound.opens)
 
 pub returns-in-Some-best_by-clause-ends : goal.returns-in-Some-best_by-clause-ends
-returns-in-Some-best_by-clause-ends g c =
-    let k = goal.at.returns-in-Some-best_by-clause-ends g c in
-    let list = best g k.In-Some-best_by in
-    answer-since g.N.Network.net g.N.Undo.content g.N.Undo.past g.N.Undo.aside g.N.Undo.mark_room c.args.board.now c.mark-base.new.self c.follow.new.board c.args.problem.machine.now c.args.problem.ask.now c.mark-base.result.0 (marked g k.After-best_by) c.follow.ensures.same
-    c.follow.result (list_at c.args.problem.machine.now c.take_next.new.store.entries c.in-Some-best_by.best) (bound_of c.take_next.new.store.entries c.in-Some-best_by.best) c.follow.ensures.laid list.complete list.is_bound list.none_before
+returns-in-Some-best_by-clause-ends g c b ready over =
+    let list = best g (goal.at.returns-in-Some-best_by-clause-ends g c).In-Some-best_by in
+    let same = over-plans g.N.Network.net g.N.Undo.content g.N.Undo.past g.N.Undo.mark_room b c.args.board.now c.args.problem.machine.now c.args.held.now over in
+    let whole = list_at c.args.problem.machine.now c.take_next.new.store.entries c.in-Some-best_by.best in
+    let bound = bound_of c.take_next.new.store.entries c.in-Some-best_by.best in
+    since-answer g.N.Network.net g.N.Undo.content g.N.Undo.past g.N.Undo.mark_room b c.follow.new.board c.args.problem.machine.now c.mark_anew-base.result.0
+    (since-more g.N.Network.net g.N.Undo.content g.N.Undo.past g.N.Undo.mark_room b c.mark_anew-base.new.board c.args.problem.machine.now c.mark_anew-base.result.0 (c.mark_anew-base.ensures.since b c.args.problem.machine.now c.args.problem.ask.now ready over) c.follow.new.board c.follow.ensures.same c.follow.ensures.laid.stands)
+    c.args.problem.ask.now c.follow.result whole bound c.follow.ensures.laid list.complete (subst (λ ps. IsBound c.args.problem.machine.now ps c.args.problem.ask.now whole bound) same list.is_bound) (subst (λ ps. NoneBefore c.args.problem.machine.now ps c.args.problem.ask.now bound) same list.none_before)
 
-pub open_next-opening-requires-clause-ready : goal.open_next-opening-requires-clause-ready
-open_next-opening-requires-clause-ready g c = ready g (goal.at.open_next-opening-requires-clause-ready g c).After-best_by
+pub lay_next-reached-requires-clause-over : goal.lay_next-reached-requires-clause-over
+lay_next-reached-requires-clause-over g c = (c.requires.over.0, c.requires.over.1, marks-some g.N.Network.net g.N.Undo.content g.N.Undo.past g.N.Undo.mark_room c.requires.over.0 c.requires.over.2, c.requires.over.3)
+
+pub lay_next-reached-requires-clause-holds : goal.lay_next-reached-requires-clause-holds
+lay_next-reached-requires-clause-holds g c =
+    let same = ap (λ (t : StoreValue). t.entries) (known c.args.problem.machine.now c.args.board.now.plans c.args.problem.ask.now c.args.goals.now.items c.args.store.now c.requires.searching.0 c.requires.searching.1 c.take_next.new.goals.items c.take_next.new.store c.in-Some.next c.in-Some.ensures.next).same in
+    holds-taken g.N.Network.net g.N.Undo.content g.N.Undo.past c.args.board.now c.args.problem.machine.now c.args.problem.ask.now c.args.store.now c.take_next.new.store c.args.held.now same c.requires.holds
+
+pub lay_next-reached-requires-clause-can : goal.lay_next-reached-requires-clause-can
+lay_next-reached-requires-clause-can g c =
+    let k = goal.at.lay_next-reached-requires-clause-can g c in
+    (can-open c.args.problem.machine.now c.args.board.now.plans c.args.problem.ask.now c.args.goals.now.items c.args.store.now c.requires.searching.0 c.requires.searching.1 c.take_next.new.goals.items c.take_next.new.store c.in-Some.next c.in-Some.ensures.next (is_machine c.args.problem.machine.now) c.requires.goal (later g k.In_default-best_by)).can_lay
+
+pub open_next-opening-requires-clause-marks : goal.open_next-opening-requires-clause-marks
+open_next-opening-requires-clause-marks g c =
+    since-marks g.N.Network.net g.N.Undo.content g.N.Undo.past g.N.Undo.mark_room c.requires.over.0 c.lay_next-reached.new.board c.args.problem.machine.now c.lay_next-reached.result.base.0 (c.lay_next-reached.ensures.since c.requires.over.0 c.requires.over.1 c.requires.over.3) 6 c.requires.over.2
 
 pub open_next-opening-requires-clause-can : goal.open_next-opening-requires-clause-can
 open_next-opening-requires-clause-can g c =
     let k = goal.at.open_next-opening-requires-clause-can g c in
-    subst (λ ps. CanOpen c.args.problem.machine.now ps c.args.problem.ask.now c.take_next.new.store c.in-Some.next) (sym (plans g k.After-best_by))
-    (can-open c.args.problem.machine.now c.args.board.now.plans c.args.problem.ask.now c.args.goals.now.items c.args.store.now c.requires.searching.0 c.requires.searching.1 c.take_next.new.goals.items c.take_next.new.store c.in-Some.next c.in-Some.ensures.next (is_machine c.args.problem.machine.now) c.requires.goal (later g k.In_default-best_by))
+    let same = (c.lay_next-reached.ensures.since c.requires.over.0 c.requires.over.1 c.requires.over.3).loaded.plans ∙ sym (over-plans g.N.Network.net g.N.Undo.content g.N.Undo.past g.N.Undo.mark_room c.requires.over.0 c.args.board.now c.args.problem.machine.now c.args.held.now c.requires.over.3) in
+    subst (λ ps. CanOpen c.args.problem.machine.now ps c.args.problem.ask.now c.take_next.new.store c.in-Some.next) (sym same) (can-open c.args.problem.machine.now c.args.board.now.plans c.args.problem.ask.now c.args.goals.now.items c.args.store.now c.requires.searching.0 c.requires.searching.1 c.take_next.new.goals.items c.take_next.new.store c.in-Some.next c.in-Some.ensures.next (is_machine c.args.problem.machine.now) c.requires.goal (later g k.In_default-best_by))
 
 pub returns-then-is_some-clause-ends : goal.returns-then-is_some-clause-ends
-returns-then-is_some-clause-ends g c =
+returns-then-is_some-clause-ends g c b ready over =
     let k = goal.at.returns-then-is_some-clause-ends g c in
     let answer = some-of c.open_next-opening.result.answer (sym c.is_some.ensures ∙ c.if-is_some.true) in
     let child = subst (λ a. IfSome a (HasChild g.N.Network.net g.N.Undo.content g.N.Undo.past g.N.Undo.mark_room c.open_next-opening.new.board c.args.problem.machine.now c.args.problem.ask.now c.take_next.new.store c.in-Some.next)) answer.1 c.open_next-opening.ensures.answer in
-    let answers = step-answered c.args.problem.machine.now c.args.board.now.plans c.args.problem.ask.now c.args.goals.now.items c.args.store.now c.requires.searching.0 c.requires.searching.1 c.take_next.new.goals.items c.take_next.new.store c.in-Some.next c.in-Some.ensures.next (is_machine c.args.problem.machine.now) c.requires.goal (later g k.In_default-best_by)
-    c.open_next-opening.result c.open_next-opening.new.store (opened g k.After-open_next-opening) answer.0 answer.1 in
-    let none = step-none_before c.args.problem.machine.now c.args.board.now.plans c.args.problem.ask.now c.args.goals.now.items c.args.store.now c.requires.searching.0 c.requires.searching.1 c.take_next.new.goals.items c.take_next.new.store c.in-Some.next c.in-Some.ensures.next (is_machine c.args.problem.machine.now) c.requires.goal (later g k.In_default-best_by)
-    c.open_next-opening.result c.open_next-opening.new.store (opened g k.After-open_next-opening) (legal g k.After-best_by) (asked g k.After-best_by) in
+    let answers = step-answered c.args.problem.machine.now c.args.board.now.plans c.args.problem.ask.now c.args.goals.now.items c.args.store.now c.requires.searching.0 c.requires.searching.1 c.take_next.new.goals.items c.take_next.new.store c.in-Some.next c.in-Some.ensures.next (is_machine c.args.problem.machine.now) c.requires.goal (later g k.In_default-best_by) c.open_next-opening.result c.open_next-opening.new.store (opened g k.After-open_next-opening) answer.0 answer.1 in
+    let none = step-none_before c.args.problem.machine.now c.args.board.now.plans c.args.problem.ask.now c.args.goals.now.items c.args.store.now c.requires.searching.0 c.requires.searching.1 c.take_next.new.goals.items c.take_next.new.store c.in-Some.next c.in-Some.ensures.next (is_machine c.args.problem.machine.now) c.requires.goal (later g k.In_default-best_by) c.open_next-opening.result c.open_next-opening.new.store (opened g k.After-open_next-opening) (over-legal g.N.Network.net g.N.Undo.content g.N.Undo.past g.N.Undo.mark_room c.requires.over.0 c.args.board.now c.args.problem.machine.now c.args.problem.ask.now c.args.held.now c.requires.over.1 c.requires.over.3)
+    (over-can_ask g.N.Network.net g.N.Undo.content g.N.Undo.past g.N.Undo.mark_room c.requires.over.0 c.args.board.now c.args.problem.machine.now c.args.problem.ask.now c.args.held.now c.requires.over.1 c.requires.over.3) in
     let list = next_list c.args.problem.machine.now c.take_next.new.store c.in-Some.next in
-    answer-since g.N.Network.net g.N.Undo.content g.N.Undo.past g.N.Undo.aside g.N.Undo.mark_room c.args.board.now c.mark-base.new.self c.open_next-opening.new.board c.args.problem.machine.now c.args.problem.ask.now c.mark-base.result.0 (marked g k.After-best_by) c.open_next-opening.ensures.same
-    child.0 (child_by c.args.problem.machine.now list.goal list.choices answer.0) (next_bound c.take_next.new.store c.in-Some.next) child.1 answers.complete answers.is_bound none
+    let whole = child_by c.args.problem.machine.now list.goal list.choices answer.0 in
+    let bound = next_bound c.take_next.new.store c.in-Some.next in
+    let same = over-plans g.N.Network.net g.N.Undo.content g.N.Undo.past g.N.Undo.mark_room b c.args.board.now c.args.problem.machine.now c.args.held.now over in
+    since-answer g.N.Network.net g.N.Undo.content g.N.Undo.past g.N.Undo.mark_room b c.open_next-opening.new.board c.args.problem.machine.now c.lay_next-reached.result.base.0 (since g k.After-open_next-opening b ready over)
+    c.args.problem.ask.now child.0 whole bound child.1 answers.complete (subst (λ ps. IsBound c.args.problem.machine.now ps c.args.problem.ask.now whole bound) same answers.is_bound) (subst (λ ps. NoneBefore c.args.problem.machine.now ps c.args.problem.ask.now bound) same none)
 
 pub returns-then-is_some-clause-same : goal.returns-then-is_some-clause-same
 returns-then-is_some-clause-same g c =
     let k = goal.at.returns-then-is_some-clause-same g c in
-    space-then c.args.problem.machine.now c.args.board.now.plans c.args.problem.ask.now c.args.goals.now.items c.args.store.now c.requires.searching.0 c.requires.searching.1 c.take_next.new.goals.items c.take_next.new.store c.in-Some.next c.in-Some.ensures.next (is_machine c.args.problem.machine.now) c.requires.goal (later g k.In_default-best_by)
-    c.open_next-opening.result c.open_next-opening.new.store (opened g k.After-open_next-opening) c.args.goals.now c.take_next.new.goals c.take_next.ensures.same
+    space-then c.args.problem.machine.now c.args.board.now.plans c.args.problem.ask.now c.args.goals.now.items c.args.store.now c.requires.searching.0 c.requires.searching.1 c.take_next.new.goals.items c.take_next.new.store c.in-Some.next c.in-Some.ensures.next (is_machine c.args.problem.machine.now) c.requires.goal (later g k.In_default-best_by) c.open_next-opening.result c.open_next-opening.new.store (opened g k.After-open_next-opening) c.args.goals.now c.take_next.new.goals c.take_next.ensures.same
+
+pub undo_to-requires : goal.undo_to-requires
+undo_to-requires g c =
+    let k = goal.at.undo_to-requires g c in
+    since-known g.N.Network.net g.N.Undo.content g.N.Undo.past g.N.Undo.mark_room c.requires.over.0 c.open_next-opening.new.board c.args.problem.machine.now c.lay_next-reached.result.base.0 (since g k.After-open_next-opening c.requires.over.0 c.requires.over.1 c.requires.over.3)
 
 pub returns-then-is_full-clause-ends : goal.returns-then-is_full-clause-ends
-returns-then-is_full-clause-ends g c =
+returns-then-is_full-clause-ends g c b ready over =
     let k = goal.at.returns-then-is_full-clause-ends g c in
-    let spent = step-full c.args.problem.machine.now c.args.board.now.plans c.args.problem.ask.now c.args.goals.now.items c.args.store.now c.requires.searching.0 c.requires.searching.1 c.take_next.new.goals.items c.take_next.new.store c.in-Some.next c.in-Some.ensures.next (is_machine c.args.problem.machine.now) c.requires.goal (later g k.In_default-best_by)
-    c.open_next-opening.result c.open_next-opening.new.store (opened g k.After-open_next-opening) (none-of c.open_next-opening.result.answer (sym c.is_some.ensures ∙ c.if-is_some.false)) (sym c.is_full.ensures.full ∙ c.if-is_full.true) (legal g k.After-best_by) (asked g k.After-best_by) in
-    (subst (IsSpent c.args.problem.machine.now c.args.board.now.plans c.args.problem.ask.now c.args.store.now.room) (sym c.bound_of-bound.ensures) spent, back g k.After-undo_to)
+    let spent = step-full c.args.problem.machine.now c.args.board.now.plans c.args.problem.ask.now c.args.goals.now.items c.args.store.now c.requires.searching.0 c.requires.searching.1 c.take_next.new.goals.items c.take_next.new.store c.in-Some.next c.in-Some.ensures.next (is_machine c.args.problem.machine.now) c.requires.goal (later g k.In_default-best_by) c.open_next-opening.result c.open_next-opening.new.store (opened g k.After-open_next-opening) (none-of c.open_next-opening.result.answer (sym c.is_some.ensures ∙ c.if-is_some.false)) (sym c.is_full.ensures.full ∙ c.if-is_full.true) (over-legal g.N.Network.net g.N.Undo.content g.N.Undo.past g.N.Undo.mark_room c.requires.over.0 c.args.board.now c.args.problem.machine.now c.args.problem.ask.now c.args.held.now c.requires.over.1 c.requires.over.3)
+    (over-can_ask g.N.Network.net g.N.Undo.content g.N.Undo.past g.N.Undo.mark_room c.requires.over.0 c.args.board.now c.args.problem.machine.now c.args.problem.ask.now c.args.held.now c.requires.over.1 c.requires.over.3) in
+    let at = subst (IsSpent c.args.problem.machine.now c.args.board.now.plans c.args.problem.ask.now c.args.store.now.room) (sym c.bound_of-bound.ensures) spent in
+    let u = c.undo_to.ensures in (
+      subst (λ ps. IsSpent c.args.problem.machine.now ps c.args.problem.ask.now c.args.store.now.room c.bound_of-bound.result) (over-plans g.N.Network.net g.N.Undo.content g.N.Undo.past g.N.Undo.mark_room b c.args.board.now c.args.problem.machine.now c.args.held.now over) at,
+      since-undone g.N.Network.net g.N.Undo.content g.N.Undo.past g.N.Undo.aside g.N.Undo.mark_room c.marks_keep_boards.ensures.back b c.open_next-opening.new.board c.undo_to.new.self c.args.problem.machine.now c.lay_next-reached.result.base.0 (since g k.After-open_next-opening b ready over) (record { content_then = u.content; past_less = u.past; aside_same = u.aside; room_same = u.room }),
+    )
 
 pub returns-then-is_full-clause-same : goal.returns-then-is_full-clause-same
 returns-then-is_full-clause-same g c =
     let k = goal.at.returns-then-is_full-clause-same g c in
-    space-then c.args.problem.machine.now c.args.board.now.plans c.args.problem.ask.now c.args.goals.now.items c.args.store.now c.requires.searching.0 c.requires.searching.1 c.take_next.new.goals.items c.take_next.new.store c.in-Some.next c.in-Some.ensures.next (is_machine c.args.problem.machine.now) c.requires.goal (later g k.In_default-best_by)
-    c.open_next-opening.result c.open_next-opening.new.store (opened g k.After-open_next-opening) c.args.goals.now c.take_next.new.goals c.take_next.ensures.same
+    space-then c.args.problem.machine.now c.args.board.now.plans c.args.problem.ask.now c.args.goals.now.items c.args.store.now c.requires.searching.0 c.requires.searching.1 c.take_next.new.goals.items c.take_next.new.store c.in-Some.next c.in-Some.ensures.next (is_machine c.args.problem.machine.now) c.requires.goal (later g k.In_default-best_by) c.open_next-opening.result c.open_next-opening.new.store (opened g k.After-open_next-opening) c.args.goals.now c.take_next.new.goals c.take_next.ensures.same
 
-pub returns-else-is_full-clause-goes_on : goal.returns-else-is_full-clause-goes_on
-returns-else-is_full-clause-goes_on g c none =
-    let k = goal.at.returns-else-is_full-clause-goes_on g c in (
+pub returns-clause-goes_on : goal.returns-clause-goes_on
+returns-clause-goes_on g c none =
+    let k = goal.at.returns-clause-goes_on g c in (
       next_bound c.take_next.new.store c.in-Some.next,
-      step-on c.args.problem.machine.now c.args.board.now.plans c.args.problem.ask.now c.args.goals.now.items c.args.store.now c.requires.searching.0 c.requires.searching.1 c.take_next.new.goals.items c.take_next.new.store c.in-Some.next c.in-Some.ensures.next (is_machine c.args.problem.machine.now) c.requires.goal (later g k.In_default-best_by)
-          c.open_next-opening.result c.open_next-opening.new.store (opened g k.After-open_next-opening) (none-of c.open_next-opening.result.answer (sym c.is_some.ensures ∙ c.if-is_some.false)) (sym c.is_full.ensures.full ∙ c.if-is_full.false),
+      step-on c.args.problem.machine.now c.args.board.now.plans c.args.problem.ask.now c.args.goals.now.items c.args.store.now c.requires.searching.0 c.requires.searching.1 c.take_next.new.goals.items c.take_next.new.store c.in-Some.next c.in-Some.ensures.next (is_machine c.args.problem.machine.now) c.requires.goal (later g k.In_default-best_by) c.open_next-opening.result c.open_next-opening.new.store (opened g k.After-open_next-opening) (none-of c.open_next-opening.result.answer (sym c.is_some.ensures ∙ c.if-is_some.false)) (sym c.is_full.ensures.full ∙ c.if-is_full.false),
     )
 
-pub returns-else-is_full-clause-back : goal.returns-else-is_full-clause-back
-returns-else-is_full-clause-back g c none = back g (goal.at.returns-else-is_full-clause-back g c).After-undo_to
+pub returns-clause-over : goal.returns-clause-over
+returns-clause-over g c b ready over none = since g (goal.at.returns-clause-over g c).After-open_next-opening b ready over
 
-pub returns-else-is_full-clause-less : goal.returns-else-is_full-clause-less
-returns-else-is_full-clause-less g c none =
-    let k = goal.at.returns-else-is_full-clause-less g c in
-    step-less c.args.problem.machine.now c.args.board.now.plans c.args.problem.ask.now c.args.goals.now.items c.args.store.now c.requires.searching.0 c.requires.searching.1 c.take_next.new.goals.items c.take_next.new.store c.in-Some.next c.in-Some.ensures.next (is_machine c.args.problem.machine.now) c.requires.goal (later g k.In_default-best_by)
-    c.open_next-opening.result c.open_next-opening.new.store (opened g k.After-open_next-opening) c.is_full.ensures.within
+pub returns-clause-holds : goal.returns-clause-holds
+returns-clause-holds g c none =
+    let k = goal.at.returns-clause-holds g c in
+    step-holds c.args.problem.machine.now c.args.board.now.plans c.args.problem.ask.now c.args.goals.now.items c.args.store.now c.requires.searching.0 c.requires.searching.1 c.take_next.new.goals.items c.take_next.new.store c.in-Some.next c.in-Some.ensures.next (is_machine c.args.problem.machine.now) c.requires.goal (later g k.In_default-best_by) c.open_next-opening.result c.open_next-opening.new.store (opened g k.After-open_next-opening) g.N.Network.net g.N.Undo.content g.N.Undo.past c.open_next-opening.new.board c.lay_next-reached.result
+    (c.open_next-opening.ensures.none (none-of c.open_next-opening.result.answer (sym c.is_some.ensures ∙ c.if-is_some.false))) c.lay_next-reached.ensures.stored
 
-pub returns-else-is_full-clause-same : goal.returns-else-is_full-clause-same
-returns-else-is_full-clause-same g c =
-    let k = goal.at.returns-else-is_full-clause-same g c in
-    space-then c.args.problem.machine.now c.args.board.now.plans c.args.problem.ask.now c.args.goals.now.items c.args.store.now c.requires.searching.0 c.requires.searching.1 c.take_next.new.goals.items c.take_next.new.store c.in-Some.next c.in-Some.ensures.next (is_machine c.args.problem.machine.now) c.requires.goal (later g k.In_default-best_by)
-    c.open_next-opening.result c.open_next-opening.new.store (opened g k.After-open_next-opening) c.args.goals.now c.take_next.new.goals c.take_next.ensures.same
+pub returns-clause-less : goal.returns-clause-less
+returns-clause-less g c none =
+    let k = goal.at.returns-clause-less g c in
+    step-less c.args.problem.machine.now c.args.board.now.plans c.args.problem.ask.now c.args.goals.now.items c.args.store.now c.requires.searching.0 c.requires.searching.1 c.take_next.new.goals.items c.take_next.new.store c.in-Some.next c.in-Some.ensures.next (is_machine c.args.problem.machine.now) c.requires.goal (later g k.In_default-best_by) c.open_next-opening.result c.open_next-opening.new.store (opened g k.After-open_next-opening) c.is_full.ensures.within
+
+pub returns-clause-same : goal.returns-clause-same
+returns-clause-same g c =
+    let k = goal.at.returns-clause-same g c in
+    space-then c.args.problem.machine.now c.args.board.now.plans c.args.problem.ask.now c.args.goals.now.items c.args.store.now c.requires.searching.0 c.requires.searching.1 c.take_next.new.goals.items c.take_next.new.store c.in-Some.next c.in-Some.ensures.next (is_machine c.args.problem.machine.now) c.requires.goal (later g k.In_default-best_by) c.open_next-opening.result c.open_next-opening.new.store (opened g k.After-open_next-opening) c.args.goals.now c.take_next.new.goals c.take_next.ensures.same
