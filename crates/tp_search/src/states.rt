@@ -43,14 +43,14 @@ pub(crate) fn state_before(problem: Problem, state: State, act: ActId) -> Option
     ensures within { IfSome result
         (λ r. r.state.loc.0 < length problem.entry.machine.now.locations) }
 {
-    if !allowed(problem.machine, problem.ask.outs, act) {
-        return None;
-    }
     let before = regress(
         problem.machine.actions.get(act.0 as u32),
         &problem.ask.want,
         state,
     )?;
+    if !allowed(problem.machine, problem.ask.outs, act) {
+        return None;
+    }
     let room = room_of(problem, before)?;
     Some(Before {
         state: before,
