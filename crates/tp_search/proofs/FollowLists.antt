@@ -4,13 +4,14 @@ use Rattle.std.specs.Prelude.{IsSome}
 use Rattle.std.specs.List.{slice_get}
 use Rattle.std.proofs.lemmas.List.{drop_more}
 use Rattle.std.proofs.lemmas.List.Elements.{All-drop, All-head, All-nil}
-use Rattle.std.proofs.lemmas.Option.{get_or_from_slice_get}
+use Rattle.std.proofs.lemmas.Option.{get_or_from_slice_get, same_Some}
 use Rattle.std.proofs.Math.Seq.{drop-length}
 use Rattle.tp_base.proofs.SliceFacts.{All-at}
 use Rattle.tp_base.specs.Net.{Net}
 use Rattle.tp_machine.specs.declared.parts.ActId.{ActId}
 use Rattle.tp_machine.specs.declared.parts.State.{State}
 use Rattle.tp_machine.specs.declared.whole.Machine.{Machine}
+use Rattle.tp_pool.specs.Entries.{choice_made}
 use Rattle.tp_pool.specs.declared.choice.Choice.{Choice as Stored}
 use Rattle.tp_schedule.specs.Choices.{CanStop, Choice, ChoiceList, IsOpen, going, stopping}
 use Rattle.tp_schedule.specs.Choices.IsChild.{one_more, stopped}
@@ -71,6 +72,13 @@ module _ (machine : Machine) (plans : List Plan) (ask : Ask) (goal : State) wher
 pub whole-list : (machine : Machine) (goal : State) (cs : List Stored) → IsStoredList goal cs → list_from machine goal cs ≡ list_by machine cs
 whole-list machine goal [] stored = absurd (omega (arith, stored.some))
 whole-list machine goal (c ∷ cs) stored = ap (λ s. child_by machine s (choices_by machine cs) c) (sym (All-head (λ d. d.goal ≡ goal) c cs stored.goals))
+
+-- the newest choice has the goal of the list
+pub newest-goal : (machine : Machine) (cs : List Stored) (c : Stored) (depth : ℕ) → 0 < length cs → depth ≡ length cs → choice_made cs depth ≡ Some c → c.goal ≡ (list_by machine cs).goal
+newest-goal machine [] c depth some is made = absurd (omega (arith, some))
+newest-goal machine (d ∷ cs) c depth some is made =
+    let at : length (d ∷ cs) - depth ≡ 0 = omega (arith, is) in
+    ap (λ (e : Stored). e.goal) (sym (same_Some d c (subst (λ n. slice_get (d ∷ cs) n ≡ Some c) at made)))
 
 module _ (machine : Machine) (plans : List Plan) (ask : Ask) (goal : State) (cs : List Stored) (stored : IsStoredList goal cs) (o : IsOpen machine plans ask (list_by machine cs)) where
   -- the oldest choices

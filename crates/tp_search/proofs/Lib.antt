@@ -37,6 +37,8 @@ pub mod SearchFull
 pub mod StepFacts
 pub mod StepBoards
 pub mod HoldFacts
+pub mod RootFacts
+pub mod HoldChildren
 pub mod AskedFacts
 pub mod AnswerFacts
 pub mod TrialFacts

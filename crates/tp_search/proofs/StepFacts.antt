@@ -1,5 +1,5 @@
 -- A step of a search: what is known of the list that was taken, told of the store without it.
-use Rattle.std.proofs.Common.{◌≡◌, ℕ, true, false, ◌+◌, ◌<◌, ◌≤◌, List, [], ◌∷◌, length, Option, Some, None, IfSome, is_some, Vec, refl, sym, ap, subst, ◌∙◌, arith}
+use Rattle.std.proofs.Common.{◌≡◌, ℕ, true, false, ◌+◌, ◌<◌, ◌≤◌, List, [], ◌∷◌, ◌++◌, length, Option, Some, None, IfSome, is_some, Vec, refl, sym, ap, subst, ◌∙◌, arith}
 use Rattle.std.specs.declared.alloc.Global.{Global}
 use Rattle.std.proofs.lemmas.Bool.{false≢true, true≢false}
 use Rattle.std.proofs.lemmas.List.{length-append}
@@ -10,7 +10,7 @@ use Rattle.tp_machine.specs.declared.whole.Machine.{Machine}
 use Rattle.tp_pool.specs.Entries.{IsParentOf, bound_of, choices_before, choices_of, entry_at}
 use Rattle.tp_pool.specs.declared.choice.Choice.{Choice as Stored}
 use Rattle.tp_schedule.specs.Answers.{IsAsked, NoneBefore}
-use Rattle.tp_schedule.specs.Choices.{IsBound, IsComplete}
+use Rattle.tp_schedule.specs.Choices.{ChoiceList, IsBound, IsComplete, going}
 use Rattle.tp_schedule.specs.Planning.{IsKnownGoal}
 use Rattle.tp_schedule.specs.Legality.{IsLegal}
 use Rattle.tp_schedule.specs.Spending.{IsSpent}
@@ -21,7 +21,7 @@ use Rattle.tp_choices.proofs.Leaving.{parent_bound}
 use Rattle.tp_choices.proofs.Searching.{full_spends, search_fronts}
 use Rattle.tp_placing.specs.Boards.{BoardValue}
 use Rattle.tp_search.specs.Following.{HasList}
-use Rattle.tp_search.specs.Holding.{HoldsList, IsOneMore}
+use Rattle.tp_search.specs.Holding.{HoldsList, IsAnswerTo, IsOneMore}
 use Rattle.tp_search.specs.Opening.{Answers, IsAtProgress, IsFresh, IsOpenChild, IsOpening, IsSameOpening, parent_of}
 use Rattle.tp_search.specs.Opening.Progress.{nothing, up_to}
 use Rattle.tp_search.specs.Outcomes.{CanLay, CanOpen, IsAllOpened}
@@ -35,7 +35,7 @@ use Rattle.tp_search.specs.declared.taking.Next.{Next}
 use Rattle.tp_search.specs.declared.taking.Next.TheVariants.{Goal, Node}
 use Rattle.tp_search.proofs.SearchEnds.{IsBestList, next-incomplete, next-none_before, searching-best}
 use Rattle.tp_search.proofs.SearchFresh.{next-begins, next-fresh, next-going}
-use Rattle.tp_search.proofs.SearchGrown.{entry-new}
+use Rattle.tp_search.proofs.SearchGrown.{can_lay-grown, entry-new, list-grown}
 use Rattle.tp_search.proofs.SearchOpened.{next-opening}
 use Rattle.tp_search.proofs.SearchFull.{searching-answered, searching-full}
 use Rattle.tp_search.proofs.SearchNext.{IsKnownNext, next-formed, next-known}
@@ -135,6 +135,9 @@ module _ (machine : Machine) (plans : List Plan) (ask : Ask) (goals : List OpenG
       same : IsSameOpening (opening_of machine s next) o s' s''
       same = subst (λ x. IsSameOpening x o s' s'') opening-same all.same
 
+      grown-by : IsOpening machine plans ask (next_list machine s next) (next_bound s next) (choices_before s.entries (next_node next)) s.entries (up_to (length machine.actions) []) o.answer s''.entries s''.room s''.full s''.best
+      grown-by = next-opening machine plans ask goals s bound goals' s' next searching known incomplete o s'' (up_to (length machine.actions) []) same all.progress
+
       room-then : s''.room ≡ s.room
       room-then = same.grows.room ∙ room-same
 
@@ -159,6 +162,23 @@ module _ (machine : Machine) (plans : List Plan) (ask : Ask) (goals : List OpenG
         step-on not-full = subst (IsSearching machine plans ask goals' s'') (sym bound-same)
             (searching-on machine plans ask goals s bound goals' s' next o s'' searching is-next incomplete parent_bound same all.progress no-answer not-full)
 
+      -- the answer is a child of the list, said of the store as it is then
+      pub step-answer : (c : Stored) → o.answer ≡ Some c → IsAnswerTo machine plans ask (next_list machine s' next) c
+      step-answer c is = record {
+        goes_on = can-open.goes_on ∙ ap {B = ChoiceList} (λ cs. going (next_list machine s' next).goal cs) (sym (ap (λ (l : ChoiceList). l.choices) can-open.goes_on));
+        goal = subst (λ a. IfSome a (λ (d : Stored). d.goal ≡ o.goal)) is all.progress.same_goal ∙ all.same.goal;
+        opens = (next_bound s' next, (step-answered c is).is_bound.opens);
+      }
+
+      entries-grown : s''.entries ≡ s'.entries ++ grown-by.new
+      entries-grown = grown-by.grown ∙ ap (λ (t : StoreValue). t.entries ++ grown-by.new) (sym known.same)
+
+      pub step-list : next_list machine s'' next ≡ next_list machine s' next
+      step-list = list-grown machine goals' s' s'' grown-by.new entries-grown plans ask next can-lay
+
+      pub step-can_lay : CanLay machine plans ask s'' next
+      step-can_lay = can_lay-grown machine goals' s' s'' grown-by.new entries-grown plans ask next can-lay
+
       -- a board that carries the list holds it: what was stored since are its children
       pub step-holds : {N C : Type 0} (net : N → Net) (content : N → C) (past : N → List C) (b : BoardValue N) (held : Held) → HasList net content past b machine ask held.laid.first (next_list machine s' next) → held.stored ≡ length s'.entries
           → HoldsList net content past b machine ask s'' held
@@ -168,13 +188,10 @@ module _ (machine : Machine) (plans : List Plan) (ask : Ask) (goals : List OpenG
         laid = subst (HasList net content past b machine ask held.laid.first) (list-same ∙ next-going machine plans ask goals s bound goals' s' next searching known incomplete) laid;
         children = λ node from within. child node (subst (λ n. n ≤ node) (stored ∙ ap (λ (t : StoreValue). length t.entries) known.same) from) within;
       } where
-        opening : IsOpening machine plans ask (next_list machine s next) (next_bound s next) (choices_before s.entries (next_node next)) s.entries (up_to (length machine.actions) []) o.answer s''.entries s''.room s''.full s''.best
-        opening = next-opening machine plans ask goals s bound goals' s' next searching known incomplete o s'' (up_to (length machine.actions) []) same all.progress
-
         child : (node : ℕ) → length s.entries ≤ node → node < length s''.entries → IsOneMore (next_list machine s next).goal (choices_before s.entries (next_node next)) (choices_of s''.entries node)
         child node from within =
-            let e = All-contains (IsOpenChild machine plans ask (next_list machine s next) (next_bound s next) (choices_before s.entries (next_node next)) (up_to (length machine.actions) [])) opening.new (entry_at s''.entries node) opening.children
-            (entry-new machine goals s s'' opening.new opening.grown node from within) in
+            let e = All-contains (IsOpenChild machine plans ask (next_list machine s next) (next_bound s next) (choices_before s.entries (next_node next)) (up_to (length machine.actions) [])) grown-by.new (entry_at s''.entries node) grown-by.children
+            (entry-new machine goals s s'' grown-by.new grown-by.grown node from within) in
             record { newest = e.newest; same = e.choices; same_goal = e.goal }
 
       pub step-less : length s''.entries ≤ s''.room → still_to_take goals' s'' < still_to_take goals s

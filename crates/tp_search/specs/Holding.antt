@@ -1,20 +1,22 @@
 -- The list that a search opened last, which the board still carries.
-use Rattle.std.specs.Prelude.{◌≡◌, ℕ, ◌-◌, ◌<◌, ◌≤◌, List, ◌∷◌, ◌++◌, [], length, Option, Some, None}
+use Rattle.std.specs.Prelude.{◌≡◌, ℕ, ◌+◌, ◌-◌, ◌<◌, ◌≤◌, List, ◌∷◌, ◌++◌, [], length, Option, Some, None, IsSomeAnd}
 use Rattle.tp_base.specs.Net.{Net}
 use Rattle.tp_machine.specs.declared.parts.State.{State}
 use Rattle.tp_machine.specs.declared.whole.Machine.{Machine}
 use Rattle.tp_pool.specs.Entries.{choices_of}
 use Rattle.tp_pool.specs.declared.choice.Choice.{Choice as Stored}
-use Rattle.tp_schedule.specs.Choices.{going}
+use Rattle.tp_schedule.specs.Choices.{ChoiceList, IsOpen, going}
 use Rattle.tp_schedule.specs.declared.parts.Ask.{Ask}
-use Rattle.tp_placing.specs.Boards.{BoardValue, content_of, past_of}
+use Rattle.tp_schedule.specs.declared.parts.Plan.{Plan}
+use Rattle.tp_placing.specs.Boards.{BoardContent, BoardValue, content_of, past_of, suffix_after}
 use Rattle.tp_placing.specs.Calls.{IsSameLoad}
 use Rattle.tp_placing.specs.Standing.{Stands}
-use Rattle.tp_search.specs.Boards.{IsBack}
-use Rattle.tp_search.specs.Following.{HasList}
-use Rattle.tp_search.specs.Stored.{choices_by}
+use Rattle.tp_search.specs.Boards.{HasMarks, IsBack}
+use Rattle.tp_search.specs.Following.{HasList, IsWayTo}
+use Rattle.tp_search.specs.Stored.{child_by, choices_by}
 use Rattle.tp_search.specs.Stores.{StoreValue}
 use Rattle.tp_search.specs.declared.holding.Held.{Held}
+use Rattle.tp_search.specs.declared.holding.Root.{Root}
 
 -- these choices are those before and one more, for the same goal
 pub record IsOneMore (goal : State) (before choices : List Stored) : Type 0 where
@@ -30,16 +32,39 @@ module _ {N C : Type 0} (net : N → Net) (content : N → C) (past : N → List
     pub laid : HasList net content past b machine ask held.laid.first (going goal (choices_by machine before))
     pub children : (node : ℕ) → held.stored ≤ node → node < length s.entries → IsOneMore goal before (choices_of s.entries node)
 
+-- the content is that of a board which carries the goal's list without choices
+abbrev pub CarriesGoal : {C : Type 0} → Machine → List Plan → Ask → State → BoardContent C → Type 0
+CarriesGoal machine plans ask goal x = IsSomeAnd (suffix_after x.steps) (IsWayTo machine plans ask goal (going goal []))
+
+-- what the marks behind the base keep: nothing, or the goal's list
+abbrev pub AreKept : {C : Type 0} → Machine → List Plan → Ask → ℕ → Option Root → List (BoardContent C) → Type 0
+AreKept machine plans ask base None kept = kept ≡ []
+AreKept {C} machine plans ask base (Some root) kept = (x : BoardContent C) × (kept ≡ x ∷ []) × (root.mark.0 ≡ base + 1) × CarriesGoal machine plans ask root.goal x
+
+-- the answer is a choice of an open child of the list, which goes on
+pub record IsAnswerTo (machine : Machine) (plans : List Plan) (ask : Ask) (list : ChoiceList) (answer : Stored) : Type 0 where
+  pub goes_on : list ≡ going list.goal list.choices
+  pub goal : answer.goal ≡ list.goal
+  pub opens : IsOpen machine plans ask (child_by machine list.goal list.choices answer)
+
 module _ {N C : Type 0} (net : N → Net) (content : N → C) (past : N → List C) (mark_room : N → ℕ) where
-  -- the second board is the first one with what was laid since a mark of this number, the newest
-  pub record IsLaidSince (b b' : BoardValue N) (machine : Machine) (base : ℕ) : Type 0 where
+  -- a mark more at the goal is set only where one is spare
+  abbrev pub HasRoomFor : Option Root → BoardValue N → Type 0
+  HasRoomFor None b = Unit {0}
+  HasRoomFor (Some root) b = HasMarks net content past mark_room 8 b
+
+  -- the second board is the first one with what was laid since a mark of this number, and perhaps one more mark at the goal
+  pub record IsLaidSince (b b' : BoardValue N) (machine : Machine) (ask : Ask) (base : ℕ) (root : Option Root) : Type 0 where
     pub number : base ≡ length (past_of past b)
-    pub past_more : past_of past b' ≡ past_of past b ++ content_of content b ∷ []
+    pub kept : List (BoardContent C)
+    pub past_more : past_of past b' ≡ past_of past b ++ content_of content b ∷ kept
+    pub are_kept : AreKept machine b.plans ask base root kept
+    pub room : HasRoomFor root b
     pub loaded : IsSameLoad b b'
     pub marks : mark_room b'.net - 1 ≡ mark_room b.net - 1
     pub stands : Stands net content past b' machine
 
   -- the second board is back where the first one was, or has a list that was laid since a mark on that one
-  abbrev pub IsOver : BoardValue N → BoardValue N → Machine → Option Held → Type 0
-  IsOver b b' machine None = IsBack net content past mark_room b b' machine
-  IsOver b b' machine (Some held) = IsLaidSince b b' machine held.base.0
+  abbrev pub IsOver : BoardValue N → BoardValue N → Machine → Ask → Option Held → Type 0
+  IsOver b b' machine ask None = IsBack net content past mark_room b b' machine
+  IsOver b b' machine ask (Some held) = IsLaidSince b b' machine ask held.base.0 held.root

@@ -104,6 +104,46 @@ pub(crate) fn follow_goal<N: Network>(board: &mut Board<N>, problem: Problem, go
     }
 }
 
+/// The goal of a node's list.
+pub(crate) fn goal_of(store: &Store, node: u32) -> State
+    requires there { node < length store.now.entries }
+    requires some { 0 < length (stored_at store.now.entries node) }
+    ensures { (machine : Machine) → result
+        ≡ (list_by machine (stored_at store.now.entries node)).goal }
+{
+    store.choice_at(node, store.depth(node)).goal
+}
+
+/// Lays the choices of a node's list, which is open, on a board that carries its goal without choices. Answers its first state.
+pub(crate) fn lay_choices<N: Network>(
+    store: &Store,
+    board: &mut Board<N>,
+    problem: Problem,
+    node: u32,
+    goal: State,
+) -> State
+    requires posed { IsPosed problem }
+    requires there { node < length store.now.entries }
+    requires stored { let choices = stored_at store.now.entries node in IsStoredList
+        (list_by problem.machine.now choices).goal choices }
+    requires opens { IsOpen problem.machine.now board.old.plans problem.ask.now
+        (list_by problem.machine.now (stored_at store.now.entries node)) }
+    requires goal { goal ≡ (list_by problem.machine.now (stored_at store.now.entries node)).goal }
+    requires laid { HasList N.net N.content N.past board.old problem.machine.now problem.ask.now
+        goal (going goal []) }
+    ensures laid { HasList N.net N.content N.past board.new problem.entry.machine.now
+        problem.entry.ask.now result
+        (list_by problem.entry.machine.now (stored_at store.now.entries node)) }
+    ensures same { IsSameButSteps N.past N.mark_room board.old board.new }
+{
+    let mut first = goal;
+    'depths: for at in 0..store.depth(node) {
+        let choice = store.choice_at(node, at + 1);
+        first = lay(board, problem, first, &choice);
+    }
+    first
+}
+
 /// Lays the list of a node, which is open, on a board that has no choices. Answers its first state.
 pub(crate) fn follow<N: Network>(
     store: &Store,
@@ -124,12 +164,7 @@ pub(crate) fn follow<N: Network>(
         (list_by problem.entry.machine.now (stored_at store.now.entries node)) }
     ensures same { IsSameButSteps N.past N.mark_room board.old board.new }
 {
-    let depth = store.depth(node);
-    let mut first = store.choice_at(node, depth).goal;
-    follow_goal(board, problem, first);
-    'depths: for at in 0..depth {
-        let choice = store.choice_at(node, at + 1);
-        first = lay(board, problem, first, &choice);
-    }
-    first
+    let goal = goal_of(store, node);
+    follow_goal(board, problem, goal);
+    lay_choices(store, board, problem, node, goal)
 }

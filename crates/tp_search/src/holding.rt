@@ -1,38 +1,50 @@
 //! The list that a search opened last, which stays on the board: one of its children is laid by its newest choice alone.
-ghost use Rattle.std.specs.Prelude.{◌≡◌, ◌<◌, ◌≤◌, length, IfSome};
+ghost use Rattle.std.specs.Prelude.{◌≡◌, ◌<◌, ◌≤◌, [], length, IfSome, IsTrue, None, Some};
 ghost use Rattle.tp_machine.specs.declared.whole.Machine.{Machine};
 ghost use Rattle.tp_placing.specs.Boards.{BoardValue};
 ghost use Rattle.tp_pool.specs.Entries.{choices_before, choices_of};
-ghost use Rattle.tp_schedule.specs.Choices.{IsOpen};
+ghost use Rattle.tp_schedule.specs.Choices.{IsOpen, going};
 ghost use Rattle.tp_schedule.specs.declared.parts.Ask.{Ask};
 ghost use Rattle.tp_search.specs.Boards.{HasMarks, IsBack, IsReady};
-ghost use Rattle.tp_search.specs.Following.{HasList, IsSameButSteps};
-ghost use Rattle.tp_search.specs.Holding.{HoldsList, IsLaidSince, IsOver};
-ghost use Rattle.tp_search.specs.Outcomes.{CanLay};
+ghost use Rattle.tp_search.specs.Following.{HasList, IsSameButSteps, IsStoredList};
+ghost use Rattle.tp_search.specs.Holding.{HoldsList, IsAnswerTo, IsLaidSince, IsOver};
+ghost use Rattle.tp_search.specs.Outcomes.{CanLay, HasChild};
 ghost use Rattle.tp_search.specs.Problems.{IsPosed};
 ghost use Rattle.tp_search.specs.Searching.{list_at, next_list, next_node};
+ghost use Rattle.tp_search.specs.Stored.{list_by};
 
-use crate::following::{Laid, follow, follow_goal, lay};
+use crate::following::{Laid, follow, follow_goal, goal_of, lay, lay_choices};
 use crate::problem::Problem;
 use crate::store::Store;
 use crate::taking::Next;
 use tp_base::{Mark, Network, Undo};
+use tp_machine::State;
 use tp_placing::{Board, marks_keep_boards};
+use tp_pool::Choice;
 
-/// A list that a board carries since a mark, and how many lists were stored before its children.
+/// A mark at which a board carries the list of a goal without choices.
+#[derive(Clone, Copy)]
+pub(crate) struct Root {
+    pub(crate) mark: Mark,
+    pub(crate) goal: State,
+}
+
+/// A list that a board carries since a mark, with the mark at its goal, if there is one, and how many lists were stored before
+/// its children.
 #[derive(Clone, Copy)]
 pub(crate) struct Held {
     pub(crate) base: Mark,
+    pub(crate) root: Option<Root>,
     pub(crate) laid: Laid,
     pub(crate) stored: u32,
 }
 
 /// Takes the held list off the board, if there is one.
 pub(crate) fn take_off<N: Network>(board: &mut Board<N>, held: Option<Held>)
-    requires over { (b : BoardValue N) × (machine : Machine)
-        × IsOver N.net N.content N.past N.mark_room b board.old machine held }
-    ensures back { (b : BoardValue N) (machine : Machine)
-        → IsOver N.net N.content N.past N.mark_room b board.old machine held
+    requires over { (b : BoardValue N) × (machine : Machine) × (ask : Ask)
+        × IsOver N.net N.content N.past N.mark_room b board.old machine ask held }
+    ensures back { (b : BoardValue N) (machine : Machine) (ask : Ask)
+        → IsOver N.net N.content N.past N.mark_room b board.old machine ask held
         → IsBack N.net N.content N.past N.mark_room b board.new machine }
 {
     marks_keep_boards::<N>();
@@ -44,17 +56,18 @@ pub(crate) fn take_off<N: Network>(board: &mut Board<N>, held: Option<Held>)
 
 /// Takes the held list off the board, if there is one, and sets a mark.
 pub(crate) fn mark_anew<N: Network>(board: &mut Board<N>, held: Option<Held>) -> Mark
-    requires over { (b : BoardValue N) × (machine : Machine)
+    requires over { (b : BoardValue N) × (machine : Machine) × (ask : Ask)
         × HasMarks N.net N.content N.past N.mark_room 1 b
-        × IsOver N.net N.content N.past N.mark_room b board.old machine held }
+        × IsOver N.net N.content N.past N.mark_room b board.old machine ask held }
     ensures ready { (b : BoardValue N) (machine : Machine) (ask : Ask)
         → IsReady N.net N.content N.past N.mark_room b machine ask
-        → IsOver N.net N.content N.past N.mark_room b board.old machine held
+        → IsOver N.net N.content N.past N.mark_room b board.old machine ask held
         → IsReady N.net N.content N.past N.mark_room board.new machine ask }
     ensures since { (b : BoardValue N) (machine : Machine) (ask : Ask)
         → IsReady N.net N.content N.past N.mark_room b machine ask
-        → IsOver N.net N.content N.past N.mark_room b board.old machine held
-        → IsLaidSince N.net N.content N.past N.mark_room b board.new machine result.0 }
+        → IsOver N.net N.content N.past N.mark_room b board.old machine ask held
+        → IsLaidSince N.net N.content N.past N.mark_room b board.new machine ask
+        result.0 None }
 {
     marks_keep_boards::<N>();
     take_off(board, held);
@@ -104,25 +117,29 @@ fn lay_anew<N: Network>(
     requires over { (b : BoardValue N)
         × IsReady N.net N.content N.past N.mark_room b problem.machine.now problem.ask.now
         × HasMarks N.net N.content N.past N.mark_room 1 b
-        × IsOver N.net N.content N.past N.mark_room b board.old problem.machine.now held }
+        × IsOver N.net N.content N.past N.mark_room b board.old problem.machine.now
+        problem.ask.now held }
     requires can { CanLay problem.machine.now board.old.plans problem.ask.now store.now next.now }
     ensures laid { HasList N.net N.content N.past board.new problem.entry.machine.now
         problem.entry.ask.now result.laid.first
         (next_list problem.entry.machine.now store.now next.entry.now) }
     ensures count { result.laid.count
         ≡ length (choices_before store.now.entries (next_node next.entry.now)) }
+    ensures root { result.root ≡ None }
     ensures stored { result.stored ≡ length store.now.entries }
     ensures since { (b : BoardValue N)
         → IsReady N.net N.content N.past N.mark_room b problem.entry.machine.now
         problem.entry.ask.now
-        → IsOver N.net N.content N.past N.mark_room b board.old problem.entry.machine.now held
+        → IsOver N.net N.content N.past N.mark_room b board.old problem.entry.machine.now
+        problem.entry.ask.now held
         → IsLaidSince N.net N.content N.past N.mark_room b board.new problem.entry.machine.now
-        result.base.0 }
+        problem.entry.ask.now result.base.0 result.root }
 {
     let base = mark_anew(board, held);
     let laid = lay_list(store, board, problem, next);
     Held {
         base,
+        root: None,
         laid,
         stored: store.len(),
     }
@@ -149,6 +166,7 @@ fn lay_child<N: Network>(
     ensures count { result.laid.count ≡ length (choices_of store.now.entries node) }
     ensures stored { result.stored ≡ length store.now.entries }
     ensures base { result.base ≡ held.base }
+    ensures root { result.root ≡ held.root }
     ensures same { IsSameButSteps N.past N.mark_room board.old board.new }
 {
     let depth = store.depth(node);
@@ -156,6 +174,7 @@ fn lay_child<N: Network>(
     let first = lay(board, problem, held.laid.first, &choice);
     Held {
         base: held.base,
+        root: held.root,
         laid: Laid {
             first,
             count: depth,
@@ -164,7 +183,108 @@ fn lay_child<N: Network>(
     }
 }
 
-/// Lays the list that was taken: by its newest choice alone where it is a child of the held list.
+/// The mark at which the board carries the list of this goal without choices, if it has one.
+fn goal_mark(root: Option<Root>, goal: State) -> Option<Mark>
+    ensures { IfSome result (λ mark. root ≡ Some (record { mark = mark; goal = goal })) }
+{
+    let root = root?;
+    if root.goal == goal {
+        Some(root.mark)
+    } else {
+        None
+    }
+}
+
+/// Leaves the list of this goal without choices on the board, since a mark: the one that it has, or one that is opened anew.
+fn back_to_goal<N: Network>(board: &mut Board<N>, problem: Problem, goal: State, held: Held) -> Mark
+    requires posed { IsPosed problem }
+    requires over { (b : BoardValue N)
+        × IsReady N.net N.content N.past N.mark_room b problem.machine.now problem.ask.now
+        × HasMarks N.net N.content N.past N.mark_room 1 b
+        × IsOver N.net N.content N.past N.mark_room b board.old problem.machine.now
+        problem.ask.now (Some held) }
+    requires opens { IsOpen problem.machine.now board.old.plans problem.ask.now (going goal []) }
+    ensures laid { HasList N.net N.content N.past board.new problem.entry.machine.now
+        problem.entry.ask.now goal (going goal []) }
+    ensures since { (b : BoardValue N)
+        → IsReady N.net N.content N.past N.mark_room b problem.entry.machine.now
+        problem.entry.ask.now
+        → IsOver N.net N.content N.past N.mark_room b board.old problem.entry.machine.now
+        problem.entry.ask.now (Some held)
+        → IsLaidSince N.net N.content N.past N.mark_room b board.new problem.entry.machine.now
+        problem.entry.ask.now result.0 None }
+{
+    marks_keep_boards::<N>();
+    if let Some(mark) = goal_mark(held.root, goal) {
+        board.undo_to(mark);
+        return held.base;
+    }
+    let base = mark_anew(board, Some(held));
+    follow_goal(board, problem, goal);
+    base
+}
+
+/// Lays a node's list over its goal, at which the board has a mark then.
+fn lay_over_goal<N: Network>(
+    store: &Store,
+    board: &mut Board<N>,
+    problem: Problem,
+    node: u32,
+    held: Held,
+) -> Held
+    requires posed { IsPosed problem }
+    requires over { (b : BoardValue N)
+        × IsReady N.net N.content N.past N.mark_room b problem.machine.now problem.ask.now
+        × IsOver N.net N.content N.past N.mark_room b board.old problem.machine.now
+        problem.ask.now (Some held) }
+    requires room { (b : BoardValue N)
+        → IsOver N.net N.content N.past N.mark_room b board.old problem.machine.now
+        problem.ask.now (Some held) → HasMarks N.net N.content N.past N.mark_room 8 b }
+    requires there { node < length store.now.entries }
+    requires stored { let choices = choices_of store.now.entries node in IsStoredList
+        (list_by problem.machine.now choices).goal choices }
+    requires opens { IsOpen problem.machine.now board.old.plans problem.ask.now
+        (list_at problem.machine.now store.now.entries node) }
+    ensures laid { HasList N.net N.content N.past board.new problem.entry.machine.now
+        problem.entry.ask.now result.laid.first
+        (list_at problem.entry.machine.now store.now.entries node) }
+    ensures count { result.laid.count ≡ length (choices_of store.now.entries node) }
+    ensures stored { result.stored ≡ length store.now.entries }
+    ensures since { (b : BoardValue N)
+        → IsReady N.net N.content N.past N.mark_room b problem.entry.machine.now
+        problem.entry.ask.now
+        → IsOver N.net N.content N.past N.mark_room b board.old problem.entry.machine.now
+        problem.entry.ask.now (Some held)
+        → IsLaidSince N.net N.content N.past N.mark_room b board.new problem.entry.machine.now
+        problem.entry.ask.now result.base.0 result.root }
+{
+    marks_keep_boards::<N>();
+    let goal = goal_of(store, node);
+    let base = back_to_goal(board, problem, goal, held);
+    let mark = board.mark();
+    let first = lay_choices(store, board, problem, node, goal);
+    Held {
+        base,
+        root: Some(Root { mark, goal }),
+        laid: Laid {
+            first,
+            count: store.depth(node),
+        },
+        stored: store.len(),
+    }
+}
+
+/// Whether there is a mark for the goal beside those that an opening sets.
+fn can_keep_goal<N: Network>(board: &Board<N>, held: Held) -> bool
+    ensures { IsTrue result → (b : BoardValue N) (machine : Machine) (ask : Ask)
+        → IsOver N.net N.content N.past N.mark_room b board.now machine ask (Some held)
+        → HasMarks N.net N.content N.past N.mark_room 8 b }
+{
+    held.root.is_some() || board.spare_marks() >= 7
+}
+
+/// Lays the list that was taken: by its newest choice alone where it is a child of the held list, or else over its goal where
+/// the board has a mark for that.
 pub(crate) fn lay_next<N: Network>(
     store: &Store,
     board: &mut Board<N>,
@@ -176,7 +296,8 @@ pub(crate) fn lay_next<N: Network>(
     requires over { (b : BoardValue N)
         × IsReady N.net N.content N.past N.mark_room b problem.machine.now problem.ask.now
         × HasMarks N.net N.content N.past N.mark_room 1 b
-        × IsOver N.net N.content N.past N.mark_room b board.old problem.machine.now held }
+        × IsOver N.net N.content N.past N.mark_room b board.old problem.machine.now
+        problem.ask.now held }
     requires holds { IfSome held (HoldsList N.net N.content N.past board.old problem.machine.now
         problem.ask.now store.now) }
     requires can { CanLay problem.machine.now board.old.plans problem.ask.now store.now next.now }
@@ -189,14 +310,90 @@ pub(crate) fn lay_next<N: Network>(
     ensures since { (b : BoardValue N)
         → IsReady N.net N.content N.past N.mark_room b problem.entry.machine.now
         problem.entry.ask.now
-        → IsOver N.net N.content N.past N.mark_room b board.old problem.entry.machine.now held
+        → IsOver N.net N.content N.past N.mark_room b board.old problem.entry.machine.now
+        problem.entry.ask.now held
         → IsLaidSince N.net N.content N.past N.mark_room b board.new problem.entry.machine.now
-        result.base.0 }
+        problem.entry.ask.now result.base.0 result.root }
 {
-    match (held, *next) {
-        (Some(parent), Next::Node(node)) if parent.stored <= node => {
+    let Some(parent) = held else {
+        return lay_anew(store, board, problem, next, held);
+    };
+    match *next {
+        Next::Node(node) if parent.stored <= node => {
             lay_child(store, board, problem, node, parent)
+        }
+        Next::Node(node) if can_keep_goal(board, parent) => {
+            lay_over_goal(store, board, problem, node, parent)
         }
         _ => lay_anew(store, board, problem, next, held),
     }
+}
+
+/// Leaves the held list on the board since one mark alone.
+fn lay_alone<N: Network>(
+    store: &Store,
+    board: &mut Board<N>,
+    problem: Problem,
+    next: &Next,
+    held: Held,
+) -> Held
+    requires posed { IsPosed problem }
+    requires over { (b : BoardValue N)
+        × IsReady N.net N.content N.past N.mark_room b problem.machine.now problem.ask.now
+        × HasMarks N.net N.content N.past N.mark_room 1 b
+        × IsOver N.net N.content N.past N.mark_room b board.old problem.machine.now
+        problem.ask.now (Some held) }
+    requires laid { HasList N.net N.content N.past board.old problem.machine.now problem.ask.now
+        held.laid.first (next_list problem.machine.now store.now next.now) }
+    requires can { CanLay problem.machine.now board.old.plans problem.ask.now store.now next.now }
+    ensures laid { HasList N.net N.content N.past board.new problem.entry.machine.now
+        problem.entry.ask.now result.laid.first
+        (next_list problem.entry.machine.now store.now next.entry.now) }
+    ensures since { (b : BoardValue N)
+        → IsReady N.net N.content N.past N.mark_room b problem.entry.machine.now
+        problem.entry.ask.now
+        → IsOver N.net N.content N.past N.mark_room b board.old problem.entry.machine.now
+        problem.entry.ask.now (Some held)
+        → IsLaidSince N.net N.content N.past N.mark_room b board.new problem.entry.machine.now
+        problem.entry.ask.now result.base.0 None }
+{
+    match held.root {
+        None => held,
+        Some(_) => lay_anew(store, board, problem, next, Some(held)),
+    }
+}
+
+/// Lays the answer that was found as the held list was opened, since one mark alone. Answers the mark.
+pub(crate) fn lay_answer<N: Network>(
+    store: &Store,
+    board: &mut Board<N>,
+    problem: Problem,
+    next: &Next,
+    held: Held,
+    answer: &Choice,
+) -> Mark
+    requires posed { IsPosed problem }
+    requires over { (b : BoardValue N)
+        × IsReady N.net N.content N.past N.mark_room b problem.machine.now problem.ask.now
+        × HasMarks N.net N.content N.past N.mark_room 1 b
+        × IsOver N.net N.content N.past N.mark_room b board.old problem.machine.now
+        problem.ask.now (Some held) }
+    requires laid { HasList N.net N.content N.past board.old problem.machine.now problem.ask.now
+        held.laid.first (next_list problem.machine.now store.now next.now) }
+    requires can { CanLay problem.machine.now board.old.plans problem.ask.now store.now next.now }
+    requires answers { IsAnswerTo problem.machine.now board.old.plans problem.ask.now
+        (next_list problem.machine.now store.now next.now) answer.now }
+    ensures child { HasChild N.net N.content N.past N.mark_room board.new problem.entry.machine.now
+        problem.entry.ask.now store.now next.entry.now answer.entry.now }
+    ensures since { (b : BoardValue N)
+        → IsReady N.net N.content N.past N.mark_room b problem.entry.machine.now
+        problem.entry.ask.now
+        → IsOver N.net N.content N.past N.mark_room b board.old problem.entry.machine.now
+        problem.entry.ask.now (Some held)
+        → IsLaidSince N.net N.content N.past N.mark_room b board.new problem.entry.machine.now
+        problem.entry.ask.now result.0 None }
+{
+    let alone = lay_alone(store, board, problem, next, held);
+    lay(board, problem, alone.laid.first, answer);
+    alone.base
 }

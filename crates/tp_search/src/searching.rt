@@ -3,19 +3,18 @@ ghost use Rattle.std.specs.Prelude.{ℕ, ◌≡◌, ◌<◌, ◌≤◌, length, 
 ghost use Rattle.tp_machine.specs.declared.whole.Machine.{Machine};
 ghost use Rattle.tp_pool.specs.Entries.{bound_of, choices_before};
 ghost use Rattle.tp_placing.specs.Boards.{BoardValue};
-ghost use Rattle.tp_placing.specs.Standing.{Stands};
 ghost use Rattle.tp_schedule.specs.Planning.{IsKnownGoal};
-ghost use Rattle.tp_search.specs.Boards.{HasMarks, IsReady};
-ghost use Rattle.tp_search.specs.Following.{HasList, IsSameButSteps};
+ghost use Rattle.tp_search.specs.Boards.{HasMarks, IsBack, IsReady};
+ghost use Rattle.tp_search.specs.Following.{HasList};
 ghost use Rattle.tp_search.specs.Holding.{HoldsList, IsOver};
-ghost use Rattle.tp_search.specs.Outcomes.{CanOpen, HasChild, IsAllOpened, IsOutcome};
+ghost use Rattle.tp_search.specs.Outcomes.{CanOpen, IsAllOpened, IsOutcome};
 ghost use Rattle.tp_search.specs.Problems.{IsPosed};
 ghost use Rattle.tp_search.specs.Searching.{IsBestLater, IsSameSpace, IsSearching, next_bound, next_list, next_node, opening_of, still_to_take};
 
 use crate::children::open_list;
-use crate::following::{Laid, follow, lay};
+use crate::following::{Laid, follow};
 use crate::goals::OpenGoal;
-use crate::holding::{Held, lay_next, mark_anew, take_off};
+use crate::holding::{Held, lay_answer, lay_next, mark_anew, take_off};
 use crate::opening::Opening;
 use crate::problem::Problem;
 use crate::store::Store;
@@ -83,8 +82,7 @@ fn opening_of(store: &Store, next: &Next) -> Opening
     }
 }
 
-/// Opens the list that was taken, which was laid: stores its open children. The board carries it still, or the answer where
-/// there is one.
+/// Opens the list that was taken, which the board carries: stores its open children. The board is as before.
 fn open_next<N: Network>(
     store: &mut Store,
     board: &mut Board<N>,
@@ -100,23 +98,11 @@ fn open_next<N: Network>(
     requires can { CanOpen problem.machine.now board.old.plans problem.ask.now store.old next.now }
     ensures opened { IsAllOpened problem.entry.machine.now board.old.plans problem.entry.ask.now
         store.old next.entry.now result store.new }
-    ensures answer { IfSome result.answer
-        (HasChild N.net N.content N.past N.mark_room board.new problem.entry.machine.now
-        problem.entry.ask.now store.old next.entry.now) }
-    ensures none { result.answer ≡ None → HasList N.net N.content N.past board.new
-        problem.entry.machine.now problem.entry.ask.now laid.first
-        (next_list problem.entry.machine.now store.old next.entry.now) }
-    ensures stands { Stands N.net N.content N.past board.new problem.entry.machine.now }
-    ensures same { IsSameButSteps N.past N.mark_room board.old board.new }
+    ensures back { IsBack N.net N.content N.past N.mark_room board.old board.new
+        problem.entry.machine.now }
 {
     let mut opening = opening_of(store, next);
     open_list(store, &mut opening, board, problem, laid);
-    match opening.answer {
-        Some(answer) => {
-            lay(board, problem, laid.first, &answer);
-        }
-        None => {}
-    }
     opening
 }
 
@@ -133,7 +119,8 @@ fn step<N: Network>(
     requires over { (b : BoardValue N)
         × IsReady N.net N.content N.past N.mark_room b problem.machine.now problem.ask.now
         × HasMarks N.net N.content N.past N.mark_room 7 b
-        × IsOver N.net N.content N.past N.mark_room b board.old problem.machine.now held.old }
+        × IsOver N.net N.content N.past N.mark_room b board.old problem.machine.now
+        problem.ask.now held.old }
     requires holds { IfSome held.old (HoldsList N.net N.content N.past board.old
         problem.machine.now problem.ask.now store.old) }
     requires searching { (bound : ℕ)
@@ -142,7 +129,8 @@ fn step<N: Network>(
     ensures ends { (b : BoardValue N)
         → IsReady N.net N.content N.past N.mark_room b problem.entry.machine.now
         problem.entry.ask.now
-        → IsOver N.net N.content N.past N.mark_room b board.old problem.entry.machine.now held.old
+        → IsOver N.net N.content N.past N.mark_room b board.old problem.entry.machine.now
+        problem.entry.ask.now held.old
         → IfSome result
         (IsOutcome N.net N.content N.past N.mark_room b board.new problem.entry.machine.now
         problem.entry.ask.now store.old.room) }
@@ -152,9 +140,11 @@ fn step<N: Network>(
     ensures over { (b : BoardValue N)
         → IsReady N.net N.content N.past N.mark_room b problem.entry.machine.now
         problem.entry.ask.now
-        → IsOver N.net N.content N.past N.mark_room b board.old problem.entry.machine.now held.old
+        → IsOver N.net N.content N.past N.mark_room b board.old problem.entry.machine.now
+        problem.entry.ask.now held.old
         → result ≡ None
-        → IsOver N.net N.content N.past N.mark_room b board.new problem.entry.machine.now held.new }
+        → IsOver N.net N.content N.past N.mark_room b board.new problem.entry.machine.now
+        problem.entry.ask.now held.new }
     ensures holds { result ≡ None → IfSome held.new (HoldsList N.net N.content N.past board.new
         problem.entry.machine.now problem.entry.ask.now store.new) }
     ensures less { result ≡ None → still_to_take goals.new.items store.new
@@ -175,8 +165,9 @@ fn step<N: Network>(
     }
     let reached = lay_next(store, board, problem, &next, *held);
     let opening = open_next(store, board, problem, &next, reached.laid);
-    if opening.answer.is_some() {
-        return Some(Outcome::Found { base: reached.base });
+    if let Some(answer) = opening.answer {
+        let base = lay_answer(store, board, problem, &next, reached, &answer);
+        return Some(Outcome::Found { base });
     }
     if store.is_full() {
         board.undo_to(reached.base);

@@ -1,73 +1,13 @@
--- The choices of an open list can be laid one after another.
-use Rattle.std.proofs.Common.{◌≡◌, ◌+◌, ◌-◌, ◌<◌, [], length, drop, rules, sym, ap, ◌∙◌, arith, subst, Some}
-use Rattle.std.proofs.Math.Seq.{drop-length}
-use Rattle.std.specs.List.{slice_get}
+-- The goal of an open list can be laid, and then its choices.
+use Rattle.std.proofs.Common.{[], subst, sym}
 use Rattle.tp_pool.specs.Entries.{choices_of as stored_at}
 use Rattle.tp_schedule.specs.Choices.{IsOpen, going}
-use Rattle.tp_search.specs.Following.{HasList, list_from}
 use Rattle.tp_search.specs.Stored.{list_by}
-use Rattle.tp_search.proofs.FollowLists.{goal-open, more-carried, next-laid, next-open, same-goal, whole-list}
+use Rattle.tp_search.proofs.FollowLists.{goal-open}
 use Rattle.tp_search.proofs.following.follow.Goals as goal
-use Rattle.tp_search.proofs.following.follow.Goals.{After-choice_at, After-choice_at-choice}
-
--- the goal of the newest choice is that of the list
-goal-is : (g : _) (c : After-choice_at g) → c.choice_at.result.goal ≡ (list_by c.args.problem.machine.now (stored_at c.args.store.now.entries c.args.node)).goal
-goal-is g c =
-    let choices = stored_at c.args.store.now.entries c.args.node in
-    same-goal c.args.problem.machine.now c.args.board.now.plans c.args.problem.ask.now (list_by c.args.problem.machine.now choices).goal choices c.requires.stored c.requires.opens (length choices - c.depth-depth.result) c.choice_at.result c.choice_at.ensures
 
 pub follow_goal-requires-clause-opens : goal.follow_goal-requires-clause-opens
-follow_goal-requires-clause-opens g k =
-    let c = (goal.at.follow_goal-requires-clause-opens g k).After-choice_at in
+follow_goal-requires-clause-opens g c =
     let choices = stored_at c.args.store.now.entries c.args.node in
-    subst (λ s. IsOpen c.args.problem.machine.now c.args.board.now.plans c.args.problem.ask.now (going s [])) (sym (goal-is g c))
+    subst (λ s. IsOpen c.args.problem.machine.now c.args.board.now.plans c.args.problem.ask.now (going s [])) (sym (c.goal_of-goal.ensures c.args.problem.machine.now))
     (goal-open c.args.problem.machine.now c.args.board.now.plans c.args.problem.ask.now (list_by c.args.problem.machine.now choices).goal choices c.requires.stored c.requires.opens)
-
-pub depths-init : goal.depths-init
-depths-init g c =
-    let choices = stored_at c.args.store.now.entries c.args.node in
-    let goal_is = goal-is g (goal.at.depths-init g c).After-choice_at in
-    let none : drop (length choices - 0) choices ≡ [] = ap (λ n. drop n choices) (omega arith) ∙ drop-length choices in
-    record {
-      laid = subst (λ ds. HasList g.N.Network.net g.N.Undo.content g.N.Undo.past c.follow_goal.new.board c.args.problem.machine.now c.args.problem.ask.now c.choice_at.result.goal (list_from c.args.problem.machine.now (list_by c.args.problem.machine.now choices).goal ds)) (sym none)
-          (subst (λ s. HasList g.N.Network.net g.N.Undo.content g.N.Undo.past c.follow_goal.new.board c.args.problem.machine.now c.args.problem.ask.now c.choice_at.result.goal (going s [])) goal_is c.follow_goal.ensures.laid);
-      same = c.follow_goal.ensures.same;
-    }
-
--- the choice of this depth
-read : (g : _) (c : After-choice_at-choice g) → (c.depths.at < length (stored_at c.args.store.now.entries c.args.node))
-    × (slice_get (stored_at c.args.store.now.entries c.args.node) (length (stored_at c.args.store.now.entries c.args.node) - (c.depths.at + 1)) ≡ Some c.choice_at-choice.result)
-read g c = (omega (arith, c.depth-depth.ensures), c.choice_at-choice.ensures)
-
-pub lay-first-requires-clause-laid : goal.lay-first-requires-clause-laid
-lay-first-requires-clause-laid g k =
-    let c = (goal.at.lay-first-requires-clause-laid g k).After-choice_at-choice in
-    let choices = stored_at c.args.store.now.entries c.args.node in
-    next-laid c.args.problem.machine.now c.args.board.now.plans c.args.problem.ask.now (list_by c.args.problem.machine.now choices).goal choices c.requires.stored c.requires.opens
-    c.depths.at c.choice_at-choice.result (read g c).0 (read g c).1 g.N.Network.net g.N.Undo.content g.N.Undo.past c.depths.board c.depths.first c.depths.invariant.laid
-
-pub lay-first-requires-clause-opens : goal.lay-first-requires-clause-opens
-lay-first-requires-clause-opens g k =
-    let c = (goal.at.lay-first-requires-clause-opens g k).After-choice_at-choice in
-    let choices = stored_at c.args.store.now.entries c.args.node in
-    next-open c.args.problem.machine.now c.args.board.now.plans c.args.problem.ask.now (list_by c.args.problem.machine.now choices).goal choices c.requires.stored c.requires.opens
-    c.depths.at c.choice_at-choice.result (read g c).0 (read g c).1 g.N.Network.net g.N.Undo.content g.N.Undo.past c.depths.board c.depths.first c.depths.invariant.laid c.depths.invariant.same.loaded.plans
-
-pub depths-preserved : goal.depths-preserved
-depths-preserved g k =
-    let c = (goal.at.depths-preserved g k).After-choice_at-choice in
-    let choices = stored_at c.args.store.now.entries c.args.node in
-    record {
-      laid = more-carried c.args.problem.machine.now c.args.board.now.plans c.args.problem.ask.now (list_by c.args.problem.machine.now choices).goal choices c.requires.stored c.requires.opens
-          c.depths.at c.choice_at-choice.result (read g c).0 (read g c).1 g.N.Network.net g.N.Undo.content g.N.Undo.past c.depths.board c.depths.first c.depths.invariant.laid
-          k.lay-first.new.board k.lay-first.result k.lay-first.ensures.laid;
-      same = search rules;
-    }
-
-pub returns-clause-laid : goal.returns-clause-laid
-returns-clause-laid g c =
-    let choices = stored_at c.args.store.now.entries c.args.node in
-    let goal = (list_by c.args.problem.machine.now choices).goal in
-    let end : length choices - c.depths.at ≡ 0 = omega (arith, c.depth-depth.ensures) in
-    subst (λ l. HasList g.N.Network.net g.N.Undo.content g.N.Undo.past c.depths.board c.args.problem.machine.now c.args.problem.ask.now c.depths.first l) (whole-list c.args.problem.machine.now goal choices c.requires.stored)
-    (subst (λ n. HasList g.N.Network.net g.N.Undo.content g.N.Undo.past c.depths.board c.args.problem.machine.now c.args.problem.ask.now c.depths.first (list_from c.args.problem.machine.now goal (drop n choices))) end c.depths.invariant.laid)

@@ -2,7 +2,7 @@
 use Rattle.std.proofs.Common.{◌≡◌, ◌≤◌, Some, subst, sym}
 use Rattle.tp_pool.specs.Entries.{choice_made, choices_of}
 use Rattle.tp_search.specs.Following.{HasList}
-use Rattle.tp_search.proofs.HoldFacts.{child-laid, child-opens, child-some, child-whole}
+use Rattle.tp_search.proofs.HoldChildren.{child-laid, child-opens, child-some, child-whole}
 use Rattle.tp_search.proofs.holding.lay_child.Goals as goal
 
 pub choice_at-choice-requires-clause-first : goal.choice_at-choice-requires-clause-first

@@ -20,7 +20,7 @@ pub steps-preserved : goal.steps-preserved
 steps-preserved g c =
     let on = c.in_default.ensures.goes_on refl in
     let over = c.in_default.ensures.over c.args.board.now c.requires.ready c.steps.invariant.over refl in
-    let plans = over-plans g.N.Network.net g.N.Undo.content g.N.Undo.past g.N.Undo.mark_room c.args.board.now c.step.new.board c.args.problem.machine.now c.step.new.held over ∙ sym (over-plans g.N.Network.net g.N.Undo.content g.N.Undo.past g.N.Undo.mark_room c.args.board.now c.steps.board c.args.problem.machine.now c.steps.held c.steps.invariant.over) in
+    let plans = over-plans g.N.Network.net g.N.Undo.content g.N.Undo.past g.N.Undo.mark_room c.args.board.now c.step.new.board c.args.problem.machine.now c.args.problem.ask.now c.step.new.held over ∙ sym (over-plans g.N.Network.net g.N.Undo.content g.N.Undo.past g.N.Undo.mark_room c.args.board.now c.steps.board c.args.problem.machine.now c.args.problem.ask.now c.steps.held c.steps.invariant.over) in
     record {
       over = over;
       holds = c.in_default.ensures.holds refl;

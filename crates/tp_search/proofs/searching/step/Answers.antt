@@ -1,4 +1,4 @@
-use Rattle.std.proofs.Common.{◌≡◌, ◌≤◌, IfSome, List, sym, ap, subst, ◌∙◌}
+use Rattle.std.proofs.Common.{◌≡◌, ◌≤◌, List, None, sym, ap, subst, ◌∙◌}
 use Rattle.tp_machine.proofs.MachineFacts.{is_machine}
 use Rattle.tp_choices.proofs.FewLists.{ended_has_few}
 use Rattle.tp_choices.proofs.Frontier.{frontier_ends}
@@ -9,15 +9,19 @@ use Rattle.tp_schedule.specs.Answers.{IsAlternative, NoneBefore}
 use Rattle.tp_schedule.specs.Choices.{IsBound, IsOpen}
 use Rattle.tp_schedule.specs.Spending.{FewListsOpen, IsSpent}
 use Rattle.tp_schedule.specs.declared.parts.Plan.{Plan}
+use Rattle.tp_machine.specs.declared.parts.State.{State}
 use Rattle.tp_search.specs.Boards.{IsReady}
-use Rattle.tp_search.specs.Holding.{IsLaidSince, IsOver}
-use Rattle.tp_search.specs.Outcomes.{CanOpen, HasChild, IsAllOpened}
+use Rattle.tp_search.specs.Following.{HasList}
+use Rattle.tp_search.specs.Holding.{IsAnswerTo, IsLaidSince, IsOver}
+use Rattle.tp_search.specs.Outcomes.{CanLay, CanOpen, IsAllOpened}
 use Rattle.tp_search.specs.Searching.{IsBestLater, list_at, next_bound, next_list}
 use Rattle.tp_search.specs.Stored.{child_by}
 use Rattle.tp_search.specs.Stores.{StoreValue}
-use Rattle.tp_search.proofs.HoldFacts.{holds-taken, marks-some, over-can_ask, over-legal, over-plans, since-answer, since-known, since-marks, since-more, since-undone}
+use Rattle.tp_search.proofs.HoldChildren.{holds-taken}
+use Rattle.tp_search.proofs.HoldFacts.{marks-some, over-can_ask, over-legal, over-plans, since-answer, since-back, since-known, since-marks, since-more, since-undone}
+use Rattle.tp_search.proofs.OpenSteps.{list-back}
 use Rattle.tp_search.proofs.SearchEnds.{IsBestList, searching-few, searching-never}
-use Rattle.tp_search.proofs.StepFacts.{best-list, can-open, known, next-there, none-of, some-of, space-then, step-answered, step-full, step-holds, step-less, step-none_before, step-on}
+use Rattle.tp_search.proofs.StepFacts.{best-list, can-open, known, next-there, space-then, step-answer, step-answered, step-can_lay, step-full, step-holds, step-less, step-list, step-none_before, step-on}
 use Rattle.tp_search.proofs.searching.step.Goals as goal
 use Rattle.tp_search.proofs.searching.step.Goals.{After-open_next-opening, In-Some-best_by, In_default-best_by}
 
@@ -34,28 +38,32 @@ later g c = subst (IsBestLater c.take_next.new.store) c.bound_of-bound.ensures (
 
 -- the plans are the same once it is laid
 plans-laid : (g : _) (c : After-open_next-opening g) → c.lay_next-reached.new.board.plans ≡ c.args.board.now.plans
-plans-laid g c = (c.lay_next-reached.ensures.since c.requires.over.0 c.requires.over.1 c.requires.over.3).loaded.plans ∙ sym (over-plans g.N.Network.net g.N.Undo.content g.N.Undo.past g.N.Undo.mark_room c.requires.over.0 c.args.board.now c.args.problem.machine.now c.args.held.now c.requires.over.3)
+plans-laid g c = (c.lay_next-reached.ensures.since c.requires.over.0 c.requires.over.1 c.requires.over.3).loaded.plans ∙ sym (over-plans g.N.Network.net g.N.Undo.content g.N.Undo.past g.N.Undo.mark_room c.requires.over.0 c.args.board.now c.args.problem.machine.now c.args.problem.ask.now c.args.held.now c.requires.over.3)
 
 -- the list was opened
 opened : (g : _) (c : After-open_next-opening g) → IsAllOpened c.args.problem.machine.now c.args.board.now.plans c.args.problem.ask.now c.take_next.new.store c.in-Some.next c.open_next-opening.result c.open_next-opening.new.store
 opened g c = subst (λ ps. IsAllOpened c.args.problem.machine.now ps c.args.problem.ask.now c.take_next.new.store c.in-Some.next c.open_next-opening.result c.open_next-opening.new.store) (plans-laid g c) c.open_next-opening.ensures.opened
 
 -- all that the board carries was laid since the mark
-since : (g : _) (c : After-open_next-opening g) (b : BoardValue g.row.N.Denot) → IsReady g.N.Network.net g.N.Undo.content g.N.Undo.past g.N.Undo.mark_room b c.args.problem.machine.now c.args.problem.ask.now → IsOver g.N.Network.net g.N.Undo.content g.N.Undo.past g.N.Undo.mark_room b c.args.board.now c.args.problem.machine.now c.args.held.now → IsLaidSince g.N.Network.net g.N.Undo.content g.N.Undo.past g.N.Undo.mark_room b c.open_next-opening.new.board c.args.problem.machine.now c.lay_next-reached.result.base.0
-since g c b ready over = since-more g.N.Network.net g.N.Undo.content g.N.Undo.past g.N.Undo.mark_room b c.lay_next-reached.new.board c.args.problem.machine.now c.lay_next-reached.result.base.0 (c.lay_next-reached.ensures.since b ready over) c.open_next-opening.new.board c.open_next-opening.ensures.same c.open_next-opening.ensures.stands
+since : (g : _) (c : After-open_next-opening g) (b : BoardValue g.row.N.Denot) → IsReady g.N.Network.net g.N.Undo.content g.N.Undo.past g.N.Undo.mark_room b c.args.problem.machine.now c.args.problem.ask.now → IsOver g.N.Network.net g.N.Undo.content g.N.Undo.past g.N.Undo.mark_room b c.args.board.now c.args.problem.machine.now c.args.problem.ask.now c.args.held.now → IsLaidSince g.N.Network.net g.N.Undo.content g.N.Undo.past g.N.Undo.mark_room b c.open_next-opening.new.board c.args.problem.machine.now c.args.problem.ask.now c.lay_next-reached.result.base.0 c.lay_next-reached.result.root
+since g c b ready over = since-back g.N.Network.net g.N.Undo.content g.N.Undo.past g.N.Undo.mark_room b c.lay_next-reached.new.board c.args.problem.machine.now c.args.problem.ask.now c.lay_next-reached.result.base.0 c.lay_next-reached.result.root (c.lay_next-reached.ensures.since b ready over) c.open_next-opening.new.board c.open_next-opening.ensures.back
+
+-- it carries the list still
+carried : (g : _) (c : After-open_next-opening g) → HasList g.N.Network.net g.N.Undo.content g.N.Undo.past c.open_next-opening.new.board c.args.problem.machine.now c.args.problem.ask.now c.lay_next-reached.result.laid.first (next_list c.args.problem.machine.now c.take_next.new.store c.in-Some.next)
+carried g c = list-back g.N.Network.net g.N.Undo.content g.N.Undo.past g.N.Undo.mark_room c.lay_next-reached.new.board c.open_next-opening.new.board c.args.problem.machine.now c.args.problem.ask.now c.lay_next-reached.result.laid.first (next_list c.args.problem.machine.now c.take_next.new.store c.in-Some.next) c.open_next-opening.ensures.back c.lay_next-reached.ensures.laid
 
 pub take_off-requires : goal.take_off-requires
-take_off-requires g c = record { over = (c.requires.over.0, c.args.problem.machine.now, c.requires.over.3) }
+take_off-requires g c = record { over = (c.requires.over.0, c.args.problem.machine.now, c.args.problem.ask.now, c.requires.over.3) }
 
 pub returns-in_default-clause-ends : goal.returns-in_default-clause-ends
 returns-in_default-clause-ends g c b ready over =
     let none = c.take_next.ensures.none.0 c.in_default.is in
-    let same = over-plans g.N.Network.net g.N.Undo.content g.N.Undo.past g.N.Undo.mark_room b c.args.board.now c.args.problem.machine.now c.args.held.now over in
+    let same = over-plans g.N.Network.net g.N.Undo.content g.N.Undo.past g.N.Undo.mark_room b c.args.board.now c.args.problem.machine.now c.args.problem.ask.now c.args.held.now over in
     let never = searching-never c.args.problem.machine.now c.args.board.now.plans c.args.problem.ask.now c.args.goals.now.items c.args.store.now c.requires.searching.0 c.requires.searching.1 search_fronts frontier_ends (over-legal g.N.Network.net g.N.Undo.content g.N.Undo.past g.N.Undo.mark_room c.requires.over.0 c.args.board.now c.args.problem.machine.now c.args.problem.ask.now c.args.held.now c.requires.over.1 c.requires.over.3)
     (over-can_ask g.N.Network.net g.N.Undo.content g.N.Undo.past g.N.Undo.mark_room c.requires.over.0 c.args.board.now c.args.problem.machine.now c.args.problem.ask.now c.args.held.now c.requires.over.1 c.requires.over.3) none.0 none.1 in
     let few = searching-few c.args.problem.machine.now c.args.board.now.plans c.args.problem.ask.now c.args.goals.now.items c.args.store.now c.requires.searching.0 c.requires.searching.1 ended_has_few (c.take_next.ensures.within c.in_default.is) none.0 none.1 in (
       subst (λ ps. (plans' : List Plan) → ¬ IsAlternative c.args.problem.machine.now ps c.args.problem.ask.now plans') same never,
-      c.take_off.ensures.back b c.args.problem.machine.now over,
+      c.take_off.ensures.back b c.args.problem.machine.now c.args.problem.ask.now over,
       subst (λ ps. FewListsOpen c.args.problem.machine.now ps c.args.problem.ask.now c.args.store.now.room) same few,
     )
 
@@ -63,7 +71,7 @@ pub bound_of-bound-requires : goal.bound_of-bound-requires
 bound_of-bound-requires g c = next-there c.args.problem.machine.now c.args.board.now.plans c.args.problem.ask.now c.args.goals.now.items c.args.store.now c.requires.searching.0 c.requires.searching.1 c.take_next.new.goals.items c.take_next.new.store c.in-Some.next c.in-Some.ensures.next
 
 pub mark_anew-base-requires : goal.mark_anew-base-requires
-mark_anew-base-requires g c = record { over = (c.requires.over.0, c.args.problem.machine.now, marks-some g.N.Network.net g.N.Undo.content g.N.Undo.past g.N.Undo.mark_room c.requires.over.0 c.requires.over.2, c.requires.over.3) }
+mark_anew-base-requires g c = record { over = (c.requires.over.0, c.args.problem.machine.now, c.args.problem.ask.now, marks-some g.N.Network.net g.N.Undo.content g.N.Undo.past g.N.Undo.mark_room c.requires.over.0 c.requires.over.2, c.requires.over.3) }
 
 pub follow-requires-clause-ready : goal.follow-requires-clause-ready
 follow-requires-clause-ready g c = c.mark_anew-base.ensures.ready c.requires.over.0 c.args.problem.machine.now c.args.problem.ask.now c.requires.over.1 c.requires.over.3
@@ -72,18 +80,18 @@ pub follow-requires-clause-opens : goal.follow-requires-clause-opens
 follow-requires-clause-opens g c =
     let list = best g (goal.at.follow-requires-clause-opens g c).In-Some-best_by in
     let laid = (c.mark_anew-base.ensures.since c.requires.over.0 c.args.problem.machine.now c.args.problem.ask.now c.requires.over.1 c.requires.over.3).loaded.plans in
-    let same = laid ∙ sym (over-plans g.N.Network.net g.N.Undo.content g.N.Undo.past g.N.Undo.mark_room c.requires.over.0 c.args.board.now c.args.problem.machine.now c.args.held.now c.requires.over.3) in
+    let same = laid ∙ sym (over-plans g.N.Network.net g.N.Undo.content g.N.Undo.past g.N.Undo.mark_room c.requires.over.0 c.args.board.now c.args.problem.machine.now c.args.problem.ask.now c.args.held.now c.requires.over.3) in
     subst (λ ps. IsOpen c.args.problem.machine.now ps c.args.problem.ask.now (list_at c.args.problem.machine.now c.take_next.new.store.entries c.in-Some-best_by.best)) (sym same) (bound_of c.take_next.new.store.entries c.in-Some-best_by.best, list.is_bound.opens)
 
 pub returns-in-Some-best_by-clause-ends : goal.returns-in-Some-best_by-clause-ends
 returns-in-Some-best_by-clause-ends g c b ready over =
     let list = best g (goal.at.returns-in-Some-best_by-clause-ends g c).In-Some-best_by in
-    let same = over-plans g.N.Network.net g.N.Undo.content g.N.Undo.past g.N.Undo.mark_room b c.args.board.now c.args.problem.machine.now c.args.held.now over in
+    let same = over-plans g.N.Network.net g.N.Undo.content g.N.Undo.past g.N.Undo.mark_room b c.args.board.now c.args.problem.machine.now c.args.problem.ask.now c.args.held.now over in
     let whole = list_at c.args.problem.machine.now c.take_next.new.store.entries c.in-Some-best_by.best in
     let bound = bound_of c.take_next.new.store.entries c.in-Some-best_by.best in
-    since-answer g.N.Network.net g.N.Undo.content g.N.Undo.past g.N.Undo.mark_room b c.follow.new.board c.args.problem.machine.now c.mark_anew-base.result.0
-    (since-more g.N.Network.net g.N.Undo.content g.N.Undo.past g.N.Undo.mark_room b c.mark_anew-base.new.board c.args.problem.machine.now c.mark_anew-base.result.0 (c.mark_anew-base.ensures.since b c.args.problem.machine.now c.args.problem.ask.now ready over) c.follow.new.board c.follow.ensures.same c.follow.ensures.laid.stands)
-    c.args.problem.ask.now c.follow.result whole bound c.follow.ensures.laid list.complete (subst (λ ps. IsBound c.args.problem.machine.now ps c.args.problem.ask.now whole bound) same list.is_bound) (subst (λ ps. NoneBefore c.args.problem.machine.now ps c.args.problem.ask.now bound) same list.none_before)
+    since-answer g.N.Network.net g.N.Undo.content g.N.Undo.past g.N.Undo.mark_room b c.follow.new.board c.args.problem.machine.now c.args.problem.ask.now c.mark_anew-base.result.0
+    (since-more g.N.Network.net g.N.Undo.content g.N.Undo.past g.N.Undo.mark_room b c.mark_anew-base.new.board c.args.problem.machine.now c.args.problem.ask.now c.mark_anew-base.result.0 None (c.mark_anew-base.ensures.since b c.args.problem.machine.now c.args.problem.ask.now ready over) c.follow.new.board c.follow.ensures.same c.follow.ensures.laid.stands)
+    c.follow.result whole bound c.follow.ensures.laid list.complete (subst (λ ps. IsBound c.args.problem.machine.now ps c.args.problem.ask.now whole bound) same list.is_bound) (subst (λ ps. NoneBefore c.args.problem.machine.now ps c.args.problem.ask.now bound) same list.none_before)
 
 pub lay_next-reached-requires-clause-over : goal.lay_next-reached-requires-clause-over
 lay_next-reached-requires-clause-over g c = (c.requires.over.0, c.requires.over.1, marks-some g.N.Network.net g.N.Undo.content g.N.Undo.past g.N.Undo.mark_room c.requires.over.0 c.requires.over.2, c.requires.over.3)
@@ -99,49 +107,69 @@ lay_next-reached-requires-clause-can g c =
     (can-open c.args.problem.machine.now c.args.board.now.plans c.args.problem.ask.now c.args.goals.now.items c.args.store.now c.requires.searching.0 c.requires.searching.1 c.take_next.new.goals.items c.take_next.new.store c.in-Some.next c.in-Some.ensures.next (is_machine c.args.problem.machine.now) c.requires.goal (later g k.In_default-best_by)).can_lay
 
 pub open_next-opening-requires-clause-marks : goal.open_next-opening-requires-clause-marks
-open_next-opening-requires-clause-marks g c =
-    since-marks g.N.Network.net g.N.Undo.content g.N.Undo.past g.N.Undo.mark_room c.requires.over.0 c.lay_next-reached.new.board c.args.problem.machine.now c.lay_next-reached.result.base.0 (c.lay_next-reached.ensures.since c.requires.over.0 c.requires.over.1 c.requires.over.3) 6 c.requires.over.2
+open_next-opening-requires-clause-marks g c = since-marks g.N.Network.net g.N.Undo.content g.N.Undo.past g.N.Undo.mark_room c.requires.over.0 c.lay_next-reached.new.board c.args.problem.machine.now c.args.problem.ask.now c.lay_next-reached.result.base.0 c.lay_next-reached.result.root (c.lay_next-reached.ensures.since c.requires.over.0 c.requires.over.1 c.requires.over.3) c.requires.over.2
 
 pub open_next-opening-requires-clause-can : goal.open_next-opening-requires-clause-can
 open_next-opening-requires-clause-can g c =
     let k = goal.at.open_next-opening-requires-clause-can g c in
-    let same = (c.lay_next-reached.ensures.since c.requires.over.0 c.requires.over.1 c.requires.over.3).loaded.plans ∙ sym (over-plans g.N.Network.net g.N.Undo.content g.N.Undo.past g.N.Undo.mark_room c.requires.over.0 c.args.board.now c.args.problem.machine.now c.args.held.now c.requires.over.3) in
+    let same = (c.lay_next-reached.ensures.since c.requires.over.0 c.requires.over.1 c.requires.over.3).loaded.plans ∙ sym (over-plans g.N.Network.net g.N.Undo.content g.N.Undo.past g.N.Undo.mark_room c.requires.over.0 c.args.board.now c.args.problem.machine.now c.args.problem.ask.now c.args.held.now c.requires.over.3) in
     subst (λ ps. CanOpen c.args.problem.machine.now ps c.args.problem.ask.now c.take_next.new.store c.in-Some.next) (sym same) (can-open c.args.problem.machine.now c.args.board.now.plans c.args.problem.ask.now c.args.goals.now.items c.args.store.now c.requires.searching.0 c.requires.searching.1 c.take_next.new.goals.items c.take_next.new.store c.in-Some.next c.in-Some.ensures.next (is_machine c.args.problem.machine.now) c.requires.goal (later g k.In_default-best_by))
 
-pub returns-then-is_some-clause-ends : goal.returns-then-is_some-clause-ends
-returns-then-is_some-clause-ends g c b ready over =
-    let k = goal.at.returns-then-is_some-clause-ends g c in
-    let answer = some-of c.open_next-opening.result.answer (sym c.is_some.ensures ∙ c.if-is_some.true) in
-    let child = subst (λ a. IfSome a (HasChild g.N.Network.net g.N.Undo.content g.N.Undo.past g.N.Undo.mark_room c.open_next-opening.new.board c.args.problem.machine.now c.args.problem.ask.now c.take_next.new.store c.in-Some.next)) answer.1 c.open_next-opening.ensures.answer in
-    let answers = step-answered c.args.problem.machine.now c.args.board.now.plans c.args.problem.ask.now c.args.goals.now.items c.args.store.now c.requires.searching.0 c.requires.searching.1 c.take_next.new.goals.items c.take_next.new.store c.in-Some.next c.in-Some.ensures.next (is_machine c.args.problem.machine.now) c.requires.goal (later g k.In_default-best_by) c.open_next-opening.result c.open_next-opening.new.store (opened g k.After-open_next-opening) answer.0 answer.1 in
+pub lay_answer-base-requires-clause-over : goal.lay_answer-base-requires-clause-over
+lay_answer-base-requires-clause-over g c = (c.requires.over.0, c.requires.over.1, marks-some g.N.Network.net g.N.Undo.content g.N.Undo.past g.N.Undo.mark_room c.requires.over.0 c.requires.over.2, since g (goal.at.lay_answer-base-requires-clause-over g c).After-open_next-opening c.requires.over.0 c.requires.over.1 c.requires.over.3)
+
+pub lay_answer-base-requires-clause-laid : goal.lay_answer-base-requires-clause-laid
+lay_answer-base-requires-clause-laid g c =
+    let k = goal.at.lay_answer-base-requires-clause-laid g c in
+    subst (HasList g.N.Network.net g.N.Undo.content g.N.Undo.past c.open_next-opening.new.board c.args.problem.machine.now c.args.problem.ask.now c.lay_next-reached.result.laid.first) (sym (step-list c.args.problem.machine.now c.args.board.now.plans c.args.problem.ask.now c.args.goals.now.items c.args.store.now c.requires.searching.0 c.requires.searching.1 c.take_next.new.goals.items c.take_next.new.store c.in-Some.next c.in-Some.ensures.next (is_machine c.args.problem.machine.now) c.requires.goal (later g k.In_default-best_by) c.open_next-opening.result c.open_next-opening.new.store (opened g k.After-open_next-opening))) (carried g k.After-open_next-opening)
+
+pub lay_answer-base-requires-clause-can : goal.lay_answer-base-requires-clause-can
+lay_answer-base-requires-clause-can g c =
+    let k = goal.at.lay_answer-base-requires-clause-can g c in
+    let same = c.open_next-opening.ensures.back.loaded.plans ∙ plans-laid g k.After-open_next-opening in
+    subst (λ ps. CanLay c.args.problem.machine.now ps c.args.problem.ask.now c.open_next-opening.new.store c.in-Some.next) (sym same) (step-can_lay c.args.problem.machine.now c.args.board.now.plans c.args.problem.ask.now c.args.goals.now.items c.args.store.now c.requires.searching.0 c.requires.searching.1 c.take_next.new.goals.items c.take_next.new.store c.in-Some.next c.in-Some.ensures.next (is_machine c.args.problem.machine.now) c.requires.goal (later g k.In_default-best_by) c.open_next-opening.result c.open_next-opening.new.store (opened g k.After-open_next-opening))
+
+pub lay_answer-base-requires-clause-answers : goal.lay_answer-base-requires-clause-answers
+lay_answer-base-requires-clause-answers g c =
+    let k = goal.at.lay_answer-base-requires-clause-answers g c in
+    let same = c.open_next-opening.ensures.back.loaded.plans ∙ plans-laid g k.After-open_next-opening in
+    subst (λ ps. IsAnswerTo c.args.problem.machine.now ps c.args.problem.ask.now (next_list c.args.problem.machine.now c.open_next-opening.new.store c.in-Some.next) c.in-Some-answer.answer) (sym same)
+    (subst (λ l. IsAnswerTo c.args.problem.machine.now c.args.board.now.plans c.args.problem.ask.now l c.in-Some-answer.answer) (sym (step-list c.args.problem.machine.now c.args.board.now.plans c.args.problem.ask.now c.args.goals.now.items c.args.store.now c.requires.searching.0 c.requires.searching.1 c.take_next.new.goals.items c.take_next.new.store c.in-Some.next c.in-Some.ensures.next (is_machine c.args.problem.machine.now) c.requires.goal (later g k.In_default-best_by) c.open_next-opening.result c.open_next-opening.new.store (opened g k.After-open_next-opening))) (step-answer c.args.problem.machine.now c.args.board.now.plans c.args.problem.ask.now c.args.goals.now.items c.args.store.now c.requires.searching.0 c.requires.searching.1 c.take_next.new.goals.items c.take_next.new.store c.in-Some.next c.in-Some.ensures.next (is_machine c.args.problem.machine.now) c.requires.goal (later g k.In_default-best_by) c.open_next-opening.result c.open_next-opening.new.store (opened g k.After-open_next-opening) c.in-Some-answer.answer c.in-Some-answer.is))
+
+pub returns-in-Some-answer-clause-ends : goal.returns-in-Some-answer-clause-ends
+returns-in-Some-answer-clause-ends g c b ready over =
+    let k = goal.at.returns-in-Some-answer-clause-ends g c in
+    let answer = c.in-Some-answer.answer in
+    let answers = step-answered c.args.problem.machine.now c.args.board.now.plans c.args.problem.ask.now c.args.goals.now.items c.args.store.now c.requires.searching.0 c.requires.searching.1 c.take_next.new.goals.items c.take_next.new.store c.in-Some.next c.in-Some.ensures.next (is_machine c.args.problem.machine.now) c.requires.goal (later g k.In_default-best_by) c.open_next-opening.result c.open_next-opening.new.store (opened g k.After-open_next-opening) answer c.in-Some-answer.is in
     let none = step-none_before c.args.problem.machine.now c.args.board.now.plans c.args.problem.ask.now c.args.goals.now.items c.args.store.now c.requires.searching.0 c.requires.searching.1 c.take_next.new.goals.items c.take_next.new.store c.in-Some.next c.in-Some.ensures.next (is_machine c.args.problem.machine.now) c.requires.goal (later g k.In_default-best_by) c.open_next-opening.result c.open_next-opening.new.store (opened g k.After-open_next-opening) (over-legal g.N.Network.net g.N.Undo.content g.N.Undo.past g.N.Undo.mark_room c.requires.over.0 c.args.board.now c.args.problem.machine.now c.args.problem.ask.now c.args.held.now c.requires.over.1 c.requires.over.3)
     (over-can_ask g.N.Network.net g.N.Undo.content g.N.Undo.past g.N.Undo.mark_room c.requires.over.0 c.args.board.now c.args.problem.machine.now c.args.problem.ask.now c.args.held.now c.requires.over.1 c.requires.over.3) in
     let list = next_list c.args.problem.machine.now c.take_next.new.store c.in-Some.next in
-    let whole = child_by c.args.problem.machine.now list.goal list.choices answer.0 in
+    let child = subst (λ l. (first : State) × HasList g.N.Network.net g.N.Undo.content g.N.Undo.past c.lay_answer-base.new.board c.args.problem.machine.now c.args.problem.ask.now first (child_by c.args.problem.machine.now l.goal l.choices answer)) (step-list c.args.problem.machine.now c.args.board.now.plans c.args.problem.ask.now c.args.goals.now.items c.args.store.now c.requires.searching.0 c.requires.searching.1 c.take_next.new.goals.items c.take_next.new.store c.in-Some.next c.in-Some.ensures.next (is_machine c.args.problem.machine.now) c.requires.goal (later g k.In_default-best_by) c.open_next-opening.result c.open_next-opening.new.store (opened g k.After-open_next-opening)) c.lay_answer-base.ensures.child in
+    let whole = child_by c.args.problem.machine.now list.goal list.choices answer in
     let bound = next_bound c.take_next.new.store c.in-Some.next in
-    let same = over-plans g.N.Network.net g.N.Undo.content g.N.Undo.past g.N.Undo.mark_room b c.args.board.now c.args.problem.machine.now c.args.held.now over in
-    since-answer g.N.Network.net g.N.Undo.content g.N.Undo.past g.N.Undo.mark_room b c.open_next-opening.new.board c.args.problem.machine.now c.lay_next-reached.result.base.0 (since g k.After-open_next-opening b ready over)
-    c.args.problem.ask.now child.0 whole bound child.1 answers.complete (subst (λ ps. IsBound c.args.problem.machine.now ps c.args.problem.ask.now whole bound) same answers.is_bound) (subst (λ ps. NoneBefore c.args.problem.machine.now ps c.args.problem.ask.now bound) same none)
+    let same = over-plans g.N.Network.net g.N.Undo.content g.N.Undo.past g.N.Undo.mark_room b c.args.board.now c.args.problem.machine.now c.args.problem.ask.now c.args.held.now over in
+    since-answer g.N.Network.net g.N.Undo.content g.N.Undo.past g.N.Undo.mark_room b c.lay_answer-base.new.board c.args.problem.machine.now c.args.problem.ask.now c.lay_answer-base.result.0 (c.lay_answer-base.ensures.since b ready (since g k.After-open_next-opening b ready over))
+    child.0 whole bound child.1 answers.complete (subst (λ ps. IsBound c.args.problem.machine.now ps c.args.problem.ask.now whole bound) same answers.is_bound) (subst (λ ps. NoneBefore c.args.problem.machine.now ps c.args.problem.ask.now bound) same none)
 
-pub returns-then-is_some-clause-same : goal.returns-then-is_some-clause-same
-returns-then-is_some-clause-same g c =
-    let k = goal.at.returns-then-is_some-clause-same g c in
+pub returns-in-Some-answer-clause-same : goal.returns-in-Some-answer-clause-same
+returns-in-Some-answer-clause-same g c =
+    let k = goal.at.returns-in-Some-answer-clause-same g c in
     space-then c.args.problem.machine.now c.args.board.now.plans c.args.problem.ask.now c.args.goals.now.items c.args.store.now c.requires.searching.0 c.requires.searching.1 c.take_next.new.goals.items c.take_next.new.store c.in-Some.next c.in-Some.ensures.next (is_machine c.args.problem.machine.now) c.requires.goal (later g k.In_default-best_by) c.open_next-opening.result c.open_next-opening.new.store (opened g k.After-open_next-opening) c.args.goals.now c.take_next.new.goals c.take_next.ensures.same
 
 pub undo_to-requires : goal.undo_to-requires
 undo_to-requires g c =
     let k = goal.at.undo_to-requires g c in
-    since-known g.N.Network.net g.N.Undo.content g.N.Undo.past g.N.Undo.mark_room c.requires.over.0 c.open_next-opening.new.board c.args.problem.machine.now c.lay_next-reached.result.base.0 (since g k.After-open_next-opening c.requires.over.0 c.requires.over.1 c.requires.over.3)
+    since-known g.N.Network.net g.N.Undo.content g.N.Undo.past g.N.Undo.mark_room c.requires.over.0 c.open_next-opening.new.board c.args.problem.machine.now c.args.problem.ask.now c.lay_next-reached.result.base.0 c.lay_next-reached.result.root (since g k.After-open_next-opening c.requires.over.0 c.requires.over.1 c.requires.over.3)
 
 pub returns-then-is_full-clause-ends : goal.returns-then-is_full-clause-ends
 returns-then-is_full-clause-ends g c b ready over =
     let k = goal.at.returns-then-is_full-clause-ends g c in
-    let spent = step-full c.args.problem.machine.now c.args.board.now.plans c.args.problem.ask.now c.args.goals.now.items c.args.store.now c.requires.searching.0 c.requires.searching.1 c.take_next.new.goals.items c.take_next.new.store c.in-Some.next c.in-Some.ensures.next (is_machine c.args.problem.machine.now) c.requires.goal (later g k.In_default-best_by) c.open_next-opening.result c.open_next-opening.new.store (opened g k.After-open_next-opening) (none-of c.open_next-opening.result.answer (sym c.is_some.ensures ∙ c.if-is_some.false)) (sym c.is_full.ensures.full ∙ c.if-is_full.true) (over-legal g.N.Network.net g.N.Undo.content g.N.Undo.past g.N.Undo.mark_room c.requires.over.0 c.args.board.now c.args.problem.machine.now c.args.problem.ask.now c.args.held.now c.requires.over.1 c.requires.over.3)
+    let spent = step-full c.args.problem.machine.now c.args.board.now.plans c.args.problem.ask.now c.args.goals.now.items c.args.store.now c.requires.searching.0 c.requires.searching.1 c.take_next.new.goals.items c.take_next.new.store c.in-Some.next c.in-Some.ensures.next (is_machine c.args.problem.machine.now) c.requires.goal (later g k.In_default-best_by) c.open_next-opening.result c.open_next-opening.new.store (opened g k.After-open_next-opening) c.in_default-answer.is (sym c.is_full.ensures.full ∙ c.if-is_full.true) (over-legal g.N.Network.net g.N.Undo.content g.N.Undo.past g.N.Undo.mark_room c.requires.over.0 c.args.board.now c.args.problem.machine.now c.args.problem.ask.now c.args.held.now c.requires.over.1 c.requires.over.3)
     (over-can_ask g.N.Network.net g.N.Undo.content g.N.Undo.past g.N.Undo.mark_room c.requires.over.0 c.args.board.now c.args.problem.machine.now c.args.problem.ask.now c.args.held.now c.requires.over.1 c.requires.over.3) in
     let at = subst (IsSpent c.args.problem.machine.now c.args.board.now.plans c.args.problem.ask.now c.args.store.now.room) (sym c.bound_of-bound.ensures) spent in
     let u = c.undo_to.ensures in (
-      subst (λ ps. IsSpent c.args.problem.machine.now ps c.args.problem.ask.now c.args.store.now.room c.bound_of-bound.result) (over-plans g.N.Network.net g.N.Undo.content g.N.Undo.past g.N.Undo.mark_room b c.args.board.now c.args.problem.machine.now c.args.held.now over) at,
-      since-undone g.N.Network.net g.N.Undo.content g.N.Undo.past g.N.Undo.aside g.N.Undo.mark_room c.marks_keep_boards.ensures.back b c.open_next-opening.new.board c.undo_to.new.self c.args.problem.machine.now c.lay_next-reached.result.base.0 (since g k.After-open_next-opening b ready over) (record { content_then = u.content; past_less = u.past; aside_same = u.aside; room_same = u.room }),
+      subst (λ ps. IsSpent c.args.problem.machine.now ps c.args.problem.ask.now c.args.store.now.room c.bound_of-bound.result) (over-plans g.N.Network.net g.N.Undo.content g.N.Undo.past g.N.Undo.mark_room b c.args.board.now c.args.problem.machine.now c.args.problem.ask.now c.args.held.now over) at,
+      since-undone g.N.Network.net g.N.Undo.content g.N.Undo.past g.N.Undo.aside g.N.Undo.mark_room c.marks_keep_boards.ensures.back b c.open_next-opening.new.board c.undo_to.new.self c.args.problem.machine.now c.args.problem.ask.now c.lay_next-reached.result.base.0 c.lay_next-reached.result.root (since g k.After-open_next-opening b ready over) (record { content_then = u.content; past_less = u.past; aside_same = u.aside; room_same = u.room }),
     )
 
 pub returns-then-is_full-clause-same : goal.returns-then-is_full-clause-same
@@ -153,7 +181,7 @@ pub returns-clause-goes_on : goal.returns-clause-goes_on
 returns-clause-goes_on g c none =
     let k = goal.at.returns-clause-goes_on g c in (
       next_bound c.take_next.new.store c.in-Some.next,
-      step-on c.args.problem.machine.now c.args.board.now.plans c.args.problem.ask.now c.args.goals.now.items c.args.store.now c.requires.searching.0 c.requires.searching.1 c.take_next.new.goals.items c.take_next.new.store c.in-Some.next c.in-Some.ensures.next (is_machine c.args.problem.machine.now) c.requires.goal (later g k.In_default-best_by) c.open_next-opening.result c.open_next-opening.new.store (opened g k.After-open_next-opening) (none-of c.open_next-opening.result.answer (sym c.is_some.ensures ∙ c.if-is_some.false)) (sym c.is_full.ensures.full ∙ c.if-is_full.false),
+      step-on c.args.problem.machine.now c.args.board.now.plans c.args.problem.ask.now c.args.goals.now.items c.args.store.now c.requires.searching.0 c.requires.searching.1 c.take_next.new.goals.items c.take_next.new.store c.in-Some.next c.in-Some.ensures.next (is_machine c.args.problem.machine.now) c.requires.goal (later g k.In_default-best_by) c.open_next-opening.result c.open_next-opening.new.store (opened g k.After-open_next-opening) c.in_default-answer.is (sym c.is_full.ensures.full ∙ c.if-is_full.false),
     )
 
 pub returns-clause-over : goal.returns-clause-over
@@ -163,7 +191,7 @@ pub returns-clause-holds : goal.returns-clause-holds
 returns-clause-holds g c none =
     let k = goal.at.returns-clause-holds g c in
     step-holds c.args.problem.machine.now c.args.board.now.plans c.args.problem.ask.now c.args.goals.now.items c.args.store.now c.requires.searching.0 c.requires.searching.1 c.take_next.new.goals.items c.take_next.new.store c.in-Some.next c.in-Some.ensures.next (is_machine c.args.problem.machine.now) c.requires.goal (later g k.In_default-best_by) c.open_next-opening.result c.open_next-opening.new.store (opened g k.After-open_next-opening) g.N.Network.net g.N.Undo.content g.N.Undo.past c.open_next-opening.new.board c.lay_next-reached.result
-    (c.open_next-opening.ensures.none (none-of c.open_next-opening.result.answer (sym c.is_some.ensures ∙ c.if-is_some.false))) c.lay_next-reached.ensures.stored
+    (carried g k.After-open_next-opening) c.lay_next-reached.ensures.stored
 
 pub returns-clause-less : goal.returns-clause-less
 returns-clause-less g c none =

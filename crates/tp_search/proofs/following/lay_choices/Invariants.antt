@@ -3,7 +3,7 @@ use Rattle.std.proofs.Common.{length, drop, ◌-◌}
 use Rattle.tp_pool.specs.Entries.{choices_of as stored_at}
 use Rattle.tp_search.specs.Following.{HasList, IsSameButSteps, list_from}
 use Rattle.tp_search.specs.Stored.{list_by}
-use Rattle.tp_search.proofs.following.follow.Given as goal
+use Rattle.tp_search.proofs.following.lay_choices.Given as goal
 
 abbrev pub invariant-depths : goal.invariant-depths
 invariant-depths g l =

@@ -1,0 +1,80 @@
+-- A child of a list that a board carries: its newest choice can be laid, which makes the child.
+use Rattle.std.proofs.Common.{◌≡◌, ℕ, ◌-◌, ◌<◌, ◌≤◌, List, ◌∷◌, length, IfSome, Option, Some, None, sym, ap, subst, ◌∙◌, arith}
+use Rattle.std.proofs.lemmas.Option.{same_Some}
+use Rattle.std.specs.List.{slice_get}
+use Rattle.tp_base.specs.Net.{Net}
+use Rattle.tp_machine.specs.declared.parts.State.{State}
+use Rattle.tp_machine.specs.declared.whole.Machine.{Machine}
+use Rattle.tp_pool.specs.Entries.{choice_made, choices_of}
+use Rattle.tp_pool.specs.declared.choice.Choice.{Choice as Stored}
+use Rattle.tp_schedule.specs.Choices.{ChoiceList, IsOpen, going}
+use Rattle.tp_schedule.specs.declared.parts.Ask.{Ask}
+use Rattle.tp_schedule.specs.declared.parts.Plan.{Plan}
+use Rattle.tp_placing.specs.Boards.{BoardValue, suffix_of}
+use Rattle.tp_placing.specs.Standing.{choices_of as laid_by}
+use Rattle.tp_search.specs.Following.{HasList}
+use Rattle.tp_search.specs.Holding.{HoldsList, IsAnswerTo, IsOneMore}
+use Rattle.tp_search.specs.Stored.{child_by, choices_by, list_by}
+use Rattle.tp_search.specs.Stores.{StoreValue}
+use Rattle.tp_search.specs.declared.holding.Held.{Held}
+use Rattle.tp_search.proofs.OpenSteps.{choices-carried}
+
+-- which lists wait does not matter for a held list
+pub holds-taken : {N C : Type 0} (net : N → Net) (content : N → C) (past : N → List C) (b : BoardValue N) (machine : Machine) (ask : Ask) (s s' : StoreValue) (held : Option Held) → s'.entries ≡ s.entries → IfSome held (HoldsList net content past b machine ask s)
+    → IfSome held (HoldsList net content past b machine ask s')
+holds-taken net content past b machine ask s s' None same holds = tt
+holds-taken net content past b machine ask s s' (Some held) same holds = record {
+  goal = holds.goal;
+  before = holds.before;
+  laid = holds.laid;
+  children = λ node from within. subst (λ es. IsOneMore holds.goal holds.before (choices_of es node)) (sym same) (holds.children node from (subst (λ es. node < length es) same within));
+}
+
+-- the choice that was made last
+last-made : (choices : List Stored) (c newest : Stored) (before : List Stored) → choices ≡ newest ∷ before → choice_made choices (length choices) ≡ Some c → c ≡ newest
+last-made choices c newest before is made =
+    let same : choice_made (newest ∷ before) (length (newest ∷ before)) ≡ Some c = subst (λ cs. choice_made cs (length cs) ≡ Some c) is made in
+    let at : length (newest ∷ before) - length (newest ∷ before) ≡ 0 = omega arith in
+    let first : slice_get (newest ∷ before) 0 ≡ Some c = subst (λ n. slice_get (newest ∷ before) n ≡ Some c) at same in
+    sym (same_Some newest c first)
+
+pub child-some : {goal : State} {before choices : List Stored} → IsOneMore goal before choices → 1 ≤ length choices
+child-some {goal} {before} {choices} more = omega (arith, ap length more.same)
+
+-- a child of the list that a board carries
+module _ {N C : Type 0} (net : N → Net) (content : N → C) (past : N → List C) (mark_room : N → ℕ) (b : BoardValue N) (machine : Machine) (ask : Ask) (first goal : State) (before choices : List Stored)
+    (laid : HasList net content past b machine ask first (going goal (choices_by machine before))) (more : IsOneMore goal before choices) (c : Stored) (made : choice_made choices (length choices) ≡ Some c) where
+  newest-is : c ≡ more.newest
+  newest-is = last-made choices c more.newest before more.same made
+
+  goal-is : c.goal ≡ goal
+  goal-is = ap (λ (d : Stored). d.goal) newest-is ∙ more.same_goal
+
+  carried : (laid_by (suffix_of b)).choices ≡ choices_by machine before
+  carried = choices-carried net content past mark_room b machine ask first goal (choices_by machine before) laid
+
+  -- its newest choice can be laid
+  pub child-laid : HasList net content past b machine ask first (going c.goal (laid_by (suffix_of b)).choices)
+  child-laid = subst (HasList net content past b machine ask first) (λ i. going (sym goal-is i) (sym carried i)) laid
+
+  -- which makes the child
+  pub child-whole : child_by machine c.goal (laid_by (suffix_of b)).choices c ≡ list_by machine choices
+  child-whole = (λ i. child_by machine c.goal (carried i) c) ∙ (λ i. list_by machine (newest-is i ∷ before)) ∙ ap (list_by machine) (sym more.same)
+
+  pub child-opens : IsOpen machine b.plans ask (list_by machine choices) → IsOpen machine b.plans ask (child_by machine c.goal (laid_by (suffix_of b)).choices c)
+  child-opens o = subst (IsOpen machine b.plans ask) (sym child-whole) o
+
+-- the answer that was found as a list was opened
+module _ {N C : Type 0} (net : N → Net) (content : N → C) (past : N → List C) (mark_room : N → ℕ) (b : BoardValue N) (machine : Machine) (plans : List Plan) (ask : Ask) (first : State) (list : ChoiceList) (answer : Stored)
+    (laid : HasList net content past b machine ask first list) (is : IsAnswerTo machine plans ask list answer) where
+  list-carried : (laid_by (suffix_of b)).choices ≡ list.choices
+  list-carried = choices-carried net content past mark_room b machine ask first list.goal list.choices (subst (HasList net content past b machine ask first) is.goes_on laid)
+
+  pub answer-laid : HasList net content past b machine ask first (going answer.goal (laid_by (suffix_of b)).choices)
+  answer-laid = subst (HasList net content past b machine ask first) (is.goes_on ∙ (λ i. going (sym is.goal i) (sym list-carried i))) laid
+
+  pub answer-whole : child_by machine answer.goal (laid_by (suffix_of b)).choices answer ≡ child_by machine list.goal list.choices answer
+  answer-whole = λ i. child_by machine (is.goal i) (list-carried i) answer
+
+  pub answer-opens : b.plans ≡ plans → IsOpen machine b.plans ask (child_by machine answer.goal (laid_by (suffix_of b)).choices answer)
+  answer-opens same = subst (IsOpen machine b.plans ask) (sym answer-whole) (subst (λ ps. IsOpen machine ps ask (child_by machine list.goal list.choices answer)) (sym same) is.opens)
