@@ -1,7 +1,6 @@
 -- The list that a board holds over another board: what it was laid on, and that it can be taken off.
-use Rattle.std.proofs.Common.{◌≡◌, ℕ, ◌-◌, ◌<◌, List, [], ◌∷◌, ◌++◌, length, take, IsTrue, is_some, Option, Some, None, refl, sym, ap, ◌∙◌, arith}
+use Rattle.std.proofs.Common.{◌≡◌, ℕ, ◌-◌, ◌<◌, List, [], ◌∷◌, ◌++◌, length, take, Option, Some, None, refl, sym, ap, ◌∙◌, arith}
 use Rattle.std.proofs.Math.Seq.{take-append_seam}
-use Rattle.std.proofs.lemmas.Bool.{false≢true}
 use Rattle.std.proofs.lemmas.List.{length-append}
 use Rattle.std.proofs.lemmas.Option.{same_Some}
 use Rattle.std.specs.List.{slice_get}
@@ -72,14 +71,6 @@ module _ {N C : Type 0} (net : N → Net) (content : N → C) (past : N → List
   pub since-marks : (b b' : BoardValue N) (machine : Machine) (ask : Ask) (base : ℕ) (root : Option Root) → IsLaidSince net content past mark_room b b' machine ask base root → HasMarks net content past mark_room 7 b → HasMarks net content past mark_room 6 b'
   since-marks b b' machine ask base None since spare = omega (arith, spare, ap length since.past_more, length-append (past_of past b) (content_of content b ∷ since.kept), ap length since.are_kept, since.marks)
   since-marks b b' machine ask base (Some root) since spare = omega (arith, since.room, ap length since.past_more, length-append (past_of past b) (content_of content b ∷ since.kept), ap length since.are_kept.1, since.marks)
-
-  -- there is one for the goal where one is set, or where one more than six is spare
-  pub kept-marks : (b b' : BoardValue N) (machine : Machine) (ask : Ask) (base : ℕ) (root : Option Root) → IsTrue (is_some root) → IsLaidSince net content past mark_room b b' machine ask base root → HasMarks net content past mark_room 8 b
-  kept-marks b b' machine ask base None some since = absurd (false≢true some)
-  kept-marks b b' machine ask base (Some root) some since = since.room
-
-  pub spare-marks : (b b' : BoardValue N) (machine : Machine) (ask : Ask) (base : ℕ) (root : Option Root) → IsLaidSince net content past mark_room b b' machine ask base root → HasMarks net content past mark_room 7 b' → HasMarks net content past mark_room 8 b
-  spare-marks b b' machine ask base root since spare = omega (arith, spare, ap length since.past_more, length-append (past_of past b) (content_of content b ∷ since.kept), since.marks)
 
   module _ (b b' : BoardValue N) (machine : Machine) (ask : Ask) (base : ℕ) (root : Option Root) (since : IsLaidSince net content past mark_room b b' machine ask base root) where
     -- the mark is in force

@@ -1,7 +1,6 @@
 -- A step of a search: what is known of the list that was taken, told of the store without it.
-use Rattle.std.proofs.Common.{◌≡◌, ℕ, true, false, ◌+◌, ◌<◌, ◌≤◌, List, [], ◌∷◌, ◌++◌, length, Option, Some, None, IfSome, is_some, Vec, refl, sym, ap, subst, ◌∙◌, arith}
+use Rattle.std.proofs.Common.{◌≡◌, ℕ, true, false, ◌+◌, ◌<◌, ◌≤◌, List, [], ◌∷◌, ◌++◌, length, Some, None, IfSome, Vec, refl, sym, ap, subst, ◌∙◌, arith}
 use Rattle.std.specs.declared.alloc.Global.{Global}
-use Rattle.std.proofs.lemmas.Bool.{false≢true, true≢false}
 use Rattle.std.proofs.lemmas.List.{length-append}
 use Rattle.std.proofs.lemmas.List.Elements.{All-contains}
 use Rattle.tp_base.specs.Net.{Net}
@@ -41,15 +40,6 @@ use Rattle.tp_search.proofs.SearchFull.{searching-answered, searching-full}
 use Rattle.tp_search.proofs.SearchNext.{IsKnownNext, next-formed, next-known}
 use Rattle.tp_search.proofs.SearchOn.{searching-on}
 use Rattle.tp_search.proofs.StoreFacts.{as-long}
-
--- whether there is an answer
-pub some-of : (o : Option Stored) → is_some o ≡ true → (c : Stored) × (o ≡ Some c)
-some-of None is = absurd (false≢true is)
-some-of (Some c) is = (c, refl)
-
-pub none-of : (o : Option Stored) → is_some o ≡ false → o ≡ None
-none-of None is = refl
-none-of (Some c) is = absurd (true≢false is)
 
 pub space-trans : (gs gs' gs'' : Vec OpenGoal Global) (s s' s'' : StoreValue) → IsSameSpace gs gs' s s' → IsSameSpace gs' gs'' s' s'' → IsSameSpace gs gs'' s s''
 space-trans gs gs' gs'' s s' s'' first second = record {

@@ -75,9 +75,7 @@ pub(crate) fn find_goals<N: Network>(
     goals.clear();
     'numbers: for number in 0..problem.machine.locations.len() * 8 {
         if let Some(goal) = try_goal(board, problem, number) {
-            let Ok(()) = goals.push(goal) else {
-                unreachable!()
-            };
+            goals.push_reserved(goal);
         }
     }
 }

@@ -5,7 +5,7 @@ use Rattle.tp_search.specs.Searching.{list_of_goal}
 use Rattle.tp_search.proofs.BoardSteps.{back-trans, ready-back}
 use Rattle.tp_search.proofs.GoalFacts.{AreGoalsBelow, goals-all, goals-push, goals-skip}
 use Rattle.tp_search.proofs.goals.find_goals.Goals as goal
-use Rattle.tp_search.proofs.goals.find_goals.Goals.{in-Some+in-Ok, in_default}
+use Rattle.tp_search.proofs.goals.find_goals.Goals.{in-Some, in_default}
 
 pub try_goal-requires-clause-ready : goal.try_goal-requires-clause-ready
 try_goal-requires-clause-ready g c = ready-back g.N.Network.net g.N.Undo.content g.N.Undo.past g.N.Undo.mark_room c.args.board.now c.numbers.board c.args.problem.machine.now c.args.problem.ask.now c.numbers.invariant.back c.requires.ready
@@ -14,7 +14,7 @@ pub numbers-preserved : goal.numbers-preserved
 numbers-preserved g c =
     let i = c.numbers.invariant in
     let found : AreGoalsBelow c.args.problem.machine.now c.args.board.now.plans c.args.problem.ask.now (c.numbers.number + 1) c.match-try_goal.goals.items = elim c.match-try_goal.branch [
-      | in-Some+in-Ok w ↦ (let more : c.match-try_goal.goals.items ≡ c.numbers.goals.items ++ w.in-Some.goal ∷ [] = cc w.in-Ok.ensures.items in
+      | in-Some w ↦ (let more : c.match-try_goal.goals.items ≡ c.numbers.goals.items ++ w.in-Some.goal ∷ [] = cc w.push_reserved.ensures.items in
           subst (AreGoalsBelow c.args.problem.machine.now c.args.board.now.plans c.args.problem.ask.now (c.numbers.number + 1)) (sym more)
           (goals-push c.args.problem.machine.now c.args.board.now.plans c.args.problem.ask.now c.numbers.number c.numbers.goals.items w.in-Some.goal i.goals w.in-Some.ensures.state
           (subst (λ ps. IsBound c.args.problem.machine.now ps c.args.problem.ask.now (list_of_goal w.in-Some.goal) w.in-Some.goal.bound) i.back.loaded.plans w.in-Some.ensures.bound)))
@@ -24,7 +24,7 @@ numbers-preserved g c =
           (subst (λ ps. ¬ IsOpen c.args.problem.machine.now ps c.args.problem.ask.now (going (state_at c.numbers.number) [])) i.back.loaded.plans w.in_default.ensures.none)))
     ] in
     let space : vec_capacity c.args.goals.now ≤ vec_capacity c.match-try_goal.goals = elim c.match-try_goal.branch [
-      | in-Some+in-Ok w ↦ (let same : vec_capacity c.match-try_goal.goals ≡ vec_capacity w.push.new.self = cc in omega (arith, w.push.ensures.capacity, i.space))
+      | in-Some w ↦ (let same : vec_capacity c.match-try_goal.goals ≡ vec_capacity w.push_reserved.new.self = cc in omega (arith, w.push_reserved.ensures.capacity, i.space))
       | in_default w ↦ (let same : vec_capacity c.match-try_goal.goals ≡ vec_capacity c.numbers.goals = cc in omega (arith, i.space))
     ] in
     record {
