@@ -1,13 +1,21 @@
-// Whole logs, as runs write them: read, and printed again.
-ghost use Rattle.tp_log.specs.Grammar.{IsItem};
+//! Whole logs, as runs write them: read, and printed again.
+ghost use Rattle.tp_bounds.specs.Trees.{IsTree};
+ghost use Rattle.tp_log.specs.Logs.{IsItem};
 
 use std::alloc::Global;
 use std::test::Fail;
 use tp_base::Memory;
+use tp_bounds::{BoundTree, print_tree};
 use tp_log::{Item, LogFault, print_echo, print_record, read_log};
 
 /// The longest text of a row.
 const MOST: usize = 4096;
+
+fn put_tree(tree: &BoundTree, out: &mut Vec<u8>) -> Result<(), Memory>
+    requires { IsTree tree.now }
+{
+    print_tree(tree, out)
+}
 
 fn put_item(item: &Item, out: &mut Vec<u8>) -> Result<(), Memory>
     requires { IsItem item.now }
@@ -15,6 +23,7 @@ fn put_item(item: &Item, out: &mut Vec<u8>) -> Result<(), Memory>
     match item {
         Item::Event(event) => print_echo(event, out),
         Item::Note(rec) => print_record(rec, out),
+        Item::Tree(tree) => put_tree(tree, out),
     }
 }
 
@@ -46,7 +55,7 @@ fn is_log(alloc: Global, text: &[u8]) -> Result<(), Fail> {
 
 #[test]
 fn whole_logs(rt: HostRuntime) -> Result<(), Fail> {
-    let rows: [&[u8]; 13] = [
+    let rows: [&[u8]; 15] = [
         b"",
         b"> job j1 t plain M-:F\n\
           plan j1.1.1 t 3 feed 5 print2 11 out 14\n",
@@ -162,6 +171,24 @@ fn whole_logs(rt: HostRuntime) -> Result<(), Fail> {
           plan j1.1.1 t 3 feed 5 print2 11 out 14\n\
           > job j1 t plain M-:F\n\
           refused named j1\n",
+        b"> job j1 t plain M-:F\n\
+          plan j1.1.1 t 3 feed 5 print2 11 out 14\n\
+          b room f:F00 0\n\
+          b room e:F10 8\n\
+          b 0 goal t:F10 split\n\
+          b 1 act out chain *1 d:*0\n\
+          > job j2 t plain M-:F\n\
+          none j2.1.1 t\n\
+          b 0 goal t:F10 dead\n\
+          drop j2.1.1\n",
+        b"> job j1 t plain 2*M-:F\n\
+          plan j1.1.1 t 3 feed 5 print2 11 out 14\n\
+          b 0 goal t:F10 dead\n\
+          plan j1.2.1 t 3 feed 5 print1 14 out 17\n\
+          move j1.1.1 5 7 13 16\n\
+          b room f:F00 0\n\
+          > clock 3\n\
+          release j1.1.1 1 feed 3 5\n",
         b"> clock 4294967295\n\
           full j1.1.1\n\
           drop j1.1.1\n\
@@ -175,7 +202,7 @@ fn whole_logs(rt: HostRuntime) -> Result<(), Fail> {
 
 #[test]
 fn first_lines_off_the_grammar(rt: HostRuntime) -> Result<(), Fail> {
-    let rows: [(&[u8], u64); 22] = [
+    let rows: [(&[u8], u64); 26] = [
         (b"plan j1.1.1 t 3 feed 5\n", 1),
         (b"refused syntax\n", 1),
         (b"> clock 1", 1),
@@ -198,6 +225,16 @@ fn first_lines_off_the_grammar(rt: HostRuntime) -> Result<(), Fail> {
         (b"> clock 1\nlost j1.1.1\ndone j1.1.1 t 4294967296\n", 3),
         (b"> clock 1\nLOST j1.1.1\n", 2),
         (b"> clock 1\nb room f:F00 0\n", 2),
+        (b"b room f:F00 0\n", 1),
+        (b"> clock 1\nlost j1.1.1\nb 0 stop dead\n", 3),
+        (
+            b"> clock 1\nnone j1.1.1 t\nb 0 stop dead\nb room f:F00 0\n",
+            4,
+        ),
+        (
+            b"> clock 1\nnone j1.1.1 t\nb 0 stop dead\nb 0 stop dead x\n",
+            4,
+        ),
     ];
     for (text, wanted) in rows {
         match read(rt.alloc(), text) {

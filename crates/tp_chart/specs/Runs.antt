@@ -5,7 +5,7 @@ use Rattle.tp_outside.specs.Outside.{Files, file_at}
 use Rattle.tp_machine.specs.declared.whole.Machine.{Machine}
 use Rattle.tp_machine_text.specs.Texts.{IsMachineText}
 use Rattle.tp_log.specs.declared.item.Item.{Item}
-use Rattle.tp_log.specs.Grammar.{IsLog, log_text}
+use Rattle.tp_log.specs.Logs.{IsLog, log_text}
 use Rattle.tp_chart.specs.Bars.{bars_from}
 use Rattle.tp_chart.specs.Pictures.{Draws}
 use Rattle.tp_chart.specs.Scenes.{sight_of}

@@ -10,7 +10,7 @@ use Rattle.tp_schedule.specs.declared.recording.SheetName.{SheetName}
 use Rattle.tp_script.specs.declared.event.Event.{Event as AnyEvent}
 use Rattle.tp_script.specs.declared.event.Event.TheVariants.{Bad, Job, Clock, Jam, Off, On}
 use Rattle.tp_log.specs.declared.item.Item.{Item}
-use Rattle.tp_log.specs.declared.item.Item.TheVariants.{Event, Note}
+use Rattle.tp_log.specs.declared.item.Item.TheVariants.{Event, Note, Tree}
 use Rattle.tp_chart.specs.Courses.{Way, fresh, is_same_copy, tell_course}
 use Rattle.tp_chart.specs.declared.outage.Outage.{Outage}
 
@@ -107,6 +107,7 @@ tell_event machine (On name) s = comes_back machine name s
 abbrev pub tell : Machine → Item → Sight → Sight
 tell machine (Event event) s = tell_event machine event s
 tell machine (Note told) s = tell_record machine told s
+tell machine (Tree tree) s = s
 
 -- ---- up to a moment
 

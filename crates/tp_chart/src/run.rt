@@ -1,6 +1,6 @@
 // A run, from the words to the bytes of the picture.
 ghost use Rattle.std.specs.Prelude.{◌≡◌, ◌≢◌, ◌⊎◌, ℕ, ◌<◌, None, length, map, string_bytes, IfSome, IsFalse};
-ghost use Rattle.tp_log.specs.Grammar.{IsFirstOff};
+ghost use Rattle.tp_log.specs.Logs.{IsFirstOff};
 ghost use Rattle.tp_machine_text.specs.Texts.{IsBrokenAt, IsNotToml};
 ghost use Rattle.tp_outside.specs.Outside.{Rises};
 ghost use Rattle.tp_chart.specs.Runs.{IsCharted, NamesLongText, NamesText, may_have_written, most_log};

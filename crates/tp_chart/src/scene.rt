@@ -229,6 +229,7 @@ impl Scene {
         match item {
             Item::Event(event) => self.tell_event(machine, event),
             Item::Note(rec) => self.tell_record(machine, rec),
+            Item::Tree(_) => Ok(()),
         }
     }
 }

@@ -1,6 +1,6 @@
 // A log read, its schedule drawn, and the picture written.
 ghost use Rattle.std.specs.Prelude.{◌≡◌, ◌⊎◌, ℕ, ◌<◌, length, IfOk, IfErr, IfSome, IsFalse, IsTrue};
-ghost use Rattle.tp_log.specs.Grammar.{IsFirstOff, IsLog, log_text};
+ghost use Rattle.tp_log.specs.Logs.{IsFirstOff, IsLog, log_text};
 ghost use Rattle.tp_outside.specs.Outside.{Rises};
 ghost use Rattle.tp_chart.specs.Bars.{bars_from};
 ghost use Rattle.tp_chart.specs.Pictures.{Draws};

@@ -6,6 +6,9 @@ pub mod CauseFacts
 pub mod RecordFacts
 pub mod LineFacts
 pub mod EventWords
-pub mod LogLines
-pub mod LogFacts
 pub mod BoundLines
+pub mod LogLines
+pub mod Order
+pub mod Items
+pub mod LogFacts
+pub mod GatherFacts

@@ -1,5 +1,5 @@
 -- A line: what is read is spelled so, and what is spelled so is read.
-use Rattle.std.proofs.Common.{◌≡◌, ◌≢◌, ℕ, ◌<◌, List, [], ◌∷◌, ◌++◌, length, Some, None, Err, refl, sym, ap, ◌∙◌, arith}
+use Rattle.std.proofs.Common.{◌≡◌, ◌≢◌, ℕ, ◌<◌, IsTrue, List, [], ◌∷◌, ◌++◌, length, Some, None, Err, refl, sym, ap, ◌∙◌, arith}
 use Rattle.std.proofs.lemmas.List.{append_cancel_right}
 use Rattle.tp_words.specs.Parts.{parts_at}
 use Rattle.tp_schedule.specs.declared.recording.Record.{Record}
@@ -10,10 +10,11 @@ use Rattle.tp_script.specs.Reading.{Gives}
 use Rattle.tp_words.specs.Texts.{spaced}
 use Rattle.tp_script.specs.Script.{event_text}
 use Rattle.tp_words.proofs.Texts.{parts-spaced, spaced-parts}
-use Rattle.tp_log.specs.declared.item.Item.{Item}
-use Rattle.tp_log.specs.declared.item.Item.TheVariants.{Event, Note}
+use Rattle.tp_log.specs.declared.log_line.LogLine.{LogLine}
+use Rattle.tp_log.specs.declared.log_line.LogLine.TheVariants.{Event, Note, Room, Node}
 use Rattle.tp_log.specs.Records.{record_words, record_text}
-use Rattle.tp_log.specs.Grammar.{IsRecord, IsItem, item_text, ReadsItem}
+use Rattle.tp_log.specs.Grammar.{IsRecord}
+use Rattle.tp_log.specs.LogLines.{IsLogLine, ReadsPlain, is_plain, log_line_text}
 use Rattle.tp_log.specs.Reading.{record_of}
 use Rattle.tp_log.proofs.RecordFacts.{record_takes, record_again, record_visible}
 
@@ -50,28 +51,34 @@ same_front a b e = append_cancel_right a b (10 ∷ []) e
 pub note_read : (line text : List ℕ) (r : Record) → line ≡ text ++ 10 ∷ [] → record_of (parts_at 32 text) ≡ Some r → IsRecord r × (line ≡ record_text r)
 note_read line text r is e = (let t = text_takes text r e in (t.0, is ∙ ap (λ x. x ++ 10 ∷ []) t.1))
 
-pub no_newline : (line : List ℕ) → ((text : List ℕ) → line ≢ text ++ 10 ∷ []) → (item : Item) → IsItem item → line ≢ item_text item
-no_newline line h (Event event) is same = h (62 ∷ 32 ∷ event_text event) same
-no_newline line h (Note told) is same = h (spaced (record_words told)) same
+pub no_newline : (line : List ℕ) → ((text : List ℕ) → line ≢ text ++ 10 ∷ []) → (told : LogLine) → IsTrue (is_plain told) → IsLogLine told → line ≢ log_line_text told
+no_newline line h (Event event) plain is same = h (62 ∷ 32 ∷ event_text event) same
+no_newline line h (Note told) plain is same = h (spaced (record_words told)) same
+no_newline line h (Room row) plain is same = absurd cc
+no_newline line h (Node node) plain is same = absurd cc
 
-pub note_fault : (line text : List ℕ) (fault : LineFault) → line ≡ text ++ 10 ∷ [] → ((event : List ℕ) → text ≢ 62 ∷ 32 ∷ event) → Gives (Err fault) (record_of (parts_at 32 text)) → ReadsItem line (Err fault)
+pub note_fault : (line text : List ℕ) (fault : LineFault) → line ≡ text ++ 10 ∷ [] → ((event : List ℕ) → text ≢ 62 ∷ 32 ∷ event) → Gives (Err fault) (record_of (parts_at 32 text)) → ReadsPlain line (Err fault)
 note_fault line text Memory is other h = tt
 note_fault line text Syntax is other h = off
   where
-    off : (item : Item) → IsItem item → line ≢ item_text item
-    off (Event event) echoed same = other (event_text event) (same_front text (62 ∷ 32 ∷ event_text event) (sym is ∙ same))
-    off (Note told) good same =
+    off : (told : LogLine) → IsTrue (is_plain told) → IsLogLine told → line ≢ log_line_text told
+    off (Event event) plain echoed same = other (event_text event) (same_front text (62 ∷ 32 ∷ event_text event) (sym is ∙ same))
+    off (Note told) plain good same =
         let front : text ≡ spaced (record_words told) = same_front text (spaced (record_words told)) (sym is ∙ same) in
         let again : record_of (parts_at 32 text) ≡ Some told = ap (λ t. record_of (parts_at 32 t)) front ∙ text_again told good in
         cc
+    off (Room row) plain is same = absurd cc
+    off (Node node) plain is same = absurd cc
 
-pub echo_fault : (line text event : List ℕ) (fault : LineFault) → line ≡ text ++ 10 ∷ [] → text ≡ 62 ∷ 32 ∷ event → Echoes event (Err fault) → ReadsItem line (Err fault)
+pub echo_fault : (line text event : List ℕ) (fault : LineFault) → line ≡ text ++ 10 ∷ [] → text ≡ 62 ∷ 32 ∷ event → Echoes event (Err fault) → ReadsPlain line (Err fault)
 echo_fault line text event Memory is front h = tt
 echo_fault line text event Syntax is front h = off
   where
     behind : (a b : List ℕ) → 62 ∷ 32 ∷ a ≡ 62 ∷ 32 ∷ b → a ≡ b
     behind a b e = cc
 
-    off : (item : Item) → IsItem item → line ≢ item_text item
-    off (Event event') echoed same = h event' echoed (behind event (event_text event') (sym front ∙ same_front text (62 ∷ 32 ∷ event_text event') (sym is ∙ same)))
-    off (Note told) good same = not_told event told good (sym front ∙ same_front text (spaced (record_words told)) (sym is ∙ same))
+    off : (told : LogLine) → IsTrue (is_plain told) → IsLogLine told → line ≢ log_line_text told
+    off (Event event') plain echoed same = h event' echoed (behind event (event_text event') (sym front ∙ same_front text (62 ∷ 32 ∷ event_text event') (sym is ∙ same)))
+    off (Note told) plain good same = not_told event told good (sym front ∙ same_front text (spaced (record_words told)) (sym is ∙ same))
+    off (Room row) plain is same = absurd cc
+    off (Node node) plain is same = absurd cc

@@ -2,4 +2,6 @@ pub mod Records
 pub mod Headings
 pub mod Grammar
 pub mod LogLines
+pub mod Logs
+pub mod Gathering
 pub mod Reading

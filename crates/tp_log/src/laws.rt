@@ -1,17 +1,11 @@
-// What holds of all logs. The calls do nothing: their contracts are the laws.
+//! What holds of all logs. The calls do nothing: their contracts are the laws.
 ghost use Rattle.std.specs.Prelude.{◌≡◌, List};
 ghost use Rattle.tp_log.specs.declared.item.Item.{Item};
 ghost use Rattle.tp_log.specs.declared.log_line.LogLine.{LogLine};
 ghost use Rattle.tp_log.specs.LogLines.{IsLogLine, log_line_text};
-ghost use Rattle.tp_log.specs.Grammar.{IsItem, item_text, IsLog, log_text};
+ghost use Rattle.tp_log.specs.Logs.{IsLog, log_text};
 
-/// No line is that of two items.
-pub fn one_item()
-    ensures { (item other : Item) → IsItem item → IsItem other → item_text item ≡ item_text other
-        → item ≡ other }
-{}
-
-/// No line is that of two, those of bound trees among them.
+/// No line is that of two.
 pub fn one_log_line()
     ensures { (told other : LogLine) → IsLogLine told → IsLogLine other
         → log_line_text told ≡ log_line_text other → told ≡ other }

@@ -1,9 +1,10 @@
-//! The lines of a log, printed and read.
+//! The lines of a log, printed and read, and whole logs.
 #![tactic(auto)]
 
 mod causes;
 mod fault;
 mod fields;
+mod gathering;
 mod heading;
 mod item;
 mod laws;
@@ -18,7 +19,7 @@ mod records;
 
 pub use fault::LogFault;
 pub use item::Item;
-pub use laws::{one_item, one_log, one_log_line};
+pub use laws::{one_log, one_log_line};
 pub use line::print_echo;
 pub use log_line::{LogLine, read_log_line};
 pub use printing::print_record;

@@ -1,11 +1,12 @@
-// One line of a log without bounds.
+//! The line of an event or of a record.
 ghost use Rattle.std.specs.Prelude.{◌≡◌, ◌≢◌, ◌+◌, ◌<◌, ◌^◌, ℕ, List, ◌∷◌, ◌++◌, length, MatchOption, OnOk, OnErr};
 ghost use Rattle.tp_words.specs.Parts.{parts_at};
 ghost use Rattle.tp_script.specs.Reading.{Gives};
 ghost use Rattle.tp_log.specs.Reading.{record_of};
-ghost use Rattle.tp_log.specs.Grammar.{echo_text, ReadsItem};
+ghost use Rattle.tp_log.specs.Grammar.{echo_text};
+ghost use Rattle.tp_log.specs.LogLines.{ReadsPlain};
 
-use crate::item::Item;
+use crate::log_line::LogLine;
 use crate::records::read_record;
 use std::alloc::Global;
 use tp_base::Memory;
@@ -46,21 +47,21 @@ fn read_words(alloc: Global, text: &[u8]) -> Result<Record, LineFault>
     read_record(alloc, &words)
 }
 
-/// The event or record of one line, given with its LF. `Syntax` off the grammar.
-pub fn read_item(alloc: Global, line: &[u8]) -> Result<Item, LineFault>
+/// The event or record of one line, given with its LF. `Syntax` where it is none.
+pub(crate) fn read_plain(alloc: Global, line: &[u8]) -> Result<LogLine, LineFault>
     requires { length line.now + 1 < 2 ^ 32 }
-    ensures { ReadsItem line.now result }
+    ensures { ReadsPlain line.now result }
 {
     let Some(text) = without_newline(line) else {
         return Err(LineFault::Syntax);
     };
     match echoed(text) {
         Some(event) => match read_printed(alloc, event) {
-            Ok(event) => Ok(Item::Event(event)),
+            Ok(event) => Ok(LogLine::Event(event)),
             Err(fault) => Err(fault),
         },
         None => match read_words(alloc, text) {
-            Ok(rec) => Ok(Item::Note(rec)),
+            Ok(rec) => Ok(LogLine::Note(rec)),
             Err(fault) => Err(fault),
         },
     }

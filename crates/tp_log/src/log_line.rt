@@ -1,15 +1,14 @@
-// One line of a log, with bounds or without.
+//! One line of a log.
 ghost use Rattle.std.specs.Prelude.{◌+◌, ◌<◌, ◌^◌, length};
 ghost use Rattle.tp_log.specs.LogLines.{ReadsLogLine};
 
-use crate::item::Item;
-use crate::line::read_item;
+use crate::line::read_plain;
 use std::alloc::Global;
 use tp_bounds::{BoundLine, Node, TreeRow, read_bound_line};
 use tp_schedule::Record;
 use tp_script::{Event, LineFault};
 
-/// What one line of a log says, where the log may have bounds.
+/// What one line of a log says.
 #[derive(Drop)]
 pub enum LogLine {
     /// The echo of an event.
@@ -32,10 +31,6 @@ pub fn read_log_line(alloc: Global, line: &[u8]) -> Result<LogLine, LineFault>
         Err(_) => Err(LineFault::Memory),
         Ok(Some(BoundLine::Room(row))) => Ok(LogLine::Room(row)),
         Ok(Some(BoundLine::Node(node))) => Ok(LogLine::Node(node)),
-        Ok(None) => match read_item(alloc, line) {
-            Err(fault) => Err(fault),
-            Ok(Item::Event(event)) => Ok(LogLine::Event(event)),
-            Ok(Item::Note(rec)) => Ok(LogLine::Note(rec)),
-        },
+        Ok(None) => read_plain(alloc, line),
     }
 }

@@ -6,8 +6,10 @@ use Rattle.std.proofs.lemmas.List.Elements.{All-append, All-nil}
 use Rattle.tp_machine.specs.declared.whole.Machine.{Machine}
 use Rattle.tp_script.specs.Lines.{line_event}
 use Rattle.tp_script.specs.declared.event.Event.{Event}
-use Rattle.tp_log.specs.Grammar.{BeginsWithEcho, IsItem, item_text, log_text}
+use Rattle.tp_log.specs.Logs.{AreInPlace, IsItem, StandEach, item_text, log_text}
 use Rattle.tp_log.specs.declared.item.Item.{Item}
+use Rattle.tp_log.specs.declared.item.Item.TheVariants as item
+use Rattle.tp_schedule.specs.declared.recording.Record.{Record}
 use Rattle.tp_turn.specs.Logs.{Entry, Run}
 use Rattle.tp_turn.specs.States.{SessionState, empty_state}
 use Rattle.tp_headline.proofs.Headline.{order-empty}
@@ -19,9 +21,15 @@ log_text-append : (a b : List Item) → log_text (a ++ b) ≡ log_text a ++ log_
 log_text-append [] b = refl
 log_text-append (x ∷ a) b = ap (λ t. item_text x ++ t) (log_text-append a b) ∙ sym (append_assoc (item_text x) (log_text a) (log_text b))
 
-begins : (log : List (Entry NoTree)) → BeginsWithEcho (items_in log)
-begins [] = tt
-begins (e ∷ log) = tt
+-- each entry begins with its event, and none has a tree
+behind : (before : Item) (records : List Record) (log : List (Entry NoTree)) → StandEach before (map (λ r. item.Note r) records ++ items_in log)
+behind before [] [] = tt
+behind before [] (e ∷ log) = (tt, behind (item.Event e.event) e.records log)
+behind before (r ∷ records) log = (tt, behind (item.Note r) records log)
+
+in_place : (log : List (Entry NoTree)) → AreInPlace (items_in log)
+in_place [] = tt
+in_place (e ∷ log) = (refl, behind (item.Event e.event) e.records log)
 
 module _ (machine : Machine) (nodes : ℕ) where
   abbrev Runs : SessionState → List (Entry NoTree) → SessionState → Type 0
@@ -85,6 +93,6 @@ lines_lawful machine nodes lines text s h =
     let r = run_over machine nodes lines text empty_state s empty_state (whole-empty machine nodes) h in
     record {
       log = r.log;
-      lawful = record { lawful = record { answers = r.answers; last = r.whole'; run = r.run }; has_text = (begins r.log, r.items) };
+      lawful = record { lawful = record { answers = r.answers; last = r.whole'; run = r.run }; has_text = (in_place r.log, r.items) };
       is_text = r.is_text;
     }

@@ -7,7 +7,7 @@ use Rattle.tp_schedule.specs.declared.parts.Ask.{Ask}
 use Rattle.tp_schedule.specs.declared.parts.Plan.{Plan}
 use Rattle.tp_schedule.specs.declared.recording.Record.{Record}
 use Rattle.tp_script.specs.declared.event.Event.{Event}
-use Rattle.tp_log.specs.Grammar.{IsLog, log_text}
+use Rattle.tp_log.specs.Logs.{IsLog, log_text}
 use Rattle.tp_log.specs.declared.item.Item.{Item}
 use Rattle.tp_log.specs.declared.item.Item.TheVariants as item
 use Rattle.tp_turn.specs.Logs.{Entry, IsLawful, TreeClaims, right_answers}

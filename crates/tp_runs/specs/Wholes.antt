@@ -8,7 +8,7 @@ use Rattle.tp_schedule.specs.declared.parts.Plan.{Plan}
 use Rattle.tp_schedule.specs.declared.recording.Record.{Record}
 use Rattle.tp_script.specs.Lines.{line_event}
 use Rattle.tp_script.specs.declared.event.Event.{Event}
-use Rattle.tp_log.specs.Grammar.{IsItem, log_text}
+use Rattle.tp_log.specs.Logs.{IsItem, log_text}
 use Rattle.tp_stream.specs.Answers.{AnswersAll}
 use Rattle.tp_stream.specs.Scripts.{AnswersLine}
 use Rattle.tp_turn.specs.Keeping.{live_part}

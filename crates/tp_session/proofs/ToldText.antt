@@ -3,7 +3,8 @@ use Rattle.std.proofs.Common.{◌≡◌, ℕ, List, [], ◌∷◌, ◌++◌, map
 use Rattle.std.specs.List.{flat_map}
 use Rattle.std.proofs.lemmas.List.Concat.{flat_map-cons}
 use Rattle.std.proofs.lemmas.List.Elements.{All-cons, All-map}
-use Rattle.tp_log.specs.Grammar.{HasFields, IsItem, IsRecord, echo_text, item_text, log_text}
+use Rattle.tp_log.specs.Grammar.{HasFields, IsRecord, echo_text}
+use Rattle.tp_log.specs.Logs.{IsItem, item_text, log_text}
 use Rattle.tp_log.specs.Records.{IsPrintable, record_text}
 use Rattle.tp_log.specs.declared.item.Item.TheVariants as item
 use Rattle.tp_machine.specs.declared.whole.Machine.{Machine}

@@ -1,4 +1,4 @@
-use Rattle.tp_log.proofs.LogLines.{one_log}
+use Rattle.tp_log.proofs.LogFacts.{one_log}
 use Rattle.tp_log.proofs.laws.one_log.Goals as goal
 
 pub returns : goal.returns

@@ -1,5 +1,5 @@
 use Rattle.tp_log.proofs.LineFacts.{note_read, no_newline, note_fault, echo_fault}
-use Rattle.tp_log.proofs.line.read_item.Goals as goal
+use Rattle.tp_log.proofs.line.read_plain.Goals as goal
 
 pub returns-in_default : goal.returns-in_default
 returns-in_default c = no_newline c.args.line.now c.in_default.ensures
