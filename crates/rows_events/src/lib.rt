@@ -8,6 +8,8 @@ mod jobs;
 #[cfg(test)]
 mod logs;
 #[cfg(test)]
+mod random_machines;
+#[cfg(test)]
 mod records;
 #[cfg(test)]
 mod scripts;

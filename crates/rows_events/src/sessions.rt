@@ -14,14 +14,14 @@ use tp_script::{Event, LineFault, read_printed};
 use tp_session::{Probe, Session, Settings};
 use tp_stream::answer_script;
 
-fn machine_of(alloc: Global, text: &str) -> Result<Machine, Fail> {
-    match read_machine(alloc, text.as_bytes()) {
+pub(crate) fn machine_of(alloc: Global, text: &[u8]) -> Result<Machine, Fail> {
+    match read_machine(alloc, text) {
         Ok(machine) => Ok(machine),
         Err(_) => Err(Fail::from("a machine of the rows is refused")),
     }
 }
 
-fn session_on(alloc: Global, text: &str, budget: Option<u32>) -> Result<Session, Fail>
+pub(crate) fn session_on(alloc: Global, text: &[u8], budget: Option<u32>) -> Result<Session, Fail>
     ensures { IfOk result (λ session. (session.answered ≡ 0) × (session.text ≡ [])) }
 {
     let machine = machine_of(alloc, text)?;
@@ -44,7 +44,7 @@ fn event_of(alloc: Global, line: &[u8]) -> Result<Event, Fail>
     }
 }
 
-fn take_line(alloc: Global, session: &mut Session, line: &[u8]) -> Result<(), Fail> {
+pub(crate) fn take_line(alloc: Global, session: &mut Session, line: &[u8]) -> Result<(), Fail> {
     let event = event_of(alloc, line)?;
     if session.events() > 999 {
         return Err(Fail::from("more lines than a row has"));
@@ -75,7 +75,7 @@ fn log_of(alloc: Global, text: &str, budget: Option<u32>, script: &[u8]) -> Resu
     let mut sink = MemSink::new(alloc, 65_536, 4096, Vec::new(alloc))
         .ok()
         .ok_or("memory")?;
-    let session = session_on(alloc, text, budget)?;
+    let session = session_on(alloc, text.as_bytes(), budget)?;
     match answer_script(alloc, session, &mut source, &mut sink) {
         Ok(()) => Ok(sink.bytes().to_vec(alloc)?),
         Err(_) => Err(Fail::from("the script is not answered")),
@@ -147,7 +147,7 @@ fn kept_between(
 }
 
 fn kept_on_duo(alloc: Global, first: &[&[u8]], second: &[&[u8]]) -> Result<(Kept, Vec<u8>), Fail> {
-    let mut session = session_on(alloc, DUO, None)?;
+    let mut session = session_on(alloc, DUO.as_bytes(), None)?;
     kept_between(alloc, &mut session, first, second)
 }
 
@@ -188,7 +188,7 @@ fn probe_after(alloc: Global, session: &mut Session, row: Probed) -> Result<(Pro
 }
 
 fn probe_of(alloc: Global, row: Probed) -> Result<(Probe, bool), Fail> {
-    let mut session = session_on(alloc, row.machine, row.budget)?;
+    let mut session = session_on(alloc, row.machine.as_bytes(), row.budget)?;
     probe_after(alloc, &mut session, row)
 }
 
