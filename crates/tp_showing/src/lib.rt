@@ -1,0 +1,6 @@
+//! Bound trees made on a board: a walk through all ways of an ask that come by a limit, which closes each branch by what
+//! the board's network refused it for.
+#![tactic(auto)]
+
+mod closing;
+mod hops;
