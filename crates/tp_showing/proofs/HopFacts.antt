@@ -29,7 +29,7 @@ use Rattle.tp_showing.proofs.Following.{IsAllowed}
 
 module _ (machine : Machine) (plans : List Plan) (ask : Ask) where
   -- a resource with a hold is one of the machine's
-  known-order : (x : Suffix) (resource i : ℕ) (a : Slot) → slice_get (order_in machine plans x resource) i ≡ Some a → resource < length machine.resources
+  pub known-order : (x : Suffix) (resource i : ℕ) (a : Slot) → slice_get (order_in machine plans x resource) i ≡ Some a → resource < length machine.resources
   known-order x resource i a at =
       All-contains (IsOn machine resource) (order_in machine plans x resource) a
       (placed-All (IsOn machine resource) machine resource (slot_order machine plans resource) x.choices (own-on machine resource x.choices) (order-on machine resource plans))

@@ -6,3 +6,6 @@ pub mod HopFacts
 pub mod LateCloses
 pub mod ReasonFacts
 pub mod EndCloses
+pub mod KeptHops
+pub mod StopFacts
+pub mod StopCloses
