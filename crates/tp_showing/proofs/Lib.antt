@@ -9,3 +9,4 @@ pub mod EndCloses
 pub mod KeptHops
 pub mod StopFacts
 pub mod StopCloses
+pub mod CloseFacts

@@ -90,7 +90,7 @@ module _ (machine : Machine) (plans : List Plan) (ask : Ask) (rows : List TreeRo
     go (suc n) e h = let t : (suc n == length x.choices) ≡ true = grind (arith, nat_tests) in rw t refl
 
   module _ (net late : Net) (set : IsSetting machine plans ask rows limit b causes) (asked : IsAsked machine plans ask) (flying : IsInFlight ask.origin) (some : 0 < length x.choices) (t : Ticks) (times : SuffixTimes machine plans ask x t)
-    (is : IsBoardNet machine plans ask (with_stop x) table net) (hops : All (IsNamedHop machine plans ask (with_stop x) causes) net.edges) (part : IsPart late net) where
+      (is : IsBoardNet machine plans ask (with_stop x) table net) (hops : All (IsNamedHop machine plans ask (with_stop x) causes) net.edges) (part : IsPart late net) where
     frame : IsFrame machine plans ask rows limit alone late (length table)
     frame = net-frame machine plans ask rows limit alone net late is part set.by (λ _. floor-early machine plans ask limit set.legal x t times b refl)
 

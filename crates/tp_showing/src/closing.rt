@@ -1,11 +1,14 @@
 //! The close of a node whose branch a board refused, by the reason that its network gives.
-ghost use Rattle.std.specs.Prelude.{◌<◌, ◌⊎◌, All, IfOk, length};
+ghost use Rattle.std.specs.Prelude.{◌<◌, ◌≡◌, ◌⊎◌, All, IfOk, length};
 ghost use Rattle.tp_placing.specs.Standing.{Stands};
+ghost use Rattle.tp_constraints.specs.Suffixes.{Suffix};
+ghost use Rattle.tp_schedule.specs.Plans.{AreNamed};
+ghost use Rattle.tp_showing.specs.Closes.{ClosesEnd, ClosesRefused, ClosesStop, IsEndRefused, IsRefused, IsStopRefused};
 ghost use Rattle.tp_showing.specs.Tellings.{IsChainOf, IsCutOf, IsLoopOf, IsTellable, IsTellableReason, IsFirstUntold, IsTold, IsToldReason, tell};
 
 use crate::hops::{first_untold, point_by, put_hops};
 use std::alloc::Global;
-use tp_base::{Edge, Memory, Network, PointId, Proof};
+use tp_base::{Edge, Memory, Network, PointId, Proof, Tick};
 use tp_bounds::{Close, Hops};
 use tp_machine::Machine;
 use tp_placing::Board;
@@ -119,4 +122,48 @@ pub(crate) fn close_of<N: Network>(
         Proof::Chain { first, edges } => chain_of(alloc, board, machine, first, edges),
         Proof::Circle { edges } => circle_of(alloc, board, machine, edges),
     }
+}
+
+/// Why no alternative goes through a branch that the board refused, and that is not stopped.
+pub(crate) fn close_late<N: Network>(
+    alloc: Global,
+    board: &Board<N>,
+    machine: &Machine,
+) -> Result<Close, Memory>
+    requires stands { Stands N.net N.content N.past board.now machine.now }
+    requires named { AreNamed board.now.plans }
+    requires refused { (x : Suffix) × IsRefused N.refutes machine.now board.now x }
+    ensures { IfOk result (ClosesRefused N.refutes machine.now board.now) }
+{
+    close_of(alloc, board, machine)
+}
+
+/// Why no alternative that goes through a branch ends by a tick, as the board refused last.
+pub(crate) fn close_end<N: Network>(
+    alloc: Global,
+    board: &Board<N>,
+    machine: &Machine,
+    last: Tick,
+) -> Result<Close, Memory>
+    requires stands { Stands N.net N.content N.past board.now machine.now }
+    requires named { AreNamed board.now.plans }
+    requires refused { (x : Suffix) × IsEndRefused N.refutes machine.now board.now x last }
+    ensures { IfOk result (ClosesEnd N.refutes machine.now board.now last) }
+{
+    let _last = last;
+    close_of(alloc, board, machine)
+}
+
+/// Why no alternative goes through the stop of the branch that the board carries.
+pub(crate) fn close_stop<N: Network>(
+    alloc: Global,
+    board: &Board<N>,
+    machine: &Machine,
+) -> Result<Close, Memory>
+    requires stands { Stands N.net N.content N.past board.now machine.now }
+    requires named { AreNamed board.now.plans }
+    requires refused { (x : Suffix) × IsStopRefused N.refutes machine.now board.now x }
+    ensures { IfOk result (ClosesStop N.refutes machine.now board.now) }
+{
+    close_of(alloc, board, machine)
 }
