@@ -44,7 +44,7 @@ use Rattle.tp_showing.proofs.TellFacts.{get-within}
 use Rattle.tp_showing.proofs.NetFrames.{IsFrame, chain-closes, name-found, table-length, table-point, cap-below}
 
 -- one number is below another or not
-nat-cases : (a b : ℕ) → (a < b) ⊎ (b ≤ a)
+pub nat-cases : (a b : ℕ) → (a < b) ⊎ (b ≤ a)
 nat-cases zero zero = inr (omega arith)
 nat-cases zero (suc b) = inl (omega arith)
 nat-cases (suc a) zero = inr (omega arith)

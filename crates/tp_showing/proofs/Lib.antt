@@ -10,3 +10,4 @@ pub mod KeptHops
 pub mod StopFacts
 pub mod StopCloses
 pub mod CloseFacts
+pub mod RoomTables

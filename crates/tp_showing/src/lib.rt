@@ -4,3 +4,4 @@
 
 mod closing;
 mod hops;
+mod rows;
