@@ -11,3 +11,4 @@ pub mod StopFacts
 pub mod StopCloses
 pub mod CloseFacts
 pub mod RoomTables
+pub mod GoalFacts

@@ -1,3 +1,4 @@
 pub mod Tellings
 pub mod Closes
 pub mod RoomRows
+pub mod Showing

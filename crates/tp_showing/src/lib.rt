@@ -3,5 +3,9 @@
 #![tactic(auto)]
 
 mod closing;
+mod goals;
 mod hops;
 mod rows;
+mod scene;
+
+pub use scene::NotShown;

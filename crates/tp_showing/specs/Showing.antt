@@ -1,0 +1,121 @@
+-- A tree that is made on a board: the nodes so far and what is still due behind them, and what the board carries.
+use Rattle.std.specs.Prelude.{◌≡◌, ℕ, zero, suc, ◌+◌, ◌*◌, ◌-◌, ◌<◌, ◌≤◌, nat_lt, List, [], ◌∷◌, ◌++◌, length, slice_get, Option, Some, None, ℤ, pos, IsFalse, if◌then◌else◌}
+use Rattle.tp_base.specs.Net.{Net}
+use Rattle.tp_bounds.specs.declared.tree.Head.{Head}
+use Rattle.tp_bounds.specs.declared.tree.Node.{Node}
+use Rattle.tp_bounds.specs.declared.tree.TreeRow.{TreeRow}
+use Rattle.tp_machine.specs.Using.{action_at}
+use Rattle.tp_machine.specs.declared.parts.ActId.{ActId}
+use Rattle.tp_machine.specs.declared.parts.HoldRule.{HoldRule}
+use Rattle.tp_machine.specs.declared.whole.Machine.{Machine}
+use Rattle.tp_schedule.specs.Answers.{kept_of}
+use Rattle.tp_schedule.specs.Choices.{Choice}
+use Rattle.tp_schedule.specs.Holding.{holds_of_act}
+use Rattle.tp_schedule.specs.declared.parts.Ask.{Ask}
+use Rattle.tp_schedule.specs.declared.parts.Plan.{Plan}
+use Rattle.tp_constraints.specs.Suffixes.{Suffix}
+use Rattle.tp_placing.specs.Boards.{BoardValue, content_of, past_of, suffix_of}
+use Rattle.tp_placing.specs.Calls.{IsSameLoad}
+use Rattle.tp_placing.specs.Standing.{Stands}
+use Rattle.tp_trees.specs.Places as places
+use Rattle.tp_trees.specs.Places.{Due, action_due, actions_due, children, due_behind, places_from, stand_of, stop_due}
+use Rattle.tp_trees.specs.Trees.{Covers}
+use Rattle.tp_showing.specs.RoomRows.{HasRooms}
+use Rattle.tp_showing.specs.declared.scene.Branch.{Branch}
+
+module _ (machine : Machine) (plans : List Plan) (ask : Ask) (rows : List TreeRow) (limit : ℤ) where
+  -- with nodes that cover what is due behind these, all that was due at the start is covered
+  abbrev pub LeadsTo : List Due → List Node → List Due → Type 0
+  LeadsTo start nodes ds = (tail : List Node) → Covers machine plans ask rows limit ds tail → Covers machine plans ask rows limit start (nodes ++ tail)
+
+  -- where some dues were first, others are in their place with the new nodes
+  abbrev pub Adds : List Due → List Node → List Node → List Due → Type 0
+  Adds ds old new more = (start rest : List Due) → LeadsTo start old (ds ++ rest) → LeadsTo start new (more ++ rest)
+
+-- the same whatever the rows are, if they have the rooms
+abbrev pub Shows : Machine → List Plan → Ask → List (Option ℕ) → ℕ → List Node → List Node → (List TreeRow → List Due) → (List TreeRow → List Due) → Type 0
+Shows machine plans ask sums limit old new ds more = (rows : List TreeRow) → HasRooms machine sums rows → Adds machine plans ask rows (pos limit) (ds rows) old new (more rows)
+
+-- a node with this head is put where a branch of a suffix is due, and leaves this due below it
+abbrev pub PutsNode : Machine → List Plan → Ask → ℕ → List Node → List Node → ℕ → Suffix → Head → (List TreeRow → places.Branch → List Due) → Type 0
+PutsNode machine plans ask limit old new depth x head more = (rows : List TreeRow) (d : Due) (b : places.Branch) → b.depth ≡ depth → b.x ≡ x
+    → stand_of machine plans ask rows d head ≡ Some (record { branch = b; span = None })
+    → Adds machine plans ask rows (pos limit) (d ∷ []) old new (more rows b ++ due_behind machine plans ask rows d head)
+
+-- ---- branches
+-- the hold of the newest choice that has no place yet
+abbrev pub hold_after : Machine → Option ActId → ℕ → Option HoldRule
+hold_after machine None places = None
+hold_after machine (Some act) places = slice_get (holds_of_act (action_at machine act.0)) places
+
+abbrev pub hold_of : Machine → Branch → Option HoldRule
+hold_of machine r = hold_after machine r.newest r.places
+
+-- the newest choice is of the action, and has so many places
+abbrev pub IsNewest : Machine → Option ActId → ℕ → List Choice → Type 0
+IsNewest machine None places [] = places ≡ 0
+IsNewest machine None places (c ∷ choices) = ⊥
+IsNewest machine (Some act) places [] = ⊥
+IsNewest machine (Some act) places (c ∷ choices) = (c.act ≡ act) × (length c.places ≡ places) × (act.0 < length machine.actions)
+
+-- the branch of a tree
+abbrev pub branch_by : Branch → Suffix → places.Branch
+branch_by r x = record { depth = r.depth; first = r.first; x = x }
+
+-- how much may still come below a branch
+abbrev pub below : Branch → ℕ
+below r = 5 * (64 - r.count) + (4 - r.places)
+
+module _ (machine : Machine) (plans : List Plan) (ask : Ask) (rows : List TreeRow) where
+  -- the dues of actions from one on
+  abbrev pub acts_from : places.Branch → ℕ → ℕ → List Due
+  acts_from b at zero = []
+  acts_from b at (suc more) = action_due machine plans ask rows b (record { 0 = at }) ++ acts_from b (suc at) more
+
+  -- what is due below a branch from a way on: the places of its next hold, or its stop and its actions
+  abbrev pub left_of : places.Branch → Option HoldRule → ℕ → List Due
+  left_of b (Some rule) way = places_from machine plans ask rows b rule way
+  left_of b None zero = stop_due machine plans ask rows b ++ actions_due machine plans ask rows b
+  left_of b None (suc way) = if nat_lt (kept_of ask + length b.x.choices) 64 then acts_from b way (length machine.actions - way) else []
+
+  abbrev pub or_no_dues : Option (List Due) → List Due
+  or_no_dues None = []
+  or_no_dues (Some ds) = ds
+
+  -- the children of a branch, if it may be split
+  abbrev pub kids_of : places.Branch → List Due
+  kids_of b = or_no_dues (children machine plans ask rows (record { branch = b; span = None }))
+
+-- ---- boards
+module _ {N C : Type 0} (net : N → Net) (content : N → C) (past : N → List C) (mark_room : N → ℕ) where
+  -- the board carries a branch that goes on
+  pub record Carries (machine : Machine) (ask : Ask) (b : BoardValue N) (r : Branch) (x : Suffix) : Type 0 where
+    pub carried : suffix_of b ≡ Some x
+    pub going : IsFalse x.stopped
+    pub count : r.count ≡ length x.choices
+    pub newest : IsNewest machine r.newest r.places x.choices
+    pub known : r.first.loc.0 < length machine.locations
+    pub few : kept_of ask + length x.choices ≤ 64
+    pub few_places : r.places ≤ 4
+    pub deep : r.depth ≤ 5 * r.count + r.places
+
+  -- a board for the ask, with plans that are told apart by their names
+  pub record IsSet (machine : Machine) (ask : Ask) (b : BoardValue N) : Type 0 where
+    pub stands : Stands net content past b machine
+    pub asked : b.ask ≡ Some ask
+
+  -- the same marks are in force, and the same is loaded
+  pub record IsSince (b b' : BoardValue N) (machine : Machine) : Type 0 where
+    pub past_same : past_of past b' ≡ past_of past b
+    pub load : IsSameLoad b b'
+    pub room : mark_room b'.net - 1 ≡ mark_room b.net - 1
+    pub stands : Stands net content past b machine → Stands net content past b' machine
+
+  -- and the board carries what it carried
+  pub record IsBack (b b' : BoardValue N) (machine : Machine) : Type 0 where
+    pub content_same : content_of content b' ≡ content_of content b
+    pub since : IsSince b b' machine
+
+  -- so many marks of the board are spare, one of the network being its own
+  abbrev pub HasMarks : ℕ → BoardValue N → Type 0
+  HasMarks count b = length (past_of past b) + count ≤ mark_room b.net - 1
