@@ -12,3 +12,6 @@ pub mod StopCloses
 pub mod CloseFacts
 pub mod RoomTables
 pub mod GoalFacts
+pub mod AddFacts
+pub mod CarryFacts
+pub mod EnterFacts

@@ -1,6 +1,6 @@
 -- The edges of a proof are few and can be told, where those of its network can.
 use Rattle.std.proofs.Common.{◌≡◌, ℕ, zero, suc, ◌+◌, ◌<◌, ◌≤◌, Bor, List, [], ◌∷◌, length, refl, sym, ◌∙◌, ap, subst, arith, All, Contains, Result, Ok, Err}
-use Rattle.std.specs.Result.{IfOk}
+use Rattle.std.specs.Result.{IfOk, OnOk}
 use Rattle.std.specs.Prelude.{ℤ, pos, ◌<ℤ◌, slice_index}
 use Rattle.std.proofs.lemmas.Int.{ints}
 use Rattle.std.proofs.lemmas.List.{length-map}
@@ -78,3 +78,7 @@ told-reason refutes machine b p q refuted is r tells = ok-map (IsCloseOf machine
   refuted = λ late shown. refuted late (shown-whole refutes b.net late shown);
   tells = subst (λ o. IsCloseOf machine b.plans b.causes b.limit o close) (sym is) h;
 }) tells
+
+pub on-map : {X E : Type 0} (P Q : Type 0) (r : Result X E) → (P → Q) → OnOk r P → OnOk r Q
+on-map P Q (Ok x) f h = f h
+on-map P Q (Err e) f h = tt

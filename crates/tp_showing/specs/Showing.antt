@@ -1,5 +1,5 @@
 -- A tree that is made on a board: the nodes so far and what is still due behind them, and what the board carries.
-use Rattle.std.specs.Prelude.{◌≡◌, ℕ, zero, suc, ◌+◌, ◌*◌, ◌-◌, ◌<◌, ◌≤◌, nat_lt, List, [], ◌∷◌, ◌++◌, length, slice_get, Option, Some, None, ℤ, pos, IsFalse, if◌then◌else◌}
+use Rattle.std.specs.Prelude.{◌≡◌, ℕ, zero, suc, ◌+◌, ◌*◌, ◌-◌, ◌<◌, ◌≤◌, nat_lt, List, [], ◌∷◌, ◌++◌, length, slice_get, Option, Some, None, ℤ, pos, IsFalse, MatchOption, false, if◌then◌else◌}
 use Rattle.tp_base.specs.Net.{Net}
 use Rattle.tp_bounds.specs.declared.tree.Head.{Head}
 use Rattle.tp_bounds.specs.declared.tree.Node.{Node}
@@ -18,7 +18,7 @@ use Rattle.tp_placing.specs.Boards.{BoardValue, content_of, past_of, suffix_of}
 use Rattle.tp_placing.specs.Calls.{IsSameLoad}
 use Rattle.tp_placing.specs.Standing.{Stands}
 use Rattle.tp_trees.specs.Places as places
-use Rattle.tp_trees.specs.Places.{Due, action_due, actions_due, children, due_behind, places_from, stand_of, stop_due}
+use Rattle.tp_trees.specs.Places.{Due, action_due, actions_due, children, due_behind, is_begun, places_from, stand_of, stop_due}
 use Rattle.tp_trees.specs.Trees.{Covers}
 use Rattle.tp_showing.specs.RoomRows.{HasRooms}
 use Rattle.tp_showing.specs.declared.scene.Branch.{Branch}
@@ -36,11 +36,10 @@ module _ (machine : Machine) (plans : List Plan) (ask : Ask) (rows : List TreeRo
 abbrev pub Shows : Machine → List Plan → Ask → List (Option ℕ) → ℕ → List Node → List Node → (List TreeRow → List Due) → (List TreeRow → List Due) → Type 0
 Shows machine plans ask sums limit old new ds more = (rows : List TreeRow) → HasRooms machine sums rows → Adds machine plans ask rows (pos limit) (ds rows) old new (more rows)
 
--- a node with this head is put where a branch of a suffix is due, and leaves this due below it
-abbrev pub PutsNode : Machine → List Plan → Ask → ℕ → List Node → List Node → ℕ → Suffix → Head → (List TreeRow → places.Branch → List Due) → Type 0
-PutsNode machine plans ask limit old new depth x head more = (rows : List TreeRow) (d : Due) (b : places.Branch) → b.depth ≡ depth → b.x ≡ x
-    → stand_of machine plans ask rows d head ≡ Some (record { branch = b; span = None })
-    → Adds machine plans ask rows (pos limit) (d ∷ []) old new (more rows b ++ due_behind machine plans ask rows d head)
+-- a node with this head is put where a branch is due, and leaves this due below it
+abbrev pub PutsNode : Machine → List Plan → Ask → ℕ → List Node → List Node → places.Branch → Head → (List TreeRow → List Due) → Type 0
+PutsNode machine plans ask limit old new b head more = (rows : List TreeRow) (d : Due) → stand_of machine plans ask rows d head ≡ Some (record { branch = b; span = None })
+    → Adds machine plans ask rows (pos limit) (d ∷ []) old new (more rows ++ due_behind machine plans ask rows d head)
 
 -- ---- branches
 -- the hold of the newest choice that has no place yet
@@ -119,3 +118,20 @@ module _ {N C : Type 0} (net : N → Net) (content : N → C) (past : N → List
   -- so many marks of the board are spare, one of the network being its own
   abbrev pub HasMarks : ℕ → BoardValue N → Type 0
   HasMarks count b = length (past_of past b) + count ≤ mark_room b.net - 1
+
+-- the branch may be split: it is not complete
+abbrev pub IsOpen : Machine → Ask → Branch → Type 0
+IsOpen machine ask r = hold_of machine r ≡ None → is_begun machine ask.want ask.origin r.first ≡ false
+
+-- a way was gone: its node leaves what is due behind it, or the board carries a branch that is split, below which the walk is
+-- to go on
+module _ {N C : Type 0} (net : N → Net) (content : N → C) (past : N → List C) (mark_room : N → ℕ) (machine : Machine) (plans : List Plan) (ask : Ask) (sums : List (Option ℕ)) (limit : ℕ) (old new : List Node) (b : BoardValue N) (parent : Branch) where
+  pub record GoesOn (ds behind : List TreeRow → List Due) (child : Branch) : Type 0 where
+    pub suffix : Suffix
+    pub carries : Carries net content past mark_room machine ask b child suffix
+    pub smaller : below child < below parent
+    pub is_open : IsOpen machine ask child
+    pub shows : Shows machine plans ask sums limit old new ds (λ rows. kids_of machine plans ask rows (branch_by child suffix) ++ behind rows)
+
+  abbrev pub IsEntered : (List TreeRow → List Due) → (List TreeRow → List Due) → Option Branch → Type 0
+  IsEntered ds behind o = MatchOption o (Shows machine plans ask sums limit old new ds behind) (GoesOn ds behind)

@@ -3,8 +3,10 @@
 #![tactic(auto)]
 
 mod closing;
+mod entering;
 mod goals;
 mod hops;
+mod putting;
 mod rows;
 mod scene;
 

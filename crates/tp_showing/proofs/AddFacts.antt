@@ -1,0 +1,44 @@
+-- Nodes one after another, each in the place of what was due first.
+use Rattle.std.proofs.Common.{◌≡◌, ℕ, Bool, true, false, cond, ◌==◌, List, [], ◌∷◌, ◌++◌, length, refl, sym, ◌∙◌, ap, subst, append_assoc, Option, Some, None}
+use Rattle.std.specs.Prelude.{ℤ, pos}
+use Rattle.tp_bounds.specs.declared.tree.Close.{Close}
+use Rattle.tp_bounds.specs.declared.tree.Head.{Head}
+use Rattle.tp_bounds.specs.declared.tree.Node.{Node}
+use Rattle.tp_bounds.specs.declared.tree.TreeRow.{TreeRow}
+use Rattle.tp_machine.specs.declared.whole.Machine.{Machine}
+use Rattle.tp_schedule.specs.declared.parts.Ask.{Ask}
+use Rattle.tp_schedule.specs.declared.parts.Plan.{Plan}
+use Rattle.tp_trees.specs.Places.{Branch, Due, Stand, due_behind, stand_of}
+use Rattle.tp_trees.specs.Trees.{Covers, close_look, look, stand_look, with_behind}
+use Rattle.tp_trees.specs.Trees.Look.{due}
+use Rattle.tp_trees.proofs.Lists.{number-same}
+use Rattle.tp_showing.specs.Showing.{Adds, LeadsTo, PutsNode}
+
+module _ (machine : Machine) (plans : List Plan) (ask : Ask) (rows : List TreeRow) (limit : ℤ) where
+  abbrev Add : List Due → List Node → List Node → List Due → Type 0
+  Add = Adds machine plans ask rows limit
+
+  pub adds-node : (d : Due) (n : Node) (old new : List Node) (more : List Due) → look machine plans ask rows limit d n ≡ due more → new ≡ old ++ n ∷ [] → Adds machine plans ask rows limit (d ∷ []) old new more
+  adds-node d n old new more looks put start rest lead tail covers =
+      subst (Covers machine plans ask rows limit start) (sym (ap (λ ns. ns ++ tail) put ∙ append_assoc old (n ∷ []) tail)) (lead (n ∷ tail) (more, looks, covers))
+
+  pub adds-trans : (a b c : List Due) (one two three : List Node) → Adds machine plans ask rows limit a one two b → Adds machine plans ask rows limit b two three c → Adds machine plans ask rows limit a one three c
+  adds-trans a b c one two three f g start rest lead = g start rest (f start rest lead)
+
+  pub adds-behind : (ds more behind : List Due) (old new : List Node) → Adds machine plans ask rows limit ds old new more → Adds machine plans ask rows limit (ds ++ behind) old new (more ++ behind)
+  adds-behind ds more behind old new f start rest lead =
+      subst (LeadsTo machine plans ask rows limit start new) (sym (append_assoc more behind rest)) (f start (behind ++ rest) (subst (LeadsTo machine plans ask rows limit start old) (append_assoc ds behind rest) lead))
+
+  -- a node that stands where it is due
+  pub node-look : (d : Due) (n : Node) (b : Branch) (more : List Due) → stand_of machine plans ask rows d n.head ≡ Some (record { branch = b; span = None }) → n.depth ≡ b.depth
+      → close_look machine plans ask rows limit (record { branch = b; span = None }) n.head n.close ≡ due more → look machine plans ask rows limit d n ≡ due (more ++ due_behind machine plans ask rows d n.head)
+  node-look d n b more stands depth closes =
+      let t : (n.depth == b.depth) ≡ true = ap (λ k. n.depth == k) (sym depth) ∙ number-same n.depth in
+      ap (stand_look machine plans ask rows limit d n) stands ∙ rw t (ap (with_behind machine plans ask rows limit (due_behind machine plans ask rows d n.head)) closes)
+
+-- such a node is put
+pub puts : (machine : Machine) (plans : List Plan) (ask : Ask) (limit depth : ℕ) (old new : List Node) (b : Branch) (head : Head) (close : Close) (more : List TreeRow → List Due) → new ≡ old ++ record { depth = depth; head = head; close = close } ∷ [] → b.depth ≡ depth
+    → ((rows : List TreeRow) → close_look machine plans ask rows (pos limit) (record { branch = b; span = None }) head close ≡ due (more rows)) → PutsNode machine plans ask limit old new b head more
+puts machine plans ask limit depth old new b head close more put same closes rows d stands =
+    let n : Node = record { depth = depth; head = head; close = close } in
+    adds-node machine plans ask rows (pos limit) d n old new (more rows ++ due_behind machine plans ask rows d head) (node-look machine plans ask rows (pos limit) d n b (more rows) stands (sym same) (closes rows)) put

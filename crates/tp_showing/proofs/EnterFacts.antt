@@ -1,0 +1,128 @@
+-- A way that was gone: its node stands where it is due.
+use Rattle.std.proofs.Common.{◌≡◌, ℕ, zero, suc, ◌+◌, ◌<◌, ◌≤◌, Bool, true, false, cond, ◌&&◌, ◌==◌, List, [], ◌∷◌, ◌++◌, length, refl, sym, ◌∙◌, ap, subst, arith, add-one, Result, Ok, Err, Option, Some, None, append-nil}
+use Rattle.std.specs.Prelude.{pos, slice_get, nat_le, nat_lt, IfSome, MatchOption}
+use Rattle.std.specs.Result.{IfOk}
+use Rattle.std.proofs.lemmas.Bool.{and_from, and_parts}
+use Rattle.std.proofs.lemmas.Bool.Decides.{nat_tests}
+use Rattle.tp_base.specs.Net.{Net}
+use Rattle.tp_bounds.specs.declared.tree.Head.{Head}
+use Rattle.tp_bounds.specs.declared.tree.Head.TheVariants.{Act as ActHead, At as AtHead, Stop as StopHead}
+use Rattle.tp_bounds.specs.declared.tree.Node.{Node}
+use Rattle.tp_bounds.specs.declared.tree.TreeRow.{TreeRow}
+use Rattle.tp_machine.specs.declared.parts.HoldRule.{HoldRule}
+use Rattle.tp_machine.specs.declared.whole.Machine.{Machine}
+use Rattle.tp_schedule.specs.declared.parts.Ask.{Ask}
+use Rattle.tp_schedule.specs.declared.parts.Plan.{Plan}
+use Rattle.tp_schedule.specs.Choices.{Choice}
+use Rattle.tp_schedule.specs.declared.parts.Origin.{Origin}
+use Rattle.tp_schedule.specs.declared.parts.Origin.TheVariants.{Feeder as FromFeeder, Front as FromFront}
+use Rattle.tp_constraints.specs.Suffixes.{IsInFlight, Suffix, order_in, with_place, with_stop}
+use Rattle.tp_placing.specs.Boards.{BoardValue, content_of}
+use Rattle.tp_trees.specs.Places as places
+use Rattle.tp_trees.specs.Places.Due.{places as places_due, stop}
+use Rattle.tp_trees.specs.Places.{Due, has_choice, is_front_state, stop_due, due_behind, is_name_of_resource, order_length, places_from, stand_of}
+use Rattle.tp_trees.proofs.Allowing.{le-to, lt-to}
+use Rattle.tp_trees.proofs.Lists.{number-same}
+use Rattle.tp_showing.specs.RoomRows.{HasRooms}
+use Rattle.tp_showing.specs.Showing.{Adds, Carries, GoesOn, IsEntered, IsOpen, PutsNode, Shows, below, branch_by, kids_of}
+use Rattle.tp_showing.specs.declared.scene.Branch.{Branch}
+use Rattle.tp_showing.proofs.CarryFacts.{suffix-same}
+
+pub ok-both : {X E : Type 0} (P Q : X → Type 0) (r : Result X E) → IfOk r P → IfOk r Q → IfOk r (λ x. P x × Q x)
+ok-both P Q (Ok x) p q = (p, q)
+ok-both P Q (Err e) p q = tt
+
+-- a branch one place deeper
+abbrev pub placed_below : Branch → Branch
+placed_below r = record { depth = r.depth + 1; first = r.first; count = r.count; newest = r.newest; places = r.places + 1 }
+
+module _ (machine : Machine) (plans : List Plan) (ask : Ask) (rows : List TreeRow) where
+  pub places-due : (b : places.Branch) (rule : HoldRule) (place : ℕ) → place ≤ length (order_in machine plans b.x rule.resource.0) → places_from machine plans ask rows b rule place ≡ places_due b rule place ∷ []
+  places-due b rule place within = let t = le-to place (length (order_in machine plans b.x rule.resource.0)) within in rw t refl
+
+  pub place-stands : (r : Branch) (x : Suffix) (rule : HoldRule) (place : ℕ) (name : List ℕ) → is_name_of_resource machine plans ask rows name (slice_get machine.resources rule.resource.0) ≡ true → place ≤ length (order_in machine plans x rule.resource.0)
+      → stand_of machine plans ask rows (places_due (branch_by r x) rule place) (AtHead name place place) ≡ Some (record { branch = branch_by (placed_below r) (with_place place x); span = None })
+  place-stands r x rule place name named within =
+      let a = number-same place in
+      let b = le-to place place (omega arith) in
+      let c = le-to place (length (order_in machine plans x rule.resource.0)) within in
+      let deeper : suc r.depth ≡ r.depth + 1 = sym (add-one r.depth) in
+      rw (named, a, b, c) (ap (λ d. Some (record { branch = record { depth = d; first = r.first; x = with_place place x }; span = None })) deeper)
+
+-- the node of a place
+pub place-shows : (machine : Machine) (plans : List Plan) (ask : Ask) (sums : List (Option ℕ)) (limit : ℕ) (old new : List Node) (r : Branch) (x : Suffix) (rule : HoldRule) (place : ℕ) (name : List ℕ)
+    → ((rows : List TreeRow) → is_name_of_resource machine plans ask rows name (slice_get machine.resources rule.resource.0) ≡ true) → place ≤ length (order_in machine plans x rule.resource.0)
+    → (more : List TreeRow → List Due) → PutsNode machine plans ask limit old new (branch_by (placed_below r) (with_place place x)) (AtHead name place place) more
+    → Shows machine plans ask sums limit old new (λ rows. places_from machine plans ask rows (branch_by r x) rule place) (λ rows. more rows ++ places_from machine plans ask rows (branch_by r x) rule (place + 1))
+place-shows machine plans ask sums limit old new r x rule place name named within more put rows has =
+    let d = places_due (branch_by r x) rule place in
+    let adds = put rows d (place-stands machine plans ask rows r x rule place name (named rows) within) in
+    let next : places_from machine plans ask rows (branch_by r x) rule (suc place) ≡ places_from machine plans ask rows (branch_by r x) rule (place + 1) = ap (places_from machine plans ask rows (branch_by r x) rule) (sym (add-one place)) in
+    subst (λ ds. Adds machine plans ask rows (pos limit) ds old new (more rows ++ places_from machine plans ask rows (branch_by r x) rule (place + 1))) (sym (places-due machine plans ask rows (branch_by r x) rule place within))
+    (subst (λ ds. Adds machine plans ask rows (pos limit) (d ∷ []) old new (more rows ++ ds)) next adds)
+
+module _ {N C : Type 0} (net : N → Net) (content : N → C) (past : N → List C) (mark_room : N → ℕ) (machine : Machine) (plans : List Plan) (ask : Ask) (sums : List (Option ℕ)) (limit : ℕ) (old new : List Node) where
+  pub carries-same : (b b' : BoardValue N) (r : Branch) (x : Suffix) → content_of content b' ≡ content_of content b → Carries net content past mark_room machine ask b r x → Carries net content past mark_room machine ask b' r x
+  carries-same b b' r x same c = record {
+    carried = suffix-same net content past mark_room (λ _ _. ⊥) machine ask b b' same ∙ c.carried;
+    going = c.going;
+    count = c.count;
+    newest = c.newest;
+    known = c.known;
+    few = c.few;
+    few_places = c.few_places;
+    deep = c.deep;
+  }
+
+  -- a node that is put is a way that is gone
+  pub enter-by : (o : Option Branch) (b b' : BoardValue N) (parent child : Branch) (y : Suffix) (head : Head) (ds behind : List TreeRow → List Due) → Carries net content past mark_room machine ask b child y → content_of content b' ≡ content_of content b → below child < below parent
+      → ((more : List TreeRow → List Due) → PutsNode machine plans ask limit old new (branch_by child y) head more → Shows machine plans ask sums limit old new ds (λ rows. more rows ++ behind rows))
+      → MatchOption o (PutsNode machine plans ask limit old new (branch_by child y) head (λ _. [])) (λ r. (r ≡ child) × PutsNode machine plans ask limit old new (branch_by child y) head (λ rows. kids_of machine plans ask rows (branch_by child y)))
+      → IfSome o (λ _. IsOpen machine ask child) → IsEntered net content past mark_room machine plans ask sums limit old new b' parent ds behind o
+  enter-by None b b' parent child y head ds behind c same smaller shows put may = shows (λ _. []) put
+  enter-by (Some r) b b' parent child y head ds behind c same smaller shows put may =
+      subst (GoesOn net content past mark_room machine plans ask sums limit old new b' parent ds behind) (sym put.0) (record {
+        suffix = y;
+        carries = carries-same b b' child y same c;
+        smaller = smaller;
+        is_open = may;
+        shows = shows (λ rows. kids_of machine plans ask rows (branch_by child y)) put.1;
+      })
+
+-- ---- the stop
+abbrev pub stopped_below : Branch → Suffix → places.Branch
+stopped_below r x = record { depth = r.depth + 1; first = r.first; x = with_stop x }
+
+choice-there : (machine : Machine) (plans : List Plan) (ask : Ask) (rows : List TreeRow) (count : ℕ) (cs : List Choice) → count ≡ length cs → has_choice machine plans ask rows cs ≡ nat_lt 0 count
+choice-there machine plans ask rows zero [] e = refl
+choice-there machine plans ask rows zero (k ∷ cs) e = absurd (omega (arith, e))
+choice-there machine plans ask rows (suc n) [] e = absurd (omega (arith, e))
+choice-there machine plans ask rows (suc n) (k ∷ cs) e = sym (lt-to 0 (suc n) (omega arith))
+
+pub stop-dues : (machine : Machine) (plans : List Plan) (ask : Ask) (rows : List TreeRow) (r : Branch) (x : Suffix) (t : Bool) → r.count ≡ length x.choices → (is_front_state ask.origin r.first && nat_lt 0 r.count) ≡ t
+    → stop_due machine plans ask rows (branch_by r x) ≡ cond t (stop (branch_by r x) ∷ []) []
+stop-dues machine plans ask rows r x t count is =
+    let same : (is_front_state ask.origin r.first && has_choice machine plans ask rows x.choices) ≡ t = ap (λ c. is_front_state ask.origin r.first && c) (choice-there machine plans ask rows r.count x.choices count) ∙ is in
+    ap (λ c. cond c (stop (branch_by r x) ∷ []) []) same
+
+pub stop-shows : (machine : Machine) (plans : List Plan) (ask : Ask) (sums : List (Option ℕ)) (limit : ℕ) (old new : List Node) (r : Branch) (x : Suffix) → r.count ≡ length x.choices → (is_front_state ask.origin r.first && nat_lt 0 r.count) ≡ true
+    → PutsNode machine plans ask limit old new (stopped_below r x) StopHead (λ _. []) → Shows machine plans ask sums limit old new (λ rows. stop_due machine plans ask rows (branch_by r x)) (λ _. [])
+stop-shows machine plans ask sums limit old new r x count due put rows has =
+    let deeper : suc r.depth ≡ r.depth + 1 = sym (add-one r.depth) in
+    let stands : stand_of machine plans ask rows (stop (branch_by r x)) StopHead ≡ Some (record { branch = stopped_below r x; span = None }) = ap (λ d. Some (record { branch = record { depth = d; first = r.first; x = with_stop x }; span = None })) deeper in
+    subst (λ ds. Adds machine plans ask rows (pos limit) ds old new []) (sym (stop-dues machine plans ask rows r x true count due)) (put rows (stop (branch_by r x)) stands)
+
+pub none-shows : (machine : Machine) (plans : List Plan) (ask : Ask) (sums : List (Option ℕ)) (limit : ℕ) (old : List Node) (r : Branch) (x : Suffix) → r.count ≡ length x.choices → (is_front_state ask.origin r.first && nat_lt 0 r.count) ≡ false
+    → Shows machine plans ask sums limit old old (λ rows. stop_due machine plans ask rows (branch_by r x)) (λ _. [])
+none-shows machine plans ask sums limit old r x count due rows has = subst (λ ds. Adds machine plans ask rows (pos limit) ds old old []) (sym (stop-dues machine plans ask rows r x false count due)) (λ start rest lead. lead)
+
+pub stop-some : (ask : Ask) (r : Branch) → (is_front_state ask.origin r.first && nat_lt 0 r.count) ≡ true → IsInFlight ask.origin × (0 < r.count)
+stop-some ask r due =
+    let both = and_parts (is_front_state ask.origin r.first) (nat_lt 0 r.count) due in
+    (go ask.origin both.0, lt-is both.1) where
+      lt-is : nat_lt 0 r.count ≡ true → 0 < r.count
+      lt-is e = grind (arith, nat_tests)
+
+      go : (o : Origin) → is_front_state o r.first ≡ true → IsInFlight o
+      go FromFeeder e = absurd cc
+      go (FromFront state end count) e = tt

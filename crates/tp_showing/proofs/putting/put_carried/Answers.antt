@@ -1,0 +1,46 @@
+use Rattle.std.proofs.Common.{◌≡◌, [], refl, sym, subst}
+use Rattle.tp_bounds.specs.declared.tree.Close.TheVariants.{Split}
+use Rattle.std.specs.Prelude.{pos}
+use Rattle.tp_schedule.specs.Plans.{AreNamed}
+use Rattle.tp_showing.specs.Showing.{PutsNode, branch_by, kids_of}
+use Rattle.tp_showing.proofs.AddFacts.{puts}
+use Rattle.tp_showing.proofs.CarryFacts.{end-refused, newest-act, newest-hold, split-closes}
+use Rattle.tp_showing.proofs.putting.put_carried.Goals as goal
+
+pub refuse_end-requires-clause-below : goal.refuse_end-requires-clause-below
+refuse_end-requires-clause-below g c =
+    let machine = c.args.scene.machine.now in
+    let stands = c.requires.set.stands in
+    (machine, c.end_bound.result, stands, c.end_bound.ensures machine stands, c.if-end_bound-scene.true)
+
+pub put_end-requires-clause-named : goal.put_end-requires-clause-named
+put_end-requires-clause-named g c = subst AreNamed (sym c.refuse_end.ensures.loaded.plans) c.requires.named
+
+pub put_end-requires-clause-refused : goal.put_end-requires-clause-refused
+put_end-requires-clause-refused g c =
+    let x = c.requires.carries.0 in
+    let e = c.refuse_end.ensures in (
+      x,
+      end-refused g.N.Network.net g.N.Undo.content g.N.Undo.past g.N.Undo.mark_room g.N.Network.refutes c.args.scene.machine.now c.args.scene.ask.now c.args.board.now c.refuse_end.new.self c.args.child x c.args.scene.limit c.requires.carries.1 e.same
+          (e.shown c.args.scene.machine.now c.requires.set.stands),
+    )
+
+pub is_complete-requires : goal.is_complete-requires
+is_complete-requires g c = newest-act c.args.scene.machine.now c.args.child.newest c.args.child.places c.requires.carries.0.choices c.requires.carries.1.newest
+
+pub returns-in-Ok-clause-put : goal.returns-in-Ok-clause-put
+returns-in-Ok-clause-put g c = λ x carries.
+    let e = c.refuse_end.ensures in
+    subst (λ ps. PutsNode c.args.scene.machine.now ps c.args.scene.ask.now c.args.scene.limit c.args.nodes.now c.put_end.new.nodes (branch_by c.args.child x) c.args.head (λ _. [])) e.loaded.plans
+    (c.in-Ok.ensures (branch_by c.args.child x) refl
+    (end-refused g.N.Network.net g.N.Undo.content g.N.Undo.past g.N.Undo.mark_room g.N.Network.refutes c.args.scene.machine.now c.args.scene.ask.now c.args.board.now c.refuse_end.new.self c.args.child x c.args.scene.limit carries e.same
+    (e.shown c.args.scene.machine.now c.requires.set.stands)))
+
+pub returns-in-Ok-put_node-clause-put : goal.returns-in-Ok-put_node-clause-put
+returns-in-Ok-put_node-clause-put g c = λ x carries. (
+  refl,
+  puts c.args.scene.machine.now c.args.board.now.plans c.args.scene.ask.now c.args.scene.limit c.args.child.depth c.args.nodes.now c.put_node.new.nodes (branch_by c.args.child x) c.args.head Split
+      (λ rows. kids_of c.args.scene.machine.now c.args.board.now.plans c.args.scene.ask.now rows (branch_by c.args.child x)) c.in-Ok-put_node.ensures refl
+      (λ rows. split-closes c.args.scene.machine.now c.args.board.now.plans c.args.scene.ask.now rows (pos c.args.scene.limit) c.args.child x c.args.head carries.going
+      (newest-hold c.args.scene.machine.now c.args.child.newest c.args.child.places x.choices carries.newest) (c.is_complete.ensures c.if-is_complete.false)),
+)
