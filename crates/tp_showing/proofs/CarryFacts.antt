@@ -159,6 +159,10 @@ module _ {N C : Type 0} (net : N → Net) (content : N → C) (past : N → List
       let few = c.few in
       record { carried = suffix-same b b' same ∙ c.carried; few = omega (arith, few); shown = subst (λ o. IsSomeAnd o (λ y. HasReason refutes machine b' (with_stop y))) c.carried shown }
 
+  pub act-refused : (b b' : BoardValue N) (r : Branch) (x : Suffix) (act : ActId) (room : ℕ) → Carries net content past mark_room machine ask b r x → kept_of ask + length x.choices < 64
+      → IsSomeAnd (suffix_of b) (λ y. HasReason refutes machine b' (with_action act room y)) → IsRefused refutes machine b' (with_action act room x)
+  act-refused b b' r x act room c fewer shown = record { going = c.going; few = omega (arith, fewer); shown = subst (λ o. IsSomeAnd o (λ y. HasReason refutes machine b' (with_action act room y))) c.carried shown }
+
 -- the resource of the next hold is one of the machine's
 pub hold-known : (machine : Machine) (r : Branch) (rule : HoldRule) → hold_of machine r ≡ Some rule → rule.resource.0 < length machine.resources
 hold-known machine r rule e = go r.newest e where

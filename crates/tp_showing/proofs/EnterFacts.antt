@@ -1,7 +1,7 @@
 -- A way that was gone: its node stands where it is due.
 use Rattle.std.proofs.Common.{◌≡◌, ℕ, zero, suc, ◌+◌, ◌<◌, ◌≤◌, Bool, true, false, cond, ◌&&◌, ◌==◌, List, [], ◌∷◌, ◌++◌, length, refl, sym, ◌∙◌, ap, subst, arith, add-one, Result, Ok, Err, Option, Some, None, append-nil}
 use Rattle.std.specs.Prelude.{pos, slice_get, nat_le, nat_lt, IfSome, MatchOption}
-use Rattle.std.specs.Result.{IfOk}
+use Rattle.std.specs.Result.{IfOk, OnOk}
 use Rattle.std.proofs.lemmas.Bool.{and_from, and_parts}
 use Rattle.std.proofs.lemmas.Bool.Decides.{nat_tests}
 use Rattle.tp_base.specs.Net.{Net}
@@ -126,3 +126,7 @@ stop-some ask r due =
       go : (o : Origin) → is_front_state o r.first ≡ true → IsInFlight o
       go FromFeeder e = absurd cc
       go (FromFront state end count) e = tt
+
+pub ok-none : {X E : Type 0} (P : Type 0) (Q : Option X → Type 0) (r : Result (Option X) E) → IfOk r (λ o. o ≡ None) → OnOk r P → (P → Q None) → IfOk r Q
+ok-none P Q (Ok o) e p f = subst Q (sym e) (f p)
+ok-none P Q (Err e) h p f = tt

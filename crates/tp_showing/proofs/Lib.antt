@@ -15,3 +15,4 @@ pub mod GoalFacts
 pub mod AddFacts
 pub mod CarryFacts
 pub mod EnterFacts
+pub mod ActFacts

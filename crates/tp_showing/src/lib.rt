@@ -6,6 +6,7 @@ mod closing;
 mod entering;
 mod goals;
 mod hops;
+mod opening;
 mod putting;
 mod rows;
 mod scene;

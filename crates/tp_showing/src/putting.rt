@@ -1,5 +1,6 @@
 //! Nodes of a tree, each where a branch is due.
 ghost use Rattle.std.specs.Prelude.{◌≡◌, ◌&&◌, false, ◌≤◌, ◌<◌, ◌∷◌, ◌++◌, [], None, Some, IfNone, IfOk, IfSome, OnOk, List, length, pos, MatchOption};
+ghost use Rattle.tp_bounds.specs.declared.tree.Close.TheVariants.{Dead};
 ghost use Rattle.tp_bounds.specs.declared.tree.TreeRow.{TreeRow};
 ghost use Rattle.tp_constraints.specs.Suffixes.{IsInFlight, Suffix, with_stop};
 ghost use Rattle.tp_machine.specs.declared.parts.ActId.{ActId};
@@ -195,6 +196,22 @@ pub(crate) fn put_carried<N: Network>(
     }
     match put_node(nodes, child.depth, head, Close::Split) {
         Ok(()) => Ok(Some(child)),
+        Err(fault) => Err(fault),
+    }
+}
+
+/// Adds the node of a state that can't be reached.
+pub(crate) fn put_dead(
+    nodes: &mut Nodes,
+    depth: u32,
+    head: Head,
+) -> Result<Option<Branch>, NotShown>
+    ensures none { IfOk result (λ o. o ≡ None) }
+    ensures put { OnOk result (nodes.new
+        ≡ nodes.old ++ record { depth = depth; head = head; close = Dead } ∷ []) }
+{
+    match put_node(nodes, depth, head, Close::Dead) {
+        Ok(()) => Ok(None),
         Err(fault) => Err(fault),
     }
 }

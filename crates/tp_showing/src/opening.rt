@@ -1,0 +1,90 @@
+//! Goals and actions that are opened on a board.
+ghost use Rattle.std.specs.Prelude.{◌≡◌, ◌+◌, ◌<◌, ◌≤◌, [], ◌∷◌, ◌++◌, None, Option, IfOk, IfSome, OnOk, Some, length, pos, if◌then◌else◌};
+ghost use Rattle.tp_bounds.specs.declared.tree.TreeRow.{TreeRow};
+ghost use Rattle.tp_constraints.specs.Suffixes.{Suffix};
+ghost use Rattle.tp_machine.specs.Using.{action_at};
+ghost use Rattle.tp_placing.specs.Boards.{suffix_of};
+ghost use Rattle.tp_routes.specs.Tables.{IsMadeFor};
+ghost use Rattle.tp_schedule.specs.Answers.{kept_of};
+ghost use Rattle.tp_schedule.specs.Plans.{AreNamed};
+ghost use Rattle.tp_schedule.specs.Routes.{is_act_allowed};
+ghost use Rattle.tp_showing.specs.Closes.{IsLimit};
+ghost use Rattle.tp_showing.specs.Showing.{Carries, IsEntered, IsSet, IsSince, Shows, branch_by};
+ghost use Rattle.tp_trees.specs.Places.{action_due, state_before};
+
+use crate::putting::{put_carried, put_dead, put_late};
+use crate::scene::{Branch, NotShown, Scene};
+use tp_base::{Late, Network};
+use tp_bounds::{Head, Nodes};
+use tp_machine::{ActId, State, allowed, machine_law, regress};
+use tp_placing::Board;
+use tp_schedule::action_law;
+
+/// The state from which an allowed action leads to this one.
+fn step_back(scene: Scene, state: State, act: ActId) -> Option<State>
+    requires { act.0 < length scene.machine.now.actions }
+    ensures before { result ≡ (if is_act_allowed scene.entry.machine.now scene.entry.ask.now.outs
+        act then state_before scene.entry.ask.now.want state
+        (action_at scene.entry.machine.now act.0) else None) }
+    ensures known { IfSome result (λ s. s.loc.0 < length scene.entry.machine.now.locations) }
+{
+    action_law();
+    machine_law(scene.machine);
+    if !allowed(scene.machine, scene.ask.outs, act) {
+        return None;
+    }
+    let action = scene.machine.actions.get(u32::from(act.0));
+    regress(action, &scene.ask.want, state)
+}
+
+/// Opens an action before the branch that the board carries, if it is allowed and leads there.
+pub(crate) fn enter_act<N: Network>(
+    nodes: &mut Nodes,
+    board: &mut Board<N>,
+    scene: Scene,
+    branch: Branch,
+    act: ActId,
+) -> Result<Option<Branch>, NotShown>
+    requires set { IsSet N.net N.content N.past N.mark_room scene.machine.now scene.ask.now
+        board.old }
+    requires named { AreNamed board.old.plans }
+    requires limit { IsLimit scene.machine.now scene.ask.now (pos scene.limit) }
+    requires made { IsMadeFor scene.rooms.now scene.machine.now }
+    requires carries { (x : Suffix) × Carries N.net N.content N.past N.mark_room scene.machine.now
+        scene.ask.now board.old branch x }
+    requires known { act.0 < length scene.machine.now.actions }
+    requires fewer { (x : Suffix) → suffix_of board.old ≡ Some x
+        → kept_of scene.ask.now + length x.choices < 64 }
+    ensures entered { IfOk result (λ o. (x : Suffix) → suffix_of board.old ≡ Some x
+        → IsEntered N.net N.content N.past N.mark_room scene.entry.machine.now board.old.plans
+        scene.entry.ask.now scene.entry.rooms.now.sums scene.entry.limit nodes.old nodes.new
+        board.new branch
+        (λ rows. action_due scene.entry.machine.now board.old.plans scene.entry.ask.now rows
+        (branch_by branch x) act) (λ _. []) o) }
+    ensures since { IsSince N.net N.content N.past N.mark_room board.old board.new
+        scene.entry.machine.now }
+{
+    let Some(state) = step_back(scene, branch.first, act) else {
+        return Ok(None);
+    };
+    let head = Head::Act {
+        name: scene.machine.actions.get(u32::from(act.0)).name,
+    };
+    let child = Branch {
+        depth: branch.depth + 1,
+        first: state,
+        count: branch.count + 1,
+        newest: Some(act),
+        places: 0,
+    };
+    let Some(room) = scene.rooms.room(state) else {
+        return put_dead(nodes, child.depth, head);
+    };
+    match board.open_action(scene.machine, act, room) {
+        Ok(()) => put_carried(nodes, board, scene, child, head),
+        Err(Late) => match put_late(nodes, board, scene, child.depth, head) {
+            Ok(()) => Ok(None),
+            Err(fault) => Err(fault),
+        },
+    }
+}
