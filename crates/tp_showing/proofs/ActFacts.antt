@@ -1,8 +1,7 @@
 -- The state before an action, and the node of an action that is opened.
-use Rattle.std.proofs.Common.{◌≡◌, ℕ, suc, ◌+◌, ◌<◌, ◌≤◌, Bool, true, false, cond, List, [], ◌∷◌, ◌++◌, length, refl, sym, ◌∙◌, ap, subst, arith, add-one, find, Option, Some, None, option_and_then, option_map, unwrap_or}
+use Rattle.std.proofs.Common.{◌≡◌, ℕ, suc, ◌+◌, ◌<◌, Bool, true, false, cond, List, [], ◌∷◌, ◌++◌, length, refl, sym, ◌∙◌, ap, subst, add-one, find, Option, Some, None, option_and_then, option_map, unwrap_or}
 use Rattle.std.specs.Prelude.{pos, IfSome, IfNone}
 use Rattle.std.specs.List.{slice_get}
-use Rattle.std.proofs.lemmas.List.{append-nil}
 use Rattle.tp_bounds.specs.declared.tree.Close.TheVariants.{Dead}
 use Rattle.tp_bounds.specs.declared.tree.Head.TheVariants.{Act as ActHead}
 use Rattle.tp_bounds.specs.declared.tree.Node.{Node}
@@ -22,15 +21,12 @@ use Rattle.tp_schedule.specs.declared.parts.Plan.{Plan}
 use Rattle.tp_constraints.specs.Suffixes.{Suffix, with_action}
 use Rattle.tp_routes.specs.Numbers.{number_of}
 use Rattle.tp_routes.specs.Tables.{sum_at}
-use Rattle.tp_trees.specs.Places as places
 use Rattle.tp_trees.specs.Places.Due.{action}
 use Rattle.tp_trees.specs.Places.{Due, action_due, due_from, is_name_of_act, or_zero, stand_of, state_before, states_at}
 use Rattle.tp_trees.specs.Rows.{is_state, row_of}
-use Rattle.tp_trees.specs.Trees.{dead_look, look}
-use Rattle.tp_trees.specs.Trees.Look.{due}
+use Rattle.tp_trees.specs.Trees.{dead_look}
 use Rattle.tp_trees.proofs.Befores.{before-is}
 use Rattle.tp_trees.proofs.RowFacts.{state-is}
-use Rattle.tp_showing.specs.RoomRows.{HasRooms}
 use Rattle.tp_showing.specs.Showing.{Adds, PutsNode, Shows, branch_by}
 use Rattle.tp_showing.specs.declared.scene.Branch.{Branch}
 use Rattle.tp_showing.proofs.AddFacts.{adds-node, node-look}

@@ -1,5 +1,5 @@
 -- Nodes one after another, each in the place of what was due first.
-use Rattle.std.proofs.Common.{◌≡◌, ℕ, Bool, true, false, cond, ◌==◌, List, [], ◌∷◌, ◌++◌, length, refl, sym, ◌∙◌, ap, subst, append_assoc, Option, Some, None}
+use Rattle.std.proofs.Common.{◌≡◌, ℕ, true, ◌==◌, List, [], ◌∷◌, ◌++◌, sym, ◌∙◌, ap, subst, append_assoc, Some, None}
 use Rattle.std.specs.Prelude.{ℤ, pos}
 use Rattle.tp_bounds.specs.declared.tree.Close.{Close}
 use Rattle.tp_bounds.specs.declared.tree.Head.{Head}
@@ -8,7 +8,7 @@ use Rattle.tp_bounds.specs.declared.tree.TreeRow.{TreeRow}
 use Rattle.tp_machine.specs.declared.whole.Machine.{Machine}
 use Rattle.tp_schedule.specs.declared.parts.Ask.{Ask}
 use Rattle.tp_schedule.specs.declared.parts.Plan.{Plan}
-use Rattle.tp_trees.specs.Places.{Branch, Due, Stand, due_behind, stand_of}
+use Rattle.tp_trees.specs.Places.{Branch, Due, due_behind, stand_of}
 use Rattle.tp_trees.specs.Trees.{Covers, close_look, look, stand_look, with_behind}
 use Rattle.tp_trees.specs.Trees.Look.{due}
 use Rattle.tp_trees.proofs.Lists.{number-same}

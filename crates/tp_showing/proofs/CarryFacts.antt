@@ -1,10 +1,9 @@
 -- What a board carries after a step, and that a branch that it carries can be split.
-use Rattle.std.proofs.Common.{◌≡◌, ℕ, zero, suc, ◌+◌, ◌*◌, ◌-◌, ◌<◌, ◌≤◌, Bool, true, false, cond, List, [], ◌∷◌, ◌++◌, length, refl, sym, ◌∙◌, ap, subst, arith, Contains, Option, Some, None, IsSomeAnd}
-use Rattle.std.specs.Prelude.{ℤ, pos, slice_get, IfSome, nat_le}
+use Rattle.std.proofs.Common.{◌≡◌, ℕ, ◌+◌, ◌<◌, ◌≤◌, false, List, [], ◌∷◌, ◌++◌, length, refl, sym, ◌∙◌, ap, subst, arith, Option, Some, None, IsSomeAnd}
+use Rattle.std.specs.Prelude.{ℤ, slice_get, IfSome}
 use Rattle.std.proofs.lemmas.List.{length-append}
 use Rattle.tp_base.specs.Net.{Net}
 use Rattle.tp_bounds.specs.declared.tree.Head.{Head}
-use Rattle.tp_bounds.specs.declared.tree.Node.{Node}
 use Rattle.tp_bounds.specs.declared.tree.Close.TheVariants.{Split}
 use Rattle.tp_bounds.specs.declared.tree.TreeRow.{TreeRow}
 use Rattle.tp_machine.specs.Using.{action_at}
@@ -21,19 +20,16 @@ use Rattle.tp_schedule.specs.declared.parts.Ask.{Ask}
 use Rattle.tp_schedule.specs.declared.parts.Plan.{Plan}
 use Rattle.tp_constraints.specs.Suffixes.{Suffix, order_in, place_first, with_action, with_place, with_stop}
 use Rattle.tp_constraints.proofs.Lists.{contains-get}
-use Rattle.tp_placing.specs.Boards.{BoardValue, BoardContent, content_of, past_of, suffix_after, suffix_of}
-use Rattle.tp_placing.specs.Calls.{CanGoOn, CanPlace, IsSameLoad}
+use Rattle.tp_placing.specs.Boards.{BoardValue, BoardContent, content_of, suffix_after, suffix_of}
+use Rattle.tp_placing.specs.Calls.{CanPlace}
 use Rattle.tp_placing.specs.Reasons.{HasEndReason, HasReason}
-use Rattle.tp_placing.specs.Standing.{Stands}
-use Rattle.tp_trees.specs.Places as places
 use Rattle.tp_trees.specs.Places.Due.{places as places_due}
-use Rattle.tp_trees.specs.Places.{Due, actions_due, stop_due, children, children_of, is_begun, next_rule, rule_in}
+use Rattle.tp_trees.specs.Places.{Due, actions_due, stop_due, children, rule_in}
 use Rattle.tp_trees.specs.Trees.{close_look, split_look}
 use Rattle.tp_trees.specs.Trees.Look.{due}
 use Rattle.tp_showing.specs.Closes.{IsEndRefused, IsRefused, IsStopRefused}
-use Rattle.tp_showing.specs.Showing.{Carries, IsNewest, IsOpen, IsSince, PutsNode, below, branch_by, hold_after, hold_of, kids_of, or_no_dues}
+use Rattle.tp_showing.specs.Showing.{Carries, IsNewest, IsOpen, below, branch_by, hold_after, hold_of, kids_of, or_no_dues}
 use Rattle.tp_showing.specs.declared.scene.Branch.{Branch}
-use Rattle.tp_showing.proofs.AddFacts.{puts}
 use Rattle.tp_showing.proofs.TellFacts.{get-within}
 
 -- the next hold of a branch is that of its suffix

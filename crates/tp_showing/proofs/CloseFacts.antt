@@ -1,46 +1,39 @@
 -- What a board refused can be told, and what tells of it is the close.
-use Rattle.std.proofs.Common.{◌≡◌, ◌≢◌, ℕ, suc, ◌+◌, ◌<◌, ◌≤◌, true, false, List, [], ◌∷◌, ◌++◌, length, map, refl, sym, ◌∙◌, ap, subst, arith, All, Contains, Option, Some, None, IsSomeAnd}
-use Rattle.std.specs.Prelude.{ℤ, pos, slice_get}
+use Rattle.std.proofs.Common.{◌≡◌, ℕ, suc, ◌<◌, ◌≤◌, false, List, [], ◌∷◌, length, map, sym, ◌∙◌, ap, subst, arith, All, Option, Some, None, IsSomeAnd}
+use Rattle.std.specs.Prelude.{ℤ, pos}
 use Rattle.std.proofs.lemmas.List.{length-append, length-map}
 use Rattle.std.proofs.lemmas.List.Elements.{All-append, All-cons, All-nil}
 use Rattle.tp_base.specs.declared.edges.Edge.{Edge}
-use Rattle.tp_base.specs.declared.edges.PointId.{PointId}
-use Rattle.tp_base.specs.Net.{HasLeast, Net}
+use Rattle.tp_base.specs.Net.{Net}
 use Rattle.tp_bounds.specs.declared.tree.Close.{Close}
 use Rattle.tp_bounds.specs.declared.tree.TreeRow.{TreeRow}
 use Rattle.tp_machine.specs.declared.whole.Machine.{Machine}
 use Rattle.tp_machine.proofs.MachineFacts.{is_machine}
 use Rattle.tp_machine.specs.declared.parts.Face.TheVariants.{Front}
 use Rattle.tp_schedule.specs.Answers.{IsAsked, kept_of}
-use Rattle.tp_schedule.specs.Legality.{IsLegal}
 use Rattle.tp_schedule.specs.Plans.{AreNamed}
 use Rattle.tp_schedule.specs.Spots.{Ticks}
-use Rattle.tp_schedule.specs.Spots.Spot.{own}
 use Rattle.tp_schedule.specs.declared.parts.Ask.{Ask}
-use Rattle.tp_schedule.specs.declared.parts.Plan.{Plan}
-use Rattle.tp_constraints.specs.Hops.HopKind.{limit}
 use Rattle.tp_constraints.specs.Nets.{IsBoardNet}
-use Rattle.tp_constraints.specs.Numbers.{IsEdgeOf, table_of, ticks_by}
-use Rattle.tp_constraints.specs.Suffixes.{IsInFlight, Suffix, SuffixTimes, suffix_low, with_stop}
+use Rattle.tp_constraints.specs.Numbers.{ticks_by}
+use Rattle.tp_constraints.specs.Suffixes.{Suffix, SuffixTimes, suffix_low, with_stop}
 use Rattle.tp_constraints.proofs.Solutions.{board_solutions}
 use Rattle.tp_placing.specs.Boards.{BoardValue, suffix_after, suffix_of}
-use Rattle.tp_placing.specs.Causes.{IsNamedHop, kind_of, limit_tag, named_point, numbered, spot_name}
+use Rattle.tp_placing.specs.Causes.{kind_of, limit_tag}
 use Rattle.tp_placing.specs.Edges.{edge_of}
 use Rattle.tp_placing.specs.Reasons.{HasEndReason, HasReason, IsEndReason, IsReason, with_limit}
 use Rattle.tp_placing.specs.Standing.{AreFewSteps, IsNetOf, Stands, StandsOn, table_with}
-use Rattle.tp_placing.specs.declared.causes.Cause.{Cause}
 use Rattle.tp_placing.specs.declared.causes.Cause.TheVariants.{Limit}
 use Rattle.tp_placing.proofs.StandFacts.{some-and}
 use Rattle.tp_placing.proofs.TableFacts.{length-table}
 use Rattle.tp_trees.specs.Places.{Branch}
 use Rattle.tp_trees.specs.Trees.{close_look}
 use Rattle.tp_trees.specs.Trees.Look.{due}
-use Rattle.tp_showing.specs.Closes.{Closes, ClosesEnd, ClosesRefused, ClosesStop, IsEndRefused, IsLimit, IsRefused, IsStopRefused}
+use Rattle.tp_showing.specs.Closes.{ClosesEnd, ClosesRefused, ClosesStop, IsEndRefused, IsLimit, IsRefused}
 use Rattle.tp_showing.specs.Tellings.{CanTell, IsTellable, IsTellableReason, IsToldReason}
 use Rattle.tp_showing.proofs.EndCloses.{end-closes}
 use Rattle.tp_showing.proofs.HopFacts.{before-limit, own-named, tellable}
 use Rattle.tp_showing.proofs.LateCloses.{IsSetting, late-closes}
-use Rattle.tp_showing.proofs.NetFrames.{table-length}
 use Rattle.tp_showing.proofs.StopCloses.{stop-closes}
 use Rattle.tp_showing.proofs.TellFacts.{get-within}
 

@@ -1,6 +1,6 @@
 -- What tells of the refusal of an end by the limit closes the node of a branch that is not stopped.
-use Rattle.std.proofs.Common.{◌≡◌, ◌⊎◌, inl, inr, ℕ, zero, suc, ◌+◌, ◌<◌, ◌≤◌, true, false, List, [], ◌∷◌, ◌++◌, length, map, refl, sym, ◌∙◌, ap, subst, arith, All, Contains, Option, Some, None}
-use Rattle.std.specs.Prelude.{ℤ, pos, ◌≤ℤ◌, ◌<ℤ◌, ◌+ℤ◌, slice_get, slice_index}
+use Rattle.std.proofs.Common.{◌≡◌, ◌⊎◌, inl, inr, ℕ, zero, suc, ◌<◌, ◌≤◌, false, List, [], ◌∷◌, ◌++◌, length, refl, sym, ◌∙◌, ap, subst, arith, All, Contains, Option, Some, None}
+use Rattle.std.specs.Prelude.{pos, ◌<ℤ◌, ◌+ℤ◌, slice_get, slice_index}
 use Rattle.std.proofs.lemmas.Int.{ints}
 use Rattle.std.proofs.lemmas.List.{length-append, length-map}
 use Rattle.std.proofs.lemmas.List.Elements.{All-append, All-cons, All-nil, All-contains, All-head, All-tail}
@@ -9,13 +9,12 @@ use Rattle.tp_base.specs.declared.edges.PointId.{PointId}
 use Rattle.tp_base.specs.declared.edges.Proof.{Proof}
 use Rattle.tp_base.specs.declared.edges.Proof.TheVariants.{Chain, Circle}
 use Rattle.tp_base.specs.Net.{Net}
-use Rattle.tp_base.specs.Refute.{IsLateChain, IsLateCircle, Leads, Refutes, total_weight}
+use Rattle.tp_base.specs.Refute.{Leads, Refutes, total_weight}
 use Rattle.tp_bounds.specs.declared.hops.TreePoint.{TreePoint}
 use Rattle.tp_bounds.specs.declared.tree.Close.{Close}
 use Rattle.tp_bounds.specs.declared.tree.Head.{Head}
 use Rattle.tp_bounds.specs.declared.tree.TreeRow.{TreeRow}
 use Rattle.tp_machine.specs.declared.whole.Machine.{Machine}
-use Rattle.tp_schedule.specs.Spots.{Spot}
 use Rattle.tp_schedule.specs.Spots.Spot.{own}
 use Rattle.tp_schedule.specs.declared.parts.Ask.{Ask}
 use Rattle.tp_schedule.specs.declared.parts.Plan.{Plan}
@@ -23,21 +22,21 @@ use Rattle.tp_constraints.specs.Nets.{IsBoardNet}
 use Rattle.tp_constraints.specs.Numbers.{IsEdgeOf}
 use Rattle.tp_constraints.specs.Suffixes.{suffix_cap}
 use Rattle.tp_constraints.proofs.Lists.{All-split, all-by, contains-get}
-use Rattle.tp_placing.specs.Causes.{IsNamedHop, kind_of, limit_tag, named_point, numbered, spot_name}
+use Rattle.tp_placing.specs.Causes.{IsNamedHop, kind_of, limit_tag, numbered}
 use Rattle.tp_placing.specs.Edges.{edge_of}
 use Rattle.tp_placing.specs.Reasons.{IsPart, with_limit}
 use Rattle.tp_placing.specs.Standing.{table_with}
 use Rattle.tp_placing.specs.declared.causes.Cause.{Cause}
 use Rattle.tp_placing.specs.declared.causes.Cause.TheVariants.{Limit}
 use Rattle.tp_placing.proofs.CauseFacts.{numbered-in}
-use Rattle.tp_trees.specs.Chains.{cap, low, spot_of}
+use Rattle.tp_trees.specs.Chains.{low, spot_of}
 use Rattle.tp_trees.specs.Chains.Led.{led}
 use Rattle.tp_trees.specs.Places.{Branch, Stand}
-use Rattle.tp_trees.specs.Trees.{chain_look, close_look, loop_look}
+use Rattle.tp_trees.specs.Trees.{chain_look, close_look}
 use Rattle.tp_trees.specs.Trees.Look.{due}
 use Rattle.tp_trees.specs.Told.{told_by}
 use Rattle.tp_showing.specs.Tellings.{IsCloseOf, IsNameOf, IsTold, tell, told_until}
-use Rattle.tp_showing.proofs.Following.{IsAllowed, IsCut, IsWhole, walked}
+use Rattle.tp_showing.proofs.Following.{IsAllowed, IsCut, walked}
 use Rattle.tp_showing.proofs.HopFacts.{before-limit, named-allowed, named-told}
 use Rattle.tp_showing.proofs.LateCloses.{IsSetting, circle-first, cut-in, loop-whole, whole-closes}
 use Rattle.tp_showing.proofs.TellFacts.{get-within}

@@ -1,12 +1,12 @@
 -- A way that was gone: its node stands where it is due.
-use Rattle.std.proofs.Common.{◌≡◌, ℕ, zero, suc, ◌+◌, ◌<◌, ◌≤◌, Bool, true, false, cond, ◌&&◌, ◌==◌, List, [], ◌∷◌, ◌++◌, length, refl, sym, ◌∙◌, ap, subst, arith, add-one, Result, Ok, Err, Option, Some, None, append-nil}
-use Rattle.std.specs.Prelude.{pos, slice_get, nat_le, nat_lt, IfSome, MatchOption}
+use Rattle.std.proofs.Common.{◌≡◌, ℕ, zero, suc, ◌+◌, ◌<◌, ◌≤◌, Bool, true, false, cond, ◌&&◌, List, [], ◌∷◌, ◌++◌, length, refl, sym, ◌∙◌, ap, subst, arith, add-one, Result, Ok, Err, Option, Some, None}
+use Rattle.std.specs.Prelude.{pos, slice_get, nat_lt, IfSome, MatchOption}
 use Rattle.std.specs.Result.{IfOk, OnOk}
-use Rattle.std.proofs.lemmas.Bool.{and_from, and_parts}
+use Rattle.std.proofs.lemmas.Bool.{and_parts}
 use Rattle.std.proofs.lemmas.Bool.Decides.{nat_tests}
 use Rattle.tp_base.specs.Net.{Net}
 use Rattle.tp_bounds.specs.declared.tree.Head.{Head}
-use Rattle.tp_bounds.specs.declared.tree.Head.TheVariants.{Act as ActHead, At as AtHead, Stop as StopHead}
+use Rattle.tp_bounds.specs.declared.tree.Head.TheVariants.{At as AtHead, Stop as StopHead}
 use Rattle.tp_bounds.specs.declared.tree.Node.{Node}
 use Rattle.tp_bounds.specs.declared.tree.TreeRow.{TreeRow}
 use Rattle.tp_machine.specs.declared.parts.HoldRule.{HoldRule}
@@ -23,7 +23,6 @@ use Rattle.tp_trees.specs.Places.Due.{places as places_due, stop}
 use Rattle.tp_trees.specs.Places.{Due, has_choice, is_front_state, stop_due, due_behind, is_name_of_resource, order_length, places_from, stand_of}
 use Rattle.tp_trees.proofs.Allowing.{le-to, lt-to}
 use Rattle.tp_trees.proofs.Lists.{number-same}
-use Rattle.tp_showing.specs.RoomRows.{HasRooms}
 use Rattle.tp_showing.specs.Showing.{Adds, Carries, GoesOn, IsEntered, IsOpen, PutsNode, Shows, below, branch_by, kids_of}
 use Rattle.tp_showing.specs.declared.scene.Branch.{Branch}
 use Rattle.tp_showing.proofs.CarryFacts.{suffix-same}

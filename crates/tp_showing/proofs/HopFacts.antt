@@ -1,5 +1,5 @@
 -- The edges of a board's network can be told, and what is told of them is allowed.
-use Rattle.std.proofs.Common.{◌≡◌, ℕ, ◌+◌, ◌<◌, ◌≤◌, Bool, true, false, cond, ◌==◌, List, length, map, refl, sym, ◌∙◌, ap, subst, arith, All, AllPairs, Option, Some, None, inl, inr}
+use Rattle.std.proofs.Common.{◌≡◌, ℕ, ◌<◌, false, ◌==◌, List, length, map, refl, arith, Option, Some, None}
 use Rattle.std.specs.Prelude.{ℤ, slice_get}
 use Rattle.std.proofs.lemmas.Bool.Decides.{nat_tests}
 use Rattle.std.proofs.lemmas.List.Elements.{All-contains}
@@ -12,13 +12,12 @@ use Rattle.tp_schedule.specs.Plans.{AreNamed}
 use Rattle.tp_schedule.specs.Spots.{Slot, slot_order}
 use Rattle.tp_schedule.specs.declared.parts.Ask.{Ask}
 use Rattle.tp_schedule.specs.declared.parts.Plan.{Plan}
-use Rattle.tp_constraints.specs.Hops.{Hop, HopKind, IsHop}
-use Rattle.tp_constraints.specs.Hops.HopKind.{stop}
+use Rattle.tp_constraints.specs.Hops.{Hop, IsHop}
 use Rattle.tp_constraints.specs.Hops.IsHop.{by_least, by_most, by_line, by_end, by_order, by_stop}
 use Rattle.tp_constraints.specs.Suffixes.{Suffix, order_in}
 use Rattle.tp_constraints.proofs.HeldSlots.{IsOn, order-on, own-on, placed-All}
 use Rattle.tp_constraints.proofs.Lists.{contains-get}
-use Rattle.tp_placing.specs.Causes.{IsNamedHop, hop_by, kind_of, named_point, numbered, spot_name}
+use Rattle.tp_placing.specs.Causes.{IsNamedHop, hop_by, named_point, numbered, spot_name}
 use Rattle.tp_placing.specs.declared.causes.Cause.{Cause}
 use Rattle.tp_trees.specs.Places.{Branch}
 use Rattle.tp_trees.specs.Told.{CanBeTold}

@@ -1,14 +1,14 @@
 -- What tells of the refusal of a branch that is not stopped closes its node.
-use Rattle.std.proofs.Common.{◌≡◌, ◌⊎◌, inl, inr, ℕ, suc, ◌+◌, ◌<◌, ◌≤◌, true, false, List, [], ◌∷◌, ◌++◌, length, map, refl, sym, ◌∙◌, ap, subst, arith, All, Contains, Option, Some, None}
+use Rattle.std.proofs.Common.{◌≡◌, inl, inr, ℕ, suc, ◌+◌, ◌<◌, false, List, [], ◌∷◌, ◌++◌, length, map, refl, sym, ◌∙◌, ap, subst, arith, All, Contains, Option, Some, None}
 use Rattle.std.specs.Prelude.{ℤ, pos, ◌≤ℤ◌, ◌<ℤ◌, ◌+ℤ◌, slice_get, slice_index}
 use Rattle.std.proofs.lemmas.Int.{ints}
-use Rattle.std.proofs.lemmas.List.Elements.{All-contains, All-head}
+use Rattle.std.proofs.lemmas.List.Elements.{All-contains}
 use Rattle.tp_base.specs.declared.edges.Edge.{Edge}
 use Rattle.tp_base.specs.declared.edges.PointId.{PointId}
 use Rattle.tp_base.specs.declared.edges.Proof.{Proof}
 use Rattle.tp_base.specs.declared.edges.Proof.TheVariants.{Chain, Circle}
 use Rattle.tp_base.specs.Net.{Net}
-use Rattle.tp_base.specs.Refute.{IsLateChain, IsLateCircle, Leads, Refutes, total_weight}
+use Rattle.tp_base.specs.Refute.{Leads, Refutes, total_weight}
 use Rattle.tp_bounds.specs.declared.hops.TreePoint.{TreePoint}
 use Rattle.tp_bounds.specs.declared.tree.Close.{Close}
 use Rattle.tp_bounds.specs.declared.tree.Head.{Head}
@@ -23,16 +23,16 @@ use Rattle.tp_schedule.specs.declared.parts.Plan.{Plan}
 use Rattle.tp_constraints.specs.Nets.{IsBoardNet}
 use Rattle.tp_constraints.specs.Numbers.{IsEdgeOf}
 use Rattle.tp_constraints.proofs.Lists.{all-by, contains-get}
-use Rattle.tp_placing.specs.Causes.{IsNamedHop, named_point, numbered, spot_name}
+use Rattle.tp_placing.specs.Causes.{IsNamedHop, numbered}
 use Rattle.tp_placing.specs.Reasons.{IsPart}
 use Rattle.tp_placing.specs.Standing.{table_with}
 use Rattle.tp_placing.specs.declared.causes.Cause.{Cause}
-use Rattle.tp_trees.specs.Chains.{cap, low, spot_of}
+use Rattle.tp_trees.specs.Chains.{low, spot_of}
 use Rattle.tp_trees.specs.Places.{Branch, Stand}
 use Rattle.tp_trees.specs.Trees.{chain_look, close_look, loop_look}
 use Rattle.tp_trees.specs.Trees.Look.{due}
-use Rattle.tp_showing.specs.Tellings.{IsChainOf, IsCloseOf, IsCutOf, IsFirstUntold, IsLoopOf, IsNameOf, IsTold, tell, told_until}
-use Rattle.tp_showing.proofs.Following.{IsAllowed, IsCut, IsWhole, walked}
+use Rattle.tp_showing.specs.Tellings.{IsCloseOf, IsNameOf, tell, told_until}
+use Rattle.tp_showing.proofs.Following.{IsAllowed, IsWhole, walked}
 use Rattle.tp_showing.proofs.HopFacts.{named-allowed, named-told, own-named}
 use Rattle.tp_showing.proofs.NetFrames.{IsFrame, chain-closes, loop-closes, name-found, net-frame, table-length}
 

@@ -1,8 +1,7 @@
 -- The names of a board's points, holds and causes are those of a tree.
-use Rattle.std.proofs.Common.{◌≡◌, ℕ, ◌+◌, ◌<◌, List, length, refl, sym, ◌∙◌, ap, subst, Option, Some, None}
+use Rattle.std.proofs.Common.{◌≡◌, ℕ, ◌+◌, List, refl, sym, ◌∙◌, ap, subst, Option, Some, None}
 use Rattle.std.specs.Prelude.{slice_get, option_map, option_and_then}
 use Rattle.tp_base.specs.declared.edges.PointId.{PointId}
-use Rattle.tp_bounds.specs.declared.hops.Hop.{Hop as TreeHop}
 use Rattle.tp_bounds.specs.declared.hops.Hop.TheVariants.{Duration, Line, «Resource» as Res}
 use Rattle.tp_bounds.specs.declared.hops.TreeHold.{TreeHold}
 use Rattle.tp_bounds.specs.declared.hops.TreeHold.TheVariants.{Kept as KeptHold}

@@ -1,6 +1,6 @@
 -- A network of a board's points, beside the points, least and greatest ticks of a tree's node.
-use Rattle.std.proofs.Common.{◌≡◌, ◌≢◌, ℕ, zero, suc, ◌+◌, ◌-◌, ◌<◌, ◌≤◌, Bool, true, false, cond, ◌&&◌, ◌==◌, List, [], ◌∷◌, length, map, refl, sym, ◌∙◌, ap, subst, arith, All, AllPairs, Contains, Option, Some, None}
-use Rattle.std.specs.Prelude.{ℤ, pos, ◌≤ℤ◌, ◌<ℤ◌, int_lt, slice_get, slice_index}
+use Rattle.std.proofs.Common.{◌≡◌, ℕ, zero, suc, ◌+◌, ◌-◌, ◌<◌, ◌≤◌, Bool, true, false, cond, ◌&&◌, ◌==◌, List, [], length, refl, sym, ◌∙◌, ap, subst, arith, AllPairs, Option, Some}
+use Rattle.std.specs.Prelude.{ℤ, pos, ◌≤ℤ◌, ◌<ℤ◌, int_lt, slice_index}
 use Rattle.std.proofs.lemmas.Int.{ints}
 use Rattle.std.proofs.lemmas.List.Elements.{All-contains}
 use Rattle.std.proofs.lemmas.List.{length-map}
@@ -17,7 +17,6 @@ use Rattle.tp_schedule.specs.declared.parts.Ask.{Ask}
 use Rattle.tp_schedule.specs.declared.parts.Plan.{Plan}
 use Rattle.tp_constraints.specs.Gaps.{IsPoint}
 use Rattle.tp_constraints.specs.Nets.{IsBoardNet}
-use Rattle.tp_constraints.specs.Numbers.{is_same_spot}
 use Rattle.tp_constraints.specs.Suffixes.{Suffix, suffix_cap, suffix_low}
 use Rattle.tp_constraints.proofs.Lists.{contains-get, get-there, index-map}
 use Rattle.tp_constraints.proofs.Numbering.{same_spot-refl}
@@ -26,10 +25,9 @@ use Rattle.tp_placing.specs.Reasons.{IsPart}
 use Rattle.tp_placing.specs.Standing.{table_with}
 use Rattle.tp_placing.proofs.CauseFacts.{numbered-in}
 use Rattle.tp_base.specs.declared.edges.PointId.{PointId}
-use Rattle.tp_trees.specs.Chains.{cap, follow, low, spot_of, Led}
+use Rattle.tp_trees.specs.Chains.{cap, follow, low, spot_of}
 use Rattle.tp_trees.specs.Chains.Led.{led}
 use Rattle.tp_trees.specs.Places.{Stand}
-use Rattle.tp_trees.specs.Told.{point_name}
 use Rattle.tp_trees.specs.Trees.{chain_end, chain_look, loop_end, loop_look, reach_look}
 use Rattle.tp_trees.specs.Trees.Look.{due}
 use Rattle.tp_trees.proofs.Allowing.{named-point}

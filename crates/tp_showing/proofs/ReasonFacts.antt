@@ -1,7 +1,7 @@
 -- The edges of a proof are few and can be told, where those of its network can.
-use Rattle.std.proofs.Common.{◌≡◌, ℕ, zero, suc, ◌+◌, ◌<◌, ◌≤◌, Bor, List, [], ◌∷◌, length, refl, sym, ◌∙◌, ap, subst, arith, All, Contains, Result, Ok, Err}
+use Rattle.std.proofs.Common.{◌≡◌, ℕ, zero, suc, ◌<◌, Bor, List, [], ◌∷◌, length, sym, subst, arith, All, Contains, Result, Ok, Err}
 use Rattle.std.specs.Result.{IfOk, OnOk}
-use Rattle.std.specs.Prelude.{ℤ, pos, ◌<ℤ◌, slice_index}
+use Rattle.std.specs.Prelude.{pos, ◌<ℤ◌, slice_index}
 use Rattle.std.proofs.lemmas.Int.{ints}
 use Rattle.std.proofs.lemmas.List.{length-map}
 use Rattle.std.proofs.lemmas.List.Elements.{All-head, All-tail}
@@ -13,10 +13,8 @@ use Rattle.tp_base.specs.Net.{Net}
 use Rattle.tp_base.specs.Refute.{IsLateChain, IsLateCircle, Refutes, ends_of, total_weight}
 use Rattle.tp_base.proofs.TraceFacts.{apart-short}
 use Rattle.tp_machine.specs.declared.whole.Machine.{Machine}
-use Rattle.tp_schedule.specs.declared.parts.Plan.{Plan}
 use Rattle.tp_constraints.proofs.Lists.{all-by}
 use Rattle.tp_placing.specs.Boards.{BoardValue}
-use Rattle.tp_placing.specs.declared.causes.Cause.{Cause}
 use Rattle.tp_base.specs.declared.errors.Memory.{Memory}
 use Rattle.tp_bounds.specs.declared.tree.Close.{Close}
 use Rattle.tp_placing.specs.Reasons.{IsShown}

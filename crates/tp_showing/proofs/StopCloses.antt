@@ -1,7 +1,7 @@
 -- What tells of the refusal of a stop closes the node of the stopped branch: a chain that comes to the first point later than
 -- the front's end, or one from the front's end on.
-use Rattle.std.proofs.Common.{◌≡◌, ◌≢◌, ◌⊎◌, inl, inr, ℕ, zero, suc, ◌+◌, ◌-◌, ◌<◌, ◌≤◌, Bool, true, false, cond, ◌&&◌, ◌==◌, List, [], ◌∷◌, ◌++◌, length, take, drop, map, refl, sym, ◌∙◌, ap, subst, arith, All, Contains, Option, Some, None}
-use Rattle.std.specs.Prelude.{ℤ, pos, ◌≤ℤ◌, ◌<ℤ◌, ◌+ℤ◌, slice_get, slice_index}
+use Rattle.std.proofs.Common.{◌≡◌, inl, inr, ℕ, zero, suc, ◌+◌, ◌<◌, true, ◌==◌, List, [], ◌∷◌, ◌++◌, length, take, drop, refl, sym, ◌∙◌, ap, subst, arith, All, Contains, Option, Some, None}
+use Rattle.std.specs.Prelude.{ℤ, pos, ◌<ℤ◌, ◌+ℤ◌, slice_index}
 use Rattle.std.proofs.lemmas.Bool.Decides.{nat_tests}
 use Rattle.std.proofs.lemmas.Int.{ints}
 use Rattle.std.proofs.lemmas.List.{take-append-drop}
@@ -25,20 +25,20 @@ use Rattle.tp_schedule.specs.Spots.{Spot, Ticks}
 use Rattle.tp_schedule.specs.Spots.Spot.{kept, own}
 use Rattle.tp_schedule.specs.declared.parts.Ask.{Ask}
 use Rattle.tp_schedule.specs.declared.parts.Plan.{Plan}
-use Rattle.tp_constraints.specs.Gaps.{Gap, gap}
+use Rattle.tp_constraints.specs.Gaps.{Gap}
 use Rattle.tp_constraints.specs.Hops.{Hop}
 use Rattle.tp_constraints.specs.Nets.{IsBoardNet}
 use Rattle.tp_constraints.specs.Numbers.{IsEdgeOf}
-use Rattle.tp_constraints.specs.Suffixes.{IsInFlight, Suffix, SuffixTimes, suffix_cap, with_stop}
+use Rattle.tp_constraints.specs.Suffixes.{IsInFlight, Suffix, SuffixTimes, with_stop}
 use Rattle.tp_constraints.proofs.EndLine.{front-tick}
 use Rattle.tp_constraints.proofs.Lists.{All-split, all-by, contains-get, get-there}
-use Rattle.tp_placing.specs.Causes.{IsNamedHop, hop_by, named_point, numbered}
+use Rattle.tp_placing.specs.Causes.{IsNamedHop, numbered}
 use Rattle.tp_placing.specs.Reasons.{IsPart}
 use Rattle.tp_placing.specs.Standing.{table_with}
 use Rattle.tp_placing.specs.declared.causes.Cause.{Cause}
 use Rattle.tp_placing.proofs.CauseFacts.{numbered-in}
-use Rattle.tp_trees.specs.Chains.{Led, cap, follow, gap_of, led_on, low, spot_of}
-use Rattle.tp_trees.specs.Chains.Led.{led, lost}
+use Rattle.tp_trees.specs.Chains.{cap, follow, gap_of, led_on, low, spot_of}
+use Rattle.tp_trees.specs.Chains.Led.{led}
 use Rattle.tp_trees.specs.Places.{Branch, Stand}
 use Rattle.tp_trees.specs.Trees.{chain_look, close_look}
 use Rattle.tp_trees.specs.Trees.Look.{due}

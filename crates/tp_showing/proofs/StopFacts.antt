@@ -1,6 +1,6 @@
 -- A stop's edge: it is the only one of which nothing is told, and a closed walk has it once.
-use Rattle.std.proofs.Common.{◌≡◌, ◌≢◌, ◌⊎◌, inl, inr, ℕ, zero, suc, ◌+◌, ◌<◌, ◌≤◌, true, false, List, [], ◌∷◌, ◌++◌, length, map, refl, sym, ◌∙◌, ap, subst, arith, All, AllPairs, Contains, Option, Some, None}
-use Rattle.std.specs.Prelude.{ℤ, pos, ◌+ℤ◌, slice_get, slice_index}
+use Rattle.std.proofs.Common.{◌≡◌, ◌≢◌, ◌⊎◌, inl, inr, ℕ, zero, suc, ◌+◌, ◌<◌, true, List, [], ◌∷◌, ◌++◌, length, refl, sym, ◌∙◌, subst, arith, AllPairs, Contains, Some}
+use Rattle.std.specs.Prelude.{ℤ, pos, ◌+ℤ◌, slice_get}
 use Rattle.std.proofs.lemmas.Int.{ints}
 use Rattle.std.proofs.lemmas.List.{length-append, length-map}
 use Rattle.tp_base.specs.declared.edges.Edge.{Edge}
@@ -10,22 +10,21 @@ use Rattle.tp_machine.specs.declared.whole.Machine.{Machine}
 use Rattle.tp_schedule.specs.Answers.{IsAsked, IsAskedFrom, IsFrontOf, kept_of}
 use Rattle.tp_schedule.specs.Choices.{start_floor}
 use Rattle.tp_schedule.specs.Legality.{IsLegal}
-use Rattle.tp_schedule.specs.Plans.{AreNamed, is_fixed, plan_of, point}
+use Rattle.tp_schedule.specs.Plans.{AreNamed, is_fixed, point}
 use Rattle.tp_schedule.specs.Spots.{Spot}
 use Rattle.tp_schedule.specs.Spots.Spot.{kept, own}
 use Rattle.tp_schedule.specs.declared.parts.Ask.{Ask}
 use Rattle.tp_schedule.specs.declared.parts.Origin.{Origin}
 use Rattle.tp_schedule.specs.declared.parts.Origin.TheVariants.{Feeder as FromFeeder, Front as FromFront}
 use Rattle.tp_schedule.specs.declared.parts.Plan.{Plan}
-use Rattle.tp_constraints.specs.Gaps.{gap, low_in}
+use Rattle.tp_constraints.specs.Gaps.{gap}
 use Rattle.tp_constraints.specs.Hops.{Hop, IsHop, hop}
 use Rattle.tp_constraints.specs.Hops.HopKind.{stop}
 use Rattle.tp_constraints.specs.Hops.IsHop.{by_least, by_most, by_line, by_end, by_order, by_stop}
-use Rattle.tp_constraints.specs.Numbers.{number}
 use Rattle.tp_constraints.specs.Suffixes.{IsInFlight, Suffix}
 use Rattle.tp_constraints.proofs.Lists.{get-contains, index-map}
 use Rattle.tp_constraints.proofs.Numbering.{number-at}
-use Rattle.tp_placing.specs.Causes.{IsNamedHop, hop_by, numbered}
+use Rattle.tp_placing.specs.Causes.{IsNamedHop, hop_by}
 use Rattle.tp_placing.specs.declared.causes.Cause.{Cause}
 use Rattle.tp_trees.specs.Chains.{low}
 use Rattle.tp_trees.specs.Places.{Branch, Stand}

@@ -1,5 +1,5 @@
-//! Bound trees made on a board: a walk through all ways of an ask that come by a limit, which closes each branch by what
-//! the board's network refused it for.
+//! The parts of a bound tree as a board makes them: the room rows of an ask, and the nodes of its branches, each closed by what
+//! the network refused it for, or split.
 #![tactic(auto)]
 
 mod closing;

@@ -1,4 +1,3 @@
-use Rattle.tp_bounds.specs.declared.tree.Close.{Close}
 use Rattle.tp_showing.specs.Closes.{ClosesEnd}
 use Rattle.tp_showing.specs.Tellings.{IsToldReason}
 use Rattle.tp_showing.proofs.CloseFacts.{end-told, end-tellable}

@@ -1,4 +1,3 @@
-use Rattle.tp_bounds.specs.declared.tree.Close.{Close}
 use Rattle.tp_constraints.specs.Suffixes.{with_stop}
 use Rattle.tp_showing.specs.Closes.{ClosesStop}
 use Rattle.tp_showing.specs.Tellings.{IsToldReason}

@@ -1,4 +1,4 @@
-use Rattle.std.proofs.Common.{refl, sym, subst, ap, ◌∙◌}
+use Rattle.std.proofs.Common.{sym, subst, ap, ◌∙◌}
 use Rattle.tp_bounds.specs.declared.tree.Close.TheVariants.{Chain}
 use Rattle.tp_base.specs.declared.edges.Edge.{Edge}
 use Rattle.tp_showing.specs.Tellings.{IsNameOf, tell}

@@ -1,25 +1,22 @@
-use Rattle.std.proofs.Common.{◌≡◌, ◌≤◌, ◌+◌, [], length, refl, sym, subst, ap, ◌∙◌, arith, true, List, Option, Some, IsSomeAnd, OnOk}
+use Rattle.std.proofs.Common.{◌≡◌, ◌+◌, [], refl, sym, subst, ap, ◌∙◌, arith, true, List, Option, Some}
 use Rattle.std.specs.Prelude.{slice_get}
-use Rattle.std.specs.Str.{bytes_eq}
 use Rattle.std.proofs.lemmas.Slice.Eq.{bytes_eq-Decides}
 use Rattle.tp_bounds.specs.declared.tree.Head.TheVariants.{At as AtHead}
 use Rattle.tp_bounds.specs.declared.tree.TreeRow.{TreeRow}
-use Rattle.tp_constraints.specs.Suffixes.{Suffix, order_in, with_place}
+use Rattle.tp_constraints.specs.Suffixes.{Suffix, with_place}
 use Rattle.tp_placing.proofs.StandFacts.{and-some}
 use Rattle.tp_placing.specs.Calls.{CanPlace}
-use Rattle.tp_placing.specs.Reasons.{HasReason}
 use Rattle.tp_placing.specs.Boards.{suffix_of}
 use Rattle.tp_schedule.specs.Plans.{AreNamed}
 use Rattle.tp_trees.specs.Places.{places_from, is_name_of_resource}
-use Rattle.tp_showing.specs.Closes.{IsRefused}
 use Rattle.std.specs.Prelude.{IfSome, MatchOption}
 use Rattle.std.specs.Result.{IfOk}
 use Rattle.tp_schedule.specs.declared.parts.Plan.{Plan}
 use Rattle.tp_showing.specs.declared.scene.Branch.{Branch}
-use Rattle.tp_showing.specs.Showing.{Carries, IsEntered, IsOpen, PutsNode, Shows, below, branch_by, hold_of, kids_of}
+use Rattle.tp_showing.specs.Showing.{Carries, IsEntered, IsOpen, PutsNode, Shows, branch_by, kids_of}
 use Rattle.tp_showing.proofs.CarryFacts.{carries-place, hold-known, may-place, own-suffix, place-refused}
 use Rattle.tp_showing.proofs.EnterFacts.{enter-by, ok-both, place-shows, placed_below}
-use Rattle.tp_showing.proofs.ReasonFacts.{ok-map, on-map}
+use Rattle.tp_showing.proofs.ReasonFacts.{ok-map}
 use Rattle.tp_showing.proofs.entering.enter_place.Goals as goal
 use Rattle.tp_showing.proofs.entering.enter_place.Goals.{After-get}
 

@@ -1,16 +1,14 @@
-use Rattle.std.proofs.Common.{◌≡◌, ◌<◌, ◌+◌, [], length, refl, sym, subst, ◌∙◌, arith, Some, IsSomeAnd, false}
+use Rattle.std.proofs.Common.{◌≡◌, ◌<◌, ◌+◌, [], length, refl, sym, subst, ◌∙◌, arith, Some}
 use Rattle.tp_bounds.specs.declared.tree.Head.TheVariants.{Stop as StopHead}
 use Rattle.tp_constraints.specs.Suffixes.{Suffix, with_stop}
 use Rattle.tp_placing.specs.Boards.{suffix_of}
-use Rattle.tp_placing.proofs.StandFacts.{and-some}
-use Rattle.tp_placing.specs.Reasons.{HasReason}
 use Rattle.tp_schedule.specs.Plans.{AreNamed}
 use Rattle.tp_trees.specs.Places as places
 use Rattle.tp_trees.specs.Places.{stop_due}
 use Rattle.tp_showing.specs.Closes.{IsStopRefused}
 use Rattle.tp_showing.specs.Showing.{PutsNode, Shows, branch_by}
 use Rattle.tp_showing.proofs.CarryFacts.{own-suffix, stop-refused}
-use Rattle.tp_showing.proofs.EnterFacts.{none-shows, stop-shows, stop-some, stopped_below}
+use Rattle.tp_showing.proofs.EnterFacts.{stop-shows, stop-some, stopped_below}
 use Rattle.tp_showing.proofs.ReasonFacts.{on-map}
 use Rattle.tp_showing.proofs.entering.enter_stop.Goals as goal
 

@@ -1,4 +1,4 @@
-use Rattle.std.proofs.Common.{◌≡◌, length, take, subst, sym, ◌∙◌, arith, All}
+use Rattle.std.proofs.Common.{◌≡◌, length, subst, sym, ◌∙◌, arith, All}
 use Rattle.tp_showing.specs.Tellings.{IsTold, tell}
 use Rattle.tp_showing.proofs.TellFacts.{get-at, take_all, told-one}
 use Rattle.tp_showing.proofs.hops.first_untold.Goals as goal

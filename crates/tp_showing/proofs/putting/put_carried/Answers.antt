@@ -1,4 +1,4 @@
-use Rattle.std.proofs.Common.{◌≡◌, [], refl, sym, subst}
+use Rattle.std.proofs.Common.{[], refl, sym, subst}
 use Rattle.tp_bounds.specs.declared.tree.Close.TheVariants.{Split}
 use Rattle.std.specs.Prelude.{pos}
 use Rattle.tp_schedule.specs.Plans.{AreNamed}

@@ -1,8 +1,8 @@
-use Rattle.std.proofs.Common.{◌≡◌, ◌<◌, ◌++◌, ◌∷◌, [], length, refl}
+use Rattle.std.proofs.Common.{◌≡◌, ◌<◌, ◌++◌, ◌∷◌, [], length}
 use Rattle.std.specs.Prelude.{pos}
 use Rattle.tp_constraints.specs.Suffixes.{Suffix, with_stop}
 use Rattle.tp_trees.specs.Places as places
-use Rattle.tp_showing.specs.Closes.{IsEndRefused, IsRefused, IsStopRefused}
+use Rattle.tp_showing.specs.Closes.{IsStopRefused}
 use Rattle.tp_showing.specs.Showing.{PutsNode}
 use Rattle.tp_showing.proofs.AddFacts.{puts}
 use Rattle.tp_showing.proofs.ReasonFacts.{on-map}

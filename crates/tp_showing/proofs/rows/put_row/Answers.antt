@@ -1,4 +1,4 @@
-use Rattle.std.proofs.Common.{◌≡◌, ◌++◌, [], ◌∷◌, sym, subst, ◌∙◌, ap, Some, OnOk}
+use Rattle.std.proofs.Common.{◌≡◌, ◌++◌, [], ◌∷◌, sym, subst, ◌∙◌, ap, OnOk}
 use Rattle.tp_routes.specs.Numbers.{number_of}
 use Rattle.tp_routes.specs.Tables.{sum_at}
 use Rattle.tp_showing.specs.RoomRows.{named, row_by}
