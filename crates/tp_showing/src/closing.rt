@@ -13,8 +13,8 @@ use tp_bounds::{Close, Hops};
 use tp_machine::Machine;
 use tp_placing::Board;
 
-/// A chain of the edges up to the first that a tree can't tell: a limit ends it at the end of the asked copy, and a stop at
-/// the first point of a stopped branch.
+/// A chain of the edges up to the first that a tree can't tell: a limit ends it at the end of the
+/// asked copy, and a stop at the first point of a stopped branch.
 fn chain_of<N: Network>(
     alloc: Global,
     board: &Board<N>,
@@ -86,7 +86,8 @@ fn cut_of<N: Network>(
     })
 }
 
-/// The close of a circle: its loop, or where it leads through a stop, the chain from the front's end round to the first point.
+/// The close of a circle: its loop, or where it leads through a stop, the chain from the front's
+/// end round to the first point.
 fn circle_of<N: Network>(
     alloc: Global,
     board: &Board<N>,

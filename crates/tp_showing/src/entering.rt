@@ -78,7 +78,8 @@ fn is_at_front(ask: &Ask, state: State) -> bool
     }
 }
 
-/// Whether the branch is to be stopped: it has a choice, and its copy in flight has come to its front's state.
+/// Whether the branch is to be stopped: it has a choice, and its copy in flight has come to its
+/// front's state.
 fn is_stop_due(ask: &Ask, branch: Branch) -> bool
     ensures { result ≡ (is_front_state ask.entry.now.origin branch.first
         && nat_lt 0 branch.count) }
@@ -86,7 +87,8 @@ fn is_stop_due(ask: &Ask, branch: Branch) -> bool
     is_at_front(ask, branch.first) && 0 < branch.count
 }
 
-/// Stops the branch that the board carries, where a copy in flight has come to its front's state. It is refused.
+/// Stops the branch that the board carries, where a copy in flight has come to its front's state.
+/// It is refused.
 fn enter_stop<N: Network>(
     nodes: &mut Nodes,
     board: &mut Board<N>,

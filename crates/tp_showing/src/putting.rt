@@ -154,8 +154,8 @@ fn is_complete(scene: Scene, branch: Branch) -> bool
     }
 }
 
-/// Adds the node of the branch that the board carries: split, or closed where it ends after the limit. Answers the branch if
-/// it is split.
+/// Adds the node of the branch that the board carries: split, or closed where it ends after the
+/// limit. Answers the branch if it is split.
 pub(crate) fn put_carried<N: Network>(
     nodes: &mut Nodes,
     board: &mut Board<N>,

@@ -27,8 +27,8 @@ pub(crate) struct Scene<'a> {
     pub(crate) limit: Tick,
 }
 
-/// What the board carries: the depth of its node, the state that the choices begin in, how many they are, and the newest
-/// with the number of its places.
+/// What the board carries: the depth of its node, the state that the choices begin in, how many
+/// they are, and the newest with the number of its places.
 #[derive(Clone, Copy)]
 pub(crate) struct Branch {
     pub(crate) depth: u32,
