@@ -16,3 +16,4 @@ pub mod AddFacts
 pub mod CarryFacts
 pub mod EnterFacts
 pub mod ActFacts
+pub mod GoalShows

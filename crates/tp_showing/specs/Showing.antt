@@ -7,6 +7,7 @@ use Rattle.tp_bounds.specs.declared.tree.TreeRow.{TreeRow}
 use Rattle.tp_machine.specs.Using.{action_at}
 use Rattle.tp_machine.specs.declared.parts.ActId.{ActId}
 use Rattle.tp_machine.specs.declared.parts.HoldRule.{HoldRule}
+use Rattle.tp_machine.specs.declared.parts.State.{State}
 use Rattle.tp_machine.specs.declared.whole.Machine.{Machine}
 use Rattle.tp_schedule.specs.Answers.{kept_of}
 use Rattle.tp_schedule.specs.Choices.{Choice}
@@ -18,6 +19,7 @@ use Rattle.tp_placing.specs.Boards.{BoardValue, content_of, past_of, suffix_of}
 use Rattle.tp_placing.specs.Calls.{IsSameLoad}
 use Rattle.tp_placing.specs.Standing.{Stands}
 use Rattle.tp_trees.specs.Places as places
+use Rattle.tp_trees.specs.Places.Due.{goal}
 use Rattle.tp_trees.specs.Places.{Due, action_due, actions_due, children, due_behind, is_begun, places_from, stand_of, stop_due}
 use Rattle.tp_trees.specs.Trees.{Covers}
 use Rattle.tp_showing.specs.RoomRows.{HasRooms}
@@ -135,3 +137,14 @@ module _ {N C : Type 0} (net : N → Net) (content : N → C) (past : N → List
 
   abbrev pub IsEntered : (List TreeRow → List Due) → (List TreeRow → List Due) → Option Branch → Type 0
   IsEntered ds behind o = MatchOption o (Shows machine plans ask sums limit old new ds behind) (GoesOn ds behind)
+
+-- a goal was opened: its node leaves nothing due, or the board carries its branch, which is split
+module _ {N C : Type 0} (net : N → Net) (content : N → C) (past : N → List C) (mark_room : N → ℕ) (machine : Machine) (plans : List Plan) (ask : Ask) (sums : List (Option ℕ)) (limit : ℕ) (old new : List Node) (b : BoardValue N) (s : State) where
+  pub record GoalGoesOn (child : Branch) : Type 0 where
+    pub suffix : Suffix
+    pub carries : Carries net content past mark_room machine ask b child suffix
+    pub is_open : IsOpen machine ask child
+    pub shows : Shows machine plans ask sums limit old new (λ _. goal s ∷ []) (λ rows. kids_of machine plans ask rows (branch_by child suffix))
+
+  abbrev pub IsGoalEntered : Option Branch → Type 0
+  IsGoalEntered o = MatchOption o (Shows machine plans ask sums limit old new (λ _. goal s ∷ []) (λ _. [])) GoalGoesOn

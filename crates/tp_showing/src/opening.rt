@@ -9,10 +9,11 @@ ghost use Rattle.tp_schedule.specs.Answers.{kept_of};
 ghost use Rattle.tp_schedule.specs.Plans.{AreNamed};
 ghost use Rattle.tp_schedule.specs.Routes.{is_act_allowed};
 ghost use Rattle.tp_showing.specs.Closes.{IsLimit};
-ghost use Rattle.tp_showing.specs.Showing.{Carries, IsEntered, IsSet, IsSince, Shows, branch_by};
+ghost use Rattle.tp_showing.specs.Showing.{Carries, IsEntered, IsGoalEntered, IsSet, IsSince, Shows, branch_by};
 ghost use Rattle.tp_trees.specs.Places.{action_due, state_before};
 
 use crate::putting::{put_carried, put_dead, put_late};
+use crate::rows::named;
 use crate::scene::{Branch, NotShown, Scene};
 use tp_base::{Late, Network};
 use tp_bounds::{Head, Nodes};
@@ -83,6 +84,49 @@ pub(crate) fn enter_act<N: Network>(
     match board.open_action(scene.machine, act, room) {
         Ok(()) => put_carried(nodes, board, scene, child, head),
         Err(Late) => match put_late(nodes, board, scene, child.depth, head) {
+            Ok(()) => Ok(None),
+            Err(fault) => Err(fault),
+        },
+    }
+}
+
+/// Opens a goal on a board that has none open. Answers the branch if it is split.
+pub(crate) fn enter_goal<N: Network>(
+    nodes: &mut Nodes,
+    board: &mut Board<N>,
+    scene: Scene,
+    goal: State,
+) -> Result<Option<Branch>, NotShown>
+    requires set { IsSet N.net N.content N.past N.mark_room scene.machine.now scene.ask.now
+        board.old }
+    requires named { AreNamed board.old.plans }
+    requires limit { IsLimit scene.machine.now scene.ask.now (pos scene.limit) }
+    requires made { IsMadeFor scene.rooms.now scene.machine.now }
+    requires closed { suffix_of board.old ≡ None }
+    requires known { goal.loc.0 < length scene.machine.now.locations }
+    requires kept { kept_of scene.ask.now ≤ 64 }
+    ensures entered { IfOk result (IsGoalEntered N.net N.content N.past N.mark_room
+        scene.entry.machine.now board.old.plans scene.entry.ask.now scene.entry.rooms.now.sums
+        scene.entry.limit nodes.old nodes.new board.new goal) }
+    ensures since { IsSince N.net N.content N.past N.mark_room board.old board.new
+        scene.entry.machine.now }
+{
+    let head = Head::Goal {
+        state: named(scene.machine, goal),
+    };
+    let branch = Branch {
+        depth: 0,
+        first: goal,
+        count: 0,
+        newest: None,
+        places: 0,
+    };
+    let Some(room) = scene.rooms.room(goal) else {
+        return put_dead(nodes, 0, head);
+    };
+    match board.open_goal(room) {
+        Ok(()) => put_carried(nodes, board, scene, branch, head),
+        Err(Late) => match put_late(nodes, board, scene, 0, head) {
             Ok(()) => Ok(None),
             Err(fault) => Err(fault),
         },
