@@ -17,3 +17,6 @@ pub mod CarryFacts
 pub mod EnterFacts
 pub mod ActFacts
 pub mod GoalShows
+pub mod WayFacts
+pub mod MarkSteps
+pub mod WalkFacts

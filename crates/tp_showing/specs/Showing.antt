@@ -14,7 +14,7 @@ use Rattle.tp_schedule.specs.Choices.{Choice}
 use Rattle.tp_schedule.specs.Holding.{holds_of_act}
 use Rattle.tp_schedule.specs.declared.parts.Ask.{Ask}
 use Rattle.tp_schedule.specs.declared.parts.Plan.{Plan}
-use Rattle.tp_constraints.specs.Suffixes.{Suffix}
+use Rattle.tp_constraints.specs.Suffixes.{Suffix, order_in}
 use Rattle.tp_placing.specs.Boards.{BoardValue, content_of, past_of, suffix_of}
 use Rattle.tp_placing.specs.Calls.{IsSameLoad}
 use Rattle.tp_placing.specs.Standing.{Stands}
@@ -66,6 +66,11 @@ branch_by r x = record { depth = r.depth; first = r.first; x = x }
 -- how much may still come below a branch
 abbrev pub below : Branch → ℕ
 below r = 5 * (64 - r.count) + (4 - r.places)
+
+-- how many ways go on from a suffix: the places of its next hold, or the stop and all actions
+abbrev pub ways_of : Machine → List Plan → Ask → Suffix → Option HoldRule → ℕ
+ways_of machine plans ask x (Some rule) = suc (length (order_in machine plans x rule.resource.0))
+ways_of machine plans ask x None = if nat_lt (kept_of ask + length x.choices) 64 then suc (length machine.actions) else 1
 
 module _ (machine : Machine) (plans : List Plan) (ask : Ask) (rows : List TreeRow) where
   -- the dues of actions from one on

@@ -18,7 +18,7 @@ use tp_placing::Board;
 use tp_schedule::{Ask, Origin};
 
 /// Places the next hold of the branch that the board carries.
-fn enter_place<N: Network>(
+pub(crate) fn enter_place<N: Network>(
     nodes: &mut Nodes,
     board: &mut Board<N>,
     scene: Scene,
@@ -89,7 +89,7 @@ fn is_stop_due(ask: &Ask, branch: Branch) -> bool
 
 /// Stops the branch that the board carries, where a copy in flight has come to its front's state.
 /// It is refused.
-fn enter_stop<N: Network>(
+pub(crate) fn enter_stop<N: Network>(
     nodes: &mut Nodes,
     board: &mut Board<N>,
     scene: Scene,

@@ -10,5 +10,7 @@ mod opening;
 mod putting;
 mod rows;
 mod scene;
+mod walking;
+mod ways;
 
 pub use scene::NotShown;

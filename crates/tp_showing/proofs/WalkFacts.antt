@@ -1,0 +1,117 @@
+-- One way of a branch, from a mark of the board to the way back.
+use Rattle.std.proofs.Common.{◌≡◌, ℕ, zero, suc, ◌+◌, ◌-◌, ◌<◌, ◌≤◌, List, [], ◌∷◌, ◌++◌, length, refl, sym, ◌∙◌, ap, subst, arith, Result, Ok, Err, Option, Some, None}
+use Rattle.std.specs.Prelude.{pos}
+use Rattle.std.specs.Result.{OnOk}
+use Rattle.std.proofs.lemmas.List.{length-append}
+use Rattle.tp_base.specs.Net.{Net}
+use Rattle.tp_bounds.specs.declared.tree.Node.{Node}
+use Rattle.tp_bounds.specs.declared.tree.TreeRow.{TreeRow}
+use Rattle.tp_machine.specs.declared.whole.Machine.{Machine}
+use Rattle.tp_schedule.specs.Plans.{AreNamed}
+use Rattle.tp_schedule.specs.declared.parts.Ask.{Ask}
+use Rattle.tp_schedule.specs.declared.parts.Plan.{Plan}
+use Rattle.tp_constraints.specs.Suffixes.{Suffix}
+use Rattle.tp_placing.specs.Boards.{BoardValue, content_of, past_of, suffix_of}
+use Rattle.tp_placing.specs.Laws.{MarkKeeps}
+use Rattle.tp_trees.specs.Places.{Due}
+use Rattle.tp_showing.specs.Showing.{Adds, Carries, GoesOn, HasMarks, IsBack, IsEntered, IsSet, IsSince, Shows, below, branch_by, hold_of, kids_of, left_of}
+use Rattle.tp_showing.specs.declared.scene.Branch.{Branch}
+use Rattle.tp_showing.proofs.AddFacts.{adds-behind, adds-trans}
+use Rattle.tp_showing.proofs.CarryFacts.{own-suffix}
+use Rattle.tp_showing.proofs.EnterFacts.{carries-same}
+use Rattle.tp_showing.proofs.MarkSteps.{IsMarked, load-of}
+use Rattle.tp_showing.proofs.ReasonFacts.{on-map}
+
+module _ (machine : Machine) (plans : List Plan) (ask : Ask) (sums : List (Option ℕ)) (limit : ℕ) where
+  pub shows-trans : (one two three : List Node) (ds more most : List TreeRow → List Due) → Shows machine plans ask sums limit one two ds more → Shows machine plans ask sums limit two three more most → Shows machine plans ask sums limit one three ds most
+  shows-trans one two three ds more most f g rows has = adds-trans machine plans ask rows (pos limit) (ds rows) (more rows) (most rows) one two three (f rows has) (g rows has)
+
+  -- the same dues by other names
+  pub shows-from : (old new : List Node) (ds ds' more : List TreeRow → List Due) → ((rows : List TreeRow) → ds rows ≡ ds' rows) → Shows machine plans ask sums limit old new ds more → Shows machine plans ask sums limit old new ds' more
+  shows-from old new ds ds' more e f rows has = subst (λ us. Adds machine plans ask rows (pos limit) us old new (more rows)) (e rows) (f rows has)
+
+  pub shows-to : (old new : List Node) (ds more more' : List TreeRow → List Due) → ((rows : List TreeRow) → more rows ≡ more' rows) → Shows machine plans ask sums limit old new ds more → Shows machine plans ask sums limit old new ds more'
+  shows-to old new ds more more' e f rows has = subst (λ us. Adds machine plans ask rows (pos limit) (ds rows) old new us) (e rows) (f rows has)
+
+  pub shows-none : (old : List Node) (ds : List TreeRow → List Due) → Shows machine plans ask sums limit old old ds ds
+  shows-none old ds rows has start rest lead = lead
+
+module _ {N C : Type 0} (net : N → Net) (content : N → C) (past : N → List C) (mark_room : N → ℕ) (machine : Machine) (ask : Ask) where
+  pub set-since : (b b' : BoardValue N) → IsSince net content past mark_room b b' machine → IsSet net content past mark_room machine ask b → IsSet net content past mark_room machine ask b'
+  set-since b b' since s = record { stands = since.stands s.stands; asked = since.load.ask ∙ s.asked }
+
+  -- below a branch that is split all is gone
+  pub gone-deeper : (plans : List Plan) (sums : List (Option ℕ)) (limit : ℕ) (one two three : List Node) (b : BoardValue N) (parent child : Branch) (ds behind : List TreeRow → List Due) → GoesOn net content past mark_room machine plans ask sums limit one two b parent ds behind child
+      → ((y : Suffix) → suffix_of b ≡ Some y → Shows machine plans ask sums limit two three (λ rows. kids_of machine plans ask rows (branch_by child y)) (λ _. [])) → Shows machine plans ask sums limit one three ds behind
+  gone-deeper plans sums limit one two three b parent child ds behind g sub =
+      let kids = λ (rows : List TreeRow). kids_of machine plans ask rows (branch_by child g.suffix) in
+      shows-trans machine plans ask sums limit one two three ds (λ rows. kids rows ++ behind rows) behind g.shows
+      (λ rows has. adds-behind machine plans ask rows (pos limit) (kids rows) [] (behind rows) two three (sub g.suffix g.carries.carried rows has))
+
+  -- there are marks for what is below
+  pub marks-below : (b b' : BoardValue N) (n k : ℕ) → length (past_of past b) + n ≤ mark_room b.net - 1 → k < n → IsSince net content past mark_room b b' machine → HasMarks net content past mark_room (k + 1) b'
+  marks-below b b' n k spare less since = let p = ap length since.past_same in let q = since.room in omega (arith, p, q, spare, less)
+
+module _ {N C A : Type 0} (net : N → Net) (content : N → C) (past : N → List C) (aside : N → A) (mark_room : N → ℕ) (machine : Machine) (ask : Ask) where
+  -- the board is marked at a way of the branch that it carries
+  pub record IsAtWay (b b' : BoardValue N) (r : Branch) (x : Suffix) : Type 0 where
+    pub set : IsSet net content past mark_room machine ask b'
+    pub plans : b'.plans ≡ b.plans
+    pub carries : Carries net content past mark_room machine ask b' r x
+    pub spare : length (past_of past b') + below r ≤ mark_room b'.net - 1
+
+  pub at-way : MarkKeeps net content past aside → (b b0 b1 : BoardValue N) (r : Branch) (x : Suffix) (mark : ℕ) → IsBack net content past mark_room b b0 machine → IsMarked net content past aside mark_room b0 b1 mark → IsSet net content past mark_room machine ask b
+      → Carries net content past mark_room machine ask b r x → HasMarks net content past mark_room (below r + 1) b → IsAtWay b b1 r x
+  at-way keeps b b0 b1 r x mark back m set c marks =
+      let load = load-of net content past aside mark_room b0 b1 m.aside_same in
+      let set0 = set-since net content past mark_room machine ask b b0 back.since set in
+      let more = ap length m.past_more in
+      let one = length-append (past_of past b0) (content_of content b0 ∷ []) in
+      let was = ap length back.since.past_same in
+      let room = back.since.room in
+      let room1 = m.room_same in
+      record {
+        set = record { stands = keeps b0 b1 machine m.content_same m.aside_same m.past_more set0.stands; asked = load.ask ∙ set0.asked };
+        plans = load.plans ∙ back.since.load.plans;
+        carries = carries-same net content past mark_room machine b.plans ask [] 0 [] [] b b1 r x (m.content_same ∙ back.content_same) c;
+        spare = omega (arith, more, one, was, room, room1, marks);
+      }
+
+-- one way is gone: what was due from it on is due from the next one on
+module _ {N C A : Type 0} (net : N → Net) (content : N → C) (past : N → List C) (aside : N → A) (mark_room : N → ℕ) (machine : Machine) (ask : Ask) (sums : List (Option ℕ)) (limit : ℕ) (b b1 b2 : BoardValue N) (r : Branch) (way : ℕ) where
+  abbrev pub left_by : List Plan → Suffix → ℕ → List TreeRow → List Due
+  left_by plans x n rows = left_of machine plans ask rows (branch_by r x) (hold_of machine r) n
+
+  abbrev pub HasGone : List Node → List Node → Type 0
+  HasGone one two = (x : Suffix) → suffix_of b ≡ Some x → Shows machine b.plans ask sums limit one two (left_by b.plans x way) (left_by b.plans x (suc way))
+
+  abbrev pub HasEntered : List Node → List Node → Option Branch → Type 0
+  HasEntered one two o = (x : Suffix) → suffix_of b1 ≡ Some x → IsEntered net content past mark_room machine b1.plans ask sums limit one two b2 r (left_by b1.plans x way) (left_by b1.plans x (suc way)) o
+
+  abbrev pub HasShown : List Node → List Node → Branch → Type 0
+  HasShown one two child = (y : Suffix) → suffix_of b2 ≡ Some y → Shows machine b2.plans ask sums limit one two (λ rows. kids_of machine b2.plans ask rows (branch_by child y)) (λ _. [])
+
+  entered-here : (one two : List Node) (o : Option Branch) (x : Suffix) → IsAtWay net content past aside mark_room machine ask b b1 r x → HasEntered one two o
+      → IsEntered net content past mark_room machine b.plans ask sums limit one two b2 r (left_by b.plans x way) (left_by b.plans x (suc way)) o
+  entered-here one two o x at entered = subst (λ ps. IsEntered net content past mark_room machine ps ask sums limit one two b2 r (left_by ps x way) (left_by ps x (suc way)) o) at.plans (entered x at.carries.carried)
+
+  pub gone-none : (one two : List Node) (o : Option Branch) (x : Suffix) → suffix_of b ≡ Some x → IsAtWay net content past aside mark_room machine ask b b1 r x → o ≡ None → HasEntered one two o → HasGone one two
+  gone-none one two o x carried at none entered =
+      own-suffix (suffix_of b) x carried (λ y. Shows machine b.plans ask sums limit one two (left_by b.plans y way) (left_by b.plans y (suc way)))
+      (subst (IsEntered net content past mark_room machine b.plans ask sums limit one two b2 r (left_by b.plans x way) (left_by b.plans x (suc way))) none (entered-here one two o x at entered))
+
+  -- the branch below which the walk goes on
+  pub goes-on : (one two : List Node) (o : Option Branch) (child : Branch) (x : Suffix) → IsAtWay net content past aside mark_room machine ask b b1 r x → o ≡ Some child → HasEntered one two o
+      → GoesOn net content past mark_room machine b.plans ask sums limit one two b2 r (left_by b.plans x way) (left_by b.plans x (suc way)) child
+  goes-on one two o child x at some entered =
+      subst (IsEntered net content past mark_room machine b.plans ask sums limit one two b2 r (left_by b.plans x way) (left_by b.plans x (suc way))) some (entered-here one two o x at entered)
+
+  pub gone-some : {X E : Type 0} (one two three : List Node) (o : Option Branch) (child : Branch) (x : Suffix) (result : Result X E) → suffix_of b ≡ Some x → IsAtWay net content past aside mark_room machine ask b b1 r x → IsSince net content past mark_room b1 b2 machine
+      → o ≡ Some child → HasEntered one two o → OnOk result (HasShown two three child) → OnOk result (HasGone one three)
+  gone-some one two three o child x result carried at since some entered shown =
+      let Sub = λ (ps : List Plan). (y : Suffix) → suffix_of b2 ≡ Some y → Shows machine ps ask sums limit two three (λ rows. kids_of machine ps ask rows (branch_by child y)) (λ _. []) in
+      on-map (HasShown two three child) (HasGone one three) result
+      (λ sub. own-suffix (suffix_of b) x carried (λ y. Shows machine b.plans ask sums limit one three (left_by b.plans y way) (left_by b.plans y (suc way)))
+      (gone-deeper net content past mark_room machine ask b.plans sums limit one two three b2 r child (left_by b.plans x way) (left_by b.plans x (suc way)) (goes-on one two o child x at some entered)
+      (subst Sub (since.load.plans ∙ at.plans) sub)))
+      shown

@@ -1,0 +1,127 @@
+use Rattle.std.proofs.Common.{◌≡◌, ℕ, ◌+◌, ◌<◌, ◌∙◌, suc, [], ap, length, sym, subst, add-one, arith, List, Option, Some, None}
+use Rattle.std.specs.Result.{OnOk}
+use Rattle.tp_bounds.specs.declared.tree.Node.{Node}
+use Rattle.tp_bounds.specs.declared.tree.TreeRow.{TreeRow}
+use Rattle.tp_constraints.specs.Suffixes.{Suffix}
+use Rattle.tp_placing.specs.Boards.{BoardValue, past_of, suffix_of}
+use Rattle.tp_schedule.specs.Plans.{AreNamed}
+use Rattle.tp_showing.specs.Showing.{IsBack, IsSince, branch_by, hold_of, kids_of, left_of}
+use Rattle.tp_showing.proofs.MarkSteps.{IsMarked, back-trans, mark-known, since-trans, taken-back}
+use Rattle.tp_showing.proofs.WalkFacts.{HasGone, IsAtWay, at-way, goes-on, gone-none, gone-some, marks-below, set-since, shows-to, shows-trans}
+use Rattle.tp_showing.proofs.WayFacts.{none-left}
+use Rattle.tp_showing.proofs.walking.+show_below.Goals as goal
+use Rattle.tp_showing.proofs.walking.+show_below.Goals.{After-mark-mark, After-undo_to, in-Ok-Some, in-Ok-None, in-Err}
+
+marked : (g : _) (t : _) (c : After-mark-mark g t) → IsMarked g.N.Network.net g.N.Undo.content g.N.Undo.past g.N.Undo.aside g.N.Undo.mark_room c.ways.board c.mark-mark.new.self c.mark-mark.result.0
+marked g t c = let m = c.mark-mark.ensures in record { number = m.number; past_more = m.past; content_same = m.content; aside_same = m.aside; room_same = m.room }
+
+here : (g : _) (t : _) (c : After-mark-mark g t) → IsAtWay g.N.Network.net g.N.Undo.content g.N.Undo.past g.N.Undo.aside g.N.Undo.mark_room c.args.scene.machine.now c.args.scene.ask.now c.args.board.now c.mark-mark.new.self c.args.branch c.requires.carries.0
+here g t c =
+    let r = c.requires in
+    at-way g.N.Network.net g.N.Undo.content g.N.Undo.past g.N.Undo.aside g.N.Undo.mark_room c.args.scene.machine.now c.args.scene.ask.now c.marks_keep_boards.ensures.mark c.args.board.now c.ways.board c.mark-mark.new.self c.args.branch r.carries.0 c.mark-mark.result.0
+    c.ways.invariant.back (marked g t c) r.set r.carries.1 r.marks
+
+pub enter-requires-clause-set : goal.enter-requires-clause-set
+enter-requires-clause-set g t c = (here g t (goal.at.enter-requires-clause-set g t c).After-mark-mark).set
+
+pub enter-requires-clause-named : goal.enter-requires-clause-named
+enter-requires-clause-named g t c = subst AreNamed (sym (here g t (goal.at.enter-requires-clause-named g t c).After-mark-mark).plans) c.requires.named
+
+pub show_below-shown-requires : goal.show_below-shown-requires
+show_below-shown-requires g t c κs within =
+    let at = here g t (goal.at.show_below-shown-requires g t c).After-mark-mark in
+    let machine = c.args.scene.machine.now in
+    let ask = c.args.scene.ask.now in
+    let since = c.enter.ensures.since in
+    let e = goes-on g.N.Network.net g.N.Undo.content g.N.Undo.past g.N.Undo.aside g.N.Undo.mark_room machine ask c.args.scene.rooms.now.sums c.args.scene.limit c.args.board.now c.mark-mark.new.self c.enter.new.board c.args.branch c.ways.way
+    c.ways.nodes c.enter.new.nodes c.in-Ok-Some.field-0 c.in-Ok-Some.child c.requires.carries.0 at c.in-Ok-Some.field-0-is c.in-Ok-Some.ensures.entered in
+    let set = set-since g.N.Network.net g.N.Undo.content g.N.Undo.past g.N.Undo.mark_room machine ask c.mark-mark.new.self c.enter.new.board since at.set in
+    let named = subst AreNamed (sym (since.load.plans ∙ at.plans)) c.requires.named in
+    let marks = marks-below g.N.Network.net g.N.Undo.content g.N.Undo.past g.N.Undo.mark_room machine ask c.mark-mark.new.self c.enter.new.board _ _ at.spare e.smaller since in
+    let less = e.smaller in
+    (omega (arith, less), (within, (set, (named, (c.requires.limit, (c.requires.made, ((e.suffix, e.carries), (e.is_open, marks))))))))
+
+pub undo_to-requires : goal.undo_to-requires
+undo_to-requires g t c =
+    let m = marked g t (goal.at.undo_to-requires g t c).After-mark-mark in
+    let past : past_of g.N.Undo.past c.match-enter.board ≡ past_of g.N.Undo.past c.mark-mark.new.self = elim c.match-enter.branch [
+      | in-Ok-Some w ↦ ap (past_of g.N.Undo.past) w.board-is ∙ w.show_below-shown.ensures.back.since.past_same ∙ c.enter.ensures.since.past_same
+      | in-Ok-None w ↦ ap (past_of g.N.Undo.past) w.board-is ∙ c.enter.ensures.since.past_same
+      | in-Err w ↦ ap (past_of g.N.Undo.past) w.board-is ∙ c.enter.ensures.since.past_same
+    ] in
+    mark-known g.N.Network.net g.N.Undo.content g.N.Undo.past g.N.Undo.aside g.N.Undo.mark_room c.ways.board c.mark-mark.new.self c.match-enter.board c.mark-mark.result.0 m past
+
+-- what was done since the mark
+since-mark : (g : _) (t : _) (c : After-undo_to g t) → IsSince g.N.Network.net g.N.Undo.content g.N.Undo.past g.N.Undo.mark_room c.mark-mark.new.self c.match-enter.board c.args.scene.machine.now
+since-mark g t c =
+    let machine = c.args.scene.machine.now in
+    let Since = λ (b : BoardValue g.row.N.Denot). IsSince g.N.Network.net g.N.Undo.content g.N.Undo.past g.N.Undo.mark_room c.mark-mark.new.self b machine in
+    elim c.match-enter.branch [
+      | in-Ok-Some w ↦ subst Since (sym w.board-is) (since-trans g.N.Network.net g.N.Undo.content g.N.Undo.past g.N.Undo.mark_room c.mark-mark.new.self c.enter.new.board w.show_below-shown.new.board machine c.enter.ensures.since w.show_below-shown.ensures.back.since)
+      | in-Ok-None w ↦ subst Since (sym w.board-is) c.enter.ensures.since
+      | in-Err w ↦ subst Since (sym w.board-is) c.enter.ensures.since
+    ]
+
+-- the way is gone
+gone : (g : _) (t : _) (c : After-undo_to g t)
+    → IsAtWay g.N.Network.net g.N.Undo.content g.N.Undo.past g.N.Undo.aside g.N.Undo.mark_room c.args.scene.machine.now c.args.scene.ask.now c.args.board.now c.mark-mark.new.self c.args.branch c.requires.carries.0
+    → OnOk c.match-enter.shown (HasGone g.N.Network.net g.N.Undo.content g.N.Undo.past g.N.Undo.aside g.N.Undo.mark_room c.args.scene.machine.now c.args.scene.ask.now c.args.scene.rooms.now.sums c.args.scene.limit c.args.board.now c.mark-mark.new.self c.enter.new.board c.args.branch c.ways.way c.ways.nodes c.match-enter.nodes)
+gone g t c at =
+    let machine = c.args.scene.machine.now in
+    let ask = c.args.scene.ask.now in
+    let x = c.requires.carries.0 in
+    let carried = c.requires.carries.1.carried in
+    let Gone = λ (ns : List Node). HasGone g.N.Network.net g.N.Undo.content g.N.Undo.past g.N.Undo.aside g.N.Undo.mark_room machine ask c.args.scene.rooms.now.sums c.args.scene.limit c.args.board.now c.mark-mark.new.self c.enter.new.board c.args.branch c.ways.way c.ways.nodes ns in
+    elim c.match-enter.branch [
+      | in-Ok-Some w ↦ subst (λ ns. OnOk c.match-enter.shown (Gone ns)) (sym w.nodes-is) (subst (λ s. OnOk s (Gone w.show_below-shown.new.nodes)) (sym w.shown-is)
+          (gone-some g.N.Network.net g.N.Undo.content g.N.Undo.past g.N.Undo.aside g.N.Undo.mark_room machine ask c.args.scene.rooms.now.sums c.args.scene.limit c.args.board.now c.mark-mark.new.self c.enter.new.board c.args.branch c.ways.way
+          c.ways.nodes c.enter.new.nodes w.show_below-shown.new.nodes w.in-Ok-Some.field-0 w.in-Ok-Some.child x w.show_below-shown.result carried at c.enter.ensures.since w.in-Ok-Some.field-0-is w.in-Ok-Some.ensures.entered w.show_below-shown.ensures.shown))
+      | in-Ok-None w ↦ subst (λ ns. OnOk c.match-enter.shown (Gone ns)) (sym w.nodes-is) (subst (λ s. OnOk s (Gone c.enter.new.nodes)) (sym w.shown-is)
+          (gone-none g.N.Network.net g.N.Undo.content g.N.Undo.past g.N.Undo.aside g.N.Undo.mark_room machine ask c.args.scene.rooms.now.sums c.args.scene.limit c.args.board.now c.mark-mark.new.self c.enter.new.board c.args.branch c.ways.way
+          c.ways.nodes c.enter.new.nodes w.in-Ok-None.field-0 x carried at w.in-Ok-None.field-0-is w.in-Ok-None.ensures.entered))
+      | in-Err w ↦ subst (λ s. OnOk s (Gone c.match-enter.nodes)) (sym w.shown-is) tt
+    ]
+
+back-now : (g : _) (t : _) (c : After-undo_to g t) → IsMarked g.N.Network.net g.N.Undo.content g.N.Undo.past g.N.Undo.aside g.N.Undo.mark_room c.ways.board c.mark-mark.new.self c.mark-mark.result.0
+    → IsBack g.N.Network.net g.N.Undo.content g.N.Undo.past g.N.Undo.mark_room c.args.board.now c.undo_to.new.self c.args.scene.machine.now
+back-now g t c m =
+    let keeps = c.marks_keep_boards.ensures in
+    let u = c.undo_to.ensures in
+    let machine = c.args.scene.machine.now in
+    back-trans g.N.Network.net g.N.Undo.content g.N.Undo.past g.N.Undo.mark_room c.args.board.now c.ways.board c.undo_to.new.self machine c.ways.invariant.back
+    (taken-back g.N.Network.net g.N.Undo.content g.N.Undo.past g.N.Undo.aside g.N.Undo.mark_room keeps.mark keeps.back c.ways.board c.mark-mark.new.self c.match-enter.board c.undo_to.new.self machine c.mark-mark.result.0 m (since-mark g t c)
+    (record { content_then = u.content; past_less = u.past; aside_same = u.aside; room_same = u.room }))
+
+pub returns-in-Err-shown-clause-back : goal.returns-in-Err-shown-clause-back
+returns-in-Err-shown-clause-back g t c = let at = goal.at.returns-in-Err-shown-clause-back g t c in back-now g t at.After-undo_to (marked g t at.After-mark-mark)
+
+pub ways-preserved : goal.ways-preserved
+ways-preserved g t c =
+    let now = (goal.at.ways-preserved g t c).After-undo_to in
+    let before = (goal.at.ways-preserved g t c).After-mark-mark in
+    let machine = c.args.scene.machine.now in
+    let ask = c.args.scene.ask.now in
+    let plans = c.args.board.now.plans in
+    let sums = c.args.scene.rooms.now.sums in
+    let limit = c.args.scene.limit in
+    let r = c.args.branch in
+    let way = c.ways.way in
+    let Gone = HasGone g.N.Network.net g.N.Undo.content g.N.Undo.past g.N.Undo.aside g.N.Undo.mark_room machine ask sums limit c.args.board.now c.mark-mark.new.self c.enter.new.board r way c.ways.nodes c.match-enter.nodes in
+    let step = subst (λ s. OnOk s Gone) c.in-Ok.is (gone g t now (here g t before)) in
+    record {
+      shown = λ x carried. let kids = λ (rows : List TreeRow). kids_of machine plans ask rows (branch_by r x) in
+          let left = λ (n : ℕ) (rows : List TreeRow). left_of machine plans ask rows (branch_by r x) (hold_of machine r) n in
+          shows-to machine plans ask sums limit c.args.nodes.now c.match-enter.nodes kids (left (suc way)) (left (way + 1)) (λ rows. ap (λ n. left n rows) (sym (add-one way)))
+          (shows-trans machine plans ask sums limit c.args.nodes.now c.ways.nodes c.match-enter.nodes kids (left way) (left (suc way)) (c.ways.invariant.shown x carried) (step x carried));
+      back = back-now g t now (marked g t before);
+    }
+
+pub returns-clause-shown : goal.returns-clause-shown
+returns-clause-shown g t c x carried =
+    let machine = c.args.scene.machine.now in
+    let ask = c.args.scene.ask.now in
+    let plans = c.args.board.now.plans in
+    let r = c.args.branch in
+    let last : c.ways.way ≡ c.ways-count.result = omega arith in
+    shows-to machine plans ask c.args.scene.rooms.now.sums c.args.scene.limit c.args.nodes.now c.ways.nodes (λ rows. kids_of machine plans ask rows (branch_by r x)) (λ rows. left_of machine plans ask rows (branch_by r x) (hold_of machine r) c.ways.way) (λ _. [])
+    (λ rows. ap (left_of machine plans ask rows (branch_by r x) (hold_of machine r)) (last ∙ c.ways-count.ensures.count x carried) ∙ none-left machine plans ask rows (branch_by r x) (hold_of machine r)) (c.ways.invariant.shown x carried)

@@ -1,0 +1,59 @@
+//! A walk through all branches of a tree, each of which is tried on a board and taken back.
+ghost use Rattle.std.specs.Prelude.{◌≡◌, ◌+◌, ◌<◌, ◌≤◌, [], ◌∷◌, All, Some, None, IfOk, OnOk, length, pos};
+ghost use Rattle.tp_bounds.specs.declared.tree.TreeRow.{TreeRow};
+ghost use Rattle.tp_constraints.specs.Suffixes.{Suffix};
+ghost use Rattle.tp_placing.specs.Boards.{suffix_of};
+ghost use Rattle.tp_routes.specs.Tables.{IsMadeFor};
+ghost use Rattle.tp_schedule.specs.Answers.{kept_of};
+ghost use Rattle.tp_schedule.specs.Plans.{AreNamed};
+ghost use Rattle.tp_showing.specs.Closes.{IsLimit};
+ghost use Rattle.tp_showing.specs.Showing.{Carries, HasMarks, IsBack, IsOpen, IsSet, Shows, below, branch_by, kids_of};
+
+use crate::scene::{Branch, NotShown, Scene};
+use crate::ways::{enter, ways};
+use tp_base::{Network, Undo};
+use tp_bounds::Nodes;
+use tp_placing::{Board, marks_keep_boards};
+
+/// Adds the nodes below the branch that the board carries, which is split. Leaves the board as it
+/// was.
+pub(crate) fn show_below<N: Network>(
+    nodes: &mut Nodes,
+    board: &mut Board<N>,
+    scene: Scene,
+    branch: Branch,
+) -> Result<(), NotShown>
+    requires set { IsSet N.net N.content N.past N.mark_room scene.machine.now scene.ask.now
+        board.old }
+    requires named { AreNamed board.old.plans }
+    requires limit { IsLimit scene.machine.now scene.ask.now (pos scene.limit) }
+    requires made { IsMadeFor scene.rooms.now scene.machine.now }
+    requires carries { (x : Suffix) × Carries N.net N.content N.past N.mark_room scene.machine.now
+        scene.ask.now board.old branch x }
+    requires open { IsOpen scene.machine.now scene.ask.now branch }
+    requires marks { HasMarks N.net N.content N.past N.mark_room (below branch + 1) board.old }
+    ensures shown { OnOk result ((x : Suffix) → suffix_of board.old ≡ Some x
+        → Shows scene.entry.machine.now board.old.plans scene.entry.ask.now
+        scene.entry.rooms.now.sums scene.entry.limit nodes.old nodes.new
+        (λ rows. kids_of scene.entry.machine.now board.old.plans scene.entry.ask.now rows
+        (branch_by branch x)) (λ _. [])) }
+    ensures back { IsBack N.net N.content N.past N.mark_room board.old board.new
+        scene.entry.machine.now }
+{
+    marks_keep_boards::<N>();
+    let count = ways(board, scene, branch);
+    'ways: for way in 0..count {
+        let mark = board.mark();
+        let shown = match enter(nodes, board, scene, branch, way as u32) {
+            Ok(Some(child)) => show_below(nodes, board, scene, child),
+            Ok(None) => Ok(()),
+            Err(fault) => Err(fault),
+        };
+        board.undo_to(mark);
+        match shown {
+            Ok(()) => {}
+            Err(fault) => return Err(fault),
+        }
+    }
+    Ok(())
+}
