@@ -20,3 +20,4 @@ pub mod GoalShows
 pub mod WayFacts
 pub mod MarkSteps
 pub mod WalkFacts
+pub mod GoalWalks

@@ -10,7 +10,9 @@ mod opening;
 mod putting;
 mod rows;
 mod scene;
+mod showing;
 mod walking;
 mod ways;
 
 pub use scene::NotShown;
+pub use showing::show_limit;

@@ -1,4 +1,4 @@
-//! A walk through all branches of a tree, each of which is tried on a board and taken back.
+//! A walk through the branches below one, each of which is tried on a board and taken back.
 ghost use Rattle.std.specs.Prelude.{◌≡◌, ◌+◌, ◌<◌, ◌≤◌, [], ◌∷◌, All, Some, None, IfOk, OnOk, length, pos};
 ghost use Rattle.tp_bounds.specs.declared.tree.TreeRow.{TreeRow};
 ghost use Rattle.tp_constraints.specs.Suffixes.{Suffix};
