@@ -1,5 +1,5 @@
 -- The node of a goal that is opened.
-use Rattle.std.proofs.Common.{◌≡◌, ℕ, ◌+◌, ◌<◌, ◌≤◌, Bool, true, false, List, [], ◌∷◌, ◌++◌, length, refl, sym, ◌∙◌, ap, subst, arith, Option, Some, None}
+use Rattle.std.proofs.Common.{◌≡◌, ℕ, ◌<◌, ◌≤◌, true, List, [], ◌∷◌, ◌++◌, length, refl, sym, ◌∙◌, ap, subst, arith, Option, Some, None}
 use Rattle.std.specs.Prelude.{pos, IfSome, MatchOption}
 use Rattle.std.proofs.lemmas.List.{append-nil}
 use Rattle.tp_base.specs.Net.{Net}
@@ -21,7 +21,7 @@ use Rattle.tp_trees.specs.Places.{Due, or_zero, stand_of}
 use Rattle.tp_trees.specs.Rows.{row_of}
 use Rattle.tp_trees.specs.Trees.{dead_look}
 use Rattle.tp_trees.proofs.RowFacts.{state-refl}
-use Rattle.tp_showing.specs.RoomRows.{HasRooms, named}
+use Rattle.tp_showing.specs.RoomRows.{named}
 use Rattle.tp_showing.specs.Showing.{Adds, Carries, GoalGoesOn, IsGoalEntered, IsOpen, PutsNode, Shows, branch_by, kids_of}
 use Rattle.tp_showing.specs.declared.scene.Branch.{Branch}
 use Rattle.tp_showing.proofs.AddFacts.{adds-node, node-look}

@@ -1,5 +1,5 @@
 -- A board with marks: what was done since one is taken back.
-use Rattle.std.proofs.Common.{◌≡◌, ℕ, ◌+◌, ◌-◌, ◌<◌, ◌≤◌, List, [], ◌∷◌, ◌++◌, length, take, refl, ap, sym, ◌∙◌, subst, arith, Some}
+use Rattle.std.proofs.Common.{◌≡◌, ℕ, ◌-◌, ◌<◌, List, [], ◌∷◌, ◌++◌, length, take, refl, ap, sym, ◌∙◌, arith, Some}
 use Rattle.std.specs.Prelude.{slice_get}
 use Rattle.std.proofs.lemmas.List.{length-append}
 use Rattle.std.proofs.Math.Seq.{take-append_seam}
@@ -10,7 +10,6 @@ use Rattle.tp_machine.specs.declared.whole.Machine.{Machine}
 use Rattle.tp_placing.specs.Boards.{BoardValue, BoardAside, content_of, aside_of, past_of}
 use Rattle.tp_placing.specs.Calls.{IsSameLoad}
 use Rattle.tp_placing.specs.Laws.{MarkKeeps, UndoKeeps}
-use Rattle.tp_placing.specs.Standing.{Stands}
 use Rattle.tp_showing.specs.Showing.{IsBack, IsSince}
 
 pub load-trans : {N : Type 0} (a b c : BoardValue N) → IsSameLoad a b → IsSameLoad b c → IsSameLoad a c

@@ -1,12 +1,11 @@
 -- The ways of a branch, one after another: what is due from one on.
-use Rattle.std.proofs.Common.{◌≡◌, ℕ, zero, suc, ◌+◌, ◌-◌, ◌<◌, ◌≤◌, Bool, true, false, cond, List, [], ◌∷◌, ◌++◌, length, refl, sym, ◌∙◌, ap, subst, add-one, arith, append_assoc, Option, Some, None}
+use Rattle.std.proofs.Common.{◌≡◌, ℕ, zero, suc, ◌+◌, ◌-◌, ◌<◌, Bool, true, false, cond, List, [], ◌++◌, length, refl, sym, ◌∙◌, ap, subst, add-one, arith, append_assoc, Option, Some, None}
 use Rattle.std.specs.Prelude.{pos, nat_le, nat_lt}
 use Rattle.std.proofs.lemmas.Bool.Decides.{nat_tests}
 use Rattle.std.proofs.lemmas.List.{append-nil}
 use Rattle.tp_base.specs.Net.{Net}
 use Rattle.tp_bounds.specs.declared.tree.Node.{Node}
 use Rattle.tp_bounds.specs.declared.tree.TreeRow.{TreeRow}
-use Rattle.tp_machine.specs.declared.parts.ActId.{ActId}
 use Rattle.tp_machine.specs.declared.parts.HoldRule.{HoldRule}
 use Rattle.tp_machine.specs.declared.whole.Machine.{Machine}
 use Rattle.tp_schedule.specs.Answers.{kept_of}
@@ -17,7 +16,7 @@ use Rattle.tp_placing.specs.Boards.{BoardValue}
 use Rattle.tp_trees.specs.Places as places
 use Rattle.tp_trees.specs.Places.{Due, action_due, actions_below, actions_due, places_from, rule_in, stop_due}
 use Rattle.tp_trees.proofs.Allowing.{le-to, lt-to}
-use Rattle.tp_showing.specs.Showing.{Adds, GoesOn, IsEntered, IsOpen, Shows, acts_from, branch_by, hold_of, kids_of, left_of, ways_of}
+use Rattle.tp_showing.specs.Showing.{Adds, IsEntered, IsOpen, Shows, acts_from, branch_by, hold_of, kids_of, left_of, ways_of}
 use Rattle.tp_showing.specs.declared.scene.Branch.{Branch}
 use Rattle.tp_showing.proofs.AddFacts.{adds-behind}
 

@@ -1,4 +1,4 @@
-use Rattle.std.proofs.Common.{◌≡◌, ◌+◌, ◌-◌, ◌≤◌, ◌∙◌, [], ap, length, sym, subst, arith}
+use Rattle.std.proofs.Common.{◌∙◌, ap, length, sym, subst, arith}
 use Rattle.std.proofs.lemmas.Option.{slice_get-get_or}
 use Rattle.tp_schedule.specs.Plans.{AreNamed}
 use Rattle.tp_showing.proofs.CarryFacts.{suffix-same}

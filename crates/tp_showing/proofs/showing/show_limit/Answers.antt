@@ -1,4 +1,4 @@
-use Rattle.std.proofs.Common.{◌≡◌, ◌∙◌}
+use Rattle.std.proofs.Common.{◌∙◌}
 use Rattle.tp_showing.proofs.GoalWalks.{covers-all}
 use Rattle.tp_showing.proofs.showing.show_limit.Goals as goal
 

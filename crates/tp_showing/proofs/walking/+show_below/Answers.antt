@@ -1,9 +1,8 @@
-use Rattle.std.proofs.Common.{◌≡◌, ℕ, ◌+◌, ◌<◌, ◌∙◌, suc, [], ap, length, sym, subst, add-one, arith, List, Option, Some, None}
+use Rattle.std.proofs.Common.{◌≡◌, ℕ, ◌+◌, ◌∙◌, suc, [], ap, sym, subst, add-one, arith, List}
 use Rattle.std.specs.Result.{OnOk}
 use Rattle.tp_bounds.specs.declared.tree.Node.{Node}
 use Rattle.tp_bounds.specs.declared.tree.TreeRow.{TreeRow}
-use Rattle.tp_constraints.specs.Suffixes.{Suffix}
-use Rattle.tp_placing.specs.Boards.{BoardValue, past_of, suffix_of}
+use Rattle.tp_placing.specs.Boards.{BoardValue, past_of}
 use Rattle.tp_schedule.specs.Plans.{AreNamed}
 use Rattle.tp_showing.specs.Showing.{IsBack, IsSince, branch_by, hold_of, kids_of, left_of}
 use Rattle.tp_showing.proofs.MarkSteps.{IsMarked, back-trans, mark-known, since-trans, taken-back}

@@ -1,4 +1,4 @@
-use Rattle.std.proofs.Common.{◌≡◌, ◌-◌, suc, [], arith, sym, List, Option, Some, None}
+use Rattle.std.proofs.Common.{◌≡◌, ◌-◌, suc, [], arith, List, Option, Some, None}
 use Rattle.tp_bounds.specs.declared.tree.TreeRow.{TreeRow}
 use Rattle.tp_constraints.specs.Suffixes.{Suffix}
 use Rattle.tp_placing.specs.Boards.{suffix_of}

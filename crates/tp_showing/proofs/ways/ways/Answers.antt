@@ -1,4 +1,4 @@
-use Rattle.std.proofs.Common.{◌≡◌, ◌<◌, ◌∙◌, sym, arith}
+use Rattle.std.proofs.Common.{◌∙◌, sym, arith}
 use Rattle.tp_showing.proofs.CarryFacts.{hold-known}
 use Rattle.tp_showing.proofs.ways.ways.Goals as goal
 
