@@ -13,6 +13,8 @@ use Rattle.tp_schedule.specs.Answers.{kept_of}
 use Rattle.tp_schedule.specs.Choices.{Choice}
 use Rattle.tp_schedule.specs.Holding.{holds_of_act}
 use Rattle.tp_schedule.specs.declared.parts.Ask.{Ask}
+use Rattle.tp_schedule.specs.declared.parts.Goal.{Goal}
+use Rattle.tp_schedule.specs.declared.parts.Goal.TheVariants.{Purge, Tray}
 use Rattle.tp_schedule.specs.declared.parts.Plan.{Plan}
 use Rattle.tp_constraints.specs.Suffixes.{Suffix, order_in}
 use Rattle.tp_placing.specs.Boards.{BoardValue, content_of, past_of, suffix_of}
@@ -91,6 +93,11 @@ module _ (machine : Machine) (plans : List Plan) (ask : Ask) (rows : List TreeRo
   -- the children of a branch, if it may be split
   abbrev pub kids_of : places.Branch → List Due
   kids_of b = or_no_dues (children machine plans ask rows (record { branch = b; span = None }))
+
+-- the tray that is asked for is one of the machine's locations
+abbrev pub IsKnownGoal : Machine → Goal → Type 0
+IsKnownGoal machine (Tray tray) = tray.0 < length machine.locations
+IsKnownGoal machine Purge = Unit {0}
 
 -- ---- boards
 module _ {N C : Type 0} (net : N → Net) (content : N → C) (past : N → List C) (mark_room : N → ℕ) where

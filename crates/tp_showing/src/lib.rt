@@ -1,5 +1,5 @@
-//! The parts of a bound tree as a board makes them: the room rows of an ask, and the nodes of its
-//! branches, each closed by what the network refused it for, or split.
+//! A bound tree as a board makes it: the room rows of an ask, and the nodes of its branches, each
+//! closed by what the network refused it for, or split.
 #![tactic(auto)]
 
 mod closing;

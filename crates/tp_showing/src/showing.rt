@@ -7,9 +7,8 @@ ghost use Rattle.tp_routes.specs.Tables.{AreRooms, IsKnownOrigin, IsMadeFor};
 ghost use Rattle.tp_schedule.specs.Answers.{kept_of};
 ghost use Rattle.tp_schedule.specs.Plans.{AreNamed};
 ghost use Rattle.tp_showing.specs.Closes.{IsLimit};
-ghost use Rattle.tp_showing.specs.Showing.{HasMarks, IsBack, IsSet, Shows};
+ghost use Rattle.tp_showing.specs.Showing.{HasMarks, IsBack, IsKnownGoal, IsSet, Shows};
 ghost use Rattle.tp_trees.specs.Places.Due.{goal};
-ghost use Rattle.tp_trees.specs.Places.{goal_states};
 ghost use Rattle.tp_trees.specs.Trees.{IsBoundTree};
 
 use crate::goals::goal_states;
@@ -91,8 +90,9 @@ fn show_goals<N: Network>(
 }
 
 /// A tree that shows that no alternative ends by the limit, a tick: room rows, and a node for each
-/// way that comes by it, with the reason why it goes no further. `Early` comes only where an
-/// alternative ends by the limit, which is not proved here. Leaves the board as it was.
+/// way that comes by it, with the reason why it goes no further. Leaves the board as it was. Where
+/// memory runs out, the call may be made again. `Early` is meant for an alternative that ends by
+/// the limit; that it comes only then is not proved here.
 pub fn show_limit<N: Network>(
     alloc: Global,
     rooms: &Rooms,
@@ -108,8 +108,7 @@ pub fn show_limit<N: Network>(
     requires rooms { AreRooms machine.now ask.now rooms.now.sums }
     requires origin { IsKnownOrigin machine.now ask.now.origin }
     requires closed { suffix_of board.old ≡ None }
-    requires known { All (λ (s : State). s.loc.0 < length machine.now.locations)
-        (goal_states machine.now ask.now.want ask.now.goal) }
+    requires known { IsKnownGoal machine.now ask.now.goal }
     requires kept { kept_of ask.now ≤ 64 }
     requires marks { HasMarks N.net N.content N.past N.mark_room 326 board.old }
     ensures tree { IfOk result (IsBoundTree machine.entry.now board.old.plans ask.entry.now

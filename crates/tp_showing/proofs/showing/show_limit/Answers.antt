@@ -1,6 +1,13 @@
-use Rattle.std.proofs.Common.{◌∙◌}
+use Rattle.std.proofs.Common.{◌∙◌, ◌<◌, All, length, sym, subst}
+use Rattle.tp_machine.specs.declared.parts.State.{State}
+use Rattle.tp_showing.proofs.GoalFacts.{goals-known}
 use Rattle.tp_showing.proofs.GoalWalks.{covers-all}
 use Rattle.tp_showing.proofs.showing.show_limit.Goals as goal
+
+pub show_goals-requires-clause-known : goal.show_goals-requires-clause-known
+show_goals-requires-clause-known g c =
+    let machine = c.args.machine.now in
+    subst (All (λ (s : State). s.loc.0 < length machine.locations)) (sym (c.as_slice.ensures.value ∙ c.in-Ok-goal_states.ensures)) (goals-known machine c.args.ask.now.want c.args.ask.now.goal c.requires.known)
 
 pub returns-in-Ok-show_goals-clause-tree : goal.returns-in-Ok-show_goals-clause-tree
 returns-in-Ok-show_goals-clause-tree g c = record {
