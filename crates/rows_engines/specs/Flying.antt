@@ -1,5 +1,6 @@
 -- Copies in flight: the front that is left of a plan, and the ask for what comes behind it.
 use Rattle.std.specs.Prelude.{◌≡◌, ℕ, ◌+◌, ◌<◌, ◌≤◌, length, take}
+use Rattle.tp_schedule.specs.LocationSets.{nowhere}
 use Rattle.tp_schedule.specs.declared.parts.Ask.{Ask}
 use Rattle.tp_schedule.specs.declared.parts.Goal.{Goal}
 use Rattle.tp_schedule.specs.declared.parts.Kind.TheVariants.{Front}
@@ -12,7 +13,7 @@ front_plan count p = record p { kind = Front; acts = take count p.acts; points =
 
 -- the ask at the moment 0 for the copy of a plan, where no module is out
 abbrev pub ask_after : Plan → Goal → Origin → Ask
-ask_after p goal origin = record { sheet = p.sheet; name = p.name; want = p.want; goal = goal; origin = origin; outs = record { 0 = 0 }; now = 0 }
+ask_after p goal origin = record { sheet = p.sheet; name = p.name; want = p.want; goal = goal; origin = origin; outs = record { 0 = 0 }; empty = nowhere; now = 0 }
 
 -- a front of so many actions, all of them released, and at most ten
 pub record IsFrontOfFew (kept : ℕ) (p : Plan) : Type 0 where

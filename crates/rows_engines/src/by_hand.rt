@@ -11,7 +11,7 @@ use tp_base::{Name, Network};
 use tp_machine::{ActId, Face, Machine, Outs, Sheet, Want};
 use tp_machine_text::read_machine;
 use tp_placing::Board;
-use tp_schedule::{Ask, Goal, Origin, SheetId};
+use tp_schedule::{Ask, Empties, Goal, Origin, SheetId};
 use tp_stn_core::PlainNet;
 
 pub(crate) const FEED: ActId = ActId(0);
@@ -65,6 +65,7 @@ pub(crate) fn ask_for(name: Name, media: Name, goal: Goal, number: u32) -> Ask
         goal,
         origin: Origin::Feeder,
         outs: Outs(0),
+        empty: Empties::none(),
         now: 0,
     }
 }

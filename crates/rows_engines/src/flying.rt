@@ -12,7 +12,7 @@ ghost use Rattle.rows_engines.specs.Flying.{IsFrontOfFew, ask_after, front_plan}
 use std::alloc::Global;
 use std::test::Fail;
 use tp_machine::{ActId, Machine, Outs, Sheet, State, step};
-use tp_schedule::{Ask, Goal, Kind, Origin, Plan, Schedule, is_plan_live, is_start};
+use tp_schedule::{Ask, Empties, Goal, Kind, Origin, Plan, Schedule, is_plan_live, is_start};
 
 /// Where the actions lead from a state.
 fn walk_on(machine: &Machine, want: &Sheet, acts: &[ActId], state: State) -> Option<State>
@@ -83,6 +83,7 @@ fn ask_after(plan: &Plan, goal: Goal, origin: Origin) -> Ask
         goal,
         origin,
         outs: Outs(0),
+        empty: Empties::none(),
         now: 0,
     }
 }

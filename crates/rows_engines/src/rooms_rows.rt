@@ -10,7 +10,7 @@ use std::test::Fail;
 use tp_base::Name;
 use tp_machine::{Face, LocId, Machine, Outs, Sheet, State, Want};
 use tp_routes::{Rooms, room_law};
-use tp_schedule::{Ask, Goal, Origin, SheetId};
+use tp_schedule::{Ask, Empties, Goal, Origin, SheetId};
 
 pub(crate) fn rooms_for(alloc: Global, machine: &Machine) -> Result<Rooms, Fail>
     ensures { IfOk result (λ rooms. IsMadeFor rooms machine.now) }
@@ -41,6 +41,7 @@ fn ask_for(name: Name, media: Name, back: Want, origin: Origin, outs: u64) -> As
         goal: Goal::Tray(LocId(3)),
         origin,
         outs: Outs(outs),
+        empty: Empties::none(),
         now: 0,
     }
 }

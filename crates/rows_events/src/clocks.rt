@@ -15,7 +15,7 @@ use tp_machine::{ActId, Face, LocId, Machine, Outs, Sheet, Want};
 use tp_machine_text::read_machine;
 use tp_placing::Board;
 use tp_release::{AdvanceFault, Tell, advance};
-use tp_schedule::{Ask, Goal, Origin, Reply, Schedule, SheetId};
+use tp_schedule::{Ask, Empties, Goal, Origin, Reply, Schedule, SheetId};
 use tp_search::{Workspace, answer};
 use tp_stn_core::PlainNet;
 
@@ -71,6 +71,7 @@ fn first_ask(machine: &Machine, front: Want) -> Result<Ask, Fail>
         goal: Goal::Tray(*machine.trays.get(0)),
         origin: Origin::Feeder,
         outs: Outs(0),
+        empty: Empties::none(),
         now: 0,
     })
 }

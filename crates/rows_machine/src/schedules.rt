@@ -9,10 +9,7 @@ use std::test::Fail;
 use tp_base::{Name, Tick};
 use tp_machine::{ActId, Face, LocId, Machine, Outs, ResId, Sheet, State, Want};
 use tp_machine_text::read_machine;
-use tp_schedule::{
-    Acts, Ask, Goal, Kind, Origin, Plan, Points, Schedule, SheetId, finished, is_earlier, is_goal,
-    is_start, new_sheet,
-};
+use tp_schedule::{Acts, Ask, Empties, Goal, Kind, Origin, Plan, Points, Schedule, SheetId, finished, is_earlier, is_goal, is_start, new_sheet};
 
 fn machine_of(alloc: Global, text: &str) -> Result<Machine, Fail> {
     match read_machine(alloc, text.as_bytes()) {
@@ -194,6 +191,7 @@ fn a_new_copy_goes_from_a_feeder_to_its_tray(rt: &impl Abort, duo: &Machine) -> 
         goal: Goal::Tray(LocId(3)),
         origin: Origin::Feeder,
         outs: Outs(0),
+        empty: Empties::none(),
         now: 0,
     };
     let elsewhere = State {

@@ -21,6 +21,7 @@ use Rattle.tp_machine.specs.declared.parts.Want.TheVariants.{Blank, Mono}
 use Rattle.tp_machine.specs.declared.whole.Machine.{Machine}
 use Rattle.tp_machine.proofs.Amounts.{amounts_by}
 use Rattle.tp_machine.proofs.NameFacts.{named_by, few_by}
+use Rattle.tp_schedule.specs.LocationSets.{nowhere}
 use Rattle.tp_schedule.specs.declared.parts.Ask.{Ask}
 use Rattle.tp_schedule.specs.declared.parts.Goal.TheVariants.{Tray}
 use Rattle.tp_schedule.specs.declared.parts.Kind.TheVariants.{Whole}
@@ -105,7 +106,7 @@ first_plan = record { sheet = copy 1; name = codes "j1"; want = mono_sheet; goal
 
 -- a sheet asked at 0, with these modules out
 abbrev pub asks : ℕ → ℕ → Ask
-asks n outs = record { sheet = copy n; name = codes "j1"; want = mono_sheet; goal = Tray (loc 3); origin = FromFeeder; outs = record { 0 = outs }; now = 0 }
+asks n outs = record { sheet = copy n; name = codes "j1"; want = mono_sheet; goal = Tray (loc 3); origin = FromFeeder; outs = record { 0 = outs }; empty = nowhere; now = 0 }
 
 -- what is wrong with a tree for a claim
 abbrev pub flaw_in : Machine → List Plan → Ask → Claim → BoundTree → Option TreeFlaw

@@ -10,7 +10,7 @@ use tp_base::{Name, Tick};
 use tp_bound_check::{Claim, TreeFlaw, check_bound};
 use tp_machine::{ActId, Face, LocId, Machine, Outs, Sheet, Want};
 use tp_machine_text::read_machine;
-use tp_schedule::{Acts, Ask, Goal, Kind, Origin, Plan, Points, Schedule, SheetId};
+use tp_schedule::{Acts, Ask, Empties, Goal, Kind, Origin, Plan, Points, Schedule, SheetId};
 
 pub(crate) const TRAY: LocId = LocId(3);
 
@@ -106,6 +106,7 @@ pub(crate) fn ask_of(number: u32, outs: Outs) -> Result<Ask, Fail> {
         goal: Goal::Tray(TRAY),
         origin: Origin::Feeder,
         outs,
+        empty: Empties::none(),
         now: 0,
     })
 }

@@ -45,11 +45,14 @@ impl<'a> Scene<'a> {
     }
 
     fn is_begun(&self, state: State) -> bool
-        ensures { result ≡ is_begun self.now.rows.machine.now self.now.rows.ask.now.want
+        ensures { result ≡ is_begun self.now.rows.machine.now self.now.rows.ask.now
             self.now.rows.ask.now.origin state }
     {
         match self.rows.ask.origin {
-            Origin::Feeder => self.is_at_feeder(self.rows.machine.feeders.as_slice(), state),
+            Origin::Feeder => {
+                let fresh = self.is_at_feeder(self.rows.machine.feeders.as_slice(), state);
+                fresh && self.rows.ask.may_begin_at(state.loc)
+            }
             Origin::Front { .. } => false,
         }
     }

@@ -1,8 +1,9 @@
 //! The check of room rows.
-ghost use Rattle.std.specs.Prelude.{◌≡◌, ◌+◌, ◌<◌, ◌≤◌, [], ◌∷◌, ◌++◌, length, IfOk, None, Some, true, false, not, ◌||◌, set, slice_index_or, slice_get, replicate, vec_len, List, ◌*◌};
+ghost use Rattle.std.specs.Prelude.{◌≡◌, ◌+◌, ◌<◌, ◌≤◌, [], ◌∷◌, ◌++◌, length, IfOk, None, Some, true, false, not, ◌&&◌, ◌||◌, set, slice_index_or, slice_get, replicate, vec_len, List, ◌*◌};
 ghost use Rattle.std.specs.List.{list_all, list_any};
 ghost use Rattle.std.specs.Str.{bytes_eq};
 ghost use Rattle.tp_bound_check.specs.Tables.{AreRooms, AreSeen, is_among, place_of};
+ghost use Rattle.tp_schedule.specs.LocationSets.{has};
 ghost use Rattle.tp_schedule.specs.Routes.{fresh, is_act_allowed, least_of, step_by};
 ghost use Rattle.tp_trees.specs.Rows.{is_state, row_of, state_of};
 ghost use Rattle.tp_trees.specs.Flaws.{are_starts_kept, are_steps_kept, bad_row, bad_row_from, has_row_by, is_good_row, is_row_after, is_row_of, is_step_kept};
@@ -88,17 +89,18 @@ impl<'a> Rows<'a> {
     }
 
     fn is_feeder_kept(&self, feeder: &Feeder) -> bool
-        ensures { result ≡ (not (bytes_eq feeder.now.media self.now.ask.now.want.media) ||
-            has_row_by self.now.machine.now self.now.ask.now self.now.rows.now (fresh
-            feeder.now.loc) 0) }
+        ensures { result ≡ (not (bytes_eq feeder.now.media self.now.ask.now.want.media &&
+            not (has self.now.ask.now.empty feeder.now.loc)) || has_row_by self.now.machine.now
+            self.now.ask.now self.now.rows.now (fresh feeder.now.loc) 0) }
     {
-        feeder.media != self.ask.want.media || self.has_by(new_sheet(feeder.loc), 0)
+        let fed = feeder.media == self.ask.want.media && self.ask.may_begin_at(feeder.loc);
+        !fed || self.has_by(new_sheet(feeder.loc), 0)
     }
 
     fn are_feeders_kept(&self, feeders: &[Feeder]) -> bool
-        ensures { result ≡ list_all (λ f. not (bytes_eq f.media self.now.ask.now.want.media) ||
-            has_row_by self.now.machine.now self.now.ask.now self.now.rows.now (fresh f.loc) 0)
-            feeders.now }
+        ensures { result ≡ list_all (λ f. not (bytes_eq f.media self.now.ask.now.want.media &&
+            not (has self.now.ask.now.empty f.loc)) || has_row_by self.now.machine.now
+            self.now.ask.now self.now.rows.now (fresh f.loc) 0) feeders.now }
     {
         feeders.iter().all(|feeder| self.is_feeder_kept(feeder))
     }

@@ -369,7 +369,7 @@ module _ (machine : Machine) (plans new : List Plan) (ask : Ask) (rules : IsMach
         let fixed : point a.plan count ≡ point p count = a.fixed p a.plan in'.0 m.0.planned count (rw front.front refl) (omega (arith, front.acts)) in
         let ends : point p count ≡ end = ap (point p) (sym front.acts) ∙ front.ends in
         let first : t (own (length choices-of.choices)) ≡ start_floor machine ask.now ask.origin = t-first ∙ ap (point a.plan) kept-is ∙ fixed ∙ ends ∙ ap (start_floor machine ask.now) (sym e) in
-        let starts : a.answers.is_route.reaches.start ≡ state = subst (λ o. IsStartFrom machine ask.want o a.answers.is_route.reaches.start) e a.answers.is_route.reaches.starts in (
+        let starts : a.answers.is_route.reaches.start ≡ state = subst (λ o. IsStartFrom machine ask o a.answers.is_route.reaches.start) e a.answers.is_route.reaches.starts in (
           list-with true,
           subst (IsCompleteFrom machine ask (list-with true)) (sym e) refl,
           opens-with true

@@ -79,7 +79,7 @@ prefix_of machine plans ask list room t asked is_list complete times = go ask.or
     floor = λ _. omega arith;
     fixed = λ p is. absurd (let bad = is in cc);
     start = done.0;
-    starts = subst (λ o. IsStartFrom machine ask.want o done.0) e done.2;
+    starts = (subst (λ o. IsStartFrom machine ask o done.0) e done.2).0;
     leads = rw none done.1;
     reaches = record { start = done.0; starts = done.2; leads = done.1 };
   }
@@ -100,7 +100,7 @@ prefix_of machine plans ask list room t asked is_list complete times = go ask.or
         start = front.start;
         starts = front.starts;
         leads = rw acts-is (walk-append machine ask.want p.acts (acts_of list.choices) front.start state list.goal front.leads (can stop).1);
-        reaches = record { start = state; starts = subst (λ o. IsStartFrom machine ask.want o state) (sym e) refl; leads = (can stop).1 };
+        reaches = record { start = state; starts = subst (λ o. IsStartFrom machine ask o state) (sym e) refl; leads = (can stop).1 };
       }
 
 none-past : {X : Type 0} (xs : List X) (i : ℕ) → i < length xs → slice_get xs i ≡ None → ⊥

@@ -19,7 +19,7 @@ ghost use Rattle.tp_replan.specs.Looping.{Stays};
 use crate::losing::is_lost;
 use std::alloc::Global;
 use tp_machine::{ActId, Machine, Sheet, State, step};
-use tp_schedule::{Ask, Halt, Kind, Origin, Plan, Planner, Record, Reply, Schedule, new_sheet};
+use tp_schedule::{Ask, Empties, Halt, Kind, Origin, Plan, Planner, Record, Reply, Schedule, new_sheet};
 use tp_telling::tell_reply;
 use tp_turn::LiveState;
 
@@ -66,6 +66,7 @@ fn ask_in_flight(machine: &Machine, state: &LiveState, plan: &Plan) -> Ask
             kept,
         },
         outs: state.outs,
+        empty: Empties::none(),
         now: state.moment,
     }
 }

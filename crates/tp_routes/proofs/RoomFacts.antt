@@ -12,7 +12,7 @@ use Rattle.tp_machine.specs.declared.parts.Sheet.{Sheet}
 use Rattle.tp_machine.specs.declared.parts.State.{State}
 use Rattle.tp_machine.specs.declared.whole.Machine.{Machine}
 use Rattle.tp_machine.proofs.MachineFacts.{is_machine}
-use Rattle.tp_schedule.specs.Routes.{walk, step_by, IsStart, IsStartFrom, Reaches, AreAllowed, is_act_allowed, least_sum, least_of, IsRoom, HasNoRoom}
+use Rattle.tp_schedule.specs.Routes.{walk, step_by, IsFreshStart, IsStart, IsStartFrom, Reaches, AreAllowed, is_act_allowed, least_sum, least_of, IsRoom, HasNoRoom}
 use Rattle.tp_schedule.specs.declared.parts.Ask.{Ask}
 use Rattle.tp_schedule.specs.declared.parts.Origin.{Origin}
 use Rattle.tp_schedule.specs.declared.parts.Origin.TheVariants.{Feeder as FromFeeder, Front as FromFront}
@@ -96,12 +96,16 @@ along machine ask sums states rest (act ∷ acts) s t sum allowed known leads (v
 fresh_known : (machine : Machine) (f : Feeder) → Contains machine.feeders f → f.loc.0 < length machine.locations
 fresh_known machine f has = (All-contains (λ g. IsLocation machine g.loc × IsOpenPlace machine g.loc) machine.feeders f (is_machine machine).feeders has).0
 
--- a start state is at a location of the machine
+-- a fresh start is at a location of the machine
+pub fresh_start_known : (machine : Machine) (sheet : Sheet) (s : State) → IsFreshStart machine sheet s → s.loc.0 < length machine.locations
+fresh_start_known machine sheet s (k, f, below, at, both) = subst (λ (t : State). t.loc.0 < length machine.locations) (sym both.1) (fresh_known machine f (k, below, at))
+
+-- and so is a start state
 pub start_known : (machine : Machine) (ask : Ask) (s : State) → IsKnownOrigin machine ask.origin → IsStart machine ask s → s.loc.0 < length machine.locations
 start_known machine ask s known starts = go ask.origin known starts
   where
-    go : (o : Origin) → IsKnownOrigin machine o → IsStartFrom machine ask.want o s → s.loc.0 < length machine.locations
-    go FromFeeder known (k, f, below, at, both) = subst (λ (t : State). t.loc.0 < length machine.locations) (sym both.1) (fresh_known machine f (k, below, at))
+    go : (o : Origin) → IsKnownOrigin machine o → IsStartFrom machine ask o s → s.loc.0 < length machine.locations
+    go FromFeeder known (starts, free) = fresh_start_known machine ask.want s starts
     go (FromFront state end count) known is = subst (λ (t : State). t.loc.0 < length machine.locations) (sym is) known
 
 -- a table at rest has the rooms

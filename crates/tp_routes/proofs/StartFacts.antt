@@ -1,11 +1,12 @@
 -- The start states of an ask are in the table.
-use Rattle.std.proofs.Common.{◌≡◌, ◌⊎◌, inl, inr, ℕ, zero, suc, ◌+◌, ◌*◌, ◌<◌, ◌≤◌, ltb, List, [], ◌∷◌, length, get_or, slice_get, replicate, Option, Some, None, refl, sym, ap, subst, ◌∙◌, arith}
+use Rattle.std.proofs.Common.{◌≡◌, ◌⊎◌, inl, inr, ℕ, zero, suc, ◌+◌, ◌*◌, ◌<◌, ◌≤◌, ltb, List, [], ◌∷◌, length, get_or, slice_get, replicate, Option, Some, None, IsFalse, refl, sym, ap, subst, ◌∙◌, arith}
 use Rattle.std.specs.List.{IsDistinct}
 use Rattle.std.proofs.lemmas.Bool.{cases_Bool, ltb-true, ltb-false}
 use Rattle.std.proofs.lemmas.Option.{same_Some}
 use Rattle.tp_machine.specs.declared.parts.Feeder.{Feeder}
 use Rattle.tp_machine.specs.declared.parts.State.{State}
 use Rattle.tp_machine.specs.declared.whole.Machine.{Machine}
+use Rattle.tp_schedule.specs.LocationSets.{has}
 use Rattle.tp_schedule.specs.Routes.{fresh, IsStart, IsStartFrom, AreAllowed}
 use Rattle.tp_schedule.specs.declared.parts.Ask.{Ask}
 use Rattle.tp_schedule.specs.declared.parts.Origin.{Origin}
@@ -22,11 +23,11 @@ none_allowed machine ask act (k, below, at) = absurd (omega arith)
 pub start_sum : (machine : Machine) (ask : Ask) (s : State) → IsStart machine ask s → IsSum machine ask s 0
 start_sum machine ask s starts = record { acts = []; allowed = none_allowed machine ask; reaches = record { start = s; starts = starts; leads = refl }; sums = refl }
 
-pub fresh_sum : (machine : Machine) (ask : Ask) (k : ℕ) (f : Feeder) → ask.origin ≡ FromFeeder → k < length machine.feeders → f ≡ get_or machine.feeders k f → f.media ≡ ask.want.media → IsSum machine ask (fresh f.loc) 0
-fresh_sum machine ask k f origin below at media = start_sum machine ask (fresh f.loc) (subst (λ o. IsStartFrom machine ask.want o (fresh f.loc)) (sym origin) (k, f, below, sym at, (media, refl)))
+pub fresh_sum : (machine : Machine) (ask : Ask) (k : ℕ) (f : Feeder) → ask.origin ≡ FromFeeder → k < length machine.feeders → f ≡ get_or machine.feeders k f → f.media ≡ ask.want.media → IsFalse (has ask.empty f.loc) → IsSum machine ask (fresh f.loc) 0
+fresh_sum machine ask k f origin below at media free = start_sum machine ask (fresh f.loc) (subst (λ o. IsStartFrom machine ask o (fresh f.loc)) (sym origin) ((k, f, below, sym at, (media, refl)), free))
 
 pub front_sum : (machine : Machine) (ask : Ask) (s : State) (end count : ℕ) → ask.origin ≡ FromFront s end count → IsSum machine ask s 0
-front_sum machine ask s end count origin = start_sum machine ask s (subst (λ o. IsStartFrom machine ask.want o s) (sym origin) refl)
+front_sum machine ask s end count origin = start_sum machine ask s (subst (λ o. IsStartFrom machine ask o s) (sym origin) refl)
 
 nothing_there : (n m : ℕ) → sum_at (replicate n None) m ≡ None
 nothing_there zero m = refl
@@ -54,13 +55,13 @@ spread-empty machine ask sums waiting n empty busy count m v known is = (let bot
 
 -- one feeder more
 pub starts-more : (feeders : List Feeder) (ask : Ask) (sums sums' : List (Option ℕ)) (count : ℕ) (f : Feeder) → f ≡ get_or feeders count f → count < length feeders → Lowers sums sums'
-    → (f.media ≡ ask.want.media → HasAtMost sums' (fresh f.loc) 0) → StartsUpTo feeders ask sums count → StartsUpTo feeders ask sums' (count + 1)
-starts-more feeders ask sums sums' count f at within lowers there before k g below at' media = elim (cases_Bool (ltb k count)) [
-  | inl earlier ↦ lowers.falls (fresh g.loc) 0 (before k g (ltb-true k count earlier) at' media)
+    → (f.media ≡ ask.want.media → IsFalse (has ask.empty f.loc) → HasAtMost sums' (fresh f.loc) 0) → StartsUpTo feeders ask sums count → StartsUpTo feeders ask sums' (count + 1)
+starts-more feeders ask sums sums' count f at within lowers there before k g below at' media free = elim (cases_Bool (ltb k count)) [
+  | inl earlier ↦ lowers.falls (fresh g.loc) 0 (before k g (ltb-true k count earlier) at' media free)
   | inr last ↦
       let here : k ≡ count = (let h = ltb-false k count last in omega arith) in
       let same : g ≡ f = (let h : slice_get feeders count ≡ Some g = subst (λ j. slice_get feeders j ≡ Some g) here at' in at_place feeders count f g at h) in
-      subst (λ (q : Feeder). HasAtMost sums' (fresh q.loc) 0) (sym same) (there (subst (λ (q : Feeder). q.media ≡ ask.want.media) same media))
+      subst (λ (q : Feeder). HasAtMost sums' (fresh q.loc) 0) (sym same) (there (subst (λ (q : Feeder). q.media ≡ ask.want.media) same media) (subst (λ (q : Feeder). IsFalse (has ask.empty q.loc)) same free))
 ]
   where
     at_place : (xs : List Feeder) (j : ℕ) (x y : Feeder) → x ≡ get_or xs j x → slice_get xs j ≡ Some y → y ≡ x
@@ -76,12 +77,12 @@ slice_get-at (y ∷ ys) (suc k) x below at = slice_get-at ys k x (omega arith) a
 pub starts-all : (machine : Machine) (ask : Ask) (sums : List (Option ℕ)) → ask.origin ≡ FromFeeder → StartsUpTo machine.feeders ask sums (length machine.feeders) → StartsAreIn machine ask sums
 starts-all machine ask sums origin upto s starts = go ask.origin origin starts
   where
-    go : (o : Origin) → o ≡ FromFeeder → IsStartFrom machine ask.want o s → HasAtMost sums s 0
-    go FromFeeder is (k, f, below, at, both) = subst (λ (q : State). HasAtMost sums q 0) (sym both.1) (upto k f below (slice_get-at machine.feeders k f below at) both.0)
+    go : (o : Origin) → o ≡ FromFeeder → IsStartFrom machine ask o s → HasAtMost sums s 0
+    go FromFeeder is ((k, f, below, at, both), free) = subst (λ (q : State). HasAtMost sums q 0) (sym both.1) (upto k f below (slice_get-at machine.feeders k f below at) both.0 (subst (λ (q : State). IsFalse (has ask.empty q.loc)) both.1 free))
     go (FromFront state end count) is starts = absurd cc
 
 pub starts-front : (machine : Machine) (ask : Ask) (sums : List (Option ℕ)) (state : State) (end count : ℕ) → ask.origin ≡ FromFront state end count → HasAtMost sums state 0 → StartsAreIn machine ask sums
-starts-front machine ask sums state end count origin there s starts = (let is : s ≡ state = subst (λ o. IsStartFrom machine ask.want o s) origin starts in subst (λ (q : State). HasAtMost sums q 0) (sym is) there)
+starts-front machine ask sums state end count origin there s starts = (let is : s ≡ state = subst (λ o. IsStartFrom machine ask o s) origin starts in subst (λ (q : State). HasAtMost sums q 0) (sym is) there)
 
 -- how far the feeders were gone through
 pub record StartedSoFar (machine : Machine) (ask : Ask) (feeders : List Feeder) (sums : List (Option ℕ)) (waiting : List ℕ) (count capacity : ℕ) : Type 0 where

@@ -1,5 +1,5 @@
 -- How far a table of rooms is filled.
-use Rattle.std.specs.Prelude.{◌≡◌, ◌⊎◌, ℕ, ◌+◌, ◌*◌, ◌<◌, ◌≤◌, Bool, true, List, length, slice_set, slice_get, Option, Some, None, nat_lt, nat_eq, filter, not, ◌==◌, sum_by, IsTrue, if◌then◌else◌}
+use Rattle.std.specs.Prelude.{◌≡◌, ◌⊎◌, ℕ, ◌+◌, ◌*◌, ◌<◌, ◌≤◌, Bool, true, List, length, slice_set, slice_get, Option, Some, None, nat_lt, nat_eq, filter, not, ◌==◌, sum_by, IsTrue, IsFalse, if◌then◌else◌}
 use Rattle.std.specs.List.{list_any, IsDistinct}
 use Rattle.tp_machine.specs.Steps.{step_of}
 use Rattle.tp_machine.specs.Using.{action_at}
@@ -8,6 +8,7 @@ use Rattle.tp_machine.specs.declared.parts.Action.{Action}
 use Rattle.tp_machine.specs.declared.parts.Feeder.{Feeder}
 use Rattle.tp_machine.specs.declared.parts.State.{State}
 use Rattle.tp_machine.specs.declared.whole.Machine.{Machine}
+use Rattle.tp_schedule.specs.LocationSets.{has}
 use Rattle.tp_schedule.specs.Routes.{IsStart, fresh, Reaches, AreAllowed, is_act_allowed, least_sum}
 use Rattle.tp_schedule.specs.declared.parts.Ask.{Ask}
 use Rattle.tp_routes.specs.Numbers.{number_of, state_at}
@@ -91,6 +92,6 @@ pub record Lowers (sums sums' : List (Option ℕ)) : Type 0 where
   pub same : length sums' ≡ length sums
   pub falls : (s : State) (sum : ℕ) → HasAtMost sums s sum → HasAtMost sums' s sum
 
--- the new sheets at the first so many of these feeders that have the ask's media are in the table
+-- the new sheets at the first so many of these feeders that have the ask's media and aren't empty are in the table
 abbrev pub StartsUpTo : List Feeder → Ask → List (Option ℕ) → ℕ → Type 0
-StartsUpTo feeders ask sums count = (k : ℕ) (f : Feeder) → k < count → slice_get feeders k ≡ Some f → f.media ≡ ask.want.media → HasAtMost sums (fresh f.loc) 0
+StartsUpTo feeders ask sums count = (k : ℕ) (f : Feeder) → k < count → slice_get feeders k ≡ Some f → f.media ≡ ask.want.media → IsFalse (has ask.empty f.loc) → HasAtMost sums (fresh f.loc) 0

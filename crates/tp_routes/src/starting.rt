@@ -1,9 +1,10 @@
-ghost use Rattle.std.specs.Prelude.{◌≡◌, ℕ, ◌*◌, ◌<◌, ◌≤◌, None, length, replicate, vec_capacity, [], slice_get, Some, ◌↔◌, IsTrue};
+ghost use Rattle.std.specs.Prelude.{◌≡◌, ℕ, ◌*◌, ◌<◌, ◌≤◌, None, length, replicate, vec_capacity, [], slice_get, Some, ◌↔◌, IsTrue, IsFalse};
+ghost use Rattle.tp_schedule.specs.LocationSets.{has};
 ghost use Rattle.tp_routes.specs.Tables.{IsKnownOrigin};
 ghost use Rattle.tp_routes.specs.Filling.{IsFilling, IsSpreadTo, StartsAreIn, StartsUpTo};
 
 use crate::filling::offer;
-use tp_machine::Machine;
+use tp_machine::{Feeder, Machine};
 use tp_schedule::{Ask, Origin, new_sheet};
 
 /// Puts the start states of the ask into an empty table, with the sum 0.
@@ -25,7 +26,15 @@ pub(crate) fn start(machine: &Machine, ask: &Ask, sums: &mut [Option<u32>], wait
     }
 }
 
-/// Puts a new sheet at each feeder of the ask's media into the table.
+/// Whether a new copy may begin at the feeder.
+fn may_begin(ask: &Ask, feeder: &Feeder) -> bool
+    ensures { IsTrue result ↔ ((feeder.now.media ≡ ask.entry.now.want.media)
+        × IsFalse (has ask.entry.now.empty feeder.now.loc)) }
+{
+    feeder.media == ask.want.media && ask.may_begin_at(feeder.loc)
+}
+
+/// Puts a new sheet at each feeder of the ask's media that isn't empty into the table.
 fn start_fresh(machine: &Machine, ask: &Ask, sums: &mut [Option<u32>], waiting: &mut Vec<u32>)
     requires filling { IsFilling machine.now ask.now sums.old waiting.old.items }
     requires spread { (busy : ℕ) → IsSpreadTo machine.now ask.now sums.old waiting.old.items busy
@@ -39,7 +48,7 @@ fn start_fresh(machine: &Machine, ask: &Ask, sums: &mut [Option<u32>], waiting: 
     ensures room { length sums.new ≤ vec_capacity waiting.new }
 {
     'feeders: for feeder in machine.feeders.as_slice() {
-        if feeder.media == ask.want.media {
+        if may_begin(ask, feeder) {
             offer(machine, ask, sums, waiting, new_sheet(feeder.loc), 0);
         }
     }

@@ -1,3 +1,4 @@
+pub mod LocationSets
 pub mod Routes
 pub mod Plans
 pub mod Timetables

@@ -1,5 +1,5 @@
 -- Routes: lists of actions that lead by steps from a start state to a goal state; and the room that a state needs.
-use Rattle.std.specs.Prelude.{◌≡◌, ◌≢◌, ℕ, ◌+◌, ◌≤◌, Bool, true, false, List, [], ◌∷◌, Option, Some, None, option_and_then, option_map, unwrap_or, Any, Contains, IsTrue}
+use Rattle.std.specs.Prelude.{◌≡◌, ◌≢◌, ℕ, ◌+◌, ◌≤◌, Bool, true, false, List, [], ◌∷◌, Option, Some, None, option_and_then, option_map, unwrap_or, Any, Contains, IsTrue, IsFalse}
 use Rattle.tp_machine.specs.Steps.{step_of}
 use Rattle.tp_machine.specs.Using.{action_at, is_allowed}
 use Rattle.tp_machine.specs.declared.parts.ActId.{ActId}
@@ -12,6 +12,7 @@ use Rattle.tp_machine.specs.declared.parts.State.{State}
 use Rattle.tp_machine.specs.declared.parts.Want.{Want}
 use Rattle.tp_machine.specs.declared.parts.Want.TheVariants.{Blank, Mono, Colour}
 use Rattle.tp_machine.specs.declared.whole.Machine.{Machine}
+use Rattle.tp_schedule.specs.LocationSets.{has}
 use Rattle.tp_schedule.specs.declared.parts.Ask.{Ask}
 use Rattle.tp_schedule.specs.declared.parts.Goal.{Goal}
 use Rattle.tp_schedule.specs.declared.parts.Goal.TheVariants.{Tray, Purge}
@@ -49,13 +50,14 @@ abbrev pub IsGoalState : Machine → Sheet → Goal → State → Type 0
 IsGoalState machine sheet (Tray t) s = s ≡ finished sheet t
 IsGoalState machine sheet Purge s = Contains machine.purges s.loc
 
--- a start state of an ask: for a new copy a fresh start, for a copy in flight the state after its kept actions
-abbrev pub IsStartFrom : Machine → Sheet → Origin → State → Type 0
-IsStartFrom machine sheet FromFeeder s = IsFreshStart machine sheet s
-IsStartFrom machine sheet (FromFront state end kept) s = s ≡ state
+-- a start state of an ask: for a new copy a fresh start at a feeder that isn't empty, for a copy in flight the state after
+-- its kept actions
+abbrev pub IsStartFrom : Machine → Ask → Origin → State → Type 0
+IsStartFrom machine ask FromFeeder s = IsFreshStart machine ask.want s × IsFalse (has ask.empty s.loc)
+IsStartFrom machine ask (FromFront state end kept) s = s ≡ state
 
 abbrev pub IsStart : Machine → Ask → State → Type 0
-IsStart machine ask s = IsStartFrom machine ask.want ask.origin s
+IsStart machine ask s = IsStartFrom machine ask ask.origin s
 
 -- none of the modules that the action uses is out
 abbrev pub is_act_allowed : Machine → Outs → ActId → Bool

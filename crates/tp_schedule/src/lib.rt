@@ -2,6 +2,7 @@
 #![tactic(auto)]
 
 mod copies;
+mod empties;
 mod goals;
 mod holding;
 mod keeping;
@@ -20,7 +21,7 @@ pub use goals::{finished, is_goal};
 pub use holding::is_plan_live;
 pub use keeping::Schedule;
 pub use laws::{action_law, legal_law, order_law, room_law, unique_law};
-pub use parts::{Ask, Goal, Halt, Hold, Kind, Origin, Plan, Reply, SheetId};
+pub use parts::{Ask, Empties, Goal, Halt, Hold, Kind, Origin, Plan, Reply, SheetId};
 pub use planning::Planner;
 pub use recording::{Cause, Record, SheetName};
 pub use series::{Acts, Points};

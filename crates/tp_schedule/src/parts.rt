@@ -64,6 +64,15 @@ pub enum Origin {
     Front { state: State, end: Tick, kept: u32 },
 }
 
+/// A set of locations: location n is in it where bit n mod 64 of word n / 64 is set.
+#[derive(Clone, Copy, PartialEq, Eq, Debug)]
+pub struct Empties {
+    pub w0: u64,
+    pub w1: u64,
+    pub w2: u64,
+    pub w3: u64,
+}
+
 /// A copy is to be planned to its goal, without the modules that are out, at the moment `now`.
 #[derive(Clone, Copy, PartialEq, Eq, Debug)]
 pub struct Ask {
@@ -74,6 +83,8 @@ pub struct Ask {
     pub goal: Goal,
     pub origin: Origin,
     pub outs: Outs,
+    /// The feeders that are empty, at which no new copy begins: none for a copy in flight.
+    pub empty: Empties,
     pub now: Tick,
 }
 

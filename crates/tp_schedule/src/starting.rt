@@ -1,5 +1,6 @@
-ghost use Rattle.std.specs.Prelude.{◌≡◌, ◌↔◌, Any, IsTrue};
+ghost use Rattle.std.specs.Prelude.{◌≡◌, ◌↔◌, Any, IsTrue, not};
 ghost use Rattle.std.specs.List.{list_any};
+ghost use Rattle.tp_schedule.specs.LocationSets.{has};
 ghost use Rattle.tp_schedule.specs.Routes.{IsStart, fresh};
 
 use crate::parts::{Ask, Origin};
@@ -24,12 +25,24 @@ fn is_at_feeder(feeders: &[Feeder], sheet: &Sheet, state: State) -> bool
     feeders.iter().any(|feeder| feeder.media == sheet.media && state == new_sheet(feeder.loc))
 }
 
+impl Ask {
+    /// Whether the location isn't an empty feeder, so that a new copy may begin there.
+    pub fn may_begin_at(&self, loc: LocId) -> bool
+        ensures { result ≡ not (has self.entry.now.empty loc) }
+    {
+        loc.0 >= 256 || !self.empty.has(loc)
+    }
+}
+
 /// Whether the state is a start state of the ask.
 pub fn is_start(machine: &Machine, ask: &Ask, state: State) -> bool
     ensures { IsTrue result ↔ IsStart machine.now ask.entry.now state }
 {
     match ask.origin {
-        Origin::Feeder => is_at_feeder(machine.feeders.as_slice(), &ask.want, state),
+        Origin::Feeder => {
+            let fresh = is_at_feeder(machine.feeders.as_slice(), &ask.want, state);
+            fresh && ask.may_begin_at(state.loc)
+        }
         Origin::Front { state: front, .. } => state == front,
     }
 }

@@ -9,7 +9,7 @@ use Rattle.tp_schedule.specs.declared.parts.Origin.{Origin}
 use Rattle.tp_schedule.specs.declared.parts.Origin.TheVariants.{Feeder as FromFeeder, Front as FromFront}
 use Rattle.tp_schedule.specs.declared.parts.Plan.{Plan}
 use Rattle.tp_routes.specs.Tables.{IsKnownOrigin}
-use Rattle.tp_routes.proofs.RoomFacts.{start_known}
+use Rattle.tp_routes.proofs.RoomFacts.{fresh_start_known}
 use Rattle.tp_search.specs.Searching.{AreOpenGoals, IsSearching}
 use Rattle.tp_search.specs.Stores.{HasBounds, StoreValue, empty_store}
 use Rattle.tp_search.specs.declared.goals.OpenGoal.{OpenGoal}
@@ -21,7 +21,7 @@ pub asked-known : (machine : Machine) (plans : List Plan) (ask : Ask) → IsAske
 asked-known machine plans ask asked = go ask.origin asked where
   go : (o : Origin) → IsAskedFrom machine plans ask o → IsKnownOrigin machine o
   go FromFeeder is = tt
-  go (FromFront state end count) (p, there, front) = walk_within machine ask.want p.acts front.start state (start_known machine (record ask { origin = FromFeeder }) front.start tt front.starts) front.leads
+  go (FromFront state end count) (p, there, front) = walk_within machine ask.want p.acts front.start state (fresh_start_known machine ask.want front.start front.starts) front.leads
 
 -- the start floor is no earlier than the moment
 floor-later : (machine : Machine) (plans : List Plan) (now : ℕ) (o : Origin) → HasTimeFrom plans now o → now ≤ start_floor machine now o

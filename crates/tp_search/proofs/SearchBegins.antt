@@ -39,7 +39,7 @@ goal-incomplete machine ask state is-machine known is = go ask.origin refl where
       goal-placed machine ask state ask.goal known is (subst (IsOpenPlace machine) (sym loc) place.1)
 
   go : (origin : Origin) → ask.origin ≡ origin → IsCompleteFrom machine ask (going state []) origin → ⊥
-  go FromFeeder from (first, leads, start) = fed first leads (subst (λ o. IsStartFrom machine ask.want o first) from start)
+  go FromFeeder from (first, leads, start) = fed first leads (subst (λ o. IsStartFrom machine ask o first) from start).0
   go (FromFront state' end count) from halted = absurd (true≢false (sym halted))
 
 searching-empty : (machine : Machine) (plans : List Plan) (ask : Ask) (goals : List OpenGoal) (room base width : ℕ) → AreOpenGoals machine plans ask goals → HasBounds machine ask (empty_store room base width)

@@ -13,10 +13,10 @@ use Rattle.tp_search.specs.WayLaws.{CompleteStart, GoingIncomplete, StartComplet
 
 -- the one first state of a complete list is a start state
 start-of : (machine : Machine) (ask : Ask) (list : ChoiceList) (first : State) (o : Origin) → ((other : State) → IsFirstState machine ask list other → other ≡ first) → (ask.origin ≡ o)
-    → (IsTrue list.stopped → CanStop machine ask list o) → IsCompleteFrom machine ask list o → IsStartFrom machine ask.want o first
+    → (IsTrue list.stopped → CanStop machine ask list o) → IsCompleteFrom machine ask list o → IsStartFrom machine ask o first
 start-of machine ask list first FromFeeder only is can complete =
-    let start : IsStartFrom machine ask.want FromFeeder complete.0 = subst (λ o. IsStartFrom machine ask.want o complete.0) is complete.2 in
-    subst (λ s. IsStartFrom machine ask.want FromFeeder s) (only complete.0 complete.1) start
+    let start : IsStartFrom machine ask FromFeeder complete.0 = subst (λ o. IsStartFrom machine ask o complete.0) is complete.2 in
+    subst (λ s. IsStartFrom machine ask FromFeeder s) (only complete.0 complete.1) start
 start-of machine ask list first (FromFront state end count) only is can complete = sym (only state (can complete).1)
 
 pub complete-start : CompleteStart

@@ -8,6 +8,7 @@ use Rattle.std.proofs.lemmas.Option.{get_or_from_slice_get, slice_get_within}
 use Rattle.tp_machine.specs.declared.parts.LocId.{LocId}
 use Rattle.tp_machine.specs.declared.parts.Sheet.{Sheet}
 use Rattle.tp_machine.specs.declared.whole.Machine.{Machine}
+use Rattle.tp_schedule.specs.LocationSets.{nowhere}
 use Rattle.tp_schedule.specs.Answers.{IsAlternative, KeepsFloors, NoneBefore}
 use Rattle.tp_schedule.specs.Legality.{IsLegal}
 use Rattle.tp_schedule.specs.Planning.{CanAsk, none_exempt}
@@ -85,12 +86,12 @@ module _ (machine : Machine) (name tray media : List ℕ) (groups : List GroupFo
 
   -- its ask
   pub ask-first : (want : Sheet) (place : LocId) → tray_named machine tray ≡ Some place
-      → record { sheet = record { job = length s.jobs; number = 1; copy = 1 }; name = name; want = want; goal = Tray place; origin = FromFeeder; outs = s.outs; now = s.now } ≡ ask_waiting next (copy want)
+      → record { sheet = record { job = length s.jobs; number = 1; copy = 1 }; name = name; want = want; goal = Tray place; origin = FromFeeder; outs = s.outs; empty = nowhere; now = s.now } ≡ ask_waiting next (copy want)
   ask-first want place named =
       let last = last-job s.jobs (new_job machine name tray groups) in
       let name-is : job_name_in (slice_get next.jobs (length s.jobs)) ≡ name = ap job_name_in last in
       let tray-is : tray_in (slice_get next.jobs (length s.jobs)) ≡ place = ap tray_in last ∙ ap given_tray named in
-      λ k. record { sheet = record { job = length s.jobs; number = 1; copy = 1 }; name = sym name-is k; want = want; goal = Tray (sym tray-is k); origin = FromFeeder; outs = s.outs; now = s.now }
+      λ k. record { sheet = record { job = length s.jobs; number = 1; copy = 1 }; name = sym name-is k; want = want; goal = Tray (sym tray-is k); origin = FromFeeder; outs = s.outs; empty = nowhere; now = s.now }
 
   waits-next : (w : WaitingCopy) → first_copy s media groups ≡ Some w → Contains next.waiting w
   waits-next w first =

@@ -2,6 +2,7 @@
 
 ghost use Rattle.std.specs.Prelude.{◌≡◌, ◌<◌, ◌^◌, ℕ, length, slice_get, Some, IfErr, IfOk, IsTrue};
 ghost use Rattle.tp_jobs.specs.Waiting.{sheets_of};
+ghost use Rattle.tp_schedule.specs.LocationSets.{nowhere};
 ghost use Rattle.tp_schedule.specs.Planning.{CanAsk};
 ghost use Rattle.tp_schedule.specs.declared.parts.Goal.TheVariants.{Tray};
 ghost use Rattle.tp_schedule.specs.declared.parts.Origin.TheVariants.{Feeder};
@@ -15,7 +16,7 @@ ghost use Rattle.tp_turn.specs.Ready.{CanTakeEvents, last_copy};
 use crate::probe::Probe;
 use tp_base::{Name, Network, Undo};
 use tp_machine::{LocId, Machine, Sheet};
-use tp_schedule::{Ask, Goal, Origin, Schedule, SheetId};
+use tp_schedule::{Ask, Empties, Goal, Origin, Schedule, SheetId};
 use tp_script::{Event, Group};
 use tp_search::{Engine, NoPlan};
 use tp_turn::LiveState;
@@ -44,6 +45,7 @@ fn make_ask(state: &LiveState, name: Name, want: Sheet, tray: LocId) -> Ask
       goal = Tray tray;
       origin = Feeder;
       outs = state.now.outs;
+      empty = nowhere;
       now = state.now.moment;
     } }
 {
@@ -58,6 +60,7 @@ fn make_ask(state: &LiveState, name: Name, want: Sheet, tray: LocId) -> Ask
         goal: Goal::Tray(tray),
         origin: Origin::Feeder,
         outs: state.outs,
+        empty: Empties::none(),
         now: state.moment,
     }
 }

@@ -135,7 +135,7 @@ module _ {N C : Type 0} (net : N → Net) (content : N → C) (past : N → List
 
 -- the branch may be split: it is not complete
 abbrev pub IsOpen : Machine → Ask → Branch → Type 0
-IsOpen machine ask r = hold_of machine r ≡ None → is_begun machine ask.want ask.origin r.first ≡ false
+IsOpen machine ask r = hold_of machine r ≡ None → is_begun machine ask ask.origin r.first ≡ false
 
 -- a way was gone: its node leaves what is due behind it, or the board carries a branch that is split, below which the walk is
 -- to go on

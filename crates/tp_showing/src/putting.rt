@@ -132,10 +132,13 @@ fn is_at_feeder(feeders: &[Feeder], ask: &Ask, state: State) -> bool
 
 /// Whether a new copy begins in this state.
 pub(crate) fn is_begun(machine: &Machine, ask: &Ask, state: State) -> bool
-    ensures { result ≡ is_begun machine.now ask.entry.now.want ask.entry.now.origin state }
+    ensures { result ≡ is_begun machine.now ask.entry.now ask.entry.now.origin state }
 {
     match ask.origin {
-        Origin::Feeder => is_at_feeder(machine.feeders.as_slice(), ask, state),
+        Origin::Feeder => {
+            let fresh = is_at_feeder(machine.feeders.as_slice(), ask, state);
+            fresh && ask.may_begin_at(state.loc)
+        }
         Origin::Front { .. } => false,
     }
 }
@@ -145,7 +148,7 @@ fn is_complete(scene: Scene, branch: Branch) -> bool
     requires { IfSome branch.newest (λ (act : ActId). act.0
         < length scene.machine.now.actions) }
     ensures { result ≡ false → hold_of scene.entry.machine.now branch ≡ None
-        → is_begun scene.entry.machine.now scene.entry.ask.now.want scene.entry.ask.now.origin
+        → is_begun scene.entry.machine.now scene.entry.ask.now scene.entry.ask.now.origin
         branch.first ≡ false }
 {
     match branch.next_hold(scene.machine) {
@@ -178,7 +181,7 @@ pub(crate) fn put_carried<N: Network>(
         (λ rows. kids_of scene.entry.machine.now board.old.plans scene.entry.ask.now rows
         (branch_by child x)))) }
     ensures splits { IfOk result (λ o. IfSome o (λ _. hold_of scene.entry.machine.now child ≡ None
-        → is_begun scene.entry.machine.now scene.entry.ask.now.want scene.entry.ask.now.origin
+        → is_begun scene.entry.machine.now scene.entry.ask.now scene.entry.ask.now.origin
         child.first ≡ false)) }
     ensures since { IsSince N.net N.content N.past N.mark_room board.old board.new
         scene.entry.machine.now }

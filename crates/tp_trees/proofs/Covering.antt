@@ -145,13 +145,13 @@ module _ (machine : Machine) (plans : List Plan) (ask : Ask) (rows : List TreeRo
   children-met b more going (there _ whole) o next e =
       let none : o ≡ None = sym next ∙ whole.full in
       let begun = whole.complete going in
-      let e' : cond (is_begun machine ask.want ask.origin b.first) None (Some (stop_due machine plans ask rows b ++ actions_due machine plans ask rows b)) ≡ Some more = subst (λ k. children_of machine plans ask rows b k ≡ Some more) none e in
+      let e' : cond (is_begun machine ask ask.origin b.first) None (Some (stop_due machine plans ask rows b ++ actions_due machine plans ask rows b)) ≡ Some more = subst (λ k. children_of machine plans ask rows b k ≡ Some more) none e in
       let no : cond true None (Some (stop_due machine plans ask rows b ++ actions_due machine plans ask rows b)) ≡ Some more = subst (λ k. cond k None (Some (stop_due machine plans ask rows b ++ actions_due machine plans ask rows b)) ≡ Some more) begun e' in
       absurd cc
   children-met b more going (by_action act before _ _ full going' lengths few allowed step way) o next e =
       let none : o ≡ None = sym next ∙ full in
-      let e' : cond (is_begun machine ask.want ask.origin b.first) None (Some (stop_due machine plans ask rows b ++ actions_due machine plans ask rows b)) ≡ Some more = subst (λ k. children_of machine plans ask rows b k ≡ Some more) none e in
-      let is : stop_due machine plans ask rows b ++ actions_due machine plans ask rows b ≡ more = unless (is_begun machine ask.want ask.origin b.first) (stop_due machine plans ask rows b ++ actions_due machine plans ask rows b) more e' in
+      let e' : cond (is_begun machine ask ask.origin b.first) None (Some (stop_due machine plans ask rows b ++ actions_due machine plans ask rows b)) ≡ Some more = subst (λ k. children_of machine plans ask rows b k ≡ Some more) none e in
+      let is : stop_due machine plans ask rows b ++ actions_due machine plans ask rows b ≡ more = unless (is_begun machine ask ask.origin b.first) (stop_due machine plans ask rows b ++ actions_due machine plans ask rows b) more e' in
       let a = step-action machine ask.want act before b.first step in
       let within = slice_get_within machine.actions act.0 a.0 a.1 in
       let found = before-is machine ask.want act before b.first step in
@@ -165,8 +165,8 @@ module _ (machine : Machine) (plans : List Plan) (ask : Ask) (rows : List TreeRo
       (places b rule 0, subst (λ ds. Contains ds (places b rule 0)) is (Contains-here (places b rule 0) []), record { next = next'; going = going; place = place; from = omega arith; within = le; way = way })
   children-met b more going (by_stop _ _ full going' some front way) o next e =
       let none : o ≡ None = sym next ∙ full in
-      let e' : cond (is_begun machine ask.want ask.origin b.first) None (Some (stop_due machine plans ask rows b ++ actions_due machine plans ask rows b)) ≡ Some more = subst (λ k. children_of machine plans ask rows b k ≡ Some more) none e in
-      let is : stop_due machine plans ask rows b ++ actions_due machine plans ask rows b ≡ more = unless (is_begun machine ask.want ask.origin b.first) (stop_due machine plans ask rows b ++ actions_due machine plans ask rows b) more e' in
+      let e' : cond (is_begun machine ask ask.origin b.first) None (Some (stop_due machine plans ask rows b ++ actions_due machine plans ask rows b)) ≡ Some more = subst (λ k. children_of machine plans ask rows b k ≡ Some more) none e in
+      let is : stop_due machine plans ask rows b ++ actions_due machine plans ask rows b ≡ more = unless (is_begun machine ask ask.origin b.first) (stop_due machine plans ask rows b ++ actions_due machine plans ask rows b) more e' in
       let here : Contains (stop_due machine plans ask rows b) (stop b) = rw (front, some) (Contains-here (stop b) []) in
       (stop b, subst (λ ds. Contains ds (stop b)) is (left-of (stop_due machine plans ask rows b) (actions_due machine plans ask rows b) (stop b) here), way)
 

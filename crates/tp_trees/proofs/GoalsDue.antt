@@ -21,6 +21,7 @@ use Rattle.tp_machine.specs.declared.parts.Want.TheVariants.{Blank, Mono, Colour
 use Rattle.tp_machine.specs.declared.whole.Machine.{Machine}
 use Rattle.tp_machine.proofs.MachineFacts.{is_machine}
 use Rattle.tp_schedule.specs.Answers.{IsAsked, IsAskedFrom}
+use Rattle.tp_schedule.specs.LocationSets.{has}
 use Rattle.tp_schedule.specs.Routes.{IsFreshStart, IsGoalState, IsStartFrom, Reaches, finished, fresh, is_wanted, walk}
 use Rattle.tp_schedule.specs.declared.parts.Ask.{Ask}
 use Rattle.tp_schedule.specs.declared.parts.Goal.{Goal}
@@ -97,8 +98,8 @@ walk-wanted machine sheet (act ∷ acts) s g ok e =
 fresh-wanted : (machine : Machine) (sheet : Sheet) (s : State) → IsFreshStart machine sheet s → is_done_wanted sheet s ≡ true
 fresh-wanted machine sheet s any = subst (λ q. is_done_wanted sheet q ≡ true) (sym (any.4.1)) refl
 
-start-wanted : (machine : Machine) (plans : List Plan) (ask : Ask) (s : State) (o : Origin) → IsAskedFrom machine plans ask o → IsStartFrom machine ask.want o s → is_done_wanted ask.want s ≡ true
-start-wanted machine plans ask s FromFeeder asked start = fresh-wanted machine ask.want s start
+start-wanted : (machine : Machine) (plans : List Plan) (ask : Ask) (s : State) (o : Origin) → IsAskedFrom machine plans ask o → IsStartFrom machine ask o s → is_done_wanted ask.want s ≡ true
+start-wanted machine plans ask s FromFeeder asked start = fresh-wanted machine ask.want s start.0
 start-wanted machine plans ask s (FromFront state end count) (p, planned, front) start =
     subst (λ q. is_done_wanted ask.want q ≡ true) (sym start) (walk-wanted machine ask.want p.acts front.start state (fresh-wanted machine ask.want front.start front.starts) front.leads)
 
@@ -138,5 +139,7 @@ begun-any feeders sheet s k f within here media is =
     let st : is_same_state s (fresh f.loc) ≡ true = subst (λ q. is_same_state s q ≡ true) is (same_state-refl s) in
     list_any-from_Any (λ q. bytes_eq q.media sheet.media && is_same_state s (fresh q.loc)) feeders (k, f, within, here, and-from (bytes_eq f.media sheet.media) (is_same_state s (fresh f.loc)) m st)
 
-pub start-begun : (machine : Machine) (sheet : Sheet) (s : State) → IsFreshStart machine sheet s → is_begun machine sheet FromFeeder s ≡ true
-start-begun machine sheet s any = begun-any machine.feeders sheet s any.0 any.1 any.2 any.3 any.4.0 any.4.1
+pub start-begun : (machine : Machine) (ask : Ask) (s : State) → IsStartFrom machine ask FromFeeder s → is_begun machine ask FromFeeder s ≡ true
+start-begun machine ask s (any, free) =
+    let fresh-one = begun-any machine.feeders ask.want s any.0 any.1 any.2 any.3 any.4.0 any.4.1 in
+    and-from (list_any (λ q. bytes_eq q.media ask.want.media && is_same_state s (fresh q.loc)) machine.feeders) (not (has ask.empty s.loc)) fresh-one (rw free refl)

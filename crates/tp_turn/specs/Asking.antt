@@ -4,6 +4,7 @@ use Rattle.std.specs.Bool.{MatchBool}
 use Rattle.std.specs.List.{list_any}
 use Rattle.tp_machine.specs.declared.whole.Machine.{Machine}
 use Rattle.tp_schedule.specs.Living.{live_count}
+use Rattle.tp_schedule.specs.LocationSets.{nowhere}
 use Rattle.tp_schedule.specs.Planning.Deed.{replied}
 use Rattle.tp_schedule.specs.declared.parts.Ask.{Ask}
 use Rattle.tp_schedule.specs.declared.parts.Goal.TheVariants.{Tray}
@@ -37,6 +38,7 @@ ask_waiting s w = record {
   goal = Tray (tray_of s.jobs w.sheet);
   origin = FromFeeder;
   outs = s.outs;
+  empty = nowhere;
   now = s.now;
 }
 

@@ -7,6 +7,7 @@ use Rattle.tp_machine.specs.declared.parts.LocId.{LocId}
 use Rattle.tp_machine.specs.declared.parts.ModId.{ModId}
 use Rattle.tp_machine.specs.declared.parts.State.{State}
 use Rattle.tp_machine.specs.declared.whole.Machine.{Machine}
+use Rattle.tp_schedule.specs.LocationSets.{nowhere}
 use Rattle.tp_schedule.specs.Answers.{kept_acts}
 use Rattle.tp_schedule.specs.Planning.{Due}
 use Rattle.tp_schedule.specs.Planning.Due.{asking, settling}
@@ -60,6 +61,7 @@ ask_in_flight machine s p = record {
   goal = p.goal;
   origin = FromFront (state_after machine p) (end_of_plan p) (length p.acts);
   outs = s.outs;
+  empty = nowhere;
   now = s.now;
 }
 

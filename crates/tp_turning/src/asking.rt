@@ -18,7 +18,7 @@ ghost use Rattle.tp_turning.specs.Stops.{NotesStop, StopsAtCopy};
 use std::alloc::Global;
 use tp_jobs::Blocked;
 use tp_machine::{Machine, machine_law};
-use tp_schedule::{Ask, Goal, Halt, Origin, Planner, Record, Reply, Schedule, SheetId};
+use tp_schedule::{Ask, Empties, Goal, Halt, Origin, Planner, Record, Reply, Schedule, SheetId};
 use tp_telling::{label, tell_full, tell_reply};
 use tp_turn::LiveState;
 
@@ -39,6 +39,7 @@ fn make_ask(state: &LiveState, copy: SheetId) -> Ask
         goal: Goal::Tray(state.lines.tray_of(copy.job)),
         origin: Origin::Feeder,
         outs: state.outs,
+        empty: Empties::none(),
         now: state.moment,
     }
 }

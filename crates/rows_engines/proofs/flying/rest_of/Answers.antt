@@ -19,5 +19,5 @@ returns-clause-can_ask c =
     let is = c.in-Some.is in let walked = c.walk_on.ensures in let acts = c.as_slice.ensures.items in cc
     in
     subst (CanAsk machine plans) (sym c.ask_after-2.ensures) (can_ask-front machine plans front c.args.goal first c.in-Some.state c.get-end.result c.in_ok-kept.kept c.requires.plan_on one c.plan_at-front.ensures.plan
-    c.in_ok-kept.ensures c.get-end.ensures above (subst (λ (ask : Ask). IsStart machine ask first) c.ask_after.ensures (c.is_start.ensures.0 c.if-not-is_start.false)) leads
+    c.in_ok-kept.ensures c.get-end.ensures above (subst (λ (ask : Ask). IsStart machine ask first) c.ask_after.ensures (c.is_start.ensures.0 c.if-not-is_start.false)).0 leads
     (sym c.is_plan_live.ensures ∙ c.if-not-is_plan_live.false) (c.requires.goal (ask_after front c.args.goal (FromFront c.in-Some.state c.get-end.result c.in_ok-kept.kept))))
