@@ -155,5 +155,8 @@ fn refusals(rt: HostRuntime) -> Result<(), Fail> {
     is_refused(alloc, Cause::End, b"refused end\n")?;
     is_refused(alloc, Cause::Module(name), b"refused module x\n")?;
     is_refused(alloc, Cause::Out(name), b"refused out x\n")?;
-    is_refused(alloc, Cause::NotOn(name), b"refused noton x\n")
+    is_refused(alloc, Cause::NotOn(name), b"refused noton x\n")?;
+    is_refused(alloc, Cause::Feeder(name), b"refused feeder x\n")?;
+    is_refused(alloc, Cause::Endless(name), b"refused endless x\n")?;
+    is_refused(alloc, Cause::Stock(name), b"refused stock x\n")
 }

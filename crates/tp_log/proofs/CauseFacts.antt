@@ -9,7 +9,7 @@ use Rattle.tp_words.proofs.Steps.{and_then_some}
 use Rattle.tp_words.proofs.Spelling.{Tells, name_spells, number_spells}
 use Rattle.tp_words.proofs.Texts.{AllVisible, name_visible, number_visible}
 use Rattle.tp_schedule.specs.declared.recording.Cause.{Cause}
-use Rattle.tp_schedule.specs.declared.recording.Cause.TheVariants.{Syntax, Tray, Media, Named, Waiting, Back, End, «Module», Out, NotOn}
+use Rattle.tp_schedule.specs.declared.recording.Cause.TheVariants.{Syntax, Tray, Media, Named, Waiting, Back, End, «Module», Out, NotOn, Feeder, Endless, Stock}
 use Rattle.tp_log.specs.declared.reason.Reason.{Reason}
 use Rattle.tp_log.specs.declared.reason.Reason.TheVariants as reasons
 use Rattle.tp_log.specs.Headings.{reason_text, reason_of, reasons as all_reasons}
@@ -46,6 +46,9 @@ after_takes reasons.End words c e = bare_made End (reason_text reasons.End) refl
 after_takes reasons.«Module» words c e = one_made cause_words IsCause name_spells (λ n. «Module» n) (reason_text reasons.«Module») (λ n. refl) (λ n h. h) words c e
 after_takes reasons.Out words c e = one_made cause_words IsCause name_spells (λ n. Out n) (reason_text reasons.Out) (λ n. refl) (λ n h. h) words c e
 after_takes reasons.NotOn words c e = one_made cause_words IsCause name_spells (λ n. NotOn n) (reason_text reasons.NotOn) (λ n. refl) (λ n h. h) words c e
+after_takes reasons.Feeder words c e = one_made cause_words IsCause name_spells (λ n. Feeder n) (reason_text reasons.Feeder) (λ n. refl) (λ n h. h) words c e
+after_takes reasons.Endless words c e = one_made cause_words IsCause name_spells (λ n. Endless n) (reason_text reasons.Endless) (λ n. refl) (λ n h. h) words c e
+after_takes reasons.Stock words c e = one_made cause_words IsCause name_spells (λ n. Stock n) (reason_text reasons.Stock) (λ n. refl) (λ n h. h) words c e
 
 pub cause_takes : (words : List (List ℕ)) (c : Cause) → cause_of words ≡ Some c → Tells cause_words IsCause words c
 unfolding cause_of
@@ -66,6 +69,9 @@ cause_again End h = refl
 cause_again («Module» n) h = ap (option_map (λ n. «Module» n)) (one_again name_spells n h)
 cause_again (Out n) h = ap (option_map (λ n. Out n)) (one_again name_spells n h)
 cause_again (NotOn n) h = ap (option_map (λ n. NotOn n)) (one_again name_spells n h)
+cause_again (Feeder n) h = ap (option_map (λ n. Feeder n)) (one_again name_spells n h)
+cause_again (Endless n) h = ap (option_map (λ n. Endless n)) (one_again name_spells n h)
+cause_again (Stock n) h = ap (option_map (λ n. Stock n)) (one_again name_spells n h)
 
 pub cause_visible : (c : Cause) → IsCause c → AllVisible (cause_words c)
 cause_visible Syntax h = (refl, tt)
@@ -78,3 +84,6 @@ cause_visible End h = (refl, tt)
 cause_visible («Module» n) h = (refl, (name_visible n h, tt))
 cause_visible (Out n) h = (refl, (name_visible n h, tt))
 cause_visible (NotOn n) h = (refl, (name_visible n h, tt))
+cause_visible (Feeder n) h = (refl, (name_visible n h, tt))
+cause_visible (Endless n) h = (refl, (name_visible n h, tt))
+cause_visible (Stock n) h = (refl, (name_visible n h, tt))

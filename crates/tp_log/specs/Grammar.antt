@@ -2,7 +2,7 @@
 use Rattle.std.specs.Prelude.{ℕ, List, [], ◌∷◌, ◌++◌, Option, Some, None}
 use Rattle.std.specs.List.{AllByRecursion}
 use Rattle.tp_schedule.specs.declared.recording.Cause.{Cause}
-use Rattle.tp_schedule.specs.declared.recording.Cause.TheVariants.{Syntax as SyntaxCause, Tray, Media, Named, Waiting, Back, End, «Module», Out, NotOn}
+use Rattle.tp_schedule.specs.declared.recording.Cause.TheVariants.{Syntax as SyntaxCause, Tray, Media, Named, Waiting, Back, End, «Module», Out, NotOn, Feeder, Endless, Stock}
 use Rattle.tp_schedule.specs.declared.recording.Record.{Record}
 use Rattle.tp_schedule.specs.declared.recording.Record.TheVariants.{Plan, Move, Never, Budget, FullUp, Release, Done, Lost, Recall, Withdraw, Cut, Purge, Again, Stuck, Broken, Drop, Refused}
 use Rattle.tp_words.specs.Fields.{IsName}
@@ -29,6 +29,9 @@ IsCause End = Unit {0}
 IsCause («Module» name) = IsName name
 IsCause (Out name) = IsName name
 IsCause (NotOn name) = IsName name
+IsCause (Feeder name) = IsName name
+IsCause (Endless name) = IsName name
+IsCause (Stock name) = IsName name
 
 abbrev pub HasFields : Record → Type 0
 HasFields (Plan sheet place points acts) = IsSheet sheet × IsName place × AllByRecursion IsNumber points × AllByRecursion IsName acts

@@ -4,7 +4,7 @@ use Rattle.std.specs.Str.{bytes_eq}
 use Rattle.tp_log.specs.declared.heading.Heading.{Heading}
 use Rattle.tp_log.specs.declared.heading.Heading.TheVariants.{Plan, Move, Never, Budget, FullUp, Release, Done, Lost, Recall, Withdraw, Cut, Purge, Again, Stuck, Broken, Drop, Refused}
 use Rattle.tp_log.specs.declared.reason.Reason.{Reason}
-use Rattle.tp_log.specs.declared.reason.Reason.TheVariants.{Syntax, Tray, Media, Named, Waiting, Back, End, «Module», Out, NotOn}
+use Rattle.tp_log.specs.declared.reason.Reason.TheVariants.{Syntax, Tray, Media, Named, Waiting, Back, End, «Module», Out, NotOn, Feeder, Endless, Stock}
 
 abbrev pub heading_text : Heading → List ℕ
 heading_text Plan = codes "plan"
@@ -43,9 +43,12 @@ reason_text End = codes "end"
 reason_text «Module» = codes "module"
 reason_text Out = codes "out"
 reason_text NotOn = codes "noton"
+reason_text Feeder = codes "feeder"
+reason_text Endless = codes "endless"
+reason_text Stock = codes "stock"
 
 abbrev pub reasons : List Reason
-reasons = Syntax ∷ Tray ∷ Media ∷ Named ∷ Waiting ∷ Back ∷ End ∷ «Module» ∷ Out ∷ NotOn ∷ []
+reasons = Syntax ∷ Tray ∷ Media ∷ Named ∷ Waiting ∷ Back ∷ End ∷ «Module» ∷ Out ∷ NotOn ∷ Feeder ∷ Endless ∷ Stock ∷ []
 
 -- the reason with this text
 abbrev pub reason_of : List ℕ → Option Reason

@@ -85,6 +85,9 @@ cause_after reasons.End words = bare_of causes.End words
 cause_after reasons.«Module» words = option_map (λ n. causes.«Module» n) (one_of name_of words)
 cause_after reasons.Out words = option_map (λ n. causes.Out n) (one_of name_of words)
 cause_after reasons.NotOn words = option_map (λ n. causes.NotOn n) (one_of name_of words)
+cause_after reasons.Feeder words = option_map (λ n. causes.Feeder n) (one_of name_of words)
+cause_after reasons.Endless words = option_map (λ n. causes.Endless n) (one_of name_of words)
+cause_after reasons.Stock words = option_map (λ n. causes.Stock n) (one_of name_of words)
 
 unfoldable pub cause_of : List (List ℕ) → Option Cause
 cause_of [] = None

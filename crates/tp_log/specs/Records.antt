@@ -1,7 +1,7 @@
 -- The text of a record: one line of words with one space between.
 use Rattle.std.specs.Prelude.{◌≡◌, ℕ, ◌+◌, ◌<◌, ◌≤◌, List, [], ◌∷◌, ◌++◌, length, map, Option, Some, None, decimal, codes}
 use Rattle.tp_schedule.specs.declared.recording.Cause.{Cause}
-use Rattle.tp_schedule.specs.declared.recording.Cause.TheVariants.{Syntax, Tray, Media, Named, Waiting, Back, End, «Module», Out, NotOn}
+use Rattle.tp_schedule.specs.declared.recording.Cause.TheVariants.{Syntax, Tray, Media, Named, Waiting, Back, End, «Module», Out, NotOn, Feeder, Endless, Stock}
 use Rattle.tp_schedule.specs.declared.recording.Record.{Record}
 use Rattle.tp_schedule.specs.declared.recording.Record.TheVariants.{Plan, Move, Never, Budget, FullUp, Release, Done, Lost, Recall, Withdraw, Cut, Purge, Again, Stuck, Broken, Drop, Refused}
 use Rattle.tp_words.specs.Texts.{spaced}
@@ -29,6 +29,9 @@ cause_words End = codes "end" ∷ []
 cause_words («Module» name) = codes "module" ∷ name ∷ []
 cause_words (Out name) = codes "out" ∷ name ∷ []
 cause_words (NotOn name) = codes "noton" ∷ name ∷ []
+cause_words (Feeder name) = codes "feeder" ∷ name ∷ []
+cause_words (Endless name) = codes "endless" ∷ name ∷ []
+cause_words (Stock name) = codes "stock" ∷ name ∷ []
 
 abbrev pub record_words : Record → List (List ℕ)
 record_words (Plan sheet place points acts) = codes "plan" ∷ sheet_text sheet ∷ place ∷ turns_words points acts

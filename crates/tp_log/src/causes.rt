@@ -34,6 +34,9 @@ fn read_after(reason: Reason, words: &[&[u8]]) -> Option<Cause>
         Reason::Module => only_name(words).map(Cause::Module),
         Reason::Out => only_name(words).map(Cause::Out),
         Reason::NotOn => only_name(words).map(Cause::NotOn),
+        Reason::Feeder => only_name(words).map(Cause::Feeder),
+        Reason::Endless => only_name(words).map(Cause::Endless),
+        Reason::Stock => only_name(words).map(Cause::Stock),
     }
 }
 
@@ -68,6 +71,9 @@ pub fn put_cause(out: &mut Vec<u8>, cause: &Cause) -> Result<(), Memory>
         Cause::Module(name) => put_cause_of(out, b"module", name),
         Cause::Out(name) => put_cause_of(out, b"out", name),
         Cause::NotOn(name) => put_cause_of(out, b"noton", name),
+        Cause::Feeder(name) => put_cause_of(out, b"feeder", name),
+        Cause::Endless(name) => put_cause_of(out, b"endless", name),
+        Cause::Stock(name) => put_cause_of(out, b"stock", name),
     }
 }
 

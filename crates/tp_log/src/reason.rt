@@ -16,9 +16,12 @@ pub enum Reason {
     Module,
     Out,
     NotOn,
+    Feeder,
+    Endless,
+    Stock,
 }
 
-const REASONS: [Reason; 10] = [
+const REASONS: [Reason; 13] = [
     Reason::Syntax,
     Reason::Tray,
     Reason::Media,
@@ -29,6 +32,9 @@ const REASONS: [Reason; 10] = [
     Reason::Module,
     Reason::Out,
     Reason::NotOn,
+    Reason::Feeder,
+    Reason::Endless,
+    Reason::Stock,
 ];
 
 impl Spelled for Reason {
@@ -46,6 +52,9 @@ impl Spelled for Reason {
             Reason::Module => b"module",
             Reason::Out => b"out",
             Reason::NotOn => b"noton",
+            Reason::Feeder => b"feeder",
+            Reason::Endless => b"endless",
+            Reason::Stock => b"stock",
         }
     }
 }

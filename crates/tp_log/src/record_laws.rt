@@ -64,7 +64,10 @@ fn cause_law(cause: &Cause)
         | Cause::Named(name)
         | Cause::Module(name)
         | Cause::Out(name)
-        | Cause::NotOn(name) => name_law(name),
+        | Cause::NotOn(name)
+        | Cause::Feeder(name)
+        | Cause::Endless(name)
+        | Cause::Stock(name) => name_law(name),
     }
 }
 

@@ -9,7 +9,8 @@ pub struct SheetName {
 }
 
 /// Why an event is refused: its line is off the grammar, or it names an unknown tray or media, a job name that was taken,
-/// or a module that is unknown, out or not out; too many copies would wait; or the clock would go back or too far.
+/// a module that is unknown, out or not out, or a feeder that is unknown, endless or would hold too much; too many copies
+/// would wait; or the clock would go back or too far.
 #[derive(Clone, Copy, PartialEq, Eq, Debug)]
 pub enum Cause {
     Syntax,
@@ -23,6 +24,9 @@ pub enum Cause {
     Module(Name),
     Out(Name),
     NotOn(Name),
+    Feeder(Name),
+    Endless(Name),
+    Stock(Name),
 }
 
 /// What a log tells of an event.
