@@ -20,3 +20,4 @@ pub mod RunFacts
 pub mod SortFacts
 pub mod OrderFacts
 pub mod Without
+pub mod SetFacts

@@ -1,6 +1,8 @@
 //! Sets of locations.
 
-ghost use Rattle.std.specs.Prelude.{◌≡◌, ◌||◌, ◌==◌, ◌<◌};
+ghost use Rattle.std.specs.Prelude.{◌≡◌, ◌<◌, ◌==◌, ◌||◌};
+ghost use Rattle.tp_machine.specs.declared.parts.LocId.{LocId};
+ghost use Rattle.tp_schedule.specs.LocationSets.{word_with};
 
 use crate::parts::Empties;
 use tp_machine::LocId;
@@ -43,7 +45,9 @@ impl Empties {
     /// This set and one location more.
     pub fn with(self, loc: LocId) -> Empties
         requires { loc.0 < 256 }
-        ensures { result ≡ with self loc }
+        ensures is { result ≡ with self loc }
+        ensures members { (other : LocId) → has result other ≡ (has self other
+            || (other.0 == loc.0)) }
     {
         Empties {
             w0: word_with(loc, 0, self.w0),
