@@ -1,5 +1,5 @@
 -- Points numbered by a table, and the network of their constraints.
-use Rattle.std.specs.Prelude.{◌↔◌, ◌++◌, ◌≡◌, ◌≢◌, ℕ, zero, suc, ◌<◌, ◌==◌, Bool, false, ◌&&◌, List, [], ◌∷◌, length, map, flat_map, All, AllPairs, Contains, slice_get, Option, Some, None, if◌then◌else◌}
+use Rattle.std.specs.Prelude.{◌↔◌, ◌≡◌, ◌≢◌, ℕ, zero, suc, ◌<◌, ◌==◌, Bool, false, ◌&&◌, List, [], ◌∷◌, length, map, flat_map, All, AllPairs, Contains, slice_get, Option, Some, None, if◌then◌else◌}
 use Rattle.tp_base.specs.declared.edges.Edge.{Edge}
 use Rattle.tp_base.specs.Net.{Net}
 use Rattle.tp_schedule.specs.Plans.{IsEarlier, is_same_copy}

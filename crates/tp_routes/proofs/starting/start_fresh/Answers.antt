@@ -1,5 +1,5 @@
 -- The feeders one by one.
-use Rattle.std.proofs.Common.{◌≡◌, ◌<◌, length, get_or, arith, sym, subst, ◌∙◌}
+use Rattle.std.proofs.Common.{◌≡◌, ◌<◌, length, get_or, arith, sym, subst}
 use Rattle.tp_schedule.specs.Routes.{fresh}
 use Rattle.tp_routes.specs.Filling.{IsSum, HasAtMost, StartsUpTo}
 use Rattle.tp_routes.proofs.StartFacts.{fresh_sum, starts-more, starts-all}
