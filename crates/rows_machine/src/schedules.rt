@@ -200,6 +200,11 @@ fn a_new_copy_goes_from_a_feeder_to_its_tray(rt: &impl Abort, duo: &Machine) -> 
     };
     assert!(rt; is_start(duo, &ask, feeder));
     assert!(rt; !is_start(duo, &ask, elsewhere));
+    let without_sheets = Ask {
+        empty: Empties::none().with(LocId(0)),
+        ..ask
+    };
+    assert!(rt; !is_start(duo, &without_sheets, feeder));
     let printed = State {
         loc: LocId(3),
         up: Face::Front,
@@ -223,6 +228,16 @@ fn look_at_duo(rt: &impl Abort, alloc: Global, duo: &Machine) -> Result<(), Fail
 fn schedules_on_duo(rt: HostRuntime) -> Result<(), Fail> {
     let duo = machine_of(rt.alloc(), DUO)?;
     look_at_duo(&rt, rt.alloc(), &duo)
+}
+
+#[test]
+fn sets_of_locations(rt: HostRuntime) -> Result<(), Fail> {
+    let some = Empties::none().with(LocId(63)).with(LocId(64)).with(LocId(255));
+    for loc in 0..256 {
+        let is_in = loc == 63 || loc == 64 || loc == 255;
+        assert!(rt; some.has(LocId(loc)) == is_in);
+    }
+    Ok(())
 }
 
 fn the_resource_is_held_at_9(rt: &impl Abort, alloc: Global, tail: &Machine) -> Result<(), Fail> {

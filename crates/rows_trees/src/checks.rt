@@ -419,3 +419,19 @@ fn tray_out_of_reach(rt: HostRuntime) -> Result<(), Fail> {
     let schedule = Schedule::new(rt.alloc());
     are_told(rt.alloc(), &schedule, &ask_of(1, OUT)?, &rows)
 }
+
+#[test]
+fn feeder_without_sheets(rt: HostRuntime) -> Result<(), Fail> {
+    let text = b"b 0 goal t:F10 dead\n";
+    let schedule = Schedule::new(rt.alloc());
+    let ask = ask_of(1, Outs(0))?;
+    let without_sheets = Ask {
+        empty: Empties::none().with(LocId(0)),
+        ..ask
+    };
+    let dead: [Row; 1] = [(Claim::Never, text, None)];
+    are_told(rt.alloc(), &schedule, &without_sheets, &dead)?;
+    // Where the feeder isn't empty, it needs a row.
+    let lacking: [Row; 1] = [(Claim::Never, text, Some(TreeFlaw::RoomRow { row: 0 }))];
+    are_told(rt.alloc(), &schedule, &ask, &lacking)
+}
