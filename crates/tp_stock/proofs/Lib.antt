@@ -1,0 +1,3 @@
+pub mod StockFacts
+pub mod CountFacts
+pub mod EmptyFacts

@@ -1,0 +1,12 @@
+//! The free stock of feeders: what plans took is counted, and what is forgotten is taken off the refills.
+#![tactic(auto)]
+
+mod counting;
+mod laws;
+mod refills;
+mod stock;
+
+pub use counting::{Taken, count_taken};
+pub use laws::{forgetting_keeps_empties, forgetting_keeps_stock};
+pub use refills::Refills;
+pub use stock::{empty_feeders, free_stock};

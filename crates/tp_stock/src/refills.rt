@@ -1,0 +1,50 @@
+//! The refills of feeders.
+ghost use Rattle.std.specs.Prelude.{◌≡◌, ℕ, Bool, List, filter, get_or, not, pos, ◌+ℤ◌, ◌-ℤ◌};
+ghost use Rattle.tp_schedule.specs.declared.parts.Plan.{Plan};
+ghost use Rattle.tp_stock.specs.Stock.{IsBounded, by_location, less_taken, refilled, taken_at};
+
+use crate::counting::{Taken, count_taken};
+use tp_machine::Machine;
+use tp_schedule::Schedule;
+
+/// For the feeder at each location the sum of its refills, less the sheets that plans took which are forgotten. So a number
+/// may be below 0.
+#[derive(Clone, Copy, Debug)]
+pub struct Refills(pub [i64; 256]);
+
+/// The refills where so much was taken before, and so much of it still is.
+fn less(refills: &Refills, before: &Taken, after: &Taken) -> Refills
+    requires bounded { IsBounded refills.now.0 }
+    ensures { result.0 ≡ by_location (λ loc. (refilled refills.now.0 loc
+        +ℤ pos (get_or after.now.0 loc 0)) -ℤ pos (get_or before.now.0 loc 0)) }
+{
+    let mut left = [0i64; 256];
+    'locations: for at in 0..256 {
+        left[at] = refills.0[at] + i64::from(after.0[at]) - i64::from(before.0[at]);
+    }
+    Refills(left)
+}
+
+impl Refills {
+    ghost use Rattle.tp_stock.specs.Stock.{no_refills};
+
+    /// No feeder has been refilled.
+    pub fn none() -> Refills
+        ensures { result.0 ≡ no_refills }
+    {
+        Refills([0; 256])
+    }
+
+    /// The refills once only these plans are left of those that were counted before: what the others took is taken off.
+    /// Takes the time of all plans that are left.
+    pub fn forget(&self, machine: &Machine, before: &Taken, left: &Schedule) -> Refills
+        requires bounded { IsBounded self.now.0 }
+        ensures { (plans : List Plan) (stays : Plan → Bool)
+            → before.now.0 ≡ by_location (taken_at machine.now plans)
+            → left.now.plans ≡ filter stays plans
+            → result.0 ≡ less_taken machine.now (filter (λ p. not (stays p)) plans) self.now.0 }
+    {
+        let after = count_taken(machine, left);
+        less(self, before, &after)
+    }
+}
