@@ -13,3 +13,5 @@ pub mod SortFacts
 pub mod SlotFacts
 pub mod KeptFacts
 pub mod KeyFacts
+pub mod LinkFacts
+pub mod StepFacts

@@ -7,3 +7,4 @@ pub mod Stands
 pub mod Branches
 pub mod Looks
 pub mod Keys
+pub mod Links

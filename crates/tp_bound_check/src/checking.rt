@@ -8,6 +8,7 @@ ghost use Rattle.tp_trees.specs.Trees.{goals_due};
 ghost use Rattle.tp_trees.specs.declared.claim.TreeFlaw.TheVariants.{Memory as NoMemory};
 
 use crate::kept::{goal_states, kept_orders, live_part};
+use crate::links::{by_end, by_start};
 use crate::orders::Scene;
 use crate::rows::Rows;
 use crate::sheets::Sheets;
@@ -60,10 +61,15 @@ fn check_kept(
         Ok(goals) => goals,
         Err(memory) => return Err(wanting(memory)),
     };
+    let ends = match by_end(alloc, rows.machine) {
+        Ok(ends) => ends,
+        Err(memory) => return Err(wanting(memory)),
+    };
     let scene = Scene {
         rows: *rows,
         plans,
         orders: orders.as_slice(),
+        ends: &ends,
         limit,
     };
     scene.check_nodes(alloc, goals.as_slice(), &tree.nodes)
@@ -87,11 +93,16 @@ fn check_tree(
         Ok(table) => table,
         Err(memory) => return Err(wanting(memory)),
     };
+    let starts = match by_start(alloc, machine) {
+        Ok(starts) => starts,
+        Err(memory) => return Err(wanting(memory)),
+    };
     let rows = Rows {
         machine,
         ask,
         rows: &tree.rows,
         table: &table,
+        starts: &starts,
     };
     match rows.first_bad(alloc) {
         Ok(None) => check_kept(alloc, &rows, plans, limit, tree),

@@ -46,6 +46,6 @@ pub(crate) enum Frame {
     Acts {
         branch: Branch,
         with_stop: bool,
-        at: u16,
+        at: Option<u16>,
     },
 }

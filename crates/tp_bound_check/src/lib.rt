@@ -11,6 +11,7 @@ mod found;
 mod hops;
 mod index;
 mod kept;
+mod links;
 mod naming;
 mod nodes;
 mod opening;

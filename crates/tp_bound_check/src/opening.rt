@@ -1,8 +1,9 @@
 //! What is due below a node that is split.
-ghost use Rattle.std.specs.Prelude.{◌≡◌, ◌+◌, ◌<◌, ◌^◌, ◌&&◌, length, slice_get, None, IfOk, IfErr, List, nat_lt, if◌then◌else◌};
+ghost use Rattle.std.specs.Prelude.{◌≡◌, ◌+◌, ◌<◌, ◌^◌, ◌&&◌, length, slice_get, None, IfOk, IfSome, IfErr, List, nat_lt, if◌then◌else◌};
 ghost use Rattle.std.specs.List.{list_any};
 ghost use Rattle.std.specs.Str.{bytes_eq};
-ghost use Rattle.tp_bound_check.specs.Looks.{IsFaultOf, IsSoundFrame, dues_of};
+ghost use Rattle.tp_bound_check.specs.Looks.{IsActOf, IsFaultOf, IsSoundFrame, dues_of};
+ghost use Rattle.tp_bound_check.specs.Links.{ends_of, next_at};
 ghost use Rattle.tp_machine.specs.Using.{action_at};
 ghost use Rattle.tp_machine.specs.declared.parts.State.{State};
 ghost use Rattle.tp_schedule.specs.Answers.{kept_of};
@@ -18,7 +19,7 @@ use crate::dues::{Fault, Frame};
 use crate::orders::{Scene, holds_of};
 use crate::stands::Stand;
 use crate::states::is_same_state;
-use tp_machine::{ActId, Feeder, HoldRule, Machine, State, machine_law};
+use tp_machine::{ActId, Feeder, HoldRule, Machine, State};
 use tp_schedule::{Origin, new_sheet};
 
 /// The hold of the action that has no place yet.
@@ -101,18 +102,17 @@ impl<'a> Scene<'a> {
         }
     }
 
-    /// The first of the actions that may go before a branch, or the number of all where none may.
-    fn first_act(&self, branch: &Branch) -> u16
+    /// The first of the actions that lead to a branch, if one more may go before it.
+    fn first_act(&self, branch: &Branch) -> Option<u16>
         ensures none { result ≡ (if nat_lt (kept_of self.now.rows.ask.now + length
-            branch.now.x.choices) 64 then 0 else length self.now.rows.machine.now.actions) }
-        ensures few { result < length self.now.rows.machine.now.actions → length
-            branch.now.x.choices < 64 }
+            branch.now.x.choices) 64 then next_at branch.now.first.loc.0 0 (ends_of
+            self.now.rows.machine.now) else None) }
+        ensures sound { IfSome result (IsActOf self.now.rows.machine.now branch.now) }
     {
-        machine_law(self.rows.machine);
         if self.kept() + u64::from(branch.count()) < 64 {
-            0
+            self.ends.first(branch.first().loc.0)
         } else {
-            self.rows.machine.actions.len() as u16
+            None
         }
     }
 

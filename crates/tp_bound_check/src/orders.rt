@@ -3,6 +3,7 @@ ghost use Rattle.std.specs.Prelude.{◌≡◌, ◌<◌, ◌≤◌, ◌^◌, leng
 ghost use Rattle.tp_bound_check.specs.Branches.{newest_in};
 ghost use Rattle.tp_bound_check.specs.Founds.{IsBelow, IsTrack, found_in, track_of};
 ghost use Rattle.tp_bound_check.specs.Keys.{start_key};
+ghost use Rattle.tp_bound_check.specs.Links.{ends_of};
 ghost use Rattle.tp_bound_check.specs.Points.{HasOffsets};
 ghost use Rattle.tp_bound_check.specs.Stands.{AreOrders};
 ghost use Rattle.tp_constraints.specs.Suffixes.{order_in};
@@ -16,6 +17,7 @@ ghost use Rattle.tp_trees.specs.Places.{next_rule};
 use crate::branch::Branch;
 use crate::found::{Ends, Found, Leg, Track};
 use crate::index::{StartKey, places_of, start_key};
+use crate::links::Links;
 use crate::points::{Point, Slot};
 use crate::rows::Rows;
 use crate::sheets::Sheets;
@@ -101,9 +103,11 @@ pub(crate) struct Scene<'a> {
     pub(crate) rows: Rows<'a>,
     pub(crate) plans: &'a Sheets,
     pub(crate) orders: &'a [Order],
+    pub(crate) ends: &'a Links,
     pub(crate) limit: i64,
     pub(crate) ghost ordered: { IsOrdered plans.now },
     pub(crate) ghost in_order: { AreOrders rows.machine.now plans.now orders.now },
+    pub(crate) ghost ending: { ends.now.places.items ≡ ends_of rows.machine.now },
 }
 
 /// The holds of the action.

@@ -2,6 +2,7 @@
 ghost use Rattle.std.specs.Prelude.{◌≡◌, ◌+◌, ◌<◌, ◌≤◌, [], ◌∷◌, ◌++◌, length, IfOk, None, Some, true, false, not, ◌&&◌, ◌||◌, set, slice_index_or, slice_get, replicate, vec_len, List, ◌*◌};
 ghost use Rattle.std.specs.List.{list_all, list_any};
 ghost use Rattle.std.specs.Str.{bytes_eq};
+ghost use Rattle.tp_bound_check.specs.Links.{starts_of};
 ghost use Rattle.tp_bound_check.specs.Tables.{AreRooms, AreSeen, is_among, place_of};
 ghost use Rattle.tp_schedule.specs.LocationSets.{has};
 ghost use Rattle.tp_schedule.specs.Routes.{fresh, is_act_allowed, least_of, step_by};
@@ -9,22 +10,25 @@ ghost use Rattle.tp_trees.specs.Rows.{is_state, row_of, state_of};
 ghost use Rattle.tp_trees.specs.Flaws.{are_starts_kept, are_steps_kept, bad_row, bad_row_from, has_row_by, is_good_row, is_row_after, is_row_of, is_step_kept};
 ghost use Rattle.tp_bounds.specs.declared.tree.TreeRow.{TreeRow};
 
+use crate::links::Links;
 use crate::table::{Table, place_of, state_of};
 use std::alloc::{AllocError, Global};
 use tp_base::Memory;
 use tp_bounds::{TreeRow, TreeRows};
-use tp_machine::{ActId, Feeder, Machine, State, allowed, machine_law, step};
+use tp_machine::{ActId, Feeder, Machine, State, allowed, step};
 use tp_schedule::{Ask, Origin, new_sheet};
 
-/// Rows for an ask, with a table of them.
+/// Rows for an ask, with a table of them, and the actions by where they start.
 #[derive(Clone, Copy)]
 pub(crate) struct Rows<'a> {
     pub(crate) machine: &'a Machine,
     pub(crate) ask: &'a Ask,
     pub(crate) rows: &'a TreeRows,
     pub(crate) table: &'a Table,
+    pub(crate) starts: &'a Links,
     pub(crate) ghost rooms: { AreRooms machine.now rows.now table.now.firsts.items
         table.now.leasts.items },
+    pub(crate) ghost starting: { starts.now.places.items ≡ starts_of machine.now },
 }
 
 impl<'a> Rows<'a> {
@@ -69,12 +73,14 @@ impl<'a> Rows<'a> {
         ensures { result ≡ are_steps_kept self.now.machine.now self.now.ask.now self.now.rows.now
             state room (length self.now.machine.now.actions) }
     {
-        machine_law(self.machine);
-        let mut kept = true;
-        'acts: for act in 0..self.machine.actions.len() as u16 {
-            kept = kept && self.is_step_kept(state, room, act);
+        let mut cursor = self.starts.first(state.loc.0);
+        'acts: while let Some(act) = cursor {
+            if !self.is_step_kept(state, room, act) {
+                return false;
+            }
+            cursor = self.starts.after(act);
         }
-        kept
+        true
     }
 
     /// Whether the row is of a location's state that was not seen, and the steps from it are kept.

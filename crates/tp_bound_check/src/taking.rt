@@ -1,16 +1,17 @@
 //! The first of what is due.
 ghost use Rattle.std.specs.Prelude.{◌≡◌, ℕ, ◌+◌, ◌-◌, ◌<◌, ◌≤◌, ◌^◌, [], ◌∷◌, ◌++◌, length, Some, None, Option, IfOk, IfSome, IfNone, MatchOption, List, if◌then◌else◌};
-ghost use Rattle.tp_bound_check.specs.Looks.{IsSoundDue, IsSoundFrame, acts_from, due_by, dues_of};
+ghost use Rattle.tp_bound_check.specs.Looks.{IsActOf, IsSoundDue, IsSoundFrame, acts_at, due_by, dues_of};
 ghost use Rattle.tp_machine.specs.Using.{action_at};
 ghost use Rattle.tp_schedule.specs.Routes.{is_act_allowed};
 ghost use Rattle.tp_trees.specs.Places.{next_rule, places_from, state_before};
+ghost use Rattle.tp_trees.specs.Places.Due.{action};
 ghost use Rattle.tp_bound_check.specs.declared.dues.Frame.TheVariants.{Goals};
 ghost use Rattle.tp_machine.specs.declared.parts.State.{State};
 
 use crate::branch::Branch;
 use crate::dues::{Frame, Next};
 use crate::orders::Scene;
-use tp_machine::{ActId, HoldRule, State, allowed, machine_law, regress};
+use tp_machine::{ActId, HoldRule, State, allowed, regress};
 use tp_schedule::action_law;
 
 /// What is due first, and what is left of its frame.
@@ -18,6 +19,14 @@ use tp_schedule::action_law;
 pub(crate) struct Taken {
     pub(crate) next: Next,
     pub(crate) rest: Frame,
+}
+
+/// An action that may go before a branch, the state before it, and the next one to be looked at.
+#[derive(Clone, Copy)]
+struct NextAct {
+    act: ActId,
+    state: State,
+    after: Option<u16>,
 }
 
 impl<'a> Scene<'a> {
@@ -37,41 +46,64 @@ impl<'a> Scene<'a> {
         regress(action, &self.rows.ask.want, branch.first())
     }
 
-    fn take_act(&self, branch: Branch, from: u16) -> Option<Taken>
-        requires sound { from < length self.now.rows.machine.now.actions → length branch.x.choices <
-            64 }
-        ensures some { (goals : List State) → IfSome result (λ t. acts_from
-            self.now.rows.machine.now self.now.plans.now self.now.rows.ask.now
-            self.now.rows.rows.now self.now.limit branch from (length
-            self.now.rows.machine.now.actions - from) ≡ due_by t.next ∷ dues_of
-            self.now.rows.machine.now self.now.plans.now self.now.rows.ask.now
-            self.now.rows.rows.now self.now.limit goals t.rest) }
-        ensures none { IfNone result (acts_from self.now.rows.machine.now self.now.plans.now
-            self.now.rows.ask.now self.now.rows.rows.now self.now.limit branch from (length
-            self.now.rows.machine.now.actions - from) ≡ []) }
-        ensures next { IfSome result (λ t. IsSoundDue self.now.rows.machine.now (due_by t.next)) }
-        ensures rest { IfSome result (λ t. IsSoundFrame self.now.rows.machine.now t.rest) }
+    /// The first action from one on that may go before the branch.
+    fn next_act(&self, branch: &Branch, from: Option<u16>) -> Option<NextAct>
+        requires sound { IfSome from (IsActOf self.now.rows.machine.now branch.now) }
+        ensures some { IfSome result (λ t. acts_at self.now.rows.machine.now self.now.plans.now
+            self.now.rows.ask.now self.now.rows.rows.now self.now.limit branch.now from ≡ action
+            branch.now t.act t.state ∷ acts_at self.now.rows.machine.now self.now.plans.now
+            self.now.rows.ask.now self.now.rows.rows.now self.now.limit branch.now t.after) }
+        ensures none { IfNone result (acts_at self.now.rows.machine.now self.now.plans.now
+            self.now.rows.ask.now self.now.rows.rows.now self.now.limit branch.now from ≡ []) }
+        ensures few { IfSome result (λ _. length branch.now.x.choices < 64) }
+        ensures after { IfSome result (λ t. IfSome t.after (IsActOf self.now.rows.machine.now
+            branch.now)) }
     {
-        machine_law(self.rows.machine);
-        'acts: for act in from..self.rows.machine.actions.len() as u16 {
-            match self.before(&branch, act) {
+        let mut cursor = from;
+        'acts: while let Some(act) = cursor {
+            cursor = self.ends.after(act);
+            match self.before(branch, act) {
                 Some(state) => {
-                    let next = Next::Action {
-                        branch: branch.copy(),
+                    return Some(NextAct {
                         act: ActId(act),
                         state,
-                    };
-                    let rest = Frame::Acts {
-                        branch,
-                        with_stop: false,
-                        at: act + 1,
-                    };
-                    return Some(Taken { next, rest });
+                        after: cursor,
+                    });
                 }
                 None => {}
             }
         }
         None
+    }
+
+    fn take_act(&self, branch: Branch, from: Option<u16>) -> Option<Taken>
+        requires sound { IfSome from (IsActOf self.now.rows.machine.now branch) }
+        ensures some { (goals : List State) → IfSome result (λ t. acts_at
+            self.now.rows.machine.now self.now.plans.now self.now.rows.ask.now
+            self.now.rows.rows.now self.now.limit branch from ≡ due_by t.next ∷ dues_of
+            self.now.rows.machine.now self.now.plans.now self.now.rows.ask.now
+            self.now.rows.rows.now self.now.limit goals t.rest) }
+        ensures none { IfNone result (acts_at self.now.rows.machine.now self.now.plans.now
+            self.now.rows.ask.now self.now.rows.rows.now self.now.limit branch from ≡ []) }
+        ensures next { IfSome result (λ t. IsSoundDue self.now.rows.machine.now (due_by t.next)) }
+        ensures rest { IfSome result (λ t. IsSoundFrame self.now.rows.machine.now t.rest) }
+    {
+        match self.next_act(&branch, from) {
+            Some(found) => {
+                let next = Next::Action {
+                    branch: branch.copy(),
+                    act: found.act,
+                    state: found.state,
+                };
+                let rest = Frame::Acts {
+                    branch,
+                    with_stop: false,
+                    at: found.after,
+                };
+                Some(Taken { next, rest })
+            }
+            None => None,
+        }
     }
 
     fn take_place(&self, branch: Branch, rule: HoldRule, lo: u64) -> Option<Taken>

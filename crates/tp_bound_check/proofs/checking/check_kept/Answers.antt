@@ -1,12 +1,23 @@
-use Rattle.std.proofs.Common.{w64, ◌≡◌, ◌∙◌, subst, List, map, None}
+use Rattle.std.proofs.Common.{w64, ◌≡◌, ◌∙◌, sym, subst, List, map, None}
 use Rattle.std.specs.Prelude.{OnOk, IfErr, ℤ}
 use Rattle.std.proofs.lemmas.Int.{to_z-of_z}
 use Rattle.tp_bounds.specs.declared.tree.TreeRow.{TreeRow}
 use Rattle.tp_machine.specs.declared.parts.State.{State}
+use Rattle.tp_schedule.specs.declared.parts.Plan.{Plan}
+use Rattle.tp_bound_check.specs.Stands.{AreOrders}
 use Rattle.tp_trees.specs.Flaws.{IsFlawOf, bad_node_from}
 use Rattle.tp_trees.specs.Places.{goal_states}
 use Rattle.tp_trees.specs.Places.Due.{goal as goal_due}
 use Rattle.tp_bound_check.proofs.checking.check_kept.Goals as goal
+
+pub invariant_of-scene-clause-ending : goal.invariant_of-scene-clause-ending
+invariant_of-scene-clause-ending c = c.in-Ok-by_end.ensures
+
+pub invariant_of-scene-clause-in_order : goal.invariant_of-scene-clause-in_order
+invariant_of-scene-clause-in_order c =
+    let m = c.args.rows.now.machine.now in
+    let are = subst (λ (ps : List Plan). AreOrders m ps c.in-Ok.orders.items) c.as_slice.ensures c.in-Ok.ensures in
+    subst (AreOrders m c.args.plans.now) (sym c.as_slice-2.ensures.value) are
 
 pub returns-clause-ok : goal.returns-clause-ok
 returns-clause-ok c =
