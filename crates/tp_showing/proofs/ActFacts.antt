@@ -1,5 +1,5 @@
 -- The state before an action, and the node of an action that is opened.
-use Rattle.std.proofs.Common.{◌≡◌, ℕ, suc, ◌+◌, ◌<◌, Bool, true, false, cond, List, [], ◌∷◌, ◌++◌, length, refl, sym, ◌∙◌, ap, subst, add-one, find, Option, Some, None, option_and_then, option_map, unwrap_or}
+use Rattle.std.proofs.Common.{◌≡◌, ℕ, suc, ◌+◌, ◌<◌, Bool, true, false, cond, List, [], ◌∷◌, ◌++◌, length, refl, sym, ◌∙◌, ap, subst, add-one, find, Option, Some, None, option_and_then, option_map, unwrap_or, IsTrue}
 use Rattle.std.specs.Prelude.{pos, IfSome, IfNone}
 use Rattle.std.specs.List.{slice_get}
 use Rattle.tp_bounds.specs.declared.tree.Close.TheVariants.{Dead}
@@ -50,6 +50,21 @@ before-found machine sheet act a s None law at some none =
     go : (o : Option State) → find (λ q. is_state s (step_of a sheet q)) (states_at a.from) ≡ o → find (λ q. is_state s (step_of a sheet q)) (states_at a.from) ≡ None
     go None e = e
     go (Some q) e = absurd (none q ((law a sheet q s).1 (state-is s (step_of a sheet q) (find-passes (λ q. is_state s (step_of a sheet q)) (states_at a.from) q e))))
+
+-- and the action leads from it
+pub before-steps : (machine : Machine) (sheet : Sheet) (act : ActId) (s q : State) → state_before sheet s (action_at machine act.0) ≡ Some q → step_by machine sheet act q ≡ Some s
+before-steps machine sheet act s q e = go (action_at machine act.0) refl e where
+  go : (o : Option Action) → action_at machine act.0 ≡ o → state_before sheet s o ≡ Some q → option_and_then (λ k. step_of k sheet q) (action_at machine act.0) ≡ Some s
+  go None at h = absurd cc
+  go (Some a) at h = ap (option_and_then (λ k. step_of k sheet q)) at ∙ state-is s (step_of a sheet q) (find-passes (λ r. is_state s (step_of a sheet r)) (states_at a.from) q h)
+
+-- a state before that was found: the action is allowed, and leads from it
+pub found-steps : (machine : Machine) (ask : Ask) (act : ActId) (s q : State) → Some q ≡ cond (is_act_allowed machine ask.outs act) (state_before ask.want s (action_at machine act.0)) None
+    → IsTrue (is_act_allowed machine ask.outs act) × (step_by machine ask.want act q ≡ Some s)
+found-steps machine ask act s q = go (is_act_allowed machine ask.outs act) refl where
+  go : (t : Bool) → is_act_allowed machine ask.outs act ≡ t → Some q ≡ cond t (state_before ask.want s (action_at machine act.0)) None → IsTrue (is_act_allowed machine ask.outs act) × (step_by machine ask.want act q ≡ Some s)
+  go true is e = (is, before-steps machine ask.want act s q (sym e))
+  go false is e = absurd cc
 
 pub allowed-is : (machine : Machine) (outs : Outs) (act : ActId) (a : Action) (r : Bool) → slice_get machine.actions act.0 ≡ Some a → IfSome (action_at machine act.0) (λ x. r ≡ is_allowed machine outs x) → is_act_allowed machine outs act ≡ r
 allowed-is machine outs act a r e = go (slice_get machine.actions act.0) e where

@@ -1,5 +1,5 @@
 -- What a board carries after a step, and that a branch that it carries can be split.
-use Rattle.std.proofs.Common.{◌≡◌, ℕ, ◌+◌, ◌<◌, ◌≤◌, false, List, [], ◌∷◌, ◌++◌, length, refl, sym, ◌∙◌, ap, subst, arith, Option, Some, None, IsSomeAnd}
+use Rattle.std.proofs.Common.{◌≡◌, ℕ, ◌+◌, ◌<◌, ◌≤◌, false, List, [], ◌∷◌, ◌++◌, length, refl, sym, ◌∙◌, ap, subst, arith, Option, Some, None, IsSomeAnd, IsTrue}
 use Rattle.std.specs.Prelude.{ℤ, slice_get, IfSome}
 use Rattle.std.proofs.lemmas.List.{length-append}
 use Rattle.tp_base.specs.Net.{Net}
@@ -16,17 +16,20 @@ use Rattle.tp_machine.proofs.MachineFacts.{is_machine}
 use Rattle.tp_schedule.specs.Answers.{kept_of}
 use Rattle.tp_schedule.specs.Choices.{Choice}
 use Rattle.tp_schedule.specs.Holding.{holds_of_act}
+use Rattle.tp_schedule.specs.Routes.{IsRoom, is_act_allowed, step_by}
 use Rattle.tp_schedule.specs.declared.parts.Ask.{Ask}
 use Rattle.tp_schedule.specs.declared.parts.Plan.{Plan}
 use Rattle.tp_constraints.specs.Suffixes.{Suffix, order_in, place_first, with_action, with_place, with_stop}
 use Rattle.tp_constraints.proofs.Lists.{contains-get}
 use Rattle.tp_placing.specs.Boards.{BoardValue, BoardContent, content_of, suffix_after, suffix_of}
-use Rattle.tp_placing.specs.Calls.{CanPlace}
+use Rattle.tp_placing.specs.Calls.{CanPlace, IsSameLoad}
 use Rattle.tp_placing.specs.Reasons.{HasEndReason, HasReason}
 use Rattle.tp_trees.specs.Places.Due.{places as places_due}
 use Rattle.tp_trees.specs.Places.{Due, actions_due, stop_due, children, rule_in}
 use Rattle.tp_trees.specs.Trees.{close_look, split_look}
 use Rattle.tp_trees.specs.Trees.Look.{due}
+use Rattle.tp_ways.specs.Ways.{IsPlaced, IsWay}
+use Rattle.tp_ways.proofs.WaySteps.{action-way, place-way}
 use Rattle.tp_showing.specs.Closes.{IsEndRefused, IsRefused, IsStopRefused}
 use Rattle.tp_showing.specs.Showing.{Carries, IsNewest, IsOpen, below, branch_by, hold_after, hold_of, kids_of, or_no_dues}
 use Rattle.tp_showing.specs.declared.scene.Branch.{Branch}
@@ -85,9 +88,11 @@ module _ {N C : Type 0} (net : N → Net) (content : N → C) (past : N → List
     }
 
   pub carries-place : (b b' : BoardValue N) (r child : Branch) (x : Suffix) (rule : HoldRule) (place : ℕ) → Carries net content past mark_room machine ask b r x → hold_of machine r ≡ Some rule
+      → place ≤ length (order_in machine b.plans x rule.resource.0) → IsSameLoad b b'
       → IsSomeAnd (suffix_of b) (λ y. suffix_of b' ≡ Some (with_place place y)) → child ≡ record { depth = r.depth + 1; first = r.first; count = r.count; newest = r.newest; places = r.places + 1 }
       → Carries net content past mark_room machine ask b' child (with_place place x) × (below child < below r)
-  carries-place b b' r child x rule place c next put is =
+  carries-place b b' r child x rule place c next within load put is =
+      let can = may-place b r x rule place c next within in
       let fresh = holds-left r.newest r.places x.choices c.newest next in
       let few = c.few_places in
       subst (λ (k : Branch). Carries net content past mark_room machine ask b' k (with_place place x) × (below k < below r)) (sym is) (
@@ -97,6 +102,9 @@ module _ {N C : Type 0} (net : N → Net) (content : N → C) (past : N → List
           count = c.count ∙ sym (placed-length x.choices);
           newest = newest-placed r.newest r.places x.choices c.newest next;
           known = c.known;
+          goal = c.goal;
+          way = subst (λ ps. IsWay machine ps ask c.goal r.first (with_place place x)) (sym load.plans)
+              (place-way machine b.plans ask c.goal r.first x can.choice can.choices can.rule place c.way c.going can.newest (ap (slice_get (holds_of_act (action_at machine can.choice.act.0))) (sym can.next) ∙ can.is_rule) can.within);
           few = let f = c.few in let l = placed-length x.choices in omega (arith, f, l);
           few_places = omega (arith, fresh);
           deep = let d = c.deep in omega (arith, d);
@@ -122,9 +130,10 @@ module _ {N C : Type 0} (net : N → Net) (content : N → C) (past : N → List
 
   -- ---- one action more
   pub carries-act : (b b' : BoardValue N) (r child : Branch) (x : Suffix) (act : ActId) (room : ℕ) (state : State) → Carries net content past mark_room machine ask b r x → act.0 < length machine.actions → state.loc.0 < length machine.locations
-      → kept_of ask + length x.choices < 64 → IsSomeAnd (suffix_of b) (λ y. suffix_of b' ≡ Some (with_action act room y)) → child ≡ record { depth = r.depth + 1; first = state; count = r.count + 1; newest = Some act; places = 0 }
+      → kept_of ask + length x.choices < 64 → IsPlaced machine x.choices → step_by machine ask.want act state ≡ Some r.first → IsTrue (is_act_allowed machine ask.outs act) → IsRoom machine ask state room → IsSameLoad b b'
+      → IsSomeAnd (suffix_of b) (λ y. suffix_of b' ≡ Some (with_action act room y)) → child ≡ record { depth = r.depth + 1; first = state; count = r.count + 1; newest = Some act; places = 0 }
       → Carries net content past mark_room machine ask b' child (with_action act room x) × (below child < below r)
-  carries-act b b' r child x act room state c known at fewer put is =
+  carries-act b b' r child x act room state c known at fewer placed step allowed is_room load put is =
       let few = c.few_places in
       let count = c.count in
       subst (λ (k : Branch). Carries net content past mark_room machine ask b' k (with_action act room x) × (below k < below r)) (sym is) (
@@ -134,6 +143,9 @@ module _ {N C : Type 0} (net : N → Net) (content : N → C) (past : N → List
           count = omega (arith, count);
           newest = (refl, refl, known);
           known = at;
+          goal = c.goal;
+          way = subst (λ ps. IsWay machine ps ask c.goal state (with_action act room x)) (sym load.plans)
+              (action-way machine b.plans ask c.goal r.first state x act room c.way placed c.going step allowed is_room fewer);
           few = omega (arith, fewer);
           few_places = omega arith;
           deep = let d = c.deep in omega (arith, d, few);

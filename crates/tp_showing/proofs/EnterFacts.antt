@@ -17,19 +17,34 @@ use Rattle.tp_schedule.specs.Choices.{Choice}
 use Rattle.tp_schedule.specs.declared.parts.Origin.{Origin}
 use Rattle.tp_schedule.specs.declared.parts.Origin.TheVariants.{Feeder as FromFeeder, Front as FromFront}
 use Rattle.tp_constraints.specs.Suffixes.{IsInFlight, Suffix, order_in, with_place, with_stop}
-use Rattle.tp_placing.specs.Boards.{BoardValue, content_of}
+use Rattle.tp_placing.specs.Boards.{BoardValue, content_of, suffix_of}
 use Rattle.tp_trees.specs.Places as places
 use Rattle.tp_trees.specs.Places.Due.{places as places_due, stop}
 use Rattle.tp_trees.specs.Places.{Due, has_choice, is_front_state, stop_due, due_behind, is_name_of_resource, order_length, places_from, stand_of}
 use Rattle.tp_trees.proofs.Allowing.{le-to, lt-to}
 use Rattle.tp_trees.proofs.Lists.{number-same}
-use Rattle.tp_showing.specs.Showing.{Adds, Carries, GoesOn, IsEntered, IsOpen, PutsNode, Shows, below, branch_by, kids_of}
+use Rattle.tp_ways.specs.Ends.{HasEndBy}
+use Rattle.tp_ways.specs.Ways.{IsWay}
+use Rattle.tp_showing.specs.Showing.{Adds, Carries, GoesOn, IsEarly, IsEntered, IsOpen, PutsNode, Shows, below, branch_by, kids_of}
 use Rattle.tp_showing.specs.declared.scene.Branch.{Branch}
-use Rattle.tp_showing.proofs.CarryFacts.{suffix-same}
+use Rattle.tp_showing.proofs.CarryFacts.{own-suffix, suffix-same}
 
 pub ok-both : {X E : Type 0} (P Q : X → Type 0) (r : Result X E) → IfOk r P → IfOk r Q → IfOk r (λ x. P x × Q x)
 ok-both P Q (Ok x) p q = (p, q)
 ok-both P Q (Err e) p q = tt
+
+pub ok-three : {X E : Type 0} (P Q R : X → Type 0) (r : Result X E) → IfOk r P → IfOk r Q → IfOk r R → IfOk r (λ x. P x × (Q x × R x))
+ok-three P Q R (Ok x) p q s = (p, (q, s))
+ok-three P Q R (Err e) p q s = tt
+
+-- a branch that the board carries is early on each board that is loaded the same
+pub early-at : {N : Type 0} → (machine : Machine) (plans : List Plan) (ask : Ask) (limit : ℕ) (b : BoardValue N) (y : Suffix) (o : Option Branch) → IfSome o (λ _. IsEarly machine ask limit b) → suffix_of b ≡ Some y → b.plans ≡ plans
+    → IfSome o (λ _. HasEndBy machine plans ask y limit)
+early-at machine plans ask limit b y None early carried same = tt
+early-at machine plans ask limit b y (Some r) early carried same = subst (λ ps. HasEndBy machine ps ask y limit) same (early y carried)
+
+pub early-on : {N : Type 0} → (machine : Machine) (plans : List Plan) (ask : Ask) (limit : ℕ) (b : BoardValue N) (y : Suffix) → suffix_of b ≡ Some y → b.plans ≡ plans → HasEndBy machine plans ask y limit → IsEarly machine ask limit b
+early-on machine plans ask limit b y carried same early = own-suffix (suffix_of b) y carried (λ x. HasEndBy machine b.plans ask x limit) (subst (λ ps. HasEndBy machine ps ask y limit) (sym same) early)
 
 -- a branch one place deeper
 abbrev pub placed_below : Branch → Branch
@@ -61,30 +76,34 @@ place-shows machine plans ask sums limit old new r x rule place name named withi
     (subst (λ ds. Adds machine plans ask rows (pos limit) (d ∷ []) old new (more rows ++ ds)) next adds)
 
 module _ {N C : Type 0} (net : N → Net) (content : N → C) (past : N → List C) (mark_room : N → ℕ) (machine : Machine) (plans : List Plan) (ask : Ask) (sums : List (Option ℕ)) (limit : ℕ) (old new : List Node) where
-  pub carries-same : (b b' : BoardValue N) (r : Branch) (x : Suffix) → content_of content b' ≡ content_of content b → Carries net content past mark_room machine ask b r x → Carries net content past mark_room machine ask b' r x
-  carries-same b b' r x same c = record {
+  pub carries-same : (b b' : BoardValue N) (r : Branch) (x : Suffix) → content_of content b' ≡ content_of content b → b'.plans ≡ b.plans → Carries net content past mark_room machine ask b r x
+      → Carries net content past mark_room machine ask b' r x
+  carries-same b b' r x same loaded c = record {
     carried = suffix-same net content past mark_room (λ _ _. ⊥) machine ask b b' same ∙ c.carried;
     going = c.going;
     count = c.count;
     newest = c.newest;
     known = c.known;
+    goal = c.goal;
+    way = subst (λ ps. IsWay machine ps ask c.goal r.first x) (sym loaded) c.way;
     few = c.few;
     few_places = c.few_places;
     deep = c.deep;
   }
 
   -- a node that is put is a way that is gone
-  pub enter-by : (o : Option Branch) (b b' : BoardValue N) (parent child : Branch) (y : Suffix) (head : Head) (ds behind : List TreeRow → List Due) → Carries net content past mark_room machine ask b child y → content_of content b' ≡ content_of content b → below child < below parent
+  pub enter-by : (o : Option Branch) (b b' : BoardValue N) (parent child : Branch) (y : Suffix) (head : Head) (ds behind : List TreeRow → List Due) → Carries net content past mark_room machine ask b child y → content_of content b' ≡ content_of content b → b'.plans ≡ b.plans → below child < below parent
       → ((more : List TreeRow → List Due) → PutsNode machine plans ask limit old new (branch_by child y) head more → Shows machine plans ask sums limit old new ds (λ rows. more rows ++ behind rows))
       → MatchOption o (PutsNode machine plans ask limit old new (branch_by child y) head (λ _. [])) (λ r. (r ≡ child) × PutsNode machine plans ask limit old new (branch_by child y) head (λ rows. kids_of machine plans ask rows (branch_by child y)))
-      → IfSome o (λ _. IsOpen machine ask child) → IsEntered net content past mark_room machine plans ask sums limit old new b' parent ds behind o
-  enter-by None b b' parent child y head ds behind c same smaller shows put may = shows (λ _. []) put
-  enter-by (Some r) b b' parent child y head ds behind c same smaller shows put may =
+      → IfSome o (λ _. IsOpen machine ask child) → IfSome o (λ _. HasEndBy machine plans ask y limit) → IsEntered net content past mark_room machine plans ask sums limit old new b' parent ds behind o
+  enter-by None b b' parent child y head ds behind c same loaded smaller shows put may early = shows (λ _. []) put
+  enter-by (Some r) b b' parent child y head ds behind c same loaded smaller shows put may early =
       subst (GoesOn net content past mark_room machine plans ask sums limit old new b' parent ds behind) (sym put.0) (record {
         suffix = y;
-        carries = carries-same b b' child y same c;
+        carries = carries-same b b' child y same loaded c;
         smaller = smaller;
         is_open = may;
+        early = early;
         shows = shows (λ rows. kids_of machine plans ask rows (branch_by child y)) put.1;
       })
 
@@ -114,6 +133,9 @@ stop-shows machine plans ask sums limit old new r x count due put rows has =
 pub none-shows : (machine : Machine) (plans : List Plan) (ask : Ask) (sums : List (Option ℕ)) (limit : ℕ) (old : List Node) (r : Branch) (x : Suffix) → r.count ≡ length x.choices → (is_front_state ask.origin r.first && nat_lt 0 r.count) ≡ false
     → Shows machine plans ask sums limit old old (λ rows. stop_due machine plans ask rows (branch_by r x)) (λ _. [])
 none-shows machine plans ask sums limit old r x count due rows has = subst (λ ds. Adds machine plans ask rows (pos limit) ds old old []) (sym (stop-dues machine plans ask rows r x false count due)) (λ start rest lead. lead)
+
+pub stop-front : (ask : Ask) (r : Branch) → (is_front_state ask.origin r.first && nat_lt 0 r.count) ≡ true → is_front_state ask.origin r.first ≡ true
+stop-front ask r due = (and_parts (is_front_state ask.origin r.first) (nat_lt 0 r.count) due).0
 
 pub stop-some : (ask : Ask) (r : Branch) → (is_front_state ask.origin r.first && nat_lt 0 r.count) ≡ true → IsInFlight ask.origin × (0 < r.count)
 stop-some ask r due =

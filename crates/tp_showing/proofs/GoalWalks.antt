@@ -41,7 +41,7 @@ module _ {N C A : Type 0} (net : N → Net) (content : N → C) (past : N → Li
       let one = length-append (past_of past b) (content_of content b ∷ []) in
       let room = m.room_same in
       record {
-        set = record { stands = keeps b b' machine m.content_same m.aside_same m.past_more set.stands; asked = load.ask ∙ set.asked };
+        set = record { stands = keeps b b' machine m.content_same m.aside_same m.past_more set.stands; asked = load.ask ∙ set.asked; goal = set.goal };
         plans = load.plans;
         closed = suffix-same net content past mark_room (λ _ _. ⊥) machine ask b b' m.content_same ∙ closed;
         spare = omega (arith, more, one, room, marks);

@@ -14,6 +14,7 @@ pub mod RoomTables
 pub mod GoalFacts
 pub mod AddFacts
 pub mod CarryFacts
+pub mod EarlyFacts
 pub mod EnterFacts
 pub mod ActFacts
 pub mod GoalShows

@@ -37,7 +37,7 @@ module _ (machine : Machine) (plans : List Plan) (ask : Ask) (sums : List (Optio
 
 module _ {N C : Type 0} (net : N → Net) (content : N → C) (past : N → List C) (mark_room : N → ℕ) (machine : Machine) (ask : Ask) where
   pub set-since : (b b' : BoardValue N) → IsSince net content past mark_room b b' machine → IsSet net content past mark_room machine ask b → IsSet net content past mark_room machine ask b'
-  set-since b b' since s = record { stands = since.stands s.stands; asked = since.load.ask ∙ s.asked }
+  set-since b b' since s = record { stands = since.stands s.stands; asked = since.load.ask ∙ s.asked; goal = s.goal }
 
   -- below a branch that is split all is gone
   pub gone-deeper : (plans : List Plan) (sums : List (Option ℕ)) (limit : ℕ) (one two three : List Node) (b : BoardValue N) (parent child : Branch) (ds behind : List TreeRow → List Due) → GoesOn net content past mark_room machine plans ask sums limit one two b parent ds behind child
@@ -70,9 +70,9 @@ module _ {N C A : Type 0} (net : N → Net) (content : N → C) (past : N → Li
       let room = back.since.room in
       let room1 = m.room_same in
       record {
-        set = record { stands = keeps b0 b1 machine m.content_same m.aside_same m.past_more set0.stands; asked = load.ask ∙ set0.asked };
+        set = record { stands = keeps b0 b1 machine m.content_same m.aside_same m.past_more set0.stands; asked = load.ask ∙ set0.asked; goal = set0.goal };
         plans = load.plans ∙ back.since.load.plans;
-        carries = carries-same net content past mark_room machine b.plans ask [] 0 [] [] b b1 r x (m.content_same ∙ back.content_same) c;
+        carries = carries-same net content past mark_room machine b.plans ask [] 0 [] [] b b1 r x (m.content_same ∙ back.content_same) (load.plans ∙ back.since.load.plans) c;
         spare = omega (arith, more, one, was, room, room1, marks);
       }
 

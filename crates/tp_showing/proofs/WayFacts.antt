@@ -86,6 +86,7 @@ module _ {N C : Type 0} (net : N → Net) (content : N → C) (past : N → List
     carries = g.carries;
     smaller = g.smaller;
     is_open = g.is_open;
+    early = g.early;
     shows = λ rows has. let kids = kids_of machine plans ask rows (branch_by child g.suffix) in
         subst (λ us. Adds machine plans ask rows (pos limit) (ds rows ++ more rows) old new us) (append_assoc kids (behind rows) (more rows))
         (adds-behind machine plans ask rows (pos limit) (ds rows) (kids ++ behind rows) (more rows) old new (g.shows rows has));
@@ -100,6 +101,7 @@ module _ {N C : Type 0} (net : N → Net) (content : N → C) (past : N → List
     carries = g.carries;
     smaller = g.smaller;
     is_open = g.is_open;
+    early = g.early;
     shows = λ rows has. let kids = kids_of machine plans ask rows (branch_by child g.suffix) in
         subst (λ us. Adds machine plans ask rows (pos limit) us old new (kids ++ behind' rows)) (e rows) (subst (λ us. Adds machine plans ask rows (pos limit) (ds rows) old new (kids ++ us)) (f rows) (g.shows rows has));
   }

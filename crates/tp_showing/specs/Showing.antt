@@ -12,9 +12,8 @@ use Rattle.tp_machine.specs.declared.whole.Machine.{Machine}
 use Rattle.tp_schedule.specs.Answers.{kept_of}
 use Rattle.tp_schedule.specs.Choices.{Choice}
 use Rattle.tp_schedule.specs.Holding.{holds_of_act}
+use Rattle.tp_schedule.specs.Planning.{IsKnownGoal}
 use Rattle.tp_schedule.specs.declared.parts.Ask.{Ask}
-use Rattle.tp_schedule.specs.declared.parts.Goal.{Goal}
-use Rattle.tp_schedule.specs.declared.parts.Goal.TheVariants.{Purge, Tray}
 use Rattle.tp_schedule.specs.declared.parts.Plan.{Plan}
 use Rattle.tp_constraints.specs.Suffixes.{Suffix, order_in}
 use Rattle.tp_placing.specs.Boards.{BoardValue, content_of, past_of, suffix_of}
@@ -24,8 +23,12 @@ use Rattle.tp_trees.specs.Places as places
 use Rattle.tp_trees.specs.Places.Due.{goal}
 use Rattle.tp_trees.specs.Places.{Due, action_due, actions_due, children, due_behind, is_begun, places_from, stand_of, stop_due}
 use Rattle.tp_trees.specs.Trees.{Covers}
+use Rattle.tp_ways.specs.Ends.{EndsBy, HasEndBy}
+use Rattle.tp_ways.specs.Ways.{IsWay}
 use Rattle.tp_showing.specs.RoomRows.{HasRooms}
 use Rattle.tp_showing.specs.declared.scene.Branch.{Branch}
+use Rattle.tp_showing.specs.declared.scene.NotShown.{NotShown}
+use Rattle.tp_showing.specs.declared.scene.NotShown.TheVariants.{Early, Memory}
 
 module _ (machine : Machine) (plans : List Plan) (ask : Ask) (rows : List TreeRow) (limit : ℤ) where
   -- with nodes that cover what is due behind these, all that was due at the start is covered
@@ -94,28 +97,26 @@ module _ (machine : Machine) (plans : List Plan) (ask : Ask) (rows : List TreeRo
   abbrev pub kids_of : places.Branch → List Due
   kids_of b = or_no_dues (children machine plans ask rows (record { branch = b; span = None }))
 
--- the tray that is asked for is one of the machine's locations
-abbrev pub IsKnownGoal : Machine → Goal → Type 0
-IsKnownGoal machine (Tray tray) = tray.0 < length machine.locations
-IsKnownGoal machine Purge = Unit {0}
-
 -- ---- boards
 module _ {N C : Type 0} (net : N → Net) (content : N → C) (past : N → List C) (mark_room : N → ℕ) where
-  -- the board carries a branch that goes on
+  -- the board carries a branch that goes on, a way to a goal
   pub record Carries (machine : Machine) (ask : Ask) (b : BoardValue N) (r : Branch) (x : Suffix) : Type 0 where
     pub carried : suffix_of b ≡ Some x
     pub going : IsFalse x.stopped
     pub count : r.count ≡ length x.choices
     pub newest : IsNewest machine r.newest r.places x.choices
     pub known : r.first.loc.0 < length machine.locations
+    pub goal : State
+    pub way : IsWay machine b.plans ask goal r.first x
     pub few : kept_of ask + length x.choices ≤ 64
     pub few_places : r.places ≤ 4
     pub deep : r.depth ≤ 5 * r.count + r.places
 
-  -- a board for the ask, with plans that are told apart by their names
+  -- a board for the ask, whose tray is one of the machine's
   pub record IsSet (machine : Machine) (ask : Ask) (b : BoardValue N) : Type 0 where
     pub stands : Stands net content past b machine
     pub asked : b.ask ≡ Some ask
+    pub goal : IsKnownGoal machine ask.goal
 
   -- the same marks are in force, and the same is loaded
   pub record IsSince (b b' : BoardValue N) (machine : Machine) : Type 0 where
@@ -137,6 +138,15 @@ module _ {N C : Type 0} (net : N → Net) (content : N → C) (past : N → List
 abbrev pub IsOpen : Machine → Ask → Branch → Type 0
 IsOpen machine ask r = hold_of machine r ≡ None → is_begun machine ask ask.origin r.first ≡ false
 
+-- what the board carries has times that end by the limit
+abbrev pub IsEarly : {N : Type 0} → Machine → Ask → ℕ → BoardValue N → Type 0
+IsEarly machine ask limit b = (x : Suffix) → suffix_of b ≡ Some x → HasEndBy machine b.plans ask x limit
+
+-- what is answered for an early branch: some alternative ends by the limit
+abbrev pub IsEarlyEnd : Machine → List Plan → Ask → ℕ → NotShown → Type 0
+IsEarlyEnd machine plans ask limit Memory = Unit {0}
+IsEarlyEnd machine plans ask limit Early = EndsBy machine plans ask limit
+
 -- a way was gone: its node leaves what is due behind it, or the board carries a branch that is split, below which the walk is
 -- to go on
 module _ {N C : Type 0} (net : N → Net) (content : N → C) (past : N → List C) (mark_room : N → ℕ) (machine : Machine) (plans : List Plan) (ask : Ask) (sums : List (Option ℕ)) (limit : ℕ) (old new : List Node) (b : BoardValue N) (parent : Branch) where
@@ -145,6 +155,7 @@ module _ {N C : Type 0} (net : N → Net) (content : N → C) (past : N → List
     pub carries : Carries net content past mark_room machine ask b child suffix
     pub smaller : below child < below parent
     pub is_open : IsOpen machine ask child
+    pub early : HasEndBy machine plans ask suffix limit
     pub shows : Shows machine plans ask sums limit old new ds (λ rows. kids_of machine plans ask rows (branch_by child suffix) ++ behind rows)
 
   abbrev pub IsEntered : (List TreeRow → List Due) → (List TreeRow → List Due) → Option Branch → Type 0
@@ -156,6 +167,7 @@ module _ {N C : Type 0} (net : N → Net) (content : N → C) (past : N → List
     pub suffix : Suffix
     pub carries : Carries net content past mark_room machine ask b child suffix
     pub is_open : IsOpen machine ask child
+    pub early : HasEndBy machine plans ask suffix limit
     pub shows : Shows machine plans ask sums limit old new (λ _. goal s ∷ []) (λ rows. kids_of machine plans ask rows (branch_by child suffix))
 
   abbrev pub IsGoalEntered : Option Branch → Type 0

@@ -1,17 +1,17 @@
 //! One step further on a board: a node is added, and if it is split the board carries its branch.
-ghost use Rattle.std.specs.Prelude.{◌≡◌, ◌+◌, ◌<◌, ◌≤◌, ◌&&◌, nat_lt, [], IfOk, OnOk, Some, length, pos};
+ghost use Rattle.std.specs.Prelude.{◌≡◌, ◌+◌, ◌<◌, ◌≤◌, ◌&&◌, nat_lt, [], None, IfErr, IfOk, OnOk, Some, length, pos};
 ghost use Rattle.tp_bounds.specs.declared.tree.TreeRow.{TreeRow};
 ghost use Rattle.tp_constraints.specs.Suffixes.{Suffix, order_in};
 ghost use Rattle.tp_placing.specs.Boards.{suffix_of};
 ghost use Rattle.tp_routes.specs.Tables.{IsMadeFor};
 ghost use Rattle.tp_schedule.specs.Plans.{AreNamed};
 ghost use Rattle.tp_showing.specs.Closes.{IsLimit};
-ghost use Rattle.tp_showing.specs.Showing.{Carries, IsEntered, IsSet, IsSince, Shows, branch_by, hold_of};
+ghost use Rattle.tp_showing.specs.Showing.{Carries, IsEarly, IsEarlyEnd, IsEntered, IsSet, IsSince, Shows, branch_by, hold_of};
 ghost use Rattle.tp_trees.specs.Places.{is_front_state, places_from, stop_due};
 
 use crate::putting::{is_same_state, put_carried, put_late, put_stop};
 use crate::scene::{Branch, NotShown, Scene};
-use tp_base::{Late, Network};
+use tp_base::{Late, Memory, Network};
 use tp_bounds::{Head, Nodes};
 use tp_machine::{HoldRule, State, machine_law};
 use tp_placing::Board;
@@ -43,6 +43,8 @@ pub(crate) fn enter_place<N: Network>(
         (branch_by branch x) rule place)
         (λ rows. places_from scene.entry.machine.now board.old.plans scene.entry.ask.now rows
         (branch_by branch x) rule (place + 1)) o) }
+    ensures early { IfErr result (IsEarlyEnd scene.entry.machine.now board.old.plans
+        scene.entry.ask.now scene.entry.limit) }
     ensures since { IsSince N.net N.content N.past N.mark_room board.old board.new
         scene.entry.machine.now }
 {
@@ -63,7 +65,7 @@ pub(crate) fn enter_place<N: Network>(
         Ok(()) => put_carried(nodes, board, scene, child, head),
         Err(Late) => match put_late(nodes, board, scene, child.depth, head) {
             Ok(()) => Ok(None),
-            Err(fault) => Err(fault),
+            Err(Memory) => Err(NotShown::Memory),
         },
     }
 }
@@ -101,11 +103,15 @@ pub(crate) fn enter_stop<N: Network>(
     requires limit { IsLimit scene.machine.now scene.ask.now (pos scene.limit) }
     requires carries { (x : Suffix) × Carries N.net N.content N.past N.mark_room scene.machine.now
         scene.ask.now board.old branch x }
+    requires placed { hold_of scene.machine.now branch ≡ None }
+    requires ends { IsEarly scene.machine.now scene.ask.now scene.limit board.old }
     ensures shown { OnOk result ((x : Suffix) → suffix_of board.old ≡ Some x
         → Shows scene.entry.machine.now board.old.plans scene.entry.ask.now
         scene.entry.rooms.now.sums scene.entry.limit nodes.old nodes.new
         (λ rows. stop_due scene.entry.machine.now board.old.plans scene.entry.ask.now rows
         (branch_by branch x)) (λ _. [])) }
+    ensures early { IfErr result (IsEarlyEnd scene.entry.machine.now board.old.plans
+        scene.entry.ask.now scene.entry.limit) }
     ensures since { IsSince N.net N.content N.past N.mark_room board.old board.new
         scene.entry.machine.now }
 {
@@ -114,6 +120,9 @@ pub(crate) fn enter_stop<N: Network>(
     }
     match board.stop() {
         Ok(()) => Err(NotShown::Early),
-        Err(Late) => put_stop(nodes, board, scene, branch.depth + 1, Head::Stop),
+        Err(Late) => match put_stop(nodes, board, scene, branch.depth + 1, Head::Stop) {
+            Ok(()) => Ok(()),
+            Err(Memory) => Err(NotShown::Memory),
+        },
     }
 }

@@ -1,21 +1,21 @@
 //! Goals and actions that are opened on a board.
-ghost use Rattle.std.specs.Prelude.{◌≡◌, ◌+◌, ◌<◌, ◌≤◌, [], ◌∷◌, ◌++◌, None, Option, IfOk, IfSome, OnOk, Some, length, pos, if◌then◌else◌};
+ghost use Rattle.std.specs.Prelude.{◌≡◌, ◌+◌, ◌<◌, ◌≤◌, [], ◌∷◌, ◌++◌, None, Option, IfErr, IfOk, IfSome, OnOk, Some, length, pos, if◌then◌else◌};
 ghost use Rattle.tp_bounds.specs.declared.tree.TreeRow.{TreeRow};
 ghost use Rattle.tp_constraints.specs.Suffixes.{Suffix};
 ghost use Rattle.tp_machine.specs.Using.{action_at};
 ghost use Rattle.tp_placing.specs.Boards.{suffix_of};
-ghost use Rattle.tp_routes.specs.Tables.{IsMadeFor};
+ghost use Rattle.tp_routes.specs.Tables.{AreRooms, IsMadeFor};
 ghost use Rattle.tp_schedule.specs.Answers.{kept_of};
 ghost use Rattle.tp_schedule.specs.Plans.{AreNamed};
-ghost use Rattle.tp_schedule.specs.Routes.{is_act_allowed};
+ghost use Rattle.tp_schedule.specs.Routes.{IsGoalState, is_act_allowed};
 ghost use Rattle.tp_showing.specs.Closes.{IsLimit};
-ghost use Rattle.tp_showing.specs.Showing.{Carries, IsEntered, IsGoalEntered, IsSet, IsSince, Shows, branch_by};
+ghost use Rattle.tp_showing.specs.Showing.{Carries, IsEarlyEnd, IsEntered, IsGoalEntered, IsSet, IsSince, Shows, branch_by, hold_of};
 ghost use Rattle.tp_trees.specs.Places.{action_due, state_before};
 
 use crate::putting::{put_carried, put_dead, put_late};
 use crate::rows::named;
 use crate::scene::{Branch, NotShown, Scene};
-use tp_base::{Late, Network};
+use tp_base::{Late, Memory, Network};
 use tp_bounds::{Head, Nodes};
 use tp_machine::{ActId, State, allowed, machine_law, regress};
 use tp_placing::Board;
@@ -51,8 +51,10 @@ pub(crate) fn enter_act<N: Network>(
     requires named { AreNamed board.old.plans }
     requires limit { IsLimit scene.machine.now scene.ask.now (pos scene.limit) }
     requires made { IsMadeFor scene.rooms.now scene.machine.now }
+    requires rooms { AreRooms scene.machine.now scene.ask.now scene.rooms.now.sums }
     requires carries { (x : Suffix) × Carries N.net N.content N.past N.mark_room scene.machine.now
         scene.ask.now board.old branch x }
+    requires placed { hold_of scene.machine.now branch ≡ None }
     requires known { act.0 < length scene.machine.now.actions }
     requires fewer { (x : Suffix) → suffix_of board.old ≡ Some x
         → kept_of scene.ask.now + length x.choices < 64 }
@@ -62,6 +64,8 @@ pub(crate) fn enter_act<N: Network>(
         board.new branch
         (λ rows. action_due scene.entry.machine.now board.old.plans scene.entry.ask.now rows
         (branch_by branch x) act) (λ _. []) o) }
+    ensures early { IfErr result (IsEarlyEnd scene.entry.machine.now board.old.plans
+        scene.entry.ask.now scene.entry.limit) }
     ensures since { IsSince N.net N.content N.past N.mark_room board.old board.new
         scene.entry.machine.now }
 {
@@ -85,7 +89,7 @@ pub(crate) fn enter_act<N: Network>(
         Ok(()) => put_carried(nodes, board, scene, child, head),
         Err(Late) => match put_late(nodes, board, scene, child.depth, head) {
             Ok(()) => Ok(None),
-            Err(fault) => Err(fault),
+            Err(Memory) => Err(NotShown::Memory),
         },
     }
 }
@@ -102,12 +106,16 @@ pub(crate) fn enter_goal<N: Network>(
     requires named { AreNamed board.old.plans }
     requires limit { IsLimit scene.machine.now scene.ask.now (pos scene.limit) }
     requires made { IsMadeFor scene.rooms.now scene.machine.now }
+    requires rooms { AreRooms scene.machine.now scene.ask.now scene.rooms.now.sums }
     requires closed { suffix_of board.old ≡ None }
     requires known { goal.loc.0 < length scene.machine.now.locations }
+    requires is_goal { IsGoalState scene.machine.now scene.ask.now.want scene.ask.now.goal goal }
     requires kept { kept_of scene.ask.now ≤ 64 }
     ensures entered { IfOk result (IsGoalEntered N.net N.content N.past N.mark_room
         scene.entry.machine.now board.old.plans scene.entry.ask.now scene.entry.rooms.now.sums
         scene.entry.limit nodes.old nodes.new board.new goal) }
+    ensures early { IfErr result (IsEarlyEnd scene.entry.machine.now board.old.plans
+        scene.entry.ask.now scene.entry.limit) }
     ensures since { IsSince N.net N.content N.past N.mark_room board.old board.new
         scene.entry.machine.now }
 {
@@ -128,7 +136,7 @@ pub(crate) fn enter_goal<N: Network>(
         Ok(()) => put_carried(nodes, board, scene, branch, head),
         Err(Late) => match put_late(nodes, board, scene, 0, head) {
             Ok(()) => Ok(None),
-            Err(fault) => Err(fault),
+            Err(Memory) => Err(NotShown::Memory),
         },
     }
 }

@@ -1,5 +1,5 @@
 //! Nodes of a tree, each where a branch is due.
-ghost use Rattle.std.specs.Prelude.{◌≡◌, ◌&&◌, false, ◌≤◌, ◌<◌, ◌∷◌, ◌++◌, [], None, Some, IfNone, IfOk, IfSome, OnOk, List, length, pos, MatchOption};
+ghost use Rattle.std.specs.Prelude.{◌≡◌, ◌&&◌, false, ◌≤◌, ◌<◌, ◌∷◌, ◌++◌, [], None, Some, true, IfErr, IfNone, IfOk, IfSome, OnOk, List, length, pos, MatchOption};
 ghost use Rattle.tp_bounds.specs.declared.tree.Close.TheVariants.{Dead};
 ghost use Rattle.tp_bounds.specs.declared.tree.TreeRow.{TreeRow};
 ghost use Rattle.tp_constraints.specs.Suffixes.{IsInFlight, Suffix, with_stop};
@@ -8,7 +8,7 @@ ghost use Rattle.tp_placing.specs.Boards.{content_of, suffix_of};
 ghost use Rattle.tp_placing.specs.Standing.{Stands};
 ghost use Rattle.tp_schedule.specs.Plans.{AreNamed};
 ghost use Rattle.tp_showing.specs.Closes.{IsEndRefused, IsLimit, IsRefused, IsStopRefused};
-ghost use Rattle.tp_showing.specs.Showing.{Carries, IsSet, IsSince, PutsNode, branch_by, hold_of, kids_of};
+ghost use Rattle.tp_showing.specs.Showing.{Carries, IsEarly, IsEarlyEnd, IsSet, IsSince, PutsNode, branch_by, hold_of, kids_of};
 ghost use Rattle.tp_trees.specs.Places as places;
 ghost use Rattle.tp_trees.specs.Places.{is_begun};
 ghost use Rattle.tp_trees.specs.Trees.{may_be_dead};
@@ -26,14 +26,11 @@ use tp_placing::Board;
 use tp_schedule::{Ask, Origin, new_sheet};
 
 /// One node more.
-fn put_node(nodes: &mut Nodes, depth: u32, head: Head, close: Close) -> Result<(), NotShown>
+fn put_node(nodes: &mut Nodes, depth: u32, head: Head, close: Close) -> Result<(), Memory>
     ensures { OnOk result (nodes.new
         ≡ nodes.old ++ record { depth = depth; head = head; close = close } ∷ []) }
 {
-    match nodes.push(Node { depth, head, close }) {
-        Ok(()) => Ok(()),
-        Err(Memory) => Err(NotShown::Memory),
-    }
+    nodes.push(Node { depth, head, close })
 }
 
 /// Adds the node of a branch that the board refused, and that is not stopped.
@@ -43,7 +40,7 @@ pub(crate) fn put_late<N: Network>(
     scene: Scene,
     depth: u32,
     head: Head,
-) -> Result<(), NotShown>
+) -> Result<(), Memory>
     requires set { IsSet N.net N.content N.past N.mark_room scene.machine.now scene.ask.now
         board.now }
     requires named { AreNamed board.now.plans }
@@ -56,7 +53,7 @@ pub(crate) fn put_late<N: Network>(
 {
     match close_late(scene.alloc, board, scene.machine) {
         Ok(close) => put_node(nodes, depth, head, close),
-        Err(Memory) => Err(NotShown::Memory),
+        Err(Memory) => Err(Memory),
     }
 }
 
@@ -67,7 +64,7 @@ pub(crate) fn put_stop<N: Network>(
     scene: Scene,
     depth: u32,
     head: Head,
-) -> Result<(), NotShown>
+) -> Result<(), Memory>
     requires set { IsSet N.net N.content N.past N.mark_room scene.machine.now scene.ask.now
         board.now }
     requires named { AreNamed board.now.plans }
@@ -81,7 +78,7 @@ pub(crate) fn put_stop<N: Network>(
 {
     match close_stop(scene.alloc, board, scene.machine) {
         Ok(close) => put_node(nodes, depth, head, close),
-        Err(Memory) => Err(NotShown::Memory),
+        Err(Memory) => Err(Memory),
     }
 }
 
@@ -92,7 +89,7 @@ fn put_end<N: Network>(
     scene: Scene,
     depth: u32,
     head: Head,
-) -> Result<(), NotShown>
+) -> Result<(), Memory>
     requires set { IsSet N.net N.content N.past N.mark_room scene.machine.now scene.ask.now
         board.now }
     requires named { AreNamed board.now.plans }
@@ -106,7 +103,7 @@ fn put_end<N: Network>(
 {
     match close_end(scene.alloc, board, scene.machine, scene.limit) {
         Ok(close) => put_node(nodes, depth, head, close),
-        Err(Memory) => Err(NotShown::Memory),
+        Err(Memory) => Err(Memory),
     }
 }
 
@@ -147,9 +144,12 @@ pub(crate) fn is_begun(machine: &Machine, ask: &Ask, state: State) -> bool
 fn is_complete(scene: Scene, branch: Branch) -> bool
     requires { IfSome branch.newest (λ (act : ActId). act.0
         < length scene.machine.now.actions) }
-    ensures { result ≡ false → hold_of scene.entry.machine.now branch ≡ None
+    ensures going { result ≡ false → hold_of scene.entry.machine.now branch ≡ None
         → is_begun scene.entry.machine.now scene.entry.ask.now scene.entry.ask.now.origin
         branch.first ≡ false }
+    ensures placed { result ≡ true → hold_of scene.entry.machine.now branch ≡ None }
+    ensures begun { result ≡ true → is_begun scene.entry.machine.now scene.entry.ask.now
+        scene.entry.ask.now.origin branch.first ≡ true }
 {
     match branch.next_hold(scene.machine) {
         Some(_) => false,
@@ -183,6 +183,10 @@ pub(crate) fn put_carried<N: Network>(
     ensures splits { IfOk result (λ o. IfSome o (λ _. hold_of scene.entry.machine.now child ≡ None
         → is_begun scene.entry.machine.now scene.entry.ask.now scene.entry.ask.now.origin
         child.first ≡ false)) }
+    ensures split_early { IfOk result (λ o. IfSome o (λ _. IsEarly scene.entry.machine.now
+        scene.entry.ask.now scene.entry.limit board.old)) }
+    ensures early { IfErr result (IsEarlyEnd scene.entry.machine.now board.old.plans
+        scene.entry.ask.now scene.entry.limit) }
     ensures since { IsSince N.net N.content N.past N.mark_room board.old board.new
         scene.entry.machine.now }
     ensures same { content_of N.content board.new ≡ content_of N.content board.old }
@@ -191,7 +195,7 @@ pub(crate) fn put_carried<N: Network>(
         board.refuse_end(scene.limit);
         return match put_end(nodes, board, scene, child.depth, head) {
             Ok(()) => Ok(None),
-            Err(fault) => Err(fault),
+            Err(Memory) => Err(NotShown::Memory),
         };
     }
     if is_complete(scene, child) {
@@ -199,7 +203,7 @@ pub(crate) fn put_carried<N: Network>(
     }
     match put_node(nodes, child.depth, head, Close::Split) {
         Ok(()) => Ok(Some(child)),
-        Err(fault) => Err(fault),
+        Err(Memory) => Err(NotShown::Memory),
     }
 }
 
@@ -210,11 +214,12 @@ pub(crate) fn put_dead(
     head: Head,
 ) -> Result<Option<Branch>, NotShown>
     ensures none { IfOk result (λ o. o ≡ None) }
+    ensures memory { IfErr result (λ fault. fault ≡ NotShown.Memory) }
     ensures put { OnOk result (nodes.new
         ≡ nodes.old ++ record { depth = depth; head = head; close = Dead } ∷ []) }
 {
     match put_node(nodes, depth, head, Close::Dead) {
         Ok(()) => Ok(None),
-        Err(fault) => Err(fault),
+        Err(Memory) => Err(NotShown::Memory),
     }
 }

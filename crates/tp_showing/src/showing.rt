@@ -1,13 +1,14 @@
 //! The tree of an ask: a walk below each goal state.
-ghost use Rattle.std.specs.Prelude.{◌≡◌, ◌<◌, ◌≤◌, [], ◌∷◌, All, None, IfOk, OnOk, length, map, pos};
+ghost use Rattle.std.specs.Prelude.{◌≡◌, ◌<◌, ◌≤◌, [], ◌∷◌, All, None, IfErr, IfOk, OnOk, length, map, pos};
 ghost use Rattle.tp_bounds.specs.declared.tree.TreeRow.{TreeRow};
 ghost use Rattle.tp_machine.specs.declared.parts.State.{State};
 ghost use Rattle.tp_placing.specs.Boards.{suffix_of};
 ghost use Rattle.tp_routes.specs.Tables.{AreRooms, IsKnownOrigin, IsMadeFor};
 ghost use Rattle.tp_schedule.specs.Answers.{kept_of};
 ghost use Rattle.tp_schedule.specs.Plans.{AreNamed};
+ghost use Rattle.tp_schedule.specs.Routes.{IsGoalState};
 ghost use Rattle.tp_showing.specs.Closes.{IsLimit};
-ghost use Rattle.tp_showing.specs.Showing.{HasMarks, IsBack, IsKnownGoal, IsSet, Shows};
+ghost use Rattle.tp_showing.specs.Showing.{HasMarks, IsBack, IsEarlyEnd, IsSet, Shows};
 ghost use Rattle.tp_trees.specs.Places.Due.{goal};
 ghost use Rattle.tp_trees.specs.Trees.{IsBoundTree};
 
@@ -36,13 +37,17 @@ fn show_goal<N: Network>(
     requires named { AreNamed board.old.plans }
     requires limit { IsLimit scene.machine.now scene.ask.now (pos scene.limit) }
     requires made { IsMadeFor scene.rooms.now scene.machine.now }
+    requires rooms { AreRooms scene.machine.now scene.ask.now scene.rooms.now.sums }
     requires closed { suffix_of board.old ≡ None }
     requires known { state.loc.0 < length scene.machine.now.locations }
+    requires is_goal { IsGoalState scene.machine.now scene.ask.now.want scene.ask.now.goal state }
     requires kept { kept_of scene.ask.now ≤ 64 }
     requires marks { HasMarks N.net N.content N.past N.mark_room 326 board.old }
     ensures shown { OnOk result (Shows scene.entry.machine.now board.old.plans scene.entry.ask.now
         scene.entry.rooms.now.sums scene.entry.limit nodes.old nodes.new (λ _. goal state ∷ [])
         (λ _. [])) }
+    ensures early { IfErr result (IsEarlyEnd scene.entry.machine.now board.old.plans
+        scene.entry.ask.now scene.entry.limit) }
     ensures back { IsBack N.net N.content N.past N.mark_room board.old board.new
         scene.entry.machine.now }
 {
@@ -69,14 +74,19 @@ fn show_goals<N: Network>(
     requires named { AreNamed board.old.plans }
     requires limit { IsLimit scene.machine.now scene.ask.now (pos scene.limit) }
     requires made { IsMadeFor scene.rooms.now scene.machine.now }
+    requires rooms { AreRooms scene.machine.now scene.ask.now scene.rooms.now.sums }
     requires closed { suffix_of board.old ≡ None }
     requires known { All (λ (s : State). s.loc.0 < length scene.machine.now.locations)
         states.now }
+    requires are_goals { All (IsGoalState scene.machine.now scene.ask.now.want
+        scene.ask.now.goal) states.now }
     requires kept { kept_of scene.ask.now ≤ 64 }
     requires marks { HasMarks N.net N.content N.past N.mark_room 326 board.old }
     ensures shown { OnOk result (Shows scene.entry.machine.now board.old.plans scene.entry.ask.now
         scene.entry.rooms.now.sums scene.entry.limit nodes.old nodes.new
         (λ _. map (λ s. goal s) states.entry.now) (λ _. [])) }
+    ensures early { IfErr result (IsEarlyEnd scene.entry.machine.now board.old.plans
+        scene.entry.ask.now scene.entry.limit) }
     ensures back { IsBack N.net N.content N.past N.mark_room board.old board.new
         scene.entry.machine.now }
 {
@@ -90,9 +100,9 @@ fn show_goals<N: Network>(
 }
 
 /// A tree that shows that no alternative ends by the limit, a tick: room rows, and a node for each
-/// way that comes by it, with the reason why it goes no further. Leaves the board as it was. Where
-/// memory runs out, the call may be made again. `Early` is meant for an alternative that ends by
-/// the limit; that it comes only then is not proved here.
+/// way that comes by it, with the reason why it goes no further. `Early` comes only where some
+/// alternative ends by the limit. Leaves the board as it was. Where memory runs out, the call may be
+/// made again.
 pub fn show_limit<N: Network>(
     alloc: Global,
     rooms: &Rooms,
@@ -108,11 +118,12 @@ pub fn show_limit<N: Network>(
     requires rooms { AreRooms machine.now ask.now rooms.now.sums }
     requires origin { IsKnownOrigin machine.now ask.now.origin }
     requires closed { suffix_of board.old ≡ None }
-    requires known { IsKnownGoal machine.now ask.now.goal }
     requires kept { kept_of ask.now ≤ 64 }
     requires marks { HasMarks N.net N.content N.past N.mark_room 326 board.old }
     ensures tree { IfOk result (IsBoundTree machine.entry.now board.old.plans ask.entry.now
         (pos limit)) }
+    ensures early { IfErr result (IsEarlyEnd machine.entry.now board.old.plans ask.entry.now
+        limit) }
     ensures back { IsBack N.net N.content N.past N.mark_room board.old board.new
         machine.entry.now }
 {

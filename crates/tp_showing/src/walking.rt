@@ -1,13 +1,13 @@
 //! A walk through the branches below one, each of which is tried on a board and taken back.
-ghost use Rattle.std.specs.Prelude.{◌≡◌, ◌+◌, ◌<◌, ◌≤◌, [], ◌∷◌, All, Some, None, IfOk, OnOk, length, pos};
+ghost use Rattle.std.specs.Prelude.{◌≡◌, ◌+◌, ◌<◌, ◌≤◌, [], ◌∷◌, All, Some, None, IfErr, IfOk, OnOk, length, pos};
 ghost use Rattle.tp_bounds.specs.declared.tree.TreeRow.{TreeRow};
 ghost use Rattle.tp_constraints.specs.Suffixes.{Suffix};
 ghost use Rattle.tp_placing.specs.Boards.{suffix_of};
-ghost use Rattle.tp_routes.specs.Tables.{IsMadeFor};
+ghost use Rattle.tp_routes.specs.Tables.{AreRooms, IsMadeFor};
 ghost use Rattle.tp_schedule.specs.Answers.{kept_of};
 ghost use Rattle.tp_schedule.specs.Plans.{AreNamed};
 ghost use Rattle.tp_showing.specs.Closes.{IsLimit};
-ghost use Rattle.tp_showing.specs.Showing.{Carries, HasMarks, IsBack, IsOpen, IsSet, Shows, below, branch_by, kids_of};
+ghost use Rattle.tp_showing.specs.Showing.{Carries, HasMarks, IsBack, IsEarly, IsEarlyEnd, IsOpen, IsSet, Shows, below, branch_by, kids_of};
 
 use crate::scene::{Branch, NotShown, Scene};
 use crate::ways::{enter, ways};
@@ -28,15 +28,19 @@ pub(crate) fn show_below<N: Network>(
     requires named { AreNamed board.old.plans }
     requires limit { IsLimit scene.machine.now scene.ask.now (pos scene.limit) }
     requires made { IsMadeFor scene.rooms.now scene.machine.now }
+    requires rooms { AreRooms scene.machine.now scene.ask.now scene.rooms.now.sums }
     requires carries { (x : Suffix) × Carries N.net N.content N.past N.mark_room scene.machine.now
         scene.ask.now board.old branch x }
     requires open { IsOpen scene.machine.now scene.ask.now branch }
+    requires ends { IsEarly scene.machine.now scene.ask.now scene.limit board.old }
     requires marks { HasMarks N.net N.content N.past N.mark_room (below branch + 1) board.old }
     ensures shown { OnOk result ((x : Suffix) → suffix_of board.old ≡ Some x
         → Shows scene.entry.machine.now board.old.plans scene.entry.ask.now
         scene.entry.rooms.now.sums scene.entry.limit nodes.old nodes.new
         (λ rows. kids_of scene.entry.machine.now board.old.plans scene.entry.ask.now rows
         (branch_by branch x)) (λ _. [])) }
+    ensures early { IfErr result (IsEarlyEnd scene.entry.machine.now board.old.plans
+        scene.entry.ask.now scene.entry.limit) }
     ensures back { IsBack N.net N.content N.past N.mark_room board.old board.new
         scene.entry.machine.now }
 {

@@ -1,12 +1,12 @@
 //! The ways that go on from a branch, each gone by its number.
-ghost use Rattle.std.specs.Prelude.{◌≡◌, ◌<◌, ◌≤◌, suc, IfOk, Some, length, pos};
+ghost use Rattle.std.specs.Prelude.{◌≡◌, ◌<◌, ◌≤◌, suc, None, IfErr, IfOk, Some, length, pos};
 ghost use Rattle.tp_bounds.specs.declared.tree.TreeRow.{TreeRow};
 ghost use Rattle.tp_constraints.specs.Suffixes.{Suffix};
 ghost use Rattle.tp_placing.specs.Boards.{suffix_of};
-ghost use Rattle.tp_routes.specs.Tables.{IsMadeFor};
+ghost use Rattle.tp_routes.specs.Tables.{AreRooms, IsMadeFor};
 ghost use Rattle.tp_schedule.specs.Plans.{AreNamed};
 ghost use Rattle.tp_showing.specs.Closes.{IsLimit};
-ghost use Rattle.tp_showing.specs.Showing.{Carries, IsEntered, IsSet, IsSince, branch_by, hold_of, left_of, ways_of};
+ghost use Rattle.tp_showing.specs.Showing.{Carries, IsEarly, IsEarlyEnd, IsEntered, IsSet, IsSince, branch_by, hold_of, left_of, ways_of};
 
 use crate::entering::{enter_place, enter_stop};
 use crate::opening::enter_act;
@@ -54,8 +54,11 @@ fn enter_child<N: Network>(
     requires named { AreNamed board.old.plans }
     requires limit { IsLimit scene.machine.now scene.ask.now (pos scene.limit) }
     requires made { IsMadeFor scene.rooms.now scene.machine.now }
+    requires rooms { AreRooms scene.machine.now scene.ask.now scene.rooms.now.sums }
     requires carries { (x : Suffix) × Carries N.net N.content N.past N.mark_room scene.machine.now
         scene.ask.now board.old branch x }
+    requires placed { hold_of scene.machine.now branch ≡ None }
+    requires ends { IsEarly scene.machine.now scene.ask.now scene.limit board.old }
     requires within { (x : Suffix) → suffix_of board.old ≡ Some x
         → way < ways_of scene.machine.now board.old.plans scene.ask.now x None }
     ensures entered { IfOk result (λ o. (x : Suffix) → suffix_of board.old ≡ Some x
@@ -66,6 +69,8 @@ fn enter_child<N: Network>(
         (branch_by branch x) None way)
         (λ rows. left_of scene.entry.machine.now board.old.plans scene.entry.ask.now rows
         (branch_by branch x) None (suc way)) o) }
+    ensures early { IfErr result (IsEarlyEnd scene.entry.machine.now board.old.plans
+        scene.entry.ask.now scene.entry.limit) }
     ensures since { IsSince N.net N.content N.past N.mark_room board.old board.new
         scene.entry.machine.now }
 {
@@ -92,8 +97,10 @@ pub(crate) fn enter<N: Network>(
     requires named { AreNamed board.old.plans }
     requires limit { IsLimit scene.machine.now scene.ask.now (pos scene.limit) }
     requires made { IsMadeFor scene.rooms.now scene.machine.now }
+    requires rooms { AreRooms scene.machine.now scene.ask.now scene.rooms.now.sums }
     requires carries { (x : Suffix) × Carries N.net N.content N.past N.mark_room scene.machine.now
         scene.ask.now board.old branch x }
+    requires ends { IsEarly scene.machine.now scene.ask.now scene.limit board.old }
     requires within { (x : Suffix) → suffix_of board.old ≡ Some x
         → way < ways_of scene.machine.now board.old.plans scene.ask.now x
         (hold_of scene.machine.now branch) }
@@ -105,6 +112,8 @@ pub(crate) fn enter<N: Network>(
         (branch_by branch x) (hold_of scene.entry.machine.now branch) way)
         (λ rows. left_of scene.entry.machine.now board.old.plans scene.entry.ask.now rows
         (branch_by branch x) (hold_of scene.entry.machine.now branch) (suc way)) o) }
+    ensures early { IfErr result (IsEarlyEnd scene.entry.machine.now board.old.plans
+        scene.entry.ask.now scene.entry.limit) }
     ensures since { IsSince N.net N.content N.past N.mark_room board.old board.new
         scene.entry.machine.now }
 {

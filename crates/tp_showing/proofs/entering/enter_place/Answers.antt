@@ -13,9 +13,9 @@ use Rattle.std.specs.Prelude.{IfSome, MatchOption}
 use Rattle.std.specs.Result.{IfOk}
 use Rattle.tp_schedule.specs.declared.parts.Plan.{Plan}
 use Rattle.tp_showing.specs.declared.scene.Branch.{Branch}
-use Rattle.tp_showing.specs.Showing.{Carries, IsEntered, IsOpen, PutsNode, Shows, branch_by, kids_of}
+use Rattle.tp_showing.specs.Showing.{Carries, IsEarly, IsEntered, IsOpen, PutsNode, Shows, branch_by, kids_of}
 use Rattle.tp_showing.proofs.CarryFacts.{carries-place, hold-known, may-place, own-suffix, place-refused}
-use Rattle.tp_showing.proofs.EnterFacts.{enter-by, ok-both, place-shows, placed_below}
+use Rattle.tp_showing.proofs.EnterFacts.{early-at, enter-by, ok-three, place-shows, placed_below}
 use Rattle.tp_showing.proofs.ReasonFacts.{ok-map}
 use Rattle.tp_showing.proofs.entering.enter_place.Goals as goal
 use Rattle.tp_showing.proofs.entering.enter_place.Goals.{After-get}
@@ -37,7 +37,7 @@ pub put_carried-requires-clause-carries : goal.put_carried-requires-clause-carri
 put_carried-requires-clause-carries g c =
     let x = c.requires.carries.0 in
     let k = carries-place g.N.Network.net g.N.Undo.content g.N.Undo.past g.N.Undo.mark_room g.N.Network.refutes c.args.scene.machine.now c.args.scene.ask.now c.args.board.now c.place.new.self c.args.branch (placed_below c.args.branch) x c.args.rule c.args.place
-    c.requires.carries.1 c.requires.next c.in-Ok.ensures.suffix refl in
+    c.requires.carries.1 c.requires.next (c.requires.within x c.requires.carries.1.carried) c.place.ensures.loaded c.in-Ok.ensures.suffix refl in
     (with_place c.args.place x, k.0)
 
 pub put_late-requires-clause-named : goal.put_late-requires-clause-named
@@ -87,17 +87,18 @@ returns-in-Ok-clause-entered g c =
     let place = c.args.place in
     let y = with_place place x0 in
     let head = AtHead c.get.result.now.name place place in
-    let carried = carries-place g.N.Network.net g.N.Undo.content g.N.Undo.past g.N.Undo.mark_room g.N.Network.refutes machine ask c.args.board.now c.place.new.self r child x0 c.args.rule place k c.requires.next c.in-Ok.ensures.suffix refl in
+    let carried = carries-place g.N.Network.net g.N.Undo.content g.N.Undo.past g.N.Undo.mark_room g.N.Network.refutes machine ask c.args.board.now c.place.new.self r child x0 c.args.rule place k c.requires.next (c.requires.within x0 k.carried) c.place.ensures.loaded c.in-Ok.ensures.suffix refl in
     let name = named g (goal.at.returns-in-Ok-clause-entered g c).After-get in
     let Put = λ (ps : List Plan) (o : Option Branch). (z : Suffix) → Carries g.N.Network.net g.N.Undo.content g.N.Undo.past g.N.Undo.mark_room machine ask c.place.new.self child z
     → MatchOption o (PutsNode machine ps ask limit old new (branch_by child z) head (λ _. [])) (λ q. (q ≡ child) × PutsNode machine ps ask limit old new (branch_by child z) head (λ rows. kids_of machine ps ask rows (branch_by child z))) in
     let Open = λ (o : Option Branch). IfSome o (λ _. IsOpen machine ask child) in
+    let Early = λ (o : Option Branch). IfSome o (λ _. IsEarly machine ask limit c.place.new.self) in
     let Entered = λ (o : Option Branch) (x : Suffix). IsEntered g.N.Network.net g.N.Undo.content g.N.Undo.past g.N.Undo.mark_room machine plans ask sums limit old new c.put_carried.new.board r
     (λ rows. places_from machine plans ask rows (branch_by r x) c.args.rule place) (λ rows. places_from machine plans ask rows (branch_by r x) c.args.rule (place + 1)) o in
     let put = subst (λ ps. IfOk c.put_carried.result (Put ps)) c.place.ensures.loaded.plans c.put_carried.ensures.put in
-    ok-map (λ o. Put plans o × Open o) (λ o. (x : Suffix) → suffix_of c.args.board.now ≡ Some x → Entered o x) c.put_carried.result
+    ok-map (λ o. Put plans o × (Open o × Early o)) (λ o. (x : Suffix) → suffix_of c.args.board.now ≡ Some x → Entered o x) c.put_carried.result
     (λ o both. own-suffix (suffix_of c.args.board.now) x0 k.carried (Entered o)
     (enter-by g.N.Network.net g.N.Undo.content g.N.Undo.past g.N.Undo.mark_room machine plans ask sums limit old new o c.place.new.self c.put_carried.new.board r child y head
-    (λ rows. places_from machine plans ask rows (branch_by r x0) c.args.rule place) (λ rows. places_from machine plans ask rows (branch_by r x0) c.args.rule (place + 1)) carried.0 c.put_carried.ensures.same carried.1
-    (place-shows machine plans ask sums limit old new r x0 c.args.rule place c.get.result.now.name name (c.requires.within x0 k.carried)) (both.0 y carried.0) both.1))
-    (ok-both (Put plans) Open c.put_carried.result put c.put_carried.ensures.splits)
+    (λ rows. places_from machine plans ask rows (branch_by r x0) c.args.rule place) (λ rows. places_from machine plans ask rows (branch_by r x0) c.args.rule (place + 1)) carried.0 c.put_carried.ensures.same c.put_carried.ensures.since.load.plans carried.1
+    (place-shows machine plans ask sums limit old new r x0 c.args.rule place c.get.result.now.name name (c.requires.within x0 k.carried)) (both.0 y carried.0) both.1.0 (early-at machine plans ask limit c.place.new.self y o both.1.1 carried.0.carried c.place.ensures.loaded.plans)))
+    (ok-three (Put plans) Open Early c.put_carried.result put c.put_carried.ensures.splits c.put_carried.ensures.split_early)

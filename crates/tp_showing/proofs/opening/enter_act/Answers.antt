@@ -1,4 +1,4 @@
-use Rattle.std.proofs.Common.{◌≡◌, ◌+◌, ◌++◌, ◌∷◌, [], refl, sym, subst, ap, ◌∙◌, true, List, Option, Some, None, cond}
+use Rattle.std.proofs.Common.{◌≡◌, ◌<◌, ◌+◌, ◌++◌, ◌∷◌, [], refl, sym, subst, ap, ◌∙◌, true, List, Option, Some, None, cond}
 use Rattle.std.specs.Prelude.{IfSome, MatchOption}
 use Rattle.std.specs.Result.{IfOk}
 use Rattle.std.proofs.lemmas.Slice.Eq.{bytes_eq-Decides}
@@ -12,14 +12,15 @@ use Rattle.tp_schedule.specs.Plans.{AreNamed}
 use Rattle.tp_schedule.specs.Routes.{is_act_allowed}
 use Rattle.tp_schedule.specs.declared.parts.Plan.{Plan}
 use Rattle.tp_trees.specs.Places.{action_due, is_name_of_act, state_before}
-use Rattle.tp_showing.specs.Showing.{Carries, IsEntered, IsOpen, PutsNode, Shows, branch_by, kids_of}
+use Rattle.tp_showing.specs.Showing.{Carries, IsEarly, IsEntered, IsOpen, PutsNode, Shows, below, branch_by, kids_of}
 use Rattle.tp_showing.specs.declared.scene.Branch.{Branch}
-use Rattle.tp_showing.proofs.ActFacts.{act-shows, dead-shows, opened_below, skipped-shows}
+use Rattle.tp_showing.proofs.ActFacts.{act-shows, dead-shows, found-steps, opened_below, skipped-shows}
 use Rattle.tp_showing.proofs.CarryFacts.{act-refused, carries-act, own-suffix}
-use Rattle.tp_showing.proofs.EnterFacts.{enter-by, ok-both, ok-none}
+use Rattle.tp_showing.proofs.EarlyFacts.{has-places, memory-early, room-is}
+use Rattle.tp_showing.proofs.EnterFacts.{early-at, enter-by, ok-none, ok-three}
 use Rattle.tp_showing.proofs.ReasonFacts.{ok-map}
 use Rattle.tp_showing.proofs.opening.enter_act.Goals as goal
-use Rattle.tp_showing.proofs.opening.enter_act.Goals.{After-get}
+use Rattle.tp_showing.proofs.opening.enter_act.Goals.{After-get, In-Ok}
 
 pub returns-in_default-clause-entered : goal.returns-in_default-clause-entered
 returns-in_default-clause-entered g c = λ x carried.
@@ -49,13 +50,24 @@ returns-in_default-room-clause-entered g c =
 pub put_carried-requires-clause-named : goal.put_carried-requires-clause-named
 put_carried-requires-clause-named g c = subst AreNamed (sym c.open_action.ensures.loaded.plans) c.requires.named
 
-pub put_carried-requires-clause-carries : goal.put_carried-requires-clause-carries
-put_carried-requires-clause-carries g c =
+-- what the board carries with the action
+opened : (g : _) (c : In-Ok g) → Carries g.N.Network.net g.N.Undo.content g.N.Undo.past g.N.Undo.mark_room c.args.scene.machine.now c.args.scene.ask.now c.open_action.new.self (opened_below c.args.branch c.args.act c.in-Some.state)
+    (with_action c.args.act c.in-Some-room.room c.requires.carries.0) × (below (opened_below c.args.branch c.args.act c.in-Some.state) < below c.args.branch)
+opened g c =
+    let machine = c.args.scene.machine.now in
+    let ask = c.args.scene.ask.now in
     let x = c.requires.carries.0 in
     let k = c.requires.carries.1 in
-    let carried = carries-act g.N.Network.net g.N.Undo.content g.N.Undo.past g.N.Undo.mark_room g.N.Network.refutes c.args.scene.machine.now c.args.scene.ask.now c.args.board.now c.open_action.new.self c.args.branch (opened_below c.args.branch c.args.act c.in-Some.state) x c.args.act c.in-Some-room.room c.in-Some.state k
-    c.requires.known c.in-Some.ensures.known (c.requires.fewer x k.carried) c.in-Ok.ensures.suffix refl in
-    (with_action c.args.act c.in-Some-room.room x, carried.0)
+    let steps = found-steps machine ask c.args.act c.args.branch.first c.in-Some.state (sym c.in-Some.is ∙ c.step_back.ensures.before) in
+    carries-act g.N.Network.net g.N.Undo.content g.N.Undo.past g.N.Undo.mark_room g.N.Network.refutes machine ask c.args.board.now c.open_action.new.self c.args.branch (opened_below c.args.branch c.args.act c.in-Some.state) x c.args.act c.in-Some-room.room
+    c.in-Some.state k c.requires.known c.in-Some.ensures.known (c.requires.fewer x k.carried)
+    (has-places g.N.Network.net g.N.Undo.content g.N.Undo.past g.N.Undo.mark_room machine ask c.args.board.now c.requires.set c.args.branch x k c.requires.placed) steps.1 steps.0
+    (room-is machine ask c.args.scene.rooms.now.sums c.in-Some.state c.in-Some-room.room c.requires.rooms c.in-Some.ensures.known (sym c.room.ensures ∙ c.in-Some-room.is)) c.open_action.ensures.loaded c.in-Ok.ensures.suffix refl
+
+pub put_carried-requires-clause-carries : goal.put_carried-requires-clause-carries
+put_carried-requires-clause-carries g c =
+    let at = (goal.at.put_carried-requires-clause-carries g c).In-Ok in
+    (with_action c.args.act c.in-Some-room.room c.requires.carries.0, (opened g at).0)
 
 pub put_late-requires-clause-named : goal.put_late-requires-clause-named
 put_late-requires-clause-named g c = subst AreNamed (sym c.open_action.ensures.loaded.plans) c.requires.named
@@ -105,17 +117,20 @@ returns-in-Ok-clause-entered g c =
     let k = c.requires.carries.1 in
     let y = with_action act room x0 in
     let head = ActHead c.get.result.now.name in
-    let carried = carries-act g.N.Network.net g.N.Undo.content g.N.Undo.past g.N.Undo.mark_room g.N.Network.refutes machine ask c.args.board.now c.open_action.new.self r child x0 act room c.in-Some.state k c.requires.known c.in-Some.ensures.known
-    (c.requires.fewer x0 k.carried) c.in-Ok.ensures.suffix refl in
+    let carried = opened g (goal.at.returns-in-Ok-clause-entered g c).In-Ok in
     let Put = λ (ps : List Plan) (o : Option Branch). (z : Suffix) → Carries g.N.Network.net g.N.Undo.content g.N.Undo.past g.N.Undo.mark_room machine ask c.open_action.new.self child z
     → MatchOption o (PutsNode machine ps ask limit old new (branch_by child z) head (λ _. [])) (λ q. (q ≡ child) × PutsNode machine ps ask limit old new (branch_by child z) head (λ rows. kids_of machine ps ask rows (branch_by child z))) in
     let Open = λ (o : Option Branch). IfSome o (λ _. IsOpen machine ask child) in
+    let Early = λ (o : Option Branch). IfSome o (λ _. IsEarly machine ask limit c.open_action.new.self) in
     let Entered = λ (o : Option Branch) (x : Suffix). IsEntered g.N.Network.net g.N.Undo.content g.N.Undo.past g.N.Undo.mark_room machine plans ask sums limit old new c.put_carried.new.board r
     (λ rows. action_due machine plans ask rows (branch_by r x) act) (λ _. []) o in
     let put = subst (λ ps. IfOk c.put_carried.result (Put ps)) c.open_action.ensures.loaded.plans c.put_carried.ensures.put in
-    ok-map (λ o. Put plans o × Open o) (λ o. (x : Suffix) → suffix_of c.args.board.now ≡ Some x → Entered o x) c.put_carried.result
+    ok-map (λ o. Put plans o × (Open o × Early o)) (λ o. (x : Suffix) → suffix_of c.args.board.now ≡ Some x → Entered o x) c.put_carried.result
     (λ o both. own-suffix (suffix_of c.args.board.now) x0 k.carried (Entered o)
     (enter-by g.N.Network.net g.N.Undo.content g.N.Undo.past g.N.Undo.mark_room machine plans ask sums limit old new o c.open_action.new.self c.put_carried.new.board r child y head
-    (λ rows. action_due machine plans ask rows (branch_by r x0) act) (λ _. []) carried.0 c.put_carried.ensures.same carried.1
-    (act-shows machine plans ask sums limit old new r x0 act c.in-Some.state c.get.result.now.name (named g at) c.in-Some.ensures.known (found g at) room (sym c.room.ensures ∙ c.in-Some-room.is)) (both.0 y carried.0) both.1))
-    (ok-both (Put plans) Open c.put_carried.result put c.put_carried.ensures.splits)
+    (λ rows. action_due machine plans ask rows (branch_by r x0) act) (λ _. []) carried.0 c.put_carried.ensures.same c.put_carried.ensures.since.load.plans carried.1
+    (act-shows machine plans ask sums limit old new r x0 act c.in-Some.state c.get.result.now.name (named g at) c.in-Some.ensures.known (found g at) room (sym c.room.ensures ∙ c.in-Some-room.is)) (both.0 y carried.0) both.1.0 (early-at machine plans ask limit c.open_action.new.self y o both.1.1 carried.0.carried c.open_action.ensures.loaded.plans)))
+    (ok-three (Put plans) Open Early c.put_carried.result put c.put_carried.ensures.splits c.put_carried.ensures.split_early)
+
+pub returns-in_default-room-clause-early : goal.returns-in_default-room-clause-early
+returns-in_default-room-clause-early g c = memory-early c.args.scene.machine.now c.args.board.now.plans c.args.scene.ask.now c.args.scene.limit c.put_dead.result c.put_dead.ensures.memory

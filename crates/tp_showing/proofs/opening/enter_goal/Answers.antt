@@ -9,9 +9,10 @@ use Rattle.tp_schedule.specs.Plans.{AreNamed}
 use Rattle.tp_schedule.specs.declared.parts.Plan.{Plan}
 use Rattle.tp_showing.specs.Closes.{IsRefused}
 use Rattle.tp_showing.specs.RoomRows.{named}
-use Rattle.tp_showing.specs.Showing.{Carries, IsGoalEntered, IsOpen, PutsNode, branch_by, kids_of}
+use Rattle.tp_showing.specs.Showing.{Carries, IsEarly, IsGoalEntered, IsOpen, PutsNode, branch_by, kids_of}
 use Rattle.tp_showing.specs.declared.scene.Branch.{Branch}
-use Rattle.tp_showing.proofs.EnterFacts.{ok-both, ok-none}
+use Rattle.tp_showing.proofs.EarlyFacts.{memory-early, room-is}
+use Rattle.tp_showing.proofs.EnterFacts.{early-at, ok-none, ok-three}
 use Rattle.tp_showing.proofs.GoalShows.{carries-goal, dead-goal, goal-by, goal-shows, goal_below}
 use Rattle.tp_showing.proofs.ReasonFacts.{ok-map}
 use Rattle.tp_showing.proofs.opening.enter_goal.Goals as goal
@@ -57,12 +58,28 @@ returns-in-Ok-clause-entered g c =
     let new = c.put_carried.new.nodes in
     let room = c.in-Some.room in
     let child = goal_below c.args.goal in
-    let carried = carries-goal g.N.Network.net g.N.Undo.content g.N.Undo.past g.N.Undo.mark_room machine plans ask sums limit old new c.open_goal.new.self c.args.goal room c.requires.known c.requires.kept c.in-Ok.ensures.suffix in
+    let is_room = room-is machine ask sums c.args.goal room c.requires.rooms c.requires.known (sym c.room.ensures ∙ c.in-Some.is) in
+    let carried = carries-goal g.N.Network.net g.N.Undo.content g.N.Undo.past g.N.Undo.mark_room machine plans ask sums limit old new c.open_goal.new.self c.args.goal room c.requires.known c.requires.is_goal is_room c.requires.kept c.in-Ok.ensures.suffix in
     let Put = λ (ps : List Plan) (s : NamedState) (o : Option Branch). (z : Suffix) → Carries g.N.Network.net g.N.Undo.content g.N.Undo.past g.N.Undo.mark_room machine ask c.open_goal.new.self child z
     → MatchOption o (PutsNode machine ps ask limit old new (branch_by child z) (GoalHead s) (λ _. [])) (λ q. (q ≡ child) × PutsNode machine ps ask limit old new (branch_by child z) (GoalHead s) (λ rows. kids_of machine ps ask rows (branch_by child z))) in
     let Open = λ (o : Option Branch). IfSome o (λ _. IsOpen machine ask child) in
+    let Early = λ (o : Option Branch). IfSome o (λ _. IsEarly machine ask limit c.open_goal.new.self) in
     let put = subst (λ s. IfOk c.put_carried.result (Put plans s)) c.named.ensures (subst (λ ps. IfOk c.put_carried.result (Put ps c.named.result)) c.open_goal.ensures.loaded.plans c.put_carried.ensures.put) in
-    ok-map (λ o. Put plans (named machine c.args.goal) o × Open o) (IsGoalEntered g.N.Network.net g.N.Undo.content g.N.Undo.past g.N.Undo.mark_room machine plans ask sums limit old new c.put_carried.new.board c.args.goal) c.put_carried.result
+    ok-map (λ o. Put plans (named machine c.args.goal) o × (Open o × Early o)) (IsGoalEntered g.N.Network.net g.N.Undo.content g.N.Undo.past g.N.Undo.mark_room machine plans ask sums limit old new c.put_carried.new.board c.args.goal) c.put_carried.result
     (λ o both. goal-by g.N.Network.net g.N.Undo.content g.N.Undo.past g.N.Undo.mark_room machine plans ask sums limit old new o c.open_goal.new.self c.put_carried.new.board c.args.goal room c.requires.known (sym c.room.ensures ∙ c.in-Some.is) carried
-    c.put_carried.ensures.same (both.0 (with_goal room) carried) both.1)
-    (ok-both (Put plans (named machine c.args.goal)) Open c.put_carried.result put c.put_carried.ensures.splits)
+    c.put_carried.ensures.same c.put_carried.ensures.since.load.plans (both.0 (with_goal room) carried) both.1.0 (early-at machine plans ask limit c.open_goal.new.self (with_goal room) o both.1.1 carried.carried c.open_goal.ensures.loaded.plans))
+    (ok-three (Put plans (named machine c.args.goal)) Open Early c.put_carried.result put c.put_carried.ensures.splits c.put_carried.ensures.split_early)
+
+pub returns-in_default-clause-early : goal.returns-in_default-clause-early
+returns-in_default-clause-early g c = memory-early c.args.scene.machine.now c.args.board.now.plans c.args.scene.ask.now c.args.scene.limit c.put_dead.result c.put_dead.ensures.memory
+
+pub put_carried-requires-clause-carries : goal.put_carried-requires-clause-carries
+put_carried-requires-clause-carries g c =
+    let machine = c.args.scene.machine.now in
+    let ask = c.args.scene.ask.now in
+    let room = c.in-Some.room in
+    let sums = c.args.scene.rooms.now.sums in
+    let is_room = room-is machine ask sums c.args.goal room c.requires.rooms c.requires.known (sym c.room.ensures ∙ c.in-Some.is) in (
+      with_goal room,
+      carries-goal g.N.Network.net g.N.Undo.content g.N.Undo.past g.N.Undo.mark_room machine c.args.board.now.plans ask sums 0 [] [] c.open_goal.new.self c.args.goal room c.requires.known c.requires.is_goal is_room c.requires.kept c.in-Ok.ensures.suffix,
+    )

@@ -1,11 +1,15 @@
 use Rattle.std.proofs.Common.{[], refl, sym, subst}
 use Rattle.tp_bounds.specs.declared.tree.Close.TheVariants.{Split}
 use Rattle.std.specs.Prelude.{pos}
+use Rattle.tp_placing.specs.Boards.{suffix_of}
 use Rattle.tp_schedule.specs.Plans.{AreNamed}
+use Rattle.tp_ways.specs.Ends.{HasEndBy}
 use Rattle.tp_showing.specs.Showing.{PutsNode, branch_by, kids_of}
 use Rattle.tp_showing.proofs.AddFacts.{puts}
-use Rattle.tp_showing.proofs.CarryFacts.{end-refused, newest-act, newest-hold, split-closes}
+use Rattle.tp_showing.proofs.CarryFacts.{end-refused, newest-act, newest-hold, own-suffix, split-closes}
+use Rattle.tp_showing.proofs.EarlyFacts.{begun-ends, least-by}
 use Rattle.tp_showing.proofs.putting.put_carried.Goals as goal
+use Rattle.tp_showing.proofs.putting.put_carried.Goals.{After-is_complete}
 
 pub refuse_end-requires-clause-below : goal.refuse_end-requires-clause-below
 refuse_end-requires-clause-below g c =
@@ -42,5 +46,24 @@ returns-in-Ok-put_node-clause-put g c = λ x carries. (
   puts c.args.scene.machine.now c.args.board.now.plans c.args.scene.ask.now c.args.scene.limit c.args.child.depth c.args.nodes.now c.put_node.new.nodes (branch_by c.args.child x) c.args.head Split
       (λ rows. kids_of c.args.scene.machine.now c.args.board.now.plans c.args.scene.ask.now rows (branch_by c.args.child x)) c.in-Ok-put_node.ensures refl
       (λ rows. split-closes c.args.scene.machine.now c.args.board.now.plans c.args.scene.ask.now rows (pos c.args.scene.limit) c.args.child x c.args.head carries.going
-      (newest-hold c.args.scene.machine.now c.args.child.newest c.args.child.places x.choices carries.newest) (c.is_complete.ensures c.if-is_complete.false)),
+      (newest-hold c.args.scene.machine.now c.args.child.newest c.args.child.places x.choices carries.newest) (c.is_complete.ensures.going c.if-is_complete.false)),
 )
+
+-- the branch ends by the limit
+ends : (g : _) (c : After-is_complete g) → HasEndBy c.args.scene.machine.now c.args.board.now.plans c.args.scene.ask.now c.requires.carries.0 c.args.scene.limit
+ends g c =
+    let set = c.requires.set in
+    least-by g.N.Network.net g.N.Undo.content g.N.Undo.past g.N.Undo.mark_room c.args.scene.machine.now c.args.scene.ask.now c.args.board.now c.requires.carries.0 c.end_bound.result c.args.scene.limit set.asked c.requires.carries.1.carried
+    (c.end_bound.ensures c.args.scene.machine.now set.stands) c.if-end_bound-scene.false
+
+pub returns-then-is_complete-clause-early : goal.returns-then-is_complete-clause-early
+returns-then-is_complete-clause-early g c =
+    let at = (goal.at.returns-then-is_complete-clause-early g c).After-is_complete in
+    let done = c.is_complete.ensures in
+    begun-ends g.N.Network.net g.N.Undo.content g.N.Undo.past g.N.Undo.mark_room c.args.scene.machine.now c.args.scene.ask.now c.args.board.now c.requires.set c.args.child c.requires.carries.0 c.requires.carries.1 (done.placed c.if-is_complete.true)
+    c.args.scene.limit (done.begun c.if-is_complete.true) (ends g at)
+
+pub returns-in-Ok-put_node-clause-split_early : goal.returns-in-Ok-put_node-clause-split_early
+returns-in-Ok-put_node-clause-split_early g c =
+    own-suffix (suffix_of c.args.board.now) c.requires.carries.0 c.requires.carries.1.carried (λ x. HasEndBy c.args.scene.machine.now c.args.board.now.plans c.args.scene.ask.now x c.args.scene.limit)
+    (ends g (goal.at.returns-in-Ok-put_node-clause-split_early g c).After-is_complete)

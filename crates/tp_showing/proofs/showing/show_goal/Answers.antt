@@ -1,10 +1,14 @@
-use Rattle.std.proofs.Common.{◌≡◌, ◌∙◌, ap, sym, subst, List}
+use Rattle.std.proofs.Common.{◌≡◌, ◌∙◌, ap, sym, subst, List, Result}
+use Rattle.std.specs.Prelude.{IfErr}
 use Rattle.std.specs.Result.{OnOk}
 use Rattle.tp_bounds.specs.declared.tree.Node.{Node}
 use Rattle.tp_placing.specs.Boards.{BoardValue, past_of}
 use Rattle.tp_schedule.specs.Plans.{AreNamed}
-use Rattle.tp_showing.specs.Showing.{IsSince}
-use Rattle.tp_showing.proofs.GoalWalks.{HasGoal, IsAtGoal, at-goal, goal-none, goal-some}
+use Rattle.tp_schedule.specs.declared.parts.Plan.{Plan}
+use Rattle.tp_showing.specs.declared.scene.NotShown.{NotShown}
+use Rattle.tp_showing.specs.Showing.{IsEarlyEnd, IsSince}
+use Rattle.tp_showing.proofs.EnterFacts.{early-on}
+use Rattle.tp_showing.proofs.GoalWalks.{HasGoal, IsAtGoal, at-goal, goal-goes, goal-none, goal-some}
 use Rattle.tp_showing.proofs.MarkSteps.{IsMarked, mark-known, since-trans, taken-back}
 use Rattle.tp_showing.proofs.WalkFacts.{set-since}
 use Rattle.tp_showing.proofs.showing.show_goal.Goals as goal
@@ -33,6 +37,15 @@ pub show_below-shown-requires-clause-named : goal.show_below-shown-requires-clau
 show_below-shown-requires-clause-named g c =
     let at = here g (goal.at.show_below-shown-requires-clause-named g c).After-mark-mark in
     subst AreNamed (sym (c.enter_goal.ensures.since.load.plans ∙ at.plans)) c.requires.named
+
+pub show_below-shown-requires-clause-ends : goal.show_below-shown-requires-clause-ends
+show_below-shown-requires-clause-ends g c =
+    let at = here g (goal.at.show_below-shown-requires-clause-ends g c).After-mark-mark in
+    let machine = c.args.scene.machine.now in
+    let ask = c.args.scene.ask.now in
+    let e = goal-goes g.N.Network.net g.N.Undo.content g.N.Undo.past g.N.Undo.aside g.N.Undo.mark_room machine ask c.args.scene.rooms.now.sums c.args.scene.limit c.args.board.now c.mark-mark.new.self c.enter_goal.new.board c.args.state
+    c.args.nodes.now c.enter_goal.new.nodes c.in-Ok-Some.field-0 c.in-Ok-Some.branch at c.in-Ok-Some.field-0-is c.in-Ok-Some.ensures.entered in
+    early-on machine c.args.board.now.plans ask c.args.scene.limit c.enter_goal.new.board e.suffix e.carries.carried (c.enter_goal.ensures.since.load.plans ∙ at.plans) e.early
 
 pub undo_to-requires : goal.undo_to-requires
 undo_to-requires g c =
@@ -77,4 +90,17 @@ returns-clause-shown g c =
           (goal-none g.N.Network.net g.N.Undo.content g.N.Undo.past g.N.Undo.aside g.N.Undo.mark_room machine ask c.args.scene.rooms.now.sums c.args.scene.limit c.args.board.now c.mark-mark.new.self c.enter_goal.new.board c.args.state
           c.args.nodes.now c.enter_goal.new.nodes w.in-Ok-None.field-0 at w.in-Ok-None.field-0-is w.in-Ok-None.ensures.entered))
       | in-Err w ↦ subst (λ s. OnOk s (Gone c.match-enter_goal.nodes)) (sym w.shown-is) tt
+    ]
+
+pub returns-clause-early : goal.returns-clause-early
+returns-clause-early g c =
+    let at = here g (goal.at.returns-clause-early g c).After-mark-mark in
+    let machine = c.args.scene.machine.now in
+    let ask = c.args.scene.ask.now in
+    let limit = c.args.scene.limit in
+    let Early = λ (s : Result Unit NotShown) (ps : List Plan). IfErr s (IsEarlyEnd machine ps ask limit) in
+    elim c.match-enter_goal.branch [
+      | in-Ok-Some w ↦ subst (λ s. Early s c.args.board.now.plans) (sym w.shown-is) (subst (Early w.show_below-shown.result) (c.enter_goal.ensures.since.load.plans ∙ at.plans) w.show_below-shown.ensures.early)
+      | in-Ok-None w ↦ subst (λ s. Early s c.args.board.now.plans) (sym w.shown-is) tt
+      | in-Err w ↦ subst (λ s. Early s c.args.board.now.plans) (sym w.shown-is) (subst (λ ps. IsEarlyEnd machine ps ask limit w.in-Err.fault) at.plans w.in-Err.ensures.early)
     ]

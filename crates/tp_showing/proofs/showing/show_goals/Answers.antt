@@ -1,6 +1,7 @@
 use Rattle.std.proofs.Common.{◌∙◌, ap, length, sym, subst, arith}
 use Rattle.std.proofs.lemmas.Option.{slice_get-get_or}
 use Rattle.tp_schedule.specs.Plans.{AreNamed}
+use Rattle.tp_showing.specs.Showing.{IsEarlyEnd}
 use Rattle.tp_showing.proofs.CarryFacts.{suffix-same}
 use Rattle.tp_showing.proofs.GoalWalks.{goals-last, goals-next, goals_by}
 use Rattle.tp_showing.proofs.MarkSteps.{back-itself, back-trans}
@@ -30,6 +31,10 @@ show_goal-requires-clause-marks g c = let p = ap length c.states.invariant.back.
 pub returns-in-Err-clause-back : goal.returns-in-Err-clause-back
 returns-in-Err-clause-back g c =
     back-trans g.N.Network.net g.N.Undo.content g.N.Undo.past g.N.Undo.mark_room c.args.board.now c.states.board c.show_goal.new.board c.args.scene.machine.now c.states.invariant.back c.show_goal.ensures.back
+
+pub returns-in-Err-clause-early : goal.returns-in-Err-clause-early
+returns-in-Err-clause-early g c =
+    subst (λ ps. IsEarlyEnd c.args.scene.machine.now ps c.args.scene.ask.now c.args.scene.limit c.in-Err.fault) c.states.invariant.back.since.load.plans c.in-Err.ensures.early
 
 pub states-preserved : goal.states-preserved
 states-preserved g c = record {

@@ -1,10 +1,14 @@
-use Rattle.std.proofs.Common.{◌≡◌, ℕ, ◌+◌, ◌∙◌, suc, [], ap, sym, subst, add-one, arith, List}
+use Rattle.std.proofs.Common.{◌≡◌, ℕ, ◌+◌, ◌∙◌, suc, [], ap, sym, subst, add-one, arith, List, Result}
+use Rattle.std.specs.Prelude.{IfErr}
 use Rattle.std.specs.Result.{OnOk}
 use Rattle.tp_bounds.specs.declared.tree.Node.{Node}
 use Rattle.tp_bounds.specs.declared.tree.TreeRow.{TreeRow}
 use Rattle.tp_placing.specs.Boards.{BoardValue, past_of}
 use Rattle.tp_schedule.specs.Plans.{AreNamed}
-use Rattle.tp_showing.specs.Showing.{IsBack, IsSince, branch_by, hold_of, kids_of, left_of}
+use Rattle.tp_schedule.specs.declared.parts.Plan.{Plan}
+use Rattle.tp_showing.specs.declared.scene.NotShown.{NotShown}
+use Rattle.tp_showing.specs.Showing.{IsBack, IsEarlyEnd, IsSince, branch_by, hold_of, kids_of, left_of}
+use Rattle.tp_showing.proofs.EnterFacts.{early-on}
 use Rattle.tp_showing.proofs.MarkSteps.{IsMarked, back-trans, mark-known, since-trans, taken-back}
 use Rattle.tp_showing.proofs.WalkFacts.{HasGone, IsAtWay, at-way, goes-on, gone-none, gone-some, marks-below, set-since, shows-to, shows-trans}
 use Rattle.tp_showing.proofs.WayFacts.{none-left}
@@ -26,6 +30,15 @@ enter-requires-clause-set g t c = (here g t (goal.at.enter-requires-clause-set g
 pub enter-requires-clause-named : goal.enter-requires-clause-named
 enter-requires-clause-named g t c = subst AreNamed (sym (here g t (goal.at.enter-requires-clause-named g t c).After-mark-mark).plans) c.requires.named
 
+pub enter-requires-clause-carries : goal.enter-requires-clause-carries
+enter-requires-clause-carries g t c = (c.requires.carries.0, (here g t (goal.at.enter-requires-clause-carries g t c).After-mark-mark).carries)
+
+pub enter-requires-clause-ends : goal.enter-requires-clause-ends
+enter-requires-clause-ends g t c =
+    let at = here g t (goal.at.enter-requires-clause-ends g t c).After-mark-mark in
+    let x = c.requires.carries.0 in
+    early-on c.args.scene.machine.now c.args.board.now.plans c.args.scene.ask.now c.args.scene.limit c.mark-mark.new.self x at.carries.carried at.plans (c.requires.ends x c.requires.carries.1.carried)
+
 pub show_below-shown-requires : goal.show_below-shown-requires
 show_below-shown-requires g t c κs within =
     let at = here g t (goal.at.show_below-shown-requires g t c).After-mark-mark in
@@ -37,8 +50,9 @@ show_below-shown-requires g t c κs within =
     let set = set-since g.N.Network.net g.N.Undo.content g.N.Undo.past g.N.Undo.mark_room machine ask c.mark-mark.new.self c.enter.new.board since at.set in
     let named = subst AreNamed (sym (since.load.plans ∙ at.plans)) c.requires.named in
     let marks = marks-below g.N.Network.net g.N.Undo.content g.N.Undo.past g.N.Undo.mark_room machine ask c.mark-mark.new.self c.enter.new.board _ _ at.spare e.smaller since in
+    let ends = early-on machine c.args.board.now.plans ask c.args.scene.limit c.enter.new.board e.suffix e.carries.carried (since.load.plans ∙ at.plans) e.early in
     let less = e.smaller in
-    (omega (arith, less), (within, (set, (named, (c.requires.limit, (c.requires.made, ((e.suffix, e.carries), (e.is_open, marks))))))))
+    (omega (arith, less), (within, (set, (named, (c.requires.limit, (c.requires.made, (c.requires.rooms, ((e.suffix, e.carries), (e.is_open, (ends, marks))))))))))
 
 pub undo_to-requires : goal.undo_to-requires
 undo_to-requires g t c =
@@ -90,6 +104,26 @@ back-now g t c m =
     back-trans g.N.Network.net g.N.Undo.content g.N.Undo.past g.N.Undo.mark_room c.args.board.now c.ways.board c.undo_to.new.self machine c.ways.invariant.back
     (taken-back g.N.Network.net g.N.Undo.content g.N.Undo.past g.N.Undo.aside g.N.Undo.mark_room keeps.mark keeps.back c.ways.board c.mark-mark.new.self c.match-enter.board c.undo_to.new.self machine c.mark-mark.result.0 m (since-mark g t c)
     (record { content_then = u.content; past_less = u.past; aside_same = u.aside; room_same = u.room }))
+
+-- where the way was given up, some alternative ends early
+early : (g : _) (t : _) (c : After-undo_to g t)
+    → IsAtWay g.N.Network.net g.N.Undo.content g.N.Undo.past g.N.Undo.aside g.N.Undo.mark_room c.args.scene.machine.now c.args.scene.ask.now c.args.board.now c.mark-mark.new.self c.args.branch c.requires.carries.0
+    → IfErr c.match-enter.shown (IsEarlyEnd c.args.scene.machine.now c.args.board.now.plans c.args.scene.ask.now c.args.scene.limit)
+early g t c at =
+    let machine = c.args.scene.machine.now in
+    let ask = c.args.scene.ask.now in
+    let limit = c.args.scene.limit in
+    let Early = λ (s : Result Unit NotShown) (ps : List Plan). IfErr s (IsEarlyEnd machine ps ask limit) in
+    elim c.match-enter.branch [
+      | in-Ok-Some w ↦ subst (λ s. Early s c.args.board.now.plans) (sym w.shown-is) (subst (Early w.show_below-shown.result) (c.enter.ensures.since.load.plans ∙ at.plans) w.show_below-shown.ensures.early)
+      | in-Ok-None w ↦ subst (λ s. Early s c.args.board.now.plans) (sym w.shown-is) tt
+      | in-Err w ↦ subst (λ s. Early s c.args.board.now.plans) (sym w.shown-is) (subst (λ ps. IsEarlyEnd machine ps ask limit w.in-Err.fault) at.plans w.in-Err.ensures.early)
+    ]
+
+pub returns-in-Err-shown-clause-early : goal.returns-in-Err-shown-clause-early
+returns-in-Err-shown-clause-early g t c =
+    let at = goal.at.returns-in-Err-shown-clause-early g t c in
+    subst (λ s. IfErr s (IsEarlyEnd c.args.scene.machine.now c.args.board.now.plans c.args.scene.ask.now c.args.scene.limit)) c.in-Err-shown.is (early g t at.After-undo_to (here g t at.After-mark-mark))
 
 pub returns-in-Err-shown-clause-back : goal.returns-in-Err-shown-clause-back
 returns-in-Err-shown-clause-back g t c = let at = goal.at.returns-in-Err-shown-clause-back g t c in back-now g t at.After-undo_to (marked g t at.After-mark-mark)

@@ -51,3 +51,6 @@ returns-in-None-clause-entered g c =
     → IsEntered g.N.Network.net g.N.Undo.content g.N.Undo.past g.N.Undo.mark_room machine plans ask c.args.scene.rooms.now.sums c.args.scene.limit c.args.nodes.now c.enter_child.new.nodes c.enter_child.new.board r
     (λ rows. left_of machine plans ask rows (branch_by r x) h way) (λ rows. left_of machine plans ask rows (branch_by r x) h (suc way)) o in
     subst (λ h. IfOk c.enter_child.result (Entered h)) (sym (sym c.next_hold.ensures ∙ c.in-None.is)) c.enter_child.ensures.entered
+
+pub enter_child-requires-clause-placed : goal.enter_child-requires-clause-placed
+enter_child-requires-clause-placed g c = sym c.next_hold.ensures ∙ c.in-None.is

@@ -1,0 +1,6 @@
+pub mod WayLists
+pub mod WaySteps
+pub mod WayChildren
+pub mod WayEnds
+pub mod WayMeets
+pub mod WayAnswers
