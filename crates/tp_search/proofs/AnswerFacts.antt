@@ -29,27 +29,15 @@ use Rattle.tp_placing.proofs.WriteLive.{gone, may-ask, may-forget, stays}
 use Rattle.tp_placing.proofs.WriteWhole.{less-live}
 use Rattle.tp_search.specs.Following.{IsWayTo}
 use Rattle.tp_search.specs.Outcomes.{HasAnswer}
-use Rattle.tp_search.proofs.SearchBegins.{goal-incomplete}
-use Rattle.tp_search.proofs.WayEnds.{complete-start, way-commit}
-use Rattle.tp_search.proofs.WayLists.{way-bound}
+use Rattle.tp_ways.proofs.WayAnswers.{complete-some}
+use Rattle.tp_ways.proofs.WayEnds.{complete-start}
+use Rattle.tp_search.proofs.WayBounds.{way-bound, way-commit}
 
 pub known-goal : (machine : Machine) (plans : List Plan) (ask : Ask) → CanAsk machine plans ask → IsKnownGoal machine ask.goal
 known-goal machine plans ask can = go ask.goal can.open_goal where
   go : (g : Goal) → IsOpenGoal machine plans ask g → IsKnownGoal machine g
   go Purge open-goal = tt
   go (Tray t) open-goal = open-goal.0
-
--- a complete open list has a choice
-pub complete-some : (machine : Machine) (plans : List Plan) (ask : Ask) → IsMachine machine → IsKnownGoal machine ask.goal → (list : ChoiceList) → IsOpen machine plans ask list → IsComplete machine ask list → 0 < length list.choices
-complete-some machine plans ask is-machine known list opens complete = go list.goal list.choices list.stopped opens complete where
-  stops : (o : Origin) (l : ChoiceList) → l.choices ≡ [] → CanStop machine ask l o → ⊥
-  stops FromFeeder l none can = absurd can
-  stops (FromFront state end count) l none can = can.0 none
-
-  go : (goal : State) (choices : List Choice) (stopped : Bool) → IsOpen machine plans ask (record { goal = goal; choices = choices; stopped = stopped }) → IsComplete machine ask (record { goal = goal; choices = choices; stopped = stopped }) → 0 < length choices
-  go goal (c ∷ choices) stopped o is = omega arith
-  go goal [] false o is = absurd (goal-incomplete machine ask goal is-machine known o.1.is_list.goal is)
-  go goal [] true o is = absurd (stops ask.origin (record { goal = goal; choices = []; stopped = true }) refl (o.1.is_list.can_stop refl))
 
 module _ {N C : Type 0} (net : N → Net) (content : N → C) (past : N → List C) (mark_room : N → ℕ) (b b' : BoardValue N) (machine : Machine) (ask : Ask) (base : ℕ) (a : HasAnswer net content past mark_room b b' machine ask base) where
   carried : (x : Suffix) × (suffix_of b' ≡ Some x) × IsWayTo machine b'.plans ask a.first a.list x

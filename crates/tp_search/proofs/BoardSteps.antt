@@ -24,8 +24,8 @@ use Rattle.tp_placing.specs.Walking.{StandsBack}
 use Rattle.tp_placing.proofs.StandFacts.{and-some, some-and}
 use Rattle.tp_search.specs.Boards.{IsBack, IsLaid, IsReady, IsWayOf}
 use Rattle.tp_search.specs.States.{IsBefore}
-use Rattle.tp_search.specs.Ways.{IsPlaced, IsWay}
-use Rattle.tp_search.proofs.WaySteps.{action-way, place-way}
+use Rattle.tp_ways.specs.Ways.{IsPlaced, IsWay}
+use Rattle.tp_ways.proofs.WaySteps.{action-way, place-way}
 
 module _ {N C : Type 0} (net : N → Net) (content : N → C) (past : N → List C) (mark_room : N → ℕ) where
   pub load-trans : (a b c : BoardValue N) → IsSameLoad a b → IsSameLoad b c → IsSameLoad a c

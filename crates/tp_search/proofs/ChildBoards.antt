@@ -26,13 +26,13 @@ use Rattle.tp_placing.specs.Standing.{order_after}
 use Rattle.tp_placing.specs.Ticks.{HasLeastTick, IsLeastTick, TimesOf}
 use Rattle.tp_search.specs.Boards.{IsLaid}
 use Rattle.tp_search.specs.Stored.{child_by}
-use Rattle.tp_search.specs.Ways.{IsPlaced}
+use Rattle.tp_ways.specs.Ways.{IsPlaced}
 use Rattle.tp_search.proofs.BoardSteps.{TheWay, the-way}
 use Rattle.tp_search.proofs.ChildFacts.{child_by-act}
-use Rattle.tp_search.proofs.WayChildren.{child-late, child-places, place-beyond}
-use Rattle.tp_search.proofs.WayEnds.{complete-start, going-incomplete, start-complete}
-use Rattle.tp_search.proofs.WayLists.{way-bound}
-use Rattle.tp_search.proofs.WaySteps.{place-way}
+use Rattle.tp_ways.proofs.WayChildren.{child-late, child-places, place-beyond}
+use Rattle.tp_ways.proofs.WayEnds.{complete-start, going-incomplete, start-complete}
+use Rattle.tp_search.proofs.WayBounds.{way-bound}
+use Rattle.tp_ways.proofs.WaySteps.{place-way}
 
 -- the list of a way of these choices that is not stopped
 going-of : (goal : State) (choices : List Choice) (x : Suffix) → x.choices ≡ choices → IsFalse x.stopped → list_of goal x ≡ going goal choices

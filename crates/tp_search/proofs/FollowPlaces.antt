@@ -18,12 +18,12 @@ use Rattle.tp_placing.specs.Boards.{BoardValue, suffix_of}
 use Rattle.tp_placing.specs.Calls.{CanPlace, HasNoTimes, IsSameLoad}
 use Rattle.tp_placing.proofs.StandFacts.{and-some, some-and}
 use Rattle.tp_search.proofs.FollowGoal.{refused-late}
-use Rattle.tp_search.proofs.WayChildren.{child-late, child-places, place-beyond}
-use Rattle.tp_search.proofs.WaySteps.{HaveRooms-places}
+use Rattle.tp_ways.proofs.WayChildren.{child-late, child-places, place-beyond}
+use Rattle.tp_ways.proofs.WaySteps.{HaveRooms-places}
 use Rattle.tp_search.specs.Following.{AwaitsPlaces, newest_with, with_places}
 use Rattle.tp_search.specs.Stored.{choice_with}
-use Rattle.tp_search.specs.WayLaws.{IsLate}
-use Rattle.tp_search.specs.Ways.{IsWay}
+use Rattle.tp_ways.specs.WayLaws.{IsLate}
+use Rattle.tp_ways.specs.Ways.{IsWay}
 
 -- the first of all places are places for the first holds
 within-first : (orders : ℕ → List Slot) (rules : List HoldRule) (first rest : List ℕ) → AreWithin orders rules (first ++ rest) → AreWithinSoFar orders rules first

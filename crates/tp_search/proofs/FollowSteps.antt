@@ -21,13 +21,13 @@ use Rattle.tp_placing.specs.Standing.{Stands}
 use Rattle.tp_placing.proofs.StandFacts.{and-some, some-and}
 use Rattle.tp_search.proofs.FollowGoal.{refused-late}
 use Rattle.tp_search.proofs.FollowPlaces.{all-placed}
-use Rattle.tp_search.proofs.WayChildren.{child-closed, child-late, child-places, stop-late}
-use Rattle.tp_search.proofs.WaySteps.{action-way}
+use Rattle.tp_ways.proofs.WayChildren.{child-closed, child-late, child-places, stop-late}
+use Rattle.tp_ways.proofs.WaySteps.{action-way}
 use Rattle.tp_search.specs.Boards.{IsLaid}
 use Rattle.tp_search.specs.Following.{AwaitsPlaces, HasList, IsWayTo, with_places}
 use Rattle.tp_search.specs.States.{HasNoneBefore, IsBefore}
 use Rattle.tp_search.specs.Stored.{child_by, choice_with, is_stop, with_stored}
-use Rattle.tp_search.specs.Ways.{IsPlaced, IsWay}
+use Rattle.tp_ways.specs.Ways.{IsPlaced, IsWay}
 use Rattle.tp_search.specs.declared.states.Before.{Before}
 
 -- a stored choice is the stop, or an action more

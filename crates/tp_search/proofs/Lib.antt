@@ -1,8 +1,5 @@
 pub mod StateFacts
-pub mod WayLists
-pub mod WaySteps
-pub mod WayChildren
-pub mod WayEnds
+pub mod WayBounds
 pub mod BoardSteps
 pub mod OpeningFacts
 pub mod ChildBoards

@@ -1,4 +1,4 @@
--- How a search begins: the goals wait, and nothing is stored. No goal's list is complete, since no feeder stands at a tray.
+-- How a search begins: the goals wait, and nothing is stored.
 use Rattle.std.proofs.Common.{◌≡◌, ◌≢◌, ℕ, true≢false, List, [], map, Contains, Some, inl, refl, sym, ap, subst, ◌∙◌, arith}
 use Rattle.std.proofs.lemmas.List.Elements.{All-contains, All-nil, Contains-append_left}
 use Rattle.std.proofs.lemmas.Option.{same_Some}
@@ -21,26 +21,6 @@ use Rattle.tp_search.specs.Searching.{AreOpenGoals, IsOpenEntry, IsSearching, li
 use Rattle.tp_search.specs.Stored.{list_by}
 use Rattle.tp_search.specs.Stores.{HasBounds, StoreValue, empty_store}
 use Rattle.tp_search.specs.declared.goals.OpenGoal.{OpenGoal}
-
--- nothing can be put away at a feeder
-goal-placed : (machine : Machine) (ask : Ask) (state : State) (goal : Goal) → IsKnownGoal machine goal → IsGoalState machine ask.want goal state → IsOpenPlace machine state.loc → ⊥
-goal-placed machine ask state (Tray tray) known is free =
-    let at : state.loc ≡ tray = ap (λ (s : State). s.loc) is in
-    free.0 (subst (Contains machine.trays) (sym at) known)
-goal-placed machine ask state Purge known is free = free.1 is
-
--- a goal's list is not complete: no goal state is a start state of a new copy, and for one in flight it is not stopped
-pub goal-incomplete : (machine : Machine) (ask : Ask) (state : State) → IsMachine machine → IsKnownGoal machine ask.goal → IsGoalState machine ask.want ask.goal state → ¬ IsComplete machine ask (going state [])
-goal-incomplete machine ask state is-machine known is = go ask.origin refl where
-  fed : (first : State) → Some first ≡ Some state → IsFreshStart machine ask.want first → ⊥
-  fed first leads (k, feeder, within, at, (media, fresh)) =
-      let place = All-contains (λ (f : Feeder). IsLocation machine f.loc × IsOpenPlace machine f.loc) machine.feeders feeder is-machine.feeders (k, within, at) in
-      let loc : state.loc ≡ feeder.loc = ap (λ (s : State). s.loc) (sym (same_Some first state leads) ∙ fresh) in
-      goal-placed machine ask state ask.goal known is (subst (IsOpenPlace machine) (sym loc) place.1)
-
-  go : (origin : Origin) → ask.origin ≡ origin → IsCompleteFrom machine ask (going state []) origin → ⊥
-  go FromFeeder from (first, leads, start) = fed first leads (subst (λ o. IsStartFrom machine ask o first) from start).0
-  go (FromFront state' end count) from halted = absurd (true≢false (sym halted))
 
 searching-empty : (machine : Machine) (plans : List Plan) (ask : Ask) (goals : List OpenGoal) (room base width : ℕ) → AreOpenGoals machine plans ask goals → HasBounds machine ask (empty_store room base width)
     → IsSearching machine plans ask goals (empty_store room base width) 0

@@ -22,7 +22,7 @@ use Rattle.tp_search.specs.Stores.{StoreValue}
 use Rattle.tp_search.specs.declared.goals.OpenGoal.{OpenGoal}
 use Rattle.tp_search.specs.declared.taking.Next.{Next}
 use Rattle.tp_search.specs.declared.taking.Next.TheVariants.{Goal, Node}
-use Rattle.tp_search.proofs.SearchBegins.{goal-incomplete}
+use Rattle.tp_ways.proofs.WayAnswers.{goal-incomplete}
 use Rattle.tp_search.proofs.SearchNext.{IsKnownNext, entry-open, next-known, waiting-cases}
 
 -- the list of this node is complete and ends first

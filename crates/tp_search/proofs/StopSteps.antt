@@ -23,16 +23,17 @@ use Rattle.tp_search.specs.Opening.{IsAhead, IsAtProgress, IsFresh, IsLooked, op
 use Rattle.tp_search.specs.Opening.Progress.{nothing, up_to}
 use Rattle.tp_search.specs.Stored.{child_by, choices_by}
 use Rattle.tp_search.specs.Stores.{HasBounds, IsInRange, StoreValue}
-use Rattle.tp_search.specs.Ways.{IsPlaced}
+use Rattle.tp_ways.specs.Ways.{IsPlaced}
 use Rattle.tp_search.specs.declared.opening.Opening.{Opening}
 use Rattle.tp_search.proofs.BoardSteps.{TheWay, the-way}
 use Rattle.tp_search.proofs.ChildBoards.{bound-range}
 use Rattle.tp_search.proofs.ChildFacts.{child-form, child_by-stop}
 use Rattle.tp_search.proofs.OpeningFacts.{opening-on, opening-stop}
 use Rattle.tp_search.proofs.ProgressFacts.{tried-none}
-use Rattle.tp_search.proofs.WayChildren.{stop-late}
-use Rattle.tp_search.proofs.WayLists.{first-only, way-bound, way-walk}
-use Rattle.tp_search.proofs.WaySteps.{stop-way}
+use Rattle.tp_ways.proofs.WayChildren.{stop-late}
+use Rattle.tp_ways.proofs.WayLists.{first-only, way-walk}
+use Rattle.tp_search.proofs.WayBounds.{way-bound}
+use Rattle.tp_ways.proofs.WaySteps.{stop-way}
 
 -- a stopped child may stop
 stopped-can : {machine : Machine} {ask : Ask} {p l : ChoiceList} → IsChild machine ask p l → IsTrue l.stopped → CanStop machine ask p ask.origin

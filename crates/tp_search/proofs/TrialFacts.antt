@@ -30,7 +30,8 @@ use Rattle.tp_search.specs.Outcomes.{HasAnswer}
 use Rattle.tp_schedule.specs.Planning.{IsKnownGoal}
 use Rattle.tp_search.specs.Trials.{EndsEarliest, IsEarliestTo, IsTrial, board_in}
 use Rattle.tp_search.specs.declared.trying.Trial.{Trial}
-use Rattle.tp_search.proofs.AnswerFacts.{answer-commits, answer-ends, complete-some, none_before-whole, rest}
+use Rattle.tp_ways.proofs.WayAnswers.{complete-some}
+use Rattle.tp_search.proofs.AnswerFacts.{answer-commits, answer-ends, none_before-whole, rest}
 use Rattle.tp_search.proofs.BoardSteps.{IsUndone, undone-back}
 
 -- a complete list stays complete with its places further on

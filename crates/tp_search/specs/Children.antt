@@ -14,7 +14,7 @@ use Rattle.tp_search.specs.Boards.{IsLaid}
 use Rattle.tp_search.specs.Opening.{IsFresh}
 use Rattle.tp_search.specs.Stored.{choices_by}
 use Rattle.tp_search.specs.Stores.{HasBounds, StoreValue}
-use Rattle.tp_search.specs.Ways.{IsPlaced}
+use Rattle.tp_ways.specs.Ways.{IsPlaced}
 use Rattle.tp_search.specs.declared.children.Child.{Child}
 use Rattle.tp_search.specs.declared.opening.Opening.{Opening}
 

@@ -13,7 +13,7 @@ use Rattle.tp_placing.specs.Boards.{BoardValue, past_of, suffix_of}
 use Rattle.tp_placing.specs.Calls.{IsSameLoad}
 use Rattle.tp_placing.specs.Standing.{Stands}
 use Rattle.tp_search.specs.Stored.{child_by, choice_with, choices_by}
-use Rattle.tp_search.specs.Ways.{IsPlaced, IsWay}
+use Rattle.tp_ways.specs.Ways.{IsPlaced, IsWay}
 
 -- each stored choice has this goal
 abbrev pub HaveGoal : State → List Stored → Type 0

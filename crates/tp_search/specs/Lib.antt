@@ -1,4 +1,3 @@
-pub mod Ways
 pub mod Stored
 pub mod Stores
 pub mod Opening

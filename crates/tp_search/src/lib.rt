@@ -19,9 +19,6 @@ mod workspace;
 
 pub use answering::answer;
 pub use engine::Engine;
-pub use laws::{
-    complete_ways_start, late_lists_stay_shut, lists_without_room_stay_shut,
-    open_lists_have_places, steps_make_ways, ways_are_lists, ways_open_by_their_times,
-};
+pub use laws::ways_have_bounds;
 pub use trying::{NoPlan, Trial, plan};
 pub use workspace::Workspace;

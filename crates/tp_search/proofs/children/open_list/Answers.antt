@@ -5,7 +5,7 @@ use Rattle.tp_schedule.specs.Answers.{kept_of}
 use Rattle.tp_search.specs.Opening.{IsAtProgress}
 use Rattle.tp_search.specs.Opening.Progress.{up_to}
 use Rattle.tp_search.specs.Stored.{choices_by}
-use Rattle.tp_search.specs.Ways.{IsPlaced}
+use Rattle.tp_ways.specs.Ways.{IsPlaced}
 use Rattle.tp_search.proofs.ActSteps.{laid-at_most, opening-full_list}
 use Rattle.tp_search.proofs.BoardSteps.{back-trans, laid-back}
 use Rattle.tp_search.proofs.OpeningSame.{before-same, bounds-same, fresh-same, same-trans}

@@ -1,6 +1,6 @@
 -- The goal of an open list has room and times.
 use Rattle.tp_search.proofs.FollowGoal.{goal_within, refused-late}
-use Rattle.tp_search.proofs.WayChildren.{goal-closed, goal-late}
+use Rattle.tp_ways.proofs.WayChildren.{goal-closed, goal-late}
 use Rattle.tp_search.proofs.following.follow_goal.Goals as goal
 
 pub room_of-requires-clause-known : goal.room_of-requires-clause-known
