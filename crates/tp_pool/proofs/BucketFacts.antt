@@ -1,13 +1,14 @@
 -- What each call makes of linked nodes.
-use Rattle.std.proofs.Common.{◌≡◌, ℕ, zero, suc, ◌+◌, ◌-◌, ◌<◌, ◌≤◌, List, [], ◌∷◌, length, get_or, replicate, min, Option, Some, None, refl, sym, ap, subst, ◌∙◌, arith, inl, inr}
+use Rattle.std.proofs.Common.{◌≡◌, ℕ, zero, suc, ◌+◌, ◌-◌, ◌<◌, ◌≤◌, List, [], ◌∷◌, length, get_or, replicate, min, max, Option, Some, None, refl, sym, ap, subst, ◌∙◌, arith, inl, inr}
 use Rattle.std.specs.Prelude.{slice_set}
 use Rattle.std.specs.List.Sorted.{IsPermutation}
 use Rattle.std.proofs.lemmas.Bool.{cases_lt}
+use Rattle.std.proofs.lemmas.Option.{none-some}
 use Rattle.std.proofs.lemmas.List.{length-set, get_or-set_other, get_or_read}
 use Rattle.std.proofs.lemmas.List.Elements.{Contains-get_or}
 use Rattle.std.proofs.lemmas.List.Sorted.{Contains-permutation, IsPermutation-sym, length_permutation}
 use Rattle.tp_pool.specs.Queues.{Queued, BucketQueue, IsIn, IsLeastIn, IsTaken, head_at}
-use Rattle.tp_pool.specs.Linked.{queued_from, queued_of, AreQueued, IsBuckets}
+use Rattle.tp_pool.specs.Linked.{queued_from, queued_of, AreQueued, IsBuckets, IsQueue}
 use Rattle.tp_pool.proofs.QueueFacts.{out_test, none-queued, few, put-queued, take-queued, taken_out, taken_known}
 use Rattle.tp_pool.proofs.LinkFacts.{put-in, take-out, queued-none, least-first}
 
@@ -16,15 +17,22 @@ no_head zero k = refl
 no_head (suc n) zero = refl
 no_head (suc n) (suc k) = no_head n k
 
--- emptied heads
-pub emptied-none : (base n : ℕ) (heads nexts : List (Option ℕ)) → heads ≡ replicate n None → queued_of base nexts heads ≡ []
-emptied-none base n heads nexts is = queued-none base (suc (length nexts)) nexts heads (λ k below. ap (λ hs. head_at hs k) is ∙ no_head n k)
+-- heads without a node
+pub none_in : (n : ℕ) (heads : List (Option ℕ)) → heads ≡ replicate n None → (k : ℕ) → head_at heads k ≡ None
+none_in n heads is k = ap (λ hs. head_at hs k) is ∙ no_head n k
 
-pub emptied : (base cursor n : ℕ) (heads nexts : List (Option ℕ)) → heads ≡ replicate n None → cursor ≤ length heads → IsBuckets base cursor heads nexts
-emptied base cursor n heads nexts is within = record {
-  queued = subst (λ qs. AreQueued qs (length nexts)) (sym (emptied-none base n heads nexts is)) (none-queued (length nexts));
-  within = within;
-  empty = λ k below. ap (λ hs. head_at hs k) is ∙ no_head n k;
+pub emptied-none : (base : ℕ) (heads nexts : List (Option ℕ)) → ((k : ℕ) → head_at heads k ≡ None) → queued_of base nexts heads ≡ []
+emptied-none base heads nexts none = queued-none base (suc (length nexts)) nexts heads (λ k below. none k)
+
+pub emptied : (base cursor : ℕ) (heads nexts : List (Option ℕ)) → ((k : ℕ) → head_at heads k ≡ None) → cursor ≤ length heads → IsQueue base cursor 0 heads nexts
+emptied base cursor heads nexts none within = record {
+  linked = record {
+    queued = subst (λ qs. AreQueued qs (length nexts)) (sym (emptied-none base heads nexts none)) (none-queued (length nexts));
+    within = within;
+    empty = λ k below. none k;
+  };
+  top_within = omega arith;
+  none_above = λ k above. none k;
 }
 
 -- A node that can be put in: it is out, its place is that of its bound, and the link behind it is the head there.
@@ -70,6 +78,18 @@ put-kept base cursor heads nexts link place node is can =
           (put-queued (record { node = node; bound = base + place }) before after (length nexts) is.queued can.below (out_test node before can.out) (put-all base cursor heads nexts link place node (base + place) is can refl));
       within = omega arith;
       empty = λ k earlier. get_or-set_other heads place k (Some node) None (λ e. absurd (omega arith)) ∙ is.empty k (omega arith);
+    }
+
+pub put-queue : (base cursor top : ℕ) (heads nexts : List (Option ℕ)) (link : Option ℕ) (place node : ℕ) → IsQueue base cursor top heads nexts → CanPut base heads nexts link place node
+    → IsQueue base (min cursor place) (max top (place + 1)) (slice_set heads place (Some node)) (slice_set nexts node link)
+put-queue base cursor top heads nexts link place node is can =
+    let many = length-set heads place (Some node) in
+    let within = is.top_within in
+    let there = can.there in
+    record {
+      linked = put-kept base cursor heads nexts link place node is.linked can;
+      top_within = omega arith;
+      none_above = λ k above. get_or-set_other heads place k (Some node) None (λ e. absurd (omega arith)) ∙ is.none_above k (omega arith);
     }
 
 -- the cursor moved on over heads without a node
@@ -145,6 +165,16 @@ take-kept base place heads nexts node link is read =
       queued = take-queued (record { node = node; bound = base + place }) (queued_of base nexts heads) (queued_of base nexts (slice_set heads place link)) (length nexts) is.linked.queued (moved_out base place heads nexts node link is read);
       within = omega arith;
       empty = λ k earlier. get_or-set_other heads place k link None (λ e. absurd (omega arith)) ∙ is.linked.empty k earlier;
+    }
+
+pub take-queue : (base place top : ℕ) (heads nexts : List (Option ℕ)) (node : ℕ) (link : Option ℕ) → top ≤ length heads → ((k : ℕ) → top ≤ k → head_at heads k ≡ None) → IsFirst base place heads nexts node → link ≡ get_or nexts node link
+    → IsQueue base place top (slice_set heads place link) nexts
+take-queue base place top heads nexts node link within none is read =
+    let many = length-set heads place link in
+    record {
+      linked = take-kept base place heads nexts node link is read;
+      top_within = omega arith;
+      none_above = λ k above. get_or-set_other heads place k link None (λ e. none-some node (sym (none k above) ∙ ap (head_at heads) e ∙ is.here)) ∙ none k above;
     }
 
 -- what was taken was in it

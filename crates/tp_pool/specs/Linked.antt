@@ -28,3 +28,9 @@ pub record IsBuckets (base cursor : ℕ) (heads nexts : List (Option ℕ)) : Typ
   pub queued : AreQueued (queued_of base nexts heads) (length nexts)
   pub within : cursor ≤ length heads
   pub empty : (k : ℕ) → k < cursor → head_at heads k ≡ None
+
+-- linked nodes, with no node at a head from the top on either
+pub record IsQueue (base cursor top : ℕ) (heads nexts : List (Option ℕ)) : Type 0 where
+  pub linked : IsBuckets base cursor heads nexts
+  pub top_within : top ≤ length heads
+  pub none_above : (k : ℕ) → top ≤ k → head_at heads k ≡ None

@@ -1,4 +1,4 @@
-ghost use Rattle.std.specs.Prelude.{◌≡◌, ◌≢◌, ℕ, ◌+◌, ◌<◌, ◌≤◌, ◌↔◌, [], ◌∷◌, length, replicate, None, IfOk, IfSome};
+ghost use Rattle.std.specs.Prelude.{◌≡◌, ◌≢◌, ℕ, ◌+◌, ◌<◌, ◌≤◌, ◌↔◌, [], ◌∷◌, length, None, IfOk, IfSome};
 ghost use Rattle.std.specs.List.Sorted.{IsPermutation};
 ghost use Rattle.tp_pool.specs.Queues.{IsIn, IsLeastIn, IsTaken, head_at};
 
@@ -16,13 +16,15 @@ pub struct Buckets {
     base: Tick,
     /// No head before this place has a node.
     cursor: usize,
+    /// No head from this place on has a node.
+    top: usize,
 }
 
 // Clauses see the nodes with their bounds, in an order that means nothing, and the numbers that it was made for.
 impl Model for Buckets {
     ghost use Rattle.std.specs.Prelude.{length};
     ghost use Rattle.tp_pool.specs.Queues.{BucketQueue};
-    ghost use Rattle.tp_pool.specs.Linked.{queued_of, IsBuckets};
+    ghost use Rattle.tp_pool.specs.Linked.{queued_of, IsQueue};
 
     ghost Value = { BucketQueue };
 
@@ -33,7 +35,7 @@ impl Model for Buckets {
       queued = queued_of b.base b.nexts.items b.heads.items;
     } };
 
-    ghost invariant = { λ b. IsBuckets b.base b.cursor b.heads.items b.nexts.items };
+    ghost invariant = { λ b. IsQueue b.base b.cursor b.top b.heads.items b.nexts.items };
 }
 
 impl Buckets {
@@ -48,10 +50,12 @@ impl Buckets {
             nexts: vec![in alloc; None; nodes as usize]?,
             base: 0,
             cursor: width as usize,
+            top: 0,
         })
     }
 
-    /// Leaves no node, and is from now on for bounds from this base on. Costs a step for each bound.
+    /// Leaves no node, and is from now on for bounds from this base on. Costs a step for each bound from the least to the
+    /// greatest that was put in.
     pub fn clear(&mut self, base: Tick)
         ensures { self.new ≡ record {
           nodes = self.old.nodes;
@@ -60,9 +64,10 @@ impl Buckets {
           queued = [];
         } }
     {
-        empty(&mut self.heads);
+        empty(&mut self.heads, self.cursor, self.top);
         self.base = base;
         self.cursor = self.heads.len();
+        self.top = 0;
     }
 
     /// Puts a node in, in constant time. It may be put in again once it was taken.
@@ -81,6 +86,7 @@ impl Buckets {
         self.nexts[node as usize] = self.heads[place];
         self.heads[place] = Some(node);
         self.cursor = self.cursor.min(place);
+        self.top = self.top.max(place + 1);
     }
 
     /// A node of least bound, or None where there is none. It stays in. Costs what a take costs.
@@ -118,10 +124,17 @@ impl Buckets {
     }
 }
 
-fn empty(heads: &mut Vec<Option<u32>>)
-    ensures { heads.new.items ≡ replicate (length heads.old.items) None }
+/// Leaves no node at the heads, of which those before `from` and those from `to` on have none.
+fn empty(heads: &mut Vec<Option<u32>>, from: usize, to: usize)
+    requires before { (k : ℕ) → k < from → head_at heads.old.items k ≡ None }
+    requires behind { (k : ℕ) → to ≤ k → head_at heads.old.items k ≡ None }
+    requires within { to ≤ length heads.old.items }
+    ensures none { (k : ℕ) → head_at heads.new.items k ≡ None }
+    ensures len { length heads.new.items ≡ length heads.old.items }
 {
-    heads.fill(None);
+    'heads: for at in from..to {
+        heads[at] = None;
+    }
 }
 
 /// The place of the first head with a node, from a place on, or the number of heads where there is none.

@@ -10,7 +10,7 @@ returns-then-self-len-clause-none c =
     let a = c.self.inside in
     let found = c.first_filled-self-inside in
     let end : found.result ≡ length a.heads.items = omega (arith, c.if-self-len.true, c.len.ensures, a.heads.ok.0) in
-    let moved = moved-on a.base a.cursor found.result c.deref.result.now a.heads.items a.nexts.items c.deref.ensures.value c.self.invariant found.ensures.within found.ensures.empty in
+    let moved = moved-on a.base a.cursor found.result c.deref.result.now a.heads.items a.nexts.items c.deref.ensures.value c.self.invariant.linked found.ensures.within found.ensures.empty in
     let none = end-none a.base a.heads.items a.nexts.items (subst (λ place. IsBuckets a.base place a.heads.items a.nexts.items) end moved) in
     ((λ _. ap (λ (b : BucketQueue). b.queued) (sym c.self.view_is) ∙ none), (λ _. refl))
 
@@ -19,7 +19,7 @@ returns-clause-none c =
     let a = c.self.inside in
     let found = c.first_filled-self-inside in
     let within : found.result < length a.heads.items = omega (arith, found.ensures.within, c.deref.ensures.len, c.if-self-len.false, c.len.ensures, a.heads.ok.0) in
-    let first = is_first a.base a.cursor found.result c.deref.result.now a.heads.items a.nexts.items c.index.result.now c.in_ok-node.node c.deref.ensures.value c.self.invariant within found.ensures.empty c.index.ensures c.in_ok-node.was in
+    let first = is_first a.base a.cursor found.result c.deref.result.now a.heads.items a.nexts.items c.index.result.now c.in_ok-node.node c.deref.ensures.value c.self.invariant.linked within found.ensures.empty c.index.ensures c.in_ok-node.was in
     let some = least-some c.in_ok-node.node (queued_of a.base a.nexts.items a.heads.items) (first-least a.base found.result a.heads.items a.nexts.items c.in_ok-node.node first) in
     ((λ none. absurd (none-some c.in_ok-node.node (sym none))), (λ none. absurd (some (ap (λ (b : BucketQueue). b.queued) c.self.view_is ∙ none))))
 
@@ -28,5 +28,5 @@ returns-clause-first c =
     let a = c.self.inside in
     let found = c.first_filled-self-inside in
     let within : found.result < length a.heads.items = omega (arith, found.ensures.within, c.deref.ensures.len, c.if-self-len.false, c.len.ensures, a.heads.ok.0) in
-    let first = is_first a.base a.cursor found.result c.deref.result.now a.heads.items a.nexts.items c.index.result.now c.in_ok-node.node c.deref.ensures.value c.self.invariant within found.ensures.empty c.index.ensures c.in_ok-node.was in
+    let first = is_first a.base a.cursor found.result c.deref.result.now a.heads.items a.nexts.items c.index.result.now c.in_ok-node.node c.deref.ensures.value c.self.invariant.linked within found.ensures.empty c.index.ensures c.in_ok-node.was in
     subst (λ (b : BucketQueue). IsLeastIn c.in_ok-node.node b.queued) c.self.view_is (first-least a.base found.result a.heads.items a.nexts.items c.in_ok-node.node first)
