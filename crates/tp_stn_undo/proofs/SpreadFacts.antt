@@ -1,9 +1,9 @@
 -- Going through the edges that begin at a point.
-use Rattle.std.proofs.Common.{◌≡◌, ℕ, ◌+◌, ◌-◌, ◌<◌, ◌≤◌, Bool, false, List, length, slice_index, get_or, set, take, Some, sym, refl, ap, ◌∙◌, subst, arith, ◌⊎◌, inl, inr}
+use Rattle.std.proofs.Common.{◌≡◌, ℕ, ◌+◌, ◌-◌, ◌<◌, ◌≤◌, Bool, true, false, List, length, slice_index, get_or, set, take, Some, sym, refl, ap, ◌∙◌, subst, arith, ◌⊎◌, inl, inr}
 use Rattle.std.specs.Prelude.{Result, Ok, Err, OnOk}
-use Rattle.std.proofs.lemmas.Bool.{cases_eq, cases_lt}
+use Rattle.std.proofs.lemmas.Bool.{cases_eq, cases_lt, true≢false}
 use Rattle.std.proofs.lemmas.Option.{same_Some, slice_get_within, slice_get-map}
-use Rattle.std.proofs.lemmas.List.{length-map, length-take-le, get_or-set_other}
+use Rattle.std.proofs.lemmas.List.{length-map, length-take-le, get_or-set_other, get_or-set_same}
 use Rattle.std.specs.List.{All, slice_get}
 use Rattle.std.specs.Option.{option_map}
 use Rattle.tp_base.specs.declared.edges.Edge.{Edge}
@@ -16,7 +16,7 @@ use Rattle.tp_stn_undo.specs.declared.spots.SavedSpot.{SavedSpot}
 use Rattle.tp_stn_undo.specs.Spots.{times_of, edges_of, causes_of}
 use Rattle.tp_stn_undo.specs.Saved.{by_link, newest_of}
 use Rattle.tp_stn_undo.specs.Marks.{AreLinks}
-use Rattle.tp_stn_undo.specs.Flags.{AreIdle, AreKnown}
+use Rattle.tp_stn_undo.specs.Flags.{flag, AreIdle, AreKnown}
 use Rattle.tp_stn_undo.specs.Spreading.{SpotsRise, LeadsBack, KeptFrom, IsMet, AreKept}
 use Rattle.tp_stn_undo.proofs.SavedFacts.{Names, newest_late, newest_names}
 use Rattle.tp_stn_undo.proofs.LinkFacts.{slice_get_kept}
@@ -126,6 +126,25 @@ kept_newest edges t flags n is kept met k e g f =
       | inl p ↦ kept k e (slice_get_kept (n - 1) edges k p ∙ g) f (λ _. omega arith)
       | inr p ↦ (let q : k ≡ n - 1 = omega arith in met e (ap (slice_get edges) (sym q) ∙ g) f)
     ]
+
+-- all edges but the newest are kept, and the point where that begins waits now
+pub kept_begun : (links : List Link) (t : ℕ → ℕ) (flags : List Bool) (n : ℕ) → 0 < n → n ≡ length links → (get_or links (n - 1) no_link).edge.from.0 < length flags
+    → AreKept (take (n - 1) (edges_of links)) t flags → AreKept (edges_of links) t (set flags (get_or links (n - 1) no_link).edge.from.0 true)
+kept_begun links t flags n some is known kept =
+    kept_newest (edges_of links) t (set flags p true) n (is ∙ sym (length-map links (λ (l : Link). l.edge)))
+    (λ k e g f _. kept k e g (sym (get_or-set_other flags p e.from.0 true false (other e.from.0 f)) ∙ f))
+    (λ e g f. absurd (other e.from.0 f (ap (λ (x : Edge). x.from.0) (begins e g))))
+  where
+    p : ℕ
+    p = (get_or links (n - 1) no_link).edge.from.0
+
+    other : (v : ℕ) → flag (set flags p true) v ≡ false → v ≡ p → ⊥
+    other v f q = true≢false (sym (get_or-set_same flags p true false known) ∙ ap (flag (set flags p true)) (sym q) ∙ f)
+
+    begins : (e : Edge) → slice_get (edges_of links) (n - 1) ≡ Some e → e ≡ (get_or links (n - 1) no_link).edge
+    begins e g = (
+        let l = link_of links (n - 1) e g in
+        sym l.2 ∙ ap (λ (x : Link). x.edge) (sym (same_Some _ l.0 (sym (slice_get_at links (n - 1) no_link (omega arith)) ∙ l.1))))
 
 pub on_ok : {T E P Q : Type 0} (r : Result T E) → (P → Q) → OnOk r P → OnOk r Q
 on_ok (Ok x) f h = f h

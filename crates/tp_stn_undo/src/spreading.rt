@@ -210,7 +210,8 @@ pub(crate) fn spread(
     Ok(())
 }
 
-/// Follows the newest edge, if it asks for more, and the edges of the points that rise.
+/// Follows the newest edge, if it asks for more, and the edges of the points that rise: the point where it begins waits alone, so
+/// that it is followed first.
 pub(crate) fn settle(
     caps: &[u32],
     links: &[Link],
@@ -253,8 +254,6 @@ pub(crate) fn settle(
     if reach <= i64::from(spots[edge.to.0 as usize].time) {
         return Ok(());
     }
-    match follow(caps, links, number, edge.from, spots, working) {
-        Ok(()) => spread(caps, links, heads, edge.from, spots, working),
-        Err(kept) => Err(kept),
-    }
+    working.waiting.push(edge.from.0);
+    spread(caps, links, heads, edge.from, spots, working)
 }
