@@ -20,6 +20,16 @@ use tp_machine::Machine;
 use tp_schedule::{Plan, Schedule, is_plan_live};
 use tp_timelines::Timelines;
 
+/// Whether a plan is live at the moment. Mostly its end tells.
+fn is_live(machine: &Machine, now: Tick, plan: &Plan) -> bool
+    ensures { result ≡ is_live machine.now now plan.now }
+{
+    match plan.points.as_slice().last() {
+        Some(end) if now < *end => true,
+        _ => is_plan_live(machine, now, plan),
+    }
+}
+
 /// Copies the plans that are live at the moment.
 fn keep_live(plans: &mut Vec<Plan>, machine: &Machine, schedule: &Schedule, now: Tick)
     requires space { length (filter (is_live machine.now now) schedule.now.plans)
@@ -30,7 +40,7 @@ fn keep_live(plans: &mut Vec<Plan>, machine: &Machine, schedule: &Schedule, now:
     plans.clear();
     for at in 0..schedule.len() {
         let plan = schedule.plan_at(at);
-        if is_plan_live(machine, now, plan) {
+        if is_live(machine, now, plan) {
             match plans.push(plan.copy()) {
                 Ok(()) => {}
                 Err(_) => unreachable!(),

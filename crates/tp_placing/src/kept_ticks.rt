@@ -20,25 +20,42 @@ pub(crate) fn count_to(firsts: &[PointId], point: PointId) -> usize
     firsts.partition_point(|first| first.0 <= point.0)
 }
 
-/// The tick of a point, of which the plan is found by its first point.
-fn tick_at(plans: &[Plan], firsts: &[PointId], point: PointId) -> Tick
+/// The same, where a guess may spare the search: it is the answer if the point lies between its neighbours.
+pub(crate) fn count_near(firsts: &[PointId], guess: usize, point: PointId) -> usize
+    requires { IsNonDecreasingBy (λ f. f.0) firsts.now }
+    ensures within { result ≤ length firsts.now }
+    ensures before { AllWithin (λ f. f.0 ≤ point.0) firsts.now 0 result }
+    ensures behind { AllWithin (λ f. point.0 < f.0) firsts.now result (length firsts.now) }
+{
+    if guess == 0 || guess >= firsts.len() {
+        return count_to(firsts, point);
+    }
+    if firsts[guess - 1].0 <= point.0 && point.0 < firsts[guess].0 {
+        guess
+    } else {
+        count_to(firsts, point)
+    }
+}
+
+/// The tick of a point, of which the plan is found by its first point: the last of so many plans, or another.
+fn tick_at(plans: &[Plan], firsts: &[PointId], guess: usize, point: PointId) -> Tick
     requires formed { All HasPoints plans.now }
     requires firsts { firsts.now ≡ firsts_from 0 plans.now }
     requires within { point.0 < length (ticks_in plans.now) }
     ensures { result ≡ slice_index (ticks_in plans.now) point.0 }
 {
-    let place = count_to(firsts, point) - 1;
+    let place = count_near(firsts, guess, point) - 1;
     plans[place].points.get(point.0 - firsts[place].0)
 }
 
-/// The tick at which a hold begins.
-pub(crate) fn begin_at(plans: &[Plan], firsts: &[PointId], hold: &Held) -> i64
+/// The tick at which a hold begins, which the last of so many plans has, or another.
+pub(crate) fn begin_at(plans: &[Plan], firsts: &[PointId], guess: usize, hold: &Held) -> i64
     requires formed { All HasPoints plans.now }
     requires firsts { firsts.now ≡ firsts_from 0 plans.now }
     requires within { IsHeldWithin (length (ticks_in plans.now)) hold.now }
     ensures { result ≡ begin_held (ticks_in plans.now) hold.now }
 {
-    let start = tick_at(plans, firsts, hold.start);
-    let end = tick_at(plans, firsts, hold.end);
+    let start = tick_at(plans, firsts, guess, hold.start);
+    let end = tick_at(plans, firsts, guess, hold.end);
     span(&hold.rule, start, end).0
 }
