@@ -39,4 +39,5 @@ pub mod HoldChildren
 pub mod AskedFacts
 pub mod AnswerFacts
 pub mod TrialFacts
+pub mod ShowFacts
 pub mod EngineFacts

@@ -59,6 +59,15 @@ module _ (machine : Machine) (plans : List Plan) (ask : Ask) (can : CanAsk machi
   further-some : 0 < length list.choices → 0 < length further.choices
   further-some some = omega (arith, some, length-map list.choices (shift_choice machine (forgotten_on machine plans (gone machine plans ask.now can.plan_on))))
 
+  -- a complete list that is open on the live plans is an alternative on the whole schedule
+  pub whole-answer : IsMachine machine → IsKnownGoal machine ask.goal → IsComplete machine ask list → OpensTo machine live ask list bound → (other : List Plan) × IsAlternative machine plans ask other
+  whole-answer is-machine known complete o =
+      let opens = further-opens o in
+      let some = further-some (complete-some machine live ask is-machine known list (bound, o) complete) in
+      let done = complete-shifted machine ask (forgotten_on machine plans (gone machine plans ask.now can.plan_on)) list complete in
+      let a = complete_answers machine plans ask further (least_sum machine opens.before) opens.ticks can.plan_on.legal can.asked opens.is_list done some opens.times in
+      (answered plans ask further.choices opens.ticks, a.0)
+
   -- a complete list whose bound no alternative ends before tells the end of the earliest plans
   pub ends-earliest : IsMachine machine → IsKnownGoal machine ask.goal → IsComplete machine ask list → IsBound machine live ask list bound → NoneBefore machine live ask bound → EndsEarliest machine plans ask bound
   ends-earliest is-machine known complete is-bound none =

@@ -1,11 +1,15 @@
 //! The memory of a search, and the search for an ask on a loaded board.
-ghost use Rattle.std.specs.Prelude.{ℕ, ◌≡◌, ◌≤◌, [], length, List, Some, IfOk};
+ghost use Rattle.std.specs.Prelude.{ℕ, ◌≡◌, ◌≤◌, [], length, pos, List, Some, IfErr, IfOk};
 ghost use Rattle.tp_schedule.specs.declared.parts.Plan.{Plan};
 ghost use Rattle.tp_placing.specs.Boards.{past_of};
 ghost use Rattle.tp_placing.specs.Standing.{Stands};
 ghost use Rattle.tp_placing.specs.Writing.{IsLoadedFrom};
+ghost use Rattle.tp_search.specs.Boards.{HasMarks, IsBack, IsReady};
 ghost use Rattle.tp_search.specs.Outcomes.{IsOutcome};
 ghost use Rattle.tp_search.specs.Workspaces.{IsFor};
+ghost use Rattle.tp_showing.specs.Closes.{IsLimit};
+ghost use Rattle.tp_showing.specs.Showing.{IsEarlyEnd};
+ghost use Rattle.tp_trees.specs.Trees.{IsBoundTree};
 
 use crate::goals::{OpenGoal, find_goals};
 use crate::problem::Problem;
@@ -13,11 +17,13 @@ use crate::searching::{Outcome, search};
 use crate::store::Store;
 use std::alloc::Global;
 use std::marker::Model;
-use tp_base::{Memory, Network, Undo};
+use tp_base::{Memory, Network, Tick, Undo};
+use tp_bounds::BoundTree;
 use tp_machine::Machine;
 use tp_placing::Board;
 use tp_routes::Rooms;
 use tp_schedule::Ask;
+use tp_showing::{NotShown, show_limit};
 
 /// All that a search takes memory for. It is for machines with the same numbers of locations and resources and the same
 /// window as the one that it was made for, and stores as many lists as it has nodes: the budget of an ask.
@@ -86,5 +92,31 @@ impl Workspace {
         };
         find_goals(&mut self.goals, board, problem);
         search(&mut self.goals, &mut self.store, board, problem)
+    }
+
+    /// Makes a tree that shows that no alternative of the ask, for which the board is loaded with no
+    /// goal open, ends by the limit. Leaves the board as it was.
+    pub(crate) fn show<N: Network>(
+        &mut self,
+        alloc: Global,
+        board: &mut Board<N>,
+        machine: &Machine,
+        ask: &Ask,
+        limit: Tick,
+    ) -> Result<BoundTree, NotShown>
+        requires made { IsFor self.old machine.now }
+        requires loaded { (plans : List Plan)
+            × IsLoadedFrom machine.now plans ask.now board.old.plans }
+        requires ready { IsReady N.net N.content N.past N.mark_room board.old machine.now ask.now }
+        requires limit { IsLimit machine.now ask.now (pos limit) }
+        requires marks { HasMarks N.net N.content N.past N.mark_room 326 board.old }
+        ensures tree { IfOk result (IsBoundTree machine.now board.old.plans ask.entry.now
+            (pos limit)) }
+        ensures early { IfErr result (IsEarlyEnd machine.now board.old.plans ask.entry.now limit) }
+        ensures back { IsBack N.net N.content N.past N.mark_room board.old board.new machine.now }
+        ensures same { self.new ≡ self.old }
+    {
+        self.rooms.fill(machine, ask);
+        show_limit(alloc, &self.rooms, board, machine, ask, limit)
     }
 }

@@ -1,0 +1,46 @@
+//! The tree of an ask without an alternative.
+ghost use Rattle.std.specs.Prelude.{◌≡◌, List, IfOk};
+ghost use Rattle.tp_schedule.specs.Answers.{IsAlternative};
+ghost use Rattle.tp_schedule.specs.declared.parts.Plan.{Plan};
+ghost use Rattle.tp_placing.specs.Writing.{IsLoadedFrom};
+ghost use Rattle.tp_search.specs.Boards.{HasMarks, IsBack, IsReady};
+ghost use Rattle.tp_search.specs.Workspaces.{IsFor};
+ghost use Rattle.tp_trees.specs.Claims.{IsTreeFor};
+ghost use Rattle.tp_trees.specs.declared.claim.Claim.TheVariants.{Never};
+
+use crate::workspace::Workspace;
+use std::alloc::Global;
+use tp_base::{Memory, Network};
+use tp_bounds::BoundTree;
+use tp_machine::Machine;
+use tp_placing::Board;
+use tp_schedule::Ask;
+use tp_showing::NotShown;
+
+/// A tree that shows that the ask for which the board is loaded, with no goal open, has no alternative, which is so. The board
+/// is as before, whatever the answer. Where memory runs out, the call may be made again.
+pub fn show_never<N: Network>(
+    alloc: Global,
+    work: &mut Workspace,
+    board: &mut Board<N>,
+    machine: &Machine,
+    ask: &Ask,
+) -> Result<BoundTree, Memory>
+    requires work { IsFor work.old machine.now }
+    requires loaded { (plans : List Plan)
+        × (IsLoadedFrom machine.now plans ask.now board.old.plans
+        × ((other : List Plan) → ¬ IsAlternative machine.now plans ask.now other)) }
+    requires ready { IsReady N.net N.content N.past N.mark_room board.old machine.now ask.now }
+    requires marks { HasMarks N.net N.content N.past N.mark_room 326 board.old }
+    ensures tree { (plans : List Plan) → IsLoadedFrom machine.now plans ask.entry.now board.old.plans
+        → IfOk result (IsTreeFor machine.now plans ask.entry.now Never) }
+    ensures back { IsBack N.net N.content N.past N.mark_room board.old board.new machine.now }
+    ensures work { work.new ≡ work.old }
+{
+    let horizon = ask.now + machine.window;
+    match work.show(alloc, board, machine, ask, horizon) {
+        Ok(tree) => Ok(tree),
+        Err(NotShown::Memory) => Err(Memory),
+        Err(NotShown::Early) => unreachable!(),
+    }
+}
