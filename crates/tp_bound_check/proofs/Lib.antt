@@ -15,3 +15,4 @@ pub mod KeptFacts
 pub mod KeyFacts
 pub mod LinkFacts
 pub mod StepFacts
+pub mod FrameFacts

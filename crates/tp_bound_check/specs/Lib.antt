@@ -8,3 +8,4 @@ pub mod Branches
 pub mod Looks
 pub mod Keys
 pub mod Links
+pub mod Frames

@@ -1,5 +1,6 @@
 //! What closes a node: a dead state, a chain or a loop; or what is due below it.
-ghost use Rattle.std.specs.Prelude.{◌≡◌, ◌++◌, [], length, Some, IfOk, IfErr, OnOk, List};
+ghost use Rattle.std.specs.Prelude.{◌≡◌, ℕ, ◌+◌, ◌≤◌, ◌++◌, [], length, Some, IfOk, IfErr, OnOk, List};
+ghost use Rattle.tp_bound_check.specs.Frames.{IsOn, IsShallowStand};
 ghost use Rattle.tp_bound_check.specs.Looks.{IsFaultOf, IsSoundFrame, dues_of};
 ghost use Rattle.tp_bound_check.specs.Stands.{IsSoundStand};
 ghost use Rattle.tp_machine.specs.declared.parts.State.{State};
@@ -130,31 +131,33 @@ impl<'a> Scene<'a> {
     /// What is due below a node that is closed here, or split.
     pub(crate) fn close_look(
         &self,
-        stand: &Stand,
+        stand: Stand,
         head: &Head,
         close: &Close,
     ) -> Result<Frame, Fault>
-        requires sound { IsSoundStand self.now.rows.machine.now stand.now }
+        requires sound { IsSoundStand self.now.rows.machine.now stand }
+        requires shallow { IsShallowStand stand }
         ensures ok { IfOk result (λ f. (goals : List State) → close_look self.now.rows.machine.now
-            self.now.plans.now self.now.rows.ask.now self.now.rows.rows.now self.now.limit stand.now
+            self.now.plans.now self.now.rows.ask.now self.now.rows.rows.now self.now.limit stand
             head.now close.now ≡ due (dues_of self.now.rows.machine.now self.now.plans.now
             self.now.rows.ask.now self.now.rows.rows.now self.now.limit goals f)) }
         ensures sound { IfOk result (IsSoundFrame self.now.rows.machine.now) }
         ensures fault { IfErr result (IsFaultOf (close_look self.now.rows.machine.now
-            self.now.plans.now self.now.rows.ask.now self.now.rows.rows.now self.now.limit stand.now
+            self.now.plans.now self.now.rows.ask.now self.now.rows.rows.now self.now.limit stand
             head.now close.now)) }
+        ensures depth { IfOk result (λ f. (n : ℕ) → n ≤ stand.branch.depth → IsOn f (n + 1)) }
     {
         match close {
             Close::Split => self.split(stand),
-            Close::Dead => match self.dead_look(stand, head) {
+            Close::Dead => match self.dead_look(&stand, head) {
                 Ok(()) => Ok(Frame::Nothing),
                 Err(fault) => Err(fault),
             },
-            Close::Chain { first, hops } => match self.chain_look(stand, first, hops) {
+            Close::Chain { first, hops } => match self.chain_look(&stand, first, hops) {
                 Ok(()) => Ok(Frame::Nothing),
                 Err(fault) => Err(fault),
             },
-            Close::Loop { first, hops } => match self.loop_look(stand, first, hops) {
+            Close::Loop { first, hops } => match self.loop_look(&stand, first, hops) {
                 Ok(()) => Ok(Frame::Nothing),
                 Err(fault) => Err(fault),
             },

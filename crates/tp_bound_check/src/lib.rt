@@ -16,6 +16,7 @@ mod naming;
 mod nodes;
 mod opening;
 mod orders;
+mod passing;
 mod points;
 mod ranges;
 mod rows;
@@ -25,7 +26,6 @@ mod standing;
 mod stands;
 mod states;
 mod table;
-mod taking;
 
 pub use checking::check_bound;
 pub use tp_trees::{Claim, TreeFlaw};

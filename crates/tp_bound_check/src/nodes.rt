@@ -1,32 +1,34 @@
 //! The pass over the nodes.
 //!
-//! A frame of the stack is what is left to be due below one node on the way to the node that was looked at last, or of the
-//! goals: no two frames are of nodes of one depth, and the deeper one stands later. A way has a goal, at most 64 actions
-//! with at most 4 holds each, and maybe a stop, which has nothing below it. So there are at most 322 frames.
-ghost use Rattle.std.specs.Prelude.{◌≡◌, ℕ, ◌+◌, ◌<◌, ◌≤◌, ◌^◌, [], ◌∷◌, ◌++◌, length, Some, None, Option, IfOk, IfErr, OnOk, OnErr, IfSome, IfNone, List, All, map, drop};
-ghost use Rattle.tp_bound_check.specs.Looks.{IsNodeFault, IsSoundDue, IsSoundFrame, due_by, due_on, dues_of, flaw_by, has_due, with_frame};
+//! A frame of the stack is what is left to be due below one node on the way to the node that was
+//! looked at last, or of the goals. The deeper one stands later, and no two are of nodes of one
+//! depth. A way has a goal, and at most 64 actions with at most 4 holds each. So there are at most
+//! 322 frames: the stack never takes more memory than it was made with.
+ghost use Rattle.std.specs.Prelude.{◌≡◌, ℕ, ◌+◌, ◌<◌, ◌≤◌, ◌^◌, [], ◌∷◌, ◌++◌, length, Some, None, Option, IfOk, IfErr, OnOk, OnErr, IfSome, IfNone, List, All, map, drop, vec_capacity, true, false};
+ghost use Rattle.tp_bound_check.specs.Frames.{IsOn, has_due, with_frame};
+ghost use Rattle.tp_bound_check.specs.Looks.{IsNodeFault, IsSoundFrame, IsSoundStack, IsStep, due_on, flaw_by};
 ghost use Rattle.tp_bound_check.specs.declared.dues.Frame.TheVariants.{Goals};
 ghost use Rattle.tp_machine.specs.declared.parts.State.{State};
-ghost use Rattle.tp_trees.specs.Flaws.{IsFlawOf, bad_node_from, flaw_at};
+ghost use Rattle.tp_trees.specs.Flaws.{IsFlawOf, bad_node_from};
 ghost use Rattle.tp_trees.specs.Places.{Due};
 ghost use Rattle.tp_trees.specs.Places.Due.{goal};
-ghost use Rattle.tp_trees.specs.Trees.{look};
-ghost use Rattle.tp_trees.specs.Trees.Look.{due};
 
-use crate::dues::{Fault, Frame, Next};
+use crate::dues::{Fault, Frame};
 use crate::orders::Scene;
-use std::alloc::Global;
-use tp_base::Memory;
+use crate::passing::Passing;
+use std::alloc::{AllocError, Global};
 use tp_bounds::{Node, Nodes};
 use tp_machine::State;
 use tp_trees::TreeFlaw;
+
+/// One for each depth of a node that may be split, and one of the goals.
+const MOST_FRAMES: usize = 322;
 
 /// The flaw of the node of this number.
 fn flaw_of(node: u64, fault: Fault) -> TreeFlaw
     ensures { result ≡ flaw_by node fault }
 {
     match fault {
-        Fault::Memory => TreeFlaw::Memory,
         Fault::Uncovered => TreeFlaw::Uncovered { node },
         Fault::NoSuchHop(hop) => TreeFlaw::NoSuchHop { node, hop },
         Fault::Weak { reach, cap } => TreeFlaw::Weak { node, reach, cap },
@@ -46,60 +48,43 @@ fn has_due(frame: &Frame) -> bool
 }
 
 /// A frame more, which comes first. An empty one is left out.
-fn put_one(stack: &mut Vec<Frame>, frame: Frame) -> Result<(), Memory>
-    ensures ok { OnOk result (stack.new.items ≡ with_frame frame stack.old.items) }
-    ensures memory { OnErr result (stack.new.items ≡ stack.old.items) }
+fn put(stack: &mut Vec<Frame>, frame: Frame)
+    requires fits { has_due frame ≡ true → length stack.old.items < 322 }
+    requires room { 322 ≤ vec_capacity stack.old }
+    ensures items { stack.new.items ≡ with_frame frame stack.old.items }
+    ensures room { vec_capacity stack.new ≡ vec_capacity stack.old }
 {
     if has_due(&frame) {
-        stack.push(frame)?;
+        stack.push_reserved(frame);
     }
-    Ok(())
 }
 
-/// Two frames more, the second of which comes first.
-fn put(stack: &mut Vec<Frame>, behind: Frame, frame: Frame) -> Result<(), Memory>
-    ensures { OnOk result (stack.new.items ≡ with_frame frame (with_frame behind
-        stack.old.items)) }
+/// The stack of all goals, with room for all frames that there may be.
+fn goal_stack(alloc: Global) -> Result<Vec<Frame>, AllocError>
+    ensures goals { IfOk result (λ stack. stack.items ≡ Goals 0 ∷ []) }
+    ensures room { IfOk result (λ stack. 322 ≤ vec_capacity stack) }
 {
-    put_one(stack, behind)?;
-    put_one(stack, frame)
-}
-
-/// The stack of all goals.
-fn goal_stack(alloc: Global) -> Result<Vec<Frame>, Memory>
-    ensures { IfOk result (λ stack. stack.items ≡ Goals 0 ∷ []) }
-{
-    let mut stack = Vec::new(alloc);
-    stack.push(Frame::Goals(0))?;
+    let mut stack = Vec::with_capacity(alloc, MOST_FRAMES)?;
+    stack.push_reserved(Frame::Goals(0));
     Ok(stack)
 }
 
 impl<'a> Scene<'a> {
-    /// Takes the first that is due off the stack, whose last frame comes first. Empty frames go.
-    fn take_next(&self, goals: &[State], stack: &mut Vec<Frame>) -> Result<Option<Next>, Memory>
-        requires sound { All (IsSoundFrame self.now.rows.machine.now) stack.old.items }
-        ensures some { IfOk result (λ o. IfSome o (λ n. due_on self.now.rows.machine.now
-            self.now.plans.now self.now.rows.ask.now self.now.rows.rows.now self.now.limit goals.now
-            stack.old.items ≡ due_by n ∷ due_on self.now.rows.machine.now self.now.plans.now
-            self.now.rows.ask.now self.now.rows.rows.now self.now.limit goals.now
-            stack.new.items)) }
-        ensures none { IfOk result (λ o. IfNone o (due_on self.now.rows.machine.now
-            self.now.plans.now self.now.rows.ask.now self.now.rows.rows.now self.now.limit goals.now
-            stack.old.items ≡ [])) }
-        ensures next { IfOk result (λ o. IfSome o (λ n. IsSoundDue self.now.rows.machine.now (due_by
-            n))) }
-        ensures sound { All (IsSoundFrame self.now.rows.machine.now) stack.new.items }
+    /// Whether nothing is due of a stack, which is empty then.
+    fn is_done(&self, goals: &[State], stack: &mut Vec<Frame>) -> bool
+        requires { All (IsSoundFrame self.now.rows.machine.now) stack.old.items }
+        ensures done { result ≡ true → due_on self.now.rows.machine.now self.now.plans.now
+            self.now.rows.ask.now self.now.rows.rows.now self.now.limit goals.now stack.old.items ≡ [] }
+        ensures more { result ≡ false → (d : Due) × (ds : List Due) × (due_on
+            self.now.rows.machine.now self.now.plans.now self.now.rows.ask.now
+            self.now.rows.rows.now self.now.limit goals.now stack.old.items ≡ d ∷ ds) }
     {
         'frames: while let Some(frame) = stack.pop() {
-            match self.take(goals, frame) {
-                Some(taken) => {
-                    put_one(stack, taken.rest)?;
-                    return Ok(Some(taken.next));
-                }
-                None => {}
+            if self.has_more(goals, &frame) {
+                return false;
             }
         }
-        Ok(None)
+        true
     }
 
     /// The nodes stand where nodes are due.
@@ -126,42 +111,41 @@ impl<'a> Scene<'a> {
                 Err(fault) => return Err(flaw_of(at, fault)),
             }
         }
-        match self.take_next(goals, &mut stack) {
-            Ok(None) => Ok(()),
-            Ok(Some(_)) => Err(TreeFlaw::Uncovered { node: nodes.len() }),
-            Err(_) => Err(TreeFlaw::Memory),
+        if self.is_done(goals, &mut stack) {
+            Ok(())
+        } else {
+            Err(TreeFlaw::Uncovered { node: nodes.len() })
         }
     }
 
     /// The node stands where the first is due, and what is due below it takes its place.
     fn check_node(&self, goals: &[State], stack: &mut Vec<Frame>, node: &Node) -> Result<(), Fault>
-        requires sound { All (IsSoundFrame self.now.rows.machine.now) stack.old.items }
-        ensures ok { OnOk result ((d : Due) × (ds : List Due) × (more : List Due) × (due_on
+        requires stack { IsSoundStack self.now.rows.machine.now stack.old.items }
+        requires room { 322 ≤ vec_capacity stack.old }
+        ensures ok { OnOk result (IsStep self.now.rows.machine.now self.now.plans.now
+            self.now.rows.ask.now self.now.rows.rows.now self.now.limit (due_on
             self.now.rows.machine.now self.now.plans.now self.now.rows.ask.now
-            self.now.rows.rows.now self.now.limit goals.now stack.old.items ≡ d ∷ ds) × (look
+            self.now.rows.rows.now self.now.limit goals.now stack.old.items) node.now (due_on
             self.now.rows.machine.now self.now.plans.now self.now.rows.ask.now
-            self.now.rows.rows.now self.now.limit d node.now ≡ due more) × (due_on
-            self.now.rows.machine.now self.now.plans.now self.now.rows.ask.now
-            self.now.rows.rows.now self.now.limit goals.now stack.new.items ≡ more ++ ds)) }
+            self.now.rows.rows.now self.now.limit goals.now stack.new.items)) }
         ensures fault { IfErr result (IsNodeFault self.now.rows.machine.now self.now.plans.now
             self.now.rows.ask.now self.now.rows.rows.now self.now.limit (due_on
             self.now.rows.machine.now self.now.plans.now self.now.rows.ask.now
             self.now.rows.rows.now self.now.limit goals.now stack.old.items) node.now) }
-        ensures sound { OnOk result (All (IsSoundFrame self.now.rows.machine.now) stack.new.items) }
+        ensures stack { OnOk result (IsSoundStack self.now.rows.machine.now stack.new.items) }
+        ensures room { 322 ≤ vec_capacity stack.new }
     {
-        match self.take_next(goals, stack) {
-            Ok(Some(next)) => match self.look(&next, node) {
-                Ok(frame) => {
-                    let behind = self.behind(next, &node.head);
-                    match put(stack, behind, frame) {
-                        Ok(()) => Ok(()),
-                        Err(_) => Err(Fault::Memory),
-                    }
+        'frames: while let Some(frame) = stack.pop() {
+            match self.pass(goals, frame, node) {
+                Passing::Empty => {}
+                Passing::Wrong(fault) => return Err(fault),
+                Passing::Passed { left, below } => {
+                    put(stack, left);
+                    put(stack, below);
+                    return Ok(());
                 }
-                Err(fault) => Err(fault),
-            },
-            Ok(None) => Err(Fault::Uncovered),
-            Err(_) => Err(Fault::Memory),
+            }
         }
+        Err(Fault::Uncovered)
     }
 }

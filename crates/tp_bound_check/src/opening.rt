@@ -1,7 +1,8 @@
 //! What is due below a node that is split.
-ghost use Rattle.std.specs.Prelude.{◌≡◌, ◌+◌, ◌<◌, ◌^◌, ◌&&◌, length, slice_get, None, IfOk, IfSome, IfErr, List, nat_lt, if◌then◌else◌};
+ghost use Rattle.std.specs.Prelude.{◌≡◌, ℕ, ◌+◌, ◌<◌, ◌≤◌, ◌^◌, ◌&&◌, length, slice_get, None, IfOk, IfSome, IfErr, List, nat_lt, if◌then◌else◌};
 ghost use Rattle.std.specs.List.{list_any};
 ghost use Rattle.std.specs.Str.{bytes_eq};
+ghost use Rattle.tp_bound_check.specs.Frames.{IsOn, IsShallow, IsShallowStand};
 ghost use Rattle.tp_bound_check.specs.Looks.{IsActOf, IsFaultOf, IsSoundFrame, dues_of};
 ghost use Rattle.tp_bound_check.specs.Links.{ends_of, next_at};
 ghost use Rattle.tp_machine.specs.Using.{action_at};
@@ -117,37 +118,43 @@ impl<'a> Scene<'a> {
     }
 
     /// What is due below a complete or open branch all of whose holds have places.
-    fn open(&self, branch: &Branch) -> Result<Frame, Fault>
+    fn open(&self, branch: Branch) -> Result<Frame, Fault>
+        requires shallow { IsShallow branch }
         ensures ok { IfOk result (λ f. (goals : List State) → split_look (children_of
             self.now.rows.machine.now self.now.plans.now self.now.rows.ask.now
-            self.now.rows.rows.now branch.now None) ≡ due (dues_of self.now.rows.machine.now
+            self.now.rows.rows.now branch None) ≡ due (dues_of self.now.rows.machine.now
             self.now.plans.now self.now.rows.ask.now self.now.rows.rows.now self.now.limit goals
             f)) }
         ensures sound { IfOk result (IsSoundFrame self.now.rows.machine.now) }
         ensures fault { IfErr result (IsFaultOf (split_look (children_of self.now.rows.machine.now
-            self.now.plans.now self.now.rows.ask.now self.now.rows.rows.now branch.now None))) }
+            self.now.plans.now self.now.rows.ask.now self.now.rows.rows.now branch None))) }
+        ensures depth { IfOk result (λ f. (n : ℕ) → n ≤ branch.depth → IsOn f (n + 1)) }
     {
         let first = branch.first();
         if self.is_begun(first) {
             return Err(Fault::Uncovered);
         }
+        let with_stop = self.can_stop(&branch);
+        let at = self.first_act(&branch);
         Ok(Frame::Acts {
-            branch: branch.copy(),
-            with_stop: self.can_stop(branch),
-            at: self.first_act(branch),
+            branch,
+            with_stop,
+            at,
         })
     }
 
     /// What is due below a node that is split.
-    pub(crate) fn split(&self, stand: &Stand) -> Result<Frame, Fault>
+    pub(crate) fn split(&self, stand: Stand) -> Result<Frame, Fault>
+        requires shallow { IsShallowStand stand }
         ensures ok { IfOk result (λ f. (goals : List State) → split_look (children
             self.now.rows.machine.now self.now.plans.now self.now.rows.ask.now
-            self.now.rows.rows.now stand.now) ≡ due (dues_of self.now.rows.machine.now
+            self.now.rows.rows.now stand) ≡ due (dues_of self.now.rows.machine.now
             self.now.plans.now self.now.rows.ask.now self.now.rows.rows.now self.now.limit goals
             f)) }
         ensures sound { IfOk result (IsSoundFrame self.now.rows.machine.now) }
         ensures fault { IfErr result (IsFaultOf (split_look (children self.now.rows.machine.now
-            self.now.plans.now self.now.rows.ask.now self.now.rows.rows.now stand.now))) }
+            self.now.plans.now self.now.rows.ask.now self.now.rows.rows.now stand))) }
+        ensures depth { IfOk result (λ f. (n : ℕ) → n ≤ stand.branch.depth → IsOn f (n + 1)) }
     {
         match stand.span {
             Some(_) => Err(Fault::Uncovered),
@@ -157,11 +164,11 @@ impl<'a> Scene<'a> {
                 }
                 match self.next_rule(&stand.branch) {
                     Some(rule) => Ok(Frame::Held {
-                        branch: stand.branch.copy(),
+                        branch: stand.branch,
                         rule,
                         lo: 0,
                     }),
-                    None => self.open(&stand.branch),
+                    None => self.open(stand.branch),
                 }
             }
         }

@@ -1,16 +1,17 @@
 //! Where a node stands.
 ghost use Rattle.std.specs.Prelude.{◌≡◌, ℕ, ◌+◌, ◌<◌, ◌≤◌, ◌==◌, [], ◌∷◌, ◌++◌, length, slice_get, Some, None, Option, IfOk, IfErr, IfSome, List, suc};
-ghost use Rattle.tp_bound_check.specs.Looks.{IsFaultOf, IsSoundDue, IsSoundFrame, at_depth, dues_of, due_by};
+ghost use Rattle.tp_bound_check.specs.Frames.{IsOn, IsShallow, IsShallowStand};
+ghost use Rattle.tp_bound_check.specs.Looks.{IsFaultOf, IsSoundFrame, at_depth, dues_of};
 ghost use Rattle.tp_bound_check.specs.Stands.{IsSoundStand};
 ghost use Rattle.tp_machine.specs.declared.parts.State.{State};
 ghost use Rattle.tp_machine.specs.Using.{action_at};
-ghost use Rattle.tp_trees.specs.Places.{due_behind, is_name_of_act, is_name_of_resource, next_rule, order_length, room_at, stand_of};
+ghost use Rattle.tp_trees.specs.Places.{Due, due_behind, is_name_of_act, is_name_of_resource, next_rule, order_length, room_at, stand_of};
 ghost use Rattle.tp_trees.specs.Places.Due.{goal, action, places, stop};
 ghost use Rattle.tp_trees.specs.Trees.{look};
 ghost use Rattle.tp_trees.specs.Trees.Look.{due};
 
 use crate::branch::Branch;
-use crate::dues::{Fault, Frame, Next};
+use crate::dues::{Fault, Frame};
 use crate::found::Ends;
 use crate::orders::{Scene, rule_law};
 use crate::points::Point;
@@ -76,10 +77,11 @@ impl<'a> Scene<'a> {
         self.track(branch, rule.resource.0, &ends).len
     }
 
-    fn goal_stand(&self, state: State, head: &Head, depth: u32) -> Option<Stand>
+    pub(crate) fn goal_stand(&self, state: State, head: &Head, depth: u32) -> Option<Stand>
         ensures stand { result ≡ at_depth depth (stand_of self.now.rows.machine.now
             self.now.plans.now self.now.rows.ask.now self.now.rows.rows.now (goal state) head.now) }
         ensures sound { IfSome result (IsSoundStand self.now.rows.machine.now) }
+        ensures shallow { IfSome result IsShallowStand }
     {
         match head {
             Head::Goal { state: named } => {
@@ -93,7 +95,7 @@ impl<'a> Scene<'a> {
         }
     }
 
-    fn act_stand(
+    pub(crate) fn act_stand(
         &self,
         branch: &Branch,
         act: ActId,
@@ -102,10 +104,13 @@ impl<'a> Scene<'a> {
         depth: u32,
     ) -> Option<Stand>
         requires few { length branch.now.x.choices < 64 }
+        requires shallow { IsShallow branch.now }
         ensures stand { result ≡ at_depth depth (stand_of self.now.rows.machine.now
             self.now.plans.now self.now.rows.ask.now self.now.rows.rows.now (action branch.now act
             state) head.now) }
         ensures sound { IfSome result (IsSoundStand self.now.rows.machine.now) }
+        ensures shallow { IfSome result IsShallowStand }
+        ensures deeper { IfSome result (λ s. s.branch.depth ≡ branch.now.depth + 1) }
     {
         match head {
             Head::Act { name } => {
@@ -121,11 +126,13 @@ impl<'a> Scene<'a> {
         }
     }
 
-    fn stop_stand(&self, branch: &Branch, head: &Head, depth: u32) -> Option<Stand>
+    pub(crate) fn stop_stand(&self, branch: &Branch, head: &Head, depth: u32) -> Option<Stand>
         ensures stand { result ≡ at_depth depth (stand_of self.now.rows.machine.now
             self.now.plans.now self.now.rows.ask.now self.now.rows.rows.now (stop branch.now)
             head.now) }
         ensures sound { IfSome result (IsSoundStand self.now.rows.machine.now) }
+        ensures shallow { IfSome result IsShallowStand }
+        ensures deeper { IfSome result (λ s. s.branch.depth ≡ branch.now.depth + 1) }
     {
         match head {
             Head::Stop => {
@@ -139,7 +146,7 @@ impl<'a> Scene<'a> {
         }
     }
 
-    fn place_stand(
+    pub(crate) fn place_stand(
         &self,
         branch: &Branch,
         rule: HoldRule,
@@ -148,10 +155,13 @@ impl<'a> Scene<'a> {
         depth: u32,
     ) -> Option<Stand>
         requires next { next_rule self.now.rows.machine.now branch.now.x ≡ Some rule }
+        requires shallow { IsShallow branch.now }
         ensures stand { result ≡ at_depth depth (stand_of self.now.rows.machine.now
             self.now.plans.now self.now.rows.ask.now self.now.rows.rows.now (places branch.now rule
             lo) head.now) }
         ensures sound { IfSome result (IsSoundStand self.now.rows.machine.now) }
+        ensures shallow { IfSome result IsShallowStand }
+        ensures deeper { IfSome result (λ s. s.branch.depth ≡ branch.now.depth + 1) }
     {
         let Head::At {
             resource,
@@ -185,61 +195,29 @@ impl<'a> Scene<'a> {
         }
     }
 
-    fn stand_of(&self, next: &Next, head: &Head, depth: u32) -> Option<Stand>
-        requires sound { IsSoundDue self.now.rows.machine.now (due_by next.now) }
-        ensures stand { result ≡ at_depth depth (stand_of self.now.rows.machine.now
-            self.now.plans.now self.now.rows.ask.now self.now.rows.rows.now (due_by next.now)
-            head.now) }
-        ensures sound { IfSome result (IsSoundStand self.now.rows.machine.now) }
-    {
-        match next {
-            Next::Goal(state) => self.goal_stand(*state, head, depth),
-            Next::Action { branch, act, state } => {
-                self.act_stand(branch, *act, *state, head, depth)
-            }
-            Next::Places { branch, rule, lo } => self.place_stand(branch, *rule, *lo, head, depth),
-            Next::Stop(branch) => self.stop_stand(branch, head, depth),
-        }
-    }
-
-    /// What else is due of the places, behind those of the node.
-    pub(crate) fn behind(&self, next: Next, head: &Head) -> Frame
-        requires sound { IsSoundDue self.now.rows.machine.now (due_by next) }
-        ensures dues { (goals : List State) → due_behind self.now.rows.machine.now
-            self.now.plans.now self.now.rows.ask.now self.now.rows.rows.now (due_by next) head.now ≡
-            dues_of self.now.rows.machine.now self.now.plans.now self.now.rows.ask.now
-            self.now.rows.rows.now self.now.limit goals result }
-        ensures sound { IsSoundFrame self.now.rows.machine.now result }
-    {
-        match next {
-            Next::Places { branch, rule, .. } => match head {
-                Head::At { hi, .. } => Frame::Held {
-                    branch,
-                    rule,
-                    lo: u64::from(*hi) + 1,
-                },
-                _ => Frame::Nothing,
-            },
-            _ => Frame::Nothing,
-        }
-    }
-
-    /// What is due below a node, or what is wrong with it.
-    pub(crate) fn look(&self, next: &Next, node: &Node) -> Result<Frame, Fault>
-        requires sound { IsSoundDue self.now.rows.machine.now (due_by next.now) }
-        ensures ok { IfOk result (λ f. (goals : List State) → look self.now.rows.machine.now
-            self.now.plans.now self.now.rows.ask.now self.now.rows.rows.now self.now.limit (due_by
-            next.now) node.now ≡ due (dues_of self.now.rows.machine.now self.now.plans.now
-            self.now.rows.ask.now self.now.rows.rows.now self.now.limit goals f ++ due_behind
+    /// What is due below a node that stands here, if it stands anywhere, or what is wrong with it.
+    pub(crate) fn look(&self, stand: Option<Stand>, node: &Node) -> Result<Frame, Fault>
+        requires sound { IfSome stand (IsSoundStand self.now.rows.machine.now) }
+        requires shallow { IfSome stand IsShallowStand }
+        ensures ok { IfOk result (λ f. (goals : List State) (d : Due) → stand ≡ at_depth
+            node.now.depth (stand_of self.now.rows.machine.now self.now.plans.now
+            self.now.rows.ask.now self.now.rows.rows.now d node.now.head) → look
             self.now.rows.machine.now self.now.plans.now self.now.rows.ask.now
-            self.now.rows.rows.now (due_by next.now) node.now.head)) }
+            self.now.rows.rows.now self.now.limit d node.now ≡ due (dues_of
+            self.now.rows.machine.now self.now.plans.now self.now.rows.ask.now
+            self.now.rows.rows.now self.now.limit goals f ++ due_behind self.now.rows.machine.now
+            self.now.plans.now self.now.rows.ask.now self.now.rows.rows.now d node.now.head)) }
         ensures sound { IfOk result (IsSoundFrame self.now.rows.machine.now) }
-        ensures fault { IfErr result (IsFaultOf (look self.now.rows.machine.now self.now.plans.now
-            self.now.rows.ask.now self.now.rows.rows.now self.now.limit (due_by next.now)
-            node.now)) }
+        ensures fault { IfErr result (λ e. (d : Due) → stand ≡ at_depth node.now.depth (stand_of
+            self.now.rows.machine.now self.now.plans.now self.now.rows.ask.now
+            self.now.rows.rows.now d node.now.head) → IsFaultOf (look self.now.rows.machine.now
+            self.now.plans.now self.now.rows.ask.now self.now.rows.rows.now self.now.limit d
+            node.now) e) }
+        ensures depth { IfOk result (λ f. (n : ℕ) → IfSome stand (λ s. n ≤ s.branch.depth)
+            → IsOn f (n + 1)) }
     {
-        match self.stand_of(next, &node.head, node.depth) {
-            Some(stand) => self.close_look(&stand, &node.head, &node.close),
+        match stand {
+            Some(stand) => self.close_look(stand, &node.head, &node.close),
             None => Err(Fault::Uncovered),
         }
     }

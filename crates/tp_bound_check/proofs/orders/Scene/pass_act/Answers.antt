@@ -1,0 +1,21 @@
+use Rattle.std.proofs.Common.{refl, false}
+use Rattle.tp_trees.specs.Places.Due.{action}
+use Rattle.tp_bound_check.specs.Looks.{acts_at}
+use Rattle.tp_bound_check.specs.declared.dues.Frame.TheVariants.{Acts}
+use Rattle.tp_bound_check.proofs.FrameFacts.{deeper-on}
+use Rattle.tp_bound_check.proofs.NodeFacts.{passed-is}
+use Rattle.tp_bound_check.proofs.orders.Scene.pass_act.Goals as goal
+
+pub returns-in-Ok-clause-passing : goal.returns-in-Ok-clause-passing
+returns-in-Ok-clause-passing c = λ goals.
+    let s = c.args.self.now in let m = s.rows.machine.now in let b = c.args.branch in let next = c.in-Some.next in
+    passed-is m s.plans.now s.rows.ask.now s.rows.rows.now s.limit goals (Acts b false c.args.from) (Acts b false next.after) c.in-Ok.below c.args.node.now (action b next.act next.state) (acts_at m s.plans.now s.rows.ask.now s.rows.rows.now s.limit b next.after)
+    c.in-Some.ensures.some (c.in-Ok.ensures.ok goals (action b next.act next.state) c.act_stand-stand.ensures.stand) refl
+
+pub returns-in-Err-clause-passing : goal.returns-in-Err-clause-passing
+returns-in-Err-clause-passing c = λ goals.
+    let s = c.args.self.now in let m = s.rows.machine.now in let b = c.args.branch in let next = c.in-Some.next in
+    (action b next.act next.state, acts_at m s.plans.now s.rows.ask.now s.rows.rows.now s.limit b next.after, c.in-Some.ensures.some, c.in-Err.ensures.fault (action b next.act next.state) c.act_stand-stand.ensures.stand)
+
+pub returns-in-Ok-clause-sound : goal.returns-in-Ok-clause-sound
+returns-in-Ok-clause-sound c = ((c.requires.shallow, c.in-Some.ensures.after), c.in-Ok.ensures.sound, λ n on. (on, c.in-Ok.ensures.depth n (deeper-on c.act_stand-stand.result c.args.branch.depth n c.act_stand-stand.ensures.deeper on)))
