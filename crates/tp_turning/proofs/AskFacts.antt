@@ -8,6 +8,7 @@ use Rattle.tp_schedule.proofs.CopyFacts.{same_copy-is}
 use Rattle.tp_schedule.specs.LocationSets.{nowhere}
 use Rattle.tp_schedule.specs.Planning.{IsAnswer}
 use Rattle.tp_schedule.specs.Plans.{IsTimedPlan, is_same_copy}
+use Rattle.tp_schedule.specs.declared.parts.Empties.{Empties}
 use Rattle.tp_schedule.specs.declared.parts.Ask.{Ask}
 use Rattle.tp_schedule.specs.declared.parts.Goal.TheVariants.{Tray}
 use Rattle.tp_schedule.specs.declared.parts.Origin.TheVariants.{Feeder as FromFeeder}
@@ -38,19 +39,19 @@ pub tray-is : (o : Option Job) (tray : LocId) → IsSomeAnd o (λ j. j.tray ≡ 
 tray-is None tray none = absurd none
 tray-is (Some j) tray is = is
 
-pub ask-made : (s : SessionState) (copy : SheetId) (name : List ℕ) (want : Sheet) (tray : LocId) → IsSome (find_waiting copy s.waiting)
+pub ask-made : (s : SessionState) (copy : SheetId) (name : List ℕ) (want : Sheet) (tray : LocId) (empty : Empties) → empty ≡ nowhere → IsSome (find_waiting copy s.waiting)
     → IsSomeAnd (slice_get s.jobs copy.job) (λ j. j.name ≡ name) → option_map (λ w. w.want) (find_waiting copy s.waiting) ≡ Some want → IsSomeAnd (slice_get s.jobs copy.job) (λ j. j.tray ≡ tray)
-    → IsSomeAnd (find_waiting copy s.waiting) (λ w. record { sheet = copy; name = name; want = want; goal = Tray tray; origin = FromFeeder; outs = s.outs; empty = nowhere; now = s.now } ≡ ask_waiting s w)
-ask-made s copy name want tray waits named wanted goes = go (find_waiting copy s.waiting) refl waits wanted where
+    → IsSomeAnd (find_waiting copy s.waiting) (λ w. record { sheet = copy; name = name; want = want; goal = Tray tray; origin = FromFeeder; outs = s.outs; empty = empty; now = s.now } ≡ ask_waiting s w)
+ask-made s copy name want tray empty none waits named wanted goes = go (find_waiting copy s.waiting) refl waits wanted where
   go : (o : Option WaitingCopy) → find_waiting copy s.waiting ≡ o → IsSome o → option_map (λ w. w.want) o ≡ Some want
-      → IsSomeAnd o (λ w. record { sheet = copy; name = name; want = want; goal = Tray tray; origin = FromFeeder; outs = s.outs; empty = nowhere; now = s.now } ≡ ask_waiting s w)
+      → IsSomeAnd o (λ w. record { sheet = copy; name = name; want = want; goal = Tray tray; origin = FromFeeder; outs = s.outs; empty = empty; now = s.now } ≡ ask_waiting s w)
   go None e is has = absurd (cc)
   go (Some w) e is has =
       let sheet = (found-waits copy s.waiting w e).1 in
       let want-is : w.want ≡ want = cc in
       let name-at : job_name_in (slice_get s.jobs w.sheet.job) ≡ name = ap (λ (c : SheetId). job_name_in (slice_get s.jobs c.job)) sheet ∙ name-is (slice_get s.jobs copy.job) name named in
       let tray-at : tray_in (slice_get s.jobs w.sheet.job) ≡ tray = ap (λ (c : SheetId). tray_in (slice_get s.jobs c.job)) sheet ∙ tray-is (slice_get s.jobs copy.job) tray goes in
-      (λ k. record { sheet = sym sheet k; name = sym name-at k; want = sym want-is k; goal = Tray (sym tray-at k); origin = FromFeeder; outs = s.outs; empty = nowhere; now = s.now })
+      (λ k. record { sheet = sym sheet k; name = sym name-at k; want = sym want-is k; goal = Tray (sym tray-at k); origin = FromFeeder; outs = s.outs; empty = none k; now = s.now })
 
 -- the plans are plans in time after an answer where they were before
 pub timed-after : (spent : Machine → List Plan → Ask → ℕ → Type 0) (machine : Machine) (plans : List Plan) (ask : Ask) (reply : Reply) (plans' : List Plan)
