@@ -17,7 +17,7 @@ pub mod AllowedAmounts
 pub mod Given
 pub mod OneTable
 pub mod OneMachine
-pub mod Put
+pub mod PutSeen
 pub mod NameBytes
 pub mod AmountsBack
 pub mod Built

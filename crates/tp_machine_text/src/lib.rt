@@ -7,7 +7,7 @@ mod amounts;
 mod building;
 mod holds;
 mod laws;
-mod looking;
+pub mod looking;
 mod machine;
 mod making;
 mod numbers;
@@ -20,6 +20,7 @@ mod tables;
 mod text;
 
 pub use laws::one_machine;
+pub use making::put;
 pub use printing::print_machine;
 pub use rules::first_broken;
 pub use text::{MachineFault, read_machine, read_table};

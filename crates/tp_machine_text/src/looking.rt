@@ -11,7 +11,7 @@ use toml::{Table, Value};
 use tp_base::Name;
 
 /// The value at a key of a table.
-pub(crate) fn value_at<'a>(table: &'a Table, key: &str) -> Option<&'a Value>
+pub fn value_at<'a>(table: &'a Table, key: &str) -> Option<&'a Value>
     ensures { option_map (λ value. view value.now) result
         ≡ get_member key.now (table_view table.now) }
 {
@@ -19,7 +19,7 @@ pub(crate) fn value_at<'a>(table: &'a Table, key: &str) -> Option<&'a Value>
 }
 
 /// The value at a key of a value that is a table.
-pub(crate) fn field<'a>(value: &'a Value, key: &str) -> Option<&'a Value>
+pub fn field<'a>(value: &'a Value, key: &str) -> Option<&'a Value>
     ensures { option_map (λ v. view v.now) result ≡ get key.now (view value.now) }
 {
     match value.as_table() {
@@ -39,7 +39,7 @@ fn values_of(value: &Value) -> &[Value]
 }
 
 /// The values of an array. What is absent or no array has none.
-pub(crate) fn values_in(value: Option<&Value>) -> &[Value]
+pub fn values_in(value: Option<&Value>) -> &[Value]
     ensures { map view result.now ≡ elements_in (option_map (λ v. view v.now) value.entry) }
 {
     match value {
@@ -49,14 +49,14 @@ pub(crate) fn values_in(value: Option<&Value>) -> &[Value]
 }
 
 /// The values of the array at a key.
-pub(crate) fn values_at<'a>(table: &'a Table, key: &str) -> &'a [Value]
+pub fn values_at<'a>(table: &'a Table, key: &str) -> &'a [Value]
     ensures { map view result.now ≡ elements_at key.now (table_view table.now) }
 {
     values_in(value_at(table, key))
 }
 
 /// The table that a value is.
-pub(crate) fn table_in(value: Option<&Value>) -> Option<&Table>
+pub fn table_in(value: Option<&Value>) -> Option<&Table>
     ensures { option_map (λ m. table_view m.now) result
         ≡ table_in (option_map (λ v. view v.now) value.entry) }
 {
@@ -66,7 +66,8 @@ pub(crate) fn table_in(value: Option<&Value>) -> Option<&Table>
     }
 }
 
-pub(crate) fn is_array_or_absent(value: Option<&Value>) -> bool
+/// Whether the value, where there is one, is an array.
+pub fn is_array_or_absent(value: Option<&Value>) -> bool
     ensures { result ≡ is_fit is_array (option_map (λ v. view v.now) value.entry) }
 {
     match value {
@@ -85,15 +86,14 @@ pub(crate) fn is_table_or_absent(value: Option<&Value>) -> bool
 }
 
 /// The text that a value is. Another value counts as the empty text.
-
-pub(crate) fn text_of(value: &Value) -> &str
+pub fn text_of(value: &Value) -> &str
     ensures { result.now ≡ text_of (view value.now) }
 {
     value.as_str().unwrap_or("")
 }
 
 /// The text at a key.
-pub(crate) fn text_at<'a>(value: &'a Value, key: &str) -> &'a str
+pub fn text_at<'a>(value: &'a Value, key: &str) -> &'a str
     ensures { result.now ≡ text_at key.now (view value.now) }
 {
     match field(value, key) {
@@ -118,7 +118,8 @@ pub(crate) fn whole_at(value: &Value, key: &str) -> i64
     }
 }
 
-pub(crate) fn is_whole(value: &Value, low: i64, high: i64) -> bool
+/// Whether the value is a whole number from `low` to `high`.
+pub fn is_whole(value: &Value, low: i64, high: i64) -> bool
     ensures { result ≡ is_whole low high (view value.now) }
 {
     match value.as_integer() {
@@ -156,7 +157,8 @@ fn has_text(values: &[Value], text: &str) -> bool
     values.iter().any(|value| text == text_of(value))
 }
 
-pub(crate) fn is_one_of(values: &[Value], value: &Value) -> bool
+/// Whether the value is a text and one of these.
+pub fn is_one_of(values: &[Value], value: &Value) -> bool
     ensures { result ≡ is_one_of (map text_of (map view values.now)) (view value.now) }
 {
     match value.as_str() {
@@ -167,7 +169,7 @@ pub(crate) fn is_one_of(values: &[Value], value: &Value) -> bool
 
 /// Whether the text is a key of the table.
 #[tactic(auto, using(crate::proofs::Seen::seen))]
-pub(crate) fn is_key(table: Option<&Table>, text: &str) -> bool
+pub fn is_key(table: Option<&Table>, text: &str) -> bool
     ensures { result ≡ is_among (keys_of
         (members_of (option_map (λ m. table_view m.now) table.entry))) text.now }
 {
@@ -184,7 +186,7 @@ fn has_key(table: &Table, text: &str) -> bool
 }
 
 /// Whether the values have different texts at the key.
-pub(crate) fn differ_at(values: &[Value], key: &str) -> bool
+pub fn differ_at(values: &[Value], key: &str) -> bool
     ensures { result ≡ are_different (map (text_at key.now) (map view values.now)) }
 {
     let mut rest = values;
@@ -210,7 +212,8 @@ fn is_any_at(values: &[Value], key: &str, text: &str) -> bool
     values.iter().any(|value| text == text_at(value, key))
 }
 
-pub(crate) fn are_different(values: &[Value]) -> bool
+/// Whether no text stands twice among the values.
+pub fn are_different(values: &[Value]) -> bool
     ensures { result ≡ are_different (map text_of (map view values.now)) }
 {
     let mut rest = values;

@@ -12,8 +12,8 @@ use tp_base::{Memory, Name};
 use tp_machine::{Anchor, Feeder, HoldRule, LocId, Names, Resource};
 
 /// Puts a value at a key of a table.
-#[tactic(auto, using(crate::proofs::Put::puts))]
-pub(crate) fn put(alloc: Global, table: &mut Table, key: &str, value: Value) -> Result<(), Memory>
+#[tactic(auto, using(crate::proofs::PutSeen::puts))]
+pub fn put(alloc: Global, table: &mut Table, key: &str, value: Value) -> Result<(), Memory>
     ensures { OnOk result (table_view table.new
         ≡ put_member key.now (view value) (table_view table.old)) }
 {

@@ -1,0 +1,13 @@
+pub mod Lists
+pub mod Puts
+pub mod Built
+pub mod Spelling
+pub mod KeptRack
+pub mod EndFacts
+pub mod Joins
+pub mod Places
+pub mod FlatFacts
+pub mod Stepping
+pub mod Rows
+pub mod WalkLaw
+pub mod OneRack

@@ -1,0 +1,12 @@
+use Rattle.std.proofs.Common.{◌≡◌, ◌++◌, length, map, option_map}
+use Rattle.toml.specs.View.{view, members_view, table_view}
+use Rattle.tp_machine_text.specs.Words.{text_of, keys_of, members_of}
+use Rattle.tp_compose.specs.EndRules.{joined}
+use Rattle.tp_compose.proofs.ends.joined.Given as goal
+
+abbrev pub invariant-joins : goal.invariant-joins
+invariant-joins l =
+    map text_of (map view l.texts.items) ++ joined (map view l.rest) ≡ joined (map view l.joins)
+
+abbrev pub decreases-joins : goal.decreases-joins
+decreases-joins l = length l.rest

@@ -1,0 +1,11 @@
+use Rattle.std.proofs.Common.{◌≡◌, ◌++◌, length, map, option_map}
+use Rattle.toml.specs.View.{view, members_view, table_view}
+use Rattle.tp_machine_text.specs.Words.{text_of, keys_of, members_of}
+use Rattle.tp_compose.proofs.ends.push_texts.Given as goal
+
+abbrev pub invariant-values : goal.invariant-values
+invariant-values l =
+    map text_of (map view l.texts.items) ++ map text_of (map view l.rest) ≡ map text_of (map view l.fn.texts.items) ++ map text_of (map view l.values)
+
+abbrev pub decreases-values : goal.decreases-values
+decreases-values l = length l.rest

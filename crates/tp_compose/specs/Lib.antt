@@ -1,0 +1,7 @@
+pub mod Racks
+pub mod TypeRules
+pub mod EndRules
+pub mod Broken
+pub mod Flat
+pub mod Texts
+pub mod Walks
