@@ -1,0 +1,8 @@
+//! Worked rows of racks: a crate of tests, with the racks' texts.
+#![tactic(auto)]
+
+#[cfg(test)]
+mod faults;
+pub mod racks;
+#[cfg(test)]
+mod texts;
