@@ -1,5 +1,5 @@
 -- What a run read and what it wrote, and when each status comes.
-use Rattle.std.specs.Prelude.{◌≡◌, ℕ, ◌<◌, ◌≤◌, List, length, Option, Some, IfSome, unwrap_or}
+use Rattle.std.specs.Prelude.{◌≡◌, ℕ, ◌<◌, ◌≤◌, false, List, length, Option, Some, IfSome, unwrap_or}
 use Rattle.std.specs.Option.{IsSomeAnd}
 use Rattle.tp_outside.specs.Outside.{Files, file_at}
 use Rattle.tp_machine.specs.declared.whole.Machine.{Machine}
@@ -26,11 +26,11 @@ IsLongText told name = IfSome told (λ files. IsSomeAnd (file_at files name) (λ
 
 -- the script that the source gave was answered on the machine, and the log was written
 abbrev pub DoneOn : Machine → ℕ → Option (List ℕ) → Option (List ℕ) → Option (List ℕ) → Option (List ℕ) → Type 0
-DoneOn machine budget left left' taken taken' = (script : List ℕ) × IsReadFrom left script left' × IsAnswered machine budget script taken taken'
+DoneOn machine budget left left' taken taken' = (script : List ℕ) × IsReadFrom left script left' × IsAnswered machine budget false script taken taken'
 
 -- its first lines were, up to where the run stopped
 abbrev pub StopsOn : Stop → Machine → ℕ → Option (List ℕ) → Option (List ℕ) → Option (List ℕ) → Option (List ℕ) → Type 0
-StopsOn stop machine budget left left' taken taken' = (script : List ℕ) × IsReadFrom left script left' × IsAnsweredTo machine budget stop script taken taken'
+StopsOn stop machine budget left left' taken taken' = (script : List ℕ) × IsReadFrom left script left' × IsAnsweredTo machine budget false stop script taken taken'
 
 module _ (words : List (List ℕ)) (told : Option Files) where
   -- the words name a text of which P holds

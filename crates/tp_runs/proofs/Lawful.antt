@@ -1,42 +1,33 @@
 -- Answered lines make a lawful run.
-use Rattle.std.proofs.Common.{◌≡◌, ℕ, false, List, [], ◌∷◌, ◌++◌, map, Option, Some, None, refl, sym, ap, ap₂, subst, ◌∙◌, append_assoc}
+use Rattle.std.proofs.Common.{◌≡◌, ℕ, Bool, List, [], ◌∷◌, ◌++◌, map, Option, Some, None, refl, sym, ap, ap₂, subst, ◌∙◌, append_assoc}
 use Rattle.std.specs.List.{All, filter_map}
 use Rattle.std.specs.Option.{MatchOption}
 use Rattle.std.proofs.lemmas.List.Elements.{All-append, All-nil}
+use Rattle.tp_bounds.specs.declared.tree.BoundTree.{BoundTree}
 use Rattle.tp_machine.specs.declared.whole.Machine.{Machine}
 use Rattle.tp_script.specs.Lines.{line_event}
 use Rattle.tp_script.specs.declared.event.Event.{Event}
-use Rattle.tp_log.specs.Logs.{AreInPlace, IsItem, StandEach, item_text, log_text}
+use Rattle.tp_log.specs.Logs.{IsItem, item_text, log_text}
 use Rattle.tp_log.specs.declared.item.Item.{Item}
 use Rattle.tp_log.specs.declared.item.Item.TheVariants as item
-use Rattle.tp_schedule.specs.declared.recording.Record.{Record}
 use Rattle.tp_turn.specs.Logs.{Entry, Run}
 use Rattle.tp_turn.specs.States.{SessionState, empty_state}
 use Rattle.tp_headline.proofs.Headline.{order-empty}
 use Rattle.tp_stream.specs.Answers.{AnswersAll}
-use Rattle.tp_runs.specs.Runs.{NoTree, entry_of, items_in, items_of, no_claims, run_text, spent_by}
+use Rattle.tp_runs.specs.Runs.{entry_of, items_in, items_of, run_text, spent_by, tree_claims}
+use Rattle.tp_runs.proofs.TreePlaces.{in_place}
 use Rattle.tp_runs.specs.Wholes.{IsWhole, LinesAreLawful, TellsLine, TellsTurn}
 
 log_text-append : (a b : List Item) → log_text (a ++ b) ≡ log_text a ++ log_text b
 log_text-append [] b = refl
 log_text-append (x ∷ a) b = ap (λ t. item_text x ++ t) (log_text-append a b) ∙ sym (append_assoc (item_text x) (log_text a) (log_text b))
 
--- each entry begins with its event, and none has a tree
-behind : (before : Item) (records : List Record) (log : List (Entry NoTree)) → StandEach before (map (λ r. item.Note r) records ++ items_in log)
-behind before [] [] = tt
-behind before [] (e ∷ log) = (tt, behind (item.Event e.event) e.records log)
-behind before (r ∷ records) log = (tt, behind (item.Note r) records log)
-
-in_place : (log : List (Entry NoTree)) → AreInPlace (items_in log)
-in_place [] = tt
-in_place (e ∷ log) = (refl, behind (item.Event e.event) e.records log)
-
-module _ (machine : Machine) (nodes : ℕ) where
-  abbrev Runs : SessionState → List (Entry NoTree) → SessionState → Type 0
-  Runs = Run no_claims false (spent_by nodes) machine
+module _ (machine : Machine) (nodes : ℕ) (bounds : Bool) where
+  abbrev Runs : SessionState → List (Entry BoundTree) → SessionState → Type 0
+  Runs = Run tree_claims bounds (spent_by nodes) machine
 
   record IsRun (lines : List (List ℕ)) (text : List ℕ) (whole : SessionState) (s' : SessionState) : Type 0 where
-    log : List (Entry NoTree)
+    log : List (Entry BoundTree)
     whole' : SessionState
     run : Runs whole log whole'
     answers : map (λ e. e.event) log ≡ filter_map line_event lines
@@ -45,7 +36,7 @@ module _ (machine : Machine) (nodes : ℕ) where
     behind : IsWhole machine whole' s'
 
   one_more : (line : List ℕ) (lines : List (List ℕ)) (text told rest : List ℕ) (s mid s' whole : SessionState) → IsWhole machine whole s → text ≡ told ++ rest
-      → (o : Option Event) → line_event line ≡ o → MatchOption o ((told ≡ []) × (mid ≡ s)) (λ event. TellsTurn machine nodes event s told mid)
+      → (o : Option Event) → line_event line ≡ o → MatchOption o ((told ≡ []) × (mid ≡ s)) (λ event. TellsTurn machine nodes bounds event s told mid)
       → ((w : SessionState) → IsWhole machine w mid → IsRun lines rest w s') → IsRun (line ∷ lines) text whole s'
   one_more line lines text told rest s mid s' whole behind same None e one ih =
       let r = ih whole (subst (IsWhole machine whole) (sym one.1) behind) in
@@ -61,7 +52,7 @@ module _ (machine : Machine) (nodes : ℕ) where
   one_more line lines text told rest s mid s' whole behind same (Some event) e one ih =
       let (whole', turn, behind') = one.turn.on_whole whole behind in
       let r = ih whole' behind' in
-      let entry = entry_of event one.records in
+      let entry = entry_of event one.records one.trees in
       record {
         log = entry ∷ r.log;
         whole' = r.whole';
@@ -72,7 +63,7 @@ module _ (machine : Machine) (nodes : ℕ) where
         behind = r.behind;
       }
 
-  run_over : (lines : List (List ℕ)) (text : List ℕ) (s s' whole : SessionState) → IsWhole machine whole s → AnswersAll (TellsLine machine nodes) s lines text s' → IsRun lines text whole s'
+  run_over : (lines : List (List ℕ)) (text : List ℕ) (s s' whole : SessionState) → IsWhole machine whole s → AnswersAll (TellsLine machine nodes bounds) s lines text s' → IsRun lines text whole s'
   run_over [] text s s' whole behind h = record {
     log = [];
     whole' = whole;
@@ -88,9 +79,9 @@ module _ (machine : Machine) (nodes : ℕ) where
   whole-empty : IsWhole machine empty_state empty_state
   whole-empty = record { totals = []; order = order-empty machine; live = refl }
 
-pub lines_lawful : (machine : Machine) (nodes : ℕ) → LinesAreLawful machine nodes
-lines_lawful machine nodes lines text s h =
-    let r = run_over machine nodes lines text empty_state s empty_state (whole-empty machine nodes) h in
+pub lines_lawful : (machine : Machine) (nodes : ℕ) (bounds : Bool) → LinesAreLawful machine nodes bounds
+lines_lawful machine nodes bounds lines text s h =
+    let r = run_over machine nodes bounds lines text empty_state s empty_state (whole-empty machine nodes bounds) h in
     record {
       log = r.log;
       lawful = record { lawful = record { answers = r.answers; last = r.whole'; run = r.run }; has_text = (in_place r.log, r.items) };

@@ -5,3 +5,5 @@ pub mod OutageLines
 pub mod Scripts
 pub mod TurnLines
 pub mod Promises
+pub mod TreeLines
+pub mod TreePlaces

@@ -1,5 +1,6 @@
 -- A turn on the live part of a state is one of right answers on the whole.
-use Rattle.std.proofs.Common.{◌≡◌, ℕ, List, refl, sym, subst, IsTrue}
+use Rattle.std.proofs.Common.{◌≡◌, ℕ, Bool, List, [], refl, sym, subst, IsTrue}
+use Rattle.tp_bounds.specs.declared.tree.BoundTree.{BoundTree}
 use Rattle.tp_machine.specs.declared.whole.Machine.{Machine}
 use Rattle.tp_schedule.specs.Planning.{Deed, Due}
 use Rattle.tp_schedule.specs.declared.parts.Ask.{Ask}
@@ -17,7 +18,7 @@ use Rattle.tp_turning.specs.Events.{LiveTurn}
 use Rattle.tp_turning.specs.LiveTurns.{AnswersAlone, SettlesRightly}
 use Rattle.tp_turning.proofs.LiveAlone.{live-clock_holds, live-outages_hold, live-turns_hold}
 use Rattle.tp_outages.proofs.OutagesKeep.{through}
-use Rattle.tp_runs.specs.Carrying.{KeepsNodes}
+use Rattle.tp_runs.specs.Carrying.{KeepsNodes, ShowsTrees}
 use Rattle.tp_runs.specs.Wholes.{HasWholeTurn, IsWhole, TurnsOnWhole}
 use Rattle.tp_runs.proofs.Carry.{right_turns}
 
@@ -27,11 +28,11 @@ module _ {P : Type 0} (spent : P → Machine → List Plan → Ask → ℕ → T
   right = right_steps spent steps stops machine
 
   -- a turn on the whole state is one of right answers, and keeps its order
-  on-whole : (nodes : P → ℕ) → KeepsNodes spent steps stops machine nodes → (event : Event) (whole whole' s s' : SessionState) (records : List Record) (p p' : P)
-      → IsWhole machine whole s → Turn right machine event whole p records whole' p' → live_part machine whole' ≡ s'
-      → HasWholeTurn machine (nodes p) event whole records s' × (nodes p' ≡ nodes p)
-  on-whole nodes keeps event whole whole' s s' records p p' w turn live =
-      let (told, same) = right_turns spent steps stops machine nodes keeps event whole whole' records p p' turn in (
+  on-whole : (nodes : P → ℕ) (bounds : P → Bool) (trees : P → List BoundTree) → KeepsNodes spent steps stops machine nodes → ShowsTrees spent steps stops machine bounds trees → (event : Event) (whole whole' s s' : SessionState) (records : List Record) (p p' : P)
+      → IsWhole machine whole s → trees p ≡ [] → Turn right machine event whole p records whole' p' → live_part machine whole' ≡ s'
+      → HasWholeTurn machine (nodes p) (bounds p) event whole records (trees p') s' × (nodes p' ≡ nodes p)
+  on-whole nodes bounds trees keeps shows event whole whole' s s' records p p' w empty turn live =
+      let (told, same) = right_turns spent steps stops machine nodes bounds trees keeps shows event whole whole' records p p' empty turn in (
         (
           whole',
           told,
@@ -44,30 +45,31 @@ module _ {P : Type 0} (spent : P → Machine → List Plan → Ask → ℕ → T
         same,
       )
 
-  module _ (nodes : P → ℕ) (alone : AnswersAlone right machine nodes) (settles : SettlesRightly right machine) (keeps : KeepsNodes spent steps stops machine nodes)
-      (whole s s' : SessionState) (records : List Record) (p p' : P) (w : IsWhole machine whole s) where
-    quiet : (event : Event) → IsNoOutage event → IsNoClock event → Turn right machine event s p records s' p' → HasWholeTurn machine (nodes p) event whole records s' × (nodes p' ≡ nodes p)
+  module _ (nodes : P → ℕ) (bounds : P → Bool) (trees : P → List BoundTree) (alone : AnswersAlone right machine nodes) (settles : SettlesRightly right machine) (keeps : KeepsNodes spent steps stops machine nodes)
+      (shows : ShowsTrees spent steps stops machine bounds trees)
+      (whole s s' : SessionState) (records : List Record) (p p' : P) (w : IsWhole machine whole s) (empty : trees p ≡ []) where
+    quiet : (event : Event) → IsNoOutage event → IsNoClock event → Turn right machine event s p records s' p' → HasWholeTurn machine (nodes p) (bounds p) event whole records (trees p') s' × (nodes p' ≡ nodes p)
     quiet event no_outage no_clock turn =
         let (whole', t, live) = live-turns_hold right machine nodes event whole p records s' p' alone w.order.plans w.order.lines no_outage no_clock
         (subst (λ x. Turn right machine event x p records s' p') (sym w.live) turn) in
-        on-whole nodes keeps event whole whole' s s' records p p' w t live
+        on-whole nodes bounds trees keeps shows event whole whole' s s' records p p' w empty t live
 
-    outage : (event : Event) → IsTrue (is_outage event) → Turn right machine event s p records s' p' → HasWholeTurn machine (nodes p) event whole records s' × (nodes p' ≡ nodes p)
+    outage : (event : Event) → IsTrue (is_outage event) → Turn right machine event s p records s' p' → HasWholeTurn machine (nodes p) (bounds p) event whole records (trees p') s' × (nodes p' ≡ nodes p)
     outage event is turn =
         let (whole', t, live) = live-outages_hold right machine settles nodes event whole p records s' p' alone (through machine w.totals whole w.order) is
         (subst (λ x. Turn right machine event x p records s' p') (sym w.live) turn) in
-        on-whole nodes keeps event whole whole' s s' records p p' w t live
+        on-whole nodes bounds trees keeps shows event whole whole' s s' records p p' w empty t live
 
-    by-event : (event : Event) → LiveTurn right machine event s p records s' p' → HasWholeTurn machine (nodes p) event whole records s' × (nodes p' ≡ nodes p)
+    by-event : (event : Event) → LiveTurn right machine event s p records s' p' → HasWholeTurn machine (nodes p) (bounds p) event whole records (trees p') s' × (nodes p' ≡ nodes p)
     by-event Bad turn = quiet Bad refl refl turn
     by-event (NewJob name tray media groups) turn = quiet (NewJob name tray media groups) refl refl turn
     by-event (Clock to) turn =
         let (whole', t, live) = live-clock_holds right machine nodes to whole p records s' p' alone w.order.plans w.order.lines
         (subst (λ x. LiveTurn right machine (Clock to) x p records s' p') (sym w.live) turn) in
-        on-whole nodes keeps (Clock to) whole whole' s s' records p p' w t live
+        on-whole nodes bounds trees keeps shows (Clock to) whole whole' s s' records p p' w empty t live
     by-event (Jam name) turn = outage (Jam name) refl turn
     by-event (Off name) turn = outage (Off name) refl turn
     by-event (On name) turn = quiet (On name) refl refl turn
 
   pub turns-on_whole : TurnsOnWhole spent steps stops machine
-  turns-on_whole nodes alone settles keeps event whole s s' records p p' w turn = by-event nodes alone settles keeps whole s s' records p p' w event turn
+  turns-on_whole nodes bounds trees alone settles keeps shows event whole s s' records p p' w empty turn = by-event nodes bounds trees alone settles keeps shows whole s s' records p p' w empty event turn

@@ -1,5 +1,5 @@
 -- Runs over scripts are lawful.
-use Rattle.std.proofs.Common.{◌≡◌, ℕ, ◌+◌, List, [], ◌∷◌, ◌++◌, length, Option, Some, sym, ap, subst, ◌∙◌, arith}
+use Rattle.std.proofs.Common.{◌≡◌, ℕ, ◌+◌, Bool, List, [], ◌∷◌, ◌++◌, length, Option, Some, sym, ap, subst, ◌∙◌, arith}
 use Rattle.tp_machine.specs.declared.whole.Machine.{Machine}
 use Rattle.tp_outside.specs.Reading.{IsCutShort}
 use Rattle.tp_outside.proofs.Parts.{IfSome-at, IfSome-from}
@@ -14,19 +14,19 @@ use Rattle.tp_runs.specs.Ends.{ScriptsAreLawful, StopsAreLawful, StopsAt}
 use Rattle.tp_runs.specs.Wholes.{TellsLine}
 use Rattle.tp_runs.proofs.Lawful.{lines_lawful}
 
-module _ (machine : Machine) (nodes : ℕ) where
-  pub scripts_lawful : ScriptsAreLawful machine nodes
+module _ (machine : Machine) (nodes : ℕ) (bounds : Bool) where
+  pub scripts_lawful : ScriptsAreLawful machine nodes bounds
   scripts_lawful script taken taken' s h = record {
     fit = h.fit;
     few = omega (arith, h.few);
     text = h.text;
-    run = lines_lawful machine nodes (lines_of script) h.text s h.answered;
+    run = lines_lawful machine nodes bounds (lines_of script) h.text s h.answered;
     written = h.written;
   }
 
   at_end : (stop : Stop) (taken taken' : Option (List ℕ)) (s : SessionState) (rest : List ℕ) (at : Place SessionState) (script : List ℕ)
-      → (h : Takes (TellsLine machine nodes) 4096 (place_of empty_state 0 taken) script rest at)
-      → StopsBefore (TellsLine machine nodes) NoRefusal 4096 1000000 stop rest at s taken' → StopsAt machine nodes stop h.done rest h.text taken taken'
+      → (h : Takes (TellsLine machine nodes bounds) 4096 (place_of empty_state 0 taken) script rest at)
+      → StopsBefore (TellsLine machine nodes bounds) NoRefusal 4096 1000000 stop rest at s taken' → StopsAt machine nodes bounds stop h.done rest h.text taken taken'
   at_end Memory taken taken' s rest at script h k = subst (IsWritten taken h.text) (sym k) h.written
   at_end Refused taken taken' s rest at script h k = absurd k.0.refused
   at_end Source taken taken' s rest at script h k = (k.0, subst (IsWritten taken h.text) (sym k.1) h.written)
@@ -42,15 +42,15 @@ module _ (machine : Machine) (nodes : ℕ) where
       (
         k.told,
         k.next,
-        lines_lawful machine nodes (lines_of h.done ++ k.line ∷ []) (h.text ++ k.told) s
-            (answers_then (TellsLine machine nodes) empty_state at.state s (lines_of h.done) (k.line ∷ []) h.text k.told h.answered (answers_one (TellsLine machine nodes) at.state s k.line k.told k.answered)),
+        lines_lawful machine nodes bounds (lines_of h.done ++ k.line ∷ []) (h.text ++ k.told) s
+            (answers_then (TellsLine machine nodes bounds) empty_state at.state s (lines_of h.done) (k.line ∷ []) h.text k.told h.answered (answers_one (TellsLine machine nodes bounds) at.state s k.line k.told k.answered)),
         IfSome-from (λ before. IsCutShort k.told taken' (before ++ h.text)) taken (λ before e.
             IfSome-at (IsCutShort k.told taken') at.taken (before ++ h.text) k.cut (IfSome-at (λ before. at.taken ≡ Some (before ++ h.text)) taken before h.written e)),
       ),
     ),
   )
 
-  pub stops_lawful : StopsAreLawful machine nodes
+  pub stops_lawful : StopsAreLawful machine nodes bounds
   stops_lawful stop script taken taken' s h = record {
     done = h.takes.done;
     rest = h.rest;
@@ -59,6 +59,6 @@ module _ (machine : Machine) (nodes : ℕ) where
     fit = h.takes.fit;
     few = omega (arith, h.few, h.takes.counted);
     text = h.takes.text;
-    run = lines_lawful machine nodes (lines_of h.takes.done) h.takes.text h.at.state h.takes.answered;
+    run = lines_lawful machine nodes bounds (lines_of h.takes.done) h.takes.text h.at.state h.takes.answered;
     stops = at_end stop taken taken' s h.rest h.at script h.takes h.stops;
   }

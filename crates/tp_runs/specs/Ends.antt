@@ -1,5 +1,5 @@
 -- How a run over a script ends, and what was written then.
-use Rattle.std.specs.Prelude.{◌≡◌, ℕ, ◌+◌, ◌<◌, ◌≤◌, true, List, [], ◌∷◌, ◌++◌, length, Option, IfSome}
+use Rattle.std.specs.Prelude.{◌≡◌, ℕ, ◌+◌, ◌<◌, ◌≤◌, Bool, true, List, [], ◌∷◌, ◌++◌, length, Option, IfSome}
 use Rattle.std.specs.List.{All}
 use Rattle.tp_machine.specs.declared.whole.Machine.{Machine}
 use Rattle.tp_outside.specs.Reading.{IsCutShort}
@@ -13,27 +13,27 @@ use Rattle.tp_turn.specs.States.{SessionState, empty_state}
 use Rattle.tp_runs.specs.Wholes.{IsRunOver, TellsLine}
 
 -- the whole script was answered: the text of the one log that answers its events lawfully was written
-pub record IsAnswered (machine : Machine) (nodes : ℕ) (script : List ℕ) (taken taken' : Option (List ℕ)) : Type 0 where
+pub record IsAnswered (machine : Machine) (nodes : ℕ) (bounds : Bool) (script : List ℕ) (taken taken' : Option (List ℕ)) : Type 0 where
   pub fit : All (FitsIn line_bytes) (lines_of script)
   pub few : length (lines_of script) ≤ most_lines
   pub text : List ℕ
-  pub run : IsRunOver machine nodes (lines_of script) text
+  pub run : IsRunOver machine nodes bounds (lines_of script) text
   pub written : IsWritten taken text taken'
 
 -- what is known of what comes next where a run over a script stops. Only a sink that fails has taken more than the text of
 -- the lines before: a first part of the next line's
-abbrev pub StopsAt : Machine → ℕ → Stop → List ℕ → List ℕ → List ℕ → Option (List ℕ) → Option (List ℕ) → Type 0
-StopsAt machine nodes Memory done rest text taken taken' = IsWritten taken text taken'
-StopsAt machine nodes Refused done rest text taken taken' = ⊥
-StopsAt machine nodes Source done rest text taken taken' = (lacks 10 rest ≡ true) × IsWritten taken text taken'
-StopsAt machine nodes (Line n) done rest text taken taken' = BeginsTooLong line_bytes rest × (n ≡ length (lines_of done) + 1) × IsWritten taken text taken'
-StopsAt machine nodes Lines done rest text taken taken' = (length (lines_of done) ≡ most_lines) × (0 < length rest) × IsWritten taken text taken'
-StopsAt machine nodes Sink done rest text taken taken' = (line : List ℕ) × ((more : List ℕ) × ((told : List ℕ)
-    × (rest ≡ line ++ more) × IsRunOver machine nodes (lines_of done ++ line ∷ []) (text ++ told) × IfSome taken (λ before. IsCutShort told taken' (before ++ text))))
+abbrev pub StopsAt : Machine → ℕ → Bool → Stop → List ℕ → List ℕ → List ℕ → Option (List ℕ) → Option (List ℕ) → Type 0
+StopsAt machine nodes bounds Memory done rest text taken taken' = IsWritten taken text taken'
+StopsAt machine nodes bounds Refused done rest text taken taken' = ⊥
+StopsAt machine nodes bounds Source done rest text taken taken' = (lacks 10 rest ≡ true) × IsWritten taken text taken'
+StopsAt machine nodes bounds (Line n) done rest text taken taken' = BeginsTooLong line_bytes rest × (n ≡ length (lines_of done) + 1) × IsWritten taken text taken'
+StopsAt machine nodes bounds Lines done rest text taken taken' = (length (lines_of done) ≡ most_lines) × (0 < length rest) × IsWritten taken text taken'
+StopsAt machine nodes bounds Sink done rest text taken taken' = (line : List ℕ) × ((more : List ℕ) × ((told : List ℕ)
+    × (rest ≡ line ++ more) × IsRunOver machine nodes bounds (lines_of done ++ line ∷ []) (text ++ told) × IfSome taken (λ before. IsCutShort told taken' (before ++ text))))
 
 -- the first lines of what was read were answered, each whole and within the limit: the text of the one log that answers
 -- their events lawfully was written, and then the run stopped
-pub record IsAnsweredTo (machine : Machine) (nodes : ℕ) (stop : Stop) (script : List ℕ) (taken taken' : Option (List ℕ)) : Type 0 where
+pub record IsAnsweredTo (machine : Machine) (nodes : ℕ) (bounds : Bool) (stop : Stop) (script : List ℕ) (taken taken' : Option (List ℕ)) : Type 0 where
   pub done : List ℕ
   pub rest : List ℕ
   pub parts : script ≡ done ++ rest
@@ -41,15 +41,15 @@ pub record IsAnsweredTo (machine : Machine) (nodes : ℕ) (stop : Stop) (script 
   pub fit : All (FitsIn line_bytes) (lines_of done)
   pub few : length (lines_of done) ≤ most_lines
   pub text : List ℕ
-  pub run : IsRunOver machine nodes (lines_of done) text
-  pub stops : StopsAt machine nodes stop done rest text taken taken'
+  pub run : IsRunOver machine nodes bounds (lines_of done) text
+  pub stops : StopsAt machine nodes bounds stop done rest text taken taken'
 
-abbrev pub ScriptsAreLawful : Machine → ℕ → Type 0
-ScriptsAreLawful machine nodes = (script : List ℕ) (taken taken' : Option (List ℕ)) (s : SessionState)
-    → TakesAll (TellsLine machine nodes) line_bytes most_lines (place_of empty_state 0 taken) script s taken'
-    → IsAnswered machine nodes script taken taken'
+abbrev pub ScriptsAreLawful : Machine → ℕ → Bool → Type 0
+ScriptsAreLawful machine nodes bounds = (script : List ℕ) (taken taken' : Option (List ℕ)) (s : SessionState)
+    → TakesAll (TellsLine machine nodes bounds) line_bytes most_lines (place_of empty_state 0 taken) script s taken'
+    → IsAnswered machine nodes bounds script taken taken'
 
-abbrev pub StopsAreLawful : Machine → ℕ → Type 0
-StopsAreLawful machine nodes = (stop : Stop) (script : List ℕ) (taken taken' : Option (List ℕ)) (s : SessionState)
-    → Stops (TellsLine machine nodes) NoRefusal line_bytes most_lines (place_of empty_state 0 taken) script stop s taken'
-    → IsAnsweredTo machine nodes stop script taken taken'
+abbrev pub StopsAreLawful : Machine → ℕ → Bool → Type 0
+StopsAreLawful machine nodes bounds = (stop : Stop) (script : List ℕ) (taken taken' : Option (List ℕ)) (s : SessionState)
+    → Stops (TellsLine machine nodes bounds) NoRefusal line_bytes most_lines (place_of empty_state 0 taken) script stop s taken'
+    → IsAnsweredTo machine nodes bounds stop script taken taken'

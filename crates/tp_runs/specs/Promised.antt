@@ -1,5 +1,6 @@
 -- The headline of a run: what its log promises, past included.
-use Rattle.std.specs.Prelude.{◌≡◌, ℕ, ◌≤◌, List, ◌∷◌, ◌++◌, length, Option, IsTrue}
+use Rattle.std.specs.Prelude.{◌≡◌, ℕ, ◌≤◌, Bool, List, ◌∷◌, ◌++◌, length, Option, IsTrue}
+use Rattle.tp_bounds.specs.declared.tree.BoundTree.{BoundTree}
 use Rattle.tp_machine.specs.declared.whole.Machine.{Machine}
 use Rattle.tp_jobs.specs.Refusing.{is_tray_name}
 use Rattle.tp_schedule.specs.Holding.{held}
@@ -14,10 +15,10 @@ use Rattle.tp_turn.specs.Receiving.{ReceivesInOrder, records_of}
 use Rattle.tp_turn.specs.States.{SessionState}
 use Rattle.tp_headline.specs.Given.{IsEarliestThere, IsNoneThere, IsSpentThere}
 use Rattle.tp_runs.specs.Ends.{IsAnswered, IsAnsweredTo}
-use Rattle.tp_runs.specs.Runs.{IsLawfulRun, NoTree, spent_by}
+use Rattle.tp_runs.specs.Runs.{IsLawfulRun, spent_by}
 
-module _ (machine : Machine) (nodes : ℕ) where
-  pub record KeepsPromises (log : List (Entry NoTree)) (last : SessionState) : Type 0 where
+module _ (machine : Machine) (nodes : ℕ) (bounds : Bool) where
+  pub record KeepsPromises (log : List (Entry BoundTree)) (last : SessionState) : Type 0 where
     -- the last schedule is legal, and no resource has two holders at any tick
     pub legal : IsLegal machine last.plans
     pub held_once : (resource tick : ℕ) → length (held machine last.plans resource tick) ≤ 1
@@ -38,13 +39,13 @@ module _ (machine : Machine) (nodes : ℕ) where
 
   -- of every lawful run, of every script that was answered, and of the first lines of one where the run stopped
   abbrev pub LawfulRunsKeepPromises : Type 0
-  LawfulRunsKeepPromises = (events : List Event) (log : List (Entry NoTree)) (run : IsLawfulRun machine nodes events log)
+  LawfulRunsKeepPromises = (events : List Event) (log : List (Entry BoundTree)) (run : IsLawfulRun machine nodes bounds events log)
       → KeepsPromises log run.lawful.last
 
   abbrev pub AnswersKeepPromises : Type 0
-  AnswersKeepPromises = (script : List ℕ) (taken taken' : Option (List ℕ)) (answered : IsAnswered machine nodes script taken taken')
+  AnswersKeepPromises = (script : List ℕ) (taken taken' : Option (List ℕ)) (answered : IsAnswered machine nodes bounds script taken taken')
       → KeepsPromises answered.run.log answered.run.lawful.lawful.last
 
   abbrev pub StopsKeepPromises : Type 0
-  StopsKeepPromises = (stop : Stop) (script : List ℕ) (taken taken' : Option (List ℕ)) (answered : IsAnsweredTo machine nodes stop script taken taken')
+  StopsKeepPromises = (stop : Stop) (script : List ℕ) (taken taken' : Option (List ℕ)) (answered : IsAnsweredTo machine nodes bounds stop script taken taken')
       → KeepsPromises answered.run.log answered.run.lawful.lawful.last

@@ -1,12 +1,16 @@
--- A run of the program: the events of a script, the records of each, and the text of both.
-use Rattle.std.specs.Prelude.{ℕ, false, List, [], ◌∷◌, map}
+-- A run of the program: the events of a script, the records of each with the trees that prove them, and the text of all.
+use Rattle.std.specs.Prelude.{ℕ, Bool, true, false, not, ◌&&◌, List, [], ◌∷◌, ◌++◌, map, take, drop, if◌then◌else◌}
 use Rattle.std.specs.List.{flat_map}
+use Rattle.tp_bounds.specs.declared.tree.BoundTree.{BoundTree}
 use Rattle.tp_machine.specs.declared.whole.Machine.{Machine}
 use Rattle.tp_schedule.specs.Spending.{IsSpent}
 use Rattle.tp_schedule.specs.declared.parts.Ask.{Ask}
 use Rattle.tp_schedule.specs.declared.parts.Plan.{Plan}
 use Rattle.tp_schedule.specs.declared.recording.Record.{Record}
+use Rattle.tp_schedule.specs.declared.recording.Record.TheVariants.{Plan as TellsPlan, Move, Never as TellsNever}
 use Rattle.tp_script.specs.declared.event.Event.{Event}
+use Rattle.tp_trees.specs.Claims.{IsTreeFor}
+use Rattle.tp_trees.specs.declared.claim.Claim.TheVariants.{Earliest, Never}
 use Rattle.tp_log.specs.Logs.{IsLog, log_text}
 use Rattle.tp_log.specs.declared.item.Item.{Item}
 use Rattle.tp_log.specs.declared.item.Item.TheVariants as item
@@ -14,38 +18,67 @@ use Rattle.tp_turn.specs.Logs.{Entry, IsLawful, TreeClaims, right_answers}
 use Rattle.tp_turn.specs.States.{SessionState}
 use Rattle.tp_turn.specs.Turns.{Turn}
 
--- where no trees are shown, none claims anything
-abbrev pub NoTree : Type 0
-NoTree = Unit {0}
-
-abbrev pub no_claims : TreeClaims NoTree
-no_claims = record { none_before = λ machine plans ask tick tree. Unit {0}; never = λ machine plans ask tree. Unit {0} }
+-- what a tree claims, on the live part of the schedule at the ask's moment: that no alternative ends before the tick, or
+-- that there is none
+abbrev pub tree_claims : TreeClaims BoundTree
+tree_claims = record {
+  none_before = λ machine plans ask end tree. IsTreeFor machine plans ask (Earliest end) tree;
+  never = λ machine plans ask tree. IsTreeFor machine plans ask Never tree;
+}
 
 -- the budget of so many lists of choices is spent
 abbrev pub spent_by : ℕ → Machine → List Plan → Ask → ℕ → Type 0
 spent_by nodes machine plans ask bound = IsSpent machine plans ask nodes bound
 
 -- the turn of an event in which each answer is right: a plan is earliest and least, none means that there is no
--- alternative, and budget that so many lists were open
-abbrev pub TurnOf : Machine → ℕ → Event → SessionState → List Record → SessionState → Type 0
-TurnOf machine nodes event s records s' = Turn (right_answers no_claims false (spent_by nodes) machine) machine event s [] records s' []
+-- alternative, and budget that so many lists were open. With bounds the trees prove its plans and nones, one after another;
+-- without bounds there are none
+abbrev pub TurnOf : Machine → ℕ → Bool → Event → SessionState → List Record → List BoundTree → SessionState → Type 0
+TurnOf machine nodes bounds event s records trees s' = Turn (right_answers tree_claims bounds (spent_by nodes) machine) machine event s trees records s' []
 
--- an event with its records
-abbrev pub entry_of : Event → List Record → Entry NoTree
-entry_of event records = record { event = event; records = records; trees = [] }
+-- an event with its records and trees
+abbrev pub entry_of : Event → List Record → List BoundTree → Entry BoundTree
+entry_of event records trees = record { event = event; records = records; trees = trees }
+
+-- ---- the places of trees
+
+abbrev pub is_move : Record → Bool
+is_move (Move sheet points) = true
+is_move _ = false
+
+abbrev pub begin_with_move : List Record → Bool
+begin_with_move [] = false
+begin_with_move (r ∷ records) = is_move r
+
+-- whether a record is a plan, or a move directly behind a plan and its other moves
+abbrev pub is_of_plan : Bool → Record → Bool
+is_of_plan before (TellsPlan sheet place points acts) = true
+is_of_plan before (Move sheet points) = before
+is_of_plan before _ = false
+
+-- how many trees stand between a record and the next ones: one behind a none, and one behind a plan and all its moves
+abbrev pub trees_behind : Bool → Record → List Record → ℕ
+trees_behind before (TellsNever sheet goal) records = 1
+trees_behind before r records = if is_of_plan before r && not (begin_with_move records) then 1 else 0
+
+-- the records with the trees in their places, the first tree in the first place
+abbrev pub items_with : Bool → List Record → List BoundTree → List Item
+items_with before [] trees = []
+items_with before (r ∷ records) trees =
+    item.Note r ∷ (map (λ t. item.Tree t) (take (trees_behind before r records) trees) ++ items_with (is_of_plan before r) records (drop (trees_behind before r records) trees))
 
 -- the items of an entry, and of all
-abbrev pub items_of : Entry NoTree → List Item
-items_of e = item.Event e.event ∷ map (λ r. item.Note r) e.records
+abbrev pub items_of : Entry BoundTree → List Item
+items_of e = item.Event e.event ∷ items_with false e.records e.trees
 
-abbrev pub items_in : List (Entry NoTree) → List Item
+abbrev pub items_in : List (Entry BoundTree) → List Item
 items_in log = flat_map items_of log
 
 -- the text of a log
-abbrev pub run_text : List (Entry NoTree) → List ℕ
+abbrev pub run_text : List (Entry BoundTree) → List ℕ
 run_text log = log_text (items_in log)
 
--- the log answers the events by a lawful run, and each of its items has a line
-pub record IsLawfulRun (machine : Machine) (nodes : ℕ) (events : List Event) (log : List (Entry NoTree)) : Type 0 where
-  pub lawful : IsLawful no_claims false (spent_by nodes) machine events log
+-- the log answers the events by a lawful run, with bounds or without, and each of its items has a text
+pub record IsLawfulRun (machine : Machine) (nodes : ℕ) (bounds : Bool) (events : List Event) (log : List (Entry BoundTree)) : Type 0 where
+  pub lawful : IsLawful tree_claims bounds (spent_by nodes) machine events log
   pub has_text : IsLog (items_in log)

@@ -1,6 +1,7 @@
 -- What is told of the live part of a state, as what is told of the whole.
-use Rattle.std.specs.Prelude.{◌≡◌, ℕ, List}
+use Rattle.std.specs.Prelude.{◌≡◌, ℕ, Bool, List, []}
 use Rattle.std.specs.List.{All, filter_map}
+use Rattle.tp_bounds.specs.declared.tree.BoundTree.{BoundTree}
 use Rattle.tp_machine.specs.declared.whole.Machine.{Machine}
 use Rattle.tp_schedule.specs.Planning.{Deed, Due}
 use Rattle.tp_schedule.specs.declared.parts.Ask.{Ask}
@@ -18,8 +19,8 @@ use Rattle.tp_turn.specs.States.{SessionState, empty_state}
 use Rattle.tp_outages.specs.Through.{KeepsOrder}
 use Rattle.tp_turning.specs.Events.{LiveTurn}
 use Rattle.tp_turning.specs.LiveTurns.{AnswersAlone, SettlesRightly}
-use Rattle.tp_runs.specs.Carrying.{KeepsNodes}
-use Rattle.tp_runs.specs.Runs.{IsLawfulRun, NoTree, TurnOf, entry_of, items_of, run_text}
+use Rattle.tp_runs.specs.Carrying.{KeepsNodes, ShowsTrees}
+use Rattle.tp_runs.specs.Runs.{IsLawfulRun, TurnOf, entry_of, items_of, run_text}
 
 -- a whole state behind a live one: it keeps its order, past included, with so many sheets of each job, and this is its live part
 pub record IsWhole (machine : Machine) (whole s : SessionState) : Type 0 where
@@ -28,41 +29,42 @@ pub record IsWhole (machine : Machine) (whole s : SessionState) : Type 0 where
   pub live : live_part machine whole ≡ s
 
 -- the event has this turn on the whole state, which leaves one behind the next live state
-abbrev pub HasWholeTurn : Machine → ℕ → Event → SessionState → List Record → SessionState → Type 0
-HasWholeTurn machine nodes event whole records s' = (whole' : SessionState) × TurnOf machine nodes event whole records whole' × IsWhole machine whole' s'
+abbrev pub HasWholeTurn : Machine → ℕ → Bool → Event → SessionState → List Record → List BoundTree → SessionState → Type 0
+HasWholeTurn machine nodes bounds event whole records trees s' = (whole' : SessionState) × TurnOf machine nodes bounds event whole records trees whole' × IsWhole machine whole' s'
 
--- these records are those of the event's turn on every whole state behind the live one, and each of them has a line
-pub record TurnsLive (machine : Machine) (nodes : ℕ) (event : Event) (s : SessionState) (records : List Record) (s' : SessionState) : Type 0 where
-  pub on_whole : (whole : SessionState) → IsWhole machine whole s → HasWholeTurn machine nodes event whole records s'
-  pub has_text : All IsItem (items_of (entry_of event records))
+-- these records and trees are those of the event's turn on every whole state behind the live one, and each of them has a text
+pub record TurnsLive (machine : Machine) (nodes : ℕ) (bounds : Bool) (event : Event) (s : SessionState) (records : List Record) (trees : List BoundTree) (s' : SessionState) : Type 0 where
+  pub on_whole : (whole : SessionState) → IsWhole machine whole s → HasWholeTurn machine nodes bounds event whole records trees s'
+  pub has_text : All IsItem (items_of (entry_of event records trees))
 
 -- the text is that of the event's turn
-pub record TellsTurn (machine : Machine) (nodes : ℕ) (event : Event) (s : SessionState) (text : List ℕ) (s' : SessionState) : Type 0 where
+pub record TellsTurn (machine : Machine) (nodes : ℕ) (bounds : Bool) (event : Event) (s : SessionState) (text : List ℕ) (s' : SessionState) : Type 0 where
   pub records : List Record
-  pub turn : TurnsLive machine nodes event s records s'
-  pub is_text : text ≡ log_text (items_of (entry_of event records))
+  pub trees : List BoundTree
+  pub turn : TurnsLive machine nodes bounds event s records trees s'
+  pub is_text : text ≡ log_text (items_of (entry_of event records trees))
 
 -- from the empty state the lines are answered by a lawful run over their events, and this text is its log's
-pub record IsRunOver (machine : Machine) (nodes : ℕ) (lines : List (List ℕ)) (text : List ℕ) : Type 0 where
-  pub log : List (Entry NoTree)
-  pub lawful : IsLawfulRun machine nodes (filter_map line_event lines) log
+pub record IsRunOver (machine : Machine) (nodes : ℕ) (bounds : Bool) (lines : List (List ℕ)) (text : List ℕ) : Type 0 where
+  pub log : List (Entry BoundTree)
+  pub lawful : IsLawfulRun machine nodes bounds (filter_map line_event lines) log
   pub is_text : text ≡ run_text log
 
 -- a line is answered by the text of its event's turn
-abbrev pub TellsLine : Machine → ℕ → SessionState → List ℕ → List ℕ → SessionState → Type 0
-TellsLine machine nodes = AnswersLine (λ s event. TellsTurn machine nodes event s)
+abbrev pub TellsLine : Machine → ℕ → Bool → SessionState → List ℕ → List ℕ → SessionState → Type 0
+TellsLine machine nodes bounds = AnswersLine (λ s event. TellsTurn machine nodes bounds event s)
 
-abbrev pub LinesAreLawful : Machine → ℕ → Type 0
-LinesAreLawful machine nodes = (lines : List (List ℕ)) (text : List ℕ) (s : SessionState)
-    → AnswersAll (TellsLine machine nodes) empty_state lines text s → IsRunOver machine nodes lines text
+abbrev pub LinesAreLawful : Machine → ℕ → Bool → Type 0
+LinesAreLawful machine nodes bounds = (lines : List (List ℕ)) (text : List ℕ) (s : SessionState)
+    → AnswersAll (TellsLine machine nodes bounds) empty_state lines text s → IsRunOver machine nodes bounds lines text
 
 -- a planner that looks at schedules through its deeds alone, and whose number of nodes never changes, takes turns on the
--- live part that are turns of right answers on every whole state behind it
+-- live part that are turns of right answers on every whole state behind it, with its trees
 module _ {P : Type 0} (spent : P → Machine → List Plan → Ask → ℕ → Type 0) (steps : P → Machine → List Plan → Deed → List Plan → P → Type 0)
     (stops : P → Machine → List Plan → Due → P → Type 0) (machine : Machine) where
   abbrev pub TurnsOnWhole : Type 0
-  TurnsOnWhole = (nodes : P → ℕ) → AnswersAlone (right_steps spent steps stops machine) machine nodes
-      → SettlesRightly (right_steps spent steps stops machine) machine → KeepsNodes spent steps stops machine nodes
-      → (event : Event) (whole s s' : SessionState) (records : List Record) (p p' : P) → IsWhole machine whole s
+  TurnsOnWhole = (nodes : P → ℕ) (bounds : P → Bool) (trees : P → List BoundTree) → AnswersAlone (right_steps spent steps stops machine) machine nodes
+      → SettlesRightly (right_steps spent steps stops machine) machine → KeepsNodes spent steps stops machine nodes → ShowsTrees spent steps stops machine bounds trees
+      → (event : Event) (whole s s' : SessionState) (records : List Record) (p p' : P) → IsWhole machine whole s → trees p ≡ []
       → LiveTurn (right_steps spent steps stops machine) machine event s p records s' p'
-      → HasWholeTurn machine (nodes p) event whole records s' × (nodes p' ≡ nodes p)
+      → HasWholeTurn machine (nodes p) (bounds p) event whole records (trees p') s' × (nodes p' ≡ nodes p)

@@ -1,8 +1,8 @@
 //! What holds of runs. The calls do nothing: their contracts are the laws.
 
-ghost use Rattle.std.specs.Prelude.{ℕ};
+ghost use Rattle.std.specs.Prelude.{ℕ, Bool};
 ghost use Rattle.tp_machine.specs.declared.whole.Machine.{Machine};
-ghost use Rattle.tp_runs.specs.Carrying.{RightTurns};
+ghost use Rattle.tp_runs.specs.Carrying.{RightTurns, TreesHaveLines};
 ghost use Rattle.tp_runs.specs.Ends.{ScriptsAreLawful, StopsAreLawful};
 ghost use Rattle.tp_runs.specs.Promised.{AnswersKeepPromises, LawfulRunsKeepPromises, StopsKeepPromises};
 ghost use Rattle.tp_runs.specs.Told.{LiveTurnsHaveLines, TurnsHaveLines};
@@ -12,7 +12,7 @@ ghost use Rattle.tp_runs.specs.Wholes.{LinesAreLawful, TurnsOnWhole};
 use tp_schedule::Planner;
 
 /// The turns of a planner that answers rightly, and whose number of nodes never changes, are turns of right answers with
-/// that budget.
+/// that budget, and with bounds its trees prove them.
 pub fn right_planners_turn_rightly<P: Planner>()
     ensures { (machine : Machine) → RightTurns P.spent P.steps P.stop_steps machine }
 {}
@@ -32,20 +32,25 @@ pub fn turns_have_lines<P: Planner>()
         → LiveTurnsHaveLines (right_steps P.spent P.steps P.stop_steps machine) machine }
 {}
 
+/// Each tree that a planner shows in a turn on a live state has a line, and none of its loops is without hops.
+pub fn shown_trees_have_lines<P: Planner>()
+    ensures { (machine : Machine) → TreesHaveLines P.spent P.steps P.stop_steps machine }
+{}
+
 /// Where lines are answered, each by a turn on every whole state behind the live one, their events are answered by a lawful
 /// run, and the text of the answers is the text of its log.
 pub fn answered_lines_are_lawful()
-    ensures { (machine : Machine) (nodes : ℕ) → LinesAreLawful machine nodes }
+    ensures { (machine : Machine) (nodes : ℕ) (bounds : Bool) → LinesAreLawful machine nodes bounds }
 {}
 
 /// A script that is answered whole is answered by a lawful run.
 pub fn answered_scripts_are_lawful()
-    ensures { (machine : Machine) (nodes : ℕ) → ScriptsAreLawful machine nodes }
+    ensures { (machine : Machine) (nodes : ℕ) (bounds : Bool) → ScriptsAreLawful machine nodes bounds }
 {}
 
 /// Where a run over a script stops, what was written is the text of a lawful run over its first lines.
 pub fn stopped_scripts_are_lawful()
-    ensures { (machine : Machine) (nodes : ℕ) → StopsAreLawful machine nodes }
+    ensures { (machine : Machine) (nodes : ℕ) (bounds : Bool) → StopsAreLawful machine nodes bounds }
 {}
 
 /// The headline, of every lawful run, of every script that was answered, and of the first lines of one where the run stopped:
@@ -53,7 +58,7 @@ pub fn stopped_scripts_are_lawful()
 /// sheets of broken jobs are skipped; each plan is earliest and least; each none means no alternative by the horizon; and each
 /// budget that as many different open lists with choices were stored as the budget allows, when one more had to be.
 pub fn runs_keep_promises()
-    ensures lawful { (machine : Machine) (nodes : ℕ) → LawfulRunsKeepPromises machine nodes }
-    ensures answered { (machine : Machine) (nodes : ℕ) → AnswersKeepPromises machine nodes }
-    ensures stopped { (machine : Machine) (nodes : ℕ) → StopsKeepPromises machine nodes }
+    ensures lawful { (machine : Machine) (nodes : ℕ) (bounds : Bool) → LawfulRunsKeepPromises machine nodes bounds }
+    ensures answered { (machine : Machine) (nodes : ℕ) (bounds : Bool) → AnswersKeepPromises machine nodes bounds }
+    ensures stopped { (machine : Machine) (nodes : ℕ) (bounds : Bool) → StopsKeepPromises machine nodes bounds }
 {}

@@ -1,5 +1,5 @@
 -- What a session answers from the empty state is lawful.
-use Rattle.std.proofs.Common.{◌≡◌, ℕ, List, [], ◌∷◌, Option, Some, None, refl, sym, ap, subst, ◌∙◌}
+use Rattle.std.proofs.Common.{◌≡◌, ℕ, false, List, [], ◌∷◌, Option, Some, None, refl, sym, ap, subst, ◌∙◌}
 use Rattle.std.specs.Option.{MatchOption}
 use Rattle.tp_machine.specs.declared.whole.Machine.{Machine}
 use Rattle.tp_words.specs.Texts.{lines_of}
@@ -18,7 +18,7 @@ use Rattle.tp_session.specs.Sessions.{Standing, Tells}
 
 module _ (machine : Machine) (nodes : ℕ) where
   abbrev Lawful : SessionState → List ℕ → List ℕ → SessionState → Type 0
-  Lawful = TellsLine machine nodes
+  Lawful = TellsLine machine nodes false
 
   -- a standing with this machine and this budget
   record Has (s : Standing) : Type 0 where
@@ -35,10 +35,10 @@ module _ (machine : Machine) (nodes : ℕ) where
       record { answers = answers; has = kept }
     where
       go : (o : Option Event) → MatchOption o ((text ≡ []) × (s' ≡ s)) (λ event. Tells s event text s')
-          → MatchOption o ((text ≡ []) × (s'.state ≡ s.state)) (λ event. TellsTurn machine nodes event s.state text s'.state) × Has s'
+          → MatchOption o ((text ≡ []) × (s'.state ≡ s.state)) (λ event. TellsTurn machine nodes false event s.state text s'.state) × Has s'
       go None (none, same) = ((none, ap (λ (x : Standing). x.state) same), subst Has (sym same) has)
       go (Some event) h = (
-        subst (λ n. TellsTurn machine n event s.state text s'.state) has.budget_is (subst (λ m. TellsTurn m s.budget event s.state text s'.state) has.machine_is h.turn),
+        subst (λ n. TellsTurn machine n false event s.state text s'.state) has.budget_is (subst (λ m. TellsTurn m s.budget false event s.state text s'.state) has.machine_is h.turn),
         record { machine_is = h.same_machine ∙ has.machine_is; budget_is = h.same_budget ∙ has.budget_is },
       )
 
@@ -59,9 +59,9 @@ module _ (machine : Machine) (nodes : ℕ) where
   starts : Has start
   starts = record { machine_is = refl; budget_is = refl }
 
-  pub sessions_lawful : (script : List ℕ) (taken taken' : Option (List ℕ)) (s : Standing) → TakesAll (AnswersLine Tells) 4096 1000000 (place_of start 0 taken) script s taken' → IsAnswered machine nodes script taken taken'
+  pub sessions_lawful : (script : List ℕ) (taken taken' : Option (List ℕ)) (s : Standing) → TakesAll (AnswersLine Tells) 4096 1000000 (place_of start 0 taken) script s taken' → IsAnswered machine nodes false script taken taken'
   sessions_lawful script taken taken' s h =
-      scripts_lawful machine nodes script taken taken' s.state (record {
+      scripts_lawful machine nodes false script taken taken' s.state (record {
         fit = h.fit;
         few = h.few;
         text = h.text;
@@ -82,11 +82,11 @@ module _ (machine : Machine) (nodes : ℕ) where
   seen_stop Sink rest at s taken' has h =
       record { line = h.line; more = h.more; next = h.next; told = h.told; answered = (one_line at.state s h.line h.told has h.answered).answers; cut = h.cut }
 
-  pub sessions_stop : (stop : Stop) (script : List ℕ) (taken taken' : Option (List ℕ)) (s : Standing) → Stops (AnswersLine Tells) NoRefusal 4096 1000000 (place_of start 0 taken) script stop s taken' → IsAnsweredTo machine nodes stop script taken taken'
+  pub sessions_stop : (stop : Stop) (script : List ℕ) (taken taken' : Option (List ℕ)) (s : Standing) → Stops (AnswersLine Tells) NoRefusal 4096 1000000 (place_of start 0 taken) script stop s taken' → IsAnsweredTo machine nodes false stop script taken taken'
   sessions_stop stop script taken taken' s h =
       let t = h.takes in
       let lines = all_lines (lines_of t.done) t.text start h.at.state starts t.answered in
-      stops_lawful machine nodes stop script taken taken' s.state (record {
+      stops_lawful machine nodes false stop script taken taken' s.state (record {
         rest = h.rest;
         at = seen_place h.at;
         takes = record {

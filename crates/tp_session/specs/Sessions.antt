@@ -1,5 +1,5 @@
 -- What a session is seen as, and what one event does to it.
-use Rattle.std.specs.Prelude.{◌≡◌, ℕ, ◌≤◌, List, Option, IsTrue, unwrap_or}
+use Rattle.std.specs.Prelude.{◌≡◌, ℕ, ◌≤◌, false, List, Option, IsTrue, unwrap_or}
 use Rattle.tp_machine.specs.declared.whole.Machine.{Machine}
 use Rattle.tp_script.specs.declared.event.Event.{Event}
 use Rattle.tp_search.specs.Engines.{EngineValue, is_engine_for}
@@ -34,7 +34,7 @@ pub record IsSession {N : Type 0} (standing : Standing) (engine : EngineValue N)
 pub record Tells (s : Standing) (event : Event) (text : List ℕ) (s' : Standing) : Type 0 where
   pub same_machine : s'.machine ≡ s.machine
   pub same_budget : s'.budget ≡ s.budget
-  pub turn : TellsTurn s.machine s.budget event s.state text s'.state
+  pub turn : TellsTurn s.machine s.budget false event s.state text s'.state
 
 -- where a session stands before its first event: its budget is the one that is set, or else the machine's
 abbrev pub start_of : Machine → Option ℕ → Standing
@@ -44,10 +44,10 @@ start_of machine budget = record { machine = machine; budget = unwrap_or budget 
 abbrev pub SessionsLawful : Machine → Option ℕ → Type 0
 SessionsLawful machine budget = (script : List ℕ) (taken taken' : Option (List ℕ)) (s : Standing)
     → TakesAll (AnswersLine Tells) line_bytes most_lines (place_of (start_of machine budget) 0 taken) script s taken'
-    → IsAnswered machine (unwrap_or budget machine.budget) script taken taken'
+    → IsAnswered machine (unwrap_or budget machine.budget) false script taken taken'
 
 -- and so are its first lines, where the session stops
 abbrev pub SessionsStopLawful : Machine → Option ℕ → Type 0
 SessionsStopLawful machine budget = (stop : Stop) (script : List ℕ) (taken taken' : Option (List ℕ)) (s : Standing)
     → Stops (AnswersLine Tells) NoRefusal line_bytes most_lines (place_of (start_of machine budget) 0 taken) script stop s taken'
-    → IsAnsweredTo machine (unwrap_or budget machine.budget) stop script taken taken'
+    → IsAnsweredTo machine (unwrap_or budget machine.budget) false stop script taken taken'

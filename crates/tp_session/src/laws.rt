@@ -1,8 +1,8 @@
 //! What holds of sessions. The calls do nothing: their contracts are the laws.
 
-ghost use Rattle.std.specs.Prelude.{ℕ, Option};
+ghost use Rattle.std.specs.Prelude.{ℕ, [], false, Option};
 ghost use Rattle.tp_machine.specs.declared.whole.Machine.{Machine};
-ghost use Rattle.tp_runs.specs.Carrying.{KeepsNodes};
+ghost use Rattle.tp_runs.specs.Carrying.{KeepsNodes, ShowsTrees};
 ghost use Rattle.tp_session.specs.Sessions.{SessionsLawful, SessionsStopLawful};
 ghost use Rattle.tp_turn.specs.Planners.{right_steps};
 ghost use Rattle.tp_turning.specs.LiveTurns.{AnswersAlone, SettlesRightly};
@@ -23,6 +23,9 @@ pub fn engines_answer_alone<N: Network>()
     ensures nodes { (machine : Machine) → KeepsNodes ⟦<Engine<N> as Planner>⟧.spent
         ⟦<Engine<N> as Planner>⟧.steps ⟦<Engine<N> as Planner>⟧.stop_steps machine
         (λ e. e.work.nodes) }
+    ensures shows { (machine : Machine) → ShowsTrees ⟦<Engine<N> as Planner>⟧.spent
+        ⟦<Engine<N> as Planner>⟧.steps ⟦<Engine<N> as Planner>⟧.stop_steps machine
+        (λ e. false) (λ e. []) }
 {}
 
 /// The script that a session answers from its start is answered by a lawful run, and so are the first lines where it stops.

@@ -1,6 +1,6 @@
 //! The turn of one event, with its text.
 
-ghost use Rattle.std.specs.Prelude.{◌≡◌, ◌+◌, ◌++◌, ℕ, List, IsTrue, OnOk, OnErr};
+ghost use Rattle.std.specs.Prelude.{◌≡◌, ◌+◌, ◌++◌, ℕ, false, List, IsTrue, OnOk, OnErr};
 ghost use Rattle.tp_machine.specs.declared.whole.Machine.{Machine};
 ghost use Rattle.tp_runs.specs.Wholes.{TellsTurn};
 ghost use Rattle.tp_script.specs.Printed.{IsEchoed};
@@ -33,8 +33,8 @@ pub(crate) fn take_turn<N: Network>(
     requires can { CanTakeEvents machine.now last_copy (seen state.old) }
     requires echoed { IsEchoed event.now }
     ensures told { OnOk result ((told : List ℕ)
-        × TellsTurn machine.now engine.old.work.nodes event.now (seen state.old) told
-        (seen state.new)
+        × TellsTurn machine.now engine.old.work.nodes false event.now (seen state.old)
+        told (seen state.new)
         × (text.new.items ≡ text.old.items ++ told)) }
     ensures kept { OnOk result ((copies : ℕ) → CanTakeEvents machine.now copies (seen state.old)
         → CanTakeEvents machine.now (copies + 1) (seen state.new)) }

@@ -1,5 +1,5 @@
 -- The engine's turn on the live part is one of right answers on every whole state behind it, and each of its records has a line.
-use Rattle.std.proofs.Common.{◌++◌, All, sym, ap, ◌∙◌, subst}
+use Rattle.std.proofs.Common.{◌++◌, false, [], All, refl, sym, ap, ◌∙◌, subst}
 use Rattle.std.proofs.lemmas.Result.{on_ok_weaker}
 use Rattle.std.specs.List.{flat_map}
 use Rattle.tp_log.specs.Grammar.{HasFields, echo_text}
@@ -24,8 +24,8 @@ returns-in-Ok-clause-told g c =
     let fields = subst (All HasFields) (c.as_slice.ensures.value ∙ all) c.records_law.ensures in
     let lines = c.turns_have_lines.ensures.live machine event s p records s' p' turn in
     let told = told-turn machine p.work.nodes event s s' records
-    (λ whole behind. (c.live_turns_are_whole.ensures machine (λ e. e.work.nodes) (c.engines_answer_alone.ensures.alone machine) (c.engines_answer_alone.ensures.settles machine)
-    (c.engines_answer_alone.ensures.nodes machine) event whole s s' records p p' behind turn).0)
+    (λ whole behind. (c.live_turns_are_whole.ensures machine (λ e. e.work.nodes) (λ e. false) (λ e. []) (c.engines_answer_alone.ensures.alone machine) (c.engines_answer_alone.ensures.settles machine)
+    (c.engines_answer_alone.ensures.nodes machine) (c.engines_answer_alone.ensures.shows machine) event whole s s' records p p' behind refl turn).0)
     c.requires.echoed fields lines in
-    let here = subst (λ rs. TellsTurn machine p.work.nodes event s (echo_text event ++ flat_map record_text rs) s') (sym (c.as_slice-in-Ok.ensures.value ∙ all)) told in
+    let here = subst (λ rs. TellsTurn machine p.work.nodes false event s (echo_text event ++ flat_map record_text rs) s') (sym (c.as_slice-in-Ok.ensures.value ∙ all)) told in
     on_ok_weaker c.tell.result (λ grown. (echo_text event ++ flat_map record_text c.as_slice-in-Ok.result.now, here, grown)) c.tell.ensures.told
