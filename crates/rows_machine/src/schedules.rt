@@ -9,7 +9,10 @@ use std::test::Fail;
 use tp_base::{Name, Tick};
 use tp_machine::{ActId, Face, LocId, Machine, Outs, ResId, Sheet, State, Want};
 use tp_machine_text::read_machine;
-use tp_schedule::{Acts, Ask, Empties, Goal, Kind, Origin, Plan, Points, Schedule, SheetId, finished, is_earlier, is_goal, is_start, new_sheet};
+use tp_schedule::{
+    Acts, Ask, Empties, Goal, Kind, Origin, Plan, Points, Schedule, SheetId, finished, is_earlier,
+    is_goal, is_start, new_sheet,
+};
 
 fn machine_of(alloc: Global, text: &str) -> Result<Machine, Fail> {
     match read_machine(alloc, text.as_bytes()) {
@@ -232,7 +235,10 @@ fn schedules_on_duo(rt: HostRuntime) -> Result<(), Fail> {
 
 #[test]
 fn sets_of_locations(rt: HostRuntime) -> Result<(), Fail> {
-    let some = Empties::none().with(LocId(63)).with(LocId(64)).with(LocId(255));
+    let some = Empties::none()
+        .with(LocId(63))
+        .with(LocId(64))
+        .with(LocId(255));
     for loc in 0..256 {
         let is_in = loc == 63 || loc == 64 || loc == 255;
         assert!(rt; some.has(LocId(loc)) == is_in);

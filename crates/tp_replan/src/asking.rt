@@ -19,7 +19,9 @@ ghost use Rattle.tp_replan.specs.Looping.{Stays};
 use crate::losing::is_lost;
 use std::alloc::Global;
 use tp_machine::{ActId, Machine, Sheet, State, step};
-use tp_schedule::{Ask, Empties, Halt, Kind, Origin, Plan, Planner, Record, Reply, Schedule, new_sheet};
+use tp_schedule::{
+    Ask, Empties, Halt, Kind, Origin, Plan, Planner, Record, Reply, Schedule, new_sheet,
+};
 use tp_telling::tell_reply;
 use tp_turn::LiveState;
 
