@@ -98,7 +98,7 @@ module _ (machine : Machine) (plans : List Plan) (ask : Ask) (rows : List TreeRo
 some-line : (machine : Machine) (plans : List Plan) (ask : Ask) (limit : ℤ) (tree : BoundTree) → IsTrue (is_to_tray ask.goal || is_from_front ask.origin) → IsBoundTree machine plans ask limit tree → HasALine tree
 some-line machine plans ask limit tree of_turn is = by-goal ask.goal ask.origin of_turn is.nodes is.rows.starts where
   by-goal : (g : Goal) (o : Origin) → IsTrue (is_to_tray g || is_from_front o) → Covers machine plans ask tree.rows limit (map (λ s. goal s) (goal_states machine ask.want g)) tree.nodes
-      → ((s : State) → IsStartFrom machine ask.want o s → HasRow machine tree.rows s 0) → HasALine tree
+      → ((s : State) → IsStartFrom machine ask o s → HasRow machine tree.rows s 0) → HasALine tree
   by-goal (Tray t) o of_turn covers starts = some-node machine plans ask tree.rows limit t tree.nodes covers
   by-goal Purge FromFeeder of_turn covers starts = absurd cc
   by-goal Purge (FromFront state end count) of_turn covers starts = let (r, in', same, zero-room) = starts state refl in omega (arith, in'.1)
