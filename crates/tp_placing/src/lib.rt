@@ -32,5 +32,5 @@ mod writing;
 pub use board::Board;
 pub use laws::{marks_keep_boards, tables_are_numbered};
 pub use names::{Grip, Spot, Why};
-pub use parts::MadeFor;
+pub use parts::{Change, MadeFor};
 pub use walking::Refused;

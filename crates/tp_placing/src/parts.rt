@@ -26,7 +26,7 @@ pub(crate) struct Begin {
 
 /// What is done to a board that was loaded.
 #[derive(Clone, Copy)]
-pub(crate) enum Change {
+pub enum Change {
     /// A goal is opened, to be reached with so much room.
     Goal { room: u32 },
     /// An action is opened before the others, with so much room before it.

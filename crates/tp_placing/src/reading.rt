@@ -1,4 +1,4 @@
-ghost use Rattle.std.specs.Prelude.{◌≡◌, ◌<◌, ◌≤◌, length, IsSome, IsSomeAnd};
+ghost use Rattle.std.specs.Prelude.{◌≡◌, ◌<◌, ◌≤◌, length, map, IfOk, IsSome, IsSomeAnd};
 ghost use Rattle.tp_machine.specs.declared.whole.Machine.{Machine};
 ghost use Rattle.tp_schedule.specs.Plans.{plan_of};
 ghost use Rattle.tp_schedule.specs.Spots.Spot.{kept, own};
@@ -8,16 +8,33 @@ ghost use Rattle.tp_placing.specs.Ticks.{HasLeastTick};
 
 use crate::board::Board;
 use crate::finding::point_of;
-use tp_base::{Network, Tick};
+use crate::parts::Change;
+use std::alloc::Global;
+use tp_base::{Memory, Network, Tick};
 use tp_constraints::solutions_are_ticks;
 use tp_machine::ResId;
-use tp_schedule::SheetId;
+use tp_schedule::{Ask, SheetId};
 
 impl<N: Network> Board<N> {
     pub fn net(&self) -> &N
         ensures { result.now ≡ self.now.net }
     {
         &self.net
+    }
+
+    /// The ask that the board is loaded for.
+    pub fn asked(&self) -> Option<Ask>
+        ensures { result ≡ self.now.ask }
+    {
+        self.ask
+    }
+
+    /// The changes that were made since the board was loaded, the first one first.
+    pub fn changes(&self, alloc: Global) -> Result<Vec<Change>, Memory>
+        ensures { IfOk result (λ changes. changes.items ≡ map (λ s. s.change) self.now.steps) }
+    {
+        let changes = self.steps.iter().map(|step| step.change).collect(alloc)?;
+        Ok(changes)
     }
 
     /// The least tick at which the asked copy can end with the choices so far, in constant time.
