@@ -41,3 +41,6 @@ pub mod AnswerFacts
 pub mod TrialFacts
 pub mod ShowFacts
 pub mod EngineFacts
+pub mod AgainFacts
+pub mod AgainSteps
+pub mod TrialShows

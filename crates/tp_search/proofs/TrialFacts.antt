@@ -25,7 +25,7 @@ use Rattle.tp_placing.specs.Laws.{UndoKeeps}
 use Rattle.tp_placing.specs.Ticks.{HasLeastTick, IsLeastTick, TimesOf}
 use Rattle.tp_placing.specs.Writing.{CanCommit}
 use Rattle.tp_placing.proofs.WriteLive.{gone, may-ask, may-forget}
-use Rattle.tp_search.specs.Boards.{IsBack}
+use Rattle.tp_search.specs.Boards.{IsBack, IsReady}
 use Rattle.tp_search.specs.Outcomes.{HasAnswer}
 use Rattle.tp_schedule.specs.Planning.{IsKnownGoal}
 use Rattle.tp_search.specs.Trials.{EndsEarliest, IsEarliestTo, IsTrial, board_in}
@@ -81,9 +81,9 @@ module _ (machine : Machine) (plans : List Plan) (ask : Ask) (can : CanAsk machi
 
 module _ {N C : Type 0} (net : N → Net) (content : N → C) (past : N → List C) (mark_room : N → ℕ) (b : BoardValue N) (machine : Machine) (trial : Trial N) where
   -- what a search found is a trial to the least end of its board
-  pub answer-trial : (ask : Ask) → IsMachine machine → IsKnownGoal machine ask.goal → HasAnswer net content past mark_room b (board_in trial) machine ask trial.base.0 → HasLeastTick machine (board_in trial) (own 0) trial.end
+  pub answer-trial : (ask : Ask) → IsReady net content past mark_room b machine ask → IsMachine machine → IsKnownGoal machine ask.goal → HasAnswer net content past mark_room b (board_in trial) machine ask trial.base.0 → HasLeastTick machine (board_in trial) (own 0) trial.end
       → IsTrial net content past mark_room b machine trial
-  answer-trial ask is-machine known a least =
+  answer-trial ask ready is-machine known a least =
       let b' = board_in trial in
       record {
         number = a.number;
@@ -93,6 +93,7 @@ module _ {N C : Type 0} (net : N → Net) (content : N → C) (past : N → List
         stands = a.laid.stands;
         ask = ask;
         asked = a.laid.asked;
+        ready = ready;
         complete = subst (λ o. IsSomeAnd o (λ k. IsSomeAnd (suffix_of b') (CanCommit machine b'.plans k))) a.laid.asked (answer-commits net content past mark_room b b' machine ask trial.base.0 a is-machine known);
         ends = least;
         none_before = subst (λ ps. NoneBefore machine ps ask trial.end) (sym a.loaded.plans) (subst (NoneBefore machine b.plans ask) (sym (answer-ends net content past mark_room b b' machine ask trial.base.0 a trial.end least)) a.none_before);

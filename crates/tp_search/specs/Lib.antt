@@ -13,3 +13,4 @@ pub mod Workspaces
 pub mod Engines
 pub mod Problems
 pub mod Children
+pub mod Again

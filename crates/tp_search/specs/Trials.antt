@@ -14,6 +14,7 @@ use Rattle.tp_placing.specs.Calls.{IsSameLoad}
 use Rattle.tp_placing.specs.Standing.{Stands}
 use Rattle.tp_placing.specs.Ticks.{HasLeastTick}
 use Rattle.tp_placing.specs.Writing.{CanCommit}
+use Rattle.tp_search.specs.Boards.{IsReady}
 use Rattle.tp_search.specs.declared.trying.NoPlan.{NoPlan}
 use Rattle.tp_search.specs.declared.trying.NoPlan.TheVariants.{Never, Spent}
 use Rattle.tp_search.specs.declared.trying.Trial.{Trial}
@@ -42,9 +43,15 @@ borrow_in trial = trial.board.ghost_name
 abbrev pub end_in : {N : Type 0} → Trial N → ℕ
 end_in trial = trial.end
 
+-- the trial is as before: it borrows the same board, which carries the same choices, and it ends at the same tick
+pub record IsSameTrial {N : Type 0} (trial trial' : Trial N) : Type 0 where
+  pub end : end_in trial' ≡ end_in trial
+  pub loaded : IsSameLoad (board_in trial) (board_in trial')
+  pub carries : suffix_of (board_in trial') ≡ suffix_of (board_in trial)
+
 module _ {N C : Type 0} (net : N → Net) (content : N → C) (past : N → List C) (mark_room : N → ℕ) where
   -- the trial's board carries a plan of its ask that can be committed and ends as the trial tells, and no alternative ends
-  -- before. It was laid since the trial's mark, the newest, which was made on the first board
+  -- before. It was laid since the trial's mark, the newest, which was made on the first board, a board without choices
   pub record IsTrial (b : BoardValue N) (machine : Machine) (trial : Trial N) : Type 0 where
     pub number : trial.base.0 ≡ length (past_of past b)
     pub past_more : past_of past (board_in trial) ≡ past_of past b ++ content_of content b ∷ []
@@ -53,6 +60,7 @@ module _ {N C : Type 0} (net : N → Net) (content : N → C) (past : N → List
     pub stands : Stands net content past (board_in trial) machine
     pub ask : Ask
     pub asked : (board_in trial).ask ≡ Some ask
+    pub ready : IsReady net content past mark_room b machine ask
     pub complete : IsSomeAnd (suffix_of (board_in trial)) (CanCommit machine (board_in trial).plans ask)
     pub ends : HasLeastTick machine (board_in trial) (own 0) trial.end
     pub none_before : NoneBefore machine (board_in trial).plans ask trial.end

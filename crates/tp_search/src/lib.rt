@@ -1,6 +1,7 @@
 //! The earliest plan of a sheet: a best-first search through choice lists on a board.
 #![tactic(auto)]
 
+mod again;
 mod answering;
 mod children;
 mod engine;

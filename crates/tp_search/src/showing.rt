@@ -1,16 +1,16 @@
-//! The tree of an ask without an alternative.
-ghost use Rattle.std.specs.Prelude.{◌≡◌, List, IfOk};
-ghost use Rattle.tp_schedule.specs.Answers.{IsAlternative};
+//! The trees that show that an ask has no alternative, or none that ends before a tick.
+ghost use Rattle.std.specs.Prelude.{◌≡◌, ◌+◌, ◌≤◌, List, IfOk};
+ghost use Rattle.tp_schedule.specs.Answers.{IsAlternative, NoneBefore};
 ghost use Rattle.tp_schedule.specs.declared.parts.Plan.{Plan};
 ghost use Rattle.tp_placing.specs.Writing.{IsLoadedFrom};
 ghost use Rattle.tp_search.specs.Boards.{HasMarks, IsBack, IsReady};
 ghost use Rattle.tp_search.specs.Workspaces.{IsFor};
 ghost use Rattle.tp_trees.specs.Claims.{IsTreeFor};
-ghost use Rattle.tp_trees.specs.declared.claim.Claim.TheVariants.{Never};
+ghost use Rattle.tp_trees.specs.declared.claim.Claim.TheVariants.{Earliest, Never};
 
 use crate::workspace::Workspace;
 use std::alloc::Global;
-use tp_base::{Memory, Network};
+use tp_base::{Memory, Network, Tick};
 use tp_bounds::BoundTree;
 use tp_machine::Machine;
 use tp_placing::Board;
@@ -39,6 +39,35 @@ pub fn show_never<N: Network>(
 {
     let horizon = ask.now + machine.window;
     match work.show(alloc, board, machine, ask, horizon) {
+        Ok(tree) => Ok(tree),
+        Err(NotShown::Memory) => Err(Memory),
+        Err(NotShown::Early) => unreachable!(),
+    }
+}
+
+/// A tree that shows that the ask for which the board is loaded, with no goal open, has no alternative that ends before this
+/// tick, which is so. The board is as before, whatever the answer.
+pub(crate) fn show_earliest<N: Network>(
+    alloc: Global,
+    work: &mut Workspace,
+    board: &mut Board<N>,
+    machine: &Machine,
+    ask: &Ask,
+    end: Tick,
+) -> Result<BoundTree, Memory>
+    requires work { IsFor work.old machine.now }
+    requires loaded { (plans : List Plan) × IsLoadedFrom machine.now plans ask.now board.old.plans }
+    requires none { NoneBefore machine.now board.old.plans ask.now end }
+    requires some { 1 ≤ end }
+    requires within { end ≤ ask.now.now + machine.now.window }
+    requires ready { IsReady N.net N.content N.past N.mark_room board.old machine.now ask.now }
+    requires marks { HasMarks N.net N.content N.past N.mark_room 326 board.old }
+    ensures tree { (plans : List Plan) → IsLoadedFrom machine.now plans ask.entry.now board.old.plans
+        → IfOk result (IsTreeFor machine.now plans ask.entry.now (Earliest end)) }
+    ensures back { IsBack N.net N.content N.past N.mark_room board.old board.new machine.now }
+    ensures work { work.new ≡ work.old }
+{
+    match work.show(alloc, board, machine, ask, end - 1) {
         Ok(tree) => Ok(tree),
         Err(NotShown::Memory) => Err(Memory),
         Err(NotShown::Early) => unreachable!(),

@@ -8,13 +8,19 @@ ghost use Rattle.tp_placing.specs.Boards.{BoardValue, past_of};
 ghost use Rattle.tp_placing.specs.Standing.{Stands};
 ghost use Rattle.tp_placing.specs.Writing.{IsLoadedFrom};
 ghost use Rattle.tp_placing.specs.contracts.board.Board.{the_row};
-ghost use Rattle.tp_search.specs.Boards.{IsBack};
-ghost use Rattle.tp_search.specs.Trials.{EndsEarliest, IsEarliestTo, IsNoPlan, IsTrial, board_in, borrow_in, end_in};
+ghost use Rattle.tp_search.specs.Boards.{HasMarks, IsBack};
+ghost use Rattle.tp_search.specs.Trials.{EndsEarliest, IsEarliestTo, IsNoPlan, IsSameTrial, IsTrial, board_in, borrow_in, end_in};
 ghost use Rattle.tp_search.specs.Workspaces.{IsFor};
+ghost use Rattle.tp_trees.specs.Claims.{IsTreeFor};
+ghost use Rattle.tp_trees.specs.declared.claim.Claim.TheVariants.{Earliest};
 
+use crate::again::lay_again;
 use crate::searching::Outcome;
+use crate::showing::show_earliest;
 use crate::workspace::Workspace;
-use tp_base::{Mark, Network, Tick, Undo};
+use std::alloc::Global;
+use tp_base::{Mark, Memory, Network, Tick, Undo};
+use tp_bounds::BoundTree;
 use tp_machine::Machine;
 use tp_placing::{Board, marks_keep_boards};
 use tp_schedule::{Ask, Schedule};
@@ -77,6 +83,45 @@ impl<N: Network> Trial<'_, N> {
         ensures { result ≡ end_in self.now }
     {
         self.end
+    }
+
+    /// A tree that shows that no alternative ends before the trial does, for the schedule and the ask that the board was
+    /// loaded for. The trial is as before, whatever the answer. Where memory runs out, the call may be made again.
+    pub fn show(
+        &mut self,
+        alloc: Global,
+        work: &mut Workspace,
+        machine: &Machine,
+    ) -> Result<BoundTree, Memory>
+        requires work { IsFor work.old machine.now }
+        requires trial { (b : BoardValue N)
+            × (IsTrial N.net N.content N.past N.mark_room b machine.now self.old
+            × HasMarks N.net N.content N.past N.mark_room 326 b) }
+        requires loaded { IsSomeAnd (board_in self.old).ask (λ ask. (plans : List Plan)
+            × IsLoadedFrom machine.now plans ask (board_in self.old).plans) }
+        ensures tree { IsSomeAnd (board_in self.old).ask (λ ask. (plans : List Plan)
+            → IsLoadedFrom machine.now plans ask (board_in self.old).plans
+            → IfOk result (IsTreeFor machine.now plans ask (Earliest (end_in self.old)))) }
+        ensures trial { (b : BoardValue N)
+            → IsTrial N.net N.content N.past N.mark_room b machine.now self.old
+            → IsTrial N.net N.content N.past N.mark_room b machine.now self.new }
+        ensures same_reference { borrow_in self.new ≡ borrow_in self.old }
+        ensures same { IsSameTrial self.old self.new }
+        ensures work { work.new ≡ work.old }
+    {
+        marks_keep_boards::<N>();
+        let Some(ask) = self.board.asked() else {
+            unreachable!()
+        };
+        let changes = match self.board.changes(alloc) {
+            Ok(changes) => changes,
+            Err(Memory) => return Err(Memory),
+        };
+        self.board.undo_to(self.base);
+        let tree = show_earliest(alloc, work, self.board, machine, &ask, self.end);
+        self.base = self.board.mark();
+        lay_again(self.board, machine, &ask, changes.as_slice());
+        tree
     }
 
     /// Writes the plan, and the times of all live plans with it, into the schedule that the board was loaded from. Takes one

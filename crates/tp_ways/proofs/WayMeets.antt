@@ -40,7 +40,7 @@ earlier-keeps known low cap gaps t u a b = (
 )
 
 -- with true rooms a way is a suffix
-rooms-count : (machine : Machine) (ask : Ask) (goal first : State) (choices : List Choice) (rooms : List ℕ) → HaveRooms machine ask goal first choices rooms → length rooms ≡ suc (length choices)
+pub rooms-count : (machine : Machine) (ask : Ask) (goal first : State) (choices : List Choice) (rooms : List ℕ) → HaveRooms machine ask goal first choices rooms → length rooms ≡ suc (length choices)
 rooms-count machine ask goal first [] [] have = absurd have
 rooms-count machine ask goal first [] (room ∷ rooms) have = ap (λ (rs : List ℕ). suc (length rs)) have.2
 rooms-count machine ask goal first (c ∷ choices) [] have = absurd have

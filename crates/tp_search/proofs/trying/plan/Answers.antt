@@ -1,5 +1,6 @@
-use Rattle.std.proofs.Common.{refl, subst, sym}
+use Rattle.std.proofs.Common.{ap, refl, subst, sym}
 use Rattle.tp_machine.proofs.MachineFacts.{is_machine}
+use Rattle.tp_placing.specs.Boards.{suffix_after}
 use Rattle.tp_search.specs.Trials.{EndsEarliest}
 use Rattle.tp_search.proofs.AnswerFacts.{answer-ends, few-whole, known-goal, never-whole, spent-whole}
 use Rattle.tp_search.proofs.TrialFacts.{answer-trial, ends-earliest}
@@ -16,7 +17,8 @@ returns-in-Found g c =
         rests = tt;
         same_reference = refl;
         trial = answer-trial g.N.Network.net g.N.Undo.content g.N.Undo.past g.N.Undo.mark_room c.args.board.now c.args.machine.now
-            (record { board = record c.args.board { now = c.search.new.board }; base = c.in-Found.base; end = c.end_bound-end.result }) c.args.ask.now (is_machine c.args.machine.now) known a least;
+            (record { board = record c.args.board { now = c.search.new.board }; base = c.in-Found.base; end = c.end_bound-end.result }) c.args.ask.now
+            (record { stands = c.requires.stands; asked = c.requires.asked; closed = ap suffix_after c.requires.closed }) (is_machine c.args.machine.now) known a least;
         end = λ plans loaded. subst (EndsEarliest c.args.machine.now plans c.args.ask.now) (sym same)
             (ends-earliest c.args.machine.now plans c.args.ask.now loaded.can_ask c.args.board.now.plans loaded.live_part a.list a.bound (is_machine c.args.machine.now) known a.complete a.is_bound a.none_before);
         none = λ plans loaded. tt;
