@@ -1,11 +1,10 @@
 -- An answer that a search found can be committed, and what holds on the loaded plans holds on the whole schedule.
-use Rattle.std.proofs.Common.{◌≡◌, ℕ, ◌<◌, Bool, true, false, List, [], ◌∷◌, length, filter, Some, IsSomeAnd, refl, sym, subst, ◌∙◌, arith}
+use Rattle.std.proofs.Common.{◌≡◌, ℕ, ◌<◌, List, length, filter, Some, IsSomeAnd, sym, subst, ◌∙◌, arith}
 use Rattle.tp_base.specs.Net.{Net}
 use Rattle.tp_machine.specs.Machines.{IsMachine}
-use Rattle.tp_machine.specs.declared.parts.State.{State}
 use Rattle.tp_machine.specs.declared.whole.Machine.{Machine}
 use Rattle.tp_schedule.specs.Answers.{IsAlternative, NoneBefore}
-use Rattle.tp_schedule.specs.Choices.{CanStop, Choice, ChoiceList, IsBound, IsComplete, IsOpen}
+use Rattle.tp_schedule.specs.Choices.{ChoiceList, IsBound, IsComplete}
 use Rattle.tp_schedule.specs.Living.{is_live}
 use Rattle.tp_schedule.specs.Planning.{CanAsk, IsKnownGoal, IsOpenGoal}
 use Rattle.tp_schedule.specs.Spending.{FewListsOpen, IsSpent}
@@ -13,8 +12,6 @@ use Rattle.tp_schedule.specs.Spots.Spot.{own}
 use Rattle.tp_schedule.specs.declared.parts.Ask.{Ask}
 use Rattle.tp_schedule.specs.declared.parts.Goal.{Goal}
 use Rattle.tp_schedule.specs.declared.parts.Goal.TheVariants.{Tray, Purge}
-use Rattle.tp_schedule.specs.declared.parts.Origin.{Origin}
-use Rattle.tp_schedule.specs.declared.parts.Origin.TheVariants.{Feeder as FromFeeder, Front as FromFront}
 use Rattle.tp_schedule.specs.declared.parts.Plan.{Plan}
 use Rattle.tp_choices.specs.LiveParts.{less}
 use Rattle.tp_choices.proofs.FewLists.{live_has_few}

@@ -1,20 +1,9 @@
 -- How a search begins: the goals wait, and nothing is stored.
-use Rattle.std.proofs.Common.{◌≡◌, ◌≢◌, ℕ, true≢false, List, [], map, Contains, Some, inl, refl, sym, ap, subst, ◌∙◌, arith}
-use Rattle.std.proofs.lemmas.List.Elements.{All-contains, All-nil, Contains-append_left}
-use Rattle.std.proofs.lemmas.Option.{same_Some}
-use Rattle.tp_machine.specs.Machines.{IsLocation, IsMachine, IsOpenPlace}
-use Rattle.tp_machine.specs.declared.parts.Feeder.{Feeder}
-use Rattle.tp_machine.specs.declared.parts.State.{State}
+use Rattle.std.proofs.Common.{◌≡◌, ◌≢◌, ℕ, List, [], map, inl, refl, sym, subst, arith}
+use Rattle.std.proofs.lemmas.List.Elements.{All-nil, Contains-append_left}
 use Rattle.tp_machine.specs.declared.whole.Machine.{Machine}
 use Rattle.tp_pool.specs.Entries.{Entry}
-use Rattle.tp_schedule.specs.Choices.{IsComplete, IsCompleteFrom, going}
-use Rattle.tp_schedule.specs.Planning.{IsKnownGoal}
-use Rattle.tp_schedule.specs.Routes.{IsFreshStart, IsGoalState, IsStartFrom}
 use Rattle.tp_schedule.specs.declared.parts.Ask.{Ask}
-use Rattle.tp_schedule.specs.declared.parts.Goal.{Goal}
-use Rattle.tp_schedule.specs.declared.parts.Goal.TheVariants.{Purge, Tray}
-use Rattle.tp_schedule.specs.declared.parts.Origin.{Origin}
-use Rattle.tp_schedule.specs.declared.parts.Origin.TheVariants.{Feeder as FromFeeder, Front as FromFront}
 use Rattle.tp_schedule.specs.declared.parts.Plan.{Plan}
 use Rattle.tp_schedule.proofs.Pairs.{AllPairs-nil}
 use Rattle.tp_search.specs.Searching.{AreOpenGoals, IsOpenEntry, IsSearching, list_of_goal}

@@ -1,6 +1,6 @@
 -- What a tree of the loaded plans is for the whole schedule, and when a board can show one.
-use Rattle.std.proofs.Common.{◌≡◌, ℕ, ◌+◌, ◌-◌, ◌<◌, ◌≤◌, Bool, true, false, not, ◌||◌, List, length, filter, Contains, refl, sym, ap, subst, ◌∙◌, arith, None}
-use Rattle.std.specs.Prelude.{pos, ◌-ℤ◌, ◌≤ℤ◌}
+use Rattle.std.proofs.Common.{◌≡◌, ℕ, ◌+◌, ◌≤◌, Bool, true, false, not, ◌||◌, List, length, Contains, refl, sym, ap, subst, ◌∙◌, arith, None}
+use Rattle.std.specs.Prelude.{pos, ◌-ℤ◌}
 use Rattle.std.proofs.lemmas.Int.{ints}
 use Rattle.tp_base.specs.Net.{Net}
 use Rattle.tp_bounds.specs.declared.tree.BoundTree.{BoundTree}
@@ -8,7 +8,6 @@ use Rattle.tp_machine.specs.declared.whole.Machine.{Machine}
 use Rattle.tp_machine.proofs.MachineFacts.{is_machine}
 use Rattle.tp_schedule.specs.Answers.{IsAlternative, IsAsked, NoneBefore, kept_of}
 use Rattle.tp_schedule.specs.Living.{is_live}
-use Rattle.tp_schedule.specs.Planning.{CanAsk}
 use Rattle.tp_schedule.specs.Plans.{AreNamed, end_of_plan, is_same_copy}
 use Rattle.tp_schedule.specs.declared.parts.Ask.{Ask}
 use Rattle.tp_schedule.specs.declared.parts.Plan.{Plan}
@@ -21,7 +20,7 @@ use Rattle.tp_placing.specs.Writing.{IsLoadedFrom}
 use Rattle.tp_placing.proofs.WriteLive.{gone, gone-of, stays}
 use Rattle.tp_placing.proofs.WriteWhole.{filter-agree}
 use Rattle.tp_showing.specs.Showing as Shown
-use Rattle.tp_trees.specs.Claims.{IsTreeFor, limit_of, live_part}
+use Rattle.tp_trees.specs.Claims.{IsTreeFor, live_part}
 use Rattle.tp_trees.specs.Trees.{IsBoundTree}
 use Rattle.tp_trees.specs.declared.claim.Claim.TheVariants.{Earliest, Never}
 use Rattle.tp_ways.specs.Ends.{EndsBy}

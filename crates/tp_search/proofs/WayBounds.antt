@@ -1,5 +1,5 @@
 -- The bound of a way, and a complete way as one that can be committed.
-use Rattle.std.proofs.Common.{ℕ, subst, arith}
+use Rattle.std.proofs.Common.{subst, arith}
 use Rattle.tp_schedule.specs.Choices.{OpensTo}
 use Rattle.tp_constraints.specs.Suffixes.{list_of}
 use Rattle.tp_ways.proofs.WayLists.{opened-times, way-list, way-opens_to}

@@ -1,4 +1,3 @@
-use Rattle.tp_placing.specs.Standing.{StandsOn}
 use Rattle.tp_search.proofs.AnswerFacts.{known-goal}
 use Rattle.tp_search.proofs.AskedFacts.{asked-known}
 use Rattle.tp_search.proofs.ShowFacts.{back-shown, kept-few, loaded-named}
