@@ -18,7 +18,7 @@ fn live_engine_for(alloc: Global, machine: &Machine) -> Result<Engine<LiveNet>, 
     ensures { IfOk result (λ engine. IsTrue (is_engine_for engine machine.now)) }
 {
     match LiveNet::new(alloc, 16_642, 100_000, 330) {
-        Ok(net) => match Engine::new(alloc, machine, net, 1000) {
+        Ok(net) => match Engine::new(alloc, machine, net, 1000, false) {
             Ok(engine) => Ok(engine),
             Err(_) => Err(Fail::from("memory")),
         },

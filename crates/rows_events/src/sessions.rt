@@ -25,7 +25,11 @@ pub(crate) fn session_on(alloc: Global, text: &[u8], budget: Option<u32>) -> Res
     ensures { IfOk result (λ session. (session.answered ≡ 0) × (session.text ≡ [])) }
 {
     let machine = machine_of(alloc, text)?;
-    match Session::new(alloc, machine, Settings { budget }) {
+    let settings = Settings {
+        budget,
+        bounds: false,
+    };
+    match Session::new(alloc, machine, settings) {
         Ok(session) => Ok(session),
         Err(_) => Err(Fail::from("memory")),
     }

@@ -1,5 +1,5 @@
 -- What a run read and what it wrote, and when each status comes.
-use Rattle.std.specs.Prelude.{◌≡◌, ℕ, ◌<◌, ◌≤◌, false, List, length, Option, Some, IfSome, unwrap_or}
+use Rattle.std.specs.Prelude.{◌≡◌, ℕ, ◌<◌, ◌≤◌, Bool, List, length, Option, Some, IfSome, unwrap_or}
 use Rattle.std.specs.Option.{IsSomeAnd}
 use Rattle.tp_outside.specs.Outside.{Files, file_at}
 use Rattle.tp_machine.specs.declared.whole.Machine.{Machine}
@@ -25,12 +25,12 @@ abbrev pub IsLongText : Option Files → List ℕ → Type 0
 IsLongText told name = IfSome told (λ files. IsSomeAnd (file_at files name) (λ text. most_text < length text))
 
 -- the script that the source gave was answered on the machine, and the log was written
-abbrev pub DoneOn : Machine → ℕ → Option (List ℕ) → Option (List ℕ) → Option (List ℕ) → Option (List ℕ) → Type 0
-DoneOn machine budget left left' taken taken' = (script : List ℕ) × IsReadFrom left script left' × IsAnswered machine budget false script taken taken'
+abbrev pub DoneOn : Machine → ℕ → Bool → Option (List ℕ) → Option (List ℕ) → Option (List ℕ) → Option (List ℕ) → Type 0
+DoneOn machine budget bounds left left' taken taken' = (script : List ℕ) × IsReadFrom left script left' × IsAnswered machine budget bounds script taken taken'
 
 -- its first lines were, up to where the run stopped
-abbrev pub StopsOn : Stop → Machine → ℕ → Option (List ℕ) → Option (List ℕ) → Option (List ℕ) → Option (List ℕ) → Type 0
-StopsOn stop machine budget left left' taken taken' = (script : List ℕ) × IsReadFrom left script left' × IsAnsweredTo machine budget false stop script taken taken'
+abbrev pub StopsOn : Stop → Machine → ℕ → Bool → Option (List ℕ) → Option (List ℕ) → Option (List ℕ) → Option (List ℕ) → Type 0
+StopsOn stop machine budget bounds left left' taken taken' = (script : List ℕ) × IsReadFrom left script left' × IsAnsweredTo machine budget bounds stop script taken taken'
 
 module _ (words : List (List ℕ)) (told : Option Files) where
   -- the words name a text of which P holds
@@ -42,16 +42,17 @@ module _ (words : List (List ℕ)) (told : Option Files) where
   abbrev pub NamesLongText : Type 0
   NamesLongText = IsSomeAnd (run_asked words) (λ asked. IsLongText told asked.arg)
 
-  -- the words name the text of a machine, and the run on it with the budget of the words, or else the machine's, did this
-  pub record RunsOn (Did : Machine → ℕ → Type 0) : Type 0 where
+  -- the words name the text of a machine, and the run on it with the budget of the words, or else the machine's, and with bounds
+  -- where the words ask for them, did this
+  pub record RunsOn (Did : Machine → ℕ → Bool → Type 0) : Type 0 where
     pub asked : Asked
     pub named : run_asked words ≡ Some asked
     pub machine : Machine
     pub text : IsShelved told asked.arg (λ text. IsMachineText text machine)
-    pub did : Did machine (unwrap_or asked.budget machine.budget)
+    pub did : Did machine (unwrap_or asked.budget machine.budget) asked.bounds
 
   abbrev pub IsDone : Option (List ℕ) → Option (List ℕ) → Option (List ℕ) → Option (List ℕ) → Type 0
-  IsDone left left' taken taken' = RunsOn (λ machine budget. DoneOn machine budget left left' taken taken')
+  IsDone left left' taken taken' = RunsOn (λ machine budget bounds. DoneOn machine budget bounds left left' taken taken')
 
   abbrev pub StopsBy : Stop → Option (List ℕ) → Option (List ℕ) → Option (List ℕ) → Option (List ℕ) → Type 0
-  StopsBy stop left left' taken taken' = RunsOn (λ machine budget. StopsOn stop machine budget left left' taken taken')
+  StopsBy stop left left' taken taken' = RunsOn (λ machine budget bounds. StopsOn stop machine budget bounds left left' taken taken')

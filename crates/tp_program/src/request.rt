@@ -15,8 +15,8 @@ pub(crate) fn read_run<'a>(alloc: Global, words: &'a [String]) -> Result<Request
 {
     match read_request(alloc, words) {
         Ok(request) => match request.mode {
-            Mode::Run if !request.bounds => Ok(request),
-            _ => Err(WordsFault::Usage),
+            Mode::Run => Ok(request),
+            Mode::Check | Mode::Soak => Err(WordsFault::Usage),
         },
         Err(fault) => Err(fault),
     }

@@ -16,6 +16,7 @@ use std::alloc::Global;
 use tp_command::WordsFault;
 use tp_machine_text::MachineFault;
 use tp_outside::{Shelf, Sink, Source};
+use tp_session::Settings;
 
 /// Runs the words, given without the program's name, over this outside: reads the machine text that they name, then the
 /// script line by line, and writes the log of each event before the next line is handled. The first check that fails ends
@@ -55,7 +56,7 @@ pub fn printer_main<H: Shelf, S: Source, K: Sink>(
     ensures sink { result ≡ Status.Sink → Rises (K.faults sink.old) (K.faults sink.new) }
 
     // The source was read to its end, and the sink took the text of the log that answers the script's events by a lawful
-    // run on the machine.
+    // run on the machine, where the words ask for bounds with a tree for each plan and each none.
     ensures done { result ≡ Status.Done
         → IsDone (map string_bytes words.now) (H.told shelf.old)
         (S.left source.old) (S.left source.new) (K.taken sink.old) (K.taken sink.new) }
@@ -86,7 +87,13 @@ pub fn printer_main<H: Shelf, S: Source, K: Sink>(
         Err(WordsFault::Usage) => return Status::Usage,
     };
     match find_machine(alloc, shelf, request.arg) {
-        Ok(machine) => run_on(alloc, machine, request.budget, source, sink),
+        Ok(machine) => {
+            let settings = Settings {
+                budget: request.budget,
+                bounds: request.bounds,
+            };
+            run_on(alloc, machine, settings, source, sink)
+        }
         Err(status) => status,
     }
 }

@@ -13,62 +13,70 @@ use tp_outside::{Sink, Source};
 use tp_session::{Session, Settings, sessions_are_lawful};
 use tp_stream::{Stop, answer_script};
 
-/// Answers the script of the source on the machine, with this budget or else the machine's.
+/// Answers the script of the source on the machine, by these settings.
 fn answer_on<S: Source, K: Sink>(
     alloc: Global,
     machine: Machine,
-    budget: Option<u32>,
+    settings: Settings,
     source: &mut S,
     sink: &mut K,
 ) -> Result<(), Stop>
-    ensures done { OnOk result (DoneOn machine (unwrap_or budget machine.budget)
+    ensures done { OnOk result (DoneOn machine (unwrap_or settings.budget machine.budget)
+        settings.bounds
         (S.left source.old) (S.left source.new) (K.taken sink.old) (K.taken sink.new)) }
     ensures end { OnOk result (IfSome (S.left source.old) (λ _. S.left source.new ≡ Some [])) }
-    ensures stops { IfErr result (λ stop. StopsOn stop machine (unwrap_or budget machine.budget)
+    ensures stops { IfErr result (λ stop. StopsOn stop machine
+        (unwrap_or settings.budget machine.budget) settings.bounds
         (S.left source.old) (S.left source.new) (K.taken sink.old) (K.taken sink.new)) }
     ensures source { IsErrOf result Stop.Source
         → Rises (S.faults source.old) (S.faults source.new) }
     ensures sink { IsErrOf result Stop.Sink → Rises (K.faults sink.old) (K.faults sink.new) }
 {
     sessions_are_lawful();
-    match Session::new(alloc, machine, Settings { budget }) {
+    match Session::new(alloc, machine, settings) {
         Ok(session) => answer_script(alloc, session, source, sink),
         Err(_) => Err(Stop::Memory),
     }
 }
 
-/// Runs the script of the source on the machine, with this budget or else the machine's, and tells how the run ended.
+/// Runs the script of the source on the machine, by these settings, and tells how the run ended.
 pub(crate) fn run_on<S: Source, K: Sink>(
     alloc: Global,
     machine: Machine,
-    budget: Option<u32>,
+    settings: Settings,
     source: &mut S,
     sink: &mut K,
 ) -> Status
-    ensures done { result ≡ Status.Done → DoneOn machine (unwrap_or budget machine.budget)
+    ensures done { result ≡ Status.Done → DoneOn machine (unwrap_or settings.budget machine.budget)
+        settings.bounds
         (S.left source.old) (S.left source.new) (K.taken sink.old) (K.taken sink.new) }
     ensures end { result ≡ Status.Done
         → IfSome (S.left source.old) (λ _. S.left source.new ≡ Some []) }
     ensures memory_stops { result ≡ Status.Memory
-        → StopsOn Stop.Memory machine (unwrap_or budget machine.budget)
+        → StopsOn Stop.Memory machine (unwrap_or settings.budget machine.budget)
+        settings.bounds
         (S.left source.old) (S.left source.new) (K.taken sink.old) (K.taken sink.new) }
     ensures source_stops { result ≡ Status.Source
-        → StopsOn Stop.Source machine (unwrap_or budget machine.budget)
+        → StopsOn Stop.Source machine (unwrap_or settings.budget machine.budget)
+        settings.bounds
         (S.left source.old) (S.left source.new) (K.taken sink.old) (K.taken sink.new) }
     ensures sink_stops { result ≡ Status.Sink
-        → StopsOn Stop.Sink machine (unwrap_or budget machine.budget)
+        → StopsOn Stop.Sink machine (unwrap_or settings.budget machine.budget)
+        settings.bounds
         (S.left source.old) (S.left source.new) (K.taken sink.old) (K.taken sink.new) }
     ensures line_stops { (n : ℕ) → result ≡ Status.TooLong (Long.Line n)
-        → StopsOn (Stop.Line n) machine (unwrap_or budget machine.budget)
+        → StopsOn (Stop.Line n) machine (unwrap_or settings.budget machine.budget)
+        settings.bounds
         (S.left source.old) (S.left source.new) (K.taken sink.old) (K.taken sink.new) }
     ensures lines_stop { result ≡ Status.TooLong Long.Lines
-        → StopsOn Stop.Lines machine (unwrap_or budget machine.budget)
+        → StopsOn Stop.Lines machine (unwrap_or settings.budget machine.budget)
+        settings.bounds
         (S.left source.old) (S.left source.new) (K.taken sink.old) (K.taken sink.new) }
     ensures source { result ≡ Status.Source → Rises (S.faults source.old) (S.faults source.new) }
     ensures sink { result ≡ Status.Sink → Rises (K.faults sink.old) (K.faults sink.new) }
     ensures begun { IsFalse (comes_before_run result) }
 {
-    match answer_on(alloc, machine, budget, source, sink) {
+    match answer_on(alloc, machine, settings, source, sink) {
         Ok(()) => Status::Done,
         Err(Stop::Memory) => Status::Memory,
         Err(Stop::Source) => Status::Source,

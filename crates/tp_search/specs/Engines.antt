@@ -1,28 +1,37 @@
 -- A workspace and a board that answer asks together.
-use Rattle.std.specs.Prelude.{◌≡◌, ℕ, ◌≤◌, ◌==◌, ◌&&◌, Bool, List, length}
+use Rattle.std.specs.Prelude.{◌≡◌, ℕ, ◌≤◌, ◌==◌, ◌&&◌, Bool, List, [], ◌∷◌, ◌++◌, length, Option, Some, None, IsSomeAnd}
+use Rattle.std.specs.Bool.{MatchBool}
+use Rattle.tp_bounds.specs.declared.tree.BoundTree.{BoundTree}
 use Rattle.tp_machine.specs.declared.whole.Machine.{Machine}
 use Rattle.tp_schedule.specs.Planning.{Deed}
-use Rattle.tp_schedule.specs.Planning.Deed.{replied}
+use Rattle.tp_schedule.specs.Planning.Deed.{replied, settled}
+use Rattle.tp_schedule.specs.Plans.{end_of_plan, plan_of}
 use Rattle.tp_schedule.specs.Spending.{FewListsOpen}
+use Rattle.tp_schedule.specs.declared.parts.Ask.{Ask}
 use Rattle.tp_schedule.specs.declared.parts.Plan.{Plan}
-use Rattle.tp_schedule.specs.declared.parts.Reply.TheVariants.{Never}
+use Rattle.tp_schedule.specs.declared.parts.Reply.{Reply}
+use Rattle.tp_schedule.specs.declared.parts.Reply.TheVariants.{Never, Planned, Spent}
+use Rattle.tp_trees.specs.Claims.{IsTreeFor}
+use Rattle.tp_trees.specs.declared.claim.Claim.TheVariants.{Earliest, Never as NeverClaim}
 use Rattle.tp_placing.specs.Boards.{BoardValue}
 use Rattle.tp_placing.specs.declared.parts.MadeFor.{MadeFor}
 use Rattle.tp_search.specs.Workspaces.{WorkspaceValue}
 
--- what a search takes memory for, and the board that it runs on
+-- what a search takes memory for, the board that it runs on, whether answers are shown by trees, and the trees so far
 pub record EngineValue (N : Type 0) : Type 0 where
   pub work : WorkspaceValue
   pub board : BoardValue N
+  pub bounds : Bool
+  pub trees : List BoundTree
 
 -- the numbers of locations and resources and the window for which a workspace was made
 abbrev pub numbers_of : WorkspaceValue → MadeFor
 numbers_of w = record { locations = w.locations; resources = w.resources; window = w.window }
 
--- both were made for the same numbers, and the board has the marks that a search sets
+-- both were made for the same numbers, and the board has the marks that a search sets and a tree is made with
 pub record IsEngine {N : Type 0} (mark_room : N → ℕ) (work : WorkspaceValue) (board : BoardValue N) : Type 0 where
   pub made : board.made_for ≡ numbers_of work
-  pub marks : 8 ≤ mark_room board.net
+  pub marks : 330 ≤ mark_room board.net
 
 -- whether the machine has the numbers that it was made for
 abbrev pub is_engine_for : {N : Type 0} → EngineValue N → Machine → Bool
@@ -33,12 +42,45 @@ abbrev pub HasFewLists : ℕ → Machine → List Plan → Deed → Type 0
 HasFewLists nodes machine plans (replied ask Never) = FewListsOpen machine plans ask nodes
 HasFewLists nodes machine plans _ = Unit {0}
 
--- it is for the same machines, and stores as many lists
+-- the tree proves the answer: no alternative ends before the asked copy's plan, or there is none. Nothing proves a spent budget
+abbrev pub ProvesReply : Machine → List Plan → Ask → Reply → List Plan → BoundTree → Type 0
+ProvesReply machine plans ask Planned plans' tree = (p : Plan) × (plan_of ask.sheet plans' ≡ Some p) × IsTreeFor machine plans ask (Earliest (end_of_plan p)) tree
+ProvesReply machine plans ask Never plans' tree = IsTreeFor machine plans ask NeverClaim tree
+ProvesReply machine plans ask (Spent bound) plans' tree = ⊥
+
+-- a plan and a none add a tree at the list's end, which proves them; a spent budget adds none
+abbrev pub AddsTree : Machine → List Plan → Ask → Reply → List Plan → List BoundTree → List BoundTree → Type 0
+AddsTree machine plans ask (Spent bound) plans' trees trees' = trees' ≡ trees
+AddsTree machine plans ask reply plans' trees trees' = (tree : BoundTree) × ProvesReply machine plans ask reply plans' tree × (trees' ≡ trees ++ tree ∷ [])
+
+-- so it is with bounds; without bounds, and where times are settled, the list stays
+abbrev pub KeepsTrees : Bool → Machine → List Plan → Deed → List Plan → List BoundTree → List BoundTree → Type 0
+KeepsTrees bounds machine plans (replied ask reply) plans' trees trees' = MatchBool bounds (AddsTree machine plans ask reply plans' trees trees') (trees' ≡ trees)
+KeepsTrees bounds machine plans (settled now) plans' trees trees' = trees' ≡ trees
+
+-- it is for the same machines, stores as many lists, and shows bounds as before
 pub record IsSameEngine {N : Type 0} (mark_room : N → ℕ) (e e' : EngineValue N) : Type 0 where
   pub work : e'.work ≡ e.work
   pub made : e'.board.made_for ≡ e.board.made_for
   pub marks : mark_room e'.board.net ≡ mark_room e.board.net
+  pub bounds : e'.bounds ≡ e.bounds
 
--- what a call leaves: the same engine, and few open lists where it told that there is no plan
-abbrev pub StepsOn : {N : Type 0} → (N → ℕ) → EngineValue N → Machine → List Plan → Deed → EngineValue N → Type 0
-StepsOn mark_room e machine plans deed e' = IsSameEngine mark_room e e' × HasFewLists e.work.nodes machine plans deed
+-- what a call leaves: the same engine, few open lists where it told that there is no plan, and the trees with that of the answer
+pub record StepsOn {N : Type 0} (mark_room : N → ℕ) (e : EngineValue N) (machine : Machine) (plans : List Plan) (deed : Deed) (plans' : List Plan) (e' : EngineValue N) : Type 0 where
+  pub same : IsSameEngine mark_room e e'
+  pub few : HasFewLists e.work.nodes machine plans deed
+  pub trees : KeepsTrees e.bounds machine plans deed plans' e.trees e'.trees
+
+-- what no call changes
+pub record EngineLasts : Type 0 where
+  pub nodes : ℕ
+  pub bounds : Bool
+
+-- an answer's own tree: a plan and a none have one that proves them, a spent budget has none
+abbrev pub HasTree : Machine → List Plan → Ask → List Plan → Reply → Option BoundTree → Type 0
+HasTree machine plans ask plans' (Spent bound) tree = tree ≡ None
+HasTree machine plans ask plans' reply tree = IsSomeAnd tree (ProvesReply machine plans ask reply plans')
+
+abbrev pub list_of : Option BoundTree → List BoundTree
+list_of None = []
+list_of (Some tree) = tree ∷ []

@@ -1,16 +1,20 @@
 //! The answer to an ask on a schedule: the earliest plan, that there is none, or that the budget is spent.
-ghost use Rattle.std.specs.Prelude.{◌≡◌, ◌≢◌, ◌+◌, ◌<◌, ◌≤◌, None, IfErr, IfOk, IsSome};
+ghost use Rattle.std.specs.Prelude.{◌≡◌, ◌≢◌, ◌+◌, ◌<◌, ◌≤◌, None, IfErr, IfOk, IsSome, OnErr};
 ghost use Rattle.tp_schedule.specs.Planning.{CanAsk, IsAnswer};
 ghost use Rattle.tp_schedule.specs.Plans.{plan_of};
 ghost use Rattle.tp_schedule.specs.Spending.{FewListsOpen};
 ghost use Rattle.tp_schedule.specs.declared.parts.Reply.TheVariants.{Never, Planned};
 ghost use Rattle.tp_placing.specs.Standing.{IsMadeFor};
+ghost use Rattle.tp_search.specs.Engines.{HasTree};
 ghost use Rattle.tp_search.specs.Trials.{EndsEarliest, IsNoPlan};
 ghost use Rattle.tp_search.specs.Workspaces.{IsFor, IsSpentOf};
 
+use crate::showing::show_never;
 use crate::trying::{NoPlan, plan};
 use crate::workspace::Workspace;
-use tp_base::{Network, Tick, Undo};
+use std::alloc::Global;
+use tp_base::{Memory, Network, Tick, Undo};
+use tp_bounds::BoundTree;
 use tp_machine::Machine;
 use tp_placing::Board;
 use tp_schedule::{Ask, Reply, Schedule};
@@ -83,5 +87,68 @@ pub(crate) fn earliest_end<N: Network>(
             Ok(end)
         }
         Err(none) => Err(none),
+    }
+}
+
+/// An answer with the tree that proves it, where it is a plan or a none.
+#[derive(Drop)]
+pub(crate) struct Shown {
+    pub(crate) reply: Reply,
+    pub(crate) tree: Option<BoundTree>,
+}
+
+/// Answers an ask as `answer` does, with a tree that proves a plan earliest, or that there is none. After `Memory` the schedule
+/// is as before.
+pub(crate) fn answer_with_tree<N: Network>(
+    alloc: Global,
+    work: &mut Workspace,
+    board: &mut Board<N>,
+    machine: &Machine,
+    schedule: &mut Schedule,
+    ask: &Ask,
+) -> Result<Shown, Memory>
+    requires work { IsFor work.old machine.now }
+    requires board { IsMadeFor board.old.made_for machine.now }
+    requires marks { 330 ≤ N.mark_room board.old.net }
+    requires can { CanAsk machine.now schedule.old.plans ask.now }
+    requires spare { plan_of ask.now.sheet schedule.old.plans ≡ None → 0 < schedule.old.spare }
+    ensures answer { IfOk result (λ shown. IsAnswer
+        (IsSpentOf work.old.nodes) machine.now schedule.old.plans ask.entry.now shown.reply
+        schedule.new.plans) }
+    ensures tree { IfOk result (λ shown. HasTree machine.now schedule.old.plans ask.entry.now
+        schedule.new.plans shown.reply shown.tree) }
+    ensures few { IfOk result (λ shown. shown.reply ≡ Never
+        → FewListsOpen machine.now schedule.old.plans ask.entry.now work.old.nodes) }
+    ensures stays { OnErr result (schedule.new ≡ schedule.old) }
+    ensures work { work.new ≡ work.old }
+    ensures board { board.new.made_for ≡ board.old.made_for }
+    ensures marks { N.mark_room board.new.net ≡ N.mark_room board.old.net }
+{
+    board.load(machine, schedule, ask);
+    match plan(board, work, machine, ask) {
+        Ok(mut trial) => match trial.show(alloc, work, machine) {
+            Ok(tree) => {
+                trial.commit(machine, schedule);
+                Ok(Shown {
+                    reply: Reply::Planned,
+                    tree: Some(tree),
+                })
+            }
+            Err(error) => {
+                trial.abandon();
+                Err(error)
+            }
+        },
+        Err(NoPlan::Never) => match show_never(alloc, work, board, machine, ask) {
+            Ok(tree) => Ok(Shown {
+                reply: Reply::Never,
+                tree: Some(tree),
+            }),
+            Err(error) => Err(error),
+        },
+        Err(NoPlan::Spent { bound }) => Ok(Shown {
+            reply: Reply::Spent { bound },
+            tree: None,
+        }),
     }
 }

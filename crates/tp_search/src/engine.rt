@@ -1,29 +1,34 @@
 //! A workspace and a board as a planner.
-ghost use Rattle.std.specs.Prelude.{◌≡◌, ◌<◌, ◌≤◌, ℕ, IfErr, IfOk, IsOk, IsTrue, OnErr, OnOk};
+ghost use Rattle.std.specs.Prelude.{◌≡◌, ◌<◌, ◌≤◌, ◌⊎◌, ◌++◌, [], IfErr, IfOk, IsOk, IsTrue, OnErr, OnOk, vec_capacity, vec_len};
 ghost use Rattle.tp_schedule.specs.Planning.{CanAsk, CanSettle, HasTimeFrom, IsAnswer, IsSettled};
 ghost use Rattle.tp_schedule.specs.Planning.Deed.{replied};
 ghost use Rattle.tp_schedule.specs.declared.parts.Origin.TheVariants.{Feeder};
 ghost use Rattle.tp_placing.specs.Inside.{most_edges, most_points};
-ghost use Rattle.tp_search.specs.Engines.{HasFewLists, IsSameEngine, StepsOn, is_engine_for};
+ghost use Rattle.tp_search.specs.Engines.{AddsTree, EngineLasts, HasFewLists, IsSameEngine, KeepsTrees, StepsOn, is_engine_for, list_of};
 ghost use Rattle.tp_search.specs.Trials.{EndsEarliest, IsNoPlan};
 ghost use Rattle.tp_search.specs.Workspaces.{IsSpentOf};
 
-use crate::answering::{answer, earliest_end};
+use crate::answering::{answer, answer_with_tree, earliest_end};
 use crate::trying::NoPlan;
 use crate::workspace::Workspace;
 use std::alloc::Global;
 use std::marker::Model;
 use tp_base::{Memory, Network, Tick, Undo};
+use tp_bounds::BoundTree;
 use tp_machine::Machine;
 use tp_placing::Board;
 use tp_schedule::{Ask, Halt, Origin, Planner, Reply, Schedule};
 
 /// A planner for machines with the same numbers of locations and resources and the same window as the one that it was made
-/// for. It stores as many lists of choices as it has nodes: the budget of an ask.
+/// for. It stores as many lists of choices as it has nodes: the budget of an ask. With bounds it keeps a tree for each answer that
+/// is a plan or a none, in their order.
 #[derive(Drop)]
 pub struct Engine<N: Network> {
+    alloc: Global,
     work: Workspace,
     board: Board<N>,
+    bounds: bool,
+    trees: Vec<BoundTree>,
 }
 
 impl<N: Network> Model for Engine<N> {
@@ -31,25 +36,40 @@ impl<N: Network> Model for Engine<N> {
 
     ghost Value = { EngineValue N };
 
-    ghost view = { λ e. record { work = e.work; board = e.board } };
+    ghost view = { λ e. record {
+      work = e.work;
+      board = e.board;
+      bounds = e.bounds;
+      trees = e.trees.items;
+    } };
 
     ghost invariant = { λ e. IsEngine N.mark_room e.work e.board };
 }
 
 impl<N: Network + Drop> Engine<N> {
-    /// Takes all the memory that it will ever hold beside its network, which was made for at least 16,642 points, 100,000 edges
-    /// and 330 marks.
-    pub fn new(alloc: Global, machine: &Machine, net: N, nodes: u32) -> Result<Engine<N>, Memory>
+    /// Takes all the memory that it will ever hold beside its network and its trees. The network was made for at least 16,642
+    /// points, 100,000 edges and 330 marks.
+    pub fn new(
+        alloc: Global,
+        machine: &Machine,
+        net: N,
+        nodes: u32,
+        bounds: bool,
+    ) -> Result<Engine<N>, Memory>
         requires points { most_points ≤ N.point_room net }
         requires edges { most_edges ≤ N.edge_room net }
         requires marks { 330 ≤ N.mark_room net }
         ensures serves { IfOk result (λ e. IsTrue (is_engine_for e machine.now)) }
         ensures nodes { IfOk result (λ e. e.work.nodes ≡ nodes) }
+        ensures bounds { IfOk result (λ e. (e.bounds ≡ bounds) × (e.trees ≡ [])) }
         ensures kept { IfOk result (λ e. N.mark_room e.board.net ≡ N.mark_room net) }
     {
         Ok(Engine {
+            alloc,
             work: Workspace::new(alloc, machine, nodes)?,
             board: Board::new(alloc, machine, net)?,
+            bounds,
+            trees: Vec::new(alloc),
         })
     }
 }
@@ -60,6 +80,20 @@ impl<N: Network> Engine<N> {
         ensures { result.now ≡ self.now.board }
     {
         &self.board
+    }
+
+    /// The trees of the answers since they were cleared.
+    pub fn trees(&self) -> &[BoundTree]
+        ensures { result.now ≡ self.now.trees }
+    {
+        &self.trees
+    }
+
+    /// Drops the trees.
+    pub fn clear_trees(&mut self)
+        ensures { self.new ≡ record self.old { trees = [] } }
+    {
+        self.trees.clear();
     }
 
     /// The tick at which the earliest plans of an ask end, or why there is none. No plan is made: the schedule stays as it is.
@@ -76,8 +110,63 @@ impl<N: Network> Engine<N> {
         ensures none { IfErr result
             (IsNoPlan machine.now schedule.now.plans ask.entry.now self.old.work.nodes) }
         ensures same { IsSameEngine N.mark_room self.old self.new }
+        ensures trees { self.new.trees ≡ self.old.trees }
     {
         earliest_end(&mut self.work, &mut self.board, machine, schedule, ask)
+    }
+
+    /// Answers the ask, and keeps the tree of the answer. After `Memory` the trees are as before.
+    fn ask_with_tree(
+        &mut self,
+        machine: &Machine,
+        schedule: &mut Schedule,
+        ask: &Ask,
+    ) -> Result<Reply, Halt>
+        requires served { IsTrue (is_engine_for self.old machine.now) }
+        requires can_ask { CanAsk machine.now schedule.old.plans ask.now }
+        requires spare { ask.now.origin ≡ Feeder → 0 < schedule.old.spare }
+        ensures answer { IfOk result
+            (λ reply. IsAnswer (IsSpentOf self.old.work.nodes) machine.now schedule.old.plans
+            ask.entry.now reply schedule.new.plans) }
+        ensures few { IfOk result
+            (λ reply. HasFewLists self.old.work.nodes machine.now schedule.old.plans
+            (replied ask.entry.now reply)) }
+        ensures trees { IfOk result
+            (λ reply. AddsTree machine.now schedule.old.plans ask.entry.now reply
+            schedule.new.plans self.old.trees self.new.trees) }
+        ensures same { IsSameEngine N.mark_room self.old self.new }
+        ensures memory { IfErr result (λ halt. halt ≡ Halt.Memory) }
+        ensures stays { OnErr result (schedule.new.plans ≡ schedule.old.plans) }
+    {
+        match self.trees.reserve(1) {
+            Ok(()) => {}
+            Err(_) => return Err(Halt::Memory),
+        }
+        match answer_with_tree(
+            self.alloc,
+            &mut self.work,
+            &mut self.board,
+            machine,
+            schedule,
+            ask,
+        ) {
+            Ok(shown) => {
+                add_tree(&mut self.trees, shown.tree);
+                Ok(shown.reply)
+            }
+            Err(_) => Err(Halt::Memory),
+        }
+    }
+}
+
+/// Adds the tree, if there is one.
+fn add_tree(trees: &mut Vec<BoundTree>, tree: Option<BoundTree>)
+    requires { vec_len trees.old < vec_capacity trees.old }
+    ensures { trees.new.items ≡ trees.old.items ++ list_of tree }
+{
+    match tree {
+        Some(tree) => trees.push_reserved(tree),
+        None => {}
     }
 }
 
@@ -97,19 +186,20 @@ fn make_spare(schedule: &mut Schedule, ask: &Ask) -> Result<(), Memory>
 impl<N: Network> Planner for Engine<N> {
     ghost serves = { is_engine_for };
 
-    ghost Lasting = { ℕ };
+    ghost Lasting = { EngineLasts };
 
-    ghost lasting = { λ e. e.work.nodes };
+    ghost lasting = { λ e. record { nodes = e.work.nodes; bounds = e.bounds } };
 
     ghost stops = { λ e. 0 };
 
     ghost spent = { λ e. IsSpentOf e.work.nodes };
 
-    ghost steps = { λ e machine plans deed plans' e'. StepsOn N.mark_room e machine plans deed e' };
+    ghost steps = { λ e machine plans deed plans' e'.
+        StepsOn N.mark_room e machine plans deed plans' e' };
 
     ghost stop_steps = { λ e machine plans due e'. ⊥ };
 
-    /// Wants memory for the spare plan of a new copy alone, and never stops.
+    /// Wants memory for the spare plan of a new copy, and with bounds for trees, and never stops.
     fn ask(&mut self, machine: &Machine, schedule: &mut Schedule, ask: &Ask) -> Result<Reply, Halt>
         requires served { IsTrue (is_engine_for self.old machine.now) }
         requires can_ask { CanAsk machine.now schedule.old.plans ask.now }
@@ -121,12 +211,21 @@ impl<N: Network> Planner for Engine<N> {
             (replied ask.entry.now reply)) }
         ensures same { IsSameEngine N.mark_room self.old self.new }
         ensures memory { IfErr result (λ halt. halt ≡ Halt.Memory) }
-        ensures new_copy { OnErr result (ask.entry.now.origin ≡ Feeder) }
+        ensures trees { IfOk result
+            (λ reply. KeepsTrees self.old.bounds machine.now schedule.old.plans
+            (replied ask.entry.now reply) schedule.new.plans self.old.trees self.new.trees) }
+        ensures new_copy { OnErr result
+            ((ask.entry.now.origin ≡ Feeder) ⊎ IsTrue self.old.bounds) }
         ensures stays { OnErr result (schedule.new.plans ≡ schedule.old.plans) }
     {
         match make_spare(schedule, ask) {
-            Ok(()) => Ok(answer(&mut self.work, &mut self.board, machine, schedule, ask)),
-            Err(_) => Err(Halt::Memory),
+            Ok(()) => {}
+            Err(_) => return Err(Halt::Memory),
+        }
+        if self.bounds {
+            self.ask_with_tree(machine, schedule, ask)
+        } else {
+            Ok(answer(&mut self.work, &mut self.board, machine, schedule, ask))
         }
     }
 
@@ -137,6 +236,7 @@ impl<N: Network> Planner for Engine<N> {
         ensures settles { IsSettled machine.now now schedule.old.plans schedule.new.plans }
         ensures spare { schedule.new.spare ≡ schedule.old.spare }
         ensures same { IsSameEngine N.mark_room self.old self.new }
+        ensures trees { self.new.trees ≡ self.old.trees }
         ensures done { IsOk result }
     {
         self.board.settle(machine, schedule, now);

@@ -1,5 +1,5 @@
 -- What a session answers from the empty state is lawful.
-use Rattle.std.proofs.Common.{◌≡◌, ℕ, false, List, [], ◌∷◌, Option, Some, None, refl, sym, ap, subst, ◌∙◌}
+use Rattle.std.proofs.Common.{◌≡◌, ℕ, Bool, List, [], ◌∷◌, Option, Some, None, refl, sym, ap, subst, ◌∙◌}
 use Rattle.std.specs.Option.{MatchOption}
 use Rattle.tp_machine.specs.declared.whole.Machine.{Machine}
 use Rattle.tp_words.specs.Texts.{lines_of}
@@ -16,14 +16,15 @@ use Rattle.tp_runs.specs.Wholes.{TellsLine, TellsTurn}
 use Rattle.tp_runs.proofs.Scripts.{scripts_lawful, stops_lawful}
 use Rattle.tp_session.specs.Sessions.{Standing, Tells}
 
-module _ (machine : Machine) (nodes : ℕ) where
+module _ (machine : Machine) (nodes : ℕ) (bounds : Bool) where
   abbrev Lawful : SessionState → List ℕ → List ℕ → SessionState → Type 0
-  Lawful = TellsLine machine nodes false
+  Lawful = TellsLine machine nodes bounds
 
-  -- a standing with this machine and this budget
+  -- a standing with this machine and this budget, with bounds or without
   record Has (s : Standing) : Type 0 where
     machine_is : s.machine ≡ machine
     budget_is : s.budget ≡ nodes
+    bounds_is : s.bounds ≡ bounds
 
   record LineOf (s : Standing) (line text : List ℕ) (s' : Standing) : Type 0 where
     answers : Lawful s.state line text s'.state
@@ -35,11 +36,12 @@ module _ (machine : Machine) (nodes : ℕ) where
       record { answers = answers; has = kept }
     where
       go : (o : Option Event) → MatchOption o ((text ≡ []) × (s' ≡ s)) (λ event. Tells s event text s')
-          → MatchOption o ((text ≡ []) × (s'.state ≡ s.state)) (λ event. TellsTurn machine nodes false event s.state text s'.state) × Has s'
+          → MatchOption o ((text ≡ []) × (s'.state ≡ s.state)) (λ event. TellsTurn machine nodes bounds event s.state text s'.state) × Has s'
       go None (none, same) = ((none, ap (λ (x : Standing). x.state) same), subst Has (sym same) has)
       go (Some event) h = (
-        subst (λ n. TellsTurn machine n false event s.state text s'.state) has.budget_is (subst (λ m. TellsTurn m s.budget false event s.state text s'.state) has.machine_is h.turn),
-        record { machine_is = h.same_machine ∙ has.machine_is; budget_is = h.same_budget ∙ has.budget_is },
+        subst (λ b. TellsTurn machine nodes b event s.state text s'.state) has.bounds_is
+            (subst (λ n. TellsTurn machine n s.bounds event s.state text s'.state) has.budget_is (subst (λ m. TellsTurn m s.budget s.bounds event s.state text s'.state) has.machine_is h.turn)),
+        record { machine_is = h.same_machine ∙ has.machine_is; budget_is = h.same_budget ∙ has.budget_is; bounds_is = h.same_bounds ∙ has.bounds_is },
       )
 
   record LinesOf (s : Standing) (lines : List (List ℕ)) (text : List ℕ) (s' : Standing) : Type 0 where
@@ -54,14 +56,14 @@ module _ (machine : Machine) (nodes : ℕ) where
       record { answers = (told, (mid.state, (rest, first.answers, more.answers, same))); has = more.has }
 
   abbrev start : Standing
-  start = record { machine = machine; budget = nodes; state = empty_state }
+  start = record { machine = machine; budget = nodes; bounds = bounds; state = empty_state }
 
   starts : Has start
-  starts = record { machine_is = refl; budget_is = refl }
+  starts = record { machine_is = refl; budget_is = refl; bounds_is = refl }
 
-  pub sessions_lawful : (script : List ℕ) (taken taken' : Option (List ℕ)) (s : Standing) → TakesAll (AnswersLine Tells) 4096 1000000 (place_of start 0 taken) script s taken' → IsAnswered machine nodes false script taken taken'
+  pub sessions_lawful : (script : List ℕ) (taken taken' : Option (List ℕ)) (s : Standing) → TakesAll (AnswersLine Tells) 4096 1000000 (place_of start 0 taken) script s taken' → IsAnswered machine nodes bounds script taken taken'
   sessions_lawful script taken taken' s h =
-      scripts_lawful machine nodes false script taken taken' s.state (record {
+      scripts_lawful machine nodes bounds script taken taken' s.state (record {
         fit = h.fit;
         few = h.few;
         text = h.text;
@@ -82,11 +84,11 @@ module _ (machine : Machine) (nodes : ℕ) where
   seen_stop Sink rest at s taken' has h =
       record { line = h.line; more = h.more; next = h.next; told = h.told; answered = (one_line at.state s h.line h.told has h.answered).answers; cut = h.cut }
 
-  pub sessions_stop : (stop : Stop) (script : List ℕ) (taken taken' : Option (List ℕ)) (s : Standing) → Stops (AnswersLine Tells) NoRefusal 4096 1000000 (place_of start 0 taken) script stop s taken' → IsAnsweredTo machine nodes false stop script taken taken'
+  pub sessions_stop : (stop : Stop) (script : List ℕ) (taken taken' : Option (List ℕ)) (s : Standing) → Stops (AnswersLine Tells) NoRefusal 4096 1000000 (place_of start 0 taken) script stop s taken' → IsAnsweredTo machine nodes bounds stop script taken taken'
   sessions_stop stop script taken taken' s h =
       let t = h.takes in
       let lines = all_lines (lines_of t.done) t.text start h.at.state starts t.answered in
-      stops_lawful machine nodes false stop script taken taken' s.state (record {
+      stops_lawful machine nodes bounds stop script taken taken' s.state (record {
         rest = h.rest;
         at = seen_place h.at;
         takes = record {

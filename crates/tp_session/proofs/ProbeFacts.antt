@@ -188,8 +188,8 @@ module _ (machine : Machine) (nodes : ℕ) (whole : SessionState) (lines : Keeps
   probe-on (On module_name) answer told = told
 
 -- what is so in the state is so in each whole state behind it
-pub probes-behind : (machine : Machine) (nodes : ℕ) (s : SessionState) (event : Event) (answer : Probe) → IsProbe machine nodes event s answer → Probes (record { machine = machine; budget = nodes; state = s }) event answer
-probes-behind machine nodes s event answer told = record {
+pub probes-behind : (machine : Machine) (nodes : ℕ) (bounds : Bool) (s : SessionState) (event : Event) (answer : Probe) → IsProbe machine nodes event s answer → Probes (record { machine = machine; budget = nodes; bounds = bounds; state = s }) event answer
+probes-behind machine nodes bounds s event answer told = record {
   here = told;
   on_whole = λ whole w. probe-on machine nodes whole w.order.lines w.order.plans.legal w.order.plans.floors event answer (subst (λ r. IsProbe machine nodes event r answer) (sym w.live) told);
 }

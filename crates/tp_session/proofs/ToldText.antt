@@ -1,47 +1,56 @@
--- The text of a turn's records, and that each of them has a line.
-use Rattle.std.proofs.Common.{◌≡◌, ℕ, false, List, [], ◌∷◌, ◌++◌, map, refl, sym, ap, ◌∙◌, subst, All}
+-- The text of a turn's records with its trees, piece by piece.
+use Rattle.std.proofs.Common.{◌≡◌, ℕ, Bool, List, [], ◌∷◌, ◌++◌, map, take, drop, slice_get, Some, sym, ap, ap₂, subst, ◌∙◌, All, append_assoc}
 use Rattle.std.specs.List.{flat_map}
+use Rattle.std.proofs.lemmas.Grind.{flat_map-append}
 use Rattle.std.proofs.lemmas.List.Concat.{flat_map-cons}
-use Rattle.std.proofs.lemmas.List.Elements.{All-cons, All-map}
-use Rattle.tp_log.specs.Grammar.{HasFields, IsRecord, echo_text}
+use Rattle.std.proofs.lemmas.List.Elements.{All-append, All-cons}
+use Rattle.tp_bounds.specs.declared.tree.BoundTree.{BoundTree}
+use Rattle.tp_log.specs.Grammar.{IsRecord}
 use Rattle.tp_log.specs.Logs.{IsItem, item_text, log_text}
-use Rattle.tp_log.specs.Records.{IsPrintable, record_text}
+use Rattle.tp_log.specs.Records.{record_text}
+use Rattle.tp_log.specs.declared.item.Item.{Item}
 use Rattle.tp_log.specs.declared.item.Item.TheVariants as item
-use Rattle.tp_machine.specs.declared.whole.Machine.{Machine}
 use Rattle.tp_schedule.specs.declared.recording.Record.{Record}
-use Rattle.tp_script.specs.Printed.{IsEchoed}
-use Rattle.tp_script.specs.declared.event.Event.{Event}
-use Rattle.tp_turn.proofs.ListFacts.{All-both}
-use Rattle.tp_turn.specs.States.{SessionState}
-use Rattle.tp_runs.specs.Runs.{entry_of, items_of}
-use Rattle.tp_runs.proofs.TreePlaces.{without-trees}
-use Rattle.tp_runs.specs.Wholes.{HasWholeTurn, IsWhole, TellsTurn}
+use Rattle.tp_runs.specs.Runs.{is_of_plan, items_with, trees_behind}
 
--- the text of the records is that of their items
-notes-text : (records : List Record) → flat_map record_text records ≡ flat_map item_text (map (λ r. item.Note r) records)
-notes-text [] = refl
-notes-text (r ∷ records) =
-    flat_map-cons record_text r records ∙ ap (λ t. record_text r ++ t) (notes-text records)
-    ∙ sym (flat_map-cons item_text (item.Note r) (map (λ r. item.Note r) records))
+-- the trees that stand directly behind a record
+abbrev pub trees_next : Bool → Record → List Record → List BoundTree → List Item
+trees_next before r records trees = map (λ t. item.Tree t) (take (trees_behind before r records) trees)
 
-pub turn-text : (event : Event) (records : List Record) → echo_text event ++ flat_map record_text records ≡ log_text (items_of (entry_of event records []))
-turn-text event records =
-    ap (λ t. echo_text event ++ t) (notes-text records) ∙ sym (flat_map-cons item_text (item.Event event) (map (λ r. item.Note r) records))
-    ∙ ap (λ items. log_text (item.Event event ∷ items)) (sym (without-trees false records))
+abbrev pub items_later : Bool → Record → List Record → List BoundTree → List Item
+items_later before r records trees = items_with (is_of_plan before r) records (drop (trees_behind before r records) trees)
 
-pub has-lines : (event : Event) (records : List Record) → IsEchoed event → All HasFields records → All IsPrintable records → All IsItem (items_of (entry_of event records []))
-has-lines event records echoed fields lines =
-    subst (λ items. All IsItem (item.Event event ∷ items)) (sym (without-trees false records))
-    (All-cons IsItem (item.Event event) (map (λ r. item.Note r) records) echoed
-    (All-map IsItem (λ r. item.Note r) records (All-both HasFields IsPrintable IsRecord (λ r f p. (f, p)) records fields lines)))
+pub text-first : (before : Bool) (r : Record) (records : List Record) (trees : List BoundTree)
+    → log_text (items_with before (r ∷ records) trees) ≡ (record_text r ++ flat_map item_text (trees_next before r records trees)) ++ log_text (items_later before r records trees)
+text-first before r records trees =
+    let next = trees_next before r records trees in
+    let later = items_later before r records trees in
+    flat_map-cons item_text (item.Note r) (next ++ later) ∙ ap (λ t. record_text r ++ t) (flat_map-append item_text next later)
+    ∙ sym (append_assoc (record_text r) (flat_map item_text next) (log_text later))
 
--- what a turn on every whole state behind the live one told, as its text
-pub told-turn : (machine : Machine) (nodes : ℕ) (event : Event) (s s' : SessionState) (records : List Record)
-    → ((whole : SessionState) → IsWhole machine whole s → HasWholeTurn machine nodes false event whole records [] s')
-    → IsEchoed event → All HasFields records → All IsPrintable records → TellsTurn machine nodes false event s (echo_text event ++ flat_map record_text records) s'
-told-turn machine nodes event s s' records on_whole echoed fields lines = record {
-  records = records;
-  trees = [];
-  turn = record { on_whole = on_whole; has_text = has-lines event records echoed fields lines };
-  is_text = turn-text event records;
-}
+pub items-first : (before : Bool) (r : Record) (records : List Record) (trees : List BoundTree) → IsRecord r → All IsItem (trees_next before r records trees)
+    → All IsItem (items_later before r records trees) → All IsItem (items_with before (r ∷ records) trees)
+items-first before r records trees line next later =
+    All-cons IsItem (item.Note r) (trees_next before r records trees ++ items_later before r records trees) line
+    (All-append IsItem (trees_next before r records trees) (items_later before r records trees) next later)
+
+-- a list by its first part and those behind it
+pub first-and-more : {X : Type 0} (xs : List X) (x : X) (more : List X) → slice_get xs 0 ≡ Some x → more ≡ drop 1 xs → xs ≡ x ∷ more
+first-and-more [] x more first same = absurd cc
+first-and-more (y ∷ xs) x more first same = let is : y ≡ x = cc in ap₂ (λ a as'. a ∷ as') is (sym same)
+
+module _ (before before' : Bool) (r : Record) (rest records : List Record) (trees trees' : List BoundTree) (is : rest ≡ r ∷ records) (of_plan : before' ≡ is_of_plan before r)
+    (left : trees' ≡ drop (trees_behind before r records) trees) where
+  later-is : items_with before' records trees' ≡ items_later before r records trees
+  later-is = ap₂ (λ b ts. items_with b records ts) of_plan left
+
+  pub told-next : (text text' all : List ℕ) → text' ≡ text ++ (record_text r ++ flat_map item_text (trees_next before r records trees))
+      → text ++ log_text (items_with before rest trees) ≡ all → text' ++ log_text (items_with before' records trees') ≡ all
+  told-next text text' all added whole =
+      ap₂ (λ t items. t ++ log_text items) added later-is
+      ∙ append_assoc text (record_text r ++ flat_map item_text (trees_next before r records trees)) (log_text (items_later before r records trees))
+      ∙ ap (λ t. text ++ t) (sym (text-first before r records trees)) ∙ ap (λ rs. text ++ log_text (items_with before rs trees)) (sym is) ∙ whole
+
+  pub spelled-next : IsRecord r → All IsItem (trees_next before r records trees) → All IsItem (items_with before' records trees') → All IsItem (items_with before rest trees)
+  spelled-next line next later =
+      subst (λ rs. All IsItem (items_with before rs trees)) (sym is) (items-first before r records trees line next (subst (All IsItem) later-is later))

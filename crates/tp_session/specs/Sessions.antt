@@ -1,5 +1,5 @@
 -- What a session is seen as, and what one event does to it.
-use Rattle.std.specs.Prelude.{◌≡◌, ℕ, ◌≤◌, false, List, Option, IsTrue, unwrap_or}
+use Rattle.std.specs.Prelude.{◌≡◌, ℕ, ◌≤◌, Bool, List, [], Option, IsTrue, unwrap_or}
 use Rattle.tp_machine.specs.declared.whole.Machine.{Machine}
 use Rattle.tp_script.specs.declared.event.Event.{Event}
 use Rattle.tp_search.specs.Engines.{EngineValue, is_engine_for}
@@ -11,10 +11,11 @@ use Rattle.tp_turn.specs.States.{SessionState, empty_state}
 use Rattle.tp_runs.specs.Ends.{IsAnswered, IsAnsweredTo}
 use Rattle.tp_runs.specs.Wholes.{TellsTurn}
 
--- the machine, the budget, and the live part of the state: all that answers depend on
+-- the machine, the budget, whether bounds are shown, and the live part of the state: all that answers depend on
 pub record Standing : Type 0 where
   pub machine : Machine
   pub budget : ℕ
+  pub bounds : Bool
   pub state : SessionState
 
 pub record SessionValue (N : Type 0) : Type 0 where
@@ -23,31 +24,35 @@ pub record SessionValue (N : Type 0) : Type 0 where
   pub answered : ℕ
   pub text : List ℕ
 
--- what holds between events: the engine is for the machine and the budget, and any event can be taken
+-- what holds between events: the engine is for the machine, the budget and the bounds, it has no trees, and any event can be
+-- taken
 pub record IsSession {N : Type 0} (standing : Standing) (engine : EngineValue N) (answered : ℕ) : Type 0 where
   pub serves : IsTrue (is_engine_for engine standing.machine)
   pub nodes : engine.work.nodes ≡ standing.budget
+  pub bounds : engine.bounds ≡ standing.bounds
+  pub no_trees : engine.trees ≡ []
   pub can : CanTakeEvents standing.machine answered standing.state
   pub within : answered ≤ most_events
 
--- an event's turn on every whole state behind the session's, with the text of its records. Machine and budget stay
+-- an event's turn on every whole state behind the session's, with the text of its records and trees. All but the state stays
 pub record Tells (s : Standing) (event : Event) (text : List ℕ) (s' : Standing) : Type 0 where
   pub same_machine : s'.machine ≡ s.machine
   pub same_budget : s'.budget ≡ s.budget
-  pub turn : TellsTurn s.machine s.budget false event s.state text s'.state
+  pub same_bounds : s'.bounds ≡ s.bounds
+  pub turn : TellsTurn s.machine s.budget s.bounds event s.state text s'.state
 
 -- where a session stands before its first event: its budget is the one that is set, or else the machine's
-abbrev pub start_of : Machine → Option ℕ → Standing
-start_of machine budget = record { machine = machine; budget = unwrap_or budget machine.budget; state = empty_state }
+abbrev pub start_of : Machine → Option ℕ → Bool → Standing
+start_of machine budget bounds = record { machine = machine; budget = unwrap_or budget machine.budget; bounds = bounds; state = empty_state }
 
 -- a script that a session answers from its start is answered lawfully
-abbrev pub SessionsLawful : Machine → Option ℕ → Type 0
-SessionsLawful machine budget = (script : List ℕ) (taken taken' : Option (List ℕ)) (s : Standing)
-    → TakesAll (AnswersLine Tells) line_bytes most_lines (place_of (start_of machine budget) 0 taken) script s taken'
-    → IsAnswered machine (unwrap_or budget machine.budget) false script taken taken'
+abbrev pub SessionsLawful : Machine → Option ℕ → Bool → Type 0
+SessionsLawful machine budget bounds = (script : List ℕ) (taken taken' : Option (List ℕ)) (s : Standing)
+    → TakesAll (AnswersLine Tells) line_bytes most_lines (place_of (start_of machine budget bounds) 0 taken) script s taken'
+    → IsAnswered machine (unwrap_or budget machine.budget) bounds script taken taken'
 
 -- and so are its first lines, where the session stops
-abbrev pub SessionsStopLawful : Machine → Option ℕ → Type 0
-SessionsStopLawful machine budget = (stop : Stop) (script : List ℕ) (taken taken' : Option (List ℕ)) (s : Standing)
-    → Stops (AnswersLine Tells) NoRefusal line_bytes most_lines (place_of (start_of machine budget) 0 taken) script stop s taken'
-    → IsAnsweredTo machine (unwrap_or budget machine.budget) false stop script taken taken'
+abbrev pub SessionsStopLawful : Machine → Option ℕ → Bool → Type 0
+SessionsStopLawful machine budget bounds = (stop : Stop) (script : List ℕ) (taken taken' : Option (List ℕ)) (s : Standing)
+    → Stops (AnswersLine Tells) NoRefusal line_bytes most_lines (place_of (start_of machine budget bounds) 0 taken) script stop s taken'
+    → IsAnsweredTo machine (unwrap_or budget machine.budget) bounds stop script taken taken'

@@ -1,6 +1,6 @@
 //! What holds of sessions. The calls do nothing: their contracts are the laws.
 
-ghost use Rattle.std.specs.Prelude.{ℕ, [], false, Option};
+ghost use Rattle.std.specs.Prelude.{ℕ, Bool, Option};
 ghost use Rattle.tp_machine.specs.declared.whole.Machine.{Machine};
 ghost use Rattle.tp_runs.specs.Carrying.{KeepsNodes, ShowsTrees};
 ghost use Rattle.tp_session.specs.Sessions.{SessionsLawful, SessionsStopLawful};
@@ -25,11 +25,13 @@ pub fn engines_answer_alone<N: Network>()
         (λ e. e.work.nodes) }
     ensures shows { (machine : Machine) → ShowsTrees ⟦<Engine<N> as Planner>⟧.spent
         ⟦<Engine<N> as Planner>⟧.steps ⟦<Engine<N> as Planner>⟧.stop_steps machine
-        (λ e. false) (λ e. []) }
+        (λ e. e.bounds) (λ e. e.trees) }
 {}
 
 /// The script that a session answers from its start is answered by a lawful run, and so are the first lines where it stops.
 pub fn sessions_are_lawful()
-    ensures whole { (machine : Machine) (budget : Option ℕ) → SessionsLawful machine budget }
-    ensures stopped { (machine : Machine) (budget : Option ℕ) → SessionsStopLawful machine budget }
+    ensures whole { (machine : Machine) (budget : Option ℕ) (bounds : Bool)
+        → SessionsLawful machine budget bounds }
+    ensures stopped { (machine : Machine) (budget : Option ℕ) (bounds : Bool)
+        → SessionsStopLawful machine budget bounds }
 {}

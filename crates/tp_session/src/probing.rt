@@ -135,6 +135,7 @@ pub(crate) fn try_ask<N: Network>(
     ensures gives { AskGives engine.old.work.nodes machine.now schedule.now.plans
         ask.entry.now result }
     ensures same { IsSameEngine N.mark_room engine.old engine.new }
+    ensures trees { engine.new.trees ≡ engine.old.trees }
 {
     match engine.probe(machine, schedule, ask) {
         Ok(end) => Probe::Ends(end),

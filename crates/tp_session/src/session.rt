@@ -40,6 +40,7 @@ pub struct SessionOver<N: Network> {
     alloc: Global,
     machine: Machine,
     budget: u32,
+    bounds: bool,
     engine: Engine<N>,
     state: LiveState,
     answered: u32,
@@ -53,14 +54,19 @@ impl<N: Network> Model for SessionOver<N> {
     ghost Value = { SessionValue N };
 
     ghost view = { λ s. record {
-      standing = record { machine = s.machine; budget = s.budget; state = seen s.state };
+      standing = record {
+        machine = s.machine;
+        budget = s.budget;
+        bounds = s.bounds;
+        state = seen s.state;
+      };
       engine = s.engine;
       answered = s.answered;
       text = s.text.items;
     } };
 
     ghost invariant = { λ s. IsSession
-        (record { machine = s.machine; budget = s.budget; state = seen s.state })
+        (record { machine = s.machine; budget = s.budget; bounds = s.bounds; state = seen s.state })
         s.engine s.answered };
 }
 
@@ -70,7 +76,8 @@ impl SessionOver<LiveNet> {
     /// A session at the moment 0 with nothing planned. It takes all the memory that its network and its search will ever
     /// hold.
     pub fn new(alloc: Global, machine: Machine, settings: Settings) -> Result<Session, Memory>
-        ensures standing { IfOk result (λ s. s.standing ≡ start_of machine settings.budget) }
+        ensures standing { IfOk result
+            (λ s. s.standing ≡ start_of machine settings.budget settings.bounds) }
         ensures fresh { IfOk result (λ s. (s.answered ≡ 0) × (s.text ≡ [])) }
     {
         let net = LiveNet::new(alloc, POINTS, EDGES, MARKS)?;
@@ -92,16 +99,18 @@ impl<N: Network + Drop> SessionOver<N> {
         requires points { most_points ≤ N.point_room net }
         requires edges { most_edges ≤ N.edge_room net }
         requires marks { 330 ≤ N.mark_room net }
-        ensures standing { IfOk result (λ s. s.standing ≡ start_of machine settings.budget) }
+        ensures standing { IfOk result
+            (λ s. s.standing ≡ start_of machine settings.budget settings.bounds) }
         ensures fresh { IfOk result (λ s. (s.answered ≡ 0) × (s.text ≡ [])) }
     {
         empty_state_can_begin();
         let budget = settings.budget.unwrap_or(machine.budget);
-        let engine = Engine::new(alloc, &machine, net, budget)?;
+        let engine = Engine::new(alloc, &machine, net, budget, settings.bounds)?;
         Ok(SessionOver {
             alloc,
             machine,
             budget,
+            bounds: settings.bounds,
             engine,
             state: LiveState::new(alloc),
             answered: 0,
@@ -136,6 +145,7 @@ impl<N: Network> SessionOver<N> {
             event,
             &mut self.text,
         );
+        self.engine.clear_trees();
         match result {
             Ok(()) => {
                 self.answered += 1;

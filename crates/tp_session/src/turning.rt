@@ -1,6 +1,6 @@
 //! The turn of one event, with its text.
 
-ghost use Rattle.std.specs.Prelude.{◌≡◌, ◌+◌, ◌++◌, ℕ, false, List, IsTrue, OnOk, OnErr};
+ghost use Rattle.std.specs.Prelude.{◌≡◌, ◌+◌, ◌++◌, ℕ, List, [], IsTrue, OnOk, OnErr};
 ghost use Rattle.tp_machine.specs.declared.whole.Machine.{Machine};
 ghost use Rattle.tp_runs.specs.Wholes.{TellsTurn};
 ghost use Rattle.tp_script.specs.Printed.{IsEchoed};
@@ -13,7 +13,7 @@ use crate::telling::{records_law, tell};
 use std::alloc::Global;
 use tp_base::{Memory, Network};
 use tp_machine::Machine;
-use tp_runs::{live_turns_are_whole, turns_have_lines};
+use tp_runs::{live_turns_are_whole, shown_trees_have_lines, turns_have_lines};
 use tp_script::Event;
 use tp_search::Engine;
 use tp_turn::LiveState;
@@ -32,26 +32,29 @@ pub(crate) fn take_turn<N: Network>(
     requires serves { IsTrue (is_engine_for engine.old machine.now) }
     requires can { CanTakeEvents machine.now last_copy (seen state.old) }
     requires echoed { IsEchoed event.now }
+    requires no_trees { engine.old.trees ≡ [] }
     ensures told { OnOk result ((told : List ℕ)
-        × TellsTurn machine.now engine.old.work.nodes false event.now (seen state.old)
-        told (seen state.new)
+        × TellsTurn machine.now engine.old.work.nodes engine.old.bounds event.now
+        (seen state.old) told (seen state.new)
         × (text.new.items ≡ text.old.items ++ told)) }
     ensures kept { OnOk result ((copies : ℕ) → CanTakeEvents machine.now copies (seen state.old)
         → CanTakeEvents machine.now (copies + 1) (seen state.new)) }
     ensures text { OnErr result (text.new.items ≡ text.old.items) }
     ensures marked { state.new.lines.kept ≡ state.old.lines.kept }
     ensures nodes { engine.new.work.nodes ≡ engine.old.work.nodes }
+    ensures bounds { engine.new.bounds ≡ engine.old.bounds }
     ensures serves { (other : Machine) → is_engine_for engine.new other
         ≡ is_engine_for engine.old other }
 {
     engines_answer_alone::<N>();
     live_turns_are_whole::<Engine<N>>();
     turns_have_lines::<Engine<N>>();
+    shown_trees_have_lines::<Engine<N>>();
     let mut notes = Vec::new(alloc);
     match take_event(alloc, machine, state, engine, event, &mut notes) {
         Ok(()) => {
             records_law(notes.as_slice());
-            tell(event, notes.as_slice(), text)
+            tell(event, notes.as_slice(), engine.trees(), text)
         }
         Err(_) => Err(Memory),
     }

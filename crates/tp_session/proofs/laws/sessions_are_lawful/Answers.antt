@@ -3,7 +3,7 @@ use Rattle.tp_session.proofs.Lawfully.{sessions_lawful, sessions_stop}
 use Rattle.tp_session.proofs.laws.sessions_are_lawful.Goals as goal
 
 pub returns-clause-whole : goal.returns-clause-whole
-returns-clause-whole c machine budget = sessions_lawful machine (unwrap_or budget machine.budget)
+returns-clause-whole c machine budget bounds = sessions_lawful machine (unwrap_or budget machine.budget) bounds
 
 pub returns-clause-stopped : goal.returns-clause-stopped
-returns-clause-stopped c machine budget = sessions_stop machine (unwrap_or budget machine.budget)
+returns-clause-stopped c machine budget bounds = sessions_stop machine (unwrap_or budget machine.budget) bounds

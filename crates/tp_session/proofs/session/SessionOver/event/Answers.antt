@@ -1,6 +1,7 @@
 -- An event can be taken after so many, and one more can be taken after it.
 use Rattle.std.proofs.Common.{ℕ, ◌+◌, ◌<◌, ◌≤◌, arith, sym, ap, subst, ◌∙◌}
 use Rattle.std.specs.Prelude.{IsTrue}
+use Rattle.tp_search.specs.Engines.{is_engine_for}
 use Rattle.tp_stream.specs.Scripts.{most_events}
 use Rattle.tp_turn.specs.LiveStates.{seen}
 use Rattle.tp_turn.specs.Ready.{CanTakeEvents, last_copy}
@@ -13,11 +14,16 @@ take_turn-result-requires-clause-can g c =
     (events-more c.self.inside.machine c.self.inside.answered last_copy (seen c.self.inside.state) (omega (arith, c.self.invariant.within)) c.self.invariant.can)
 
 pub invariant_of-self-in-Ok-1 : goal.invariant_of-self-in-Ok-1
-invariant_of-self-in-Ok-1 g c = record {
-  serves = subst IsTrue (sym (c.take_turn-result.ensures.serves c.self.inside.machine)) c.self.invariant.serves;
-  nodes = c.take_turn-result.ensures.nodes ∙ c.self.invariant.nodes;
-  can = c.in-Ok.ensures.kept c.self.inside.answered (subst (CanTakeEvents c.self.inside.machine c.self.inside.answered) (sym c.in_ok-before.ensures.stays) c.self.invariant.can);
-  within = subst (λ n. n + 1 ≤ most_events) (sym (ap (λ v. v.answered) c.self.view_is)) (less c.requires.few);
-} where
-  less : {a b : ℕ} → a < b → a + 1 ≤ b
-  less h = omega (arith, h)
+invariant_of-self-in-Ok-1 g c =
+    let cleared = c.clear_trees.ensures in
+    record {
+      serves = subst (λ e. IsTrue (is_engine_for e c.self.inside.machine)) (sym cleared) (subst IsTrue (sym (c.take_turn-result.ensures.serves c.self.inside.machine)) c.self.invariant.serves);
+      nodes = ap (λ e. e.work.nodes) cleared ∙ c.take_turn-result.ensures.nodes ∙ c.self.invariant.nodes;
+      bounds = ap (λ e. e.bounds) cleared ∙ c.take_turn-result.ensures.bounds ∙ c.self.invariant.bounds;
+      no_trees = ap (λ e. e.trees) cleared;
+      can = c.in-Ok.ensures.kept c.self.inside.answered (subst (CanTakeEvents c.self.inside.machine c.self.inside.answered) (sym c.in_ok-before.ensures.stays) c.self.invariant.can);
+      within = subst (λ n. n + 1 ≤ most_events) (sym (ap (λ v. v.answered) c.self.view_is)) (less c.requires.few);
+    }
+  where
+    less : {a b : ℕ} → a < b → a + 1 ≤ b
+    less h = omega (arith, h)

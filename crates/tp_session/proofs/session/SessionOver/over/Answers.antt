@@ -6,6 +6,8 @@ pub invariant_of-result : goal.invariant_of-result
 invariant_of-result g c = record {
   serves = c.in_ok-engine.ensures.serves;
   nodes = c.in_ok-engine.ensures.nodes;
+  bounds = c.in_ok-engine.ensures.bounds.0;
+  no_trees = c.in_ok-engine.ensures.bounds.1;
   can = subst (CanTakeEvents c.args.machine 0) (sym c.new-2.ensures) (c.empty_state_can_begin.ensures c.args.machine);
   within = omega arith;
 }

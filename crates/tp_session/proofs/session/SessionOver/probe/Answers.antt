@@ -9,11 +9,11 @@ pub returns-in-Ok-clause-told : goal.returns-in-Ok-clause-told
 returns-in-Ok-clause-told g c =
     let i = c.self.inside in
     subst (λ v. Probes v.standing c.args.event.now c.try_ask-given.result) c.self.view_is
-    (subst (λ (nodes : ℕ). Probes (record { machine = i.machine; budget = nodes; state = seen i.state }) c.args.event.now c.try_ask-given.result) c.self.invariant.nodes
-    (probes-behind i.machine i.engine.work.nodes (seen i.state) c.args.event.now c.try_ask-given.result (c.in-Ok.ensures.asked i.engine.work.nodes c.try_ask-given.result c.try_ask-given.ensures.gives)))
+    (subst (λ (nodes : ℕ). Probes (record { machine = i.machine; budget = nodes; bounds = i.bounds; state = seen i.state }) c.args.event.now c.try_ask-given.result) c.self.invariant.nodes
+    (probes-behind i.machine i.engine.work.nodes i.bounds (seen i.state) c.args.event.now c.try_ask-given.result (c.in-Ok.ensures.asked i.engine.work.nodes c.try_ask-given.result c.try_ask-given.ensures.gives)))
 
 pub returns-in-Err-clause-told : goal.returns-in-Err-clause-told
 returns-in-Err-clause-told g c =
     let i = c.self.inside in
     subst (λ v. Probes v.standing c.args.event.now c.in-Err.told) c.self.view_is
-    (probes-behind i.machine i.budget (seen i.state) c.args.event.now c.in-Err.told (c.in-Err.ensures.told i.budget))
+    (probes-behind i.machine i.budget i.bounds (seen i.state) c.args.event.now c.in-Err.told (c.in-Err.ensures.told i.budget))

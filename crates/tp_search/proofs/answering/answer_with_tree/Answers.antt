@@ -1,0 +1,60 @@
+-- The trial and its tree are of the ask for which the board was loaded.
+use Rattle.std.proofs.Common.{◌≡◌, ℕ, ◌+◌, ◌-◌, ◌≤◌, List, length, refl, sym, ap, subst, ◌∙◌, IsSomeAnd, arith}
+use Rattle.tp_schedule.specs.Answers.{IsLeast, follows_front}
+use Rattle.tp_schedule.specs.declared.parts.Plan.{Plan}
+use Rattle.tp_placing.specs.Writing.{IsLoadedFrom}
+use Rattle.tp_search.specs.Trials.{IsEarliestTo, IsNoPlan, board_in}
+use Rattle.tp_trees.specs.Claims.{IsTreeFor}
+use Rattle.tp_trees.specs.declared.claim.Claim.TheVariants.{Earliest}
+use Rattle.tp_search.proofs.answering.answer_with_tree.Goals as goal
+
+has-marks : (marks room past : ℕ) → past ≡ 0 → room ≡ marks → 330 ≤ marks → past + 326 ≤ room - 1
+has-marks marks room past none same many = omega (arith, none, same, many)
+
+pub show-requires-clause-trial : goal.show-requires-clause-trial
+show-requires-clause-trial g c =
+    (c.load.new.self, (c.in-Ok.ensures.trial, has-marks _ _ _ (ap length c.load.ensures.past) c.load.ensures.marks c.requires.marks))
+
+pub show-requires-clause-loaded : goal.show-requires-clause-loaded
+show-requires-clause-loaded g c =
+    let plans = c.args.schedule.now.plans in
+    let asked = c.in-Ok.ensures.trial.loaded.ask ∙ c.load.ensures.asked in
+    let loaded : IsLoadedFrom c.args.machine.now plans c.args.ask.now c.load.new.self.plans = record { can_ask = c.requires.can; live_part = c.load.ensures.plans } in
+    subst (λ o. IsSomeAnd o (λ ask. (x : List Plan) × IsLoadedFrom c.args.machine.now x ask (board_in c.in-Ok.trial).plans)) (sym asked)
+    (plans, subst (IsLoadedFrom c.args.machine.now plans c.args.ask.now) (sym c.in-Ok.ensures.trial.loaded.plans) loaded)
+
+pub commit-requires-clause-trial : goal.commit-requires-clause-trial
+commit-requires-clause-trial g c = (c.load.new.self, c.show.ensures.trial c.load.new.self c.in-Ok.ensures.trial)
+
+pub abandon-requires : goal.abandon-requires
+abandon-requires g c = record { trial = (c.load.new.self, c.args.machine.now, c.show.ensures.trial c.load.new.self c.in-Ok.ensures.trial) }
+
+pub returns-in-Ok-show-clause-answer : goal.returns-in-Ok-show-clause-answer
+returns-in-Ok-show-clause-answer g c =
+    let asked = c.show.ensures.same.loaded.ask ∙ c.in-Ok.ensures.trial.loaded.ask ∙ c.load.ensures.asked in
+    let done = subst (λ o. IsSomeAnd o (λ ask. IsEarliestTo c.args.machine.now c.args.schedule.now.plans ask c.show.new.self.end c.commit.new.schedule.plans)) asked c.commit.ensures.earliest in
+    let least = subst (λ o. IsSomeAnd o (λ ask. IsLeast c.args.machine.now ask.now (follows_front ask) c.commit.new.schedule.plans)) asked c.commit.ensures.least in
+    (done.earliest, least)
+
+pub returns-in-Ok-show-clause-tree : goal.returns-in-Ok-show-clause-tree
+returns-in-Ok-show-clause-tree g c =
+    let machine = c.args.machine.now in
+    let plans = c.args.schedule.now.plans in
+    let ask = c.args.ask.now in
+    let first = c.in-Ok.ensures.trial.loaded.ask ∙ c.load.ensures.asked in
+    let asked = c.show.ensures.same.loaded.ask ∙ first in
+    let loaded : IsLoadedFrom machine plans ask c.load.new.self.plans = record { can_ask = c.requires.can; live_part = c.load.ensures.plans } in
+    let done = subst (λ o. IsSomeAnd o (λ ask. IsEarliestTo machine plans ask c.show.new.self.end c.commit.new.schedule.plans)) asked c.commit.ensures.earliest in
+    let shows = subst (λ o. IsSomeAnd o (λ ask. (plans : List Plan) → IsLoadedFrom machine plans ask (board_in c.in-Ok.trial).plans → IsTreeFor machine plans ask (Earliest c.in-Ok.trial.end) c.in-Ok-show.tree)) first c.in-Ok-show.ensures.tree in
+    let a = done.earliest.alternative in (
+      a.plan,
+      a.planned,
+      subst (λ end. IsTreeFor machine plans ask (Earliest end) c.in-Ok-show.tree) (sym (done.ends ∙ c.show.ensures.same.end))
+          (shows plans (subst (IsLoadedFrom machine plans ask) (sym c.in-Ok.ensures.trial.loaded.plans) loaded)),
+    )
+
+pub returns-in-Ok-show_never-clause-answer : goal.returns-in-Ok-show_never-clause-answer
+returns-in-Ok-show_never-clause-answer g c =
+    let loaded : IsLoadedFrom c.args.machine.now c.args.schedule.now.plans c.args.ask.now c.load.new.self.plans = record { can_ask = c.requires.can; live_part = c.load.ensures.plans } in
+    let told = subst (IsNoPlan c.args.machine.now c.args.schedule.now.plans c.args.ask.now c.args.work.now.nodes) c.in-Err-Never.field-0-is (c.in-Err-Never.ensures.none c.args.schedule.now.plans loaded) in
+    (refl, told.0)
