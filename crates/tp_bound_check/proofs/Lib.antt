@@ -8,6 +8,7 @@ pub mod TakeFacts
 pub mod NodeFacts
 pub mod FoundFacts
 pub mod CutFacts
+pub mod LaterFacts
 pub mod TrackFacts
 pub mod SortFacts
 pub mod SlotFacts

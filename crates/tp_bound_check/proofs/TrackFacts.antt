@@ -1,5 +1,5 @@
 -- Tracks of orders, as the orders grow, and what is between holds of a branch.
-use Rattle.std.proofs.Common.{◌≡◌, ℕ, zero, suc, ◌==◌, refl, ◌+◌, ◌-◌, ◌≤◌, ◌<◌, cond, min, List, [], ◌∷◌, ◌++◌, length, insert, take, get_or, sym, ◌∙◌, ap, subst, arith, AllPairs, Option, Some, None}
+use Rattle.std.proofs.Common.{◌≡◌, ℕ, zero, suc, ◌==◌, refl, ◌+◌, ◌-◌, ◌≤◌, ◌<◌, cond, max, min, List, [], ◌∷◌, ◌++◌, length, insert, take, reverse, get_or, sym, ◌∙◌, ap, subst, arith, AllPairs, Option, Some, None}
 use Rattle.tp_constraints.proofs.Placing.{put_places-push}
 use Rattle.tp_constraints.specs.Gaps.{Gap}
 use Rattle.tp_constraints.specs.Suffixes.{choice_slot, order_in, place_first, with_place, Suffix}
@@ -20,12 +20,15 @@ use Rattle.tp_trees.proofs.ApartStarts.{Apart, starts-apart}
 use Rattle.tp_trees.proofs.Lists.{number-same}
 use Rattle.tp_machine.specs.Modes.{gap_at}
 use Rattle.tp_trees.specs.Chains.{gap_in, or_else, spanned}
-use Rattle.tp_trees.specs.Places.{Span, rule_in}
+use Rattle.tp_trees.specs.Places.{Branch, Span, rule_in}
 use Rattle.tp_bound_check.specs.Founds.{found_in, gap_out, put_found, track_of}
 use Rattle.tp_bound_check.specs.declared.found.Found.{Found}
 use Rattle.tp_bound_check.specs.declared.found.Track.{Track}
 use Rattle.tp_bound_check.proofs.CutFacts.{cut-insert, gap-cut}
 use Rattle.tp_bound_check.proofs.FoundFacts.{found-insert, insert-length}
+use Rattle.tp_bound_check.proofs.LaterFacts.{gap-until}
+use Rattle.tp_bound_check.specs.Points.{choices_to}
+use Rattle.tp_bound_check.specs.Stands.{order_until}
 
 pub track-put : (b a : Spot) (order : List Slot) (place : ℕ) (s : Slot) (t : Track) (at len : ℕ) (before after : Option Found) → t ≡ track_of b a order → at ≡ min place t.len → len ≡ t.len + 1 → before ≡ put_found b at s t.before
     → after ≡ put_found a at s t.after → record { len = len; before = before; after = after } ≡ track_of b a (insert order place s)
@@ -82,20 +85,24 @@ module _ (machine : Machine) (plans : List Plan) (in_order : AllPairs IsEarlier 
       let pairs = subst (AllPairs Apart) (order-one span.rule span.lo x.choices is) (starts-apart machine plans (with_place span.lo x) span.rule.resource.0 in_order) in
       sym (ap (gap_in apart b a) (cut-insert span.lo span.hi s order le) ∙ gap-cut apart b a (suc span.lo) (suc span.hi) (insert order span.lo s) (omega (arith, le)) pairs)
 
-  -- the same of what the code has: a gap of the whole order comes first
-  whole : (x : Suffix) (resource apart : ℕ) (b a : Spot) (t : Track) → t ≡ track_of b a (order_in machine plans x resource) → apart ≡ gap_at machine resource
-      → gap_out apart 0 0 t.before t.after ≡ gap_in (gap_at machine resource) b a (order_in machine plans x resource)
-  whole x resource apart b a t is width =
+  -- the same of what the code has, the order with the choices up to both
+  whole : (branch : Branch) (resource apart n : ℕ) (b a : Spot) (t : Track) → t ≡ track_of b a (order_until machine plans branch resource n) → apart ≡ gap_at machine resource → n ≡ min (max (choices_to b) (choices_to a)) (length branch.x.choices)
+      → gap_out apart 0 0 t.before t.after ≡ gap_in (gap_at machine resource) b a (order_in machine plans branch.x resource)
+  whole branch resource apart n b a t is width count =
+      let x : Suffix = record { choices = reverse (take n (reverse branch.x.choices)); rooms = branch.x.rooms; stopped = branch.x.stopped } in
       ap (λ (k : Track). gap_out apart 0 0 k.before k.after) is ∙ ap (λ w. gap_out w 0 0 (found_in b (order_in machine plans x resource)) (found_in a (order_in machine plans x resource))) width
-      ∙ gap-whole x resource (gap_at machine resource) b a
+      ∙ gap-whole x resource (gap_at machine resource) b a ∙ gap-until machine plans branch resource (gap_at machine resource) b a n count
 
-  pub first-gap : (x : Suffix) (resource apart : ℕ) (b a : Spot) (t : Track) (g : Gap) (other : Option Gap) → t ≡ track_of b a (order_in machine plans x resource) → apart ≡ gap_at machine resource
-      → Some g ≡ gap_out apart 0 0 t.before t.after → Some g ≡ or_else (gap_in (gap_at machine resource) b a (order_in machine plans x resource)) other
-  first-gap x resource apart b a t g other is width e = ap (λ o. or_else o other) (e ∙ whole x resource apart b a t is width)
+  -- a gap of the whole order comes first
+  pub first-gap : (inside branch : Branch) (resource apart n : ℕ) (b a : Spot) (t : Track) (g : Gap) (other : Option Gap) → inside ≡ branch → t ≡ track_of b a (order_until machine plans inside resource n) → apart ≡ gap_at machine resource
+      → n ≡ min (max (choices_to b) (choices_to a)) (length inside.x.choices) → Some g ≡ gap_out apart 0 0 t.before t.after → Some g ≡ or_else (gap_in (gap_at machine resource) b a (order_in machine plans branch.x resource)) other
+  first-gap inside branch resource apart n b a t g other same is width count e =
+      ap (λ o. or_else o other) (e ∙ whole inside resource apart n b a t is width count ∙ ap (λ (k : Branch). gap_in (gap_at machine resource) b a (order_in machine plans k.x resource)) same)
 
-  pub other-gap : (x : Suffix) (resource apart : ℕ) (b a : Spot) (t : Track) (r other : Option Gap) → t ≡ track_of b a (order_in machine plans x resource) → apart ≡ gap_at machine resource
-      → None ≡ gap_out apart 0 0 t.before t.after → r ≡ other → r ≡ or_else (gap_in (gap_at machine resource) b a (order_in machine plans x resource)) other
-  other-gap x resource apart b a t r other is width e same = same ∙ ap (λ o. or_else o other) (e ∙ whole x resource apart b a t is width)
+  pub other-gap : (inside branch : Branch) (resource apart n : ℕ) (b a : Spot) (t : Track) (r other : Option Gap) → inside ≡ branch → t ≡ track_of b a (order_until machine plans inside resource n) → apart ≡ gap_at machine resource
+      → n ≡ min (max (choices_to b) (choices_to a)) (length inside.x.choices) → None ≡ gap_out apart 0 0 t.before t.after → r ≡ other → r ≡ or_else (gap_in (gap_at machine resource) b a (order_in machine plans branch.x resource)) other
+  other-gap inside branch resource apart n b a t r other same is width count e rest =
+      rest ∙ ap (λ o. or_else o other) (e ∙ whole inside resource apart n b a t is width count ∙ ap (λ (k : Branch). gap_in (gap_at machine resource) b a (order_in machine plans k.x resource)) same)
 
   pub spanned-gap : (x : Suffix) (inside span : Span) (b a : Spot) (apart lo hi count : ℕ) (from to : Spot) (put : Track) (g : Option Gap) → inside ≡ span → rule_in machine x.choices ≡ Some span.rule → span.lo ≤ span.hi → 0 < length x.choices
       → count ≡ length x.choices → from ≡ own count → to ≡ own (count - 1) → lo ≡ inside.lo → hi ≡ inside.hi

@@ -19,6 +19,11 @@ abbrev pub at_in : Spot → ℕ
 at_in (own n) = n
 at_in (kept copy i) = i
 
+-- how many choices, the oldest first, come up to an own point
+abbrev pub choices_to : Spot → ℕ
+choices_to (own n) = n
+choices_to (kept copy i) = 0
+
 pub copy_again : (copy : Option SheetId) (at : ℕ) → copy_in (spot_by copy at) ≡ copy
 copy_again None at = refl
 copy_again (Some copy) at = refl

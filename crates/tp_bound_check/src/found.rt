@@ -1,7 +1,7 @@
 //! Where the holds of two actions stand in the order of a resource.
-ghost use Rattle.std.specs.Prelude.{◌≡◌, ◌+◌, ◌<◌, ◌≤◌, ◌^◌, ◌==◌, List, All, insert, length, min, if◌then◌else◌};
+ghost use Rattle.std.specs.Prelude.{◌≡◌, ◌+◌, ◌<◌, ◌≤◌, ◌^◌, ◌==◌, List, All, insert, length, max, min, if◌then◌else◌};
 ghost use Rattle.tp_bound_check.specs.Founds.{IsBelow, IsTrack, earlier, gap_out, is_outside, put_found, shifted, track_of};
-ghost use Rattle.tp_bound_check.specs.Points.{HasOffsets};
+ghost use Rattle.tp_bound_check.specs.Points.{HasOffsets, choices_to};
 ghost use Rattle.tp_schedule.specs.Choices.{put_places};
 ghost use Rattle.tp_schedule.specs.Spots as spots;
 
@@ -21,6 +21,15 @@ pub(crate) struct Found {
 pub(crate) struct Ends {
     pub(crate) before: Point,
     pub(crate) after: Point,
+}
+
+impl Ends {
+    /// How many choices, the oldest first, come up to both.
+    pub(crate) fn choices(&self) -> u32
+        ensures { result ≡ max (choices_to self.now.before) (choices_to self.now.after) }
+    {
+        self.before.choices_to().max(self.after.choices_to())
+    }
 }
 
 /// The points from and to which an action runs.

@@ -5,7 +5,7 @@ ghost use Rattle.tp_bound_check.specs.Founds.{IsBelow, IsTrack, found_in, track_
 ghost use Rattle.tp_bound_check.specs.Keys.{start_key};
 ghost use Rattle.tp_bound_check.specs.Links.{ends_of};
 ghost use Rattle.tp_bound_check.specs.Points.{HasOffsets};
-ghost use Rattle.tp_bound_check.specs.Stands.{AreOrders};
+ghost use Rattle.tp_bound_check.specs.Stands.{AreOrders, order_until};
 ghost use Rattle.tp_constraints.specs.Suffixes.{order_in};
 ghost use Rattle.tp_machine.specs.Using.{action_at};
 ghost use Rattle.tp_schedule.specs.Choices.{Choice};
@@ -154,16 +154,24 @@ impl<'a> Scene<'a> {
         }
     }
 
-    /// The same of the order with the holds of the branch.
-    pub(crate) fn track(&self, branch: &Branch, resource: u16, ends: &Ends) -> Track
-        requires { resource < length self.now.rows.machine.now.resources }
+    /// The same of the order with the holds of so many choices of the branch, the oldest first.
+    pub(crate) fn track_until(
+        &self,
+        branch: &Branch,
+        resource: u16,
+        ends: &Ends,
+        count: u32,
+    ) -> Track
+        requires known { resource < length self.now.rows.machine.now.resources }
+        requires count { count ≤ length branch.now.x.choices }
         ensures order { result ≡ track_of ends.now.before ends.now.after
-            (order_in self.now.rows.machine.now self.now.plans.now branch.now.x resource) }
+            (order_until self.now.rows.machine.now self.now.plans.now branch.now resource count) }
         ensures track { IsTrack result }
         ensures few { result.len < 2 ^ 33 }
     {
+        let _most = branch.count();
         let mut track = self.kept_track(resource, ends);
-        'choices: for at in 0..branch.count() {
+        'choices: for at in 0..count {
             let Some(act) = branch.act(at) else {
                 unreachable!()
             };
@@ -175,5 +183,16 @@ impl<'a> Scene<'a> {
             track = track.put_places(ends, resource, &leg, rules, branch.places(at));
         }
         track
+    }
+
+    /// The same of the order with all holds of the branch.
+    pub(crate) fn track(&self, branch: &Branch, resource: u16, ends: &Ends) -> Track
+        requires { resource < length self.now.rows.machine.now.resources }
+        ensures order { result ≡ track_of ends.now.before ends.now.after
+            (order_in self.now.rows.machine.now self.now.plans.now branch.now.x resource) }
+        ensures track { IsTrack result }
+        ensures few { result.len < 2 ^ 33 }
+    {
+        self.track_until(branch, resource, ends, branch.count())
     }
 }

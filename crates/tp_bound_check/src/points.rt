@@ -31,7 +31,7 @@ impl Model for Point {
 }
 
 impl Point {
-    ghost use Rattle.tp_bound_check.specs.Points.{at_in, copy_in};
+    ghost use Rattle.tp_bound_check.specs.Points.{at_in, choices_to, copy_in};
 
     pub(crate) fn own(at: u32) -> Point
         ensures { result ≡ own at }
@@ -58,6 +58,16 @@ impl Point {
         ensures { result ≡ at_in self }
     {
         self.at
+    }
+
+    /// How many choices, the oldest first, come up to it.
+    pub(crate) fn choices_to(self) -> u32
+        ensures { result ≡ choices_to self }
+    {
+        match self.copy {
+            Some(_) => 0,
+            None => self.at,
+        }
     }
 
     pub(crate) fn is(self, other: Point) -> bool
