@@ -1,8 +1,9 @@
 //! Chains and loops of hops.
 ghost use Rattle.std.specs.Prelude.{◌≡◌, ◌+◌, ◌-◌, ◌<◌, ◌≤◌, ◌^◌, length, Some, ℤ, pos, neg_ℤ, ◌≤ℤ◌, ◌+ℤ◌, option_copied, false, position, IfOk, IfErr};
 ghost use Rattle.std.specs.Str.{bytes_eq};
+ghost use Rattle.tp_bound_check.specs.Founds.{IsTrack, track_of};
 ghost use Rattle.tp_bound_check.specs.Points.{IsWeight};
-ghost use Rattle.tp_bound_check.specs.Stands.{IsSoundStand};
+ghost use Rattle.tp_bound_check.specs.Stands.{IsPart, IsSoundStand};
 ghost use Rattle.tp_constraints.specs.Gaps.{cap_in, low_in};
 ghost use Rattle.tp_constraints.specs.Suffixes.{order_in};
 ghost use Rattle.tp_machine.specs.Modes.{gap_at};
@@ -14,7 +15,7 @@ ghost use Rattle.tp_trees.specs.Places as places;
 ghost use Rattle.tp_trees.specs.Places.{next_rule};
 
 use crate::branch::Branch;
-use crate::found::{Cut, Ends};
+use crate::found::{Cut, Ends, Part, Track};
 use crate::hops::{duration_gap, line_gap};
 use crate::naming::{resource_of, spot_of, start_of};
 use crate::orders::{Scene, rule_law};
@@ -153,9 +154,14 @@ impl<'a> Scene<'a> {
 
     /// What is between the holds of two actions, where the next hold of the branch has several
     /// places.
-    fn spanned_gap(&self, branch: &Branch, span: Span, ends: &Ends) -> Option<Gap>
+    fn spanned_gap(&self, branch: &Branch, span: Span, ends: &Ends, track: &Track) -> Option<Gap>
         requires next { next_rule self.now.rows.machine.now branch.now.x ≡ Some span.rule }
         requires span { span.lo ≤ span.hi }
+        requires order { track.now ≡ track_of ends.now.before ends.now.after
+            (order_in self.now.rows.machine.now self.now.plans.now branch.now.x
+            span.rule.resource.0) }
+        requires track { IsTrack track.now }
+        requires few { track.now.len < 2 ^ 33 }
         ensures { result ≡ gap_in (gap_at self.now.rows.machine.now span.rule.resource.0)
             ends.now.before ends.now.after (spanned branch.now.x span
             (order_in self.now.rows.machine.now self.now.plans.now branch.now.x
@@ -173,13 +179,15 @@ impl<'a> Scene<'a> {
             hi: u64::from(span.hi) + 1,
         };
         let apart = gap_at(self.rows.machine, span.rule.resource);
-        let track = self.track(branch, span.rule.resource.0, ends);
         let put = track.put(ends, span.lo, slot);
         put.gap(apart, cut)
     }
 
-    fn span_gap(&self, stand: &Stand, resource: u16, ends: &Ends) -> Option<Gap>
+    fn span_gap(&self, stand: &Stand, resource: u16, ends: &Ends, part: Part) -> Option<Gap>
         requires sound { IsSoundStand self.now.rows.machine.now stand.now }
+        requires count { part.count ≤ length stand.now.branch.x.choices }
+        requires part { IsPart self.now.rows.machine.now self.now.plans.now stand.now.branch
+            resource ends.now part }
         ensures { result ≡ span_gap self.now.rows.machine.now stand.now.branch.x stand.now.span
             resource ends.now.before ends.now.after
             (order_in self.now.rows.machine.now self.now.plans.now stand.now.branch.x resource) }
@@ -187,7 +195,8 @@ impl<'a> Scene<'a> {
         match stand.span {
             Some(span) => {
                 if span.rule.resource.0 == resource {
-                    self.spanned_gap(&stand.branch, span, ends)
+                    let whole = self.whole_track(&stand.branch, resource, ends, part);
+                    self.spanned_gap(&stand.branch, span, ends, &whole)
                 } else {
                     None
                 }
@@ -203,13 +212,13 @@ impl<'a> Scene<'a> {
             self.now.rows.ask.now self.now.limit stand.now resource ends.now.before ends.now.after }
     {
         let count = ends.choices().min(stand.branch.count());
-        let track = self.track_until(&stand.branch, resource, ends, count);
+        let part = self.part(&stand.branch, resource, ends, count);
         let apart = gap_at(self.rows.machine, ResId(resource));
         let nothing = Cut { lo: 0, hi: 0 };
-        let gap = track.gap(apart, nothing);
+        let gap = part.track.gap(apart, nothing);
         match gap {
             Some(gap) => Some(gap),
-            None => self.span_gap(stand, resource, ends),
+            None => self.span_gap(stand, resource, ends, part),
         }
     }
 

@@ -47,6 +47,13 @@ pub(crate) struct Track {
     pub(crate) after: Option<Found>,
 }
 
+/// A track of the order with the holds of so many choices of a branch, the oldest first.
+#[derive(Clone, Copy)]
+pub(crate) struct Part {
+    pub(crate) track: Track,
+    pub(crate) count: u32,
+}
+
 /// The places from `lo` on that stand before `hi`.
 #[derive(Clone, Copy)]
 pub(crate) struct Cut {

@@ -1,11 +1,11 @@
 //! Orders of resources with the holds of a branch.
-ghost use Rattle.std.specs.Prelude.{◌≡◌, ◌<◌, ◌≤◌, ◌^◌, length, map, Some, IfOk, All};
+ghost use Rattle.std.specs.Prelude.{◌≡◌, ◌+◌, ◌*◌, ◌<◌, ◌≤◌, ◌^◌, length, map, Some, IfOk, All};
 ghost use Rattle.tp_bound_check.specs.Branches.{newest_in};
 ghost use Rattle.tp_bound_check.specs.Founds.{IsBelow, IsTrack, found_in, track_of};
 ghost use Rattle.tp_bound_check.specs.Keys.{start_key};
 ghost use Rattle.tp_bound_check.specs.Links.{ends_of};
 ghost use Rattle.tp_bound_check.specs.Points.{HasOffsets};
-ghost use Rattle.tp_bound_check.specs.Stands.{AreOrders, order_until};
+ghost use Rattle.tp_bound_check.specs.Stands.{AreOrders, IsPart, order_until};
 ghost use Rattle.tp_constraints.specs.Suffixes.{order_in};
 ghost use Rattle.tp_machine.specs.Using.{action_at};
 ghost use Rattle.tp_schedule.specs.Choices.{Choice};
@@ -15,7 +15,7 @@ ghost use Rattle.tp_schedule.specs.Timetables.{IsOrdered};
 ghost use Rattle.tp_trees.specs.Places.{next_rule};
 
 use crate::branch::Branch;
-use crate::found::{Ends, Found, Leg, Track};
+use crate::found::{Ends, Found, Leg, Part, Track};
 use crate::index::{StartKey, places_of, start_key};
 use crate::links::Links;
 use crate::points::{Point, Slot};
@@ -154,24 +154,27 @@ impl<'a> Scene<'a> {
         }
     }
 
-    /// The same of the order with the holds of so many choices of the branch, the oldest first.
-    pub(crate) fn track_until(
+    /// The track of the order with the holds of more choices, up to so many.
+    pub(crate) fn track_from(
         &self,
         branch: &Branch,
         resource: u16,
         ends: &Ends,
+        part: Part,
         count: u32,
     ) -> Track
-        requires known { resource < length self.now.rows.machine.now.resources }
         requires count { count ≤ length branch.now.x.choices }
+        requires more { part.count ≤ count }
+        requires part { IsPart self.now.rows.machine.now self.now.plans.now branch.now resource
+            ends.now part }
         ensures order { result ≡ track_of ends.now.before ends.now.after
             (order_until self.now.rows.machine.now self.now.plans.now branch.now resource count) }
         ensures track { IsTrack result }
-        ensures few { result.len < 2 ^ 33 }
+        ensures few { result.len < 2 ^ 32 + 4 * count }
     {
         let _most = branch.count();
-        let mut track = self.kept_track(resource, ends);
-        'choices: for at in 0..count {
+        let mut track = part.track;
+        'choices: for at in part.count..count {
             let Some(act) = branch.act(at) else {
                 unreachable!()
             };
@@ -185,14 +188,55 @@ impl<'a> Scene<'a> {
         track
     }
 
-    /// The same of the order with all holds of the branch.
-    pub(crate) fn track(&self, branch: &Branch, resource: u16, ends: &Ends) -> Track
-        requires { resource < length self.now.rows.machine.now.resources }
+    /// The track of the order with the holds of so many choices, the oldest first.
+    pub(crate) fn part(&self, branch: &Branch, resource: u16, ends: &Ends, count: u32) -> Part
+        requires known { resource < length self.now.rows.machine.now.resources }
+        requires count { count ≤ length branch.now.x.choices }
+        ensures part { IsPart self.now.rows.machine.now self.now.plans.now branch.now resource
+            ends.now result }
+        ensures count { result.count ≡ count }
+    {
+        let kept = Part {
+            track: self.kept_track(resource, ends),
+            count: 0,
+        };
+        Part {
+            track: self.track_from(branch, resource, ends, kept, count),
+            count,
+        }
+    }
+
+    /// The track of the order with all holds of the branch.
+    pub(crate) fn whole_track(
+        &self,
+        branch: &Branch,
+        resource: u16,
+        ends: &Ends,
+        part: Part,
+    ) -> Track
+        requires count { part.count ≤ length branch.now.x.choices }
+        requires part { IsPart self.now.rows.machine.now self.now.plans.now branch.now resource
+            ends.now part }
         ensures order { result ≡ track_of ends.now.before ends.now.after
             (order_in self.now.rows.machine.now self.now.plans.now branch.now.x resource) }
         ensures track { IsTrack result }
         ensures few { result.len < 2 ^ 33 }
     {
-        self.track_until(branch, resource, ends, branch.count())
+        self.track_from(branch, resource, ends, part, branch.count())
+    }
+
+    /// How many holds an order has with all those of the branch.
+    pub(crate) fn length(&self, branch: &Branch, resource: u16) -> u64
+        requires { resource < length self.now.rows.machine.now.resources }
+        ensures { result ≡ length (order_in self.now.rows.machine.now self.now.plans.now
+            branch.now.x resource) }
+    {
+        let end = Point::own(0);
+        let ends = Ends {
+            before: end,
+            after: end,
+        };
+        let part = self.part(branch, resource, &ends, branch.count());
+        part.track.len
     }
 }

@@ -12,9 +12,7 @@ ghost use Rattle.tp_trees.specs.Trees.Look.{due};
 
 use crate::branch::Branch;
 use crate::dues::{Fault, Frame};
-use crate::found::Ends;
 use crate::orders::{Scene, rule_law};
-use crate::points::Point;
 use crate::stands::{Span, Stand};
 use crate::states::is_named;
 use tp_base::Name;
@@ -69,12 +67,7 @@ impl<'a> Scene<'a> {
             self.now.rows.ask.now self.now.rows.rows.now branch.now rule }
     {
         rule_law(self.rows.machine, branch, rule);
-        let end = Point::own(0);
-        let ends = Ends {
-            before: end,
-            after: end,
-        };
-        self.track(branch, rule.resource.0, &ends).len
+        self.length(branch, rule.resource.0)
     }
 
     pub(crate) fn goal_stand(&self, state: State, head: &Head, depth: u32) -> Option<Stand>

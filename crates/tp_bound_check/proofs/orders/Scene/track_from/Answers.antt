@@ -2,7 +2,7 @@ use Rattle.std.proofs.Common.{◌∙◌, ap, refl, arith}
 use Rattle.tp_bound_check.specs.Founds.{track_of}
 use Rattle.tp_bound_check.specs.Stands.{order_until}
 use Rattle.tp_bound_check.proofs.StandFacts.{order-step}
-use Rattle.tp_bound_check.proofs.orders.Scene.track_until.Goals as goal
+use Rattle.tp_bound_check.proofs.orders.Scene.track_from.Goals as goal
 
 pub choices-preserved : goal.choices-preserved
 choices-preserved c =

@@ -1,7 +1,7 @@
 use Rattle.std.proofs.Common.{◌≡◌, ◌+◌, ◌*◌, ◌<◌, ◌^◌}
 use Rattle.tp_bound_check.specs.Founds.{IsTrack, track_of}
 use Rattle.tp_bound_check.specs.Stands.{order_until}
-use Rattle.tp_bound_check.proofs.orders.Scene.track_until.Given as goal
+use Rattle.tp_bound_check.proofs.orders.Scene.track_from.Given as goal
 
 abbrev pub invariant-choices : goal.invariant-choices
 invariant-choices l = record {
