@@ -75,7 +75,7 @@ fn ends_over_plain(
     machine: &Machine,
     prints: (Want, Want),
 ) -> Result<[Tick; 2], Fail> {
-    let mut engine = engine_for(alloc, machine)?;
+    let mut engine = engine_for(alloc, machine, false)?;
     ends_in_turn(alloc, &mut engine, machine, prints)
 }
 

@@ -33,11 +33,15 @@ fn duo_machine(alloc: Global) -> Result<Machine, Fail> {
     }
 }
 
-pub(crate) fn engine_for(alloc: Global, machine: &Machine) -> Result<Engine<PlainNet>, Fail>
+pub(crate) fn engine_for(
+    alloc: Global,
+    machine: &Machine,
+    bounds: bool,
+) -> Result<Engine<PlainNet>, Fail>
     ensures { IfOk result (λ engine. IsTrue (is_engine_for engine machine.now)) }
 {
     match PlainNet::new(alloc, 16_642, 100_000, 330) {
-        Ok(net) => match Engine::new(alloc, machine, net, 1000, false) {
+        Ok(net) => match Engine::new(alloc, machine, net, 1000, bounds) {
             Ok(engine) => Ok(engine),
             Err(_) => Err(Fail::from("memory")),
         },
@@ -46,7 +50,11 @@ pub(crate) fn engine_for(alloc: Global, machine: &Machine) -> Result<Engine<Plai
 }
 
 /// The ask for a new copy of the sheet of this number, with these prints on front and back, to the first tray.
-fn first_tray_ask(machine: &Machine, number: u32, prints: (Want, Want)) -> Result<Ask, Fail>
+pub(crate) fn first_tray_ask(
+    machine: &Machine,
+    number: u32,
+    prints: (Want, Want),
+) -> Result<Ask, Fail>
     ensures now { IfOk result (λ ask. ask.now ≡ 0) }
     ensures new { IfOk result (λ ask. ask.origin ≡ Feeder) }
     ensures goal { IfOk result (λ ask. IsOpenGoal machine.now [] ask ask.goal) }
@@ -207,7 +215,7 @@ fn first_tried<N: Network>(
 /// The replies and the points in turn, and how many marks of the board are spare then.
 fn told_on_duo(alloc: Global) -> Result<([Reply; 2], [[Tick; 4]; 5], u32), Fail> {
     let machine = duo_machine(alloc)?;
-    let mut engine = engine_for(alloc, &machine)?;
+    let mut engine = engine_for(alloc, &machine, false)?;
     let (replies, points) = told_in_turn(alloc, &mut engine, &machine)?;
     Ok((replies, points, engine.board().spare_marks()))
 }

@@ -39,3 +39,5 @@ mod telling;
 mod timelines_rows;
 #[cfg(test)]
 mod trail_rows;
+#[cfg(test)]
+mod tree_rows;

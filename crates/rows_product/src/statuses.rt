@@ -28,7 +28,7 @@ fn words_off_the_form(rt: HostRuntime) -> Result<(), Fail> {
         &["run", "m.toml", "--budget", "0"],
         &["run", "m.toml", "--budget", "200001"],
         &["run", "m.toml", "--budget", "1", "--budget=1"],
-        &["run", "m.toml", "--bounds"],
+        &["run", "m.toml", "--bounds", "--bounds"],
         &["run", "m.toml", "--help"],
         &["check", "m.toml"],
         &["soak", "1"],

@@ -1,0 +1,91 @@
+//! Trees that an engine with bounds shows, looked at by the checker of trees, which knows no network and no search.
+ghost use Rattle.std.specs.Prelude.{IsTrue, OnOk};
+ghost use Rattle.tp_schedule.specs.Planning.{CanPlanOn};
+ghost use Rattle.tp_search.specs.Engines.{is_engine_for};
+
+use crate::engine_rows::{MONO, ask_sheet, engine_for, first_tray_ask};
+use rows_machine::machines::{DUO, TAIL};
+use std::alloc::Global;
+use std::process::Abort;
+use std::test::Fail;
+use tp_bound_check::{Claim, check_bound};
+use tp_machine::Machine;
+use tp_machine_text::read_machine;
+use tp_schedule::{Ask, Reply, Schedule};
+use tp_search::Engine;
+use tp_stn_core::PlainNet;
+
+/// What a reply claims of the copy of the ask.
+fn claim_of(reply: Reply, ask: &Ask, schedule: &Schedule) -> Result<Claim, Fail> {
+    match (reply, schedule.find(ask.sheet)) {
+        (Reply::Planned, Some(at)) => {
+            let points = &schedule.plan_at(at).points;
+            match points.len() {
+                0 => Err(Fail::from("a plan without points")),
+                count => Ok(Claim::Earliest(points.get(count - 1))),
+            }
+        }
+        (Reply::Never, None) => Ok(Claim::Never),
+        _ => Err(Fail::from("neither a plan nor a none")),
+    }
+}
+
+/// Asks for the sheet of this number, and has the tree of the answer checked on the schedule as it was.
+fn claim_shown(
+    alloc: Global,
+    engine: &mut Engine<PlainNet>,
+    machine: &Machine,
+    schedule: &mut Schedule,
+    number: u32,
+) -> Result<Claim, Fail>
+    requires served { IsTrue (is_engine_for engine.old machine.now) }
+    requires plan_on { CanPlanOn machine.now 0 schedule.old.plans }
+    ensures served { OnOk result (IsTrue (is_engine_for engine.new machine.now)) }
+    ensures plan_on { OnOk result (CanPlanOn machine.now 0 schedule.new.plans) }
+{
+    let Ok(before) = schedule.copy(alloc) else {
+        return Err(Fail::from("memory"));
+    };
+    let ask = first_tray_ask(machine, number, MONO)?;
+    let reply = ask_sheet(engine, machine, schedule, number, MONO)?;
+    let claim = claim_of(reply, &ask, schedule)?;
+    let [.., tree] = engine.trees() else {
+        return Err(Fail::from("no tree"));
+    };
+    match check_bound(alloc, machine, &before, &ask, claim, tree) {
+        Ok(()) => Ok(claim),
+        Err(_) => Err(Fail::from("the tree doesn't show what is claimed")),
+    }
+}
+
+/// The claims of the answers for two sheets in turn, each with a tree that shows it.
+fn both_shown(
+    alloc: Global,
+    engine: &mut Engine<PlainNet>,
+    machine: &Machine,
+) -> Result<[Claim; 2], Fail>
+    requires { IsTrue (is_engine_for engine.old machine.now) }
+{
+    let mut schedule = Schedule::new(alloc);
+    let first = claim_shown(alloc, engine, machine, &mut schedule, 1)?;
+    let second = claim_shown(alloc, engine, machine, &mut schedule, 2)?;
+    Ok([first, second])
+}
+
+fn shown_on(alloc: Global, text: &str) -> Result<[Claim; 2], Fail> {
+    let Ok(machine) = read_machine(alloc, text.as_bytes()) else {
+        return Err(Fail::from("the machine text is refused"));
+    };
+    let mut engine = engine_for(alloc, &machine, true)?;
+    both_shown(alloc, &mut engine, &machine)
+}
+
+// On DUO the second sheet is fed ahead of the first; on TAIL nothing prints.
+#[test]
+fn answers_are_shown(rt: HostRuntime) -> Result<(), Fail> {
+    let on_duo = shown_on(rt.alloc(), DUO)?;
+    assert_eq!(rt; on_duo, [Claim::Earliest(14), Claim::Earliest(17)]);
+    let on_tail = shown_on(rt.alloc(), TAIL)?;
+    assert_eq!(rt; on_tail, [Claim::Never; 2]);
+    Ok(())
+}
