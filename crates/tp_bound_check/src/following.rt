@@ -183,6 +183,7 @@ impl<'a> Scene<'a> {
         put.gap(apart, cut)
     }
 
+    /// The same where the next hold of the branch is on the resource and has several places.
     fn span_gap(&self, stand: &Stand, resource: u16, ends: &Ends, part: Part) -> Option<Gap>
         requires sound { IsSoundStand self.now.rows.machine.now stand.now }
         requires count { part.count ≤ length stand.now.branch.x.choices }
@@ -205,6 +206,9 @@ impl<'a> Scene<'a> {
         }
     }
 
+    /// What is between the holds of two actions on a resource. Which of two holds stands first is
+    /// settled once both are in its order: choices after them change nothing, and those of kept
+    /// actions are in it from the start.
     fn resource_gap(&self, stand: &Stand, resource: u16, ends: &Ends) -> Option<Gap>
         requires known { resource < length self.now.rows.machine.now.resources }
         requires sound { IsSoundStand self.now.rows.machine.now stand.now }
