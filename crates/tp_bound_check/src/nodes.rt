@@ -74,7 +74,8 @@ impl<'a> Scene<'a> {
     fn is_done(&self, goals: &[State], stack: &mut Vec<Frame>) -> bool
         requires { All (IsSoundFrame self.now.rows.machine.now) stack.old.items }
         ensures done { result ≡ true → due_on self.now.rows.machine.now self.now.plans.now
-            self.now.rows.ask.now self.now.rows.rows.now self.now.limit goals.now stack.old.items ≡ [] }
+            self.now.rows.ask.now self.now.rows.rows.now self.now.limit goals.now
+            stack.old.items ≡ [] }
         ensures more { result ≡ false → (d : Due) × (ds : List Due) × (due_on
             self.now.rows.machine.now self.now.plans.now self.now.rows.ask.now
             self.now.rows.rows.now self.now.limit goals.now stack.old.items ≡ d ∷ ds) }

@@ -52,7 +52,8 @@ fn are_keys_known(table: &Table) -> bool
 }
 
 fn are_all_known(table: &Table) -> bool
-    ensures { result ≡ list_all (λ key. is_text_among rack_keys (string_bytes key)) (keys table.now) }
+    ensures { result ≡ list_all (λ key. is_text_among rack_keys (string_bytes key))
+        (keys table.now) }
 {
     table.keys().all(|key| is_known(key.as_str()))
 }
@@ -141,7 +142,8 @@ fn has_type_keys(value: &Value) -> bool
 }
 
 fn are_type_keys(table: &Table) -> bool
-    ensures { result ≡ list_all (λ key. is_text_among type_keys (string_bytes key)) (keys table.now) }
+    ensures { result ≡ list_all (λ key. is_text_among type_keys (string_bytes key))
+        (keys table.now) }
 {
     table.keys().all(|key| matches!(key.as_str(), "ports" | "actions" | "resources"))
 }
@@ -366,14 +368,16 @@ fn has_parts(table: &Table) -> bool
 #[tactic(auto, using(tp_machine_text::proofs::Seen::seen))]
 fn are_of_types(types: Option<&Table>, parts: &Table) -> bool
     ensures { result ≡ list_all (is_text_of (keys_of
-        (members_of (option_map (λ m. table_view m.now) types.entry)))) (data_of (table_view parts.now)) }
+        (members_of (option_map (λ m. table_view m.now) types.entry))))
+        (data_of (table_view parts.now)) }
 {
     are_all_of_types(types, parts)
 }
 
 fn are_all_of_types(types: Option<&Table>, parts: &Table) -> bool
     ensures { result ≡ list_all (λ v. is_text_of (keys_of
-        (members_of (option_map (λ m. table_view m.now) types.entry))) (view v)) (values parts.now) }
+        (members_of (option_map (λ m. table_view m.now) types.entry))) (view v))
+        (values parts.now) }
 {
     parts.values().all(|part| is_of_type(types, part))
 }

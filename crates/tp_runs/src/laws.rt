@@ -40,17 +40,20 @@ pub fn shown_trees_have_lines<P: Planner>()
 /// Where lines are answered, each by a turn on every whole state behind the live one, their events are answered by a lawful
 /// run, and the text of the answers is the text of its log.
 pub fn answered_lines_are_lawful()
-    ensures { (machine : Machine) (nodes : ℕ) (bounds : Bool) → LinesAreLawful machine nodes bounds }
+    ensures { (machine : Machine) (nodes : ℕ) (bounds : Bool)
+        → LinesAreLawful machine nodes bounds }
 {}
 
 /// A script that is answered whole is answered by a lawful run.
 pub fn answered_scripts_are_lawful()
-    ensures { (machine : Machine) (nodes : ℕ) (bounds : Bool) → ScriptsAreLawful machine nodes bounds }
+    ensures { (machine : Machine) (nodes : ℕ) (bounds : Bool)
+        → ScriptsAreLawful machine nodes bounds }
 {}
 
 /// Where a run over a script stops, what was written is the text of a lawful run over its first lines.
 pub fn stopped_scripts_are_lawful()
-    ensures { (machine : Machine) (nodes : ℕ) (bounds : Bool) → StopsAreLawful machine nodes bounds }
+    ensures { (machine : Machine) (nodes : ℕ) (bounds : Bool)
+        → StopsAreLawful machine nodes bounds }
 {}
 
 /// The headline, of every lawful run, of every script that was answered, and of the first lines of one where the run stopped:
@@ -58,7 +61,10 @@ pub fn stopped_scripts_are_lawful()
 /// sheets of broken jobs are skipped; each plan is earliest and least; each none means no alternative by the horizon; and each
 /// budget that as many different open lists with choices were stored as the budget allows, when one more had to be.
 pub fn runs_keep_promises()
-    ensures lawful { (machine : Machine) (nodes : ℕ) (bounds : Bool) → LawfulRunsKeepPromises machine nodes bounds }
-    ensures answered { (machine : Machine) (nodes : ℕ) (bounds : Bool) → AnswersKeepPromises machine nodes bounds }
-    ensures stopped { (machine : Machine) (nodes : ℕ) (bounds : Bool) → StopsKeepPromises machine nodes bounds }
+    ensures lawful { (machine : Machine) (nodes : ℕ) (bounds : Bool)
+        → LawfulRunsKeepPromises machine nodes bounds }
+    ensures answered { (machine : Machine) (nodes : ℕ) (bounds : Bool)
+        → AnswersKeepPromises machine nodes bounds }
+    ensures stopped { (machine : Machine) (nodes : ℕ) (bounds : Bool)
+        → StopsKeepPromises machine nodes bounds }
 {}

@@ -32,7 +32,8 @@ pub fn show_never<N: Network>(
         × ((other : List Plan) → ¬ IsAlternative machine.now plans ask.now other)) }
     requires ready { IsReady N.net N.content N.past N.mark_room board.old machine.now ask.now }
     requires marks { HasMarks N.net N.content N.past N.mark_room 326 board.old }
-    ensures tree { (plans : List Plan) → IsLoadedFrom machine.now plans ask.entry.now board.old.plans
+    ensures tree { (plans : List Plan)
+        → IsLoadedFrom machine.now plans ask.entry.now board.old.plans
         → IfOk result (IsTreeFor machine.now plans ask.entry.now Never) }
     ensures back { IsBack N.net N.content N.past N.mark_room board.old board.new machine.now }
     ensures work { work.new ≡ work.old }
@@ -62,7 +63,8 @@ pub(crate) fn show_earliest<N: Network>(
     requires within { end ≤ ask.now.now + machine.now.window }
     requires ready { IsReady N.net N.content N.past N.mark_room board.old machine.now ask.now }
     requires marks { HasMarks N.net N.content N.past N.mark_room 326 board.old }
-    ensures tree { (plans : List Plan) → IsLoadedFrom machine.now plans ask.entry.now board.old.plans
+    ensures tree { (plans : List Plan)
+        → IsLoadedFrom machine.now plans ask.entry.now board.old.plans
         → IfOk result (IsTreeFor machine.now plans ask.entry.now (Earliest end)) }
     ensures back { IsBack N.net N.content N.past N.mark_room board.old board.new machine.now }
     ensures work { work.new ≡ work.old }
