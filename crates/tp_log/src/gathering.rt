@@ -96,7 +96,8 @@ impl Gathered {
 
     /// No line comes to the tree any more, if there is one.
     fn close(&mut self) -> Result<(), Memory>
-        ensures items { OnOk result (self.new.items.items ≡ closed self.old.items.items self.old.tree) }
+        ensures items { OnOk result (self.new.items.items
+            ≡ closed self.old.items.items self.old.tree) }
         ensures tree { OnOk result (self.new.tree ≡ record { rows = []; nodes = [] }) }
         ensures next { self.new.next ≡ self.old.next }
     {
