@@ -10,7 +10,7 @@ use Rattle.tp_machine.specs.declared.parts.ActId.{ActId}
 use Rattle.tp_machine.specs.declared.parts.Action.{Action}
 use Rattle.tp_machine.specs.declared.parts.HoldRule.{HoldRule}
 use Rattle.tp_machine.specs.declared.parts.State.{State}
-use Rattle.tp_machine.specs.declared.whole.Machine.{Machine}
+use Rattle.tp_machine.specs.declared.machine.Machine.{Machine}
 use Rattle.tp_schedule.specs.Answers.{IsAlternative, IsAskedFrom, kept_from, kept_of, follows_front}
 use Rattle.tp_schedule.specs.Choices.{AreWithin, IsCompleteFrom, acts_of, placed, put_places}
 use Rattle.tp_schedule.specs.Holding.{holds_of_act}

@@ -4,7 +4,7 @@ use Rattle.std.proofs.lemmas.List.Elements.{All-push, All-weaker}
 use Rattle.std.proofs.lemmas.Option.{slice_get_within}
 use Rattle.tp_base.specs.Net.{Net}
 use Rattle.tp_base.specs.declared.edges.Edge.{Edge}
-use Rattle.tp_machine.specs.declared.whole.Machine.{Machine}
+use Rattle.tp_machine.specs.declared.machine.Machine.{Machine}
 use Rattle.tp_schedule.specs.declared.parts.Ask.{Ask}
 use Rattle.tp_constraints.specs.Suffixes.{Suffix}
 use Rattle.tp_placing.specs.Boards.{BoardValue}

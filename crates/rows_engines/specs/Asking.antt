@@ -1,7 +1,7 @@
 -- A board that is asked for a new copy.
 use Rattle.std.specs.Prelude.{◌≡◌, ◌<◌, ℕ, List, [], IsSomeAnd, IsFalse}
 use Rattle.tp_base.specs.Net.{Net}
-use Rattle.tp_machine.specs.declared.whole.Machine.{Machine}
+use Rattle.tp_machine.specs.declared.machine.Machine.{Machine}
 use Rattle.tp_schedule.specs.Answers.{kept_of}
 use Rattle.tp_placing.specs.Boards.{BoardValue, past_of, suffix_of}
 use Rattle.tp_placing.specs.Standing.{Stands, own_points}

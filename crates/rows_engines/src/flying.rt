@@ -1,6 +1,6 @@
 // Copies in flight: what is left of a plan, and the ask for what comes behind it.
 ghost use Rattle.std.specs.Prelude.{◌≡◌, ◌<◌, ◌≤◌, [], length, IfOk};
-ghost use Rattle.tp_machine.specs.declared.whole.Machine.{Machine};
+ghost use Rattle.tp_machine.specs.declared.machine.Machine.{Machine};
 ghost use Rattle.tp_routes.specs.Tables.{IsKnownOrigin};
 ghost use Rattle.tp_schedule.specs.Answers.{kept_of};
 ghost use Rattle.tp_schedule.specs.Planning.{CanAsk, CanPlanOn, IsOpenGoal};

@@ -1,6 +1,6 @@
 // What a board tells of a refusal, by name.
 ghost use Rattle.std.specs.Prelude.{◌≡◌, ◌<◌, IfOk, Some, IsSome, length, map};
-ghost use Rattle.tp_machine.specs.declared.whole.Machine.{Machine};
+ghost use Rattle.tp_machine.specs.declared.machine.Machine.{Machine};
 ghost use Rattle.tp_placing.specs.Boards.{suffix_of};
 ghost use Rattle.tp_placing.specs.Standing.{Stands};
 ghost use Rattle.rows_engines.specs.Telling.{AreNames, HaveCauses, IsTold, edge_name};

@@ -18,7 +18,7 @@ use Rattle.tp_machine.specs.declared.parts.HoldRule.{HoldRule}
 use Rattle.tp_machine.specs.declared.parts.LocId.{LocId}
 use Rattle.tp_machine.specs.declared.parts.Sheet.{Sheet}
 use Rattle.tp_machine.specs.declared.parts.Want.TheVariants.{Blank, Mono}
-use Rattle.tp_machine.specs.declared.whole.Machine.{Machine}
+use Rattle.tp_machine.specs.declared.machine.Machine.{Machine}
 use Rattle.tp_machine.proofs.Amounts.{amounts_by}
 use Rattle.tp_machine.proofs.NameFacts.{named_by, few_by}
 use Rattle.tp_schedule.specs.LocationSets.{nowhere}
@@ -28,7 +28,7 @@ use Rattle.tp_schedule.specs.declared.parts.Kind.TheVariants.{Whole}
 use Rattle.tp_schedule.specs.declared.parts.Origin.TheVariants.{Feeder as FromFeeder}
 use Rattle.tp_schedule.specs.declared.parts.Plan.{Plan}
 use Rattle.tp_schedule.specs.declared.parts.SheetId.{SheetId}
-use Rattle.tp_schedule.specs.declared.recording.SheetName.{SheetName}
+use Rattle.tp_schedule.specs.declared.records.SheetName.{SheetName}
 use Rattle.tp_trees.specs.Claims.{limit_of, live_part}
 use Rattle.tp_trees.specs.Flaws.{tree_flaw}
 use Rattle.tp_trees.specs.declared.claim.Claim.{Claim}

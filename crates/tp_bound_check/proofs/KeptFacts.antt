@@ -9,7 +9,7 @@ use Rattle.tp_choices.proofs.Lists.{slice_get-append}
 use Rattle.tp_machine.specs.declared.parts.LocId.{LocId}
 use Rattle.tp_machine.specs.declared.parts.Sheet.{Sheet}
 use Rattle.tp_machine.specs.declared.parts.State.{State}
-use Rattle.tp_machine.specs.declared.whole.Machine.{Machine}
+use Rattle.tp_machine.specs.declared.machine.Machine.{Machine}
 use Rattle.tp_schedule.specs.Plans.{IsEarlier, IsFormed}
 use Rattle.tp_schedule.specs.Spots.{Slot, slot_order}
 use Rattle.tp_schedule.specs.Timetables.{IsOrdered}

@@ -5,7 +5,7 @@ use Rattle.tp_constraints.specs.Gaps.{Gap}
 use Rattle.tp_constraints.specs.Suffixes.{choice_slot, order_in, place_first, with_place, Suffix}
 use Rattle.tp_machine.specs.Using.{action_at}
 use Rattle.tp_machine.specs.declared.parts.HoldRule.{HoldRule}
-use Rattle.tp_machine.specs.declared.whole.Machine.{Machine}
+use Rattle.tp_machine.specs.declared.machine.Machine.{Machine}
 use Rattle.std.proofs.lemmas.List.{length-take-le}
 use Rattle.std.specs.List.{slice_get}
 use Rattle.tp_bound_check.proofs.ChoiceFacts.{slice-is}

@@ -1,7 +1,7 @@
 -- Numbers by their places: the first number of each place, and behind each number the next one of its place.
 use Rattle.std.specs.Prelude.{◌≡◌, ℕ, ◌+◌, ◌≤◌, ◌<◌, ◌==◌, List, drop, map, slice_get, slice_index_or, Option, Some, None, IfSome}
 use Rattle.std.specs.List.{position_from}
-use Rattle.tp_machine.specs.declared.whole.Machine.{Machine}
+use Rattle.tp_machine.specs.declared.machine.Machine.{Machine}
 
 -- the first number of the place, from this number on
 abbrev pub next_at : ℕ → ℕ → List ℕ → Option ℕ

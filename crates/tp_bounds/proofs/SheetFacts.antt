@@ -2,7 +2,7 @@
 use Rattle.std.proofs.Common.{ℕ, Bool, ◌∷◌, ◌++◌, refl, decimal}
 use Rattle.std.specs.Char.{is_ascii_digit}
 use Rattle.tp_base.specs.NameText.{is_name_byte}
-use Rattle.tp_schedule.specs.declared.recording.SheetName.{SheetName}
+use Rattle.tp_schedule.specs.declared.records.SheetName.{SheetName}
 use Rattle.tp_words.specs.Numbers.{IsNumber}
 use Rattle.tp_words.proofs.Spelling.{Spells, either, name_spells, number_spells, pair_spells}
 use Rattle.tp_words.proofs.Texts.{IsVisible, visible}

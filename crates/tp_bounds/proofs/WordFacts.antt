@@ -16,7 +16,7 @@ use Rattle.tp_bounds.specs.declared.words.Flags.{Flags}
 use Rattle.tp_bounds.specs.declared.words.Holders.{Holders}
 use Rattle.tp_machine.specs.declared.parts.Face.{Face}
 use Rattle.tp_machine.specs.declared.parts.Face.TheVariants.{Front, Back}
-use Rattle.tp_schedule.specs.declared.recording.SheetName.{SheetName}
+use Rattle.tp_schedule.specs.declared.records.SheetName.{SheetName}
 use Rattle.tp_words.specs.Fields.{IsName, begins_with}
 use Rattle.tp_words.specs.Numbers.{IsNumber}
 use Rattle.tp_words.specs.Parts.{lacks}

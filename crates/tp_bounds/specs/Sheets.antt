@@ -1,6 +1,6 @@
 -- A copy as a word: `NAME.NUMBER.COPY`.
 use Rattle.std.specs.Prelude.{ℕ, List, ◌∷◌, ◌++◌, Option, decimal}
-use Rattle.tp_schedule.specs.declared.recording.SheetName.{SheetName}
+use Rattle.tp_schedule.specs.declared.records.SheetName.{SheetName}
 use Rattle.tp_words.specs.Fields.{IsName, name_of, pair_of}
 use Rattle.tp_words.specs.Numbers.{IsNumber, number_of}
 

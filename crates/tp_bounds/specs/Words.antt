@@ -9,7 +9,7 @@ use Rattle.tp_bounds.specs.declared.hops.TreePoint.TheVariants.{Own as OwnPoint,
 use Rattle.tp_bounds.specs.declared.tree.NamedState.{NamedState}
 use Rattle.tp_bounds.specs.declared.words.Flags.{Flags}
 use Rattle.tp_bounds.specs.declared.words.Holders.{Holders}
-use Rattle.tp_schedule.specs.declared.recording.SheetName.{SheetName}
+use Rattle.tp_schedule.specs.declared.records.SheetName.{SheetName}
 use Rattle.tp_script.specs.Reading.{face_of}
 use Rattle.tp_script.specs.Script.{face_byte}
 use Rattle.tp_words.specs.Fields.{IsName, after_of, begins_with, name_of, pair_of, ◌>>=◌}

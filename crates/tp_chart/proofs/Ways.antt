@@ -3,7 +3,7 @@ use Rattle.std.proofs.Common.{◌≡◌, ℕ, ◌<◌, ◌≤◌, Bool, true, fa
 use Rattle.std.specs.List.{position_or_len}
 use Rattle.std.proofs.lemmas.Bool.Decides.{nat_tests}
 use Rattle.std.proofs.Math.Numerals.{one-add}
-use Rattle.tp_schedule.specs.declared.recording.SheetName.{SheetName}
+use Rattle.tp_schedule.specs.declared.records.SheetName.{SheetName}
 use Rattle.tp_chart.specs.Courses.{Way, is_same_copy}
 use Rattle.tp_chart.specs.Scenes.{changed, planned}
 

@@ -4,7 +4,7 @@ use Rattle.std.specs.Str.{bytes_eq}
 use Rattle.tp_machine.specs.Using.{begin_of, end_of}
 use Rattle.tp_machine.specs.declared.parts.Action.{Action}
 use Rattle.tp_machine.specs.declared.parts.HoldRule.{HoldRule}
-use Rattle.tp_machine.specs.declared.whole.Machine.{Machine}
+use Rattle.tp_machine.specs.declared.machine.Machine.{Machine}
 use Rattle.tp_schedule.specs.Holding.{holds_of_act}
 use Rattle.tp_chart.specs.Courses.{Way}
 use Rattle.tp_chart.specs.declared.bars.Bar.{Bar}

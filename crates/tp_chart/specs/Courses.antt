@@ -1,9 +1,9 @@
 -- The way of a copy in time, and what the records of a log change of it.
 use Rattle.std.specs.Prelude.{ℕ, ◌+◌, ◌-◌, Bool, true, false, ◌&&◌, ◌==◌, nat_le, min, List, ◌++◌, length, take, drop, count_by, Option, Some, None}
 use Rattle.std.specs.Str.{bytes_eq}
-use Rattle.tp_schedule.specs.declared.recording.Record.{Record}
-use Rattle.tp_schedule.specs.declared.recording.Record.TheVariants.{Plan, Move, Release, Done, Lost, Recall, Cut, Purge}
-use Rattle.tp_schedule.specs.declared.recording.SheetName.{SheetName}
+use Rattle.tp_schedule.specs.declared.records.Record.{Record}
+use Rattle.tp_schedule.specs.declared.records.Record.TheVariants.{Plan, Move, Release, Done, Lost, Recall, Cut, Purge}
+use Rattle.tp_schedule.specs.declared.records.SheetName.{SheetName}
 
 -- action i runs from point i - 1 to point i; the first `released` actions are released; `done` is when the copy was
 -- delivered

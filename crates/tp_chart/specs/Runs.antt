@@ -2,7 +2,7 @@
 use Rattle.std.specs.Prelude.{◌≡◌, ℕ, ◌<◌, ◌≤◌, Bool, ◌||◌, List, ◌++◌, length, Option, Some, IfSome, true, false}
 use Rattle.std.specs.Option.{IsSomeAnd}
 use Rattle.tp_outside.specs.Outside.{Files, file_at}
-use Rattle.tp_machine.specs.declared.whole.Machine.{Machine}
+use Rattle.tp_machine.specs.declared.machine.Machine.{Machine}
 use Rattle.tp_machine_text.specs.Texts.{IsMachineText}
 use Rattle.tp_log.specs.declared.item.Item.{Item}
 use Rattle.tp_log.specs.Logs.{IsLog, log_text}

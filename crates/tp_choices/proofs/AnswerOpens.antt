@@ -33,7 +33,7 @@ use Rattle.tp_schedule.specs.Routes.{walk, IsStartFrom}
 use Rattle.tp_schedule.specs.Spots.{Ticks, Slot, IsApart, slots_from, slots, slot_order, ticks_of, IsSoundSlot, AreApart}
 use Rattle.tp_schedule.specs.Times.{KeepsTimes, EndsBeforeAt, at}
 use Rattle.tp_machine.specs.declared.parts.ActId.{ActId}
-use Rattle.tp_machine.specs.declared.whole.Machine.{Machine}
+use Rattle.tp_machine.specs.declared.machine.Machine.{Machine}
 use Rattle.tp_schedule.specs.declared.parts.Ask.{Ask}
 use Rattle.tp_schedule.specs.declared.parts.Origin.{Origin}
 use Rattle.tp_schedule.specs.declared.parts.Origin.TheVariants.{Feeder as FromFeeder, Front as FromFront}

@@ -10,7 +10,7 @@ use Rattle.tp_schedule.specs.Holding.{holds_of_act}
 use Rattle.tp_schedule.specs.Plans.{plan_of, LastsWithin, is_fixed}
 use Rattle.tp_schedule.specs.Spots.{Ticks, slots_by, slots_from}
 use Rattle.tp_machine.specs.declared.parts.ActId.{ActId}
-use Rattle.tp_machine.specs.declared.whole.Machine.{Machine}
+use Rattle.tp_machine.specs.declared.machine.Machine.{Machine}
 use Rattle.tp_schedule.specs.declared.parts.Ask.{Ask}
 use Rattle.tp_schedule.specs.declared.parts.Kind.TheVariants.{Whole, Front}
 use Rattle.tp_schedule.specs.declared.parts.Origin.{Origin}

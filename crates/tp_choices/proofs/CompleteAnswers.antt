@@ -12,7 +12,7 @@ use Rattle.std.proofs.lemmas.List.Sorted.{IsPermutation-sym, IsPermutation-trans
 use Rattle.tp_machine.proofs.MachineFacts.{is_machine}
 use Rattle.tp_machine.specs.Modes.{gap_at}
 use Rattle.tp_machine.specs.declared.parts.ActId.{ActId}
-use Rattle.tp_machine.specs.declared.whole.Machine.{Machine}
+use Rattle.tp_machine.specs.declared.machine.Machine.{Machine}
 use Rattle.tp_choices.proofs.Completing.{ChoicesLast-at, ChoicesLast-rise, IsPrefix, prefix_of, IsTimedPlan-timed_by, point-timed_by}
 use Rattle.tp_choices.proofs.Lists.{filter-all, slice_get-append, map-same}
 use Rattle.tp_choices.proofs.OwnSlots.{own_slots, settled_slot, IsPermutation-placed, map-own_slots, slots_from-append, slots-put_plan, slots-without}

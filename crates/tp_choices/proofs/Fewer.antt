@@ -1,6 +1,6 @@
 -- An alternative, less the plans of other copies, is one on the schedule less those.
 use Rattle.std.proofs.Common.{◌≡◌, Bool, true, not, List, ◌++◌, map, filter, refl, sym, ◌∙◌, ap}
-use Rattle.tp_machine.specs.declared.whole.Machine.{Machine}
+use Rattle.tp_machine.specs.declared.machine.Machine.{Machine}
 use Rattle.tp_schedule.specs.Answers.{IsAlternative, KeepsFixed, acts_in, is_new, unmoved}
 use Rattle.tp_schedule.specs.Plans.{without}
 use Rattle.tp_schedule.specs.Spots.{slot_order}

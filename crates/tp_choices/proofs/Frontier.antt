@@ -1,7 +1,7 @@
 -- Each list extends the one without choices; so a frontier meets each complete open list, also after a list was opened,
 -- and no answer ends before the least end of the frontier.
 use Rattle.std.proofs.Common.{◌≡◌, inl, inr, ℕ, Bool, true, false, List, [], ◌∷◌, refl, sym, arith, Contains, subst}
-use Rattle.tp_machine.specs.declared.whole.Machine.{Machine}
+use Rattle.tp_machine.specs.declared.machine.Machine.{Machine}
 use Rattle.tp_machine.specs.declared.parts.State.{State}
 use Rattle.tp_choices.proofs.Leaving.{parent_opens}
 use Rattle.tp_schedule.specs.Choices.{Choice, ChoiceList, IsOpen, OpensTo, IsChoiceList, IsChild, IsComplete, CanStop, going}

@@ -5,7 +5,7 @@ use Rattle.std.proofs.lemmas.Bool.{cases_lt}
 use Rattle.std.proofs.lemmas.List.{length-map}
 use Rattle.tp_machine.proofs.MachineFacts.{is_machine}
 use Rattle.tp_machine.specs.Modes.{gap_at}
-use Rattle.tp_machine.specs.declared.whole.Machine.{Machine}
+use Rattle.tp_machine.specs.declared.machine.Machine.{Machine}
 use Rattle.tp_schedule.proofs.Pairs.{AllPairs-map_from}
 use Rattle.tp_choices.proofs.AskedFront.{kept-by, fixed_till}
 use Rattle.tp_choices.proofs.Completing.{IsPrefix, prefix_of, point-timed_by}

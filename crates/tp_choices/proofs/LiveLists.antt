@@ -7,7 +7,7 @@ use Rattle.std.proofs.lemmas.List.Elements.{All-contains, All-append, Contains-g
 use Rattle.std.proofs.lemmas.List.Sorted.{All-permutation}
 use Rattle.tp_machine.proofs.MachineFacts.{is_machine}
 use Rattle.tp_machine.specs.Modes.{gap_at}
-use Rattle.tp_machine.specs.declared.whole.Machine.{Machine}
+use Rattle.tp_machine.specs.declared.machine.Machine.{Machine}
 use Rattle.tp_schedule.specs.declared.parts.Ask.{Ask}
 use Rattle.tp_schedule.specs.declared.parts.Plan.{Plan}
 use Rattle.tp_schedule.specs.declared.parts.SheetId.{SheetId}

@@ -14,7 +14,7 @@ use Rattle.tp_schedule.specs.Plans.{plan_of, without, put_plan, is_same_copy, is
 use Rattle.tp_schedule.specs.Spots.{Spot, Slot, slots_by, slots_from, slots_of, slots}
 use Rattle.tp_machine.specs.declared.parts.ActId.{ActId}
 use Rattle.tp_machine.specs.declared.parts.HoldRule.{HoldRule}
-use Rattle.tp_machine.specs.declared.whole.Machine.{Machine}
+use Rattle.tp_machine.specs.declared.machine.Machine.{Machine}
 use Rattle.tp_schedule.specs.declared.parts.Plan.{Plan}
 use Rattle.tp_schedule.specs.declared.parts.SheetId.{SheetId}
 use Rattle.tp_schedule.specs.Spots.Spot.{kept, own}

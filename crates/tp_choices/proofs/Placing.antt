@@ -22,7 +22,7 @@ use Rattle.tp_schedule.specs.Spots.{Spot, Ticks, Slot, IsApart, slots_by, IsSoun
 use Rattle.tp_machine.specs.declared.parts.ActId.{ActId}
 use Rattle.tp_machine.specs.declared.parts.Action.{Action}
 use Rattle.tp_machine.specs.declared.parts.HoldRule.{HoldRule}
-use Rattle.tp_machine.specs.declared.whole.Machine.{Machine}
+use Rattle.tp_machine.specs.declared.machine.Machine.{Machine}
 use Rattle.tp_schedule.specs.Spots.Spot.{own}
 use Rattle.tp_schedule.proofs.PutFacts.{All-insert}
 use Rattle.tp_choices.proofs.Lists.{AllPairs-across}

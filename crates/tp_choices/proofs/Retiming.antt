@@ -5,7 +5,7 @@ use Rattle.std.proofs.lemmas.List.Elements.{All-contains}
 use Rattle.std.proofs.lemmas.List.Sorted.{All-permutation}
 use Rattle.tp_machine.proofs.MachineFacts.{is_machine}
 use Rattle.tp_machine.specs.Modes.{gap_at}
-use Rattle.tp_machine.specs.declared.whole.Machine.{Machine}
+use Rattle.tp_machine.specs.declared.machine.Machine.{Machine}
 use Rattle.tp_choices.proofs.Completing.{IsTimedPlan-timed_by, point-timed_by}
 use Rattle.tp_choices.proofs.TimedSlots.{All-slots, slots-timed_by}
 use Rattle.tp_choices.proofs.Unmoved.{unmoved-found, ordered_pair}

@@ -1,7 +1,7 @@
 -- What a search knows: each open list has a line of ancestors of smaller bounds, the first of which that was not
 -- opened waits.
 use Rattle.std.proofs.Common.{◌≡◌, ◌≢◌, ◌⊎◌, inl, inr, List, [], ◌∷◌, true, false, sym, ◌∙◌, refl, arith, Contains, subst}
-use Rattle.tp_machine.specs.declared.whole.Machine.{Machine}
+use Rattle.tp_machine.specs.declared.machine.Machine.{Machine}
 use Rattle.tp_schedule.specs.declared.parts.Ask.{Ask}
 use Rattle.tp_schedule.specs.declared.parts.Plan.{Plan}
 use Rattle.tp_choices.proofs.Frontier.{ancestor_opens, from_goal, frontier_bounds}

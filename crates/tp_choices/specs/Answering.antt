@@ -1,6 +1,6 @@
 -- Alternatives and complete choice lists are the same thing.
 use Rattle.std.specs.Prelude.{◌≡◌, ℕ, ◌<◌, List, length}
-use Rattle.tp_machine.specs.declared.whole.Machine.{Machine}
+use Rattle.tp_machine.specs.declared.machine.Machine.{Machine}
 use Rattle.tp_schedule.specs.Answers.{IsAsked, IsAlternative}
 use Rattle.tp_schedule.specs.Choices.{ChoiceList, acts_of, IsChoiceList, IsComplete, HasTimes, OpensTo}
 use Rattle.tp_schedule.specs.Completions.{answered}

@@ -1,6 +1,6 @@
 -- Frontiers: lists of choice lists that every answer passes through.
 use Rattle.std.specs.Prelude.{◌≡◌, ℕ, ◌≤◌, ◌<◌, ◌⊎◌, List, [], Contains, length}
-use Rattle.tp_machine.specs.declared.whole.Machine.{Machine}
+use Rattle.tp_machine.specs.declared.machine.Machine.{Machine}
 use Rattle.tp_schedule.specs.Answers.{IsAsked, IsAlternative, IsEarliest, NoneBefore}
 use Rattle.tp_schedule.specs.Choices.{IsChoiceList, HasTimes, ChoiceList, IsOpen, OpensTo, IsChild, IsComplete}
 use Rattle.tp_schedule.specs.Completions.{answered}

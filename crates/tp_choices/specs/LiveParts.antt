@@ -2,7 +2,7 @@
 use Rattle.std.specs.Prelude.{◌≡◌, ◌↔◌, ℕ, ◌+◌, ◌<◌, ◌≤◌, Bool, not, List, [], ◌∷◌, length, map, filter, Contains, AllPairs, IsTrue, IsFalse}
 use Rattle.tp_machine.specs.Using.{action_at}
 use Rattle.tp_machine.specs.declared.parts.HoldRule.{HoldRule}
-use Rattle.tp_machine.specs.declared.whole.Machine.{Machine}
+use Rattle.tp_machine.specs.declared.machine.Machine.{Machine}
 use Rattle.tp_schedule.specs.Answers.{IsAlternative, IsEarliest, NoneBefore, IsRetimed, IsLeast, IsAsked}
 use Rattle.tp_schedule.specs.Choices.{Choice, ChoiceList, OpensTo, IsBound}
 use Rattle.tp_schedule.specs.Holding.{holds_of_act}

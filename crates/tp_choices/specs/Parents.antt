@@ -1,6 +1,6 @@
 -- What a list has of its children.
 use Rattle.std.specs.Prelude.{ℕ, ◌≤◌, List}
-use Rattle.tp_machine.specs.declared.whole.Machine.{Machine}
+use Rattle.tp_machine.specs.declared.machine.Machine.{Machine}
 use Rattle.tp_schedule.specs.Choices.{ChoiceList, IsChild, IsBound, OpensTo}
 use Rattle.tp_schedule.specs.declared.parts.Ask.{Ask}
 use Rattle.tp_schedule.specs.declared.parts.Plan.{Plan}

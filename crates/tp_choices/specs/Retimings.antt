@@ -1,6 +1,6 @@
 -- Ticks and schedules that differ in ticks alone.
 use Rattle.std.specs.Prelude.{◌≡◌, ℕ, ◌≤◌, ◌<◌, Bool, List, map, length, Contains}
-use Rattle.tp_machine.specs.declared.whole.Machine.{Machine}
+use Rattle.tp_machine.specs.declared.machine.Machine.{Machine}
 use Rattle.tp_schedule.specs.Answers.{IsAsked, IsRetimed, IsLeast, follows_front}
 use Rattle.tp_schedule.specs.Choices.{ChoiceList, IsChoiceList, IsComplete, HasTimes}
 use Rattle.tp_schedule.specs.Completions.{answered}

@@ -1,6 +1,6 @@
 -- How far a search has come: lists that wait, and lists that were opened.
 use Rattle.std.specs.Prelude.{◌≡◌, ◌≢◌, ℕ, ◌≤◌, ◌<◌, ◌⊎◌, List, [], ◌∷◌, Contains, AllPairs, length}
-use Rattle.tp_machine.specs.declared.whole.Machine.{Machine}
+use Rattle.tp_machine.specs.declared.machine.Machine.{Machine}
 use Rattle.tp_schedule.specs.Answers.{IsAsked}
 use Rattle.tp_schedule.specs.Choices.{ChoiceList, IsOpen, OpensTo, IsBound, IsChild, IsComplete}
 use Rattle.tp_schedule.specs.Legality.{IsLegal}

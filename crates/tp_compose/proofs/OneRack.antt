@@ -1,7 +1,7 @@
 -- A text is of one rack at most.
 use Rattle.std.proofs.Common.{◌≡◌, ℕ, List, Some, None, sym, ◌∙◌, subst}
 use Rattle.toml.specs.Data.{Members}
-use Rattle.tp_machine.specs.declared.whole.Machine.{Machine}
+use Rattle.tp_machine.specs.declared.machine.Machine.{Machine}
 use Rattle.tp_machine_text.specs.Broken as machine_table
 use Rattle.tp_machine_text.specs.TheMachine.{IsMachineOf}
 use Rattle.tp_machine_text.specs.Texts.{IsToml}

@@ -7,7 +7,7 @@ use Rattle.toml.specs.Data.{Data, string, Members}
 use Rattle.tp_machine.specs.Using.{action_at}
 use Rattle.tp_machine.specs.declared.parts.ActId.{ActId}
 use Rattle.tp_machine.specs.declared.parts.Action.{Action}
-use Rattle.tp_machine.specs.declared.whole.Machine.{Machine}
+use Rattle.tp_machine.specs.declared.machine.Machine.{Machine}
 use Rattle.tp_machine_text.specs.Words.{keys_of, elements_at, text_of, text_at, is_name, are_names, are_different}
 use Rattle.tp_machine_text.specs.Keys as text
 use Rattle.tp_machine_text.specs.Broken as machine_table

@@ -14,7 +14,7 @@ use Rattle.tp_machine.specs.declared.parts.Feeder.{Feeder}
 use Rattle.tp_machine.specs.declared.parts.LocId.{LocId}
 use Rattle.tp_machine.specs.declared.parts.Sheet.{Sheet}
 use Rattle.tp_machine.specs.declared.parts.State.{State}
-use Rattle.tp_machine.specs.declared.whole.Machine.{Machine}
+use Rattle.tp_machine.specs.declared.machine.Machine.{Machine}
 use Rattle.tp_schedule.specs.Routes.{step_by, walk, fresh, finished, IsFreshStart}
 use Rattle.tp_machine_text.specs.Words.{keys_of, data_of, elements_at, members_at, text_of, text_in, text_at, is_there, is_array, is_fit, is_table, is_name, is_one_of, is_among, are_from}
 use Rattle.tp_machine_text.specs.ActionRules.{has_ends}

@@ -1,7 +1,7 @@
 -- What is composed of a rack text, and what is wrong with a text of which nothing is.
 use Rattle.std.specs.Prelude.{◌≡◌, ℕ, List, Option, Some, None}
 use Rattle.toml.specs.Data.{Members}
-use Rattle.tp_machine.specs.declared.whole.Machine.{Machine}
+use Rattle.tp_machine.specs.declared.machine.Machine.{Machine}
 use Rattle.tp_machine_text.specs.Broken as table
 use Rattle.tp_machine_text.specs.TheMachine.{IsMachineOf}
 use Rattle.tp_machine_text.specs.Texts.{IsToml, IsNotToml, IsMachineText}

@@ -9,7 +9,7 @@ use Rattle.tp_machine.specs.declared.parts.Action.{Action}
 use Rattle.tp_machine.specs.declared.parts.LocId.{LocId}
 use Rattle.tp_machine.specs.declared.parts.Sheet.{Sheet}
 use Rattle.tp_machine.specs.declared.parts.State.{State}
-use Rattle.tp_machine.specs.declared.whole.Machine.{Machine}
+use Rattle.tp_machine.specs.declared.machine.Machine.{Machine}
 use Rattle.tp_schedule.specs.Routes.{walk, fresh, finished, IsFreshStart}
 use Rattle.tp_machine_text.specs.Words.{elements, text_of, text_at}
 use Rattle.tp_machine_text.specs.Keys.{texts_at}

@@ -5,7 +5,7 @@ ghost use Rattle.tp_machine.specs.Using.{action_at};
 ghost use Rattle.tp_machine.specs.declared.parts.ActId.{ActId};
 ghost use Rattle.tp_machine.specs.declared.parts.Action.{Action};
 ghost use Rattle.tp_machine.specs.declared.parts.Sheet.{Sheet};
-ghost use Rattle.tp_machine.specs.declared.whole.Machine.{Machine};
+ghost use Rattle.tp_machine.specs.declared.machine.Machine.{Machine};
 ghost use Rattle.tp_compose.specs.Texts.{IsMachineOfRack};
 ghost use Rattle.tp_compose.specs.Walks.{Pair, IsPairOf, ArePairsOf, IsWalk, IsNewRoute};
 

@@ -3,7 +3,7 @@ use Rattle.std.proofs.Common.{◌≡◌, ℕ, ◌<◌, Bool, true, false, cond, 
 use Rattle.std.specs.Prelude.{◌≤ℤ◌, ◌+ℤ◌, pos}
 use Rattle.std.proofs.lemmas.List.Elements.{All-nil, All-cons, All-head}
 use Rattle.std.proofs.lemmas.Int.{ints}
-use Rattle.tp_machine.specs.declared.whole.Machine.{Machine}
+use Rattle.tp_machine.specs.declared.machine.Machine.{Machine}
 use Rattle.tp_schedule.specs.Plans.{is_fixed, point, is_before, is_delivered_to, goes_to}
 use Rattle.tp_schedule.specs.Answers.{kept_of, IsAsked, IsFrontOf, IsAskedFrom}
 use Rattle.tp_schedule.specs.declared.parts.Ask.{Ask}

@@ -10,7 +10,7 @@ use Rattle.tp_machine.specs.declared.parts.Face.{Face}
 use Rattle.tp_machine.specs.declared.parts.Face.TheVariants.{Front, Back}
 use Rattle.tp_machine.specs.declared.parts.Sheet.{Sheet}
 use Rattle.tp_machine.specs.declared.parts.State.{State}
-use Rattle.tp_machine.specs.declared.whole.Machine.{Machine}
+use Rattle.tp_machine.specs.declared.machine.Machine.{Machine}
 use Rattle.tp_schedule.specs.Routes.{walk, step_by}
 use Rattle.tp_schedule.proofs.Walks.{walk_first}
 

@@ -3,7 +3,7 @@ use Rattle.std.proofs.Common.{◌≡◌, ℕ, ◌≤◌, List, [], ◌∷◌, le
 use Rattle.std.specs.Prelude.{◌↔◌}
 use Rattle.tp_base.specs.Net.{Net, IsLeast as IsLeastSolution}
 use Rattle.tp_machine.specs.declared.parts.State.{State}
-use Rattle.tp_machine.specs.declared.whole.Machine.{Machine}
+use Rattle.tp_machine.specs.declared.machine.Machine.{Machine}
 use Rattle.tp_schedule.specs.Plans.{point}
 use Rattle.tp_schedule.specs.Routes.{IsStart, Reaches, walk, least_sum}
 use Rattle.tp_schedule.specs.declared.parts.Ask.{Ask}

@@ -7,7 +7,7 @@ use Rattle.tp_machine.specs.Modes.{gap_at, gap_between}
 use Rattle.tp_machine.specs.Using.{tick_of}
 use Rattle.tp_machine.specs.declared.parts.Anchor.{Anchor}
 use Rattle.tp_machine.specs.declared.parts.Anchor.TheVariants.{Start, End}
-use Rattle.tp_machine.specs.declared.whole.Machine.{Machine}
+use Rattle.tp_machine.specs.declared.machine.Machine.{Machine}
 use Rattle.tp_schedule.specs.Spots.{Spot, Ticks, Slot, IsApart, IsRow, IsSoundSlot}
 use Rattle.tp_constraints.specs.Gaps.{KeepsGap, KeepsGaps, anchor_spot, slot_gap, chain_gaps, all_chains}
 use Rattle.std.proofs.lemmas.Bool.{cases_lt}

@@ -9,7 +9,7 @@ use Rattle.tp_base.proofs.TraceFacts.{reverse-cons}
 use Rattle.tp_machine.specs.Using.{action_at}
 use Rattle.tp_machine.specs.declared.parts.ActId.{ActId}
 use Rattle.tp_machine.specs.declared.parts.Action.{Action}
-use Rattle.tp_machine.specs.declared.whole.Machine.{Machine}
+use Rattle.tp_machine.specs.declared.machine.Machine.{Machine}
 use Rattle.tp_schedule.specs.Choices.{Choice}
 use Rattle.tp_schedule.specs.Spots.{Spot}
 use Rattle.tp_schedule.specs.Spots.Spot.{kept}

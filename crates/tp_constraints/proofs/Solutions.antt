@@ -7,7 +7,7 @@ use Rattle.tp_base.specs.Net.{Net, IsSolution, IsLeast, IsEarliest, Keeps as Kee
 use Rattle.tp_schedule.specs.Spots.{Spot, Ticks}
 use Rattle.tp_constraints.specs.Gaps.{KeepsGap, KeepsGaps, IsPoint, low_at, cap_at, KeepsConstraints}
 use Rattle.tp_constraints.specs.Numbers.{number, spot_at, ticks_by, gap_by, IsEdgeOf, IsNetFor}
-use Rattle.tp_machine.specs.declared.whole.Machine.{Machine}
+use Rattle.tp_machine.specs.declared.machine.Machine.{Machine}
 use Rattle.tp_schedule.specs.declared.parts.Plan.{Plan}
 use Rattle.tp_constraints.specs.Suffixes.{SuffixTimes, IsSuffixPoint, suffix_low, suffix_cap}
 use Rattle.tp_constraints.specs.Nets.{BoardSolutions, LoadedSolutions, BoardLate, BoardLeast, IsLoadedNet}

@@ -4,7 +4,7 @@ use Rattle.std.specs.Prelude.{slice_get, ◌↔◌}
 use Rattle.std.proofs.lemmas.Option.{slice_get_within}
 use Rattle.std.proofs.lemmas.List.Elements.{All-nil, All-cons, All-head, All-tail, All-append}
 use Rattle.tp_base.specs.Net.{Net, with_edges}
-use Rattle.tp_machine.specs.declared.whole.Machine.{Machine}
+use Rattle.tp_machine.specs.declared.machine.Machine.{Machine}
 use Rattle.tp_schedule.specs.Choices.{Choice, placed}
 use Rattle.tp_schedule.specs.Spots.{Spot, Slot, Ticks, slot_order, IsApart, IsSoundSlot}
 use Rattle.tp_schedule.specs.declared.parts.Ask.{Ask}

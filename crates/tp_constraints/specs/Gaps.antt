@@ -7,7 +7,7 @@ use Rattle.tp_machine.specs.declared.parts.ActId.{ActId}
 use Rattle.tp_machine.specs.declared.parts.Action.{Action}
 use Rattle.tp_machine.specs.declared.parts.Anchor.{Anchor}
 use Rattle.tp_machine.specs.declared.parts.Anchor.TheVariants.{Start, End}
-use Rattle.tp_machine.specs.declared.whole.Machine.{Machine}
+use Rattle.tp_machine.specs.declared.machine.Machine.{Machine}
 use Rattle.tp_schedule.specs.Plans.{plan_of, point, is_fixed, is_front, is_delivered_to}
 use Rattle.tp_schedule.specs.Spots.{Spot, Ticks, Slot}
 use Rattle.tp_schedule.specs.Spots.Spot.{kept, own}

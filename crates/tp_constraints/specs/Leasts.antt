@@ -2,7 +2,7 @@
 use Rattle.std.specs.Prelude.{◌≡◌, ℕ, ◌<◌, Bool, false, List, length, map}
 use Rattle.tp_base.specs.Net.{Net, IsLeast as IsLeastSolution}
 use Rattle.tp_machine.specs.declared.parts.State.{State}
-use Rattle.tp_machine.specs.declared.whole.Machine.{Machine}
+use Rattle.tp_machine.specs.declared.machine.Machine.{Machine}
 use Rattle.tp_schedule.specs.Answers.{IsAsked, IsAlternative, IsRetimed, IsLeast, follows_front}
 use Rattle.tp_schedule.specs.Choices.{IsChoiceList, IsComplete, IsBound}
 use Rattle.tp_schedule.specs.Completions.{answered}

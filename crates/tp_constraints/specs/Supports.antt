@@ -1,6 +1,6 @@
 -- Which points of a schedule are supported. A schedule is least exactly where all of them are.
 use Rattle.std.specs.Prelude.{◌≡◌, ℕ, suc, ◌+◌, ◌≤◌, Bool, List, length, pos, ◌+ℤ◌, Contains, IsTrue, IsFalse}
-use Rattle.tp_machine.specs.declared.whole.Machine.{Machine}
+use Rattle.tp_machine.specs.declared.machine.Machine.{Machine}
 use Rattle.tp_schedule.specs.Answers.{IsLeast, IsRetimed, KeepsHorizon}
 use Rattle.tp_schedule.specs.Plans.{point}
 use Rattle.tp_schedule.specs.Spots.{Spot, Ticks, ticks_of}

@@ -5,7 +5,7 @@ use Rattle.tp_base.specs.Net.{Net, IsSolution, HasNoSolution, with_edges}
 use Rattle.tp_base.specs.declared.edges.Edge.{Edge}
 use Rattle.tp_machine.specs.Modes.{gap_at}
 use Rattle.tp_machine.specs.Using.{action_at}
-use Rattle.tp_machine.specs.declared.whole.Machine.{Machine}
+use Rattle.tp_machine.specs.declared.machine.Machine.{Machine}
 use Rattle.tp_schedule.specs.Choices.{Choice}
 use Rattle.tp_schedule.specs.Holding.{holds_of_act}
 use Rattle.tp_schedule.specs.Spots.{Spot, Slot, Ticks}

@@ -1,7 +1,7 @@
 -- Answers and settlings leave the plans that have ended as they are, and end none.
 use Rattle.std.proofs.Common.{◌≡◌, ◌<◌, ◌≤◌, inl, inr, Bool, true, false, ◌&&◌, List, length, refl, sym, ◌∙◌, arith, subst}
 use Rattle.std.proofs.lemmas.List.Elements.{All-contains}
-use Rattle.tp_machine.specs.declared.whole.Machine.{Machine}
+use Rattle.tp_machine.specs.declared.machine.Machine.{Machine}
 use Rattle.tp_jobs.specs.declared.parts.WaitingCopy.{WaitingCopy}
 use Rattle.tp_schedule.specs.Plans.{IsTimedPlan, end_of_plan, is_same_copy}
 use Rattle.tp_schedule.specs.declared.parts.Plan.{Plan}

@@ -7,7 +7,7 @@ use Rattle.std.proofs.lemmas.Option.{slice_get_within, get_or_from_slice_get}
 use Rattle.tp_machine.proofs.MachineFacts.{is_machine}
 use Rattle.tp_machine.specs.Machines.{IsLocation}
 use Rattle.tp_machine.specs.declared.parts.LocId.{LocId}
-use Rattle.tp_machine.specs.declared.whole.Machine.{Machine}
+use Rattle.tp_machine.specs.declared.machine.Machine.{Machine}
 use Rattle.tp_jobs.specs.Backlogs.{tray_of}
 use Rattle.tp_jobs.specs.declared.parts.Job.{Job}
 use Rattle.tp_schedule.proofs.Membership.{Contains-filter}

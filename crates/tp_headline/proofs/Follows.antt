@@ -5,7 +5,7 @@ use Rattle.std.proofs.lemmas.Bool.Decides.{nat_tests}
 use Rattle.std.proofs.lemmas.Grind.{flat_map-append}
 use Rattle.std.proofs.lemmas.List.Elements.{All-contains, Contains-append_left, Contains-append_right, Contains-append_cases}
 use Rattle.std.proofs.lemmas.Option.{slice_get-get_or, slice_get_within}
-use Rattle.tp_machine.specs.declared.whole.Machine.{Machine}
+use Rattle.tp_machine.specs.declared.machine.Machine.{Machine}
 use Rattle.tp_jobs.specs.Backlogs.{tray_of, tray_in}
 use Rattle.tp_jobs.specs.Refusing.{is_tray_name}
 use Rattle.tp_jobs.specs.declared.parts.Job.{Job}
@@ -14,9 +14,9 @@ use Rattle.tp_schedule.proofs.Membership.{Contains-map, Contains-map_from, Conta
 use Rattle.tp_schedule.specs.Plans.{end_of_plan, is_before}
 use Rattle.tp_schedule.specs.declared.parts.Plan.{Plan}
 use Rattle.tp_schedule.specs.declared.parts.SheetId.{SheetId}
-use Rattle.tp_schedule.specs.declared.recording.Record.{Record}
-use Rattle.tp_schedule.specs.declared.recording.Record.TheVariants.{Broken, Done}
-use Rattle.tp_schedule.specs.declared.recording.SheetName.{SheetName}
+use Rattle.tp_schedule.specs.declared.records.Record.{Record}
+use Rattle.tp_schedule.specs.declared.records.Record.TheVariants.{Broken, Done}
+use Rattle.tp_schedule.specs.declared.records.SheetName.{SheetName}
 use Rattle.tp_turn.specs.Clock.{clock_records}
 use Rattle.tp_turn.specs.Keeping.{StandsBehind, is_copy_of, open_copies, tray_plans, total_of}
 use Rattle.tp_turn.specs.Labels.{job_name, job_name_in, label, location_name}

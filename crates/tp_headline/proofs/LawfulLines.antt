@@ -1,6 +1,6 @@
 -- Every lawful log keeps the headline.
 use Rattle.std.proofs.Common.{ℕ, Bool, List}
-use Rattle.tp_machine.specs.declared.whole.Machine.{Machine}
+use Rattle.tp_machine.specs.declared.machine.Machine.{Machine}
 use Rattle.tp_script.specs.declared.event.Event.{Event}
 use Rattle.tp_schedule.specs.Planning.{Deed}
 use Rattle.tp_schedule.specs.declared.parts.Ask.{Ask}

@@ -11,7 +11,7 @@ use Rattle.tp_schedule.specs.Plans.{IsEarlier, is_before, is_same_copy}
 use Rattle.tp_schedule.specs.declared.parts.Plan.{Plan}
 use Rattle.tp_schedule.specs.declared.parts.SheetId.{SheetId}
 use Rattle.tp_jobs.specs.declared.parts.WaitingCopy.{WaitingCopy}
-use Rattle.tp_schedule.specs.declared.recording.Record.TheVariants.{Drop}
+use Rattle.tp_schedule.specs.declared.records.Record.TheVariants.{Drop}
 use Rattle.tp_turn.specs.Fates.{told_of}
 use Rattle.tp_turn.specs.FallBacks.{Notice, put_notice, by_copy, fate_in_break, notices_of_waiting, notices_of_plans}
 use Rattle.tp_turn.specs.Keeping.{is_planned_among}

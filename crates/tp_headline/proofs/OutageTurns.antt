@@ -1,6 +1,6 @@
 -- An outage leads on, where it keeps the order of lines: the rest of what is to be known of it is that it is quiet.
 use Rattle.std.proofs.Common.{ℕ, List}
-use Rattle.tp_machine.specs.declared.whole.Machine.{Machine}
+use Rattle.tp_machine.specs.declared.machine.Machine.{Machine}
 use Rattle.tp_schedule.specs.Planning.{Deed}
 use Rattle.tp_schedule.specs.declared.parts.Ask.{Ask}
 use Rattle.tp_schedule.specs.declared.parts.Plan.{Plan}

@@ -1,10 +1,10 @@
 -- What befalls copies leaves what was delivered, and each front that is not lost is of a copy in flight.
 use Rattle.std.proofs.Common.{◌≡◌, inl, true, false, List, [], ◌∷◌, refl, sym, ap, arith, Contains, subst}
-use Rattle.tp_machine.specs.declared.whole.Machine.{Machine}
+use Rattle.tp_machine.specs.declared.machine.Machine.{Machine}
 use Rattle.tp_schedule.proofs.Membership.{Contains-here}
 use Rattle.tp_schedule.specs.declared.parts.Plan.{Plan}
 use Rattle.tp_schedule.specs.declared.parts.SheetId.{SheetId}
-use Rattle.tp_schedule.specs.declared.recording.Record.{Record}
+use Rattle.tp_schedule.specs.declared.records.Record.{Record}
 use Rattle.tp_turn.specs.Fates.{Fate, befall, left_by, left_of, to_purge}
 use Rattle.tp_turn.specs.Moments.{front_of, is_tray_plan}
 use Rattle.tp_turn.specs.States.{SessionState}

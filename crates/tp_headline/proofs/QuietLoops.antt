@@ -1,6 +1,6 @@
 -- The loop and the settling leave what was delivered.
 use Rattle.std.proofs.Common.{◌≡◌, ℕ, ◌+◌, ◌⊎◌, inl, inr, Bool, true, false, cond, ◌&&◌, not, List, [], ◌∷◌, ◌++◌, map, refl, sym, ap, ◌∙◌, arith, Contains, subst, Some}
-use Rattle.tp_machine.specs.declared.whole.Machine.{Machine}
+use Rattle.tp_machine.specs.declared.machine.Machine.{Machine}
 use Rattle.tp_schedule.proofs.Membership.{Contains-cons_cases, Contains-here, Contains-later, Contains-map, Contains-map_from}
 use Rattle.tp_schedule.specs.Answers.{IsAlternative, IsRetimed, unmoved}
 use Rattle.tp_schedule.specs.Planning.{Deed, IsAnswer, none_exempt}
@@ -13,8 +13,8 @@ use Rattle.tp_schedule.specs.declared.parts.Plan.{Plan}
 use Rattle.tp_schedule.specs.declared.parts.Reply.{Reply}
 use Rattle.tp_schedule.specs.declared.parts.Reply.TheVariants.{Planned, Never, Spent}
 use Rattle.tp_schedule.specs.declared.parts.SheetId.{SheetId}
-use Rattle.tp_schedule.specs.declared.recording.Record.{Record}
-use Rattle.tp_schedule.specs.declared.recording.Record.TheVariants.{Purge as PurgeTold, Stuck}
+use Rattle.tp_schedule.specs.declared.records.Record.{Record}
+use Rattle.tp_schedule.specs.declared.records.Record.TheVariants.{Purge as PurgeTold, Stuck}
 use Rattle.tp_turn.specs.Answering.{Answer, moves, told_of_reply}
 use Rattle.tp_turn.specs.Fates.{to_purge}
 use Rattle.tp_turn.specs.Laws.{IsPlannable}

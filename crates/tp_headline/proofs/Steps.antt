@@ -4,7 +4,7 @@ use Rattle.std.proofs.lemmas.Bool.Decides.{nat_tests}
 use Rattle.std.proofs.lemmas.List.Elements.{All-nil, All-head, All-tail, All-append, All-contains, Contains-append_left, Contains-append_right, Contains-append_cases}
 use Rattle.std.proofs.lemmas.List.{length-append, append-nil}
 use Rattle.tp_base.proofs.SliceFacts.{slice_get_left, slice_get_last}
-use Rattle.tp_machine.specs.declared.whole.Machine.{Machine}
+use Rattle.tp_machine.specs.declared.machine.Machine.{Machine}
 use Rattle.tp_jobs.specs.Backlogs.{tray_of, tray_in}
 use Rattle.tp_jobs.specs.Refusing.{is_tray_name}
 use Rattle.tp_jobs.specs.declared.parts.Job.{Job}
@@ -13,9 +13,9 @@ use Rattle.tp_schedule.proofs.Pairs.{AllPairs-append}
 use Rattle.tp_schedule.specs.Plans.{end_of_plan}
 use Rattle.tp_schedule.specs.declared.parts.Plan.{Plan}
 use Rattle.tp_schedule.specs.declared.parts.SheetId.{SheetId}
-use Rattle.tp_schedule.specs.declared.recording.Record.{Record}
-use Rattle.tp_schedule.specs.declared.recording.Record.TheVariants.{Broken, Done}
-use Rattle.tp_schedule.specs.declared.recording.SheetName.{SheetName}
+use Rattle.tp_schedule.specs.declared.records.Record.{Record}
+use Rattle.tp_schedule.specs.declared.records.Record.TheVariants.{Broken, Done}
+use Rattle.tp_schedule.specs.declared.records.SheetName.{SheetName}
 use Rattle.tp_turn.specs.Clock.{clock_move, clock_records, released_until}
 use Rattle.tp_turn.specs.Labels.{job_name, job_name_in, label, location_name}
 use Rattle.tp_turn.specs.Lines.{is_job_broken, broken_in}

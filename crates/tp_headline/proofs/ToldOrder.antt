@@ -6,7 +6,7 @@ use Rattle.std.proofs.lemmas.List.Elements.{All-nil, All-cons, All-weaker, All-f
 use Rattle.std.proofs.lemmas.List.Kept.{AllPairs-filter}
 use Rattle.std.proofs.lemmas.List.Sorted.{IsPermutation-refl, IsPermutation-cons, IsPermutation-trans, IsPermutation-middle}
 use Rattle.tp_machine.specs.declared.parts.ActId.{ActId}
-use Rattle.tp_machine.specs.declared.whole.Machine.{Machine}
+use Rattle.tp_machine.specs.declared.machine.Machine.{Machine}
 use Rattle.tp_schedule.proofs.CopyFacts.{same_copy-refl}
 use Rattle.tp_schedule.proofs.Membership.{All-from_contains, Contains-map_from}
 use Rattle.tp_schedule.proofs.Pairs.{AllPairs-nil, AllPairs-cons, AllPairs-append, AllPairs-each}

@@ -1,6 +1,6 @@
 -- Where the answers of a log's planner stand: the records that tell a plan, a none or a spent budget, and what they mean.
 use Rattle.std.specs.Prelude.{◌≡◌, ℕ, Bool, true, false, List, [], ◌∷◌, ◌++◌, filter, flat_map}
-use Rattle.tp_machine.specs.declared.whole.Machine.{Machine}
+use Rattle.tp_machine.specs.declared.machine.Machine.{Machine}
 use Rattle.tp_schedule.specs.Answers.{IsAlternative, IsEarliest, IsLeast, follows_front, kept_of}
 use Rattle.tp_schedule.specs.Planning.{Deed, IsAnswer, IsSettled}
 use Rattle.tp_schedule.specs.Planning.Deed.{replied, settled}
@@ -9,8 +9,8 @@ use Rattle.tp_schedule.specs.declared.parts.Ask.{Ask}
 use Rattle.tp_schedule.specs.declared.parts.Plan.{Plan}
 use Rattle.tp_schedule.specs.declared.parts.Reply.{Reply}
 use Rattle.tp_schedule.specs.declared.parts.Reply.TheVariants.{Planned, Never, Spent}
-use Rattle.tp_schedule.specs.declared.recording.Record.{Record}
-use Rattle.tp_schedule.specs.declared.recording.Record.TheVariants.{Plan as TellsPlan, Never as TellsNever, Budget}
+use Rattle.tp_schedule.specs.declared.records.Record.{Record}
+use Rattle.tp_schedule.specs.declared.records.Record.TheVariants.{Plan as TellsPlan, Never as TellsNever, Budget}
 use Rattle.tp_turn.specs.Answering.{label_of_asked, told_of_planned}
 use Rattle.tp_turn.specs.Labels.{goal_name}
 use Rattle.tp_turn.specs.Logs.{Entry}

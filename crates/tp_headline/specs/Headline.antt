@@ -1,6 +1,6 @@
 -- The headline, stated of every lawful log: whoever planned it, whatever its trees claim, and whatever a spent budget means.
 use Rattle.std.specs.Prelude.{◌≡◌, ◌≤◌, ℕ, Bool, List, ◌∷◌, ◌++◌, length, Option, IsTrue}
-use Rattle.tp_machine.specs.declared.whole.Machine.{Machine}
+use Rattle.tp_machine.specs.declared.machine.Machine.{Machine}
 use Rattle.tp_script.specs.declared.event.Event.{Event}
 use Rattle.tp_jobs.specs.Refusing.{is_tray_name}
 use Rattle.tp_schedule.specs.Holding.{held}
@@ -8,9 +8,9 @@ use Rattle.tp_schedule.specs.Legality.{IsLegal}
 use Rattle.tp_schedule.specs.declared.parts.Ask.{Ask}
 use Rattle.tp_schedule.specs.declared.parts.Plan.{Plan}
 use Rattle.tp_turn.specs.Logs.{Entry, TreeClaims, IsLawful}
-use Rattle.tp_schedule.specs.declared.recording.Record.{Record}
-use Rattle.tp_schedule.specs.declared.recording.Record.TheVariants.{Plan as TellsPlan, Never as TellsNever, Budget}
-use Rattle.tp_schedule.specs.declared.recording.SheetName.{SheetName}
+use Rattle.tp_schedule.specs.declared.records.Record.{Record}
+use Rattle.tp_schedule.specs.declared.records.Record.TheVariants.{Plan as TellsPlan, Never as TellsNever, Budget}
+use Rattle.tp_schedule.specs.declared.records.SheetName.{SheetName}
 use Rattle.tp_turn.specs.Receiving.{ReceivesInOrder, records_of}
 use Rattle.tp_turn.specs.Laws.{totals_after}
 use Rattle.tp_turn.specs.Planners.{PlannerSteps}

@@ -1,10 +1,10 @@
 -- In which order things are told: by moment as the clock moves, and by copy where a job breaks.
 use Rattle.std.specs.Prelude.{◌≡◌, ◌<◌, ◌⊎◌, ℕ, Bool, true, false, ◌&&◌, ◌||◌, nat_lt, List, ◌∷◌, ◌++◌, map, flat_map, All, AllPairs, IsTrue, IsFalse, IsPermutation}
-use Rattle.tp_machine.specs.declared.whole.Machine.{Machine}
+use Rattle.tp_machine.specs.declared.machine.Machine.{Machine}
 use Rattle.tp_schedule.specs.Plans.{IsEarlier, is_before, is_same_copy}
 use Rattle.tp_schedule.specs.declared.parts.Plan.{Plan}
-use Rattle.tp_schedule.specs.declared.recording.Record.{Record}
-use Rattle.tp_schedule.specs.declared.recording.Record.TheVariants.{Broken}
+use Rattle.tp_schedule.specs.declared.records.Record.{Record}
+use Rattle.tp_schedule.specs.declared.records.Record.TheVariants.{Broken}
 use Rattle.tp_turn.specs.Clock.{Told, deliveries, releases, clock_tells}
 use Rattle.tp_turn.specs.FallBacks.{Notice, notices_of_waiting, notices_of_plans, job_break}
 use Rattle.tp_turn.specs.Keeping.{is_planned_among}

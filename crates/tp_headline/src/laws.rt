@@ -1,6 +1,6 @@
 // What holds of lawful logs, and in which order things are told. The calls do nothing: their contracts are the laws.
 ghost use Rattle.std.specs.Prelude.{ℕ, List, []};
-ghost use Rattle.tp_machine.specs.declared.whole.Machine.{Machine};
+ghost use Rattle.tp_machine.specs.declared.machine.Machine.{Machine};
 ghost use Rattle.tp_schedule.specs.declared.parts.Ask.{Ask};
 ghost use Rattle.tp_schedule.specs.declared.parts.Plan.{Plan};
 ghost use Rattle.tp_headline.specs.Headline.{claims_of, LawfulLogsAreLegal, LawfulLogsHoldOnce};

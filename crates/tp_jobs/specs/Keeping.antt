@@ -3,7 +3,7 @@ use Rattle.std.specs.Prelude.{◌≡◌, ℕ, zero, suc, ◌+◌, ◌<◌, ◌�
 use Rattle.std.specs.List.{IsDistinct}
 use Rattle.std.specs.Str.{bytes_eq}
 use Rattle.tp_jobs.specs.Backlogs.{Backlog, names_of, WaitsBefore, IsOfJob}
-use Rattle.tp_jobs.specs.declared.keeping.Lines.TheInside.{Inside}
+use Rattle.tp_jobs.specs.declared.lines.Lines.TheInside.{Inside}
 use Rattle.tp_jobs.specs.declared.parts.Job.{Job}
 use Rattle.tp_jobs.specs.declared.parts.WaitingCopy.{WaitingCopy}
 

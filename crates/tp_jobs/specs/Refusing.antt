@@ -4,7 +4,7 @@ use Rattle.std.specs.List.{list_any}
 use Rattle.std.specs.Str.{bytes_eq}
 use Rattle.tp_machine.specs.Rules.{is_among}
 use Rattle.tp_machine.specs.declared.parts.LocId.{LocId}
-use Rattle.tp_machine.specs.declared.whole.Machine.{Machine}
+use Rattle.tp_machine.specs.declared.machine.Machine.{Machine}
 use Rattle.tp_script.specs.Form.{GroupForm}
 use Rattle.tp_jobs.specs.Backlogs.{names_of}
 use Rattle.tp_jobs.specs.declared.fault.JobFault.{JobFault}

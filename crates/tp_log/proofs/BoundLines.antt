@@ -4,7 +4,7 @@ use Rattle.std.proofs.lemmas.List.{append_cancel_right}
 use Rattle.std.proofs.lemmas.Option.{same_Some}
 use Rattle.tp_words.specs.Parts.{parts_at}
 use Rattle.tp_words.specs.Texts.{spaced}
-use Rattle.tp_schedule.specs.declared.recording.Record.{Record}
+use Rattle.tp_schedule.specs.declared.records.Record.{Record}
 use Rattle.tp_script.specs.Printed.{IsEchoed}
 use Rattle.tp_script.specs.Script.{event_text}
 use Rattle.tp_script.specs.declared.event.Event.{Event as AnEvent}

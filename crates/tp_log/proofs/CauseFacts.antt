@@ -8,8 +8,8 @@ use Rattle.std.proofs.lemmas.Slice.Eq.{bytes_eq-Decides}
 use Rattle.tp_words.proofs.Steps.{and_then_some}
 use Rattle.tp_words.proofs.Spelling.{Tells, name_spells, number_spells}
 use Rattle.tp_words.proofs.Texts.{AllVisible, name_visible, number_visible}
-use Rattle.tp_schedule.specs.declared.recording.Cause.{Cause}
-use Rattle.tp_schedule.specs.declared.recording.Cause.TheVariants.{Syntax, Tray, Media, Named, Waiting, Back, End, «Module», Out, NotOn, Feeder, Endless, Stock}
+use Rattle.tp_schedule.specs.declared.records.Cause.{Cause}
+use Rattle.tp_schedule.specs.declared.records.Cause.TheVariants.{Syntax, Tray, Media, Named, Waiting, Back, End, «Module», Out, NotOn, Feeder, Endless, Stock}
 use Rattle.tp_log.specs.declared.reason.Reason.{Reason}
 use Rattle.tp_log.specs.declared.reason.Reason.TheVariants as reasons
 use Rattle.tp_log.specs.Headings.{reason_text, reason_of, reasons as all_reasons}

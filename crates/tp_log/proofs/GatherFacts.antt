@@ -11,7 +11,7 @@ use Rattle.tp_bounds.specs.Trees.{HasALine, HasLines}
 use Rattle.tp_bounds.specs.declared.tree.BoundTree.{BoundTree}
 use Rattle.tp_bounds.specs.declared.tree.Node.{Node as ANode}
 use Rattle.tp_bounds.specs.declared.tree.TreeRow.{TreeRow}
-use Rattle.tp_schedule.specs.declared.recording.Record.{Record}
+use Rattle.tp_schedule.specs.declared.records.Record.{Record}
 use Rattle.tp_script.specs.declared.event.Event.{Event as AnEvent}
 use Rattle.tp_log.specs.declared.gathering.Next.{Next}
 use Rattle.tp_log.specs.declared.item.Item.{Item}

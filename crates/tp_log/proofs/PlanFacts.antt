@@ -13,9 +13,9 @@ use Rattle.tp_words.proofs.Spelling.{Tells, name_spells, number_spells}
 use Rattle.tp_bounds.proofs.SheetFacts.{sheet_spells}
 use Rattle.tp_words.proofs.Texts.{AllVisible, name_visible, number_visible}
 use Rattle.tp_words.proofs.Lists.{list_takes, list_again}
-use Rattle.tp_schedule.specs.declared.recording.Record.{Record}
-use Rattle.tp_schedule.specs.declared.recording.Record.TheVariants.{Plan, Move}
-use Rattle.tp_schedule.specs.declared.recording.SheetName.{SheetName}
+use Rattle.tp_schedule.specs.declared.records.Record.{Record}
+use Rattle.tp_schedule.specs.declared.records.Record.TheVariants.{Plan, Move}
+use Rattle.tp_schedule.specs.declared.records.SheetName.{SheetName}
 use Rattle.tp_words.specs.Fields.{IsName}
 use Rattle.tp_bounds.specs.Sheets.{IsSheet, sheet_of, sheet_text}
 use Rattle.tp_log.specs.declared.heading.Heading.TheVariants as headings

@@ -7,9 +7,9 @@ use Rattle.tp_words.proofs.Steps.{and_then_some, map_some}
 use Rattle.tp_words.proofs.Spelling.{Tells, name_spells, number_spells, two_again, five_again}
 use Rattle.tp_bounds.proofs.SheetFacts.{sheet_spells, sheet_visible}
 use Rattle.tp_words.proofs.Texts.{AllVisible, name_visible, number_visible}
-use Rattle.tp_schedule.specs.declared.recording.Record.{Record}
-use Rattle.tp_schedule.specs.declared.recording.Record.TheVariants.{Plan, Move, Never, Budget, FullUp, Release, Done, Lost, Recall, Withdraw, Cut, Purge, Again, Stuck, Broken, Drop, Refused}
-use Rattle.tp_schedule.specs.declared.recording.SheetName.{SheetName}
+use Rattle.tp_schedule.specs.declared.records.Record.{Record}
+use Rattle.tp_schedule.specs.declared.records.Record.TheVariants.{Plan, Move, Never, Budget, FullUp, Release, Done, Lost, Recall, Withdraw, Cut, Purge, Again, Stuck, Broken, Drop, Refused}
+use Rattle.tp_schedule.specs.declared.records.SheetName.{SheetName}
 use Rattle.tp_bounds.specs.Sheets.{IsSheet, sheet_of, sheet_text}
 use Rattle.tp_log.specs.declared.heading.Heading.{Heading}
 use Rattle.tp_log.specs.declared.heading.Heading.TheVariants as headings

@@ -1,8 +1,8 @@
 -- The lines of a log: events, records, and the lines of bound trees; and in which order they may stand.
 use Rattle.std.specs.Prelude.{◌≡◌, ◌≢◌, ℕ, Bool, true, false, List, [], ◌∷◌, IsTrue, Result, Ok, Err}
 use Rattle.tp_bounds.specs.Lines.{IsNode, IsRow, node_text, row_text}
-use Rattle.tp_schedule.specs.declared.recording.Record.{Record}
-use Rattle.tp_schedule.specs.declared.recording.Record.TheVariants.{Plan, Move, Never}
+use Rattle.tp_schedule.specs.declared.records.Record.{Record}
+use Rattle.tp_schedule.specs.declared.records.Record.TheVariants.{Plan, Move, Never}
 use Rattle.tp_script.specs.Printed.{IsEchoed}
 use Rattle.tp_script.specs.declared.fault.LineFault.{LineFault}
 use Rattle.tp_script.specs.declared.fault.LineFault.TheVariants.{Memory, Syntax}

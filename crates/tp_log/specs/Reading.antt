@@ -4,10 +4,10 @@ use Rattle.std.specs.Str.{bytes_eq}
 use Rattle.tp_words.specs.Numbers.{number_of}
 use Rattle.tp_words.specs.Each.{each_read}
 use Rattle.tp_words.specs.Fields.{◌>>=◌, name_of, two_of, five_of}
-use Rattle.tp_schedule.specs.declared.recording.Cause.{Cause}
-use Rattle.tp_schedule.specs.declared.recording.Cause.TheVariants as causes
-use Rattle.tp_schedule.specs.declared.recording.Record.{Record}
-use Rattle.tp_schedule.specs.declared.recording.Record.TheVariants.{Plan, Move, Never, Budget, FullUp, Release, Done, Lost, Recall, Withdraw, Cut, Purge, Again, Stuck, Broken, Drop, Refused}
+use Rattle.tp_schedule.specs.declared.records.Cause.{Cause}
+use Rattle.tp_schedule.specs.declared.records.Cause.TheVariants as causes
+use Rattle.tp_schedule.specs.declared.records.Record.{Record}
+use Rattle.tp_schedule.specs.declared.records.Record.TheVariants.{Plan, Move, Never, Budget, FullUp, Release, Done, Lost, Recall, Withdraw, Cut, Purge, Again, Stuck, Broken, Drop, Refused}
 use Rattle.tp_bounds.specs.Sheets.{sheet_of}
 use Rattle.tp_log.specs.declared.heading.Heading.{Heading}
 use Rattle.tp_log.specs.declared.heading.Heading.TheVariants as headings

@@ -16,7 +16,7 @@ use Rattle.tp_machine.specs.declared.parts.Feeder.{Feeder}
 use Rattle.tp_machine.specs.declared.parts.HoldRule.{HoldRule}
 use Rattle.tp_machine.specs.declared.parts.LocId.{LocId}
 use Rattle.tp_machine.specs.declared.parts.Resource.{Resource}
-use Rattle.tp_machine.specs.declared.whole.Machine.{Machine}
+use Rattle.tp_machine.specs.declared.machine.Machine.{Machine}
 use Rattle.tp_machine.proofs.NameFacts.{action_names, all_names, few_holds_at, media_names, name_tests, names_differ, resource_names}
 use Rattle.tp_machine.proofs.RisingNames.{rising_names_differ}
 use Rattle.tp_machine.proofs.Amounts.{amounts_of, stocks_within, modes_at}

@@ -6,7 +6,7 @@ use Rattle.tp_machine.specs.Modes.{mode_of, gap_of, gap_at, gap_between}
 use Rattle.tp_machine.specs.Rules.{have_gaps}
 use Rattle.tp_machine.specs.declared.parts.HoldRule.{HoldRule}
 use Rattle.tp_machine.specs.declared.parts.Resource.{Resource}
-use Rattle.tp_machine.specs.declared.whole.Machine.{Machine}
+use Rattle.tp_machine.specs.declared.machine.Machine.{Machine}
 use Rattle.tp_machine.proofs.Amounts.{amounts_of}
 use Rattle.tp_machine.proofs.Lists.{list_all-at}
 

@@ -12,7 +12,7 @@ use Rattle.tp_machine.specs.Using.{action_at}
 use Rattle.tp_machine.specs.declared.parts.Action.{Action}
 use Rattle.tp_machine.specs.declared.parts.Feeder.{Feeder}
 use Rattle.tp_machine.specs.declared.parts.Resource.{Resource}
-use Rattle.tp_machine.specs.declared.whole.Machine.{Machine}
+use Rattle.tp_machine.specs.declared.machine.Machine.{Machine}
 use Rattle.tp_machine.proofs.Lists.{list_all-at, All-from_test, All-from_none, AllPairs-nil, AllPairs-cons}
 
 another : (a b : List ℕ) → bytes_eq a b ≡ false → a ≢ b

@@ -4,7 +4,7 @@ use mathlib.Core.Bool.{Bool-set}
 use mathlib.Core.Path.{PathP}
 use Rattle.std.proofs.Common.{◌≡◌, Bool, IsTrue}
 use Rattle.tp_machine.specs.Rules.{are_named, are_numbers, are_counts, are_trays, are_purges, are_feeders, are_resources, are_amounts, do_actions_differ, are_ways, have_durations, have_few_holds, have_holds}
-use Rattle.tp_machine.specs.declared.whole.Machine.{Machine}
+use Rattle.tp_machine.specs.declared.machine.Machine.{Machine}
 
 -- two machines have the same parts
 pub record HaveSameParts (m n : Machine) : Type 0 where

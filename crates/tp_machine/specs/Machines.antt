@@ -7,7 +7,7 @@ use Rattle.tp_machine.specs.Using.{action_at, begin_of, end_of}
 use Rattle.tp_machine.specs.declared.parts.Action.{Action}
 use Rattle.tp_machine.specs.declared.parts.HoldRule.{HoldRule}
 use Rattle.tp_machine.specs.declared.parts.LocId.{LocId}
-use Rattle.tp_machine.specs.declared.whole.Machine.{Machine}
+use Rattle.tp_machine.specs.declared.machine.Machine.{Machine}
 
 abbrev pub IsLocation : Machine → LocId → Type 0
 IsLocation machine place = place.0 < length machine.locations

@@ -1,8 +1,8 @@
 ghost use Rattle.std.specs.Prelude.{◌≡◌, ◌≤◌, slice_get};
 ghost use Rattle.tp_machine.specs.Modes.{mode_of, gap_of, gap_at, gap_between};
 
+use crate::machine::Machine;
 use crate::parts::{HoldRule, ResId, Resource};
-use crate::whole::Machine;
 
 /// The mode of a hold.
 #[tactic(auto, unfolding(crate::specs::Modes::mode_of))]

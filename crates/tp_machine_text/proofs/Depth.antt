@@ -6,7 +6,7 @@ use Rattle.tp_machine.specs.declared.parts.Action.{Action}
 use Rattle.tp_machine.specs.declared.parts.Feeder.{Feeder}
 use Rattle.tp_machine.specs.declared.parts.HoldRule.{HoldRule}
 use Rattle.tp_machine.specs.declared.parts.Resource.{Resource}
-use Rattle.tp_machine.specs.declared.whole.Machine.{Machine}
+use Rattle.tp_machine.specs.declared.machine.Machine.{Machine}
 use Rattle.tp_machine_text.specs.Printed.{feeder_members, resource_members, amount_members, gaps_of, stocks_of, resource_names, loc_names, kind_words, hold_data, action_data, table_of}
 
 max_le : (a b n : ℕ) → a ≤ n → b ≤ n → max a b ≤ n

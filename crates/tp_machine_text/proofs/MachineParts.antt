@@ -8,7 +8,7 @@ use Rattle.tp_base.specs.NameText.{is_between}
 use Rattle.tp_machine.specs.Rules as machine
 use Rattle.tp_machine.specs.declared.parts.Feeder.{Feeder}
 use Rattle.tp_machine.specs.declared.parts.LocId.{LocId}
-use Rattle.tp_machine.specs.declared.whole.Machine.{Machine}
+use Rattle.tp_machine.specs.declared.machine.Machine.{Machine}
 use Rattle.tp_machine_text.specs.Words.{are_different}
 use Rattle.tp_machine_text.specs.Printed.{is_place, is_known, resource_names}
 use Rattle.tp_machine.proofs.NameFacts.{name_tests}

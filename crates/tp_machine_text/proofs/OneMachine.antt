@@ -1,7 +1,7 @@
 -- A table has one machine, and a text is of one table.
 use Rattle.std.proofs.Common.{◌≡◌, ℕ, List, Some, sym, subst, ◌∙◌}
 use Rattle.toml.specs.Data.{Members}
-use Rattle.tp_machine.specs.declared.whole.Machine.{Machine}
+use Rattle.tp_machine.specs.declared.machine.Machine.{Machine}
 use Rattle.tp_machine.proofs.SameMachines.{same_machines}
 use Rattle.tp_machine_text.specs.TheMachine.{IsMachineOf}
 use Rattle.tp_machine_text.specs.Texts.{IsMachineText}

@@ -3,7 +3,7 @@ use Rattle.std.proofs.Common.{◌≡◌, ℕ, ◌≤◌, List, Some, ap, ◌∙�
 use Rattle.std.specs.Prelude.{IsUtf8}
 use Rattle.toml.specs.Data.{Members, members_depth}
 use Rattle.toml.specs.Parse.{parse_document}
-use Rattle.tp_machine.specs.declared.whole.Machine.{Machine}
+use Rattle.tp_machine.specs.declared.machine.Machine.{Machine}
 use Rattle.tp_machine_text.specs.Printed.{table_of}
 use Rattle.tp_machine_text.specs.Texts.{IsMachineText}
 use Rattle.tp_machine_text.proofs.Depth.{table_depth}

@@ -11,7 +11,7 @@ use Rattle.toml.specs.Data.{string, integer}
 use Rattle.tp_machine.specs.Rules as machine
 use Rattle.tp_machine.specs.declared.parts.Feeder.{Feeder}
 use Rattle.tp_machine.specs.declared.parts.Resource.{Resource}
-use Rattle.tp_machine.specs.declared.whole.Machine.{Machine}
+use Rattle.tp_machine.specs.declared.machine.Machine.{Machine}
 use Rattle.tp_machine_text.specs.Words.{is_whole}
 use Rattle.tp_machine_text.specs.TopRules.{has_known_keys, has_format, has_lead, has_window, has_budget, has_locations, has_modules, has_trays, has_purges}
 use Rattle.tp_machine_text.specs.SupplyRules.{has_feeders, has_media, has_resources, has_resource_modules}

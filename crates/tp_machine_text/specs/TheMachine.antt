@@ -9,7 +9,7 @@ use Rattle.tp_machine.specs.declared.parts.LocId.{LocId}
 use Rattle.tp_machine.specs.declared.parts.ModId.{ModId}
 use Rattle.tp_machine.specs.declared.parts.ResId.{ResId}
 use Rattle.tp_machine.specs.declared.parts.Resource.{Resource}
-use Rattle.tp_machine.specs.declared.whole.Machine.{Machine}
+use Rattle.tp_machine.specs.declared.machine.Machine.{Machine}
 use Rattle.tp_machine_text.specs.Words.{elements_in, members_at, text_of, text_at, whole_of, is_among}
 use Rattle.tp_machine_text.specs.Keys as text
 use Rattle.tp_machine_text.specs.HoldRules.{holds, anchor_at, offset_at, number_of, least_of, most_of}

@@ -1,7 +1,7 @@
 // What holds of all machine texts. The call does nothing: its contract is the law.
 ghost use Rattle.std.specs.Prelude.{◌≡◌, ℕ, List};
 ghost use Rattle.toml.specs.Data.{Members};
-ghost use Rattle.tp_machine.specs.declared.whole.Machine.{Machine};
+ghost use Rattle.tp_machine.specs.declared.machine.Machine.{Machine};
 ghost use Rattle.tp_machine_text.specs.TheMachine.{IsMachineOf};
 ghost use Rattle.tp_machine_text.specs.Texts.{IsMachineText};
 

@@ -2,7 +2,7 @@
 use Rattle.std.proofs.Common.{◌≡◌, ℕ, ◌+◌, ◌<◌, ◌≤◌, ◌⊎◌, inl, inr, Bool, true, false, cond, ◌&&◌, List, ◌∷◌, refl, sym, ap, arith, Contains, subst}
 use Rattle.std.specs.Prelude.{count_by}
 use Rattle.std.proofs.lemmas.Bool.Decides.{nat_tests}
-use Rattle.tp_machine.specs.declared.whole.Machine.{Machine}
+use Rattle.tp_machine.specs.declared.machine.Machine.{Machine}
 use Rattle.tp_jobs.specs.Backlogs.{next_copy}
 use Rattle.tp_jobs.specs.Waiting.{put_waiting}
 use Rattle.tp_jobs.specs.declared.parts.WaitingCopy.{WaitingCopy}

@@ -6,7 +6,7 @@ use Rattle.std.specs.List.{list_all}
 use Rattle.std.proofs.lemmas.List.Sums.{length-filter}
 use Rattle.std.proofs.lemmas.List.{length-map}
 use Rattle.tp_machine.specs.declared.parts.ActId.{ActId}
-use Rattle.tp_machine.specs.declared.whole.Machine.{Machine}
+use Rattle.tp_machine.specs.declared.machine.Machine.{Machine}
 use Rattle.tp_schedule.specs.Answers.{unmoved}
 use Rattle.tp_schedule.specs.Holding.{runs_from}
 use Rattle.tp_schedule.specs.Plans.{end_of_plan, is_fixed, is_front}

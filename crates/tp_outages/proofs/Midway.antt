@@ -4,7 +4,7 @@ use Rattle.std.proofs.lemmas.List.{get_or-take}
 use Rattle.std.specs.List.{list_any}
 use Rattle.std.proofs.lemmas.Bool.Decides.{nat_tests}
 use Rattle.std.proofs.lemmas.List.Elements.{All-contains}
-use Rattle.tp_machine.specs.declared.whole.Machine.{Machine}
+use Rattle.tp_machine.specs.declared.machine.Machine.{Machine}
 use Rattle.tp_schedule.proofs.Membership.{Contains-cons_cases, Contains-filter, Contains-map}
 use Rattle.tp_schedule.specs.Plans.{IsTimedPlan, end_of_plan, is_front, is_same_copy, point}
 use Rattle.tp_schedule.specs.declared.parts.Plan.{Plan}

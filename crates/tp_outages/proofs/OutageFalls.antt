@@ -2,13 +2,13 @@
 use Rattle.std.proofs.Common.{◌≡◌, ℕ, ◌<◌, inl, inr, Bool, true, false, cond, List, [], ◌∷◌, map, length, refl, arith}
 use Rattle.std.specs.Prelude.{◌==◌}
 use Rattle.std.proofs.lemmas.Bool.Decides.{nat_tests}
-use Rattle.tp_machine.specs.declared.whole.Machine.{Machine}
+use Rattle.tp_machine.specs.declared.machine.Machine.{Machine}
 use Rattle.tp_jobs.specs.Backlogs.{next_copy}
 use Rattle.tp_jobs.specs.Waiting.{put_waiting}
 use Rattle.tp_jobs.specs.declared.parts.Job.{Job}
 use Rattle.tp_schedule.proofs.Membership.{Contains-here}
 use Rattle.tp_schedule.specs.declared.parts.SheetId.{SheetId}
-use Rattle.tp_schedule.specs.declared.recording.Record.TheVariants.{Again}
+use Rattle.tp_schedule.specs.declared.records.Record.TheVariants.{Again}
 use Rattle.tp_turn.specs.FallBacks.{Displaced, fall_back, fall_back_unless_broken, is_line_entering, job_break, later_fall_back, next_waits}
 use Rattle.tp_turn.specs.Labels.{label}
 use Rattle.tp_turn.specs.Lines.{is_job_broken, is_same_line}

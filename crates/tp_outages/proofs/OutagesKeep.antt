@@ -3,7 +3,7 @@ use Rattle.std.proofs.Common.{◌≡◌, ℕ, ◌≤◌, Bool, true, false, ◌&
 use Rattle.std.proofs.lemmas.Bool.Decides.{nat_tests}
 use Rattle.std.proofs.lemmas.Bool.{and_parts}
 use Rattle.std.proofs.lemmas.List.Elements.{All-contains}
-use Rattle.tp_machine.specs.declared.whole.Machine.{Machine}
+use Rattle.tp_machine.specs.declared.machine.Machine.{Machine}
 use Rattle.tp_schedule.proofs.Membership.{Contains-map, Contains-map_from, All-from_contains}
 use Rattle.tp_schedule.specs.Answers.{IsRetimed, unmoved}
 use Rattle.tp_schedule.specs.Planning.{Deed, none_exempt}
@@ -11,7 +11,7 @@ use Rattle.tp_schedule.specs.Planning.Deed.{settled}
 use Rattle.tp_schedule.specs.Plans.{is_front}
 use Rattle.tp_schedule.specs.declared.parts.Ask.{Ask}
 use Rattle.tp_schedule.specs.declared.parts.Plan.{Plan}
-use Rattle.tp_schedule.specs.declared.recording.Record.{Record}
+use Rattle.tp_schedule.specs.declared.records.Record.{Record}
 use Rattle.tp_turn.specs.Lines.{is_lost}
 use Rattle.tp_turn.specs.Loops.{after_answers, next_ask}
 use Rattle.tp_turn.specs.Outages.{outage}

@@ -1,7 +1,7 @@
 -- The settling keeps what holds in the midst of an outage.
 use Rattle.std.proofs.Common.{◌≡◌, ℕ, ◌-◌, ◌<◌, ◌⊎◌, true, false, List, [], map, filter, length, refl, sym, ap, ◌∙◌, arith, Contains, subst}
 use Rattle.std.specs.Prelude.{count_by}
-use Rattle.tp_machine.specs.declared.whole.Machine.{Machine}
+use Rattle.tp_machine.specs.declared.machine.Machine.{Machine}
 use Rattle.tp_schedule.proofs.Membership.{Contains-map, Contains-map_from}
 use Rattle.tp_schedule.specs.Answers.{IsRetimed, unmoved}
 use Rattle.tp_schedule.specs.Planning.{none_exempt}

@@ -1,7 +1,7 @@
 -- What outages keep, over any planner, by what is known of its steps.
 use Rattle.std.specs.Prelude.{ℕ, ◌+◌, Bool, List}
-use Rattle.tp_machine.specs.declared.whole.Machine.{Machine}
-use Rattle.tp_schedule.specs.declared.recording.Record.{Record}
+use Rattle.tp_machine.specs.declared.machine.Machine.{Machine}
+use Rattle.tp_schedule.specs.declared.records.Record.{Record}
 use Rattle.tp_turn.specs.Planners.{PlannerSteps, GoesOut}
 use Rattle.tp_turn.specs.Ready.{CanTakeEvents, KeepsLive}
 use Rattle.tp_turn.specs.States.{SessionState}

@@ -1,6 +1,6 @@
 -- What a state keeps through outages, be it whole or live.
 use Rattle.std.specs.Prelude.{ℕ, List, All}
-use Rattle.tp_machine.specs.declared.whole.Machine.{Machine}
+use Rattle.tp_machine.specs.declared.machine.Machine.{Machine}
 use Rattle.tp_turn.specs.Keeping.{KeepsJobs, KeepsLines, KeepsSheets, IsOlder, open_copies}
 use Rattle.tp_turn.specs.Laws.{IsPlannable}
 use Rattle.tp_turn.specs.Ready.{KeepsBroken}

@@ -1,6 +1,6 @@
 // What outages keep. The calls do nothing: their contracts are the laws.
 ghost use Rattle.std.specs.Prelude.{ℕ, List};
-ghost use Rattle.tp_machine.specs.declared.whole.Machine.{Machine};
+ghost use Rattle.tp_machine.specs.declared.machine.Machine.{Machine};
 ghost use Rattle.tp_outages.specs.Laws.{OutagesKeep, OutagesKeepLive};
 ghost use Rattle.tp_outages.specs.Through.{KeepsOrder, KeepsThrough};
 ghost use Rattle.tp_turn.specs.Planners.{right_steps};

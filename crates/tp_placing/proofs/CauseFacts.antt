@@ -8,7 +8,7 @@ use Rattle.std.proofs.lemmas.Option.{slice_get_past, slice_get_within, slice_get
 use Rattle.tp_base.proofs.SliceFacts.{found}
 use Rattle.tp_base.specs.Net.{Net}
 use Rattle.tp_base.specs.declared.edges.Edge.{Edge}
-use Rattle.tp_machine.specs.declared.whole.Machine.{Machine}
+use Rattle.tp_machine.specs.declared.machine.Machine.{Machine}
 use Rattle.tp_schedule.specs.Spots.{Spot}
 use Rattle.tp_schedule.specs.Spots.Spot.{own}
 use Rattle.tp_schedule.specs.declared.parts.Ask.{Ask}

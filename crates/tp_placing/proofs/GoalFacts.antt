@@ -4,7 +4,7 @@ use Rattle.std.proofs.lemmas.List.{append-nil, length-append, length-map}
 use Rattle.tp_base.specs.declared.edges.Edge.{Edge}
 use Rattle.tp_base.specs.declared.edges.PointId.{PointId}
 use Rattle.tp_base.specs.Net.{Net, HasLeast, HasNoSolution, with_point, with_edges}
-use Rattle.tp_machine.specs.declared.whole.Machine.{Machine}
+use Rattle.tp_machine.specs.declared.machine.Machine.{Machine}
 use Rattle.tp_schedule.specs.Choices.{start_floor}
 use Rattle.tp_schedule.specs.Spots.{Spot, Ticks, slot_order}
 use Rattle.tp_schedule.specs.Spots.Spot.{own}

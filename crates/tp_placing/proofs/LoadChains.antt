@@ -10,7 +10,7 @@ use Rattle.tp_placing.specs.declared.parts.Held.{Held}
 use Rattle.tp_placing.specs.Causes.{cause_between}
 use Rattle.tp_placing.specs.declared.causes.Cause.{Cause}
 use Rattle.tp_machine.specs.Modes.{gap_at}
-use Rattle.tp_machine.specs.declared.whole.Machine.{Machine}
+use Rattle.tp_machine.specs.declared.machine.Machine.{Machine}
 use Rattle.tp_placing.specs.Edges.{hold_edge}
 use Rattle.tp_placing.specs.Loading.{with_hold, holds_in, AreIds, chain_causes, chain_edges, chains_causes, chains_edges}
 use Rattle.tp_placing.proofs.LoadHolds.{drop-get}

@@ -1,7 +1,7 @@
 -- A board whose parts are loaded stands on the ask.
 use Rattle.std.proofs.Common.{◌≡◌, ℕ, ◌+◌, ◌≤◌, List, [], length, filter, refl, ap, sym, ◌∙◌, subst, arith, Some, Contains}
 use Rattle.tp_base.specs.Net.{Net}
-use Rattle.tp_machine.specs.declared.whole.Machine.{Machine}
+use Rattle.tp_machine.specs.declared.machine.Machine.{Machine}
 use Rattle.tp_machine.proofs.MachineFacts.{is_machine}
 use Rattle.tp_schedule.specs.Answers.{IsAsked, kept_of}
 use Rattle.tp_schedule.specs.Choices.{start_floor}

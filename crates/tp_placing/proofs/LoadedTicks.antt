@@ -2,7 +2,7 @@
 use Rattle.std.proofs.Common.{◌≡◌, ℕ, ◌+◌, ◌≤◌, false, List, length, map, refl, ap, sym, ◌∙◌, arith, Some, All, Contains}
 use Rattle.std.specs.List.{flat_map}
 use Rattle.std.proofs.lemmas.List.Elements.{All-contains, All-weaker}
-use Rattle.tp_machine.specs.declared.whole.Machine.{Machine}
+use Rattle.tp_machine.specs.declared.machine.Machine.{Machine}
 use Rattle.tp_schedule.specs.Plans.{IsTimedPlan, plan_of, point}
 use Rattle.tp_schedule.specs.Spots.{ticks_of}
 use Rattle.tp_schedule.specs.declared.parts.Plan.{Plan}

@@ -5,7 +5,7 @@ use Rattle.std.proofs.lemmas.List.{length-map}
 use Rattle.std.proofs.lemmas.Option.{slice_get_within}
 use Rattle.tp_base.proofs.SliceFacts.{All-at}
 use Rattle.tp_base.specs.Net.{Net, IsEarliest}
-use Rattle.tp_machine.specs.declared.whole.Machine.{Machine}
+use Rattle.tp_machine.specs.declared.machine.Machine.{Machine}
 use Rattle.tp_schedule.specs.Spots.{Spot, Ticks}
 use Rattle.tp_schedule.specs.Spots.Spot.{own}
 use Rattle.tp_schedule.specs.declared.parts.Ask.{Ask}

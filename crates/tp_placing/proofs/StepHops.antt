@@ -8,7 +8,7 @@ use Rattle.tp_constraints.proofs.Lists.{All-split}
 use Rattle.tp_base.specs.declared.edges.Edge.{Edge}
 use Rattle.tp_base.specs.declared.edges.PointId.{PointId}
 use Rattle.tp_machine.specs.Modes.{gap_at}
-use Rattle.tp_machine.specs.declared.whole.Machine.{Machine}
+use Rattle.tp_machine.specs.declared.machine.Machine.{Machine}
 use Rattle.tp_machine.specs.declared.parts.Action.{Action}
 use Rattle.tp_schedule.specs.Spots.{Spot, Slot}
 use Rattle.tp_schedule.specs.declared.parts.Plan.{Plan}

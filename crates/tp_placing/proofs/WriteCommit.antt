@@ -1,7 +1,7 @@
 -- What is written is an alternative that ends at the least tick of the asked copy's end, and is least.
 use Rattle.std.proofs.Common.{◌≡◌, ℕ, false, List, filter, map, ap, sym, ◌∙◌, subst, AllPairs}
 use Rattle.tp_base.specs.Net.{Net, IsLeast as IsLeastSolution}
-use Rattle.tp_machine.specs.declared.whole.Machine.{Machine}
+use Rattle.tp_machine.specs.declared.machine.Machine.{Machine}
 use Rattle.tp_schedule.specs.Answers.{IsAlternative, IsAsked, IsLeast, follows_front}
 use Rattle.tp_schedule.specs.Completions.{answered, asked_plan, settled_ticks, total_of}
 use Rattle.tp_schedule.specs.Living.{is_live}

@@ -3,7 +3,7 @@ use Rattle.std.proofs.Common.{◌≡◌, suc, ◌+◌, ◌-◌, List, length, ap
 use Rattle.std.specs.List.{slice_get}
 use Rattle.std.proofs.lemmas.List.Elements.{All-contains}
 use Rattle.tp_base.specs.Net.{Net}
-use Rattle.tp_machine.specs.declared.whole.Machine.{Machine}
+use Rattle.tp_machine.specs.declared.machine.Machine.{Machine}
 use Rattle.tp_schedule.specs.Answers.{IsAsked, IsAskedFrom, kept_acts, kept_from, kept_of, acts_in}
 use Rattle.tp_schedule.specs.Plans.{IsFormed, IsTimedPlan}
 use Rattle.tp_schedule.specs.declared.parts.Ask.{Ask}

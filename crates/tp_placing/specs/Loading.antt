@@ -7,7 +7,7 @@ use Rattle.tp_machine.specs.Modes.{gap_at}
 use Rattle.tp_machine.specs.Using.{action_at}
 use Rattle.tp_machine.specs.declared.parts.ActId.{ActId}
 use Rattle.tp_machine.specs.declared.parts.Action.{Action}
-use Rattle.tp_machine.specs.declared.whole.Machine.{Machine}
+use Rattle.tp_machine.specs.declared.machine.Machine.{Machine}
 use Rattle.tp_schedule.specs.Plans.{IsFormed}
 use Rattle.tp_schedule.specs.Times.{ticks_from}
 use Rattle.tp_schedule.specs.declared.parts.Plan.{Plan}

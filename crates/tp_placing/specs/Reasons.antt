@@ -2,7 +2,7 @@
 use Rattle.std.specs.Prelude.{◌≡◌, ℕ, suc, ◌<◌, ◌≤◌, length, slice_get, slice_index, pos, All, Contains, Some, None, IsSomeAnd}
 use Rattle.tp_base.specs.Net.{Net, with_edge, with_point}
 use Rattle.tp_base.specs.declared.edges.PointId.{PointId}
-use Rattle.tp_machine.specs.declared.whole.Machine.{Machine}
+use Rattle.tp_machine.specs.declared.machine.Machine.{Machine}
 use Rattle.tp_schedule.specs.Spots.Spot.{own}
 use Rattle.tp_schedule.specs.declared.parts.Ask.{Ask}
 use Rattle.tp_constraints.specs.Nets.{IsBoardNet}

@@ -4,7 +4,7 @@ use Rattle.tp_base.specs.Net.{Net, HasLeast}
 use Rattle.tp_machine.specs.Machines.{IsOffset}
 use Rattle.tp_machine.specs.declared.parts.ActId.{ActId}
 use Rattle.tp_machine.specs.declared.parts.HoldRule.{HoldRule}
-use Rattle.tp_machine.specs.declared.whole.Machine.{Machine}
+use Rattle.tp_machine.specs.declared.machine.Machine.{Machine}
 use Rattle.tp_schedule.specs.Answers.{IsAsked, kept_of}
 use Rattle.tp_schedule.specs.Choices.{Choice, start_floor}
 use Rattle.tp_schedule.specs.Spots.{Spot, Slot, slot_order}

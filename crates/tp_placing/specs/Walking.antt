@@ -2,7 +2,7 @@
 use Rattle.std.specs.Prelude.{◌≡◌, ℕ, suc, ◌≤◌, List, length, take, slice_get, Some, None, All, IsSomeAnd}
 use Rattle.tp_base.specs.Net.{Net, with_edges}
 use Rattle.tp_base.specs.declared.edges.Edge.{Edge}
-use Rattle.tp_machine.specs.declared.whole.Machine.{Machine}
+use Rattle.tp_machine.specs.declared.machine.Machine.{Machine}
 use Rattle.tp_schedule.specs.Spots.{Ticks}
 use Rattle.tp_schedule.specs.declared.parts.Ask.{Ask}
 use Rattle.tp_constraints.specs.Nets.{IsBoardNet}

@@ -4,7 +4,7 @@ use Rattle.std.specs.List.{list_any}
 use Rattle.tp_base.specs.Net.{Net, IsLeast}
 use Rattle.tp_machine.specs.declared.parts.ActId.{ActId}
 use Rattle.tp_machine.specs.declared.parts.State.{State}
-use Rattle.tp_machine.specs.declared.whole.Machine.{Machine}
+use Rattle.tp_machine.specs.declared.machine.Machine.{Machine}
 use Rattle.tp_schedule.specs.Choices.{IsChoiceList, IsComplete}
 use Rattle.tp_schedule.specs.Living.{is_live}
 use Rattle.tp_schedule.specs.Planning.{CanAsk}

@@ -1,6 +1,6 @@
 //! The points and edges of a board's network, and of a reason, by name.
 ghost use Rattle.std.specs.Prelude.{◌≡◌, ◌+◌, ◌<◌, ◌≤◌, length, slice_get, Some};
-ghost use Rattle.tp_machine.specs.declared.whole.Machine.{Machine};
+ghost use Rattle.tp_machine.specs.declared.machine.Machine.{Machine};
 ghost use Rattle.tp_placing.specs.Causes.{grip_name, kind_of, name_of_plan, named_point, numbered, spot_name, why_name};
 ghost use Rattle.tp_placing.specs.Standing.{Stands};
 

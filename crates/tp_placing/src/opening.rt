@@ -1,5 +1,5 @@
 ghost use Rattle.std.specs.Prelude.{◌≡◌, ℕ, ◌<◌, length, IsSomeAnd, IsFalse, OnOk, OnErr, Some, None};
-ghost use Rattle.tp_machine.specs.declared.whole.Machine.{Machine};
+ghost use Rattle.tp_machine.specs.declared.machine.Machine.{Machine};
 ghost use Rattle.tp_constraints.specs.Suffixes.{IsInFlight, with_action, with_goal, with_place, with_stop};
 ghost use Rattle.tp_placing.specs.Boards.{content_of, past_of, suffix_of};
 ghost use Rattle.tp_placing.specs.Calls.{CanGoOn, CanPlace, HasNoTimes, HasTimes, IsSameLoad};

@@ -2,7 +2,7 @@
 ghost use Rattle.std.specs.Prelude.{◌≡◌, ℕ, ◌<◌, length, IsSome, IsSomeAnd};
 ghost use Rattle.tp_base.specs.Net.{Net, HasNoSolution};
 ghost use Rattle.tp_base.specs.Refute.{Refutes};
-ghost use Rattle.tp_machine.specs.declared.whole.Machine.{Machine};
+ghost use Rattle.tp_machine.specs.declared.machine.Machine.{Machine};
 ghost use Rattle.tp_schedule.specs.Spots.Spot.{own};
 ghost use Rattle.tp_placing.specs.Boards.{content_of, past_of, suffix_of};
 ghost use Rattle.tp_placing.specs.Calls.{IsSameLoad};

@@ -1,7 +1,7 @@
 -- What a session answered, as a run on its machine.
 use Rattle.std.proofs.Common.{◌≡◌, ℕ, Bool, List, [], Option, refl, subst, arith}
 use Rattle.std.specs.Prelude.{unwrap_or}
-use Rattle.tp_machine.specs.declared.whole.Machine.{Machine}
+use Rattle.tp_machine.specs.declared.machine.Machine.{Machine}
 use Rattle.tp_session.specs.Sessions.{Standing, SessionsLawful, SessionsStopLawful, Tells, start_of}
 use Rattle.tp_stream.specs.Scripts.{AnswersLine, NoRefusal, line_bytes, most_lines}
 use Rattle.tp_stream.specs.Takes.{IsReadFrom, Stops, TakesAll, place_of}

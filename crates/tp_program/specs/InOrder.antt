@@ -1,7 +1,7 @@
 -- Runs in which everything is in order, and what that excludes.
 use Rattle.std.specs.Prelude.{◌≡◌, ◌≢◌, ℕ, ◌≤◌, List, All, length, Option, Some, None}
 use Rattle.tp_outside.specs.Outside.{Files, file_at}
-use Rattle.tp_machine.specs.declared.whole.Machine.{Machine}
+use Rattle.tp_machine.specs.declared.machine.Machine.{Machine}
 use Rattle.tp_machine_text.specs.Texts.{IsBrokenAt, IsMachineText, IsNotToml}
 use Rattle.tp_command.specs.Form.{Asked}
 use Rattle.tp_words.specs.Texts.{lines_of}

@@ -1,7 +1,7 @@
 -- The causes for which the clock is not moved.
 use Rattle.std.specs.Prelude.{Option, Some, None, Result, Ok, Err}
-use Rattle.tp_schedule.specs.declared.recording.Cause.{Cause}
-use Rattle.tp_schedule.specs.declared.recording.Cause.TheVariants.{Back, End}
+use Rattle.tp_schedule.specs.declared.records.Cause.{Cause}
+use Rattle.tp_schedule.specs.declared.records.Cause.TheVariants.{Back, End}
 use Rattle.tp_release.specs.declared.fault.AdvanceFault.{AdvanceFault}
 use Rattle.tp_release.specs.declared.fault.AdvanceFault.TheVariants.{Memory, ClockBack, ClockEnd}
 

@@ -2,7 +2,7 @@
 use Rattle.std.proofs.Common.{◌≡◌, ◌⊎◌, ℕ, ◌+◌, ◌<◌, ◌≤◌, ◌^◌, Bool, true, List, [], ◌∷◌, ◌++◌, length, Some, All, Contains, IsSomeAnd, IsTrue, refl, sym, ap, ◌∙◌, append_assoc, subst, inl, inr}
 use Rattle.std.proofs.lemmas.List.Elements.{All-contains}
 use Rattle.tp_machine.specs.declared.parts.Outs.{Outs}
-use Rattle.tp_machine.specs.declared.whole.Machine.{Machine}
+use Rattle.tp_machine.specs.declared.machine.Machine.{Machine}
 use Rattle.tp_schedule.specs.Answers.{IsAlternative}
 use Rattle.tp_schedule.specs.Planning.{IsAnswer}
 use Rattle.tp_schedule.specs.Planning.Deed.{replied}
@@ -12,7 +12,7 @@ use Rattle.tp_schedule.specs.declared.parts.Plan.{Plan}
 use Rattle.tp_schedule.specs.declared.parts.Reply.{Reply}
 use Rattle.tp_schedule.specs.declared.parts.Reply.TheVariants.{Planned, Never, Spent}
 use Rattle.tp_schedule.specs.declared.parts.SheetId.{SheetId}
-use Rattle.tp_schedule.specs.declared.recording.Record.{Record}
+use Rattle.tp_schedule.specs.declared.records.Record.{Record}
 use Rattle.tp_schedule.proofs.CopyFacts.{plan_of-itself}
 use Rattle.tp_jobs.specs.Backlogs.{Backlog}
 use Rattle.tp_turn.specs.Answering.{Answer, told_of_reply}

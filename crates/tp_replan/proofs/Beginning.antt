@@ -8,7 +8,7 @@ use Rattle.tp_base.proofs.SliceFacts.{All-at, found}
 use Rattle.tp_jobs.specs.Backlogs.{tray_in, tray_of}
 use Rattle.tp_jobs.specs.declared.parts.Job.{Job}
 use Rattle.tp_machine.specs.declared.parts.LocId.{LocId}
-use Rattle.tp_machine.specs.declared.whole.Machine.{Machine}
+use Rattle.tp_machine.specs.declared.machine.Machine.{Machine}
 use Rattle.tp_schedule.proofs.Pairs.{AllPairs-head, AllPairs-tail}
 use Rattle.tp_schedule.specs.Planning.{IsKnownGoal}
 use Rattle.tp_schedule.specs.Plans.{AreNamed}

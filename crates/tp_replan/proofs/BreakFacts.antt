@@ -5,7 +5,7 @@ use Rattle.tp_schedule.specs.Plans.{IsFormed}
 use Rattle.tp_schedule.specs.declared.parts.Plan.{Plan}
 use Rattle.tp_schedule.specs.declared.parts.SheetId.{SheetId}
 use Rattle.tp_machine.specs.declared.parts.Outs.{Outs}
-use Rattle.tp_schedule.specs.declared.recording.Record.TheVariants.{Broken}
+use Rattle.tp_schedule.specs.declared.records.Record.TheVariants.{Broken}
 use Rattle.tp_schedule.proofs.Pairs.{AllPairs-nil, AllPairs-cons, AllPairs-head, AllPairs-tail}
 use Rattle.tp_jobs.specs.Backlogs.{Backlog, IsOfJob, WaitsBefore, mark_broken}
 use Rattle.tp_jobs.specs.declared.parts.Job.{Job}

@@ -6,7 +6,7 @@ use Rattle.tp_jobs.specs.declared.parts.Job.{Job}
 use Rattle.tp_jobs.specs.declared.parts.WaitingCopy.{WaitingCopy}
 use Rattle.tp_schedule.specs.Plans.{IsFormed}
 use Rattle.tp_schedule.specs.declared.parts.SheetId.{SheetId}
-use Rattle.tp_schedule.specs.declared.recording.Record.TheVariants.{Broken}
+use Rattle.tp_schedule.specs.declared.records.Record.TheVariants.{Broken}
 use Rattle.tp_turn.specs.Fates.{befall, waits_for}
 use Rattle.tp_turn.specs.FallBacks.{by_copy, fate_in_break, job_break}
 use Rattle.tp_turn.specs.Labels.{job_name}

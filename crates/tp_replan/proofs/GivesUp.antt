@@ -1,6 +1,6 @@
 -- A loose copy whose goal is its tray can give it up.
 use Rattle.std.proofs.Common.{◌≡◌, [], ◌∷◌, Some, IsTrue, subst}
-use Rattle.tp_machine.specs.declared.whole.Machine.{Machine}
+use Rattle.tp_machine.specs.declared.machine.Machine.{Machine}
 use Rattle.tp_schedule.specs.declared.parts.Ask.{Ask}
 use Rattle.tp_turn.specs.Loops.{next_ask}
 use Rattle.tp_turn.specs.Moments.{is_to_tray}

@@ -1,10 +1,10 @@
 -- Each answer leaves less of the loop's work.
 use Rattle.std.proofs.Common.{◌≡◌, ◌⊎◌, ℕ, zero, suc, ◌+◌, ◌*◌, ◌<◌, ◌≤◌, Bool, true, false, cond, not, ◌&&◌, ◌||◌, List, [], ◌∷◌, length, flat_map, IsTrue, Contains, refl, sym, ap, ◌∙◌, arith, subst, count_by, inl, inr}
 use Rattle.std.proofs.lemmas.List.Concat.{flat_map-cons}
-use Rattle.tp_machine.specs.declared.whole.Machine.{Machine}
+use Rattle.tp_machine.specs.declared.machine.Machine.{Machine}
 use Rattle.tp_schedule.specs.Plans.{is_front}
 use Rattle.tp_schedule.specs.declared.parts.Plan.{Plan}
-use Rattle.tp_schedule.specs.declared.recording.Record.TheVariants.{Again}
+use Rattle.tp_schedule.specs.declared.records.Record.TheVariants.{Again}
 use Rattle.tp_schedule.proofs.Membership.{Contains-cons_cases, Contains-here, Contains-later}
 use Rattle.tp_jobs.specs.Backlogs.{next_copy}
 use Rattle.tp_jobs.specs.Waiting.{put_waiting}

@@ -10,8 +10,8 @@ use Rattle.tp_schedule.proofs.Pairs.{AllPairs-head, AllPairs-tail}
 use Rattle.std.proofs.lemmas.Bool.Decides.{nat_tests}
 use Rattle.std.proofs.lemmas.List.{length-drop}
 use Rattle.tp_jobs.specs.declared.parts.Job.{Job}
-use Rattle.tp_schedule.specs.declared.recording.Record.{Record}
-use Rattle.tp_schedule.specs.declared.recording.Record.TheVariants.{Drop}
+use Rattle.tp_schedule.specs.declared.records.Record.{Record}
+use Rattle.tp_schedule.specs.declared.records.Record.TheVariants.{Drop}
 use Rattle.tp_turn.specs.Fates.{Fate as Befalls, told_of}
 use Rattle.tp_turn.specs.Labels.{label}
 use Rattle.tp_replan.specs.Meanings.{StandsBefore, is_copy_next, notice_of_copy, notice_of_plan, told_by_copy}

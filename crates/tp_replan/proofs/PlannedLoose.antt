@@ -7,7 +7,7 @@ use Rattle.std.proofs.lemmas.List.{length-append}
 use Rattle.std.proofs.lemmas.List.Elements.{All-contains, All-head, All-tail, All-weaker}
 use Rattle.std.proofs.lemmas.List.Sums.{length-filter}
 use Rattle.tp_machine.specs.declared.parts.ActId.{ActId}
-use Rattle.tp_machine.specs.declared.whole.Machine.{Machine}
+use Rattle.tp_machine.specs.declared.machine.Machine.{Machine}
 use Rattle.tp_schedule.specs.Answers.{IsAlternative, acts_in, kept_acts, unmoved}
 use Rattle.tp_schedule.specs.Living.{is_live, live_count}
 use Rattle.tp_schedule.specs.Planning.{Deed, Due, IsAnswer, IsKnownGoal}

@@ -1,8 +1,8 @@
 -- The moment stays through an outage, so that schedule, lines and modules show the state after it.
 use Rattle.std.proofs.Common.{◌≡◌, ℕ, Bool, List, ap, ◌∙◌}
 use Rattle.std.specs.Prelude.{Result, Ok, Err, OnOk}
-use Rattle.tp_machine.specs.declared.whole.Machine.{Machine}
-use Rattle.tp_schedule.specs.declared.recording.Record.{Record}
+use Rattle.tp_machine.specs.declared.machine.Machine.{Machine}
+use Rattle.tp_schedule.specs.declared.records.Record.{Record}
 use Rattle.tp_turn.specs.Outages.{outage}
 use Rattle.tp_turn.specs.Planners.{GoesOut, PlannerSteps}
 use Rattle.tp_turn.specs.States.{SessionState}

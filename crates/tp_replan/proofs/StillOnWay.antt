@@ -3,12 +3,12 @@ use Rattle.std.proofs.Common.{◌≡◌, ℕ, ◌+◌, ◌<◌, ◌≤◌, Bool,
 use Rattle.std.proofs.lemmas.Bool.Decides.{nat_tests}
 use Rattle.std.proofs.lemmas.List.Concat.{flat_map-cons}
 use Rattle.std.proofs.lemmas.List.Elements.{All-contains, All-weaker}
-use Rattle.tp_machine.specs.declared.whole.Machine.{Machine}
+use Rattle.tp_machine.specs.declared.machine.Machine.{Machine}
 use Rattle.tp_schedule.specs.Holding.{Run, runs_of}
 use Rattle.tp_schedule.specs.Plans.{IsFormed, IsTimedPlan, end_of_plan}
 use Rattle.tp_schedule.specs.declared.parts.Plan.{Plan}
 use Rattle.tp_schedule.specs.declared.parts.SheetId.{SheetId}
-use Rattle.tp_schedule.specs.declared.recording.Record.TheVariants.{Again}
+use Rattle.tp_schedule.specs.declared.records.Record.TheVariants.{Again}
 use Rattle.tp_jobs.specs.Backlogs.{next_copy}
 use Rattle.tp_jobs.specs.Waiting.{put_waiting}
 use Rattle.tp_turn.specs.Fates as fates

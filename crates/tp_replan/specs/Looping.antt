@@ -1,13 +1,13 @@
 -- What the loop over loose copies needs of the state, and keeps.
 use Rattle.std.specs.Prelude.{◌≡◌, ℕ, ◌+◌, ◌*◌, ◌<◌, ◌≤◌, Bool, not, ◌&&◌, List, [], length, count_by, All, Contains, IsTrue}
 use Rattle.std.specs.List.{list_any}
-use Rattle.tp_machine.specs.declared.whole.Machine.{Machine}
+use Rattle.tp_machine.specs.declared.machine.Machine.{Machine}
 use Rattle.tp_schedule.specs.Living.{live_count}
 use Rattle.tp_schedule.specs.Planning.{CanPlanOn, IsKnownGoal, last_tick}
 use Rattle.tp_schedule.specs.Plans.{AreNamed, end_of_plan, goes_to, is_before, is_delivered_to, is_front, is_same_copy, point}
 use Rattle.tp_schedule.specs.declared.parts.Plan.{Plan}
 use Rattle.tp_schedule.specs.declared.parts.SheetId.{SheetId}
-use Rattle.tp_schedule.specs.declared.recording.Record.{Record}
+use Rattle.tp_schedule.specs.declared.records.Record.{Record}
 use Rattle.tp_turn.specs.Asking.{most_live}
 use Rattle.tp_turn.specs.FallBacks.{is_copy}
 use Rattle.tp_turn.specs.Keeping.{KeepsLines, KeepsPlans}

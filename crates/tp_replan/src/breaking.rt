@@ -4,7 +4,7 @@ ghost use Rattle.std.specs.Prelude.{◌≡◌, ◌<◌, ◌++◌, ◌==◌, ◌�
 ghost use Rattle.std.specs.Prelude.{All, AllPairs, IsSome, IfOk, OnOk, if◌then◌else◌};
 ghost use Rattle.tp_jobs.specs.Waiting.{find_waiting, without_waiting};
 ghost use Rattle.tp_schedule.specs.declared.parts.Plan.{Plan};
-ghost use Rattle.tp_schedule.specs.declared.recording.Record.TheVariants.{Drop};
+ghost use Rattle.tp_schedule.specs.declared.records.Record.TheVariants.{Drop};
 ghost use Rattle.tp_turn.specs.FallBacks.{job_break};
 ghost use Rattle.tp_turn.specs.Fates.{Fate as Befalls};
 ghost use Rattle.tp_turn.specs.Labels.{label};

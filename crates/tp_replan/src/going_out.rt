@@ -2,7 +2,7 @@
 
 ghost use Rattle.std.specs.Prelude.{◌≡◌, ℕ, Bool, ◌<◌, [], ◌++◌, length, map, flat_map};
 ghost use Rattle.std.specs.Prelude.{All, IfOk, OnOk};
-ghost use Rattle.tp_machine.specs.declared.whole.Machine.{Machine};
+ghost use Rattle.tp_machine.specs.declared.machine.Machine.{Machine};
 ghost use Rattle.tp_schedule.specs.declared.parts.Plan.{Plan};
 ghost use Rattle.tp_turn.specs.Fates.{Fate as Befalls};
 ghost use Rattle.tp_turn.specs.LiveStates.{seen};

@@ -1,7 +1,7 @@
 //! A module goes out: the outage, the loop over loose copies, and the settling, over any planner.
 
 ghost use Rattle.std.specs.Prelude.{◌≡◌, ℕ, ◌+◌, ◌≤◌, ◌<◌, length, IsTrue, OnOk, IfOk, IfErr, Err};
-ghost use Rattle.tp_machine.specs.declared.whole.Machine.{Machine};
+ghost use Rattle.tp_machine.specs.declared.machine.Machine.{Machine};
 ghost use Rattle.tp_schedule.specs.Planning.{StopsOnlyWhere};
 ghost use Rattle.tp_schedule.specs.Plans.{is_front};
 ghost use Rattle.tp_turn.specs.LiveStates.{seen};

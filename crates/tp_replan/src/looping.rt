@@ -1,7 +1,7 @@
 //! The loop over loose copies, and the settling.
 
 ghost use Rattle.std.specs.Prelude.{◌≡◌, ◌≤◌, ◌++◌, Some, None, IsTrue, OnOk, IfErr, Err};
-ghost use Rattle.tp_machine.specs.declared.whole.Machine.{Machine};
+ghost use Rattle.tp_machine.specs.declared.machine.Machine.{Machine};
 ghost use Rattle.tp_schedule.specs.Planning.{CanSettle, StopsOnlyWhere};
 ghost use Rattle.tp_schedule.specs.Planning.Deed.{settled};
 ghost use Rattle.tp_schedule.specs.Planning.Due.{asking, settling};

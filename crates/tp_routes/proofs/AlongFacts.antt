@@ -5,7 +5,7 @@ use Rattle.tp_machine.specs.Steps.{step_of}
 use Rattle.tp_machine.specs.declared.parts.Action.{Action}
 use Rattle.tp_machine.specs.declared.parts.Sheet.{Sheet}
 use Rattle.tp_machine.specs.declared.parts.State.{State}
-use Rattle.tp_machine.specs.declared.whole.Machine.{Machine}
+use Rattle.tp_machine.specs.declared.machine.Machine.{Machine}
 use Rattle.tp_schedule.specs.declared.parts.Ask.{Ask}
 use Rattle.tp_routes.specs.Index.{NoneFrom, IsNextFrom, AreIndexed, number_at}
 use Rattle.tp_routes.specs.Numbers.{state_at}

@@ -10,7 +10,7 @@ use Rattle.tp_machine.specs.declared.parts.ActId.{ActId}
 use Rattle.tp_machine.specs.declared.parts.Action.{Action}
 use Rattle.tp_machine.specs.declared.parts.Sheet.{Sheet}
 use Rattle.tp_machine.specs.declared.parts.State.{State}
-use Rattle.tp_machine.specs.declared.whole.Machine.{Machine}
+use Rattle.tp_machine.specs.declared.machine.Machine.{Machine}
 use Rattle.tp_machine.proofs.MachineFacts.{is_machine}
 use Rattle.tp_schedule.specs.Routes.{walk, step_by, IsFreshStart, IsStart, IsStartFrom, Reaches, AreAllowed, is_act_allowed, least_sum, least_of, IsRoom, HasNoRoom}
 use Rattle.tp_schedule.specs.declared.parts.Ask.{Ask}

@@ -13,7 +13,7 @@ use Rattle.tp_machine.specs.Using.{action_at, is_allowed}
 use Rattle.tp_machine.specs.declared.parts.Action.{Action}
 use Rattle.tp_machine.specs.declared.parts.Outs.{Outs}
 use Rattle.tp_machine.specs.declared.parts.State.{State}
-use Rattle.tp_machine.specs.declared.whole.Machine.{Machine}
+use Rattle.tp_machine.specs.declared.machine.Machine.{Machine}
 use Rattle.tp_machine.proofs.MachineFacts.{is_machine}
 use Rattle.tp_schedule.specs.Routes.{is_act_allowed}
 use Rattle.tp_schedule.specs.declared.parts.Ask.{Ask}

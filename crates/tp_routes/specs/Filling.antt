@@ -7,7 +7,7 @@ use Rattle.tp_machine.specs.declared.parts.ActId.{ActId}
 use Rattle.tp_machine.specs.declared.parts.Action.{Action}
 use Rattle.tp_machine.specs.declared.parts.Feeder.{Feeder}
 use Rattle.tp_machine.specs.declared.parts.State.{State}
-use Rattle.tp_machine.specs.declared.whole.Machine.{Machine}
+use Rattle.tp_machine.specs.declared.machine.Machine.{Machine}
 use Rattle.tp_schedule.specs.LocationSets.{has}
 use Rattle.tp_schedule.specs.Routes.{IsStart, fresh, Reaches, AreAllowed, is_act_allowed, least_sum}
 use Rattle.tp_schedule.specs.declared.parts.Ask.{Ask}

@@ -1,7 +1,7 @@
 -- The actions by the location that they start from.
 use Rattle.std.specs.Prelude.{◌≡◌, ◌≢◌, ℕ, ◌+◌, ◌<◌, ◌≤◌, List, length, slice_get, slice_index_or, Option, Some, None}
 use Rattle.tp_machine.specs.declared.parts.Action.{Action}
-use Rattle.tp_machine.specs.declared.whole.Machine.{Machine}
+use Rattle.tp_machine.specs.declared.machine.Machine.{Machine}
 
 -- no action from the place stands from the one number up to the other
 abbrev pub NoneFrom : List Action → ℕ → ℕ → ℕ → Type 0

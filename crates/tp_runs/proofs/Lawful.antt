@@ -4,7 +4,7 @@ use Rattle.std.specs.List.{All, filter_map}
 use Rattle.std.specs.Option.{MatchOption}
 use Rattle.std.proofs.lemmas.List.Elements.{All-append, All-nil}
 use Rattle.tp_bounds.specs.declared.tree.BoundTree.{BoundTree}
-use Rattle.tp_machine.specs.declared.whole.Machine.{Machine}
+use Rattle.tp_machine.specs.declared.machine.Machine.{Machine}
 use Rattle.tp_script.specs.Lines.{line_event}
 use Rattle.tp_script.specs.declared.event.Event.{Event}
 use Rattle.tp_log.specs.Logs.{IsItem, item_text, log_text}

@@ -1,14 +1,14 @@
 -- What an outage, a break, a fall-back and a move of the clock tell has lines.
 use Rattle.std.proofs.Common.{ℕ, Bool, true, false, cond, List, [], ◌∷◌, ◌++◌, map, filter, flat_map, All}
 use Rattle.std.proofs.lemmas.List.Elements.{All-append, All-cons, All-head, All-map, All-nil, All-tail}
-use Rattle.tp_machine.specs.declared.whole.Machine.{Machine}
+use Rattle.tp_machine.specs.declared.machine.Machine.{Machine}
 use Rattle.tp_jobs.specs.declared.parts.Job.{Job}
 use Rattle.tp_jobs.specs.Backlogs.{next_copy}
 use Rattle.tp_log.specs.Records.{IsPrintable}
 use Rattle.tp_schedule.specs.Plans.{is_before}
 use Rattle.tp_schedule.specs.declared.parts.Plan.{Plan}
-use Rattle.tp_schedule.specs.declared.recording.Record.{Record}
-use Rattle.tp_schedule.specs.declared.recording.Record.TheVariants.{Again, Broken, Cut, Drop, Lost, Purge, Recall, Withdraw}
+use Rattle.tp_schedule.specs.declared.records.Record.{Record}
+use Rattle.tp_schedule.specs.declared.records.Record.TheVariants.{Again, Broken, Cut, Drop, Lost, Purge, Recall, Withdraw}
 use Rattle.tp_turn.specs.Clock.{clock_tells, clock_records, record_of}
 use Rattle.tp_turn.specs.FallBacks.{Displaced, Notice, by_copy, fall_back, fall_back_unless_broken, fate_in_break, fate_in_fall_back, is_line_entering, job_break, later_fall_back, next_waits, notices_of_plans, notices_of_waiting, put_notice}
 use Rattle.tp_turn.specs.Fates as fates

@@ -1,7 +1,7 @@
 -- Every lawful run keeps the promises.
 use Rattle.std.proofs.Common.{ℕ, Bool, List}
 use Rattle.tp_bounds.specs.declared.tree.BoundTree.{BoundTree}
-use Rattle.tp_machine.specs.declared.whole.Machine.{Machine}
+use Rattle.tp_machine.specs.declared.machine.Machine.{Machine}
 use Rattle.tp_script.specs.declared.event.Event.{Event}
 use Rattle.tp_turn.specs.Logs.{Entry, IsLawful}
 use Rattle.tp_headline.proofs.LawfulAnswers.{budgets-spent, nones-none, plans-earliest}

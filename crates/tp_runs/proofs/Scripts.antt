@@ -1,6 +1,6 @@
 -- Runs over scripts are lawful.
 use Rattle.std.proofs.Common.{◌≡◌, ℕ, ◌+◌, Bool, List, [], ◌∷◌, ◌++◌, length, Option, Some, sym, ap, subst, ◌∙◌, arith}
-use Rattle.tp_machine.specs.declared.whole.Machine.{Machine}
+use Rattle.tp_machine.specs.declared.machine.Machine.{Machine}
 use Rattle.tp_outside.specs.Reading.{IsCutShort}
 use Rattle.tp_outside.proofs.Parts.{IfSome-at, IfSome-from}
 use Rattle.tp_words.specs.Texts.{lines_of}

@@ -3,8 +3,8 @@ use Rattle.std.proofs.Common.{◌≡◌, ◌⊎◌, inl, inr, ℕ, Bool, true, f
 use Rattle.std.proofs.Math.Seq.{drop-nil, take-nil}
 use Rattle.std.specs.Prelude.{IsTrue, if◌then◌else◌}
 use Rattle.tp_bounds.specs.declared.tree.BoundTree.{BoundTree}
-use Rattle.tp_schedule.specs.declared.recording.Record.{Record}
-use Rattle.tp_schedule.specs.declared.recording.Record.TheVariants.{Plan as TellsPlan, Move, Never as TellsNever}
+use Rattle.tp_schedule.specs.declared.records.Record.{Record}
+use Rattle.tp_schedule.specs.declared.records.Record.TheVariants.{Plan as TellsPlan, Move, Never as TellsNever}
 use Rattle.tp_log.specs.LogLines.{takes_tree}
 use Rattle.tp_log.specs.Logs.{AreInPlace, StandEach, is_open}
 use Rattle.tp_log.specs.declared.item.Item.{Item}

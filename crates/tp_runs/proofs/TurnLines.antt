@@ -6,7 +6,7 @@ use Rattle.std.specs.Str.{bytes_eq}
 use Rattle.std.proofs.lemmas.List.{length-append, length-drop, length-map}
 use Rattle.std.proofs.lemmas.List.Elements.{All-cons, All-contains, All-filter, All-head, All-tail}
 use Rattle.tp_machine.specs.declared.parts.ActId.{ActId}
-use Rattle.tp_machine.specs.declared.whole.Machine.{Machine}
+use Rattle.tp_machine.specs.declared.machine.Machine.{Machine}
 use Rattle.tp_jobs.specs.Backlogs.{tray_of}
 use Rattle.tp_jobs.specs.declared.parts.Job.{Job}
 use Rattle.tp_jobs.specs.declared.parts.WaitingCopy.{WaitingCopy}
@@ -23,9 +23,9 @@ use Rattle.tp_schedule.specs.declared.parts.Goal.TheVariants.{Tray, Purge as ToP
 use Rattle.tp_schedule.specs.declared.parts.Plan.{Plan}
 use Rattle.tp_schedule.specs.declared.parts.Reply.{Reply}
 use Rattle.tp_schedule.specs.declared.parts.Reply.TheVariants.{Planned, Never, Spent}
-use Rattle.tp_schedule.specs.declared.recording.Cause.{Cause}
-use Rattle.tp_schedule.specs.declared.recording.Record.{Record}
-use Rattle.tp_schedule.specs.declared.recording.Record.TheVariants.{Purge, Stuck, Refused, FullUp, Never as TellsNever, Budget, Move}
+use Rattle.tp_schedule.specs.declared.records.Cause.{Cause}
+use Rattle.tp_schedule.specs.declared.records.Record.{Record}
+use Rattle.tp_schedule.specs.declared.records.Record.TheVariants.{Purge, Stuck, Refused, FullUp, Never as TellsNever, Budget, Move}
 use Rattle.tp_schedule.proofs.CopyFacts.{plan_of-itself}
 use Rattle.tp_turn.proofs.AskSteps.{AsksFirst, TellsFull}
 use Rattle.tp_turn.proofs.ListFacts.{find-Some}

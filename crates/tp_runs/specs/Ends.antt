@@ -1,7 +1,7 @@
 -- How a run over a script ends, and what was written then.
 use Rattle.std.specs.Prelude.{◌≡◌, ℕ, ◌+◌, ◌<◌, ◌≤◌, Bool, true, List, [], ◌∷◌, ◌++◌, length, Option, IfSome}
 use Rattle.std.specs.List.{All}
-use Rattle.tp_machine.specs.declared.whole.Machine.{Machine}
+use Rattle.tp_machine.specs.declared.machine.Machine.{Machine}
 use Rattle.tp_outside.specs.Reading.{IsCutShort}
 use Rattle.tp_words.specs.Texts.{lines_of}
 use Rattle.tp_words.specs.Parts.{lacks}

@@ -1,13 +1,13 @@
 -- The headline of a run: what its log promises, past included.
 use Rattle.std.specs.Prelude.{◌≡◌, ℕ, ◌≤◌, Bool, List, ◌∷◌, ◌++◌, length, Option, IsTrue}
 use Rattle.tp_bounds.specs.declared.tree.BoundTree.{BoundTree}
-use Rattle.tp_machine.specs.declared.whole.Machine.{Machine}
+use Rattle.tp_machine.specs.declared.machine.Machine.{Machine}
 use Rattle.tp_jobs.specs.Refusing.{is_tray_name}
 use Rattle.tp_schedule.specs.Holding.{held}
 use Rattle.tp_schedule.specs.Legality.{IsLegal}
-use Rattle.tp_schedule.specs.declared.recording.Record.{Record}
-use Rattle.tp_schedule.specs.declared.recording.Record.TheVariants.{Plan, Never, Budget}
-use Rattle.tp_schedule.specs.declared.recording.SheetName.{SheetName}
+use Rattle.tp_schedule.specs.declared.records.Record.{Record}
+use Rattle.tp_schedule.specs.declared.records.Record.TheVariants.{Plan, Never, Budget}
+use Rattle.tp_schedule.specs.declared.records.SheetName.{SheetName}
 use Rattle.tp_script.specs.declared.event.Event.{Event}
 use Rattle.tp_stream.specs.declared.stop.Stop.{Stop}
 use Rattle.tp_turn.specs.Logs.{Entry}

@@ -1,7 +1,7 @@
 //! What holds of runs. The calls do nothing: their contracts are the laws.
 
 ghost use Rattle.std.specs.Prelude.{ℕ, Bool};
-ghost use Rattle.tp_machine.specs.declared.whole.Machine.{Machine};
+ghost use Rattle.tp_machine.specs.declared.machine.Machine.{Machine};
 ghost use Rattle.tp_runs.specs.Carrying.{RightTurns, TreesHaveLines};
 ghost use Rattle.tp_runs.specs.Ends.{ScriptsAreLawful, StopsAreLawful};
 ghost use Rattle.tp_runs.specs.Promised.{AnswersKeepPromises, LawfulRunsKeepPromises, StopsKeepPromises};

@@ -6,7 +6,7 @@ use Rattle.tp_machine.specs.Modes.{mode_of, gap_at}
 use Rattle.tp_machine.specs.Using.{action_at, covers}
 use Rattle.tp_machine.specs.declared.parts.ActId.{ActId}
 use Rattle.tp_machine.specs.declared.parts.HoldRule.{HoldRule}
-use Rattle.tp_machine.specs.declared.whole.Machine.{Machine}
+use Rattle.tp_machine.specs.declared.machine.Machine.{Machine}
 use Rattle.tp_schedule.proofs.Covering.{covered, Spread}
 use Rattle.tp_schedule.proofs.HeldCount.{Agrees, IsTimedBy}
 use Rattle.tp_schedule.proofs.Membership.{Contains-cons_cases, Contains-here, Contains-later}

@@ -9,7 +9,7 @@ use Rattle.tp_machine.specs.Modes.{mode_of, gap_at}
 use Rattle.tp_machine.specs.Using.{action_at, begin_of, end_of, covers}
 use Rattle.tp_machine.specs.declared.parts.HoldRule.{HoldRule}
 use Rattle.tp_machine.specs.declared.parts.ResId.{ResId}
-use Rattle.tp_machine.specs.declared.whole.Machine.{Machine}
+use Rattle.tp_machine.specs.declared.machine.Machine.{Machine}
 use Rattle.tp_schedule.specs.Holding.{runs_of, holds_of_act, is_held_by, IsHeldIn}
 use Rattle.tp_schedule.specs.Legality.{IsSpreadAt}
 use Rattle.tp_schedule.specs.Spreading.{or_later, first_of, is_held_within, is_passed, mode_within, mode_of_run, mode_of_plan}

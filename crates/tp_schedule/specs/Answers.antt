@@ -2,7 +2,7 @@
 use Rattle.std.specs.Prelude.{◌≡◌, ℕ, ◌+◌, ◌<◌, ◌≤◌, Bool, true, not, ◌&&◌, nat_lt, List, [], ◌++◌, length, map, filter, Option, Some, None, Contains, IsTrue, IsFalse}
 use Rattle.tp_machine.specs.declared.parts.ActId.{ActId}
 use Rattle.tp_machine.specs.declared.parts.State.{State}
-use Rattle.tp_machine.specs.declared.whole.Machine.{Machine}
+use Rattle.tp_machine.specs.declared.machine.Machine.{Machine}
 use Rattle.tp_schedule.specs.Routes.{walk, IsFreshStart, IsRoute, AreAllowed}
 use Rattle.tp_schedule.specs.Plans.{plan_of, without, point, end_of_plan, is_fixed, is_same_copy}
 use Rattle.tp_schedule.specs.Legality.{IsLegal}

@@ -5,7 +5,7 @@ use Rattle.tp_machine.specs.Using.{action_at}
 use Rattle.tp_machine.specs.declared.parts.ActId.{ActId}
 use Rattle.tp_machine.specs.declared.parts.HoldRule.{HoldRule}
 use Rattle.tp_machine.specs.declared.parts.State.{State}
-use Rattle.tp_machine.specs.declared.whole.Machine.{Machine}
+use Rattle.tp_machine.specs.declared.machine.Machine.{Machine}
 use Rattle.tp_schedule.specs.Routes.{walk, IsStart, IsGoalState, AreAllowed, Reaches, least_sum}
 use Rattle.tp_schedule.specs.Plans.{LastsWithin, is_delivered_to, goes_to, is_before}
 use Rattle.tp_schedule.specs.Holding.{holds_of_act}

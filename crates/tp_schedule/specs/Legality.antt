@@ -1,7 +1,7 @@
 -- Which schedules are legal.
 use Rattle.std.specs.Prelude.{◌≢◌, ◌⊎◌, ℕ, ◌+◌, ◌<◌, ◌≤◌, List, length, All, AllPairs, IsTrue}
 use Rattle.tp_machine.specs.Modes.{gap_at}
-use Rattle.tp_machine.specs.declared.whole.Machine.{Machine}
+use Rattle.tp_machine.specs.declared.machine.Machine.{Machine}
 use Rattle.tp_schedule.specs.Plans.{IsTimedPlan, IsEarlier, is_delivered_to, end_of_plan}
 use Rattle.tp_schedule.specs.Holding.{held, IsHeldIn}
 use Rattle.tp_schedule.specs.declared.parts.Plan.{Plan}

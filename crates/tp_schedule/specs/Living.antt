@@ -4,7 +4,7 @@ use Rattle.tp_machine.specs.Modes.{gap_at}
 use Rattle.std.specs.List.{list_any}
 use Rattle.tp_machine.specs.Using.{action_at, end_of}
 use Rattle.tp_machine.specs.declared.parts.HoldRule.{HoldRule}
-use Rattle.tp_machine.specs.declared.whole.Machine.{Machine}
+use Rattle.tp_machine.specs.declared.machine.Machine.{Machine}
 use Rattle.tp_schedule.specs.Holding.{Run, runs_of, holds_of_act}
 use Rattle.tp_schedule.specs.declared.parts.Plan.{Plan}
 

@@ -1,6 +1,6 @@
 -- When the budget of an ask is spent.
 use Rattle.std.specs.Prelude.{◌≡◌, ◌≢◌, ℕ, ◌<◌, ◌≤◌, ◌⊎◌, List, [], length, AllPairs, Contains}
-use Rattle.tp_machine.specs.declared.whole.Machine.{Machine}
+use Rattle.tp_machine.specs.declared.machine.Machine.{Machine}
 use Rattle.tp_schedule.specs.Answers.{NoneBefore}
 use Rattle.tp_schedule.specs.Choices.{ChoiceList, IsOpen, IsBound, IsChild, IsComplete}
 use Rattle.tp_schedule.specs.declared.parts.Ask.{Ask}

@@ -5,7 +5,7 @@ use Rattle.tp_machine.specs.Modes.{gap_between}
 use Rattle.tp_machine.specs.Using.{action_at, begin_of, end_of}
 use Rattle.tp_machine.specs.declared.parts.ActId.{ActId}
 use Rattle.tp_machine.specs.declared.parts.HoldRule.{HoldRule}
-use Rattle.tp_machine.specs.declared.whole.Machine.{Machine}
+use Rattle.tp_machine.specs.declared.machine.Machine.{Machine}
 use Rattle.tp_schedule.specs.Holding.{holds_of_act}
 use Rattle.tp_schedule.specs.Plans.{plan_of, point}
 use Rattle.tp_schedule.specs.declared.parts.Hold.{Hold}

@@ -2,7 +2,7 @@
 use Rattle.std.specs.Prelude.{◌≡◌, ℕ, zero, suc, ◌+◌, ◌<◌, ◌≤◌, Bool, List, [], ◌∷◌, length, Contains, AllPairs, IsTrue, IsFalse, slice_get, Some}
 use Rattle.tp_machine.specs.Modes.{gap_at}
 use Rattle.tp_machine.specs.declared.parts.ActId.{ActId}
-use Rattle.tp_machine.specs.declared.whole.Machine.{Machine}
+use Rattle.tp_machine.specs.declared.machine.Machine.{Machine}
 use Rattle.tp_schedule.specs.Plans.{LastsWithin, point, is_fixed, is_delivered_to, with_points}
 use Rattle.tp_schedule.specs.declared.parts.Plan.{Plan}
 use Rattle.tp_schedule.specs.Spots.{Ticks, IsApart, slot_order}

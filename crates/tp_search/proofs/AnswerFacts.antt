@@ -2,7 +2,7 @@
 use Rattle.std.proofs.Common.{◌≡◌, ℕ, ◌<◌, List, length, filter, Some, IsSomeAnd, sym, subst, ◌∙◌, arith}
 use Rattle.tp_base.specs.Net.{Net}
 use Rattle.tp_machine.specs.Machines.{IsMachine}
-use Rattle.tp_machine.specs.declared.whole.Machine.{Machine}
+use Rattle.tp_machine.specs.declared.machine.Machine.{Machine}
 use Rattle.tp_schedule.specs.Answers.{IsAlternative, NoneBefore}
 use Rattle.tp_schedule.specs.Choices.{ChoiceList, IsBound, IsComplete}
 use Rattle.tp_schedule.specs.Living.{is_live}

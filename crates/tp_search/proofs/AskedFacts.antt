@@ -1,6 +1,6 @@
 -- What an ask that can be put on a schedule brings a search: its origin is known, and so are the bounds that there can be.
 use Rattle.std.proofs.Common.{◌≡◌, ℕ, ◌+◌, ◌≤◌, List, subst, sym, arith}
-use Rattle.tp_machine.specs.declared.whole.Machine.{Machine}
+use Rattle.tp_machine.specs.declared.machine.Machine.{Machine}
 use Rattle.tp_schedule.specs.Answers.{IsAsked, IsAskedFrom}
 use Rattle.tp_schedule.specs.Choices.{start_floor}
 use Rattle.tp_schedule.specs.Planning.{HasTimeFrom}

@@ -1,6 +1,6 @@
 -- What an answer tells of open lists, a deed tells.
 use Rattle.std.proofs.Common.{◌≡◌, ℕ, List, refl}
-use Rattle.tp_machine.specs.declared.whole.Machine.{Machine}
+use Rattle.tp_machine.specs.declared.machine.Machine.{Machine}
 use Rattle.tp_schedule.specs.Planning.Deed.{replied}
 use Rattle.tp_schedule.specs.Spending.{FewListsOpen}
 use Rattle.tp_schedule.specs.declared.parts.Ask.{Ask}

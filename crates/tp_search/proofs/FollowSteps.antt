@@ -7,7 +7,7 @@ use Rattle.tp_machine.specs.Using.{action_at, is_allowed}
 use Rattle.tp_machine.specs.declared.parts.ActId.{ActId}
 use Rattle.tp_machine.specs.declared.parts.Action.{Action}
 use Rattle.tp_machine.specs.declared.parts.State.{State}
-use Rattle.tp_machine.specs.declared.whole.Machine.{Machine}
+use Rattle.tp_machine.specs.declared.machine.Machine.{Machine}
 use Rattle.tp_pool.specs.declared.choice.Choice.{Choice as Stored}
 use Rattle.tp_schedule.proofs.Walks.{AreAllowed-head}
 use Rattle.tp_schedule.specs.Choices.{Choice, ChoiceList, IsOpen, acts_of, going, stopping}

@@ -1,7 +1,7 @@
 -- The list of a goal that is tried: it is not open, or its bound is the least end on the board.
 use Rattle.std.proofs.Common.{◌≡◌, ◌≤◌, ℕ, IsSomeAnd, List, [], Some, ◌∙◌, subst}
 use Rattle.tp_machine.specs.declared.parts.State.{State}
-use Rattle.tp_machine.specs.declared.whole.Machine.{Machine}
+use Rattle.tp_machine.specs.declared.machine.Machine.{Machine}
 use Rattle.tp_schedule.specs.Answers.{kept_of}
 use Rattle.tp_schedule.specs.Choices.{IsBound, IsOpen, going}
 use Rattle.tp_schedule.specs.Routes.{HasNoRoom, IsGoalState, IsRoom}

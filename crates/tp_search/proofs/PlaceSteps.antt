@@ -8,7 +8,7 @@ use Rattle.tp_machine.specs.declared.parts.Action.{Action}
 use Rattle.tp_machine.specs.declared.parts.ActId.{ActId}
 use Rattle.tp_machine.specs.declared.parts.HoldRule.{HoldRule}
 use Rattle.tp_machine.specs.declared.parts.State.{State}
-use Rattle.tp_machine.specs.declared.whole.Machine.{Machine}
+use Rattle.tp_machine.specs.declared.machine.Machine.{Machine}
 use Rattle.tp_machine.proofs.MachineFacts.{is_machine}
 use Rattle.tp_pool.specs.Entries.{choices_before}
 use Rattle.tp_pool.specs.declared.choice.Choice.{Choice as Stored}

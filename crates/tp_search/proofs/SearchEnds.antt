@@ -6,7 +6,7 @@ use Rattle.std.proofs.lemmas.List.Elements.{All-contains, Contains-get_or}
 use Rattle.tp_choices.specs.Frontiers.{FrontierBounds, FrontierEnds, IsFrontier, NoneOpensBelow}
 use Rattle.tp_choices.specs.Searches.{EndedHasFew, IsSearched, SearchFronts}
 use Rattle.tp_machine.specs.Machines.{IsMachine}
-use Rattle.tp_machine.specs.declared.whole.Machine.{Machine}
+use Rattle.tp_machine.specs.declared.machine.Machine.{Machine}
 use Rattle.tp_pool.specs.Entries.{Entry, bound_of, choices_of, entry_at}
 use Rattle.tp_schedule.specs.Answers.{IsAlternative, IsAsked, NoneBefore}
 use Rattle.tp_schedule.specs.Choices.{IsBound, IsComplete, OpensTo}

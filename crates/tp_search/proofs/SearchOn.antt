@@ -1,6 +1,6 @@
 -- A search goes on: after the list that was taken was opened, with neither an answer nor a full store.
 use Rattle.std.proofs.Common.{◌≡◌, ◌⊎◌, inl, inr, ℕ, ◌<◌, ◌≤◌, false, List, [], ◌∷◌, ◌++◌, length, All, Contains, None, sym, ap, subst, ◌∙◌, arith}
-use Rattle.tp_machine.specs.declared.whole.Machine.{Machine}
+use Rattle.tp_machine.specs.declared.machine.Machine.{Machine}
 use Rattle.tp_pool.specs.Entries.{Entry, bound_of, entry_at}
 use Rattle.tp_schedule.specs.Choices.{ChoiceList, IsChild, IsComplete}
 use Rattle.tp_schedule.specs.Spending.{IsStoredOrEmpty}

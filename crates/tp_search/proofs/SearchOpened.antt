@@ -3,7 +3,7 @@ use Rattle.std.proofs.Common.{◌≡◌, ◌≢◌, ◌⊎◌, inl, inr, ℕ, �
 use Rattle.std.proofs.lemmas.Bool.{false≢true}
 use Rattle.std.proofs.lemmas.List.{map-append, take_all}
 use Rattle.std.proofs.lemmas.List.Elements.{All-append, All-cons, All-contains, Contains-append_cases, Contains-append_left}
-use Rattle.tp_machine.specs.declared.whole.Machine.{Machine}
+use Rattle.tp_machine.specs.declared.machine.Machine.{Machine}
 use Rattle.tp_pool.specs.Entries.{Entry, choices_before}
 use Rattle.tp_pool.specs.declared.choice.Choice.{Choice as Stored}
 use Rattle.tp_schedule.specs.Choices.{ChoiceList, IsBound, IsChild, IsComplete, IsOpen, OpensTo}

@@ -1,6 +1,6 @@
 -- A child tells its parent, has choices, and is looked at by the time that all actions were.
 use Rattle.std.proofs.Common.{◌≡◌, ◌≢◌, inl, inr, true, false, if◌then◌else◌, List, [], ◌∷◌, length, drop, refl, sym, ap, subst, ◌∙◌, arith}
-use Rattle.tp_machine.specs.declared.whole.Machine.{Machine}
+use Rattle.tp_machine.specs.declared.machine.Machine.{Machine}
 use Rattle.tp_schedule.specs.Choices.{CanStop, Choice, ChoiceList, IsChild, IsOpen, going}
 use Rattle.tp_schedule.specs.Choices.IsChild.{one_more, stopped}
 use Rattle.tp_schedule.specs.declared.parts.Ask.{Ask}

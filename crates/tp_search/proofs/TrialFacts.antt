@@ -3,7 +3,7 @@ use Rattle.std.proofs.Common.{◌≡◌, ℕ, ◌<◌, List, length, filter, sym
 use Rattle.std.proofs.lemmas.List.{length-map}
 use Rattle.tp_base.specs.Net.{Net}
 use Rattle.tp_machine.specs.Machines.{IsMachine}
-use Rattle.tp_machine.specs.declared.whole.Machine.{Machine}
+use Rattle.tp_machine.specs.declared.machine.Machine.{Machine}
 use Rattle.tp_schedule.specs.Answers.{IsAlternative, NoneBefore}
 use Rattle.tp_schedule.specs.Choices.{ChoiceList, IsBound, IsComplete, IsCompleteFrom, OpensTo}
 use Rattle.tp_schedule.specs.Completions.{answered}
@@ -29,7 +29,7 @@ use Rattle.tp_search.specs.Boards.{IsBack, IsReady}
 use Rattle.tp_search.specs.Outcomes.{HasAnswer}
 use Rattle.tp_schedule.specs.Planning.{IsKnownGoal}
 use Rattle.tp_search.specs.Trials.{EndsEarliest, IsEarliestTo, IsTrial, board_in}
-use Rattle.tp_search.specs.declared.trying.Trial.{Trial}
+use Rattle.tp_search.specs.declared.trial.Trial.{Trial}
 use Rattle.tp_ways.proofs.WayAnswers.{complete-some}
 use Rattle.tp_search.proofs.AnswerFacts.{answer-commits, answer-ends, none_before-whole, rest}
 use Rattle.tp_search.proofs.BoardSteps.{IsUndone, undone-back}

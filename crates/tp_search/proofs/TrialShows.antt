@@ -6,7 +6,7 @@ use Rattle.tp_base.specs.Net.{Net}
 use Rattle.tp_machine.specs.Machines.{IsMachine}
 use Rattle.tp_machine.specs.Using.{action_at}
 use Rattle.tp_machine.specs.declared.parts.Action.{Action}
-use Rattle.tp_machine.specs.declared.whole.Machine.{Machine}
+use Rattle.tp_machine.specs.declared.machine.Machine.{Machine}
 use Rattle.tp_schedule.specs.Answers.{NoneBefore}
 use Rattle.tp_schedule.specs.Choices.{Choice, ChoicesLast}
 use Rattle.tp_schedule.specs.Spots.{Ticks}
@@ -22,7 +22,7 @@ use Rattle.tp_search.specs.Again.{suffix_by}
 use Rattle.tp_search.specs.Boards.{IsReady}
 use Rattle.tp_search.specs.Holding.{IsLaidSince}
 use Rattle.tp_search.specs.Trials.{IsTrial, board_in}
-use Rattle.tp_search.specs.declared.trying.Trial.{Trial}
+use Rattle.tp_search.specs.declared.trial.Trial.{Trial}
 
 -- the steps' changes lead to what the steps do
 pub changes-suffix : {N : Type 0} → (b : BoardValue N) → suffix_by (map (λ (s : Step). s.change) b.steps) ≡ suffix_of b

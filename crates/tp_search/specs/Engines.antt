@@ -2,7 +2,7 @@
 use Rattle.std.specs.Prelude.{◌≡◌, ℕ, ◌≤◌, ◌==◌, ◌&&◌, Bool, List, [], ◌∷◌, ◌++◌, length, Option, Some, None, IsSomeAnd}
 use Rattle.std.specs.Bool.{MatchBool}
 use Rattle.tp_bounds.specs.declared.tree.BoundTree.{BoundTree}
-use Rattle.tp_machine.specs.declared.whole.Machine.{Machine}
+use Rattle.tp_machine.specs.declared.machine.Machine.{Machine}
 use Rattle.tp_schedule.specs.Planning.{Deed}
 use Rattle.tp_schedule.specs.Planning.Deed.{replied, settled}
 use Rattle.tp_schedule.specs.Plans.{end_of_plan, plan_of}

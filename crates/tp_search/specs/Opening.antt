@@ -1,6 +1,6 @@
 -- Opening a list: which of its children were looked at, and what is known of them.
 use Rattle.std.specs.Prelude.{◌≡◌, ◌≢◌, ℕ, ◌<◌, ◌≤◌, ◌⊎◌, List, [], ◌∷◌, ◌++◌, Bool, length, take, All, AllPairs, Contains, Option, Some, IsSome, IfSome, IsTrue, ◌&&◌, ◌==◌, if◌then◌else◌}
-use Rattle.tp_machine.specs.declared.whole.Machine.{Machine}
+use Rattle.tp_machine.specs.declared.machine.Machine.{Machine}
 use Rattle.tp_machine.specs.declared.parts.State.{State}
 use Rattle.tp_pool.specs.Entries.{Entry, IsParentOf, choices_before}
 use Rattle.tp_pool.specs.declared.choice.Choice.{Choice as Stored}

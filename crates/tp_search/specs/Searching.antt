@@ -1,7 +1,7 @@
 -- How far a search has come: the goals and the stored lists that wait, and what is known of the lists that were opened.
 use Rattle.std.specs.Prelude.{◌≡◌, ◌≢◌, ℕ, ◌+◌, ◌-◌, ◌<◌, ◌≤◌, false, List, [], ◌∷◌, ◌++◌, length, map, All, AllPairs, Contains, Option, Some, None, IfSome, Vec, vec_capacity}
 use Rattle.std.specs.declared.alloc.Global.{Global}
-use Rattle.tp_machine.specs.declared.whole.Machine.{Machine}
+use Rattle.tp_machine.specs.declared.machine.Machine.{Machine}
 use Rattle.tp_pool.specs.Entries.{Entry, bound_of, choices_of}
 use Rattle.tp_schedule.specs.Choices.{ChoiceList, IsBound, IsChild, going}
 use Rattle.tp_schedule.specs.Spending.{IsStoredOrEmpty}

@@ -1,7 +1,7 @@
 -- The store of a search: the lists that it keeps, and those of them that wait.
 use Rattle.std.specs.Prelude.{◌≡◌, ℕ, ◌+◌, ◌<◌, ◌≤◌, ◌==◌, ◌⊎◌, Bool, true, false, ◌&&◌, nat_lt, List, [], ◌∷◌, ◌++◌, length, All, Contains, Option, Some, None, IfSome, if◌then◌else◌, nat_eq}
 use Rattle.std.specs.List.{filter, list_any, range_with_len}
-use Rattle.tp_machine.specs.declared.whole.Machine.{Machine}
+use Rattle.tp_machine.specs.declared.machine.Machine.{Machine}
 use Rattle.tp_schedule.specs.Choices.{start_floor}
 use Rattle.tp_schedule.specs.declared.parts.Ask.{Ask}
 use Rattle.tp_pool.specs.Entries.{Entries, Entry, bound_of, choices_before}

@@ -2,7 +2,7 @@
 use Rattle.std.specs.Prelude.{◌≡◌, ℕ, ◌-◌, List, [], ◌∷◌, ◌++◌, length, Some, IsSomeAnd}
 use Rattle.std.specs.Borrow.{GName}
 use Rattle.tp_base.specs.Net.{Net}
-use Rattle.tp_machine.specs.declared.whole.Machine.{Machine}
+use Rattle.tp_machine.specs.declared.machine.Machine.{Machine}
 use Rattle.tp_schedule.specs.Answers.{IsAlternative, IsEarliest, NoneBefore}
 use Rattle.tp_schedule.specs.Plans.{end_of_plan}
 use Rattle.tp_schedule.specs.Spending.{FewListsOpen, IsSpent}
@@ -15,9 +15,9 @@ use Rattle.tp_placing.specs.Standing.{Stands}
 use Rattle.tp_placing.specs.Ticks.{HasLeastTick}
 use Rattle.tp_placing.specs.Writing.{CanCommit}
 use Rattle.tp_search.specs.Boards.{IsReady}
-use Rattle.tp_search.specs.declared.trying.NoPlan.{NoPlan}
-use Rattle.tp_search.specs.declared.trying.NoPlan.TheVariants.{Never, Spent}
-use Rattle.tp_search.specs.declared.trying.Trial.{Trial}
+use Rattle.tp_search.specs.declared.trial.NoPlan.{NoPlan}
+use Rattle.tp_search.specs.declared.trial.NoPlan.TheVariants.{Never, Spent}
+use Rattle.tp_search.specs.declared.trial.Trial.{Trial}
 
 -- this schedule is an earliest one, and its plan of the asked copy ends at this tick
 pub record IsEarliestTo (machine : Machine) (plans : List Plan) (ask : Ask) (end : ℕ) (plans' : List Plan) : Type 0 where

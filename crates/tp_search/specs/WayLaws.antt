@@ -1,7 +1,7 @@
 -- What a search needs of ways on a board: their bounds, and that complete ones can be committed.
 use Rattle.std.specs.Prelude.{ℕ, ◌<◌, List, length}
 use Rattle.tp_machine.specs.declared.parts.State.{State}
-use Rattle.tp_machine.specs.declared.whole.Machine.{Machine}
+use Rattle.tp_machine.specs.declared.machine.Machine.{Machine}
 use Rattle.tp_schedule.specs.Choices.{IsBound, IsComplete}
 use Rattle.tp_schedule.specs.Routes.{IsStart}
 use Rattle.tp_schedule.specs.Spots.Spot.{own}

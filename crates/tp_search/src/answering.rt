@@ -10,7 +10,7 @@ ghost use Rattle.tp_search.specs.Trials.{EndsEarliest, IsNoPlan};
 ghost use Rattle.tp_search.specs.Workspaces.{IsFor, IsSpentOf};
 
 use crate::showing::show_never;
-use crate::trying::{NoPlan, plan};
+use crate::trial::{NoPlan, plan};
 use crate::workspace::Workspace;
 use std::alloc::Global;
 use tp_base::{Memory, Network, Tick, Undo};

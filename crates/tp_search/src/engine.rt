@@ -9,7 +9,7 @@ ghost use Rattle.tp_search.specs.Trials.{EndsEarliest, IsNoPlan};
 ghost use Rattle.tp_search.specs.Workspaces.{IsSpentOf};
 
 use crate::answering::{answer, answer_with_tree, earliest_end};
-use crate::trying::NoPlan;
+use crate::trial::NoPlan;
 use crate::workspace::Workspace;
 use std::alloc::Global;
 use std::marker::Model;

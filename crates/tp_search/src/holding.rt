@@ -1,6 +1,6 @@
 //! The list that a search opened last, which stays on the board: one of its children is laid by its newest choice alone.
 ghost use Rattle.std.specs.Prelude.{◌≡◌, ◌<◌, ◌≤◌, [], length, IfSome, IsTrue, None, Some};
-ghost use Rattle.tp_machine.specs.declared.whole.Machine.{Machine};
+ghost use Rattle.tp_machine.specs.declared.machine.Machine.{Machine};
 ghost use Rattle.tp_placing.specs.Boards.{BoardValue};
 ghost use Rattle.tp_pool.specs.Entries.{choices_before, choices_of};
 ghost use Rattle.tp_schedule.specs.Choices.{IsOpen, going};

@@ -16,12 +16,12 @@ mod showing;
 mod states;
 mod store;
 mod taking;
-mod trying;
+mod trial;
 mod workspace;
 
 pub use answering::answer;
 pub use engine::Engine;
 pub use laws::ways_have_bounds;
 pub use showing::show_never;
-pub use trying::{NoPlan, Trial, plan};
+pub use trial::{NoPlan, Trial, plan};
 pub use workspace::Workspace;

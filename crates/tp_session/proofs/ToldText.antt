@@ -10,7 +10,7 @@ use Rattle.tp_log.specs.Logs.{IsItem, item_text, log_text}
 use Rattle.tp_log.specs.Records.{record_text}
 use Rattle.tp_log.specs.declared.item.Item.{Item}
 use Rattle.tp_log.specs.declared.item.Item.TheVariants as item
-use Rattle.tp_schedule.specs.declared.recording.Record.{Record}
+use Rattle.tp_schedule.specs.declared.records.Record.{Record}
 use Rattle.tp_runs.specs.Runs.{is_of_plan, items_with, trees_behind}
 
 -- the trees that stand directly behind a record

@@ -1,6 +1,6 @@
 -- What a session is seen as, and what one event does to it.
 use Rattle.std.specs.Prelude.{◌≡◌, ℕ, ◌≤◌, Bool, List, [], Option, IsTrue, unwrap_or}
-use Rattle.tp_machine.specs.declared.whole.Machine.{Machine}
+use Rattle.tp_machine.specs.declared.machine.Machine.{Machine}
 use Rattle.tp_script.specs.declared.event.Event.{Event}
 use Rattle.tp_search.specs.Engines.{EngineValue, is_engine_for}
 use Rattle.tp_stream.specs.Scripts.{AnswersLine, NoRefusal, line_bytes, most_events, most_lines}

@@ -1,7 +1,7 @@
 //! What holds of sessions. The calls do nothing: their contracts are the laws.
 
 ghost use Rattle.std.specs.Prelude.{ℕ, Bool, Option};
-ghost use Rattle.tp_machine.specs.declared.whole.Machine.{Machine};
+ghost use Rattle.tp_machine.specs.declared.machine.Machine.{Machine};
 ghost use Rattle.tp_runs.specs.Carrying.{KeepsNodes, ShowsTrees};
 ghost use Rattle.tp_session.specs.Sessions.{SessionsLawful, SessionsStopLawful};
 ghost use Rattle.tp_turn.specs.Planners.{right_steps};

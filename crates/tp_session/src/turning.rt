@@ -1,7 +1,7 @@
 //! The turn of one event, with its text.
 
 ghost use Rattle.std.specs.Prelude.{◌≡◌, ◌+◌, ◌++◌, ℕ, List, [], IsTrue, OnOk, OnErr};
-ghost use Rattle.tp_machine.specs.declared.whole.Machine.{Machine};
+ghost use Rattle.tp_machine.specs.declared.machine.Machine.{Machine};
 ghost use Rattle.tp_runs.specs.Wholes.{TellsTurn};
 ghost use Rattle.tp_script.specs.Printed.{IsEchoed};
 ghost use Rattle.tp_search.specs.Engines.{is_engine_for};

@@ -13,7 +13,7 @@ use Rattle.tp_machine.specs.declared.parts.ActId.{ActId}
 use Rattle.tp_machine.specs.declared.parts.Action.{Action}
 use Rattle.tp_machine.specs.declared.parts.Sheet.{Sheet}
 use Rattle.tp_machine.specs.declared.parts.State.{State}
-use Rattle.tp_machine.specs.declared.whole.Machine.{Machine}
+use Rattle.tp_machine.specs.declared.machine.Machine.{Machine}
 use Rattle.tp_schedule.specs.Laws.{StepIsComputed}
 use Rattle.tp_schedule.specs.Routes.{is_act_allowed, step_by}
 use Rattle.tp_schedule.specs.declared.parts.Ask.{Ask}

@@ -14,7 +14,7 @@ use Rattle.tp_bounds.specs.declared.hops.TreePoint.{TreePoint}
 use Rattle.tp_bounds.specs.declared.tree.Close.{Close}
 use Rattle.tp_bounds.specs.declared.tree.Head.{Head}
 use Rattle.tp_bounds.specs.declared.tree.TreeRow.{TreeRow}
-use Rattle.tp_machine.specs.declared.whole.Machine.{Machine}
+use Rattle.tp_machine.specs.declared.machine.Machine.{Machine}
 use Rattle.tp_schedule.specs.Spots.Spot.{own}
 use Rattle.tp_schedule.specs.declared.parts.Ask.{Ask}
 use Rattle.tp_schedule.specs.declared.parts.Plan.{Plan}

@@ -8,7 +8,7 @@ use Rattle.std.proofs.lemmas.Grind.{flat_map-append}
 use Rattle.tp_machine.specs.declared.parts.LocId.{LocId}
 use Rattle.tp_machine.specs.declared.parts.Sheet.{Sheet}
 use Rattle.tp_machine.specs.declared.parts.State.{State}
-use Rattle.tp_machine.specs.declared.whole.Machine.{Machine}
+use Rattle.tp_machine.specs.declared.machine.Machine.{Machine}
 use Rattle.tp_machine.specs.Machines.{IsLocation}
 use Rattle.tp_machine.proofs.MachineFacts.{is_machine}
 use Rattle.tp_schedule.proofs.Membership.{Contains-here, Contains-later}

@@ -8,7 +8,7 @@ use Rattle.tp_bounds.specs.declared.tree.Head.TheVariants.{Goal as GoalHead}
 use Rattle.tp_bounds.specs.declared.tree.Node.{Node}
 use Rattle.tp_bounds.specs.declared.tree.TreeRow.{TreeRow}
 use Rattle.tp_machine.specs.declared.parts.State.{State}
-use Rattle.tp_machine.specs.declared.whole.Machine.{Machine}
+use Rattle.tp_machine.specs.declared.machine.Machine.{Machine}
 use Rattle.tp_schedule.specs.Answers.{kept_of}
 use Rattle.tp_schedule.specs.Routes.{IsGoalState, IsRoom}
 use Rattle.tp_schedule.specs.declared.parts.Ask.{Ask}

@@ -8,7 +8,7 @@ use Rattle.tp_base.specs.Refute.{Leads, total_weight}
 use Rattle.tp_bounds.specs.declared.hops.Hop.{Hop}
 use Rattle.tp_bounds.specs.declared.hops.Hop.TheVariants.{Duration, Line, «Resource» as Res}
 use Rattle.tp_machine.specs.Modes.{gap_at}
-use Rattle.tp_machine.specs.declared.whole.Machine.{Machine}
+use Rattle.tp_machine.specs.declared.machine.Machine.{Machine}
 use Rattle.tp_schedule.specs.Choices.{start_floor}
 use Rattle.tp_schedule.specs.Legality.{IsLegal}
 use Rattle.tp_schedule.specs.Spots.{Spot, Ticks}

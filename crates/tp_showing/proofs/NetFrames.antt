@@ -8,7 +8,7 @@ use Rattle.tp_base.specs.Net.{Net}
 use Rattle.tp_bounds.specs.declared.hops.Hop.{Hop as TreeHop}
 use Rattle.tp_bounds.specs.declared.hops.TreePoint.{TreePoint}
 use Rattle.tp_bounds.specs.declared.tree.TreeRow.{TreeRow}
-use Rattle.tp_machine.specs.declared.whole.Machine.{Machine}
+use Rattle.tp_machine.specs.declared.machine.Machine.{Machine}
 use Rattle.tp_schedule.specs.Choices.{start_floor}
 use Rattle.tp_schedule.specs.Plans.{AreNamed, IsEarlier}
 use Rattle.tp_schedule.specs.Spots.{Spot}

@@ -12,7 +12,7 @@ use Rattle.tp_base.specs.declared.edges.Proof.TheVariants.{Chain, Circle}
 use Rattle.tp_base.specs.Net.{Net}
 use Rattle.tp_base.specs.Refute.{IsLateChain, IsLateCircle, Refutes, ends_of, total_weight}
 use Rattle.tp_base.proofs.TraceFacts.{apart-short}
-use Rattle.tp_machine.specs.declared.whole.Machine.{Machine}
+use Rattle.tp_machine.specs.declared.machine.Machine.{Machine}
 use Rattle.tp_constraints.proofs.Lists.{all-by}
 use Rattle.tp_placing.specs.Boards.{BoardValue}
 use Rattle.tp_base.specs.declared.errors.Memory.{Memory}

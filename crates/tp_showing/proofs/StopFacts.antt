@@ -6,7 +6,7 @@ use Rattle.std.proofs.lemmas.List.{length-append, length-map}
 use Rattle.tp_base.specs.declared.edges.Edge.{Edge}
 use Rattle.tp_base.specs.Refute.{AreApart, Leads, ends_of, total_weight}
 use Rattle.tp_bounds.specs.declared.hops.Hop.{Hop as TreeHop}
-use Rattle.tp_machine.specs.declared.whole.Machine.{Machine}
+use Rattle.tp_machine.specs.declared.machine.Machine.{Machine}
 use Rattle.tp_schedule.specs.Answers.{IsAsked, IsAskedFrom, IsFrontOf, kept_of}
 use Rattle.tp_schedule.specs.Choices.{start_floor}
 use Rattle.tp_schedule.specs.Legality.{IsLegal}

@@ -3,7 +3,7 @@ use Rattle.std.specs.Prelude.{◌≡◌, ℕ, zero, suc, ◌<◌, List, [], ◌�
 use Rattle.tp_bounds.specs.declared.tree.NamedState.{NamedState}
 use Rattle.tp_bounds.specs.declared.tree.TreeRow.{TreeRow}
 use Rattle.tp_machine.specs.declared.parts.State.{State}
-use Rattle.tp_machine.specs.declared.whole.Machine.{Machine}
+use Rattle.tp_machine.specs.declared.machine.Machine.{Machine}
 use Rattle.tp_routes.specs.Numbers.{number_of, state_at}
 use Rattle.tp_routes.specs.Tables.{sum_at}
 use Rattle.tp_trees.specs.Rows.{row_of}

@@ -14,7 +14,7 @@ use Rattle.tp_bounds.specs.declared.hops.TreePoint.{TreePoint}
 use Rattle.tp_bounds.specs.declared.hops.TreePoint.TheVariants.{Own as OwnPoint, Kept as KeptPoint}
 use Rattle.tp_bounds.specs.declared.tree.Close.{Close}
 use Rattle.tp_bounds.specs.declared.tree.Close.TheVariants.{Chain as ChainClose, Loop as LoopClose}
-use Rattle.tp_machine.specs.declared.whole.Machine.{Machine}
+use Rattle.tp_machine.specs.declared.machine.Machine.{Machine}
 use Rattle.tp_schedule.specs.declared.parts.Plan.{Plan}
 use Rattle.tp_constraints.specs.Hops.{HopKind}
 use Rattle.tp_constraints.specs.Hops.HopKind.{forward, back, line, order, stop, limit}

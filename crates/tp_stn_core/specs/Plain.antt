@@ -2,7 +2,7 @@
 use Rattle.std.specs.Prelude.{◌≡◌, ◌*◌, ◌≤◌, List, length, slice_index, vec_capacity}
 use Rattle.std.specs.List.{All}
 use Rattle.tp_base.specs.Net.{Net, IsLeast}
-use Rattle.tp_stn_core.specs.declared.plain.PlainNet.TheInside.{Inside}
+use Rattle.tp_stn_core.specs.declared.plain_net.PlainNet.TheInside.{Inside}
 use Rattle.tp_stn_core.specs.Marks.{past_of, AreStacked, AreSaved}
 use Rattle.tp_stn_core.specs.PlainState.{PlainState}
 use Rattle.tp_stn_core.specs.Sound.{IsSound}

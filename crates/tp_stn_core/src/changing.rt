@@ -1,4 +1,4 @@
-use crate::plain::PlainNet;
+use crate::plain_net::PlainNet;
 use crate::saving::save;
 use crate::solving::solve;
 use std::mem;

@@ -3,10 +3,10 @@
 
 mod changing;
 mod marks;
-mod plain;
+mod plain_net;
 mod rounds;
 mod saving;
 mod solving;
 mod undoing;
 
-pub use plain::PlainNet;
+pub use plain_net::PlainNet;

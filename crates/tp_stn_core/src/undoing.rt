@@ -2,7 +2,7 @@ ghost use Rattle.std.specs.Prelude.{◌≡◌, ◌≤◌, length, take, drop, ve
 ghost use Rattle.tp_stn_core.specs.Saved.{restored, relinked};
 
 use crate::marks::PlainMark;
-use crate::plain::PlainNet;
+use crate::plain_net::PlainNet;
 use crate::saving::{SavedLow, put_back};
 use crate::solving::solve;
 use std::mem;

@@ -11,7 +11,7 @@ use Rattle.tp_base.specs.Kept.{net_of}
 use Rattle.tp_stn_undo.specs.declared.spots.Spot.{Spot}
 use Rattle.tp_stn_undo.specs.declared.links.Link.{Link}
 use Rattle.tp_stn_undo.specs.declared.spots.SavedSpot.{SavedSpot}
-use Rattle.tp_stn_undo.specs.declared.live.LiveNet.TheInside.{Inside}
+use Rattle.tp_stn_undo.specs.declared.live_net.LiveNet.TheInside.{Inside}
 use Rattle.tp_stn_undo.specs.Spots.{IsSound, lows_of, times_of, edges_of, causes_of}
 use Rattle.tp_stn_undo.specs.Flags.{AreKnown}
 use Rattle.tp_stn_undo.specs.Stacks.{IsStack, CanSave, CanRestore}

@@ -9,7 +9,7 @@ use Rattle.tp_stn_undo.specs.declared.spots.Spot.{Spot}
 use Rattle.tp_stn_undo.specs.declared.links.Link.{Link}
 use Rattle.tp_stn_undo.specs.declared.marks.LiveMark.{LiveMark}
 use Rattle.tp_stn_undo.specs.declared.spots.SavedSpot.{SavedSpot}
-use Rattle.tp_stn_undo.specs.declared.live.LiveNet.TheInside.{Inside}
+use Rattle.tp_stn_undo.specs.declared.live_net.LiveNet.TheInside.{Inside}
 use Rattle.tp_stn_undo.specs.Bits.{has_bit}
 use Rattle.tp_stn_undo.specs.Marks.{core_at}
 use Rattle.tp_stn_undo.specs.Spots.{times_of, net_of_core}

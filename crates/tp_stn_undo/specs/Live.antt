@@ -1,7 +1,7 @@
 -- What a live network keeps true of its fields.
 use Rattle.std.specs.Prelude.{◌*◌, ◌≤◌, ◌<◌, ◌^◌, List, length, vec_capacity}
 use Rattle.std.specs.List.{All}
-use Rattle.tp_stn_undo.specs.declared.live.LiveNet.TheInside.{Inside}
+use Rattle.tp_stn_undo.specs.declared.live_net.LiveNet.TheInside.{Inside}
 use Rattle.tp_stn_undo.specs.Spots.{Core, IsSound, net_of_core, edges_of, causes_of}
 use Rattle.tp_stn_undo.specs.Marks.{past_of, nets_of, AreStacked, AreSaved, AreFlagged, AreLinks}
 use Rattle.tp_stn_undo.specs.LiveState.{LiveState}

@@ -1,7 +1,7 @@
 //! The live network as a network.
 use crate::adding::{add_edges, load_edges, push_point};
 use crate::lifting::lift;
-use crate::live::LiveNet;
+use crate::live_net::LiveNet;
 use crate::saving::save_changes;
 use crate::spreading::spread;
 use tp_base::{Edge, Full, Kept, Late, Network, PointId, Proof, Tick};

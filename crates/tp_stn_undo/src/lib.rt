@@ -8,7 +8,7 @@ mod changing;
 mod lifting;
 mod linking;
 mod links;
-mod live;
+mod live_net;
 mod marks;
 mod saves;
 mod saving;
@@ -19,4 +19,4 @@ mod undoing;
 mod waiting;
 mod working;
 
-pub use live::LiveNet;
+pub use live_net::LiveNet;

@@ -6,7 +6,7 @@ ghost use Rattle.tp_stn_undo.specs.Stacks.{CanRestore};
 
 use crate::linking::unlink;
 use crate::links::Link;
-use crate::live::LiveNet;
+use crate::live_net::LiveNet;
 use crate::marks::LiveMark;
 use crate::saves::Saves;
 use crate::saving::put_back;

@@ -10,7 +10,7 @@ use Rattle.std.proofs.lemmas.List.FromFn.{fill_by_all, get_or-map-range_with_len
 use Rattle.std.proofs.lemmas.List.Sums.{sum_by-cons}
 use Rattle.tp_machine.specs.Machines.{IsLocation, IsOpenPlace}
 use Rattle.tp_machine.specs.declared.parts.Feeder.{Feeder}
-use Rattle.tp_machine.specs.declared.whole.Machine.{Machine}
+use Rattle.tp_machine.specs.declared.machine.Machine.{Machine}
 use Rattle.tp_machine.proofs.MachineFacts.{is_machine}
 use Rattle.tp_schedule.proofs.Membership.{Contains-here, Contains-later}
 use Rattle.tp_schedule.specs.LocationSets.{nowhere, with}

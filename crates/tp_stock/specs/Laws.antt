@@ -1,7 +1,7 @@
 -- What forgetting leaves of the stock.
 use Rattle.std.specs.Prelude.{◌≡◌, Bool, not, List, filter, Contains, ℤ}
 use Rattle.tp_machine.specs.declared.parts.Feeder.{Feeder}
-use Rattle.tp_machine.specs.declared.whole.Machine.{Machine}
+use Rattle.tp_machine.specs.declared.machine.Machine.{Machine}
 use Rattle.tp_schedule.specs.declared.parts.Plan.{Plan}
 use Rattle.tp_stock.specs.Stock.{empties, free_stock, less_taken}
 

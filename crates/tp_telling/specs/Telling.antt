@@ -1,7 +1,7 @@
 -- What records may name.
 use Rattle.std.specs.Prelude.{◌<◌, length}
 use Rattle.tp_machine.specs.declared.parts.ActId.{ActId}
-use Rattle.tp_machine.specs.declared.whole.Machine.{Machine}
+use Rattle.tp_machine.specs.declared.machine.Machine.{Machine}
 
 -- the action is one of the machine's
 abbrev pub IsKnown : Machine → ActId → Type 0

@@ -4,7 +4,7 @@ ghost use Rattle.std.specs.Prelude.{◌≡◌, ◌<◌, ◌+◌, ◌^◌, ◌++�
 ghost use Rattle.tp_schedule.specs.Answers.{kept_from, kept_of};
 ghost use Rattle.tp_schedule.specs.Planning.{IsKnownGoal};
 ghost use Rattle.tp_schedule.specs.Plans.{IsTimedPlan, plan_of, without};
-ghost use Rattle.tp_schedule.specs.declared.recording.Record.TheVariants.{FullUp};
+ghost use Rattle.tp_schedule.specs.declared.records.Record.TheVariants.{FullUp};
 ghost use Rattle.tp_turn.specs.Answering.{moves, told_of_move, told_of_plan, told_of_planned, told_of_reply};
 ghost use Rattle.tp_turn.specs.Labels.{action_name};
 ghost use Rattle.tp_telling.specs.Telling.{IsKnown};

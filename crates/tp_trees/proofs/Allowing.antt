@@ -11,7 +11,7 @@ use Rattle.tp_bounds.specs.declared.hops.TreePoint.TheVariants.{Own as OwnPoint,
 use Rattle.tp_machine.specs.Using.{action_at}
 use Rattle.tp_machine.specs.declared.parts.Action.{Action}
 use Rattle.tp_machine.specs.declared.parts.ActId.{ActId}
-use Rattle.tp_machine.specs.declared.whole.Machine.{Machine}
+use Rattle.tp_machine.specs.declared.machine.Machine.{Machine}
 use Rattle.tp_schedule.specs.Choices.{Choice}
 use Rattle.tp_schedule.specs.Plans.{AreNamed, IsEarlier, is_same_copy, plan_of}
 use Rattle.tp_schedule.specs.Spots.{Slot, Spot}

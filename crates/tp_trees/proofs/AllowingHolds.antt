@@ -14,7 +14,7 @@ use Rattle.tp_bounds.specs.declared.hops.TreeHold.TheVariants.{Own as OwnHold, K
 use Rattle.tp_machine.specs.Modes.{gap_at}
 use Rattle.tp_machine.specs.Machines.{AreDifferent}
 use Rattle.tp_machine.specs.declared.parts.Resource.{Resource}
-use Rattle.tp_machine.specs.declared.whole.Machine.{Machine}
+use Rattle.tp_machine.specs.declared.machine.Machine.{Machine}
 use Rattle.tp_schedule.specs.Choices.{Choice}
 use Rattle.tp_schedule.specs.Plans.{AreNamed, IsEarlier}
 use Rattle.tp_schedule.specs.Spots.{Slot, Spot, slot_order, slots, ticks_of}

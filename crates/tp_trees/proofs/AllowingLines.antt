@@ -8,7 +8,7 @@ use Rattle.std.proofs.lemmas.List.{length-reverse}
 use Rattle.tp_bounds.specs.declared.hops.Hop.{Hop as TreeHop}
 use Rattle.tp_bounds.specs.declared.hops.Hop.TheVariants.{Duration, Line}
 use Rattle.tp_machine.specs.declared.parts.Action.{Action}
-use Rattle.tp_machine.specs.declared.whole.Machine.{Machine}
+use Rattle.tp_machine.specs.declared.machine.Machine.{Machine}
 use Rattle.tp_schedule.specs.Plans.{IsEarlier, goes_to, is_before, is_delivered_to, is_front}
 use Rattle.tp_schedule.specs.Spots.{Spot}
 use Rattle.tp_schedule.specs.Spots.Spot.{kept, own}

@@ -8,7 +8,7 @@ use Rattle.tp_bounds.specs.declared.hops.TreePoint.{TreePoint}
 use Rattle.tp_bounds.specs.declared.hops.TreePoint.TheVariants.{Own as OwnPoint, Kept as KeptPoint}
 use Rattle.tp_bounds.specs.declared.tree.Head.{Head}
 use Rattle.tp_bounds.specs.declared.tree.TreeRow.{TreeRow}
-use Rattle.tp_machine.specs.declared.whole.Machine.{Machine}
+use Rattle.tp_machine.specs.declared.machine.Machine.{Machine}
 use Rattle.tp_schedule.specs.Answers.{IsAsked}
 use Rattle.tp_schedule.specs.Choices.{start_floor}
 use Rattle.tp_schedule.specs.Legality.{IsLegal}

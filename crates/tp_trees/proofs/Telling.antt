@@ -2,7 +2,7 @@
 use Rattle.std.proofs.Common.{◌≡◌, ◌+◌, ◌≤◌, Bool, true, false, ◌||◌, List, filter, refl, ◌∙◌, ap, subst, arith, Contains, Option, Some, None}
 use Rattle.std.specs.Prelude.{pos, ◌<ℤ◌, ◌-ℤ◌}
 use Rattle.std.proofs.lemmas.Int.{ints}
-use Rattle.tp_machine.specs.declared.whole.Machine.{Machine}
+use Rattle.tp_machine.specs.declared.machine.Machine.{Machine}
 use Rattle.tp_schedule.specs.Answers.{IsAlternative, IsAsked, IsAskedFrom}
 use Rattle.tp_schedule.specs.Legality.{IsLegal}
 use Rattle.tp_schedule.specs.Living.{is_live}

@@ -11,7 +11,7 @@ use Rattle.tp_machine.specs.Modes.{gap_at}
 use Rattle.tp_machine.specs.Using.{action_at}
 use Rattle.tp_machine.specs.declared.parts.ActId.{ActId}
 use Rattle.tp_machine.specs.declared.parts.Action.{Action}
-use Rattle.tp_machine.specs.declared.whole.Machine.{Machine}
+use Rattle.tp_machine.specs.declared.machine.Machine.{Machine}
 use Rattle.tp_schedule.specs.Choices.{Choice, start_floor}
 use Rattle.tp_schedule.specs.Plans.{plan_of, is_before, is_same_copy, is_front}
 use Rattle.tp_schedule.specs.Spots.{Spot, Slot}
@@ -21,7 +21,7 @@ use Rattle.tp_schedule.specs.declared.parts.Goal.{Goal}
 use Rattle.tp_schedule.specs.declared.parts.Goal.TheVariants.{Tray, Purge}
 use Rattle.tp_schedule.specs.declared.parts.Plan.{Plan}
 use Rattle.tp_schedule.specs.declared.parts.SheetId.{SheetId}
-use Rattle.tp_schedule.specs.declared.recording.SheetName.{SheetName}
+use Rattle.tp_schedule.specs.declared.records.SheetName.{SheetName}
 use Rattle.tp_constraints.specs.Gaps.{Gap, gap, slot_gap}
 use Rattle.tp_constraints.specs.Numbers.{is_same_spot}
 use Rattle.tp_constraints.specs.Suffixes.{Suffix, order_in, suffix_low, suffix_cap, choice_slot}

@@ -1,7 +1,7 @@
 -- The plans of an alternative: the others are those of before but for their points, and the asked copy has one.
 use Rattle.std.proofs.Common.{◌≡◌, ◌⊎◌, inl, inr, Bool, true, false, not, List, map, refl, sym, ap, Contains, subst, Some}
 use Rattle.std.proofs.lemmas.Bool.{not_from_false}
-use Rattle.tp_machine.specs.declared.whole.Machine.{Machine}
+use Rattle.tp_machine.specs.declared.machine.Machine.{Machine}
 use Rattle.tp_schedule.specs.Answers.{IsAlternative, unmoved}
 use Rattle.tp_schedule.specs.Plans.{is_same_copy, plan_of, without}
 use Rattle.tp_schedule.specs.declared.parts.Ask.{Ask}

@@ -1,13 +1,13 @@
 -- What the phase of asks does with the first copy that waits, where it is not passed over: it is told full, or it is asked.
 use Rattle.std.proofs.Common.{◌≡◌, ℕ, List, ◌∷◌, ◌++◌}
-use Rattle.tp_machine.specs.declared.whole.Machine.{Machine}
+use Rattle.tp_machine.specs.declared.machine.Machine.{Machine}
 use Rattle.tp_jobs.specs.Backlogs.{tray_of}
 use Rattle.tp_jobs.specs.declared.parts.WaitingCopy.{WaitingCopy}
 use Rattle.tp_schedule.specs.Planning.Deed.{replied}
 use Rattle.tp_schedule.specs.declared.parts.Plan.{Plan}
 use Rattle.tp_schedule.specs.declared.parts.Reply.{Reply}
-use Rattle.tp_schedule.specs.declared.recording.Record.{Record}
-use Rattle.tp_schedule.specs.declared.recording.Record.TheVariants.{FullUp}
+use Rattle.tp_schedule.specs.declared.records.Record.{Record}
+use Rattle.tp_schedule.specs.declared.records.Record.TheVariants.{FullUp}
 use Rattle.tp_turn.specs.Answering.{told_of_reply}
 use Rattle.tp_turn.specs.Asking.{AsksInTurn, ask_waiting, passed_after, state_after_reply}
 use Rattle.tp_turn.specs.Labels.{label}

@@ -6,7 +6,7 @@ use Rattle.std.proofs.lemmas.Bool.{not-true}
 use Rattle.std.proofs.lemmas.Bool.Decides.{nat_tests}
 use Rattle.std.proofs.lemmas.List.Elements.{All-head, All-tail, All-contains}
 use Rattle.tp_machine.proofs.Lists.{All-from_none}
-use Rattle.tp_machine.specs.declared.whole.Machine.{Machine}
+use Rattle.tp_machine.specs.declared.machine.Machine.{Machine}
 use Rattle.tp_jobs.specs.declared.parts.WaitingCopy.{WaitingCopy}
 use Rattle.tp_schedule.specs.Answers.{IsAlternative, unmoved}
 use Rattle.tp_schedule.specs.Plans.{is_before, is_front, is_same_copy, without}

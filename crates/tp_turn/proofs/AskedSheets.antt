@@ -1,7 +1,7 @@
 -- A copy that waits is planned as the first of its line: the same copies are open, so that each sheet keeps its own.
 use Rattle.std.proofs.Common.{◌≡◌, ℕ, ◌-◌, ◌<◌, inl, inr, Bool, true, false, not, List, map, refl, sym, ap, ◌∙◌, All, Contains, IsTrue, subst}
 use Rattle.std.proofs.lemmas.List.Elements.{All-filter, All-contains, Contains-append_cases, Contains-append_left, Contains-append_right}
-use Rattle.tp_machine.specs.declared.whole.Machine.{Machine}
+use Rattle.tp_machine.specs.declared.machine.Machine.{Machine}
 use Rattle.tp_jobs.specs.declared.parts.WaitingCopy.{WaitingCopy}
 use Rattle.tp_jobs.specs.Waiting.{without_waiting}
 use Rattle.tp_schedule.specs.Plans.{is_same_copy}

@@ -2,7 +2,7 @@
 use Rattle.std.proofs.Common.{◌≡◌, true, List, [], ◌∷◌, refl, codes}
 use Rattle.tp_schedule.specs.declared.parts.Plan.{Plan}
 use Rattle.tp_schedule.specs.declared.parts.Reply.TheVariants.{Planned}
-use Rattle.tp_schedule.specs.declared.recording.Record.TheVariants.{Plan as TellsPlan, Move, Release, Done, Lost, Recall, Withdraw, Purge, Broken, Drop}
+use Rattle.tp_schedule.specs.declared.records.Record.TheVariants.{Plan as TellsPlan, Move, Release, Done, Lost, Recall, Withdraw, Purge, Broken, Drop}
 use Rattle.tp_script.specs.declared.event.Event.TheVariants.{Job as NewJob, Clock, Jam}
 use Rattle.tp_turn.specs.States.{SessionState, empty_state, none_out}
 use Rattle.tp_turn.proofs.Machines.{duo, twin, act, mono_sheet, blank_sheet}

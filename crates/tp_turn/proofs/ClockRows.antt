@@ -3,9 +3,9 @@ use Rattle.std.proofs.Common.{◌≡◌, List, [], ◌∷◌, refl, codes}
 use Rattle.tp_machine.specs.Modes.{gap_at}
 use Rattle.tp_schedule.specs.declared.parts.Plan.{Plan}
 use Rattle.tp_schedule.specs.declared.parts.Reply.TheVariants.{Planned}
-use Rattle.tp_schedule.specs.declared.recording.Cause.TheVariants.{Back, End}
-use Rattle.tp_schedule.specs.declared.recording.Record.{Record}
-use Rattle.tp_schedule.specs.declared.recording.Record.TheVariants.{Plan as TellsPlan, Release, Done, Refused}
+use Rattle.tp_schedule.specs.declared.records.Cause.TheVariants.{Back, End}
+use Rattle.tp_schedule.specs.declared.records.Record.{Record}
+use Rattle.tp_schedule.specs.declared.records.Record.TheVariants.{Plan as TellsPlan, Release, Done, Refused}
 use Rattle.tp_script.specs.declared.event.Event.TheVariants.{Job as NewJob, Clock}
 use Rattle.tp_turn.specs.States.{SessionState, empty_state, none_out}
 use Rattle.tp_turn.proofs.Machines.{duo, act, mono_sheet}

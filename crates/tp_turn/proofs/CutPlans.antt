@@ -8,7 +8,7 @@ use Rattle.tp_base.proofs.SliceFacts.{slice_get_take}
 use Rattle.tp_machine.specs.declared.parts.ActId.{ActId}
 use Rattle.tp_machine.specs.declared.parts.Sheet.{Sheet}
 use Rattle.tp_machine.specs.declared.parts.State.{State}
-use Rattle.tp_machine.specs.declared.whole.Machine.{Machine}
+use Rattle.tp_machine.specs.declared.machine.Machine.{Machine}
 use Rattle.tp_schedule.specs.Holding.{Run, runs_of, runs_from, holds_at}
 use Rattle.tp_schedule.specs.Living.{is_live, is_held_after}
 use Rattle.tp_schedule.specs.Plans.{IsTimedPlan, point}

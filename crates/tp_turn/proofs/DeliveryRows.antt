@@ -1,7 +1,7 @@
 -- What a log tells of deliveries.
 use Rattle.std.proofs.Common.{◌≡◌, ℕ, true, false, List, [], ◌∷◌, refl, codes}
-use Rattle.tp_schedule.specs.declared.recording.Cause.TheVariants.{Named}
-use Rattle.tp_schedule.specs.declared.recording.Record.TheVariants.{Done, Lost, Broken, Refused}
+use Rattle.tp_schedule.specs.declared.records.Cause.TheVariants.{Named}
+use Rattle.tp_schedule.specs.declared.records.Record.TheVariants.{Done, Lost, Broken, Refused}
 use Rattle.tp_script.specs.declared.event.Event.TheVariants.{Job as NewJob, Clock, Jam}
 use Rattle.tp_turn.specs.Logs.{Entry}
 use Rattle.tp_turn.specs.Receiving.{arrivals, received, records_of, is_earlier, sheet_ref}

@@ -1,7 +1,7 @@
 -- As many copies are live as may be: none is asked, and each line is told so once.
 use Rattle.std.proofs.Common.{◌≡◌, ℕ, true, false, [], ◌∷◌, refl, codes}
 use Rattle.std.specs.Prelude.{replicate}
-use Rattle.tp_schedule.specs.declared.recording.Record.TheVariants.{FullUp}
+use Rattle.tp_schedule.specs.declared.records.Record.TheVariants.{FullUp}
 use Rattle.tp_script.specs.declared.event.Event.TheVariants.{Clock}
 use Rattle.tp_turn.specs.States.{SessionState, none_out}
 use Rattle.tp_turn.specs.Asking.{is_full}

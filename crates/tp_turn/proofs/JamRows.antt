@@ -2,8 +2,8 @@
 use Rattle.std.proofs.Common.{◌≡◌, [], ◌∷◌, refl, codes}
 use Rattle.tp_schedule.specs.declared.parts.Plan.{Plan}
 use Rattle.tp_schedule.specs.declared.parts.Reply.TheVariants.{Planned}
-use Rattle.tp_schedule.specs.declared.recording.Cause.TheVariants.{Out, NotOn}
-use Rattle.tp_schedule.specs.declared.recording.Record.TheVariants.{Plan as TellsPlan, Lost, Again, Refused}
+use Rattle.tp_schedule.specs.declared.records.Cause.TheVariants.{Out, NotOn}
+use Rattle.tp_schedule.specs.declared.records.Record.TheVariants.{Plan as TellsPlan, Lost, Again, Refused}
 use Rattle.tp_script.specs.declared.event.Event.TheVariants.{Jam, Off, On}
 use Rattle.tp_turn.specs.States.{SessionState, none_out}
 use Rattle.tp_turn.proofs.Machines.{duo, act, mono_sheet}

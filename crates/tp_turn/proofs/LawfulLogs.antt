@@ -1,7 +1,7 @@
 -- The schedule of a lawful log is legal, past included.
 use Rattle.std.proofs.Common.{ℕ, Bool, List, [], ◌∷◌, sym, subst, arith}
 use Rattle.std.proofs.lemmas.List.Elements.{All-nil}
-use Rattle.tp_machine.specs.declared.whole.Machine.{Machine}
+use Rattle.tp_machine.specs.declared.machine.Machine.{Machine}
 use Rattle.tp_script.specs.declared.event.Event.{Event}
 use Rattle.tp_schedule.specs.Legality.{IsLegal, EndsBefore}
 use Rattle.tp_schedule.specs.Plans.{IsTimedPlan, IsEarlier}

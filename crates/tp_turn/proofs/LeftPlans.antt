@@ -5,7 +5,7 @@ use Rattle.std.specs.Prelude.{IsFalse}
 use Rattle.std.proofs.lemmas.List.{length-append, length-map}
 use Rattle.std.proofs.lemmas.List.Elements.{All-nil, All-cons, All-head, All-tail, filter-append}
 use Rattle.std.proofs.lemmas.List.Sums.{length-filter}
-use Rattle.tp_machine.specs.declared.whole.Machine.{Machine}
+use Rattle.tp_machine.specs.declared.machine.Machine.{Machine}
 use Rattle.tp_schedule.specs.Answers.{KeepsFloors, KeepsHorizon}
 use Rattle.tp_schedule.specs.Holding.{Run, runs, runs_of, held, hold_of, holds_at, IsHeldIn}
 use Rattle.tp_schedule.specs.Legality.{IsLegal, EndsBefore}

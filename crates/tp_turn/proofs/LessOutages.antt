@@ -1,6 +1,6 @@
 -- Breaks, fall-backs and outages leave less of a schedule, at the same moment: so it can be planned on, and no more is live.
 use Rattle.std.proofs.Common.{◌≡◌, ℕ, ◌≤◌, Bool, true, false, cond, ◌&&◌, not, List, [], ◌∷◌, refl, sym, ◌∙◌, subst}
-use Rattle.tp_machine.specs.declared.whole.Machine.{Machine}
+use Rattle.tp_machine.specs.declared.machine.Machine.{Machine}
 use Rattle.tp_schedule.specs.Living.{live_count}
 use Rattle.tp_schedule.specs.Planning.{CanPlanOn}
 use Rattle.tp_schedule.specs.Plans.{IsTimedPlan}

@@ -1,6 +1,6 @@
 -- One answer more at the end of the loop's list.
 use Rattle.std.proofs.Common.{◌≡◌, List, [], ◌∷◌, ◌++◌, refl, sym, ap, subst, ◌∙◌, append_assoc, append-nil}
-use Rattle.tp_machine.specs.declared.whole.Machine.{Machine}
+use Rattle.tp_machine.specs.declared.machine.Machine.{Machine}
 use Rattle.tp_schedule.specs.Planning.Deed.{replied}
 use Rattle.tp_turn.specs.States.{SessionState}
 use Rattle.tp_turn.specs.Answering.{Answer}

@@ -11,7 +11,7 @@ use Rattle.std.proofs.lemmas.Slice.Eq.{bytes_eq-Decides}
 use Rattle.tp_base.proofs.SliceFacts.{slice_get_left}
 use Rattle.tp_machine.specs.Rules.{is_among}
 use Rattle.tp_machine.specs.declared.parts.LocId.{LocId}
-use Rattle.tp_machine.specs.declared.whole.Machine.{Machine}
+use Rattle.tp_machine.specs.declared.machine.Machine.{Machine}
 use Rattle.tp_jobs.specs.declared.parts.Job.{Job}
 use Rattle.tp_jobs.specs.declared.parts.WaitingCopy.{WaitingCopy}
 use Rattle.tp_schedule.specs.Plans.{is_before, is_same_copy}

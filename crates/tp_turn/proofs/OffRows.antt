@@ -3,7 +3,7 @@
 use Rattle.std.proofs.Common.{◌≡◌, List, [], ◌∷◌, refl, codes, Some, None}
 use Rattle.tp_schedule.specs.declared.parts.Plan.{Plan}
 use Rattle.tp_schedule.specs.declared.parts.Reply.TheVariants.{Planned, Never as NoWay}
-use Rattle.tp_schedule.specs.declared.recording.Record.TheVariants.{Plan as TellsPlan, Move, Never, Release, Lost, Recall, Withdraw, Cut, Purge, Again, Stuck}
+use Rattle.tp_schedule.specs.declared.records.Record.TheVariants.{Plan as TellsPlan, Move, Never, Release, Lost, Recall, Withdraw, Cut, Purge, Again, Stuck}
 use Rattle.tp_script.specs.declared.event.Event.TheVariants.{Job as NewJob, Clock, Off}
 use Rattle.tp_turn.specs.States.{SessionState, empty_state, none_out}
 use Rattle.tp_turn.proofs.Machines.{duo, act, mono_sheet}

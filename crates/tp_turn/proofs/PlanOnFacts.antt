@@ -4,7 +4,7 @@ use Rattle.std.specs.List.{list_any}
 use Rattle.std.proofs.lemmas.Bool.Decides.{nat_tests}
 use Rattle.std.proofs.lemmas.List.Elements.{All-contains}
 use Rattle.tp_machine.specs.declared.parts.ActId.{ActId}
-use Rattle.tp_machine.specs.declared.whole.Machine.{Machine}
+use Rattle.tp_machine.specs.declared.machine.Machine.{Machine}
 use Rattle.tp_schedule.specs.Holding.{Run, runs_from}
 use Rattle.tp_schedule.specs.Planning.{CanPlanOn, last_tick}
 use Rattle.tp_schedule.specs.Plans.{IsTimedPlan, IsEarlier, EndsIn, is_front, is_same_copy, is_before, change_plan, point}

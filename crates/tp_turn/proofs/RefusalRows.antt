@@ -1,7 +1,7 @@
 -- Refused events: the first cause of the table, and the state as it was.
 use Rattle.std.proofs.Common.{◌≡◌, [], ◌∷◌, refl, codes, Some, None}
-use Rattle.tp_schedule.specs.declared.recording.Cause.TheVariants.{Syntax, Tray as NoTray, Media, Named, Waiting, Module, Out, NotOn}
-use Rattle.tp_schedule.specs.declared.recording.Record.TheVariants.{Refused}
+use Rattle.tp_schedule.specs.declared.records.Cause.TheVariants.{Syntax, Tray as NoTray, Media, Named, Waiting, Module, Out, NotOn}
+use Rattle.tp_schedule.specs.declared.records.Record.TheVariants.{Refused}
 use Rattle.tp_script.specs.declared.event.Event.TheVariants.{Bad, Job as NewJob, Jam, Off, On}
 use Rattle.tp_turn.specs.States.{empty_state}
 use Rattle.tp_turn.specs.Refusals.{refusal}

@@ -9,7 +9,7 @@ use Rattle.tp_schedule.specs.declared.parts.Goal.TheVariants.{Tray, Purge as ToP
 use Rattle.tp_schedule.specs.declared.parts.Kind.TheVariants.{Whole, Front}
 use Rattle.tp_schedule.specs.declared.parts.Plan.{Plan}
 use Rattle.tp_schedule.specs.declared.parts.SheetId.{SheetId}
-use Rattle.tp_schedule.specs.declared.recording.SheetName.{SheetName}
+use Rattle.tp_schedule.specs.declared.records.SheetName.{SheetName}
 use Rattle.tp_jobs.specs.declared.parts.Job.{Job}
 use Rattle.tp_jobs.specs.declared.parts.WaitingCopy.{WaitingCopy}
 use Rattle.tp_turn.proofs.Machines.{loc}

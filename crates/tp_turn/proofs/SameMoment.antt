@@ -1,6 +1,6 @@
 -- The moment stays in the loop.
 use Rattle.std.proofs.Common.{◌≡◌, true, List, refl, ◌∙◌, Option, Some, None}
-use Rattle.tp_machine.specs.declared.whole.Machine.{Machine}
+use Rattle.tp_machine.specs.declared.machine.Machine.{Machine}
 use Rattle.tp_schedule.specs.declared.parts.Ask.{Ask}
 use Rattle.tp_schedule.specs.declared.parts.Goal.{Goal}
 use Rattle.tp_schedule.specs.declared.parts.Goal.TheVariants.{Tray, Purge}

@@ -1,8 +1,8 @@
 -- Rows as turns of the planner that reads its answers from a list.
 use Rattle.std.proofs.Common.{List, [], ◌∷◌, codes, Some, None}
 use Rattle.tp_schedule.specs.declared.parts.Reply.TheVariants.{Never as NoWay}
-use Rattle.tp_schedule.specs.declared.recording.Cause.TheVariants.{Back}
-use Rattle.tp_schedule.specs.declared.recording.Record.TheVariants.{Never, Lost, Cut, Stuck, Refused}
+use Rattle.tp_schedule.specs.declared.records.Cause.TheVariants.{Back}
+use Rattle.tp_schedule.specs.declared.records.Record.TheVariants.{Never, Lost, Cut, Stuck, Refused}
 use Rattle.tp_script.specs.declared.event.Event.TheVariants.{Clock, Off}
 use Rattle.tp_turn.specs.Turns.{Turn}
 use Rattle.tp_turn.proofs.ClockRows.{at_one, clock_back}

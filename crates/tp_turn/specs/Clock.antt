@@ -1,11 +1,11 @@
 -- What a move of the clock tells.
 use Rattle.std.specs.Prelude.{ℕ, ◌+◌, ◌-◌, Bool, not, ◌&&◌, nat_lt, nat_le, List, [], ◌∷◌, ◌++◌, map, flat_map, if◌then◌else◌}
-use Rattle.tp_machine.specs.declared.whole.Machine.{Machine}
+use Rattle.tp_machine.specs.declared.machine.Machine.{Machine}
 use Rattle.tp_schedule.specs.Plans.{end_of_plan, is_front}
 use Rattle.tp_schedule.specs.Holding.{Run}
 use Rattle.tp_schedule.specs.declared.parts.Plan.{Plan}
-use Rattle.tp_schedule.specs.declared.recording.Record.{Record}
-use Rattle.tp_schedule.specs.declared.recording.Record.TheVariants.{Release, Done}
+use Rattle.tp_schedule.specs.declared.records.Record.{Record}
+use Rattle.tp_schedule.specs.declared.records.Record.TheVariants.{Release, Done}
 use Rattle.tp_jobs.specs.declared.parts.Job.{Job}
 use Rattle.tp_turn.specs.declared.telling.Tell.{Tell}
 use Rattle.tp_turn.specs.declared.telling.Tell.TheVariants.{Done as TellsDone, Release as TellsRelease}

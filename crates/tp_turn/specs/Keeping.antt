@@ -2,7 +2,7 @@
 use Rattle.std.specs.Prelude.{◌≡◌, ◌≢◌, ℕ, ◌+◌, ◌<◌, ◌≤◌, Bool, true, ◌&&◌, ◌||◌, ◌==◌, nat_lt, nat_le, List, ◌++◌, length, slice_index, map, filter, count_by, All, AllPairs, Any, Contains, IsTrue, IsFalse}
 use Rattle.std.specs.List.{list_any, list_all}
 use Rattle.std.specs.Str.{bytes_eq}
-use Rattle.tp_machine.specs.declared.whole.Machine.{Machine}
+use Rattle.tp_machine.specs.declared.machine.Machine.{Machine}
 use Rattle.tp_schedule.specs.Answers.{KeepsFloors, KeepsHorizon, IsLeast}
 use Rattle.tp_schedule.specs.Holding.{runs_of}
 use Rattle.tp_schedule.specs.Legality.{IsLegal}

@@ -1,6 +1,6 @@
 -- Laws of turns. A law on a planner stands with the call that carries it.
 use Rattle.std.specs.Prelude.{◌≡◌, ℕ, ◌≤◌, Bool, true, false, List, [], ◌∷◌, ◌++◌, length, Option, Some, None, Contains, IsTrue, IsFalse}
-use Rattle.tp_machine.specs.declared.whole.Machine.{Machine}
+use Rattle.tp_machine.specs.declared.machine.Machine.{Machine}
 use Rattle.tp_script.specs.Form.{GroupForm}
 use Rattle.tp_script.specs.declared.event.Event.{Event}
 use Rattle.tp_script.specs.declared.event.Event.TheVariants.{Job as NewJob, Jam, Off, Clock}
@@ -9,9 +9,9 @@ use Rattle.tp_schedule.specs.Planning.{CanPlanOn, last_tick}
 use Rattle.tp_schedule.specs.Planning.Deed.{replied}
 use Rattle.tp_schedule.specs.declared.parts.Ask.{Ask}
 use Rattle.tp_schedule.specs.declared.parts.Plan.{Plan}
-use Rattle.tp_schedule.specs.declared.recording.Cause.{Cause}
-use Rattle.tp_schedule.specs.declared.recording.Record.{Record}
-use Rattle.tp_schedule.specs.declared.recording.Record.TheVariants.{Refused}
+use Rattle.tp_schedule.specs.declared.records.Cause.{Cause}
+use Rattle.tp_schedule.specs.declared.records.Record.{Record}
+use Rattle.tp_schedule.specs.declared.records.Record.TheVariants.{Refused}
 use Rattle.tp_turn.specs.States.{SessionState}
 use Rattle.tp_turn.specs.Answering.{Answer}
 use Rattle.tp_turn.specs.Clock.{clock_move, released_until}

@@ -1,7 +1,7 @@
 -- Lawful logs: runs of turns from the empty state, in which every answer is right.
 use Rattle.std.specs.Prelude.{◌≡◌, ℕ, Bool, List, [], ◌∷◌, map}
 use Rattle.std.specs.Bool.{MatchBool}
-use Rattle.tp_machine.specs.declared.whole.Machine.{Machine}
+use Rattle.tp_machine.specs.declared.machine.Machine.{Machine}
 use Rattle.tp_script.specs.declared.event.Event.{Event}
 use Rattle.tp_schedule.specs.Plans.{plan_of, end_of_plan}
 use Rattle.tp_schedule.specs.Planning.{Deed}
@@ -10,7 +10,7 @@ use Rattle.tp_schedule.specs.declared.parts.Ask.{Ask}
 use Rattle.tp_schedule.specs.declared.parts.Plan.{Plan}
 use Rattle.tp_schedule.specs.declared.parts.Reply.{Reply}
 use Rattle.tp_schedule.specs.declared.parts.Reply.TheVariants.{Planned, Never, Spent}
-use Rattle.tp_schedule.specs.declared.recording.Record.{Record}
+use Rattle.tp_schedule.specs.declared.records.Record.{Record}
 use Rattle.std.specs.Prelude.{Some}
 use Rattle.tp_turn.specs.States.{SessionState, empty_state}
 use Rattle.tp_turn.specs.Planners.{PlannerSteps, IsRight}

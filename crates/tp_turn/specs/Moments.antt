@@ -4,7 +4,7 @@ use Rattle.std.specs.List.{list_any}
 use Rattle.tp_machine.specs.Using.{action_at, uses_module}
 use Rattle.tp_machine.specs.declared.parts.ActId.{ActId}
 use Rattle.tp_machine.specs.declared.parts.Action.{Action}
-use Rattle.tp_machine.specs.declared.whole.Machine.{Machine}
+use Rattle.tp_machine.specs.declared.machine.Machine.{Machine}
 use Rattle.tp_schedule.specs.Plans.{cut_to, point, is_front}
 use Rattle.tp_schedule.specs.Holding.{Run, runs_of}
 use Rattle.tp_schedule.specs.declared.parts.Goal.{Goal}

@@ -1,9 +1,9 @@
 -- A module goes out: a jam loses the copies that run on it. Others that are to run on it are withdrawn where they have
 -- not started, and cut where they are in flight. Then each displaced copy falls back.
 use Rattle.std.specs.Prelude.{ℕ, Bool, true, false, not, ◌&&◌, List, [], ◌∷◌, ◌++◌, flat_map, if◌then◌else◌}
-use Rattle.tp_machine.specs.declared.whole.Machine.{Machine}
+use Rattle.tp_machine.specs.declared.machine.Machine.{Machine}
 use Rattle.tp_schedule.specs.declared.parts.Plan.{Plan}
-use Rattle.tp_schedule.specs.declared.recording.Record.{Record}
+use Rattle.tp_schedule.specs.declared.records.Record.{Record}
 use Rattle.tp_turn.specs.States.{SessionState, Outcome, and_then, for_each}
 use Rattle.tp_machine.specs.Using.{put_out}
 use Rattle.tp_turn.specs.Moments.{is_unstarted, is_to_tray, is_running_on, is_to_run_on}

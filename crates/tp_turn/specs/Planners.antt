@@ -1,11 +1,11 @@
 -- The loop and the settling, over any planner. A planner is known by a relation: how its deeds lead it on, and how it stops.
 use Rattle.std.specs.Prelude.{◌≡◌, ℕ, Bool, List, [], ◌∷◌, ◌++◌, Some, None}
-use Rattle.tp_machine.specs.declared.whole.Machine.{Machine}
+use Rattle.tp_machine.specs.declared.machine.Machine.{Machine}
 use Rattle.tp_schedule.specs.Planning.{Deed, Due, IsAnswer, IsSettled}
 use Rattle.tp_schedule.specs.Planning.Deed.{replied, settled}
 use Rattle.tp_schedule.specs.declared.parts.Ask.{Ask}
 use Rattle.tp_schedule.specs.declared.parts.Plan.{Plan}
-use Rattle.tp_schedule.specs.declared.recording.Record.{Record}
+use Rattle.tp_schedule.specs.declared.records.Record.{Record}
 use Rattle.tp_turn.specs.States.{SessionState}
 use Rattle.tp_turn.specs.Answering.{Answer, moves}
 use Rattle.tp_turn.specs.Outages.{outage}

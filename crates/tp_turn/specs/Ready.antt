@@ -1,6 +1,6 @@
 -- When a state can take any event: what a turn needs, and keeps.
 use Rattle.std.specs.Prelude.{ℕ, ◌<◌, ◌≤◌, ◌-◌, List, length, All, IsTrue, IsFalse}
-use Rattle.tp_machine.specs.declared.whole.Machine.{Machine}
+use Rattle.tp_machine.specs.declared.machine.Machine.{Machine}
 use Rattle.tp_schedule.specs.Living.{is_live}
 use Rattle.tp_schedule.specs.Planning.{last_tick}
 use Rattle.tp_schedule.specs.Plans.{is_front, point}

@@ -1,7 +1,7 @@
 -- The state that a schedule, jobs, waiting copies and modules show at a moment where no copy is loose.
 use Rattle.std.specs.Prelude.{ℕ, ◌+◌, ◌^◌, ◌<◌, ◌≤◌, List, map, filter, All, IsFalse}
 use Rattle.tp_machine.specs.declared.parts.Outs.{Outs}
-use Rattle.tp_machine.specs.declared.whole.Machine.{Machine}
+use Rattle.tp_machine.specs.declared.machine.Machine.{Machine}
 use Rattle.tp_schedule.specs.Planning.{IsKnownGoal}
 use Rattle.tp_schedule.specs.Plans.{AreNamed, is_front, point}
 use Rattle.tp_schedule.specs.declared.parts.Plan.{Plan}

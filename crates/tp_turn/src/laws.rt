@@ -1,6 +1,6 @@
 // What holds of turns. The calls do nothing: their contracts are the laws.
 ghost use Rattle.std.specs.Prelude.{[]};
-ghost use Rattle.tp_machine.specs.declared.whole.Machine.{Machine};
+ghost use Rattle.tp_machine.specs.declared.machine.Machine.{Machine};
 ghost use Rattle.tp_turn.specs.Keeping.{KeepsState, IsLeastAt};
 ghost use Rattle.tp_turn.specs.Laws.{LoopStateGoesOn, LoopRecordsGoOn, LoopGoesOn};
 ghost use Rattle.tp_turn.specs.Laws.{RefusedChangesNothing, RefusalsAreTold};

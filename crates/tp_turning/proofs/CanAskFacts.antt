@@ -10,7 +10,7 @@ use Rattle.std.proofs.lemmas.Option.{get_or_from_slice_get}
 use Rattle.std.proofs.lemmas.Slice.Eq.{bytes_eq-Decides}
 use Rattle.tp_base.proofs.SliceFacts.{All-at, found}
 use Rattle.tp_machine.proofs.Lists.{All-from_none}
-use Rattle.tp_machine.specs.declared.whole.Machine.{Machine}
+use Rattle.tp_machine.specs.declared.machine.Machine.{Machine}
 use Rattle.tp_schedule.proofs.CopyFacts.{before-asym}
 use Rattle.tp_schedule.proofs.Membership.{All-from_contains, Contains-filter}
 use Rattle.tp_schedule.specs.Living.{is_live, live_count}

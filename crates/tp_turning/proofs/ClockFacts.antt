@@ -10,15 +10,15 @@ use Rattle.std.proofs.lemmas.List.Elements.{All-append, All-cons, All-filter, Al
 use Rattle.tp_base.proofs.SliceFacts.{found}
 use Rattle.tp_machine.specs.Machines.{IsLocation, IsMachine}
 use Rattle.tp_machine.specs.declared.parts.ActId.{ActId}
-use Rattle.tp_machine.specs.declared.whole.Machine.{Machine}
+use Rattle.tp_machine.specs.declared.machine.Machine.{Machine}
 use Rattle.tp_schedule.specs.Holding.{runs_from, runs_of}
 use Rattle.tp_schedule.specs.Living.{is_live}
 use Rattle.tp_schedule.proofs.Membership.{All-from_contains, Contains-filter_from}
 use Rattle.tp_schedule.specs.Plans.{IsTimedPlan}
 use Rattle.tp_schedule.specs.declared.parts.Plan.{Plan}
 use Rattle.tp_schedule.specs.declared.parts.SheetId.{SheetId}
-use Rattle.tp_schedule.specs.declared.recording.Record.{Record}
-use Rattle.tp_schedule.specs.declared.recording.Record.TheVariants.{Refused}
+use Rattle.tp_schedule.specs.declared.records.Record.{Record}
+use Rattle.tp_schedule.specs.declared.records.Record.TheVariants.{Refused}
 use Rattle.tp_jobs.specs.declared.parts.Job.{Job}
 use Rattle.tp_turn.proofs.ListFacts.{All-both}
 use Rattle.tp_turn.proofs.MovedClock.{lines-clock, older-clock}

@@ -8,7 +8,7 @@ use Rattle.tp_machine.specs.Using.{action_at, tick_of}
 use Rattle.tp_machine.specs.declared.parts.Action.{Action}
 use Rattle.tp_machine.specs.declared.parts.Anchor.{Anchor}
 use Rattle.tp_machine.specs.declared.parts.Anchor.TheVariants.{Start, End}
-use Rattle.tp_machine.specs.declared.whole.Machine.{Machine}
+use Rattle.tp_machine.specs.declared.machine.Machine.{Machine}
 use Rattle.tp_schedule.specs.Answers.{IsLeast, IsRetimed}
 use Rattle.tp_schedule.specs.Planning.{CanPlanOn, none_exempt}
 use Rattle.tp_schedule.specs.Plans.{is_before, is_front, is_same_copy, plan_of, point}

@@ -1,6 +1,6 @@
 -- Each event's own part leaves a state that can take any event, with copy numbers that are one greater at the most.
 use Rattle.std.proofs.Common.{◌≡◌, ℕ, ◌+◌, List, length, None, arith}
-use Rattle.tp_machine.specs.declared.whole.Machine.{Machine}
+use Rattle.tp_machine.specs.declared.machine.Machine.{Machine}
 use Rattle.tp_script.specs.Form.{GroupForm}
 use Rattle.tp_turn.proofs.ReadyTurns.{events-more, ready-job, ready-on}
 use Rattle.tp_turn.specs.Clock.{clock_move}

@@ -1,6 +1,6 @@
 -- A planner that looks at schedules through its deeds alone follows itself.
 use Rattle.std.proofs.Common.{◌≡◌, ℕ, refl, sym, subst}
-use Rattle.tp_machine.specs.declared.whole.Machine.{Machine}
+use Rattle.tp_machine.specs.declared.machine.Machine.{Machine}
 use Rattle.tp_schedule.specs.Planning.Deed.{replied, settled}
 use Rattle.tp_turn.specs.Asking.{Asks}
 use Rattle.tp_turn.specs.Planners.{PlannerSteps}

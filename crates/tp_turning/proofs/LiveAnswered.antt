@@ -1,7 +1,7 @@
 -- A right answer on the live part, joined with what is past, is right on the whole schedule, and the same is told.
 use Rattle.std.proofs.Common.{◌≡◌, ℕ, Bool, true, false, not, List, ◌++◌, map, filter, refl, sym, ap, ◌∙◌, Contains, subst}
 use Rattle.std.proofs.lemmas.Bool.{not-true, not_from_false}
-use Rattle.tp_machine.specs.declared.whole.Machine.{Machine}
+use Rattle.tp_machine.specs.declared.machine.Machine.{Machine}
 use Rattle.tp_schedule.specs.Answers.{IsAlternative, IsAsked, IsAskedFrom, IsEarliest, IsLeast, follows_front, kept_of, unmoved}
 use Rattle.tp_schedule.specs.Legality.{IsLegal}
 use Rattle.tp_schedule.specs.Living.{is_live}

@@ -7,7 +7,7 @@ use Rattle.std.proofs.lemmas.List.Elements.{All-nil, All-cons}
 use Rattle.tp_machine.specs.Modes.{gap_at}
 use Rattle.tp_machine.specs.Using.{action_at, end_of}
 use Rattle.tp_machine.specs.declared.parts.ActId.{ActId}
-use Rattle.tp_machine.specs.declared.whole.Machine.{Machine}
+use Rattle.tp_machine.specs.declared.machine.Machine.{Machine}
 use Rattle.tp_schedule.specs.Answers.{KeepsFloors}
 use Rattle.tp_schedule.specs.Holding.{Run, runs_from, runs_of, holds_of_act}
 use Rattle.tp_schedule.specs.Living.{is_live, is_held_after, ends_after}

@@ -1,7 +1,7 @@
 -- A live schedule joined with what is past: what is forgotten of it is what is past.
 use Rattle.std.proofs.Common.{◌≡◌, ℕ, ◌<◌, ◌≤◌, Bool, true, false, not, List, length, refl, sym, ◌∙◌, Contains, subst}
 use Rattle.std.proofs.lemmas.Bool.{not-true, not_from_false}
-use Rattle.tp_machine.specs.declared.whole.Machine.{Machine}
+use Rattle.tp_machine.specs.declared.machine.Machine.{Machine}
 use Rattle.tp_schedule.specs.Legality.{IsLegal}
 use Rattle.tp_schedule.specs.Living.{is_live}
 use Rattle.tp_schedule.specs.Plans.{point}

@@ -1,9 +1,9 @@
 -- The turns of modules that go out and come back.
 use Rattle.std.proofs.Common.{◌≡◌, ℕ, Bool, true, inl, inr, List, ◌∷◌, [], ◌++◌, Some, None, refl, sym, ap, ◌∙◌, subst, append_assoc}
 use Rattle.std.specs.Option.{MatchOption}
-use Rattle.tp_machine.specs.declared.whole.Machine.{Machine}
-use Rattle.tp_schedule.specs.declared.recording.Record.{Record}
-use Rattle.tp_schedule.specs.declared.recording.Record.TheVariants.{Refused}
+use Rattle.tp_machine.specs.declared.machine.Machine.{Machine}
+use Rattle.tp_schedule.specs.declared.records.Record.{Record}
+use Rattle.tp_schedule.specs.declared.records.Record.TheVariants.{Refused}
 use Rattle.tp_script.specs.declared.event.Event.{Event}
 use Rattle.tp_script.specs.declared.event.Event.TheVariants.{Bad, Job as NewJob, Clock, Jam, Off, On}
 use Rattle.tp_turn.specs.Laws.{is_outage}

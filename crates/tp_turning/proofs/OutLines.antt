@@ -1,7 +1,7 @@
 -- A module that goes out keeps lines, whoever gives right answers.
 use Rattle.std.proofs.Common.{ℕ, Bool, List}
-use Rattle.tp_machine.specs.declared.whole.Machine.{Machine}
-use Rattle.tp_schedule.specs.declared.recording.Record.{Record}
+use Rattle.tp_machine.specs.declared.machine.Machine.{Machine}
+use Rattle.tp_schedule.specs.declared.records.Record.{Record}
 use Rattle.tp_outages.proofs.OutagesKeep.{through-goes}
 use Rattle.tp_outages.specs.Through.{KeepsThrough}
 use Rattle.tp_turn.specs.Keeping.{KeepsLines}

@@ -8,7 +8,7 @@ use Rattle.tp_machine.specs.declared.parts.Action.{Action}
 use Rattle.tp_machine.specs.declared.parts.LocId.{LocId}
 use Rattle.tp_machine.specs.declared.parts.Sheet.{Sheet}
 use Rattle.tp_machine.specs.declared.parts.State.{State}
-use Rattle.tp_machine.specs.declared.whole.Machine.{Machine}
+use Rattle.tp_machine.specs.declared.machine.Machine.{Machine}
 use Rattle.tp_choices.specs.LiveParts.{less}
 use Rattle.tp_schedule.specs.Plans.{IsTimedPlan, change_plan, is_same_copy}
 use Rattle.tp_schedule.specs.Routes.{fresh, walk}

@@ -3,7 +3,7 @@ use Rattle.tp_turning.proofs.PartedChanges.{change-part}
 use Rattle.std.proofs.Common.{◌≡◌, ℕ, ◌+◌, ◌<◌, ◌≤◌, Bool, true, false, not, List, [], ◌∷◌, ◌++◌, length, filter, refl, sym, ap, ◌∙◌, arith, Contains, subst, Some, None}
 use Rattle.std.proofs.lemmas.Bool.{not_from_false}
 use Rattle.tp_machine.specs.Using.{action_at}
-use Rattle.tp_machine.specs.declared.whole.Machine.{Machine}
+use Rattle.tp_machine.specs.declared.machine.Machine.{Machine}
 use Rattle.tp_choices.proofs.Staying.{plan_of-staying}
 use Rattle.tp_choices.proofs.Unmoved.{ordered_pair}
 use Rattle.tp_choices.specs.LiveParts.{less}
@@ -20,8 +20,8 @@ use Rattle.tp_schedule.specs.declared.parts.Plan.{Plan}
 use Rattle.tp_schedule.specs.declared.parts.Reply.{Reply}
 use Rattle.tp_schedule.specs.declared.parts.Reply.TheVariants.{Planned, Never, Spent}
 use Rattle.tp_schedule.specs.declared.parts.SheetId.{SheetId}
-use Rattle.tp_schedule.specs.declared.recording.Record.{Record}
-use Rattle.tp_schedule.specs.declared.recording.Record.TheVariants.{Purge, Stuck}
+use Rattle.tp_schedule.specs.declared.records.Record.{Record}
+use Rattle.tp_schedule.specs.declared.records.Record.TheVariants.{Purge, Stuck}
 use Rattle.tp_schedule.proofs.CopyFacts.{before-other, plan_of-itself, same_copy-is}
 use Rattle.tp_schedule.proofs.Membership.{Contains-filter, Contains-filter_from, Contains-map, Contains-map_from}
 use Rattle.tp_choices.proofs.PastFacts.{past_points}

@@ -4,7 +4,7 @@ use Rattle.std.proofs.Common.{◌≡◌, ℕ, ◌<◌, inl, inr, ◌⊎◌, Bool
 use Rattle.std.specs.List.{list_any}
 use Rattle.std.proofs.lemmas.Bool.Decides.{nat_tests}
 use Rattle.std.proofs.lemmas.List.Elements.{All-contains}
-use Rattle.tp_machine.specs.declared.whole.Machine.{Machine}
+use Rattle.tp_machine.specs.declared.machine.Machine.{Machine}
 use Rattle.tp_choices.proofs.PointFacts.{point-le}
 use Rattle.tp_choices.specs.LiveParts.{less}
 use Rattle.tp_jobs.specs.Backlogs.{next_copy}
@@ -13,8 +13,8 @@ use Rattle.tp_schedule.specs.Living.{is_live}
 use Rattle.tp_schedule.specs.Plans.{IsTimedPlan, end_of_plan, is_before, point}
 use Rattle.tp_schedule.specs.declared.parts.Plan.{Plan}
 use Rattle.tp_schedule.specs.declared.parts.SheetId.{SheetId}
-use Rattle.tp_schedule.specs.declared.recording.Record.{Record}
-use Rattle.tp_schedule.specs.declared.recording.Record.TheVariants.{Again, Broken}
+use Rattle.tp_schedule.specs.declared.records.Record.{Record}
+use Rattle.tp_schedule.specs.declared.records.Record.TheVariants.{Again, Broken}
 use Rattle.tp_schedule.proofs.Membership.{Contains-here, Contains-later}
 use Rattle.tp_turn.proofs.PlanOnFacts.{running-started}
 use Rattle.tp_turn.specs.FallBacks.{Displaced, by_copy, fall_back, fall_back_unless_broken, fate_in_break, fate_in_fall_back, is_later, is_line_entering, is_on_its_way, job_break, later_fall_back, next_waits, notices_of_plans, notices_of_waiting, without_job}

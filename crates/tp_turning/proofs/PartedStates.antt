@@ -4,7 +4,7 @@ use Rattle.std.specs.List.{list_any}
 use Rattle.std.proofs.lemmas.Bool.Decides.{nat_tests}
 use Rattle.std.proofs.lemmas.List.Elements.{All-contains}
 use Rattle.std.proofs.lemmas.List.Folds.{list_any-from_Any}
-use Rattle.tp_machine.specs.declared.whole.Machine.{Machine}
+use Rattle.tp_machine.specs.declared.machine.Machine.{Machine}
 use Rattle.tp_schedule.specs.Living.{is_live}
 use Rattle.tp_schedule.specs.Planning.{CanPlanOn}
 use Rattle.tp_schedule.specs.Plans.{IsTimedPlan, end_of_plan, goes_to, is_before, is_delivered_to, is_front, is_same_copy, point}

@@ -8,7 +8,7 @@ use Rattle.std.proofs.lemmas.List.Elements.{All-contains, All-contains_itself}
 use Rattle.tp_base.proofs.SliceFacts.{All-at}
 use Rattle.tp_machine.specs.Machines.{IsLocation}
 use Rattle.tp_machine.specs.declared.parts.LocId.{LocId}
-use Rattle.tp_machine.specs.declared.whole.Machine.{Machine}
+use Rattle.tp_machine.specs.declared.machine.Machine.{Machine}
 use Rattle.tp_schedule.specs.Planning.{Deed, IsAnswer}
 use Rattle.tp_schedule.specs.Planning.Deed.{replied}
 use Rattle.tp_schedule.specs.Planning.Due.{asking}
@@ -18,8 +18,8 @@ use Rattle.tp_schedule.specs.declared.parts.Plan.{Plan}
 use Rattle.tp_schedule.specs.declared.parts.Reply.{Reply}
 use Rattle.tp_schedule.specs.declared.parts.Reply.TheVariants.{Planned, Never, Spent}
 use Rattle.tp_schedule.specs.declared.parts.SheetId.{SheetId}
-use Rattle.tp_schedule.specs.declared.recording.Record.{Record}
-use Rattle.tp_schedule.specs.declared.recording.Record.TheVariants.{FullUp}
+use Rattle.tp_schedule.specs.declared.records.Record.{Record}
+use Rattle.tp_schedule.specs.declared.records.Record.TheVariants.{FullUp}
 use Rattle.tp_jobs.specs.Backlogs.{tray_of, unmarked}
 use Rattle.tp_jobs.specs.Trying.{is_blocked, is_open, next_to_try}
 use Rattle.tp_jobs.specs.Waiting.{find_waiting}

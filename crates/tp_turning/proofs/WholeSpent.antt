@@ -2,7 +2,7 @@
 -- further on.
 use Rattle.std.proofs.Common.{◌≡◌, ◌≢◌, inl, inr, ℕ, Bool, not, List, [], ◌∷◌, map, length, refl, ap, sym, arith, AllPairs, Contains, ◌∙◌, subst, Some}
 use Rattle.std.proofs.lemmas.List.{length-map}
-use Rattle.tp_machine.specs.declared.whole.Machine.{Machine}
+use Rattle.tp_machine.specs.declared.machine.Machine.{Machine}
 use Rattle.tp_schedule.specs.Living.{is_live}
 use Rattle.tp_schedule.specs.Plans.{end_of_plan}
 use Rattle.tp_schedule.specs.declared.parts.Ask.{Ask}

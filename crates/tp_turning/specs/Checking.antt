@@ -1,9 +1,9 @@
 -- Which module an event names, and why the event is refused.
 use Rattle.std.specs.Prelude.{ℕ, Bool, true, false, Option, Some, None, Result, Ok, Err}
 use Rattle.tp_machine.specs.declared.parts.Outs.{Outs}
-use Rattle.tp_machine.specs.declared.whole.Machine.{Machine}
-use Rattle.tp_schedule.specs.declared.recording.Cause.{Cause}
-use Rattle.tp_schedule.specs.declared.recording.Cause.TheVariants.{Module, Out, NotOn}
+use Rattle.tp_machine.specs.declared.machine.Machine.{Machine}
+use Rattle.tp_schedule.specs.declared.records.Cause.{Cause}
+use Rattle.tp_schedule.specs.declared.records.Cause.TheVariants.{Module, Out, NotOn}
 use Rattle.tp_script.specs.declared.event.Event.{Event}
 use Rattle.tp_script.specs.declared.event.Event.TheVariants.{Bad, Job as NewJob, Clock, Jam, Off, On}
 use Rattle.tp_turn.specs.Refusals.{jam_refusal, module_of, off_refusal, on_refusal}

@@ -1,9 +1,9 @@
 -- The turns of events, as calls give them.
 use Rattle.std.specs.Prelude.{◌≡◌, List, ◌++◌, ℕ, [], ◌∷◌}
 use Rattle.std.specs.Option.{MatchOption}
-use Rattle.tp_machine.specs.declared.whole.Machine.{Machine}
-use Rattle.tp_schedule.specs.declared.recording.Record.{Record}
-use Rattle.tp_schedule.specs.declared.recording.Record.TheVariants.{Refused}
+use Rattle.tp_machine.specs.declared.machine.Machine.{Machine}
+use Rattle.tp_schedule.specs.declared.records.Record.{Record}
+use Rattle.tp_schedule.specs.declared.records.Record.TheVariants.{Refused}
 use Rattle.tp_script.specs.declared.event.Event.{Event}
 use Rattle.tp_script.specs.declared.event.Event.TheVariants.{Clock}
 use Rattle.tp_turn.specs.Asking.{Asks}

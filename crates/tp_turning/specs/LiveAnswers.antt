@@ -1,6 +1,6 @@
 -- Right answers and settled times on the live part of a schedule are those on the whole, and back.
 use Rattle.std.specs.Prelude.{◌≡◌, ℕ, not, List, filter, Contains, IsTrue, IsFalse}
-use Rattle.tp_machine.specs.declared.whole.Machine.{Machine}
+use Rattle.tp_machine.specs.declared.machine.Machine.{Machine}
 use Rattle.tp_schedule.specs.Answers.{IsAsked, KeepsFloors}
 use Rattle.tp_schedule.specs.Legality.{IsLegal}
 use Rattle.tp_schedule.specs.Living.{is_live}

@@ -1,6 +1,6 @@
 -- A turn on the live part of a state is one on the whole, part by part.
 use Rattle.std.specs.Prelude.{◌≡◌, ℕ, ◌≤◌, Bool, List, IsTrue}
-use Rattle.tp_machine.specs.declared.whole.Machine.{Machine}
+use Rattle.tp_machine.specs.declared.machine.Machine.{Machine}
 use Rattle.tp_schedule.specs.Answers.{IsLeast, KeepsFloors}
 use Rattle.tp_schedule.specs.Legality.{IsLegal}
 use Rattle.tp_schedule.specs.Planning.{CanPlanOn, IsAnswer, IsSettled, none_exempt}
@@ -8,7 +8,7 @@ use Rattle.tp_schedule.specs.Planning.Deed.{replied, settled}
 use Rattle.tp_schedule.specs.declared.parts.Ask.{Ask}
 use Rattle.tp_schedule.specs.declared.parts.Plan.{Plan}
 use Rattle.tp_schedule.specs.declared.parts.Reply.{Reply}
-use Rattle.tp_schedule.specs.declared.recording.Record.{Record}
+use Rattle.tp_schedule.specs.declared.records.Record.{Record}
 use Rattle.tp_script.specs.declared.event.Event.{Event}
 use Rattle.tp_script.specs.declared.event.Event.TheVariants.{Clock}
 use Rattle.tp_outages.specs.Through.{KeepsThrough}

@@ -1,7 +1,7 @@
 -- What may be told of a move of the clock.
 use Rattle.std.specs.Prelude.{◌<◌, List, length}
 use Rattle.tp_machine.specs.Machines.{IsLocation}
-use Rattle.tp_machine.specs.declared.whole.Machine.{Machine}
+use Rattle.tp_machine.specs.declared.machine.Machine.{Machine}
 use Rattle.tp_jobs.specs.declared.parts.Job.{Job}
 use Rattle.tp_telling.specs.Telling.{IsKnown}
 use Rattle.tp_turn.specs.declared.telling.Tell.{Tell}

@@ -1,6 +1,6 @@
 -- A turn on the whole state is one on its live part, part by part.
 use Rattle.std.specs.Prelude.{ℕ, Bool, List}
-use Rattle.tp_machine.specs.declared.whole.Machine.{Machine}
+use Rattle.tp_machine.specs.declared.machine.Machine.{Machine}
 use Rattle.tp_schedule.specs.Answers.{KeepsFloors}
 use Rattle.tp_schedule.specs.Legality.{IsLegal}
 use Rattle.tp_schedule.specs.Planning.{IsAnswer, IsSettled, none_exempt}
@@ -8,7 +8,7 @@ use Rattle.tp_schedule.specs.Planning.Deed.{replied, settled}
 use Rattle.tp_schedule.specs.declared.parts.Ask.{Ask}
 use Rattle.tp_schedule.specs.declared.parts.Plan.{Plan}
 use Rattle.tp_schedule.specs.declared.parts.Reply.{Reply}
-use Rattle.tp_schedule.specs.declared.recording.Record.{Record}
+use Rattle.tp_schedule.specs.declared.records.Record.{Record}
 use Rattle.tp_outages.specs.Through.{KeepsThrough}
 use Rattle.tp_turn.specs.Asking.{Asks}
 use Rattle.tp_turn.specs.Keeping.{KeepsLines, live_part}

@@ -1,7 +1,7 @@
 //! The phase of asks: the copies that wait are asked in their order, over any planner.
 
 ghost use Rattle.std.specs.Prelude.{◌≡◌, ℕ, Err, ◌+◌, ◌<◌, ◌≤◌, ◌++◌, length, IsTrue, IsSome, IsSomeAnd, IfOk, OnOk, IfErr};
-ghost use Rattle.tp_machine.specs.declared.whole.Machine.{Machine};
+ghost use Rattle.tp_machine.specs.declared.machine.Machine.{Machine};
 ghost use Rattle.tp_schedule.specs.Planning.{CanAsk, StopsOnlyWhere};
 ghost use Rattle.tp_schedule.specs.Planning.Deed.{replied};
 ghost use Rattle.tp_schedule.specs.Planning.Due.{asking};

@@ -1,6 +1,6 @@
 //! What holds of the states between events. The calls do nothing: their contracts are the laws.
 
-ghost use Rattle.tp_machine.specs.declared.whole.Machine.{Machine};
+ghost use Rattle.tp_machine.specs.declared.machine.Machine.{Machine};
 ghost use Rattle.tp_turn.specs.Ready.{CanTakeEvents};
 ghost use Rattle.tp_turn.specs.States.{empty_state};
 

@@ -7,7 +7,7 @@ mod checking;
 mod clocking;
 mod job_order;
 mod laws;
-mod living;
+mod live_part;
 mod modules;
 mod out_fault;
 mod refusing;
@@ -16,7 +16,7 @@ mod turning;
 pub use asking::MOST_LIVE;
 pub use checking::check_module;
 pub use laws::empty_state_can_begin;
-pub use living::{
+pub use live_part::{
     live_answers_hold, live_asks_hold, live_part_moves_alike, live_turns_hold, whole_answers_hold,
     whole_turns_hold,
 };

@@ -3,7 +3,7 @@
 ghost use Rattle.std.specs.Prelude.{◌≡◌, ◌++◌, ◌∷◌, [], IsSomeAnd, OnOk, IfErr};
 ghost use Rattle.tp_release.specs.Refused.{clock_cause};
 ghost use Rattle.tp_schedule.specs.declared.parts.Halt.TheVariants.{Memory as WantsMemory};
-ghost use Rattle.tp_schedule.specs.declared.recording.Record.TheVariants.{Refused};
+ghost use Rattle.tp_schedule.specs.declared.records.Record.TheVariants.{Refused};
 ghost use Rattle.tp_turn.specs.Refusals.{job_cause};
 
 use tp_jobs::JobFault;

@@ -5,7 +5,7 @@ use Rattle.std.proofs.lemmas.Option.{same_Some}
 use Rattle.tp_machine.specs.Machines.{IsLocation, IsMachine, IsOpenPlace}
 use Rattle.tp_machine.specs.declared.parts.Feeder.{Feeder}
 use Rattle.tp_machine.specs.declared.parts.State.{State}
-use Rattle.tp_machine.specs.declared.whole.Machine.{Machine}
+use Rattle.tp_machine.specs.declared.machine.Machine.{Machine}
 use Rattle.tp_machine.proofs.MachineFacts.{is_machine}
 use Rattle.tp_schedule.specs.Choices.{CanStop, Choice, ChoiceList, IsComplete, IsCompleteFrom, IsOpen, going}
 use Rattle.tp_schedule.specs.Completions.{answered}

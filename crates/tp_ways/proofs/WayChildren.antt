@@ -5,7 +5,7 @@ use Rattle.tp_machine.specs.Modes.{gap_at}
 use Rattle.tp_machine.specs.Using.{action_at}
 use Rattle.tp_machine.specs.declared.parts.HoldRule.{HoldRule}
 use Rattle.tp_machine.specs.declared.parts.State.{State}
-use Rattle.tp_machine.specs.declared.whole.Machine.{Machine}
+use Rattle.tp_machine.specs.declared.machine.Machine.{Machine}
 use Rattle.tp_schedule.proofs.Walks.{AreAllowed-head, walk_first}
 use Rattle.tp_schedule.specs.Choices.{AreWithin, Choice, IsOpen, acts_of, going, placed, put_places}
 use Rattle.tp_schedule.specs.Holding.{holds_of_act}

@@ -1,7 +1,7 @@
 -- Complete ways: they begin at a start state, and can be committed.
 use Rattle.std.proofs.Common.{◌≡◌, refl, sym, subst, IsTrue}
 use Rattle.tp_machine.specs.declared.parts.State.{State}
-use Rattle.tp_machine.specs.declared.whole.Machine.{Machine}
+use Rattle.tp_machine.specs.declared.machine.Machine.{Machine}
 use Rattle.tp_schedule.specs.Choices.{CanStop, ChoiceList, IsCompleteFrom, IsFirstState}
 use Rattle.tp_schedule.specs.Routes.{IsStartFrom}
 use Rattle.tp_schedule.specs.declared.parts.Ask.{Ask}

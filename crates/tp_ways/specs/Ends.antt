@@ -1,7 +1,7 @@
 -- What a complete way that has times comes to: an alternative.
 use Rattle.std.specs.Prelude.{ℕ, ◌≤◌, false, List, IsFalse}
 use Rattle.tp_machine.specs.declared.parts.State.{State}
-use Rattle.tp_machine.specs.declared.whole.Machine.{Machine}
+use Rattle.tp_machine.specs.declared.machine.Machine.{Machine}
 use Rattle.tp_schedule.specs.Answers.{IsAlternative, IsAsked}
 use Rattle.tp_schedule.specs.Choices.{IsComplete}
 use Rattle.tp_schedule.specs.Legality.{IsLegal}

@@ -2,7 +2,7 @@
 use Rattle.std.proofs.Common.{◌≡◌, ◌<◌, ◌++◌, ◌∷◌, ◌∙◌, [], All, AllPairs, ap, arith, sym, append_assoc, length, map, subst}
 use Rattle.tp_jobs.specs.Backlogs.{Backlog, mark_broken}
 use Rattle.tp_schedule.specs.declared.parts.SheetId.{SheetId}
-use Rattle.tp_schedule.specs.declared.recording.Record.TheVariants.{Broken}
+use Rattle.tp_schedule.specs.declared.records.Record.TheVariants.{Broken}
 use Rattle.tp_turn.specs.FallBacks.{fate_in_break}
 use Rattle.tp_turn.specs.Labels.{job_name}
 use Rattle.tp_turn.specs.Lines.{is_of_job}

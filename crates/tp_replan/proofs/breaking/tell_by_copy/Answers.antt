@@ -4,7 +4,7 @@ use Rattle.std.proofs.lemmas.List.{append-nil}
 use Rattle.std.proofs.lemmas.Option.{get_or_from_slice_get}
 use Rattle.tp_base.proofs.SliceFacts.{All-at, found}
 use Rattle.tp_schedule.specs.declared.parts.SheetId.{SheetId}
-use Rattle.tp_schedule.specs.declared.recording.Record.TheVariants.{Drop}
+use Rattle.tp_schedule.specs.declared.records.Record.TheVariants.{Drop}
 use Rattle.tp_turn.specs.Fates.{told_of}
 use Rattle.tp_turn.specs.Labels.{label}
 use Rattle.tp_turn.specs.Seen.{HasNextCopy}

@@ -5,7 +5,7 @@ use Rattle.std.proofs.lemmas.Option.{get_or_from_slice_get}
 use Rattle.tp_base.proofs.SliceFacts.{All-at}
 use Rattle.tp_schedule.specs.Holding.{Run}
 use Rattle.tp_schedule.specs.Plans.{IsFormed, point}
-use Rattle.tp_schedule.specs.declared.recording.Record.{Record}
+use Rattle.tp_schedule.specs.declared.records.Record.{Record}
 use Rattle.tp_telling.specs.Telling.{IsKnown}
 use Rattle.tp_telling.proofs.NameFacts.{acts-known}
 use Rattle.tp_turn.specs.Clock.{record_of, release_of}

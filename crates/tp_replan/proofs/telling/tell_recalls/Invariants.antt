@@ -1,6 +1,6 @@
 use Rattle.std.proofs.Common.{◌≡◌, ◌++◌, filter, map, take}
 use Rattle.tp_schedule.specs.Holding.{runs_of}
-use Rattle.tp_schedule.specs.declared.recording.Record.TheVariants.{Recall}
+use Rattle.tp_schedule.specs.declared.records.Record.TheVariants.{Recall}
 use Rattle.tp_turn.specs.Labels.{label}
 use Rattle.tp_turn.specs.Moments.{is_recalled}
 use Rattle.tp_replan.proofs.telling.tell_recalls.Given as goal

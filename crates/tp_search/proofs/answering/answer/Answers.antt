@@ -2,7 +2,7 @@ use Rattle.std.proofs.Common.{refl, subst, ◌∙◌, IsSomeAnd}
 use Rattle.tp_schedule.specs.Answers.{IsLeast, follows_front}
 use Rattle.tp_placing.specs.Writing.{IsLoadedFrom}
 use Rattle.tp_search.specs.Trials.{IsEarliestTo, IsNoPlan}
-use Rattle.tp_search.specs.declared.trying.NoPlan.TheVariants.{Never}
+use Rattle.tp_search.specs.declared.trial.NoPlan.TheVariants.{Never}
 use Rattle.tp_search.proofs.answering.answer.Goals as goal
 use Rattle.tp_search.proofs.answering.answer.Goals.{In-Err-Never}
 

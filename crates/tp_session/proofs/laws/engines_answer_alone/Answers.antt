@@ -1,7 +1,7 @@
 -- An engine's deeds on the live part of a schedule are its deeds on the whole, with their trees.
 use Rattle.std.proofs.Common.{◌≡◌, ℕ, Bool, true, false, List, [], ◌∷◌, ◌++◌, refl, ap, ◌∙◌, append_assoc}
 use Rattle.tp_bounds.specs.declared.tree.BoundTree.{BoundTree}
-use Rattle.tp_machine.specs.declared.whole.Machine.{Machine}
+use Rattle.tp_machine.specs.declared.machine.Machine.{Machine}
 use Rattle.tp_runs.specs.Runs.{tree_claims}
 use Rattle.tp_schedule.specs.Planning.{Deed}
 use Rattle.tp_schedule.specs.Planning.Deed.{replied, settled}

@@ -4,7 +4,7 @@ use Rattle.std.proofs.lemmas.Option.{slice_get_read, slice_get_within}
 use Rattle.std.proofs.lemmas.List.{length-append}
 use Rattle.tp_base.specs.Net.{Net, HasNoSolution, with_edge, HasLeast}
 use Rattle.tp_placing.specs.declared.parts.Step.{Step}
-use Rattle.tp_machine.specs.declared.whole.Machine.{Machine}
+use Rattle.tp_machine.specs.declared.machine.Machine.{Machine}
 use Rattle.tp_base.specs.declared.edges.Edge.{Edge}
 use Rattle.tp_schedule.specs.Spots.Spot.{kept}
 use Rattle.tp_placing.specs.Causes.{stop_tag}

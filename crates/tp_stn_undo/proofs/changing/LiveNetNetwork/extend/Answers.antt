@@ -7,7 +7,7 @@ use Rattle.tp_base.specs.Net.{with_point, with_edges}
 use Rattle.tp_base.specs.Kept.{net_of, KeptRefutes}
 use Rattle.tp_base.proofs.LeastFacts.{mut_items}
 use Rattle.tp_base.proofs.RisenFacts.{kept_refutes}
-use Rattle.tp_stn_undo.specs.declared.live.LiveNet.TheInside.{Inside}
+use Rattle.tp_stn_undo.specs.declared.live_net.LiveNet.TheInside.{Inside}
 use Rattle.tp_stn_undo.specs.Spots.{net_of_core, edges_of}
 use Rattle.tp_stn_undo.specs.Marks.{AreLinks, nets_of}
 use Rattle.tp_stn_undo.specs.Live.{core_in}

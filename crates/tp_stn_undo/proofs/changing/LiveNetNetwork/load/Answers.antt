@@ -1,7 +1,7 @@
 use Rattle.std.proofs.Common.{arith, length, ap, sym, refl, ◌∙◌}
 use Rattle.std.specs.Vec.{with_items}
 use Rattle.tp_base.proofs.LeastFacts.{mut_items}
-use Rattle.tp_stn_undo.specs.declared.live.LiveNet.TheInside.{Inside}
+use Rattle.tp_stn_undo.specs.declared.live_net.LiveNet.TheInside.{Inside}
 use Rattle.tp_stn_undo.specs.Marks.{nets_of}
 use Rattle.tp_stn_undo.specs.LiveState.{LiveState}
 use Rattle.tp_stn_undo.specs.Adding.{Adds}

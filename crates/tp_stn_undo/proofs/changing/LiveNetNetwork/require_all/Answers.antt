@@ -4,7 +4,7 @@ use Rattle.tp_base.specs.Net.{HasNoSolution, with_edges}
 use Rattle.tp_base.specs.Kept.{net_of}
 use Rattle.tp_base.proofs.LeastFacts.{mut_items}
 use Rattle.tp_base.proofs.RisenFacts.{kept_refutes}
-use Rattle.tp_stn_undo.specs.declared.live.LiveNet.TheInside.{Inside}
+use Rattle.tp_stn_undo.specs.declared.live_net.LiveNet.TheInside.{Inside}
 use Rattle.tp_stn_undo.specs.Spots.{lows_of, edges_of}
 use Rattle.tp_stn_undo.specs.Marks.{nets_of}
 use Rattle.tp_stn_undo.specs.LiveState.{LiveState}

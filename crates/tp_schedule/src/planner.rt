@@ -1,0 +1,60 @@
+ghost use Rattle.std.specs.Prelude.{◌≡◌, ◌≤◌, ℕ, Bool, List, IsTrue, IfOk, OnOk, IfErr, Err};
+ghost use Rattle.tp_machine.specs.declared.machine.Machine.{Machine};
+ghost use Rattle.tp_schedule.specs.declared.parts.Ask.{Ask};
+ghost use Rattle.tp_schedule.specs.declared.parts.Plan.{Plan};
+ghost use Rattle.tp_schedule.specs.Planning.{CanAsk, CanSettle, Deed, Due, IsAnswer, IsSettled, StopsOnlyWhere};
+ghost use Rattle.tp_schedule.specs.Planning.Deed.{replied, settled};
+ghost use Rattle.tp_schedule.specs.Planning.Due.{asking, settling};
+
+use crate::parts::{Ask, Halt, Reply};
+use crate::schedule::Schedule;
+use tp_base::Tick;
+use tp_machine::Machine;
+
+/// What answers asks and settles times. After a `Halt` nothing is known of the schedule.
+pub trait Planner {
+    // the machines that it serves
+    ghost serves: { Self → Machine → Bool };
+    // what no call changes of it, whatever the answer
+    ghost Lasting: { Type 0 };
+
+    ghost lasting: { Self → Lasting };
+    // how often it stopped
+    ghost stops: { Self → ℕ };
+    // what a Spent says of machine, schedule, ask and bound
+    ghost spent: { Self → Machine → List Plan → Ask → ℕ → Type 0 };
+    // how a call that did this, with the schedules before and after it, leads on to the next planner
+    ghost steps: { Self → Machine → List Plan → Deed → List Plan → Self → Type 0 };
+    // how it stops where this is due on the schedule
+    ghost stop_steps: { Self → Machine → List Plan → Due → Self → Type 0 };
+
+    fn ask(&mut self, machine: &Machine, schedule: &mut Schedule, ask: &Ask) -> Result<Reply, Halt>
+        requires served { IsTrue (serves self.old machine.now) }
+        requires can_ask { CanAsk machine.now schedule.old.plans ask.now }
+        ensures answer { IfOk result (λ reply.
+            IsAnswer (spent self.old) machine.now schedule.old.plans ask.entry.now reply
+            schedule.new.plans) }
+        ensures step { IfOk result (λ reply.
+            steps self.old machine.now schedule.old.plans (replied ask.entry.now reply)
+            schedule.new.plans self.new) }
+        ensures stopped { result ≡ Err Halt.Stopped → stop_steps self.old machine.now
+            schedule.old.plans (asking ask.entry.now) self.new }
+        ensures stops_only { IfErr result (StopsOnlyWhere (stops self.old) (stops self.new)) }
+        ensures counted { stops self.old ≤ stops self.new }
+        ensures still_serves { (other : Machine) → serves self.new other ≡ serves self.old other }
+        ensures lasts { lasting self.new ≡ lasting self.old };
+
+    fn settle(&mut self, machine: &Machine, schedule: &mut Schedule, now: Tick) -> Result<(), Halt>
+        requires served { IsTrue (serves self.old machine.now) }
+        requires can_settle { CanSettle machine.now now schedule.old.plans }
+        ensures settles { OnOk result (IsSettled machine.now now schedule.old.plans
+            schedule.new.plans) }
+        ensures step { OnOk result (steps self.old machine.now schedule.old.plans (settled now)
+            schedule.new.plans self.new) }
+        ensures stopped { result ≡ Err Halt.Stopped → stop_steps self.old machine.now
+            schedule.old.plans (settling now) self.new }
+        ensures stops_only { IfErr result (StopsOnlyWhere (stops self.old) (stops self.new)) }
+        ensures counted { stops self.old ≤ stops self.new }
+        ensures still_serves { (other : Machine) → serves self.new other ≡ serves self.old other }
+        ensures lasts { lasting self.new ≡ lasting self.old };
+}

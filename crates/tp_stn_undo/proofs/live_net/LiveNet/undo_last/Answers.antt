@@ -1,0 +1,93 @@
+use Rattle.std.proofs.Common.{arith, ◌≡◌, ◌+◌, ◌-◌, refl, length, take, ap, sym, ◌∙◌}
+use Rattle.std.specs.List.{slice_get}
+use Rattle.std.specs.Option.{option_map}
+use Rattle.std.proofs.lemmas.List.{length-map, take-map}
+use Rattle.std.proofs.lemmas.Option.{slice_get-map}
+use Rattle.tp_stn_undo.specs.declared.live_net.LiveNet.TheInside.{Inside}
+use Rattle.tp_stn_undo.specs.Marks.{core_at, nets_of}
+use Rattle.tp_stn_undo.specs.Spots.{net_of_core}
+use Rattle.tp_stn_undo.specs.Live.{past_in}
+use Rattle.tp_stn_undo.specs.LiveState.{LiveState}
+use Rattle.tp_stn_undo.proofs.ChangeFacts.{can_restore}
+use Rattle.tp_stn_undo.proofs.BackFacts.{WentBack, back_past, back_content, back_live}
+use Rattle.tp_stn_undo.proofs.live_net.LiveNet.undo_last.Goals as goal
+use Rattle.tp_stn_undo.proofs.live_net.LiveNet.undo_last.Goals.{After-restore}
+
+pub restore-requires-clause-ready : goal.restore-requires-clause-ready
+restore-requires-clause-ready c = can_restore c.self.inside c.self.invariant
+
+left : (c : After-restore) → length c.args.self.now.past - 1 ≡ length c.self.inside.saves.marks.items - 1
+left c =
+    let a = c.self.inside in
+    let v = ap (λ (s : LiveState). length s.past) c.self.view_is in
+    let l = length-map a.saves.marks.items (core_at a.saves.saved.items a.spots.items a.caps.items a.links.items) in
+    let m = length-map (past_in a) net_of_core in
+    omega arith
+
+some : (c : After-restore) → length c.self.inside.saves.marks.items - 1 + 1 ≡ length c.self.inside.saves.marks.items
+some c =
+    let a = c.self.inside in
+    let r = c.requires in
+    let v = ap (λ (s : LiveState). length s.past) c.self.view_is in
+    let l = length-map a.saves.marks.items (core_at a.saves.saved.items a.spots.items a.caps.items a.links.items) in
+    let m = length-map (past_in a) net_of_core in
+    omega arith
+
+abbrev net : (c : After-restore) → Inside
+net c = record {
+  edge_room = c.self.inside.edge_room;
+  mark_room = c.self.inside.mark_room;
+  spots = c.restore.new.spots;
+  caps = c.restore.new.caps;
+  links = c.restore.new.links;
+  heads = c.restore.new.heads;
+  working = c.self.inside.working;
+  kept = c.self.inside.kept;
+  saves = c.restore.new.saves;
+}
+
+went : (c : After-restore) → WentBack c.self.inside (net c) (length c.self.inside.saves.marks.items - 1)
+went c =
+    let e = c.restore.ensures in
+    record {
+      last = some c;
+      points_same = e.points;
+      edges_same = refl;
+      marks_same = refl;
+      working_same = refl;
+      spots = e.spots;
+      caps = e.caps;
+      links = e.links;
+      heads = e.heads;
+      saved = e.saved;
+      marks = e.marks;
+      flagged = e.flagged;
+      spots_room = e.spots_room;
+      caps_room = e.caps_room;
+      links_room = e.links_room;
+      heads_room = e.heads_room;
+      saved_room = e.saved_room;
+      marks_room = e.marks_room;
+      flags_room = e.flags_room;
+    }
+
+pub invariant_of-self : goal.invariant_of-self
+invariant_of-self c = back_live c.self.inside (net c) _ c.self.invariant (went c)
+
+pub returns-clause-content : goal.returns-clause-content
+returns-clause-content c =
+    let k = (goal.at.returns-clause-content c).After-restore in
+    let n = length c.self.inside.saves.marks.items - 1 in
+    ap (slice_get c.args.self.now.past) (left k)
+    ∙ ap (λ (s : LiveState). slice_get s.past n) (sym c.self.view_is)
+    ∙ slice_get-map net_of_core (past_in c.self.inside) n
+    ∙ ap (option_map net_of_core) (back_content c.self.inside (net k) n c.self.invariant (went k))
+
+pub returns-clause-past : goal.returns-clause-past
+returns-clause-past c =
+    let k = (goal.at.returns-clause-past c).After-restore in
+    let n = length c.self.inside.saves.marks.items - 1 in
+    ap nets_of (back_past c.self.inside (net k) n c.self.invariant (went k))
+    ∙ sym (take-map net_of_core n (past_in c.self.inside))
+    ∙ ap (λ (s : LiveState). take n s.past) c.self.view_is
+    ∙ ap (λ i. take i c.args.self.now.past) (sym (left k))
