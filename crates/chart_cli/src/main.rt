@@ -1,4 +1,4 @@
-// A picture of a log's schedule over the system's files, input and output.
+//! A picture of a log's schedule over the system's files, input and output.
 #![tactic(auto)]
 
 ghost use Rattle.std.specs.Prelude.{◌≡◌, IfOk, IsUtf8, string_bytes};

@@ -1,4 +1,4 @@
-// The board on the machine DUO, with an empty schedule.
+//! The board on the machine DUO, with an empty schedule.
 ghost use Rattle.std.specs.Prelude.{◌≡◌, ◌+◌, ◌<◌, ◌≤◌, [], length, OnOk};
 ghost use Rattle.tp_placing.specs.Standing.{IsMadeFor};
 ghost use Rattle.tp_schedule.specs.Planning.{IsOpenGoal};

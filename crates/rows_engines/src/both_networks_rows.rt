@@ -1,4 +1,4 @@
-// The same asks over the plain network and over the live one.
+//! The same asks over the plain network and over the live one.
 ghost use Rattle.std.specs.Prelude.{◌≡◌, IfOk, IsTrue, OnOk};
 ghost use Rattle.tp_schedule.specs.Planning.{CanPlanOn};
 ghost use Rattle.tp_search.specs.Engines.{is_engine_for};

@@ -1,4 +1,4 @@
-// The machines of the rows, and what is asked on DUO.
+//! The machines of the rows, and what is asked on DUO.
 ghost use Rattle.std.specs.Prelude.{◌≡◌, [], IfOk};
 ghost use Rattle.tp_placing.specs.Standing.{IsMadeFor};
 ghost use Rattle.tp_schedule.specs.Planning.{IsOpenGoal};

@@ -1,4 +1,4 @@
-// All rows on the machine DUO, over one machine, one board and one table of rooms.
+//! All rows on the machine DUO, over one machine, one board and one table of rooms.
 ghost use Rattle.std.specs.Prelude.{◌≡◌, ◌≤◌, OnOk};
 ghost use Rattle.tp_placing.specs.Standing.{IsMadeFor};
 ghost use Rattle.tp_routes.specs.Tables.{IsMadeFor as IsTableFor};

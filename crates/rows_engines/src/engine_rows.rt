@@ -1,4 +1,4 @@
-// A planner that is asked and settles on the machine DUO, and the trial of a plan.
+//! A planner that is asked and settles on the machine DUO, and the trial of a plan.
 ghost use Rattle.std.specs.Prelude.{◌≡◌, ◌<◌, ◌≤◌, [], IfOk, IsTrue, List, OnOk};
 ghost use Rattle.tp_placing.specs.Standing.{IsMadeFor};
 ghost use Rattle.tp_schedule.specs.Planning.{CanAsk, CanPlanOn, IsOpenGoal};

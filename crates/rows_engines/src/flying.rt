@@ -1,4 +1,4 @@
-// Copies in flight: what is left of a plan, and the ask for what comes behind it.
+//! Copies in flight: what is left of a plan, and the ask for what comes behind it.
 ghost use Rattle.std.specs.Prelude.{◌≡◌, ◌<◌, ◌≤◌, [], length, IfOk};
 ghost use Rattle.tp_machine.specs.declared.machine.Machine.{Machine};
 ghost use Rattle.tp_routes.specs.Tables.{IsKnownOrigin};

@@ -1,4 +1,4 @@
-// A copy in flight on the machine DUO, whose last action is planned behind its front.
+//! A copy in flight on the machine DUO, whose last action is planned behind its front.
 ghost use Rattle.std.specs.Prelude.{OnOk, IfOk};
 ghost use Rattle.tp_placing.specs.Standing.{IsMadeFor};
 ghost use Rattle.tp_routes.specs.Tables.{IsMadeFor as IsTableFor};

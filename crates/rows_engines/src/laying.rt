@@ -1,4 +1,4 @@
-// Ways that are laid on a board as they were worked by hand, and written into the schedule.
+//! Ways that are laid on a board as they were worked by hand, and written into the schedule.
 ghost use Rattle.std.specs.Prelude.{◌≡◌, ◌+◌, ◌<◌, ◌≤◌, [], length, IsTrue, IsSomeAnd, IfOk, OnOk};
 ghost use Rattle.tp_placing.specs.Boards.{past_of, suffix_of};
 ghost use Rattle.tp_placing.specs.Calls.{CanGoOn, IsSameLoad};

@@ -1,4 +1,4 @@
-// Plans that are committed on the machine DUO, one after the other.
+//! Plans that are committed on the machine DUO, one after the other.
 ghost use Rattle.std.specs.Prelude.{◌≡◌, ◌≤◌, [], length, IfOk, OnOk};
 ghost use Rattle.tp_placing.specs.Standing.{IsMadeFor};
 ghost use Rattle.tp_routes.specs.Tables.{AreRooms, IsMadeFor as IsTableFor};

@@ -1,4 +1,4 @@
-// Asking a network and taking it back.
+//! Asking a network and taking it back.
 ghost use Rattle.std.specs.Prelude.{◌≡◌, ℕ, ◌<◌, ◌≤ℤ◌, pos, negsuc, length, IsTrue, IsFalse};
 ghost use Rattle.tp_base.specs.Net.{HasLeast, HasNoSolution, with_edge};
 

@@ -1,4 +1,4 @@
-// Why the second of two sheets can't be where it is refused on the machine DUO, by name.
+//! Why the second of two sheets can't be where it is refused on the machine DUO, by name.
 ghost use Rattle.std.specs.Prelude.{OnOk};
 ghost use Rattle.tp_placing.specs.Standing.{IsMadeFor};
 ghost use Rattle.tp_routes.specs.Tables.{IsMadeFor as IsTableFor};

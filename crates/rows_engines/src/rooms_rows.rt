@@ -1,4 +1,4 @@
-// Rooms on the machines of the rows: how soon a sheet can be where it is.
+//! Rooms on the machines of the rows: how soon a sheet can be where it is.
 ghost use Rattle.std.specs.Prelude.{◌≡◌, ◌<◌, IfOk, length};
 ghost use Rattle.tp_routes.specs.Tables.{IsMadeFor};
 

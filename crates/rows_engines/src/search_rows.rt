@@ -1,4 +1,4 @@
-// Asks on the machine DUO that are answered by a search: how soon, where engines are out, and with few nodes.
+//! Asks on the machine DUO that are answered by a search: how soon, where engines are out, and with few nodes.
 ghost use Rattle.std.specs.Prelude.{◌≡◌, ◌≤◌, [], IfOk, OnOk};
 ghost use Rattle.tp_placing.specs.Standing.{IsMadeFor};
 ghost use Rattle.tp_schedule.specs.Planning.{CanPlanOn, IsOpenGoal};

@@ -1,4 +1,4 @@
-// What a board tells of a refusal, by name.
+//! What a board tells of a refusal, by name.
 ghost use Rattle.std.specs.Prelude.{◌≡◌, ◌<◌, IfOk, Some, IsSome, length, map};
 ghost use Rattle.tp_machine.specs.declared.machine.Machine.{Machine};
 ghost use Rattle.tp_placing.specs.Boards.{suffix_of};

@@ -1,4 +1,4 @@
-// Moves of the clock on a schedule of one plan: what is told, and whether the plan stays.
+//! Moves of the clock on a schedule of one plan: what is told, and whether the plan stays.
 ghost use Rattle.std.specs.Prelude.{◌≡◌, ◌≤◌, [], IfOk, OnOk};
 ghost use Rattle.tp_placing.specs.Standing.{IsMadeFor};
 ghost use Rattle.tp_schedule.specs.Answers.{KeepsFloors};

@@ -1,4 +1,4 @@
-// Jobs of machines: which are refused, which of their copies wait, and which is tried next.
+//! Jobs of machines: which are refused, which of their copies wait, and which is tried next.
 ghost use Rattle.std.specs.Prelude.{◌≡◌, ◌+◌, ◌<◌, ◌≤◌, ◌^◌, length, IfOk, IsSome, OnOk};
 ghost use Rattle.tp_jobs.specs.Waiting.{find_waiting};
 

@@ -1,4 +1,4 @@
-// Records of a log, and the lines that are written for them.
+//! Records of a log, and the lines that are written for them.
 ghost use Rattle.std.specs.Prelude.{◌≡◌, ◌∷◌, [], IfOk};
 ghost use Rattle.tp_log.specs.Records.{IsPrintable};
 

@@ -1,4 +1,4 @@
-// Lines of a script, and what they are read as.
+//! Lines of a script, and what they are read as.
 use std::alloc::Global;
 use std::test::Fail;
 use tp_script::{LineFault, print_event, read_line, read_printed};

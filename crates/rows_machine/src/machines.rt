@@ -1,4 +1,4 @@
-// The machines of the rows, as the files of machines/ have them.
+//! The machines of the rows, as the files of machines/ have them.
 
 pub const DUO: &str = r#"format = 1
 lead = 2

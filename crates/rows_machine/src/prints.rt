@@ -1,4 +1,4 @@
-// What is printed for a machine, and read back.
+//! What is printed for a machine, and read back.
 use crate::machines::{DUO, GAP, LINE, LOOP, TAIL, TWIN};
 use std::alloc::Global;
 use std::test::Fail;

@@ -1,4 +1,4 @@
-// Schedules of the rows, looked at tick by tick, and changed plan by plan.
+//! Schedules of the rows, looked at tick by tick, and changed plan by plan.
 ghost use Rattle.std.specs.Prelude.{◌≡◌, ◌+◌, ◌<◌, ◌≤◌, false, [], ◌∷◌, length, IfOk};
 ghost use Rattle.tp_schedule.specs.Plans.{IsFormed, is_same_copy};
 

@@ -1,4 +1,4 @@
-// Machine texts that are read, and those that are refused.
+//! Machine texts that are read, and those that are refused.
 use crate::machines::{DUO, GAP};
 use std::alloc::Global;
 use std::test::Fail;

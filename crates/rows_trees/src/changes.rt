@@ -1,5 +1,5 @@
-// Trees of worked rows on DUO, each changed in one place in every way of a kind: how many are accepted, and which flaws
-// the others have. The counts are those of a second checker, written from the same rules in another language.
+//! Trees of worked rows on DUO, each changed in one place in every way of a kind: how many are accepted, and which flaws
+//! the others have. The counts are those of a second checker, written from the same rules in another language.
 ghost use Rattle.std.specs.Prelude.{◌<◌, ◌≤◌, length, IfOk};
 ghost use Rattle.tp_schedule.specs.Plans.{IsFormed};
 

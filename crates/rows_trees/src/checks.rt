@@ -1,4 +1,4 @@
-// Trees of worked rows on DUO, checked against what is claimed of an ask.
+//! Trees of worked rows on DUO, checked against what is claimed of an ask.
 ghost use Rattle.std.specs.Prelude.{◌≡◌, ◌+◌, ◌≤◌, ◌<◌, length, IfOk};
 ghost use Rattle.tp_schedule.specs.Plans.{IsFormed};
 

@@ -1,4 +1,4 @@
-// Lines of logs with bounds, each read by itself.
+//! Lines of logs with bounds, each read by itself.
 use std::alloc::Global;
 use tp_log::{LogLine, read_log_line};
 use tp_script::LineFault;

@@ -1,4 +1,4 @@
-// A tree that is made node by node, and printed; and its lines, read one by one.
+//! A tree that is made node by node, and printed; and its lines, read one by one.
 ghost use Rattle.std.specs.Prelude.{ℕ, ◌<◌, length, All, IfOk};
 ghost use Rattle.tp_bounds.specs.declared.tree.Node.{Node};
 ghost use Rattle.tp_bounds.specs.Trees.{HasHops};

@@ -1,4 +1,4 @@
-// Whole trees, as a log with bounds shows them: read, and printed again.
+//! Whole trees, as a log with bounds shows them: read, and printed again.
 use std::alloc::Global;
 use std::test::Fail;
 use tp_bounds::{BoundTree, TreeFault, print_tree, read_tree};

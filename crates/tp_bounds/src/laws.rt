@@ -1,4 +1,4 @@
-// What holds of all bound lines and trees. The calls do nothing: their contracts are the laws.
+//! What holds of all bound lines and trees. The calls do nothing: their contracts are the laws.
 ghost use Rattle.std.specs.Prelude.{◌≡◌};
 ghost use Rattle.tp_bounds.specs.declared.line.BoundLine.{BoundLine};
 ghost use Rattle.tp_bounds.specs.declared.tree.BoundTree.{BoundTree};

@@ -1,4 +1,4 @@
-// Trees written.
+//! Trees written.
 ghost use Rattle.std.specs.Prelude.{◌≡◌, ◌++◌, flat_map, All, OnOk, OnErr};
 ghost use Rattle.tp_bounds.specs.Lines.{IsRow, IsHead, IsClose, IsNode, head_words, close_words, row_text, node_text};
 ghost use Rattle.tp_bounds.specs.Lines.{behind_spaces};

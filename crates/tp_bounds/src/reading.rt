@@ -1,4 +1,4 @@
-// Bound lines and trees read.
+//! Bound lines and trees read.
 ghost use Rattle.std.specs.Prelude.{◌≡◌, ◌+◌, ◌<◌, ◌^◌, All, length, IfOk, IfErr, MatchResult};
 ghost use Rattle.tp_words.specs.Parts.{parts_at};
 ghost use Rattle.tp_bounds.specs.declared.tree.BoundTree.{BoundTree};

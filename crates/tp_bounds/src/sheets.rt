@@ -1,4 +1,4 @@
-// Copies as words, read and written.
+//! Copies as words, read and written.
 ghost use Rattle.std.specs.Prelude.{◌≡◌, ◌++◌, OnOk};
 ghost use Rattle.tp_bounds.specs.Sheets.{IsSheet, numbers_of, sheet_of, sheet_text};
 

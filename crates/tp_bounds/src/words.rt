@@ -1,4 +1,4 @@
-// The words of bound lines read: states, points, holds and hops.
+//! The words of bound lines read: states, points, holds and hops.
 ghost use Rattle.std.specs.Prelude.{◌≡◌, ◌≤◌};
 ghost use Rattle.tp_words.specs.Fields.{begins_with};
 ghost use Rattle.tp_words.specs.Parts.{lacks};

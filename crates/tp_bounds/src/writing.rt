@@ -1,4 +1,4 @@
-// The words of bound lines written.
+//! The words of bound lines written.
 ghost use Rattle.std.specs.Prelude.{◌≡◌, ◌++◌, ◌∷◌, [], All, OnOk, decimal, map};
 ghost use Rattle.tp_bounds.specs.Lines.{behind_spaces};
 ghost use Rattle.tp_words.specs.Fields.{IsName};

@@ -1,4 +1,4 @@
-// A picture as a text.
+//! A picture as a text.
 ghost use Rattle.std.specs.Prelude.{◌≡◌, IfOk, OnOk};
 ghost use Rattle.tp_chart.specs.Pictures.{Draws};
 

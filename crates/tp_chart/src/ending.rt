@@ -1,4 +1,4 @@
-// What stands above the bars: deliveries, and the moment.
+//! What stands above the bars: deliveries, and the moment.
 use crate::bars::Bar;
 use crate::course::Course;
 use crate::frame::{Frame, HEAD};

@@ -1,4 +1,4 @@
-// Where the parts of a picture stand, in pixels and in ticks.
+//! Where the parts of a picture stand, in pixels and in ticks.
 use crate::bars::Bar;
 use crate::scene::Scene;
 use tp_machine::Machine;

@@ -1,4 +1,4 @@
-// What holds of the names in pictures. The call does nothing: its contract is the law.
+//! What holds of the names in pictures. The call does nothing: its contract is the law.
 ghost use Rattle.std.specs.Prelude.{List, ℕ};
 ghost use Rattle.tp_words.specs.Fields.{IsName};
 ghost use Rattle.tp_chart.specs.Pictures.{NeedsNoEscape};

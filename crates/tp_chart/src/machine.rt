@@ -1,4 +1,4 @@
-// The machine that the shelf has under a name.
+//! The machine that the shelf has under a name.
 ghost use Rattle.std.specs.Prelude.{◌≡◌, ◌≢◌, ◌⊎◌, ℕ, IfOk, IfErr, IfSome, IsSome, IsTrue};
 ghost use Rattle.tp_machine_text.specs.Texts.{IsBrokenAt, IsMachineText, IsNotToml};
 ghost use Rattle.tp_outside.specs.Outside.{Rises, file_at};

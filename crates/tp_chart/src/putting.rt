@@ -1,4 +1,4 @@
-// Pieces of a picture's text.
+//! Pieces of a picture's text.
 use std::alloc::AllocError;
 use tp_base::Name;
 use tp_schedule::SheetName;

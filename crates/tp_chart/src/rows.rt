@@ -1,4 +1,4 @@
-// The rows of a picture: their labels, the axis above them, and the times in which modules were out.
+//! The rows of a picture: their labels, the axis above them, and the times in which modules were out.
 use crate::frame::{Frame, HEAD, ROW};
 use crate::outage::Outage;
 use crate::putting::{put_copy, put_name};

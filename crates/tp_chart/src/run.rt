@@ -1,4 +1,4 @@
-// A run, from the words to the bytes of the picture.
+//! A run, from the words to the bytes of the picture.
 ghost use Rattle.std.specs.Prelude.{◌≡◌, ◌≢◌, ◌⊎◌, ℕ, ◌<◌, None, length, map, string_bytes, IfSome, IsFalse};
 ghost use Rattle.tp_log.specs.Logs.{IsFirstOff};
 ghost use Rattle.tp_machine_text.specs.Texts.{IsBrokenAt, IsNotToml};

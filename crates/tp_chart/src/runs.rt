@@ -1,4 +1,4 @@
-// The actions of a course with their starts and ends.
+//! The actions of a course with their starts and ends.
 ghost use Rattle.std.specs.Prelude.{◌≡◌, IfOk};
 ghost use Rattle.tp_chart.specs.Bars.{runs_from, runs_of};
 

@@ -1,4 +1,4 @@
-// A log read, its schedule drawn, and the picture written.
+//! A log read, its schedule drawn, and the picture written.
 ghost use Rattle.std.specs.Prelude.{◌≡◌, ◌⊎◌, ℕ, ◌<◌, length, IfOk, IfErr, IfSome, IsFalse, IsTrue};
 ghost use Rattle.tp_log.specs.Logs.{IsFirstOff, IsLog, log_text};
 ghost use Rattle.tp_outside.specs.Outside.{Rises};

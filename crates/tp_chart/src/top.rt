@@ -1,4 +1,4 @@
-// The top of a picture: its size and colours, its title, and the key.
+//! The top of a picture: its size and colours, its title, and the key.
 use crate::frame::{Frame, ROW};
 use crate::putting::put_name;
 use crate::scene::Scene;

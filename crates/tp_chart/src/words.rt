@@ -1,4 +1,4 @@
-// What the words of the command line ask for.
+//! What the words of the command line ask for.
 ghost use Rattle.std.specs.Prelude.{◌≡◌, IfOk, IfErr, [], Some, None, length, map, option_map, string_bytes};
 ghost use Rattle.clap.specs.Words.{app_of, found_of, fault_of, matches_of, rows_of};
 ghost use Rattle.tp_chart.specs.Words.{asked_at, asked_in, chart, chart_asked, moment_of, seen, shown, values_in, values_or_none};

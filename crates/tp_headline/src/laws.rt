@@ -1,4 +1,4 @@
-// What holds of lawful logs, and in which order things are told. The calls do nothing: their contracts are the laws.
+//! What holds of lawful logs, and in which order things are told. The calls do nothing: their contracts are the laws.
 ghost use Rattle.std.specs.Prelude.{ℕ, List, []};
 ghost use Rattle.tp_machine.specs.declared.machine.Machine.{Machine};
 ghost use Rattle.tp_schedule.specs.declared.parts.Ask.{Ask};

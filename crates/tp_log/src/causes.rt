@@ -1,4 +1,4 @@
-// Why an event is refused, read and written.
+//! Why an event is refused, read and written.
 ghost use Rattle.std.specs.Prelude.{◌≡◌, ◌++◌, ◌∷◌, OnOk};
 ghost use Rattle.std.specs.List.{flat_map};
 ghost use Rattle.tp_words.specs.Parts.{shown};

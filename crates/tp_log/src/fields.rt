@@ -1,4 +1,4 @@
-// Words of records, read and written: copies, goals and numbers.
+//! Words of records, read and written: copies, goals and numbers.
 ghost use Rattle.std.specs.Prelude.{◌≡◌, ◌++◌, ◌∷◌, OnOk};
 ghost use Rattle.tp_words.specs.Parts.{shown};
 ghost use Rattle.tp_words.specs.Fields.{name_of};

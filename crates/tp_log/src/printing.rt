@@ -1,4 +1,4 @@
-// Records written.
+//! Records written.
 ghost use Rattle.std.specs.Prelude.{◌≡◌, [], ◌++◌, ◌∷◌, OnOk, OnErr, codes, decimal};
 ghost use Rattle.tp_words.specs.Texts.{spaced};
 ghost use Rattle.tp_bounds.specs.Sheets.{sheet_text};

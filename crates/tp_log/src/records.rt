@@ -1,4 +1,4 @@
-// Records read: what the words of a line tell.
+//! Records read: what the words of a line tell.
 ghost use Rattle.std.specs.Prelude.{◌≡◌, ◌+◌, ◌<◌, ◌^◌, length};
 ghost use Rattle.tp_words.specs.Parts.{shown};
 ghost use Rattle.tp_words.specs.Fields.{name_of, two_of, five_of};

@@ -1,4 +1,4 @@
-// What a machine's rules give to the layers above.
+//! What a machine's rules give to the layers above.
 ghost use Rattle.tp_machine.specs.Machines.{IsMachine};
 
 use crate::machine::Machine;

@@ -1,4 +1,4 @@
-// What holds of all machine texts. The call does nothing: its contract is the law.
+//! What holds of all machine texts. The call does nothing: its contract is the law.
 ghost use Rattle.std.specs.Prelude.{◌≡◌, ℕ, List};
 ghost use Rattle.toml.specs.Data.{Members};
 ghost use Rattle.tp_machine.specs.declared.machine.Machine.{Machine};

@@ -1,4 +1,4 @@
-// What outages keep. The calls do nothing: their contracts are the laws.
+//! What outages keep. The calls do nothing: their contracts are the laws.
 ghost use Rattle.std.specs.Prelude.{ℕ, List};
 ghost use Rattle.tp_machine.specs.declared.machine.Machine.{Machine};
 ghost use Rattle.tp_outages.specs.Laws.{OutagesKeep, OutagesKeepLive};

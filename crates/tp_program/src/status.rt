@@ -1,4 +1,4 @@
-// How a run ended.
+//! How a run ended.
 ghost use Rattle.std.specs.Prelude.{◌≡◌};
 ghost use Rattle.tp_program.specs.Statuses.{status_number};
 

@@ -1,4 +1,4 @@
-// What holds of all rooms.
+//! What holds of all rooms.
 ghost use Rattle.tp_routes.specs.Laws.{StepsKeepRoom};
 
 /// Room of the state to which an allowed action leads is at most room of the state before it plus

@@ -1,4 +1,4 @@
-// The definitions fit one another. Each call does nothing: its contract is the law.
+//! The definitions fit one another. Each call does nothing: its contract is the law.
 ghost use Rattle.tp_schedule.specs.Laws.{OrderIsOnly, LegalWithout, OneHolderIsApart, RowIsApart, RoomIsOne, EarliestEndIsOne, StepIsComputed, AllowedIsTested, OpenLeavesRoom, RoomOpens};
 
 /// The order of a resource is the only list of its holds that is apart, and neighbours apart means all apart.

@@ -1,4 +1,4 @@
-// What holds of all lines and events. The calls do nothing: their contracts are the laws.
+//! What holds of all lines and events. The calls do nothing: their contracts are the laws.
 ghost use Rattle.std.specs.Prelude.{◌≡◌, ◌↔◌, ℕ, List, [], ◌∷◌, ◌++◌, Some};
 ghost use Rattle.tp_script.specs.declared.event.Event.{Event};
 ghost use Rattle.tp_script.specs.Script.{IsEvent, event_text, words_of_line};

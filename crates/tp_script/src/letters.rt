@@ -1,4 +1,4 @@
-// The letters of sides.
+//! The letters of sides.
 ghost use Rattle.std.specs.Prelude.{◌≡◌};
 ghost use Rattle.tp_script.specs.Reading.{face_of};
 ghost use Rattle.tp_script.specs.Script.{face_byte};

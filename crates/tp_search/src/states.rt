@@ -1,4 +1,4 @@
-// The states that a search comes to, from the goal states back.
+//! The states that a search comes to, from the goal states back.
 ghost use Rattle.std.specs.Prelude.{◌≡◌, ◌*◌, ◌<◌, IfNone, IfSome, Some, length};
 ghost use Rattle.tp_schedule.specs.Routes.{HasNoRoom, IsRoom, step_by};
 ghost use Rattle.tp_machine.specs.declared.parts.State.{State};

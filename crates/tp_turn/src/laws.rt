@@ -1,4 +1,4 @@
-// What holds of turns. The calls do nothing: their contracts are the laws.
+//! What holds of turns. The calls do nothing: their contracts are the laws.
 ghost use Rattle.std.specs.Prelude.{[]};
 ghost use Rattle.tp_machine.specs.declared.machine.Machine.{Machine};
 ghost use Rattle.tp_turn.specs.Keeping.{KeepsState, IsLeastAt};

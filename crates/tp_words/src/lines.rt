@@ -1,4 +1,4 @@
-// A text as lines, each with its LF.
+//! A text as lines, each with its LF.
 ghost use Rattle.std.specs.Prelude.{◌≡◌, ◌≢◌, ◌<◌, ℕ, List, [], ◌∷◌, ◌++◌, length, MatchOption};
 ghost use Rattle.tp_words.specs.Texts.{lines_of};
 

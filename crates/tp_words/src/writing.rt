@@ -1,4 +1,4 @@
-// Words written, each behind a space.
+//! Words written, each behind a space.
 ghost use Rattle.std.specs.Prelude.{◌≡◌, ◌++◌, ◌∷◌, OnOk, decimal};
 ghost use Rattle.tp_words.specs.Fields.{IsName};
 
