@@ -1,11 +1,11 @@
 -- One step along an edge, and steps one after another.
-use Rattle.std.proofs.Common.{Bool, true, false, nat_abs, negsuc, [], ◌∷◌, get_or, set, suc, zero, ◌≡◌, ◌≢◌, ℕ, ◌+◌, ◌<◌, ◌≤◌, List, length, slice_index, Option, Some, ℤ, pos, ◌+ℤ◌, ◌≤ℤ◌, ◌<ℤ◌, sym, refl, ap, ◌∙◌, subst, arith, cond, eqb, ◌⊎◌, inl, inr}
+use Rattle.std.proofs.Common.{Bool, nat_abs, negsuc, [], ◌∷◌, get_or, set, suc, zero, ◌≡◌, ◌≢◌, ℕ, ◌+◌, ◌<◌, ◌≤◌, List, length, slice_index, Option, Some, ℤ, pos, ◌+ℤ◌, ◌≤ℤ◌, ◌<ℤ◌, sym, refl, ap, ◌∙◌, subst, arith, cond, eqb, ◌⊎◌, inl, inr}
 use Rattle.std.proofs.lemmas.Bool.{cases_eq, eq-eqb, ne_eqb, true≢false}
 use Rattle.std.proofs.lemmas.Option.{none-some, same_Some}
 use Rattle.std.proofs.lemmas.Int.{ints}
 use Rattle.std.proofs.lemmas.List.{get_or-set_same, get_or-set_other}
-use Rattle.std.proofs.lemmas.List.Elements.{All-contains, All-weaker}
-use Rattle.std.specs.List.{All, Contains}
+use Rattle.std.proofs.lemmas.List.Elements.{All-contains}
+use Rattle.std.specs.List.{Contains}
 use Rattle.tp_base.specs.declared.edges.Edge.{Edge}
 use Rattle.tp_base.specs.Net.{Keeps}
 use Rattle.tp_base.specs.Grows.{IsCause, IsSupported, Grows, slack, Rises, PassesCap}
@@ -14,13 +14,6 @@ use Rattle.tp_base.specs.Grows.{IsCause, IsSupported, Grows, slack, Rises, Passe
 pub record Changes {X : Type 0} (f : ℕ → X) (v : ℕ) (x : X) (f' : ℕ → X) : Type 0 where
   pub at : f' v ≡ x
   pub others : (u : ℕ) → u ≢ v → f' u ≡ f u
-
-pub Grows-refl : (count : ℕ) (edges : List Edge) (t : ℕ → ℕ) (cause : ℕ → Option Edge) → Grows count edges t cause t cause
-Grows-refl count edges t cause = record {
-  supported = λ lows _ s. s;
-  rises = λ i _. omega arith;
-  below = λ y _ h. h;
-}
 
 pub Grows-trans : {count : ℕ} {edges : List Edge} {t1 t2 t3 : ℕ → ℕ} {c1 c2 c3 : ℕ → Option Edge} → Grows count edges t1 c1 t2 c2 → Grows count edges t2 c2 t3 c3 → Grows count edges t1 c1 t3 c3
 Grows-trans a b = record {
@@ -160,10 +153,6 @@ PassesCap-after caps edges t0 t1 c0 c1 c2 p n a b = record {
   passes = b.passes;
 }
 
-pub true_or_false : (b : Bool) → (b ≡ true) ⊎ (b ≡ false)
-true_or_false true = inl refl
-true_or_false false = inr refl
-
 -- for a worklist: an edge from elsewhere is still kept as a time rises
 pub still_kept : (t t' : ℕ → ℕ) (v high : ℕ) (e : Edge) → Changes t v high t' → t v ≤ high → e.from.0 ≢ v → Keeps t e → Keeps t' e
 still_kept t t' v high e d h ne k =
@@ -173,15 +162,3 @@ still_kept t t' v high e d h ne k =
       | inl p ↦ (let b = ap t' p in let c = ap t p in omega (arith, ints))
       | inr p ↦ (let b = d.others e.to.0 p in omega (arith, ints))
     ]
-
--- all edges are kept but those from points that wait
-abbrev pub KeptBut : List Edge → (ℕ → ℕ) → (ℕ → Bool) → Type 0
-KeptBut edges t waits = All (λ e. waits e.from.0 ≡ false → Keeps t e) edges
-
-pub KeptBut-step : (edges : List Edge) (t t' : ℕ → ℕ) (waits waits' : ℕ → Bool) (v high : ℕ) → Changes t v high t' → t v ≤ high → Changes waits v true waits' → KeptBut edges t waits → KeptBut edges t' waits'
-KeptBut-step edges t t' waits waits' v high d h w all =
-    All-weaker (λ (e : Edge). waits e.from.0 ≡ false → Keeps t e) (λ (e : Edge). waits' e.from.0 ≡ false → Keeps t' e) (λ e k r.
-    elim (cases_eq e.from.0 v) [
-      | inl p ↦ absurd (true≢false (sym w.at ∙ sym (ap waits' p) ∙ r))
-      | inr p ↦ still_kept t t' v high e d h p (k (sym (w.others e.from.0 p) ∙ r))
-    ]) edges all

@@ -7,7 +7,7 @@ use Rattle.std.proofs.lemmas.Bool.{cases_lt, cases_eq}
 use Rattle.std.proofs.lemmas.List.Elements.{All-head, All-tail, All-weaker}
 use Rattle.std.specs.List.{All, Contains}
 use Rattle.tp_base.specs.declared.edges.Edge.{Edge}
-use Rattle.tp_base.specs.Net.{Net, Keeps, IsLeast, HasNoSolution, with_low}
+use Rattle.tp_base.specs.Net.{Net, Keeps, IsLeast, with_low}
 use Rattle.tp_base.specs.Grows.{IsKnown, IsCause, IsSupported, Rises, PassesCap, AreWithin, cause_of}
 use Rattle.tp_base.specs.Refute.{Leads, total_weight, IsCaused, AreCauses, IsCauseChain, IsCauseCircle, IsLateChain, IsLateCircle}
 
@@ -107,14 +107,6 @@ settled_least net causes0 causes times n g within keeps = record {
   };
   least = λ y sol i h. g.below y sol.keeps sol.above_low i h;
 }
-
--- a time that has to pass its cap
-pub passed_none : (net : Net) (causes0 causes : List (Option Edge)) (p : ℕ) → PassesCap net.caps net.edges net.lows causes0 causes p → HasNoSolution net
-passed_none net causes0 causes p c y sol =
-    let a = c.grows.below y sol.keeps sol.above_low p c.known in
-    let b = sol.below_cap p c.known in
-    let d = c.passes in
-    omega arith
 
 -- the times past the cap are supported too, and so is what was kept of them
 pub passed_supported : (lows caps : List ℕ) (edges : List Edge) (causes0 causes : List (Option Edge)) (p : ℕ) → ((v : ℕ) → cause_of causes0 v ≡ None) → (k : PassesCap caps edges lows causes0 causes p) → IsSupported lows edges k.time (cause_of causes)

@@ -3,7 +3,7 @@ use Rattle.std.proofs.Common.{◌||◌, true, suc, zero, ◌≡◌, ◌≢◌, �
 use Rattle.std.proofs.lemmas.Bool.{cases_lt, ne_eqb, false≢true}
 use Rattle.std.proofs.lemmas.Option.{none-some, same_Some, slice_get_within}
 use Rattle.std.proofs.lemmas.List.{reverse-append, length-reverse, length-append, length-map, map-append, get_or-map, get_or-reverse, get_or-drop, length-drop, drop-map, take-append-drop, take_at, get_or_append_left, get_or_at, get_or_default}
-use Rattle.std.proofs.lemmas.List.Elements.{All-push, All-drop, All-nil}
+use Rattle.std.proofs.lemmas.List.Elements.{All-push, All-drop}
 use Rattle.std.proofs.lemmas.Map.Steps.{length-le_from_distinct_below}
 use Rattle.std.proofs.lemmas.Map.Keys.{IsDistinct-from_apart}
 use Rattle.std.proofs.lemmas.Bool.Decides.{eqb_tells}
@@ -11,10 +11,6 @@ use Rattle.std.specs.List.{All, slice_get, list_any}
 use Rattle.tp_base.specs.declared.edges.Edge.{Edge}
 use Rattle.tp_base.specs.Grows.{cause_of}
 use Rattle.tp_base.specs.Refute.{Leads, AreApart, ends_of, IsCaused, AreCauses, IsCauseChain, IsCauseCircle}
-
--- ---- numbers apart
-pub apart-none : AreApart []
-apart-none i j h k e = absurd (omega arith)
 
 pub apart-push : (ps : List ℕ) (x : ℕ) → AreApart ps → ((i : ℕ) → i < length ps → slice_index ps i ≢ x) → AreApart (ps ++ x ∷ [])
 apart-push ps x a n i j h k e =
@@ -83,9 +79,6 @@ pub record IsWayBack (causes : List (Option Edge)) (from : ℕ) (path : List Edg
   pub caused : All (IsCaused causes) path
   pub known : at < length causes
   pub apart : AreApart (ends_of path)
-
-pub WayBack-none : (causes : List (Option Edge)) (from : ℕ) → from < length causes → IsWayBack causes from [] from
-WayBack-none causes from h = record { back = refl; caused = All-nil (IsCaused causes); known = h; apart = apart-none }
 
 -- some edge, for what stands past a list's end
 abbrev pub no_edge : Edge

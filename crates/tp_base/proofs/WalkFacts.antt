@@ -1,9 +1,9 @@
 -- Where the points of a path of causes stand in it.
-use Rattle.std.proofs.Common.{◌≡◌, ◌≢◌, ℕ, ◌+◌, ◌-◌, ◌<◌, ◌≤◌, List, [], ◌∷◌, ◌++◌, length, slice_index, get_or, set, replicate, Some, sym, ap, ◌∙◌, arith, inl, inr}
+use Rattle.std.proofs.Common.{◌≡◌, ◌≢◌, ℕ, ◌+◌, ◌-◌, ◌<◌, ◌≤◌, List, [], ◌∷◌, ◌++◌, length, slice_index, get_or, set, Some, sym, ap, ◌∙◌, arith, inl, inr}
 use Rattle.std.proofs.lemmas.Bool.{cases_eq}
 use Rattle.std.proofs.lemmas.Option.{slice_get_within}
-use Rattle.std.proofs.lemmas.List.{length-set, length-replicate, get_or-set_same, get_or-set_other, get_or-replicate, get_or_read}
-use Rattle.std.proofs.lemmas.List.Elements.{All-nil, All-push}
+use Rattle.std.proofs.lemmas.List.{length-set, get_or-set_same, get_or-set_other, get_or_read}
+use Rattle.std.proofs.lemmas.List.Elements.{All-push}
 use Rattle.std.specs.List.{All, slice_get}
 use Rattle.tp_base.specs.declared.edges.Edge.{Edge}
 use Rattle.tp_base.proofs.SliceFacts.{slice_get_left, slice_get_last}
@@ -13,13 +13,6 @@ pub record AreMarked (count : ℕ) (places : List ℕ) (path : List Edge) : Type
   pub len : length places ≡ count
   pub free : (v : ℕ) → v < count → slice_index places v ≡ 0 → All (λ e. e.to.0 ≢ v) path
   pub held : (v k : ℕ) → v < count → slice_index places v ≡ k + 1 → (e : Edge) × (slice_get path k ≡ Some e) × (e.to.0 ≡ v)
-
-pub AreMarked-none : (count : ℕ) → AreMarked count (replicate count 0) []
-AreMarked-none count = record {
-  len = length-replicate count 0;
-  free = λ v h z. All-nil (λ e. e.to.0 ≢ v);
-  held = λ v k h s. absurd (let z : slice_index (replicate count 0) v ≡ 0 = get_or-replicate count v 0 0 h in omega arith);
-}
 
 pub AreMarked-push : (count : ℕ) (places : List ℕ) (path : List Edge) (at : ℕ) (e : Edge) → AreMarked count places path → at < count → e.to.0 ≡ at → AreMarked count (set places at (length path + 1)) (path ++ e ∷ [])
 AreMarked-push count places path at e m known to =

@@ -79,9 +79,6 @@ module _ (machine : Machine) (now : ℕ) (gone : SheetId → Bool) (plans new : 
   abbrev t' : Ticks
   t' = ticks_of new
 
-  abbrev is_gone : Slot → Bool
-  is_gone = stays false gone
-
   -- the plans that are gone are those that they were
   gone-was : (p : Plan) → Contains new p → gone p.sheet ≡ true → Contains plans p
   gone-was p in' e = (Contains-filter_from (λ q. gone q.sheet) plans p (subst (λ ps. Contains ps p) h.same (Contains-filter (λ q. gone q.sheet) new p in' e))).0

@@ -36,14 +36,6 @@ module _ (machine : Machine) (ask : Ask) (counts : ℕ → ℕ) where
   form (one_more c) = longer c refl refl
   form (stopped can) = ended refl refl can
 
-  of-form : (p l : ChoiceList) → Form p l → IsChild machine ask p l
-  of-form p l (longer c is going-p) = subst (λ q. IsChild machine ask q l) (sym (as-going p going-p)) (subst (IsChild machine ask (going p.goal p.choices)) (sym is) (one_more c)) where
-    as-going : (q : ChoiceList) → q.stopped ≡ false → q ≡ going q.goal q.choices
-    as-going q e = λ i. record { goal = q.goal; choices = q.choices; stopped = e i }
-  of-form p l (ended is going-p can) = subst (λ q. IsChild machine ask q l) (sym (as-going p going-p)) (subst (IsChild machine ask (going p.goal p.choices)) (sym is) (stopped can)) where
-    as-going : (q : ChoiceList) → q.stopped ≡ false → q ≡ going q.goal q.choices
-    as-going q e = λ i. record { goal = q.goal; choices = q.choices; stopped = e i }
-
   -- the parent of a shifted list is a shifted parent
   record Parent (p l : ChoiceList) : Type 0 where
     small : ChoiceList

@@ -1,6 +1,6 @@
 -- What a search knows: each open list has a line of ancestors of smaller bounds, the first of which that was not
 -- opened waits.
-use Rattle.std.proofs.Common.{◌≡◌, ◌≢◌, ◌⊎◌, inl, inr, List, [], ◌∷◌, true, false, sym, ◌∙◌, refl, arith, Contains, subst}
+use Rattle.std.proofs.Common.{◌≡◌, ◌≢◌, ◌⊎◌, inl, inr, List, [], ◌∷◌, true, false, ◌∙◌, refl, arith, Contains, subst}
 use Rattle.tp_machine.specs.declared.machine.Machine.{Machine}
 use Rattle.tp_schedule.specs.declared.parts.Ask.{Ask}
 use Rattle.tp_schedule.specs.declared.parts.Plan.{Plan}
@@ -43,15 +43,6 @@ search_below machine plans ask waiting opened bound searched none list end o bel
 
 parent_of : ChoiceList → ChoiceList
 parent_of list = elim list.stopped [ true ↦ going list.goal list.choices | false ↦ going list.goal (elim list.choices [ [] ↦ [] | c ∷ choices ↦ choices ]) ]
-
-parent_is : {machine : Machine} {ask : Ask} {p list : ChoiceList} → IsChild machine ask p list → p ≡ parent_of list
-unfolding parent_of
-parent_is (one_more c) = refl
-parent_is (stopped can) = refl
-
--- a list has one parent
-pub parent_unique : {machine : Machine} {ask : Ask} {p q list : ChoiceList} → IsChild machine ask p list → IsChild machine ask q list → p ≡ q
-parent_unique a b = parent_is a ∙ sym (parent_is b)
 
 child_has : {machine : Machine} {ask : Ask} {p list : ChoiceList} → IsChild machine ask p list → list.choices ≢ []
 child_has (one_more c) = λ e. (absurd (cc))

@@ -14,9 +14,6 @@ use Rattle.clap.specs.Walk.{settled_rows}
 same_text : (a b : Text) → bytes_eq a b ≡ true → a ≡ b
 same_text a b e = (bytes_eq-Decides a b).0 e
 
-self_text : (a : Text) → bytes_eq a a ≡ true
-self_text a = (bytes_eq-Decides a a).1 refl
-
 -- the values of any id after some more of one
 values_with : (id other : Text) (how : Reading) (s : ValueSource) (values : List Text) (rows : List Row)
     → values_of other (with_values id how s values rows) ≡ cond (bytes_eq id other) (values_of other rows ++ values) (values_of other rows)

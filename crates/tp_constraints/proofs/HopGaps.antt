@@ -1,6 +1,5 @@
 -- The hops of a schedule, of a place and of an action are their gaps, with kinds.
 use Rattle.std.proofs.Common.{◌≡◌, ℕ, zero, suc, List, [], ◌∷◌, ◌++◌, length, map, refl, ap, ◌∙◌, Option, Some, None}
-use Rattle.std.specs.Prelude.{slice_get}
 use Rattle.std.proofs.lemmas.List.{map-append}
 use Rattle.tp_machine.specs.Modes.{gap_at}
 use Rattle.tp_machine.specs.Using.{action_at}
@@ -12,10 +11,9 @@ use Rattle.tp_schedule.specs.Spots.Spot.{kept}
 use Rattle.tp_schedule.specs.declared.parts.Plan.{Plan}
 use Rattle.tp_schedule.specs.declared.parts.SheetId.{SheetId}
 use Rattle.tp_constraints.specs.Gaps.{Gap, range_gaps, acts_gaps, plan_gaps, duration_gaps, slot_gap, chain_gaps, all_chains, line_gaps}
-use Rattle.tp_constraints.specs.Hops.{Hop, HopKind, hop, range_hops, acts_hops, duration_hops, chain_hops, all_chain_hops, plans_hops, hop_after, hop_until, place_hops}
+use Rattle.tp_constraints.specs.Hops.{Hop, HopKind, hop, range_hops, acts_hops, duration_hops, chain_hops, all_chain_hops, plans_hops}
 use Rattle.tp_constraints.specs.Hops.HopKind.{line}
 use Rattle.tp_constraints.specs.Laws.{plans_gaps}
-use Rattle.tp_constraints.specs.Suffixes.{gap_after, gap_until, before_place, place_gaps}
 
 abbrev gaps_of : List Hop → List Gap
 gaps_of hs = map (λ (h : Hop). h.gap) hs
@@ -64,17 +62,3 @@ plans-hop-gaps machine plans =
 
       n : ℕ
       n = length machine.resources
-
--- places
-after-hop-gaps : (machine : Machine) (resource : ℕ) (o : Option Slot) (s : Slot) → gaps_of (hop_after machine resource o s) ≡ gap_after (gap_at machine resource) o s
-after-hop-gaps machine resource None s = refl
-after-hop-gaps machine resource (Some a) s = refl
-
-until-hop-gaps : (machine : Machine) (resource : ℕ) (s : Slot) (o : Option Slot) → gaps_of (hop_until machine resource s o) ≡ gap_until (gap_at machine resource) s o
-until-hop-gaps machine resource s None = refl
-until-hop-gaps machine resource s (Some a) = refl
-
-pub place-hop-gaps : (machine : Machine) (resource : ℕ) (xs : List Slot) (place : ℕ) (s : Slot) → map (λ h. h.gap) (place_hops machine resource xs place s) ≡ place_gaps (gap_at machine resource) xs place s
-place-hop-gaps machine resource xs place s =
-    both-gaps (hop_after machine resource (before_place xs place) s) (hop_until machine resource s (slice_get xs place)) (gap_after (gap_at machine resource) (before_place xs place) s) (gap_until (gap_at machine resource) s (slice_get xs place))
-    (after-hop-gaps machine resource (before_place xs place) s) (until-hop-gaps machine resource s (slice_get xs place))

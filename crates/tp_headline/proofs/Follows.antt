@@ -66,13 +66,6 @@ skips-more all tray xs ys skips more before after copy at e sheet asked earlier 
   | inr i ↦ subst (λ l. IsReceivedOrBroken tray l sheet) (sym i.firsts) (more i.between i.after copy at i.is sheet asked earlier)
 ]
 
--- what was received or broke stays so
-pub received-more : (tray : List ℕ) (xs ys : List Record) (sheet : SheetRef) → Contains (map sheet_ref (received tray xs)) sheet → Contains (map sheet_ref (received tray (xs ++ ys))) sheet
-received-more tray xs ys sheet in' =
-    let c = Contains-map_from sheet_ref (received tray xs) sheet in' in
-    subst (Contains (map sheet_ref (received tray (xs ++ ys)))) (sym c.2)
-    (Contains-map sheet_ref (received tray (xs ++ ys)) c.0 (subst (λ l. Contains l c.0) (sym (received-append tray xs ys)) (Contains-append_left (received tray xs) (received tray ys) c.0 c.1)))
-
 pub received-later : (tray : List ℕ) (xs ys : List Record) (copy : SheetName) → Contains (received tray ys) copy → Contains (received tray (xs ++ ys)) copy
 received-later tray xs ys copy in' = subst (λ l. Contains l copy) (sym (received-append tray xs ys)) (Contains-append_right (received tray xs) (received tray ys) copy in')
 

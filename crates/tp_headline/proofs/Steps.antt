@@ -25,7 +25,6 @@ use Rattle.tp_turn.specs.Receiving.{Arrival, is_earlier, received, received_by, 
 use Rattle.tp_turn.specs.States.{SessionState}
 use Rattle.tp_outages.proofs.JobFacts.{unbroken, same-name, same-tray, same-length}
 use Rattle.tp_outages.specs.Through.{KeepsOrder}
-use Rattle.tp_outages.proofs.Members.{flat_map-from}
 use Rattle.tp_headline.proofs.Delivered.{IsDelivered, IsFor, first-earlier, known-plan, told-earlier}
 use Rattle.tp_headline.proofs.Follows.{Follows, received-append, received-later, received-sooner, skips-clock, skips-more}
 use Rattle.tp_headline.proofs.Numbers.{AreFirst, AreNamedApart, arrived, told_jobs}
@@ -129,14 +128,6 @@ pub record IsQuiet (s s' : SessionState) (records : List Record) : Type 0 where
   pub to : (c : SheetId) → IsDelivered s.now s.plans c → IsDelivered s'.now s'.plans c
   pub from : (c : SheetId) → IsDelivered s'.now s'.plans c → IsDelivered s.now s.plans c
   pub none : AreNoDeliveries records
-
-none-received : (tray : List ℕ) (records : List Record) → AreNoDeliveries records → (c : SheetName) → Contains (received tray records) c → ⊥
-none-received tray records none c in' =
-    let r = flat_map-from (received_by tray) records c in' in
-    go r.0 (All-contains IsNoDelivery records r.0 none r.1) r.2 where
-      go : (r : Record) → is_done r ≡ false → Contains (received_by tray r) c → ⊥
-      go (Done copy place at) e i = cc
-      go _ e i = omega (arith, i.1)
 
 same-label : (jobs jobs' : List Job) → map unbroken jobs' ≡ map unbroken jobs → (c : SheetId) → label jobs' c ≡ label jobs c
 same-label jobs jobs' e c = ap (λ name. record { job = name; number = c.number; copy = c.copy }) (same-name jobs jobs' e c.job)

@@ -34,16 +34,6 @@ All-last P xs x h p = All-append P xs (x ∷ []) h (All-from_recursion P (x ∷ 
 empty_has_lines : HasLines empty_tree
 empty_has_lines = (All-nil IsRow, All-nil IsNode)
 
-pub nothing_gathered : AreGathered [] empty_tree (next_of [])
-nothing_gathered = record {
-  log = (tt, All-nil IsItem);
-  has = empty_has_lines;
-  ends = inl (refl, refl);
-  known = All-nil IsLogLine;
-  order = tt;
-  is_next = refl;
-}
-
 -- ---- items with one more
 stand_plain : (before : Item) (items : List Item) (item : Item) → ((last : Item) → StandsBehind last item) → StandEach before items → StandEach before (items ++ item ∷ [])
 stand_plain before [] item stands h = (stands before, tt)

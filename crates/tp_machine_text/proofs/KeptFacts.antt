@@ -79,17 +79,11 @@ module _ (t : Members) (k : KeepsRules t) where
   pub few_resources_test : nat_le (length (text.resources t)) 256 ≡ true
   few_resources_test = (and_parts (is_fit is_table (get_member (codes "resources") t)) (nat_le (length (text.resources t)) 256) resource_parts.0).1
 
-  pub few_resources : length (text.resources t) ≤ 256
-  few_resources = at_most (length (text.resources t)) 256 few_resources_test
-
   pub resources_named : list_all is_name_text (text.resources t) ≡ true
   resources_named = resource_parts.1
 
   pub actions_counted : is_count 1 512 (length (text.actions t)) ≡ true
   actions_counted = (and_parts (is_count 1 512 (length (text.actions t))) (list_all is_table (text.actions t)) k.actions).0
-
-  pub few_actions : length (text.actions t) ≤ 512
-  few_actions = at_most (length (text.actions t)) 512 (and_parts (nat_le 1 (length (text.actions t))) (nat_le (length (text.actions t)) 512) actions_counted).1
 
   name_parts : (list_all is_named (text.actions t) ≡ true) × (are_different (map (text.action_name) (text.actions t)) ≡ true)
   name_parts = and_parts (list_all is_named (text.actions t)) (are_different (map text.action_name (text.actions t))) k.action_names

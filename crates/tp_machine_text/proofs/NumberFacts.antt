@@ -16,9 +16,6 @@ above (pos a) (pos b) test low = grind (arith, ints, nat_tests)
 above (negsuc a) b test low = cc
 above (pos a) (negsuc b) test low = cc
 
-pub number_order : (a b : ℤ) → int_le a b ≡ true → int_le (pos 0) a ≡ true → nat_le (number_of a) (number_of b) ≡ true
-number_order = above
-
 at_most : (z : ℤ) (low high : ℕ) → int_le (pos low) z ≡ true → int_le z (pos high) ≡ true → is_between low high (number_of z) ≡ true
 at_most (pos n) low high a b = grind (arith, ints, nat_tests)
 at_most (negsuc n) low high a b = cc

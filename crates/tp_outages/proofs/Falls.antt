@@ -144,13 +144,6 @@ module _ (machine : Machine) (base : Outset) (ex : ℕ → Bool) (s : SessionSta
       let other = count-one (open_of s w.sheet.job w.sheet.number) s.plans p in' (both-true (is_open s p) _ op (of-copy p.sheet w.sheet same)) in
       omega arith
 
-  pub none-pending : (p : Plan) (d : Displaced) → Contains s.plans p → Contains ds d → d.again ≡ true → is_open s p ≡ true → is_same_sheet p.sheet d.sheet ≡ true → ⊥
-  none-pending p d in' in'' again op same =
-      let few = f.once d.sheet.job d.sheet.number in
-      let one = count-one (pending_of d.sheet.job d.sheet.number) ds d in'' (both-true d.again _ again (own-copy d.sheet)) in
-      let other = count-one (open_of s d.sheet.job d.sheet.number) s.plans p in' (both-true (is_open s p) _ op (of-copy p.sheet d.sheet same)) in
-      omega arith
-
   -- an open copy that ended is whole
   pub ended-whole : (p : Plan) → Contains s.plans p → is_open s p ≡ true → end_of_plan p ≤ s.now → is_front p.kind ≡ false
   ended-whole p in' op past = go (is_front p.kind) refl where

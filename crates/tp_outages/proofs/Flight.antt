@@ -20,9 +20,6 @@ use Rattle.tp_outages.proofs.Counts.{count-cons}
 abbrev pub DoRise : List ActId → List ℕ → Type 0
 DoRise acts points = (j : ℕ) → j < length acts → slice_index points j < slice_index points (suc j)
 
-rise-tail : (a : ActId) (acts : List ActId) (start : ℕ) (points : List ℕ) → DoRise (a ∷ acts) (start ∷ points) → DoRise acts points
-rise-tail a acts start points rise j in' = rise (suc j) (omega arith)
-
 above-first : (acts : List ActId) (points : List ℕ) → DoRise acts points → (j : ℕ) → j ≤ length acts → slice_index points 0 ≤ slice_index points j
 above-first acts points rise zero within = omega arith
 above-first acts points rise (suc j) within = let before = above-first acts points rise j (omega arith) in let next = rise j (omega arith) in omega arith

@@ -49,9 +49,6 @@ pub none-given : (plans : List Plan) → flat_map {X = Plan} {A = SheetId} (λ p
 none-given [] = refl
 none-given (p ∷ plans) = none-given plans
 
-gives-none : Plan → List SheetId
-gives-none p = []
-
 can-of : (s : SessionState) (rule : Plan → Befalls) (pending : List SheetId) → StillCan s pending → ((p : Plan) → Contains s.plans p → Befits s rule (λ q. []) p) → StillCan (befall rule s) pending
 can-of s rule pending can befits = record {
   fall = subst (λ given. CanFall (befall rule s) (given ++ pending)) (none-given s.plans) (can-befall s rule (λ q. []) pending can.fall befits);

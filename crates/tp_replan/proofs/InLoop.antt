@@ -1,7 +1,7 @@
 -- The loop from answer to answer, and where it ends.
 use Rattle.std.proofs.Common.{◌≡◌, ℕ, ◌<◌, List, [], ◌∷◌, ◌++◌, Some, None, refl, sym, ap, ◌∙◌, append-nil, append_assoc, subst}
 use Rattle.tp_machine.specs.declared.machine.Machine.{Machine}
-use Rattle.tp_schedule.specs.Planning.{CanAsk, CanSettle, Deed, IsAnswer}
+use Rattle.tp_schedule.specs.Planning.{CanAsk, Deed, IsAnswer}
 use Rattle.tp_schedule.specs.Planning.Deed.{replied, settled}
 use Rattle.tp_schedule.specs.declared.parts.Ask.{Ask}
 use Rattle.tp_schedule.specs.declared.parts.Plan.{Plan}
@@ -24,9 +24,6 @@ use Rattle.tp_replan.proofs.StillOnWay.{loop-outage}
 -- the ask that is due can be put, and where none is due the times can be settled
 pub due-ask : (machine : Machine) (s : SessionState) (ask : Ask) → CanLoop machine s → next_ask machine s ≡ Some ask → CanAsk machine s.plans ask
 due-ask machine s ask can e = let of = first-loose machine s ask e in subst (CanAsk machine s.plans) of.is (can-ask machine s of.p can.on_way of.there of.loose)
-
-pub due-settling : (machine : Machine) (s : SessionState) → CanLoop machine s → CanSettle machine s.now s.plans
-due-settling machine s can = record { plan_on = can.on_way.plan_on; few_live = can.on_way.few_live }
 
 module _ {P : Type 0} (steps : PlannerSteps P) (machine : Machine) (spent : P → Machine → List Plan → Ask → ℕ → Type 0)
     (right : (p : P) (plans : List Plan) (deed : Deed) (plans' : List Plan) (p' : P) → steps.does p plans deed plans' p' → IsRight (spent p) machine plans deed plans') where

@@ -135,10 +135,6 @@ not-loose true true e f = cc
 not-loose false true e f = cc
 not-loose front false e f = cc
 
-whole-delivered : (front goes : Bool) → (not front && goes) ≡ true → front ≡ false
-whole-delivered true goes e = absurd cc
-whole-delivered false goes e = refl
-
 pairs-both : {X : Type 0} (R Q : X → X → Type 0) (xs : List X) → AllPairs R xs → AllPairs Q xs → AllPairs (λ x y. R x y × Q x y) xs
 pairs-both R Q [] one other = AllPairs-nil (λ x y. R x y × Q x y)
 pairs-both R Q (x ∷ xs) one other =

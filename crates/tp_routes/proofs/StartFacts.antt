@@ -26,9 +26,6 @@ start_sum machine ask s starts = record { acts = []; allowed = none_allowed mach
 pub fresh_sum : (machine : Machine) (ask : Ask) (k : ℕ) (f : Feeder) → ask.origin ≡ FromFeeder → k < length machine.feeders → f ≡ get_or machine.feeders k f → f.media ≡ ask.want.media → IsFalse (has ask.empty f.loc) → IsSum machine ask (fresh f.loc) 0
 fresh_sum machine ask k f origin below at media free = start_sum machine ask (fresh f.loc) (subst (λ o. IsStartFrom machine ask o (fresh f.loc)) (sym origin) ((k, f, below, sym at, (media, refl)), free))
 
-pub front_sum : (machine : Machine) (ask : Ask) (s : State) (end count : ℕ) → ask.origin ≡ FromFront s end count → IsSum machine ask s 0
-front_sum machine ask s end count origin = start_sum machine ask s (subst (λ o. IsStartFrom machine ask o s) (sym origin) refl)
-
 nothing_there : (n m : ℕ) → sum_at (replicate n None) m ≡ None
 nothing_there zero m = refl
 nothing_there (suc n) zero = refl
@@ -80,9 +77,6 @@ starts-all machine ask sums origin upto s starts = go ask.origin origin starts
     go : (o : Origin) → o ≡ FromFeeder → IsStartFrom machine ask o s → HasAtMost sums s 0
     go FromFeeder is ((k, f, below, at, both), free) = subst (λ (q : State). HasAtMost sums q 0) (sym both.1) (upto k f below (slice_get-at machine.feeders k f below at) both.0 (subst (λ (q : State). IsFalse (has ask.empty q.loc)) both.1 free))
     go (FromFront state end count) is starts = absurd cc
-
-pub starts-front : (machine : Machine) (ask : Ask) (sums : List (Option ℕ)) (state : State) (end count : ℕ) → ask.origin ≡ FromFront state end count → HasAtMost sums state 0 → StartsAreIn machine ask sums
-starts-front machine ask sums state end count origin there s starts = (let is : s ≡ state = subst (λ o. IsStartFrom machine ask o s) origin starts in subst (λ (q : State). HasAtMost sums q 0) (sym is) there)
 
 -- how far the feeders were gone through
 pub record StartedSoFar (machine : Machine) (ask : Ask) (feeders : List Feeder) (sums : List (Option ℕ)) (waiting : List ℕ) (count capacity : ℕ) : Type 0 where

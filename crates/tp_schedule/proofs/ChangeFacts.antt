@@ -1,5 +1,5 @@
 -- A plan is changed by a write at its place.
-use Rattle.std.proofs.Common.{◌+◌, ◌≡◌, ℕ, suc, ◌<◌, ◌≤◌, Bool, true, false, cond, List, [], ◌∷◌, set, get_or, length, position, Some, None, Option, IsSome, IsSomeAnd, All, refl, ap, arith, sym, ◌∙◌, subst}
+use Rattle.std.proofs.Common.{◌+◌, ◌≡◌, ℕ, suc, ◌<◌, ◌≤◌, Bool, true, false, cond, List, [], ◌∷◌, set, get_or, length, position, Some, None, IsSome, IsSomeAnd, All, refl, ap, arith, sym, ◌∙◌, subst}
 use Rattle.std.specs.List.{position_or_len}
 use Rattle.std.proofs.lemmas.Bool.Decides.{nat_tests}
 use Rattle.std.proofs.Math.Numerals.{one-add}
@@ -153,12 +153,6 @@ IsFormed-cut_to p kept formed some within =
     let one_more = formed.one_more in
     let points = length-take-le (kept + 1) p.points (omega arith) in
     record { some = omega arith; one_more = omega arith; released = omega arith }
-
-pub IsSome-planned : (copy : SheetId) (P : Plan → Type 0) (plans : List Plan) → IsSomeAnd (plan_of copy plans) P → IsSome (plan_of copy plans)
-IsSome-planned copy P plans h = go (plan_of copy plans) h where
-  go : (o : Option Plan) → IsSomeAnd o P → IsSome o
-  go None h' = absurd h'
-  go (Some p) h' = refl
 
 -- what is known of the plan of a copy
 pub IsSomeAnd-at : (copy : SheetId) (P : Plan → Type 0) (plans : List Plan) (p : Plan) → IsSomeAnd (plan_of copy plans) P → plan_of copy plans ≡ Some p → P p

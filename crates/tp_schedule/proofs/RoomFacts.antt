@@ -1,25 +1,15 @@
 -- Rooms and earliest ends are one number, and the step that computes is the step as a relation.
-use Rattle.std.proofs.Common.{◌≡◌, ℕ, arith, Some, refl}
+use Rattle.std.proofs.Common.{◌≡◌, ℕ, arith, Some}
 use Rattle.std.specs.Prelude.{List}
 use Rattle.tp_machine.specs.Steps.{Step, step_of}
 use Rattle.tp_schedule.specs.Answers.{IsEarliest}
 use Rattle.tp_schedule.specs.Plans.{end_of_plan}
-use Rattle.tp_schedule.specs.Routes.{IsRoom}
 use Rattle.tp_machine.specs.declared.parts.Action.{Action}
 use Rattle.tp_machine.specs.declared.parts.Sheet.{Sheet}
 use Rattle.tp_machine.specs.declared.parts.State.{State}
 use Rattle.tp_machine.specs.declared.machine.Machine.{Machine}
 use Rattle.tp_schedule.specs.declared.parts.Ask.{Ask}
 use Rattle.tp_schedule.specs.declared.parts.Plan.{Plan}
-
-pub IsRoom-unique : (machine : Machine) (ask : Ask) (s : State) (m n : ℕ) → IsRoom machine ask s m → IsRoom machine ask s n → m ≡ n
-IsRoom-unique machine ask s m n a b =
-    let below = a.least b.acts b.allowed b.reaches in
-    let above = b.least a.acts a.allowed a.reaches in
-    omega (arith, a.sum, b.sum)
-
-pub step_of-Step : (a : Action) (sheet : Sheet) (s t : State) → Step a sheet s t → step_of a sheet s ≡ Some t
-step_of-Step a sheet s t step = rw (step.can, step.leads) refl
 
 pub Step-step_of : (a : Action) (sheet : Sheet) (s t : State) → step_of a sheet s ≡ Some t → Step a sheet s t
 Step-step_of a sheet s t e = grind arith

@@ -10,7 +10,7 @@ use Rattle.tp_machine.specs.declared.parts.State.{State}
 use Rattle.tp_machine.specs.declared.machine.Machine.{Machine}
 use Rattle.tp_pool.specs.declared.choice.Choice.{Choice as Stored}
 use Rattle.tp_schedule.proofs.Walks.{AreAllowed-head}
-use Rattle.tp_schedule.specs.Choices.{Choice, ChoiceList, IsOpen, acts_of, going, stopping}
+use Rattle.tp_schedule.specs.Choices.{Choice, IsOpen, acts_of, going, stopping}
 use Rattle.tp_schedule.specs.Holding.{holds_of_act}
 use Rattle.tp_schedule.specs.declared.parts.Ask.{Ask}
 use Rattle.tp_schedule.specs.declared.parts.Plan.{Plan}
@@ -23,7 +23,6 @@ use Rattle.tp_search.proofs.FollowGoal.{refused-late}
 use Rattle.tp_search.proofs.FollowPlaces.{all-placed}
 use Rattle.tp_ways.proofs.WayChildren.{child-closed, child-late, child-places, stop-late}
 use Rattle.tp_ways.proofs.WaySteps.{action-way}
-use Rattle.tp_search.specs.Boards.{IsLaid}
 use Rattle.tp_search.specs.Following.{AwaitsPlaces, HasList, IsWayTo, with_places}
 use Rattle.tp_search.specs.States.{HasNoneBefore, IsBefore}
 use Rattle.tp_search.specs.Stored.{child_by, choice_with, is_stop, with_stored}
@@ -65,14 +64,6 @@ module _ {N C : Type 0} (net : N → Net) (content : N → C) (past : N → List
   -- and each choice has its places
   pub placed-is : IsPlaced machine choices
   placed-is = subst (λ (x : Suffix). IsPlaced machine x.choices) is-carried found.2.placed
-
-  -- it is ready for its children to be opened
-  pub list-laid : (mark_room : N → ℕ) → IsLaid net content past mark_room b machine ask goal first choices
-  list-laid mark_room = record {
-    stands = laid.stands;
-    asked = laid.asked;
-    way = and-some (suffix_of b) found.0 _ found.1 (record { way = found.2.way; same = ap (λ (l : ChoiceList). l.choices) found.2.same; going = ap (λ (l : ChoiceList). l.stopped) found.2.same });
-  }
 
   -- the stop
   module _ (o : IsOpen machine b.plans ask (stopping goal choices)) where

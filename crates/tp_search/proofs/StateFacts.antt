@@ -77,14 +77,6 @@ number_of_state n =
     let back = done_of_bit (n % 2) (omega arith) in
     omega (arith, up, front, back)
 
--- different numbers are of different states
-pub one_number : (n other : ℕ) → state_at n ≡ state_at other → n ≡ other
-one_number n other same = sym (number_of_state n) ∙ ap number_of same ∙ number_of_state other
-
--- a number below eight times the locations is of a state at one of them
-pub state_within : (n count : ℕ) → n < 8 * count → (state_at n).loc.0 < count
-state_within n count known = omega arith
-
 -- each state at a location of the machine is the state of one number
 pub every_state : (machine : Machine) (s : State) → s.loc.0 < length machine.locations
     → (n : ℕ) × (n < 8 * length machine.locations) × (state_at n ≡ s) × ((other : ℕ) → state_at other ≡ s → other ≡ n)

@@ -1,5 +1,5 @@
 -- A way that was gone: its node stands where it is due.
-use Rattle.std.proofs.Common.{◌≡◌, ℕ, zero, suc, ◌+◌, ◌<◌, ◌≤◌, Bool, true, false, cond, ◌&&◌, List, [], ◌∷◌, ◌++◌, length, refl, sym, ◌∙◌, ap, subst, arith, add-one, Result, Ok, Err, Option, Some, None}
+use Rattle.std.proofs.Common.{◌≡◌, ℕ, zero, suc, ◌+◌, ◌<◌, ◌≤◌, Bool, true, cond, ◌&&◌, List, [], ◌∷◌, ◌++◌, length, refl, sym, ◌∙◌, ap, subst, arith, add-one, Result, Ok, Err, Option, Some, None}
 use Rattle.std.specs.Prelude.{pos, slice_get, nat_lt, IfSome, MatchOption}
 use Rattle.std.specs.Result.{IfOk, OnOk}
 use Rattle.std.proofs.lemmas.Bool.{and_parts}
@@ -28,10 +28,6 @@ use Rattle.tp_ways.specs.Ways.{IsWay}
 use Rattle.tp_showing.specs.Showing.{Adds, Carries, GoesOn, IsEarly, IsEntered, IsOpen, PutsNode, Shows, below, branch_by, kids_of}
 use Rattle.tp_showing.specs.declared.scene.Branch.{Branch}
 use Rattle.tp_showing.proofs.CarryFacts.{own-suffix, suffix-same}
-
-pub ok-both : {X E : Type 0} (P Q : X → Type 0) (r : Result X E) → IfOk r P → IfOk r Q → IfOk r (λ x. P x × Q x)
-ok-both P Q (Ok x) p q = (p, q)
-ok-both P Q (Err e) p q = tt
 
 pub ok-three : {X E : Type 0} (P Q R : X → Type 0) (r : Result X E) → IfOk r P → IfOk r Q → IfOk r R → IfOk r (λ x. P x × (Q x × R x))
 ok-three P Q R (Ok x) p q s = (p, (q, s))
@@ -129,10 +125,6 @@ stop-shows machine plans ask sums limit old new r x count due put rows has =
     let deeper : suc r.depth ≡ r.depth + 1 = sym (add-one r.depth) in
     let stands : stand_of machine plans ask rows (stop (branch_by r x)) StopHead ≡ Some (record { branch = stopped_below r x; span = None }) = ap (λ d. Some (record { branch = record { depth = d; first = r.first; x = with_stop x }; span = None })) deeper in
     subst (λ ds. Adds machine plans ask rows (pos limit) ds old new []) (sym (stop-dues machine plans ask rows r x true count due)) (put rows (stop (branch_by r x)) stands)
-
-pub none-shows : (machine : Machine) (plans : List Plan) (ask : Ask) (sums : List (Option ℕ)) (limit : ℕ) (old : List Node) (r : Branch) (x : Suffix) → r.count ≡ length x.choices → (is_front_state ask.origin r.first && nat_lt 0 r.count) ≡ false
-    → Shows machine plans ask sums limit old old (λ rows. stop_due machine plans ask rows (branch_by r x)) (λ _. [])
-none-shows machine plans ask sums limit old r x count due rows has = subst (λ ds. Adds machine plans ask rows (pos limit) ds old old []) (sym (stop-dues machine plans ask rows r x false count due)) (λ start rest lead. lead)
 
 pub stop-front : (ask : Ask) (r : Branch) → (is_front_state ask.origin r.first && nat_lt 0 r.count) ≡ true → is_front_state ask.origin r.first ≡ true
 stop-front ask r due = (and_parts (is_front_state ask.origin r.first) (nat_lt 0 r.count) due).0

@@ -1,5 +1,5 @@
 -- Hops that are told, one edge after another.
-use Rattle.std.proofs.Common.{◌≡◌, ℕ, zero, suc, ◌+◌, ◌<◌, ◌≤◌, ◌-◌, get_or, length-drop, List, [], ◌∷◌, ◌++◌, length, drop, take, refl, sym, ◌∙◌, ap, subst, arith, append_assoc, All, Option, Some, None}
+use Rattle.std.proofs.Common.{◌≡◌, ℕ, zero, suc, ◌+◌, ◌<◌, ◌≤◌, ◌-◌, get_or, length-drop, List, [], ◌∷◌, ◌++◌, length, drop, take, refl, sym, ◌∙◌, ap, subst, arith, All, Option, Some, None}
 use Rattle.std.specs.Prelude.{slice_get}
 use Rattle.std.proofs.lemmas.List.{length-take-le}
 use Rattle.std.proofs.lemmas.List.Elements.{All-nil, All-cons, All-append}
@@ -18,12 +18,6 @@ take-one (y ∷ xs) zero x e = let same : y ≡ x = cc in ap (λ z. z ∷ []) sa
 take-one {X} (y ∷ xs) (suc n) x e = let i : suc n + 1 ≡ suc (n + 1) = omega arith in let P : ℕ → Type 0 = λ m. take m (y ∷ xs) ≡ y ∷ (take n xs ++ x ∷ []) in subst P (sym i) (ap (λ z. y ∷ z) (take-one xs n x e))
 
 module _ (f : Edge → Option TreeHop) (all : List Edge) (at : ℕ) (e : Edge) (there : slice_get all at ≡ Some e) where
-  -- one more edge is told
-  pub put-one : (old hops more : List TreeHop) (h : TreeHop) → Some h ≡ f e → more ≡ hops ++ h ∷ [] → hops ++ told_until f (drop at all) ≡ old → more ++ told_until f (drop (at + 1) all) ≡ old
-  put-one old hops more h t put so =
-      let rest = drop (at + 1) all in
-      let split : told_until f (drop at all) ≡ h ∷ told_until f rest = ap (told_until f) (drop-one all at e there) ∙ ap (λ o. told_then o (told_until f rest)) (sym t) in
-      ap (λ xs. xs ++ told_until f rest) put ∙ append_assoc hops (h ∷ []) (told_until f rest) ∙ ap (λ xs. hops ++ xs) (sym split) ∙ so
 
   -- nothing is told of the next
   pub put-none : (old hops : List TreeHop) → None ≡ f e → hops ++ told_until f (drop at all) ≡ old → hops ++ [] ≡ old

@@ -25,10 +25,6 @@ module _ (machine : Machine) (plans : List Plan) (ask : Ask) (sums : List (Optio
   pub shows-trans : (one two three : List Node) (ds more most : List TreeRow → List Due) → Shows machine plans ask sums limit one two ds more → Shows machine plans ask sums limit two three more most → Shows machine plans ask sums limit one three ds most
   shows-trans one two three ds more most f g rows has = adds-trans machine plans ask rows (pos limit) (ds rows) (more rows) (most rows) one two three (f rows has) (g rows has)
 
-  -- the same dues by other names
-  pub shows-from : (old new : List Node) (ds ds' more : List TreeRow → List Due) → ((rows : List TreeRow) → ds rows ≡ ds' rows) → Shows machine plans ask sums limit old new ds more → Shows machine plans ask sums limit old new ds' more
-  shows-from old new ds ds' more e f rows has = subst (λ us. Adds machine plans ask rows (pos limit) us old new (more rows)) (e rows) (f rows has)
-
   pub shows-to : (old new : List Node) (ds more more' : List TreeRow → List Due) → ((rows : List TreeRow) → more rows ≡ more' rows) → Shows machine plans ask sums limit old new ds more → Shows machine plans ask sums limit old new ds more'
   shows-to old new ds more more' e f rows has = subst (λ us. Adds machine plans ask rows (pos limit) (ds rows) old new us) (e rows) (f rows has)
 

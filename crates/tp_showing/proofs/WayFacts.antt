@@ -14,9 +14,9 @@ use Rattle.tp_schedule.specs.declared.parts.Plan.{Plan}
 use Rattle.tp_constraints.specs.Suffixes.{Suffix, order_in}
 use Rattle.tp_placing.specs.Boards.{BoardValue}
 use Rattle.tp_trees.specs.Places as places
-use Rattle.tp_trees.specs.Places.{Due, action_due, actions_below, actions_due, places_from, rule_in, stop_due}
-use Rattle.tp_trees.proofs.Allowing.{le-to, lt-to}
-use Rattle.tp_showing.specs.Showing.{Adds, IsEntered, IsOpen, Shows, acts_from, branch_by, hold_of, kids_of, left_of, ways_of}
+use Rattle.tp_trees.specs.Places.{Due, action_due, actions_below, actions_due, places_from, stop_due}
+use Rattle.tp_trees.proofs.Allowing.{lt-to}
+use Rattle.tp_showing.specs.Showing.{Adds, IsEntered, Shows, acts_from, branch_by, kids_of, left_of, ways_of}
 use Rattle.tp_showing.specs.declared.scene.Branch.{Branch}
 use Rattle.tp_showing.proofs.AddFacts.{adds-behind}
 
@@ -35,13 +35,6 @@ module _ (machine : Machine) (plans : List Plan) (ask : Ask) (rows : List TreeRo
   acts-below b (suc n) =
       let none : n ≡ n + 0 = omega arith in
       ap (λ ds. ds ++ action_due machine plans ask rows b (record { 0 = n })) (acts-below b n) ∙ ap (λ k. acts_from machine plans ask rows b 0 n ++ action_due machine plans ask rows b (record { 0 = k })) none ∙ sym (acts-last b 0 n)
-
-  -- the first way leaves all children due
-  pub kids-left : (r : Branch) (x : Suffix) → x.stopped ≡ false → hold_of machine r ≡ rule_in machine x.choices → IsOpen machine ask r → kids_of machine plans ask rows (branch_by r x) ≡ left_of machine plans ask rows (branch_by r x) (hold_of machine r) 0
-  kids-left r x going same may = go (hold_of machine r) refl where
-    go : (o : Option HoldRule) → hold_of machine r ≡ o → kids_of machine plans ask rows (branch_by r x) ≡ left_of machine plans ask rows (branch_by r x) o 0
-    go None e = let m = may e in let f = sym same ∙ e in rw (going, f, m) refl
-    go (Some rule) e = let f = sym same ∙ e in let t = le-to 0 (length (order_in machine plans x rule.resource.0)) (omega arith) in rw (going, f, t) refl
 
   beyond : (n : ℕ) → nat_le (suc n) n ≡ false
   beyond n = grind (arith, nat_tests)

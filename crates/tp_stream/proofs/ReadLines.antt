@@ -1,5 +1,5 @@
 -- The event of a line that was read.
-use Rattle.std.proofs.Common.{◌≡◌, ℕ, true, false, List, Option, Some, None, inl, inr, refl, sym}
+use Rattle.std.proofs.Common.{◌≡◌, ℕ, false, List, Option, Some, None, inl, inr, refl, sym}
 use Rattle.tp_script.specs.Reading.{event_of}
 use Rattle.tp_script.specs.Script.{IsEvent, IsOff, is_passed, words_of_line}
 use Rattle.tp_script.specs.declared.event.Event.{Event}
@@ -18,9 +18,6 @@ not_passed words (On name) h = rw h.0 refl
 
 pub reads_some : (line : List ℕ) (e : Event) → IsEvent (words_of_line line) e → ReadsEvent line (Some e)
 reads_some line e h = (rw (not_passed (words_of_line line) e h, event_only (words_of_line line) e h) refl, inr (whole_from (words_of_line line) e h))
-
-pub reads_none : (line : List ℕ) → is_passed (words_of_line line) ≡ true → ReadsEvent line None
-reads_none line h = rw h refl
 
 none_of : (o : Option Event) (words : List (List ℕ)) → o ≡ event_of words → ((e : Event) → IsEvent words e → ⊥) → event_of words ≡ None
 none_of None words e off = sym e

@@ -1,9 +1,5 @@
 -- Orders that are emptied, one after another, and vectors with room.
 use Rattle.std.proofs.Common.{suc, zero, ◌≡◌, ℕ, ◌≤◌, List, [], ◌∷◌, ◌++◌, length, set, replicate, refl, ap, ◌∙◌, arith}
-use Rattle.std.proofs.lemmas.List.{map-append}
-use Rattle.std.specs.Prelude.{Vec}
-use Rattle.std.specs.declared.alloc.Global.{Global}
-use Rattle.tp_timelines.specs.Orders.{numbers_of}
 
 -- the first so many orders are empty
 abbrev pub emptied : ℕ → List (List ℕ) → List (List ℕ)
@@ -26,6 +22,3 @@ emptied-all (suc n) (o ∷ os) h = ap (λ ls. [] ∷ ls) (emptied-all n os (omeg
 pub replicate-push : {X : Type 0} (n : ℕ) (x : X) → replicate n x ++ x ∷ [] ≡ replicate (suc n) x
 replicate-push zero x = refl
 replicate-push (suc n) x = ap (λ ys. x ∷ ys) (replicate-push n x)
-
-pub numbers-push : (vs : List (Vec ℕ Global)) (v : Vec ℕ Global) (n : ℕ) → numbers_of vs ≡ replicate n [] → v.items ≡ [] → numbers_of (vs ++ v ∷ []) ≡ replicate (suc n) []
-numbers-push vs v n h e = map-append (λ (v : Vec ℕ Global). v.items) vs (v ∷ []) ∙ ap (λ xs. xs ++ v.items ∷ []) h ∙ ap (λ x. replicate n [] ++ x ∷ []) e ∙ replicate-push n []

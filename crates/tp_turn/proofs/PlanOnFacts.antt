@@ -16,11 +16,10 @@ use Rattle.tp_schedule.proofs.CopyFacts.{same_copy-is, before-not_same'}
 use Rattle.tp_schedule.proofs.Membership.{Contains-cons_cases, Contains-here, Contains-later, Contains-map_from}
 use Rattle.tp_schedule.proofs.Pairs.{AllPairs-head, AllPairs-tail}
 use Rattle.tp_turn.specs.Clock.{released_until}
-use Rattle.tp_turn.specs.Fates.{Fate, befall, left_by, is_cut_by, to_purge}
-use Rattle.tp_turn.specs.Laws.{IsPlannable, FatesKeepPlanning}
+use Rattle.tp_turn.specs.Fates.{Fate, left_by, is_cut_by, to_purge}
+use Rattle.tp_turn.specs.Laws.{FatesKeepPlanning}
 use Rattle.tp_turn.specs.Moments.{is_unstarted, is_running, is_running_on, does_use, release_until}
-use Rattle.tp_turn.specs.States.{SessionState}
-use Rattle.tp_turn.proofs.CutPlans.{AreLeft-left_by, AreLeft-one}
+use Rattle.tp_turn.proofs.CutPlans.{AreLeft-one}
 use Rattle.tp_turn.proofs.LeftPlans.{IsLeft, AreLeft, none, IsLegal-left, KeepsFloors-left, KeepsHorizon-left}
 use Rattle.tp_turn.proofs.ReleasedPlans.{AreLeft-released, released-below}
 
@@ -31,11 +30,6 @@ CanPlanOn-left machine now plans plans' left can = record {
   floors = KeepsFloors-left machine now plans plans' left can.floors;
   horizon = KeepsHorizon-left machine now plans plans' left can.horizon;
 }
-
-pub CanPlanOn-befall : (machine : Machine) (fate : Plan → Fate) (s : SessionState)
-    → ((p : Plan) → IsTimedPlan machine p → is_cut_by (fate p) ≡ true → is_unstarted s.now p ≡ false)
-    → IsPlannable machine s → IsPlannable machine (befall fate s)
-CanPlanOn-befall machine fate s started can = CanPlanOn-left machine s.now s.plans (left_by fate s.now s.plans) (AreLeft-left_by machine s.now fate s.plans started) can
 
 -- a copy of which an action runs has started
 first_is_first : (now : ℕ) (sheet : SheetId) (m : ℕ) (test : Run → Bool) (acts : List ActId) (points : List ℕ)

@@ -4,7 +4,7 @@ use Rattle.std.proofs.lemmas.List.Elements.{All-head, All-tail}
 use Rattle.std.proofs.lemmas.List.Sums.{length-filter}
 use Rattle.tp_machine.specs.declared.machine.Machine.{Machine}
 use Rattle.tp_schedule.specs.Living.{is_live, live_count}
-use Rattle.tp_turn.specs.Keeping.{is_to_arrive, open_count}
+use Rattle.tp_turn.specs.Keeping.{is_to_arrive}
 use Rattle.tp_turn.specs.Ready.{KeepsLive}
 use Rattle.tp_turn.specs.States.{SessionState}
 
@@ -20,6 +20,3 @@ few-plans machine copies s keeps =
     let counted = length-filter (is_live machine s.now) s.plans in
     let whole = ap (λ l. length l) (filter-whole (is_live machine s.now) s.plans keeps.live) in
     omega arith
-
-pub few-waiting : (machine : Machine) (copies : ℕ) (s : SessionState) → KeepsLive machine copies s → length s.waiting ≤ 4352
-few-waiting machine copies s keeps = let few : open_count s ≤ 4352 = keeps.plans.few_open in omega arith

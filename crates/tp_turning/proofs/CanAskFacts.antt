@@ -1,5 +1,5 @@
 -- Where a live state is kept, a copy that waits can be asked while fewer than 256 copies are live.
-use Rattle.std.proofs.Common.{◌≡◌, ◌≢◌, ℕ, ◌<◌, inl, inr, true, false, ◌&&◌, not, List, length, None, refl, sym, ap, ◌∙◌, arith, All, AllPairs, Contains, IsTrue, subst}
+use Rattle.std.proofs.Common.{◌≡◌, ◌≢◌, ℕ, ◌<◌, inl, inr, true, false, ◌&&◌, not, List, length, None, refl, sym, ap, ◌∙◌, arith, All, AllPairs, Contains, IsTrue}
 use Rattle.std.specs.Prelude.{IsFalse}
 use Rattle.std.specs.Str.{bytes_eq}
 use Rattle.std.proofs.lemmas.Bool.{cases_lt, and_parts}
@@ -12,9 +12,9 @@ use Rattle.tp_base.proofs.SliceFacts.{All-at, found}
 use Rattle.tp_machine.proofs.Lists.{All-from_none}
 use Rattle.tp_machine.specs.declared.machine.Machine.{Machine}
 use Rattle.tp_schedule.proofs.CopyFacts.{before-asym}
-use Rattle.tp_schedule.proofs.Membership.{All-from_contains, Contains-filter}
+use Rattle.tp_schedule.proofs.Membership.{Contains-filter}
 use Rattle.tp_schedule.specs.Living.{is_live, live_count}
-use Rattle.tp_schedule.specs.Planning.{CanAsk, CanPlanOn, IsKnownGoal}
+use Rattle.tp_schedule.specs.Planning.{CanAsk, CanPlanOn}
 use Rattle.tp_schedule.specs.Plans.{AreNamed, goes_to, is_before, is_delivered_to, is_front, is_same_copy, plan_of, without}
 use Rattle.tp_schedule.specs.declared.parts.Goal.{Goal}
 use Rattle.tp_schedule.specs.declared.parts.Goal.TheVariants.{Tray, Purge}
@@ -83,14 +83,6 @@ module _ (machine : Machine) (copies : ℕ) (s : SessionState) (can : KeepsLive 
   tray-of-job copy known =
       let there = found s.jobs copy.job known in
       rw there.1 (All-at (λ j. Contains machine.trays j.tray) s.jobs copy.job there.0 can.jobs.trays there.1)
-
-  pub known-goals : All (λ p. IsKnownGoal machine p.goal) s.plans
-  known-goals = All-from_contains (λ p. IsKnownGoal machine p.goal) s.plans (λ p in'. let its = its-job p in' in by-goal p its p.goal its.goal) where
-    by-goal : (p : Plan) → IsOfItsJob s.jobs p → (g : Goal) → is_own_goal g (tray_of s.jobs p.sheet).0 ≡ true → IsKnownGoal machine g
-    by-goal p its (Tray t) own =
-        let same : t.0 ≡ (tray_of s.jobs p.sheet).0 = grind (arith, nat_tests) in
-        subst (Contains machine.trays) (λ k. record { 0 = sym same k }) (tray-of-job p.sheet its.known)
-    by-goal p its Purge own = tt
 
   module _ (w : WaitingCopy) (waits : Contains s.waiting w) where
     unplanned : plan_of w.sheet s.plans ≡ None

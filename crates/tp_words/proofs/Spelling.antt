@@ -14,7 +14,7 @@ use Rattle.tp_words.specs.Parts.{cut_at, is_word}
 use Rattle.tp_words.specs.Fields.{IsName, name_of, pair_of, two_of, five_of}
 use Rattle.tp_words.proofs.Steps.{and_then_some}
 use Rattle.tp_words.proofs.NumberFacts.{own, number_takes, number_again}
-use Rattle.tp_words.proofs.PartFacts.{IsWord, lacks_from, cut_takes, cut_again}
+use Rattle.tp_words.proofs.PartFacts.{lacks_from, cut_takes, cut_again}
 
 -- what is read is spelled so, what is spelled so is read, and each text is some of these bytes
 pub record Spells {X : Type 0} (read : List ℕ → Option X) (text : X → List ℕ) (Fits : X → Type 0) (byte : ℕ → Bool) : Type 0 where
@@ -29,12 +29,6 @@ Tells words_of Is words x = (words ≡ words_of x) × Is x
 
 pub filled_from : (text : List ℕ) → 0 < length text → is_word text ≡ true
 filled_from text h = ap not (ne_eqb (length text) 0 (λ e. omega arith))
-
-pub word_from : {X : Type 0} {read : List ℕ → Option X} {text : X → List ℕ} {Fits : X → Type 0} {byte : ℕ → Bool} → Spells read text Fits byte → byte 32 ≡ false → (x : X) → Fits x → IsWord (text x)
-word_from {text = text} {byte = byte} s not_space x fits = record {
-  filled = filled_from (text x) (s.filled x fits);
-  spaceless = lacks_from byte 32 (text x) not_space (s.bytes x fits);
-}
 
 -- ---- names and numbers
 name_parts : (text : List ℕ) → IsName text → (1 ≤ length text) × (list_all is_name_byte text ≡ true)
