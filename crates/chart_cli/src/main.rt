@@ -53,7 +53,7 @@ fn run(rt: &HostRuntime) -> Status {
     let Ok(words) = words(alloc, rt) else {
         return Status::Memory;
     };
-    let mut shelf = FileShelf::new(rt);
+    let mut shelf = FileShelf::new(alloc, rt);
     let mut source = StdSource::new(rt.reader());
     let mut sink = StdSink::new(io::writer(rt));
     chart_main(alloc, &words, &mut shelf, &mut source, &mut sink)
