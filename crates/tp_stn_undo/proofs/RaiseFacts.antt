@@ -11,7 +11,7 @@ use Rattle.std.specs.List.{All, Contains, slice_get}
 use Rattle.tp_base.specs.declared.edges.Edge.{Edge}
 use Rattle.tp_base.specs.Net.{Keeps}
 use Rattle.tp_base.specs.Grows.{IsKnown, Grows, Rises, PassesCap, AreWithin, cause_of, slack}
-use Rattle.tp_base.proofs.GrowsFacts.{Grows-refl, Grows-step, Changes-set, Changes-changed, changed, slack-set, still_kept}
+use Rattle.tp_base.proofs.GrowsFacts.{Grows-step, Changes-set, Changes-changed, changed, slack-set, still_kept}
 use Rattle.tp_stn_undo.specs.declared.spots.Spot.{Spot}
 use Rattle.tp_stn_undo.specs.declared.links.Link.{Link}
 use Rattle.tp_stn_undo.specs.Spots.{lows_of, times_of, edges_of, causes_of, numbered}
@@ -147,9 +147,6 @@ module _ (links : List Link) (spots : List Spot) (number : ℕ) (some : 0 < numb
 
   pub asks_more : pos (slice_index times to) <ℤ (pos (slice_index times edge.from.0) +ℤ edge.weight) → AsksMore (edges_of links) number (slice_index times)
   asks_more h e g = subst (λ (x : Edge). pos (slice_index times x.to.0) <ℤ (pos (slice_index times x.from.0) +ℤ x.weight)) (same_Some edge e (sym (edge_at links number no_link some within) ∙ g)) h
-
-pub SpotsRise-refl : (links : List Link) (spots : List Spot) → SpotsRise links spots spots
-SpotsRise-refl links spots = Grows-refl (length (times_of spots)) (edges_of links) (slice_index (times_of spots)) (cause_of (causes_of (edges_of links) spots))
 
 -- less slack makes up for all that may wait
 pub weight_less : (s s' n l l' : ℕ) → s' < s → l' ≤ n → s' * (n + 1) + l' ≤ s * (n + 1) + l
