@@ -1,0 +1,10 @@
+pub mod ListFacts
+pub mod TimedFacts
+pub mod PairFacts
+pub mod HeldFacts
+pub mod ClearFacts
+pub mod LineFacts
+pub mod MarkFacts
+pub mod StepFacts
+pub mod NumberFacts
+pub mod EarlyFacts
