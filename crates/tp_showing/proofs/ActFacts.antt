@@ -77,7 +77,6 @@ abbrev pub opened_below : Branch → ActId → State → Branch
 opened_below r act s = record { depth = r.depth + 1; first = s; count = r.count + 1; newest = Some act; places = 0 }
 
 module _ (machine : Machine) (plans : List Plan) (ask : Ask) (rows : List TreeRow) where
-
   pub due-by : (r : Branch) (x : Suffix) (act : ActId) (o : Option State) → o ≡ cond (is_act_allowed machine ask.outs act) (state_before ask.want r.first (action_at machine act.0)) None
       → action_due machine plans ask rows (branch_by r x) act ≡ due_from machine plans ask rows (branch_by r x) act o
   due-by r x act o e = go (is_act_allowed machine ask.outs act) e where

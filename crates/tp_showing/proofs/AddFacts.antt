@@ -15,7 +15,6 @@ use Rattle.tp_trees.proofs.Lists.{number-same}
 use Rattle.tp_showing.specs.Showing.{Adds, LeadsTo, PutsNode}
 
 module _ (machine : Machine) (plans : List Plan) (ask : Ask) (rows : List TreeRow) (limit : ℤ) where
-
   pub adds-node : (d : Due) (n : Node) (old new : List Node) (more : List Due) → look machine plans ask rows limit d n ≡ due more → new ≡ old ++ n ∷ [] → Adds machine plans ask rows limit (d ∷ []) old new more
   adds-node d n old new more looks put start rest lead tail covers =
       subst (Covers machine plans ask rows limit start) (sym (ap (λ ns. ns ++ tail) put ∙ append_assoc old (n ∷ []) tail)) (lead (n ∷ tail) (more, looks, covers))

@@ -22,3 +22,6 @@ pub mod WayFacts
 pub mod MarkSteps
 pub mod WalkFacts
 pub mod GoalWalks
+pub mod RangeHops
+pub mod RangeCloses
+pub mod RangeFacts

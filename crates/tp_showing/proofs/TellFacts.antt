@@ -18,7 +18,6 @@ take-one (y ∷ xs) zero x e = let same : y ≡ x = cc in ap (λ z. z ∷ []) sa
 take-one {X} (y ∷ xs) (suc n) x e = let i : suc n + 1 ≡ suc (n + 1) = omega arith in let P : ℕ → Type 0 = λ m. take m (y ∷ xs) ≡ y ∷ (take n xs ++ x ∷ []) in subst P (sym i) (ap (λ z. y ∷ z) (take-one xs n x e))
 
 module _ (f : Edge → Option TreeHop) (all : List Edge) (at : ℕ) (e : Edge) (there : slice_get all at ≡ Some e) where
-
   -- nothing is told of the next
   pub put-none : (old hops : List TreeHop) → None ≡ f e → hops ++ told_until f (drop at all) ≡ old → hops ++ [] ≡ old
   put-none old hops t so =

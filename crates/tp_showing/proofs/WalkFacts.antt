@@ -47,6 +47,22 @@ module _ {N C : Type 0} (net : N → Net) (content : N → C) (past : N → List
   pub marks-below : (b b' : BoardValue N) (n k : ℕ) → length (past_of past b) + n ≤ mark_room b.net - 1 → k < n → IsSince net content past mark_room b b' machine → HasMarks net content past mark_room (k + 1) b'
   marks-below b b' n k spare less since = let p = ap length since.past_same in let q = since.room in omega (arith, p, q, spare, less)
 
+  -- a board that was taken back carries what it carried, and has a mark to spare
+  pub record IsStill (b b' : BoardValue N) (r : Branch) (x : Suffix) : Type 0 where
+    pub set : IsSet net content past mark_room machine ask b'
+    pub plans : b'.plans ≡ b.plans
+    pub carries : Carries net content past mark_room machine ask b' r x
+    pub spare : HasMarks net content past mark_room 1 b'
+
+  pub still : (b b' : BoardValue N) (r : Branch) (x : Suffix) → IsBack net content past mark_room b b' machine → IsSet net content past mark_room machine ask b → Carries net content past mark_room machine ask b r x → HasMarks net content past mark_room (below r + 1) b
+      → IsStill b b' r x
+  still b b' r x back set c marks = record {
+    set = set-since b b' back.since set;
+    plans = back.since.load.plans;
+    carries = carries-same net content past mark_room machine b.plans ask [] 0 [] [] b b' r x back.content_same back.since.load.plans c;
+    spare = let was = ap length back.since.past_same in let room = back.since.room in omega (arith, was, room, marks);
+  }
+
 module _ {N C A : Type 0} (net : N → Net) (content : N → C) (past : N → List C) (aside : N → A) (mark_room : N → ℕ) (machine : Machine) (ask : Ask) where
   -- the board is marked at a way of the branch that it carries
   pub record IsAtWay (b b' : BoardValue N) (r : Branch) (x : Suffix) : Type 0 where

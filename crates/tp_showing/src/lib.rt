@@ -8,11 +8,14 @@ mod goals;
 mod hops;
 mod opening;
 mod putting;
+mod range;
 mod rows;
 mod scene;
 mod showing;
+mod side;
 mod walking;
 mod ways;
+mod widening;
 
 pub use scene::NotShown;
 pub use showing::show_limit;

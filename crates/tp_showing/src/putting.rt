@@ -26,7 +26,12 @@ use tp_placing::Board;
 use tp_schedule::{Ask, Origin, new_sheet};
 
 /// One node more.
-fn put_node(nodes: &mut Nodes, depth: u32, head: Head, close: Close) -> Result<(), Memory>
+pub(crate) fn put_node(
+    nodes: &mut Nodes,
+    depth: u32,
+    head: Head,
+    close: Close,
+) -> Result<(), Memory>
     ensures { OnOk result (nodes.new
         ≡ nodes.old ++ record { depth = depth; head = head; close = close } ∷ []) }
 {

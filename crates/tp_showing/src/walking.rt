@@ -11,12 +11,13 @@ ghost use Rattle.tp_showing.specs.Showing.{Carries, HasMarks, IsBack, IsEarly, I
 
 use crate::scene::{Branch, NotShown, Scene};
 use crate::ways::{enter, ways};
+use crate::widening::close_from;
 use tp_base::{Network, Undo};
 use tp_bounds::Nodes;
 use tp_placing::{Board, marks_keep_boards};
 
-/// Adds the nodes below the branch that the board carries, which is split. Leaves the board as it
-/// was.
+/// Adds the nodes below the branch that the board carries, which is split. Places of a hold that one
+/// reason closes have one node. Leaves the board as it was.
 pub(crate) fn show_below<N: Network>(
     nodes: &mut Nodes,
     board: &mut Board<N>,
@@ -46,7 +47,16 @@ pub(crate) fn show_below<N: Network>(
 {
     marks_keep_boards::<N>();
     let count = ways(board, scene, branch);
-    'ways: for way in 0..count {
+    let mut way = 0;
+    'ways: while way < count {
+        let next = match close_from(nodes, board, scene, branch, way, count) {
+            Ok(next) => next,
+            Err(fault) => return Err(fault),
+        };
+        if next > way {
+            way = next;
+            continue 'ways;
+        }
         let mark = board.mark();
         let shown = match enter(nodes, board, scene, branch, way as u32) {
             Ok(Some(child)) => show_below(nodes, board, scene, child),
@@ -58,6 +68,7 @@ pub(crate) fn show_below<N: Network>(
             Ok(()) => {}
             Err(fault) => return Err(fault),
         }
+        way += 1;
     }
     Ok(())
 }

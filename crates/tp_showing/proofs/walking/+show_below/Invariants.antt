@@ -1,4 +1,4 @@
-use Rattle.std.proofs.Common.{◌≡◌, List, Some}
+use Rattle.std.proofs.Common.{◌≡◌, ◌-◌, ◌≤◌, List, Some}
 use Rattle.tp_bounds.specs.declared.tree.TreeRow.{TreeRow}
 use Rattle.tp_constraints.specs.Suffixes.{Suffix}
 use Rattle.tp_placing.specs.Boards.{suffix_of}
@@ -16,4 +16,9 @@ invariant-ways g l = record {
       (λ (rows : List TreeRow). kids_of l.scene.machine.now l.fn.board.plans l.scene.ask.now rows (branch_by l.branch x))
       (λ rows. left_of l.scene.machine.now l.fn.board.plans l.scene.ask.now rows (branch_by l.branch x) (hold_of l.scene.machine.now l.branch) l.way);
   back : IsBack g.N.Network.net g.N.Undo.content g.N.Undo.past g.N.Undo.mark_room l.fn.board l.board l.scene.machine.now;
+  within : l.way ≤ l.count;
 }
+
+-- how many ways are left
+abbrev pub decreases-ways : goal.decreases-ways
+decreases-ways g l = l.count - l.way
