@@ -1,6 +1,7 @@
 pub mod Runs
 pub mod Carrying
 pub mod Wholes
+pub mod EventRuns
 pub mod Ends
 pub mod Told
 pub mod Promised

@@ -3,6 +3,7 @@
 ghost use Rattle.std.specs.Prelude.{ℕ, Bool};
 ghost use Rattle.tp_machine.specs.declared.machine.Machine.{Machine};
 ghost use Rattle.tp_runs.specs.Carrying.{RightTurns, TreesHaveLines};
+ghost use Rattle.tp_runs.specs.EventRuns.{EventsAreLawful, TurnsTellLines};
 ghost use Rattle.tp_runs.specs.Ends.{ScriptsAreLawful, StopsAreLawful};
 ghost use Rattle.tp_runs.specs.Promised.{AnswersKeepPromises, LawfulRunsKeepPromises, StopsKeepPromises};
 ghost use Rattle.tp_runs.specs.Told.{LiveTurnsHaveLines, TurnsHaveLines};
@@ -42,6 +43,15 @@ pub fn shown_trees_have_lines<P: Planner>()
 pub fn answered_lines_are_lawful()
     ensures { (machine : Machine) (nodes : ℕ) (bounds : Bool)
         → LinesAreLawful machine nodes bounds }
+{}
+
+/// Where events are answered, each by a turn on every whole state behind the live one, they are answered by a lawful run, and
+/// the text of the answers is the text of its log. Each answer is whole lines.
+pub fn answered_events_are_lawful()
+    ensures lawful { (machine : Machine) (nodes : ℕ) (bounds : Bool)
+        → EventsAreLawful machine nodes bounds }
+    ensures lines { (machine : Machine) (nodes : ℕ) (bounds : Bool)
+        → TurnsTellLines machine nodes bounds }
 {}
 
 /// A script that is answered whole is answered by a lawful run.

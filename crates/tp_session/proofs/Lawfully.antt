@@ -10,11 +10,14 @@ use Rattle.tp_stream.specs.Scripts.{AnswersLine, NoRefusal}
 use Rattle.tp_stream.specs.Takes.{Place, Stops, StopsBefore, TakesAll, place_of}
 use Rattle.tp_stream.specs.declared.stop.Stop.{Stop}
 use Rattle.tp_stream.specs.declared.stop.Stop.TheVariants.{Memory, Refused, Source, Sink, Line, Lines}
+use Rattle.tp_teller.specs.Tellers.{TellsAll}
 use Rattle.tp_turn.specs.States.{SessionState, empty_state}
 use Rattle.tp_runs.specs.Ends.{IsAnswered, IsAnsweredTo}
+use Rattle.tp_runs.specs.EventRuns.{IsRunOf, TellsEvent}
 use Rattle.tp_runs.specs.Wholes.{TellsLine, TellsTurn}
+use Rattle.tp_runs.proofs.Lawful.{events_lawful, turns_tell_lines}
 use Rattle.tp_runs.proofs.Scripts.{scripts_lawful, stops_lawful}
-use Rattle.tp_session.specs.Sessions.{Standing, Tells}
+use Rattle.tp_session.specs.Sessions.{SessionsTellLines, Standing, Tells}
 
 module _ (machine : Machine) (nodes : ℕ) (bounds : Bool) where
   abbrev Lawful : SessionState → List ℕ → List ℕ → SessionState → Type 0
@@ -104,3 +107,21 @@ module _ (machine : Machine) (nodes : ℕ) (bounds : Bool) where
         few = h.few;
         stops = seen_stop stop h.rest h.at s taken' lines.has h.stops;
       })
+
+  -- events without lines around them
+  record EventsOf (s : Standing) (events : List Event) (text : List ℕ) (s' : Standing) : Type 0 where
+    tells : TellsAll (TellsEvent machine nodes bounds) s.state events text s'.state
+
+  all_events : (events : List Event) (text : List ℕ) (s s' : Standing) → Has s → TellsAll Tells s events text s' → EventsOf s events text s'
+  all_events [] text s s' has (none, same) = record { tells = (none, ap (λ (x : Standing). x.state) same) }
+  all_events (event ∷ events) text s s' has (told, (mid, (rest, one, others, same))) =
+      let has-mid : Has mid = record { machine_is = one.same_machine ∙ has.machine_is; budget_is = one.same_budget ∙ has.budget_is; bounds_is = one.same_bounds ∙ has.bounds_is } in
+      let first = subst (λ b. TellsTurn machine nodes b event s.state told mid.state) has.bounds_is
+      (subst (λ n. TellsTurn machine n s.bounds event s.state told mid.state) has.budget_is (subst (λ m. TellsTurn m s.budget s.bounds event s.state told mid.state) has.machine_is one.turn)) in
+      record { tells = (told, (mid.state, (rest, first, (all_events events rest mid s' has-mid others).tells, same))) }
+
+  pub sessions_tell : (events : List Event) (text : List ℕ) (s : Standing) → TellsAll Tells start events text s → IsRunOf machine nodes bounds events text
+  sessions_tell events text s h = events_lawful machine nodes bounds events text s.state (all_events events text start s starts h).tells
+
+pub sessions_tell_lines : SessionsTellLines
+sessions_tell_lines event s s' text h = turns_tell_lines s.machine s.budget s.bounds event s.state s'.state text h.turn

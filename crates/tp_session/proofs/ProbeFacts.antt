@@ -50,8 +50,8 @@ use Rattle.tp_turning.proofs.LivePast.{both-parts, gone-is, gone_at, may-ask, ma
 use Rattle.tp_turning.proofs.TurnFacts.{match-false}
 use Rattle.tp_turning.proofs.LiveStates.{WaitsFree, can-ask-live, whole-all}
 use Rattle.tp_session.specs.Probes.{AskGives, GivesProbe, IsProbe, Probes, ProbesJob, first_copy}
-use Rattle.tp_session.specs.declared.probe.Probe.{Probe}
-use Rattle.tp_session.specs.declared.probe.Probe.TheVariants.{Ends, Never, Spent, Full, Waits, Refused}
+use Rattle.tp_teller.specs.declared.probe.Probe.{Probe}
+use Rattle.tp_teller.specs.declared.probe.Probe.TheVariants.{Ends, Never, Spent, Full, Waits, Refused}
 
 -- The first copy.
 

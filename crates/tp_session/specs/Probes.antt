@@ -20,8 +20,8 @@ use Rattle.tp_turn.specs.States.{SessionState}
 use Rattle.tp_turn.specs.Turns.{with_job}
 use Rattle.tp_runs.specs.Wholes.{IsWhole}
 use Rattle.tp_session.specs.Sessions.{Standing}
-use Rattle.tp_session.specs.declared.probe.Probe.{Probe}
-use Rattle.tp_session.specs.declared.probe.Probe.TheVariants.{Ends, Never, Spent, Full, Waits, Refused}
+use Rattle.tp_teller.specs.declared.probe.Probe.{Probe}
+use Rattle.tp_teller.specs.declared.probe.Probe.TheVariants.{Ends, Never, Spent, Full, Waits, Refused}
 
 -- what an ask gives: the end of the earliest plans, that there is no alternative, or that the budget of so many lists of
 -- choices is spent

@@ -1,14 +1,16 @@
 -- What a session is seen as, and what one event does to it.
-use Rattle.std.specs.Prelude.{◌≡◌, ℕ, ◌≤◌, Bool, List, [], Option, IsTrue, unwrap_or}
+use Rattle.std.specs.Prelude.{◌≡◌, ℕ, ◌≤◌, Bool, true, List, [], Option, IsTrue, unwrap_or}
 use Rattle.tp_machine.specs.declared.machine.Machine.{Machine}
 use Rattle.tp_script.specs.declared.event.Event.{Event}
 use Rattle.tp_search.specs.Engines.{EngineValue, is_engine_for}
-use Rattle.tp_stream.specs.Scripts.{AnswersLine, NoRefusal, line_bytes, most_events, most_lines}
-use Rattle.tp_stream.specs.Takes.{Stops, TakesAll, place_of}
+use Rattle.tp_stream.specs.Scripts.{AnswersLine, NoRefusal, line_bytes, most_lines}
+use Rattle.tp_stream.specs.Takes.{Stops, TakesAll, ends_whole, place_of}
 use Rattle.tp_stream.specs.declared.stop.Stop.{Stop}
+use Rattle.tp_teller.specs.Tellers.{TellsAll, most_events}
 use Rattle.tp_turn.specs.Ready.{CanTakeEvents}
 use Rattle.tp_turn.specs.States.{SessionState, empty_state}
 use Rattle.tp_runs.specs.Ends.{IsAnswered, IsAnsweredTo}
+use Rattle.tp_runs.specs.EventRuns.{IsRunOf}
 use Rattle.tp_runs.specs.Wholes.{TellsTurn}
 
 -- the machine, the budget, whether bounds are shown, and the live part of the state: all that answers depend on
@@ -56,3 +58,13 @@ abbrev pub SessionsStopLawful : Machine → Option ℕ → Bool → Type 0
 SessionsStopLawful machine budget bounds = (stop : Stop) (script : List ℕ) (taken taken' : Option (List ℕ)) (s : Standing)
     → Stops (AnswersLine Tells) NoRefusal line_bytes most_lines (place_of (start_of machine budget bounds) 0 taken) script stop s taken'
     → IsAnsweredTo machine (unwrap_or budget machine.budget) bounds stop script taken taken'
+
+-- events that a session answers from its start are answered lawfully
+abbrev pub SessionsTellLawful : Machine → Option ℕ → Bool → Type 0
+SessionsTellLawful machine budget bounds = (events : List Event) (text : List ℕ) (s : Standing)
+    → TellsAll Tells (start_of machine budget bounds) events text s
+    → IsRunOf machine (unwrap_or budget machine.budget) bounds events text
+
+-- each by whole lines
+abbrev pub SessionsTellLines : Type 0
+SessionsTellLines = (event : Event) (s s' : Standing) (text : List ℕ) → Tells s event text s' → ends_whole text ≡ true

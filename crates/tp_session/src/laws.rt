@@ -3,7 +3,7 @@
 ghost use Rattle.std.specs.Prelude.{ℕ, Bool, Option};
 ghost use Rattle.tp_machine.specs.declared.machine.Machine.{Machine};
 ghost use Rattle.tp_runs.specs.Carrying.{KeepsNodes, ShowsTrees};
-ghost use Rattle.tp_session.specs.Sessions.{SessionsLawful, SessionsStopLawful};
+ghost use Rattle.tp_session.specs.Sessions.{SessionsLawful, SessionsStopLawful, SessionsTellLawful, SessionsTellLines};
 ghost use Rattle.tp_turn.specs.Planners.{right_steps};
 ghost use Rattle.tp_turning.specs.LiveTurns.{AnswersAlone, SettlesRightly};
 
@@ -28,10 +28,14 @@ pub fn engines_answer_alone<N: Network>()
         (λ e. e.bounds) (λ e. e.trees) }
 {}
 
-/// The script that a session answers from its start is answered by a lawful run, and so are the first lines where it stops.
+/// The script that a session answers from its start is answered by a lawful run, and so are the first lines where it stops, and
+/// events without a script. Each answer is whole lines.
 pub fn sessions_are_lawful()
     ensures whole { (machine : Machine) (budget : Option ℕ) (bounds : Bool)
         → SessionsLawful machine budget bounds }
     ensures stopped { (machine : Machine) (budget : Option ℕ) (bounds : Bool)
         → SessionsStopLawful machine budget bounds }
+    ensures told { (machine : Machine) (budget : Option ℕ) (bounds : Bool)
+        → SessionsTellLawful machine budget bounds }
+    ensures lines { SessionsTellLines }
 {}

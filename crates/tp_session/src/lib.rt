@@ -2,7 +2,6 @@
 #![tactic(auto)]
 
 mod laws;
-mod probe;
 mod probing;
 mod session;
 mod settings;
@@ -10,6 +9,6 @@ mod telling;
 mod turning;
 
 pub use laws::{engines_answer_alone, sessions_are_lawful};
-pub use probe::Probe;
 pub use session::{Session, SessionOver};
 pub use settings::Settings;
+pub use tp_teller::Probe;

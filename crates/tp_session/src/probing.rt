@@ -13,12 +13,12 @@ ghost use Rattle.tp_session.specs.Probes.{AskGives, GivesProbe, IsProbe};
 ghost use Rattle.tp_turn.specs.LiveStates.{seen};
 ghost use Rattle.tp_turn.specs.Ready.{CanTakeEvents, last_copy};
 
-use crate::probe::Probe;
 use tp_base::{Name, Network, Undo};
 use tp_machine::{LocId, Machine, Sheet};
 use tp_schedule::{Ask, Empties, Goal, Origin, Schedule, SheetId};
 use tp_script::{Event, Group};
 use tp_search::{Engine, NoPlan};
+use tp_teller::Probe;
 use tp_turn::LiveState;
 use tp_turning::MOST_LIVE;
 

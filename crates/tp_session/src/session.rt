@@ -3,10 +3,9 @@
 ghost use Rattle.std.specs.Prelude.{◌≡◌, ◌+◌, ◌<◌, ◌≤◌, ◌++◌, ℕ, List, [], OnOk, OnErr, IfOk, IsOk};
 ghost use Rattle.tp_placing.specs.Inside.{most_edges, most_points};
 ghost use Rattle.tp_script.specs.Printed.{IsEchoed};
-ghost use Rattle.tp_stream.specs.Scripts.{most_events};
+ghost use Rattle.tp_teller.specs.Tellers.{most_events};
 ghost use Rattle.tp_turn.specs.LiveStates.{seen};
 
-use crate::probe::Probe;
 use crate::probing::{first_ask, try_ask};
 use crate::settings::Settings;
 use crate::turning::take_turn;
@@ -19,7 +18,7 @@ use tp_schedule::Schedule;
 use tp_script::Event;
 use tp_search::Engine;
 use tp_stn_undo::LiveNet;
-use tp_stream::Teller;
+use tp_teller::{Probe, Teller};
 use tp_turn::LiveState;
 use tp_turning::empty_state_can_begin;
 
@@ -222,6 +221,7 @@ impl<N: Network> SessionOver<N> {
 }
 
 impl<N: Network> Teller for SessionOver<N> {
+    ghost use Rattle.tp_session.specs.Probes.{Probes};
     ghost use Rattle.tp_session.specs.Sessions.{Standing, Tells};
 
     ghost State = { Standing };
@@ -233,6 +233,12 @@ impl<N: Network> Teller for SessionOver<N> {
     ghost answered = { λ s. s.answered };
 
     ghost tells = { Tells };
+
+    ghost probes = { Probes };
+
+    fn probe(&mut self, event: &Event) -> Result<Probe, Memory> {
+        self.probe(event)
+    }
 
     fn event(&mut self, event: &Event) -> Result<(), Memory> {
         self.event(event)

@@ -7,15 +7,12 @@ use Rattle.tp_script.specs.declared.event.Event.{Event}
 use Rattle.tp_stream.specs.Takes.{IsReadFrom, Stops, TakesAll, place_of}
 use Rattle.tp_stream.specs.declared.stop.Stop.{Stop}
 
--- the most bytes of a script's line without its LF, the most lines, and the most events that are answered
+-- the most bytes of a script's line without its LF, and the most lines
 abbrev pub line_bytes : ℕ
 line_bytes = 4096
 
 abbrev pub most_lines : ℕ
 most_lines = 1000000
-
-abbrev pub most_events : ℕ
-most_events = 100000000
 
 -- what reading the event of a line answers
 abbrev pub ReadsEvent : List ℕ → Option Event → Type 0

@@ -7,11 +7,9 @@ mod script;
 mod stop;
 mod streaming;
 mod taker;
-mod teller;
 
 pub use limits::Limits;
-pub use script::answer_script;
+pub use script::{SCRIPT_LIMITS, answer_script};
 pub use stop::{Refusal, Stop};
 pub use streaming::stream;
 pub use taker::LineTaker;
-pub use teller::Teller;

@@ -2,7 +2,7 @@
 use Rattle.std.proofs.Common.{ℕ, ◌+◌, ◌<◌, ◌≤◌, arith, sym, ap, subst, ◌∙◌}
 use Rattle.std.specs.Prelude.{IsTrue}
 use Rattle.tp_search.specs.Engines.{is_engine_for}
-use Rattle.tp_stream.specs.Scripts.{most_events}
+use Rattle.tp_teller.specs.Tellers.{most_events}
 use Rattle.tp_turn.specs.LiveStates.{seen}
 use Rattle.tp_turn.specs.Ready.{CanTakeEvents, last_copy}
 use Rattle.tp_turn.proofs.ReadyTurns.{events-more}

@@ -1,0 +1,5 @@
+use Rattle.tp_farm.proofs.Parting.{farms_part}
+use Rattle.tp_farm.proofs.laws.farms_part.Goals as goal
+
+pub returns : goal.returns
+returns g c = farms_part g.T.Teller.tells g.T.Teller.probes

@@ -1,0 +1,11 @@
+use Rattle.std.proofs.Common.{◌≡◌, take}
+use Rattle.std.specs.List.{All}
+use Rattle.tp_words.specs.Parts.{shown}
+use Rattle.tp_farm.specs.Lists.{IsFileName}
+use Rattle.tp_farm.proofs.listing.name_texts.Given as goal
+
+abbrev pub invariant-loop-place : goal.invariant-loop-place
+invariant-loop-place l = record {
+  texts : shown l.texts.items ≡ take l.place (shown l.names);
+  good : All IsFileName (take l.place (shown l.names));
+}

@@ -1,0 +1,7 @@
+pub mod Choosing
+pub mod Addresses
+pub mod Numbered
+pub mod Farms
+pub mod Inside
+pub mod Scripts
+pub mod Lists
