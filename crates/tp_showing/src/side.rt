@@ -22,8 +22,8 @@ fn is_own_hold(hold: &TreeHold, count: u32) -> bool
 }
 
 impl Side {
-    /// Whether a hop leads on the resource of this name from the newest choice's hold to one on this
-    /// side of it, or from there to it.
+    /// Whether a hop leads on the resource of this name from the newest choice's hold to one on
+    /// this side of it, or from there to it.
     fn leads(self, name: &Name, count: u32, hop: &Hop) -> bool
         ensures { result ≡ leads self name.now count hop.now }
     {

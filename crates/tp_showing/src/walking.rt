@@ -16,8 +16,8 @@ use tp_base::{Network, Undo};
 use tp_bounds::Nodes;
 use tp_placing::{Board, marks_keep_boards};
 
-/// Adds the nodes below the branch that the board carries, which is split. Places of a hold that one
-/// reason closes have one node. Leaves the board as it was.
+/// Adds the nodes below the branch that the board carries, which is split. Places of a hold that
+/// one reason closes have one node. Leaves the board as it was.
 pub(crate) fn show_below<N: Network>(
     nodes: &mut Nodes,
     board: &mut Board<N>,

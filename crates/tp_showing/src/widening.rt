@@ -28,8 +28,9 @@ fn late_end<N: Network>(
     requires limit { IsLimit scene.machine.now scene.ask.now (pos scene.limit) }
     requires carries { (x : Suffix) × Carries N.net N.content N.past N.mark_room scene.machine.now
         scene.ask.now board.old child x }
-    ensures closes { IfOk result (λ o. IfSome o (λ close. (x : Suffix) → suffix_of board.old ≡ Some x
-        → Closes scene.entry.machine.now board.old.plans scene.entry.ask.now
+    ensures closes { IfOk result (λ o. IfSome o (λ close. (x : Suffix)
+        → suffix_of board.old ≡ Some x → Closes scene.entry.machine.now board.old.plans
+        scene.entry.ask.now
         (pos scene.entry.limit) x close)) }
     ensures since { IsSince N.net N.content N.past N.mark_room board.old board.new
         scene.entry.machine.now }
@@ -63,8 +64,9 @@ fn refuse_place<N: Network>(
     requires next { hold_of scene.machine.now branch ≡ Some places.rule }
     requires within { (x : Suffix) → suffix_of board.old ≡ Some x
         → place ≤ length (order_in scene.machine.now board.old.plans x places.rule.resource.0) }
-    ensures closes { IfOk result (λ o. IfSome o (λ close. (x : Suffix) → suffix_of board.old ≡ Some x
-        → Closes scene.entry.machine.now board.old.plans scene.entry.ask.now
+    ensures closes { IfOk result (λ o. IfSome o (λ close. (x : Suffix)
+        → suffix_of board.old ≡ Some x → Closes scene.entry.machine.now board.old.plans
+        scene.entry.ask.now
         (pos scene.entry.limit) (with_place place x) close)) }
     ensures since { IsSince N.net N.content N.past N.mark_room board.old board.new
         scene.entry.machine.now }
@@ -103,8 +105,9 @@ fn close_place<N: Network>(
     requires within { (x : Suffix) → suffix_of board.old ≡ Some x
         → place ≤ length (order_in scene.machine.now board.old.plans x places.rule.resource.0) }
     requires marks { HasMarks N.net N.content N.past N.mark_room 1 board.old }
-    ensures closes { IfOk result (λ o. IfSome o (λ close. (x : Suffix) → suffix_of board.old ≡ Some x
-        → Closes scene.entry.machine.now board.old.plans scene.entry.ask.now
+    ensures closes { IfOk result (λ o. IfSome o (λ close. (x : Suffix)
+        → suffix_of board.old ≡ Some x → Closes scene.entry.machine.now board.old.plans
+        scene.entry.ask.now
         (pos scene.entry.limit) (with_place place x) close)) }
     ensures back { IsBack N.net N.content N.past N.mark_room board.old board.new
         scene.entry.machine.now }
@@ -136,8 +139,9 @@ fn range_at<N: Network>(
     requires begins { places.lo ≤ place }
     requires ends { place ≤ places.last }
     requires marks { HasMarks N.net N.content N.past N.mark_room 1 board.old }
-    ensures range { IfOk result (λ o. IfSome o (λ range. (x : Suffix) → suffix_of board.old ≡ Some x
-        → IsRange scene.entry.machine.now board.old.plans scene.entry.ask.now
+    ensures range { IfOk result (λ o. IfSome o (λ range. (x : Suffix)
+        → suffix_of board.old ≡ Some x → IsRange scene.entry.machine.now board.old.plans
+        scene.entry.ask.now
         (pos scene.entry.limit) x places.rule places.lo place places.last range)) }
     ensures back { IsBack N.net N.content N.past N.mark_room board.old board.new
         scene.entry.machine.now }
@@ -149,8 +153,8 @@ fn range_at<N: Network>(
     }
 }
 
-/// The most places from the first that is due on for which one close serves, as far as halving finds
-/// them. None where the board knows nothing against the first.
+/// The most places from the first that is due on for which one close serves, as far as halving
+/// finds them. None where the board knows nothing against the first.
 fn widest<N: Network>(
     board: &mut Board<N>,
     scene: Scene,
@@ -168,8 +172,9 @@ fn widest<N: Network>(
         ≡ length (order_in scene.machine.now board.old.plans x places.rule.resource.0) }
     requires some { places.lo ≤ places.last }
     requires marks { HasMarks N.net N.content N.past N.mark_room 1 board.old }
-    ensures range { IfOk result (λ o. IfSome o (λ range. (x : Suffix) → suffix_of board.old ≡ Some x
-        → IsRange scene.entry.machine.now board.old.plans scene.entry.ask.now
+    ensures range { IfOk result (λ o. IfSome o (λ range. (x : Suffix)
+        → suffix_of board.old ≡ Some x → IsRange scene.entry.machine.now board.old.plans
+        scene.entry.ask.now
         (pos scene.entry.limit) x places.rule places.lo places.lo places.last range)) }
     ensures back { IsBack N.net N.content N.past N.mark_room board.old board.new
         scene.entry.machine.now }
