@@ -4,3 +4,4 @@ pub mod Lines
 pub mod Clashes
 pub mod Marks
 pub mod Early
+pub mod Bounds

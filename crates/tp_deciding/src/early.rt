@@ -30,7 +30,7 @@ pub struct Early {
     pub earlier: Tick,
 }
 
-fn is_exempt(exempt: Option<SheetId>, plan: &Plan) -> bool
+pub(crate) fn is_exempt(exempt: Option<SheetId>, plan: &Plan) -> bool
     ensures { result ≡ is_exempt exempt plan.now }
 {
     match exempt {
@@ -40,7 +40,7 @@ fn is_exempt(exempt: Option<SheetId>, plan: &Plan) -> bool
 }
 
 /// Whether the point is the start or the end of a released action, or any point of a front.
-fn is_fixed(plan: &Plan, at: u32) -> bool
+pub(crate) fn is_fixed(plan: &Plan, at: u32) -> bool
     ensures { result ≡ is_fixed plan.now at }
 {
     let begun = 0 < plan.released && at <= plan.released;
