@@ -32,6 +32,7 @@ pub mod LoadChains
 pub mod LoadPoints
 pub mod LoadHolds
 pub mod BeginFacts
+pub mod OrderFacts
 pub mod PutFacts
 pub mod LoadTable
 pub mod LoadHops
