@@ -180,3 +180,37 @@ take-queue base place top heads nexts node link within none is read =
 -- what was taken was in it
 pub some-taken : (node : ℕ) (before after : List Queued) → IsTaken node before after → before ≡ [] → ⊥
 some-taken node before after taken none = (let l = length_permutation before (record { node = node; bound = taken.bound } ∷ after) taken.rest in let e = ap length none in omega arith)
+
+-- the head of any bound taken out
+module _ (base cursor top place : ℕ) (heads nexts : List (Option ℕ)) (node : ℕ) (is : IsQueue base cursor top heads nexts) (here : head_at heads place ≡ Some node) where
+  head-out : IsPermutation (queued_of base nexts heads) (record { node = node; bound = base + place } ∷ queued_of base nexts (slice_set heads place (head_at nexts node)))
+  head-out = take-out base (length nexts) nexts heads place node (base + place) here refl (few (queued_of base nexts heads) (length nexts) is.linked.queued)
+
+  pub head-known : node < length nexts
+  head-known =
+      taken_known (record { node = node; bound = base + place }) (queued_of base nexts heads) (queued_of base nexts (slice_set heads place (head_at nexts node))) (length nexts) is.linked.queued head-out
+
+  -- with the link behind it, as it is read
+  module _ (link : Option ℕ) (read : link ≡ get_or nexts node link) where
+    pub head-moved : (bound : ℕ) → bound ≡ base + place → IsPermutation (queued_of base nexts heads) (record { node = node; bound = bound } ∷ queued_of base nexts (slice_set heads place link))
+    head-moved bound at =
+        subst (λ b. IsPermutation (queued_of base nexts heads) (record { node = node; bound = b } ∷ queued_of base nexts (slice_set heads place link))) (sym at)
+        (subst (λ behind. IsPermutation (queued_of base nexts heads) (record { node = node; bound = base + place } ∷ queued_of base nexts (slice_set heads place behind))) (sym (get_or_read nexts node link head-known read None)) head-out)
+
+    pub head-gone : ¬ IsIn node (queued_of base nexts (slice_set heads place link))
+    head-gone = taken_out (record { node = node; bound = base + place }) (queued_of base nexts heads) (queued_of base nexts (slice_set heads place link)) (length nexts) is.linked.queued (head-moved (base + place) refl)
+
+    pub head-queue : IsQueue base cursor top (slice_set heads place link) nexts
+    head-queue =
+        let many = length-set heads place link in
+        let within = is.top_within in
+        let before = is.linked.within in
+        record {
+          linked = record {
+            queued = take-queued (record { node = node; bound = base + place }) (queued_of base nexts heads) (queued_of base nexts (slice_set heads place link)) (length nexts) is.linked.queued (head-moved (base + place) refl);
+            within = omega arith;
+            empty = λ k earlier. get_or-set_other heads place k link None (λ e. none-some node (sym (is.linked.empty k earlier) ∙ ap (head_at heads) e ∙ here)) ∙ is.linked.empty k earlier;
+          };
+          top_within = omega arith;
+          none_above = λ k above. get_or-set_other heads place k link None (λ e. none-some node (sym (is.none_above k above) ∙ ap (head_at heads) e ∙ here)) ∙ is.none_above k above;
+        }

@@ -6,3 +6,4 @@ pub mod QueueFacts
 pub mod LinkFacts
 pub mod BucketFacts
 pub mod CallerFacts
+pub mod TurnFacts

@@ -1,4 +1,4 @@
-ghost use Rattle.std.specs.Prelude.{◌≡◌, ◌≢◌, ℕ, ◌+◌, ◌<◌, ◌≤◌, ◌↔◌, [], ◌∷◌, length, None, IfOk, IfSome};
+ghost use Rattle.std.specs.Prelude.{◌≡◌, ◌≢◌, ℕ, ◌+◌, ◌<◌, ◌≤◌, ◌↔◌, [], ◌∷◌, length, None, IfNone, IfOk, IfSome};
 ghost use Rattle.std.specs.List.Sorted.{IsPermutation};
 ghost use Rattle.tp_pool.specs.Queues.{IsIn, IsLeastIn, IsTaken, head_at};
 
@@ -87,6 +87,51 @@ impl Buckets {
         self.heads[place] = Some(node);
         self.cursor = self.cursor.min(place);
         self.top = self.top.max(place + 1);
+    }
+
+    /// Takes out the node that was put in last with this bound, or gives None where there is none.
+    fn take_of(&mut self, bound: Tick) -> Option<u32>
+        requires from { self.old.base ≤ bound }
+        requires below { bound < self.old.base + self.old.width }
+        ensures none { IfNone result (self.new.queued ≡ self.old.queued) }
+        ensures taken { IfSome result (λ node.
+            IsPermutation self.old.queued (record { node = node; bound = bound } ∷ self.new.queued)) }
+        ensures out { IfSome result (λ node. ¬ IsIn node self.new.queued) }
+        ensures known { IfSome result (λ node. node < self.old.nodes) }
+        ensures nodes { self.new.nodes ≡ self.old.nodes }
+        ensures width { self.new.width ≡ self.old.width }
+        ensures base { self.new.base ≡ self.old.base }
+    {
+        let place = (bound - self.base) as usize;
+        let node = self.heads[place]?;
+        self.heads[place] = self.nexts[node as usize];
+        Some(node)
+    }
+
+    /// Puts a node in as `put` does. But where the node that would be taken first of this bound is not below `from`, that one is
+    /// taken before it still. So of the nodes from this number on the one that is put in first is taken first.
+    pub fn put_in_turn(&mut self, node: u32, bound: Tick, from: u32)
+        requires node { node < self.old.nodes }
+        requires from { self.old.base ≤ bound }
+        requires below { bound < self.old.base + self.old.width }
+        requires out { ¬ IsIn node self.old.queued }
+        ensures queued { IsPermutation (record { node = node; bound = bound } ∷ self.old.queued)
+            self.new.queued }
+        ensures nodes { self.new.nodes ≡ self.old.nodes }
+        ensures width { self.new.width ≡ self.old.width }
+        ensures base { self.new.base ≡ self.old.base }
+    {
+        match self.take_of(bound) {
+            Some(first) if first >= from => {
+                self.put(node, bound);
+                self.put(first, bound);
+            }
+            Some(first) => {
+                self.put(first, bound);
+                self.put(node, bound);
+            }
+            None => self.put(node, bound),
+        }
     }
 
     /// A node of least bound, or None where there is none. It stays in. Costs what a take costs.
