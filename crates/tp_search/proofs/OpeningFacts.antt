@@ -1,5 +1,5 @@
 -- The steps of opening a list: a child is looked at, and taken as the answer or stored.
-use Rattle.std.proofs.Common.{◌≡◌, ◌==◌, ◌↔◌, ◌⊎◌, inl, inr, ℕ, Bool, true, false, IsTrue, if◌then◌else◌, List, [], ◌∷◌, ◌++◌, length, take, Option, Some, None, refl, sym, ap, subst, ◌∙◌, arith}
+use Rattle.std.proofs.Common.{◌≡◌, ◌==◌, ◌↔◌, ◌⊎◌, inl, inr, ℕ, Bool, true, false, IsTrue, if◌then◌else◌, List, [], ◌∷◌, ◌++◌, length, take, Option, Some, None, IsSome, refl, sym, ap, subst, ◌∙◌, arith}
 use Rattle.std.proofs.lemmas.Bool.{and_from, and_parts, both_ways, eq-eqb, eqb-false, eqb-true}
 use Rattle.std.proofs.lemmas.List.{append-nil, take-append-le}
 use Rattle.std.proofs.lemmas.List.Elements.{All-weaker}
@@ -136,6 +136,25 @@ opening-on machine plans ask o s p q opening more only = record {
     | inl earlier ↦ opening.finished list earlier answers
     | inr closed ↦ absurd (closed (o.bound, answers.is_bound.opens))
   ];
+  right = opening.right;
+  same_goal = opening.same_goal;
+  spent = opening.spent;
+  has_best = opening.has_best;
+} where
+  on : (e : Entry) → IsOpenChild machine plans ask (parent_of machine s.entries o.goal o.parent) o.bound (choices_before s.entries o.parent) p e
+      → IsOpenChild machine plans ask (parent_of machine s.entries o.goal o.parent) o.bound (choices_before s.entries o.parent) q e
+  on e is = record { newest = is.newest; choices = is.choices; goal = is.goal; is_child = is.is_child; looked = more (list_by machine e.choices) is.looked; is_bound = is.is_bound }
+
+-- with an answer no more children need be looked at
+pub opening-found : (machine : Machine) (plans : List Plan) (ask : Ask) (o : Opening) (s : StoreValue) (p q : Progress) → IsAtProgress machine plans ask o s p → IsSome o.answer → ((list : ChoiceList) → IsLooked p list → IsLooked q list)
+    → IsAtProgress machine plans ask o s q
+opening-found machine plans ask o s p q opening found more = record {
+  new = opening.new;
+  grown = opening.grown;
+  children = All-weaker _ _ on opening.new opening.children;
+  apart = opening.apart;
+  reached = λ list child looked opens. inl found;
+  finished = λ list looked answers. found;
   right = opening.right;
   same_goal = opening.same_goal;
   spent = opening.spent;

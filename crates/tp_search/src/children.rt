@@ -41,12 +41,12 @@ fn keep_child(store: &mut Store, opening: &mut Opening, choice: Choice, bound: T
     if complete && bound == opening.bound {
         opening.answer = Some(choice);
     } else {
-        store.keep(opening.parent, choice, bound, complete);
+        store.keep(opening.parent, choice, bound, complete, opening.stored);
     }
 }
 
 /// Places the holds of the child's newest action, from this one on, in all ways, and keeps each child that is left. Each hold
-/// is tried from the end of its order to the front, until no place before is left.
+/// is tried from the end of its order to the front, until no place before is left or an answer is found.
 fn place_rest<N: Network>(
     store: &mut Store,
     opening: &mut Opening,
@@ -86,6 +86,9 @@ fn place_rest<N: Network>(
     let resource = holds.get(hold).resource;
     let last = board.places(resource);
     for place in (0..=last).rev() {
+        if opening.answer.is_some() {
+            return;
+        }
         let mark = board.mark();
         let mut placed = child;
         placed.choice.places[hold as usize] = place;
@@ -234,6 +237,9 @@ pub(crate) fn open_list<N: Network>(
         return;
     }
     for at in 0..problem.machine.actions.len() {
+        if opening.answer.is_some() {
+            return;
+        }
         open_act(store, opening, board, problem, first, ActId(at as u16));
     }
 }

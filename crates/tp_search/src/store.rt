@@ -98,8 +98,16 @@ impl Store {
         self.full
     }
 
-    /// Stores a list with its bound, and lets it wait; or notes that there is no room for it.
-    pub(crate) fn keep(&mut self, parent: Option<u32>, choice: Choice, bound: Tick, complete: bool)
+    /// Stores a list with its bound, and lets it wait; or notes that there is no room for it. Of the lists of one bound from the
+    /// number `from` on, those of one opening, the first that is stored is taken first.
+    pub(crate) fn keep(
+        &mut self,
+        parent: Option<u32>,
+        choice: Choice,
+        bound: Tick,
+        complete: bool,
+        from: u32,
+    )
         requires parent { IsParentOf (length self.old.entries) parent }
         requires range { IsInRange self.old bound }
         ensures { self.new ≡ after_keep parent choice bound complete self.old }
@@ -107,7 +115,7 @@ impl Store {
         let best = self.best_with(bound, complete);
         match self.pool.add(parent, choice, bound) {
             Ok(node) => {
-                self.queue.put(node, bound);
+                self.queue.put_in_turn(node, bound, from);
                 self.best = best;
             }
             Err(Full) => self.full = true,

@@ -1,4 +1,4 @@
-use Rattle.std.proofs.Common.{◌≡◌, suc, length-set, ◌∙◌, ap, subst, sym, ◌+◌, ◌-◌, ◌<◌, ◌∷◌, length, set, take, length-take-le, arith, IsSomeAnd}
+use Rattle.std.proofs.Common.{◌≡◌, suc, length-set, ◌∙◌, ap, subst, sym, ◌+◌, ◌-◌, ◌<◌, ◌∷◌, ◌++◌, [], length, set, take, length-take-le, arith, IsSomeAnd}
 use Rattle.std.specs.Prelude.{slice_get}
 use Rattle.tp_machine.specs.Using.{action_at}
 use Rattle.tp_schedule.specs.Holding.{holds_of_act}
@@ -11,6 +11,8 @@ use Rattle.tp_search.specs.Opening.Progress.{through, up_to}
 use Rattle.tp_search.specs.Stored.{choices_by}
 use Rattle.tp_pool.specs.Entries.{choices_before}
 use Rattle.tp_search.proofs.BoardSteps.{back-itself, mark-known, since-step}
+use Rattle.tp_search.proofs.OpeningFacts.{opening-found}
+use Rattle.tp_search.proofs.ProgressFacts.{looked-under}
 use Rattle.tp_search.proofs.OpeningSame.{bounds-same, fresh-same, same-itself}
 use Rattle.tp_search.proofs.PlaceSteps.{all-placed, back-now, begin-now, refused-since, shut-now, end-now, kept-at, kept-same, marked-stands, may-place, next-now, next-places, placed-laid, placed-marks, placed-progress, resource-known, same-now, tried-late, tried-placed, trying, IsTried, IsTrying, tried-as}
 use Rattle.tp_search.proofs.children.+place_rest.Goals as goal
@@ -230,3 +232,12 @@ returns-in-Err-UpToHere-clause-back g t c =
     back-now g.N.Network.net g.N.Undo.content g.N.Undo.past g.N.Undo.aside g.N.Undo.mark_room c.args.problem.machine.now c.args.problem.ask.now c.args.child.first c.args.child.act c.args.opening.now c.loop-place.opening c.args.store.now c.loop-place.store c.args.board.now c.loop-place.board c.mark-mark.new.self c.mark-mark.result.0
     (take c.args.hold c.args.child.choice.places) c.loop-place.place c.get-2.result.now tried c.try_place.new.self c.undo_to.new.self c.loop-place.opening c.loop-place.store after
     (record { content_then = u.content; past_less = u.past; aside_same = u.aside; room_same = u.room })
+
+-- an answer ends it
+pub returns-then-is_some-clause-progress : goal.returns-then-is_some-clause-progress
+returns-then-is_some-clause-progress g t c =
+    let v = c.loop-place.invariant in
+    let places = take c.args.hold c.args.child.choice.places in
+    opening-found c.args.problem.machine.now c.args.board.now.plans c.args.problem.ask.now c.loop-place.opening c.loop-place.store (up_to c.args.child.act.0 (places ++ c.loop-place.place ∷ [])) (through c.args.child.act.0 places)
+    (subst (λ ps. IsAtProgress c.args.problem.machine.now ps c.args.problem.ask.now c.loop-place.opening c.loop-place.store (up_to c.args.child.act.0 (places ++ c.loop-place.place ∷ []))) v.back.loaded.plans v.progress)
+    (sym c.is_some.ensures ∙ c.if-is_some.true) (looked-under c.args.child.act.0 places c.loop-place.place)

@@ -1,4 +1,4 @@
-use Rattle.std.proofs.Common.{◌≡◌, ◌+◌, [], length, ap, sym, subst, arith}
+use Rattle.std.proofs.Common.{◌≡◌, ◌∙◌, ◌+◌, [], length, ap, sym, subst, arith}
 use Rattle.tp_machine.proofs.MachineFacts.{is_machine}
 use Rattle.tp_pool.specs.Entries.{choices_before}
 use Rattle.tp_schedule.specs.Answers.{kept_of}
@@ -8,6 +8,8 @@ use Rattle.tp_search.specs.Stored.{choices_by}
 use Rattle.tp_ways.specs.Ways.{IsPlaced}
 use Rattle.tp_search.proofs.ActSteps.{laid-at_most, opening-full_list}
 use Rattle.tp_search.proofs.BoardSteps.{back-trans, laid-back}
+use Rattle.tp_search.proofs.OpeningFacts.{opening-found}
+use Rattle.tp_search.proofs.ProgressFacts.{looked-acts}
 use Rattle.tp_search.proofs.OpeningSame.{before-same, bounds-same, fresh-same, same-trans}
 use Rattle.tp_search.proofs.PlaceSteps.{laid-same, parent-same}
 use Rattle.tp_search.proofs.children.open_list.Goals as goal
@@ -54,3 +56,11 @@ returns-clause-progress g c =
     let last : c.loop-at.at ≡ length c.args.problem.machine.now.actions = omega arith in
     subst (λ n. IsAtProgress c.args.problem.machine.now c.args.board.now.plans c.args.problem.ask.now c.loop-at.opening c.loop-at.store (up_to n [])) last
     (subst (λ ps. IsAtProgress c.args.problem.machine.now ps c.args.problem.ask.now c.loop-at.opening c.loop-at.store (up_to c.loop-at.at [])) c.loop-at.invariant.back.loaded.plans c.loop-at.invariant.progress)
+
+-- an answer ends it
+pub returns-then-is_some-clause-progress : goal.returns-then-is_some-clause-progress
+returns-then-is_some-clause-progress g c =
+    let within = c.loop-at-test.true in
+    opening-found c.args.problem.machine.now c.args.board.now.plans c.args.problem.ask.now c.loop-at.opening c.loop-at.store (up_to c.loop-at.at []) (up_to (length c.args.problem.machine.now.actions) [])
+    (subst (λ ps. IsAtProgress c.args.problem.machine.now ps c.args.problem.ask.now c.loop-at.opening c.loop-at.store (up_to c.loop-at.at [])) c.loop-at.invariant.back.loaded.plans c.loop-at.invariant.progress)
+    (sym c.is_some.ensures ∙ c.if-is_some.true) (looked-acts c.loop-at.at (length c.args.problem.machine.now.actions) (omega arith))
