@@ -15,3 +15,5 @@ mod records;
 mod scripts;
 #[cfg(test)]
 mod sessions;
+#[cfg(test)]
+mod stocks;

@@ -136,19 +136,19 @@ const SCRIPT: [&str; 11] = [
 
 /// Numbers that look random, each made from the one before.
 #[derive(Clone, Copy)]
-struct Dice {
+pub(crate) struct Dice {
     state: u64,
 }
 
 impl Dice {
-    fn new(number: u64) -> Dice {
+    pub(crate) fn new(number: u64) -> Dice {
         Dice {
             state: number.wrapping_mul(0x9E37_79B9_7F4A_7C15),
         }
     }
 
     /// A number from the one to the other.
-    fn between(&mut self, low: u8, high: u8) -> u8 {
+    pub(crate) fn between(&mut self, low: u8, high: u8) -> u8 {
         self.state = self
             .state
             .wrapping_mul(6_364_136_223_846_793_005)
@@ -158,7 +158,7 @@ impl Dice {
     }
 
     /// Appends what is made from the template.
-    fn fill(&mut self, template: &str, out: &mut Vec<u8>) -> Result<(), Fail> {
+    pub(crate) fn fill(&mut self, template: &str, out: &mut Vec<u8>) -> Result<(), Fail> {
         let mut rest = template.as_bytes();
         'bytes: while let [byte, others @ ..] = rest {
             rest = others;

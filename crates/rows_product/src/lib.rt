@@ -12,4 +12,6 @@ mod running;
 #[cfg(test)]
 mod statuses;
 #[cfg(test)]
+mod stock;
+#[cfg(test)]
 mod worked;

@@ -8,7 +8,7 @@ use Rattle.tp_schedule.specs.declared.records.Record.{Record}
 use Rattle.tp_schedule.specs.declared.records.Record.TheVariants.{Plan, Move, Release, Done, Lost, Recall, Withdraw, Cut, Purge, Stuck, Drop}
 use Rattle.tp_schedule.specs.declared.records.SheetName.{SheetName}
 use Rattle.tp_script.specs.declared.event.Event.{Event as AnyEvent}
-use Rattle.tp_script.specs.declared.event.Event.TheVariants.{Bad, Job, Clock, Jam, Off, On}
+use Rattle.tp_script.specs.declared.event.Event.TheVariants.{Bad, Job, Clock, Jam, Off, On, Refill}
 use Rattle.tp_log.specs.declared.item.Item.{Item}
 use Rattle.tp_log.specs.declared.item.Item.TheVariants.{Event, Note, Tree}
 use Rattle.tp_chart.specs.Courses.{Way, fresh, is_same_copy, tell_course}
@@ -103,6 +103,7 @@ tell_event machine (Clock to) s = moved_to to s
 tell_event machine (Jam name) s = goes_out machine name s
 tell_event machine (Off name) s = goes_out machine name s
 tell_event machine (On name) s = comes_back machine name s
+tell_event machine (Refill name count) s = s
 
 abbrev pub tell : Machine → Item → Sight → Sight
 tell machine (Event event) s = tell_event machine event s

@@ -6,7 +6,7 @@ use Rattle.tp_script.specs.Printed.{IsEchoed}
 use Rattle.tp_script.specs.Reading.{event_of}
 use Rattle.tp_script.specs.Script.{IsEvent, IsOff, is_passed, words_of_line}
 use Rattle.tp_script.specs.declared.event.Event.{Event}
-use Rattle.tp_script.specs.declared.event.Event.TheVariants.{Bad, Job, Clock, Jam, Off, On}
+use Rattle.tp_script.specs.declared.event.Event.TheVariants.{Bad, Job, Clock, Jam, Off, On, Refill}
 use Rattle.tp_script.proofs.Echoed.{whole_from}
 use Rattle.tp_script.proofs.Events.{event_only}
 use Rattle.tp_stream.proofs.ReadLines.{none_of, not_passed}
@@ -49,6 +49,7 @@ at_alone first e = none_of (event_of (first ∷ [])) (first ∷ []) refl (no_eve
     no_event first (Jam name) (is, n) = absurd cc
     no_event first (Off name) (is, n) = absurd cc
     no_event first (On name) (is, n) = absurd cc
+    no_event first (Refill name count) (digits, is, named, more, n) = absurd cc
 
 address-plain : (count : ℕ) (words : List (List ℕ)) → is_passed words ≡ false → IsPlain words → address_of count words ≡ without_number (event_of words)
 address-plain count [] passed plain = absurd cc

@@ -5,14 +5,15 @@ use Rattle.tp_script.specs.Printed.{IsEchoed}
 use Rattle.tp_script.specs.Reading.{event_of}
 use Rattle.tp_script.specs.Script.{is_passed, words_of_line}
 use Rattle.tp_script.specs.declared.event.Event.{Event}
-use Rattle.tp_script.specs.declared.event.Event.TheVariants.{Bad, Jam, Off, On}
+use Rattle.tp_script.specs.declared.event.Event.TheVariants.{Bad, Jam, Off, On, Refill}
 use Rattle.tp_farm.specs.declared.address.Addressed.{Addressed}
 
--- the events before which `at K` stands: those of one machine's modules
+-- the events before which `at K` stands: those of one machine's modules and feeders
 abbrev pub is_of_one : Event → Bool
 is_of_one (Jam name) = true
 is_of_one (Off name) = true
 is_of_one (On name) = true
+is_of_one (Refill name count) = true
 is_of_one event = false
 
 -- a line off the grammar goes to machine 1

@@ -59,7 +59,7 @@ fn is_of_one(event: &Event) -> bool
     ensures { result ≡ is_of_one event.now }
 {
     match event {
-        Event::Jam { .. } | Event::Off { .. } | Event::On { .. } => true,
+        Event::Jam { .. } | Event::Off { .. } | Event::On { .. } | Event::Refill { .. } => true,
         Event::Bad | Event::Job { .. } | Event::Clock { .. } => false,
     }
 }

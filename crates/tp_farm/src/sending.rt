@@ -233,8 +233,10 @@ pub(crate) fn find_whom<T: Teller>(
                 Err(error) => Err(error),
             }
         }
-        Event::Bad | Event::Jam { .. } | Event::Off { .. } | Event::On { .. } => {
-            Ok(Whom::One(address.number))
-        }
+        Event::Bad
+        | Event::Jam { .. }
+        | Event::Off { .. }
+        | Event::On { .. }
+        | Event::Refill { .. } => Ok(Whom::One(address.number)),
     }
 }

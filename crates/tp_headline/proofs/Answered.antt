@@ -32,7 +32,7 @@ module _ (machine : Machine) (s : SessionState) (w : WaitingCopy) (plans' : List
 
   pub delivered-asked : (c : SheetId) → IsDelivered s.now s.plans c → IsDelivered s.now plans' c
   delivered-asked c d =
-      let to = other-to machine s.plans (ask_waiting s w) plans' f.a d.p d.there (none-before machine s w plans' f d.p d.there) in
+      let to = other-to machine s.plans (ask_waiting machine s w) plans' f.a d.p d.there (none-before machine s w plans' f d.p d.there) in
       record {
         p = to.0;
         there = to.1;
@@ -42,7 +42,7 @@ module _ (machine : Machine) (s : SessionState) (w : WaitingCopy) (plans' : List
       }
 
   pub asked-delivered : (c : SheetId) → IsDelivered s.now plans' c → IsDelivered s.now s.plans c
-  asked-delivered c d = elim (plan-cases machine s.plans (ask_waiting s w) plans' f.a d.p d.there) [
+  asked-delivered c d = elim (plan-cases machine s.plans (ask_waiting machine s w) plans' f.a d.p d.there) [
     | inl e ↦ absurd (new-above (subst (λ (x : Plan). end_of_plan x ≤ s.now) e d.past))
     | inr other ↦ record {
       p = other.0;

@@ -8,7 +8,7 @@ use Rattle.std.specs.Bool.{MatchBool}
 use Rattle.std.specs.Option.{MatchOption}
 use Rattle.tp_machine.specs.declared.machine.Machine.{Machine}
 use Rattle.tp_script.specs.declared.event.Event.{Event}
-use Rattle.tp_script.specs.declared.event.Event.TheVariants.{Bad, Job as NewJob, Clock, Jam, Off, On}
+use Rattle.tp_script.specs.declared.event.Event.TheVariants.{Bad, Job as NewJob, Clock, Jam, Off, On, Refill}
 use Rattle.tp_jobs.specs.Backlogs.{tray_of}
 use Rattle.tp_jobs.specs.declared.parts.Job.{Job}
 use Rattle.tp_jobs.specs.declared.parts.WaitingCopy.{WaitingCopy}
@@ -172,14 +172,14 @@ module _ (spent : Machine → List Plan → Ask → ℕ → Type 0) (machine : M
               record { given = r.given; leads = (more, told, r.leads); told = subst (AreTold r.given) (sym told) (before-told r.given (FullUp (label s.jobs w.sheet) ∷ []) more refl r.told) }
           go false e false f (reply, (plans, (mid, (more, does, told, next)))) over full answered =
               let r = answered reply plans mid more next in
-              let g : Given = record { plans = s.plans; ask = ask_waiting s w; reply = reply; after = plans } in
-              let is : IsRightGiven g = right p s.plans (replied (ask_waiting s w) reply) plans mid does in
+              let g : Given = record { plans = s.plans; ask = ask_waiting machine s w; reply = reply; after = plans } in
+              let is : IsRightGiven g = right p s.plans (replied (ask_waiting machine s w) reply) plans mid does in
               record {
                 given = g ∷ r.given;
                 leads = (reply, (plans, (r.given ++ rest, (more, (refl, is), told, r.leads))));
                 told = subst (AreTold (g ∷ r.given)) (sym told)
-                    (both-told (g ∷ []) r.given (told_of_reply machine s.plans (ask_waiting s w) reply plans) more
-                    (one-told g (told_of_reply machine s.plans (ask_waiting s w) reply plans) is (told-reply machine s.plans (ask_waiting s w) reply plans)) r.told);
+                    (both-told (g ∷ []) r.given (told_of_reply machine s.plans (ask_waiting machine s w) reply plans) more
+                    (one-told g (told_of_reply machine s.plans (ask_waiting machine s w) reply plans) is (told-reply machine s.plans (ask_waiting machine s w) reply plans)) r.told);
               }
 
     -- an event's own part
@@ -192,6 +192,7 @@ module _ (spent : Machine → List Plan → Ask → ℕ → Type 0) (machine : M
     begins-given (Jam name) s p records s' p' (m, of, out) rest = let l = out-given s m true p records s' p' out rest in record { given = l.given; leads = (m, of, l.leads); told = l.told }
     begins-given (Off name) s p records s' p' (m, of, out) rest = let l = out-given s m false p records s' p' out rest in record { given = l.given; leads = (m, of, l.leads); told = l.told }
     begins-given (On name) s p records s' p' (m, of, told, is, same) rest = record { given = []; leads = (m, of, told, is, refl); told = subst (AreTold []) (sym told) (none-told [] refl) }
+    begins-given (Refill name count) s p records s' p' (f, of, told, is, same) rest = record { given = []; leads = (f, of, told, is, refl); told = subst (AreTold []) (sym told) (none-told [] refl) }
 
     -- a turn
     turn-given : (event : Event) (s : SessionState) (p : P) (records : List Record) (s' : SessionState) (p' : P) → Turn steps machine event s p records s' p' → (rest : List Given)

@@ -9,7 +9,7 @@ use Rattle.std.proofs.lemmas.List.{append-nil, append_assoc}
 use Rattle.tp_machine.specs.declared.machine.Machine.{Machine}
 use Rattle.tp_script.specs.Form.{GroupForm}
 use Rattle.tp_script.specs.declared.event.Event.{Event}
-use Rattle.tp_script.specs.declared.event.Event.TheVariants.{Bad, Job as NewJob, Clock, Jam, Off, On}
+use Rattle.tp_script.specs.declared.event.Event.TheVariants.{Bad, Job as NewJob, Clock, Jam, Off, On, Refill}
 use Rattle.tp_jobs.specs.Refusing.{is_tray_name, sheet_count}
 use Rattle.tp_jobs.specs.Waiting.{new_job}
 use Rattle.tp_jobs.specs.declared.parts.WaitingCopy.{WaitingCopy}
@@ -50,6 +50,8 @@ use Rattle.tp_headline.proofs.Follows.{Follows}
 use Rattle.tp_headline.proofs.OrderTurns.{Leads, order-asks}
 use Rattle.tp_headline.proofs.Places.{tray-place}
 use Rattle.tp_headline.proofs.Steps.{IsNoDelivery, IsQuiet, follows-clock, follows-job, follows-quiet, same-arrived}
+use Rattle.tp_stock.specs.Stock.{more_at}
+use Rattle.tp_turn.proofs.Refilled.{lines-refilled, sheets-refilled}
 
 -- what is to be known of a module that goes out
 abbrev pub OutagesLead : {P : Type 0} → PlannerSteps P → Machine → Type 0
@@ -109,6 +111,11 @@ module _ {P : Type 0} (steps : PlannerSteps P) (machine : Machine) (spent : P �
     quiet (subst (λ rs. IsQuiet s s' rs) (sym told) (subst (λ t. IsQuiet s t []) (sym is) (record { now = refl; jobs = refl; broke = λ n e. inl e; to = λ c d. d; from = λ c d. d; none = All-nil _ }))) refl,
     λ rest none. ap (λ (t : SessionState). told_jobs machine totals t.jobs) is ∙ sym (append-nil (told_jobs machine totals s.jobs)),
   )
+  order-begins (Refill name count) totals s p records s' p' accepted (f, known, told, is, same) keeps = (
+    subst (KeepsOrder machine totals) (sym is) (record { jobs = keeps.jobs; lines = lines-refilled (more_at f.loc.0 count s.refills) s keeps.lines; sheets = sheets-refilled (more_at f.loc.0 count s.refills) totals s keeps.sheets; plans = keeps.plans; broken = record { waiting = keeps.broken.waiting; plans = keeps.broken.plans }; purges = keeps.purges }),
+    quiet (subst (λ rs. IsQuiet s s' rs) (sym told) (subst (λ t. IsQuiet s t []) (sym is) (record { now = refl; jobs = refl; broke = λ n e. inl e; to = λ c d. d; from = λ c d. d; none = All-nil _ }))) refl,
+    λ rest none. ap (λ (t : SessionState). told_jobs machine totals t.jobs) is ∙ sym (append-nil (told_jobs machine totals s.jobs)),
+  )
 
   -- what a turn gives
   pub record Gives (event : Event) (totals : List ℕ) (s : SessionState) (records : List Record) (s' : SessionState) : Type 0 where
@@ -165,6 +172,7 @@ module _ {P : Type 0} (steps : PlannerSteps P) (machine : Machine) (spent : P �
       by (Jam name) = refl
       by (Off name) = refl
       by (On name) = refl
+      by (Refill name count) = refl
 
     refused-quiet : (cause : Cause) → IsQuiet s s (Refused cause ∷ [])
     refused-quiet cause = record { now = refl; jobs = refl; broke = λ n e. inl e; to = λ c d. d; from = λ c d. d; none = All-cons IsNoDelivery (Refused cause) [] refl (All-nil IsNoDelivery) }

@@ -46,8 +46,8 @@ quiet-told s rs none = record { now = refl; jobs = refl; broke = λ n e. inl e; 
 
 module _ {P : Type 0} (steps : PlannerSteps P) (machine : Machine) (spent : P → Machine → List Plan → Ask → ℕ → Type 0)
     (right : (p : P) (plans : List Plan) (deed : Deed) (plans' : List Plan) (p' : P) → steps.does p plans deed plans' p' → IsRight (spent p) machine plans deed plans') where
-  order-planned : (totals : List ℕ) (p : P) (s : SessionState) (passed : List ℕ) (w : WaitingCopy) (ws : List WaitingCopy) (plans : List Plan) → IsAnswer (spent p) machine s.plans (ask_waiting s w) Planned plans
-      → is_passed_over s passed w ≡ false → IsRest s passed (w ∷ ws) → KeepsOrder machine totals s → Leads machine totals s (planned_waiting s w plans) (told_of_reply machine s.plans (ask_waiting s w) Planned plans)
+  order-planned : (totals : List ℕ) (p : P) (s : SessionState) (passed : List ℕ) (w : WaitingCopy) (ws : List WaitingCopy) (plans : List Plan) → IsAnswer (spent p) machine s.plans (ask_waiting machine s w) Planned plans
+      → is_passed_over s passed w ≡ false → IsRest s passed (w ∷ ws) → KeepsOrder machine totals s → Leads machine totals s (planned_waiting s w plans) (told_of_reply machine s.plans (ask_waiting machine s w) Planned plans)
   order-planned totals p s passed w ws plans answer not_over r keeps =
       let f : IsAskedFirst machine s w plans = record { a = answer.0.alternative; keeps = keeps.lines; here = All-head (Contains s.waiting) w ws r.wait; behind = first-of_line machine s passed w ws not_over r } in (
         record {
@@ -69,17 +69,17 @@ module _ {P : Type 0} (steps : PlannerSteps P) (machine : Machine) (spent : P �
           broke = λ n e. inl e;
           to = delivered-asked machine s w plans f keeps.plans;
           from = asked-delivered machine s w plans f keeps.plans;
-          none = silent-reply machine s.plans (ask_waiting s w) Planned plans;
+          none = silent-reply machine s.plans (ask_waiting machine s w) Planned plans;
         },
       )
 
-  order-reply : (totals : List ℕ) (p : P) (s : SessionState) (passed : List ℕ) (w : WaitingCopy) (ws : List WaitingCopy) (reply : Reply) (plans : List Plan) → IsAnswer (spent p) machine s.plans (ask_waiting s w) reply plans
+  order-reply : (totals : List ℕ) (p : P) (s : SessionState) (passed : List ℕ) (w : WaitingCopy) (ws : List WaitingCopy) (reply : Reply) (plans : List Plan) → IsAnswer (spent p) machine s.plans (ask_waiting machine s w) reply plans
       → is_passed_over s passed w ≡ false → IsRest s passed (w ∷ ws) → KeepsOrder machine totals s
       → IsRest (state_after_reply s w reply plans) (passed_after reply (tray_of s.jobs w.sheet).0 passed) ws
-      × Leads machine totals s (state_after_reply s w reply plans) (told_of_reply machine s.plans (ask_waiting s w) reply plans)
+      × Leads machine totals s (state_after_reply s w reply plans) (told_of_reply machine s.plans (ask_waiting machine s w) reply plans)
   order-reply totals p s passed w ws Planned plans answer not_over r keeps = (rest-planned s passed w ws plans r, order-planned totals p s passed w ws plans answer not_over r keeps)
-  order-reply totals p s passed w ws Never plans answer not_over r keeps = (rest-refused s passed w ws r, (keeps, quiet-told s _ (silent-reply machine s.plans (ask_waiting s w) Never plans)))
-  order-reply totals p s passed w ws (Spent bound) plans answer not_over r keeps = (rest-refused s passed w ws r, (keeps, quiet-told s _ (silent-reply machine s.plans (ask_waiting s w) (Spent bound) plans)))
+  order-reply totals p s passed w ws Never plans answer not_over r keeps = (rest-refused s passed w ws r, (keeps, quiet-told s _ (silent-reply machine s.plans (ask_waiting machine s w) Never plans)))
+  order-reply totals p s passed w ws (Spent bound) plans answer not_over r keeps = (rest-refused s passed w ws r, (keeps, quiet-told s _ (silent-reply machine s.plans (ask_waiting machine s w) (Spent bound) plans)))
 
   pub order-asks : (totals : List ℕ) (waiting : List WaitingCopy) (passed : List ℕ) (s : SessionState) (p : P) (records : List Record) (s' : SessionState) (p' : P)
       → AsksInTurn steps machine waiting passed s p records s' p' → IsRest s passed waiting → KeepsOrder machine totals s → Leads machine totals s s' records
@@ -103,5 +103,5 @@ module _ {P : Type 0} (steps : PlannerSteps P) (machine : Machine) (spent : P �
         go false e true (rest, told, next) over full answered =
             subst (Leads machine totals s s') (sym told) (leads-trans machine totals s s s' (FullUp (label s.jobs w.sheet) ∷ []) rest (quiet-told s _ (All-cons IsNoDelivery (FullUp (label s.jobs w.sheet)) [] refl (All-nil IsNoDelivery))) (full rest next))
         go false e false (reply, (plans, (mid, (rest, does, told, next)))) over full answered =
-            let step = order-reply totals p s passed w waiting reply plans (right p s.plans (replied (ask_waiting s w) reply) plans mid does) e r keeps in
-            subst (Leads machine totals s s') (sym told) (leads-trans machine totals s (state_after_reply s w reply plans) s' (told_of_reply machine s.plans (ask_waiting s w) reply plans) rest step.1.1 (answered reply plans mid rest next step.0 step.1.0))
+            let step = order-reply totals p s passed w waiting reply plans (right p s.plans (replied (ask_waiting machine s w) reply) plans mid does) e r keeps in
+            subst (Leads machine totals s s') (sym told) (leads-trans machine totals s (state_after_reply s w reply plans) s' (told_of_reply machine s.plans (ask_waiting machine s w) reply plans) rest step.1.1 (answered reply plans mid rest next step.0 step.1.0))

@@ -8,7 +8,7 @@ use Rattle.tp_machine.specs.declared.parts.Want.TheVariants.{Blank, Mono, Colour
 use Rattle.tp_machine.specs.declared.parts.Face.{Face}
 use Rattle.tp_machine.specs.declared.parts.Face.TheVariants.{Front, Back}
 use Rattle.tp_script.specs.declared.event.Event.{Event as AnEvent}
-use Rattle.tp_script.specs.declared.event.Event.TheVariants.{Bad as BadLine, Job, Clock, Jam, Off, On}
+use Rattle.tp_script.specs.declared.event.Event.TheVariants.{Bad as BadLine, Job, Clock, Jam, Off, On, Refill}
 use Rattle.tp_script.specs.Form.{GroupForm}
 use Rattle.tp_script.specs.Printed.{IsCounted, IsWhole, IsEchoed}
 use Rattle.tp_script.specs.Script.{want_byte, face_byte, spec_text, group_text, event_words}
@@ -44,6 +44,7 @@ whole_visible (Clock to) h = (refl, (number_visible to h, tt))
 whole_visible (Jam n) h = (refl, (name_visible n h, tt))
 whole_visible (Off n) h = (refl, (name_visible n h, tt))
 whole_visible (On n) h = (refl, (name_visible n h, tt))
+whole_visible (Refill n count) (name, below) = (refl, (name_visible n name, (number_visible count below, tt)))
 
 pub event_visible : (e : AnEvent) → IsEchoed e → AllVisible (event_words e)
 event_visible e (inl bad) = rw bad (refl, tt)

@@ -95,7 +95,7 @@ kept-plan machine now plans plans' exempt p q legal legal' floors floors' fixed 
 pub kept-asked : (machine : Machine) (s : SessionState) (w : WaitingCopy) (plans' : List Plan) (f : IsAskedFirst machine s w plans') → IsPlannable machine s
     → (p q : Plan) → Contains s.plans p → Contains plans' q → IsUnmoved q p → IsKept machine s.now p q
 kept-asked machine s w plans' f can p q in' in'' u =
-    kept-plan machine s.now s.plans plans' (follows_front (ask_waiting s w)) p q can.legal f.a.legal can.floors f.a.floors f.a.fixed in' in'' (and-false (is_same_copy q.sheet w.sheet)) u where
+    kept-plan machine s.now s.plans plans' (follows_front (ask_waiting machine s w)) p q can.legal f.a.legal can.floors f.a.floors f.a.fixed in' in'' (and-false (is_same_copy q.sheet w.sheet)) u where
       and-false : (b : Bool) → (b && false) ≡ false
       and-false true = refl
       and-false false = refl

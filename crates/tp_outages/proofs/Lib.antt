@@ -1,7 +1,6 @@
 pub mod Members
 pub mod Counts
 pub mod ListCounts
-pub mod PlanCounts
 pub mod PlanFacts
 pub mod JobFacts
 pub mod Waits

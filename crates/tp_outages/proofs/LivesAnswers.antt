@@ -31,7 +31,7 @@ use Rattle.tp_outages.proofs.Lives.{IsRiding, any_sheet, is_coming, live-end, ri
 use Rattle.tp_outages.proofs.LivesFalls.{IsLiving}
 use Rattle.tp_outages.proofs.LivesKept.{clear-kept, coming-fewer, riding-kept, same-number}
 use Rattle.tp_outages.proofs.LooseAsks.{IsAskOf, cases, flies, from-before, kept, mine-sheet, mine-there, new-ends, planned_plans, sheet-is}
-use Rattle.tp_outages.proofs.PlanCounts.{count-change, count-without}
+use Rattle.tp_turn.proofs.PlanCounts.{count-change, count-without}
 
 abbrev every : Plan → Bool
 every p = true

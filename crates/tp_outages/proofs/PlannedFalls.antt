@@ -20,7 +20,7 @@ use Rattle.tp_turn.specs.Moments.{is_to_tray, release_until}
 use Rattle.tp_turn.specs.States.{SessionState}
 use Rattle.tp_turn.proofs.AnsweredPlans.{IsUnmoved, mine-is, unmoved-sheet}
 use Rattle.tp_turn.proofs.TestFacts.{filter-map_same, map-map_same}
-use Rattle.tp_outages.proofs.PlanCounts.{count-without, count-change, lost-without}
+use Rattle.tp_turn.proofs.PlanCounts.{count-without, count-change, lost-without}
 use Rattle.tp_outages.proofs.ListCounts.{count-map}
 use Rattle.tp_outages.proofs.Falls.{Outset, is_sheet_in, Falls, IsPending, IsPlanned, is_open, none_breaks, open_of}
 use Rattle.tp_outages.proofs.KeptPoints.{ends-back, low-stays}

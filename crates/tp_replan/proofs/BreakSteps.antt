@@ -63,6 +63,7 @@ break-leaves job s mid end taken follows =
       jobs = mark_broken job (all k).jobs;
       waiting = waiting k;
       outs = (all k).outs;
+      refills = (all k).refills;
     }
 
 -- what is told

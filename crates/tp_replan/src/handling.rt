@@ -19,6 +19,7 @@ use tp_base::{Memory, Tick};
 use tp_jobs::Lines;
 use tp_machine::{Machine, ModId, Outs, machine_law};
 use tp_schedule::{Halt, Kind, Plan, Planner, Record, Schedule, SheetId};
+use tp_stock::Refills;
 use tp_turn::LiveState;
 
 /// A module goes out, or jams: the outage, the loop over loose copies, and the settling.
@@ -100,6 +101,7 @@ fn take_state(
         lost,
         lines: mem::replace(lines, Lines::new(alloc)),
         outs,
+        refills: Refills::none(),
     })
 }
 

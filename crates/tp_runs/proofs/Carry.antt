@@ -18,7 +18,7 @@ use Rattle.tp_schedule.specs.declared.records.Cause.{Cause}
 use Rattle.tp_schedule.specs.declared.records.Record.{Record}
 use Rattle.tp_schedule.specs.declared.records.Record.TheVariants.{Refused}
 use Rattle.tp_script.specs.declared.event.Event.{Event}
-use Rattle.tp_script.specs.declared.event.Event.TheVariants.{Bad, Job as NewJob, Clock, Jam, Off, On}
+use Rattle.tp_script.specs.declared.event.Event.TheVariants.{Bad, Job as NewJob, Clock, Jam, Off, On, Refill}
 use Rattle.tp_turn.specs.Answering.{Answer}
 use Rattle.tp_turn.specs.Asking.{AsksInTurn, ask_waiting, is_full, is_passed_over}
 use Rattle.tp_turn.specs.Clock.{clock_move}
@@ -53,7 +53,7 @@ module _ {P Q : Type 0} (one : PlannerSteps P) (other : PlannerSteps Q) (Fit : P
       let (fit', back) = ih ((tray_of s.jobs w.sheet).0 ∷ passed) s p rest fit h in
       (fit', λ q' good. (let (q, k, fine) = back q' good in (q, (rest, told, k), fine)))
   first_copy w waiting passed s p records s' p' fit ih false false (reply, (plans, (mid, (rest, does, told, h)))) =
-      let (fit-mid, step) = carry p mid s.plans plans (replied (ask_waiting s w) reply) refl fit does in
+      let (fit-mid, step) = carry p mid s.plans plans (replied (ask_waiting machine s w) reply) refl fit does in
       let (fit', back) = ih _ _ mid rest fit-mid h in
       (fit', λ q' good. (let (q-mid, k, fine) = back q' good in let (q, d, good) = step q-mid fine in (q, (reply, (plans, (q-mid, (rest, d, told, k)))), good)))
 
@@ -95,6 +95,7 @@ module _ {P Q : Type 0} (one : PlannerSteps P) (other : PlannerSteps Q) (Fit : P
   begins (Off name) s p records s' p' fit (m, found, h) =
       let (fit', back) = goes_out s m false p records s' p' fit h in (fit', λ q' good. (let (q, k, fine) = back q' good in (q, (m, found, k), fine)))
   begins (On name) s p records s' p' fit (m, found, told, same, is) = stays p p' (λ q q'. Begins other machine (On name) s q records s' q') fit is (λ q. (m, found, told, same, refl))
+  begins (Refill name count) s p records s' p' fit (f, found, told, same, is) = stays p p' (λ q q'. Begins other machine (Refill name count) s q records s' q') fit is (λ q. (f, found, told, same, refl))
 
   accepts : (event : Event) (s : SessionState) (p : P) (records : List Record) (s' : SessionState) (p' : P) → Fit p → Accepts one machine event s p records s' p'
       → Goes p p' (λ q q'. Accepts other machine event s q records s' q')
@@ -133,6 +134,7 @@ module _ {P Q : Type 0} (one : PlannerSteps P) (other : PlannerSteps Q) (Fit : P
   live-turn (Jam name) s s' records p p' fit h = turn (Jam name) s s' records p p' fit h
   live-turn (Off name) s s' records p p' fit h = turn (Off name) s s' records p p' fit h
   live-turn (On name) s s' records p p' fit h = turn (On name) s s' records p p' fit h
+  live-turn (Refill name count) s s' records p p' fit h = turn (Refill name count) s s' records p p' fit h
 
 module _ {P : Type 0} (spent : P → Machine → List Plan → Ask → ℕ → Type 0) (steps : P → Machine → List Plan → Deed → List Plan → P → Type 0)
     (stops : P → Machine → List Plan → Due → P → Type 0) (machine : Machine) where

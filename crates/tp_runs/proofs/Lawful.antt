@@ -1,5 +1,5 @@
 -- Answered lines make a lawful run.
-use Rattle.std.proofs.Common.{◌≡◌, ℕ, Bool, true, List, [], ◌∷◌, ◌++◌, map, Option, Some, None, refl, sym, ap, ap₂, subst, ◌∙◌, append_assoc}
+use Rattle.std.proofs.Common.{◌≡◌, ℕ, ℤ, Bool, true, List, [], ◌∷◌, ◌++◌, map, Option, Some, None, refl, sym, ap, ap₂, subst, ◌∙◌, append_assoc}
 use Rattle.std.specs.List.{All, filter_map, flat_map}
 use Rattle.std.specs.Option.{MatchOption}
 use Rattle.std.proofs.lemmas.List.Elements.{All-append, All-nil}
@@ -25,6 +25,7 @@ use Rattle.tp_runs.specs.EventRuns.{EventsAreLawful, TellsEvent, TurnsTellLines}
 use Rattle.tp_runs.specs.Runs.{entry_of, items_in, items_of, run_text, spent_by, tree_claims}
 use Rattle.tp_runs.proofs.TreePlaces.{in_place}
 use Rattle.tp_runs.specs.Wholes.{IsWhole, LinesAreLawful, TellsLine, TellsTurn}
+use Rattle.tp_stock.proofs.StockFacts.{less-none}
 
 log_text-append : (a b : List Item) → log_text (a ++ b) ≡ log_text a ++ log_text b
 log_text-append [] b = refl
@@ -84,7 +85,7 @@ module _ (machine : Machine) (nodes : ℕ) (bounds : Bool) where
       one_more line lines text told rest s mid s' same (line_event line) refl one (events_of_lines lines rest mid s' others)
 
   whole-empty : IsWhole machine empty_state empty_state
-  whole-empty = record { totals = []; order = order-empty machine; live = refl }
+  whole-empty = record { totals = []; order = order-empty machine; live = ap (λ (refills : List ℤ). record empty_state { refills = refills }) (less-none machine [] (λ loc. refl)) }
 
 pub events_lawful : (machine : Machine) (nodes : ℕ) (bounds : Bool) → EventsAreLawful machine nodes bounds
 events_lawful machine nodes bounds events text s h =

@@ -7,7 +7,7 @@ use Rattle.tp_schedule.specs.declared.parts.Ask.{Ask}
 use Rattle.tp_schedule.specs.declared.parts.Plan.{Plan}
 use Rattle.tp_schedule.specs.declared.records.Record.{Record}
 use Rattle.tp_script.specs.declared.event.Event.{Event}
-use Rattle.tp_script.specs.declared.event.Event.TheVariants.{Bad, Job as NewJob, Clock, Jam, Off, On}
+use Rattle.tp_script.specs.declared.event.Event.TheVariants.{Bad, Job as NewJob, Clock, Jam, Off, On, Refill}
 use Rattle.tp_turn.specs.Keeping.{live_part}
 use Rattle.tp_turn.specs.Laws.{IsNoClock, IsNoOutage, is_outage, totals_after}
 use Rattle.tp_turn.specs.Planners.{PlannerSteps, right_steps}
@@ -70,6 +70,7 @@ module _ {P : Type 0} (spent : P → Machine → List Plan → Ask → ℕ → T
     by-event (Jam name) turn = outage (Jam name) refl turn
     by-event (Off name) turn = outage (Off name) refl turn
     by-event (On name) turn = quiet (On name) refl refl turn
+    by-event (Refill name count) turn = quiet (Refill name count) refl refl turn
 
   pub turns-on_whole : TurnsOnWhole spent steps stops machine
   turns-on_whole nodes bounds trees alone settles keeps shows event whole s s' records p p' w empty turn = by-event nodes bounds trees alone settles keeps shows whole s s' records p p' w empty event turn

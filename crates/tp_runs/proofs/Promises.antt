@@ -8,6 +8,7 @@ use Rattle.tp_headline.proofs.LawfulAnswers.{budgets-spent, nones-none, plans-ea
 use Rattle.tp_headline.proofs.LawfulLines.{lawful-headline}
 use Rattle.tp_runs.specs.Promised.{KeepsPromises}
 use Rattle.tp_runs.specs.Runs.{spent_by, tree_claims}
+use Rattle.tp_turn.proofs.LawfulLogs.{lawful-stocked}
 
 pub keeps-promises : (machine : Machine) (nodes : ℕ) (bounds : Bool) (events : List Event) (log : List (Entry BoundTree))
     (lawful : IsLawful tree_claims bounds (spent_by nodes) machine events log) → KeepsPromises machine nodes bounds log lawful.last
@@ -16,6 +17,7 @@ keeps-promises machine nodes bounds events log lawful =
     record {
       legal = headline.legal;
       held_once = headline.legal.single;
+      stocked = lawful-stocked tree_claims bounds (spent_by nodes) machine events log lawful;
       received = headline.lines;
       earliest = plans-earliest tree_claims (spent_by nodes) machine bounds events log lawful;
       none = nones-none tree_claims (spent_by nodes) machine bounds events log lawful;

@@ -12,7 +12,7 @@ use Rattle.tp_jobs.specs.declared.parts.Job.{Job}
 use Rattle.tp_jobs.specs.declared.parts.WaitingCopy.{WaitingCopy}
 use Rattle.tp_log.specs.Records.{IsPrintable}
 use Rattle.tp_script.specs.declared.event.Event.{Event}
-use Rattle.tp_script.specs.declared.event.Event.TheVariants.{Bad, Job as NewJob, Clock, Jam, Off, On}
+use Rattle.tp_script.specs.declared.event.Event.TheVariants.{Bad, Job as NewJob, Clock, Jam, Off, On, Refill}
 use Rattle.tp_schedule.specs.Answers.{IsAlternative, kept_acts, kept_of}
 use Rattle.tp_schedule.specs.Planning.{Deed, IsAnswer}
 use Rattle.tp_schedule.specs.Planning.Deed.{replied, settled}
@@ -147,8 +147,8 @@ module _ {P : Type 0} (steps : PlannerSteps P) (machine : Machine) (spent : P â†
         go false true (rest, told, next) over full answered =
             subst HaveLines (sym told) (All-cons IsPrintable (FullUp (label s.jobs w.sheet)) rest tt (full rest next))
         go false false (reply, (plans, (mid, (rest, does, told, next)))) over full answered =
-            subst HaveLines (sym told) (both (told_of_reply machine s.plans (ask_waiting s w) reply plans) rest
-            (lines-reply (spent p) machine s.plans (ask_waiting s w) reply plans (right p s.plans (replied (ask_waiting s w) reply) plans mid does) (Î» a. omega arith))
+            subst HaveLines (sym told) (both (told_of_reply machine s.plans (ask_waiting machine s w) reply plans) rest
+            (lines-reply (spent p) machine s.plans (ask_waiting machine s w) reply plans (right p s.plans (replied (ask_waiting machine s w) reply) plans mid does) (Î» a. omega arith))
             (answered reply plans mid rest next))
 
   lines-out : (s : SessionState) (m : â„•) (jam : Bool) (p : P) (records rest : List Record) (s' : SessionState) (p' : P) â†’ records â‰¡ (outage machine m jam s).records ++ rest
@@ -163,6 +163,7 @@ module _ {P : Type 0} (steps : PlannerSteps P) (machine : Machine) (spent : P â†
   lines-begins (Jam name) s p records s' p' (m, known, out) = lines-out s m true p records out.rest s' p' out.told out.loop
   lines-begins (Off name) s p records s' p' (m, known, out) = lines-out s m false p records out.rest s' p' out.told out.loop
   lines-begins (On name) s p records s' p' (m, known, told, is, same) = subst HaveLines (sym told) none
+  lines-begins (Refill name count) s p records s' p' (f, known, told, is, same) = subst HaveLines (sym told) none
 
   pub lines-turn : TurnsHaveLines steps machine
   lines-turn event s p records s' p' turn = go (refusal machine s event) turn where
@@ -189,3 +190,4 @@ module _ {P : Type 0} (steps : PlannerSteps P) (machine : Machine) (spent : P â†
   lines-live (Jam name) s p records s' p' turn = lines-turn (Jam name) s p records s' p' turn
   lines-live (Off name) s p records s' p' turn = lines-turn (Off name) s p records s' p' turn
   lines-live (On name) s p records s' p' turn = lines-turn (On name) s p records s' p' turn
+  lines-live (Refill name count) s p records s' p' turn = lines-turn (Refill name count) s p records s' p' turn

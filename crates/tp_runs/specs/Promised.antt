@@ -16,12 +16,15 @@ use Rattle.tp_turn.specs.States.{SessionState}
 use Rattle.tp_headline.specs.Given.{IsEarliestThere, IsNoneThere, IsSpentThere}
 use Rattle.tp_runs.specs.Ends.{IsAnswered, IsAnsweredTo}
 use Rattle.tp_runs.specs.Runs.{IsLawfulRun, spent_by}
+use Rattle.tp_turn.specs.Laws.{IsStocked}
 
 module _ (machine : Machine) (nodes : ℕ) (bounds : Bool) where
   pub record KeepsPromises (log : List (Entry BoundTree)) (last : SessionState) : Type 0 where
     -- the last schedule is legal, and no resource has two holders at any tick
     pub legal : IsLegal machine last.plans
     pub held_once : (resource tick : ℕ) → length (held machine last.plans resource tick) ≤ 1
+    -- no stock is overdrawn: the plans that begin at a feeder, past included, are at most its stock and its accepted refills
+    pub stocked : IsStocked machine last
     -- each tray of the machine receives its line in order, no sheet twice, and only sheets of broken jobs are skipped
     pub received : (tray : List ℕ) → IsTrue (is_tray_name machine tray) → ReceivesInOrder log tray
     -- each plan ends its copy first among all alternatives, and is least

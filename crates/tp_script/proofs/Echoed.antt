@@ -6,7 +6,7 @@ use Rattle.std.proofs.lemmas.Slice.Eq.{slice_eq-Decides}
 use Rattle.std.proofs.lemmas.Bool.Decides.{Decides-eqb}
 use Rattle.std.specs.List.{AllZip, AllByRecursion}
 use Rattle.tp_script.specs.declared.event.Event.{Event}
-use Rattle.tp_script.specs.declared.event.Event.TheVariants.{Bad, Job, Clock, Jam, Off, On}
+use Rattle.tp_script.specs.declared.event.Event.TheVariants.{Bad, Job, Clock, Jam, Off, On, Refill}
 use Rattle.tp_script.specs.declared.fault.LineFault.{LineFault}
 use Rattle.tp_script.specs.declared.fault.LineFault.TheVariants.{Memory, Syntax}
 use Rattle.tp_script.specs.Form.{GroupForm}
@@ -32,6 +32,7 @@ whole_from words (Clock to) (digits, is, writes, below) = below
 whole_from words (Jam n) (is, name) = name
 whole_from words (Off n) (is, name) = name
 whole_from words (On n) (is, name) = name
+whole_from words (Refill n count) (digits, is, name, writes, below) = (name, below)
 
 printed_in : (e : Event) → IsWhole e → IsEvent (words_of_line (event_text e)) e
 printed_in e h = rw (words-bare e h) (event_printed e h)
@@ -46,6 +47,7 @@ not_passed e h = rw (words-bare e h) (head e h)
     head (Jam n) h = refl
     head (Off n) h = refl
     head (On n) h = refl
+    head (Refill n count) h = refl
 
 -- the line `?` alone is Bad's
 pub only_bad : (text : List ℕ) → text ≢ codes "?" → (e : Event) → IsEchoed e → text ≡ event_text e → IsWhole e
@@ -94,6 +96,7 @@ not_question (Clock to) h = (let is = h.1 in absurd cc)
 not_question (Jam n) h = (let is = h.0 in absurd cc)
 not_question (Off n) h = (let is = h.0 in absurd cc)
 not_question (On n) h = (let is = h.0 in absurd cc)
+not_question (Refill n count) h = (let is = h.1 in absurd cc)
 
 -- no event is printed as `?` but Bad
 no_question : (e : Event) → IsWhole e → event_text e ≢ codes "?"

@@ -13,16 +13,16 @@ use Rattle.tp_words.proofs.Steps.{and_then_some}
 use Rattle.tp_words.proofs.EachFacts.{each_takes, each_again}
 use Rattle.tp_words.proofs.NumberFacts.{digits_take}
 use Rattle.tp_script.specs.declared.event.Event.{Event}
-use Rattle.tp_script.specs.declared.event.Event.TheVariants.{Bad, Job, Clock, Jam, Off, On}
+use Rattle.tp_script.specs.declared.event.Event.TheVariants.{Bad, Job, Clock, Jam, Off, On, Refill}
 use Rattle.tp_script.specs.declared.verb.Verb.{Verb}
 use Rattle.tp_script.specs.declared.verb.Verb.TheVariants as verbs
 use Rattle.tp_script.specs.declared.fault.LineFault.{LineFault}
 use Rattle.tp_script.specs.declared.fault.LineFault.TheVariants.{Memory, Syntax}
 use Rattle.tp_script.specs.Form.{GroupForm}
 use Rattle.tp_script.specs.Verbs.{verb_text, verb_of, verbs as verbs-all}
-use Rattle.tp_script.specs.Script.{IsGroup, IsEvent, Reads, is_passed}
+use Rattle.tp_script.specs.Script.{IsGroup, IsEvent, Reads, Writes, is_passed}
 use Rattle.tp_words.specs.Fields.{name_of}
-use Rattle.tp_script.specs.Reading.{Gives, group_of, groups_of, one_name, after_clock, job_of, after_job, event_after, event_of}
+use Rattle.tp_script.specs.Reading.{Gives, group_of, groups_of, one_name, number_of, after_clock, after_refill, job_of, after_job, event_after, event_of}
 use Rattle.tp_script.proofs.Groups.{group_takes, group_only}
 
 -- what `find` gives passes
@@ -43,6 +43,7 @@ verb_again verbs.Clock = refl
 verb_again verbs.Jam = refl
 verb_again verbs.Off = refl
 verb_again verbs.On = refl
+verb_again verbs.Refill = refl
 
 name_takes : (word name : List ℕ) → name_of word ≡ Some name → (word ≡ name) × IsName name
 unfolding name_of
@@ -88,14 +89,36 @@ job_takes (a ∷ b ∷ c ∷ w ∷ ws) e h =
     let some : 0 < length (w ∷ ws) = omega arith in
     subst (λ v. IsEvent (verb_text verbs.Job ∷ a ∷ b ∷ c ∷ w ∷ ws) v) (same_Some _ _ g.2) (w ∷ ws, words-are, n.1, t.1, m.1, some, gs)
 
+number_takes : (text : List ℕ) (n : ℕ) → number_of text ≡ Some n → Writes 10 text n × (n < 2 ^ 32)
+unfolding number_of
+number_takes text n e =
+    let x = and_then_some (digits_of 10 text) (λ to. cond (ltb to (2 ^ 32)) (Some to) None) n e in
+    let k = cond_some (ltb x.0 (2 ^ 32)) x.0 n x.2 in
+    subst (λ m. Writes 10 text m × (m < 2 ^ 32)) k.1 (digits_take 10 text x.0 x.1, ltb-true _ _ k.0)
+
 clock_takes : (words : List (List ℕ)) (e : Event) → after_clock words ≡ Some e → IsEvent (verb_text verbs.Clock ∷ words) e
 unfolding after_clock
 clock_takes [] e h = absurd cc
 clock_takes (a ∷ b ∷ ws) e h = absurd cc
 clock_takes (a ∷ []) e h =
-    let x = and_then_some (digits_of 10 a) (λ to. cond (ltb to (2 ^ 32)) (Some (Clock to)) None) e h in
-    let k = cond_some (ltb x.0 (2 ^ 32)) (Clock x.0) e x.2 in
-    subst (λ v. IsEvent (verb_text verbs.Clock ∷ a ∷ []) v) k.1 (a, refl, digits_take 10 a x.0 x.1, ltb-true _ _ k.0)
+    let x = and_then_some (number_of a) (λ to. Some (Clock to)) e h in
+    let n = number_takes a x.0 x.1 in
+    subst (λ v. IsEvent (verb_text verbs.Clock ∷ a ∷ []) v) (same_Some _ _ x.2) (a, refl, n.0, n.1)
+
+same_refill : (a b d : List ℕ) → a ≡ b → verb_text verbs.Refill ∷ a ∷ d ∷ [] ≡ verb_text verbs.Refill ∷ b ∷ d ∷ []
+same_refill a b d p = cc
+
+refill_takes : (words : List (List ℕ)) (e : Event) → after_refill words ≡ Some e → IsEvent (verb_text verbs.Refill ∷ words) e
+unfolding after_refill
+refill_takes [] e h = absurd cc
+refill_takes (a ∷ []) e h = absurd cc
+refill_takes (a ∷ b ∷ c ∷ ws) e h = absurd cc
+refill_takes (a ∷ b ∷ []) e h =
+    let x = and_then_some (name_of a) (λ n. option_and_then (λ count. Some (Refill n count)) (number_of b)) e h in
+    let y = and_then_some (number_of b) (λ count. Some (Refill x.0 count)) e x.2 in
+    let name = name_takes a x.0 x.1 in
+    let n = number_takes b y.0 y.1 in
+    subst (λ v. IsEvent (verb_text verbs.Refill ∷ a ∷ b ∷ []) v) (same_Some _ _ y.2) (b, same_refill a x.0 b name.0, name.1, n.0, n.1)
 
 one_takes : (words : List (List ℕ)) (name : List ℕ) → one_name words ≡ Some name → (words ≡ name ∷ []) × IsName name
 unfolding one_name
@@ -119,6 +142,7 @@ after_takes verbs.On words e h =
     let x = and_then_some (one_name words) (λ n. Some (On n)) e h in
     let n = one_takes words x.0 x.1 in
     subst (λ v. IsEvent (verb_text verbs.On ∷ words) v) (same_Some _ _ x.2) (ap (λ ws. verb_text verbs.On ∷ ws) n.0, n.1)
+after_takes verbs.Refill words e h = refill_takes words e h
 
 pub event_takes : (words : List (List ℕ)) (e : Event) → event_of words ≡ Some e → IsEvent words e
 unfolding event_of
@@ -135,13 +159,15 @@ job_only (w ∷ ws) n t m gs name tray media some all =
     rw (name_again n name, name_again t tray, name_again m media, each_again group_of (w ∷ ws) gs (groups_only (w ∷ ws) gs all)) refl
 
 pub event_only : (words : List (List ℕ)) (e : Event) → IsEvent words e → event_of words ≡ Some e
-unfolding event_of event_after after_job job_of after_clock one_name digits_of
+unfolding event_of event_after after_job job_of after_clock after_refill number_of one_name digits_of
 event_only words Bad h = absurd h
 event_only words (Job n t m gs) (texts, is, name, tray, media, some, all) = rw is (job_only texts n t m gs name tray media some all)
 event_only words (Clock to) (digits, is, writes, below) = rw (is, writes.0, writes.1, lt-ltb to (2 ^ 32) below) refl
 event_only words (Jam n) (is, name) = rw (is, name_again n name) refl
 event_only words (Off n) (is, name) = rw (is, name_again n name) refl
 event_only words (On n) (is, name) = rw (is, name_again n name) refl
+event_only words (Refill n count) (digits, is, name, writes, below) =
+    rw (is, name_again n name, writes.0, writes.1, lt-ltb count (2 ^ 32) below) refl
 
 -- what a line's words answer
 pub reads_event : (words : List (List ℕ)) (e : Event) → event_of words ≡ Some e → Reads words (Ok (Some e))

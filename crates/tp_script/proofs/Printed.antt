@@ -20,9 +20,9 @@ use Rattle.tp_machine.specs.declared.parts.Want.TheVariants.{Blank, Mono, Colour
 use Rattle.tp_machine.specs.declared.parts.Face.{Face}
 use Rattle.tp_machine.specs.declared.parts.Face.TheVariants.{Front, Back}
 use Rattle.tp_script.specs.declared.event.Event.{Event}
-use Rattle.tp_script.specs.declared.event.Event.TheVariants.{Bad, Job, Clock, Jam, Off, On}
+use Rattle.tp_script.specs.declared.event.Event.TheVariants.{Bad, Job, Clock, Jam, Off, On, Refill}
 use Rattle.tp_script.specs.Form.{GroupForm}
-use Rattle.tp_script.specs.Script.{IsGroup, IsEvent, want_byte, face_byte, spec_text, group_text, event_words, event_text, bare, words_of_line, ends_with_byte}
+use Rattle.tp_script.specs.Script.{IsGroup, IsEvent, Writes, want_byte, face_byte, spec_text, group_text, event_words, event_text, bare, words_of_line, ends_with_byte}
 use Rattle.tp_script.specs.Printed.{IsCounted, IsWhole}
 use Rattle.tp_script.proofs.Groups.{group_printed}
 
@@ -30,13 +30,17 @@ groups_printed : (gs : List GroupForm) → AllByRecursion IsCounted gs → AllZi
 groups_printed [] h = tt
 groups_printed (g ∷ gs) h = (group_printed g h.0.0 h.0.1, groups_printed gs h.1)
 
+number_written : (n : ℕ) → n < 2 ^ 32 → Writes 10 (decimal n) n
+number_written n h = digits_take 10 (decimal n) n (digits_again 10 n (omega arith) (omega arith) (omega arith))
+
 pub event_printed : (e : Event) → IsWhole e → IsEvent (event_words e) e
 event_printed Bad h = absurd h
 event_printed (Job n t m gs) (name, tray, media, some, counted) = (map group_text gs, refl, name, tray, media, omega (arith, length-map gs group_text), groups_printed gs counted)
-event_printed (Clock to) h = (decimal to, refl, digits_take 10 (decimal to) to (digits_again 10 to (omega arith) (omega arith) (omega arith)), h)
+event_printed (Clock to) h = (decimal to, refl, number_written to h, h)
 event_printed (Jam n) h = (refl, h)
 event_printed (Off n) h = (refl, h)
 event_printed (On n) h = (refl, h)
+event_printed (Refill n count) (name, below) = (decimal count, refl, name, number_written count below, below)
 
 -- ---- the bytes of words
 
@@ -113,6 +117,7 @@ event_plain (Clock to) h = (literal _ refl refl, (decimal_plain to h, tt))
 event_plain (Jam n) h = (literal _ refl refl, (name_plain n h, tt))
 event_plain (Off n) h = (literal _ refl refl, (name_plain n h, tt))
 event_plain (On n) h = (literal _ refl refl, (name_plain n h, tt))
+event_plain (Refill n count) (name, below) = (literal _ refl refl, (name_plain n name, (decimal_plain count below, tt)))
 
 AllWords-plain : (texts : List (List ℕ)) → AllPlain texts → AllWords texts
 AllWords-plain [] h = tt

@@ -10,7 +10,7 @@ use Rattle.tp_machine.specs.declared.parts.Face.{Face}
 use Rattle.tp_machine.specs.declared.parts.Face.TheVariants.{Front, Back}
 use Rattle.tp_script.specs.Form.{GroupForm}
 use Rattle.tp_script.specs.declared.event.Event.{Event}
-use Rattle.tp_script.specs.declared.event.Event.TheVariants.{Job, Clock, Jam, Off, On}
+use Rattle.tp_script.specs.declared.event.Event.TheVariants.{Job, Clock, Jam, Off, On, Refill}
 use Rattle.tp_script.specs.declared.fault.LineFault.{LineFault}
 use Rattle.tp_script.specs.declared.fault.LineFault.TheVariants.{Memory, Syntax}
 use Rattle.tp_script.specs.declared.verb.Verb.{Verb}
@@ -67,11 +67,24 @@ unfoldable pub after_job : List (List ℕ) → Option Event
 after_job (name ∷ tray ∷ media ∷ first ∷ others) = job_of name tray media (first ∷ others)
 after_job _ = None
 
+-- a number of 1 to 10 digits that 32 bits hold
+unfoldable pub number_of : List ℕ → Option ℕ
+number_of digits = do
+  n ← digits_of 10 digits
+  if nat_lt n (2 ^ 32) then Some n else None
+
 unfoldable pub after_clock : List (List ℕ) → Option Event
 after_clock (digits ∷ []) = do
-  to ← digits_of 10 digits
-  if nat_lt to (2 ^ 32) then Some (Clock to) else None
+  to ← number_of digits
+  Some (Clock to)
 after_clock _ = None
+
+unfoldable pub after_refill : List (List ℕ) → Option Event
+after_refill (name ∷ digits ∷ []) = do
+  n ← name_of name
+  count ← number_of digits
+  Some (Refill n count)
+after_refill _ = None
 
 unfoldable pub one_name : List (List ℕ) → Option (List ℕ)
 one_name (name ∷ []) = name_of name
@@ -83,6 +96,7 @@ event_after verbs.Clock words = after_clock words
 event_after verbs.Jam words = one_name words >>= λ n. Some (Jam n)
 event_after verbs.Off words = one_name words >>= λ n. Some (Off n)
 event_after verbs.On words = one_name words >>= λ n. Some (On n)
+event_after verbs.Refill words = after_refill words
 
 unfoldable pub event_of : List (List ℕ) → Option Event
 event_of [] = None

@@ -14,7 +14,7 @@ use Rattle.tp_script.specs.Form.{GroupForm}
 use Rattle.tp_script.specs.declared.fault.LineFault.{LineFault}
 use Rattle.tp_script.specs.declared.fault.LineFault.TheVariants.{Memory, Syntax}
 use Rattle.tp_script.specs.declared.event.Event.{Event}
-use Rattle.tp_script.specs.declared.event.Event.TheVariants.{Bad, Job, Clock, Jam, Off, On}
+use Rattle.tp_script.specs.declared.event.Event.TheVariants.{Bad, Job, Clock, Jam, Off, On, Refill}
 
 -- 1 to `most` digits, zeros in front among them, that write n
 abbrev pub Writes : ℕ → List ℕ → ℕ → Type 0
@@ -49,6 +49,8 @@ IsEvent words (Clock to) = (digits : List ℕ) × (words ≡ codes "clock" ∷ d
 IsEvent words (Jam name) = (words ≡ codes "jam" ∷ name ∷ []) × IsName name
 IsEvent words (Off name) = (words ≡ codes "off" ∷ name ∷ []) × IsName name
 IsEvent words (On name) = (words ≡ codes "on" ∷ name ∷ []) × IsName name
+IsEvent words (Refill name count) =
+    (digits : List ℕ) × (words ≡ codes "refill" ∷ name ∷ digits ∷ []) × IsName name × Writes 10 digits count × (count < 2 ^ 32)
 
 -- blank, or a comment
 abbrev pub is_passed : List (List ℕ) → Bool
@@ -96,6 +98,7 @@ event_words (Clock to) = codes "clock" ∷ decimal to ∷ []
 event_words (Jam name) = codes "jam" ∷ name ∷ []
 event_words (Off name) = codes "off" ∷ name ∷ []
 event_words (On name) = codes "on" ∷ name ∷ []
+event_words (Refill name count) = codes "refill" ∷ name ∷ decimal count ∷ []
 
 abbrev pub event_text : Event → List ℕ
 event_text event = spaced (event_words event)

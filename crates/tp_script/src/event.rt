@@ -53,4 +53,9 @@ pub enum Event {
     On {
         module: Name,
     },
+    /// So many sheets are put into a feeder: any number that its range has, 0 among them.
+    Refill {
+        feeder: Name,
+        count: u32,
+    },
 }

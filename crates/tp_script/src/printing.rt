@@ -52,6 +52,12 @@ fn put_event(out: &mut Vec<u8>, event: &Event) -> Result<(), Memory>
             out.extend_from_slice(b"on")?;
             put_word(out, module.as_bytes())?;
         }
+        Event::Refill { feeder, count } => {
+            out.extend_from_slice(b"refill")?;
+            put_word(out, feeder.as_bytes())?;
+            out.push(b' ')?;
+            put_number(out, *count)?;
+        }
     }
     Ok(())
 }

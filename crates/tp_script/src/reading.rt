@@ -2,7 +2,7 @@ ghost use Rattle.std.specs.Prelude.{◌≡◌, ◌↔◌, ◌≤◌, ◌+◌, �
 ghost use Rattle.tp_words.specs.Parts.{shown};
 ghost use Rattle.tp_script.specs.Script.{is_passed, bare, ends_with_byte, words_of_line, Reads};
 ghost use Rattle.tp_words.specs.Fields.{name_of};
-ghost use Rattle.tp_script.specs.Reading.{Gives, groups_of, one_name, after_clock, job_of, after_job, event_after, event_of};
+ghost use Rattle.tp_script.specs.Reading.{Gives, groups_of, one_name, number_of, after_clock, after_refill, job_of, after_job, event_after, event_of};
 
 use crate::event::{Event, Group};
 use crate::fault::LineFault;
@@ -22,6 +22,17 @@ fn only_name(words: &[&[u8]]) -> Option<Name>
     read_name(name)
 }
 
+/// A number of 1 to 10 digits that 32 bits hold.
+#[tactic(auto, unfolding(crate::specs::Reading::number_of))]
+fn read_number(digits: &[u8]) -> Option<u32>
+    ensures { result ≡ number_of digits.now }
+{
+    match read_digits(digits, 10) {
+        Some(number) if number < 1 << 32 => Some(number as u32),
+        _ => None,
+    }
+}
+
 #[tactic(auto, unfolding(crate::specs::Reading::after_clock))]
 fn read_clock(words: &[&[u8]]) -> Option<Event>
     ensures { result ≡ after_clock (shown words.now) }
@@ -29,10 +40,20 @@ fn read_clock(words: &[&[u8]]) -> Option<Event>
     let [digits] = words else {
         return None;
     };
-    match read_digits(digits, 10) {
-        Some(to) if to < 1 << 32 => Some(Event::Clock { to: to as u32 }),
-        _ => None,
-    }
+    let to = read_number(digits)?;
+    Some(Event::Clock { to })
+}
+
+#[tactic(auto, unfolding(crate::specs::Reading::after_refill))]
+fn read_refill(words: &[&[u8]]) -> Option<Event>
+    ensures { result ≡ after_refill (shown words.now) }
+{
+    let [name, digits] = words else {
+        return None;
+    };
+    let feeder = read_name(name)?;
+    let count = read_number(digits)?;
+    Some(Event::Refill { feeder, count })
 }
 
 fn read_groups(alloc: Global, words: &[&[u8]]) -> Result<Items<Group>, LineFault>
@@ -111,6 +132,7 @@ fn read_after(alloc: Global, verb: Verb, words: &[&[u8]]) -> Result<Event, LineF
         Verb::Jam => some_event(only_name(words).map(|module| Event::Jam { module })),
         Verb::Off => some_event(only_name(words).map(|module| Event::Off { module })),
         Verb::On => some_event(only_name(words).map(|module| Event::On { module })),
+        Verb::Refill => some_event(read_refill(words)),
     }
 }
 

@@ -1,3 +1,4 @@
+pub mod FreeFacts
 pub mod Lawfully
 pub mod ProbeFacts
 pub mod ToldText

@@ -8,7 +8,6 @@ use Rattle.std.proofs.lemmas.Option.{get_or_from_slice_get, slice_get_within}
 use Rattle.tp_machine.specs.declared.parts.LocId.{LocId}
 use Rattle.tp_machine.specs.declared.parts.Sheet.{Sheet}
 use Rattle.tp_machine.specs.declared.machine.Machine.{Machine}
-use Rattle.tp_schedule.specs.LocationSets.{nowhere}
 use Rattle.tp_schedule.specs.Answers.{IsAlternative, KeepsFloors, NoneBefore}
 use Rattle.tp_schedule.specs.Legality.{IsLegal}
 use Rattle.tp_schedule.specs.Planning.{CanAsk, none_exempt}
@@ -30,7 +29,7 @@ use Rattle.tp_jobs.specs.declared.parts.Job.{Job}
 use Rattle.tp_jobs.specs.declared.parts.WaitingCopy.{WaitingCopy}
 use Rattle.tp_script.specs.Form.{GroupForm}
 use Rattle.tp_script.specs.declared.event.Event.{Event}
-use Rattle.tp_script.specs.declared.event.Event.TheVariants.{Bad, Job as NewJob, Clock, Jam, Off, On}
+use Rattle.tp_script.specs.declared.event.Event.TheVariants.{Bad, Job as NewJob, Clock, Jam, Off, On, Refill}
 use Rattle.tp_search.specs.Trials.{EndsEarliest}
 use Rattle.tp_turn.specs.Asking.{ask_waiting, is_full}
 use Rattle.tp_turn.specs.Keeping.{KeepsLines, live_part}
@@ -48,8 +47,9 @@ use Rattle.tp_turning.proofs.LiveAnswered.{live-budgets_hold, stays-of}
 use Rattle.tp_turning.proofs.LiveAsks.{full-same}
 use Rattle.tp_turning.proofs.LivePast.{both-parts, gone-is, gone_at, may-ask, may-forget}
 use Rattle.tp_turning.proofs.TurnFacts.{match-false}
-use Rattle.tp_turning.proofs.LiveStates.{WaitsFree, can-ask-live, whole-all}
+use Rattle.tp_turning.proofs.LiveStates.{WaitsFree, can-ask-live, same-ask, whole-all}
 use Rattle.tp_session.specs.Probes.{AskGives, GivesProbe, IsProbe, Probes, ProbesJob, first_copy}
+use Rattle.tp_stock.specs.Stock.{empties}
 use Rattle.tp_teller.specs.declared.probe.Probe.{Probe}
 use Rattle.tp_teller.specs.declared.probe.Probe.TheVariants.{Ends, Never, Spent, Full, Waits, Refused}
 
@@ -86,12 +86,12 @@ module _ (machine : Machine) (name tray media : List ℕ) (groups : List GroupFo
 
   -- its ask
   pub ask-first : (want : Sheet) (place : LocId) → tray_named machine tray ≡ Some place
-      → record { sheet = record { job = length s.jobs; number = 1; copy = 1 }; name = name; want = want; goal = Tray place; origin = FromFeeder; outs = s.outs; empty = nowhere; now = s.now } ≡ ask_waiting next (copy want)
+      → record { sheet = record { job = length s.jobs; number = 1; copy = 1 }; name = name; want = want; goal = Tray place; origin = FromFeeder; outs = s.outs; empty = empties machine s.refills s.plans; now = s.now } ≡ ask_waiting machine next (copy want)
   ask-first want place named =
       let last = last-job s.jobs (new_job machine name tray groups) in
       let name-is : job_name_in (slice_get next.jobs (length s.jobs)) ≡ name = ap job_name_in last in
       let tray-is : tray_in (slice_get next.jobs (length s.jobs)) ≡ place = ap tray_in last ∙ ap given_tray named in
-      λ k. record { sheet = record { job = length s.jobs; number = 1; copy = 1 }; name = sym name-is k; want = want; goal = Tray (sym tray-is k); origin = FromFeeder; outs = s.outs; empty = nowhere; now = s.now }
+      λ k. record { sheet = record { job = length s.jobs; number = 1; copy = 1 }; name = sym name-is k; want = want; goal = Tray (sym tray-is k); origin = FromFeeder; outs = s.outs; empty = empties machine s.refills s.plans; now = s.now }
 
   waits-next : (w : WaitingCopy) → first_copy s media groups ≡ Some w → Contains next.waiting w
   waits-next w first =
@@ -101,13 +101,13 @@ module _ (machine : Machine) (name tray media : List ℕ) (groups : List GroupFo
 
   -- it can be asked where the job would be accepted and fewer than 256 copies are live
   pub can-ask-first : (copies : ℕ) → job_refusal machine s.jobs (length s.waiting) name tray media groups ≡ None → CanTakeEvents machine copies s
-      → (w : WaitingCopy) → first_copy s media groups ≡ Some w → is_full machine s ≡ false → CanAsk machine s.plans (ask_waiting next w)
+      → (w : WaitingCopy) → first_copy s media groups ≡ Some w → is_full machine s ≡ false → CanAsk machine s.plans (ask_waiting machine next w)
   can-ask-first copies accepted can w first free =
       can-ask machine (copies + 1) next (events-job machine name tray media groups s accepted copies can).kept w (waits-next w first) free
 
   -- and on the whole schedule
   pub can-ask-whole : job_refusal machine s.jobs (length s.waiting) name tray media groups ≡ None → KeepsLines s → IsLegal machine s.plans → KeepsFloors machine s.now none_exempt s.plans
-      → (w : WaitingCopy) → first_copy s media groups ≡ Some w → CanAskLive machine s.plans (ask_waiting next w)
+      → (w : WaitingCopy) → first_copy s media groups ≡ Some w → CanAskLive machine s.plans (ask_waiting machine next w)
   can-ask-whole accepted lines legal floors w first =
       let whole = whole-all machine next (lines-job machine name tray media groups s (accepted-job machine s.jobs (length s.waiting) name tray media groups accepted) lines) legal floors in
       can-ask-live machine next w [] (record {
@@ -119,12 +119,12 @@ module _ (machine : Machine) (name tray media : List ℕ) (groups : List GroupFo
 
   -- what it gives is what a probe tells, where the job would be accepted, no copy of its line waits, and there is room for one more
   pub probes-first : (nodes : ℕ) → job_refusal machine s.jobs (length s.waiting) name tray media groups ≡ None → has_waiting s.jobs s.waiting (given_tray (tray_named machine tray)) ≡ false → is_full machine s ≡ false
-      → (w : WaitingCopy) → first_copy s media groups ≡ Some w → GivesProbe machine nodes (NewJob name tray media groups) s (ask_waiting next w)
+      → (w : WaitingCopy) → first_copy s media groups ≡ Some w → GivesProbe machine nodes (NewJob name tray media groups) s (ask_waiting machine next w)
   probes-first nodes accepted none free w first answer gives =
       subst (λ o. MatchOption o (ProbesJob machine nodes s name tray media groups answer) (λ cause. answer ≡ Refused)) (sym accepted)
       (match-false (has_waiting s.jobs s.waiting (given_tray (tray_named machine tray))) _ _ none
       (match-false (is_full machine s) _ _ free
-      (subst (λ o. IsSomeAnd o (λ w. AskGives nodes machine s.plans (ask_waiting next w) answer)) (sym first) gives)))
+      (subst (λ o. IsSomeAnd o (λ w. AskGives nodes machine s.plans (ask_waiting machine next w) answer)) (sym first) gives)))
 
 -- What an ask gives on the live part, it gives on the whole schedule.
 module _ (machine : Machine) (plans : List Plan) (ask : Ask) (can : CanAskLive machine plans ask) where
@@ -164,15 +164,16 @@ module _ (machine : Machine) (nodes : ℕ) (whole : SessionState) (lines : Keeps
   job-on name tray media groups answer accepted probes =
       go (has_waiting whole.jobs whole.waiting (given_tray (tray_named machine tray))) (is_full machine (live_part machine whole)) (is_full machine whole) (full-same machine whole) (first_copy whole media groups) refl probes where
         go : (waits full full' : Bool) → full ≡ full' → (o : Option WaitingCopy) → first_copy whole media groups ≡ o
-            → MatchBool waits (answer ≡ Waits) (MatchBool full (answer ≡ Full) (IsSomeAnd o (λ w. AskGives nodes machine (live_at machine whole.now whole.plans) (ask_waiting (with_job machine name tray media groups whole) w) answer)))
-            → MatchBool waits (answer ≡ Waits) (MatchBool full' (answer ≡ Full) (IsSomeAnd o (λ w. AskGives nodes machine whole.plans (ask_waiting (with_job machine name tray media groups whole) w) answer)))
+            → MatchBool waits (answer ≡ Waits) (MatchBool full (answer ≡ Full) (IsSomeAnd o (λ w. AskGives nodes machine (live_at machine whole.now whole.plans) (ask_waiting machine (live_part machine (with_job machine name tray media groups whole)) w) answer)))
+            → MatchBool waits (answer ≡ Waits) (MatchBool full' (answer ≡ Full) (IsSomeAnd o (λ w. AskGives nodes machine whole.plans (ask_waiting machine (with_job machine name tray media groups whole) w) answer)))
         go true full full' same o e told = told
         go false true true same o e told = told
         go false true false same o e told = absurd (cc)
         go false false true same o e told = absurd (cc)
         go false false false same None e told = absurd told
         go false false false same (Some w) e told =
-            gives-on machine whole.plans (ask_waiting (with_job machine name tray media groups whole) w) (can-ask-whole machine name tray media groups whole accepted lines legal floors w e) nodes answer told
+            gives-on machine whole.plans (ask_waiting machine (with_job machine name tray media groups whole) w) (can-ask-whole machine name tray media groups whole accepted lines legal floors w e) nodes answer
+            (subst (λ ask. AskGives nodes machine (live_at machine whole.now whole.plans) ask answer) (same-ask machine (with_job machine name tray media groups whole) w) told)
 
   pub probe-on : (event : Event) (answer : Probe) → IsProbe machine nodes event (live_part machine whole) answer → IsProbe machine nodes event whole answer
   probe-on (NewJob name tray media groups) answer probes = go (job_refusal machine whole.jobs (length whole.waiting) name tray media groups) refl probes where
@@ -186,6 +187,7 @@ module _ (machine : Machine) (nodes : ℕ) (whole : SessionState) (lines : Keeps
   probe-on (Jam module_name) answer told = told
   probe-on (Off module_name) answer told = told
   probe-on (On module_name) answer told = told
+  probe-on (Refill feeder count) answer told = told
 
 -- what is so in the state is so in each whole state behind it
 pub probes-behind : (machine : Machine) (nodes : ℕ) (bounds : Bool) (s : SessionState) (event : Event) (answer : Probe) → IsProbe machine nodes event s answer → Probes (record { machine = machine; budget = nodes; bounds = bounds; state = s }) event answer

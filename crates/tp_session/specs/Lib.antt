@@ -1,3 +1,4 @@
 pub mod Sessions
 pub mod Texts
 pub mod Probes
+pub mod Stocks

@@ -44,7 +44,7 @@ module _ (machine : Machine) (nodes : ℕ) where
   ProbesJob s name tray media groups answer =
       MatchBool (has_waiting s.jobs s.waiting (given_tray (tray_named machine tray))) (answer ≡ Waits)
       (MatchBool (is_full machine s) (answer ≡ Full)
-      (IsSomeAnd (first_copy s media groups) (λ w. AskGives nodes machine s.plans (ask_waiting (with_job machine name tray media groups s) w) answer)))
+      (IsSomeAnd (first_copy s media groups) (λ w. AskGives nodes machine s.plans (ask_waiting machine (with_job machine name tray media groups s) w) answer)))
 
   -- any other event, and a job that would be refused, is told refused
   abbrev pub IsProbe : Event → SessionState → Probe → Type 0

@@ -7,7 +7,7 @@ use Rattle.tp_stream.specs.Scripts.{AnswersLine, NoRefusal, line_bytes, most_lin
 use Rattle.tp_stream.specs.Takes.{Stops, TakesAll, ends_whole, place_of}
 use Rattle.tp_stream.specs.declared.stop.Stop.{Stop}
 use Rattle.tp_teller.specs.Tellers.{TellsAll, most_events}
-use Rattle.tp_turn.specs.Ready.{CanTakeEvents}
+use Rattle.tp_turn.specs.Ready.{CanTakeEvents, KeepsStock}
 use Rattle.tp_turn.specs.States.{SessionState, empty_state}
 use Rattle.tp_runs.specs.Ends.{IsAnswered, IsAnsweredTo}
 use Rattle.tp_runs.specs.EventRuns.{IsRunOf}
@@ -34,6 +34,7 @@ pub record IsSession {N : Type 0} (standing : Standing) (engine : EngineValue N)
   pub bounds : engine.bounds ≡ standing.bounds
   pub no_trees : engine.trees ≡ []
   pub can : CanTakeEvents standing.machine answered standing.state
+  pub stocked : KeepsStock standing.machine answered standing.state
   pub within : answered ≤ most_events
 
 -- an event's turn on every whole state behind the session's, with the text of its records and trees. All but the state stays

@@ -5,6 +5,7 @@ mod laws;
 mod probing;
 mod session;
 mod settings;
+mod stock;
 mod telling;
 mod turning;
 

@@ -2,7 +2,6 @@
 
 ghost use Rattle.std.specs.Prelude.{◌≡◌, ◌<◌, ◌^◌, ℕ, length, slice_get, Some, IfErr, IfOk, IsTrue};
 ghost use Rattle.tp_jobs.specs.Waiting.{sheets_of};
-ghost use Rattle.tp_schedule.specs.LocationSets.{nowhere};
 ghost use Rattle.tp_schedule.specs.Planning.{CanAsk};
 ghost use Rattle.tp_schedule.specs.declared.parts.Goal.TheVariants.{Tray};
 ghost use Rattle.tp_schedule.specs.declared.parts.Origin.TheVariants.{Feeder};
@@ -10,14 +9,16 @@ ghost use Rattle.tp_script.specs.Printed.{IsEchoed};
 ghost use Rattle.tp_script.specs.declared.event.Event.TheVariants.{Job as NewJob};
 ghost use Rattle.tp_search.specs.Engines.{IsSameEngine, is_engine_for};
 ghost use Rattle.tp_session.specs.Probes.{AskGives, GivesProbe, IsProbe};
+ghost use Rattle.tp_stock.specs.Stock.{IsBounded, empties};
 ghost use Rattle.tp_turn.specs.LiveStates.{seen};
-ghost use Rattle.tp_turn.specs.Ready.{CanTakeEvents, last_copy};
+ghost use Rattle.tp_turn.specs.Ready.{CanTakeEvents, KeepsStock, last_copy};
 
 use tp_base::{Name, Network, Undo};
 use tp_machine::{LocId, Machine, Sheet};
-use tp_schedule::{Ask, Empties, Goal, Origin, Schedule, SheetId};
+use tp_schedule::{Ask, Goal, Origin, Schedule, SheetId};
 use tp_script::{Event, Group};
 use tp_search::{Engine, NoPlan};
+use tp_stock::empty_feeders;
 use tp_teller::Probe;
 use tp_turn::LiveState;
 use tp_turning::MOST_LIVE;
@@ -37,7 +38,8 @@ fn first_sheet(media: Name, groups: &[Group]) -> Sheet
 }
 
 /// The ask for the first copy of a job that comes now.
-fn make_ask(state: &LiveState, name: Name, want: Sheet, tray: LocId) -> Ask
+fn make_ask(machine: &Machine, state: &LiveState, name: Name, want: Sheet, tray: LocId) -> Ask
+    requires { IsBounded state.now.refills.0 }
     ensures { result ≡ record {
       sheet = record { job = length state.now.lines.jobs; number = 1; copy = 1 };
       name = name;
@@ -45,7 +47,7 @@ fn make_ask(state: &LiveState, name: Name, want: Sheet, tray: LocId) -> Ask
       goal = Tray tray;
       origin = Feeder;
       outs = state.now.outs;
-      empty = nowhere;
+      empty = empties machine.now state.now.refills.0 state.now.schedule.plans;
       now = state.now.moment;
     } }
 {
@@ -60,7 +62,7 @@ fn make_ask(state: &LiveState, name: Name, want: Sheet, tray: LocId) -> Ask
         goal: Goal::Tray(tray),
         origin: Origin::Feeder,
         outs: state.outs,
-        empty: Empties::none(),
+        empty: empty_feeders(machine, &state.refills, &state.schedule),
         now: state.moment,
     }
 }
@@ -75,6 +77,7 @@ fn ask_for_job(
     groups: &[Group],
 ) -> Result<Ask, Probe>
     requires can { CanTakeEvents machine.now last_copy (seen state.now) }
+    requires stocked { KeepsStock machine.now last_copy (seen state.now) }
     requires groups { (0 < length groups.now) × (length groups.now < 2 ^ 32) }
     ensures can_ask { IfOk result (CanAsk machine.now state.now.schedule.plans) }
     ensures asked { (nodes : ℕ) → IfOk result (GivesProbe machine.now nodes
@@ -91,13 +94,14 @@ fn ask_for_job(
     if state.schedule.live(machine, state.moment) >= MOST_LIVE {
         return Err(Probe::Full);
     }
-    Ok(make_ask(state, *name, first_sheet(*media, groups), place))
+    Ok(make_ask(machine, state, *name, first_sheet(*media, groups), place))
 }
 
 /// The ask for the first sheet of the job, or what is told without one: the event is no job or would be refused, a copy of
 /// its line waits, or 256 copies are live.
 pub(crate) fn first_ask(machine: &Machine, state: &LiveState, event: &Event) -> Result<Ask, Probe>
     requires can { CanTakeEvents machine.now last_copy (seen state.now) }
+    requires stocked { KeepsStock machine.now last_copy (seen state.now) }
     requires echoed { IsEchoed event.now }
     ensures can_ask { IfOk result (CanAsk machine.now state.now.schedule.plans) }
     ensures asked { (nodes : ℕ) →
@@ -119,7 +123,8 @@ pub(crate) fn first_ask(machine: &Machine, state: &LiveState, event: &Event) -> 
         | Event::Clock { .. }
         | Event::Jam { .. }
         | Event::Off { .. }
-        | Event::On { .. } => Err(Probe::Refused),
+        | Event::On { .. }
+        | Event::Refill { .. } => Err(Probe::Refused),
     }
 }
 

@@ -8,11 +8,12 @@ ghost use Rattle.tp_turn.specs.LiveStates.{seen};
 
 use crate::probing::{first_ask, try_ask};
 use crate::settings::Settings;
+use crate::stock::free_sheets;
 use crate::turning::take_turn;
 use std::alloc::Global;
 use std::marker::Model;
 use tp_base::{Memory, Network, Tick};
-use tp_machine::Machine;
+use tp_machine::{LocId, Machine};
 use tp_placing::Board;
 use tp_schedule::Schedule;
 use tp_script::Event;
@@ -33,7 +34,7 @@ const MARKS: u32 = 330;
 pub type Session = SessionOver<LiveNet>;
 
 /// Takes events in turn, and appends the text of each: its echo and its records. It keeps what is live of all that it
-/// planned, the jobs with their lines, and the modules that are out. Any network serves.
+/// planned, the jobs with their lines, the modules that are out, and what was refilled. Any network serves.
 #[derive(Drop)]
 pub struct SessionOver<N: Network> {
     alloc: Global,
@@ -121,6 +122,7 @@ impl<N: Network + Drop> SessionOver<N> {
 impl<N: Network> SessionOver<N> {
     ghost use Rattle.tp_session.specs.Probes.{Probes};
     ghost use Rattle.tp_session.specs.Sessions.{Tells};
+    ghost use Rattle.tp_session.specs.Stocks.{IsFree};
 
     /// Does the turn of one event, and appends its text. After `Memory` all is as before, but for the board that asks are
     /// answered on.
@@ -210,6 +212,14 @@ impl<N: Network> SessionOver<N> {
         ensures { result.now.plans ≡ self.now.standing.state.plans }
     {
         &self.state.schedule
+    }
+
+    /// The free stock of the feeder at a location, in sheets: its stock and its refills, less the sheets of all plans made so far.
+    /// None where no feeder is there or its stock is endless. Takes the time of the live plans.
+    pub fn stock(&self, feeder: LocId) -> Option<u32>
+        ensures { IsFree self.now.standing feeder result }
+    {
+        free_sheets(&self.machine, &self.state, feeder)
     }
 
     /// The board that asks are answered on, as the last one left it.

@@ -6,7 +6,7 @@ ghost use Rattle.tp_runs.specs.Wholes.{TellsTurn};
 ghost use Rattle.tp_script.specs.Printed.{IsEchoed};
 ghost use Rattle.tp_search.specs.Engines.{is_engine_for};
 ghost use Rattle.tp_turn.specs.LiveStates.{seen};
-ghost use Rattle.tp_turn.specs.Ready.{CanTakeEvents, last_copy};
+ghost use Rattle.tp_turn.specs.Ready.{CanTakeEvents, KeepsStock, last_copy};
 
 use crate::laws::engines_answer_alone;
 use crate::telling::{records_law, tell};
@@ -17,7 +17,7 @@ use tp_runs::{live_turns_are_whole, shown_trees_have_lines, turns_have_lines};
 use tp_script::Event;
 use tp_search::Engine;
 use tp_turn::LiveState;
-use tp_turning::take_event;
+use tp_turning::{take_event, turns_keep_stock};
 
 /// Takes the event, and appends the text of its turn. After `Memory` nothing is known of the state, but its lines keep their
 /// mark, and the text is as before.
@@ -31,6 +31,7 @@ pub(crate) fn take_turn<N: Network>(
 ) -> Result<(), Memory>
     requires serves { IsTrue (is_engine_for engine.old machine.now) }
     requires can { CanTakeEvents machine.now last_copy (seen state.old) }
+    requires stocked { KeepsStock machine.now last_copy (seen state.old) }
     requires echoed { IsEchoed event.now }
     requires no_trees { engine.old.trees ≡ [] }
     ensures told { OnOk result ((told : List ℕ)
@@ -39,6 +40,8 @@ pub(crate) fn take_turn<N: Network>(
         × (text.new.items ≡ text.old.items ++ told)) }
     ensures kept { OnOk result ((copies : ℕ) → CanTakeEvents machine.now copies (seen state.old)
         → CanTakeEvents machine.now (copies + 1) (seen state.new)) }
+    ensures stocked { OnOk result ((events : ℕ) → KeepsStock machine.now events (seen state.old)
+        → KeepsStock machine.now (events + 1) (seen state.new)) }
     ensures text { OnErr result (text.new.items ≡ text.old.items) }
     ensures marked { state.new.lines.kept ≡ state.old.lines.kept }
     ensures nodes { engine.new.work.nodes ≡ engine.old.work.nodes }
@@ -50,6 +53,7 @@ pub(crate) fn take_turn<N: Network>(
     live_turns_are_whole::<Engine<N>>();
     turns_have_lines::<Engine<N>>();
     shown_trees_have_lines::<Engine<N>>();
+    turns_keep_stock::<Engine<N>>();
     let mut notes = Vec::new(alloc);
     match take_event(alloc, machine, state, engine, event, &mut notes) {
         Ok(()) => {

@@ -1,8 +1,9 @@
 -- The free stock of feeders, and which of them are empty.
-use Rattle.std.specs.Prelude.{ℕ, ◌==◌, Bool, false, List, map, filter, count_by, get_or, slice_get, Option, Some, None, option_and_then, ℤ, pos, neg_ℤ, ◌+ℤ◌, ◌-ℤ◌, ◌≤ℤ◌, ◌^◌}
+use Rattle.std.specs.Prelude.{◌≡◌, ℕ, ◌*◌, ◌==◌, Bool, false, List, map, filter, find, position, count_by, get_or, slice_get, Contains, Option, Some, None, option_and_then, if◌then◌else◌, ℤ, pos, neg_ℤ, ◌+ℤ◌, ◌-ℤ◌, ◌≤ℤ◌, ◌^◌}
 use Rattle.std.specs.List.{fold, range_with_len}
 use Rattle.std.specs.Option.{option_eq}
 use Rattle.std.specs.Ordering.{int_eq}
+use Rattle.std.specs.Str.{bytes_eq}
 use Rattle.tp_machine.specs.Using.{action_at}
 use Rattle.tp_machine.specs.declared.parts.Action.{Action}
 use Rattle.tp_machine.specs.declared.parts.Feeder.{Feeder}
@@ -39,6 +40,10 @@ refilled refills loc = get_or refills loc (pos 0)
 abbrev pub less_taken : Machine → List Plan → List ℤ → List ℤ
 less_taken machine gone refills = by_location (λ loc. refilled refills loc -ℤ pos (taken_at machine gone loc))
 
+-- the refills with so many sheets more at the location of this number
+abbrev pub more_at : ℕ → ℕ → List ℤ → List ℤ
+more_at at count refills = by_location (λ loc. refilled refills loc +ℤ pos (if loc == at then count else 0))
+
 -- the numbers are so small that sums with them fit in 64 bits
 abbrev pub IsBounded : List ℤ → Type 0
 IsBounded refills = (loc : ℕ) → (neg_ℤ (pos (2 ^ 62)) ≤ℤ refilled refills loc) × (refilled refills loc ≤ℤ pos (2 ^ 62))
@@ -59,3 +64,32 @@ is_empty machine refills plans f = option_eq int_eq (free_stock machine refills 
 -- the locations of the empty feeders
 abbrev pub empties : Machine → List ℤ → List Plan → Empties
 empties machine refills plans = fold (λ set f. with set f.loc) nowhere (filter (is_empty machine refills plans) machine.feeders)
+
+-- the feeder at the location with this name
+abbrev pub feeder_at : Machine → ℕ → Option Feeder
+feeder_at machine loc = find (λ f. f.loc.0 == loc) machine.feeders
+
+abbrev pub feeder_named : Machine → List ℕ → Option Feeder
+feeder_named machine name = option_and_then (feeder_at machine) (position (bytes_eq name) machine.locations)
+
+-- the most sheets that a feeder may have free as it is refilled
+abbrev pub most_free : ℕ
+most_free = 1000000
+
+-- at each feeder with a stock the plans that begin there are at most its stock and its refills
+abbrev pub IsNotOverdrawn : Machine → List ℤ → List Plan → Type 0
+IsNotOverdrawn machine refills plans = (f : Feeder) → Contains machine.feeders f → (stock : ℕ) → f.stock ≡ Some stock
+    → pos (taken_at machine plans f.loc.0) ≤ℤ (pos stock +ℤ refilled refills f.loc.0)
+
+-- so many refills, and so many plans forgotten, are at most what this many events make of them
+abbrev pub AreWithin : ℕ → List ℤ → Type 0
+AreWithin events refills = (loc : ℕ) → (neg_ℤ (pos (events * 1000000)) ≤ℤ refilled refills loc) × (refilled refills loc ≤ℤ pos (events * 1000000))
+
+-- a stock and its refills, less what is forgotten, come to no more than this: it was refilled to the most that may be free,
+-- while at most 256 plans were live
+abbrev pub most_stocked : ℕ
+most_stocked = 1000256
+
+abbrev pub IsStockedWithin : Machine → List ℤ → Type 0
+IsStockedWithin machine refills = (loc : ℕ) (f : Feeder) (stock : ℕ) → feeder_at machine loc ≡ Some f → f.stock ≡ Some stock
+    → (pos stock +ℤ refilled refills loc) ≤ℤ pos most_stocked

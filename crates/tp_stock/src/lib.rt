@@ -9,4 +9,4 @@ mod stock;
 pub use counting::{Taken, count_taken};
 pub use laws::{forgetting_keeps_empties, forgetting_keeps_stock};
 pub use refills::Refills;
-pub use stock::{empty_feeders, free_stock};
+pub use stock::{empty_feeders, feeder_at, feeder_named, free_stock};

@@ -1,10 +1,10 @@
 //! The refills of feeders.
-ghost use Rattle.std.specs.Prelude.{◌≡◌, ℕ, Bool, List, filter, get_or, not, pos, ◌+ℤ◌, ◌-ℤ◌};
+ghost use Rattle.std.specs.Prelude.{◌≡◌, ℕ, ◌<◌, ◌^◌, Bool, List, filter, get_or, not, pos, ◌+ℤ◌, ◌-ℤ◌};
 ghost use Rattle.tp_schedule.specs.declared.parts.Plan.{Plan};
-ghost use Rattle.tp_stock.specs.Stock.{IsBounded, by_location, less_taken, refilled, taken_at};
+ghost use Rattle.tp_stock.specs.Stock.{IsBounded, by_location, less_taken, more_at, refilled, taken_at};
 
 use crate::counting::{Taken, count_taken};
-use tp_machine::Machine;
+use tp_machine::{LocId, Machine};
 use tp_schedule::Schedule;
 
 /// For the feeder at each location the sum of its refills, less the sheets that plans took which are forgotten. So a number
@@ -33,6 +33,18 @@ impl Refills {
         ensures { result.0 ≡ no_refills }
     {
         Refills([0; 256])
+    }
+
+    /// The refills with so many sheets more at a location.
+    pub fn add(&self, loc: LocId, count: u32) -> Refills
+        requires bounded { IsBounded self.now.0 }
+        requires known { loc.0 < 256 }
+        requires small { count < 2 ^ 32 }
+        ensures { result.0 ≡ more_at loc.0 count self.now.0 }
+    {
+        let mut refills = self.0;
+        refills[usize::from(loc.0)] += i64::from(count);
+        Refills(refills)
     }
 
     /// The refills once only these plans are left of those that were counted before: what the others took is taken off.

@@ -1,10 +1,11 @@
 //! What is left at a feeder, and which feeders are empty.
-ghost use Rattle.std.specs.Prelude.{◌≡◌, ◌<◌, get_or};
-ghost use Rattle.tp_stock.specs.Stock.{IsBounded, empties, free_of, refilled};
+ghost use Rattle.std.specs.Prelude.{◌≡◌, ◌<◌, ◌==◌, IfSome, find, get_or};
+ghost use Rattle.tp_stock.specs.Stock.{IsBounded, empties, feeder_at, feeder_named, free_of, refilled};
 
 use crate::counting::{Taken, count_taken};
 use crate::refills::Refills;
-use tp_machine::{Feeder, Machine, machine_law};
+use tp_base::Name;
+use tp_machine::{Feeder, LocId, Machine, machine_law};
 use tp_schedule::{Empties, Schedule};
 
 /// The free stock of a feeder, in sheets: its stock and its refills, less what was taken there. None where it is endless.
@@ -19,6 +20,29 @@ pub fn free_stock(refills: &Refills, taken: &Taken, feeder: &Feeder) -> Option<i
         Some(stock) => Some(i64::from(stock) + refills.0[at] - i64::from(taken.0[at])),
         None => None,
     }
+}
+
+fn first_at(feeders: &[Feeder], loc: u16) -> Option<Feeder>
+    ensures { result ≡ find (λ f. f.loc.0 == loc) feeders.now }
+{
+    feeders.iter().copied().find(|feeder| feeder.loc.0 == loc)
+}
+
+/// The feeder at a location. None where none is there.
+pub fn feeder_at(machine: &Machine, loc: LocId) -> Option<Feeder>
+    ensures is { result ≡ feeder_at machine.now loc.0 }
+    ensures known { IfSome result (λ f. f.loc.0 < 256) }
+{
+    first_at(machine.feeders.as_slice(), loc.0)
+}
+
+/// The feeder at the location with this name. None where the name is no location's, or no feeder is there.
+pub fn feeder_named(machine: &Machine, name: &Name) -> Option<Feeder>
+    ensures is { result ≡ feeder_named machine.now name.now }
+    ensures known { IfSome result (λ f. f.loc.0 < 256) }
+{
+    let loc = machine.locations.find(name)?;
+    feeder_at(machine, LocId(loc))
 }
 
 /// The feeders that are empty where these plans took their sheets. Takes the time of the plans and of the feeders.

@@ -3,7 +3,7 @@ use Rattle.std.proofs.Common.{◌≡◌, ℕ, false, List, Option, Some, None, i
 use Rattle.tp_script.specs.Reading.{event_of}
 use Rattle.tp_script.specs.Script.{IsEvent, IsOff, is_passed, words_of_line}
 use Rattle.tp_script.specs.declared.event.Event.{Event}
-use Rattle.tp_script.specs.declared.event.Event.TheVariants.{Bad, Job, Clock, Jam, Off, On}
+use Rattle.tp_script.specs.declared.event.Event.TheVariants.{Bad, Job, Clock, Jam, Off, On, Refill}
 use Rattle.tp_script.proofs.Echoed.{whole_from}
 use Rattle.tp_script.proofs.Events.{event_only, event_takes}
 use Rattle.tp_stream.specs.Scripts.{ReadsEvent}
@@ -15,6 +15,7 @@ not_passed words (Clock to) h = rw h.1 refl
 not_passed words (Jam name) h = rw h.0 refl
 not_passed words (Off name) h = rw h.0 refl
 not_passed words (On name) h = rw h.0 refl
+not_passed words (Refill name count) h = rw h.1 refl
 
 pub reads_some : (line : List ℕ) (e : Event) → IsEvent (words_of_line line) e → ReadsEvent line (Some e)
 reads_some line e h = (rw (not_passed (words_of_line line) e h, event_only (words_of_line line) e h) refl, inr (whole_from (words_of_line line) e h))

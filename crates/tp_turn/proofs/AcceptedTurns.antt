@@ -7,7 +7,7 @@ use Rattle.std.specs.Str.{bytes_eq}
 use Rattle.tp_schedule.proofs.Membership.{Contains-cons_cases}
 use Rattle.tp_machine.specs.declared.machine.Machine.{Machine}
 use Rattle.tp_script.specs.declared.event.Event.{Event}
-use Rattle.tp_script.specs.declared.event.Event.TheVariants.{Bad, Job as NewJob, Clock, Jam, Off, On}
+use Rattle.tp_script.specs.declared.event.Event.TheVariants.{Bad, Job as NewJob, Clock, Jam, Off, On, Refill}
 use Rattle.tp_jobs.specs.declared.parts.Job.{Job}
 use Rattle.tp_jobs.specs.declared.parts.WaitingCopy.{WaitingCopy}
 use Rattle.tp_schedule.specs.Plans.{change_plan, plan_of, without}
@@ -118,7 +118,7 @@ module _ {P : Type 0} (steps : PlannerSteps P) (machine : Machine) where
         go true c next over full answered = over next
         go false true (rest, told, next) over full answered = subst AreOthers (sym told) (All-cons IsOther (FullUp (label s.jobs w.sheet)) rest refl (full rest next))
         go false false (reply, (plans, (mid, (rest, does, told, next)))) over full answered =
-            subst AreOthers (sym told) (All-append IsOther (told_of_reply machine s.plans (ask_waiting s w) reply plans) rest (others-reply machine s.plans (ask_waiting s w) reply plans) (answered reply plans mid rest next))
+            subst AreOthers (sym told) (All-append IsOther (told_of_reply machine s.plans (ask_waiting machine s w) reply plans) rest (others-reply machine s.plans (ask_waiting machine s w) reply plans) (answered reply plans mid rest next))
 
   others-begins : (event : Event) (s : SessionState) (p : P) (records : List Record) (s' : SessionState) (p' : P) → Begins steps machine event s p records s' p' → AreOthers records
   others-begins Bad s p records s' p' begins = absurd begins
@@ -128,6 +128,7 @@ module _ {P : Type 0} (steps : PlannerSteps P) (machine : Machine) where
   others-begins (Jam name) s p records s' p' (m, known, out) = others-out s m true p records s' p' out
   others-begins (Off name) s p records s' p' (m, known, out) = others-out s m false p records s' p' out
   others-begins (On name) s p records s' p' (m, known, told, is, same) = subst AreOthers (sym told) others-nil
+  others-begins (Refill name count) s p records s' p' (f, known, told, is, same) = subst AreOthers (sym told) others-nil
 
   -- a turn that tells a refusal is that of a refused event
   pub told-refused : RefusalsAreTold steps machine

@@ -21,6 +21,6 @@ module _ {P : Type 0} (steps : PlannerSteps P) (machine : Machine) where
 
   abbrev pub AsksFirst : WaitingCopy → List WaitingCopy → List ℕ → SessionState → P → List Record → SessionState → P → Type 0
   AsksFirst w waiting passed s p records s' p' = (reply : Reply) × ((plans : List Plan) × ((mid : P) × ((rest : List Record)
-      × steps.does p s.plans (replied (ask_waiting s w) reply) plans mid
-      × (records ≡ told_of_reply machine s.plans (ask_waiting s w) reply plans ++ rest)
+      × steps.does p s.plans (replied (ask_waiting machine s w) reply) plans mid
+      × (records ≡ told_of_reply machine s.plans (ask_waiting machine s w) reply plans ++ rest)
       × AsksInTurn steps machine waiting (passed_after reply (tray_of s.jobs w.sheet).0 passed) (state_after_reply s w reply plans) mid rest s' p')))

@@ -65,7 +65,7 @@ bytes_eq-same (x ∷ xs) = let e : (x == x) ≡ true = grind (arith, nat_tests) 
 
 -- a copy that waits is planned, and all others of its line that wait stand behind it
 pub record IsAskedFirst (machine : Machine) (s : SessionState) (w : WaitingCopy) (plans' : List Plan) : Type 0 where
-  pub a : IsAlternative machine s.plans (ask_waiting s w) plans'
+  pub a : IsAlternative machine s.plans (ask_waiting machine s w) plans'
   pub keeps : KeepsLines s
   pub here : Contains s.waiting w
   pub behind : (v : WaitingCopy) → Contains s.waiting v → is_same_line s.jobs v.sheet w.sheet ≡ true → is_same_copy v.sheet w.sheet ≡ false → is_before w.sheet v.sheet ≡ true
@@ -98,7 +98,7 @@ module _ (machine : Machine) (s : SessionState) (w : WaitingCopy) (plans' : List
   pub tray-cases : (q : Plan) → Contains (tray_plans plans') q → (q ≡ f.a.plan) ⊎ ((p : Plan) × Contains (tray_plans s.plans) p × IsUnmoved q p)
   tray-cases q in' =
       let from = Contains-filter_from is_tray_plan plans' q in' in
-      elim (plan-cases machine s.plans (ask_waiting s w) plans' f.a q from.0) [
+      elim (plan-cases machine s.plans (ask_waiting machine s w) plans' f.a q from.0) [
         | inl e ↦ inl e
         | inr other ↦ inr (other.0, Contains-filter is_tray_plan s.plans other.0 other.1 (sym (unmoved-tray_plan q other.0 other.2) ∙ from.1), other.2)
       ]
@@ -106,7 +106,7 @@ module _ (machine : Machine) (s : SessionState) (w : WaitingCopy) (plans' : List
   pub fronts-kept : map (λ p. p.sheet) (filter (λ p. is_front p.kind) plans') ≡ map (λ p. p.sheet) (filter (λ p. is_front p.kind) s.plans)
   fronts-kept =
       ap (map (λ (p : Plan). p.sheet)) (sym (fronts-without w.sheet plans' (All-from_contains (λ p. is_same_copy p.sheet w.sheet ≡ true → is_front p.kind ≡ false) plans'
-      (λ q in' same. subst (λ (p : Plan). is_front p.kind ≡ false) (sym (mine-is machine s.plans (ask_waiting s w) plans' f.a q in' same)) (subst (λ k. is_front k ≡ false) (sym f.a.answers.whole) refl)))))
+      (λ q in' same. subst (λ (p : Plan). is_front p.kind ≡ false) (sym (mine-is machine s.plans (ask_waiting machine s w) plans' f.a q in' same)) (subst (λ k. is_front k ≡ false) (sym f.a.answers.whole) refl)))))
       ∙ front_sheets-unmoved (without w.sheet plans')
       ∙ ap (λ l. map (λ (p : Plan). p.sheet) (filter (λ (p : Plan). is_front p.kind) l)) f.a.others
       ∙ sym (front_sheets-unmoved (without w.sheet s.plans))

@@ -76,7 +76,7 @@ module _ (machine : Machine) (s : SessionState) (w : WaitingCopy) (plans' : List
 
   clear-asked : list_all (is_clear machine (planned_waiting s w plans')) plans' ≡ true
   clear-asked = of-all (is_clear machine (planned_waiting s w plans')) plans' (All-from_contains (λ p. is_clear machine (planned_waiting s w plans') p ≡ true) plans' (λ q in'.
-      elim (plan-cases machine s.plans (ask_waiting s w) plans' f.a q in') [
+      elim (plan-cases machine s.plans (ask_waiting machine s w) plans' f.a q in') [
         | inl e ↦ subst (λ p. is_clear machine (planned_waiting s w plans') p ≡ true) (sym e)
             (clear-route s.now (is_act_allowed machine s.outs) f.a.plan.sheet 1 f.a.plan.acts f.a.plan.points mine-allowed)
         | inr other ↦
@@ -109,6 +109,6 @@ module _ (machine : Machine) (s : SessionState) (w : WaitingCopy) (plans' : List
   }
 
 -- for a new copy no plan is exempt from its floors
-pub least-asked : (machine : Machine) (s : SessionState) (w : WaitingCopy) (plans' : List Plan) → IsLeast machine s.now (follows_front (ask_waiting s w)) plans' → IsLeast machine s.now none_exempt plans'
+pub least-asked : (machine : Machine) (s : SessionState) (w : WaitingCopy) (plans' : List Plan) → IsLeast machine s.now (follows_front (ask_waiting machine s w)) plans' → IsLeast machine s.now none_exempt plans'
 least-asked machine s w plans' least plans'' r p in' i within =
     least plans'' (record { legal = r.legal; same = r.same; fixed = r.fixed; orders = r.orders; floors = λ q in'' e j released low. r.floors q in'' refl j released low; horizon = r.horizon }) p in' i within

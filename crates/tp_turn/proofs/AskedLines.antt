@@ -40,7 +40,7 @@ module _ (machine : Machine) (s : SessionState) (w : WaitingCopy) (plans' : List
       let from = waits-of machine s w plans' f v in' in
       let none = All-contains (λ v. IsFalse (is_planned_among s.plans v.sheet)) s.waiting v f.keeps.unplanned from.0 in
       list_any_none (λ p. is_same_copy p.sheet v.sheet) plans' (All-from_contains (λ p. is_same_copy p.sheet v.sheet ≡ false) plans' (λ q in''.
-      elim (plan-cases machine s.plans (ask_waiting s w) plans' f.a q in'') [
+      elim (plan-cases machine s.plans (ask_waiting machine s w) plans' f.a q in'') [
         | inl e ↦ subst (λ (p : Plan). is_same_copy p.sheet v.sheet ≡ false) (sym e) (subst (λ c. is_same_copy c v.sheet ≡ false) (sym f.a.answers.sheet) (not_same-sym v.sheet w.sheet from.1))
         | inr other ↦ subst (λ c. is_same_copy c v.sheet ≡ false) (sym (unmoved-sheet q other.0 other.2))
             (All-contains (λ p. is_same_copy p.sheet v.sheet ≡ false) s.plans other.0 (All-from_none (λ p. is_same_copy p.sheet v.sheet) (λ p. is_same_copy p.sheet v.sheet ≡ false) (λ p e. e) s.plans none) other.1)
@@ -114,7 +114,7 @@ module _ (machine : Machine) (s : SessionState) (w : WaitingCopy) (plans' : List
 
   known-asked : All (λ p. IsTrue (is_of_its_job s.jobs p)) plans'
   known-asked = All-from_contains (λ p. IsTrue (is_of_its_job s.jobs p)) plans' (λ q in'.
-      elim (plan-cases machine s.plans (ask_waiting s w) plans' f.a q in') [
+      elim (plan-cases machine s.plans (ask_waiting machine s w) plans' f.a q in') [
         | inl e ↦ subst (λ (p : Plan). is_of_its_job s.jobs p ≡ true) (sym e) (mine f.a.plan.sheet f.a.plan.name f.a.plan.goal f.a.answers.sheet f.a.answers.name f.a.answers.goal)
         | inr other ↦ ap (is_of_its_job s.jobs) other.2.is ∙ All-contains (λ p. IsTrue (is_of_its_job s.jobs p)) s.plans other.0 f.keeps.plans_known other.1
       ]) where

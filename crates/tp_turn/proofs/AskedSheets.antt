@@ -25,7 +25,7 @@ module _ (machine : Machine) (s : SessionState) (w : WaitingCopy) (plans' : List
     | inr planned ↦
         let p = Contains-map_from (λ p. p.sheet) (tray_plans s.plans) c planned in
         let from = Contains-filter_from is_tray_plan s.plans p.0 p.1 in
-        let to = other-to machine s.plans (ask_waiting s w) plans' f.a p.0 from.0 (none-before machine s w plans' f p.0 from.0) in
+        let to = other-to machine s.plans (ask_waiting machine s w) plans' f.a p.0 from.0 (none-before machine s w plans' f p.0 from.0) in
         let there = Contains-map (λ p. p.sheet) (tray_plans plans') to.0 (Contains-filter is_tray_plan plans' to.0 to.1 (unmoved-tray_plan to.0 p.0 to.2 ∙ from.1)) in
         Contains-append_right (map (λ v. v.sheet) (without_waiting w.sheet s.waiting)) (map (λ p. p.sheet) (tray_plans plans')) c
         (subst (Contains (map (λ p. p.sheet) (tray_plans plans'))) (unmoved-sheet to.0 p.0 to.2 ∙ sym p.2) there)
@@ -62,7 +62,7 @@ module _ (machine : Machine) (s : SessionState) (w : WaitingCopy) (plans' : List
   pub older-asked : All (λ p. All (IsOlder p) (open_copies s)) s.plans → All (λ p. All (IsOlder p) (open_copies (planned_waiting s w plans'))) plans'
   older-asked older = All-from_contains (λ p. All (IsOlder p) (open_copies (planned_waiting s w plans'))) plans' (λ q in'.
       All-from_contains (IsOlder q) (open_copies (planned_waiting s w plans')) (λ c there not_tray same.
-      elim (plan-cases machine s.plans (ask_waiting s w) plans' f.a q in') [
+      elim (plan-cases machine s.plans (ask_waiting machine s w) plans' f.a q in') [
         | inl e ↦ absurd (let tray : is_tray_plan q ≡ true = subst (λ (p : Plan). is_tray_plan p ≡ true) (sym e) (mine-tray machine s w plans' f) in cc)
         | inr other ↦
             let old = All-contains (IsOlder other.0) (open_copies s) c (All-contains (λ p. All (IsOlder p) (open_copies s)) s.plans other.0 older other.1) (open-from c there) in
@@ -81,7 +81,7 @@ module _ (machine : Machine) (s : SessionState) (w : WaitingCopy) (plans' : List
         (to.0, there.1, to.1, to.2, is);
     waiting_sheets = All-filter (λ v. not (is_same_copy v.sheet w.sheet)) (λ v. IsTrue (is_sheet_of totals v.sheet)) s.waiting keeps.waiting_sheets;
     planned_sheets = All-from_contains (λ p. IsTrue (is_sheet_of totals p.sheet)) plans' (λ q in'.
-        elim (plan-cases machine s.plans (ask_waiting s w) plans' f.a q in') [
+        elim (plan-cases machine s.plans (ask_waiting machine s w) plans' f.a q in') [
           | inl e ↦ subst (λ c. is_sheet_of totals c ≡ true) (sym (ap (λ (p : Plan). p.sheet) e ∙ f.a.answers.sheet)) (All-contains (λ v. IsTrue (is_sheet_of totals v.sheet)) s.waiting w keeps.waiting_sheets f.here)
           | inr other ↦ subst (λ c. is_sheet_of totals c ≡ true) (sym (unmoved-sheet q other.0 other.2)) (All-contains (λ p. IsTrue (is_sheet_of totals p.sheet)) s.plans other.0 keeps.planned_sheets other.1)
         ]);

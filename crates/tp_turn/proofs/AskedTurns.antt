@@ -111,13 +111,13 @@ first-of_line machine s passed w ws not_over r v in' same other = elim (r.others
 module _ {P : Type 0} (steps : PlannerSteps P) (machine : Machine) (spent : P → Machine → List Plan → Ask → ℕ → Type 0)
     (right : (p : P) (plans : List Plan) (deed : Deed) (plans' : List Plan) (p' : P) → steps.does p plans deed plans' p' → IsRight (spent p) machine plans deed plans') where
   -- a copy that is planned
-  kept-planned : (totals : List ℕ) (p : P) (s : SessionState) (passed : List ℕ) (w : WaitingCopy) (ws : List WaitingCopy) (plans : List Plan) → IsAnswer (spent p) machine s.plans (ask_waiting s w) Planned plans
+  kept-planned : (totals : List ℕ) (p : P) (s : SessionState) (passed : List ℕ) (w : WaitingCopy) (ws : List WaitingCopy) (plans : List Plan) → IsAnswer (spent p) machine s.plans (ask_waiting machine s w) Planned plans
       → is_passed_over s passed w ≡ false → is_full machine s ≡ false → IsRest s passed (w ∷ ws) → KeepsState machine totals s → KeepsState machine totals (planned_waiting s w plans)
   kept-planned totals p s passed w ws plans answer not_over free r kept =
       let f : IsAskedFirst machine s w plans = record { a = answer.0.alternative; keeps = kept.lines; here = All-head (Contains s.waiting) w ws r.wait; behind = first-of_line machine s passed w ws not_over r } in
       record { jobs = kept.jobs; plans = plans-asked machine s w plans f kept.plans free; lines = lines-asked machine s w plans f; sheets = sheets-asked machine s w plans f totals kept.sheets }
 
-  kept-reply : (totals : List ℕ) (p : P) (s : SessionState) (passed : List ℕ) (w : WaitingCopy) (ws : List WaitingCopy) (reply : Reply) (plans : List Plan) → IsAnswer (spent p) machine s.plans (ask_waiting s w) reply plans
+  kept-reply : (totals : List ℕ) (p : P) (s : SessionState) (passed : List ℕ) (w : WaitingCopy) (ws : List WaitingCopy) (reply : Reply) (plans : List Plan) → IsAnswer (spent p) machine s.plans (ask_waiting machine s w) reply plans
       → is_passed_over s passed w ≡ false → is_full machine s ≡ false → IsRest s passed (w ∷ ws)
       → IsRest (state_after_reply s w reply plans) (passed_after reply (tray_of s.jobs w.sheet).0 passed) ws
       × (KeepsState machine totals s → KeepsState machine totals (state_after_reply s w reply plans))
@@ -150,7 +150,7 @@ module _ {P : Type 0} (steps : PlannerSteps P) (machine : Machine) (spent : P �
         go true e c g next over full answered = over next e
         go false e true g (rest, told, next) over full answered = full rest next
         go false e false g (reply, (plans, (mid, (rest, does, told, next)))) over full answered =
-            let step = kept-reply totals p s passed w waiting reply plans (right p s.plans (replied (ask_waiting s w) reply) plans mid does) e g r in
+            let step = kept-reply totals p s passed w waiting reply plans (right p s.plans (replied (ask_waiting machine s w) reply) plans mid does) e g r in
             λ kept. answered reply plans mid rest next step.0 (step.1 kept)
 
   -- at the beginning all that wait are to be taken

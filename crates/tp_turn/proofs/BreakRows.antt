@@ -3,6 +3,7 @@ use Rattle.std.proofs.Common.{◌≡◌, true, List, [], ◌∷◌, refl, codes}
 use Rattle.tp_schedule.specs.declared.parts.Plan.{Plan}
 use Rattle.tp_schedule.specs.declared.parts.Reply.TheVariants.{Planned}
 use Rattle.tp_schedule.specs.declared.records.Record.TheVariants.{Plan as TellsPlan, Move, Release, Done, Lost, Recall, Withdraw, Purge, Broken, Drop}
+use Rattle.tp_stock.specs.Stock.{no_refills}
 use Rattle.tp_script.specs.declared.event.Event.TheVariants.{Job as NewJob, Clock, Jam}
 use Rattle.tp_turn.specs.States.{SessionState, empty_state, none_out}
 use Rattle.tp_turn.proofs.Machines.{duo, twin, act, mono_sheet, blank_sheet}
@@ -20,7 +21,7 @@ abbrev pub left : Plan
 left = whole (sheet 1 1 1) (codes "j2") blank_sheet 2 (act 0 ∷ act 1 ∷ []) (3 ∷ 5 ∷ 13 ∷ []) 0
 
 abbrev pub one_job : SessionState
-one_job = record { now = 0; plans = right_first ∷ []; lost = []; jobs = job (codes "j1") 2 ∷ []; waiting = []; outs = none_out }
+one_job = record { now = 0; plans = right_first ∷ []; lost = []; jobs = job (codes "j1") 2 ∷ []; waiting = []; outs = none_out; refills = no_refills }
 
 abbrev pub two_jobs : SessionState
 two_jobs = record one_job { plans = right_moved ∷ left ∷ []; jobs = job (codes "j1") 2 ∷ job (codes "j2") 2 ∷ [] }
@@ -59,6 +60,7 @@ first_broken = record {
   jobs = record (job (codes "j1") 2) { broken = true } ∷ job (codes "j2") 2 ∷ [];
   waiting = [];
   outs = record { 0 = 4 };
+  refills = no_refills;
 }
 
 pub right_jams : play twin (Jam (codes "R")) at_eight (settles (lost_right ∷ entering ∷ []) ∷ [])
@@ -94,6 +96,7 @@ at_twelve = record {
   jobs = job (codes "j1") 3 ∷ job (codes "j2") 3 ∷ [];
   waiting = [];
   outs = none_out;
+  refills = no_refills;
 }
 
 abbrev pub purged2 : Plan
@@ -116,5 +119,6 @@ pub job_of_four_breaks : play duo (Jam (codes "ENG1")) at_twelve
       jobs = record (job (codes "j1") 3) { broken = true } ∷ job (codes "j2") 3 ∷ [];
       waiting = [];
       outs = record { 0 = 2 };
+      refills = no_refills;
     })
 job_of_four_breaks = refl

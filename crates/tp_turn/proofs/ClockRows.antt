@@ -6,6 +6,7 @@ use Rattle.tp_schedule.specs.declared.parts.Reply.TheVariants.{Planned}
 use Rattle.tp_schedule.specs.declared.records.Cause.TheVariants.{Back, End}
 use Rattle.tp_schedule.specs.declared.records.Record.{Record}
 use Rattle.tp_schedule.specs.declared.records.Record.TheVariants.{Plan as TellsPlan, Release, Done, Refused}
+use Rattle.tp_stock.specs.Stock.{no_refills}
 use Rattle.tp_script.specs.declared.event.Event.TheVariants.{Job as NewJob, Clock}
 use Rattle.tp_turn.specs.States.{SessionState, empty_state, none_out}
 use Rattle.tp_turn.proofs.Machines.{duo, act, mono_sheet}
@@ -23,6 +24,7 @@ planned_one = record {
   jobs = job (codes "j1") 3 ∷ [];
   waiting = [];
   outs = none_out;
+  refills = no_refills;
 }
 
 pub comes : play duo (NewJob (codes "j1") (codes "t") (codes "plain") (group 1 ∷ [])) empty_state (answers Planned (only_plan ∷ []) ∷ [])

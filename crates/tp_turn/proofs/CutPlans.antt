@@ -1,5 +1,5 @@
 -- The front of a plan is what is left of it, and what befalls the copies leaves less of a schedule.
-use Rattle.std.proofs.Common.{◌≡◌, ℕ, zero, suc, ◌+◌, ◌<◌, ◌≤◌, Bool, true, false, cond, List, [], ◌∷◌, ◌++◌, length, take, filter, refl, arith, inl, inr, subst, Contains, Option, Some, None, option_and_then, slice_index, nat_le, ◌||◌, nat_lt}
+use Rattle.std.proofs.Common.{◌≡◌, ℕ, zero, suc, ◌+◌, ◌<◌, ◌≤◌, Bool, true, false, cond, List, [], ◌∷◌, ◌++◌, length, take, filter, refl, arith, inl, inr, subst, Contains, Option, Some, None, option_and_then, slice_get, slice_index, nat_le, ◌||◌, nat_lt}
 use Rattle.std.specs.List.{list_any}
 use Rattle.std.proofs.lemmas.Bool.Decides.{nat_tests}
 use Rattle.std.proofs.lemmas.List.{get_or-take, length-take-le, length-take}
@@ -22,6 +22,8 @@ use Rattle.tp_turn.specs.Fates.{Fate, left_of, left_by, is_cut_by}
 use Rattle.tp_turn.specs.Moments.{is_started, is_unstarted, started_count, front_of}
 use Rattle.tp_schedule.proofs.Membership.{Contains-cons_cases, Contains-here, Contains-later}
 use Rattle.tp_turn.proofs.LeftPlans.{IsLeft, IsLeft-refl, AreLeft, none, gone, more}
+use Rattle.tp_machine.specs.Using.{action_at}
+use Rattle.tp_stock.specs.Stock.{is_from}
 
 -- the first actions of a walk lead somewhere
 walk-take : (machine : Machine) (sheet : Sheet) (n : ℕ) (acts : List ActId) (s end : State) → walk machine sheet acts s ≡ Some end → (mid : State) × (walk machine sheet (take n acts) s ≡ Some mid)
@@ -139,6 +141,12 @@ live-cut machine now n goal p e = go (list_any (nat_lt now) (take (n + 1) p.poin
   go true f false g e = absurd (let h = any-take (nat_lt now) (n + 1) p.points f in cc)
   go false f false g e = any-runs (is_held_after machine now) (runs_of p) (runs_from p.sheet 1 (take n p.acts) (take (n + 1) p.points)) (runs-take (is_held_after machine now) p.sheet 1 n (n + 1) p.acts p.points) e
 
+begins-take : (machine : Machine) (loc n : ℕ) (acts : List ActId) → is_from loc (option_and_then (λ act. action_at machine act.0) (slice_get (take n acts) 0)) ≡ true
+    → is_from loc (option_and_then (λ act. action_at machine act.0) (slice_get acts 0)) ≡ true
+begins-take machine loc zero acts e = absurd (cc)
+begins-take machine loc (suc n) [] e = absurd (cc)
+begins-take machine loc (suc n) (act ∷ acts) e = e
+
 pub IsLeft-cut_after : (machine : Machine) (n : ℕ) (goal : Goal) (p : Plan) → (IsTimedPlan machine p → (1 ≤ n) × (n ≤ length p.acts)) → IsLeft machine p (cut_after n goal p)
 IsLeft-cut_after machine n goal p range = record {
   sheet = refl;
@@ -147,6 +155,7 @@ IsLeft-cut_after machine n goal p range = record {
   runs = λ run in'. runs-within p.sheet 1 n (n + 1) p.acts p.points run in';
   delivered = λ tray to. absurd (cc);
   live = λ now e. live-cut machine now n goal p e;
+  begins = λ loc e. begins-take machine loc n p.acts e;
   unreleased = λ i released within. absurd (let count = length-take n p.acts in omega arith);
   unfixed = λ i within not_fixed. absurd (cc);
 }

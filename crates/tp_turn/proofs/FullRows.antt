@@ -2,6 +2,7 @@
 use Rattle.std.proofs.Common.{◌≡◌, ℕ, true, false, [], ◌∷◌, refl, codes}
 use Rattle.std.specs.Prelude.{replicate}
 use Rattle.tp_schedule.specs.declared.records.Record.TheVariants.{FullUp}
+use Rattle.tp_stock.specs.Stock.{no_refills}
 use Rattle.tp_script.specs.declared.event.Event.TheVariants.{Clock}
 use Rattle.tp_turn.specs.States.{SessionState, none_out}
 use Rattle.tp_turn.specs.Asking.{is_full}
@@ -19,6 +20,7 @@ crowd n = record {
   jobs = job (codes "j1") 3 ∷ job (codes "j2") 4 ∷ [];
   waiting = waits (sheet 0 2 1) mono_sheet ∷ waits (sheet 0 3 1) mono_sheet ∷ waits (sheet 1 1 1) mono_sheet ∷ [];
   outs = none_out;
+  refills = no_refills;
 }
 
 pub full_at_256 : is_full duo (crowd 256) ≡ true

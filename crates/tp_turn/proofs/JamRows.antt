@@ -4,6 +4,7 @@ use Rattle.tp_schedule.specs.declared.parts.Plan.{Plan}
 use Rattle.tp_schedule.specs.declared.parts.Reply.TheVariants.{Planned}
 use Rattle.tp_schedule.specs.declared.records.Cause.TheVariants.{Out, NotOn}
 use Rattle.tp_schedule.specs.declared.records.Record.TheVariants.{Plan as TellsPlan, Lost, Again, Refused}
+use Rattle.tp_stock.specs.Stock.{no_refills}
 use Rattle.tp_script.specs.declared.event.Event.TheVariants.{Jam, Off, On}
 use Rattle.tp_turn.specs.States.{SessionState, none_out}
 use Rattle.tp_turn.proofs.Machines.{duo, act, mono_sheet}
@@ -25,6 +26,7 @@ jammed = record {
   jobs = job (codes "j1") 3 ∷ [];
   waiting = [];
   outs = record { 0 = 4 };
+  refills = no_refills;
 }
 
 pub jam : play duo (Jam (codes "ENG2")) at_six (settles (lost_front ∷ []) ∷ answers Planned (lost_front ∷ second_copy ∷ []) ∷ [])

@@ -3,7 +3,7 @@ use Rattle.std.proofs.Common.{◌≡◌, ℕ, ◌+◌, ◌-◌, false, List, [],
 use Rattle.std.specs.Option.{MatchOption}
 use Rattle.tp_machine.specs.declared.machine.Machine.{Machine}
 use Rattle.tp_script.specs.declared.event.Event.{Event}
-use Rattle.tp_script.specs.declared.event.Event.TheVariants.{Bad, Job as NewJob, Clock, Jam, Off, On}
+use Rattle.tp_script.specs.declared.event.Event.TheVariants.{Bad, Job as NewJob, Clock, Jam, Off, On, Refill}
 use Rattle.tp_jobs.specs.Refusing.{sheet_count}
 use Rattle.tp_schedule.specs.Planning.{Deed}
 use Rattle.tp_schedule.specs.declared.parts.Ask.{Ask}
@@ -25,6 +25,8 @@ use Rattle.tp_turn.proofs.MovedPlans.{plans-clock}
 use Rattle.tp_turn.proofs.NewJob.{jobs-job, lines-job}
 use Rattle.tp_turn.proofs.NewSheets.{plans-job, sheets-job}
 use Rattle.tp_turn.proofs.PlannableTurns.{accepted-clock}
+use Rattle.tp_turn.proofs.Refilled.{lines-refilled, plans-refilled, sheets-refilled}
+use Rattle.tp_stock.specs.Stock.{more_at}
 
 module _ {P : Type 0} (steps : PlannerSteps P) (machine : Machine) (spent : P → Machine → List Plan → Ask → ℕ → Type 0)
     (right : (p : P) (plans : List Plan) (deed : Deed) (plans' : List Plan) (p' : P) → steps.does p plans deed plans' p' → IsRight (spent p) machine plans deed plans') where
@@ -51,6 +53,8 @@ module _ {P : Type 0} (steps : PlannerSteps P) (machine : Machine) (spent : P �
   kept-begins totals (Off name) s p records s' p' calm accepted begins kept = absurd (cc)
   kept-begins totals (On name) s p records s' p' calm accepted (m, known, told, is, same) kept =
       subst (KeepsState machine totals) (sym is) (record { jobs = kept.jobs; plans = plans-on machine m s kept.plans; lines = lines-on machine m s kept.lines; sheets = sheets-on m totals s kept.sheets })
+  kept-begins totals (Refill name count) s p records s' p' calm accepted (f, known, told, is, same) kept =
+      subst (KeepsState machine totals) (sym is) (record { jobs = kept.jobs; plans = plans-refilled machine (more_at f.loc.0 count s.refills) s kept.plans; lines = lines-refilled (more_at f.loc.0 count s.refills) s kept.lines; sheets = sheets-refilled (more_at f.loc.0 count s.refills) totals s kept.sheets })
 
   pub kept-turn : TurnsKeepState steps machine IsNoOutage
   kept-turn event totals s p records s' p' calm turn kept = go (refusal machine s event) refl turn where

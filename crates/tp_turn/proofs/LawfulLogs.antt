@@ -10,8 +10,10 @@ use Rattle.tp_schedule.specs.declared.parts.Plan.{Plan}
 use Rattle.tp_schedule.proofs.Pairs.{AllPairs-nil}
 use Rattle.tp_turn.specs.Logs.{Entry, TreeClaims, right_answers, Run, IsLawful}
 use Rattle.tp_turn.specs.States.{SessionState, empty_state}
-use Rattle.tp_turn.specs.Laws.{IsPlannable}
+use Rattle.tp_turn.specs.Laws.{IsPlannable, IsStocked}
 use Rattle.tp_turn.proofs.PlannableTurns.{plannable-turn}
+use Rattle.tp_turn.proofs.StockKept.{stock-empty}
+use Rattle.tp_turn.proofs.StockTurns.{stocked-turn}
 
 pub plannable-empty : (machine : Machine) → IsPlannable machine empty_state
 plannable-empty machine = record {
@@ -36,3 +38,13 @@ module _ {T : Type 0} (claims : TreeClaims T) (shown : Bool) (spent : Machine �
 
   pub lawful-legal : (events : List Event) (log : List (Entry T)) (lawful : IsLawful claims shown spent machine events log) → IsLegal machine lawful.last.plans
   lawful-legal events log lawful = (plannable-run empty_state log lawful.last lawful.run (plannable-empty machine)).legal
+
+  -- no stock is overdrawn, past included
+  stocked-run : (s : SessionState) (log : List (Entry T)) (s' : SessionState) → Run claims shown spent machine s log s' → IsStocked machine s → IsStocked machine s'
+  stocked-run s [] s' is drawn = subst (IsStocked machine) (sym is) drawn
+  stocked-run s (entry ∷ log) s' (mid, turn, rest) drawn =
+      stocked-run mid log s' rest
+      (stocked-turn (right_answers claims shown spent machine) machine (λ trees. spent) (λ trees plans deed plans' trees' does. does.0) entry.event s entry.trees entry.records mid [] tt turn drawn)
+
+  pub lawful-stocked : (events : List Event) (log : List (Entry T)) (lawful : IsLawful claims shown spent machine events log) → IsStocked machine lawful.last
+  lawful-stocked events log lawful = stocked-run empty_state log lawful.last lawful.run (stock-empty machine).drawn

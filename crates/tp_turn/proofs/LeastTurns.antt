@@ -4,7 +4,7 @@ use Rattle.std.specs.Bool.{MatchBool}
 use Rattle.std.specs.Option.{MatchOption}
 use Rattle.tp_machine.specs.declared.machine.Machine.{Machine}
 use Rattle.tp_script.specs.declared.event.Event.{Event}
-use Rattle.tp_script.specs.declared.event.Event.TheVariants.{Bad, Job as NewJob, Clock, Jam, Off, On}
+use Rattle.tp_script.specs.declared.event.Event.TheVariants.{Bad, Job as NewJob, Clock, Jam, Off, On, Refill}
 use Rattle.tp_jobs.specs.declared.parts.WaitingCopy.{WaitingCopy}
 use Rattle.tp_schedule.specs.Answers.{IsLeast}
 use Rattle.tp_schedule.specs.Planning.{Deed, IsAnswer, none_exempt}
@@ -38,7 +38,7 @@ module _ {P : Type 0} (steps : PlannerSteps P) (machine : Machine) (spent : P �
       subst (IsLeastAt machine) (sym runs.state)
       (subst (λ n. IsLeast machine n none_exempt runs.plans) (sym (now-answers machine runs.answers s)) settled.least)
 
-  least-reply : (p : P) (s : SessionState) (w : WaitingCopy) (reply : Reply) (plans : List Plan) → IsAnswer (spent p) machine s.plans (ask_waiting s w) reply plans
+  least-reply : (p : P) (s : SessionState) (w : WaitingCopy) (reply : Reply) (plans : List Plan) → IsAnswer (spent p) machine s.plans (ask_waiting machine s w) reply plans
       → IsLeastAt machine s → IsLeastAt machine (state_after_reply s w reply plans)
   least-reply p s w Planned plans answer least = least-asked machine s w plans answer.1
   least-reply p s w Never plans answer least = least
@@ -63,7 +63,7 @@ module _ {P : Type 0} (steps : PlannerSteps P) (machine : Machine) (spent : P �
         go true c next over full answered = over next
         go false true (rest, told, next) over full answered = full rest next
         go false false (reply, (plans, (mid, (rest, does, told, next)))) over full answered =
-            answered reply plans mid rest next (least-reply p s w reply plans (right p s.plans (replied (ask_waiting s w) reply) plans mid does) least)
+            answered reply plans mid rest next (least-reply p s w reply plans (right p s.plans (replied (ask_waiting machine s w) reply) plans mid does) least)
 
   least-begins : (event : Event) (s : SessionState) (p : P) (records : List Record) (s' : SessionState) (p' : P) → is_clock event ≡ false
       → Begins steps machine event s p records s' p' → IsLeastAt machine s → IsLeastAt machine s'
@@ -73,6 +73,7 @@ module _ {P : Type 0} (steps : PlannerSteps P) (machine : Machine) (spent : P �
   least-begins (Jam name) s p records s' p' still (m, known, out) least = least-loop (outage machine m true s).state p out.rest s' p' out.loop
   least-begins (Off name) s p records s' p' still (m, known, out) least = least-loop (outage machine m false s).state p out.rest s' p' out.loop
   least-begins (On name) s p records s' p' still (m, known, told, is, same) least = subst (IsLeastAt machine) (sym is) least
+  least-begins (Refill name count) s p records s' p' still (f, known, told, is, same) least = subst (IsLeastAt machine) (sym is) least
 
   pub least-turn : TurnsKeep steps machine IsNoClock (IsLeastAt machine)
   least-turn event s p records s' p' still turn least = go (refusal machine s event) turn where

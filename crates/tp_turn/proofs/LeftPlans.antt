@@ -16,6 +16,7 @@ use Rattle.tp_schedule.specs.declared.parts.Plan.{Plan}
 use Rattle.tp_schedule.proofs.HeldModes.{spread-fewer}
 use Rattle.tp_schedule.proofs.Membership.{Contains-cons_cases, Contains-here, Contains-later}
 use Rattle.tp_schedule.proofs.Pairs.{AllPairs-nil, AllPairs-cons, AllPairs-head, AllPairs-tail}
+use Rattle.tp_stock.specs.Stock.{begins_at}
 
 pub record IsLeft (machine : Machine) (p p' : Plan) : Type 0 where
   pub sheet : p'.sheet ≡ p.sheet
@@ -24,6 +25,7 @@ pub record IsLeft (machine : Machine) (p p' : Plan) : Type 0 where
   pub runs : (run : Run) → Contains (runs_of p') run → Contains (runs_of p) run
   pub delivered : (tray : ℕ) → IsTrue (is_delivered_to p' tray) → IsTrue (is_delivered_to p tray) × (end_of_plan p' ≡ end_of_plan p)
   pub live : (now : ℕ) → is_live machine now p' ≡ true → is_live machine now p ≡ true
+  pub begins : (loc : ℕ) → begins_at machine loc p' ≡ true → begins_at machine loc p ≡ true
   pub unreleased : (i : ℕ) → p'.released ≤ i → i < length p'.acts → (p.released ≤ i) × (i < length p.acts) × (point p' i ≡ point p i)
   pub unfixed : (i : ℕ) → i ≤ length p'.acts → IsFalse (is_fixed p' i) → (i ≤ length p.acts) × IsFalse (is_fixed p i) × (point p' i ≡ point p i)
 
@@ -132,6 +134,7 @@ IsLeft-refl machine p = record {
   runs = λ run in'. in';
   delivered = λ tray to. (to, refl);
   live = λ now e. e;
+  begins = λ loc e. e;
   unreleased = λ i released within. (released, within, refl);
   unfixed = λ i within not_fixed. (within, not_fixed, refl);
 }
@@ -149,6 +152,7 @@ IsLeft-trans machine p q r left left' = record {
   runs = λ run in'. left.runs run (left'.runs run in');
   delivered = λ tray to. let one = left'.delivered tray to in let other = left.delivered tray one.0 in (other.0, one.1 ∙ other.1);
   live = λ now e. left.live now (left'.live now e);
+  begins = λ loc e. left.begins loc (left'.begins loc e);
   unreleased = λ i released within. let one = left'.unreleased i released within in let other = left.unreleased i one.0 one.1 in (other.0, other.1, one.2 ∙ other.2);
   unfixed = λ i within not_fixed. let one = left'.unfixed i within not_fixed in let other = left.unfixed i one.0 one.1 in (other.0, other.1, one.2 ∙ other.2);
 }

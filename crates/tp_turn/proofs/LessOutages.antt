@@ -18,16 +18,17 @@ use Rattle.tp_turn.proofs.CutPlans.{AreLeft-left_by}
 use Rattle.tp_turn.proofs.LeftPlans.{AreLeft, AreLeft-refl, AreLeft-trans, live_count-left}
 use Rattle.tp_turn.proofs.PlanOnFacts.{CanPlanOn-left, running-started}
 
--- the same moment, and less of the schedule
+-- the same moment and refills, and less of the schedule
 pub record IsLess (machine : Machine) (s s' : SessionState) : Type 0 where
   pub now : s'.now ≡ s.now
+  pub refills : s'.refills ≡ s.refills
   pub plans : AreLeft machine s.plans s'.plans
 
 pub IsLess-refl : (machine : Machine) (s : SessionState) → IsLess machine s s
-IsLess-refl machine s = record { now = refl; plans = AreLeft-refl machine s.plans }
+IsLess-refl machine s = record { now = refl; refills = refl; plans = AreLeft-refl machine s.plans }
 
 pub IsLess-trans : (machine : Machine) (s t u : SessionState) → IsLess machine s t → IsLess machine t u → IsLess machine s u
-IsLess-trans machine s t u less less' = record { now = less'.now ∙ less.now; plans = AreLeft-trans machine s.plans t.plans u.plans less.plans less'.plans }
+IsLess-trans machine s t u less less' = record { now = less'.now ∙ less.now; refills = less'.refills ∙ less.refills; plans = AreLeft-trans machine s.plans t.plans u.plans less.plans less'.plans }
 
 pub plannable-less : (machine : Machine) (s s' : SessionState) → IsLess machine s s' → IsPlannable machine s → IsPlannable machine s'
 plannable-less machine s s' less can = subst (λ n. CanPlanOn machine n s'.plans) (sym less.now) (CanPlanOn-left machine s.now s.plans s'.plans less.plans can)
@@ -58,11 +59,11 @@ others_cut true true e = absurd (cc)
 others_cut true false e = refl
 
 less-befall : (machine : Machine) (fate : Plan → Fate) (s : SessionState) → ((p : Plan) → IsTimedPlan machine p → is_cut_by (fate p) ≡ true → is_unstarted s.now p ≡ false) → IsLess machine s (befall fate s)
-less-befall machine fate s started = record { now = refl; plans = AreLeft-left_by machine s.now fate s.plans started }
+less-befall machine fate s started = record { now = refl; refills = refl; plans = AreLeft-left_by machine s.now fate s.plans started }
 
 less-job_break : (machine : Machine) (job : ℕ) (s : SessionState) → IsLess machine s (job_break job s).state
 less-job_break machine job s =
-    let less = less-befall machine (fate_in_break s job) s (λ p timed e. break_cuts _ (is_unstarted s.now p) _ e) in record { now = less.now; plans = less.plans }
+    let less = less-befall machine (fate_in_break s job) s (λ p timed e. break_cuts _ (is_unstarted s.now p) _ e) in record { now = less.now; refills = less.refills; plans = less.plans }
 
 -- one of two outcomes
 less-either : (machine : Machine) (s : SessionState) (b : Bool) (o q : Outcome) → IsLess machine s o.state → IsLess machine s q.state → IsLess machine s (cond b o q).state
@@ -70,7 +71,7 @@ less-either machine s true o q one other = one
 less-either machine s false o q one other = other
 
 less-next_waits : (machine : Machine) (d : Displaced) (s : SessionState) → IsLess machine s (next_waits d s).state
-less-next_waits machine d s = less-either machine s d.again _ (nothing_told s) (record { now = refl; plans = AreLeft-refl machine s.plans }) (IsLess-refl machine s)
+less-next_waits machine d s = less-either machine s d.again _ (nothing_told s) (record { now = refl; refills = refl; plans = AreLeft-refl machine s.plans }) (IsLess-refl machine s)
 
 less-later : (machine : Machine) (copy : SheetId) (s : SessionState) → IsLess machine s (later_fall_back copy s).state
 less-later machine copy s = less-befall machine (fate_in_fall_back s copy) s (λ p timed e. fall_back_cuts _ (is_unstarted s.now p) _ e)
@@ -95,7 +96,7 @@ pub less-outage : (machine : Machine) (m : ℕ) (jam : Bool) (s : SessionState) 
 less-outage machine m jam s =
     let first = less-befall machine (fate_in_outage machine m jam s) (with_out m s) (outage_cuts machine m jam s) in
     for_each-keeps (IsLess machine s) fall_back_unless_broken (λ q d less. IsLess-trans machine s q (fall_back_unless_broken q d).state less (less-unless_broken machine q d))
-    (displaced machine m jam s) (going_out machine m jam s).state (record { now = first.now; plans = first.plans })
+    (displaced machine m jam s) (going_out machine m jam s).state (record { now = first.now; refills = first.refills; plans = first.plans })
 
 -- the laws of these parts
 pub breaks_keep_planning : BreaksKeepPlanning

@@ -46,3 +46,8 @@ pub mod ReadyAsked
 pub mod ReadyTurns
 pub mod ReadyFacts
 pub mod LogRows
+pub mod PlanCounts
+pub mod TakenSheets
+pub mod Refilled
+pub mod StockTurns
+pub mod StockKept

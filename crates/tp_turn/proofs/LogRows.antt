@@ -5,6 +5,7 @@ use Rattle.tp_schedule.specs.declared.parts.Plan.{Plan}
 use Rattle.tp_schedule.specs.declared.parts.Reply.TheVariants.{Planned, Never}
 use Rattle.tp_schedule.specs.declared.records.Record.{Record}
 use Rattle.tp_schedule.specs.declared.records.Record.TheVariants.{Plan as TellsPlan, Move, Never as TellsNever, Release, Done, Lost, Recall, Withdraw, Again, Broken}
+use Rattle.tp_stock.specs.Stock.{no_refills}
 use Rattle.tp_script.specs.declared.event.Event.TheVariants.{Job as NewJob, Clock, Jam, On}
 use Rattle.tp_turn.specs.Logs.{Entry}
 use Rattle.tp_turn.specs.Receiving.{arrivals, is_earlier, received, records_of, sheet_ref}
@@ -74,7 +75,7 @@ abbrev pub next_plan : Plan
 next_plan = whole (sheet 0 2 1) (codes "j1") mono_sheet 3 (act 0 ∷ act 1 ∷ act 3 ∷ []) (5 ∷ 7 ∷ 16 ∷ 19 ∷ []) 0
 
 abbrev pub two_planned : SessionState
-two_planned = record { now = 0; plans = first_plan ∷ next_plan ∷ []; lost = []; jobs = job (codes "j1") 3 ∷ []; waiting = []; outs = none_out }
+two_planned = record { now = 0; plans = first_plan ∷ next_plan ∷ []; lost = []; jobs = job (codes "j1") 3 ∷ []; waiting = []; outs = none_out; refills = no_refills }
 
 abbrev pub told_two : List Record
 told_two =
@@ -105,6 +106,7 @@ both_wait = record {
   jobs = job (codes "j1") 3 ∷ [];
   waiting = waits (sheet 0 1 2) mono_sheet ∷ waits (sheet 0 2 1) mono_sheet ∷ [];
   outs = record { 0 = 1 };
+  refills = no_refills;
 }
 
 abbrev pub told_loss : List Record

@@ -4,6 +4,7 @@ use Rattle.std.proofs.Common.{◌≡◌, List, [], ◌∷◌, refl, codes, Some,
 use Rattle.tp_schedule.specs.declared.parts.Plan.{Plan}
 use Rattle.tp_schedule.specs.declared.parts.Reply.TheVariants.{Planned, Never as NoWay}
 use Rattle.tp_schedule.specs.declared.records.Record.TheVariants.{Plan as TellsPlan, Move, Never, Release, Lost, Recall, Withdraw, Cut, Purge, Again, Stuck}
+use Rattle.tp_stock.specs.Stock.{no_refills}
 use Rattle.tp_script.specs.declared.event.Event.TheVariants.{Job as NewJob, Clock, Off}
 use Rattle.tp_turn.specs.States.{SessionState, empty_state, none_out}
 use Rattle.tp_turn.proofs.Machines.{duo, act, mono_sheet}
@@ -26,6 +27,7 @@ planned_two = record {
   jobs = job (codes "j1") 3 ∷ [];
   waiting = [];
   outs = none_out;
+  refills = no_refills;
 }
 
 pub two_come : play duo (NewJob (codes "j1") (codes "t") (codes "plain") (group 2 ∷ [])) empty_state
@@ -68,6 +70,7 @@ pub out_goes_off : play duo (Off (codes "OUT")) at_four (answers Planned (dumped
       jobs = job (codes "j1") 3 ∷ [];
       waiting = waits (sheet 0 1 1) mono_sheet ∷ waits (sheet 0 2 2) mono_sheet ∷ [];
       outs = record { 0 = 8 };
+      refills = no_refills;
     })
 out_goes_off = refl
 
@@ -86,6 +89,7 @@ to_dump = record {
   jobs = job (codes "j1") 3 ∷ [];
   waiting = waits (sheet 0 1 2) mono_sheet ∷ [];
   outs = record { 0 = 8 };
+  refills = no_refills;
 }
 
 pub no_way_to_tray : play duo (Off (codes "OUT")) at_six
@@ -109,6 +113,7 @@ all_out = record {
   jobs = job (codes "j1") 3 ∷ [];
   waiting = waits (sheet 0 1 2) mono_sheet ∷ [];
   outs = record { 0 = 28 };
+  refills = no_refills;
 }
 
 pub no_way_at_all : play duo (Off (codes "DUMP")) to_dump

@@ -127,6 +127,7 @@ IsLeft-to_purge machine p is = record {
   runs = λ run in'. in';
   delivered = λ tray to. absurd (and_false (not (is_front p.kind)) to);
   live = λ now e. e;
+  begins = λ loc e. e;
   unreleased = λ i released within. (released, within, refl);
   unfixed = λ i within not_fixed. (within, not_fixed, refl);
 }

@@ -7,7 +7,7 @@ use Rattle.std.proofs.lemmas.Bool.Decides.{nat_tests}
 use Rattle.std.proofs.lemmas.List.Elements.{All-contains}
 use Rattle.tp_machine.specs.declared.machine.Machine.{Machine}
 use Rattle.tp_script.specs.declared.event.Event.{Event}
-use Rattle.tp_script.specs.declared.event.Event.TheVariants.{Bad, Job as NewJob, Clock, Jam, Off, On}
+use Rattle.tp_script.specs.declared.event.Event.TheVariants.{Bad, Job as NewJob, Clock, Jam, Off, On, Refill}
 use Rattle.tp_jobs.specs.declared.parts.WaitingCopy.{WaitingCopy}
 use Rattle.tp_schedule.specs.Answers.{IsAlternative, KeepsHorizon}
 use Rattle.tp_schedule.specs.Planning.{CanPlanOn, Deed, IsAnswer, last_tick}
@@ -45,13 +45,13 @@ use Rattle.tp_turn.proofs.ReleasedPlans.{AreLeft-change_plan, IsLeft-release, re
 use Rattle.tp_turn.proofs.ListFacts.{find-Some}
 
 -- the ask that is due is for a front, at this moment
-record IsAskOf (machine : Machine) (s : SessionState) (ask : Ask) : Type 0 where
-  p : Plan
-  there : Contains s.plans p
-  loose : is_loose s p ≡ true
-  is : ask_in_flight machine s p ≡ ask
+pub record IsAskOf (machine : Machine) (s : SessionState) (ask : Ask) : Type 0 where
+  pub p : Plan
+  pub there : Contains s.plans p
+  pub loose : is_loose s p ≡ true
+  pub is : ask_in_flight machine s p ≡ ask
 
-asked : (machine : Machine) (s : SessionState) (ask : Ask) → next_ask machine s ≡ Some ask → IsAskOf machine s ask
+pub asked : (machine : Machine) (s : SessionState) (ask : Ask) → next_ask machine s ≡ Some ask → IsAskOf machine s ask
 asked machine s ask e = go (find (is_loose s) s.plans) refl e where
   go : (o : Option Plan) → find (is_loose s) s.plans ≡ o → option_map (ask_in_flight machine s) o ≡ Some ask → IsAskOf machine s ask
   go None f e = absurd (cc)
@@ -142,7 +142,7 @@ module _ {P : Type 0} (steps : PlannerSteps P) (machine : Machine) (spent : P �
       (record { now_at_most = can.now_at_most; legal = settled.retimed.legal; floors = settled.retimed.floors; horizon = settled.retimed.horizon }))
 
   -- the phase of asks
-  plannable-asked : (p : P) (s : SessionState) (w : WaitingCopy) (reply : Reply) (plans : List Plan) → IsAnswer (spent p) machine s.plans (ask_waiting s w) reply plans
+  plannable-asked : (p : P) (s : SessionState) (w : WaitingCopy) (reply : Reply) (plans : List Plan) → IsAnswer (spent p) machine s.plans (ask_waiting machine s w) reply plans
       → IsPlannable machine s → IsPlannable machine (state_after_reply s w reply plans)
   plannable-asked p s w Planned plans answer can =
       let a = answer.0.alternative in
@@ -173,7 +173,7 @@ module _ {P : Type 0} (steps : PlannerSteps P) (machine : Machine) (spent : P �
         go true c next passing full answered = passing next can
         go false true (rest, told, next) passing full answered = full rest next
         go false false (reply, (plans, (mid, (rest, does, told, next)))) passing full answered =
-            answered reply plans mid rest next (plannable-asked p s w reply plans (right p s.plans (replied (ask_waiting s w) reply) plans mid does) can)
+            answered reply plans mid rest next (plannable-asked p s w reply plans (right p s.plans (replied (ask_waiting machine s w) reply) plans mid does) can)
 
   -- the part of an event before the phase of asks
   plannable-begins : (event : Event) (s : SessionState) (p : P) (records : List Record) (s' : SessionState) (p' : P) → refusal machine s event ≡ None
@@ -185,6 +185,7 @@ module _ {P : Type 0} (steps : PlannerSteps P) (machine : Machine) (spent : P �
   plannable-begins (Jam name) s p records s' p' accepted (m, known, out) can = plannable-loop (outage machine m true s).state p out.rest s' p' out.loop (outages_keep_planning machine m true s can)
   plannable-begins (Off name) s p records s' p' accepted (m, known, out) can = plannable-loop (outage machine m false s).state p out.rest s' p' out.loop (outages_keep_planning machine m false s can)
   plannable-begins (On name) s p records s' p' accepted (m, known, told, is, same) can = subst (IsPlannable machine) (sym is) can
+  plannable-begins (Refill name count) s p records s' p' accepted (f, known, told, is, same) can = subst (IsPlannable machine) (sym is) can
 
   -- a whole turn
   pub plannable-turn : TurnsKeep steps machine IsAny (IsPlannable machine)

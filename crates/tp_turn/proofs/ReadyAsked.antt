@@ -65,7 +65,7 @@ module _ (machine : Machine) (s : SessionState) (w : WaitingCopy) (plans' : List
   -- where all plans were live, all are
   pub live-asked : All (λ p. IsTrue (is_live machine s.now p)) s.plans → All (λ p. IsTrue (is_live machine s.now p)) plans'
   live-asked live = All-from_contains (λ p. IsTrue (is_live machine s.now p)) plans' (λ q in'.
-      elim (plan-cases machine s.plans (ask_waiting s w) plans' f.a q in') [
+      elim (plan-cases machine s.plans (ask_waiting machine s w) plans' f.a q in') [
         | inl e ↦ subst (λ (p : Plan). is_live machine s.now p ≡ true) (sym e) mine-live
         | inr other ↦ live-before machine s.now q other.0 (retimed-back q other.0 in' other.1 other.2) (All-contains (λ p. IsTrue (is_live machine s.now p)) s.plans other.0 live other.1)
       ])
@@ -75,7 +75,7 @@ module _ (machine : Machine) (s : SessionState) (w : WaitingCopy) (plans' : List
   broken-asked broken = record {
     waiting = All-filter (λ v. not (is_same_copy v.sheet w.sheet)) (λ v. IsFalse (is_job_broken s.jobs v.sheet.job)) s.waiting broken.waiting;
     plans = All-from_contains (EntersWhereBroken s.now s.jobs) plans' (λ q in' tray is.
-        elim (plan-cases machine s.plans (ask_waiting s w) plans' f.a q in') [
+        elim (plan-cases machine s.plans (ask_waiting machine s w) plans' f.a q in') [
           | inl e ↦ absurd (
               let whole = All-contains (λ v. IsFalse (is_job_broken s.jobs v.sheet.job)) s.waiting w broken.waiting f.here in
               let sheet : q.sheet ≡ w.sheet = ap (λ (x : Plan). x.sheet) e ∙ f.a.answers.sheet in
@@ -97,7 +97,7 @@ module _ (machine : Machine) (s : SessionState) (w : WaitingCopy) (plans' : List
   -- purges that have started have not moved
   pub purges-asked : All (HasStarted s.now) s.plans → All (HasStarted s.now) plans'
   purges-asked purges = All-from_contains (HasStarted s.now) plans' (λ q in' purged.
-      elim (plan-cases machine s.plans (ask_waiting s w) plans' f.a q in') [
+      elim (plan-cases machine s.plans (ask_waiting machine s w) plans' f.a q in') [
         | inl e ↦ absurd (to-tray q.goal (ap (λ (p : Plan). p.goal) e ∙ f.a.answers.goal) purged)
         | inr other ↦
             let r = retimed-plan machine s w plans' f legal low q other.0 in' other.1 other.2 in
@@ -111,7 +111,7 @@ module _ (machine : Machine) (s : SessionState) (w : WaitingCopy) (plans' : List
   -- a front has not moved
   pub fronts-asked : All (HasStartedWhole s.now) s.plans → All (HasStartedWhole s.now) plans'
   fronts-asked fronts = All-from_contains (HasStartedWhole s.now) plans' (λ q in' front i within.
-      elim (plan-cases machine s.plans (ask_waiting s w) plans' f.a q in') [
+      elim (plan-cases machine s.plans (ask_waiting machine s w) plans' f.a q in') [
         | inl e ↦ absurd (
             let whole : is_front q.kind ≡ false = ap (λ (p : Plan). is_front p.kind) e ∙ ap is_front f.a.answers.whole in cc)
         | inr other ↦
@@ -131,7 +131,7 @@ module _ (machine : Machine) (s : SessionState) (w : WaitingCopy) (plans' : List
     jobs = most.jobs;
     waiting = All-filter (λ v. not (is_same_copy v.sheet w.sheet)) (λ v. v.sheet.copy ≤ copies) s.waiting most.waiting;
     planned = All-from_contains (λ q. q.sheet.copy ≤ copies) plans' (λ q in'.
-        elim (plan-cases machine s.plans (ask_waiting s w) plans' f.a q in') [
+        elim (plan-cases machine s.plans (ask_waiting machine s w) plans' f.a q in') [
           | inl e ↦ subst (λ (c : SheetId). c.copy ≤ copies) (sym (ap (λ (p : Plan). p.sheet) e ∙ f.a.answers.sheet)) (All-contains (λ v. v.sheet.copy ≤ copies) s.waiting w most.waiting f.here)
           | inr other ↦ subst (λ (c : SheetId). c.copy ≤ copies) (sym (unmoved-sheet q other.0 other.2)) (All-contains (λ p. p.sheet.copy ≤ copies) s.plans other.0 most.planned other.1)
         ]);

@@ -68,6 +68,7 @@ IsLeft-release machine last p = record {
   runs = λ run in'. in';
   delivered = λ tray to. (to, refl);
   live = λ now e. e;
+  begins = λ loc e. e;
   unreleased = λ i released within. (omega arith, within, refl);
   unfixed = λ i within e. (within, not_fixed (is_front p.kind) p.released (length (due_until last p)) i e, refl);
 }

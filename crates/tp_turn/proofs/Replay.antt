@@ -2,7 +2,7 @@
 use Rattle.std.proofs.Common.{◌≡◌, ℕ, Bool, true, false, List, [], ◌∷◌, ◌++◌, Option, Some, None, ◌&&◌}
 use Rattle.tp_machine.specs.declared.machine.Machine.{Machine}
 use Rattle.tp_script.specs.declared.event.Event.{Event}
-use Rattle.tp_script.specs.declared.event.Event.TheVariants.{Bad, Job as NewJob, Clock, Jam, Off, On}
+use Rattle.tp_script.specs.declared.event.Event.TheVariants.{Bad, Job as NewJob, Clock, Jam, Off, On, Refill}
 use Rattle.tp_schedule.specs.Planning.{Deed}
 use Rattle.tp_schedule.specs.Planning.Deed.{replied, settled}
 use Rattle.tp_schedule.specs.declared.parts.Ask.{Ask}
@@ -22,7 +22,9 @@ use Rattle.tp_turn.specs.Answering.{Answer, told_of_reply, moves}
 use Rattle.tp_turn.specs.Loops.{next_ask, after_one}
 use Rattle.tp_turn.specs.Planners.{PlannerSteps}
 use Rattle.tp_turn.specs.Asking.{ask_waiting, is_full, is_passed_over, passed_after, state_after_reply}
-use Rattle.tp_turn.specs.Turns.{with_job, with_on}
+use Rattle.tp_turn.specs.Turns.{with_job, with_on, with_refill}
+use Rattle.tp_machine.specs.declared.parts.Feeder.{Feeder}
+use Rattle.tp_stock.specs.Stock.{feeder_named}
 
 -- an answer with the schedule after it, or the schedule after a settling
 pub data Given : Type 0 where
@@ -73,7 +75,7 @@ play_asks machine [] passed s left = played true s left
 play_asks machine (w ∷ ws) passed s left = chosen (is_passed_over s passed w) (is_full machine s) s left
     (play_asks machine ws passed s)
     (λ l. told_first (told_full s w) (play_asks machine ws (pass_over s passed w) s l))
-    (λ reply plans l. told_first (told_of_reply machine s.plans (ask_waiting s w) reply plans)
+    (λ reply plans l. told_first (told_of_reply machine s.plans (ask_waiting machine s w) reply plans)
     (play_asks machine ws (passed_after reply (tray_of s.jobs w.sheet).0 passed) (state_after_reply s w reply plans) l))
 
 abbrev pub answer : Reply → List Plan → Answer
@@ -107,6 +109,10 @@ abbrev pub play_on : Option ℕ → SessionState → List Given → Played
 play_on None s left = played false s []
 play_on (Some m) s left = played true (with_on m s) left
 
+abbrev pub play_refill : Option Feeder → ℕ → SessionState → List Given → Played
+play_refill None count s left = played false s []
+play_refill (Some f) count s left = played true (with_refill f count s) left
+
 abbrev pub play_begin : Machine → Event → SessionState → List Given → Played
 play_begin machine Bad s left = played false s []
 play_begin machine (NewJob name tray media groups) s left = played true (with_job machine name tray media groups s) left
@@ -114,6 +120,7 @@ play_begin machine (Clock to) s left = told_first (clock_move machine to s).reco
 play_begin machine (Jam name) s left = play_out machine (module_of machine name) true s left
 play_begin machine (Off name) s left = play_out machine (module_of machine name) false s left
 play_begin machine (On name) s left = play_on (module_of machine name) s left
+play_begin machine (Refill name count) s left = play_refill (feeder_named machine name) count s left
 
 abbrev pub play_by : Option Cause → Machine → Event → SessionState → List Given → Played
 play_by (Some cause) machine event s left = told_first (Refused cause ∷ []) (played true s left)

@@ -5,7 +5,7 @@ use Rattle.std.specs.Option.{MatchOption}
 use Rattle.std.proofs.lemmas.Bool.{and_parts}
 use Rattle.tp_machine.specs.declared.machine.Machine.{Machine}
 use Rattle.tp_script.specs.declared.event.Event.{Event}
-use Rattle.tp_script.specs.declared.event.Event.TheVariants.{Bad, Job as NewJob, Clock, Jam, Off, On}
+use Rattle.tp_script.specs.declared.event.Event.TheVariants.{Bad, Job as NewJob, Clock, Jam, Off, On, Refill}
 use Rattle.tp_jobs.specs.declared.parts.WaitingCopy.{WaitingCopy}
 use Rattle.tp_schedule.specs.declared.records.Cause.{Cause}
 use Rattle.tp_schedule.specs.declared.records.Record.{Record}
@@ -23,8 +23,10 @@ use Rattle.tp_turn.specs.Loops.{next_ask, after_one, after_answers}
 use Rattle.tp_turn.specs.Clock.{clock_move}
 use Rattle.tp_turn.specs.Outages.{outage}
 use Rattle.tp_turn.specs.Planners.{RunsLoop, GoesOut}
-use Rattle.tp_turn.specs.Turns.{Begins, Accepts, Turn, with_on}
-use Rattle.tp_turn.proofs.Replay.{Given, answers, settles, listed, Played, answer, play_asks, play_loop, play_out, play_begin, play_by, play, turn_played, play_on, loop_on, loop_end, told_first, told_full, pass_over, chosen}
+use Rattle.tp_turn.specs.Turns.{Begins, Accepts, Turn, with_on, with_refill}
+use Rattle.tp_turn.proofs.Replay.{Given, answers, settles, listed, Played, answer, play_asks, play_loop, play_out, play_begin, play_by, play, turn_played, play_on, play_refill, loop_on, loop_end, told_first, told_full, pass_over, chosen}
+use Rattle.tp_machine.specs.declared.parts.Feeder.{Feeder}
+use Rattle.tp_stock.specs.Stock.{feeder_named}
 
 -- the phase of asks
 abbrev AsksLead : Machine → List WaitingCopy → List ℕ → SessionState → List Given → Played → Type 0
@@ -37,7 +39,7 @@ CopyLeads machine w ws passed s left p over full =
     ((rest : List Record) × (p.records ≡ FullUp (label s.jobs w.sheet) ∷ rest) × AsksInTurn listed machine ws (pass_over s passed w) s left rest p.state p.left)
     ((reply : Reply) × ((plans : List Plan) × ((mid : List Given) × ((rest : List Record)
     × (left ≡ answers reply plans ∷ mid)
-    × (p.records ≡ told_of_reply machine s.plans (ask_waiting s w) reply plans ++ rest)
+    × (p.records ≡ told_of_reply machine s.plans (ask_waiting machine s w) reply plans ++ rest)
     × AsksInTurn listed machine ws (passed_after reply (tray_of s.jobs w.sheet).0 passed) (state_after_reply s w reply plans) mid rest p.state p.left)))))
 
 copy-leads : (machine : Machine) (w : WaitingCopy) (ws : List WaitingCopy) (passed : List ℕ) (s : SessionState) (over full : Bool) (left : List Given)
@@ -46,9 +48,9 @@ copy-leads : (machine : Machine) (w : WaitingCopy) (ws : List WaitingCopy) (pass
     → (r : Reply → List Plan → List Given → Played)
     → ((reply : Reply) (plans : List Plan) (l : List Given) → (r reply plans l).fits ≡ true
     → AsksLead machine ws (passed_after reply (tray_of s.jobs w.sheet).0 passed) (state_after_reply s w reply plans) l (r reply plans l))
-    → (chosen over full s left p (λ l. told_first (told_full s w) (q l)) (λ reply plans l. told_first (told_of_reply machine s.plans (ask_waiting s w) reply plans) (r reply plans l))).fits ≡ true
+    → (chosen over full s left p (λ l. told_first (told_full s w) (q l)) (λ reply plans l. told_first (told_of_reply machine s.plans (ask_waiting machine s w) reply plans) (r reply plans l))).fits ≡ true
     → CopyLeads machine w ws passed s left
-    (chosen over full s left p (λ l. told_first (told_full s w) (q l)) (λ reply plans l. told_first (told_of_reply machine s.plans (ask_waiting s w) reply plans) (r reply plans l)))
+    (chosen over full s left p (λ l. told_first (told_full s w) (q l)) (λ reply plans l. told_first (told_of_reply machine s.plans (ask_waiting machine s w) reply plans) (r reply plans l)))
     over full
 copy-leads machine w ws passed s true full left p by_p q by_q r by_r fits = by_p left fits
 copy-leads machine w ws passed s false true left p by_p q by_q r by_r fits = ((q left).records, refl, by_q left fits)
@@ -119,6 +121,11 @@ played-on : (o : Option ℕ) (s : SessionState) (left : List Given) → (play_on
 played-on None s left fits = absurd (cc)
 played-on (Some m) s left fits = (m, refl, refl, refl, refl)
 
+played-refill : (o : Option Feeder) (count : ℕ) (s : SessionState) (left : List Given) → (play_refill o count s left).fits ≡ true
+    → (f : Feeder) × (o ≡ Some f) × ((play_refill o count s left).records ≡ []) × ((play_refill o count s left).state ≡ with_refill f count s) × ((play_refill o count s left).left ≡ left)
+played-refill None count s left fits = absurd (cc)
+played-refill (Some f) count s left fits = (f, refl, refl, refl, refl)
+
 played-begins : (machine : Machine) (event : Event) (s : SessionState) (left : List Given) → (play_begin machine event s left).fits ≡ true
     → Begins listed machine event s left (play_begin machine event s left).records (play_begin machine event s left).state (play_begin machine event s left).left
 played-begins machine Bad s left fits = absurd (cc)
@@ -127,6 +134,7 @@ played-begins machine (Clock to) s left fits = (append-nil (clock_move machine t
 played-begins machine (Jam name) s left fits = played-out machine (module_of machine name) true s left fits
 played-begins machine (Off name) s left fits = played-out machine (module_of machine name) false s left fits
 played-begins machine (On name) s left fits = played-on (module_of machine name) s left fits
+played-begins machine (Refill name count) s left fits = played-refill (feeder_named machine name) count s left fits
 
 -- a turn that was played and used up the list is a turn
 pub played-turn : (machine : Machine) (event : Event) (s : SessionState) (left : List Given) → (play machine event s left).fits ≡ true

@@ -4,7 +4,6 @@ use Rattle.std.specs.Bool.{MatchBool}
 use Rattle.std.specs.List.{list_any}
 use Rattle.tp_machine.specs.declared.machine.Machine.{Machine}
 use Rattle.tp_schedule.specs.Living.{live_count}
-use Rattle.tp_schedule.specs.LocationSets.{nowhere}
 use Rattle.tp_schedule.specs.Planning.Deed.{replied}
 use Rattle.tp_schedule.specs.declared.parts.Ask.{Ask}
 use Rattle.tp_schedule.specs.declared.parts.Goal.TheVariants.{Tray}
@@ -14,6 +13,7 @@ use Rattle.tp_schedule.specs.declared.parts.Reply.{Reply}
 use Rattle.tp_schedule.specs.declared.parts.Reply.TheVariants.{Planned, Never, Spent}
 use Rattle.tp_schedule.specs.declared.records.Record.{Record}
 use Rattle.tp_schedule.specs.declared.records.Record.TheVariants.{FullUp}
+use Rattle.tp_stock.specs.Stock.{empties}
 use Rattle.tp_jobs.specs.declared.parts.WaitingCopy.{WaitingCopy}
 use Rattle.tp_jobs.specs.Backlogs.{tray_of}
 use Rattle.tp_jobs.specs.Waiting.{without_waiting}
@@ -29,16 +29,16 @@ most_live = 256
 abbrev pub is_full : Machine → SessionState → Bool
 is_full machine s = nat_le most_live (live_count machine s.now s.plans)
 
--- the ask for a copy that waits
-abbrev pub ask_waiting : SessionState → WaitingCopy → Ask
-ask_waiting s w = record {
+-- the ask for a copy that waits: no feeder that is empty then is a start of it
+abbrev pub ask_waiting : Machine → SessionState → WaitingCopy → Ask
+ask_waiting machine s w = record {
   sheet = w.sheet;
   name = job_name s.jobs w.sheet.job;
   want = w.want;
   goal = Tray (tray_of s.jobs w.sheet);
   origin = FromFeeder;
   outs = s.outs;
-  empty = nowhere;
+  empty = empties machine s.refills s.plans;
   now = s.now;
 }
 
@@ -69,8 +69,8 @@ module _ {P : Type 0} (planner_steps : PlannerSteps P) (machine : Machine) where
       ((rest : List Record) × (records ≡ FullUp (label s.jobs w.sheet) ∷ rest)
       × AsksInTurn waiting ((tray_of s.jobs w.sheet).0 ∷ passed) s planner rest s' planner')
       ((reply : Reply) × ((plans : List Plan) × ((mid : P) × ((rest : List Record)
-      × planner_steps.does planner s.plans (replied (ask_waiting s w) reply) plans mid
-      × (records ≡ told_of_reply machine s.plans (ask_waiting s w) reply plans ++ rest)
+      × planner_steps.does planner s.plans (replied (ask_waiting machine s w) reply) plans mid
+      × (records ≡ told_of_reply machine s.plans (ask_waiting machine s w) reply plans ++ rest)
       × AsksInTurn waiting (passed_after reply (tray_of s.jobs w.sheet).0 passed) (state_after_reply s w reply plans) mid rest s' planner')))))
 
   abbrev pub Asks : SessionState → P → List Record → SessionState → P → Type 0

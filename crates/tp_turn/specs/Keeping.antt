@@ -1,5 +1,5 @@
 -- What a state keeps between events, and its live part.
-use Rattle.std.specs.Prelude.{◌≡◌, ◌≢◌, ℕ, ◌+◌, ◌<◌, ◌≤◌, Bool, true, ◌&&◌, ◌||◌, ◌==◌, nat_lt, nat_le, List, ◌++◌, length, slice_index, map, filter, count_by, All, AllPairs, Any, Contains, IsTrue, IsFalse}
+use Rattle.std.specs.Prelude.{◌≡◌, ◌≢◌, ℕ, ℤ, ◌+◌, ◌<◌, ◌≤◌, Bool, true, not, ◌&&◌, ◌||◌, ◌==◌, nat_lt, nat_le, List, ◌++◌, length, slice_index, map, filter, count_by, All, AllPairs, Any, Contains, IsTrue, IsFalse}
 use Rattle.std.specs.List.{list_any, list_all}
 use Rattle.std.specs.Str.{bytes_eq}
 use Rattle.tp_machine.specs.declared.machine.Machine.{Machine}
@@ -14,6 +14,7 @@ use Rattle.tp_schedule.specs.declared.parts.Goal.{Goal}
 use Rattle.tp_schedule.specs.declared.parts.Goal.TheVariants.{Tray, Purge}
 use Rattle.tp_schedule.specs.declared.parts.Plan.{Plan}
 use Rattle.tp_schedule.specs.declared.parts.SheetId.{SheetId}
+use Rattle.tp_stock.specs.Stock.{less_taken}
 use Rattle.tp_jobs.specs.declared.parts.Job.{Job}
 use Rattle.tp_jobs.specs.declared.parts.WaitingCopy.{WaitingCopy}
 use Rattle.tp_jobs.specs.Backlogs.{tray_of}
@@ -131,10 +132,18 @@ pub record KeepsState (machine : Machine) (totals : List ℕ) (s : SessionState)
 abbrev pub IsLeastAt : Machine → SessionState → Type 0
 IsLeastAt machine s = IsLeast machine s.now none_exempt s.plans
 
--- The live part: the plans that are live, and the lost copies among them.
+-- The live part: the plans that are live, the lost copies among them, and the refills less what is forgotten.
 
 abbrev pub live_plans : Machine → SessionState → List Plan
 live_plans machine s = filter (is_live machine s.now) s.plans
 
+-- the refills less the sheets of the plans that are not live, so that the free stock is the same: a number may be below 0
+abbrev pub live_refills : Machine → SessionState → List ℤ
+live_refills machine s = less_taken machine (filter (λ p. not (is_live machine s.now p)) s.plans) s.refills
+
 abbrev pub live_part : Machine → SessionState → SessionState
-live_part machine s = record s { plans = live_plans machine s; lost = filter (is_planned_among (live_plans machine s)) s.lost }
+live_part machine s = record s {
+  plans = live_plans machine s;
+  lost = filter (is_planned_among (live_plans machine s)) s.lost;
+  refills = live_refills machine s;
+}

@@ -12,6 +12,7 @@ use Rattle.tp_schedule.specs.declared.parts.Plan.{Plan}
 use Rattle.tp_schedule.specs.declared.records.Cause.{Cause}
 use Rattle.tp_schedule.specs.declared.records.Record.{Record}
 use Rattle.tp_schedule.specs.declared.records.Record.TheVariants.{Refused}
+use Rattle.tp_stock.specs.Stock.{IsNotOverdrawn}
 use Rattle.tp_turn.specs.States.{SessionState}
 use Rattle.tp_turn.specs.Answering.{Answer}
 use Rattle.tp_turn.specs.Clock.{clock_move, released_until}
@@ -43,6 +44,10 @@ IsPlannable machine s = CanPlanOn machine s.now s.plans
 -- fates by which only started copies are cut
 abbrev pub CutsStarted : (Plan → Fate) → SessionState → Type 0
 CutsStarted fate s = (p : Plan) → Contains s.plans p → IsTrue (is_cut_by (fate p)) → IsFalse (is_unstarted s.now p)
+
+-- no stock of the state's machine is overdrawn
+abbrev pub IsStocked : Machine → SessionState → Type 0
+IsStocked machine s = IsNotOverdrawn machine s.refills s.plans
 
 -- what befalls the copies, a break, a fall-back and an outage leave a schedule that can be planned on, at the same moment
 abbrev pub FatesKeepPlanning : Type 0

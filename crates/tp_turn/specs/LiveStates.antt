@@ -12,6 +12,7 @@ seen l = record {
   jobs = l.lines.jobs;
   waiting = l.lines.waiting;
   outs = l.outs;
+  refills = l.refills.0;
 }
 
 -- the state that is remembered, with the lines that were kept
@@ -23,4 +24,5 @@ remembered r kept = record {
   jobs = kept.jobs;
   waiting = kept.waiting;
   outs = r.outs;
+  refills = r.refills.0;
 }

@@ -5,11 +5,13 @@ use Rattle.tp_schedule.specs.Living.{is_live}
 use Rattle.tp_schedule.specs.Planning.{last_tick}
 use Rattle.tp_schedule.specs.Plans.{is_front, point}
 use Rattle.tp_schedule.specs.declared.parts.Plan.{Plan}
+use Rattle.tp_stock.specs.Stock.{AreWithin, IsStockedWithin}
 use Rattle.tp_jobs.specs.declared.parts.Job.{Job}
 use Rattle.tp_turn.specs.States.{SessionState}
 use Rattle.tp_turn.specs.Lines.{is_job_broken}
 use Rattle.tp_turn.specs.Moments.{is_tray_plan}
 use Rattle.tp_turn.specs.Keeping.{KeepsJobs, KeepsLines, KeepsPlans, IsLeastAt, IsOlder, open_copies}
+use Rattle.tp_turn.specs.Laws.{IsStocked}
 use Rattle.tp_turn.specs.Seen.{HasStarted}
 
 -- the last action of the plan has started: its copy is entering its goal or was delivered there
@@ -53,6 +55,12 @@ pub record KeepsLive (machine : Machine) (copies : ℕ) (s : SessionState) : Typ
   pub purges : All (HasStarted s.now) s.plans
   pub fronts : All (HasStartedWhole s.now) s.plans
   pub numbers : CopiesAtMost copies s
+
+-- no stock is overdrawn or beyond what it can come to, and the refills are within what so many events make of them
+pub record KeepsStock (machine : Machine) (events : ℕ) (s : SessionState) : Type 0 where
+  pub drawn : IsStocked machine s
+  pub most : IsStockedWithin machine s.refills
+  pub within : AreWithin events s.refills
 
 -- any event can be taken: the schedule is least as well
 pub record CanTakeEvents (machine : Machine) (copies : ℕ) (s : SessionState) : Type 0 where

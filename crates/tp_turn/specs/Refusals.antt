@@ -1,15 +1,18 @@
 -- Which events are refused, and by which cause: the first that applies.
-use Rattle.std.specs.Prelude.{ℕ, Bool, false, not, nat_lt, List, [], ◌∷◌, length, Option, Some, None, option_and_then, position, is_some, if◌then◌else◌}
+use Rattle.std.specs.Prelude.{ℕ, Bool, false, not, nat_lt, List, [], ◌∷◌, length, Option, Some, None, option_and_then, position, is_some, if◌then◌else◌, ℤ, pos, ◌+ℤ◌, int_lt}
 use Rattle.std.specs.Str.{bytes_eq}
 use Rattle.tp_machine.specs.Using.{is_out}
 use Rattle.tp_machine.specs.declared.parts.Outs.{Outs}
 use Rattle.tp_machine.specs.declared.machine.Machine.{Machine}
 use Rattle.tp_script.specs.Form.{GroupForm}
 use Rattle.tp_script.specs.declared.event.Event.{Event}
-use Rattle.tp_script.specs.declared.event.Event.TheVariants.{Bad, Job as NewJob, Clock, Jam, Off, On}
+use Rattle.tp_script.specs.declared.event.Event.TheVariants.{Bad, Job as NewJob, Clock, Jam, Off, On, Refill}
 use Rattle.tp_schedule.specs.Planning.{last_tick}
 use Rattle.tp_schedule.specs.declared.records.Cause.{Cause}
-use Rattle.tp_schedule.specs.declared.records.Cause.TheVariants.{Syntax, Tray, Media, Named, Waiting, Back, End, Module, Out, NotOn}
+use Rattle.tp_schedule.specs.declared.records.Cause.TheVariants.{Syntax, Tray, Media, Named, Waiting, Back, End, Module, Out, NotOn, Feeder as NoFeeder, Endless, Stock}
+use Rattle.tp_schedule.specs.declared.parts.Plan.{Plan}
+use Rattle.tp_machine.specs.declared.parts.Feeder.{Feeder}
+use Rattle.tp_stock.specs.Stock.{feeder_named, free_stock, most_free}
 use Rattle.tp_jobs.specs.Refusing.{job_fault}
 use Rattle.tp_jobs.specs.declared.fault.JobFault.{JobFault}
 use Rattle.tp_jobs.specs.declared.fault.JobFault.TheVariants.{Memory, UnknownTray, UnknownMedia, TwiceNamed, TooManyWaiting}
@@ -68,6 +71,18 @@ abbrev pub on_refusal : Machine → Outs → List ℕ → Option Cause
 on_refusal machine outs name = first_of_causes (
     jam_refusal machine name ∷ cause_if (is_on_at outs (module_of machine name)) (NotOn name) ∷ [])
 
+-- why a refill is refused: no feeder has the name, its stock is endless, or too many sheets were free then
+abbrev pub stock_refusal : List ℕ → ℕ → Option ℤ → Option Cause
+stock_refusal name count None = Some (Endless name)
+stock_refusal name count (Some free) = cause_if (int_lt (pos most_free) (free +ℤ pos count)) (Stock name)
+
+abbrev pub feeder_refusal : Machine → List ℤ → List Plan → List ℕ → ℕ → Option Feeder → Option Cause
+feeder_refusal machine refills plans name count None = Some (NoFeeder name)
+feeder_refusal machine refills plans name count (Some f) = stock_refusal name count (free_stock machine refills plans f)
+
+abbrev pub refill_refusal : Machine → List ℤ → List Plan → List ℕ → ℕ → Option Cause
+refill_refusal machine refills plans name count = feeder_refusal machine refills plans name count (feeder_named machine name)
+
 -- why the event is refused, if it is
 abbrev pub refusal : Machine → SessionState → Event → Option Cause
 refusal machine s Bad = Some Syntax
@@ -76,3 +91,4 @@ refusal machine s (Clock to) = clock_refusal s.now to
 refusal machine s (Jam name) = jam_refusal machine name
 refusal machine s (Off name) = off_refusal machine s.outs name
 refusal machine s (On name) = on_refusal machine s.outs name
+refusal machine s (Refill name count) = refill_refusal machine s.refills s.plans name count

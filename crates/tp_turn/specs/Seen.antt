@@ -1,4 +1,5 @@
--- The state that a schedule, jobs, waiting copies and modules show at a moment where no copy is loose.
+-- The state that a schedule, jobs, waiting copies and modules show at a moment where no copy is loose. What was refilled it
+-- does not tell.
 use Rattle.std.specs.Prelude.{ℕ, ◌+◌, ◌^◌, ◌<◌, ◌≤◌, List, map, filter, All, IsFalse}
 use Rattle.tp_machine.specs.declared.parts.Outs.{Outs}
 use Rattle.tp_machine.specs.declared.machine.Machine.{Machine}
@@ -6,6 +7,7 @@ use Rattle.tp_schedule.specs.Planning.{IsKnownGoal}
 use Rattle.tp_schedule.specs.Plans.{AreNamed, is_front, point}
 use Rattle.tp_schedule.specs.declared.parts.Plan.{Plan}
 use Rattle.tp_schedule.specs.declared.parts.SheetId.{SheetId}
+use Rattle.tp_stock.specs.Stock.{no_refills}
 use Rattle.tp_jobs.specs.Backlogs.{Backlog}
 use Rattle.tp_turn.specs.States.{SessionState}
 use Rattle.tp_turn.specs.Moments.{is_to_tray}
@@ -23,6 +25,7 @@ state_seen now plans backlog outs = record {
   jobs = backlog.jobs;
   waiting = backlog.waiting;
   outs = outs;
+  refills = no_refills;
 }
 
 -- the next copy's number can be told

@@ -4,11 +4,13 @@ use Rattle.std.specs.Option.{MatchOption}
 use Rattle.tp_machine.specs.declared.machine.Machine.{Machine}
 use Rattle.tp_script.specs.Form.{GroupForm}
 use Rattle.tp_script.specs.declared.event.Event.{Event}
-use Rattle.tp_script.specs.declared.event.Event.TheVariants.{Bad, Job as NewJob, Clock, Jam, Off, On}
+use Rattle.tp_script.specs.declared.event.Event.TheVariants.{Bad, Job as NewJob, Clock, Jam, Off, On, Refill}
 use Rattle.tp_schedule.specs.declared.records.Record.{Record}
 use Rattle.tp_schedule.specs.declared.records.Record.TheVariants.{Refused}
 use Rattle.tp_jobs.specs.Waiting.{first_copies, new_job, sheets_of}
 use Rattle.tp_machine.specs.Using.{put_on}
+use Rattle.tp_machine.specs.declared.parts.Feeder.{Feeder}
+use Rattle.tp_stock.specs.Stock.{feeder_named, more_at}
 use Rattle.tp_turn.specs.States.{SessionState}
 use Rattle.tp_turn.specs.Refusals.{refusal, module_of}
 use Rattle.tp_turn.specs.Clock.{clock_move}
@@ -25,6 +27,10 @@ with_job machine name tray media groups s = record s {
 abbrev pub with_on : ℕ → SessionState → SessionState
 with_on m s = record s { outs = put_on s.outs m }
 
+-- the feeder has so many sheets more
+abbrev pub with_refill : Feeder → ℕ → SessionState → SessionState
+with_refill f count s = record s { refills = more_at f.loc.0 count s.refills }
+
 module _ {P : Type 0} (planner_steps : PlannerSteps P) (machine : Machine) where
   -- the part of an accepted event before the phase of asks
   abbrev pub Begins : Event → SessionState → P → List Record → SessionState → P → Type 0
@@ -39,6 +45,8 @@ module _ {P : Type 0} (planner_steps : PlannerSteps P) (machine : Machine) where
       (m : ℕ) × (module_of machine name ≡ Some m) × GoesOut planner_steps machine s m false planner records s' planner'
   Begins (On name) s planner records s' planner' =
       (m : ℕ) × (module_of machine name ≡ Some m) × (records ≡ []) × (s' ≡ with_on m s) × (planner' ≡ planner)
+  Begins (Refill name count) s planner records s' planner' =
+      (f : Feeder) × (feeder_named machine name ≡ Some f) × (records ≡ []) × (s' ≡ with_refill f count s) × (planner' ≡ planner)
 
   -- an accepted event: its own part, and then the phase of asks
   pub record Accepts (event : Event) (s : SessionState) (planner : P) (records : List Record) (s' : SessionState) (planner' : P) : Type 0 where

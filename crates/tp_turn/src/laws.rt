@@ -4,7 +4,7 @@ ghost use Rattle.tp_machine.specs.declared.machine.Machine.{Machine};
 ghost use Rattle.tp_turn.specs.Keeping.{KeepsState, IsLeastAt};
 ghost use Rattle.tp_turn.specs.Laws.{LoopStateGoesOn, LoopRecordsGoOn, LoopGoesOn};
 ghost use Rattle.tp_turn.specs.Laws.{RefusedChangesNothing, RefusalsAreTold};
-ghost use Rattle.tp_turn.specs.Laws.{TurnsKeep, TurnsKeepState, IsAny, IsNoOutage, IsNoClock, IsPlannable};
+ghost use Rattle.tp_turn.specs.Laws.{TurnsKeep, TurnsKeepState, IsAny, IsStocked, IsNoOutage, IsNoClock, IsPlannable};
 ghost use Rattle.tp_turn.specs.Laws.{FatesKeepPlanning, BreaksKeepPlanning, FallBacksKeepPlanning};
 ghost use Rattle.tp_turn.specs.Laws.{OutagesKeepPlanning, OutagesKeepMoment, OutagesKeepLive};
 ghost use Rattle.tp_turn.specs.Laws.{ClockKeepsPlanning, ClockKeepsPlans, ClockKeepsLines, ClockKeepsSheets};
@@ -50,6 +50,15 @@ pub fn turns_keep_state<P: Planner>()
     ensures least { (machine : Machine)
         → TurnsKeep (right_steps P.spent P.steps P.stop_steps machine) machine IsNoClock
         (IsLeastAt machine) }
+{}
+
+/// No stock is ever overdrawn: in the empty state and after each turn of a planner, be the state whole or live, the plans that
+/// begin at a feeder with a stock are at most its stock and its accepted refills, less what was taken off for forgotten plans.
+pub fn stocks_are_never_overdrawn<P: Planner>()
+    ensures empty { (machine : Machine) → IsStocked machine empty_state }
+    ensures turn { (machine : Machine)
+        → TurnsKeep (right_steps P.spent P.steps P.stop_steps machine) machine IsAny
+        (IsStocked machine) }
 {}
 
 /// What befalls copies, a break, a fall-back and an outage leave a schedule that can be planned on at the same moment. No more

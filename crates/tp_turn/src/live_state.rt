@@ -8,9 +8,10 @@ use tp_base::{Memory, Tick};
 use tp_jobs::Lines;
 use tp_machine::Outs;
 use tp_schedule::{Schedule, SheetId};
+use tp_stock::Refills;
 
 /// The live part of a session: the moment in ticks, the plans that are live at it, the copies that were lost among them,
-/// the jobs with the copies that wait, and the modules that are out.
+/// the jobs with the copies that wait, the modules that are out, and what was refilled.
 ///
 /// It is plain data, so that calls on its schedule and its lines can be made side by side; contracts speak of it as the
 /// state that `seen` tells.
@@ -22,6 +23,8 @@ pub struct LiveState {
     pub lost: Vec<SheetId>,
     pub lines: Lines,
     pub outs: Outs,
+    /// What was refilled, less the sheets of plans that are forgotten.
+    pub refills: Refills,
 }
 
 /// What a live state was at a moment, but for its lines, which keep a mark of their own.
@@ -31,12 +34,13 @@ pub struct Remembered {
     schedule: Schedule,
     lost: Vec<SheetId>,
     outs: Outs,
+    refills: Refills,
 }
 
 impl LiveState {
     ghost use Rattle.tp_turn.specs.LiveStates.{remembered, seen};
 
-    /// No plan and no job at the moment 0, and no module out. It takes no memory.
+    /// No plan and no job at the moment 0, no module out, and nothing refilled. It takes no memory.
     pub fn new(alloc: Global) -> LiveState
         ensures { seen result ≡ empty_state }
     {
@@ -46,6 +50,7 @@ impl LiveState {
             lost: Vec::new(alloc),
             lines: Lines::new(alloc),
             outs: Outs(0),
+            refills: Refills::none(),
         }
     }
 
@@ -62,6 +67,7 @@ impl LiveState {
             schedule,
             lost,
             outs: self.outs,
+            refills: self.refills,
         })
     }
 
@@ -74,11 +80,13 @@ impl LiveState {
             schedule,
             lost,
             outs,
+            refills,
         } = to;
         self.moment = moment;
         self.schedule = schedule;
         self.lost = lost;
         self.outs = outs;
+        self.refills = refills;
         self.lines.undo();
     }
 }

@@ -5,7 +5,7 @@ use Rattle.tp_machine.specs.declared.parts.LocId.{LocId}
 use Rattle.tp_machine.specs.declared.parts.Sheet.{Sheet}
 use Rattle.tp_machine.specs.declared.machine.Machine.{Machine}
 use Rattle.tp_schedule.proofs.CopyFacts.{same_copy-is}
-use Rattle.tp_schedule.specs.LocationSets.{nowhere}
+use Rattle.tp_stock.specs.Stock.{empties}
 use Rattle.tp_schedule.specs.Planning.{IsAnswer}
 use Rattle.tp_schedule.specs.Plans.{IsTimedPlan, is_same_copy}
 use Rattle.tp_schedule.specs.declared.parts.Empties.{Empties}
@@ -39,12 +39,12 @@ pub tray-is : (o : Option Job) (tray : LocId) → IsSomeAnd o (λ j. j.tray ≡ 
 tray-is None tray none = absurd none
 tray-is (Some j) tray is = is
 
-pub ask-made : (s : SessionState) (copy : SheetId) (name : List ℕ) (want : Sheet) (tray : LocId) (empty : Empties) → empty ≡ nowhere → IsSome (find_waiting copy s.waiting)
+pub ask-made : (machine : Machine) (s : SessionState) (copy : SheetId) (name : List ℕ) (want : Sheet) (tray : LocId) (empty : Empties) → empty ≡ empties machine s.refills s.plans → IsSome (find_waiting copy s.waiting)
     → IsSomeAnd (slice_get s.jobs copy.job) (λ j. j.name ≡ name) → option_map (λ w. w.want) (find_waiting copy s.waiting) ≡ Some want → IsSomeAnd (slice_get s.jobs copy.job) (λ j. j.tray ≡ tray)
-    → IsSomeAnd (find_waiting copy s.waiting) (λ w. record { sheet = copy; name = name; want = want; goal = Tray tray; origin = FromFeeder; outs = s.outs; empty = empty; now = s.now } ≡ ask_waiting s w)
-ask-made s copy name want tray empty none waits named wanted goes = go (find_waiting copy s.waiting) refl waits wanted where
+    → IsSomeAnd (find_waiting copy s.waiting) (λ w. record { sheet = copy; name = name; want = want; goal = Tray tray; origin = FromFeeder; outs = s.outs; empty = empty; now = s.now } ≡ ask_waiting machine s w)
+ask-made machine s copy name want tray empty none waits named wanted goes = go (find_waiting copy s.waiting) refl waits wanted where
   go : (o : Option WaitingCopy) → find_waiting copy s.waiting ≡ o → IsSome o → option_map (λ w. w.want) o ≡ Some want
-      → IsSomeAnd o (λ w. record { sheet = copy; name = name; want = want; goal = Tray tray; origin = FromFeeder; outs = s.outs; empty = empty; now = s.now } ≡ ask_waiting s w)
+      → IsSomeAnd o (λ w. record { sheet = copy; name = name; want = want; goal = Tray tray; origin = FromFeeder; outs = s.outs; empty = empty; now = s.now } ≡ ask_waiting machine s w)
   go None e is has = absurd (cc)
   go (Some w) e is has =
       let sheet = (found-waits copy s.waiting w e).1 in

@@ -109,7 +109,7 @@ module _ (machine : Machine) (copies : ℕ) (s : SessionState) (can : KeepsLive 
           by-goal (Tray t) to own = (refl, grind (arith, nat_tests))
           by-goal Purge to own = absurd (cc)
 
-    pub can-ask : is_full machine s ≡ false → CanAsk machine s.plans (ask_waiting s w)
+    pub can-ask : is_full machine s ≡ false → CanAsk machine s.plans (ask_waiting machine s w)
     can-ask free = record {
       plan_on = plan-on;
       few_live =

@@ -1,5 +1,5 @@
 -- What a move of the clock tells is known to the machine and the jobs, and what is live after it can be asked on.
-use Rattle.std.proofs.Common.{◌≡◌, ℕ, suc, ◌+◌, ◌<◌, ◌≤◌, Bool, true, false, cond, ◌||◌, not, nat_lt, List, [], ◌∷◌, ◌++◌, filter, map, length, Some, None, refl, sym, ap, ◌∙◌, subst, append_assoc, arith, All, nat_le}
+use Rattle.std.proofs.Common.{◌≡◌, ℕ, suc, ◌+◌, ◌<◌, ◌≤◌, Bool, true, false, cond, ◌||◌, not, nat_lt, List, [], ◌∷◌, ◌++◌, filter, map, length, ℤ, Some, None, refl, sym, ap, ◌∙◌, subst, append_assoc, arith, All, nat_le}
 use Rattle.std.specs.List.{flat_map}
 use Rattle.std.specs.Option.{MatchOption}
 use Rattle.std.specs.Prelude.{IsTrue, is_some, position}
@@ -28,9 +28,9 @@ use Rattle.tp_turn.proofs.ReadyTurns.{broken-clock, fronts-clock, numbers-clock,
 use Rattle.tp_script.specs.declared.event.Event.TheVariants.{Clock}
 use Rattle.tp_turn.specs.Asking.{Asks}
 use Rattle.tp_turn.specs.Clock.{Told, by_moment, clock_move, clock_records, clock_tells, deliveries, delivery, is_done_between, put_told, record_of, release_of, released_until, releases}
-use Rattle.tp_turn.specs.Keeping.{KeepsLines, KeepsPlans, is_of_its_job, is_planned_among, live_part, live_plans}
+use Rattle.tp_turn.specs.Keeping.{KeepsLines, KeepsPlans, is_of_its_job, is_planned_among, live_part, live_plans, live_refills}
 use Rattle.tp_turn.specs.Labels.{end_location, last_of, to_in}
-use Rattle.tp_turn.specs.Moments.{due_until, is_due}
+use Rattle.tp_turn.specs.Moments.{due_until, is_due, release_until}
 use Rattle.tp_turn.specs.Planners.{PlannerSteps}
 use Rattle.tp_turn.specs.Refusals.{clock_refusal}
 use Rattle.tp_turn.specs.Ready.{EntersWhereBroken, HasStartedWhole, KeepsLive}
@@ -45,6 +45,9 @@ use Rattle.tp_turning.proofs.CanAskFacts.{of-its-job}
 use Rattle.tp_telling.proofs.NameFacts.{acts-known}
 use Rattle.tp_telling.specs.Telling.{IsKnown}
 use Rattle.tp_turning.specs.Telling.{IsKnownTell}
+use Rattle.tp_stock.specs.Stock.{begins_at, by_location, less_taken, taken_at}
+use Rattle.tp_stock.proofs.StockFacts.{by-same-counts, count-cons}
+use Rattle.tp_turn.proofs.Refilled.{lines-refilled, plans-refilled}
 
 -- a place is found where an element passes
 place-below : {X : Type 0} (t : X → Bool) (xs : List X) → nat_lt (position_or_len t xs) (length xs) ≡ list_any t xs
@@ -129,6 +132,13 @@ module _ (machine : Machine) (law : IsMachine machine) (jobs : List Job) (now to
       (All-append KnowsTell (flat_map (deliveries machine now to) plans) (flat_map (releases machine to) plans)
       (All-flat IsOurs KnowsTell (deliveries machine now to) known-deliveries plans all) (All-flat IsOurs KnowsTell (releases machine to) known-releases plans all)))
 
+-- plans that are released have taken what they had
+pub taken-released : (machine : Machine) (to : ℕ) (plans : List Plan) (loc : ℕ) → taken_at machine (released_until machine to plans) loc ≡ taken_at machine plans loc
+taken-released machine to [] loc = refl
+taken-released machine to (p ∷ plans) loc =
+    count-cons (begins_at machine loc) (release_until (to + machine.lead) p) (released_until machine to plans)
+    ∙ ap (λ n. cond (begins_at machine loc p) 1 0 + n) (taken-released machine to plans loc) ∙ sym (count-cons (begins_at machine loc) p plans)
+
 -- the clock moves, and what is not live any more is forgotten
 module _ (machine : Machine) (to : ℕ) (s : SessionState) (accepted : clock_refusal s.now to ≡ None) where
   abbrev moved : SessionState
@@ -153,9 +163,10 @@ module _ (machine : Machine) (to : ℕ) (s : SessionState) (accepted : clock_ref
         now_at_most = range.1;
         live = All-from_contains (λ p. IsTrue (is_live machine to p)) (live_plans machine moved) (λ p in'. (Contains-filter_from (is_live machine to) moved.plans p in').1);
         jobs = keeps.jobs;
-        plans = plans-part machine (is_live machine to) moved lost (moved-plans keeps.plans);
-        lines = subst (λ l. KeepsLines (record moved { plans = live_plans machine moved; lost = l })) (sym (lost-left keeps.plans keeps.lines))
-            (lines-part machine (is_live machine to) moved (lines-clock machine to s keeps.lines));
+        plans = plans-refilled machine (live_refills machine moved) (record moved { plans = live_plans machine moved; lost = lost }) (plans-part machine (is_live machine to) moved lost (moved-plans keeps.plans));
+        lines = lines-refilled (live_refills machine moved) (record moved { plans = live_plans machine moved; lost = lost })
+            (subst (λ l. KeepsLines (record moved { plans = live_plans machine moved; lost = l })) (sym (lost-left keeps.plans keeps.lines))
+            (lines-part machine (is_live machine to) moved (lines-clock machine to s keeps.lines)));
         broken = record { waiting = broken.waiting; plans = All-filter (is_live machine to) (EntersWhereBroken to s.jobs) moved.plans broken.plans };
         older = older-part machine (is_live machine to) moved lost (older-clock machine to s keeps.older);
         purges = All-filter (is_live machine to) (HasStarted to) moved.plans (purges-clock machine to s range.0 keeps.purges);
@@ -164,8 +175,34 @@ module _ (machine : Machine) (to : ℕ) (s : SessionState) (accepted : clock_ref
       }
 
   -- the live schedule and the lost copies that have a plan in it are the live part
-  pub moved-seen : (plans' : List Plan) (lost' : List SheetId) → plans' ≡ filter (is_live machine to) (released_until machine to s.plans) → lost' ≡ filter (is_planned_among plans') s.lost
-      → record s { now = to; plans = plans'; lost = lost' } ≡ live_part machine moved
-  moved-seen plans' lost' plans-are lost-are =
+  pub moved-seen : (plans' : List Plan) (lost' : List SheetId) (refills' : List ℤ) → plans' ≡ filter (is_live machine to) (released_until machine to s.plans) → lost' ≡ filter (is_planned_among plans') s.lost → refills' ≡ live_refills machine moved
+      → record s { now = to; plans = plans'; lost = lost'; refills = refills' } ≡ live_part machine moved
+  moved-seen plans' lost' refills' plans-are lost-are refills-are =
       let both : lost' ≡ filter (is_planned_among (live_plans machine moved)) s.lost = lost-are ∙ ap (λ l. filter (is_planned_among l) s.lost) plans-are in
-      (λ k. record s { now = to; plans = plans-are k; lost = both k })
+      (λ k. record s { now = to; plans = plans-are k; lost = both k; refills = refills-are k })
+
+  -- what is left of the refills, where what was counted before is taken off and what is counted after is not
+  pub refills-moved : (before : List ℕ) (plans' : List Plan) (refills' : List ℤ) → before ≡ by_location (taken_at machine s.plans)
+      → ((plans : List Plan) (stays : Plan → Bool) → before ≡ by_location (taken_at machine plans) → plans' ≡ filter stays plans → refills' ≡ less_taken machine (filter (λ p. not (stays p)) plans) s.refills)
+      → plans' ≡ filter (is_live machine to) (released_until machine to s.plans) → refills' ≡ live_refills machine moved
+  refills-moved before plans' refills' counted forget plans-are =
+      forget (released_until machine to s.plans) (is_live machine to)
+      (counted ∙ by-same-counts (taken_at machine s.plans) (taken_at machine (released_until machine to s.plans)) (λ loc. sym (taken-released machine to s.plans loc))) plans-are
+
+-- the turn of an accepted move, and where the planner stopped in it
+module _ {P : Type 0} (steps : PlannerSteps P) (machine : Machine) (to : ℕ) (s : SessionState) (p : P) (notes told notes' : List Record) (mid : SessionState) (accepted : clock_refusal s.now to ≡ None)
+    (told-is : told ≡ notes ++ clock_records machine s to) (is : mid ≡ live_part machine (clock_move machine to s).state) where
+  pub moved-event : (s' : SessionState) (p' : P) → NotesAsks steps machine mid p told s' p' notes' → NotesEvent steps machine (Clock to) s p notes s' p' notes'
+  moved-event s' p' (rest, noted, asks) = (
+    clock_records machine s to ++ rest,
+    noted ∙ ap (λ l. l ++ rest) told-is ∙ append_assoc notes (clock_records machine s to) rest,
+    subst (λ o. MatchOption o (MovesClock steps machine to s p (clock_records machine s to ++ rest) s' p') (λ c. (clock_records machine s to ++ rest ≡ Refused c ∷ []) × (s' ≡ s) × (p' ≡ p))) (sym accepted)
+        (record { rest = rest; asks = subst (λ t. Asks steps machine t p rest s' p') is asks; told = refl }),
+  )
+
+  pub moved-stop : (p' : P) → NotesStop steps machine mid p told p' notes' → NotesEventStop steps machine (Clock to) s p notes p' notes'
+  moved-stop p' (rest, noted, stops) = (
+    clock_records machine s to ++ rest,
+    noted ∙ ap (λ l. l ++ rest) told-is ∙ append_assoc notes (clock_records machine s to) rest,
+    record { accepted = accepted; rest = rest; stops = subst (λ t. StopsAsks steps machine t p rest p') is stops; told = refl },
+  )

@@ -8,7 +8,7 @@ use Rattle.tp_schedule.specs.declared.records.Record.{Record}
 use Rattle.tp_schedule.specs.declared.records.Record.TheVariants.{Refused}
 use Rattle.tp_script.specs.Form.{GroupForm}
 use Rattle.tp_script.specs.declared.event.Event.{Event}
-use Rattle.tp_script.specs.declared.event.Event.TheVariants.{Bad, Job as NewJob, Clock, Jam, Off, On}
+use Rattle.tp_script.specs.declared.event.Event.TheVariants.{Bad, Job as NewJob, Clock, Jam, Off, On, Refill}
 use Rattle.tp_jobs.specs.Backlogs.{Backlog, Kept}
 use Rattle.tp_jobs.specs.Refusing.{job_fault, refusal_in}
 use Rattle.tp_jobs.specs.Waiting.{new_job, sheets_of, with_job as lines_with_job}

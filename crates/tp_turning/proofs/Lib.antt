@@ -34,3 +34,5 @@ pub mod WholeLoops
 pub mod WholeEvents
 pub mod WholeSpent
 pub mod KeptEvents
+pub mod RefillFacts
+pub mod StockEvents

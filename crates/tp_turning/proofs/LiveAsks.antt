@@ -21,7 +21,8 @@ use Rattle.tp_turning.specs.LiveTurns.{Follows, AsksPassOn}
 use Rattle.tp_schedule.specs.declared.parts.Ask.{Ask}
 use Rattle.tp_turning.proofs.LiveAnswered.{answers-pass_on}
 use Rattle.tp_turning.proofs.LiveLists.{filter-within}
-use Rattle.tp_turning.proofs.LiveStates.{IsWhole, can-ask-live, live-planned, whole-all, whole-planned, whole-rest}
+use Rattle.tp_turning.proofs.LiveStates.{IsWhole, can-ask-live, live-planned, same-ask, whole-all, whole-planned, whole-rest}
+use Rattle.tp_schedule.specs.Planning.Deed.{replied}
 
 -- as many copies are live
 pub full-same : (machine : Machine) (s : SessionState) → is_full machine (live_part machine s) ≡ is_full machine s
@@ -34,15 +35,15 @@ full-same machine s =
 
 -- the state after an answer
 module _ (spent : Machine → List Plan → Ask → ℕ → Type 0) (live_spent : Machine → List Plan → Ask → ℕ → Type 0) (machine : Machine) (s : SessionState) (w : WaitingCopy) (ws : List WaitingCopy) (whole : IsWhole machine s (w ∷ ws)) where
-  pub whole-after : (reply : Reply) (live : List Plan) (on : IsAnswerOnWhole spent machine s.plans (ask_waiting s w) reply live) → IsWhole machine (state_after_reply s w reply on.whole) ws
+  pub whole-after : (reply : Reply) (live : List Plan) (on : IsAnswerOnWhole spent machine s.plans (ask_waiting machine s w) reply live) → IsWhole machine (state_after_reply s w reply on.whole) ws
   whole-after Planned live on = whole-planned machine s w ws whole on.whole on.answer.0.alternative on.past_part
   whole-after Never live on = whole-rest machine s w ws whole
   whole-after (Spent bound) live on = whole-rest machine s w ws whole
 
-  pub live-after : (reply : Reply) (live : List Plan) (on : IsAnswerOnWhole spent machine s.plans (ask_waiting s w) reply live)
-      → IsAnswer live_spent machine (live_at machine s.now s.plans) (ask_waiting s w) reply live
+  pub live-after : (reply : Reply) (live : List Plan) (on : IsAnswerOnWhole spent machine s.plans (ask_waiting machine s w) reply live)
+      → IsAnswer live_spent machine (live_at machine s.now s.plans) (ask_waiting machine s w) reply live
       → state_after_reply (live_part machine s) w reply live ≡ live_part machine (state_after_reply s w reply on.whole)
-  live-after Planned live on answer = live-planned machine s w ws whole live on.whole answer.0.alternative on.live_part
+  live-after Planned live on answer = live-planned machine s w ws whole live on.whole answer.0.alternative on.live_part on.past_part
   live-after Never live on answer = refl
   live-after (Spent bound) live on answer = refl
 
@@ -78,11 +79,12 @@ module _ {P Q : Type 0} (on_live : PlannerSteps P) (on_whole : PlannerSteps Q) (
         go false false true e first over full answered = absurd (cc)
         go false false false e (reply, (live, (mid, (rest, does, told, next)))) over full answered =
             let can = can-ask-live machine s w ws whole in
-            let answer = follows.right p mid s.plans live (ask_waiting s w) reply can does in
-            let on = answers-pass_on (live_spent p) (whole_spent p) machine s.plans (ask_waiting s w) reply live (follows.passes_on p) can answer in
+            let does' = subst (λ ask. on_live.does p (live_plans machine s) (replied ask reply) live mid) (same-ask machine s w) does in
+            let answer = follows.right p mid s.plans live (ask_waiting machine s w) reply can does' in
+            let on = answers-pass_on (live_spent p) (whole_spent p) machine s.plans (ask_waiting machine s w) reply live (follows.passes_on p) can answer in
             let after = answered reply on.whole mid rest (whole-after (whole_spent p) (live_spent p) machine s w ws whole reply live on)
             (subst (λ r. AsksInTurn on_live machine ws (passed_after reply (tray_of s.jobs w.sheet).0 passed) r mid rest last p') (live-after (whole_spent p) (live_spent p) machine s w ws whole reply live on answer) next) in
-            let back = follows.asked p mid after.1.0.0 s.plans live (ask_waiting s w) reply can does after.1.0.2 on in (
+            let back = follows.asked p mid after.1.0.0 s.plans live (ask_waiting machine s w) reply can does' after.1.0.2 on in (
               after.0,
               (
                 (

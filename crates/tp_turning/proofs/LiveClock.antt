@@ -17,12 +17,14 @@ use Rattle.tp_schedule.specs.declared.parts.Plan.{Plan}
 use Rattle.tp_schedule.specs.declared.parts.SheetId.{SheetId}
 use Rattle.tp_choices.proofs.PastFacts.{past_points}
 use Rattle.tp_choices.proofs.Staying.{filter-none}
-use Rattle.tp_turn.specs.Clock.{Told, by_moment, deliveries, releases, delivery, release_of, record_of, released_until}
-use Rattle.tp_turn.specs.Keeping.{is_planned_among, live_plans}
+use Rattle.tp_turn.specs.Clock.{Told, by_moment, deliveries, releases, delivery, release_of, record_of, released_until, clock_move}
+use Rattle.tp_turn.specs.Keeping.{is_planned_among, live_part, live_plans, live_refills}
 use Rattle.tp_turn.specs.Moments.{is_due, release_until}
 use Rattle.tp_turn.proofs.TestFacts.{list_any_mono, list_any-map_same}
 use Rattle.tp_turning.specs.LiveTurns.{ClockTellsLivePart, ClockLeavesLivePart}
-use Rattle.tp_turning.proofs.LiveLists.{filter-within, filter-map_within, flat_map-filter, any-filter}
+use Rattle.tp_turning.proofs.LiveLists.{filter-within, filter-map_within, flat_map-filter, any-filter, count-parts}
+use Rattle.tp_stock.specs.Stock.{begins_at, taken_at}
+use Rattle.tp_stock.proofs.StockFacts.{less-less}
 
 later-ends : (now to : ℕ) (z : ℤ) → now ≤ to → int_lt (pos to) z ≡ true → int_lt (pos now) z ≡ true
 later-ends now to (pos n) low e = grind (arith, nat_tests)
@@ -82,7 +84,18 @@ clock-leaves machine to s low =
     let same = filter-map_within (is_live machine to) (is_live machine s.now) (release_until (to + machine.lead)) (λ p live. later-live machine s.now to p low live) s.plans in
     let lost = filter-within (is_planned_among (left (live_plans machine s))) (is_planned_among (live_plans machine s)) s.lost (λ c in' there. among (live_plans machine s) c there) in
     let whole = ap (λ plans. filter (is_planned_among plans) s.lost) same in
-    λ i. record s { now = to; plans = same i; lost = (lost ∙ whole) i } where
+    λ i. record s { now = to; plans = same i; lost = (lost ∙ whole) i; refills = forgotten i } where
+      past-first : List Plan
+      past-first = filter (λ p. not (is_live machine s.now p)) s.plans
+
+      -- what was forgotten before and what is forgotten now is all that is past
+      taken-parts : (loc : ℕ) → taken_at machine past-first loc + taken_at machine (filter (λ p. not (is_live machine to p)) (released_until machine to (live_plans machine s))) loc
+          ≡ taken_at machine (filter (λ p. not (is_live machine to p)) (released_until machine to s.plans)) loc
+      taken-parts loc = count-parts (begins_at machine loc) (is_live machine s.now) (is_live machine to) (release_until (to + machine.lead)) (λ p. refl) (λ p live. later-live machine s.now to p low live) s.plans
+
+      forgotten : live_refills machine (clock_move machine to (live_part machine s)).state ≡ live_refills machine (clock_move machine to s).state
+      forgotten = less-less machine past-first (filter (λ p. not (is_live machine to p)) (released_until machine to (live_plans machine s))) (filter (λ p. not (is_live machine to p)) (released_until machine to s.plans)) s.refills taken-parts
+
       left : List Plan → List Plan
       left plans = filter (is_live machine to) (released_until machine to plans)
 

@@ -6,7 +6,7 @@ use Rattle.tp_schedule.specs.declared.records.Cause.{Cause}
 use Rattle.tp_schedule.specs.declared.records.Record.{Record}
 use Rattle.tp_schedule.specs.declared.records.Record.TheVariants.{Refused}
 use Rattle.tp_script.specs.declared.event.Event.{Event}
-use Rattle.tp_script.specs.declared.event.Event.TheVariants.{Bad, Job as NewJob, Clock, Jam, Off, On}
+use Rattle.tp_script.specs.declared.event.Event.TheVariants.{Bad, Job as NewJob, Clock, Jam, Off, On, Refill}
 use Rattle.tp_turn.proofs.ComesBack.{lines-on}
 use Rattle.tp_turn.proofs.FirstCopies.{accepted-job}
 use Rattle.tp_turn.proofs.MovedClock.{lines-clock}
@@ -20,7 +20,7 @@ use Rattle.tp_turn.specs.Laws.{IsNoClock, IsNoOutage, IsPlannable, is_outage}
 use Rattle.tp_turn.specs.Planners.{GoesOut, PlannerSteps}
 use Rattle.tp_turn.specs.Refusals.{clock_refusal, refusal}
 use Rattle.tp_turn.specs.States.{SessionState}
-use Rattle.tp_turn.specs.Turns.{Accepts, Begins, with_job, with_on}
+use Rattle.tp_turn.specs.Turns.{Accepts, Begins, with_job, with_on, with_refill}
 use Rattle.tp_turning.specs.Events.{MovesClock}
 use Rattle.tp_turning.proofs.OutLines.{OutagesKeepLines, lines-out}
 use Rattle.tp_turning.specs.LiveTurns.{Follows, PassesTurnOn, ClockPassesOn, OutageTurnsPassOn, SettlesRightly, TurnsPassOn}
@@ -29,6 +29,9 @@ use Rattle.tp_schedule.specs.declared.parts.Plan.{Plan}
 use Rattle.tp_turning.proofs.LiveAsks.{asks-pass_on}
 use Rattle.tp_turning.proofs.PartedLoops.{outs-pass_on}
 use Rattle.tp_turning.proofs.LiveClock.{clock-leaves, clock-tells}
+use Rattle.tp_stock.specs.Stock.{more_at}
+use Rattle.tp_turn.proofs.Refilled.{lines-refilled}
+use Rattle.tp_turning.proofs.RefillFacts.{live-refill, same-refusal}
 
 module _ {P Q : Type 0} (steps : PlannerSteps P) (on_whole : PlannerSteps Q) (machine : Machine) (together : P → Q → Type 0) where
   -- before the phase of asks: the event begins so on the whole state as well, to a state with this live part
@@ -62,6 +65,14 @@ module _ {P Q : Type 0} (steps : PlannerSteps P) (on_whole : PlannerSteps Q) (ma
     plannable = can;
     lines = lines-on machine m s lines;
   }
+  begins-on (Refill name count) s p records mid p' calm still accepted can lines (f, known, told, is, same) = record {
+    whole = with_refill f count s;
+    begins = λ q. (f, known, told, refl, refl);
+    same = same;
+    live = live-refill machine f count s ∙ sym is;
+    plannable = can;
+    lines = lines-refilled (more_at f.loc.0 count s.refills) s lines;
+  }
 
   pub refusal-same : (event : Event) (s : SessionState) → refusal machine (live_part machine s) event ≡ refusal machine s event
   refusal-same Bad s = refl
@@ -70,6 +81,7 @@ module _ {P Q : Type 0} (steps : PlannerSteps P) (on_whole : PlannerSteps Q) (ma
   refusal-same (Jam name) s = refl
   refusal-same (Off name) s = refl
   refusal-same (On name) s = refl
+  refusal-same (Refill name count) s = same-refusal machine s name count
 
   module _ (live_spent whole_spent : P → Machine → List Plan → Ask → ℕ → Type 0) (follows : Follows steps on_whole machine together live_spent whole_spent)
       (event : Event) (s : SessionState) (p : P) (records : List Record) (last : SessionState) (p' : P) (q' : Q) (goes : together p' q') where
@@ -171,6 +183,7 @@ module _ {P Q : Type 0} (steps : PlannerSteps P) (on_whole : PlannerSteps Q) (ma
   begun-out live_spent whole_spent follows rightly (Off name) s can lines keeps p records last p' q' goes is e first between mid (m, known, out) rest asks told =
       out-on live_spent whole_spent follows rightly (Off name) s can lines keeps p records last p' q' goes e m false first between mid out (λ whole q r on. (m, known, on)) rest asks told
   begun-out live_spent whole_spent follows rightly (On name) s can lines keeps p records last p' q' goes is e first between mid begins rest asks told = absurd (cc)
+  begun-out live_spent whole_spent follows rightly (Refill name count) s can lines keeps p records last p' q' goes is e first between mid begins rest asks told = absurd (cc)
 
   pub outages-pass_on : OutageTurnsPassOn steps on_whole machine together
   outages-pass_on live_spent whole_spent event s p records last p' q' follows rightly goes through is turn = go (refusal machine (live_part machine s) event) (sym (refusal-same event s)) turn where

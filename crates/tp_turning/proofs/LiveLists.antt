@@ -1,7 +1,9 @@
 -- Filters of filtered lists.
-use Rattle.std.proofs.Common.{◌≡◌, Bool, true, false, cond, ◌||◌, List, [], ◌∷◌, ◌++◌, map, flat_map, filter, refl, ap, Contains}
+use Rattle.std.proofs.Common.{◌≡◌, Bool, true, false, cond, ◌||◌, List, [], ◌∷◌, ◌++◌, map, flat_map, filter, refl, ap, Contains, not, ℕ, ◌+◌, sym, arith}
 use Rattle.std.specs.List.{list_any}
 use Rattle.tp_schedule.proofs.Membership.{Contains-here, Contains-later}
+use Rattle.std.specs.Prelude.{count_by}
+use Rattle.tp_stock.proofs.StockFacts.{count-cons}
 
 -- a test that only elements pass which pass another one
 pub filter-within : {X : Type 0} (p q : X → Bool) (xs : List X) → ((x : X) → Contains xs x → p x ≡ true → q x ≡ true) → filter p (filter q xs) ≡ filter p xs
@@ -54,3 +56,30 @@ filter-by {X} p q (x ∷ xs) same = go (p x) (q x) (same x (Contains-here x xs))
   go true false e rest = absurd (cc)
   go false true e rest = absurd (cc)
   go false false e rest = rest
+
+-- what fails a test before, and what fails a later one of the rest, is what fails the later one of all
+pub count-parts : {X : Type 0} (test before after : X → Bool) (f : X → X) → ((x : X) → test (f x) ≡ test x) → ((x : X) → after (f x) ≡ true → before x ≡ true) → (xs : List X)
+    → count_by test (filter (λ x. not (before x)) xs) + count_by test (filter (λ x. not (after x)) (map f (filter before xs))) ≡ count_by test (filter (λ x. not (after x)) (map f xs))
+count-parts test before after f same within [] = refl
+count-parts {X} test before after f same within (x ∷ xs) = go (before x) refl (after (f x)) refl (count-parts test before after f same within xs) where
+  was : List X
+  was = filter (λ y. not (before y)) xs
+
+  rest : List X
+  rest = map f (filter before xs)
+
+  all : List X
+  all = map f xs
+
+  go : (b : Bool) → before x ≡ b → (c : Bool) → after (f x) ≡ c → count_by test was + count_by test (filter (λ y. not (after y)) rest) ≡ count_by test (filter (λ y. not (after y)) all)
+      → count_by test (cond (not b) (x ∷ was) was) + count_by test (filter (λ y. not (after y)) (map f (cond b (x ∷ filter before xs) (filter before xs)))) ≡ count_by test (cond (not c) (f x ∷ filter (λ y. not (after y)) all) (filter (λ y. not (after y)) all))
+  go true e true h sum = rw h sum
+  go true e false h sum =
+      let one = count-cons test (f x) (filter (λ y. not (after y)) rest) in
+      let other = count-cons test (f x) (filter (λ y. not (after y)) all) in
+      rw h (omega arith)
+  go false e true h sum = absurd (let yes = within x h in cc)
+  go false e false h sum =
+      let one = count-cons test x was in
+      let other = count-cons test (f x) (filter (λ y. not (after y)) all) in
+      let alike : cond {A = ℕ} (test (f x)) 1 0 ≡ cond {A = ℕ} (test x) 1 0 = ap (λ b. cond {A = ℕ} b 1 0) (same x) in omega arith

@@ -34,6 +34,9 @@ use Rattle.tp_turn.proofs.TestFacts.{list_any-map_same}
 use Rattle.tp_turning.specs.LiveAnswers.{CanAskLive, live_at, past_at}
 use Rattle.tp_turning.proofs.CanAskFacts.{of-its-job}
 use Rattle.tp_turning.proofs.LiveLists.{filter-by}
+use Rattle.tp_schedule.specs.declared.parts.Empties.{Empties}
+use Rattle.tp_stock.proofs.StockFacts.{keeps-empties}
+use Rattle.tp_stock.specs.Stock.{less_taken}
 
 -- a copy that waits has no plan and was not lost, and past plans to its tray are of earlier copies
 pub record WaitsFree (machine : Machine) (s : SessionState) (w : WaitingCopy) : Type 0 where
@@ -56,11 +59,15 @@ whole-rest machine s w ws whole = record {
   free = All-tail (WaitsFree machine s) w ws whole.free;
 }
 
+-- what is empty for the live part is empty for the whole, so that the ask is the same
+pub same-ask : (machine : Machine) (s : SessionState) (w : WaitingCopy) → ask_waiting machine (live_part machine s) w ≡ ask_waiting machine s w
+same-ask machine s w = ap (λ (empty : Empties). record (ask_waiting machine s w) { empty = empty }) (keeps-empties machine s.refills s.plans (is_live machine s.now))
+
 same-number : (a b : ℕ) → (a == b) ≡ true → a ≡ b
 same-number a b e = grind (arith, nat_tests)
 
 -- the first of them can be asked
-pub can-ask-live : (machine : Machine) (s : SessionState) (w : WaitingCopy) (ws : List WaitingCopy) → IsWhole machine s (w ∷ ws) → CanAskLive machine s.plans (ask_waiting s w)
+pub can-ask-live : (machine : Machine) (s : SessionState) (w : WaitingCopy) (ws : List WaitingCopy) → IsWhole machine s (w ∷ ws) → CanAskLive machine s.plans (ask_waiting machine s w)
 can-ask-live machine s w ws whole =
     let free = All-head (WaitsFree machine s) w ws whole.free in
     record {
@@ -112,13 +119,13 @@ module _ (machine : Machine) (s : SessionState) (lines : KeepsLines s) where
   }
 
 module _ (machine : Machine) (s : SessionState) (w : WaitingCopy) (ws : List WaitingCopy) (whole : IsWhole machine s (w ∷ ws)) where
-  not-following : (p : Plan) → follows_front (ask_waiting s w) p ≡ false
+  not-following : (p : Plan) → follows_front (ask_waiting machine s w) p ≡ false
   not-following p = go (is_same_copy p.sheet w.sheet) where
     go : (b : Bool) → (b && nat_lt 0 0) ≡ false
     go true = refl
     go false = refl
 
-  pub whole-planned : (plans : List Plan) → IsAlternative machine s.plans (ask_waiting s w) plans → past_at machine s.now plans ≡ past_at machine s.now s.plans → IsWhole machine (planned_waiting s w plans) ws
+  pub whole-planned : (plans : List Plan) → IsAlternative machine s.plans (ask_waiting machine s w) plans → past_at machine s.now plans ≡ past_at machine s.now s.plans → IsWhole machine (planned_waiting s w plans) ws
   whole-planned plans a past = record {
     legal = a.legal;
     floors = λ p in' free i le within. a.floors p in' (not-following p) i le within;
@@ -129,7 +136,7 @@ module _ (machine : Machine) (s : SessionState) (w : WaitingCopy) (ws : List Wai
   } where
     still-free : (v : WaitingCopy) → WaitsFree machine s v → is_before w.sheet v.sheet ≡ true → WaitsFree machine (planned_waiting s w plans) v
     still-free v free later = record {
-      unplanned = λ q in'. elim (plan-cases machine s.plans (ask_waiting s w) plans a q in') [
+      unplanned = λ q in'. elim (plan-cases machine s.plans (ask_waiting machine s w) plans a q in') [
         | inl is ↦ subst (λ c. is_same_copy c v.sheet ≡ false) (sym (ap (λ (p : Plan). p.sheet) is ∙ a.answers.sheet)) (before-not_same w.sheet v.sheet later)
         | inr other ↦ subst (λ c. is_same_copy c v.sheet ≡ false) (sym (unmoved-sheet q other.0 other.2)) (free.unplanned other.0 other.1)
       ];
@@ -140,13 +147,13 @@ module _ (machine : Machine) (s : SessionState) (w : WaitingCopy) (ws : List Wai
     }
 
   -- the live part of this state is the live part with the live plans of the answer
-  pub live-planned : (live plans : List Plan) → IsAlternative machine (live_plans machine s) (ask_waiting s w) live → live_at machine s.now plans ≡ live
+  pub live-planned : (live plans : List Plan) → IsAlternative machine (live_plans machine s) (ask_waiting machine s w) live → live_at machine s.now plans ≡ live → past_at machine s.now plans ≡ past_at machine s.now s.plans
       → planned_waiting (live_part machine s) w live ≡ live_part machine (planned_waiting s w plans)
-  live-planned live plans a is =
+  live-planned live plans a is past =
       let free = All-head (WaitsFree machine s) w ws whole.free in
       let lost = filter-by (is_planned_among (live_plans machine s)) (is_planned_among live) s.lost (λ c in'. sym (among c (free.not_lost c in'))) in
       let all = lost ∙ ap (λ ps. filter (is_planned_among ps) s.lost) (sym is) in
-      λ i. record s { plans = sym is i; lost = all i; waiting = without_waiting w.sheet s.waiting } where
+      λ i. record s { plans = sym is i; lost = all i; waiting = without_waiting w.sheet s.waiting; refills = less_taken machine (sym past i) s.refills } where
         skip : (c : SheetId) → is_same_copy c w.sheet ≡ false → (ps : List Plan) → is_planned_among (without w.sheet ps) c ≡ is_planned_among ps c
         skip c other [] = refl
         skip c other (p ∷ ps) = go (is_same_copy p.sheet w.sheet) refl (skip c other ps) where

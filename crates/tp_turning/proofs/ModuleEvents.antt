@@ -5,7 +5,7 @@ use Rattle.tp_machine.specs.declared.machine.Machine.{Machine}
 use Rattle.tp_schedule.specs.declared.records.Record.{Record}
 use Rattle.tp_schedule.specs.declared.records.Record.TheVariants.{Refused}
 use Rattle.tp_script.specs.declared.event.Event.{Event}
-use Rattle.tp_script.specs.declared.event.Event.TheVariants.{Bad, Job as NewJob, Clock, Jam, Off, On}
+use Rattle.tp_script.specs.declared.event.Event.TheVariants.{Bad, Job as NewJob, Clock, Jam, Off, On, Refill}
 use Rattle.tp_turn.specs.Laws.{is_outage}
 use Rattle.tp_turn.specs.Planners.{GoesOut, PlannerSteps, StopsGoingOut}
 use Rattle.tp_turn.specs.States.{SessionState}
@@ -27,6 +27,7 @@ module _ {P : Type 0} (steps : PlannerSteps P) (machine : Machine) (s : SessionS
   back-event (Jam name) is accepted m named s' p' asks = absurd (cc)
   back-event (Off name) is accepted m named s' p' asks = absurd (cc)
   back-event (On name) is accepted m named s' p' asks = accepted-event steps machine (On name) s p notes notes' accepted (with_on m s) s' p' (m, named, refl, refl, refl) asks
+  back-event (Refill name count) is accepted m named s' p' asks = absurd (cc)
 
   pub back-stop : (event : Event) → comes_back event ≡ true → module_refusal machine s.outs event ≡ None → (m : ℕ) → module_named machine event ≡ Some m
       → (p' : P) → NotesStop steps machine (with_on m s) p notes p' notes' → NotesEventStop steps machine event s p notes p' notes'
@@ -36,6 +37,7 @@ module _ {P : Type 0} (steps : PlannerSteps P) (machine : Machine) (s : SessionS
   back-stop (Jam name) is accepted m named p' stops = absurd (cc)
   back-stop (Off name) is accepted m named p' stops = absurd (cc)
   back-stop (On name) is accepted m named p' stops = stopped-event steps machine (On name) s p notes notes' accepted (with_on m s) p' (m, named, refl, refl, refl) stops
+  back-stop (Refill name count) is accepted m named p' stops = absurd (cc)
 
   -- the part of an accepted event was done, and told, and the phase of asks followed; or the planner stopped in it
   begun-event : (event : Event) → refusal machine s event ≡ None → (first told : List Record) (between : SessionState) (mid : P) → Begins steps machine event s p first between mid → told ≡ notes ++ first
@@ -68,6 +70,7 @@ module _ {P : Type 0} (steps : PlannerSteps P) (machine : Machine) (s : SessionS
     out-event (Off name) is jammed accepted named first told between mid told-is out s' p' asks =
         begun-event (Off name) accepted first told between mid (m, named, subst (λ b. GoesOut steps machine s m b p first between mid) jammed out) told-is s' p' asks
     out-event (On name) is jammed accepted named first told between mid told-is out s' p' asks = absurd (cc)
+    out-event (Refill name count) is jammed accepted named first told between mid told-is out s' p' asks = absurd (cc)
 
     -- and the planner stopped in the phase of asks behind it
     pub out-stop : (event : Event) → is_outage event ≡ true → jam ≡ is_jam event → module_refusal machine s.outs event ≡ None → module_named machine event ≡ Some m
@@ -81,3 +84,4 @@ module _ {P : Type 0} (steps : PlannerSteps P) (machine : Machine) (s : SessionS
     out-stop (Off name) is jammed accepted named first told between mid told-is out p' stops =
         begun-stop (Off name) accepted first told between mid (m, named, subst (λ b. GoesOut steps machine s m b p first between mid) jammed out) told-is p' stops
     out-stop (On name) is jammed accepted named first told between mid told-is out p' stops = absurd (cc)
+    out-stop (Refill name count) is jammed accepted named first told between mid told-is out p' stops = absurd (cc)

@@ -32,13 +32,14 @@ use Rattle.tp_turn.specs.Lines.{is_lost}
 use Rattle.tp_turn.specs.Loops.{ask_in_flight, is_loose, next_ask, planned, start_of, state_after}
 use Rattle.tp_turn.specs.Moments.{release_until}
 use Rattle.tp_turn.specs.States.{SessionState}
-use Rattle.tp_turning.specs.LiveAnswers.{CanAskLive, IsAnswerOnWhole, live_at}
+use Rattle.tp_turning.specs.LiveAnswers.{CanAskLive, IsAnswerOnWhole, live_at, past_at}
 use Rattle.tp_turning.proofs.LiveAhead.{live-by, same-plan}
 use Rattle.tp_turning.proofs.LiveLists.{filter-by}
 use Rattle.tp_turning.proofs.LivePast.{both-parts}
-use Rattle.tp_turning.proofs.PartedLists.{lost-same, part}
+use Rattle.tp_turning.proofs.PartedLists.{gone_from, lost-same, part}
 use Rattle.tp_turning.proofs.PartedStates.{HasFront, IsParted, planned-there}
-use Rattle.tp_turning.proofs.PartedChanges.{change-among, change-part, find-part, not-not, not-yes, starts-there}
+use Rattle.tp_turning.proofs.PartedChanges.{change-among, change-part, find-part, gone-change, not-not, not-yes, starts-there}
+use Rattle.tp_stock.specs.Stock.{less_taken}
 
 module _ (machine : Machine) (g : SheetId → Bool) (first : List Plan) (s : SessionState) (parted : IsParted machine g first s) where
   pub timed : (p : Plan) → Contains s.plans p → IsTimedPlan machine p
@@ -50,6 +51,10 @@ module _ (machine : Machine) (g : SheetId → Bool) (first : List Plan) (s : Ses
   -- the live part of the state
   pub less-is : live_at machine s.now s.plans ≡ less g s.plans
   less-is = sym (both-parts machine s.now g s.plans parted.each).0
+
+  -- what is past is what was past at first
+  pub past-is : past_at machine s.now s.plans ≡ gone_from g first
+  past-is = filter-by (λ p. not (is_live machine s.now p)) (λ p. g p.sheet) s.plans (λ p in'. sym (parted.each p in')) ∙ parted.gone
 
   pub lost-by_part : (plans : List Plan) → ((c : SheetId) → is_planned_among plans c ≡ is_planned_among (less g s.plans) c) → filter (is_planned_among plans) s.lost ≡ filter (λ c. not (g c)) s.lost
   lost-by_part plans alike = filter-by (is_planned_among plans) (λ c. not (g c)) s.lost (λ c in'. alike c ∙ go c (g c) refl (parted.lost c in')) where
@@ -67,15 +72,15 @@ module _ (machine : Machine) (g : SheetId → Bool) (first : List Plan) (s : Ses
         subst (λ d. is_planned_among (less g s.plans) d ≡ true) sheet
         (planned-there (less g s.plans) at.0 (Contains-filter (λ q. not (g q.sheet)) s.plans at.0 at.1 (not_from_false (g at.0.sheet) (ap g sheet ∙ e))))
 
-  pub live-part_is : live_part machine s ≡ part g s
+  pub live-part_is : live_part machine s ≡ part machine g first s
   live-part_is =
       let lost = ap (λ ps. filter (is_planned_among ps) s.lost) less-is ∙ lost-by_part (less g s.plans) (λ c. refl) in
-      λ i. record s { plans = less-is i; lost = lost i }
+      λ i. record s { plans = less-is i; lost = lost i; refills = less_taken machine (past-is i) s.refills }
 
   -- the same ask is due
-  pub next-same : next_ask machine (part g s) ≡ next_ask machine s
-  next-same = ap (option_map (ask_in_flight machine s)) (find-part (λ p. not (g p.sheet)) (is_loose s) (is_loose (part g s)) s.plans
-      (λ p in' e. none p in' (not-not (g p.sheet) e)) (λ p in' e. ap (λ l. is_front p.kind && not l) (lost-same g s p (not-yes (g p.sheet) e)))) where
+  pub next-same : next_ask machine (part machine g first s) ≡ next_ask machine s
+  next-same = ap (option_map (ask_in_flight machine s)) (find-part (λ p. not (g p.sheet)) (is_loose s) (is_loose (part machine g first s)) s.plans
+      (λ p in' e. none p in' (not-not (g p.sheet) e)) (λ p in' e. ap (λ l. is_front p.kind && not l) (lost-same machine g first s p (not-yes (g p.sheet) e)))) where
         none : (p : Plan) → Contains s.plans p → g p.sheet ≡ true → is_loose s p ≡ false
         none p in' gone = go (is_front p.kind) refl (is_lost s p) refl where
           go : (b : Bool) → is_front p.kind ≡ b → (l : Bool) → is_lost s p ≡ l → (b && not l) ≡ false
@@ -177,6 +182,7 @@ module _ (machine : Machine) (g : SheetId → Bool) (first : List Plan) (s : Ses
         | inl other ↦ parted.past r other.0 gone
         | inr mine ↦ absurd (let no : g r.sheet ≡ false = ap (λ (q : Plan). g q.sheet) mine.3 ∙ ap g (same_copy-is mine.0.sheet p.sheet mine.2) ∙ stays in cc)
       ];
+      gone = gone-change p.sheet to_purge (λ q. refl) g stays s.plans ∙ parted.gone;
     } where
       cases : (r : Plan) → Contains (change_plan p.sheet to_purge s.plans) r → (Contains s.plans r × (is_same_copy r.sheet p.sheet ≡ false)) ⊎ ((q : Plan) × Contains s.plans q × (is_same_copy q.sheet p.sheet ≡ true) × (r ≡ to_purge q))
       cases r in' = Contains-change_plan p.sheet to_purge s.plans r parted.can.legal.in_order in'
@@ -216,11 +222,11 @@ module _ (machine : Machine) (g : SheetId → Bool) (first : List Plan) (s : Ses
       abbrev pub planned_on : SessionState
       planned_on = (planned machine (ask_in_flight machine s p) on.whole s).state
 
-      pub state-planned : (planned machine (ask_in_flight machine s p) live (part g s)).state ≡ part g planned_on
+      pub state-planned : (planned machine (ask_in_flight machine s p) live (part machine g first s)).state ≡ part machine g first planned_on
       state-planned =
           let plans : change_plan p.sheet (release_until (s.now + machine.lead)) live ≡ less g (change_plan p.sheet (release_until (s.now + machine.lead)) on.whole) =
           ap (change_plan p.sheet (release_until (s.now + machine.lead))) (sym less-whole) ∙ sym (change-part p.sheet (release_until (s.now + machine.lead)) (λ q. refl) g stays on.whole) in
-          λ i. record s { plans = plans i; lost = filter (λ c. not (g c)) s.lost }
+          λ i. record s { plans = plans i; lost = filter (λ c. not (g c)) s.lost; refills = less_taken machine (gone_from g first) s.refills }
 
       abbrev Cases : Plan → Type 0
       Cases r = (Contains on.whole r × (is_same_copy r.sheet p.sheet ≡ false)) ⊎ ((q : Plan) × Contains on.whole q × (is_same_copy q.sheet p.sheet ≡ true) × (r ≡ release_until (s.now + machine.lead) q))
@@ -320,4 +326,7 @@ module _ (machine : Machine) (g : SheetId → Bool) (first : List Plan) (s : Ses
           | inl other ↦ parted.past r (was-past r other.0 (not-yes (is_live machine s.now r) (sym (each-whole r other.0) ∙ gone))) gone
           | inr mine ↦ absurd (let no : g r.sheet ≡ false = ap (λ (q : Plan). g q.sheet) mine.3 ∙ ap g (same_copy-is mine.0.sheet p.sheet mine.2) ∙ stays in cc)
         ];
+        gone = gone-change p.sheet (release_until (s.now + machine.lead)) (λ q. refl) g stays on.whole
+            ∙ filter-by (λ q. g q.sheet) (λ q. not (is_live machine s.now q)) on.whole each-whole
+            ∙ on.past_part ∙ past-is;
       }

@@ -19,6 +19,7 @@ use Rattle.tp_schedule.proofs.Membership.{Contains-here, Contains-later}
 use Rattle.tp_turn.proofs.ListFacts.{Any-contains}
 use Rattle.tp_turn.specs.Keeping.{is_planned_among}
 use Rattle.tp_turn.specs.Loops.{first_location, from_in, start_of}
+use Rattle.tp_turning.proofs.PartedLists.{gone_from}
 
 -- the first action of a walk starts where the sheet is
 walk-start : (machine : Machine) (want : Sheet) (act : ActId) (acts : List ActId) (s end : State) → walk machine want (act ∷ acts) s ≡ Some end → s.loc ≡ from_in (action_at machine act.0)
@@ -70,6 +71,16 @@ module _ (c : SheetId) (f : Plan → Plan) (same : (p : Plan) → (f p).sheet �
     go true e false h rest = let kept : g (f p).sheet ≡ false = ap g (same p) ∙ h in rw (kept, e) refl
     go false e true h rest = rw h rest
     go false e false h rest = rw (h, e) (ap (λ l. p ∷ l) rest)
+
+  pub gone-change : (g : SheetId → Bool) → g c ≡ false → (ps : List Plan) → gone_from g (change_plan c f ps) ≡ gone_from g ps
+  gone-change g stays [] = refl
+  gone-change g stays (p ∷ ps) = go (is_same_copy p.sheet c) refl (g p.sheet) refl (gone-change g stays ps) where
+    go : (b : Bool) → is_same_copy p.sheet c ≡ b → (d : Bool) → g p.sheet ≡ d → gone_from g (change_plan c f ps) ≡ gone_from g ps
+        → gone_from g (cond b (f p ∷ ps) (p ∷ change_plan c f ps)) ≡ cond d (p ∷ gone_from g ps) (gone_from g ps)
+    go true e true h rest = absurd (let no : g p.sheet ≡ false = ap g (same_copy-is p.sheet c e) ∙ stays in cc)
+    go true e false h rest = let kept : g (f p).sheet ≡ false = ap g (same p) ∙ h in rw kept refl
+    go false e true h rest = rw h (ap (λ l. p ∷ l) rest)
+    go false e false h rest = rw h rest
 
   pub change-among : (d : SheetId) (ps : List Plan) → is_planned_among (change_plan c f ps) d ≡ is_planned_among ps d
   change-among d [] = refl

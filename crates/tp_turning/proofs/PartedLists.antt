@@ -2,6 +2,8 @@
 use Rattle.std.proofs.Common.{◌≡◌, Bool, true, false, cond, ◌||◌, not, List, [], ◌∷◌, ◌++◌, map, filter, flat_map, refl, sym, ap, ◌∙◌, Contains}
 use Rattle.std.specs.List.{list_any}
 use Rattle.std.proofs.lemmas.List.Elements.{filter-append}
+use Rattle.tp_machine.specs.declared.machine.Machine.{Machine}
+use Rattle.tp_stock.specs.Stock.{less_taken}
 use Rattle.tp_choices.specs.LiveParts.{less}
 use Rattle.tp_schedule.specs.Plans.{is_same_copy}
 use Rattle.tp_schedule.specs.declared.parts.Plan.{Plan}
@@ -23,10 +25,15 @@ flat_map-part {X} {Y} q f f' (x ∷ xs) none same =
       go true e rest = rw (same x (Contains-here x xs) e) (ap (λ ys. f x ++ ys) rest)
       go false e rest = rw (none x (Contains-here x xs) e) rest
 
-module _ (g : SheetId → Bool) where
-  -- the state less these copies
+-- the plans of these copies
+abbrev pub gone_from : (SheetId → Bool) → List Plan → List Plan
+gone_from g plans = filter (λ p. g p.sheet) plans
+
+-- the state less copies that are past, of which these plans were in a first schedule
+module _ (machine : Machine) (g : SheetId → Bool) (first : List Plan) where
+  -- the state less these copies, and the refills less their sheets
   abbrev pub part : SessionState → SessionState
-  part s = record s { plans = less g s.plans; lost = filter (λ c. not (g c)) s.lost }
+  part s = record s { plans = less g s.plans; lost = filter (λ c. not (g c)) s.lost; refills = less_taken machine (gone_from g first) s.refills }
 
   lost-any : (c : SheetId) → g c ≡ false → (cs : List SheetId) → list_any (is_same_copy c) (filter (λ d. not (g d)) cs) ≡ list_any (is_same_copy c) cs
   lost-any c stays [] = refl
@@ -110,4 +117,4 @@ module _ (g : SheetId → Bool) where
     befall-part =
         let plans = left-some s.plans (λ p in'. in') in
         let lost = lost-some s.plans (λ p in'. in') in
-        λ i. record s { plans = plans i; lost = lost i; waiting = waits-part i }
+        λ i. record s { plans = plans i; lost = lost i; waiting = waits-part i; refills = less_taken machine (gone_from g first) s.refills }

@@ -39,15 +39,16 @@ use Rattle.tp_turn.specs.Loops.{after_answer, after_answers, after_asked, after_
 use Rattle.tp_turn.specs.Outages.{outage}
 use Rattle.tp_turn.specs.Planners.{AnswersInTurn, GoesOut, PlannerSteps, RunsLoop}
 use Rattle.tp_turn.specs.States.{Outcome, SessionState, told_before}
-use Rattle.tp_turning.specs.LiveAnswers.{IsAnswerOnWhole, live_at}
+use Rattle.tp_turning.specs.LiveAnswers.{IsAnswerOnWhole, live_at, past_at}
 use Rattle.tp_turning.specs.LiveTurns.{Follows, OutsPassOn, PassesOutOn, SettlesRightly, right_deeds}
 use Rattle.tp_turning.proofs.LiveAnswered.{answers-pass_on}
 use Rattle.tp_turning.proofs.LivePast.{gone-is, gone_at}
 use Rattle.tp_turning.proofs.LiveSettled.{live-settles_hold}
-use Rattle.tp_turning.proofs.PartedAsks.{IsLoose, can-live, due-of, given_up, less-is, live-part_is, lost-by_part, next-same, parted-given_up, parted-planned, plan-same, state-planned, stays}
-use Rattle.tp_turning.proofs.PartedLists.{part}
+use Rattle.tp_turning.proofs.PartedAsks.{IsLoose, can-live, due-of, given_up, less-is, live-part_is, lost-by_part, next-same, parted-given_up, parted-planned, plan-same, state-planned, stays, past-is}
+use Rattle.tp_turning.proofs.PartedLists.{gone_from, part}
 use Rattle.tp_turning.proofs.PartedOutages.{Alike, Like, alike-fall_back, alike-next, alike-outage}
 use Rattle.tp_turning.proofs.PartedStates.{IsParted, among-there, planned-there}
+use Rattle.tp_stock.specs.Stock.{less_taken}
 
 -- what is right is right on trust
 pub on-trust : (spent : Machine → List Plan → Ask → ℕ → Type 0) (machine : Machine) (plans : List Plan) (ask : Ask) (reply : Reply) (plans' : List Plan) → IsAnswer spent machine plans ask reply plans' → IsAnswer spent_on_trust machine plans ask reply plans'
@@ -64,24 +65,24 @@ module _ (machine : Machine) (g : SheetId → Bool) (first : List Plan) where
     abbrev pub the_ask : Ask
     the_ask = ask_in_flight machine s p
 
-    stuck-same : stuck_module machine (part g s) the_ask ≡ stuck_module machine s the_ask
+    stuck-same : stuck_module machine (part machine g first s) the_ask ≡ stuck_module machine s the_ask
     stuck-same = ap (λ o. module_in (action_at machine (last_of (acts_in o)).0)) (plan_of-staying (λ c. not (g c)) p.sheet s.plans (not_from_false (g p.sheet) (stays machine g first s parted p loose)))
 
-    like-not_planned : (goal : Goal) → Like machine g first (not_planned machine the_ask goal (part g s)) (not_planned machine the_ask goal s)
+    like-not_planned : (goal : Goal) → Like machine g first (not_planned machine the_ask goal (part machine g first s)) (not_planned machine the_ask goal s)
     like-not_planned (Tray t) =
         let plans = sym (change-part p.sheet to_purge (λ q. refl) g (stays machine g first s parted p loose) s.plans) in
-        let state : record (part g s) { plans = change_plan p.sheet to_purge (less g s.plans) } ≡ part g (given_up machine g first s parted p loose) = λ i. record s { plans = plans i; lost = filter (λ c. not (g c)) s.lost } in
+        let state : record (part machine g first s) { plans = change_plan p.sheet to_purge (less g s.plans) } ≡ part machine g first (given_up machine g first s parted p loose) = λ i. record s { plans = plans i; lost = filter (λ c. not (g c)) s.lost; refills = less_taken machine (gone_from g first) s.refills } in
         let d : Displaced = record { sheet = p.sheet; want = p.want; again = true } in
-        like-told (Purge (label s.jobs p.sheet) ∷ []) (Purge (label s.jobs p.sheet) ∷ []) (fall_back (record (part g s) { plans = change_plan p.sheet to_purge (less g s.plans) }) d) (fall_back (given_up machine g first s parted p loose) d) refl
+        like-told (Purge (label s.jobs p.sheet) ∷ []) (Purge (label s.jobs p.sheet) ∷ []) (fall_back (record (part machine g first s) { plans = change_plan p.sheet to_purge (less g s.plans) }) d) (fall_back (given_up machine g first s parted p loose) d) refl
         (subst (λ st. Like machine g first (fall_back st d) (fall_back (given_up machine g first s parted p loose) d)) (sym state)
         (alike-fall_back machine g first (given_up machine g first s parted p loose) d (parted-given_up machine g first s parted p loose)))
     like-not_planned ToPurge =
-        subst (λ m. Like machine g first (told_before (Stuck (label s.jobs p.sheet) (module_name machine m) ∷ []) (outage machine m.0 true (part g s))) (not_planned machine the_ask ToPurge s)) (sym stuck-same)
-        (like-told (Stuck (label s.jobs p.sheet) (module_name machine (stuck_module machine s the_ask)) ∷ []) (Stuck (label s.jobs p.sheet) (module_name machine (stuck_module machine s the_ask)) ∷ []) (outage machine (stuck_module machine s the_ask).0 true (part g s)) (outage machine (stuck_module machine s the_ask).0 true s) refl (alike-outage machine g first (stuck_module machine s the_ask).0 true s parted))
+        subst (λ m. Like machine g first (told_before (Stuck (label s.jobs p.sheet) (module_name machine m) ∷ []) (outage machine m.0 true (part machine g first s))) (not_planned machine the_ask ToPurge s)) (sym stuck-same)
+        (like-told (Stuck (label s.jobs p.sheet) (module_name machine (stuck_module machine s the_ask)) ∷ []) (Stuck (label s.jobs p.sheet) (module_name machine (stuck_module machine s the_ask)) ∷ []) (outage machine (stuck_module machine s the_ask).0 true (part machine g first s)) (outage machine (stuck_module machine s the_ask).0 true s) refl (alike-outage machine g first (stuck_module machine s the_ask).0 true s parted))
 
     module _ (live_spent whole_spent : Machine → List Plan → Ask → ℕ → Type 0) where
       like-reply : (reply : Reply) (live : List Plan) → IsAnswer live_spent machine (live_at machine s.now s.plans) the_ask reply live → (on : IsAnswerOnWhole whole_spent machine s.plans the_ask reply live)
-          → Like machine g first (after_reply machine the_ask reply live (part g s)) (after_reply machine the_ask reply on.whole s)
+          → Like machine g first (after_reply machine the_ask reply live (part machine g first s)) (after_reply machine the_ask reply on.whole s)
       like-reply Planned live answer on = record {
         records = ap (told_releases machine s.jobs (s.now + machine.lead)) (plan-same machine g first s parted p loose live_spent whole_spent live answer on);
         state = state-planned machine g first s parted p loose live_spent whole_spent live answer on;
@@ -91,9 +92,9 @@ module _ (machine : Machine) (g : SheetId → Bool) (first : List Plan) where
       like-reply (Spent bound) live answer on = like-not_planned p.goal
 
       pub like-answer : (reply : Reply) (live : List Plan) → IsAnswer live_spent machine (live_at machine s.now s.plans) the_ask reply live → (on : IsAnswerOnWhole whole_spent machine s.plans the_ask reply live)
-          → Like machine g first (after_answer machine (part g s) the_ask (record { reply = reply; plans = live })) (after_answer machine s the_ask (record { reply = reply; plans = on.whole }))
+          → Like machine g first (after_answer machine (part machine g first s) the_ask (record { reply = reply; plans = live })) (after_answer machine s the_ask (record { reply = reply; plans = on.whole }))
       like-answer reply live answer on =
-          like-told (told_of_reply machine (less g s.plans) the_ask reply live) (told_of_reply machine s.plans the_ask reply on.whole) (after_reply machine the_ask reply live (part g s)) (after_reply machine the_ask reply on.whole s)
+          like-told (told_of_reply machine (less g s.plans) the_ask reply live) (told_of_reply machine s.plans the_ask reply on.whole) (after_reply machine the_ask reply live (part machine g first s)) (after_reply machine the_ask reply on.whole s)
           (ap (λ ps. told_of_reply machine ps the_ask reply live) (sym (less-is machine g first s parted)) ∙ on.told) (like-reply reply live answer on)
 
 module _ {P Q : Type 0} (on_live : PlannerSteps P) (on_whole : PlannerSteps Q) (machine : Machine) (together : P → Q → Type 0)
@@ -102,11 +103,11 @@ module _ {P Q : Type 0} (on_live : PlannerSteps P) (on_whole : PlannerSteps Q) (
   -- the answers on the whole state
   record AnsweredOn (s : SessionState) (answers : List Answer) (p p' : P) : Type 0 where
     answers' : List Answer
-    alike : Alike machine g first (after_answers machine answers (part g s)) (after_answers machine answers' s)
+    alike : Alike machine g first (after_answers machine answers (part machine g first s)) (after_answers machine answers' s)
     right : AnswersInTurn (right_deeds machine) machine s answers' tt tt
     back : (q' : Q) → together p' q' → (q : Q) × AnswersInTurn on_whole machine s answers' q q' × together p q
 
-  answers-on : (answers : List Answer) (s : SessionState) (p p' : P) → IsParted machine g first s → AnswersInTurn on_live machine (part g s) answers p p' → AnsweredOn s answers p p'
+  answers-on : (answers : List Answer) (s : SessionState) (p p' : P) → IsParted machine g first s → AnswersInTurn on_live machine (part machine g first s) answers p p' → AnsweredOn s answers p p'
   answers-on [] s p p' parted same = record {
     answers' = [];
     alike = record { records = refl; state = refl; parted = parted };
@@ -115,9 +116,9 @@ module _ {P Q : Type 0} (on_live : PlannerSteps P) (on_whole : PlannerSteps Q) (
   }
   answers-on (a ∷ answers) s p p' parted (ask, e, (mid, does, rest)) =
       let due = due-of machine g first s parted ask (sym (next-same machine g first s parted) ∙ e) in
-      subst (λ k. next_ask machine (part g s) ≡ Some k → on_live.does p (less g s.plans) (replied k a.reply) a.plans mid → AnsweredOn s (a ∷ answers) p p') due.2 (one due.0 due.1 (λ next q kept in_turn. answers-on answers next q p' kept in_turn)) e does where
-        one : (w : Plan) (loose : IsLoose machine g first s parted w) → ((next : SessionState) (q : P) → IsParted machine g first next → AnswersInTurn on_live machine (part g next) answers q p' → AnsweredOn next answers q p')
-            → next_ask machine (part g s) ≡ Some (ask_in_flight machine s w)
+      subst (λ k. next_ask machine (part machine g first s) ≡ Some k → on_live.does p (less g s.plans) (replied k a.reply) a.plans mid → AnsweredOn s (a ∷ answers) p p') due.2 (one due.0 due.1 (λ next q kept in_turn. answers-on answers next q p' kept in_turn)) e does where
+        one : (w : Plan) (loose : IsLoose machine g first s parted w) → ((next : SessionState) (q : P) → IsParted machine g first next → AnswersInTurn on_live machine (part machine g first next) answers q p' → AnsweredOn next answers q p')
+            → next_ask machine (part machine g first s) ≡ Some (ask_in_flight machine s w)
             → on_live.does p (less g s.plans) (replied (ask_in_flight machine s w) a.reply) a.plans mid → AnsweredOn s (a ∷ answers) p p'
         one w loose others e1 does =
             let the = ask_in_flight machine s w in
@@ -128,13 +129,13 @@ module _ {P Q : Type 0} (on_live : PlannerSteps P) (on_whole : PlannerSteps Q) (
             let on = answers-pass_on (live_spent p) (whole_spent p) machine s.plans the a.reply a.plans (follows.passes_on p) can answer in
             let a' : Answer = record { reply = a.reply; plans = on.whole } in
             let step = like-answer machine g first s parted w loose (live_spent p) (whole_spent p) a.reply a.plans answer on in
-            let like : Like machine g first (after_one machine (part g s) a) (after_one machine s a') =
-            subst (λ o. Like machine g first (after_asked machine (part g s) o a) (after_one machine s a')) (sym e1)
-            (subst (λ o. Like machine g first (after_answer machine (part g s) the a) (after_asked machine s o a')) (sym e2) step) in
+            let like : Like machine g first (after_one machine (part machine g first s) a) (after_one machine s a') =
+            subst (λ o. Like machine g first (after_asked machine (part machine g first s) o a) (after_one machine s a')) (sym e1)
+            (subst (λ o. Like machine g first (after_answer machine (part machine g first s) the a) (after_asked machine s o a')) (sym e2) step) in
             let later = others (after_one machine s a').state mid like.parted (subst (λ st. AnswersInTurn on_live machine st answers mid p') like.state rest) in
             record {
               answers' = a' ∷ later.answers';
-              alike = alike-next machine g first (after_one machine (part g s) a) (after_one machine s a') (after_answers machine answers) (after_answers machine later.answers') like later.alike;
+              alike = alike-next machine g first (after_one machine (part machine g first s) a) (after_one machine s a') (after_answers machine answers) (after_answers machine later.answers') like later.alike;
               right = (the, e2, (tt, on-trust (whole_spent p) machine s.plans the a.reply on.whole on.answer, later.right));
               back = λ q' goes.
                   let more = later.back q' goes in
@@ -150,18 +151,18 @@ module _ {P Q : Type 0} (on_live : PlannerSteps P) (on_whole : PlannerSteps Q) (
     right : RunsLoop (right_deeds machine) machine s tt records whole tt
     back : (q' : Q) → together p' q' → (q : Q) × RunsLoop on_whole machine s q records whole q' × together p q
 
-  loop-on : (s : SessionState) (p : P) (records : List Record) (last : SessionState) (p' : P) → IsParted machine g first s → RunsLoop on_live machine (part g s) p records last p' → LoopOn s p records last p'
+  loop-on : (s : SessionState) (p : P) (records : List Record) (last : SessionState) (p' : P) → IsParted machine g first s → RunsLoop on_live machine (part machine g first s) p records last p' → LoopOn s p records last p'
   loop-on s p records last p' parted runs =
       let answered = answers-on runs.answers s p runs.mid parted runs.in_turn in
       finish answered.answers' answered.alike answered.right answered.back where
-        finish : (answers' : List Answer) → Alike machine g first (after_answers machine runs.answers (part g s)) (after_answers machine answers' s)
+        finish : (answers' : List Answer) → Alike machine g first (after_answers machine runs.answers (part machine g first s)) (after_answers machine answers' s)
             → AnswersInTurn (right_deeds machine) machine s answers' tt tt
             → ((q' : Q) → together runs.mid q' → (q : Q) × AnswersInTurn on_whole machine s answers' q q' × together p q) → LoopOn s p records last p'
         finish answers' alike right back =
             let after = (after_answers machine answers' s).state in
             let kept = alike.parted in
             let now : after.now ≡ s.now = now-answers machine answers' s in
-            let plans : (after_answers machine runs.answers (part g s)).state.plans ≡ less g after.plans = ap (λ (st : SessionState). st.plans) alike.state in
+            let plans : (after_answers machine runs.answers (part machine g first s)).state.plans ≡ less g after.plans = ap (λ (st : SessionState). st.plans) alike.state in
             let lives : live_at machine s.now after.plans ≡ less g after.plans = ap (λ n. live_at machine n after.plans) (sym now) ∙ less-is machine g first after kept in
             let does = subst (λ ps. on_live.does runs.mid ps (settled s.now) runs.plans p') (plans ∙ sym lives) runs.settles in
             let floors = subst (λ n. KeepsFloors machine n none_exempt after.plans) now kept.can.floors in
@@ -175,8 +176,9 @@ module _ {P Q : Type 0} (on_live : PlannerSteps P) (on_whole : PlannerSteps Q) (
             let same : (c : SheetId) → is_planned_among runs.plans c ≡ is_planned_among (less g after.plans) c =
             λ c. sym (list_any-map_same (λ q. is_same_copy q.sheet c) unmoved (λ q. refl) runs.plans) ∙ ap (λ ps. is_planned_among ps c) settles.retimed.same
             ∙ list_any-map_same (λ q. is_same_copy q.sheet c) unmoved (λ q. refl) (live_at machine s.now after.plans) ∙ ap (λ ps. is_planned_among ps c) lives in
+            let gone : past_at machine after.now w.whole ≡ gone_from g first = ap (λ n. past_at machine n w.whole) now ∙ w.past_part ∙ ap (λ n. past_at machine n after.plans) (sym now) ∙ past-is machine g first after kept in
             let lost = ap (λ ps. filter (is_planned_among ps) after.lost) part-plans ∙ lost-by_part machine g first after kept runs.plans same in
-            let live : live_part machine whole ≡ record (part g after) { plans = runs.plans } = λ i. record after { plans = part-plans i; lost = lost i } in
+            let live : live_part machine whole ≡ record (part machine g first after) { plans = runs.plans } = λ i. record after { plans = part-plans i; lost = lost i; refills = less_taken machine (gone i) after.refills } in
             record {
               whole = whole;
               live = live ∙ ap (λ (st : SessionState). record st { plans = runs.plans }) (sym alike.state) ∙ sym runs.state;
@@ -209,6 +211,7 @@ parted-first machine s can lines = record {
   fronts = λ p in' front copy. absurd (let lost = front-lost p in' front in cc);
   last = λ p in' copy high. go p in' copy high (is_front p.kind) refl;
   past = λ p in' gone. in';
+  gone = refl;
 } where
   front-lost : (p : Plan) → Contains s.plans p → is_front p.kind ≡ true → is_lost s p ≡ true
   front-lost p in' front =
@@ -240,8 +243,8 @@ module _ {P Q : Type 0} (on_live : PlannerSteps P) (on_whole : PlannerSteps Q) (
       let g = gone_at machine s.now s.plans in
       let parted = parted-first machine s can lines in
       go (subst (λ st. GoesOut on_live machine st m jam p records last p') (live-part_is machine g s.plans s parted) out) (alike-outage machine g s.plans m jam s parted) where
-        go : GoesOut on_live machine (part (gone_at machine s.now s.plans) s) m jam p records last p'
-            → Alike machine (gone_at machine s.now s.plans) s.plans (outage machine m jam (part (gone_at machine s.now s.plans) s)) (outage machine m jam s) → PassesOutOn on_live on_whole machine together s m jam p records last p'
+        go : GoesOut on_live machine (part machine (gone_at machine s.now s.plans) s.plans s) m jam p records last p'
+            → Alike machine (gone_at machine s.now s.plans) s.plans (outage machine m jam (part machine (gone_at machine s.now s.plans) s.plans s)) (outage machine m jam s) → PassesOutOn on_live on_whole machine together s m jam p records last p'
         go out like =
             let told : records ≡ (outage machine m jam s).records ++ out.rest = out.told ∙ ap (λ l. l ++ out.rest) like.records in
             let on = loop-on on_live on_whole machine together live_spent whole_spent follows rightly (gone_at machine s.now s.plans) s.plans (outage machine m jam s).state p out.rest last p' like.parted

@@ -64,7 +64,7 @@ not-yes false e = refl
 -- the outcome on the part tells what the one on the whole tells, and leaves the part of what that leaves
 pub record Alike (machine : Machine) (g : SheetId → Bool) (first : List Plan) (o q : Outcome) : Type 0 where
   pub records : o.records ≡ q.records
-  pub state : o.state ≡ part g q.state
+  pub state : o.state ≡ part machine g first q.state
   pub parted : IsParted machine g first q.state
 
 module _ (machine : Machine) (g : SheetId → Bool) (first : List Plan) where
@@ -75,22 +75,22 @@ module _ (machine : Machine) (g : SheetId → Bool) (first : List Plan) where
   Parted = IsParted machine g first
 
   -- one part after another, where they may differ
-  pub alike-next : (o q : Outcome) (f f' : SessionState → Outcome) → Like o q → Like (f (part g q.state)) (f' q.state) → Like (and_then o f) (and_then q f')
+  pub alike-next : (o q : Outcome) (f f' : SessionState → Outcome) → Like o q → Like (f (part machine g first q.state)) (f' q.state) → Like (and_then o f) (and_then q f')
   alike-next o q f f' like next =
-      let here : f o.state ≡ f (part g q.state) = ap f like.state in
+      let here : f o.state ≡ f (part machine g first q.state) = ap f like.state in
       record {
         records = (λ i. like.records i ++ (here i).records) ∙ ap (λ l. q.records ++ l) next.records;
         state = ap (λ (r : Outcome). r.state) here ∙ next.state;
         parted = next.parted;
       }
 
-  pub alike-then : (o q : Outcome) (f : SessionState → Outcome) → Like o q → ((s : SessionState) → Parted s → Like (f (part g s)) (f s)) → Like (and_then o f) (and_then q f)
+  pub alike-then : (o q : Outcome) (f : SessionState → Outcome) → Like o q → ((s : SessionState) → Parted s → Like (f (part machine g first s)) (f s)) → Like (and_then o f) (and_then q f)
   alike-then o q f like each = alike-next o q f f like (each q.state like.parted)
 
-  pub alike-each : {X : Type 0} (f : SessionState → X → Outcome) → ((s : SessionState) (x : X) → Parted s → Like (f (part g s) x) (f s x)) → (xs : List X) (s : SessionState) → Parted s
-      → Like (for_each f xs (part g s)) (for_each f xs s)
+  pub alike-each : {X : Type 0} (f : SessionState → X → Outcome) → ((s : SessionState) (x : X) → Parted s → Like (f (part machine g first s) x) (f s x)) → (xs : List X) (s : SessionState) → Parted s
+      → Like (for_each f xs (part machine g first s)) (for_each f xs s)
   alike-each f each [] s parted = record { records = refl; state = refl; parted = parted }
-  alike-each f each (x ∷ xs) s parted = alike-then (f (part g s) x) (f s x) (for_each f xs) (each s x parted) (alike-each f each xs)
+  alike-each f each (x ∷ xs) s parted = alike-then (f (part machine g first s) x) (f s x) (for_each f xs) (each s x parted) (alike-each f each xs)
 
   alike-either : (b : Bool) (o o' q q' : Outcome) → Like o q → Like o' q' → Like (cond b o o') (cond b q q')
   alike-either true o o' q q' one other = one
@@ -121,11 +121,11 @@ module _ (machine : Machine) (g : SheetId → Bool) (first : List Plan) where
       go true e f = rw (e, f) refl
       go false e f = refl
 
-    break-same : (job : ℕ) → SameFates g s (fate_in_break (part g s) job) (fate_in_break s job)
+    break-same : (job : ℕ) → SameFates machine g first s (fate_in_break (part machine g first s) job) (fate_in_break s job)
     break-same job = record {
       stays = break-stays job;
       same = λ p in' stays. ap (λ l. cond (not ((p.sheet.job == job) && not l)) fates.stays (cond (is_unstarted s.now p) fates.dropped (cond (is_on_its_way s.now p && not (is_entering s.now p)) fates.purged fates.stays)))
-          (lost-same g s p stays);
+          (lost-same machine g first s p stays);
     }
 
     break-strikes : (job : ℕ) → CanStrike s (fate_in_break s job)
@@ -141,30 +141,30 @@ module _ (machine : Machine) (g : SheetId → Bool) (first : List Plan) where
 
     -- the notices of a break: those of past copies tell nothing
     drops-plans : (job : ℕ) (ps : List Plan) → ((p : Plan) → Contains ps p → Contains s.plans p)
-        → Drops (map (λ p. record { sheet = p.sheet; records = told_of s.jobs s.now p (fate_in_break (part g s) job p) }) (less g ps))
+        → Drops (map (λ p. record { sheet = p.sheet; records = told_of s.jobs s.now p (fate_in_break (part machine g first s) job p) }) (less g ps))
         (map (λ p. record { sheet = p.sheet; records = told_of s.jobs s.now p (fate_in_break s job p) }) ps)
     drops-plans job [] of = none
     drops-plans job (p ∷ ps) of = go (g p.sheet) refl (drops-plans job ps (λ q in'. of q (Contains-later p ps q in'))) where
       go : (b : Bool) → g p.sheet ≡ b
-          → Drops (map (λ p. record { sheet = p.sheet; records = told_of s.jobs s.now p (fate_in_break (part g s) job p) }) (less g ps))
+          → Drops (map (λ p. record { sheet = p.sheet; records = told_of s.jobs s.now p (fate_in_break (part machine g first s) job p) }) (less g ps))
           (map (λ p. record { sheet = p.sheet; records = told_of s.jobs s.now p (fate_in_break s job p) }) ps)
-          → Drops (map (λ p. record { sheet = p.sheet; records = told_of s.jobs s.now p (fate_in_break (part g s) job p) }) (cond (not b) (p ∷ less g ps) (less g ps)))
+          → Drops (map (λ p. record { sheet = p.sheet; records = told_of s.jobs s.now p (fate_in_break (part machine g first s) job p) }) (cond (not b) (p ∷ less g ps) (less g ps)))
           (map (λ p. record { sheet = p.sheet; records = told_of s.jobs s.now p (fate_in_break s job p) }) (p ∷ ps))
       go true e rest = skip _ _ _ (ap (told_of s.jobs s.now p) ((break-same job).stays p (of p (Contains-here p ps)) e)) rest
       go false e rest =
-          subst (λ f. Drops (record { sheet = p.sheet; records = told_of s.jobs s.now p f } ∷ map (λ p. record { sheet = p.sheet; records = told_of s.jobs s.now p (fate_in_break (part g s) job p) }) (less g ps)) (map (λ p. record { sheet = p.sheet; records = told_of s.jobs s.now p (fate_in_break s job p) }) (p ∷ ps)))
+          subst (λ f. Drops (record { sheet = p.sheet; records = told_of s.jobs s.now p f } ∷ map (λ p. record { sheet = p.sheet; records = told_of s.jobs s.now p (fate_in_break (part machine g first s) job p) }) (less g ps)) (map (λ p. record { sheet = p.sheet; records = told_of s.jobs s.now p (fate_in_break s job p) }) (p ∷ ps)))
           (sym ((break-same job).same p (of p (Contains-here p ps)) e)) (keep _ _ _ rest)
 
-    pub alike-break : (job : ℕ) → Like (job_break job (part g s)) (job_break job s)
+    pub alike-break : (job : ℕ) → Like (job_break job (part machine g first s)) (job_break job s)
     alike-break job =
-        let drops = drops-by_copy (notices_of_waiting s job ++ notices_of_plans (part g s) job) (notices_of_waiting s job ++ notices_of_plans s job)
-        (drops-behind (notices_of_waiting s job) (notices_of_plans (part g s) job) (notices_of_plans s job) (drops-plans job s.plans (λ p in'. in'))) in
+        let drops = drops-by_copy (notices_of_waiting s job ++ notices_of_plans (part machine g first s) job) (notices_of_waiting s job ++ notices_of_plans s job)
+        (drops-behind (notices_of_waiting s job) (notices_of_plans (part machine g first s) job) (notices_of_plans s job) (drops-plans job s.plans (λ p in'. in'))) in
         let kept = parted-befall machine g first s (fate_in_break s job) (break-strikes job) parted in
         record {
           records = ap (λ (l : List Record). Broken (job_name s.jobs job) ∷ l)
-              (drops-told (by_copy (notices_of_waiting s job ++ notices_of_plans (part g s) job)) (by_copy (notices_of_waiting s job ++ notices_of_plans s job)) drops);
-          state = ap (without_job job) (befall-part g s (fate_in_break (part g s) job) (fate_in_break s job) (break-same job));
-          parted = record { can = kept.can; each = kept.each; lost = kept.lost; fronts = kept.fronts; last = kept.last; past = kept.past };
+              (drops-told (by_copy (notices_of_waiting s job ++ notices_of_plans (part machine g first s) job)) (by_copy (notices_of_waiting s job ++ notices_of_plans s job)) drops);
+          state = ap (without_job job) (befall-part machine g first s (fate_in_break (part machine g first s) job) (fate_in_break s job) (break-same job));
+          parted = record { can = kept.can; each = kept.each; lost = kept.lost; fronts = kept.fronts; last = kept.last; past = kept.past; gone = kept.gone };
         }
 
     -- a fall-back
@@ -174,11 +174,11 @@ module _ (machine : Machine) (g : SheetId → Bool) (first : List Plan) where
       go true e f = rw (e, f) refl
       go false e f = refl
 
-    fall-same : (copy : SheetId) → SameFates g s (fate_in_fall_back (part g s) copy) (fate_in_fall_back s copy)
+    fall-same : (copy : SheetId) → SameFates machine g first s (fate_in_fall_back (part machine g first s) copy) (fate_in_fall_back s copy)
     fall-same copy = record {
       stays = fall-stays copy;
       same = λ p in' stays. ap (λ l. cond (not (is_before copy p.sheet && is_same_line s.jobs copy p.sheet && not l)) fates.stays (cond (is_unstarted s.now p) fates.withdrawn (cond (is_on_its_way s.now p) fates.replaced fates.stays)))
-          (lost-same g s p stays);
+          (lost-same machine g first s p stays);
     }
 
     fall-strikes : (copy : SheetId) → CanStrike s (fate_in_fall_back s copy)
@@ -191,35 +191,35 @@ module _ (machine : Machine) (g : SheetId → Bool) (first : List Plan) where
       go true true false a false b true c = inr (record { copy = a; ahead = way-ahead p in' c; started = λ h. b })
       go true true false a false b false c = inl refl
 
-    alike-later : (copy : SheetId) → Like (later_fall_back copy (part g s)) (later_fall_back copy s)
+    alike-later : (copy : SheetId) → Like (later_fall_back copy (part machine g first s)) (later_fall_back copy s)
     alike-later copy = record {
-      records = told-part g s (fate_in_fall_back (part g s) copy) (fate_in_fall_back s copy) (fall-same copy);
-      state = befall-part g s (fate_in_fall_back (part g s) copy) (fate_in_fall_back s copy) (fall-same copy);
+      records = told-part machine g first s (fate_in_fall_back (part machine g first s) copy) (fate_in_fall_back s copy) (fall-same copy);
+      state = befall-part machine g first s (fate_in_fall_back (part machine g first s) copy) (fate_in_fall_back s copy) (fall-same copy);
       parted = parted-befall machine g first s (fate_in_fall_back s copy) (fall-strikes copy) parted;
     }
 
-    alike-waits : (d : Displaced) → Like (next_waits d (part g s)) (next_waits d s)
+    alike-waits : (d : Displaced) → Like (next_waits d (part machine g first s)) (next_waits d s)
     alike-waits d = go d.again where
-      go : (b : Bool) → Like (cond b (again (part g s) d) (nothing_told (part g s))) (cond b (again s d) (nothing_told s))
-      go true = record { records = refl; state = refl; parted = record { can = parted.can; each = parted.each; lost = parted.lost; fronts = parted.fronts; last = parted.last; past = parted.past } }
+      go : (b : Bool) → Like (cond b (again (part machine g first s) d) (nothing_told (part machine g first s))) (cond b (again s d) (nothing_told s))
+      go true = record { records = refl; state = refl; parted = record { can = parted.can; each = parted.each; lost = parted.lost; fronts = parted.fronts; last = parted.last; past = parted.past; gone = parted.gone } }
       go false = record { records = refl; state = refl; parted = parted }
 
-    line-same : (copy : SheetId) → is_line_entering (part g s) copy ≡ is_line_entering s copy
+    line-same : (copy : SheetId) → is_line_entering (part machine g first s) copy ≡ is_line_entering s copy
     line-same copy =
-        any-part (λ p. not (g p.sheet)) (λ p. is_later s copy p && is_entering s.now p) (λ p. is_later (part g s) copy p && is_entering s.now p) s.plans
+        any-part (λ p. not (g p.sheet)) (λ p. is_later s copy p && is_entering s.now p) (λ p. is_later (part machine g first s) copy p && is_entering s.now p) s.plans
         (λ p in' e. none-there (is_later s copy p) (dead-entering machine s.now p (dead p in' (not-not (g p.sheet) e))))
-        (λ p in' e. ap (λ l. (is_before copy p.sheet && is_same_line s.jobs copy p.sheet && not l) && is_entering s.now p) (lost-same g s p (not-yes (g p.sheet) e))) where
+        (λ p in' e. ap (λ l. (is_before copy p.sheet && is_same_line s.jobs copy p.sheet && not l) && is_entering s.now p) (lost-same machine g first s p (not-yes (g p.sheet) e))) where
           none-there : (b : Bool) {c : Bool} → c ≡ false → (b && c) ≡ false
           none-there true e = e
           none-there false e = refl
 
-  pub alike-fall_back : (s : SessionState) (d : Displaced) → Parted s → Like (fall_back (part g s) d) (fall_back s d)
+  pub alike-fall_back : (s : SessionState) (d : Displaced) → Parted s → Like (fall_back (part machine g first s) d) (fall_back s d)
   alike-fall_back s d parted =
-      subst (λ b. Like (cond b (job_break d.sheet.job (part g s)) (and_then (next_waits d (part g s)) (later_fall_back d.sheet))) (fall_back s d)) (sym (line-same s parted d.sheet))
+      subst (λ b. Like (cond b (job_break d.sheet.job (part machine g first s)) (and_then (next_waits d (part machine g first s)) (later_fall_back d.sheet))) (fall_back s d)) (sym (line-same s parted d.sheet))
       (alike-either (is_line_entering s d.sheet) _ _ _ _ (alike-break s parted d.sheet.job)
-      (alike-then (next_waits d (part g s)) (next_waits d s) (later_fall_back d.sheet) (alike-waits s parted d) (λ t kept. alike-later t kept d.sheet)))
+      (alike-then (next_waits d (part machine g first s)) (next_waits d s) (later_fall_back d.sheet) (alike-waits s parted d) (λ t kept. alike-later t kept d.sheet)))
 
-  alike-unless : (s : SessionState) (d : Displaced) → Parted s → Like (fall_back_unless_broken (part g s) d) (fall_back_unless_broken s d)
+  alike-unless : (s : SessionState) (d : Displaced) → Parted s → Like (fall_back_unless_broken (part machine g first s) d) (fall_back_unless_broken s d)
   alike-unless s d parted = alike-either (is_job_broken s.jobs d.sheet.job) _ _ _ _ (record { records = refl; state = refl; parted = parted }) (alike-fall_back s d parted)
 
   module _ (m : ℕ) (jam : Bool) (s : SessionState) (parted : Parted s) where
@@ -252,22 +252,22 @@ module _ (machine : Machine) (g : SheetId → Bool) (first : List Plan) where
       go false true e f = refl
       go false false e f = rw f refl
 
-    outage-same : SameFates g s (fate_in_outage machine m jam (part g s)) (fate_in_outage machine m jam s)
+    outage-same : SameFates machine g first s (fate_in_outage machine m jam (part machine g first s)) (fate_in_outage machine m jam s)
     outage-same = record {
       stays = outage-stays;
-      same = λ p in' stays. ap (λ l. cond ((jam && not l) && is_running_on machine s.now m p) fates.lost (cond (not (not l && is_to_run_on machine s.now m p)) fates.stays (cond (is_unstarted s.now p) fates.withdrawn fates.cut))) (lost-same g s p stays);
+      same = λ p in' stays. ap (λ l. cond ((jam && not l) && is_running_on machine s.now m p) fates.lost (cond (not (not l && is_to_run_on machine s.now m p)) fates.stays (cond (is_unstarted s.now p) fates.withdrawn fates.cut))) (lost-same machine g first s p stays);
     }
 
-    running-same : SameFates g s (fate_of_running machine m jam (part g s)) (fate_of_running machine m jam s)
+    running-same : SameFates machine g first s (fate_of_running machine m jam (part machine g first s)) (fate_of_running machine m jam s)
     running-same = record {
       stays = running-stays;
-      same = λ p in' stays. ap (λ l. cond ((jam && not l) && is_running_on machine s.now m p) fates.lost fates.stays) (lost-same g s p stays);
+      same = λ p in' stays. ap (λ l. cond ((jam && not l) && is_running_on machine s.now m p) fates.lost fates.stays) (lost-same machine g first s p stays);
     }
 
-    unless-same : SameFates g s (fate_unless_lost machine m jam (part g s)) (fate_unless_lost machine m jam s)
+    unless-same : SameFates machine g first s (fate_unless_lost machine m jam (part machine g first s)) (fate_unless_lost machine m jam s)
     unless-same = record {
       stays = unless-stays;
-      same = λ p in' stays. ap (λ l. cond ((jam && not l) && is_running_on machine s.now m p) fates.stays (cond (not (not l && is_to_run_on machine s.now m p)) fates.stays (cond (is_unstarted s.now p) fates.withdrawn fates.cut))) (lost-same g s p stays);
+      same = λ p in' stays. ap (λ l. cond ((jam && not l) && is_running_on machine s.now m p) fates.stays (cond (not (not l && is_to_run_on machine s.now m p)) fates.stays (cond (is_unstarted s.now p) fates.withdrawn fates.cut))) (lost-same machine g first s p stays);
     }
 
     outage-strikes : CanStrike s (fate_in_outage machine m jam s)
@@ -286,25 +286,25 @@ module _ (machine : Machine) (g : SheetId → Bool) (first : List Plan) where
       go true false a false b t c u d = rest false a t c u d
       go false l a r b t c u d = rest l a t c u d
 
-    alike-going : Like (going_out machine m jam (part g s)) (going_out machine m jam s)
+    alike-going : Like (going_out machine m jam (part machine g first s)) (going_out machine m jam s)
     alike-going =
-        let out : SameFates g (with_out m s) (fate_in_outage machine m jam (part g s)) (fate_in_outage machine m jam s) = record { stays = outage-same.stays; same = outage-same.same } in
-        let kept : IsParted machine g first (with_out m s) = record { can = parted.can; each = parted.each; lost = parted.lost; fronts = parted.fronts; last = parted.last; past = parted.past } in
-        let one = told-part g s (fate_of_running machine m jam (part g s)) (fate_of_running machine m jam s) running-same in
-        let other = told-part g s (fate_unless_lost machine m jam (part g s)) (fate_unless_lost machine m jam s) unless-same in
+        let out : SameFates machine g first (with_out m s) (fate_in_outage machine m jam (part machine g first s)) (fate_in_outage machine m jam s) = record { stays = outage-same.stays; same = outage-same.same } in
+        let kept : IsParted machine g first (with_out m s) = record { can = parted.can; each = parted.each; lost = parted.lost; fronts = parted.fronts; last = parted.last; past = parted.past; gone = parted.gone } in
+        let one = told-part machine g first s (fate_of_running machine m jam (part machine g first s)) (fate_of_running machine m jam s) running-same in
+        let other = told-part machine g first s (fate_unless_lost machine m jam (part machine g first s)) (fate_unless_lost machine m jam s) unless-same in
         let strikes : CanStrike (with_out m s) (fate_in_outage machine m jam s) = λ p in'. elim (outage-strikes p in') [
           | inl stays ↦ inl stays
           | inr st ↦ inr (record { copy = st.copy; ahead = st.ahead; started = st.started })
         ] in
         record {
           records = λ i. one i ++ other i;
-          state = befall-part g (with_out m s) (fate_in_outage machine m jam (part g s)) (fate_in_outage machine m jam s) out;
+          state = befall-part machine g first (with_out m s) (fate_in_outage machine m jam (part machine g first s)) (fate_in_outage machine m jam s) out;
           parted = parted-befall machine g first (with_out m s) (fate_in_outage machine m jam s) strikes kept;
         }
 
-    pub alike-outage : Like (outage machine m jam (part g s)) (outage machine m jam s)
+    pub alike-outage : Like (outage machine m jam (part machine g first s)) (outage machine m jam s)
     alike-outage =
-        let all : displaced machine m jam (part g s) ≡ displaced machine m jam s = by-fates g s (fate_in_outage machine m jam (part g s)) (fate_in_outage machine m jam s) outage-same displaced_by (λ p. refl) in
-        subst (λ ds. Like (and_then (going_out machine m jam (part g s)) (for_each fall_back_unless_broken ds)) (outage machine m jam s)) (sym all)
-        (alike-then (going_out machine m jam (part g s)) (going_out machine m jam s) (for_each fall_back_unless_broken (displaced machine m jam s)) alike-going
+        let all : displaced machine m jam (part machine g first s) ≡ displaced machine m jam s = by-fates machine g first s (fate_in_outage machine m jam (part machine g first s)) (fate_in_outage machine m jam s) outage-same displaced_by (λ p. refl) in
+        subst (λ ds. Like (and_then (going_out machine m jam (part machine g first s)) (for_each fall_back_unless_broken ds)) (outage machine m jam s)) (sym all)
+        (alike-then (going_out machine m jam (part machine g first s)) (going_out machine m jam s) (for_each fall_back_unless_broken (displaced machine m jam s)) alike-going
         (λ t kept. alike-each fall_back_unless_broken alike-unless (displaced machine m jam s) t kept))

@@ -1,5 +1,5 @@
 -- What a loop on the live part must know of the whole state, and what befalls the copies of it.
-use Rattle.std.proofs.Common.{◌≡◌, ℕ, ◌<◌, ◌≤◌, inl, inr, ◌⊎◌, Bool, true, false, ◌||◌, not, List, [], ◌∷◌, ◌++◌, length, filter, refl, sym, ap, ◌∙◌, arith, Contains, subst}
+use Rattle.std.proofs.Common.{◌≡◌, ℕ, ◌<◌, ◌≤◌, inl, inr, ◌⊎◌, Bool, true, false, ◌||◌, not, List, [], ◌∷◌, ◌++◌, length, filter, refl, sym, ap, ◌∙◌, arith, Contains, subst, cond}
 use Rattle.std.specs.List.{list_any}
 use Rattle.std.proofs.lemmas.Bool.Decides.{nat_tests}
 use Rattle.std.proofs.lemmas.List.Elements.{All-contains}
@@ -23,6 +23,8 @@ use Rattle.tp_turn.specs.Moments.{front_of, is_unstarted, started_count}
 use Rattle.tp_turn.specs.States.{SessionState}
 use Rattle.tp_turning.proofs.LiveAhead.{live-by}
 use Rattle.tp_turning.proofs.PastPlans.{front-acts, front-ahead}
+use Rattle.tp_turning.proofs.PartedLists.{gone_from}
+use Rattle.std.proofs.lemmas.List.Elements.{filter-append}
 
 -- where a plan of a state comes from after each copy had its fate: it stayed, or it was cut
 pub data Comes (now : ℕ) (fate : Plan → Fate) (p p' : Plan) : Type 0 where
@@ -105,6 +107,7 @@ pub record IsParted (machine : Machine) (g : SheetId → Bool) (first : List Pla
   pub fronts : (p : Plan) → Contains s.plans p → is_front p.kind ≡ true → is_lost s p ≡ false → HasFront s.now p
   pub last : (p : Plan) → Contains s.plans p → is_lost s p ≡ false → s.now < end_of_plan p → StandsLast g first p.sheet p.goal
   pub past : (p : Plan) → Contains s.plans p → g p.sheet ≡ true → Contains first p
+  pub gone : gone_from g s.plans ≡ gone_from g first
 
 -- a fate befalls copies that are not lost and end ahead, and cuts those that have started
 pub record Strikes (s : SessionState) (f : Fate) (p : Plan) : Type 0 where
@@ -216,6 +219,28 @@ module _ (machine : Machine) (g : SheetId → Bool) (first : List Plan) (s : Ses
     go fates.replaced f e = absurd (let no : is_loss (fate p) ≡ false = ap is_loss f in cc)
     go fates.dropped f e = absurd (let no : is_loss (fate p) ≡ false = ap is_loss f in cc)
 
+  -- the plans of past copies stay as they are
+  gone-left : (ps : List Plan) → ((p : Plan) → Contains ps p → Contains s.plans p) → gone_from g (left_by fate s.now ps) ≡ gone_from g ps
+  gone-left [] of = refl
+  gone-left (p ∷ ps) of =
+      let rest = gone-left ps (λ q in'. of q (Contains-later p ps q in')) in
+      filter-append (λ q. g q.sheet) (left_of s.now p (fate p)) (left_by fate s.now ps)
+      ∙ go (g p.sheet) refl (can p (of p (Contains-here p ps))) rest where
+        none-of : (f : Fate) → g p.sheet ≡ false → gone_from g (left_of s.now p f) ≡ []
+        none-of fates.stays e = rw e refl
+        none-of fates.lost e = rw e refl
+        none-of fates.withdrawn e = refl
+        none-of fates.cut e = rw e refl
+        none-of fates.purged e = rw e refl
+        none-of fates.replaced e = rw e refl
+        none-of fates.dropped e = refl
+
+        go : (b : Bool) → g p.sheet ≡ b → (fate p ≡ fates.stays) ⊎ Strikes s (fate p) p → gone_from g (left_by fate s.now ps) ≡ gone_from g ps
+            → gone_from g (left_of s.now p (fate p)) ++ gone_from g (left_by fate s.now ps) ≡ cond b (p ∷ gone_from g ps) (gone_from g ps)
+        go false e can' same = rw (none-of (fate p) e) same
+        go true e (inl stays) same = rw (stays, e) (ap (λ l. p ∷ l) same)
+        go true e (inr strikes) same = absurd (let ahead = live-of p (of p (Contains-here p ps)) strikes.ahead in cc)
+
   pub parted-befall : IsParted machine g first (befall fate s)
   parted-befall = record {
     can = fates_keep_planning machine fate s (λ p in' cut. (cut-strikes p in' cut).started cut) parted.can;
@@ -227,4 +252,5 @@ module _ (machine : Machine) (g : SheetId → Bool) (first : List Plan) (s : Ses
     fronts = λ p' in'. fronts' p' (from p' in');
     last = λ p' in'. last' p' (from p' in');
     past = λ p' in'. past' p' (from p' in');
+    gone = gone-left s.plans (λ p in'. in') ∙ parted.gone;
   }

@@ -192,7 +192,7 @@ module _ {P : Type 0} (steps : PlannerSteps P) (machine : Machine) (s : SessionS
         fewer = let len = ap (λ (l : List WaitingCopy). length l) same in let few = skip.fewer in omega arith;
       }
 
-      planned-kept : (plans : List Plan) → IsAnswer spent machine now.plans (ask_waiting now next.w) Planned plans → is_full machine now ≡ false → LeavesKept (planned_waiting now next.w plans)
+      planned-kept : (plans : List Plan) → IsAnswer spent machine now.plans (ask_waiting machine now next.w) Planned plans → is_full machine now ≡ false → LeavesKept (planned_waiting now next.w plans)
       planned-kept plans answer free =
           let f : IsAskedFirst machine now next.w plans = record {
             a = answer.0.alternative;
@@ -214,7 +214,7 @@ module _ {P : Type 0} (steps : PlannerSteps P) (machine : Machine) (s : SessionS
         kept : LeavesKept (state_after_reply now next.w reply plans)
         same : left (Some next.w.sheet) (state_after_reply now next.w reply plans).waiting ≡ ws
 
-      answered : (reply : Reply) (plans : List Plan) → IsAnswer spent machine now.plans (ask_waiting now next.w) reply plans → is_full machine now ≡ false → Leaves reply plans
+      answered : (reply : Reply) (plans : List Plan) → IsAnswer spent machine now.plans (ask_waiting machine now next.w) reply plans → is_full machine now ≡ false → Leaves reply plans
       answered Planned plans answer free = record {
         rest = rest-planned now u.passed next.w ws plans skip.rest;
         kept = planned-kept plans answer free;
@@ -230,8 +230,8 @@ module _ {P : Type 0} (steps : PlannerSteps P) (machine : Machine) (s : SessionS
       turn now' planner' told' planned marks' records told-is tried closed = go (is_full machine now) refl tried where
         go : (b : Bool) → is_full machine now ≡ b
             → MatchBool b ((records ≡ FullUp (label now.jobs next.w.sheet) ∷ []) × (planned ≡ false) × (now' ≡ now) × (planner' ≡ planner))
-            ((reply : Reply) × steps.does planner now.plans (replied (ask_waiting now next.w) reply) now'.plans planner'
-            × (records ≡ told_of_reply machine now.plans (ask_waiting now next.w) reply now'.plans)
+            ((reply : Reply) × steps.does planner now.plans (replied (ask_waiting machine now next.w) reply) now'.plans planner'
+            × (records ≡ told_of_reply machine now.plans (ask_waiting machine now next.w) reply now'.plans)
             × (planned ≡ is_planned reply) × (now' ≡ state_after_reply now next.w reply now'.plans))
             → IsStep next.w.sheet now' planner' told' marks'
         go true full (full-told, refused, same, same') =
@@ -253,7 +253,7 @@ module _ {P : Type 0} (steps : PlannerSteps P) (machine : Machine) (s : SessionS
                   (subst (λ z. StopsInTurn steps machine ws ((tray_of now.jobs next.w.sheet).0 ∷ u.passed) now' z more q) same' stop),
             )))
         go false free (reply, does, reply-told, is, same) =
-            let after-it = answered reply now'.plans (right now.plans (replied (ask_waiting now next.w) reply) now'.plans planner' does) free in
+            let after-it = answered reply now'.plans (right now.plans (replied (ask_waiting machine now next.w) reply) now'.plans planner' does) free in
             moved records (passed_after reply (tray_of now.jobs next.w.sheet).0 u.passed) now' planner' told' marks'
             (closed-after reply planned (tray_of now.jobs next.w.sheet) marks marks' u.passed is u.marked closed)
             (subst (λ z. IsRest z (passed_after reply (tray_of now.jobs next.w.sheet).0 u.passed) ws) (sym same) after-it.rest)
@@ -302,7 +302,7 @@ module _ {P : Type 0} (steps : PlannerSteps P) (machine : Machine) (s : SessionS
       pub stopped : (planner' : P) (told' : List Record) → StopsAtCopy steps machine copy now planner told planner' told' → NotesStop steps machine s p notes planner' told'
       stopped planner' told' at =
           let found : find_waiting copy now.waiting ≡ Some next.w = subst (λ c. find_waiting c now.waiting ≡ Some next.w) next.sheet (found-itself now.waiting next.w u.can.lines.in_order next.here) in
-          let its = subst (λ o. IsSomeAnd o (λ w. (told' ≡ told) × (is_full machine now ≡ false) × steps.stops planner now.plans (asking (ask_waiting now w)) planner')) found at in (
+          let its = subst (λ o. IsSomeAnd o (λ w. (told' ≡ told) × (is_full machine now ≡ false) × steps.stops planner now.plans (asking (ask_waiting machine now w)) planner')) found at in (
             u.done,
             its.0 ∙ u.notes_are,
             subst (λ l. StopsAsks steps machine s p l planner') (append-nil u.done)

@@ -43,10 +43,10 @@ is-free machine s live is few = grind (arith, nat_tests)
 
 -- the ask that is made of the copy can be asked
 pub can-ask-made : (machine : Machine) (copies : ℕ) (s : SessionState) (copy : SheetId) (ask : Ask) → KeepsLive machine copies s
-    → IsSome (find_waiting copy s.waiting) → IsSomeAnd (find_waiting copy s.waiting) (λ w. ask ≡ ask_waiting s w)
+    → IsSome (find_waiting copy s.waiting) → IsSomeAnd (find_waiting copy s.waiting) (λ w. ask ≡ ask_waiting machine s w)
     → is_full machine s ≡ false → CanAsk machine s.plans ask
 can-ask-made machine copies s copy ask can waits made free = go (find_waiting copy s.waiting) refl waits made where
-  go : (o : Option WaitingCopy) → find_waiting copy s.waiting ≡ o → IsSome o → IsSomeAnd o (λ w. ask ≡ ask_waiting s w) → CanAsk machine s.plans ask
+  go : (o : Option WaitingCopy) → find_waiting copy s.waiting ≡ o → IsSome o → IsSomeAnd o (λ w. ask ≡ ask_waiting machine s w) → CanAsk machine s.plans ask
   go None e is none = absurd none
   go (Some w) e is same = subst (CanAsk machine s.plans) (sym same) (can-ask machine copies s can w (found-waits copy s.waiting w e).0 free)
 
@@ -85,12 +85,12 @@ module _ {P : Type 0} (steps : PlannerSteps P) (machine : Machine) (s : SessionS
         (FullUp sheet ∷ [], told, match-true (is_full machine s) _ _ full (ap (λ (n : SheetName). FullUp n ∷ []) called, refl, refl, refl))
 
   -- the copy is asked
-  pub asked-turn : (ask : Ask) (reply : Reply) (planned : Bool) (s' : SessionState) (p' : P) → IsSome (find_waiting copy s.waiting) → IsSomeAnd (find_waiting copy s.waiting) (λ w. ask ≡ ask_waiting s w)
+  pub asked-turn : (ask : Ask) (reply : Reply) (planned : Bool) (s' : SessionState) (p' : P) → IsSome (find_waiting copy s.waiting) → IsSomeAnd (find_waiting copy s.waiting) (λ w. ask ≡ ask_waiting machine s w)
       → is_full machine s ≡ false → steps.does p s.plans (replied ask reply) s'.plans p' → notes' ≡ notes ++ told_of_reply machine s.plans ask reply s'.plans
       → planned ≡ is_planned reply → ((w : WaitingCopy) → w.sheet ≡ copy → s' ≡ state_after_reply s w reply s'.plans)
       → NotesTurn steps machine copy s p notes planned s' p' notes'
   asked-turn ask reply planned s' p' waits made free does told is after = go (find_waiting copy s.waiting) refl waits made where
-    go : (o : Option WaitingCopy) → find_waiting copy s.waiting ≡ o → IsSome o → IsSomeAnd o (λ w. ask ≡ ask_waiting s w)
+    go : (o : Option WaitingCopy) → find_waiting copy s.waiting ≡ o → IsSome o → IsSomeAnd o (λ w. ask ≡ ask_waiting machine s w)
         → IsSomeAnd o (λ w. (records : List Record) × (notes' ≡ notes ++ records) × IsTried steps machine w s p records planned s' p')
     go None e none made = absurd (cc)
     go (Some w) e has same = (

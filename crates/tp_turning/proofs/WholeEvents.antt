@@ -9,7 +9,7 @@ use Rattle.tp_schedule.specs.declared.records.Record.{Record}
 use Rattle.tp_schedule.specs.declared.records.Record.TheVariants.{Refused}
 use Rattle.tp_schedule.specs.Planning.Deed.{replied, settled}
 use Rattle.tp_script.specs.declared.event.Event.{Event}
-use Rattle.tp_script.specs.declared.event.Event.TheVariants.{Bad, Job as NewJob, Clock, Jam, Off, On}
+use Rattle.tp_script.specs.declared.event.Event.TheVariants.{Bad, Job as NewJob, Clock, Jam, Off, On, Refill}
 use Rattle.tp_turn.proofs.ComesBack.{lines-on}
 use Rattle.tp_turn.proofs.FirstCopies.{accepted-job}
 use Rattle.tp_turn.proofs.MovedClock.{lines-clock}
@@ -31,6 +31,9 @@ use Rattle.tp_turning.specs.WholeTurns.{AnswersBack, ClockPassesBack, DoesRight,
 use Rattle.tp_turning.proofs.LiveClock.{clock-leaves, clock-tells}
 use Rattle.tp_turning.proofs.LiveEvents.{refusal-same}
 use Rattle.tp_turning.proofs.WholeLoops.{asks-pass_back, outs-pass_back}
+use Rattle.tp_stock.specs.Stock.{more_at}
+use Rattle.tp_turn.proofs.Refilled.{lines-refilled}
+use Rattle.tp_turning.proofs.RefillFacts.{live-refill}
 
 module _ {P Q : Type 0} (on_live : PlannerSteps P) (on_whole : PlannerSteps Q) (machine : Machine) (together : P → Q → Type 0)
     (live_spent whole_spent : Q → Machine → List Plan → Ask → ℕ → Type 0) (follows : FollowsBack on_live on_whole machine together live_spent whole_spent) (s : SessionState) (can : IsPlannable machine s) (lines : KeepsLines s) where
@@ -66,6 +69,11 @@ module _ {P Q : Type 0} (on_live : PlannerSteps P) (on_whole : PlannerSteps Q) (
     plannable = subst (IsPlannable machine) (sym is) can;
     lined = subst KeepsLines (sym is) (lines-on machine m s lines);
     back = λ p' goes. (p', (m, known, told, ap (live_part machine) is, refl), subst (together p') same goes);
+  }
+  begun-back (Refill name count) q first between mid keeps still accepted (f, known, told, is, same) = record {
+    plannable = subst (IsPlannable machine) (sym is) can;
+    lined = subst KeepsLines (sym is) (lines-refilled (more_at f.loc.0 count s.refills) s lines);
+    back = λ p' goes. (p', (f, known, told, ap (live_part machine) is ∙ live-refill machine f count s, refl), subst (together p') same goes);
   }
 
   turn-back : (event : Event) (q : Q) (records : List Record) (s' : SessionState) (q' : Q) (p' : P) → together p' q' → OutagesKeepLines machine s → IsNoClock event

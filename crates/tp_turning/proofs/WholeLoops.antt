@@ -19,24 +19,25 @@ use Rattle.tp_turn.proofs.SameMoment.{now-answers}
 use Rattle.tp_turn.proofs.TestFacts.{list_any-map_same}
 use Rattle.tp_turn.specs.Answering.{Answer, moves}
 use Rattle.tp_turn.specs.Asking.{AsksInTurn, ask_waiting, is_full, is_passed_over, passed_after, state_after_reply}
-use Rattle.tp_turn.specs.Keeping.{is_planned_among, live_part}
+use Rattle.tp_turn.specs.Keeping.{is_planned_among, live_part, live_plans}
 use Rattle.tp_turn.specs.Laws.{IsPlannable}
 use Rattle.tp_turn.specs.Loops.{after_answer, after_answers, after_asked, after_one, ask_in_flight, next_ask}
 use Rattle.tp_turn.specs.Outages.{outage}
 use Rattle.tp_turn.specs.Planners.{AnswersInTurn, GoesOut, PlannerSteps, RunsLoop}
 use Rattle.tp_turn.specs.States.{SessionState}
-use Rattle.tp_turning.specs.LiveAnswers.{IsAnswerOnLive, IsAnswerOnWhole, live_at}
+use Rattle.tp_turning.specs.LiveAnswers.{IsAnswerOnLive, IsAnswerOnWhole, live_at, past_at}
 use Rattle.tp_turning.specs.LiveTurns.{right_deeds}
 use Rattle.tp_turning.specs.WholeTurns.{AsksPassBack, FollowsBack, OutsPassBack}
 use Rattle.tp_turning.proofs.LiveAsks.{full-same, live-after, whole-after}
 use Rattle.tp_turning.proofs.LivePast.{gone_at}
-use Rattle.tp_turning.proofs.LiveStates.{IsWhole, can-ask-live, whole-all, whole-rest}
-use Rattle.tp_turning.proofs.PartedAsks.{IsLoose, can-live, due-of, less-is, live-part_is, lost-by_part, next-same}
-use Rattle.tp_turning.proofs.PartedLists.{part}
+use Rattle.tp_turning.proofs.LiveStates.{IsWhole, can-ask-live, same-ask, whole-all, whole-rest}
+use Rattle.tp_turning.proofs.PartedAsks.{IsLoose, can-live, due-of, less-is, live-part_is, lost-by_part, next-same, past-is}
+use Rattle.tp_turning.proofs.PartedLists.{gone_from, part}
 use Rattle.tp_turning.proofs.PartedLoops.{like-answer, on-trust, parted-first}
 use Rattle.tp_turning.proofs.PartedOutages.{Alike, Like, alike-next, alike-outage}
 use Rattle.tp_turning.proofs.PartedStates.{IsParted}
 use Rattle.tp_turning.proofs.WholeAnswered.{answers-pass_back, whole-settles_hold}
+use Rattle.tp_stock.specs.Stock.{less_taken}
 
 -- the answer on the live part, seen from the whole
 abbrev as-on_whole : (live_spent whole_spent : Machine → List Plan → Ask → ℕ → Type 0) (machine : Machine) (plans : List Plan) (ask : Ask) (reply : Reply) (whole : List Plan)
@@ -49,9 +50,9 @@ module _ {P Q : Type 0} (on_live : PlannerSteps P) (on_whole : PlannerSteps Q) (
     -- the answers on the live part
     record AnsweredOff (s : SessionState) (answers : List Answer) (q q' : Q) : Type 0 where
       answers' : List Answer
-      alike : Alike machine g first (after_answers machine answers' (part g s)) (after_answers machine answers s)
+      alike : Alike machine g first (after_answers machine answers' (part machine g first s)) (after_answers machine answers s)
       right : AnswersInTurn (right_deeds machine) machine s answers tt tt
-      back : (p' : P) → together p' q' → (p : P) × AnswersInTurn on_live machine (part g s) answers' p p' × together p q
+      back : (p' : P) → together p' q' → (p : P) × AnswersInTurn on_live machine (part machine g first s) answers' p p' × together p q
 
     answers-off : (answers : List Answer) (s : SessionState) (q q' : Q) → IsParted machine g first s → AnswersInTurn on_whole machine s answers q q' → AnsweredOff s answers q q'
     answers-off [] s q q' parted same = record {
@@ -68,20 +69,20 @@ module _ {P Q : Type 0} (on_live : PlannerSteps P) (on_whole : PlannerSteps Q) (
               → next_ask machine s ≡ Some (ask_in_flight machine s w) → on_whole.does q s.plans (replied (ask_in_flight machine s w) a.reply) a.plans mid → AnsweredOff s (a ∷ answers) q q'
           one w loose others e2 does =
               let the = ask_in_flight machine s w in
-              let e1 : next_ask machine (part g s) ≡ Some the = next-same machine g first s parted ∙ e2 in
+              let e1 : next_ask machine (part machine g first s) ≡ Some the = next-same machine g first s parted ∙ e2 in
               let can = can-live machine g first s parted w loose in
               let right = follows.right q mid s.plans a.plans the a.reply can does in
               let off = answers-pass_back (live_spent q) (whole_spent q) machine s.plans the a.reply a.plans (follows.passes_back q) can right in
               let on = as-on_whole (live_spent q) (whole_spent q) machine s.plans the a.reply a.plans right off in
               let a' : Answer = record { reply = a.reply; plans = live_at machine s.now a.plans } in
               let step = like-answer machine g first s parted w loose (live_spent q) (whole_spent q) a.reply (live_at machine s.now a.plans) off.answer on in
-              let like : Like machine g first (after_one machine (part g s) a') (after_one machine s a) =
-              subst (λ o. Like machine g first (after_asked machine (part g s) o a') (after_one machine s a)) (sym e1)
-              (subst (λ o. Like machine g first (after_answer machine (part g s) the a') (after_asked machine s o a)) (sym e2) step) in
+              let like : Like machine g first (after_one machine (part machine g first s) a') (after_one machine s a) =
+              subst (λ o. Like machine g first (after_asked machine (part machine g first s) o a') (after_one machine s a)) (sym e1)
+              (subst (λ o. Like machine g first (after_answer machine (part machine g first s) the a') (after_asked machine s o a)) (sym e2) step) in
               let later = others (after_one machine s a).state mid like.parted rest in
               record {
                 answers' = a' ∷ later.answers';
-                alike = alike-next machine g first (after_one machine (part g s) a') (after_one machine s a) (after_answers machine later.answers') (after_answers machine answers) like later.alike;
+                alike = alike-next machine g first (after_one machine (part machine g first s) a') (after_one machine s a) (after_answers machine later.answers') (after_answers machine answers) like later.alike;
                 right = (the, e2, (tt, on-trust (whole_spent q) machine s.plans the a.reply a.plans right, later.right));
                 back = λ p' goes.
                     let more = later.back p' goes in
@@ -93,35 +94,36 @@ module _ {P Q : Type 0} (on_live : PlannerSteps P) (on_whole : PlannerSteps Q) (
     record LoopOff (s : SessionState) (q : Q) (records : List Record) (s' : SessionState) (q' : Q) : Type 0 where
       plannable : IsPlannable machine s'
       right : RunsLoop (right_deeds machine) machine s tt records s' tt
-      back : (p' : P) → together p' q' → (p : P) × RunsLoop on_live machine (part g s) p records (live_part machine s') p' × together p q
+      back : (p' : P) → together p' q' → (p : P) × RunsLoop on_live machine (part machine g first s) p records (live_part machine s') p' × together p q
 
     loop-off : (s : SessionState) (q : Q) (records : List Record) (s' : SessionState) (q' : Q) → IsParted machine g first s → RunsLoop on_whole machine s q records s' q' → LoopOff s q records s' q'
     loop-off s q records s' q' parted runs =
         let answered = answers-off runs.answers s q runs.mid parted runs.in_turn in finish answered.answers' answered.alike answered.right answered.back where
-          finish : (answers' : List Answer) → Alike machine g first (after_answers machine answers' (part g s)) (after_answers machine runs.answers s)
+          finish : (answers' : List Answer) → Alike machine g first (after_answers machine answers' (part machine g first s)) (after_answers machine runs.answers s)
               → AnswersInTurn (right_deeds machine) machine s runs.answers tt tt
-              → ((p1 : P) → together p1 runs.mid → (p : P) × AnswersInTurn on_live machine (part g s) answers' p p1 × together p q)
+              → ((p1 : P) → together p1 runs.mid → (p : P) × AnswersInTurn on_live machine (part machine g first s) answers' p p1 × together p q)
               → LoopOff s q records s' q'
           finish answers' alike trusted back =
               let after = (after_answers machine runs.answers s).state in
               let kept = alike.parted in
               let now : after.now ≡ s.now = now-answers machine runs.answers s in
-              let plans : (after_answers machine answers' (part g s)).state.plans ≡ less g after.plans = ap (λ (st : SessionState). st.plans) alike.state in
+              let plans : (after_answers machine answers' (part machine g first s)).state.plans ≡ less g after.plans = ap (λ (st : SessionState). st.plans) alike.state in
               let lives : live_at machine s.now after.plans ≡ less g after.plans = ap (λ n. live_at machine n after.plans) (sym now) ∙ less-is machine g first after kept in
               let floors = subst (λ n. KeepsFloors machine n none_exempt after.plans) now kept.can.floors in
               let right = follows.settles_right runs.mid q' after.plans runs.plans s.now kept.can.legal floors runs.settles in
               let off = whole-settles_hold machine s.now after.plans runs.plans kept.can.legal floors right in
               let live : List Plan = live_at machine s.now runs.plans in
-              let none : next_ask machine (after_answers machine answers' (part g s)).state ≡ None = ap (next_ask machine) alike.state ∙ next-same machine g first after kept ∙ runs.none_loose in
-              let told : records ≡ (after_answers machine answers' (part g s)).records ++ moves (after_answers machine answers' (part g s)).state.plans live =
+              let none : next_ask machine (after_answers machine answers' (part machine g first s)).state ≡ None = ap (next_ask machine) alike.state ∙ next-same machine g first after kept ∙ runs.none_loose in
+              let told : records ≡ (after_answers machine answers' (part machine g first s)).records ++ moves (after_answers machine answers' (part machine g first s)).state.plans live =
               runs.told ∙ ap (λ l. (after_answers machine runs.answers s).records ++ l) (sym off.told)
               ∙ sym (λ i. alike.records i ++ moves ((plans ∙ sym lives) i) live) in
               let part-plans : live_at machine after.now runs.plans ≡ live = ap (λ n. live_at machine n runs.plans) now in
               let same : (c : SheetId) → is_planned_among live c ≡ is_planned_among (less g after.plans) c =
               λ c. sym (list_any-map_same (λ q. is_same_copy q.sheet c) unmoved (λ q. refl) live) ∙ ap (λ ps. is_planned_among ps c) off.settles.retimed.same
               ∙ list_any-map_same (λ q. is_same_copy q.sheet c) unmoved (λ q. refl) (live_at machine s.now after.plans) ∙ ap (λ ps. is_planned_among ps c) lives in
+              let gone : past_at machine after.now runs.plans ≡ gone_from g first = ap (λ n. past_at machine n runs.plans) now ∙ off.past_part ∙ ap (λ n. past_at machine n after.plans) (sym now) ∙ past-is machine g first after kept in
               let lost = ap (λ ps. filter (is_planned_among ps) after.lost) part-plans ∙ lost-by_part machine g first after kept live same in
-              let ends : live_part machine (record after { plans = runs.plans }) ≡ record (part g after) { plans = live } = λ i. record after { plans = part-plans i; lost = lost i } in
+              let ends : live_part machine (record after { plans = runs.plans }) ≡ record (part machine g first after) { plans = live } = λ i. record after { plans = part-plans i; lost = lost i; refills = less_taken machine (gone i) after.refills } in
               record {
                 plannable = subst (IsPlannable machine) (sym runs.state) (subst (λ n. CanPlanOn machine n runs.plans) (sym now)
                     (record {
@@ -177,7 +179,7 @@ module _ {P Q : Type 0} (on_live : PlannerSteps P) (on_whole : PlannerSteps Q) (
           go false true false e first over full answered = absurd (cc)
           go false false true e first over full answered = absurd (cc)
           go false false false e (reply, (plans, (mid, (rest, does, told, next)))) over full answered =
-              let the = ask_waiting s w in
+              let the = ask_waiting machine s w in
               let can = can-ask-live machine s w ws whole in
               let right = follows.right q mid s.plans plans the reply can does in
               let off = answers-pass_back (live_spent q) (whole_spent q) machine s.plans the reply plans (follows.passes_back q) can right in
@@ -194,7 +196,7 @@ module _ {P Q : Type 0} (on_live : PlannerSteps P) (on_whole : PlannerSteps Q) (
                       after.0,
                       (
                         rest,
-                        here.1,
+                        subst (λ ask. on_live.does here.0 (live_plans machine s) (replied ask reply) (live_at machine s.now plans) after.0) (sym (same-ask machine s w)) here.1,
                         told ∙ ap (λ (l : List Record). l ++ rest) (sym off.told),
                         subst (λ r. AsksInTurn on_live machine ws (passed_after reply (tray_of s.jobs w.sheet).0 passed) r after.0 rest (live_part machine s') p') (sym same) after.1,
                       ),

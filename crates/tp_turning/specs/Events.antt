@@ -1,5 +1,5 @@
 -- The turns of events, as calls give them.
-use Rattle.std.specs.Prelude.{◌≡◌, List, ◌++◌, ℕ, [], ◌∷◌}
+use Rattle.std.specs.Prelude.{◌≡◌, List, ◌++◌, ℕ, ◌+◌, [], ◌∷◌}
 use Rattle.std.specs.Option.{MatchOption}
 use Rattle.tp_machine.specs.declared.machine.Machine.{Machine}
 use Rattle.tp_schedule.specs.declared.records.Record.{Record}
@@ -13,6 +13,7 @@ use Rattle.tp_turn.specs.Planners.{PlannerSteps}
 use Rattle.tp_turn.specs.Refusals.{clock_refusal}
 use Rattle.tp_turn.specs.States.{SessionState}
 use Rattle.tp_turn.specs.Turns.{Turn}
+use Rattle.tp_turn.specs.Ready.{KeepsLive, KeepsStock}
 
 module _ {P : Type 0} (planner_steps : PlannerSteps P) (machine : Machine) where
   -- the clock moves: its records, and then those of the phase of asks on what is still live
@@ -36,3 +37,8 @@ module _ {P : Type 0} (planner_steps : PlannerSteps P) (machine : Machine) where
   abbrev pub NotesEvent : Event → SessionState → P → List Record → SessionState → P → List Record → Type 0
   NotesEvent event s planner notes s' planner' notes' =
       (records : List Record) × (notes' ≡ notes ++ records) × LiveTurn event s planner records s' planner'
+
+  -- the stock of a live state stays kept
+  abbrev pub KeepsStockInTurns : Type 0
+  KeepsStockInTurns = (copies events : ℕ) (event : Event) (s : SessionState) (planner : P) (records : List Record) (s' : SessionState) (planner' : P)
+      → KeepsLive machine copies s → LiveTurn event s planner records s' planner' → KeepsStock machine events s → KeepsStock machine (events + 1) s'

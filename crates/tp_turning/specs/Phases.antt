@@ -27,8 +27,8 @@ module _ {P : Type 0} (planner_steps : PlannerSteps P) (machine : Machine) where
   abbrev pub IsTried : WaitingCopy → SessionState → P → List Record → Bool → SessionState → P → Type 0
   IsTried w s planner records planned s' planner' = MatchBool (is_full machine s)
       ((records ≡ FullUp (label s.jobs w.sheet) ∷ []) × (planned ≡ false) × (s' ≡ s) × (planner' ≡ planner))
-      ((reply : Reply) × planner_steps.does planner s.plans (replied (ask_waiting s w) reply) s'.plans planner'
-      × (records ≡ told_of_reply machine s.plans (ask_waiting s w) reply s'.plans)
+      ((reply : Reply) × planner_steps.does planner s.plans (replied (ask_waiting machine s w) reply) s'.plans planner'
+      × (records ≡ told_of_reply machine s.plans (ask_waiting machine s w) reply s'.plans)
       × (planned ≡ is_planned reply) × (s' ≡ state_after_reply s w reply s'.plans))
 
   -- some notes more are the records of the copy's turn

@@ -10,7 +10,7 @@ use Rattle.tp_schedule.specs.declared.parts.SheetId.{SheetId}
 use Rattle.tp_schedule.specs.declared.records.Record.{Record}
 use Rattle.tp_schedule.specs.declared.records.Record.TheVariants.{FullUp}
 use Rattle.tp_script.specs.declared.event.Event.{Event}
-use Rattle.tp_script.specs.declared.event.Event.TheVariants.{Bad, Job as NewJob, Clock, Jam, Off, On}
+use Rattle.tp_script.specs.declared.event.Event.TheVariants.{Bad, Job as NewJob, Clock, Jam, Off, On, Refill}
 use Rattle.tp_jobs.specs.Backlogs.{tray_of}
 use Rattle.tp_jobs.specs.Waiting.{find_waiting}
 use Rattle.tp_jobs.specs.declared.parts.WaitingCopy.{WaitingCopy}
@@ -34,10 +34,10 @@ module _ {P : Type 0} (planner_steps : PlannerSteps P) (machine : Machine) where
       (MatchBool (is_full machine s)
       ((rest : List Record) × (records ≡ FullUp (label s.jobs w.sheet) ∷ rest)
       × StopsInTurn waiting ((tray_of s.jobs w.sheet).0 ∷ passed) s planner rest planner')
-      (((records ≡ []) × planner_steps.stops planner s.plans (asking (ask_waiting s w)) planner')
+      (((records ≡ []) × planner_steps.stops planner s.plans (asking (ask_waiting machine s w)) planner')
       ⊎ ((reply : Reply) × ((plans : List Plan) × ((mid : P) × ((rest : List Record)
-      × planner_steps.does planner s.plans (replied (ask_waiting s w) reply) plans mid
-      × (records ≡ told_of_reply machine s.plans (ask_waiting s w) reply plans ++ rest)
+      × planner_steps.does planner s.plans (replied (ask_waiting machine s w) reply) plans mid
+      × (records ≡ told_of_reply machine s.plans (ask_waiting machine s w) reply plans ++ rest)
       × StopsInTurn waiting (passed_after reply (tray_of s.jobs w.sheet).0 passed) (state_after_reply s w reply plans) mid rest planner'))))))
 
   abbrev pub StopsAsks : SessionState → P → List Record → P → Type 0
@@ -46,7 +46,7 @@ module _ {P : Type 0} (planner_steps : PlannerSteps P) (machine : Machine) where
   -- the planner stopped as the copy was asked, and nothing was noted of it
   abbrev pub StopsAtCopy : SheetId → SessionState → P → List Record → P → List Record → Type 0
   StopsAtCopy copy s planner notes planner' notes' = IsSomeAnd (find_waiting copy s.waiting) (λ w.
-      (notes' ≡ notes) × (is_full machine s ≡ false) × planner_steps.stops planner s.plans (asking (ask_waiting s w)) planner')
+      (notes' ≡ notes) × (is_full machine s ≡ false) × planner_steps.stops planner s.plans (asking (ask_waiting machine s w)) planner')
 
   -- some notes more are the records before the stop
   abbrev pub NotesStop : SessionState → P → List Record → P → List Record → Type 0
@@ -60,6 +60,7 @@ module _ {P : Type 0} (planner_steps : PlannerSteps P) (machine : Machine) where
   StopsBeginning (Jam name) s planner records planner' = (m : ℕ) × (module_of machine name ≡ Some m) × StopsGoingOut planner_steps machine s m true planner records planner'
   StopsBeginning (Off name) s planner records planner' = (m : ℕ) × (module_of machine name ≡ Some m) × StopsGoingOut planner_steps machine s m false planner records planner'
   StopsBeginning (On name) s planner records planner' = ⊥
+  StopsBeginning (Refill name count) s planner records planner' = ⊥
 
   -- the part of the event was done, and then the planner stopped in the phase of asks
   pub record StopsAfter (event : Event) (s : SessionState) (planner : P) (records : List Record) (planner' : P) : Type 0 where

@@ -7,7 +7,7 @@ ghost use Rattle.tp_schedule.specs.declared.parts.Halt.TheVariants.{Stopped};
 ghost use Rattle.tp_script.specs.declared.event.Event.TheVariants.{Job as NewJob};
 ghost use Rattle.tp_turn.specs.LiveStates.{seen};
 ghost use Rattle.tp_turn.specs.Planners.{right_steps};
-ghost use Rattle.tp_turn.specs.Ready.{CanTakeEvents, last_copy};
+ghost use Rattle.tp_turn.specs.Ready.{CanTakeEvents, KeepsStock, last_copy};
 ghost use Rattle.tp_turning.specs.Events.{NotesEvent};
 ghost use Rattle.tp_turning.specs.Stops.{NotesEventStop};
 
@@ -33,6 +33,7 @@ pub(crate) fn take_job<P: Planner>(
 ) -> Result<(), Halt>
     requires served { IsTrue (P.serves planner.old machine.now) }
     requires can { CanTakeEvents machine.now last_copy (seen state.old) }
+    requires stocked { KeepsStock machine.now last_copy (seen state.old) }
     requires groups { length order.now.groups.now < 2 ^ 32 }
     ensures turn { OnOk result (
         NotesEvent (right_steps P.spent P.steps P.stop_steps machine.now) machine.now

@@ -7,6 +7,7 @@ ghost use Rattle.tp_schedule.specs.Planning.Deed.{replied};
 ghost use Rattle.tp_schedule.specs.Planning.Due.{asking};
 ghost use Rattle.tp_schedule.specs.declared.parts.Halt.TheVariants.{Stopped};
 ghost use Rattle.tp_jobs.specs.Waiting.{find_waiting};
+ghost use Rattle.tp_stock.specs.Stock.{IsBounded};
 ghost use Rattle.tp_turn.specs.Answering.{told_of_reply};
 ghost use Rattle.tp_turn.specs.Asking.{ask_waiting};
 ghost use Rattle.tp_turn.specs.LiveStates.{seen};
@@ -18,19 +19,21 @@ ghost use Rattle.tp_turning.specs.Stops.{NotesStop, StopsAtCopy};
 use std::alloc::Global;
 use tp_jobs::Blocked;
 use tp_machine::{Machine, machine_law};
-use tp_schedule::{Ask, Empties, Goal, Halt, Origin, Planner, Record, Reply, Schedule, SheetId};
+use tp_schedule::{Ask, Goal, Halt, Origin, Planner, Record, Reply, Schedule, SheetId};
+use tp_stock::empty_feeders;
 use tp_telling::{label, tell_full, tell_reply};
 use tp_turn::LiveState;
 
 /// The most copies that are live at once.
 pub const MOST_LIVE: u32 = 256;
 
-/// The ask for a copy that waits, with its tray as goal.
-fn make_ask(state: &LiveState, copy: SheetId) -> Ask
+/// The ask for a copy that waits, with its tray as goal. Feeders that are empty now are no starts of it.
+fn make_ask(machine: &Machine, state: &LiveState, copy: SheetId) -> Ask
     requires waits { IsSome (find_waiting copy state.now.lines.waiting) }
     requires job { copy.job < length state.now.lines.jobs }
+    requires bounded { IsBounded state.now.refills.0 }
     ensures { IsSomeAnd (find_waiting copy state.now.lines.waiting)
-        (λ w. result ≡ ask_waiting (seen state.now) w) }
+        (λ w. result ≡ ask_waiting machine.now (seen state.now) w) }
 {
     Ask {
         sheet: copy,
@@ -39,7 +42,7 @@ fn make_ask(state: &LiveState, copy: SheetId) -> Ask
         goal: Goal::Tray(state.lines.tray_of(copy.job)),
         origin: Origin::Feeder,
         outs: state.outs,
-        empty: Empties::none(),
+        empty: empty_feeders(machine, &state.refills, &state.schedule),
         now: state.moment,
     }
 }
@@ -93,6 +96,7 @@ fn try_copy<P: Planner>(
     requires can { KeepsLive machine.now (last_copy + 1) (seen state.old) }
     requires waits { IsSome (find_waiting copy state.old.lines.waiting) }
     requires job { copy.job < length state.old.lines.jobs }
+    requires bounded { IsBounded state.old.refills.0 }
     ensures tried { IfOk result (λ planned.
         NotesTurn (right_steps P.spent P.steps P.stop_steps machine.now) machine.now copy
         (seen state.old) planner.old notes.old.items planned
@@ -106,6 +110,7 @@ fn try_copy<P: Planner>(
         → P.serves planner.new other ≡ P.serves planner.old other }
     ensures lasts { P.lasting planner.new ≡ P.lasting planner.old }
     ensures marked { state.new.lines.kept ≡ state.old.lines.kept }
+    ensures refills { state.new.refills ≡ state.old.refills }
 {
     if state.schedule.live(machine, state.moment) >= MOST_LIVE {
         let sheet = label(state.lines.name_of(copy.job), copy);
@@ -114,7 +119,7 @@ fn try_copy<P: Planner>(
         };
         return Ok(false);
     }
-    let ask = make_ask(state, copy);
+    let ask = make_ask(machine, state, copy);
     match ask_planner(alloc, machine, &mut state.schedule, planner, &ask, notes)? {
         Reply::Planned => {
             state.lines.taken(copy);
@@ -137,6 +142,7 @@ pub(crate) fn ask_waiting<P: Planner>(
 ) -> Result<(), Halt>
     requires served { IsTrue (P.serves planner.old machine.now) }
     requires can { KeepsLive machine.now (last_copy + 1) (seen state.old) }
+    requires bounded { IsBounded state.old.refills.0 }
     ensures asks { OnOk result (
         NotesAsks (right_steps P.spent P.steps P.stop_steps machine.now) machine.now
         (seen state.old) planner.old notes.old.items (seen state.new) planner.new notes.new.items) }

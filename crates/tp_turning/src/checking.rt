@@ -23,7 +23,9 @@ pub fn check_module(machine: &Machine, outs: Outs, event: &Event) -> Result<ModI
         Event::Jam { module } => find_named(machine, *module),
         Event::Off { module } => find_on(machine, outs, *module),
         Event::On { module } => find_out(machine, outs, *module),
-        Event::Bad | Event::Job { .. } | Event::Clock { .. } => unreachable!(),
+        Event::Bad | Event::Job { .. } | Event::Clock { .. } | Event::Refill { .. } => {
+            unreachable!()
+        }
     }
 }
 

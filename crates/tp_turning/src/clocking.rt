@@ -9,7 +9,7 @@ ghost use Rattle.tp_turn.specs.Clock.{record_of};
 ghost use Rattle.tp_turn.specs.Keeping.{is_planned_among};
 ghost use Rattle.tp_turn.specs.LiveStates.{seen};
 ghost use Rattle.tp_turn.specs.Planners.{right_steps};
-ghost use Rattle.tp_turn.specs.Ready.{CanTakeEvents, last_copy};
+ghost use Rattle.tp_turn.specs.Ready.{CanTakeEvents, KeepsStock, last_copy};
 ghost use Rattle.tp_turning.specs.Events.{NotesEvent};
 ghost use Rattle.tp_turning.specs.Stops.{NotesEventStop};
 ghost use Rattle.tp_turning.specs.Telling.{IsKnownTell};
@@ -22,11 +22,12 @@ use tp_jobs::Lines;
 use tp_machine::{Machine, machine_law};
 use tp_release::{Tell, advance};
 use tp_schedule::{Halt, Planner, Record, Schedule, SheetId};
+use tp_stock::count_taken;
 use tp_telling::{action_name, label, location_name};
 use tp_turn::LiveState;
 
-/// Moves the clock: notes each release and each delivery until then, forgets the plans that are not live any more, and asks
-/// the copies that wait. A move back or beyond the last moment is noted as refused, and nothing else changes.
+/// Moves the clock: notes each release and each delivery until then, forgets the plans that are not live any more, whose
+/// sheets are taken off the refills, and asks the copies that wait. A move back or beyond the last moment is noted as refused, and nothing else changes.
 ///
 /// After a `Halt` nothing is known of the state, so that the caller drops it, and notes may have come.
 pub(crate) fn move_clock<P: Planner>(
@@ -39,6 +40,7 @@ pub(crate) fn move_clock<P: Planner>(
 ) -> Result<(), Halt>
     requires served { IsTrue (P.serves planner.old machine.now) }
     requires can { CanTakeEvents machine.now last_copy (seen state.old) }
+    requires stocked { KeepsStock machine.now last_copy (seen state.old) }
     ensures turn { OnOk result (
         NotesEvent (right_steps P.spent P.steps P.stop_steps machine.now) machine.now (Clock to)
         (seen state.old) planner.old notes.old.items (seen state.new) planner.new notes.new.items) }
@@ -55,6 +57,7 @@ pub(crate) fn move_clock<P: Planner>(
     ensures marked { state.new.lines.kept ≡ state.old.lines.kept }
 {
     machine_law(machine);
+    let taken = count_taken(machine, &state.schedule);
     let tells = match advance(alloc, machine, &mut state.schedule, state.moment, to) {
         Ok(tells) => tells,
         Err(fault) => return tell_clock_refused(fault, notes),
@@ -64,6 +67,7 @@ pub(crate) fn move_clock<P: Planner>(
     };
     state.moment = to;
     forget_lost(&mut state.lost, &state.schedule);
+    state.refills = state.refills.forget(machine, &taken, &state.schedule);
     ask_waiting(alloc, machine, state, planner, notes)
 }
 

@@ -7,7 +7,7 @@ ghost use Rattle.tp_schedule.specs.declared.parts.Halt.TheVariants.{Stopped};
 ghost use Rattle.tp_turn.specs.Laws.{is_outage};
 ghost use Rattle.tp_turn.specs.LiveStates.{seen};
 ghost use Rattle.tp_turn.specs.Planners.{right_steps};
-ghost use Rattle.tp_turn.specs.Ready.{CanTakeEvents, last_copy};
+ghost use Rattle.tp_turn.specs.Ready.{CanTakeEvents, KeepsStock, last_copy};
 ghost use Rattle.tp_turning.specs.Checking.{comes_back, is_jam};
 ghost use Rattle.tp_turning.specs.Events.{NotesEvent};
 ghost use Rattle.tp_turning.specs.Stops.{NotesEventStop};
@@ -36,6 +36,7 @@ pub(crate) fn take_out<P: Planner>(
 ) -> Result<(), Halt>
     requires served { IsTrue (P.serves planner.old machine.now) }
     requires can { CanTakeEvents machine.now last_copy (seen state.old) }
+    requires stocked { KeepsStock machine.now last_copy (seen state.old) }
     requires goes_out { IsTrue (is_outage event.now) }
     ensures turn { OnOk result (
         NotesEvent (right_steps P.spent P.steps P.stop_steps machine.now) machine.now event.now
@@ -78,6 +79,7 @@ pub(crate) fn take_back<P: Planner>(
 ) -> Result<(), Halt>
     requires served { IsTrue (P.serves planner.old machine.now) }
     requires can { CanTakeEvents machine.now last_copy (seen state.old) }
+    requires stocked { KeepsStock machine.now last_copy (seen state.old) }
     requires comes_back { IsTrue (comes_back event.now) }
     ensures turn { OnOk result (
         NotesEvent (right_steps P.spent P.steps P.stop_steps machine.now) machine.now event.now

@@ -6,7 +6,7 @@ ghost use Rattle.tp_schedule.specs.Planning.{StopsOnlyWhere};
 ghost use Rattle.tp_schedule.specs.declared.parts.Halt.TheVariants.{Stopped};
 ghost use Rattle.tp_turn.specs.LiveStates.{seen};
 ghost use Rattle.tp_turn.specs.Planners.{right_steps};
-ghost use Rattle.tp_turn.specs.Ready.{CanTakeEvents, last_copy};
+ghost use Rattle.tp_turn.specs.Ready.{CanTakeEvents, KeepsStock, last_copy};
 ghost use Rattle.tp_turning.specs.Events.{NotesEvent};
 ghost use Rattle.tp_turning.specs.Stops.{NotesEventStop};
 
@@ -14,6 +14,8 @@ use crate::arriving::take_job;
 use crate::clocking::move_clock;
 use crate::job_order::JobOrder;
 use crate::modules::{take_back, take_out};
+use crate::refill_order::RefillOrder;
+use crate::refilling::take_refill;
 use crate::refusing::tell_refused;
 use std::alloc::Global;
 use tp_machine::Machine;
@@ -21,7 +23,7 @@ use tp_schedule::{Cause, Halt, Planner, Record};
 use tp_script::Event;
 use tp_turn::LiveState;
 
-/// Takes an event: a job, a move of the clock, a module that goes out or comes back. One that is refused is noted so, and
+/// Takes an event: a job, a move of the clock, a module that goes out or comes back, a refill. One that is refused is noted so, and
 /// nothing else changes; after any other the copies that wait are asked.
 ///
 /// After a `Halt` nothing is known of the state, so that the caller drops it, and notes may have come.
@@ -35,6 +37,7 @@ pub fn take_event<P: Planner>(
 ) -> Result<(), Halt>
     requires served { IsTrue (P.serves planner.old machine.now) }
     requires can { CanTakeEvents machine.now last_copy (seen state.old) }
+    requires stocked { KeepsStock machine.now last_copy (seen state.old) }
     ensures turn { OnOk result (
         NotesEvent (right_steps P.spent P.steps P.stop_steps machine.now) machine.now event.now
         (seen state.old) planner.old notes.old.items (seen state.new) planner.new notes.new.items) }
@@ -72,5 +75,12 @@ pub fn take_event<P: Planner>(
             take_out(alloc, machine, state, planner, event, notes)
         }
         Event::On { .. } => take_back(alloc, machine, state, planner, event, notes),
+        Event::Refill { feeder, count } => {
+            let order = RefillOrder {
+                feeder: *feeder,
+                count: *count,
+            };
+            take_refill(alloc, machine, state, planner, &order, notes)
+        }
     }
 }

@@ -22,4 +22,5 @@ returns-clause-follows c = λ rule e.
       jobs = (waits k).jobs;
       waiting = (waits k).waiting;
       outs = s.outs;
+      refills = s.refills;
     }

@@ -9,6 +9,7 @@ use Rattle.tp_replan.specs.Answered.{NotesOut}
 use Rattle.tp_replan.specs.declared.outage.Outage.{Outage}
 use Rattle.tp_replan.proofs.Shown.{moment-out, on-both}
 use Rattle.tp_replan.proofs.handling.handle_out.Goals as goal
+use Rattle.tp_turn.proofs.StockTurns.{refills-goes}
 
 pub returns-clause-out : goal.returns-clause-out
 returns-clause-out g c =
@@ -28,7 +29,8 @@ returns-clause-out g c =
     let moment = moment-out steps m s c.args.id.0 c.args.jammed c.args.planner.now out.0 (seen l) planner out.2
     ∙ ap (λ (t : SessionState). t.now) c.in-Ok.ensures in
     let fronts = sym (kept last_copy before).kept.lines.fronts in
-    let shows : seen l ≡ end = λ k. record (seen l) { now = moment k; lost = fronts k } in
+    let refills = refills-goes steps m s c.args.id.0 c.args.jammed c.args.planner.now out.0 (seen l) planner out.2 ∙ ap (λ (t : SessionState). t.refills) c.in-Ok.ensures in
+    let shows : seen l ≡ end = λ k. record (seen l) { now = moment k; lost = fronts k; refills = refills k } in
     subst (λ (t : SessionState). NotesOut steps m event t c.args.planner.now notes end planner last) c.in-Ok.ensures
     (subst (λ (t : SessionState). NotesOut steps m event s c.args.planner.now notes t planner last) shows out))
     c.go_out-result.ensures.out c.go_out-result.ensures.kept
@@ -49,6 +51,7 @@ returns-clause-kept g c =
     let moment = moment-out steps m s c.args.id.0 c.args.jammed c.args.planner.now out.0 (seen l) planner out.2
     ∙ ap (λ (t : SessionState). t.now) c.in-Ok.ensures in
     let fronts = sym (kept last_copy before).kept.lines.fronts in
-    let shows : seen l ≡ end = λ k. record (seen l) { now = moment k; lost = fronts k } in
+    let refills = refills-goes steps m s c.args.id.0 c.args.jammed c.args.planner.now out.0 (seen l) planner out.2 ∙ ap (λ (t : SessionState). t.refills) c.in-Ok.ensures in
+    let shows : seen l ≡ end = λ k. record (seen l) { now = moment k; lost = fronts k; refills = refills k } in
     λ copies can. subst (CanTakeEvents m (copies + 1)) shows (kept copies (subst (KeepsLive m copies) (sym c.in-Ok.ensures) can)))
     c.go_out-result.ensures.out c.go_out-result.ensures.kept

@@ -11,6 +11,7 @@ use Rattle.tp_turning.proofs.TurnFacts.{is-free}
 use Rattle.tp_session.specs.Probes.{GivesProbe}
 use Rattle.tp_session.proofs.ProbeFacts.{ask-first, can-ask-first, copy-first, probes-first}
 use Rattle.tp_session.proofs.probing.ask_for_job.Goals as goal
+use Rattle.tp_turn.proofs.StockKept.{within-bounded}
 
 pub returns-clause-can_ask : goal.returns-clause-can_ask
 returns-clause-can_ask c =
@@ -41,3 +42,6 @@ returns-clause-asked c nodes =
     (probes-first m name tray media groups s nodes (accepted-by m s.jobs (length s.waiting) name tray media groups c.in-Ok.ensures.refused) none
     (is-free m s c.live.result c.live.ensures (omega (arith, c.if-live-ge-MOST_LIVE.false)))
     (record { sheet = record { job = length s.jobs; number = 1; copy = 1 }; want = c.first_sheet.result }) first)
+
+pub make_ask-requires : goal.make_ask-requires
+make_ask-requires c = within-bounded last_copy c.args.state.now.refills.0 (omega arith) c.requires.stocked.within

@@ -10,11 +10,16 @@ use Rattle.tp_runs.specs.Runs.{entry_of, items_of}
 use Rattle.tp_runs.specs.Wholes.{HasWholeTurn}
 use Rattle.tp_turn.proofs.ListFacts.{All-both}
 use Rattle.tp_turn.specs.LiveStates.{seen}
+use Rattle.tp_turn.specs.Ready.{last_copy}
 use Rattle.tp_session.proofs.turning.take_turn.Goals as goal
 
 both-ok : {A E P Q R : Type 0} (r : Result A E) → OnOk r P → OnOk r Q → (P → Q → R) → OnOk r R
 both-ok (Ok v) p q f = f p q
 both-ok (Err e) p q f = tt
+
+ok-of : {A E R : Type 0} (r : Result A E) → R → OnOk r R
+ok-of (Ok v) x = x
+ok-of (Err e) x = tt
 
 -- the notes are the records of the turn, each of which has a line
 pub tell-requires-clause-lines : goal.tell-requires-clause-lines
@@ -64,3 +69,9 @@ returns-in-Ok-clause-told g c =
       },
       grown,
     ))
+
+pub returns-in-Ok-clause-stocked : goal.returns-in-Ok-clause-stocked
+returns-in-Ok-clause-stocked g c =
+    let noted = c.in-Ok.ensures.turn in
+    ok-of c.tell.result (λ events keeps.
+    c.turns_keep_stock.ensures c.args.machine.now last_copy events c.args.event.now (seen c.args.state.now) c.args.engine.now noted.0 (seen c.take_event.new.state) c.take_event.new.planner c.requires.can.kept noted.2 keeps)

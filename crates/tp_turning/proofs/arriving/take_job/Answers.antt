@@ -1,5 +1,5 @@
 -- A job that the lines refuse is told refused; one that they add leads on to the phase of asks.
-use Rattle.std.proofs.Common.{◌+◌, length, sym, ap, subst}
+use Rattle.std.proofs.Common.{◌+◌, arith, length, sym, ap, subst}
 use Rattle.std.proofs.lemmas.Result.{on_ok_weaker}
 use Rattle.tp_jobs.specs.Backlogs.{Backlog}
 use Rattle.tp_script.specs.declared.event.Event.TheVariants.{Job as NewJob}
@@ -10,6 +10,7 @@ use Rattle.tp_turn.specs.Ready.{CanTakeEvents, KeepsLive, last_copy}
 use Rattle.tp_turning.proofs.EventFacts.{accepted-by, refused-by, refused-event, seen-added}
 use Rattle.tp_turning.proofs.KeptEvents.{events-job}
 use Rattle.tp_turning.proofs.arriving.take_job.Goals as goal
+use Rattle.tp_turn.proofs.StockKept.{within-bounded}
 
 pub ask_waiting-requires-clause-can : goal.ask_waiting-requires-clause-can
 ask_waiting-requires-clause-can g c =
@@ -39,3 +40,6 @@ returns-in-Ok-clause-kept g c =
     (events-job c.args.machine.now o.name o.tray o.media o.groups.now s
     (accepted-by c.args.machine.now s.jobs (length s.waiting) o.name o.tray o.media o.groups.now c.in-Ok.ensures.refused) copies can)))
     c.ask_waiting.ensures.kept
+
+pub ask_waiting-requires-clause-bounded : goal.ask_waiting-requires-clause-bounded
+ask_waiting-requires-clause-bounded g c = within-bounded last_copy c.args.state.now.refills.0 (omega arith) c.requires.stocked.within

@@ -1,5 +1,5 @@
 -- Each turn leads on, with fewer copies left, until no line of those left is open.
-use Rattle.std.proofs.Common.{rules, slice_get, refl, sym, ◌∙◌, arith}
+use Rattle.std.proofs.Common.{rules, slice_get, refl, sym, ◌∙◌, subst, arith}
 use Rattle.tp_jobs.specs.Backlogs.{tray_of}
 use Rattle.tp_turn.specs.LiveStates.{seen}
 use Rattle.tp_turn.specs.Planners.{right_steps}
@@ -8,6 +8,8 @@ use Rattle.tp_turning.proofs.PhaseFacts.{IsStep, begins, closed-planned, closed-
 use Rattle.tp_turning.proofs.asking.ask_waiting.Given.{Over}
 use Rattle.tp_turning.proofs.asking.ask_waiting.Goals as goal
 use Rattle.tp_turning.proofs.asking.ask_waiting.Goals.{After-add, Else-not-planned}
+use Rattle.tp_stock.specs.Stock.{IsBounded}
+use Rattle.tp_stock.specs.declared.refills.Refills.{Refills}
 
 pub asks-init : goal.asks-init
 asks-init g c = record {
@@ -16,6 +18,7 @@ asks-init g c = record {
   counted = omega arith;
   still_serves = λ other. refl;
   marked = refl;
+  refills = refl;
   lasts = refl;
 }
 
@@ -56,6 +59,7 @@ asks-preserved-then-not-planned g c = record {
   counted = omega (arith, c.asks.invariant.counted, c.in_ok-planned.ensures.counted);
   still_serves = λ other. c.in_ok-planned.ensures.still_serves other ∙ c.asks.invariant.still_serves other;
   marked = c.in_ok-planned.ensures.marked ∙ c.asks.invariant.marked;
+  refills = c.in_ok-planned.ensures.refills ∙ c.asks.invariant.refills;
   lasts = c.in_ok-planned.ensures.lasts ∙ c.asks.invariant.lasts;
 }
 
@@ -68,6 +72,7 @@ asks-preserved g c = record {
   counted = omega (arith, c.asks.invariant.counted, c.in_ok-planned.ensures.counted);
   still_serves = λ other. c.in_ok-planned.ensures.still_serves other ∙ c.asks.invariant.still_serves other;
   marked = c.in_ok-planned.ensures.marked ∙ c.asks.invariant.marked;
+  refills = c.in_ok-planned.ensures.refills ∙ c.asks.invariant.refills;
   lasts = c.in_ok-planned.ensures.lasts ∙ c.asks.invariant.lasts;
 }
 
@@ -86,3 +91,6 @@ returns-in_err-planned-clause-stopped g c e =
     c.args.planner.now c.args.notes.now.items (seen c.asks.state) c.asks.planner c.asks.notes.items c.asks.last c.asks.blocked
     c.asks.invariant.under_way c.in-Some.copy (sym c.in-Some.ensures.next) (g.P.Planner.spent c.asks.planner) (λ plans deed plans' p' does. does.0)
     c.try_copy.new.planner c.try_copy.new.notes.items (c.in_err-planned.ensures.stopped (search rules))
+
+pub try_copy-requires-clause-bounded : goal.try_copy-requires-clause-bounded
+try_copy-requires-clause-bounded g c = subst (λ (r : Refills). IsBounded r.0) (sym c.asks.invariant.refills) c.requires.bounded

@@ -13,6 +13,7 @@ invariant-asks g l = record {
   counted : g.P.Planner.stops l.fn.planner ≤ g.P.Planner.stops l.planner;
   still_serves : (other : Machine) → g.P.Planner.serves l.planner other ≡ g.P.Planner.serves l.fn.planner other;
   marked : l.state.lines.kept ≡ l.fn.state.lines.kept;
+  refills : l.state.refills ≡ l.fn.state.refills;
   lasts : g.P.Planner.lasting l.planner ≡ g.P.Planner.lasting l.fn.planner;
 }
 

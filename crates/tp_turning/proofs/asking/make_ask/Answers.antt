@@ -4,4 +4,4 @@ use Rattle.tp_turning.proofs.AskFacts.{ask-made}
 use Rattle.tp_turning.proofs.asking.make_ask.Goals as goal
 
 pub returns : goal.returns
-returns c = ask-made (seen c.args.state.now) c.args.copy c.name_of.result c.want_of.result c.tray_of.result c.none.result c.none.ensures c.requires.waits c.name_of.ensures c.want_of.ensures c.tray_of.ensures
+returns c = ask-made c.args.machine.now (seen c.args.state.now) c.args.copy c.name_of.result c.want_of.result c.tray_of.result c.empty_feeders.result c.empty_feeders.ensures c.requires.waits c.name_of.ensures c.want_of.ensures c.tray_of.ensures

@@ -53,4 +53,5 @@ returns-in-Never g c =
       still_serves = c.in_ok-ask_planner.ensures.still_serves;
       lasts = c.in_ok-ask_planner.ensures.lasts;
       marked = refl;
+      refills = refl;
     }

@@ -9,10 +9,11 @@ use Rattle.tp_turn.proofs.EmptyState.{kept-empty, least-empty}
 use Rattle.tp_turn.specs.Lines.{is_job_broken}
 use Rattle.tp_turn.specs.Ready.{EntersWhereBroken, HasStartedWhole}
 use Rattle.tp_turn.specs.Seen.{HasStarted}
+use Rattle.tp_turn.proofs.StockKept.{stock-empty}
 use Rattle.tp_turning.proofs.laws.empty_state_can_begin.Goals as goal
 
-pub returns : goal.returns
-returns c machine =
+pub returns-clause-can : goal.returns-clause-can
+returns-clause-can c machine =
     let kept = kept-empty machine in
     record {
       kept = record {
@@ -36,3 +37,6 @@ returns c machine =
       };
       least = least-empty machine;
     }
+
+pub returns-clause-stocked : goal.returns-clause-stocked
+returns-clause-stocked c = stock-empty

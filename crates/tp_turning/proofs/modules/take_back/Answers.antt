@@ -1,5 +1,5 @@
 -- A module that comes back is followed by the phase of asks.
-use Rattle.std.proofs.Common.{◌+◌, sym, subst}
+use Rattle.std.proofs.Common.{◌+◌, arith, sym, subst}
 use Rattle.std.proofs.lemmas.Result.{on_ok_weaker}
 use Rattle.tp_turn.specs.LiveStates.{seen}
 use Rattle.tp_turn.specs.Planners.{right_steps}
@@ -9,6 +9,7 @@ use Rattle.tp_turning.specs.Stops.{NotesStop}
 use Rattle.tp_turning.proofs.KeptEvents.{events-on}
 use Rattle.tp_turning.proofs.ModuleEvents.{back-event, back-stop}
 use Rattle.tp_turning.proofs.modules.take_back.Goals as goal
+use Rattle.tp_turn.proofs.StockKept.{within-bounded}
 
 pub ask_waiting-requires-clause-can : goal.ask_waiting-requires-clause-can
 ask_waiting-requires-clause-can g c =
@@ -41,3 +42,6 @@ returns-clause-stopped g c e =
     c.args.event.now c.requires.comes_back (sym c.in-Ok.ensures.refused) c.in-Ok.id.0 c.in-Ok.ensures.found c.ask_waiting.new.planner
     (subst (λ outs. NotesStop (right_steps g.P.Planner.spent g.P.Planner.steps g.P.Planner.stop_steps c.args.machine.now) c.args.machine.now (record s { outs = outs })
     c.args.planner.now c.args.notes.now.items c.ask_waiting.new.planner c.ask_waiting.new.notes.items) c.put_on-state.ensures (c.ask_waiting.ensures.stopped e))
+
+pub ask_waiting-requires-clause-bounded : goal.ask_waiting-requires-clause-bounded
+ask_waiting-requires-clause-bounded g c = within-bounded last_copy c.args.state.now.refills.0 (omega arith) c.requires.stocked.within

@@ -1,11 +1,14 @@
 -- A module that goes out leaves a state that can take any event, and the phase of asks follows.
-use Rattle.std.proofs.Common.{◌+◌, sym}
+use Rattle.std.proofs.Common.{◌+◌, arith, sym, subst}
 use Rattle.std.proofs.lemmas.Result.{on_ok_weaker}
 use Rattle.tp_turn.specs.LiveStates.{seen}
 use Rattle.tp_turn.specs.Planners.{right_steps}
 use Rattle.tp_turn.specs.Ready.{last_copy}
 use Rattle.tp_turning.proofs.ModuleEvents.{out-event, out-stop}
 use Rattle.tp_turning.proofs.modules.take_out.Goals as goal
+use Rattle.tp_stock.specs.Stock.{IsBounded}
+use Rattle.tp_turn.proofs.StockKept.{within-bounded}
+use Rattle.tp_turn.proofs.StockTurns.{refills-goes}
 
 pub ask_waiting-requires-clause-can : goal.ask_waiting-requires-clause-can
 ask_waiting-requires-clause-can g c = (c.in_ok-go_out.ensures.kept last_copy c.requires.can.kept).kept
@@ -33,3 +36,9 @@ returns-clause-stopped g c e =
     c.in-Ok.id.0 c.is_jam.result c.args.event.now c.requires.goes_out c.is_jam.ensures (sym c.in-Ok.ensures.refused) c.in-Ok.ensures.found
     out.0 c.go_out.new.notes.items (seen c.go_out.new.state) c.go_out.new.planner out.1 out.2
     c.ask_waiting.new.planner (c.ask_waiting.ensures.stopped e)
+
+pub ask_waiting-requires-clause-bounded : goal.ask_waiting-requires-clause-bounded
+ask_waiting-requires-clause-bounded g c =
+    let out = c.in_ok-go_out.ensures.out in
+    let same = refills-goes (right_steps g.P.Planner.spent g.P.Planner.steps g.P.Planner.stop_steps c.args.machine.now) c.args.machine.now (seen c.args.state.now) c.in-Ok.id.0 c.is_jam.result c.args.planner.now out.0 (seen c.go_out.new.state) c.go_out.new.planner out.2 in
+    subst IsBounded (sym same) (within-bounded last_copy c.args.state.now.refills.0 (omega arith) c.requires.stocked.within)

@@ -4,14 +4,20 @@ use Rattle.std.specs.Prelude.{IsTrue}
 use Rattle.tp_search.specs.Engines.{is_engine_for}
 use Rattle.tp_teller.specs.Tellers.{most_events}
 use Rattle.tp_turn.specs.LiveStates.{seen}
-use Rattle.tp_turn.specs.Ready.{CanTakeEvents, last_copy}
+use Rattle.tp_turn.specs.Ready.{CanTakeEvents, KeepsStock, last_copy}
 use Rattle.tp_turn.proofs.ReadyTurns.{events-more}
 use Rattle.tp_session.proofs.session.SessionOver.event.Goals as goal
+use Rattle.tp_turn.proofs.StockKept.{stock-more}
 
 pub take_turn-result-requires-clause-can : goal.take_turn-result-requires-clause-can
 take_turn-result-requires-clause-can g c =
     subst (CanTakeEvents c.self.inside.machine last_copy) (sym c.in_ok-before.ensures.stays)
     (events-more c.self.inside.machine c.self.inside.answered last_copy (seen c.self.inside.state) (omega (arith, c.self.invariant.within)) c.self.invariant.can)
+
+pub take_turn-result-requires-clause-stocked : goal.take_turn-result-requires-clause-stocked
+take_turn-result-requires-clause-stocked g c =
+    subst (KeepsStock c.self.inside.machine last_copy) (sym c.in_ok-before.ensures.stays)
+    (stock-more c.self.inside.machine c.self.inside.answered last_copy (seen c.self.inside.state) (omega (arith, c.self.invariant.within)) c.self.invariant.stocked)
 
 pub invariant_of-self-in-Ok-1 : goal.invariant_of-self-in-Ok-1
 invariant_of-self-in-Ok-1 g c =
@@ -22,6 +28,7 @@ invariant_of-self-in-Ok-1 g c =
       bounds = ap (λ e. e.bounds) cleared ∙ c.take_turn-result.ensures.bounds ∙ c.self.invariant.bounds;
       no_trees = ap (λ e. e.trees) cleared;
       can = c.in-Ok.ensures.kept c.self.inside.answered (subst (CanTakeEvents c.self.inside.machine c.self.inside.answered) (sym c.in_ok-before.ensures.stays) c.self.invariant.can);
+      stocked = c.in-Ok.ensures.stocked c.self.inside.answered (subst (KeepsStock c.self.inside.machine c.self.inside.answered) (sym c.in_ok-before.ensures.stays) c.self.invariant.stocked);
       within = subst (λ n. n + 1 ≤ most_events) (sym (ap (λ v. v.answered) c.self.view_is)) (less c.requires.few);
     }
   where

@@ -1,5 +1,5 @@
 use Rattle.std.proofs.Common.{arith, sym, subst}
-use Rattle.tp_turn.specs.Ready.{CanTakeEvents}
+use Rattle.tp_turn.specs.Ready.{CanTakeEvents, KeepsStock}
 use Rattle.tp_session.proofs.session.SessionOver.over.Goals as goal
 
 pub invariant_of-result : goal.invariant_of-result
@@ -8,6 +8,7 @@ invariant_of-result g c = record {
   nodes = c.in_ok-engine.ensures.nodes;
   bounds = c.in_ok-engine.ensures.bounds.0;
   no_trees = c.in_ok-engine.ensures.bounds.1;
-  can = subst (CanTakeEvents c.args.machine 0) (sym c.new-2.ensures) (c.empty_state_can_begin.ensures c.args.machine);
+  can = subst (CanTakeEvents c.args.machine 0) (sym c.new-2.ensures) (c.empty_state_can_begin.ensures.can c.args.machine);
+  stocked = subst (KeepsStock c.args.machine 0) (sym c.new-2.ensures) (c.empty_state_can_begin.ensures.stocked c.args.machine);
   within = omega arith;
 }

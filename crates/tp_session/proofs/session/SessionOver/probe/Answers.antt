@@ -1,9 +1,11 @@
 -- What was told of the live part, with the engine's nodes, is told of the session.
-use Rattle.std.proofs.Common.{ℕ, subst}
+use Rattle.std.proofs.Common.{ℕ, arith, subst}
 use Rattle.tp_turn.specs.LiveStates.{seen}
 use Rattle.tp_session.specs.Probes.{Probes}
 use Rattle.tp_session.proofs.ProbeFacts.{probes-behind}
 use Rattle.tp_session.proofs.session.SessionOver.probe.Goals as goal
+use Rattle.tp_turn.specs.Ready.{last_copy}
+use Rattle.tp_turn.proofs.StockKept.{stock-more}
 
 pub returns-in-Ok-clause-told : goal.returns-in-Ok-clause-told
 returns-in-Ok-clause-told g c =
@@ -17,3 +19,6 @@ returns-in-Err-clause-told g c =
     let i = c.self.inside in
     subst (λ v. Probes v.standing c.args.event.now c.in-Err.told) c.self.view_is
     (probes-behind i.machine i.budget i.bounds (seen i.state) c.args.event.now c.in-Err.told (c.in-Err.ensures.told i.budget))
+
+pub first_ask-requires-clause-stocked : goal.first_ask-requires-clause-stocked
+first_ask-requires-clause-stocked g c = stock-more c.self.inside.machine c.self.inside.answered last_copy (seen c.self.inside.state) (omega (arith, c.self.invariant.within)) c.self.invariant.stocked

@@ -8,7 +8,7 @@ use Rattle.tp_schedule.proofs.Pairs.{AllPairs-head, AllPairs-tail}
 use Rattle.tp_schedule.specs.Plans.{IsEarlier, change_plan, is_before, is_same_copy, without}
 use Rattle.tp_schedule.specs.declared.parts.Plan.{Plan}
 use Rattle.tp_schedule.specs.declared.parts.SheetId.{SheetId}
-use Rattle.tp_outages.proofs.Counts.{count-cons}
+use Rattle.tp_stock.proofs.StockFacts.{count-cons}
 
 -- lists less the plan of a copy
 pub before-differs : (a b c : SheetId) → is_same_copy a c ≡ true → is_before a b ≡ true → is_same_copy b c ≡ false

@@ -1,0 +1,10 @@
+use Rattle.tp_turn.proofs.StockKept.{stock-empty}
+use Rattle.tp_turn.proofs.StockTurns.{stocked-turn}
+use Rattle.tp_turn.specs.Planners.{right_steps}
+use Rattle.tp_turn.proofs.laws.stocks_are_never_overdrawn.Goals as goal
+
+pub returns-clause-empty : goal.returns-clause-empty
+returns-clause-empty g c machine = (stock-empty machine).drawn
+
+pub returns-clause-turn : goal.returns-clause-turn
+returns-clause-turn g c machine = stocked-turn (right_steps g.P.Planner.spent g.P.Planner.steps g.P.Planner.stop_steps machine) machine (λ p. g.P.Planner.spent p) (λ p plans deed plans' p' does. does.0)
