@@ -19,6 +19,7 @@ fn mode_of(text: &str) -> Option<Mode>
         "run" => Some(Mode::Run),
         "check" => Some(Mode::Check),
         "soak" => Some(Mode::Soak),
+        "compose" => Some(Mode::Compose),
         _ => None,
     }
 }
@@ -68,6 +69,7 @@ fn is_arg(mode: Mode, arg: &str) -> bool
         Mode::Run => true,
         Mode::Check => true,
         Mode::Soak => is_seed(arg.as_bytes()),
+        Mode::Compose => true,
     }
 }
 

@@ -1,11 +1,13 @@
 //! What the words of the command line ask for.
 
-/// What is to be done: a script is run, a log is checked, or a made script is run and counted.
+/// What is to be done: a script is run, a log is checked, a made script is run and counted, or a machine is composed of a
+/// rack.
 #[derive(Clone, Copy, Debug, PartialEq, Eq)]
 pub enum Mode {
     Run,
     Check,
     Soak,
+    Compose,
 }
 
 /// What the words ask for.

@@ -1,59 +1,124 @@
 -- Where everything is in order, the text that is named is the one that the shelf tells, and no cause of a refusal holds.
-use Rattle.std.proofs.Common.{◌≡◌, ◌≢◌, ℕ, ◌<◌, ◌≤◌, List, length, Option, Some, None, sym, subst, ◌∙◌, arith}
-use Rattle.std.specs.Prelude.{IsSomeAnd}
+use Rattle.std.proofs.Common.{◌≡◌, ◌≢◌, ℕ, ◌<◌, ◌≤◌, List, length, Option, Some, None, inl, inr, sym, subst, ◌∙◌, arith}
+use Rattle.std.specs.Prelude.{IsSomeAnd, IsTrue}
 use Rattle.tp_outside.specs.Outside.{Files, file_at}
+use Rattle.tp_command.specs.Form.{Asked}
+use Rattle.tp_compose.specs.Texts.{IsFlatBrokenAt, IsRackBrokenAt}
+use Rattle.tp_compose.specs.declared.composing.RackFault.TheVariants as rack
 use Rattle.tp_machine_text.specs.Texts.{IsBrokenAt, IsNotToml, IsSound}
+use Rattle.tp_machine_text.specs.declared.text.MachineFault.TheVariants as fault
 use Rattle.tp_machine_text.proofs.OneTable.{sound}
-use Rattle.tp_stream.specs.declared.stop.Stop.TheVariants.{Line, Lines}
-use Rattle.tp_program.specs.Causes.{IsLongText, NamesLongText, NamesText, StopsBy, most_text}
-use Rattle.tp_program.specs.InOrder.{IsInOrder, NoneIsRefused}
-use Rattle.tp_program.specs.Requests.{run_asked}
+use Rattle.tp_stream.specs.declared.stop.Stop.TheVariants as stop
+use Rattle.tp_program.specs.Composing.{NoRack, WritesComposed}
+use Rattle.tp_program.specs.InOrder.{IsRackInOrder, IsRunInOrder, IsThere, NoRackIsRefused, NoRunIsRefused, is_refusal}
+use Rattle.tp_program.specs.Requests.{asked_by}
+use Rattle.tp_program.specs.Runs.{NoMachine, RanBy}
+use Rattle.tp_program.specs.Texts.{IsLongText, IsShelved, most_text}
+use Rattle.tp_program.specs.declared.status.Long.TheVariants as size
+use Rattle.tp_program.specs.declared.status.Status.{Status}
+use Rattle.tp_program.specs.declared.status.Status.TheVariants as status
 use Rattle.tp_program.proofs.Sizes.{not_too_long, not_too_many}
 
 not_longer : (n : ℕ) → n ≤ most_text → most_text < n → ⊥
 not_longer n fits long = omega (arith, fits, long)
 
-module _ (words : List (List ℕ)) (files : Files) (script : List ℕ) (good : IsInOrder words files script) where
-  same_text : (P : List ℕ → Type 0) (named : NamesText words (Some files) P) → named.text.text ≡ good.text
+named_something : (words : List (List ℕ)) (asked : Asked) → asked_by words ≡ Some asked → asked_by words ≢ None
+named_something words asked named none = (let some : Some asked ≡ None = sym named ∙ none in absurd cc)
+
+-- the text of a name that is there
+module _ (files : Files) (name text : List ℕ) (there : IsThere files name text) where
+  same_text : (P : List ℕ → Type 0) (named : IsShelved (Some files) name P) → named.text ≡ text
   same_text P named =
-      let told : file_at files named.asked.arg ≡ Some named.text.text = named.text.is_told in
-      let asked : Some named.asked ≡ Some good.asked = sym named.named ∙ good.named in
-      let here : file_at files good.asked.arg ≡ Some good.text = good.is_told in
+      let told : file_at files name ≡ Some named.text = named.is_told in
+      let here : file_at files name ≡ Some text = there.is_told in
       cc
 
+  has : (P : List ℕ → Type 0) → IsShelved (Some files) name P → P text
+  has P named = subst P (same_text P named) named.has
+
+  not_long : ¬ IsLongText (Some files) name
+  not_long long = not_longer (length text) there.fits (subst (λ found. IsSomeAnd found (λ text. most_text < length text)) there.is_told long)
+
+module _ (words : List (List ℕ)) (files : Files) (script : List ℕ) (asked : Asked) (good : IsRunInOrder words files script asked) where
   is_sound : IsSound good.text
   is_sound = sound good.text good.is_text.0 good.is_text.1 good.is_text.2
 
-  no_usage : run_asked words ≢ None
-  no_usage none = (let some : Some good.asked ≡ None = sym good.named ∙ none in absurd cc)
+  has_text : (P : List ℕ → Type 0) → IsShelved (Some files) asked.arg P → P good.text
+  has_text = has files asked.arg good.text good.there
 
-  no_long_text : ¬ NamesLongText words (Some files)
-  no_long_text long =
-      let named = subst (λ found. IsSomeAnd found (λ asked. IsLongText (Some files) asked.arg)) good.named long in
-      not_longer (length good.text) good.fits (subst (λ found. IsSomeAnd found (λ text. most_text < length text)) good.is_told named)
+  found : (s : Status) → IsTrue (is_refusal s) → ¬ NoMachine (Some files) asked.arg s
+  found (status.Machine fault.NotToml) is none = is_sound.0 (has_text IsNotToml none)
+  found (status.Machine (fault.Rule n)) is none = is_sound.1 n (has_text (IsBrokenAt n) none)
+  found (status.Machine fault.Memory) is none = none
+  found (status.TooLong size.MachineText) is none = not_long files asked.arg good.text good.there none
+  found (status.TooLong (size.Line n)) is none = none
+  found (status.TooLong size.Lines) is none = none
+  found status.Usage is none = none
+  found (status.Rack f) is none = none
+  found status.Done is none = none
+  found status.Memory is none = absurd cc
+  found status.Shelf is none = absurd cc
+  found status.Source is none = none
+  found status.Sink is none = none
 
-  toml : ¬ NamesText words (Some files) IsNotToml
-  toml named = is_sound.0 (subst IsNotToml (same_text IsNotToml named) named.text.has)
-
-  no_rule : (n : ℕ) → ¬ NamesText words (Some files) (IsBrokenAt n)
-  no_rule n named = is_sound.1 n (subst (IsBrokenAt n) (same_text (IsBrokenAt n) named) named.text.has)
-
-  no_long_line : (n : ℕ) (left taken taken' : Option (List ℕ)) → ¬ StopsBy words (Some files) (Line n) (Some script) left taken taken'
-  no_long_line n left taken taken' stops =
-      let (read, (after, whole, rest_left), to) = stops.did in
+  answered : (s : Status) → IsTrue (is_refusal s) → (left taken taken' : Option (List ℕ)) → ¬ RanBy (Some files) asked (Some script) left taken taken' s
+  answered (status.TooLong (size.Line n)) is left taken taken' ran =
+      let (read, (after, whole, rest_left), to) = ran.did in
       not_too_long 4096 script read to.done to.rest after good.lines_fit whole to.parts to.whole to.stops.0
-
-  few_lines : (left taken taken' : Option (List ℕ)) → ¬ StopsBy words (Some files) Lines (Some script) left taken taken'
-  few_lines left taken taken' stops =
-      let (read, (after, whole, rest_left), to) = stops.did in
+  answered (status.TooLong size.Lines) is left taken taken' ran =
+      let (read, (after, whole, rest_left), to) = ran.did in
       not_too_many 1000000 script read to.done to.rest after good.few whole to.parts to.whole to.stops.0 to.stops.1
+  answered (status.TooLong size.MachineText) is left taken taken' ran = ran.did
+  answered (status.Machine f) is left taken taken' ran = ran.did
+  answered status.Usage is left taken taken' ran = ran.did
+  answered (status.Rack f) is left taken taken' ran = ran.did
+  answered status.Done is left taken taken' ran = absurd cc
+  answered status.Memory is left taken taken' ran = absurd cc
+  answered status.Shelf is left taken taken' ran = ran.did
+  answered status.Source is left taken taken' ran = absurd cc
+  answered status.Sink is left taken taken' ran = absurd cc
 
-pub none_is_refused : NoneIsRefused
-none_is_refused words files script good = record {
-  no_usage = no_usage words files script good;
-  no_long_text = no_long_text words files script good;
-  toml = toml words files script good;
-  no_rule = no_rule words files script good;
-  no_long_line = no_long_line words files script good;
-  few_lines = few_lines words files script good;
+pub no_run_is_refused : NoRunIsRefused
+no_run_is_refused words files script asked good = record {
+  no_usage = named_something words asked good.named;
+  found = found words files script asked good;
+  answered = answered words files script asked good;
+}
+
+module _ (words : List (List ℕ)) (files : Files) (asked : Asked) (good : IsRackInOrder words files asked) where
+  has_rack : (P : List ℕ → Type 0) → IsShelved (Some files) asked.arg P → P good.text
+  has_rack = has files asked.arg good.text good.there
+
+  composed : (s : Status) → IsTrue (is_refusal s) → ¬ NoRack (Some files) asked.arg s
+  composed (status.Rack rack.NotToml) is none = good.is_rack.0 (has_rack IsNotToml none)
+  composed (status.Rack (rack.Rule n)) is none = good.is_rack.1 n (has_rack (IsRackBrokenAt n) none)
+  composed (status.Rack (rack.Flat n)) is none = good.is_rack.2 n (has_rack (IsFlatBrokenAt n) none)
+  composed (status.Rack rack.Memory) is none = none
+  composed (status.TooLong size.MachineText) is none = not_long files asked.arg good.text good.there none
+  composed (status.TooLong (size.Line n)) is none = none
+  composed (status.TooLong size.Lines) is none = none
+  composed status.Usage is none = none
+  composed (status.Machine f) is none = none
+  composed status.Done is none = none
+  composed status.Memory is none = absurd cc
+  composed status.Shelf is none = absurd cc
+  composed status.Source is none = none
+  composed status.Sink is none = none
+
+  written : (s : Status) → IsTrue (is_refusal s) → (taken taken' : Option (List ℕ)) → ¬ WritesComposed (Some files) asked.arg taken taken' s
+  written (status.Rack f) is taken taken' wrote = wrote.has.1
+  written (status.TooLong long) is taken taken' wrote = wrote.has.1
+  written status.Usage is taken taken' wrote = wrote.has.1
+  written (status.Machine f) is taken taken' wrote = wrote.has.1
+  written status.Done is taken taken' wrote = absurd cc
+  written status.Memory is taken taken' wrote = wrote.has.1
+  written status.Shelf is taken taken' wrote = wrote.has.1
+  written status.Source is taken taken' wrote = wrote.has.1
+  written status.Sink is taken taken' wrote = absurd cc
+
+pub no_rack_is_refused : NoRackIsRefused
+no_rack_is_refused words files asked good = record {
+  no_usage = named_something words asked good.named;
+  found = composed words files asked good;
+  written = written words files asked good;
 }

@@ -1,3 +1,6 @@
+mod AskedFacts
+mod ComposeFacts
 mod InOrderFacts
 mod RunFacts
 mod Sizes
+mod TextFacts

@@ -8,7 +8,7 @@ use Rattle.tp_stream.specs.Takes.{IsReadFrom, Stops, TakesAll, place_of}
 use Rattle.tp_stream.specs.declared.stop.Stop.{Stop}
 use Rattle.tp_stream.specs.declared.stop.Stop.TheVariants.{Memory}
 use Rattle.tp_stream.proofs.TakesFacts.{read_none, takes_none}
-use Rattle.tp_program.specs.Causes.{DoneOn, StopsOn}
+use Rattle.tp_program.specs.Runs.{DoneOn, StopsOn}
 
 -- what a session answered from its start
 pub done_on : (machine : Machine) (budget : Option ℕ) (bounds : Bool) (left left' taken taken' : Option (List ℕ)) (start : Standing) → SessionsLawful machine budget bounds → start ≡ start_of machine budget bounds
@@ -19,13 +19,13 @@ done_on machine budget bounds left left' taken taken' start lawful e (bytes, rea
 
 pub stops_on : (machine : Machine) (budget : Option ℕ) (bounds : Bool) (left left' taken taken' : Option (List ℕ)) (start : Standing) (stop : Stop) → SessionsStopLawful machine budget bounds → start ≡ start_of machine budget bounds
     → (bytes : List ℕ) × IsReadFrom left bytes left' × ((s : Standing) × Stops (AnswersLine Tells) NoRefusal line_bytes most_lines (place_of start 0 taken) bytes stop s taken')
-    → StopsOn stop machine (unwrap_or budget machine.budget) bounds left left' taken taken'
+    → StopsOn machine (unwrap_or budget machine.budget) bounds left left' taken taken' stop
 stops_on machine budget bounds left left' taken taken' start stop lawful e (bytes, read, (s, stops)) =
     (bytes, read, lawful stop bytes taken taken' s (subst (λ x. Stops (AnswersLine Tells) NoRefusal line_bytes most_lines (place_of x 0 taken) bytes stop s taken') e stops))
 
 -- where no session could be made
 pub never_began : (machine : Machine) (budget : Option ℕ) (bounds : Bool) (left taken : Option (List ℕ)) → SessionsStopLawful machine budget bounds
-    → StopsOn Memory machine (unwrap_or budget machine.budget) bounds left left taken taken
+    → StopsOn machine (unwrap_or budget machine.budget) bounds left left taken taken Memory
 never_began machine budget bounds left taken lawful = (
   [],
   read_none left,

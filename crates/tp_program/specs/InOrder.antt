@@ -1,36 +1,70 @@
--- Runs in which everything is in order, and what that excludes.
-use Rattle.std.specs.Prelude.{◌≡◌, ◌≢◌, ℕ, ◌≤◌, List, All, length, Option, Some, None}
+-- Requests in which everything is in order, and what that excludes.
+use Rattle.std.specs.Prelude.{◌≡◌, ◌≢◌, ℕ, ◌≤◌, Bool, true, false, List, All, length, Option, Some, None, IsTrue}
 use Rattle.tp_outside.specs.Outside.{Files, file_at}
 use Rattle.tp_machine.specs.declared.machine.Machine.{Machine}
-use Rattle.tp_machine_text.specs.Texts.{IsBrokenAt, IsMachineText, IsNotToml}
+use Rattle.tp_machine_text.specs.Texts.{IsMachineText}
 use Rattle.tp_command.specs.Form.{Asked}
+use Rattle.tp_command.specs.declared.request.Mode.TheVariants.{Run, Compose}
+use Rattle.tp_compose.specs.Texts.{IsSoundRack}
 use Rattle.tp_words.specs.Texts.{lines_of}
 use Rattle.tp_stream.specs.Scripts.{line_bytes, most_lines}
 use Rattle.tp_stream.specs.Takes.{FitsIn}
-use Rattle.tp_stream.specs.declared.stop.Stop.TheVariants.{Line, Lines}
-use Rattle.tp_program.specs.Causes.{NamesLongText, NamesText, StopsBy, most_text}
-use Rattle.tp_program.specs.Requests.{run_asked}
+use Rattle.tp_program.specs.Composing.{NoRack, WritesComposed}
+use Rattle.tp_program.specs.Requests.{asked_by}
+use Rattle.tp_program.specs.Runs.{NoMachine, RanBy}
+use Rattle.tp_program.specs.Texts.{most_text}
+use Rattle.tp_program.specs.declared.status.Status.{Status}
+use Rattle.tp_program.specs.declared.status.Status.TheVariants.{Usage, Machine as MachineIs, TooLong, Rack}
+
+-- the status refuses what was given: it is neither an answer, nor want of memory, nor a fault of the outside
+abbrev pub is_refusal : Status → Bool
+is_refusal Usage = true
+is_refusal (MachineIs fault) = true
+is_refusal (TooLong long) = true
+is_refusal (Rack fault) = true
+is_refusal _ = false
+
+-- the name is that of a text of at most 1,048,576 bytes
+pub record IsThere (files : Files) (name text : List ℕ) : Type 0 where
+  pub is_told : file_at files name ≡ Some text
+  pub fits : length text ≤ most_text
 
 -- the words ask for a run on the text of a machine, and the text and the script keep their sizes
-pub record IsInOrder (words : List (List ℕ)) (files : Files) (script : List ℕ) : Type 0 where
-  pub asked : Asked
-  pub named : run_asked words ≡ Some asked
+pub record IsRunInOrder (words : List (List ℕ)) (files : Files) (script : List ℕ) (asked : Asked) : Type 0 where
+  pub named : asked_by words ≡ Some asked
+  pub mode : asked.mode ≡ Run
   pub text : List ℕ
-  pub is_told : file_at files asked.arg ≡ Some text
-  pub fits : length text ≤ most_text
+  pub there : IsThere files asked.arg text
   pub machine : Machine
   pub is_text : IsMachineText text machine
   pub lines_fit : All (FitsIn line_bytes) (lines_of script)
   pub few : length (lines_of script) ≤ most_lines
 
 -- then no cause of a refusal holds
-pub record IsNotRefused (words : List (List ℕ)) (files : Files) (script : List ℕ) : Type 0 where
-  pub no_usage : run_asked words ≢ None
-  pub no_long_text : ¬ NamesLongText words (Some files)
-  pub toml : ¬ NamesText words (Some files) IsNotToml
-  pub no_rule : (n : ℕ) → ¬ NamesText words (Some files) (IsBrokenAt n)
-  pub no_long_line : (n : ℕ) (left taken taken' : Option (List ℕ)) → ¬ StopsBy words (Some files) (Line n) (Some script) left taken taken'
-  pub few_lines : (left taken taken' : Option (List ℕ)) → ¬ StopsBy words (Some files) Lines (Some script) left taken taken'
+pub record RunIsNotRefused (words : List (List ℕ)) (files : Files) (script : List ℕ) (asked : Asked) : Type 0 where
+  pub no_usage : asked_by words ≢ None
+  pub found : (status : Status) → IsTrue (is_refusal status) → ¬ NoMachine (Some files) asked.arg status
+  pub answered : (status : Status) → IsTrue (is_refusal status) → (left taken taken' : Option (List ℕ))
+      → ¬ RanBy (Some files) asked (Some script) left taken taken' status
 
-abbrev pub NoneIsRefused : Type 0
-NoneIsRefused = (words : List (List ℕ)) (files : Files) (script : List ℕ) → IsInOrder words files script → IsNotRefused words files script
+abbrev pub NoRunIsRefused : Type 0
+NoRunIsRefused = (words : List (List ℕ)) (files : Files) (script : List ℕ) (asked : Asked)
+    → IsRunInOrder words files script asked → RunIsNotRefused words files script asked
+
+-- the words ask for what is composed of a rack's text, and the text keeps its size
+pub record IsRackInOrder (words : List (List ℕ)) (files : Files) (asked : Asked) : Type 0 where
+  pub named : asked_by words ≡ Some asked
+  pub mode : asked.mode ≡ Compose
+  pub text : List ℕ
+  pub there : IsThere files asked.arg text
+  pub is_rack : IsSoundRack text
+
+-- then no cause of a refusal holds
+pub record RackIsNotRefused (words : List (List ℕ)) (files : Files) (asked : Asked) : Type 0 where
+  pub no_usage : asked_by words ≢ None
+  pub found : (status : Status) → IsTrue (is_refusal status) → ¬ NoRack (Some files) asked.arg status
+  pub written : (status : Status) → IsTrue (is_refusal status) → (taken taken' : Option (List ℕ))
+      → ¬ WritesComposed (Some files) asked.arg taken taken' status
+
+abbrev pub NoRackIsRefused : Type 0
+NoRackIsRefused = (words : List (List ℕ)) (files : Files) (asked : Asked) → IsRackInOrder words files asked → RackIsNotRefused words files asked

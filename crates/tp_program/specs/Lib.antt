@@ -1,4 +1,8 @@
 pub mod Requests
 pub mod Statuses
-pub mod Causes
+pub mod Texts
+pub mod Writing
+pub mod Runs
+pub mod Composing
+pub mod Modes
 pub mod InOrder

@@ -1,9 +1,10 @@
 -- The number and the line of each status.
-use Rattle.std.specs.Prelude.{ℕ, Bool, true, false, List, ◌++◌, codes}
+use Rattle.std.specs.Prelude.{ℕ, List, ◌++◌, codes}
 use Rattle.std.specs.Fmt.{decimal}
 use Rattle.tp_machine_text.specs.declared.text.MachineFault.{MachineFault}
 use Rattle.tp_machine_text.specs.declared.text.MachineFault.TheVariants as fault
-use Rattle.tp_program.specs.declared.status.Long.TheVariants as size
+use Rattle.tp_compose.specs.declared.composing.RackFault.{RackFault}
+use Rattle.tp_compose.specs.declared.composing.RackFault.TheVariants as rack
 use Rattle.tp_program.specs.declared.status.Status.{Status}
 use Rattle.tp_program.specs.declared.status.Status.TheVariants as status
 
@@ -16,11 +17,18 @@ status_number status.Shelf = 4
 status_number status.Source = 5
 status_number status.Sink = 6
 status_number (status.TooLong long) = 7
+status_number (status.Rack f) = 10
 
 abbrev pub fault_line : MachineFault → List ℕ
 fault_line fault.Memory = codes "out of memory"
 fault_line fault.NotToml = codes "not TOML"
 fault_line (fault.Rule n) = codes "rule " ++ decimal n
+
+abbrev pub rack_line : RackFault → List ℕ
+rack_line rack.Memory = codes "out of memory"
+rack_line rack.NotToml = codes "not TOML"
+rack_line (rack.Rule n) = codes "rule " ++ decimal n
+rack_line (rack.Flat n) = codes "flat rule " ++ decimal n
 
 abbrev pub status_line : Status → List ℕ
 status_line status.Done = codes ""
@@ -31,15 +39,4 @@ status_line status.Shelf = codes "printer: cannot read the machine text"
 status_line status.Source = codes "printer: cannot read the input"
 status_line status.Sink = codes "printer: cannot write the output"
 status_line (status.TooLong long) = codes "printer: input too long"
-
--- the machine text can't be read, or is none
-abbrev pub is_of_machine : Status → Bool
-is_of_machine (status.Machine f) = true
-is_of_machine status.Shelf = true
-is_of_machine (status.TooLong size.MachineText) = true
-is_of_machine _ = false
-
--- the run hasn't begun: nothing is written, and the script is not touched
-abbrev pub comes_before_run : Status → Bool
-comes_before_run status.Usage = true
-comes_before_run s = is_of_machine s
+status_line (status.Rack f) = codes "printer: rack: " ++ rack_line f

@@ -1,19 +1,17 @@
 //! The machine that the shelf has under a name.
 
-ghost use Rattle.std.specs.Prelude.{◌≡◌, ◌≢◌, ◌⊎◌, ℕ, IfOk, IfErr, IfSome, IsSome, IsTrue};
-ghost use Rattle.tp_machine_text.specs.Texts.{IsBrokenAt, IsMachineText, IsNotToml};
+ghost use Rattle.std.specs.Prelude.{◌≡◌, IfOk, IfErr, IfSome, IsSome};
+ghost use Rattle.tp_machine_text.specs.Texts.{IsMachineText};
 ghost use Rattle.tp_outside.specs.Outside.{Rises, file_at};
-ghost use Rattle.tp_program.specs.Causes.{IsLongText, IsShelved};
-ghost use Rattle.tp_program.specs.Statuses.{is_of_machine};
+ghost use Rattle.tp_program.specs.Runs.{NoMachine};
+ghost use Rattle.tp_program.specs.Texts.{IsShelved};
 
-use crate::{Long, Status};
+use crate::Status;
+use crate::text::find_text;
 use std::alloc::Global;
 use tp_machine::Machine;
 use tp_machine_text::{MachineFault, read_machine};
-use tp_outside::{ReadError, Shelf, read_file};
-
-/// The most bytes of a machine text.
-const MACHINE_BYTES: usize = 1_048_576;
+use tp_outside::Shelf;
 
 /// Reads the machine text of this name. An `Err` is the status that the run ends with.
 pub(crate) fn find_machine<H: Shelf>(
@@ -23,24 +21,15 @@ pub(crate) fn find_machine<H: Shelf>(
 ) -> Result<Machine, Status>
     ensures found { IfOk result (λ machine.
         IsShelved (H.told shelf.old) name.now (λ text. IsMachineText text machine)) }
-    ensures too_long { IfErr result (λ s. s ≡ Status.TooLong Long.MachineText
-        → IsLongText (H.told shelf.old) name.now) }
-    ensures not_toml { IfErr result (λ s. s ≡ Status.Machine MachineFault.NotToml
-        → IsShelved (H.told shelf.old) name.now IsNotToml) }
-    ensures rule { IfErr result (λ s. (n : ℕ) → s ≡ Status.Machine (MachineFault.Rule n)
-        → IsShelved (H.told shelf.old) name.now (IsBrokenAt n)) }
-    ensures no_memory { IfErr result (λ s. s ≢ Status.Machine MachineFault.Memory) }
+    ensures none { IfErr result (NoMachine (H.told shelf.old) name.now) }
     ensures shelf { IfErr result (λ s. s ≡ Status.Shelf
         → Rises (H.faults shelf.old) (H.faults shelf.new)) }
     ensures amiss { IfErr result (λ s. s ≡ Status.Shelf → IfSome (H.told shelf.old) (λ files.
         IsSome (file_at files name.now) → Rises (H.amiss shelf.old) (H.amiss shelf.new))) }
-    ensures which { IfErr result (λ s. (s ≡ Status.Memory) ⊎ IsTrue (is_of_machine s)) }
 {
-    let text = match read_file(alloc, shelf, name, MACHINE_BYTES) {
+    let text = match find_text(alloc, shelf, name) {
         Ok(text) => text,
-        Err(ReadError::Memory) => return Err(Status::Memory),
-        Err(ReadError::Failed) => return Err(Status::Shelf),
-        Err(ReadError::TooLong) => return Err(Status::TooLong(Long::MachineText)),
+        Err(status) => return Err(status),
     };
     match read_machine(alloc, &text) {
         Ok(machine) => Ok(machine),

@@ -1,10 +1,15 @@
-//! What holds of runs in which everything is in order.
+//! What holds where everything is in order. The calls do nothing: their contracts are the laws.
 
-ghost use Rattle.tp_program.specs.InOrder.{NoneIsRefused};
+ghost use Rattle.tp_program.specs.InOrder.{NoRackIsRefused, NoRunIsRefused};
 
-/// Does nothing: its contract is the law. Where the words ask for a run, name the text of a machine, and the script keeps its
-/// sizes, no cause of `Usage`, `Machine` or `TooLong` holds. So where the outside doesn't fail either, a run ends in `Done`,
-/// or in `Memory`.
+/// Where the words ask for a run, name the text of a machine, and the script keeps its sizes, no cause of a refusal holds. So
+/// where the outside doesn't fail either, a run ends in `Done`, or in `Memory`.
 pub fn runs_in_order_are_answered()
-    ensures { NoneIsRefused }
+    ensures { NoRunIsRefused }
+{}
+
+/// Where the words ask for what is composed of a rack, and name the text of one, no cause of a refusal holds. So where the
+/// outside doesn't fail either, composing ends in `Done`, or in `Memory`.
+pub fn racks_in_order_are_composed()
+    ensures { NoRackIsRefused }
 {}

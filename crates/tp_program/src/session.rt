@@ -1,10 +1,9 @@
 //! A script answered on a machine.
 
-ghost use Rattle.std.specs.Prelude.{◌≡◌, ℕ, [], Some, IfErr, IfSome, IsErrOf, IsFalse, OnOk, unwrap_or};
+ghost use Rattle.std.specs.Prelude.{◌≡◌, [], Some, IfErr, IfSome, IsErrOf, OnOk, unwrap_or};
 ghost use Rattle.tp_outside.specs.Outside.{Rises};
 ghost use Rattle.tp_stream.specs.declared.stop.Stop.{Stop};
-ghost use Rattle.tp_program.specs.Causes.{DoneOn, StopsOn};
-ghost use Rattle.tp_program.specs.Statuses.{comes_before_run};
+ghost use Rattle.tp_program.specs.Runs.{DoneOn, EndsOn, StopsOn};
 
 use crate::{Long, Status};
 use std::alloc::Global;
@@ -25,8 +24,8 @@ fn answer_on<S: Source, K: Sink>(
         settings.bounds
         (S.left source.old) (S.left source.new) (K.taken sink.old) (K.taken sink.new)) }
     ensures end { OnOk result (IfSome (S.left source.old) (λ _. S.left source.new ≡ Some [])) }
-    ensures stops { IfErr result (λ stop. StopsOn stop machine
-        (unwrap_or settings.budget machine.budget) settings.bounds
+    ensures stops { IfErr result (StopsOn machine (unwrap_or settings.budget machine.budget)
+        settings.bounds
         (S.left source.old) (S.left source.new) (K.taken sink.old) (K.taken sink.new)) }
     ensures source { IsErrOf result Stop.Source
         → Rises (S.faults source.old) (S.faults source.new) }
@@ -47,34 +46,10 @@ pub(crate) fn run_on<S: Source, K: Sink>(
     source: &mut S,
     sink: &mut K,
 ) -> Status
-    ensures done { result ≡ Status.Done → DoneOn machine (unwrap_or settings.budget machine.budget)
-        settings.bounds
-        (S.left source.old) (S.left source.new) (K.taken sink.old) (K.taken sink.new) }
-    ensures end { result ≡ Status.Done
-        → IfSome (S.left source.old) (λ _. S.left source.new ≡ Some []) }
-    ensures memory_stops { result ≡ Status.Memory
-        → StopsOn Stop.Memory machine (unwrap_or settings.budget machine.budget)
-        settings.bounds
-        (S.left source.old) (S.left source.new) (K.taken sink.old) (K.taken sink.new) }
-    ensures source_stops { result ≡ Status.Source
-        → StopsOn Stop.Source machine (unwrap_or settings.budget machine.budget)
-        settings.bounds
-        (S.left source.old) (S.left source.new) (K.taken sink.old) (K.taken sink.new) }
-    ensures sink_stops { result ≡ Status.Sink
-        → StopsOn Stop.Sink machine (unwrap_or settings.budget machine.budget)
-        settings.bounds
-        (S.left source.old) (S.left source.new) (K.taken sink.old) (K.taken sink.new) }
-    ensures line_stops { (n : ℕ) → result ≡ Status.TooLong (Long.Line n)
-        → StopsOn (Stop.Line n) machine (unwrap_or settings.budget machine.budget)
-        settings.bounds
-        (S.left source.old) (S.left source.new) (K.taken sink.old) (K.taken sink.new) }
-    ensures lines_stop { result ≡ Status.TooLong Long.Lines
-        → StopsOn Stop.Lines machine (unwrap_or settings.budget machine.budget)
-        settings.bounds
-        (S.left source.old) (S.left source.new) (K.taken sink.old) (K.taken sink.new) }
+    ensures ends { EndsOn machine (unwrap_or settings.budget machine.budget) settings.bounds
+        (S.left source.old) (S.left source.new) (K.taken sink.old) (K.taken sink.new) result }
     ensures source { result ≡ Status.Source → Rises (S.faults source.old) (S.faults source.new) }
     ensures sink { result ≡ Status.Sink → Rises (K.faults sink.old) (K.faults sink.new) }
-    ensures begun { IsFalse (comes_before_run result) }
 {
     match answer_on(alloc, machine, settings, source, sink) {
         Ok(()) => Status::Done,

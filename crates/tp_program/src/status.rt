@@ -3,12 +3,13 @@ ghost use Rattle.std.specs.Prelude.{◌≡◌};
 ghost use Rattle.tp_program.specs.Statuses.{status_number};
 
 use std::fmt;
+use tp_compose::RackFault;
 use tp_machine_text::MachineFault;
 
 /// What is too long.
 #[derive(Clone, Copy, Debug, PartialEq, Eq)]
 pub enum Long {
-    /// The machine text has more than 1,048,576 bytes.
+    /// The machine text, or the rack text, has more than 1,048,576 bytes.
     MachineText,
     /// The line of this number, counted from 1, has more than 4,096 bytes without its LF.
     Line(u64),
@@ -16,7 +17,7 @@ pub enum Long {
     Lines,
 }
 
-/// How a run ended, with the number and the line that tell it.
+/// How what the words ask for ended, with the number and the line that tell it.
 #[derive(Clone, Copy, Debug, PartialEq, Eq)]
 pub enum Status {
     /// The input was read to its end, and all was answered.
@@ -25,7 +26,7 @@ pub enum Status {
     Memory,
     /// The words are not of the form.
     Usage,
-    /// The machine text is not TOML, or breaks a rule.
+    /// The machine text is not TOML, or breaks a rule. It never holds `Memory`.
     Machine(MachineFault),
     /// The shelf failed.
     Shelf,
@@ -33,8 +34,10 @@ pub enum Status {
     Source,
     /// The sink failed.
     Sink,
-    /// The machine text, a line or the script is longer than it may be.
+    /// The machine text, the rack text, a line or the script is longer than it may be.
     TooLong(Long),
+    /// The rack text is not TOML, or breaks a rule, or its flat table does. It never holds `Memory`.
+    Rack(RackFault),
 }
 
 impl Status {
@@ -51,6 +54,7 @@ impl Status {
             Status::Source => 5,
             Status::Sink => 6,
             Status::TooLong(_) => 7,
+            Status::Rack(_) => 10,
         }
     }
 }
@@ -77,6 +81,10 @@ impl fmt::Display for Status {
             Status::Source => f.write_str("printer: cannot read the input"),
             Status::Sink => f.write_str("printer: cannot write the output"),
             Status::TooLong(_) => f.write_str("printer: input too long"),
+            Status::Rack(RackFault::Memory) => f.write_str("printer: rack: out of memory"),
+            Status::Rack(RackFault::NotToml) => f.write_str("printer: rack: not TOML"),
+            Status::Rack(RackFault::Rule(n)) => write!(f, "printer: rack: rule {n}"),
+            Status::Rack(RackFault::Flat(n)) => write!(f, "printer: rack: flat rule {n}"),
         }
     }
 }

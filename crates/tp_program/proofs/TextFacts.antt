@@ -1,0 +1,35 @@
+-- Where there is no text of a name, there is no machine and no rack of it.
+use Rattle.std.proofs.Common.{ℕ, List, Option}
+use Rattle.tp_outside.specs.Outside.{Files}
+use Rattle.tp_program.specs.Composing.{NoRack}
+use Rattle.tp_program.specs.Runs.{NoMachine}
+use Rattle.tp_program.specs.Texts.{NoText}
+use Rattle.tp_program.specs.declared.status.Long.TheVariants as size
+use Rattle.tp_program.specs.declared.status.Status.{Status}
+use Rattle.tp_program.specs.declared.status.Status.TheVariants as status
+
+pub no_machine : (told : Option Files) (name : List ℕ) (s : Status) → NoText told name s → NoMachine told name s
+no_machine told name status.Memory none = none
+no_machine told name status.Shelf none = none
+no_machine told name (status.TooLong size.MachineText) none = none
+no_machine told name (status.TooLong (size.Line n)) none = absurd none
+no_machine told name (status.TooLong size.Lines) none = absurd none
+no_machine told name status.Done none = absurd none
+no_machine told name status.Usage none = absurd none
+no_machine told name (status.Machine f) none = absurd none
+no_machine told name status.Source none = absurd none
+no_machine told name status.Sink none = absurd none
+no_machine told name (status.Rack f) none = absurd none
+
+pub no_rack : (told : Option Files) (name : List ℕ) (s : Status) → NoText told name s → NoRack told name s
+no_rack told name status.Memory none = none
+no_rack told name status.Shelf none = none
+no_rack told name (status.TooLong size.MachineText) none = none
+no_rack told name (status.TooLong (size.Line n)) none = absurd none
+no_rack told name (status.TooLong size.Lines) none = absurd none
+no_rack told name status.Done none = absurd none
+no_rack told name status.Usage none = absurd none
+no_rack told name (status.Machine f) none = absurd none
+no_rack told name status.Source none = absurd none
+no_rack told name status.Sink none = absurd none
+no_rack told name (status.Rack f) none = absurd none

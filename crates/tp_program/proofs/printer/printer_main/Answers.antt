@@ -1,0 +1,40 @@
+-- What the words ask for ends as its mode says.
+use Rattle.std.proofs.Common.{inl, inr, refl}
+use Rattle.std.specs.Prelude.{map, string_bytes}
+use Rattle.tp_command.specs.App.{seen}
+use Rattle.tp_command.specs.declared.request.Mode.TheVariants.{Run, Compose}
+use Rattle.tp_program.proofs.AskedFacts.{amiss_asked, asks_nothing, compose_ends, none_asked, run_ends, usage, used}
+use Rattle.tp_program.proofs.printer.printer_main.Goals as goal
+
+pub returns-in-Ok-clause-usage : goal.returns-in-Ok-clause-usage
+returns-in-Ok-clause-usage g c = usage (map string_bytes c.args.words.now) (seen c.in-Ok.request) c.in-Ok.ensures.ok g.S.Source.left g.K.Sink.taken _ _ _ _ _ _ c.answer.ensures.ends
+
+pub returns-in-Ok-clause-used : goal.returns-in-Ok-clause-used
+returns-in-Ok-clause-used g c = used (map string_bytes c.args.words.now) (seen c.in-Ok.request) c.in-Ok.ensures.ok g.S.Source.left g.K.Sink.taken _ _ _ _ _ _ c.answer.ensures.ends
+
+pub returns-in-Ok-clause-run : goal.returns-in-Ok-clause-run
+returns-in-Ok-clause-run g c = run_ends (map string_bytes c.args.words.now) (seen c.in-Ok.request) c.in-Ok.ensures.ok g.S.Source.left g.K.Sink.taken _ _ _ _ _ _ c.answer.ensures.ends
+
+pub returns-in-Ok-clause-compose : goal.returns-in-Ok-clause-compose
+returns-in-Ok-clause-compose g c = compose_ends (map string_bytes c.args.words.now) (seen c.in-Ok.request) c.in-Ok.ensures.ok g.S.Source.left g.K.Sink.taken _ _ _ _ _ _ c.answer.ensures.ends
+
+pub returns-in-Ok-clause-amiss : goal.returns-in-Ok-clause-amiss
+returns-in-Ok-clause-amiss g c = λ is. amiss_asked (map string_bytes c.args.words.now) (seen c.in-Ok.request) c.in-Ok.ensures.ok _ _ (c.answer.ensures.amiss is)
+
+pub returns-in-Err-Memory-clause-used : goal.returns-in-Err-Memory-clause-used
+returns-in-Err-Memory-clause-used g c = λ none. inr (refl, refl, refl)
+
+pub returns-in-Err-Memory-clause-run : goal.returns-in-Err-Memory-clause-run
+returns-in-Err-Memory-clause-run g c = λ asked named is. inl (tt, refl, refl)
+
+pub returns-in-Err-Memory-clause-compose : goal.returns-in-Err-Memory-clause-compose
+returns-in-Err-Memory-clause-compose g c = λ asked named is. (refl, inl (tt, refl))
+
+pub returns-in-Err-Usage-clause-usage : goal.returns-in-Err-Usage-clause-usage
+returns-in-Err-Usage-clause-usage g c = λ is. (none_asked (map string_bytes c.args.words.now) (c.in-Err-Usage.ensures.usage c.in-Err-Usage.field-0-is), refl, refl)
+
+pub returns-in-Err-Usage-clause-run : goal.returns-in-Err-Usage-clause-run
+returns-in-Err-Usage-clause-run g c = asks_nothing Run (map string_bytes c.args.words.now) _ (c.in-Err-Usage.ensures.usage c.in-Err-Usage.field-0-is)
+
+pub returns-in-Err-Usage-clause-compose : goal.returns-in-Err-Usage-clause-compose
+returns-in-Err-Usage-clause-compose g c = asks_nothing Compose (map string_bytes c.args.words.now) _ (c.in-Err-Usage.ensures.usage c.in-Err-Usage.field-0-is)

@@ -1,0 +1,24 @@
+-- How what the words ask for ends, by its mode and its status.
+use Rattle.std.specs.Prelude.{◌≡◌, ℕ, List, Option}
+use Rattle.tp_outside.specs.Outside.{Files}
+use Rattle.tp_command.specs.Form.{Asked}
+use Rattle.tp_command.specs.declared.request.Mode.{Mode}
+use Rattle.tp_command.specs.declared.request.Mode.TheVariants.{Run, Check, Soak, Compose}
+use Rattle.tp_program.specs.Composing.{ComposeEnds}
+use Rattle.tp_program.specs.Runs.{RunEnds}
+use Rattle.tp_program.specs.declared.status.Status.{Status}
+use Rattle.tp_program.specs.declared.status.Status.TheVariants.{Usage}
+
+module _ {S K : Type 0} (left : S → Option (List ℕ)) (taken : K → Option (List ℕ)) (told : Option Files) (source source' : S) (sink sink' : K) where
+  -- what isn't built is refused, with nothing read or written
+  abbrev pub NotBuilt : Status → Type 0
+  NotBuilt status = (status ≡ Usage) × (source' ≡ source) × (sink' ≡ sink)
+
+  abbrev pub EndsAs : Mode → Asked → Status → Type 0
+  EndsAs Run asked status = RunEnds left taken told source source' sink sink' asked status
+  EndsAs Compose asked status = ComposeEnds taken told source source' sink sink' asked status
+  EndsAs Check asked status = NotBuilt status
+  EndsAs Soak asked status = NotBuilt status
+
+  abbrev pub Ends : Asked → Status → Type 0
+  Ends asked status = EndsAs asked.mode asked status

@@ -1,0 +1,63 @@
+-- How a run ends, by its status.
+use Rattle.std.specs.Prelude.{◌≡◌, ◌⊎◌, ℕ, Bool, List, [], Option, Some, IfSome, unwrap_or}
+use Rattle.tp_outside.specs.Outside.{Files}
+use Rattle.tp_machine.specs.declared.machine.Machine.{Machine}
+use Rattle.tp_machine_text.specs.Texts.{IsBrokenAt, IsMachineText, IsNotToml}
+use Rattle.tp_machine_text.specs.declared.text.MachineFault.TheVariants.{NotToml, Rule}
+use Rattle.tp_command.specs.Form.{Asked}
+use Rattle.tp_stream.specs.Takes.{IsReadFrom}
+use Rattle.tp_stream.specs.declared.stop.Stop.{Stop}
+use Rattle.tp_stream.specs.declared.stop.Stop.TheVariants as stop
+use Rattle.tp_runs.specs.Ends.{IsAnswered, IsAnsweredTo}
+use Rattle.tp_program.specs.Texts.{IsLongText, IsShelved}
+use Rattle.tp_program.specs.declared.status.Long.TheVariants.{MachineText, Line, Lines}
+use Rattle.tp_program.specs.declared.status.Status.{Status}
+use Rattle.tp_program.specs.declared.status.Status.TheVariants.{Done, Memory, Machine as MachineIs, Shelf, Source, Sink, TooLong}
+
+-- why there is no machine of this name
+abbrev pub NoMachine : Option Files → List ℕ → Status → Type 0
+NoMachine told name Memory = Unit {0}
+NoMachine told name Shelf = Unit {0}
+NoMachine told name (TooLong MachineText) = IsLongText told name
+NoMachine told name (MachineIs NotToml) = IsShelved told name IsNotToml
+NoMachine told name (MachineIs (Rule n)) = IsShelved told name (IsBrokenAt n)
+NoMachine told name _ = ⊥
+
+-- on a machine, with this budget and with bounds or without: what the source told before and after, and what the sink had
+-- taken before and after
+module _ (machine : Machine) (budget : ℕ) (bounds : Bool) (left left' taken taken' : Option (List ℕ)) where
+  -- the script that the source gave was answered on the machine by a lawful run, and the text of its one log was written
+  abbrev pub DoneOn : Type 0
+  DoneOn = (script : List ℕ) × IsReadFrom left script left' × IsAnswered machine budget bounds script taken taken'
+
+  -- its first lines were, up to where the run stopped
+  abbrev pub StopsOn : Stop → Type 0
+  StopsOn cause = (script : List ℕ) × IsReadFrom left script left' × IsAnsweredTo machine budget bounds cause script taken taken'
+
+  -- how a run ends that has begun: with Done the source was read to its end
+  abbrev pub EndsOn : Status → Type 0
+  EndsOn Done = DoneOn × IfSome left (λ _. left' ≡ Some [])
+  EndsOn Memory = StopsOn stop.Memory
+  EndsOn Source = StopsOn stop.Source
+  EndsOn Sink = StopsOn stop.Sink
+  EndsOn (TooLong (Line n)) = StopsOn (stop.Line n)
+  EndsOn (TooLong Lines) = StopsOn stop.Lines
+  EndsOn _ = ⊥
+
+-- the name is that of a machine's text, and the run on it with the budget of the words, or else the machine's, and with
+-- bounds where the words ask for them, did this
+pub record RunsOn (told : Option Files) (asked : Asked) (Did : Machine → ℕ → Bool → Type 0) : Type 0 where
+  pub machine : Machine
+  pub text : IsShelved told asked.arg (λ text. IsMachineText text machine)
+  pub did : Did machine (unwrap_or asked.budget machine.budget) asked.bounds
+
+abbrev pub RanBy : Option Files → Asked → Option (List ℕ) → Option (List ℕ) → Option (List ℕ) → Option (List ℕ) → Status → Type 0
+RanBy told asked left left' taken taken' status =
+    RunsOn told asked (λ machine budget bounds. EndsOn machine budget bounds left left' taken taken' status)
+
+-- how a run ends: there is no machine, and nothing is read or written; or it ran
+module _ {S K : Type 0} (left : S → Option (List ℕ)) (taken : K → Option (List ℕ)) (told : Option Files) (source source' : S) (sink sink' : K) where
+  abbrev pub RunEnds : Asked → Status → Type 0
+  RunEnds asked status =
+      (NoMachine told asked.arg status × (source' ≡ source) × (sink' ≡ sink))
+      ⊎ RanBy told asked (left source) (left source') (taken sink) (taken sink') status

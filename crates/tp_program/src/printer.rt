@@ -1,0 +1,83 @@
+//! What the words ask for, from the words to the bytes that are written.
+
+ghost use Rattle.std.specs.Prelude.{◌≡◌, ◌⊎◌, None, map, string_bytes, IfSome, IsSome};
+ghost use Rattle.tp_command.specs.App.{seen};
+ghost use Rattle.tp_command.specs.declared.request.Mode.TheVariants.{Run, Compose};
+ghost use Rattle.tp_outside.specs.Outside.{Rises, file_at};
+ghost use Rattle.tp_program.specs.Composing.{ComposeEnds};
+ghost use Rattle.tp_program.specs.Modes.{Ends};
+ghost use Rattle.tp_program.specs.Requests.{Asks, asked_by};
+ghost use Rattle.tp_program.specs.Runs.{RunEnds};
+
+use crate::Status;
+use crate::composing::compose_to;
+use crate::run::run;
+use std::alloc::Global;
+use tp_command::{Mode, Request, WordsFault, read_request};
+use tp_outside::{Shelf, Sink, Source};
+
+/// Does what is asked for, each mode by its own function.
+fn answer<H: Shelf, S: Source, K: Sink>(
+    alloc: Global,
+    request: &Request<'_>,
+    shelf: &mut H,
+    source: &mut S,
+    sink: &mut K,
+) -> Status
+    ensures ends { Ends S.left K.taken (H.told shelf.old) source.old source.new sink.old sink.new
+        (seen request.now) result }
+    ensures shelf { result ≡ Status.Shelf → Rises (H.faults shelf.old) (H.faults shelf.new) }
+    ensures amiss { result ≡ Status.Shelf → IfSome (H.told shelf.old) (λ files.
+        IsSome (file_at files request.now.arg.now)
+        → Rises (H.amiss shelf.old) (H.amiss shelf.new)) }
+    ensures source { result ≡ Status.Source → Rises (S.faults source.old) (S.faults source.new) }
+    ensures sink { result ≡ Status.Sink → Rises (K.faults sink.old) (K.faults sink.new) }
+{
+    match request.mode {
+        Mode::Run => run(alloc, request, shelf, source, sink),
+        Mode::Compose => compose_to(alloc, request.arg, shelf, sink),
+        Mode::Check | Mode::Soak => Status::Usage,
+    }
+}
+
+/// Does what the words ask for, given without the program's name, over this outside. The first check that fails ends it: the
+/// words first; then by the mode, as each mode's function says.
+pub fn printer_main<H: Shelf, S: Source, K: Sink>(
+    alloc: Global,
+    words: &[String],
+    shelf: &mut H,
+    source: &mut S,
+    sink: &mut K,
+) -> Status
+    // The words are not of the form: nothing is read or written. Want of memory may come first.
+    ensures usage { result ≡ Status.Usage → (asked_by (map string_bytes words.now) ≡ None)
+        × (source.new ≡ source.old) × (sink.new ≡ sink.old) }
+    ensures used { asked_by (map string_bytes words.now) ≡ None
+        → (result ≡ Status.Usage)
+        ⊎ ((result ≡ Status.Memory) × (source.new ≡ source.old) × (sink.new ≡ sink.old)) }
+
+    // What each status says of a run: with `Done` the source was read to its end, and the sink took the text of the log that
+    // answers the script's events by a lawful run on the machine; with any other that text for the first lines, up to the cause.
+    ensures run { Asks Run (map string_bytes words.now)
+        (λ asked. RunEnds S.left K.taken (H.told shelf.old) source.old source.new sink.old sink.new
+        asked result) }
+
+    // And of composing: with `Done` the sink took a machine text of the machine that the rack comes to.
+    ensures compose { Asks Compose (map string_bytes words.now)
+        (λ asked. ComposeEnds K.taken (H.told shelf.old) source.old source.new sink.old sink.new
+        asked result) }
+
+    // The outside failed.
+    ensures shelf { result ≡ Status.Shelf → Rises (H.faults shelf.old) (H.faults shelf.new) }
+    ensures amiss { result ≡ Status.Shelf → IfSome (H.told shelf.old) (λ files.
+        IfSome (asked_by (map string_bytes words.now)) (λ asked. IsSome (file_at files asked.arg)
+        → Rises (H.amiss shelf.old) (H.amiss shelf.new))) }
+    ensures source { result ≡ Status.Source → Rises (S.faults source.old) (S.faults source.new) }
+    ensures sink { result ≡ Status.Sink → Rises (K.faults sink.old) (K.faults sink.new) }
+{
+    match read_request(alloc, words) {
+        Ok(request) => answer(alloc, &request, shelf, source, sink),
+        Err(WordsFault::Memory) => Status::Memory,
+        Err(WordsFault::Usage) => Status::Usage,
+    }
+}
