@@ -1,0 +1,3 @@
+mod EngineFacts
+mod MachineFacts
+mod ScriptFacts

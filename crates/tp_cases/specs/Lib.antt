@@ -1,0 +1,6 @@
+pub mod Draws
+pub mod Engines
+pub mod Machines
+pub mod Kept
+pub mod Scripts
+pub mod Cases
