@@ -1,6 +1,8 @@
 //! Worked rows of machines and schedules: a crate of tests, with the machine texts and the worked scripts of all rows.
 #![tactic(auto)]
 
+#[cfg(test)]
+mod deciding;
 pub mod machines;
 #[cfg(test)]
 mod prints;

@@ -14,7 +14,7 @@ use tp_schedule::{
     is_goal, is_start, new_sheet,
 };
 
-fn machine_of(alloc: Global, text: &str) -> Result<Machine, Fail> {
+pub(crate) fn machine_of(alloc: Global, text: &str) -> Result<Machine, Fail> {
     match read_machine(alloc, text.as_bytes()) {
         Ok(machine) => Ok(machine),
         Err(_) => Err(Fail::from("a machine of the rows is refused")),
@@ -29,7 +29,7 @@ fn name_of(text: &[u8]) -> Result<Name, Fail> {
 }
 
 /// Sheets of plain media that want mono on the sides that are told.
-fn sheet_of(front: Want, back: Want) -> Result<Sheet, Fail> {
+pub(crate) fn sheet_of(front: Want, back: Want) -> Result<Sheet, Fail> {
     Ok(Sheet {
         media: name_of(b"plain")?,
         front,
@@ -61,7 +61,7 @@ fn points_of(ticks: &[Tick]) -> Points
 }
 
 /// The whole plan of a copy of the first job, to the tray of this number.
-fn plan_of(
+pub(crate) fn plan_of(
     sheet: SheetId,
     want: Sheet,
     tray: u16,
@@ -87,13 +87,13 @@ fn plan_of(
     })
 }
 
-const FIRST: SheetId = SheetId {
+pub(crate) const FIRST: SheetId = SheetId {
     job: 0,
     number: 1,
     copy: 1,
 };
 
-const SECOND: SheetId = SheetId {
+pub(crate) const SECOND: SheetId = SheetId {
     job: 0,
     number: 2,
     copy: 1,
@@ -123,7 +123,7 @@ fn both(alloc: Global, first: Plan, second: Plan) -> Result<Schedule, Fail>
 }
 
 /// Two sheets on DUO, the first printed by print2 and the second as told.
-fn pair_on_duo(alloc: Global, acts: &[u16], points: &[Tick]) -> Result<Schedule, Fail>
+pub(crate) fn pair_on_duo(alloc: Global, acts: &[u16], points: &[Tick]) -> Result<Schedule, Fail>
     requires acts { length acts.now ≡ 3 }
     requires points { length points.now ≡ 4 }
 {

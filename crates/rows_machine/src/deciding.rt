@@ -1,0 +1,135 @@
+//! Schedules on DUO that are looked at as a whole: legal, within their bounds and least, or not.
+ghost use Rattle.std.specs.Prelude.{◌≡◌, length, None};
+ghost use Rattle.tp_schedule.specs.Answers.{KeepsFloors, KeepsHorizon};
+ghost use Rattle.tp_schedule.specs.Legality.{IsLegal};
+ghost use Rattle.tp_deciding.specs.Early.{is_exempt};
+
+use crate::machines::DUO;
+use crate::schedules::{FIRST, SECOND, machine_of, pair_on_duo, plan_of, sheet_of};
+use std::alloc::Global;
+use std::process::Abort;
+use std::test::Fail;
+use tp_base::Tick;
+use tp_deciding::{
+    Clash, Early, PlanPoint, find_below_floor, find_clash, find_early, find_past_horizon,
+    is_timed_plan,
+};
+use tp_machine::{Machine, Want};
+use tp_schedule::{Hold, Schedule};
+
+/// What is told of a schedule: what clashes, or else what breaks floor or horizon at 0, or else what could stand earlier.
+#[derive(Clone, Copy, PartialEq, Eq, Debug)]
+enum Told {
+    Clash(Clash),
+    Bound(PlanPoint),
+    Early(Option<Early>),
+}
+
+fn told_of_bounded(alloc: Global, machine: &Machine, schedule: &Schedule) -> Result<Told, Fail>
+    requires legal { IsLegal machine.now schedule.now.plans }
+    requires floors { KeepsFloors machine.now 0 (is_exempt None) schedule.now.plans }
+{
+    match find_past_horizon(machine, 0, schedule) {
+        Some(point) => Ok(Told::Bound(point)),
+        None => Ok(Told::Early(find_early(alloc, machine, 0, None, schedule)?)),
+    }
+}
+
+fn told_of_legal(alloc: Global, machine: &Machine, schedule: &Schedule) -> Result<Told, Fail>
+    requires { IsLegal machine.now schedule.now.plans }
+{
+    match find_below_floor(machine, 0, None, schedule) {
+        Some(point) => Ok(Told::Bound(point)),
+        None => told_of_bounded(alloc, machine, schedule),
+    }
+}
+
+fn told_of(alloc: Global, machine: &Machine, schedule: &Schedule) -> Result<Told, Fail> {
+    let found = find_clash(alloc, machine, schedule)?;
+    match found {
+        Some(clash) => Ok(Told::Clash(clash)),
+        None => told_of_legal(alloc, machine, schedule),
+    }
+}
+
+/// What prints the second sheet, the points of its plan, and what is told.
+type Row = (u16, (Tick, Tick, Tick, Tick), Told);
+
+fn overlap(act: u32, end: i64, begin: i64) -> Told {
+    Told::Clash(Clash::Overlap {
+        earlier: Hold { sheet: SECOND, act },
+        later: Hold { sheet: FIRST, act },
+        end,
+        gap: 0,
+        begin,
+    })
+}
+
+fn point_of_second(at: u32, tick: Tick) -> Told {
+    Told::Bound(PlanPoint {
+        sheet: SECOND,
+        at,
+        tick,
+    })
+}
+
+fn rows() -> [Row; 7] {
+    let early = Early {
+        sheet: SECOND,
+        at: 2,
+        given: 15,
+        earlier: 14,
+    };
+    let line = Clash::OutOfLine {
+        earlier: FIRST,
+        later: SECOND,
+        end: 16,
+        later_end: 14,
+    };
+    let slow = Clash::NotTimed { sheet: SECOND };
+    [
+        (1, (3, 5, 14, 17), Told::Early(None)),
+        (1, (3, 5, 15, 18), Told::Early(Some(early))),
+        // The first engine takes at least 9 ticks.
+        (1, (3, 5, 13, 17), Told::Clash(slow)),
+        // The second engine has both sheets.
+        (2, (3, 5, 11, 17), overlap(2, 11, 7)),
+        // The second sheet comes first.
+        (1, (0, 2, 11, 14), Told::Clash(line)),
+        // A start below now + lead is too early, and an end past now + window too late.
+        (1, (2, 4, 13, 17), point_of_second(0, 2)),
+        (1, (180, 182, 191, 201), point_of_second(3, 201)),
+    ]
+}
+
+fn rows_are_told(rt: &impl Abort, alloc: Global, machine: &Machine) -> Result<(), Fail> {
+    for (print, at, told) in rows() {
+        let schedule = pair_on_duo(alloc, &[0, print, 3], &[at.0, at.1, at.2, at.3])?;
+        let found = told_of(alloc, machine, &schedule)?;
+        assert!(rt; found == told);
+    }
+    Ok(())
+}
+
+/// Whether a plan of a sheet by print2 is timed at these points.
+fn is_timed(machine: &Machine, points: &[Tick]) -> Result<bool, Fail>
+    requires { length points.now ≡ 4 }
+{
+    let want = sheet_of(Want::Mono, Want::Blank)?;
+    let plan = plan_of(FIRST, want, 3, &[0, 2, 3], points)?;
+    Ok(is_timed_plan(machine, &plan))
+}
+
+fn plans_are_timed(rt: &impl Abort, machine: &Machine) -> Result<(), Fail> {
+    assert!(rt; is_timed(machine, &[3, 5, 13, 16])?);
+    // The second engine takes at most 8 ticks.
+    assert!(rt; !is_timed(machine, &[3, 5, 14, 17])?);
+    Ok(())
+}
+
+#[test]
+fn whole_schedules_on_duo(rt: HostRuntime) -> Result<(), Fail> {
+    let duo = machine_of(rt.alloc(), DUO)?;
+    plans_are_timed(&rt, &duo)?;
+    rows_are_told(&rt, rt.alloc(), &duo)
+}
