@@ -53,11 +53,10 @@ fn least_bound_first(rt: HostRuntime) -> Result<(), Fail> {
     queue.clear(14);
     queue.put(0, 16);
     queue.put(1, 14);
-    queue.put(2, 16);
+    queue.put_in_turn(2, 16, 0);
     assert_eq!(rt; queue.take(), Some(1));
-    let second = queue.take();
-    let third = queue.take();
-    assert!(rt; matches!((second, third), (Some(0), Some(2)) | (Some(2), Some(0))));
+    assert_eq!(rt; queue.take(), Some(0));
+    assert_eq!(rt; queue.take(), Some(2));
     assert_eq!(rt; queue.take(), None);
     Ok(())
 }
