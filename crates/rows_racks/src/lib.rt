@@ -2,7 +2,11 @@
 #![tactic(auto)]
 
 #[cfg(test)]
+mod drawn_racks;
+#[cfg(test)]
 mod faults;
 pub mod racks;
+#[cfg(test)]
+mod random_walks;
 #[cfg(test)]
 mod texts;
