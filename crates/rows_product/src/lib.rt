@@ -4,6 +4,8 @@
 #[cfg(test)]
 mod bounds;
 #[cfg(test)]
+mod composing;
+#[cfg(test)]
 mod faults;
 #[cfg(test)]
 mod long_scripts;
