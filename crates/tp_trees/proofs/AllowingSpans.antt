@@ -83,7 +83,6 @@ behind-at (x ∷ xs) (suc lo) j a s rest le e = let n : suc lo + suc j ≡ suc (
 
 -- the hold and those before or behind it
 module _ (width : ℕ) (xs : List Slot) (p lo hi : ℕ) (s : Slot) (from : lo ≤ p) (until : p ≤ hi) (within : hi ≤ length xs) (pairs : AllPairs Apart (insert xs p s)) where
-
   spanned-apart : AllPairs Apart (take lo xs ++ s ∷ drop hi xs)
   spanned-apart = AllPairs-spanned Apart xs s p lo hi from until within pairs
 
