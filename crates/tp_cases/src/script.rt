@@ -45,7 +45,8 @@ fn job(alloc: Global, number: u32, draws: &mut Draws) -> Result<Event, Memory>
 /// The first engine jams in round 6, and is on again in round 8.
 fn push_outage(events: &mut Vec<Event>, number: u32) -> Result<(), Memory>
     ensures pushed { OnOk result (events.new.items ≡ events.old.items ++ outage number) }
-    ensures whole { OnOk result (All IsScripted events.old.items → All IsScripted events.new.items) }
+    ensures whole { OnOk result (All IsScripted events.old.items
+        → All IsScripted events.new.items) }
 {
     let first = name_of(b"ENG1");
     if number == 6 {

@@ -95,7 +95,8 @@ impl Buckets {
         requires below { bound < self.old.base + self.old.width }
         ensures none { IfNone result (self.new.queued ≡ self.old.queued) }
         ensures taken { IfSome result (λ node.
-            IsPermutation self.old.queued (record { node = node; bound = bound } ∷ self.new.queued)) }
+            IsPermutation self.old.queued
+            (record { node = node; bound = bound } ∷ self.new.queued)) }
         ensures out { IfSome result (λ node. ¬ IsIn node self.new.queued) }
         ensures known { IfSome result (λ node. node < self.old.nodes) }
         ensures nodes { self.new.nodes ≡ self.old.nodes }
