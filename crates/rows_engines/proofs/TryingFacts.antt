@@ -9,9 +9,9 @@ use Rattle.tp_placing.specs.Writing.{IsLoadedFrom}
 use Rattle.tp_search.specs.Boards.{IsBack}
 use Rattle.rows_engines.specs.Trying.{IsReady}
 
-module _ {N C : Type 0} (net : N → Net) (content : N → C) (past : N → List C) (mark_room : N → ℕ) where
-  pub ready-back : (b b' : BoardValue N) (machine : Machine) (plans : List Plan) (ask : Ask) → IsBack net content past mark_room b b' machine
-      → IsReady net content past mark_room b machine plans ask → IsReady net content past mark_room b' machine plans ask
+module _ {N C : Type 0} (net : N → Net) (content : N → C) (past : N → List C) (max_marks : N → ℕ) where
+  pub ready-back : (b b' : BoardValue N) (machine : Machine) (plans : List Plan) (ask : Ask) → IsBack net content past max_marks b b' machine
+      → IsReady net content past max_marks b machine plans ask → IsReady net content past max_marks b' machine plans ask
   ready-back b b' machine plans ask back ready = record {
     loaded = subst (IsLoadedFrom machine plans ask) (sym back.loaded.plans) ready.loaded;
     stands = back.stands ready.stands;

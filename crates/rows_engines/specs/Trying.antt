@@ -9,10 +9,10 @@ use Rattle.tp_placing.specs.Standing.{Stands}
 use Rattle.tp_placing.specs.Writing.{IsLoadedFrom}
 
 -- the board was loaded for the ask on these plans, no goal is open and no mark in force, and a search has its marks
-pub record IsReady {N C : Type 0} (net : N → Net) (content : N → C) (past : N → List C) (mark_room : N → ℕ) (b : BoardValue N) (machine : Machine) (plans : List Plan) (ask : Ask) : Type 0 where
+pub record IsReady {N C : Type 0} (net : N → Net) (content : N → C) (past : N → List C) (max_marks : N → ℕ) (b : BoardValue N) (machine : Machine) (plans : List Plan) (ask : Ask) : Type 0 where
   pub loaded : IsLoadedFrom machine plans ask b.plans
   pub stands : Stands net content past b machine
   pub asked : b.ask ≡ Some ask
   pub closed : b.steps ≡ []
   pub unmarked : past_of past b ≡ []
-  pub marks : 8 ≤ mark_room b.net
+  pub marks : 8 ≤ max_marks b.net

@@ -72,7 +72,7 @@ pub(crate) fn ask_for(name: Name, media: Name, goal: Goal, number: u32) -> Ask
 
 pub(crate) fn board_for(alloc: Global, machine: &Machine) -> Result<Board<PlainNet>, Fail>
     ensures made { IfOk result (λ b. IsMadeFor b.made_for machine.now) }
-    ensures marks { IfOk result (λ b. b.net.mark_room ≡ 330) }
+    ensures marks { IfOk result (λ b. b.net.max_marks ≡ 330) }
 {
     match PlainNet::new(alloc, 16_642, 100_000, 330) {
         Ok(net) => match Board::new(alloc, machine, net) {

@@ -19,13 +19,13 @@ const CAP: u32 = 1_000_000;
 fn lay_chain<N: Network>(rt: &impl Abort, net: &mut N)
     requires points { (N.net net.old).lows ≡ [] }
     requires edges { (N.net net.old).edges ≡ [] }
-    requires point_room { N.point_room net.old ≡ 16642 }
-    requires edge_room { 16642 ≤ N.edge_room net.old }
+    requires max_points { N.max_points net.old ≡ 16642 }
+    requires max_edges { 16642 ≤ N.max_edges net.old }
     ensures points { length (N.net net.new).lows ≡ 16642 }
     ensures edges { length (N.net net.new).edges ≤ 16642 }
     ensures past { N.past net.new ≡ N.past net.old }
-    ensures edge_room { N.edge_room net.new ≡ N.edge_room net.old }
-    ensures mark_room { N.mark_room net.new ≡ N.mark_room net.old }
+    ensures max_edges { N.max_edges net.new ≡ N.max_edges net.old }
+    ensures max_marks { N.max_marks net.new ≡ N.max_marks net.old }
 {
     'chain: for number in 0..POINTS {
         assert_eq!(rt; net.point(0, CAP), Ok(PointId(number)));
@@ -45,9 +45,9 @@ fn lay_chain<N: Network>(rt: &impl Abort, net: &mut N)
 fn lengthen<N: Network>(rt: &impl Abort, net: &mut N)
     requires points { length (N.net net.old).lows ≡ 16642 }
     requires edges { length (N.net net.old).edges ≤ 16642 }
-    requires room { 16742 ≤ N.edge_room net.old }
+    requires room { 16742 ≤ N.max_edges net.old }
     ensures past { N.past net.new ≡ N.past net.old }
-    ensures mark_room { N.mark_room net.new ≡ N.mark_room net.old }
+    ensures max_marks { N.max_marks net.new ≡ N.max_marks net.old }
 {
     'edges: for more in 0..100_u32 {
         let edge = Edge {
@@ -64,7 +64,7 @@ fn lengthen<N: Network>(rt: &impl Abort, net: &mut N)
 fn mark_all<N: Network>(rt: &impl Abort, net: &mut N)
     requires points { length (N.net net.old).lows ≡ 16642 }
     requires past { N.past net.old ≡ [] }
-    requires marks { N.mark_room net.old ≡ 330 }
+    requires marks { N.max_marks net.old ≡ 330 }
     ensures past { length (N.past net.new) ≡ 330 }
 {
     'marks: for number in 0..MARKS {
@@ -79,9 +79,9 @@ fn mark_all<N: Network>(rt: &impl Abort, net: &mut N)
 fn go_along<N: Network>(rt: &impl Abort, net: &mut N)
     requires empty { N.net net.old ≡ empty_net }
     requires past { N.past net.old ≡ [] }
-    requires points { N.point_room net.old ≡ 16642 }
-    requires edges { 16742 ≤ N.edge_room net.old }
-    requires marks { N.mark_room net.old ≡ 330 }
+    requires points { N.max_points net.old ≡ 16642 }
+    requires edges { 16742 ≤ N.max_edges net.old }
+    requires marks { N.max_marks net.old ≡ 330 }
 {
     lay_chain(rt, net);
     let mark = net.mark();

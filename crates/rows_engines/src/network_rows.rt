@@ -29,12 +29,12 @@ fn edge(from: PointId, to: PointId, weight: i64) -> Edge
 /// Points A, B and C, an edge from A to B and one from B to C.
 fn lay_out<N: Network>(rt: &impl Abort, net: &mut N)
     requires empty { N.net net.old ≡ empty_net }
-    requires points { N.point_room net.old ≡ 3 }
-    requires edges { 2 ≤ N.edge_room net.old }
+    requires points { N.max_points net.old ≡ 3 }
+    requires edges { 2 ≤ N.max_edges net.old }
     ensures net { N.net net.new ≡ three_points }
     ensures past { N.past net.new ≡ N.past net.old }
-    ensures marks { N.mark_room net.new ≡ N.mark_room net.old }
-    ensures edges { N.edge_room net.new ≡ N.edge_room net.old }
+    ensures marks { N.max_marks net.new ≡ N.max_marks net.old }
+    ensures edges { N.max_edges net.new ≡ N.max_edges net.old }
 {
     assert_eq!(rt; net.point(0, 20), Ok(A));
     assert_eq!(rt; net.point(3, 20), Ok(B));
@@ -48,12 +48,12 @@ fn lay_out<N: Network>(rt: &impl Abort, net: &mut N)
 fn goes_back<N: Network>(rt: &impl Abort, net: &mut N)
     requires net { N.net net.old ≡ three_points }
     requires past { N.past net.old ≡ [] }
-    requires marks { 0 < N.mark_room net.old }
-    requires edges { 3 ≤ N.edge_room net.old }
+    requires marks { 0 < N.max_marks net.old }
+    requires edges { 3 ≤ N.max_edges net.old }
     ensures net { N.net net.new ≡ three_points }
     ensures past { N.past net.new ≡ [] }
-    ensures marks { N.mark_room net.new ≡ N.mark_room net.old }
-    ensures edges { N.edge_room net.new ≡ N.edge_room net.old }
+    ensures marks { N.max_marks net.new ≡ N.max_marks net.old }
+    ensures edges { N.max_edges net.new ≡ N.max_edges net.old }
 {
     let mark = net.mark();
     assert_eq!(rt; net.require(edge(A, C, 9)), Ok(()));
@@ -76,9 +76,9 @@ fn weigh(edges: &[Edge]) -> i64 {
 /// An edge that leaves C too little time is refused, with the chain that shows it.
 fn shows_a_chain<N: Network>(rt: &impl Abort, net: &mut N)
     requires net { N.net net.old ≡ three_points }
-    requires edges { 3 ≤ N.edge_room net.old }
+    requires edges { 3 ≤ N.max_edges net.old }
     ensures net { N.net net.new ≡ N.net net.old }
-    ensures edges { N.edge_room net.new ≡ N.edge_room net.old }
+    ensures edges { N.max_edges net.new ≡ N.max_edges net.old }
 {
     assert_eq!(rt; net.require(edge(B, C, 16)), Err(Late));
     assert_eq!(rt; net.earliest(C), 7);
@@ -94,7 +94,7 @@ fn shows_a_chain<N: Network>(rt: &impl Abort, net: &mut N)
 /// An edge that closes a walk with a positive sum is refused, with what shows it.
 fn shows_a_closed_walk<N: Network>(rt: &impl Abort, net: &mut N)
     requires net { N.net net.old ≡ three_points }
-    requires edges { 3 ≤ N.edge_room net.old }
+    requires edges { 3 ≤ N.max_edges net.old }
 {
     assert_eq!(rt; net.require(edge(C, B, -1)), Err(Late));
     assert_eq!(rt; net.earliest(C), 7);
@@ -108,9 +108,9 @@ fn shows_a_closed_walk<N: Network>(rt: &impl Abort, net: &mut N)
 fn look_at_net<N: Network>(rt: &impl Abort, net: &mut N)
     requires empty { N.net net.old ≡ empty_net }
     requires past { N.past net.old ≡ [] }
-    requires points { N.point_room net.old ≡ 3 }
-    requires edges { N.edge_room net.old ≡ 5 }
-    requires marks { N.mark_room net.old ≡ 1 }
+    requires points { N.max_points net.old ≡ 3 }
+    requires edges { N.max_edges net.old ≡ 5 }
+    requires marks { N.max_marks net.old ≡ 1 }
 {
     lay_out(rt, net);
     goes_back(rt, net);

@@ -51,13 +51,13 @@ fn answer_new<N: Network>(
 ) -> Result<Reply, Fail>
     requires work { IsFor work.old machine.now }
     requires made { IsMadeFor board.old.made_for machine.now }
-    requires marks { 8 ≤ N.mark_room board.old.net }
+    requires marks { 8 ≤ N.max_marks board.old.net }
     requires plan_on { CanPlanOn machine.now ask.now.now schedule.old.plans }
     requires new { ask.now.origin ≡ Feeder }
     requires goal { IsOpenGoal machine.now [] ask.now ask.now.goal }
     ensures work { work.new ≡ work.old }
     ensures made { IsMadeFor board.new.made_for machine.now }
-    ensures marks { 8 ≤ N.mark_room board.new.net }
+    ensures marks { 8 ≤ N.max_marks board.new.net }
     ensures plan_on { OnOk result (CanPlanOn machine.now ask.entry.now.now schedule.new.plans) }
 {
     if !is_askable(machine, schedule, ask) {
@@ -81,11 +81,11 @@ fn answer_sheet<N: Network>(
 ) -> Result<Reply, Fail>
     requires work { IsFor work.old machine.now }
     requires made { IsMadeFor board.old.made_for machine.now }
-    requires marks { 8 ≤ N.mark_room board.old.net }
+    requires marks { 8 ≤ N.max_marks board.old.net }
     requires plan_on { CanPlanOn machine.now 0 schedule.old.plans }
     ensures work { work.new ≡ work.old }
     ensures made { IsMadeFor board.new.made_for machine.now }
-    ensures marks { 8 ≤ N.mark_room board.new.net }
+    ensures marks { 8 ≤ N.max_marks board.new.net }
     ensures plan_on { OnOk result (CanPlanOn machine.now 0 schedule.new.plans) }
 {
     let ask = ask_without(machine, number, outs)?;
@@ -101,9 +101,9 @@ fn first_answered<N: Network>(
     outs: Outs,
 ) -> Result<(Reply, Schedule), Fail>
     requires made { IsMadeFor board.old.made_for machine.now }
-    requires marks { 8 ≤ N.mark_room board.old.net }
+    requires marks { 8 ≤ N.max_marks board.old.net }
     ensures made { IsMadeFor board.new.made_for machine.now }
-    ensures marks { 8 ≤ N.mark_room board.new.net }
+    ensures marks { 8 ≤ N.max_marks board.new.net }
     ensures plan_on { IfOk result (λ answered. CanPlanOn machine.now 0 answered.1.plans) }
 {
     let mut work = work_for(alloc, machine, nodes)?;
@@ -119,9 +119,9 @@ fn points_in_turn<N: Network>(
     machine: &Machine,
 ) -> Result<([Reply; 2], [[Tick; 4]; 3]), Fail>
     requires made { IsMadeFor board.old.made_for machine.now }
-    requires marks { 8 ≤ N.mark_room board.old.net }
+    requires marks { 8 ≤ N.max_marks board.old.net }
     ensures made { IsMadeFor board.new.made_for machine.now }
-    ensures marks { 8 ≤ N.mark_room board.new.net }
+    ensures marks { 8 ≤ N.max_marks board.new.net }
 {
     let (one, mut schedule) = first_answered(alloc, board, machine, 1000, Outs(0))?;
     let alone = points_of(&schedule, 1, 0)?;
@@ -144,9 +144,9 @@ fn first_end<N: Network>(
     outs: Outs,
 ) -> Result<(Reply, Option<Tick>), Fail>
     requires made { IsMadeFor board.old.made_for machine.now }
-    requires marks { 8 ≤ N.mark_room board.old.net }
+    requires marks { 8 ≤ N.max_marks board.old.net }
     ensures made { IsMadeFor board.new.made_for machine.now }
-    ensures marks { 8 ≤ N.mark_room board.new.net }
+    ensures marks { 8 ≤ N.max_marks board.new.net }
 {
     let (reply, schedule) = first_answered(alloc, board, machine, nodes, outs)?;
     if schedule.len() == 0 {
@@ -164,9 +164,9 @@ fn second_reply<N: Network>(
     nodes: u32,
 ) -> Result<Reply, Fail>
     requires made { IsMadeFor board.old.made_for machine.now }
-    requires marks { 8 ≤ N.mark_room board.old.net }
+    requires marks { 8 ≤ N.max_marks board.old.net }
     ensures made { IsMadeFor board.new.made_for machine.now }
-    ensures marks { 8 ≤ N.mark_room board.new.net }
+    ensures marks { 8 ≤ N.max_marks board.new.net }
 {
     let (_, mut schedule) = first_answered(alloc, board, machine, 1000, Outs(0))?;
     let mut work = work_for(alloc, machine, nodes)?;
@@ -182,9 +182,9 @@ pub(crate) fn earliest_in_turn<N: Network>(
     machine: &Machine,
 ) -> Result<(), Fail>
     requires made { IsMadeFor board.old.made_for machine.now }
-    requires marks { 8 ≤ N.mark_room board.old.net }
+    requires marks { 8 ≤ N.max_marks board.old.net }
     ensures made { IsMadeFor board.new.made_for machine.now }
-    ensures marks { 8 ≤ N.mark_room board.new.net }
+    ensures marks { 8 ≤ N.max_marks board.new.net }
 {
     let told = points_in_turn(alloc, board, machine)?;
     let points = [[3, 5, 11, 14], [5, 7, 13, 16], [3, 5, 14, 17]];
@@ -200,9 +200,9 @@ pub(crate) fn modules_out<N: Network>(
     machine: &Machine,
 ) -> Result<(), Fail>
     requires made { IsMadeFor board.old.made_for machine.now }
-    requires marks { 8 ≤ N.mark_room board.old.net }
+    requires marks { 8 ≤ N.max_marks board.old.net }
     ensures made { IsMadeFor board.new.made_for machine.now }
-    ensures marks { 8 ≤ N.mark_room board.new.net }
+    ensures marks { 8 ≤ N.max_marks board.new.net }
 {
     let rows = [
         (0b00001, Reply::Never, None),
@@ -230,9 +230,9 @@ pub(crate) fn nodes_for_the_first<N: Network>(
     machine: &Machine,
 ) -> Result<(), Fail>
     requires made { IsMadeFor board.old.made_for machine.now }
-    requires marks { 8 ≤ N.mark_room board.old.net }
+    requires marks { 8 ≤ N.max_marks board.old.net }
     ensures made { IsMadeFor board.new.made_for machine.now }
-    ensures marks { 8 ≤ N.mark_room board.new.net }
+    ensures marks { 8 ≤ N.max_marks board.new.net }
 {
     let rows = [
         (0, Reply::Spent { bound: 14 }, None),
@@ -258,9 +258,9 @@ pub(crate) fn nodes_for_the_second<N: Network>(
     machine: &Machine,
 ) -> Result<(), Fail>
     requires made { IsMadeFor board.old.made_for machine.now }
-    requires marks { 8 ≤ N.mark_room board.old.net }
+    requires marks { 8 ≤ N.max_marks board.old.net }
     ensures made { IsMadeFor board.new.made_for machine.now }
-    ensures marks { 8 ≤ N.mark_room board.new.net }
+    ensures marks { 8 ≤ N.max_marks board.new.net }
 {
     let spent = Reply::Spent { bound: 15 };
     let rows = [

@@ -38,7 +38,7 @@ fn name_of(text: &[u8]) -> Result<Name, Fail> {
 
 fn board_for(alloc: Global, machine: &Machine) -> Result<Board<PlainNet>, Fail>
     ensures made { IfOk result (λ board. IsMadeFor board.made_for machine.now) }
-    ensures marks { IfOk result (λ board. board.net.mark_room ≡ 330) }
+    ensures marks { IfOk result (λ board. board.net.max_marks ≡ 330) }
 {
     match PlainNet::new(alloc, 16_642, 100_000, 330) {
         Ok(net) => match Board::new(alloc, machine, net) {
@@ -95,7 +95,7 @@ fn plan_alone<N: Network>(
 ) -> Result<(), Fail>
     requires work { IsFor work.old machine.now }
     requires made { IsMadeFor board.old.made_for machine.now }
-    requires marks { 8 ≤ N.mark_room board.old.net }
+    requires marks { 8 ≤ N.max_marks board.old.net }
     requires empty { schedule.old.plans ≡ [] }
     requires now { ask.now.now ≡ 0 }
     requires new { ask.now.origin ≡ Feeder }
@@ -120,7 +120,7 @@ fn first_planned<N: Network>(
     front: Want,
 ) -> Result<Schedule, Fail>
     requires made { IsMadeFor board.old.made_for machine.now }
-    requires marks { 8 ≤ N.mark_room board.old.net }
+    requires marks { 8 ≤ N.max_marks board.old.net }
     ensures { IfOk result (λ schedule. CanPlanOn machine.now 0 schedule.plans) }
 {
     let ask = first_ask(machine, front)?;

@@ -18,40 +18,40 @@ pub trait Network: Undo {
     ghost refutes: { Self → Net → Type 0 };
 
     /// How many points there can be.
-    ghost point_room: { Self → ℕ };
+    ghost max_points: { Self → ℕ };
 
     /// How many edges there can be.
-    ghost edge_room: { Self → ℕ };
+    ghost max_edges: { Self → ℕ };
 
     /// Leaves no point, no edge and no mark in force.
     fn clear(&mut self)
         ensures net { net self.new ≡ empty_net }
         ensures past { Self.past self.new ≡ [] }
-        ensures marks { Self.mark_room self.new ≡ Self.mark_room self.old }
-        ensures points { point_room self.new ≡ point_room self.old }
-        ensures edges { edge_room self.new ≡ edge_room self.old };
+        ensures marks { Self.max_marks self.new ≡ Self.max_marks self.old }
+        ensures points { max_points self.new ≡ max_points self.old }
+        ensures edges { max_edges self.new ≡ max_edges self.old };
 
     /// Adds a point, which gets the next number.
     fn point(&mut self, low: u32, cap: u32) -> Result<PointId, Full>
         requires { low ≤ cap }
-        ensures full { IsErr result ↔ (length (net self.old).lows ≡ point_room self.old) }
+        ensures full { IsErr result ↔ (length (net self.old).lows ≡ max_points self.old) }
         ensures number { IfOk result (λ p. p.0 ≡ length (net self.old).lows) }
         ensures added { OnOk result (net self.new ≡ with_point (net self.old) low cap) }
         ensures solved { OnOk result (HasLeast (net self.new)) }
         ensures kept { OnErr result (Self.content self.new ≡ Self.content self.old) }
         ensures past { Self.past self.new ≡ Self.past self.old }
-        ensures marks { Self.mark_room self.new ≡ Self.mark_room self.old }
-        ensures points { point_room self.new ≡ point_room self.old }
-        ensures edges { edge_room self.new ≡ edge_room self.old };
+        ensures marks { Self.max_marks self.new ≡ Self.max_marks self.old }
+        ensures points { max_points self.new ≡ max_points self.old }
+        ensures edges { max_edges self.new ≡ max_edges self.old };
 
     fn spare_edges(&self) -> u32
-        ensures { result + length (net self.now).edges ≡ edge_room self.now };
+        ensures { result + length (net self.now).edges ≡ max_edges self.now };
 
     /// Adds an edge, or leaves the content where no solution would be left.
     fn require(&mut self, edge: Edge) -> Result<(), Late>
         requires from { edge.from.0 < length (net self.old).lows }
         requires to { edge.to.0 < length (net self.old).lows }
-        requires spare { length (net self.old).edges < edge_room self.old }
+        requires spare { length (net self.old).edges < max_edges self.old }
         requires least { negsuc 999999 ≤ℤ edge.weight }
         requires most { edge.weight ≤ℤ pos 1000000 }
         ensures added { OnOk result (net self.new ≡ with_edge (net self.old) edge) }
@@ -60,29 +60,29 @@ pub trait Network: Undo {
         ensures kept { OnErr result (Self.content self.new ≡ Self.content self.old) }
         ensures refused { OnErr result (refutes self.new (with_edge (net self.old) edge)) }
         ensures past { Self.past self.new ≡ Self.past self.old }
-        ensures marks { Self.mark_room self.new ≡ Self.mark_room self.old }
-        ensures points { point_room self.new ≡ point_room self.old }
-        ensures edges { edge_room self.new ≡ edge_room self.old };
+        ensures marks { Self.max_marks self.new ≡ Self.max_marks self.old }
+        ensures points { max_points self.new ≡ max_points self.old }
+        ensures edges { max_edges self.new ≡ max_edges self.old };
 
     /// Adds edges, all of them, or leaves the content where no solution would be left.
     fn require_all(&mut self, edges: &[Edge]) -> Result<(), Late>
         requires known { All (IsKnown (length (net self.old).lows)) edges.now }
-        requires spare { length (net self.old).edges + length edges.now ≤ edge_room self.old }
+        requires spare { length (net self.old).edges + length edges.now ≤ max_edges self.old }
         ensures added { OnOk result (net self.new ≡ with_edges (net self.old) edges.now) }
         ensures solved { OnOk result (HasLeast (net self.new)) }
         ensures late { OnErr result (HasNoSolution (with_edges (net self.old) edges.now)) }
         ensures kept { OnErr result (Self.content self.new ≡ Self.content self.old) }
         ensures refused { OnErr result (refutes self.new (with_edges (net self.old) edges.now)) }
         ensures past { Self.past self.new ≡ Self.past self.old }
-        ensures marks { Self.mark_room self.new ≡ Self.mark_room self.old }
-        ensures points { point_room self.new ≡ point_room self.old }
-        ensures edges { edge_room self.new ≡ edge_room self.old };
+        ensures marks { Self.max_marks self.new ≡ Self.max_marks self.old }
+        ensures points { max_points self.new ≡ max_points self.old }
+        ensures edges { max_edges self.new ≡ max_edges self.old };
 
     /// Adds a point, which gets the next number, and edges, all of it, or leaves the content where no solution would be left.
     fn extend(&mut self, low: u32, cap: u32, edges: &[Edge]) -> Result<(), Late>
-        requires room { length (net self.old).lows < point_room self.old }
+        requires room { length (net self.old).lows < max_points self.old }
         requires known { All (IsKnown (length (net self.old).lows + 1)) edges.now }
-        requires spare { length (net self.old).edges + length edges.now ≤ edge_room self.old }
+        requires spare { length (net self.old).edges + length edges.now ≤ max_edges self.old }
         ensures added { OnOk result
             (net self.new ≡ with_edges (with_point (net self.old) low cap) edges.now) }
         ensures solved { OnOk result (HasLeast (net self.new)) }
@@ -92,21 +92,21 @@ pub trait Network: Undo {
         ensures refused { OnErr result
             (refutes self.new (with_edges (with_point (net self.old) low cap) edges.now)) }
         ensures past { Self.past self.new ≡ Self.past self.old }
-        ensures marks { Self.mark_room self.new ≡ Self.mark_room self.old }
-        ensures points { point_room self.new ≡ point_room self.old }
-        ensures edges { edge_room self.new ≡ edge_room self.old };
+        ensures marks { Self.max_marks self.new ≡ Self.max_marks self.old }
+        ensures points { max_points self.new ≡ max_points self.old }
+        ensures edges { max_edges self.new ≡ max_edges self.old };
 
     /// Adds edges that leave a solution. The times are worked out once for all of them, so that many edges cost little.
     fn load(&mut self, edges: &[Edge])
         requires known { All (IsKnown (length (net self.old).lows)) edges.now }
-        requires spare { length (net self.old).edges + length edges.now ≤ edge_room self.old }
+        requires spare { length (net self.old).edges + length edges.now ≤ max_edges self.old }
         requires solution { (x : ℕ → ℕ) × IsSolution (with_edges (net self.old) edges.now) x }
         ensures added { net self.new ≡ with_edges (net self.old) edges.now }
         ensures solved { HasLeast (net self.new) }
         ensures past { Self.past self.new ≡ Self.past self.old }
-        ensures marks { Self.mark_room self.new ≡ Self.mark_room self.old }
-        ensures points { point_room self.new ≡ point_room self.old }
-        ensures edges { edge_room self.new ≡ edge_room self.old };
+        ensures marks { Self.max_marks self.new ≡ Self.max_marks self.old }
+        ensures points { max_points self.new ≡ max_points self.old }
+        ensures edges { max_edges self.new ≡ max_edges self.old };
 
     /// Raises the lower bound of a point, or leaves the content where no solution would be left.
     fn raise(&mut self, point: PointId, low: u32) -> Result<(), Late>
@@ -118,9 +118,9 @@ pub trait Network: Undo {
         ensures kept { OnErr result (Self.content self.new ≡ Self.content self.old) }
         ensures refused { OnErr result (refutes self.new (with_low (net self.old) point.0 low)) }
         ensures past { Self.past self.new ≡ Self.past self.old }
-        ensures marks { Self.mark_room self.new ≡ Self.mark_room self.old }
-        ensures points { point_room self.new ≡ point_room self.old }
-        ensures edges { edge_room self.new ≡ edge_room self.old };
+        ensures marks { Self.max_marks self.new ≡ Self.max_marks self.old }
+        ensures points { max_points self.new ≡ max_points self.old }
+        ensures edges { max_edges self.new ≡ max_edges self.old };
 
     /// The point's time in the least solution.
     fn earliest(&self, point: PointId) -> u32
@@ -141,8 +141,8 @@ pub trait Network: Undo {
 
     /// and the numbers that the network was made for.
     ghost points_by_aside: { (a b : Self) → Self.aside a ≡ Self.aside b
-        → point_room a ≡ point_room b };
+        → max_points a ≡ max_points b };
 
     ghost edges_by_aside: { (a b : Self) → Self.aside a ≡ Self.aside b
-        → edge_room a ≡ edge_room b };
+        → max_edges a ≡ max_edges b };
 }

@@ -20,23 +20,23 @@ pub trait Undo {
     ghost past: { Self → List Content };
 
     /// How many marks can be in force.
-    ghost mark_room: { Self → ℕ };
+    ghost max_marks: { Self → ℕ };
 
     fn spare_marks(&self) -> u32
-        ensures { result + length (past self.now) ≡ mark_room self.now };
+        ensures { result + length (past self.now) ≡ max_marks self.now };
 
     fn mark(&mut self) -> Mark
-        requires { length (past self.old) < mark_room self.old }
+        requires { length (past self.old) < max_marks self.old }
         ensures number { result.0 ≡ length (past self.old) }
         ensures past { past self.new ≡ past self.old ++ content self.old ∷ [] }
         ensures content { content self.new ≡ content self.old }
         ensures aside { aside self.new ≡ aside self.old }
-        ensures room { mark_room self.new ≡ mark_room self.old };
+        ensures room { max_marks self.new ≡ max_marks self.old };
 
     fn undo_to(&mut self, mark: Mark)
         requires { mark.0 < length (past self.old) }
         ensures content { slice_get (past self.old) mark.0 ≡ Some (content self.new) }
         ensures past { past self.new ≡ take mark.0 (past self.old) }
         ensures aside { aside self.new ≡ aside self.old }
-        ensures room { mark_room self.new ≡ mark_room self.old };
+        ensures room { max_marks self.new ≡ max_marks self.old };
 }

@@ -45,7 +45,7 @@ impl<N: Network> Model for Board<N> {
     ghost view = { λ b. board_of b.net b.lines b.held.items b.plans.items b.firsts.items b.last
         b.floor b.horizon b.ask b.steps.items b.marks.items b.made_for b.causes b.limit };
 
-    ghost invariant = { λ b. IsBoard (length (N.past b.net)) (N.mark_room b.net)
-        (N.point_room b.net) (N.edge_room b.net) b.lines b.held b.begins b.plans b.firsts
+    ghost invariant = { λ b. IsBoard (length (N.past b.net)) (N.max_marks b.net)
+        (N.max_points b.net) (N.max_edges b.net) b.lines b.held b.begins b.plans b.firsts
         b.steps b.marks b.edges b.made_for };
 }

@@ -50,16 +50,16 @@ fn highest(plan: &Plan, at: u32, horizon: Tick) -> Tick
 fn add_plan<N: Network>(net: &mut N, plan: &Plan, floor: Tick, horizon: Tick)
     requires bounds { HasBounds floor horizon plan.now }
     requires room { length (N.net net.old).lows + (length plan.now.acts + 1)
-        ≤ N.point_room net.old }
+        ≤ N.max_points net.old }
     requires fits { floor + 1 < 2 ^ 32 }
     requires least { HasLeast (N.net net.old) }
     ensures added { N.net net.new ≡ with_bounds (lows_of floor plan.now) (caps_of horizon plan.now)
         (N.net net.old) }
     ensures solved { HasLeast (N.net net.new) }
     ensures past { N.past net.new ≡ N.past net.old }
-    ensures marks { N.mark_room net.new ≡ N.mark_room net.old }
-    ensures points { N.point_room net.new ≡ N.point_room net.old }
-    ensures edges { N.edge_room net.new ≡ N.edge_room net.old }
+    ensures marks { N.max_marks net.new ≡ N.max_marks net.old }
+    ensures points { N.max_points net.new ≡ N.max_points net.old }
+    ensures edges { N.max_edges net.new ≡ N.max_edges net.old }
 {
     for at in 0..plan.acts.len() + 1 {
         let low = lowest(plan, at, floor);
@@ -80,7 +80,7 @@ pub(crate) fn add_points<N: Network>(
     horizon: Tick,
 ) -> u32
     requires bounds { All (HasBounds floor horizon) plans.now }
-    requires room { length (N.net net.old).lows + point_count plans.now ≤ N.point_room net.old }
+    requires room { length (N.net net.old).lows + point_count plans.now ≤ N.max_points net.old }
     requires space { vec_len firsts.old + length plans.now ≤ vec_capacity firsts.old }
     requires few { point_count plans.now < 2 ^ 32 }
     requires fits { floor + 1 < 2 ^ 32 }
@@ -91,9 +91,9 @@ pub(crate) fn add_points<N: Network>(
     ensures space { vec_capacity firsts.old ≤ vec_capacity firsts.new }
     ensures solved { HasLeast (N.net net.new) }
     ensures past { N.past net.new ≡ N.past net.old }
-    ensures marks { N.mark_room net.new ≡ N.mark_room net.old }
-    ensures points { N.point_room net.new ≡ N.point_room net.old }
-    ensures edges { N.edge_room net.new ≡ N.edge_room net.old }
+    ensures marks { N.max_marks net.new ≡ N.max_marks net.old }
+    ensures points { N.max_points net.new ≡ N.max_points net.old }
+    ensures edges { N.max_edges net.new ≡ N.max_edges net.old }
 {
     let mut first = 0;
     for plan in plans {

@@ -34,7 +34,7 @@ impl<N: Network> Board<N> {
         ensures closed { self.new.steps ≡ [] }
         ensures stands { Stands N.net N.content N.past self.new machine.now }
         ensures past { past_of N.past self.new ≡ [] }
-        ensures marks { N.mark_room self.new.net ≡ N.mark_room self.old.net }
+        ensures marks { N.max_marks self.new.net ≡ N.max_marks self.old.net }
     {
         self.load_live(machine, schedule, ask.now);
         self.floor = start_floor(machine, ask);

@@ -26,14 +26,14 @@ impl<N: Network + Drop> Board<N> {
     /// 100,000 edges and 330 marks. The board is for machines with the same numbers of locations and resources and the same
     /// window.
     pub fn new(alloc: Global, machine: &Machine, mut net: N) -> Result<Board<N>, Memory>
-        requires points { most_points ≤ N.point_room net }
-        requires edges { most_edges ≤ N.edge_room net }
-        requires marks { 330 ≤ N.mark_room net }
+        requires points { most_points ≤ N.max_points net }
+        requires edges { most_edges ≤ N.max_edges net }
+        requires marks { 330 ≤ N.max_marks net }
         ensures made { IfOk result (λ b. IsMadeFor b.made_for machine.now) }
         ensures empty { IfOk result (λ b. b.ask ≡ None) }
         ensures steps { IfOk result (λ b. b.steps ≡ []) }
         ensures past { IfOk result (λ b. past_of N.past b ≡ []) }
-        ensures kept { IfOk result (λ b. N.mark_room b.net ≡ N.mark_room net) }
+        ensures kept { IfOk result (λ b. N.max_marks b.net ≡ N.max_marks net) }
     {
         net.clear();
         let marks = net.spare_marks();

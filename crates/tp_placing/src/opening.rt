@@ -41,7 +41,7 @@ impl<N: Network> Board<N> {
             → Stands N.net N.content N.past self.new m }
         ensures past { past_of N.past self.new ≡ past_of N.past self.old }
         ensures loaded { IsSameLoad self.old self.new }
-        ensures marks { N.mark_room self.new.net ≡ N.mark_room self.old.net }
+        ensures marks { N.max_marks self.new.net ≡ N.max_marks self.old.net }
     {
         gaps_are_hops();
         solutions_are_ticks();
@@ -89,7 +89,7 @@ impl<N: Network> Board<N> {
         ensures stands { Stands N.net N.content N.past self.new machine.now }
         ensures past { past_of N.past self.new ≡ past_of N.past self.old }
         ensures loaded { IsSameLoad self.old self.new }
-        ensures marks { N.mark_room self.new.net ≡ N.mark_room self.old.net }
+        ensures marks { N.max_marks self.new.net ≡ N.max_marks self.old.net }
     {
         gaps_are_hops();
         solutions_are_ticks();
@@ -156,7 +156,7 @@ impl<N: Network> Board<N> {
         ensures stands { Stands N.net N.content N.past self.new machine.now }
         ensures past { past_of N.past self.new ≡ past_of N.past self.old }
         ensures loaded { IsSameLoad self.old self.new }
-        ensures marks { N.mark_room self.new.net ≡ N.mark_room self.old.net }
+        ensures marks { N.max_marks self.new.net ≡ N.max_marks self.old.net }
     {
         gaps_are_hops();
         solutions_are_ticks();
@@ -201,7 +201,7 @@ impl<N: Network> Board<N> {
             → Stands N.net N.content N.past self.new m }
         ensures past { past_of N.past self.new ≡ past_of N.past self.old }
         ensures loaded { IsSameLoad self.old self.new }
-        ensures marks { N.mark_room self.new.net ≡ N.mark_room self.old.net }
+        ensures marks { N.max_marks self.new.net ≡ N.max_marks self.old.net }
     {
         gaps_are_hops();
         solutions_are_ticks();

@@ -19,18 +19,18 @@ use tp_constraints::solutions_are_ticks;
 /// Has the network refuse that a point comes by a tick, and leaves it as it was. Takes a mark for the time of the call.
 /// Answers the point of that tick.
 fn refuse_by<N: Network>(net: &mut N, point: PointId, last: Tick) -> PointId
-    requires room { length (N.net net.old).lows < N.point_room net.old }
+    requires room { length (N.net net.old).lows < N.max_points net.old }
     requires known { point.0 < length (N.net net.old).lows }
-    requires spare { length (N.net net.old).edges < N.edge_room net.old }
-    requires mark { length (N.past net.old) < N.mark_room net.old }
+    requires spare { length (N.net net.old).edges < N.max_edges net.old }
+    requires mark { length (N.past net.old) < N.max_marks net.old }
     requires late { HasNoSolution (with_limit (N.net net.old) point last) }
     ensures refused { N.refutes net.new (with_limit (N.net net.old) point last) }
     ensures limit { result ≡ record { 0 = length (N.net net.old).lows } }
     ensures same { N.content net.new ≡ N.content net.old }
     ensures past { N.past net.new ≡ N.past net.old }
-    ensures marks { N.mark_room net.new ≡ N.mark_room net.old }
-    ensures points { N.point_room net.new ≡ N.point_room net.old }
-    ensures edges { N.edge_room net.new ≡ N.edge_room net.old }
+    ensures marks { N.max_marks net.new ≡ N.max_marks net.old }
+    ensures points { N.max_points net.new ≡ N.max_points net.old }
+    ensures edges { N.max_edges net.new ≡ N.max_edges net.old }
 {
     let mark = net.mark();
     let Ok(limit) = net.point(0, last) else {
@@ -58,7 +58,7 @@ impl<N: Network> Board<N> {
             → Stands N.net N.content N.past self.new m }
         ensures past { past_of N.past self.new ≡ past_of N.past self.old }
         ensures loaded { IsSameLoad self.old self.new }
-        ensures marks { N.mark_room self.new.net ≡ N.mark_room self.old.net }
+        ensures marks { N.max_marks self.new.net ≡ N.max_marks self.old.net }
     {
         solutions_are_ticks();
         let limit = refuse_by(&mut self.net, self.last, last);

@@ -21,7 +21,7 @@ impl<N: Network> Board<N> {
         ensures asked { self.new.ask ≡ None }
         ensures closed { self.new.steps ≡ [] }
         ensures past { past_of N.past self.new ≡ [] }
-        ensures marks { N.mark_room self.new.net ≡ N.mark_room self.old.net }
+        ensures marks { N.max_marks self.new.net ≡ N.max_marks self.old.net }
     {
         self.load_live(machine, schedule, now);
         write_times(&self.net, &self.plans, &self.firsts, schedule);

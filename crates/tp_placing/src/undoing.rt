@@ -16,7 +16,7 @@ impl<N: Network> Undo for Board<N> {
 
     ghost past = { past_of N.past };
 
-    ghost mark_room = { λ b. N.mark_room b.net - 1 };
+    ghost max_marks = { λ b. N.max_marks b.net - 1 };
 
     fn spare_marks(&self) -> u32 {
         self.net.spare_marks() - 1

@@ -39,7 +39,7 @@ fn require_until<N: Network>(
 ) -> Result<(), Late>
     requires can { All (IsKnown (length (N.net net.old).lows))
         (edge_until gap new.now behind.now tag) }
-    requires spare { length (N.net net.old).edges < N.edge_room net.old }
+    requires spare { length (N.net net.old).edges < N.max_edges net.old }
     requires least { HasLeast (N.net net.old) }
     ensures added { OnOk result (N.net net.new
         ≡ with_edges (N.net net.old) (edge_until gap new.now behind.now tag)) }
@@ -49,9 +49,9 @@ fn require_until<N: Network>(
     ensures refused { OnErr result (N.refutes net.new
         (with_edges (N.net net.old) (edge_until gap new.now behind.now tag))) }
     ensures past { N.past net.new ≡ N.past net.old }
-    ensures marks { N.mark_room net.new ≡ N.mark_room net.old }
-    ensures points { N.point_room net.new ≡ N.point_room net.old }
-    ensures edges { N.edge_room net.new ≡ N.edge_room net.old }
+    ensures marks { N.max_marks net.new ≡ N.max_marks net.old }
+    ensures points { N.max_points net.new ≡ N.max_points net.old }
+    ensures edges { N.max_edges net.new ≡ N.max_edges net.old }
 {
     match behind {
         Some(behind) => match net.require(following(gap, new, behind, tag)) {
@@ -72,7 +72,7 @@ fn require_after<N: Network>(
 ) -> Result<(), Late>
     requires can { All (IsKnown (length (N.net net.old).lows))
         (edge_after gap before.now new.now tag) }
-    requires spare { length (N.net net.old).edges < N.edge_room net.old }
+    requires spare { length (N.net net.old).edges < N.max_edges net.old }
     requires least { HasLeast (N.net net.old) }
     ensures added { OnOk result (N.net net.new
         ≡ with_edges (N.net net.old) (edge_after gap before.now new.now tag)) }
@@ -82,9 +82,9 @@ fn require_after<N: Network>(
     ensures refused { OnErr result (N.refutes net.new
         (with_edges (N.net net.old) (edge_after gap before.now new.now tag))) }
     ensures past { N.past net.new ≡ N.past net.old }
-    ensures marks { N.mark_room net.new ≡ N.mark_room net.old }
-    ensures points { N.point_room net.new ≡ N.point_room net.old }
-    ensures edges { N.edge_room net.new ≡ N.edge_room net.old }
+    ensures marks { N.max_marks net.new ≡ N.max_marks net.old }
+    ensures points { N.max_points net.new ≡ N.max_points net.old }
+    ensures edges { N.max_edges net.new ≡ N.max_edges net.old }
 {
     match before {
         Some(before) => match net.require(following(gap, before, new, tag)) {
@@ -106,7 +106,7 @@ fn require_around<N: Network>(
 ) -> Result<(), Refused>
     requires can { All (IsKnown (length (N.net net.old).lows))
         (edges_back gap neighbours.now.before new.now neighbours.now.behind tag) }
-    requires spare { length (N.net net.old).edges + 2 ≤ N.edge_room net.old }
+    requires spare { length (N.net net.old).edges + 2 ≤ N.max_edges net.old }
     requires least { HasLeast (N.net net.old) }
     requires fits { tag + 1 < 2 ^ 32 }
     ensures added { OnOk result (N.net net.new ≡ with_edges (N.net net.old)
@@ -123,9 +123,9 @@ fn require_around<N: Network>(
         → N.refutes net.new (with_edges (N.net net.old)
         (edge_until gap new.now neighbours.now.behind (tag + 1)))) }
     ensures past { N.past net.new ≡ N.past net.old }
-    ensures marks { N.mark_room net.new ≡ N.mark_room net.old }
-    ensures points { N.point_room net.new ≡ N.point_room net.old }
-    ensures edges { N.edge_room net.new ≡ N.edge_room net.old }
+    ensures marks { N.max_marks net.new ≡ N.max_marks net.old }
+    ensures points { N.max_points net.new ≡ N.max_points net.old }
+    ensures edges { N.max_edges net.new ≡ N.max_edges net.old }
 {
     match require_until(net, gap, new, &neighbours.behind, tag + 1) {
         Ok(()) => match require_after(net, gap, &neighbours.before, new, tag) {
@@ -163,7 +163,7 @@ impl<N: Network> Board<N> {
             (StandsBack N.net N.content N.past N.aside self.new machine.now) }
         ensures past { past_of N.past self.new ≡ past_of N.past self.old }
         ensures loaded { IsSameLoad self.old self.new }
-        ensures marks { N.mark_room self.new.net ≡ N.mark_room self.old.net }
+        ensures marks { N.max_marks self.new.net ≡ N.max_marks self.old.net }
     {
         gaps_are_hops();
         solutions_are_ticks();

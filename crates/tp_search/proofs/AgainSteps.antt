@@ -59,10 +59,10 @@ module _ {N C : Type 0} (net : N → Net) (content : N → C) (past : N → List
   pub in-time : (x : Suffix) → after_again (suffix_of b) change ≡ Some x → HasNoTimes machine b x → ⊥
   in-time x is none = let c = carried x is in refused-late machine b c.0 x c.1 none c.2.ticks c.2.are_times
 
-  module _ (mark_room : N → ℕ) where
+  module _ (max_marks : N → ℕ) where
     -- a step was taken
     pub made-step : (b' : BoardValue N) (x : Suffix) (reached' : Reached) → after_again (suffix_of b) change ≡ Some x → suffix_of b' ≡ Some x → reached' ≡ reached_by x.choices → Stands net content past b' machine
-        → past_of past b' ≡ past_of past b → IsSameLoad b b' → mark_room b'.net ≡ mark_room b.net → IsMade net content past mark_room b b' machine change reached'
+        → past_of past b' ≡ past_of past b → IsSameLoad b b' → max_marks b'.net ≡ max_marks b.net → IsMade net content past max_marks b b' machine change reached'
     made-step b' x reached' is now so stands same_past loaded marks = record {
       stands = stands;
       suffix = now ∙ sym is;

@@ -36,7 +36,7 @@ known-goal machine plans ask can = go ask.goal can.open_goal where
   go Purge open-goal = tt
   go (Tray t) open-goal = open-goal.0
 
-module _ {N C : Type 0} (net : N → Net) (content : N → C) (past : N → List C) (mark_room : N → ℕ) (b b' : BoardValue N) (machine : Machine) (ask : Ask) (base : ℕ) (a : HasAnswer net content past mark_room b b' machine ask base) where
+module _ {N C : Type 0} (net : N → Net) (content : N → C) (past : N → List C) (max_marks : N → ℕ) (b b' : BoardValue N) (machine : Machine) (ask : Ask) (base : ℕ) (a : HasAnswer net content past max_marks b b' machine ask base) where
   carried : (x : Suffix) × (suffix_of b' ≡ Some x) × IsWayTo machine b'.plans ask a.first a.list x
   carried = some-and (suffix_of b') (IsWayTo machine b'.plans ask a.first a.list) a.laid.way
 

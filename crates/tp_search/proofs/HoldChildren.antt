@@ -42,7 +42,7 @@ pub child-some : {goal : State} {before choices : List Stored} → IsOneMore goa
 child-some {goal} {before} {choices} more = omega (arith, ap length more.same)
 
 -- a child of the list that a board carries
-module _ {N C : Type 0} (net : N → Net) (content : N → C) (past : N → List C) (mark_room : N → ℕ) (b : BoardValue N) (machine : Machine) (ask : Ask) (first goal : State) (before choices : List Stored)
+module _ {N C : Type 0} (net : N → Net) (content : N → C) (past : N → List C) (max_marks : N → ℕ) (b : BoardValue N) (machine : Machine) (ask : Ask) (first goal : State) (before choices : List Stored)
     (laid : HasList net content past b machine ask first (going goal (choices_by machine before))) (more : IsOneMore goal before choices) (c : Stored) (made : choice_made choices (length choices) ≡ Some c) where
   newest-is : c ≡ more.newest
   newest-is = last-made choices c more.newest before more.same made
@@ -51,7 +51,7 @@ module _ {N C : Type 0} (net : N → Net) (content : N → C) (past : N → List
   goal-is = ap (λ (d : Stored). d.goal) newest-is ∙ more.same_goal
 
   carried : (laid_by (suffix_of b)).choices ≡ choices_by machine before
-  carried = choices-carried net content past mark_room b machine ask first goal (choices_by machine before) laid
+  carried = choices-carried net content past max_marks b machine ask first goal (choices_by machine before) laid
 
   -- its newest choice can be laid
   pub child-laid : HasList net content past b machine ask first (going c.goal (laid_by (suffix_of b)).choices)
@@ -65,10 +65,10 @@ module _ {N C : Type 0} (net : N → Net) (content : N → C) (past : N → List
   child-opens o = subst (IsOpen machine b.plans ask) (sym child-whole) o
 
 -- the answer that was found as a list was opened
-module _ {N C : Type 0} (net : N → Net) (content : N → C) (past : N → List C) (mark_room : N → ℕ) (b : BoardValue N) (machine : Machine) (plans : List Plan) (ask : Ask) (first : State) (list : ChoiceList) (answer : Stored)
+module _ {N C : Type 0} (net : N → Net) (content : N → C) (past : N → List C) (max_marks : N → ℕ) (b : BoardValue N) (machine : Machine) (plans : List Plan) (ask : Ask) (first : State) (list : ChoiceList) (answer : Stored)
     (laid : HasList net content past b machine ask first list) (is : IsAnswerTo machine plans ask list answer) where
   list-carried : (laid_by (suffix_of b)).choices ≡ list.choices
-  list-carried = choices-carried net content past mark_room b machine ask first list.goal list.choices (subst (HasList net content past b machine ask first) is.goes_on laid)
+  list-carried = choices-carried net content past max_marks b machine ask first list.goal list.choices (subst (HasList net content past b machine ask first) is.goes_on laid)
 
   pub answer-laid : HasList net content past b machine ask first (going answer.goal (laid_by (suffix_of b)).choices)
   answer-laid = subst (HasList net content past b machine ask first) (is.goes_on ∙ (λ i. going (sym is.goal i) (sym list-carried i))) laid

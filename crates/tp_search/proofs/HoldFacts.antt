@@ -32,79 +32,79 @@ pub two-behind : {X : Type 0} (xs : List X) (y x : X) → (xs ++ y ∷ []) ++ x 
 two-behind [] y x = refl
 two-behind (z ∷ xs) y x = ap (λ l. z ∷ l) (two-behind xs y x)
 
-module _ {N C : Type 0} (net : N → Net) (content : N → C) (past : N → List C) (mark_room : N → ℕ) where
+module _ {N C : Type 0} (net : N → Net) (content : N → C) (past : N → List C) (max_marks : N → ℕ) where
   -- the same is loaded
-  pub over-plans : (b b' : BoardValue N) (machine : Machine) (ask : Ask) (held : Option Held) → IsOver net content past mark_room b b' machine ask held → b'.plans ≡ b.plans
+  pub over-plans : (b b' : BoardValue N) (machine : Machine) (ask : Ask) (held : Option Held) → IsOver net content past max_marks b b' machine ask held → b'.plans ≡ b.plans
   over-plans b b' machine ask None back = back.loaded.plans
   over-plans b b' machine ask (Some held) since = since.loaded.plans
 
-  over-ask : (b b' : BoardValue N) (machine : Machine) (ask : Ask) (held : Option Held) → IsOver net content past mark_room b b' machine ask held → b'.ask ≡ b.ask
+  over-ask : (b b' : BoardValue N) (machine : Machine) (ask : Ask) (held : Option Held) → IsOver net content past max_marks b b' machine ask held → b'.ask ≡ b.ask
   over-ask b b' machine ask None back = back.loaded.ask
   over-ask b b' machine ask (Some held) since = since.loaded.ask
 
   -- the board stands on the machine
-  over-stands : (b b' : BoardValue N) (machine : Machine) (ask : Ask) (held : Option Held) → IsReady net content past mark_room b machine ask → IsOver net content past mark_room b b' machine ask held → Stands net content past b' machine
+  over-stands : (b b' : BoardValue N) (machine : Machine) (ask : Ask) (held : Option Held) → IsReady net content past max_marks b machine ask → IsOver net content past max_marks b b' machine ask held → Stands net content past b' machine
   over-stands b b' machine ask None ready back = back.stands ready.stands
   over-stands b b' machine ask (Some held) ready since = since.stands
 
   -- the plans are legal, and the ask can be put on them
-  pub over-legal : (b b' : BoardValue N) (machine : Machine) (ask : Ask) (held : Option Held) → IsReady net content past mark_room b machine ask → IsOver net content past mark_room b b' machine ask held → IsLegal machine b'.plans
+  pub over-legal : (b b' : BoardValue N) (machine : Machine) (ask : Ask) (held : Option Held) → IsReady net content past max_marks b machine ask → IsOver net content past max_marks b b' machine ask held → IsLegal machine b'.plans
   over-legal b b' machine ask held ready over = stands-legal net content past b' machine (over-stands b b' machine ask held ready over)
 
-  pub over-asked : (b b' : BoardValue N) (machine : Machine) (ask : Ask) (held : Option Held) → IsReady net content past mark_room b machine ask → IsOver net content past mark_room b b' machine ask held → b'.ask ≡ Some ask
+  pub over-asked : (b b' : BoardValue N) (machine : Machine) (ask : Ask) (held : Option Held) → IsReady net content past max_marks b machine ask → IsOver net content past max_marks b b' machine ask held → b'.ask ≡ Some ask
   over-asked b b' machine ask held ready over = over-ask b b' machine ask held over ∙ ready.asked
 
-  pub over-can_ask : (b b' : BoardValue N) (machine : Machine) (ask : Ask) (held : Option Held) → IsReady net content past mark_room b machine ask → IsOver net content past mark_room b b' machine ask held → IsAsked machine b'.plans ask
+  pub over-can_ask : (b b' : BoardValue N) (machine : Machine) (ask : Ask) (held : Option Held) → IsReady net content past max_marks b machine ask → IsOver net content past max_marks b b' machine ask held → IsAsked machine b'.plans ask
   over-can_ask b b' machine ask held ready over = stands-asked net content past b' machine ask (over-stands b b' machine ask held ready over) (over-asked b b' machine ask held ready over)
 
   -- a board that is back has a spare mark where it had one
-  pub back-spare : (b b' : BoardValue N) (machine : Machine) → IsBack net content past mark_room b b' machine → HasMarks net content past mark_room 1 b → length (past_of past b') < mark_room b'.net - 1
+  pub back-spare : (b b' : BoardValue N) (machine : Machine) → IsBack net content past max_marks b b' machine → HasMarks net content past max_marks 1 b → length (past_of past b') < max_marks b'.net - 1
   back-spare b b' machine back spare = omega (arith, spare, ap length back.same_past, back.marks)
 
-  pub marks-some : (b : BoardValue N) → HasMarks net content past mark_room 7 b → HasMarks net content past mark_room 1 b
+  pub marks-some : (b : BoardValue N) → HasMarks net content past max_marks 7 b → HasMarks net content past max_marks 1 b
   marks-some b spare = omega (arith, spare)
 
-  pub some-marks : (b : BoardValue N) → HasMarks net content past mark_room 8 b → HasMarks net content past mark_room 1 b
+  pub some-marks : (b : BoardValue N) → HasMarks net content past max_marks 8 b → HasMarks net content past max_marks 1 b
   some-marks b spare = omega (arith, spare)
 
   -- six marks are spare after those that are set
-  pub since-marks : (b b' : BoardValue N) (machine : Machine) (ask : Ask) (base : ℕ) (root : Option Root) → IsLaidSince net content past mark_room b b' machine ask base root → HasMarks net content past mark_room 7 b → HasMarks net content past mark_room 6 b'
+  pub since-marks : (b b' : BoardValue N) (machine : Machine) (ask : Ask) (base : ℕ) (root : Option Root) → IsLaidSince net content past max_marks b b' machine ask base root → HasMarks net content past max_marks 7 b → HasMarks net content past max_marks 6 b'
   since-marks b b' machine ask base None since spare = omega (arith, spare, ap length since.past_more, length-append (past_of past b) (content_of content b ∷ since.kept), ap length since.are_kept, since.marks)
   since-marks b b' machine ask base (Some root) since spare = omega (arith, since.room, ap length since.past_more, length-append (past_of past b) (content_of content b ∷ since.kept), ap length since.are_kept.1, since.marks)
 
-  module _ (b b' : BoardValue N) (machine : Machine) (ask : Ask) (base : ℕ) (root : Option Root) (since : IsLaidSince net content past mark_room b b' machine ask base root) where
+  module _ (b b' : BoardValue N) (machine : Machine) (ask : Ask) (base : ℕ) (root : Option Root) (since : IsLaidSince net content past max_marks b b' machine ask base root) where
     -- the mark is in force
     pub since-known : base < length (past_of past b')
     since-known = omega (arith, ap length since.past_more, length-append (past_of past b) (content_of content b ∷ since.kept), since.number)
 
     -- more was laid
-    pub since-more : (b'' : BoardValue N) → IsSameButSteps past mark_room b' b'' → Stands net content past b'' machine → IsLaidSince net content past mark_room b b'' machine ask base root
+    pub since-more : (b'' : BoardValue N) → IsSameButSteps past max_marks b' b'' → Stands net content past b'' machine → IsLaidSince net content past max_marks b b'' machine ask base root
     since-more b'' same stands = record {
       number = since.number;
       kept = since.kept;
       past_more = same.same_past ∙ since.past_more;
       are_kept = since.are_kept;
       room = since.room;
-      loaded = load-trans net content past mark_room b b' b'' since.loaded same.loaded;
+      loaded = load-trans net content past max_marks b b' b'' since.loaded same.loaded;
       marks = ap (λ n. n - 1) same.marks ∙ since.marks;
       stands = stands;
     }
 
-    pub since-back : (b'' : BoardValue N) → IsBack net content past mark_room b' b'' machine → IsLaidSince net content past mark_room b b'' machine ask base root
+    pub since-back : (b'' : BoardValue N) → IsBack net content past max_marks b' b'' machine → IsLaidSince net content past max_marks b b'' machine ask base root
     since-back b'' back = record {
       number = since.number;
       kept = since.kept;
       past_more = back.same_past ∙ since.past_more;
       are_kept = since.are_kept;
       room = since.room;
-      loaded = load-trans net content past mark_room b b' b'' since.loaded back.loaded;
+      loaded = load-trans net content past max_marks b b' b'' since.loaded back.loaded;
       marks = back.marks ∙ since.marks;
       stands = back.stands since.stands;
     }
 
   -- a complete list that was laid, before whose bound no answer ends
-  pub since-answer : (b b' : BoardValue N) (machine : Machine) (ask : Ask) (base : ℕ) → IsLaidSince net content past mark_room b b' machine ask base None → (first : State) (list : ChoiceList) (bound : ℕ) → HasList net content past b' machine ask first list
-      → IsComplete machine ask list → IsBound machine b.plans ask list bound → NoneBefore machine b.plans ask bound → HasAnswer net content past mark_room b b' machine ask base
+  pub since-answer : (b b' : BoardValue N) (machine : Machine) (ask : Ask) (base : ℕ) → IsLaidSince net content past max_marks b b' machine ask base None → (first : State) (list : ChoiceList) (bound : ℕ) → HasList net content past b' machine ask first list
+      → IsComplete machine ask list → IsBound machine b.plans ask list bound → NoneBefore machine b.plans ask bound → HasAnswer net content past max_marks b b' machine ask base
   since-answer b b' machine ask base since first list bound laid complete is-bound none = record {
     number = since.number;
     past_more = since.past_more ∙ ap (λ kept. past_of past b ++ content_of content b ∷ kept) since.are_kept;
@@ -119,34 +119,34 @@ module _ {N C : Type 0} (net : N → Net) (content : N → C) (past : N → List
     none_before = none;
   }
 
-module _ {N C A : Type 0} (net : N → Net) (content : N → C) (past : N → List C) (aside : N → A) (mark_room : N → ℕ) where
+module _ {N C A : Type 0} (net : N → Net) (content : N → C) (past : N → List C) (aside : N → A) (max_marks : N → ℕ) where
   -- what was laid since the mark is taken off
-  pub since-undone : UndoKeeps net content past aside → (b b' b'' : BoardValue N) (machine : Machine) (ask : Ask) (base : ℕ) (root : Option Root) → IsLaidSince net content past mark_room b b' machine ask base root
-      → IsUndone net content past aside mark_room b' b'' base → IsBack net content past mark_room b b'' machine
+  pub since-undone : UndoKeeps net content past aside → (b b' b'' : BoardValue N) (machine : Machine) (ask : Ask) (base : ℕ) (root : Option Root) → IsLaidSince net content past max_marks b b' machine ask base root
+      → IsUndone net content past aside max_marks b' b'' base → IsBack net content past max_marks b b'' machine
   since-undone undoes b b' b'' machine ask base root since u =
       let at : slice_get (past_of past b') base ≡ Some (content_of content b) = (λ i. slice_get (since.past_more i) (since.number i)) ∙ slice-at (past_of past b) (content_of content b) since.kept in
       record {
         same_content = same_Some (content_of content b'') (content_of content b) (sym u.content_then ∙ at);
         same_past = u.past_less ∙ (λ i. take (since.number i) (since.past_more i)) ∙ take-append_seam (past_of past b) (content_of content b ∷ since.kept);
-        loaded = load-trans net content past mark_room b b' b'' since.loaded (load-of net content past aside mark_room b' b'' u.aside_same);
+        loaded = load-trans net content past max_marks b b' b'' since.loaded (load-of net content past aside max_marks b' b'' u.aside_same);
         marks = u.room_same ∙ since.marks;
         stands = λ s. undoes b' b'' machine base u.content_then u.aside_same u.past_less since.stands;
       }
 
   -- a mark on a board that is back
-  pub since-mark : MarkKeeps net content past aside → (b b' b'' : BoardValue N) (machine : Machine) (ask : Ask) (mark : ℕ) → IsReady net content past mark_room b machine ask → IsBack net content past mark_room b b' machine
-      → IsMarked net content past aside mark_room b' b'' mark → IsLaidSince net content past mark_room b b'' machine ask mark None
+  pub since-mark : MarkKeeps net content past aside → (b b' b'' : BoardValue N) (machine : Machine) (ask : Ask) (mark : ℕ) → IsReady net content past max_marks b machine ask → IsBack net content past max_marks b b' machine
+      → IsMarked net content past aside max_marks b' b'' mark → IsLaidSince net content past max_marks b b'' machine ask mark None
   since-mark keeps b b' b'' machine ask mark ready back m = record {
     number = m.number ∙ ap length back.same_past;
     kept = [];
     past_more = m.past_more ∙ (λ i. back.same_past i ++ back.same_content i ∷ []);
     are_kept = refl;
     room = tt;
-    loaded = load-trans net content past mark_room b b' b'' back.loaded (load-of net content past aside mark_room b' b'' m.aside_same);
+    loaded = load-trans net content past max_marks b b' b'' back.loaded (load-of net content past aside max_marks b' b'' m.aside_same);
     marks = m.room_same ∙ back.marks;
     stands = keeps b' b'' machine m.content_same m.aside_same m.past_more (back.stands ready.stands);
   }
 
-  pub ready-marked : MarkKeeps net content past aside → (b b' b'' : BoardValue N) (machine : Machine) (ask : Ask) (mark : ℕ) → IsReady net content past mark_room b machine ask → IsBack net content past mark_room b b' machine
-      → IsMarked net content past aside mark_room b' b'' mark → IsReady net content past mark_room b'' machine ask
-  ready-marked keeps b b' b'' machine ask mark ready back m = marked-ready net content past aside mark_room keeps b' b'' machine ask mark m (ready-back net content past mark_room b b' machine ask back ready)
+  pub ready-marked : MarkKeeps net content past aside → (b b' b'' : BoardValue N) (machine : Machine) (ask : Ask) (mark : ℕ) → IsReady net content past max_marks b machine ask → IsBack net content past max_marks b b' machine
+      → IsMarked net content past aside max_marks b' b'' mark → IsReady net content past max_marks b'' machine ask
+  ready-marked keeps b b' b'' machine ask mark ready back m = marked-ready net content past aside max_marks keeps b' b'' machine ask mark m (ready-back net content past max_marks b b' machine ask back ready)

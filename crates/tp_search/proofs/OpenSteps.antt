@@ -44,13 +44,13 @@ pub next-many : (machine : Machine) (plans : List Plan) (ask : Ask) (s : StoreVa
 next-many machine plans ask s (Goal g) can = refl
 next-many machine plans ask s (Node n) can = many-going machine (list_by machine (stored_at s.entries n)).goal (stored_at s.entries n) can.can_lay.1 (ap (λ (l : ChoiceList). l.stopped) can.goes_on)
 
-module _ {N C : Type 0} (net : N → Net) (content : N → C) (past : N → List C) (mark_room : N → ℕ) where
+module _ {N C : Type 0} (net : N → Net) (content : N → C) (past : N → List C) (max_marks : N → ℕ) where
   -- a board that is back carries the list that it carried
-  pub list-back : (b b' : BoardValue N) (machine : Machine) (ask : Ask) (first : State) (list : ChoiceList) → IsBack net content past mark_room b b' machine → HasList net content past b machine ask first list → HasList net content past b' machine ask first list
+  pub list-back : (b b' : BoardValue N) (machine : Machine) (ask : Ask) (first : State) (list : ChoiceList) → IsBack net content past max_marks b b' machine → HasList net content past b machine ask first list → HasList net content past b' machine ask first list
   list-back b b' machine ask first list back laid = record {
     stands = back.stands laid.stands;
     asked = back.loaded.ask ∙ laid.asked;
-    way = subst (λ o. IsSomeAnd o (IsWayTo machine b'.plans ask first list)) (sym (suffix-back net content past mark_room b b' back.same_content))
+    way = subst (λ o. IsSomeAnd o (IsWayTo machine b'.plans ask first list)) (sym (suffix-back net content past max_marks b b' back.same_content))
         (subst (λ ps. IsSomeAnd (suffix_of b) (IsWayTo machine ps ask first list)) (sym back.loaded.plans) laid.way);
   }
 

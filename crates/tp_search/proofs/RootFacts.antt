@@ -18,9 +18,9 @@ use Rattle.tp_search.specs.declared.holding.Root.{Root}
 use Rattle.tp_search.proofs.BoardSteps.{IsMarked, IsUndone, load-of, load-trans, suffix-back}
 use Rattle.tp_search.proofs.HoldFacts.{slice-at, two-behind}
 
-module _ {N C A : Type 0} (net : N → Net) (content : N → C) (past : N → List C) (aside : N → A) (mark_room : N → ℕ) where
-  module _ (undoes : UndoKeeps net content past aside) (b b' b'' : BoardValue N) (machine : Machine) (ask : Ask) (base : ℕ) (root : Root) (since : IsLaidSince net content past mark_room b b' machine ask base (Some root))
-      (u : IsUndone net content past aside mark_room b' b'' root.mark.0) where
+module _ {N C A : Type 0} (net : N → Net) (content : N → C) (past : N → List C) (aside : N → A) (max_marks : N → ℕ) where
+  module _ (undoes : UndoKeeps net content past aside) (b b' b'' : BoardValue N) (machine : Machine) (ask : Ask) (base : ℕ) (root : Root) (since : IsLaidSince net content past max_marks b b' machine ask base (Some root))
+      (u : IsUndone net content past aside max_marks b' b'' root.mark.0) where
     -- what the board had in its past before the mark at the goal
     abbrev first : List (BoardContent C)
     first = past_of past b ++ content_of content b ∷ []
@@ -41,7 +41,7 @@ module _ {N C A : Type 0} (net : N → Net) (content : N → C) (past : N → Li
     content-is = same_Some (content_of content b'') x (sym u.content_then ∙ at)
 
     loaded : b''.plans ≡ b.plans
-    loaded = (load-of net content past aside mark_room b' b'' u.aside_same).plans ∙ since.loaded.plans
+    loaded = (load-of net content past aside max_marks b' b'' u.aside_same).plans ∙ since.loaded.plans
 
     stands : Stands net content past b'' machine
     stands = undoes b' b'' machine root.mark.0 u.content_then u.aside_same u.past_less since.stands
@@ -50,26 +50,26 @@ module _ {N C A : Type 0} (net : N → Net) (content : N → C) (past : N → Li
     pub goal-undone : b'.ask ≡ Some ask → HasList net content past b'' machine ask root.goal (going root.goal [])
     goal-undone asked = record {
       stands = stands;
-      asked = (load-of net content past aside mark_room b' b'' u.aside_same).ask ∙ asked;
+      asked = (load-of net content past aside max_marks b' b'' u.aside_same).ask ∙ asked;
       way = subst (λ (y : BoardContent C). IsSomeAnd (suffix_after y.steps) (IsWayTo machine b''.plans ask root.goal (going root.goal []))) (sym content-is)
           (subst (λ ps. CarriesGoal machine ps ask root.goal x) (sym loaded) since.are_kept.3);
     }
 
     -- since the base alone
-    pub base-undone : IsLaidSince net content past mark_room b b'' machine ask base None
+    pub base-undone : IsLaidSince net content past max_marks b b'' machine ask base None
     base-undone = record {
       number = since.number;
       kept = [];
       past_more = u.past_less ∙ (λ i. take (number i) (past-is i)) ∙ take-append_seam first (x ∷ []);
       are_kept = refl;
       room = tt;
-      loaded = load-trans net content past mark_room b b' b'' since.loaded (load-of net content past aside mark_room b' b'' u.aside_same);
+      loaded = load-trans net content past max_marks b b' b'' since.loaded (load-of net content past aside max_marks b' b'' u.aside_same);
       marks = u.room_same ∙ since.marks;
       stands = stands;
     }
 
-  module _ (keeps : MarkKeeps net content past aside) (b b' b'' : BoardValue N) (machine : Machine) (ask : Ask) (base : ℕ) (root : Root) (since : IsLaidSince net content past mark_room b b' machine ask base None)
-      (laid : HasList net content past b' machine ask root.goal (going root.goal [])) (m : IsMarked net content past aside mark_room b' b'' root.mark.0) where
+  module _ (keeps : MarkKeeps net content past aside) (b b' b'' : BoardValue N) (machine : Machine) (ask : Ask) (base : ℕ) (root : Root) (since : IsLaidSince net content past max_marks b b' machine ask base None)
+      (laid : HasList net content past b' machine ask root.goal (going root.goal [])) (m : IsMarked net content past aside max_marks b' b'' root.mark.0) where
     past-was : past_of past b' ≡ past_of past b ++ content_of content b ∷ []
     past-was = since.past_more ∙ ap (λ kept. past_of past b ++ content_of content b ∷ kept) since.are_kept
 
@@ -78,22 +78,22 @@ module _ {N C A : Type 0} (net : N → Net) (content : N → C) (past : N → Li
 
     pub goal-marked : HasList net content past b'' machine ask root.goal (going root.goal [])
     goal-marked =
-        let load = load-of net content past aside mark_room b' b'' m.aside_same in
+        let load = load-of net content past aside max_marks b' b'' m.aside_same in
         record {
           stands = still;
           asked = load.ask ∙ laid.asked;
-          way = subst (λ o. IsSomeAnd o (IsWayTo machine b''.plans ask root.goal (going root.goal []))) (sym (suffix-back net content past mark_room b' b'' m.content_same))
+          way = subst (λ o. IsSomeAnd o (IsWayTo machine b''.plans ask root.goal (going root.goal []))) (sym (suffix-back net content past max_marks b' b'' m.content_same))
               (subst (λ ps. IsSomeAnd (suffix_of b') (IsWayTo machine ps ask root.goal (going root.goal []))) (sym load.plans) laid.way);
         }
 
-    pub root-marked : HasMarks net content past mark_room 8 b → IsLaidSince net content past mark_room b b'' machine ask base (Some root)
+    pub root-marked : HasMarks net content past max_marks 8 b → IsLaidSince net content past max_marks b b'' machine ask base (Some root)
     root-marked spare = record {
       number = since.number;
       kept = content_of content b' ∷ [];
       past_more = m.past_more ∙ ap (λ p. p ++ content_of content b' ∷ []) past-was ∙ two-behind (past_of past b) (content_of content b) (content_of content b');
       are_kept = (content_of content b', refl, number-is, subst (λ ps. CarriesGoal machine ps ask root.goal (content_of content b')) since.loaded.plans laid.way);
       room = spare;
-      loaded = load-trans net content past mark_room b b' b'' since.loaded (load-of net content past aside mark_room b' b'' m.aside_same);
+      loaded = load-trans net content past max_marks b b' b'' since.loaded (load-of net content past aside max_marks b' b'' m.aside_same);
       marks = m.room_same ∙ since.marks;
       stands = still;
     } where
@@ -101,12 +101,12 @@ module _ {N C A : Type 0} (net : N → Net) (content : N → C) (past : N → Li
       number-is = omega (arith, m.number, ap length past-was, length-append (past_of past b) (content_of content b ∷ []), since.number)
 
 -- there is a mark for it
-pub root-spare : {N C : Type 0} (net : N → Net) (content : N → C) (past : N → List C) (mark_room : N → ℕ) (b b' : BoardValue N) (machine : Machine) (ask : Ask) (base : ℕ) → IsLaidSince net content past mark_room b b' machine ask base None → HasMarks net content past mark_room 8 b
-    → length (past_of past b') < mark_room b'.net - 1
-root-spare net content past mark_room b b' machine ask base since spare = omega (arith, spare, ap length since.past_more, ap length since.are_kept, length-append (past_of past b) (content_of content b ∷ since.kept), since.marks)
+pub root-spare : {N C : Type 0} (net : N → Net) (content : N → C) (past : N → List C) (max_marks : N → ℕ) (b b' : BoardValue N) (machine : Machine) (ask : Ask) (base : ℕ) → IsLaidSince net content past max_marks b b' machine ask base None → HasMarks net content past max_marks 8 b
+    → length (past_of past b') < max_marks b'.net - 1
+root-spare net content past max_marks b b' machine ask base since spare = omega (arith, spare, ap length since.past_more, ap length since.are_kept, length-append (past_of past b) (content_of content b ∷ since.kept), since.marks)
 
 -- nor is the mark at the goal gone
-pub root-known : {N C : Type 0} (net : N → Net) (content : N → C) (past : N → List C) (mark_room : N → ℕ) (b b' : BoardValue N) (machine : Machine) (ask : Ask) (base : ℕ) (root : Root) → IsLaidSince net content past mark_room b b' machine ask base (Some root)
+pub root-known : {N C : Type 0} (net : N → Net) (content : N → C) (past : N → List C) (max_marks : N → ℕ) (b b' : BoardValue N) (machine : Machine) (ask : Ask) (base : ℕ) (root : Root) → IsLaidSince net content past max_marks b b' machine ask base (Some root)
     → root.mark.0 < length (past_of past b')
-root-known net content past mark_room b b' machine ask base root since =
+root-known net content past max_marks b b' machine ask base root since =
     omega (arith, since.are_kept.2, since.number, ap length since.past_more, ap length since.are_kept.1, length-append (past_of past b) (content_of content b ∷ since.kept))

@@ -71,23 +71,23 @@ module _ (machine : Machine) (plans : List Plan) (ask : Ask) (o : Opening) (s : 
   empty-going state end kept is none opening =
       opening-going machine plans ask o s (λ can opens. (subst (CanStop machine ask (parent_of machine s.entries o.goal o.parent)) is can).0 (nil_from_length _ none)) opening
 
-module _ {N C : Type 0} (net : N → Net) (content : N → C) (past : N → List C) (mark_room : N → ℕ) (machine : Machine) (ask : Ask) (first : State) (o : Opening) (s : StoreValue) (state : State) (end kept : ℕ)
-    (is : ask.origin ≡ FromFront state end kept) (b : BoardValue N) (l : IsLaid net content past mark_room b machine ask o.goal first (choices_by machine (choices_before s.entries o.parent))) where
+module _ {N C : Type 0} (net : N → Net) (content : N → C) (past : N → List C) (max_marks : N → ℕ) (machine : Machine) (ask : Ask) (first : State) (o : Opening) (s : StoreValue) (state : State) (end kept : ℕ)
+    (is : ask.origin ≡ FromFront state end kept) (b : BoardValue N) (l : IsLaid net content past max_marks b machine ask o.goal first (choices_by machine (choices_before s.entries o.parent))) where
   abbrev olds : List Choice
   olds = choices_by machine (choices_before s.entries o.parent)
 
   -- nor one that does not come to the front's state
   pub other-going : state ≢ first → IsAtProgress machine b.plans ask o s nothing → IsAtProgress machine b.plans ask o s (up_to 0 [])
   other-going other opening =
-      let w = the-way net content past mark_room b machine ask o.goal first olds l in
+      let w = the-way net content past max_marks b machine ask o.goal first olds l in
       opening-going machine b.plans ask o s (λ can opens. other (leads w (subst (CanStop machine ask (parent_of machine s.entries o.goal o.parent)) is can).1)) opening where
-        leads : (w : TheWay net content past mark_room b machine ask o.goal first olds) → walk machine ask.want (acts_of olds) state ≡ Some o.goal → state ≡ first
+        leads : (w : TheWay net content past max_marks b machine ask o.goal first olds) → walk machine ask.want (acts_of olds) state ≡ Some o.goal → state ≡ first
         leads w walks = first-only machine b.plans ask o.goal first w.x state w.is.way (subst (λ cs. walk machine ask.want (acts_of cs) state ≡ Some o.goal) (sym w.is.same) walks)
 
   -- nor one that is late
   pub late-going : IsSomeAnd (suffix_of b) (λ x. HasNoTimes machine b (with_stop x)) → IsAtProgress machine b.plans ask o s nothing → IsAtProgress machine b.plans ask o s (up_to 0 [])
   late-going late opening =
-      let w = the-way net content past mark_room b machine ask o.goal first olds l in
+      let w = the-way net content past max_marks b machine ask o.goal first olds l in
       let none : HasNoTimes machine b (with_stop w.x) = subst (λ x. IsSomeAnd x (λ y. HasNoTimes machine b (with_stop y))) w.suffix late in
       let none' = subst (λ k. IsSomeAnd k (λ y. (t : Ticks) → ¬ SuffixTimes machine b.plans y (with_stop w.x) t)) l.asked none in
       opening-going machine b.plans ask o s (λ can opens. stop-late machine b.plans ask o.goal first w.x w.is.way none'
@@ -99,7 +99,7 @@ module _ {N C : Type 0} (net : N → Net) (content : N → C) (past : N → List
 
     can-stop : CanStop machine ask (parent_of machine s.entries o.goal o.parent) ask.origin
     can-stop =
-        let w = the-way net content past mark_room b machine ask o.goal first olds l in
+        let w = the-way net content past max_marks b machine ask o.goal first olds l in
         let walks = subst (λ cs. walk machine ask.want (acts_of cs) first ≡ Some o.goal) w.is.same (way-walk machine b.plans ask o.goal first w.x w.is.way) in
         subst (CanStop machine ask (parent_of machine s.entries o.goal o.parent)) (sym is) (some-choices, subst (λ q. walk machine ask.want (acts_of olds) q ≡ Some o.goal) (sym at) walks)
 
@@ -107,7 +107,7 @@ module _ {N C : Type 0} (net : N → Net) (content : N → C) (past : N → List
     pub stopped-bound : (b' : BoardValue N) (tick : ℕ) → IsPlaced machine olds → IsSomeAnd (suffix_of b) (λ x. suffix_of b' ≡ Some (with_stop x)) → IsSameLoad b b' → HasLeastTick machine b' (own 0) tick
         → IsBound machine b.plans ask (stopping o.goal olds) tick
     stopped-bound b' tick placed put load least =
-        let w = the-way net content past mark_room b machine ask o.goal first olds l in
+        let w = the-way net content past max_marks b machine ask o.goal first olds l in
         let now : suffix_of b' ≡ Some (with_stop w.x) = subst (λ x. IsSomeAnd x (λ y. suffix_of b' ≡ Some (with_stop y))) w.suffix put in
         let here : IsLeastTick (TimesOf machine b'.plans ask (suffix_of b')) (own 0) tick =
         subst (λ k. IsSomeAnd k (λ y. IsLeastTick (TimesOf machine b'.plans y (suffix_of b')) (own 0) tick)) (load.ask ∙ l.asked) least in

@@ -79,10 +79,10 @@ module _ (machine : Machine) (plans : List Plan) (ask : Ask) (can : CanAsk machi
         earliest-to machine plans ask bound (none_before-whole machine plans ask can live is bound none) (answered plans ask further.choices opens.ticks) a.0 (a.1 ∙ opens.ends),
       )
 
-module _ {N C : Type 0} (net : N → Net) (content : N → C) (past : N → List C) (mark_room : N → ℕ) (b : BoardValue N) (machine : Machine) (trial : Trial N) where
+module _ {N C : Type 0} (net : N → Net) (content : N → C) (past : N → List C) (max_marks : N → ℕ) (b : BoardValue N) (machine : Machine) (trial : Trial N) where
   -- what a search found is a trial to the least end of its board
-  pub answer-trial : (ask : Ask) → IsReady net content past mark_room b machine ask → IsMachine machine → IsKnownGoal machine ask.goal → HasAnswer net content past mark_room b (board_in trial) machine ask trial.base.0 → HasLeastTick machine (board_in trial) (own 0) trial.end
-      → IsTrial net content past mark_room b machine trial
+  pub answer-trial : (ask : Ask) → IsReady net content past max_marks b machine ask → IsMachine machine → IsKnownGoal machine ask.goal → HasAnswer net content past max_marks b (board_in trial) machine ask trial.base.0 → HasLeastTick machine (board_in trial) (own 0) trial.end
+      → IsTrial net content past max_marks b machine trial
   answer-trial ask ready is-machine known a least =
       let b' = board_in trial in
       record {
@@ -94,15 +94,15 @@ module _ {N C : Type 0} (net : N → Net) (content : N → C) (past : N → List
         ask = ask;
         asked = a.laid.asked;
         ready = ready;
-        complete = subst (λ o. IsSomeAnd o (λ k. IsSomeAnd (suffix_of b') (CanCommit machine b'.plans k))) a.laid.asked (answer-commits net content past mark_room b b' machine ask trial.base.0 a is-machine known);
+        complete = subst (λ o. IsSomeAnd o (λ k. IsSomeAnd (suffix_of b') (CanCommit machine b'.plans k))) a.laid.asked (answer-commits net content past max_marks b b' machine ask trial.base.0 a is-machine known);
         ends = least;
-        none_before = subst (λ ps. NoneBefore machine ps ask trial.end) (sym a.loaded.plans) (subst (NoneBefore machine b.plans ask) (sym (answer-ends net content past mark_room b b' machine ask trial.base.0 a trial.end least)) a.none_before);
+        none_before = subst (λ ps. NoneBefore machine ps ask trial.end) (sym a.loaded.plans) (subst (NoneBefore machine b.plans ask) (sym (answer-ends net content past max_marks b b' machine ask trial.base.0 a trial.end least)) a.none_before);
       }
 
   -- where it is undone to its mark, the board is as before
-  pub trial-back : {A : Type 0} → (aside : N → A) → UndoKeeps net content past aside → (b' : BoardValue N) → IsTrial net content past mark_room b machine trial
-      → IsUndone net content past aside mark_room (board_in trial) b' trial.base.0 → IsBack net content past mark_room b b' machine
-  trial-back aside undoes b' t u = undone-back net content past aside mark_room undoes b (board_in trial) b' machine trial.base.0 t.number t.past_more t.loaded t.marks (λ _. t.stands) u
+  pub trial-back : {A : Type 0} → (aside : N → A) → UndoKeeps net content past aside → (b' : BoardValue N) → IsTrial net content past max_marks b machine trial
+      → IsUndone net content past aside max_marks (board_in trial) b' trial.base.0 → IsBack net content past max_marks b b' machine
+  trial-back aside undoes b' t u = undone-back net content past aside max_marks undoes b (board_in trial) b' machine trial.base.0 t.number t.past_more t.loaded t.marks (λ _. t.stands) u
 
 -- a board has one least end
 pub same-end : {N : Type 0} → (machine : Machine) (b : BoardValue N) (ask : Ask) → b.ask ≡ Some ask → (end other : ℕ) → HasLeastTick machine b (own 0) end → HasLeastTick machine b (own 0) other → end ≡ other

@@ -38,7 +38,7 @@ choices-end machine t [] is some lasts = absurd (omega (arith, some))
 choices-end machine t (c ∷ []) is some lasts = act-ends machine c.act.0 (t (own 1)) (t (own 0)) (action_at machine c.act.0) refl is lasts.0
 choices-end machine t (c ∷ d ∷ choices) is some lasts = choices-end machine t (d ∷ choices) is (omega arith) lasts.1
 
-module _ {N C : Type 0} (net : N → Net) (content : N → C) (past : N → List C) (mark_room : N → ℕ) (b : BoardValue N) (machine : Machine) (trial : Trial N) (t : IsTrial net content past mark_room b machine trial) where
+module _ {N C : Type 0} (net : N → Net) (content : N → C) (past : N → List C) (max_marks : N → ℕ) (b : BoardValue N) (machine : Machine) (trial : Trial N) (t : IsTrial net content past max_marks b machine trial) where
   abbrev here : BoardValue N
   here = board_in trial
 
@@ -47,8 +47,8 @@ module _ {N C : Type 0} (net : N → Net) (content : N → C) (past : N → List
     same-ask = same_Some t.ask ask (sym t.asked ∙ asked)
 
     -- the board without the choices is ready
-    pub base-ready : IsReady net content past mark_room b machine ask
-    base-ready = subst (IsReady net content past mark_room b machine) same-ask t.ready
+    pub base-ready : IsReady net content past max_marks b machine ask
+    base-ready = subst (IsReady net content past max_marks b machine) same-ask t.ready
 
     -- what it carries can be committed, and has times that end as the trial tells
     pub trial-suffix : (x : Suffix) × (suffix_of here ≡ Some x) × CanCommit machine here.plans ask x
@@ -67,7 +67,7 @@ module _ {N C : Type 0} (net : N → Net) (content : N → C) (past : N → List
     end-first = subst (λ a. NoneBefore machine here.plans a trial.end) same-ask t.none_before
 
   -- laid again it is a trial
-  module _ (trial' : Trial N) (since : IsLaidSince net content past mark_room b (board_in trial') machine t.ask trial'.base.0 None) (carries : suffix_of (board_in trial') ≡ suffix_of here) (ends : trial'.end ≡ trial.end) where
+  module _ (trial' : Trial N) (since : IsLaidSince net content past max_marks b (board_in trial') machine t.ask trial'.base.0 None) (carries : suffix_of (board_in trial') ≡ suffix_of here) (ends : trial'.end ≡ trial.end) where
     abbrev then : BoardValue N
     then = board_in trial'
 
@@ -77,7 +77,7 @@ module _ {N C : Type 0} (net : N → Net) (content : N → C) (past : N → List
     ask-same : then.ask ≡ here.ask
     ask-same = since.loaded.ask ∙ sym t.loaded.ask
 
-    pub again-trial : IsTrial net content past mark_room b machine trial'
+    pub again-trial : IsTrial net content past max_marks b machine trial'
     again-trial = record {
       number = since.number;
       past_more = since.past_more ∙ ap (λ kept. past_of past b ++ content_of content b ∷ kept) since.are_kept;

@@ -72,10 +72,10 @@ module _ {N C : Type 0} (net : N → Net) (content : N → C) (past : N → List
     pub reached_so : reached ≡ reached_in (suffix_of b)
     pub can : IsSomeAnd b.ask (λ ask. CanCarryIf machine b.plans ask (after_again (suffix_of b) change))
 
-module _ {N C : Type 0} (net : N → Net) (content : N → C) (past : N → List C) (mark_room : N → ℕ) where
+module _ {N C : Type 0} (net : N → Net) (content : N → C) (past : N → List C) (max_marks : N → ℕ) where
   -- the change was made
   pub record IsMade (b b' : BoardValue N) (machine : Machine) (change : Change) (reached : Reached) : Type 0 where
     pub stands : Stands net content past b' machine
     pub suffix : suffix_of b' ≡ after_again (suffix_of b) change
     pub reached_so : reached ≡ reached_in (suffix_of b')
-    pub same : IsSameButSteps past mark_room b b'
+    pub same : IsSameButSteps past max_marks b b'

@@ -18,7 +18,7 @@ pub record IsWayOf (machine : Machine) (plans : List Plan) (ask : Ask) (goal fir
   pub same : x.choices ≡ choices
   pub going : IsFalse x.stopped
 
-module _ {N C : Type 0} (net : N → Net) (content : N → C) (past : N → List C) (mark_room : N → ℕ) where
+module _ {N C : Type 0} (net : N → Net) (content : N → C) (past : N → List C) (max_marks : N → ℕ) where
   -- the board stands on the machine and the ask, and carries such a way
   pub record IsLaid (b : BoardValue N) (machine : Machine) (ask : Ask) (goal first : State) (choices : List Choice) : Type 0 where
     pub stands : Stands net content past b machine
@@ -33,12 +33,12 @@ module _ {N C : Type 0} (net : N → Net) (content : N → C) (past : N → List
 
   -- so many marks of the board are spare, one of the network being its own
   abbrev pub HasMarks : ℕ → BoardValue N → Type 0
-  HasMarks count b = length (past_of past b) + count ≤ mark_room b.net - 1
+  HasMarks count b = length (past_of past b) + count ≤ max_marks b.net - 1
 
   -- the board is as it was, but for what marks leave alone, and stands on the machine if it did
   pub record IsBack (b b' : BoardValue N) (machine : Machine) : Type 0 where
     pub same_content : content_of content b' ≡ content_of content b
     pub same_past : past_of past b' ≡ past_of past b
     pub loaded : IsSameLoad b b'
-    pub marks : mark_room b'.net - 1 ≡ mark_room b.net - 1
+    pub marks : max_marks b'.net - 1 ≡ max_marks b.net - 1
     pub stands : Stands net content past b machine → Stands net content past b' machine

@@ -28,10 +28,10 @@ pub record IsNewChild (machine : Machine) (ask : Ask) (end : State) (c : Child) 
   pub goal : c.choice.goal ≡ end
   pub complete : IsTrue c.complete ↔ ((ask.origin ≡ Feeder) × IsStart machine ask c.first)
 
-module _ {N C : Type 0} (net : N → Net) (content : N → C) (past : N → List C) (mark_room : N → ℕ) where
+module _ {N C : Type 0} (net : N → Net) (content : N → C) (past : N → List C) (max_marks : N → ℕ) where
   -- the board carries the list that is opened, from this first state on, and no list that was stored before is its child
   pub record CarriesOpened (b : BoardValue N) (machine : Machine) (ask : Ask) (o : Opening) (s : StoreValue) (first : State) : Type 0 where
-    pub laid : IsLaid net content past mark_room b machine ask o.goal first (choices_by machine (choices_before s.entries o.parent))
+    pub laid : IsLaid net content past max_marks b machine ask o.goal first (choices_by machine (choices_before s.entries o.parent))
     pub placed : IsPlaced machine (choices_by machine (choices_before s.entries o.parent))
     pub fresh : IsFresh machine ask o s
     pub bounds : HasBounds machine ask s

@@ -61,9 +61,9 @@ module _ {N C : Type 0} (net : N → Net) (content : N → C) (past : N → List
     pub asked : b.ask ≡ Some ask
     pub way : IsSomeAnd (suffix_of b) (IsWayTo machine b.plans ask first list)
 
-module _ {N C : Type 0} (past : N → List C) (mark_room : N → ℕ) where
+module _ {N C : Type 0} (past : N → List C) (max_marks : N → ℕ) where
   -- the same is loaded, and the same marks are in force
   pub record IsSameButSteps (b b' : BoardValue N) : Type 0 where
     pub same_past : past_of past b' ≡ past_of past b
     pub loaded : IsSameLoad b b'
-    pub marks : mark_room b'.net ≡ mark_room b.net
+    pub marks : max_marks b'.net ≡ max_marks b.net

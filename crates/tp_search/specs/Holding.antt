@@ -47,11 +47,11 @@ pub record IsAnswerTo (machine : Machine) (plans : List Plan) (ask : Ask) (list 
   pub goal : answer.goal ≡ list.goal
   pub opens : IsOpen machine plans ask (child_by machine list.goal list.choices answer)
 
-module _ {N C : Type 0} (net : N → Net) (content : N → C) (past : N → List C) (mark_room : N → ℕ) where
+module _ {N C : Type 0} (net : N → Net) (content : N → C) (past : N → List C) (max_marks : N → ℕ) where
   -- a mark more at the goal is set only where one is spare
   abbrev pub HasRoomFor : Option Root → BoardValue N → Type 0
   HasRoomFor None b = Unit {0}
-  HasRoomFor (Some root) b = HasMarks net content past mark_room 8 b
+  HasRoomFor (Some root) b = HasMarks net content past max_marks 8 b
 
   -- the second board is the first one with what was laid since a mark of this number, and perhaps one more mark at the goal
   pub record IsLaidSince (b b' : BoardValue N) (machine : Machine) (ask : Ask) (base : ℕ) (root : Option Root) : Type 0 where
@@ -61,10 +61,10 @@ module _ {N C : Type 0} (net : N → Net) (content : N → C) (past : N → List
     pub are_kept : AreKept machine b.plans ask base root kept
     pub room : HasRoomFor root b
     pub loaded : IsSameLoad b b'
-    pub marks : mark_room b'.net - 1 ≡ mark_room b.net - 1
+    pub marks : max_marks b'.net - 1 ≡ max_marks b.net - 1
     pub stands : Stands net content past b' machine
 
   -- the second board is back where the first one was, or has a list that was laid since a mark on that one
   abbrev pub IsOver : BoardValue N → BoardValue N → Machine → Ask → Option Held → Type 0
-  IsOver b b' machine ask None = IsBack net content past mark_room b b' machine
+  IsOver b b' machine ask None = IsBack net content past max_marks b b' machine
   IsOver b b' machine ask (Some held) = IsLaidSince b b' machine ask held.base.0 held.root

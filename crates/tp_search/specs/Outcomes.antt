@@ -44,7 +44,7 @@ module _ (machine : Machine) (plans : List Plan) (ask : Ask) where
     pub same : IsSameOpening (opening_of machine s next) opening s s'
     pub progress : IsAtProgress machine plans ask opening s' (up_to (length machine.actions) [])
 
-module _ {N C : Type 0} (net : N → Net) (content : N → C) (past : N → List C) (mark_room : N → ℕ) where
+module _ {N C : Type 0} (net : N → Net) (content : N → C) (past : N → List C) (max_marks : N → ℕ) where
   -- the board carries this child of the list that was taken
   abbrev pub HasChild : BoardValue N → Machine → Ask → StoreValue → Next → Stored → Type 0
   HasChild b machine ask s next c =
@@ -55,7 +55,7 @@ module _ {N C : Type 0} (net : N → Net) (content : N → C) (past : N → List
     pub number : base ≡ length (past_of past b)
     pub past_more : past_of past b' ≡ past_of past b ++ content_of content b ∷ []
     pub loaded : IsSameLoad b b'
-    pub marks : mark_room b'.net - 1 ≡ mark_room b.net - 1
+    pub marks : max_marks b'.net - 1 ≡ max_marks b.net - 1
     pub first : State
     pub list : ChoiceList
     pub bound : ℕ
@@ -68,5 +68,5 @@ module _ {N C : Type 0} (net : N → Net) (content : N → C) (past : N → List
   abbrev pub IsOutcome : BoardValue N → BoardValue N → Machine → Ask → ℕ → Outcome → Type 0
   IsOutcome b b' machine ask nodes (Found base) = HasAnswer b b' machine ask base.0
   IsOutcome b b' machine ask nodes Never =
-      ((plans' : List Plan) → ¬ IsAlternative machine b.plans ask plans') × IsBack net content past mark_room b b' machine × FewListsOpen machine b.plans ask nodes
-  IsOutcome b b' machine ask nodes (Spent bound) = IsSpent machine b.plans ask nodes bound × IsBack net content past mark_room b b' machine
+      ((plans' : List Plan) → ¬ IsAlternative machine b.plans ask plans') × IsBack net content past max_marks b b' machine × FewListsOpen machine b.plans ask nodes
+  IsOutcome b b' machine ask nodes (Spent bound) = IsSpent machine b.plans ask nodes bound × IsBack net content past max_marks b b' machine

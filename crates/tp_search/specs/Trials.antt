@@ -49,18 +49,18 @@ pub record IsSameTrial {N : Type 0} (trial trial' : Trial N) : Type 0 where
   pub loaded : IsSameLoad (board_in trial) (board_in trial')
   pub carries : suffix_of (board_in trial') ≡ suffix_of (board_in trial)
 
-module _ {N C : Type 0} (net : N → Net) (content : N → C) (past : N → List C) (mark_room : N → ℕ) where
+module _ {N C : Type 0} (net : N → Net) (content : N → C) (past : N → List C) (max_marks : N → ℕ) where
   -- the trial's board carries a plan of its ask that can be committed and ends as the trial tells, and no alternative ends
   -- before. It was laid since the trial's mark, the newest, which was made on the first board, a board without choices
   pub record IsTrial (b : BoardValue N) (machine : Machine) (trial : Trial N) : Type 0 where
     pub number : trial.base.0 ≡ length (past_of past b)
     pub past_more : past_of past (board_in trial) ≡ past_of past b ++ content_of content b ∷ []
     pub loaded : IsSameLoad b (board_in trial)
-    pub marks : mark_room (board_in trial).net - 1 ≡ mark_room b.net - 1
+    pub marks : max_marks (board_in trial).net - 1 ≡ max_marks b.net - 1
     pub stands : Stands net content past (board_in trial) machine
     pub ask : Ask
     pub asked : (board_in trial).ask ≡ Some ask
-    pub ready : IsReady net content past mark_room b machine ask
+    pub ready : IsReady net content past max_marks b machine ask
     pub complete : IsSomeAnd (suffix_of (board_in trial)) (CanCommit machine (board_in trial).plans ask)
     pub ends : HasLeastTick machine (board_in trial) (own 0) trial.end
     pub none_before : NoneBefore machine (board_in trial).plans ask trial.end

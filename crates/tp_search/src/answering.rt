@@ -31,7 +31,7 @@ pub fn answer<N: Network>(
 ) -> Reply
     requires work { IsFor work.old machine.now }
     requires board { IsMadeFor board.old.made_for machine.now }
-    requires marks { 8 ≤ N.mark_room board.old.net }
+    requires marks { 8 ≤ N.max_marks board.old.net }
     requires can { CanAsk machine.now schedule.old.plans ask.now }
     requires spare { plan_of ask.now.sheet schedule.old.plans ≡ None → 0 < schedule.old.spare }
     ensures answer { IsAnswer
@@ -46,7 +46,7 @@ pub fn answer<N: Network>(
     ensures stays { result ≢ Planned → schedule.new ≡ schedule.old }
     ensures work { work.new ≡ work.old }
     ensures board { board.new.made_for ≡ board.old.made_for }
-    ensures marks { N.mark_room board.new.net ≡ N.mark_room board.old.net }
+    ensures marks { N.max_marks board.new.net ≡ N.max_marks board.old.net }
 {
     board.load(machine, schedule, ask);
     match plan(board, work, machine, ask) {
@@ -70,14 +70,14 @@ pub(crate) fn earliest_end<N: Network>(
 ) -> Result<Tick, NoPlan>
     requires work { IsFor work.old machine.now }
     requires board { IsMadeFor board.old.made_for machine.now }
-    requires marks { 8 ≤ N.mark_room board.old.net }
+    requires marks { 8 ≤ N.max_marks board.old.net }
     requires can { CanAsk machine.now schedule.now.plans ask.now }
     ensures end { IfOk result (EndsEarliest machine.now schedule.now.plans ask.entry.now) }
     ensures none { IfErr result
         (IsNoPlan machine.now schedule.now.plans ask.entry.now work.old.nodes) }
     ensures work { work.new ≡ work.old }
     ensures board { board.new.made_for ≡ board.old.made_for }
-    ensures marks { N.mark_room board.new.net ≡ N.mark_room board.old.net }
+    ensures marks { N.max_marks board.new.net ≡ N.max_marks board.old.net }
 {
     board.load(machine, schedule, ask);
     match plan(board, work, machine, ask) {
@@ -109,7 +109,7 @@ pub(crate) fn answer_with_tree<N: Network>(
 ) -> Result<Shown, Memory>
     requires work { IsFor work.old machine.now }
     requires board { IsMadeFor board.old.made_for machine.now }
-    requires marks { 330 ≤ N.mark_room board.old.net }
+    requires marks { 330 ≤ N.max_marks board.old.net }
     requires can { CanAsk machine.now schedule.old.plans ask.now }
     requires spare { plan_of ask.now.sheet schedule.old.plans ≡ None → 0 < schedule.old.spare }
     ensures answer { IfOk result (λ shown. IsAnswer
@@ -122,7 +122,7 @@ pub(crate) fn answer_with_tree<N: Network>(
     ensures stays { OnErr result (schedule.new ≡ schedule.old) }
     ensures work { work.new ≡ work.old }
     ensures board { board.new.made_for ≡ board.old.made_for }
-    ensures marks { N.mark_room board.new.net ≡ N.mark_room board.old.net }
+    ensures marks { N.max_marks board.new.net ≡ N.max_marks board.old.net }
 {
     board.load(machine, schedule, ask);
     match plan(board, work, machine, ask) {

@@ -56,11 +56,11 @@ fn place_rest<N: Network>(
     hold: u32,
 )
     requires child { IsNewChild problem.machine.now problem.ask.now opening.old.goal child hold }
-    requires laid { IsLaid N.net N.content N.past N.mark_room board.old problem.machine.now
+    requires laid { IsLaid N.net N.content N.past N.max_marks board.old problem.machine.now
         problem.ask.now opening.old.goal child.first
         (record { act = child.act; places = take hold child.choice.places } ∷ choices_by
         problem.machine.now (choices_before store.old.entries opening.old.parent)) }
-    requires marks { HasMarks N.net N.content N.past N.mark_room (5 - hold) board.old }
+    requires marks { HasMarks N.net N.content N.past N.max_marks (5 - hold) board.old }
     requires fresh { IsFresh problem.machine.now problem.ask.now opening.old store.old }
     requires bounds { HasBounds problem.machine.now problem.ask.now store.old }
     requires progress { IsAtProgress problem.machine.now board.old.plans problem.ask.now opening.old
@@ -68,7 +68,7 @@ fn place_rest<N: Network>(
     ensures progress { IsAtProgress problem.entry.machine.now board.old.plans problem.entry.ask.now
         opening.new store.new (through child.act.0 (take hold child.choice.places)) }
     ensures same { IsSameOpening opening.old opening.new store.old store.new }
-    ensures back { IsBack N.net N.content N.past N.mark_room board.old board.new
+    ensures back { IsBack N.net N.content N.past N.max_marks board.old board.new
         problem.entry.machine.now }
 {
     let holds = &problem.machine.actions.get(child.act.0 as u32).holds;
@@ -115,9 +115,9 @@ fn open_act<N: Network>(
 )
     requires known { act.0 < length problem.machine.now.actions }
     requires posed { IsPosed problem }
-    requires opened { CarriesOpened N.net N.content N.past N.mark_room board.old problem.machine.now
+    requires opened { CarriesOpened N.net N.content N.past N.max_marks board.old problem.machine.now
         problem.ask.now opening.old store.old first }
-    requires marks { HasMarks N.net N.content N.past N.mark_room 6 board.old }
+    requires marks { HasMarks N.net N.content N.past N.max_marks 6 board.old }
     requires fewer { kept_of problem.ask.now
         + length (choices_by problem.machine.now
         (choices_before store.old.entries opening.old.parent)) < 64 }
@@ -126,7 +126,7 @@ fn open_act<N: Network>(
     ensures progress { IsAtProgress problem.entry.machine.now board.old.plans problem.entry.ask.now
         opening.new store.new (up_to (act.0 + 1) []) }
     ensures same { IsSameOpening opening.old opening.new store.old store.new }
-    ensures back { IsBack N.net N.content N.past N.mark_room board.old board.new
+    ensures back { IsBack N.net N.content N.past N.max_marks board.old board.new
         problem.entry.machine.now }
 {
     marks_keep_boards::<N>();
@@ -174,15 +174,15 @@ fn open_stop<N: Network>(
     requires count { laid.count
         ≡ length (choices_by problem.machine.now
         (choices_before store.old.entries opening.old.parent)) }
-    requires opened { CarriesOpened N.net N.content N.past N.mark_room board.old problem.machine.now
+    requires opened { CarriesOpened N.net N.content N.past N.max_marks board.old problem.machine.now
         problem.ask.now opening.old store.old laid.first }
-    requires marks { HasMarks N.net N.content N.past N.mark_room 1 board.old }
+    requires marks { HasMarks N.net N.content N.past N.max_marks 1 board.old }
     requires progress { IsAtProgress problem.machine.now board.old.plans problem.ask.now opening.old
         store.old nothing }
     ensures progress { IsAtProgress problem.entry.machine.now board.old.plans problem.entry.ask.now
         opening.new store.new (up_to 0 []) }
     ensures same { IsSameOpening opening.old opening.new store.old store.new }
-    ensures back { IsBack N.net N.content N.past N.mark_room board.old board.new
+    ensures back { IsBack N.net N.content N.past N.max_marks board.old board.new
         problem.entry.machine.now }
 {
     marks_keep_boards::<N>();
@@ -220,15 +220,15 @@ pub(crate) fn open_list<N: Network>(
         ≡ length (choices_by problem.machine.now
         (choices_before store.old.entries opening.old.parent)) }
     requires posed { IsPosed problem }
-    requires opened { CarriesOpened N.net N.content N.past N.mark_room board.old problem.machine.now
+    requires opened { CarriesOpened N.net N.content N.past N.max_marks board.old problem.machine.now
         problem.ask.now opening.old store.old laid.first }
-    requires marks { HasMarks N.net N.content N.past N.mark_room 6 board.old }
+    requires marks { HasMarks N.net N.content N.past N.max_marks 6 board.old }
     requires progress { IsAtProgress problem.machine.now board.old.plans problem.ask.now opening.old
         store.old nothing }
     ensures progress { IsAtProgress problem.entry.machine.now board.old.plans problem.entry.ask.now
         opening.new store.new (up_to (length problem.entry.machine.now.actions) []) }
     ensures same { IsSameOpening opening.old opening.new store.old store.new }
-    ensures back { IsBack N.net N.content N.past N.mark_room board.old board.new
+    ensures back { IsBack N.net N.content N.past N.max_marks board.old board.new
         problem.entry.machine.now }
 {
     let Laid { first, count } = laid;

@@ -43,7 +43,7 @@ impl<N: Network> Model for Engine<N> {
       trees = e.trees.items;
     } };
 
-    ghost invariant = { λ e. IsEngine N.mark_room e.work e.board };
+    ghost invariant = { λ e. IsEngine N.max_marks e.work e.board };
 }
 
 impl<N: Network + Drop> Engine<N> {
@@ -56,13 +56,13 @@ impl<N: Network + Drop> Engine<N> {
         nodes: u32,
         bounds: bool,
     ) -> Result<Engine<N>, Memory>
-        requires points { most_points ≤ N.point_room net }
-        requires edges { most_edges ≤ N.edge_room net }
-        requires marks { 330 ≤ N.mark_room net }
+        requires points { most_points ≤ N.max_points net }
+        requires edges { most_edges ≤ N.max_edges net }
+        requires marks { 330 ≤ N.max_marks net }
         ensures serves { IfOk result (λ e. IsTrue (is_engine_for e machine.now)) }
         ensures nodes { IfOk result (λ e. e.work.nodes ≡ nodes) }
         ensures bounds { IfOk result (λ e. (e.bounds ≡ bounds) × (e.trees ≡ [])) }
-        ensures kept { IfOk result (λ e. N.mark_room e.board.net ≡ N.mark_room net) }
+        ensures kept { IfOk result (λ e. N.max_marks e.board.net ≡ N.max_marks net) }
     {
         Ok(Engine {
             alloc,
@@ -109,7 +109,7 @@ impl<N: Network> Engine<N> {
         ensures end { IfOk result (EndsEarliest machine.now schedule.now.plans ask.entry.now) }
         ensures none { IfErr result
             (IsNoPlan machine.now schedule.now.plans ask.entry.now self.old.work.nodes) }
-        ensures same { IsSameEngine N.mark_room self.old self.new }
+        ensures same { IsSameEngine N.max_marks self.old self.new }
         ensures trees { self.new.trees ≡ self.old.trees }
     {
         earliest_end(&mut self.work, &mut self.board, machine, schedule, ask)
@@ -134,7 +134,7 @@ impl<N: Network> Engine<N> {
         ensures trees { IfOk result
             (λ reply. AddsTree machine.now schedule.old.plans ask.entry.now reply
             schedule.new.plans self.old.trees self.new.trees) }
-        ensures same { IsSameEngine N.mark_room self.old self.new }
+        ensures same { IsSameEngine N.max_marks self.old self.new }
         ensures memory { IfErr result (λ halt. halt ≡ Halt.Memory) }
         ensures stays { OnErr result (schedule.new.plans ≡ schedule.old.plans) }
     {
@@ -195,7 +195,7 @@ impl<N: Network> Planner for Engine<N> {
     ghost spent = { λ e. IsSpentOf e.work.nodes };
 
     ghost steps = { λ e machine plans deed plans' e'.
-        StepsOn N.mark_room e machine plans deed plans' e' };
+        StepsOn N.max_marks e machine plans deed plans' e' };
 
     ghost stop_steps = { λ e machine plans due e'. ⊥ };
 
@@ -209,7 +209,7 @@ impl<N: Network> Planner for Engine<N> {
         ensures few { IfOk result
             (λ reply. HasFewLists self.old.work.nodes machine.now schedule.old.plans
             (replied ask.entry.now reply)) }
-        ensures same { IsSameEngine N.mark_room self.old self.new }
+        ensures same { IsSameEngine N.max_marks self.old self.new }
         ensures memory { IfErr result (λ halt. halt ≡ Halt.Memory) }
         ensures trees { IfOk result
             (λ reply. KeepsTrees self.old.bounds machine.now schedule.old.plans
@@ -235,7 +235,7 @@ impl<N: Network> Planner for Engine<N> {
         requires can_settle { CanSettle machine.now now schedule.old.plans }
         ensures settles { IsSettled machine.now now schedule.old.plans schedule.new.plans }
         ensures spare { schedule.new.spare ≡ schedule.old.spare }
-        ensures same { IsSameEngine N.mark_room self.old self.new }
+        ensures same { IsSameEngine N.max_marks self.old self.new }
         ensures trees { self.new.trees ≡ self.old.trees }
         ensures done { IsOk result }
     {

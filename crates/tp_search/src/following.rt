@@ -38,7 +38,7 @@ fn place_all<N: Network>(board: &mut Board<N>, machine: &Machine, act: ActId, pl
         (λ x. suffix_of board.new
         ≡ Some (with_places (take (length (holds_of_act (action_at machine.now act.0))) places.now)
         x)) }
-    ensures same { IsSameButSteps N.past N.mark_room board.old board.new }
+    ensures same { IsSameButSteps N.past N.max_marks board.old board.new }
 {
     let holds = &machine.actions.get(act.0 as u32).holds;
     'holds: for hold in 0..holds.len() {
@@ -66,7 +66,7 @@ pub(crate) fn lay<N: Network>(
         problem.entry.ask.now result
         (child_by problem.entry.machine.now choice.now.goal
         (choices_of (suffix_of board.old)).choices choice.now) }
-    ensures same { IsSameButSteps N.past N.mark_room board.old board.new }
+    ensures same { IsSameButSteps N.past N.max_marks board.old board.new }
 {
     let Some(act) = choice.act else {
         match board.stop() {
@@ -88,12 +88,12 @@ pub(crate) fn lay<N: Network>(
 /// Lays the list of a goal without choices, which is open, on a board that has no choices.
 pub(crate) fn follow_goal<N: Network>(board: &mut Board<N>, problem: Problem, goal: State)
     requires posed { IsPosed problem }
-    requires ready { IsReady N.net N.content N.past N.mark_room board.old problem.machine.now
+    requires ready { IsReady N.net N.content N.past N.max_marks board.old problem.machine.now
         problem.ask.now }
     requires opens { IsOpen problem.machine.now board.old.plans problem.ask.now (going goal []) }
     ensures laid { HasList N.net N.content N.past board.new problem.entry.machine.now
         problem.entry.ask.now goal (going goal []) }
-    ensures same { IsSameButSteps N.past N.mark_room board.old board.new }
+    ensures same { IsSameButSteps N.past N.max_marks board.old board.new }
 {
     let Some(room) = room_of(problem, goal) else {
         unreachable!()
@@ -134,7 +134,7 @@ pub(crate) fn lay_choices<N: Network>(
     ensures laid { HasList N.net N.content N.past board.new problem.entry.machine.now
         problem.entry.ask.now result
         (list_by problem.entry.machine.now (stored_at store.now.entries node)) }
-    ensures same { IsSameButSteps N.past N.mark_room board.old board.new }
+    ensures same { IsSameButSteps N.past N.max_marks board.old board.new }
 {
     let mut first = goal;
     'depths: for at in 0..store.depth(node) {
@@ -152,7 +152,7 @@ pub(crate) fn follow<N: Network>(
     node: u32,
 ) -> State
     requires posed { IsPosed problem }
-    requires ready { IsReady N.net N.content N.past N.mark_room board.old problem.machine.now
+    requires ready { IsReady N.net N.content N.past N.max_marks board.old problem.machine.now
         problem.ask.now }
     requires there { node < length store.now.entries }
     requires stored { let choices = stored_at store.now.entries node in IsStoredList
@@ -162,7 +162,7 @@ pub(crate) fn follow<N: Network>(
     ensures laid { HasList N.net N.content N.past board.new problem.entry.machine.now
         problem.entry.ask.now result
         (list_by problem.entry.machine.now (stored_at store.now.entries node)) }
-    ensures same { IsSameButSteps N.past N.mark_room board.old board.new }
+    ensures same { IsSameButSteps N.past N.max_marks board.old board.new }
 {
     let goal = goal_of(store, node);
     follow_goal(board, problem, goal);

@@ -94,11 +94,11 @@ fn open_next<N: Network>(
     requires laid { HasList N.net N.content N.past board.old problem.machine.now problem.ask.now
         laid.first (next_list problem.machine.now store.old next.now) }
     requires count { laid.count ≡ length (choices_before store.old.entries (next_node next.now)) }
-    requires marks { HasMarks N.net N.content N.past N.mark_room 6 board.old }
+    requires marks { HasMarks N.net N.content N.past N.max_marks 6 board.old }
     requires can { CanOpen problem.machine.now board.old.plans problem.ask.now store.old next.now }
     ensures opened { IsAllOpened problem.entry.machine.now board.old.plans problem.entry.ask.now
         store.old next.entry.now result store.new }
-    ensures back { IsBack N.net N.content N.past N.mark_room board.old board.new
+    ensures back { IsBack N.net N.content N.past N.max_marks board.old board.new
         problem.entry.machine.now }
 {
     let mut opening = opening_of(store, next);
@@ -117,9 +117,9 @@ fn step<N: Network>(
     requires posed { IsPosed problem }
     requires goal { IsKnownGoal problem.machine.now problem.ask.now.goal }
     requires over { (b : BoardValue N)
-        × IsReady N.net N.content N.past N.mark_room b problem.machine.now problem.ask.now
-        × HasMarks N.net N.content N.past N.mark_room 7 b
-        × IsOver N.net N.content N.past N.mark_room b board.old problem.machine.now
+        × IsReady N.net N.content N.past N.max_marks b problem.machine.now problem.ask.now
+        × HasMarks N.net N.content N.past N.max_marks 7 b
+        × IsOver N.net N.content N.past N.max_marks b board.old problem.machine.now
         problem.ask.now held.old }
     requires holds { IfSome held.old (HoldsList N.net N.content N.past board.old
         problem.machine.now problem.ask.now store.old) }
@@ -127,23 +127,23 @@ fn step<N: Network>(
         × IsSearching problem.machine.now board.old.plans problem.ask.now goals.old.items store.old
         bound }
     ensures ends { (b : BoardValue N)
-        → IsReady N.net N.content N.past N.mark_room b problem.entry.machine.now
+        → IsReady N.net N.content N.past N.max_marks b problem.entry.machine.now
         problem.entry.ask.now
-        → IsOver N.net N.content N.past N.mark_room b board.old problem.entry.machine.now
+        → IsOver N.net N.content N.past N.max_marks b board.old problem.entry.machine.now
         problem.entry.ask.now held.old
         → IfSome result
-        (IsOutcome N.net N.content N.past N.mark_room b board.new problem.entry.machine.now
+        (IsOutcome N.net N.content N.past N.max_marks b board.new problem.entry.machine.now
         problem.entry.ask.now store.old.room) }
     ensures goes_on { result ≡ None → (bound : ℕ)
         × IsSearching problem.entry.machine.now board.old.plans problem.entry.ask.now
         goals.new.items store.new bound }
     ensures over { (b : BoardValue N)
-        → IsReady N.net N.content N.past N.mark_room b problem.entry.machine.now
+        → IsReady N.net N.content N.past N.max_marks b problem.entry.machine.now
         problem.entry.ask.now
-        → IsOver N.net N.content N.past N.mark_room b board.old problem.entry.machine.now
+        → IsOver N.net N.content N.past N.max_marks b board.old problem.entry.machine.now
         problem.entry.ask.now held.old
         → result ≡ None
-        → IsOver N.net N.content N.past N.mark_room b board.new problem.entry.machine.now
+        → IsOver N.net N.content N.past N.max_marks b board.new problem.entry.machine.now
         problem.entry.ask.now held.new }
     ensures holds { result ≡ None → IfSome held.new (HoldsList N.net N.content N.past board.new
         problem.entry.machine.now problem.entry.ask.now store.new) }
@@ -186,13 +186,13 @@ pub(crate) fn search<N: Network>(
 ) -> Outcome
     requires posed { IsPosed problem }
     requires goal { IsKnownGoal problem.machine.now problem.ask.now.goal }
-    requires ready { IsReady N.net N.content N.past N.mark_room board.old problem.machine.now
+    requires ready { IsReady N.net N.content N.past N.max_marks board.old problem.machine.now
         problem.ask.now }
-    requires marks { HasMarks N.net N.content N.past N.mark_room 7 board.old }
+    requires marks { HasMarks N.net N.content N.past N.max_marks 7 board.old }
     requires searching { (bound : ℕ)
         × IsSearching problem.machine.now board.old.plans problem.ask.now goals.old.items store.old
         bound }
-    ensures outcome { IsOutcome N.net N.content N.past N.mark_room board.old board.new
+    ensures outcome { IsOutcome N.net N.content N.past N.max_marks board.old board.new
         problem.entry.machine.now problem.entry.ask.now store.old.room result }
     ensures same { IsSameSpace goals.old goals.new store.old store.new }
 {

@@ -78,8 +78,8 @@ impl Workspace {
         requires asked { board.old.ask ≡ Some ask.now }
         requires closed { board.old.steps ≡ [] }
         requires unmarked { past_of N.past board.old ≡ [] }
-        requires marks { 8 ≤ N.mark_room board.old.net }
-        ensures outcome { IsOutcome N.net N.content N.past N.mark_room board.old board.new
+        requires marks { 8 ≤ N.max_marks board.old.net }
+        ensures outcome { IsOutcome N.net N.content N.past N.max_marks board.old board.new
             machine.now ask.entry.now self.old.nodes result }
         ensures same { self.new ≡ self.old }
     {
@@ -107,13 +107,13 @@ impl Workspace {
         requires made { IsFor self.old machine.now }
         requires loaded { (plans : List Plan)
             × IsLoadedFrom machine.now plans ask.now board.old.plans }
-        requires ready { IsReady N.net N.content N.past N.mark_room board.old machine.now ask.now }
+        requires ready { IsReady N.net N.content N.past N.max_marks board.old machine.now ask.now }
         requires limit { IsLimit machine.now ask.now (pos limit) }
-        requires marks { HasMarks N.net N.content N.past N.mark_room 326 board.old }
+        requires marks { HasMarks N.net N.content N.past N.max_marks 326 board.old }
         ensures tree { IfOk result (IsBoundTree machine.now board.old.plans ask.entry.now
             (pos limit)) }
         ensures early { IfErr result (IsEarlyEnd machine.now board.old.plans ask.entry.now limit) }
-        ensures back { IsBack N.net N.content N.past N.mark_room board.old board.new machine.now }
+        ensures back { IsBack N.net N.content N.past N.max_marks board.old board.new machine.now }
         ensures same { self.new ≡ self.old }
     {
         self.rooms.fill(machine, ask);

@@ -139,7 +139,7 @@ pub(crate) fn try_ask<N: Network>(
     requires can_ask { CanAsk machine.now schedule.now.plans ask.now }
     ensures gives { AskGives engine.old.work.nodes machine.now schedule.now.plans
         ask.entry.now result }
-    ensures same { IsSameEngine N.mark_room engine.old engine.new }
+    ensures same { IsSameEngine N.max_marks engine.old engine.new }
     ensures trees { engine.new.trees ≡ engine.old.trees }
 {
     match engine.probe(machine, schedule, ask) {

@@ -96,9 +96,9 @@ impl<N: Network + Drop> SessionOver<N> {
         net: N,
         settings: Settings,
     ) -> Result<SessionOver<N>, Memory>
-        requires points { most_points ≤ N.point_room net }
-        requires edges { most_edges ≤ N.edge_room net }
-        requires marks { 330 ≤ N.mark_room net }
+        requires points { most_points ≤ N.max_points net }
+        requires edges { most_edges ≤ N.max_edges net }
+        requires marks { 330 ≤ N.max_marks net }
         ensures standing { IfOk result
             (λ s. s.standing ≡ start_of machine settings.budget settings.bounds) }
         ensures fresh { IfOk result (λ s. (s.answered ≡ 0) × (s.text ≡ [])) }

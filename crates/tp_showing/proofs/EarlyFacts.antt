@@ -78,9 +78,9 @@ branch-placed machine orders (Some act) places (c ∷ choices) is none have =
     let all : slice_get (holds_of_act (action_at machine c.act.0)) (length c.places) ≡ None = (λ i. slice_get (holds_of_act (action_at machine (is.0 i).0)) (is.1 i)) ∙ none in
     within-most _ (holds_of_act (action_at machine c.act.0)) c.places have.0 all
 
-module _ {N C : Type 0} (net : N → Net) (content : N → C) (past : N → List C) (mark_room : N → ℕ) (machine : Machine) (ask : Ask) (b : BoardValue N) where
+module _ {N C : Type 0} (net : N → Net) (content : N → C) (past : N → List C) (max_marks : N → ℕ) (machine : Machine) (ask : Ask) (b : BoardValue N) where
   -- the board stands on the ask that it was loaded for
-  pub stands-on : IsSet net content past mark_room machine ask b → StandsOn net content past b machine ask
+  pub stands-on : IsSet net content past max_marks machine ask b → StandsOn net content past b machine ask
   stands-on set = let same : set.stands.0 ≡ ask = let one = set.stands.1.asked in let two = set.asked in cc in subst (StandsOn net content past b machine) same set.stands.1
 
   -- a least end by the limit
@@ -91,7 +91,7 @@ module _ {N C : Type 0} (net : N → Net) (content : N → C) (past : N → List
       let at = two.there in
       record { ticks = two.ticks; are_times = two.are_times; by = omega (arith, at, le) }
 
-  module _ (set : IsSet net content past mark_room machine ask b) (r : Branch) (x : Suffix) (c : Carries net content past mark_room machine ask b r x) (none : hold_of machine r ≡ None) where
+  module _ (set : IsSet net content past max_marks machine ask b) (r : Branch) (x : Suffix) (c : Carries net content past max_marks machine ask b r x) (none : hold_of machine r ≡ None) where
     pub has-places : IsPlaced machine x.choices
     has-places = branch-placed machine _ r.newest r.places x.choices c.newest none c.way.places
 

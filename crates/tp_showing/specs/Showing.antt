@@ -98,7 +98,7 @@ module _ (machine : Machine) (plans : List Plan) (ask : Ask) (rows : List TreeRo
   kids_of b = or_no_dues (children machine plans ask rows (record { branch = b; span = None }))
 
 -- ---- boards
-module _ {N C : Type 0} (net : N → Net) (content : N → C) (past : N → List C) (mark_room : N → ℕ) where
+module _ {N C : Type 0} (net : N → Net) (content : N → C) (past : N → List C) (max_marks : N → ℕ) where
   -- the board carries a branch that goes on, a way to a goal
   pub record Carries (machine : Machine) (ask : Ask) (b : BoardValue N) (r : Branch) (x : Suffix) : Type 0 where
     pub carried : suffix_of b ≡ Some x
@@ -122,7 +122,7 @@ module _ {N C : Type 0} (net : N → Net) (content : N → C) (past : N → List
   pub record IsSince (b b' : BoardValue N) (machine : Machine) : Type 0 where
     pub past_same : past_of past b' ≡ past_of past b
     pub load : IsSameLoad b b'
-    pub room : mark_room b'.net - 1 ≡ mark_room b.net - 1
+    pub room : max_marks b'.net - 1 ≡ max_marks b.net - 1
     pub stands : Stands net content past b machine → Stands net content past b' machine
 
   -- and the board carries what it carried
@@ -132,7 +132,7 @@ module _ {N C : Type 0} (net : N → Net) (content : N → C) (past : N → List
 
   -- so many marks of the board are spare, one of the network being its own
   abbrev pub HasMarks : ℕ → BoardValue N → Type 0
-  HasMarks count b = length (past_of past b) + count ≤ mark_room b.net - 1
+  HasMarks count b = length (past_of past b) + count ≤ max_marks b.net - 1
 
 -- the branch may be split: it is not complete
 abbrev pub IsOpen : Machine → Ask → Branch → Type 0
@@ -149,10 +149,10 @@ IsEarlyEnd machine plans ask limit Early = EndsBy machine plans ask limit
 
 -- a way was gone: its node leaves what is due behind it, or the board carries a branch that is split, below which the walk is
 -- to go on
-module _ {N C : Type 0} (net : N → Net) (content : N → C) (past : N → List C) (mark_room : N → ℕ) (machine : Machine) (plans : List Plan) (ask : Ask) (sums : List (Option ℕ)) (limit : ℕ) (old new : List Node) (b : BoardValue N) (parent : Branch) where
+module _ {N C : Type 0} (net : N → Net) (content : N → C) (past : N → List C) (max_marks : N → ℕ) (machine : Machine) (plans : List Plan) (ask : Ask) (sums : List (Option ℕ)) (limit : ℕ) (old new : List Node) (b : BoardValue N) (parent : Branch) where
   pub record GoesOn (ds behind : List TreeRow → List Due) (child : Branch) : Type 0 where
     pub suffix : Suffix
-    pub carries : Carries net content past mark_room machine ask b child suffix
+    pub carries : Carries net content past max_marks machine ask b child suffix
     pub smaller : below child < below parent
     pub is_open : IsOpen machine ask child
     pub early : HasEndBy machine plans ask suffix limit
@@ -162,10 +162,10 @@ module _ {N C : Type 0} (net : N → Net) (content : N → C) (past : N → List
   IsEntered ds behind o = MatchOption o (Shows machine plans ask sums limit old new ds behind) (GoesOn ds behind)
 
 -- a goal was opened: its node leaves nothing due, or the board carries its branch, which is split
-module _ {N C : Type 0} (net : N → Net) (content : N → C) (past : N → List C) (mark_room : N → ℕ) (machine : Machine) (plans : List Plan) (ask : Ask) (sums : List (Option ℕ)) (limit : ℕ) (old new : List Node) (b : BoardValue N) (s : State) where
+module _ {N C : Type 0} (net : N → Net) (content : N → C) (past : N → List C) (max_marks : N → ℕ) (machine : Machine) (plans : List Plan) (ask : Ask) (sums : List (Option ℕ)) (limit : ℕ) (old new : List Node) (b : BoardValue N) (s : State) where
   pub record GoalGoesOn (child : Branch) : Type 0 where
     pub suffix : Suffix
-    pub carries : Carries net content past mark_room machine ask b child suffix
+    pub carries : Carries net content past max_marks machine ask b child suffix
     pub is_open : IsOpen machine ask child
     pub early : HasEndBy machine plans ask suffix limit
     pub shows : Shows machine plans ask sums limit old new (λ _. goal s ∷ []) (λ rows. kids_of machine plans ask rows (branch_by child suffix))

@@ -18,32 +18,32 @@ abbrev pub state_of : Inside → PlainState
 state_of a = record {
   net = net_in a;
   past = past_in a;
-  point_room = a.point_room;
-  edge_room = a.edge_room;
-  mark_room = a.mark_room;
+  max_points = a.max_points;
+  max_edges = a.max_edges;
+  max_marks = a.max_marks;
   kept = a.kept;
   path = a.path.items;
 }
 
 -- room for all that the network was made for
 pub record HasRoom (a : Inside) : Type 0 where
-  pub lows : a.point_room ≤ vec_capacity a.lows
-  pub caps : a.point_room ≤ vec_capacity a.caps
-  pub edges : a.edge_room ≤ vec_capacity a.edges
-  pub times : a.point_room ≤ vec_capacity a.times
-  pub working : HasWorkingRoom a.point_room a.working
-  pub path : a.point_room ≤ vec_capacity a.path
-  pub saved : a.point_room * a.mark_room ≤ vec_capacity a.saved
-  pub newest : a.point_room ≤ vec_capacity a.newest
-  pub marks : a.mark_room ≤ vec_capacity a.marks
+  pub lows : a.max_points ≤ vec_capacity a.lows
+  pub caps : a.max_points ≤ vec_capacity a.caps
+  pub edges : a.max_edges ≤ vec_capacity a.edges
+  pub times : a.max_points ≤ vec_capacity a.times
+  pub working : HasWorkingRoom a.max_points a.working
+  pub path : a.max_points ≤ vec_capacity a.path
+  pub saved : a.max_points * a.max_marks ≤ vec_capacity a.saved
+  pub newest : a.max_points ≤ vec_capacity a.newest
+  pub marks : a.max_marks ≤ vec_capacity a.marks
 
 pub record IsPlain (a : Inside) : Type 0 where
-  pub points : length a.lows.items ≤ a.point_room
-  pub edges : length a.edges.items ≤ a.edge_room
-  pub marks : length a.marks.items ≤ a.mark_room
-  pub saved : length a.saved.items ≤ length a.marks.items * a.point_room
+  pub points : length a.lows.items ≤ a.max_points
+  pub edges : length a.edges.items ≤ a.max_edges
+  pub marks : length a.marks.items ≤ a.max_marks
+  pub saved : length a.saved.items ≤ length a.marks.items * a.max_points
   pub room : HasRoom a
-  pub stacked : AreStacked a.marks.items (length a.lows.items) (length a.edges.items) (length a.saved.items) a.point_room
+  pub stacked : AreStacked a.marks.items (length a.lows.items) (length a.edges.items) (length a.saved.items) a.max_points
   pub links : AreSaved a.marks.items a.saved.items a.newest.items (length a.lows.items)
   pub sound : IsSound (net_in a)
   pub times : length a.times.items ≡ length a.lows.items

@@ -10,9 +10,9 @@ use Rattle.tp_base.specs.Kept.{KeptRefutes}
 pub record PlainState : Type 0 where
   pub net : Net
   pub past : List Net
-  pub point_room : ℕ
-  pub edge_room : ℕ
-  pub mark_room : ℕ
+  pub max_points : ℕ
+  pub max_edges : ℕ
+  pub max_marks : ℕ
   pub kept : Kept
   pub path : List Edge
 
@@ -24,7 +24,7 @@ pub record PlainAside : Type 0 where
   pub path : List Edge
 
 abbrev pub aside_of : PlainState → PlainAside
-aside_of n = record { points = n.point_room; edges = n.edge_room; kept = n.kept; path = n.path }
+aside_of n = record { points = n.max_points; edges = n.max_edges; kept = n.kept; path = n.path }
 
 -- what is kept of a refusal is left alone with the rest
 pub refutes_by : (a b : PlainState) (late : Net) → aside_of a ≡ aside_of b → KeptRefutes late a.kept a.path → KeptRefutes late b.kept b.path

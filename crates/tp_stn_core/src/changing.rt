@@ -15,9 +15,9 @@ impl Network for PlainNet {
 
     ghost refutes = { λ n late. KeptRefutes late n.kept n.path };
 
-    ghost point_room = { λ n. n.point_room };
+    ghost max_points = { λ n. n.max_points };
 
-    ghost edge_room = { λ n. n.edge_room };
+    ghost max_edges = { λ n. n.max_edges };
 
     ghost net_by_content = { λ a b e. e };
 
@@ -38,7 +38,7 @@ impl Network for PlainNet {
     }
 
     fn point(&mut self, low: Tick, cap: Tick) -> Result<PointId, Full> {
-        if self.lows.len() == self.point_room as usize {
+        if self.lows.len() == self.max_points as usize {
             return Err(Full);
         }
         let number = self.lows.len() as u32;
@@ -50,7 +50,7 @@ impl Network for PlainNet {
     }
 
     fn spare_edges(&self) -> u32 {
-        self.edge_room - self.edges.len() as u32
+        self.max_edges - self.edges.len() as u32
     }
 
     fn require(&mut self, edge: Edge) -> Result<(), Late> {

@@ -13,9 +13,9 @@ use tp_base::{Edge, Kept, Memory};
 /// A mark takes constant time, and going back takes a step for each lower bound that was saved since, and one solution.
 #[derive(Drop)]
 pub struct PlainNet {
-    pub(crate) point_room: u32,
-    pub(crate) edge_room: u32,
-    pub(crate) mark_room: u32,
+    pub(crate) max_points: u32,
+    pub(crate) max_edges: u32,
+    pub(crate) max_marks: u32,
     pub(crate) lows: Vec<u32>,
     pub(crate) caps: Vec<u32>,
     pub(crate) edges: Vec<Edge>,
@@ -50,15 +50,15 @@ impl PlainNet {
     pub fn new(alloc: Global, points: u32, edges: u32, marks: u32) -> Result<PlainNet, Memory>
         ensures net { IfOk result (λ n. n.net ≡ empty_net) }
         ensures past { IfOk result (λ n. n.past ≡ []) }
-        ensures points { IfOk result (λ n. n.point_room ≡ points) }
-        ensures edges { IfOk result (λ n. n.edge_room ≡ edges) }
-        ensures marks { IfOk result (λ n. n.mark_room ≡ marks) }
+        ensures points { IfOk result (λ n. n.max_points ≡ points) }
+        ensures edges { IfOk result (λ n. n.max_edges ≡ edges) }
+        ensures marks { IfOk result (λ n. n.max_marks ≡ marks) }
     {
         let room = points as usize;
         Ok(PlainNet {
-            point_room: points,
-            edge_room: edges,
-            mark_room: marks,
+            max_points: points,
+            max_edges: edges,
+            max_marks: marks,
             lows: Vec::with_capacity(alloc, room)?,
             caps: Vec::with_capacity(alloc, room)?,
             edges: Vec::with_capacity(alloc, edges as usize)?,

@@ -54,10 +54,10 @@ impl Undo for PlainNet {
 
     ghost past = { λ n. n.past };
 
-    ghost mark_room = { λ n. n.mark_room };
+    ghost max_marks = { λ n. n.max_marks };
 
     fn spare_marks(&self) -> u32 {
-        self.mark_room - self.marks.len() as u32
+        self.max_marks - self.marks.len() as u32
     }
 
     fn mark(&mut self) -> Mark {

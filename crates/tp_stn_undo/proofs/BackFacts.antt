@@ -22,8 +22,8 @@ use Rattle.tp_stn_undo.proofs.UndoFacts.{Undone, undone, same_past}
 pub record WentBack (a b : Inside) (k : ℕ) : Type 0 where
   pub last : k + 1 ≡ length a.saves.marks.items
   pub points_same : b.saves.points ≡ a.saves.points
-  pub edges_same : b.edge_room ≡ a.edge_room
-  pub marks_same : b.mark_room ≡ a.mark_room
+  pub edges_same : b.max_edges ≡ a.max_edges
+  pub marks_same : b.max_marks ≡ a.max_marks
   pub working_same : b.working ≡ a.working
   pub spots : IsAt a.saves.marks.items k (λ m. b.spots.items ≡ restored (drop m.saved a.saves.saved.items) (take m.points a.spots.items))
   pub caps : IsAt a.saves.marks.items k (λ m. b.caps.items ≡ take m.points a.caps.items)
@@ -77,7 +77,7 @@ module _ (a b : Inside) (k : ℕ) (inv : IsLive a) (w : WentBack a b k) where
       let ep = w.edges_same in
       let mp = w.marks_same in
       let filled : length b.saves.marks.items * b.saves.points ≡ k * a.saves.points = ap (λ i. i * b.saves.points) nm ∙ ap (λ i. k * i) pp in
-      let all : b.saves.points * b.mark_room ≡ a.saves.points * a.mark_room = ap (λ i. i * b.mark_room) pp ∙ ap (λ i. a.saves.points * i) mp in
+      let all : b.saves.points * b.max_marks ≡ a.saves.points * a.max_marks = ap (λ i. i * b.max_marks) pp ∙ ap (λ i. a.saves.points * i) mp in
       let in_room = inv.stacked.in_room k m u.at in
       let l1 = u.points_len in
       let l2 = u.edges_len in

@@ -31,8 +31,8 @@ pub record IsChanged (a b : Inside) (S : List Spot) (C : List ℕ) (L : List Lin
   pub heads : b.heads.items ≡ H
   pub marks : b.saves.marks.items ≡ a.saves.marks.items
   pub points_same : b.saves.points ≡ a.saves.points
-  pub edges_same : b.edge_room ≡ a.edge_room
-  pub marks_same : b.mark_room ≡ a.mark_room
+  pub edges_same : b.max_edges ≡ a.max_edges
+  pub marks_same : b.max_marks ≡ a.max_marks
   pub spots_room : vec_capacity b.spots ≡ vec_capacity a.spots
   pub caps_room : vec_capacity b.caps ≡ vec_capacity a.caps
   pub links_room : vec_capacity b.links ≡ vec_capacity a.links
@@ -46,7 +46,7 @@ pub record IsChanged (a b : Inside) (S : List Spot) (C : List ℕ) (L : List Lin
 -- the lists hold together, and what stands at the marks is what stood there
 pub record HoldsTogether (a : Inside) (S : List Spot) (C : List ℕ) (L : List Link) (H : List ℕ) (V : List SavedSpot) (words : List ℕ) : Type 0 where
   pub points : length S ≤ a.saves.points
-  pub edges : length L ≤ a.edge_room
+  pub edges : length L ≤ a.max_edges
   pub stack : IsStack a.saves.marks.items V words (length S) (length L) a.saves.points
   pub past : past_of a.saves.marks.items V S C L ≡ past_in a
   pub linked : AreLinks L H (length S)
@@ -94,7 +94,7 @@ module _ (a : Inside) (inv : IsLive a) where
         let s = h.stack in
         let filled = s.filled in
         let products : length b.saves.marks.items * b.saves.points ≡ length a.saves.marks.items * a.saves.points = ap (λ i. i * b.saves.points) nm ∙ ap (λ i. length a.saves.marks.items * i) ep in
-        let all : b.saves.points * b.mark_room ≡ a.saves.points * a.mark_room = ap (λ i. i * b.mark_room) ep ∙ ap (λ i. a.saves.points * i) mp in
+        let all : b.saves.points * b.max_marks ≡ a.saves.points * a.max_marks = ap (λ i. i * b.max_marks) ep ∙ ap (λ i. a.saves.points * i) mp in
         let h1 = h.points in
         let h2 = h.edges in
         let i3 = inv.marks in
@@ -151,7 +151,7 @@ module _ (a : Inside) (inv : IsLive a) where
 
   -- edges were added after points S with upper bounds C, and what was noted is saved
   module _ (S S' : List Spot) (C : List ℕ) (L : List Link) (H : List ℕ) (edges : List Edge) (noted : List SavedSpot) (V : List SavedSpot) (words : List ℕ) (h : HoldsTogether a S C a.links.items H a.saves.saved.items a.saves.since.words.items)
-      (added : Adds edges C a.links.items L S S' noted) (room : length L ≤ a.edge_room) (H' : List ℕ) (linked : AreLinks L H' (length S))
+      (added : Adds edges C a.links.items L S S' noted) (room : length L ≤ a.max_edges) (H' : List ℕ) (linked : AreLinks L H' (length S))
       (stack : (count edges : ℕ) → AreKnown count noted → IsStack a.saves.marks.items a.saves.saved.items a.saves.since.words.items count edges a.saves.points → IsStack a.saves.marks.items V words count edges a.saves.points)
       (past : (spots : List Spot) (caps : List ℕ) (links : List Link) → AreKnown (length spots) noted → IsStack a.saves.marks.items a.saves.saved.items a.saves.since.words.items (length spots) (length links) a.saves.points
       → past_of a.saves.marks.items V spots caps links ≡ past_of a.saves.marks.items a.saves.saved.items (restored noted spots) caps links) where

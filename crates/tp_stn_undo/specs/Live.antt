@@ -18,9 +18,9 @@ state_of a = record {
   net = net_of_core (core_in a);
   past = nets_of (past_in a);
   causes = causes_of (edges_of a.links.items) a.spots.items;
-  point_room = a.saves.points;
-  edge_room = a.edge_room;
-  mark_room = a.mark_room;
+  max_points = a.saves.points;
+  max_edges = a.max_edges;
+  max_marks = a.max_marks;
   kept = a.kept;
   path = a.working.path.items;
 }
@@ -29,19 +29,19 @@ state_of a = record {
 pub record HasRoom (a : Inside) : Type 0 where
   pub spots : a.saves.points ≤ vec_capacity a.spots
   pub caps : a.saves.points ≤ vec_capacity a.caps
-  pub links : a.edge_room ≤ vec_capacity a.links
+  pub links : a.max_edges ≤ vec_capacity a.links
   pub heads : a.saves.points ≤ vec_capacity a.heads
   pub working : HasWorkingRoom a.saves.points a.working
-  pub saved : a.saves.points * a.mark_room ≤ vec_capacity a.saves.saved
-  pub flags : a.saves.points * a.mark_room ≤ 64 * length a.saves.since.words.items
-  pub marks : a.mark_room ≤ vec_capacity a.saves.marks
-  pub small : a.saves.points * a.mark_room < 2 ^ 32
+  pub saved : a.saves.points * a.max_marks ≤ vec_capacity a.saves.saved
+  pub flags : a.saves.points * a.max_marks ≤ 64 * length a.saves.since.words.items
+  pub marks : a.max_marks ≤ vec_capacity a.saves.marks
+  pub small : a.saves.points * a.max_marks < 2 ^ 32
   pub narrow : a.saves.points < 2 ^ 32
 
 pub record IsLive (a : Inside) : Type 0 where
   pub points : length a.spots.items ≤ a.saves.points
-  pub edges : length a.links.items ≤ a.edge_room
-  pub marks : length a.saves.marks.items ≤ a.mark_room
+  pub edges : length a.links.items ≤ a.max_edges
+  pub marks : length a.saves.marks.items ≤ a.max_marks
   pub saved : length a.saves.saved.items ≤ length a.saves.marks.items * a.saves.points
   pub room : HasRoom a
   pub rest : AtRest a.working

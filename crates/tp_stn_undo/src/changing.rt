@@ -17,9 +17,9 @@ impl Network for LiveNet {
 
     ghost refutes = { λ n late. KeptRefutes late n.kept n.path };
 
-    ghost point_room = { λ n. n.point_room };
+    ghost max_points = { λ n. n.max_points };
 
-    ghost edge_room = { λ n. n.edge_room };
+    ghost max_edges = { λ n. n.max_edges };
 
     ghost net_by_content = { λ a b e. e };
 
@@ -48,7 +48,7 @@ impl Network for LiveNet {
     }
 
     fn spare_edges(&self) -> u32 {
-        self.edge_room - self.links.len() as u32
+        self.max_edges - self.links.len() as u32
     }
 
     fn require(&mut self, edge: Edge) -> Result<(), Late> {

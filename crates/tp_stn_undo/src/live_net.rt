@@ -20,8 +20,8 @@ use tp_base::{Edge, Full, Kept, Memory, PointId, Trail};
 /// saves each point at most once, when it changes for the first time after the mark.
 #[derive(Drop)]
 pub struct LiveNet {
-    pub(crate) edge_room: u32,
-    pub(crate) mark_room: u32,
+    pub(crate) max_edges: u32,
+    pub(crate) max_marks: u32,
     pub(crate) spots: Vec<Spot>,
     pub(crate) caps: Vec<u32>,
     pub(crate) links: Vec<Link>,
@@ -50,17 +50,17 @@ impl LiveNet {
     pub fn new(alloc: Global, points: u32, edges: u32, marks: u32) -> Result<LiveNet, Memory>
         ensures net { IfOk result (λ n. n.net ≡ empty_net) }
         ensures past { IfOk result (λ n. n.past ≡ []) }
-        ensures points { IfOk result (λ n. n.point_room ≡ points) }
-        ensures edges { IfOk result (λ n. n.edge_room ≡ edges) }
-        ensures marks { IfOk result (λ n. n.mark_room ≡ marks) }
+        ensures points { IfOk result (λ n. n.max_points ≡ points) }
+        ensures edges { IfOk result (λ n. n.max_edges ≡ edges) }
+        ensures marks { IfOk result (λ n. n.max_marks ≡ marks) }
     {
         let room = points as usize;
         if room * marks as usize > u32::MAX as usize {
             return Err(Memory);
         }
         Ok(LiveNet {
-            edge_room: edges,
-            mark_room: marks,
+            max_edges: edges,
+            max_marks: marks,
             spots: Vec::with_capacity(alloc, room)?,
             caps: Vec::with_capacity(alloc, room)?,
             links: Vec::with_capacity(alloc, edges as usize)?,
@@ -93,7 +93,7 @@ impl LiveNet {
         ensures content { slice_get self.old.past (length self.old.past - 1) ≡ Some self.new.net }
         ensures past { self.new.past ≡ take (length self.old.past - 1) self.old.past }
         ensures aside { aside_of self.new ≡ aside_of self.old }
-        ensures room { self.new.mark_room ≡ self.old.mark_room }
+        ensures room { self.new.max_marks ≡ self.old.max_marks }
     {
         restore(
             &mut self.spots,
@@ -111,7 +111,7 @@ impl LiveNet {
             → net ≡ self.new.net }
         ensures past { self.new.past ≡ take place self.old.past }
         ensures aside { aside_of self.new ≡ aside_of self.old }
-        ensures room { self.new.mark_room ≡ self.old.mark_room }
+        ensures room { self.new.max_marks ≡ self.old.max_marks }
     {
         'marks: while self.saves.marks.len() > place {
             self.undo_last();

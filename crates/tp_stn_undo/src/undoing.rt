@@ -82,10 +82,10 @@ impl Undo for LiveNet {
 
     ghost past = { λ n. n.past };
 
-    ghost mark_room = { λ n. n.mark_room };
+    ghost max_marks = { λ n. n.max_marks };
 
     fn spare_marks(&self) -> u32 {
-        self.mark_room - self.saves.marks.len() as u32
+        self.max_marks - self.saves.marks.len() as u32
     }
 
     fn mark(&mut self) -> Mark {

@@ -9,7 +9,7 @@ orders_in a = record {
   orders = numbers_of a.orders.items;
   past = map (λ n. taken_back (drop n a.inserted.items) (numbers_of a.orders.items)) a.marks.items;
   hold_room = a.hold_room;
-  mark_room = a.mark_room;
+  max_marks = a.max_marks;
 }
 
 -- marks stand at inserts that are there, and at no less than the marks before them
@@ -22,8 +22,8 @@ pub record IsTimelines (a : Inside) : Type 0 where
   pub stand : StandAt (numbers_of a.orders.items) a.inserted.items
   pub at_marks : AreMarks a.marks.items (length a.inserted.items)
   pub holds : length a.inserted.items ≤ a.hold_room
-  pub marks : length a.marks.items ≤ a.mark_room
+  pub marks : length a.marks.items ≤ a.max_marks
   pub fits : a.hold_room < 2 ^ 32
   pub room : HaveRoom a.hold_room a.orders.items
   pub insert_room : a.hold_room ≤ vec_capacity a.inserted
-  pub mark_space : a.mark_room ≤ vec_capacity a.marks
+  pub mark_space : a.max_marks ≤ vec_capacity a.marks

@@ -8,7 +8,7 @@ pub record Orders : Type 0 where
   pub orders : List (List ℕ)
   pub past : List (List (List ℕ))
   pub hold_room : ℕ
-  pub mark_room : ℕ
+  pub max_marks : ℕ
 
 -- what marks leave alone
 pub record Sizes : Type 0 where

@@ -17,7 +17,7 @@ pub struct Timelines {
     hold_room: u32,
     /// How many inserts there were at each mark.
     marks: Vec<u32>,
-    mark_room: u32,
+    max_marks: u32,
 }
 
 // Clauses see the orders, those at the marks in force, and the numbers that it was made for.
@@ -38,14 +38,14 @@ impl Timelines {
         ensures orders { IfOk result (λ t. t.orders ≡ replicate resources []) }
         ensures past { IfOk result (λ t. t.past ≡ []) }
         ensures holds { IfOk result (λ t. t.hold_room ≡ holds) }
-        ensures marks { IfOk result (λ t. t.mark_room ≡ marks) }
+        ensures marks { IfOk result (λ t. t.max_marks ≡ marks) }
     {
         Ok(Timelines {
             orders: empty_orders(alloc, resources, holds)?,
             inserted: Vec::with_capacity(alloc, holds as usize)?,
             hold_room: holds,
             marks: Vec::with_capacity(alloc, marks as usize)?,
-            mark_room: marks,
+            max_marks: marks,
         })
     }
 
@@ -54,7 +54,7 @@ impl Timelines {
         ensures orders { self.new.orders ≡ replicate (length self.old.orders) [] }
         ensures past { self.new.past ≡ [] }
         ensures holds { self.new.hold_room ≡ self.old.hold_room }
-        ensures marks { self.new.mark_room ≡ self.old.mark_room }
+        ensures marks { self.new.max_marks ≡ self.old.max_marks }
     {
         empty_all(&mut self.orders);
         self.inserted.clear();
@@ -90,7 +90,7 @@ impl Timelines {
         ensures err { OnErr result (self.new.orders ≡ self.old.orders) }
         ensures past { self.new.past ≡ self.old.past }
         ensures holds { self.new.hold_room ≡ self.old.hold_room }
-        ensures marks { self.new.mark_room ≡ self.old.mark_room }
+        ensures marks { self.new.max_marks ≡ self.old.max_marks }
     {
         if self.inserted.len() == self.hold_room as usize {
             return Err(Full);
@@ -138,10 +138,10 @@ impl Undo for Timelines {
 
     ghost past = { λ t. t.past };
 
-    ghost mark_room = { λ t. t.mark_room };
+    ghost max_marks = { λ t. t.max_marks };
 
     fn spare_marks(&self) -> u32 {
-        self.mark_room - self.marks.len() as u32
+        self.max_marks - self.marks.len() as u32
     }
 
     /// Takes constant time.

@@ -6,7 +6,7 @@ invariant-chain g l = record {
   points : length (g.N.Network.net l.net).lows ≡ l.number;
   edges : length (g.N.Network.net l.net).edges ≤ l.number;
   past : (g.N.Undo.past l.net) ≡ (g.N.Undo.past l.initial.net);
-  point_room : (g.N.Network.point_room l.net) ≡ (g.N.Network.point_room l.initial.net);
-  edge_room : (g.N.Network.edge_room l.net) ≡ (g.N.Network.edge_room l.initial.net);
-  mark_room : (g.N.Undo.mark_room l.net) ≡ (g.N.Undo.mark_room l.initial.net);
+  max_points : (g.N.Network.max_points l.net) ≡ (g.N.Network.max_points l.initial.net);
+  max_edges : (g.N.Network.max_edges l.net) ≡ (g.N.Network.max_edges l.initial.net);
+  max_marks : (g.N.Undo.max_marks l.net) ≡ (g.N.Undo.max_marks l.initial.net);
 }

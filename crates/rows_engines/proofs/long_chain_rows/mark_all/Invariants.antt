@@ -5,5 +5,5 @@ abbrev pub invariant-marks : goal.invariant-marks
 invariant-marks g l = record {
   points : length (g.N.Network.net l.net).lows ≡ 16642;
   past : length (g.N.Undo.past l.net) ≡ l.number;
-  marks : (g.N.Undo.mark_room l.net) ≡ 330;
+  marks : (g.N.Undo.max_marks l.net) ≡ 330;
 }

@@ -28,7 +28,7 @@ returns-in-Ok g c =
     let machine = c.args.machine.now in
     let b = c.args.board.now in
     let at = here net content past machine b c.args.place c.in-Holds.hold k in
-    made-step net content past machine b (Place c.args.place) (Holds c.in-Holds.hold) k g.N.Undo.mark_room c.place.new.self (with_place c.args.place at) (Holds (c.in-Holds.hold + 1))
+    made-step net content past machine b (Place c.args.place) (Holds c.in-Holds.hold) k g.N.Undo.max_marks c.place.new.self (with_place c.args.place at) (Holds (c.in-Holds.hold + 1))
     (place-makes net content past machine b c.args.place c.in-Holds.hold k)
     (place-put net content past machine b c.args.place c.in-Holds.hold k c.place.new.self c.in-Ok.ensures.suffix)
     (place-reached net content past machine b c.args.place c.in-Holds.hold k)

@@ -23,7 +23,7 @@ keep_child-requires-clause-range g t c =
     let held = ap length (ap holds_of_act c.get.ensures) in
     let all : c.args.hold ≡ length (holds_of_act (action_at c.args.problem.machine.now c.args.child.act.0)) = omega arith in
     let r = c.requires in
-    let end = all-placed g.N.Network.net g.N.Undo.content g.N.Undo.past g.N.Undo.mark_room c.args.problem.machine.now c.args.problem.ask.now c.args.child.first c.args.opening.now c.args.store.now c.args.board.now
+    let end = all-placed g.N.Network.net g.N.Undo.content g.N.Undo.past g.N.Undo.max_marks c.args.problem.machine.now c.args.problem.ask.now c.args.child.first c.args.opening.now c.args.store.now c.args.board.now
     c.args.child.act c.args.child.choice (take c.args.hold c.args.child.choice.places) c.args.child.complete c.end_bound.result r.child.act r.child.goal (ap (λ n. take n c.args.child.choice.places) all) (omega arith) r.child.complete r.laid r.fresh r.bounds r.progress (c.end_bound.ensures c.args.problem.machine.now r.laid.stands) in
     end.0
 
@@ -32,7 +32,7 @@ returns-then-hold-len-clause-progress g t c =
     let held = ap length (ap holds_of_act c.get.ensures) in
     let all : c.args.hold ≡ length (holds_of_act (action_at c.args.problem.machine.now c.args.child.act.0)) = omega arith in
     let r = c.requires in
-    let end = all-placed g.N.Network.net g.N.Undo.content g.N.Undo.past g.N.Undo.mark_room c.args.problem.machine.now c.args.problem.ask.now c.args.child.first c.args.opening.now c.args.store.now c.args.board.now
+    let end = all-placed g.N.Network.net g.N.Undo.content g.N.Undo.past g.N.Undo.max_marks c.args.problem.machine.now c.args.problem.ask.now c.args.child.first c.args.opening.now c.args.store.now c.args.board.now
     c.args.child.act c.args.child.choice (take c.args.hold c.args.child.choice.places) c.args.child.complete c.end_bound.result r.child.act r.child.goal (ap (λ n. take n c.args.child.choice.places) all) (omega arith) r.child.complete r.laid r.fresh r.bounds r.progress (c.end_bound.ensures c.args.problem.machine.now r.laid.stands) in
     kept-at c.args.opening.now c.args.store.now c.args.child.choice c.end_bound.result c.args.child.complete c.keep_child.new.opening c.keep_child.new.store c.keep_child.ensures.opening c.keep_child.ensures.store
     c.args.problem.machine.now c.args.board.now.plans c.args.problem.ask.now (through c.args.child.act.0 (take c.args.hold c.args.child.choice.places)) end.1
@@ -52,20 +52,20 @@ loop-place-init g t c =
     let count : length (take c.args.hold c.args.child.choice.places) ≡ c.args.hold = length-take-le c.args.hold c.args.child.choice.places (omega arith) in
     let is_rule = (λ i. slice_get (ap holds_of_act c.get.ensures i) (count i)) ∙ c.get-2.ensures in
     record {
-      progress = begin-now g.N.Network.net g.N.Undo.content g.N.Undo.past g.N.Undo.mark_room c.args.problem.machine.now c.args.problem.ask.now c.args.child.first c.args.child.act c.args.opening.now c.args.store.now c.args.board.now (take c.args.hold c.args.child.choice.places) c.get-2.result.now
+      progress = begin-now g.N.Network.net g.N.Undo.content g.N.Undo.past g.N.Undo.max_marks c.args.problem.machine.now c.args.problem.ask.now c.args.child.first c.args.child.act c.args.opening.now c.args.store.now c.args.board.now (take c.args.hold c.args.child.choice.places) c.get-2.result.now
           c.requires.laid c.requires.fresh is_rule c.places-last.result c.places-last.ensures c.requires.progress;
       same = same-itself c.args.opening.now c.args.store.now;
-      back = back-itself g.N.Network.net g.N.Undo.content g.N.Undo.past g.N.Undo.mark_room c.args.board.now c.args.problem.machine.now;
+      back = back-itself g.N.Network.net g.N.Undo.content g.N.Undo.past g.N.Undo.max_marks c.args.board.now c.args.problem.machine.now;
     }
 
 -- a place is tried on a marked board
-trying-here : (g : _) (t : _) (c : After-mark-mark g t) → IsTrying g.N.Network.net g.N.Undo.content g.N.Undo.past g.N.Undo.aside g.N.Undo.mark_room c.args.problem.machine.now c.args.problem.ask.now c.args.child.first c.args.child.act c.args.opening.now c.loop-place.opening c.args.store.now c.loop-place.store c.args.board.now c.loop-place.board c.mark-mark.new.self c.mark-mark.result.0 (take c.args.hold c.args.child.choice.places) c.loop-place.place c.get-2.result.now
+trying-here : (g : _) (t : _) (c : After-mark-mark g t) → IsTrying g.N.Network.net g.N.Undo.content g.N.Undo.past g.N.Undo.aside g.N.Undo.max_marks c.args.problem.machine.now c.args.problem.ask.now c.args.child.first c.args.child.act c.args.opening.now c.loop-place.opening c.args.store.now c.loop-place.store c.args.board.now c.loop-place.board c.mark-mark.new.self c.mark-mark.result.0 (take c.args.hold c.args.child.choice.places) c.loop-place.place c.get-2.result.now
 trying-here g t c =
     let known = ap length (ap holds_of_act c.get.ensures) in
     let count : length (take c.args.hold c.args.child.choice.places) ≡ c.args.hold = length-take-le c.args.hold c.args.child.choice.places (omega arith) in
     let m = c.mark-mark.ensures in
     let v = c.loop-place.invariant in
-    trying g.N.Network.net g.N.Undo.content g.N.Undo.past g.N.Undo.aside g.N.Undo.mark_room c.args.problem.machine.now c.args.problem.ask.now c.args.child.first c.args.child.act c.args.opening.now c.loop-place.opening c.args.store.now c.loop-place.store c.args.board.now c.loop-place.board c.mark-mark.new.self c.mark-mark.result.0
+    trying g.N.Network.net g.N.Undo.content g.N.Undo.past g.N.Undo.aside g.N.Undo.max_marks c.args.problem.machine.now c.args.problem.ask.now c.args.child.first c.args.child.act c.args.opening.now c.loop-place.opening c.args.store.now c.loop-place.store c.args.board.now c.loop-place.board c.mark-mark.new.self c.mark-mark.result.0
     (take c.args.hold c.args.child.choice.places) c.loop-place.place c.get-2.result.now
     c.get.result.now c.args.hold c.places-last.result c.marks_keep_boards.ensures.mark c.marks_keep_boards.ensures.back c.requires.laid c.requires.fresh c.get.ensures c.get-2.ensures count c.places-last.ensures (omega arith)
     v.same v.back v.progress (record { number = m.number; past_more = m.past; content_same = m.content; aside_same = m.aside; room_same = m.room })
@@ -73,7 +73,7 @@ trying-here g t c =
 pub try_place-requires-clause-stands : goal.try_place-requires-clause-stands
 try_place-requires-clause-stands g t c =
     let tried = trying-here g t (goal.at.try_place-requires-clause-stands g t c).After-mark-mark in
-    marked-stands g.N.Network.net g.N.Undo.content g.N.Undo.past g.N.Undo.aside g.N.Undo.mark_room c.args.problem.machine.now c.args.problem.ask.now c.args.child.first c.args.child.act c.args.opening.now c.loop-place.opening c.args.store.now c.loop-place.store c.args.board.now c.loop-place.board c.mark-mark.new.self c.mark-mark.result.0
+    marked-stands g.N.Network.net g.N.Undo.content g.N.Undo.past g.N.Undo.aside g.N.Undo.max_marks c.args.problem.machine.now c.args.problem.ask.now c.args.child.first c.args.child.act c.args.opening.now c.loop-place.opening c.args.store.now c.loop-place.store c.args.board.now c.loop-place.board c.mark-mark.new.self c.mark-mark.result.0
     (take c.args.hold c.args.child.choice.places) c.loop-place.place c.get-2.result.now tried
 
 pub try_place-requires-clause-next : goal.try_place-requires-clause-next
@@ -82,7 +82,7 @@ try_place-requires-clause-next g t c =
     let count : length (take c.args.hold c.args.child.choice.places) ≡ c.args.hold = length-take-le c.args.hold c.args.child.choice.places (omega arith) in
     let tried = trying-here g t (goal.at.try_place-requires-clause-next g t c).After-mark-mark in
     subst (λ n. IsSomeAnd (suffix_of c.mark-mark.new.self) (λ x. CanPlace c.args.problem.machine.now c.mark-mark.new.self.plans x n c.loop-place.place)) count
-    (may-place g.N.Network.net g.N.Undo.content g.N.Undo.past g.N.Undo.aside g.N.Undo.mark_room c.args.problem.machine.now c.args.problem.ask.now c.args.child.first c.args.child.act c.args.opening.now c.loop-place.opening c.args.store.now c.loop-place.store c.args.board.now c.loop-place.board c.mark-mark.new.self c.mark-mark.result.0
+    (may-place g.N.Network.net g.N.Undo.content g.N.Undo.past g.N.Undo.aside g.N.Undo.max_marks c.args.problem.machine.now c.args.problem.ask.now c.args.child.first c.args.child.act c.args.opening.now c.loop-place.opening c.args.store.now c.loop-place.store c.args.board.now c.loop-place.board c.mark-mark.new.self c.mark-mark.result.0
     (take c.args.hold c.args.child.choice.places) c.loop-place.place c.get-2.result.now tried)
 
 pub place_rest-requires : goal.place_rest-requires
@@ -95,15 +95,15 @@ place_rest-requires g t c κs within =
     let some : c.args.hold < length c.args.child.choice.places = omega arith in
     let next = next-places c.args.child.choice.places c.args.hold c.loop-place.place some in
     let olds = choices_by c.args.problem.machine.now (choices_before c.loop-place.store.entries c.loop-place.opening.parent) in
-    let laid = subst (λ ps. IsLaid g.N.Network.net g.N.Undo.content g.N.Undo.past g.N.Undo.mark_room c.try_place.new.self c.args.problem.machine.now c.args.problem.ask.now c.loop-place.opening.goal c.args.child.first (record { act = c.args.child.act; places = ps } ∷ olds)) (sym next)
-    (placed-laid g.N.Network.net g.N.Undo.content g.N.Undo.past g.N.Undo.aside g.N.Undo.mark_room c.args.problem.machine.now c.args.problem.ask.now c.args.child.first c.args.child.act c.args.opening.now c.loop-place.opening c.args.store.now c.loop-place.store c.args.board.now c.loop-place.board c.mark-mark.new.self c.mark-mark.result.0
+    let laid = subst (λ ps. IsLaid g.N.Network.net g.N.Undo.content g.N.Undo.past g.N.Undo.max_marks c.try_place.new.self c.args.problem.machine.now c.args.problem.ask.now c.loop-place.opening.goal c.args.child.first (record { act = c.args.child.act; places = ps } ∷ olds)) (sym next)
+    (placed-laid g.N.Network.net g.N.Undo.content g.N.Undo.past g.N.Undo.aside g.N.Undo.max_marks c.args.problem.machine.now c.args.problem.ask.now c.args.child.first c.args.child.act c.args.opening.now c.loop-place.opening c.args.store.now c.loop-place.store c.args.board.now c.loop-place.board c.mark-mark.new.self c.mark-mark.result.0
     (take c.args.hold c.args.child.choice.places) c.loop-place.place c.get-2.result.now tried c.try_place.new.self put c.in-Ok.ensures.stands p.loaded) in
     let progress = subst (λ ps. IsAtProgress c.args.problem.machine.now c.try_place.new.self.plans c.args.problem.ask.now c.loop-place.opening c.loop-place.store (up_to c.args.child.act.0 ps)) (sym next)
-    (placed-progress g.N.Network.net g.N.Undo.content g.N.Undo.past g.N.Undo.aside g.N.Undo.mark_room c.args.problem.machine.now c.args.problem.ask.now c.args.child.first c.args.child.act c.args.opening.now c.loop-place.opening c.args.store.now c.loop-place.store c.args.board.now c.loop-place.board c.mark-mark.new.self c.mark-mark.result.0
+    (placed-progress g.N.Network.net g.N.Undo.content g.N.Undo.past g.N.Undo.aside g.N.Undo.max_marks c.args.problem.machine.now c.args.problem.ask.now c.args.child.first c.args.child.act c.args.opening.now c.loop-place.opening c.args.store.now c.loop-place.store c.args.board.now c.loop-place.board c.mark-mark.new.self c.mark-mark.result.0
     (take c.args.hold c.args.child.choice.places) c.loop-place.place c.get-2.result.now tried c.try_place.new.self p.loaded) in
     let more : suc (5 - (c.args.hold + 1)) ≡ 5 - c.args.hold = omega arith in
-    let spare = subst (λ n. HasMarks g.N.Network.net g.N.Undo.content g.N.Undo.past g.N.Undo.mark_room n c.args.board.now) (sym more) c.requires.marks in
-    let marks = placed-marks g.N.Network.net g.N.Undo.content g.N.Undo.past g.N.Undo.aside g.N.Undo.mark_room c.args.problem.machine.now c.args.problem.ask.now c.args.child.first c.args.child.act c.args.opening.now c.loop-place.opening c.args.store.now c.loop-place.store c.args.board.now c.loop-place.board c.mark-mark.new.self c.mark-mark.result.0
+    let spare = subst (λ n. HasMarks g.N.Network.net g.N.Undo.content g.N.Undo.past g.N.Undo.max_marks n c.args.board.now) (sym more) c.requires.marks in
+    let marks = placed-marks g.N.Network.net g.N.Undo.content g.N.Undo.past g.N.Undo.aside g.N.Undo.max_marks c.args.problem.machine.now c.args.problem.ask.now c.args.child.first c.args.child.act c.args.opening.now c.loop-place.opening c.args.store.now c.loop-place.store c.args.board.now c.loop-place.board c.mark-mark.new.self c.mark-mark.result.0
     (take c.args.hold c.args.child.choice.places) c.loop-place.place c.get-2.result.now tried (5 - (c.args.hold + 1)) c.try_place.new.self spare p.past p.marks in
     let same = v.same in
     let r = c.requires in
@@ -126,43 +126,43 @@ undo_to-requires-in-loop-place g t c =
     let p = c.try_place.ensures in
     let some : c.args.hold < length c.args.child.choice.places = omega arith in
     let next = next-places c.args.child.choice.places c.args.hold c.loop-place.place some in
-    let after : IsTried g.N.Network.net g.N.Undo.content g.N.Undo.past g.N.Undo.aside g.N.Undo.mark_room c.args.problem.machine.now c.args.problem.ask.now c.args.child.first c.args.child.act c.args.opening.now c.loop-place.opening c.args.store.now c.loop-place.store c.args.board.now c.loop-place.board c.mark-mark.new.self c.mark-mark.result.0
+    let after : IsTried g.N.Network.net g.N.Undo.content g.N.Undo.past g.N.Undo.aside g.N.Undo.max_marks c.args.problem.machine.now c.args.problem.ask.now c.args.child.first c.args.child.act c.args.opening.now c.loop-place.opening c.args.store.now c.loop-place.store c.args.board.now c.loop-place.board c.mark-mark.new.self c.mark-mark.result.0
     (take c.args.hold c.args.child.choice.places) c.loop-place.place c.get-2.result.now c.match-try_place.board c.match-try_place.opening c.match-try_place.store = elim c.match-try_place.branch [
-      | in-Ok w ↦ tried-as g.N.Network.net g.N.Undo.content g.N.Undo.past g.N.Undo.aside g.N.Undo.mark_room c.args.problem.machine.now c.args.problem.ask.now c.args.child.first c.args.child.act c.args.opening.now c.loop-place.opening c.args.store.now c.loop-place.store c.args.board.now c.loop-place.board c.mark-mark.new.self c.mark-mark.result.0
+      | in-Ok w ↦ tried-as g.N.Network.net g.N.Undo.content g.N.Undo.past g.N.Undo.aside g.N.Undo.max_marks c.args.problem.machine.now c.args.problem.ask.now c.args.child.first c.args.child.act c.args.opening.now c.loop-place.opening c.args.store.now c.loop-place.store c.args.board.now c.loop-place.board c.mark-mark.new.self c.mark-mark.result.0
           (take c.args.hold c.args.child.choice.places) c.loop-place.place c.get-2.result.now w.place_rest.new.board c.match-try_place.board w.place_rest.new.opening c.match-try_place.opening w.place_rest.new.store c.match-try_place.store w.board-is w.opening-is w.store-is
-          (tried-placed g.N.Network.net g.N.Undo.content g.N.Undo.past g.N.Undo.aside g.N.Undo.mark_room c.args.problem.machine.now c.args.problem.ask.now c.args.child.first c.args.child.act c.args.opening.now c.loop-place.opening c.args.store.now c.loop-place.store c.args.board.now c.loop-place.board c.mark-mark.new.self c.mark-mark.result.0
+          (tried-placed g.N.Network.net g.N.Undo.content g.N.Undo.past g.N.Undo.aside g.N.Undo.max_marks c.args.problem.machine.now c.args.problem.ask.now c.args.child.first c.args.child.act c.args.opening.now c.loop-place.opening c.args.store.now c.loop-place.store c.args.board.now c.loop-place.board c.mark-mark.new.self c.mark-mark.result.0
           (take c.args.hold c.args.child.choice.places) c.loop-place.place c.get-2.result.now tried c.try_place.new.self w.place_rest.new.board w.place_rest.new.opening w.place_rest.new.store
-          (since-step g.N.Network.net g.N.Undo.content g.N.Undo.past g.N.Undo.mark_room c.mark-mark.new.self c.try_place.new.self c.args.problem.machine.now p.past p.loaded p.marks (λ s. w.in-Ok.ensures.stands)) w.place_rest.ensures.same w.place_rest.ensures.back
+          (since-step g.N.Network.net g.N.Undo.content g.N.Undo.past g.N.Undo.max_marks c.mark-mark.new.self c.try_place.new.self c.args.problem.machine.now p.past p.loaded p.marks (λ s. w.in-Ok.ensures.stands)) w.place_rest.ensures.same w.place_rest.ensures.back
           (subst (λ ps. IsAtProgress c.args.problem.machine.now c.try_place.new.self.plans c.args.problem.ask.now w.place_rest.new.opening w.place_rest.new.store (through c.args.child.act.0 ps)) next w.place_rest.ensures.progress))
-      | in-Err-Here w ↦ tried-as g.N.Network.net g.N.Undo.content g.N.Undo.past g.N.Undo.aside g.N.Undo.mark_room c.args.problem.machine.now c.args.problem.ask.now c.args.child.first c.args.child.act c.args.opening.now c.loop-place.opening c.args.store.now c.loop-place.store c.args.board.now c.loop-place.board c.mark-mark.new.self c.mark-mark.result.0
+      | in-Err-Here w ↦ tried-as g.N.Network.net g.N.Undo.content g.N.Undo.past g.N.Undo.aside g.N.Undo.max_marks c.args.problem.machine.now c.args.problem.ask.now c.args.child.first c.args.child.act c.args.opening.now c.loop-place.opening c.args.store.now c.loop-place.store c.args.board.now c.loop-place.board c.mark-mark.new.self c.mark-mark.result.0
           (take c.args.hold c.args.child.choice.places) c.loop-place.place c.get-2.result.now c.try_place.new.self c.match-try_place.board c.loop-place.opening c.match-try_place.opening c.loop-place.store c.match-try_place.store w.board-is w.opening-is w.store-is
-          (tried-late g.N.Network.net g.N.Undo.content g.N.Undo.past g.N.Undo.aside g.N.Undo.mark_room c.args.problem.machine.now c.args.problem.ask.now c.args.child.first c.args.child.act c.args.opening.now c.loop-place.opening c.args.store.now c.loop-place.store c.args.board.now c.loop-place.board c.mark-mark.new.self c.mark-mark.result.0
+          (tried-late g.N.Network.net g.N.Undo.content g.N.Undo.past g.N.Undo.aside g.N.Undo.max_marks c.args.problem.machine.now c.args.problem.ask.now c.args.child.first c.args.child.act c.args.opening.now c.loop-place.opening c.args.store.now c.loop-place.store c.args.board.now c.loop-place.board c.mark-mark.new.self c.mark-mark.result.0
           (take c.args.hold c.args.child.choice.places) c.loop-place.place c.get-2.result.now tried c.try_place.new.self
-          (refused-since g.N.Network.net g.N.Undo.content g.N.Undo.past g.N.Undo.aside g.N.Undo.mark_room c.args.problem.machine.now c.args.problem.ask.now c.args.child.first c.args.child.act c.args.opening.now c.loop-place.opening c.args.store.now c.loop-place.store c.args.board.now c.loop-place.board c.mark-mark.new.self c.mark-mark.result.0
+          (refused-since g.N.Network.net g.N.Undo.content g.N.Undo.past g.N.Undo.aside g.N.Undo.max_marks c.args.problem.machine.now c.args.problem.ask.now c.args.child.first c.args.child.act c.args.opening.now c.loop-place.opening c.args.store.now c.loop-place.store c.args.board.now c.loop-place.board c.mark-mark.new.self c.mark-mark.result.0
           (take c.args.hold c.args.child.choice.places) c.loop-place.place c.get-2.result.now tried c.try_place.new.self p.past p.loaded p.marks w.in-Err-Here.ensures.back) w.in-Err-Here.ensures.late)
     ] in
-    mark-known g.N.Network.net g.N.Undo.content g.N.Undo.past g.N.Undo.aside g.N.Undo.mark_room c.loop-place.board c.mark-mark.new.self c.match-try_place.board c.mark-mark.result.0 tried.marked after.since.past_same
+    mark-known g.N.Network.net g.N.Undo.content g.N.Undo.past g.N.Undo.aside g.N.Undo.max_marks c.loop-place.board c.mark-mark.new.self c.match-try_place.board c.mark-mark.result.0 tried.marked after.since.past_same
 
 -- and was tried, or is late
-tried-here : (g : _) (t : _) (c : After-undo_to-in-loop-place g t) → IsTrying g.N.Network.net g.N.Undo.content g.N.Undo.past g.N.Undo.aside g.N.Undo.mark_room c.args.problem.machine.now c.args.problem.ask.now c.args.child.first c.args.child.act c.args.opening.now c.loop-place.opening c.args.store.now c.loop-place.store c.args.board.now c.loop-place.board c.mark-mark.new.self c.mark-mark.result.0 (take c.args.hold c.args.child.choice.places) c.loop-place.place c.get-2.result.now
-    → IsTried g.N.Network.net g.N.Undo.content g.N.Undo.past g.N.Undo.aside g.N.Undo.mark_room c.args.problem.machine.now c.args.problem.ask.now c.args.child.first c.args.child.act c.args.opening.now c.loop-place.opening c.args.store.now c.loop-place.store c.args.board.now c.loop-place.board c.mark-mark.new.self c.mark-mark.result.0 (take c.args.hold c.args.child.choice.places) c.loop-place.place c.get-2.result.now c.match-try_place.board c.match-try_place.opening c.match-try_place.store
+tried-here : (g : _) (t : _) (c : After-undo_to-in-loop-place g t) → IsTrying g.N.Network.net g.N.Undo.content g.N.Undo.past g.N.Undo.aside g.N.Undo.max_marks c.args.problem.machine.now c.args.problem.ask.now c.args.child.first c.args.child.act c.args.opening.now c.loop-place.opening c.args.store.now c.loop-place.store c.args.board.now c.loop-place.board c.mark-mark.new.self c.mark-mark.result.0 (take c.args.hold c.args.child.choice.places) c.loop-place.place c.get-2.result.now
+    → IsTried g.N.Network.net g.N.Undo.content g.N.Undo.past g.N.Undo.aside g.N.Undo.max_marks c.args.problem.machine.now c.args.problem.ask.now c.args.child.first c.args.child.act c.args.opening.now c.loop-place.opening c.args.store.now c.loop-place.store c.args.board.now c.loop-place.board c.mark-mark.new.self c.mark-mark.result.0 (take c.args.hold c.args.child.choice.places) c.loop-place.place c.get-2.result.now c.match-try_place.board c.match-try_place.opening c.match-try_place.store
 tried-here g t c tried =
     let known = ap length (ap holds_of_act c.get.ensures) in
     let p = c.try_place.ensures in
     let some : c.args.hold < length c.args.child.choice.places = omega arith in
     let next = next-places c.args.child.choice.places c.args.hold c.loop-place.place some in
     elim c.match-try_place.branch [
-      | in-Ok w ↦ tried-as g.N.Network.net g.N.Undo.content g.N.Undo.past g.N.Undo.aside g.N.Undo.mark_room c.args.problem.machine.now c.args.problem.ask.now c.args.child.first c.args.child.act c.args.opening.now c.loop-place.opening c.args.store.now c.loop-place.store c.args.board.now c.loop-place.board c.mark-mark.new.self c.mark-mark.result.0
+      | in-Ok w ↦ tried-as g.N.Network.net g.N.Undo.content g.N.Undo.past g.N.Undo.aside g.N.Undo.max_marks c.args.problem.machine.now c.args.problem.ask.now c.args.child.first c.args.child.act c.args.opening.now c.loop-place.opening c.args.store.now c.loop-place.store c.args.board.now c.loop-place.board c.mark-mark.new.self c.mark-mark.result.0
           (take c.args.hold c.args.child.choice.places) c.loop-place.place c.get-2.result.now w.place_rest.new.board c.match-try_place.board w.place_rest.new.opening c.match-try_place.opening w.place_rest.new.store c.match-try_place.store w.board-is w.opening-is w.store-is
-          (tried-placed g.N.Network.net g.N.Undo.content g.N.Undo.past g.N.Undo.aside g.N.Undo.mark_room c.args.problem.machine.now c.args.problem.ask.now c.args.child.first c.args.child.act c.args.opening.now c.loop-place.opening c.args.store.now c.loop-place.store c.args.board.now c.loop-place.board c.mark-mark.new.self c.mark-mark.result.0
+          (tried-placed g.N.Network.net g.N.Undo.content g.N.Undo.past g.N.Undo.aside g.N.Undo.max_marks c.args.problem.machine.now c.args.problem.ask.now c.args.child.first c.args.child.act c.args.opening.now c.loop-place.opening c.args.store.now c.loop-place.store c.args.board.now c.loop-place.board c.mark-mark.new.self c.mark-mark.result.0
           (take c.args.hold c.args.child.choice.places) c.loop-place.place c.get-2.result.now tried c.try_place.new.self w.place_rest.new.board w.place_rest.new.opening w.place_rest.new.store
-          (since-step g.N.Network.net g.N.Undo.content g.N.Undo.past g.N.Undo.mark_room c.mark-mark.new.self c.try_place.new.self c.args.problem.machine.now p.past p.loaded p.marks (λ s. w.in-Ok.ensures.stands)) w.place_rest.ensures.same w.place_rest.ensures.back
+          (since-step g.N.Network.net g.N.Undo.content g.N.Undo.past g.N.Undo.max_marks c.mark-mark.new.self c.try_place.new.self c.args.problem.machine.now p.past p.loaded p.marks (λ s. w.in-Ok.ensures.stands)) w.place_rest.ensures.same w.place_rest.ensures.back
           (subst (λ ps. IsAtProgress c.args.problem.machine.now c.try_place.new.self.plans c.args.problem.ask.now w.place_rest.new.opening w.place_rest.new.store (through c.args.child.act.0 ps)) next w.place_rest.ensures.progress))
-      | in-Err-Here w ↦ tried-as g.N.Network.net g.N.Undo.content g.N.Undo.past g.N.Undo.aside g.N.Undo.mark_room c.args.problem.machine.now c.args.problem.ask.now c.args.child.first c.args.child.act c.args.opening.now c.loop-place.opening c.args.store.now c.loop-place.store c.args.board.now c.loop-place.board c.mark-mark.new.self c.mark-mark.result.0
+      | in-Err-Here w ↦ tried-as g.N.Network.net g.N.Undo.content g.N.Undo.past g.N.Undo.aside g.N.Undo.max_marks c.args.problem.machine.now c.args.problem.ask.now c.args.child.first c.args.child.act c.args.opening.now c.loop-place.opening c.args.store.now c.loop-place.store c.args.board.now c.loop-place.board c.mark-mark.new.self c.mark-mark.result.0
           (take c.args.hold c.args.child.choice.places) c.loop-place.place c.get-2.result.now c.try_place.new.self c.match-try_place.board c.loop-place.opening c.match-try_place.opening c.loop-place.store c.match-try_place.store w.board-is w.opening-is w.store-is
-          (tried-late g.N.Network.net g.N.Undo.content g.N.Undo.past g.N.Undo.aside g.N.Undo.mark_room c.args.problem.machine.now c.args.problem.ask.now c.args.child.first c.args.child.act c.args.opening.now c.loop-place.opening c.args.store.now c.loop-place.store c.args.board.now c.loop-place.board c.mark-mark.new.self c.mark-mark.result.0
+          (tried-late g.N.Network.net g.N.Undo.content g.N.Undo.past g.N.Undo.aside g.N.Undo.max_marks c.args.problem.machine.now c.args.problem.ask.now c.args.child.first c.args.child.act c.args.opening.now c.loop-place.opening c.args.store.now c.loop-place.store c.args.board.now c.loop-place.board c.mark-mark.new.self c.mark-mark.result.0
           (take c.args.hold c.args.child.choice.places) c.loop-place.place c.get-2.result.now tried c.try_place.new.self
-          (refused-since g.N.Network.net g.N.Undo.content g.N.Undo.past g.N.Undo.aside g.N.Undo.mark_room c.args.problem.machine.now c.args.problem.ask.now c.args.child.first c.args.child.act c.args.opening.now c.loop-place.opening c.args.store.now c.loop-place.store c.args.board.now c.loop-place.board c.mark-mark.new.self c.mark-mark.result.0
+          (refused-since g.N.Network.net g.N.Undo.content g.N.Undo.past g.N.Undo.aside g.N.Undo.max_marks c.args.problem.machine.now c.args.problem.ask.now c.args.child.first c.args.child.act c.args.opening.now c.loop-place.opening c.args.store.now c.loop-place.store c.args.board.now c.loop-place.board c.mark-mark.new.self c.mark-mark.result.0
           (take c.args.hold c.args.child.choice.places) c.loop-place.place c.get-2.result.now tried c.try_place.new.self p.past p.loaded p.marks w.in-Err-Here.ensures.back) w.in-Err-Here.ensures.late)
     ]
 
@@ -173,14 +173,14 @@ loop-place-preserved g t c =
     let tried = trying-here g t (goal.at.loop-place-preserved g t c).After-mark-mark in
     let after = tried-here g t (goal.at.loop-place-preserved g t c).After-undo_to-in-loop-place tried in
     let u = c.undo_to-in-loop-place.ensures in
-    let back = back-now g.N.Network.net g.N.Undo.content g.N.Undo.past g.N.Undo.aside g.N.Undo.mark_room c.args.problem.machine.now c.args.problem.ask.now c.args.child.first c.args.child.act c.args.opening.now c.loop-place.opening c.args.store.now c.loop-place.store c.args.board.now c.loop-place.board c.mark-mark.new.self c.mark-mark.result.0
+    let back = back-now g.N.Network.net g.N.Undo.content g.N.Undo.past g.N.Undo.aside g.N.Undo.max_marks c.args.problem.machine.now c.args.problem.ask.now c.args.child.first c.args.child.act c.args.opening.now c.loop-place.opening c.args.store.now c.loop-place.store c.args.board.now c.loop-place.board c.mark-mark.new.self c.mark-mark.result.0
     (take c.args.hold c.args.child.choice.places) c.loop-place.place c.get-2.result.now tried c.match-try_place.board c.undo_to-in-loop-place.new.self c.match-try_place.opening c.match-try_place.store after
     (record { content_then = u.content; past_less = u.past; aside_same = u.aside; room_same = u.room }) in
     record {
-      progress = next-now g.N.Network.net g.N.Undo.content g.N.Undo.past g.N.Undo.aside g.N.Undo.mark_room c.args.problem.machine.now c.args.problem.ask.now c.args.child.first c.args.child.act c.args.opening.now c.loop-place.opening c.args.store.now c.loop-place.store c.args.board.now c.loop-place.board c.mark-mark.new.self c.mark-mark.result.0
+      progress = next-now g.N.Network.net g.N.Undo.content g.N.Undo.past g.N.Undo.aside g.N.Undo.max_marks c.args.problem.machine.now c.args.problem.ask.now c.args.child.first c.args.child.act c.args.opening.now c.loop-place.opening c.args.store.now c.loop-place.store c.args.board.now c.loop-place.board c.mark-mark.new.self c.mark-mark.result.0
           (take c.args.hold c.args.child.choice.places) c.loop-place.place c.get-2.result.now tried c.match-try_place.board c.undo_to-in-loop-place.new.self c.match-try_place.opening c.match-try_place.store after
           (c.loop-place.place - 1) (omega arith) back;
-      same = same-now g.N.Network.net g.N.Undo.content g.N.Undo.past g.N.Undo.aside g.N.Undo.mark_room c.args.problem.machine.now c.args.problem.ask.now c.args.child.first c.args.child.act c.args.opening.now c.loop-place.opening c.args.store.now c.loop-place.store c.args.board.now c.loop-place.board c.mark-mark.new.self c.mark-mark.result.0
+      same = same-now g.N.Network.net g.N.Undo.content g.N.Undo.past g.N.Undo.aside g.N.Undo.max_marks c.args.problem.machine.now c.args.problem.ask.now c.args.child.first c.args.child.act c.args.opening.now c.loop-place.opening c.args.store.now c.loop-place.store c.args.board.now c.loop-place.board c.mark-mark.new.self c.mark-mark.result.0
           (take c.args.hold c.args.child.choice.places) c.loop-place.place c.get-2.result.now tried c.match-try_place.board c.undo_to-in-loop-place.new.self c.match-try_place.opening c.match-try_place.store after;
       back = back;
     }
@@ -191,7 +191,7 @@ returns-after-try_place-clause-progress g t c =
     let count : length (take c.args.hold c.args.child.choice.places) ≡ c.args.hold = length-take-le c.args.hold c.args.child.choice.places (omega arith) in
     let tried = trying-here g t (goal.at.returns-after-try_place-clause-progress g t c).After-mark-mark in
     let after = tried-here g t (goal.at.returns-after-try_place-clause-progress g t c).After-undo_to-in-loop-place tried in
-    end-now g.N.Network.net g.N.Undo.content g.N.Undo.past g.N.Undo.aside g.N.Undo.mark_room c.args.problem.machine.now c.args.problem.ask.now c.args.child.first c.args.child.act c.args.opening.now c.loop-place.opening c.args.store.now c.loop-place.store c.args.board.now c.loop-place.board c.mark-mark.new.self c.mark-mark.result.0
+    end-now g.N.Network.net g.N.Undo.content g.N.Undo.past g.N.Undo.aside g.N.Undo.max_marks c.args.problem.machine.now c.args.problem.ask.now c.args.child.first c.args.child.act c.args.opening.now c.loop-place.opening c.args.store.now c.loop-place.store c.args.board.now c.loop-place.board c.mark-mark.new.self c.mark-mark.result.0
     (take c.args.hold c.args.child.choice.places) c.loop-place.place c.get-2.result.now tried c.match-try_place.board c.undo_to-in-loop-place.new.self c.match-try_place.opening c.match-try_place.store after (omega arith) (omega arith)
 
 pub returns-after-try_place-clause-same : goal.returns-after-try_place-clause-same
@@ -199,7 +199,7 @@ returns-after-try_place-clause-same g t c =
     let known = ap length (ap holds_of_act c.get.ensures) in
     let tried = trying-here g t (goal.at.returns-after-try_place-clause-same g t c).After-mark-mark in
     let after = tried-here g t (goal.at.returns-after-try_place-clause-same g t c).After-undo_to-in-loop-place tried in
-    same-now g.N.Network.net g.N.Undo.content g.N.Undo.past g.N.Undo.aside g.N.Undo.mark_room c.args.problem.machine.now c.args.problem.ask.now c.args.child.first c.args.child.act c.args.opening.now c.loop-place.opening c.args.store.now c.loop-place.store c.args.board.now c.loop-place.board c.mark-mark.new.self c.mark-mark.result.0
+    same-now g.N.Network.net g.N.Undo.content g.N.Undo.past g.N.Undo.aside g.N.Undo.max_marks c.args.problem.machine.now c.args.problem.ask.now c.args.child.first c.args.child.act c.args.opening.now c.loop-place.opening c.args.store.now c.loop-place.store c.args.board.now c.loop-place.board c.mark-mark.new.self c.mark-mark.result.0
     (take c.args.hold c.args.child.choice.places) c.loop-place.place c.get-2.result.now tried c.match-try_place.board c.undo_to-in-loop-place.new.self c.match-try_place.opening c.match-try_place.store after
 
 pub returns-after-try_place-clause-back : goal.returns-after-try_place-clause-back
@@ -208,7 +208,7 @@ returns-after-try_place-clause-back g t c =
     let tried = trying-here g t (goal.at.returns-after-try_place-clause-back g t c).After-mark-mark in
     let after = tried-here g t (goal.at.returns-after-try_place-clause-back g t c).After-undo_to-in-loop-place tried in
     let u = c.undo_to-in-loop-place.ensures in
-    back-now g.N.Network.net g.N.Undo.content g.N.Undo.past g.N.Undo.aside g.N.Undo.mark_room c.args.problem.machine.now c.args.problem.ask.now c.args.child.first c.args.child.act c.args.opening.now c.loop-place.opening c.args.store.now c.loop-place.store c.args.board.now c.loop-place.board c.mark-mark.new.self c.mark-mark.result.0
+    back-now g.N.Network.net g.N.Undo.content g.N.Undo.past g.N.Undo.aside g.N.Undo.max_marks c.args.problem.machine.now c.args.problem.ask.now c.args.child.first c.args.child.act c.args.opening.now c.loop-place.opening c.args.store.now c.loop-place.store c.args.board.now c.loop-place.board c.mark-mark.new.self c.mark-mark.result.0
     (take c.args.hold c.args.child.choice.places) c.loop-place.place c.get-2.result.now tried c.match-try_place.board c.undo_to-in-loop-place.new.self c.match-try_place.opening c.match-try_place.store after
     (record { content_then = u.content; past_less = u.past; aside_same = u.aside; room_same = u.room })
 
@@ -217,7 +217,7 @@ returns-in-Err-UpToHere-clause-progress g t c =
     let known = ap length (ap holds_of_act c.get.ensures) in
     let count : length (take c.args.hold c.args.child.choice.places) ≡ c.args.hold = length-take-le c.args.hold c.args.child.choice.places (omega arith) in
     let tried = trying-here g t (goal.at.returns-in-Err-UpToHere-clause-progress g t c).After-mark-mark in
-    shut-now g.N.Network.net g.N.Undo.content g.N.Undo.past g.N.Undo.aside g.N.Undo.mark_room c.args.problem.machine.now c.args.problem.ask.now c.args.child.first c.args.child.act c.args.opening.now c.loop-place.opening c.args.store.now c.loop-place.store c.args.board.now c.loop-place.board c.mark-mark.new.self c.mark-mark.result.0
+    shut-now g.N.Network.net g.N.Undo.content g.N.Undo.past g.N.Undo.aside g.N.Undo.max_marks c.args.problem.machine.now c.args.problem.ask.now c.args.child.first c.args.child.act c.args.opening.now c.loop-place.opening c.args.store.now c.loop-place.store c.args.board.now c.loop-place.board c.mark-mark.new.self c.mark-mark.result.0
     (take c.args.hold c.args.child.choice.places) c.loop-place.place c.get-2.result.now tried (omega arith) (c.in-Err-UpToHere.ensures.late_before c.in-Err-UpToHere.field-0-is)
 
 pub returns-in-Err-UpToHere-clause-back : goal.returns-in-Err-UpToHere-clause-back
@@ -225,11 +225,11 @@ returns-in-Err-UpToHere-clause-back g t c =
     let tried = trying-here g t (goal.at.returns-in-Err-UpToHere-clause-back g t c).After-mark-mark in
     let p = c.try_place.ensures in
     let u = c.undo_to.ensures in
-    let after = tried-late g.N.Network.net g.N.Undo.content g.N.Undo.past g.N.Undo.aside g.N.Undo.mark_room c.args.problem.machine.now c.args.problem.ask.now c.args.child.first c.args.child.act c.args.opening.now c.loop-place.opening c.args.store.now c.loop-place.store c.args.board.now c.loop-place.board c.mark-mark.new.self c.mark-mark.result.0
+    let after = tried-late g.N.Network.net g.N.Undo.content g.N.Undo.past g.N.Undo.aside g.N.Undo.max_marks c.args.problem.machine.now c.args.problem.ask.now c.args.child.first c.args.child.act c.args.opening.now c.loop-place.opening c.args.store.now c.loop-place.store c.args.board.now c.loop-place.board c.mark-mark.new.self c.mark-mark.result.0
     (take c.args.hold c.args.child.choice.places) c.loop-place.place c.get-2.result.now tried c.try_place.new.self
-    (refused-since g.N.Network.net g.N.Undo.content g.N.Undo.past g.N.Undo.aside g.N.Undo.mark_room c.args.problem.machine.now c.args.problem.ask.now c.args.child.first c.args.child.act c.args.opening.now c.loop-place.opening c.args.store.now c.loop-place.store c.args.board.now c.loop-place.board c.mark-mark.new.self c.mark-mark.result.0
+    (refused-since g.N.Network.net g.N.Undo.content g.N.Undo.past g.N.Undo.aside g.N.Undo.max_marks c.args.problem.machine.now c.args.problem.ask.now c.args.child.first c.args.child.act c.args.opening.now c.loop-place.opening c.args.store.now c.loop-place.store c.args.board.now c.loop-place.board c.mark-mark.new.self c.mark-mark.result.0
     (take c.args.hold c.args.child.choice.places) c.loop-place.place c.get-2.result.now tried c.try_place.new.self p.past p.loaded p.marks c.in-Err-UpToHere.ensures.back) c.in-Err-UpToHere.ensures.late in
-    back-now g.N.Network.net g.N.Undo.content g.N.Undo.past g.N.Undo.aside g.N.Undo.mark_room c.args.problem.machine.now c.args.problem.ask.now c.args.child.first c.args.child.act c.args.opening.now c.loop-place.opening c.args.store.now c.loop-place.store c.args.board.now c.loop-place.board c.mark-mark.new.self c.mark-mark.result.0
+    back-now g.N.Network.net g.N.Undo.content g.N.Undo.past g.N.Undo.aside g.N.Undo.max_marks c.args.problem.machine.now c.args.problem.ask.now c.args.child.first c.args.child.act c.args.opening.now c.loop-place.opening c.args.store.now c.loop-place.store c.args.board.now c.loop-place.board c.mark-mark.new.self c.mark-mark.result.0
     (take c.args.hold c.args.child.choice.places) c.loop-place.place c.get-2.result.now tried c.try_place.new.self c.undo_to.new.self c.loop-place.opening c.loop-place.store after
     (record { content_then = u.content; past_less = u.past; aside_same = u.aside; room_same = u.room })
 

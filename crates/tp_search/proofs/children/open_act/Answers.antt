@@ -11,48 +11,48 @@ use Rattle.tp_search.proofs.children.open_act.Goals as goal
 use Rattle.tp_search.proofs.children.open_act.Goals.{After-mark-mark, After-undo_to, in-Ok, in-Err}
 
 -- the board was marked
-marked : (g : _) (c : After-mark-mark g) → IsMarked g.N.Network.net g.N.Undo.content g.N.Undo.past g.N.Undo.aside g.N.Undo.mark_room c.args.board.now c.mark-mark.new.self c.mark-mark.result.0
+marked : (g : _) (c : After-mark-mark g) → IsMarked g.N.Network.net g.N.Undo.content g.N.Undo.past g.N.Undo.aside g.N.Undo.max_marks c.args.board.now c.mark-mark.new.self c.mark-mark.result.0
 marked g c =
     let m = c.mark-mark.ensures in
     record { number = m.number; past_more = m.past; content_same = m.content; aside_same = m.aside; room_same = m.room }
 
 -- it carries the list as before, with the same plans
-laid : (g : _) (c : After-mark-mark g) → IsLaid g.N.Network.net g.N.Undo.content g.N.Undo.past g.N.Undo.mark_room c.mark-mark.new.self c.args.problem.machine.now c.args.problem.ask.now c.args.opening.now.goal c.args.first
+laid : (g : _) (c : After-mark-mark g) → IsLaid g.N.Network.net g.N.Undo.content g.N.Undo.past g.N.Undo.max_marks c.mark-mark.new.self c.args.problem.machine.now c.args.problem.ask.now c.args.opening.now.goal c.args.first
     (choices_by c.args.problem.machine.now (choices_before c.args.store.now.entries c.args.opening.now.parent))
 laid g c =
-    laid-marked g.N.Network.net g.N.Undo.content g.N.Undo.past g.N.Undo.aside g.N.Undo.mark_room c.marks_keep_boards.ensures.mark c.args.board.now c.mark-mark.new.self c.mark-mark.result.0 c.args.problem.machine.now c.args.problem.ask.now
+    laid-marked g.N.Network.net g.N.Undo.content g.N.Undo.past g.N.Undo.aside g.N.Undo.max_marks c.marks_keep_boards.ensures.mark c.args.board.now c.mark-mark.new.self c.mark-mark.result.0 c.args.problem.machine.now c.args.problem.ask.now
     c.args.opening.now.goal c.args.first (choices_by c.args.problem.machine.now (choices_before c.args.store.now.entries c.args.opening.now.parent)) (marked g c) c.requires.opened.laid
 
 plans : (g : _) (c : After-mark-mark g) → c.args.board.now.plans ≡ c.mark-mark.new.self.plans
-plans g c = sym (load-of g.N.Network.net g.N.Undo.content g.N.Undo.past g.N.Undo.aside g.N.Undo.mark_room c.args.board.now c.mark-mark.new.self (marked g c).aside_same).plans
+plans g c = sym (load-of g.N.Network.net g.N.Undo.content g.N.Undo.past g.N.Undo.aside g.N.Undo.max_marks c.args.board.now c.mark-mark.new.self (marked g c).aside_same).plans
 
 -- the action was tried on it
 acted : (g : _) (c : After-undo_to g)
-    → IsActed g.N.Network.net g.N.Undo.content g.N.Undo.past g.N.Undo.mark_room c.args.problem.machine.now c.args.problem.ask.now c.args.act c.args.opening.now c.args.store.now c.mark-mark.new.self
+    → IsActed g.N.Network.net g.N.Undo.content g.N.Undo.past g.N.Undo.max_marks c.args.problem.machine.now c.args.problem.ask.now c.args.act c.args.opening.now c.args.store.now c.mark-mark.new.self
     c.match-open_action.board c.match-open_action.opening c.match-open_action.store
 acted g c =
     let at = (goal.at.returns-clause-progress g c).After-mark-mark in
     let p = c.open_action.ensures in
-    let since = since-step g.N.Network.net g.N.Undo.content g.N.Undo.past g.N.Undo.mark_room c.mark-mark.new.self c.open_action.new.self c.args.problem.machine.now p.past p.loaded p.marks (λ s. p.stands) in
+    let since = since-step g.N.Network.net g.N.Undo.content g.N.Undo.past g.N.Undo.max_marks c.mark-mark.new.self c.open_action.new.self c.args.problem.machine.now p.past p.loaded p.marks (λ s. p.stands) in
     elim c.match-open_action.branch [
       | in-Ok w ↦
-          acted-as g.N.Network.net g.N.Undo.content g.N.Undo.past g.N.Undo.mark_room c.args.problem.machine.now c.args.problem.ask.now c.args.act c.args.opening.now c.args.store.now c.mark-mark.new.self
+          acted-as g.N.Network.net g.N.Undo.content g.N.Undo.past g.N.Undo.max_marks c.args.problem.machine.now c.args.problem.ask.now c.args.act c.args.opening.now c.args.store.now c.mark-mark.new.self
           w.place_rest.new.board c.match-open_action.board w.place_rest.new.opening c.match-open_action.opening w.place_rest.new.store c.match-open_action.store w.board-is w.opening-is w.store-is
-          (acted-placed g.N.Network.net g.N.Undo.content g.N.Undo.past g.N.Undo.mark_room c.args.problem.machine.now c.args.problem.ask.now c.args.act c.args.opening.now c.args.store.now c.mark-mark.new.self
+          (acted-placed g.N.Network.net g.N.Undo.content g.N.Undo.past g.N.Undo.max_marks c.args.problem.machine.now c.args.problem.ask.now c.args.act c.args.opening.now c.args.store.now c.mark-mark.new.self
           c.open_action.new.self w.place_rest.new.board w.place_rest.new.opening w.place_rest.new.store since w.place_rest.ensures.same w.place_rest.ensures.back w.place_rest.ensures.progress)
       | in-Err w ↦
           let progress = subst (λ ps. IsAtProgress c.args.problem.machine.now ps c.args.problem.ask.now c.args.opening.now c.args.store.now (up_to c.args.act.0 [])) (plans g at) c.requires.progress in
-          acted-as g.N.Network.net g.N.Undo.content g.N.Undo.past g.N.Undo.mark_room c.args.problem.machine.now c.args.problem.ask.now c.args.act c.args.opening.now c.args.store.now c.mark-mark.new.self
+          acted-as g.N.Network.net g.N.Undo.content g.N.Undo.past g.N.Undo.max_marks c.args.problem.machine.now c.args.problem.ask.now c.args.act c.args.opening.now c.args.store.now c.mark-mark.new.self
           c.open_action.new.self c.match-open_action.board c.args.opening.now c.match-open_action.opening c.args.store.now c.match-open_action.store w.board-is w.opening-is w.store-is
-          (acted-late g.N.Network.net g.N.Undo.content g.N.Undo.past g.N.Undo.mark_room c.args.problem.machine.now c.args.problem.ask.now c.args.act c.args.opening.now c.args.store.now c.mark-mark.new.self c.open_action.new.self since
-          (act-late g.N.Network.net g.N.Undo.content g.N.Undo.past g.N.Undo.mark_room c.mark-mark.new.self c.args.problem.machine.now c.args.problem.ask.now c.args.first c.args.act c.args.opening.now c.args.store.now (laid g at)
+          (acted-late g.N.Network.net g.N.Undo.content g.N.Undo.past g.N.Undo.max_marks c.args.problem.machine.now c.args.problem.ask.now c.args.act c.args.opening.now c.args.store.now c.mark-mark.new.self c.open_action.new.self since
+          (act-late g.N.Network.net g.N.Undo.content g.N.Undo.past g.N.Undo.max_marks c.mark-mark.new.self c.args.problem.machine.now c.args.problem.ask.now c.args.first c.args.act c.args.opening.now c.args.store.now (laid g at)
           c.in-Some.before.state c.in-Some.before.room c.requires.opened.placed c.in-Some.ensures.some c.requires.fewer w.in-Err.ensures.late progress))
     ]
 
 pub returns-in_default-clause-progress : goal.returns-in_default-clause-progress
 returns-in_default-clause-progress g c =
     opening-next_act c.args.problem.machine.now c.args.board.now.plans c.args.problem.ask.now c.args.opening.now c.args.store.now c.args.act.0
-    (act-shut g.N.Network.net g.N.Undo.content g.N.Undo.past g.N.Undo.mark_room c.args.board.now c.args.problem.machine.now c.args.problem.ask.now c.args.first c.args.act
+    (act-shut g.N.Network.net g.N.Undo.content g.N.Undo.past g.N.Undo.max_marks c.args.board.now c.args.problem.machine.now c.args.problem.ask.now c.args.first c.args.act
     c.args.opening.now c.args.store.now c.requires.opened.laid c.in_default.ensures.none c.requires.progress)
 
 pub open_action-requires-clause-stands : goal.open_action-requires-clause-stands
@@ -60,7 +60,7 @@ open_action-requires-clause-stands g c = (laid g (goal.at.open_action-requires-c
 
 pub place_rest-requires-clause-laid : goal.place_rest-requires-clause-laid
 place_rest-requires-clause-laid g c =
-    laid-action g.N.Network.net g.N.Undo.content g.N.Undo.past g.N.Undo.mark_room c.mark-mark.new.self c.open_action.new.self c.args.problem.machine.now c.args.problem.ask.now c.args.opening.now.goal c.args.first c.in-Some.before.state
+    laid-action g.N.Network.net g.N.Undo.content g.N.Undo.past g.N.Undo.max_marks c.mark-mark.new.self c.open_action.new.self c.args.problem.machine.now c.args.problem.ask.now c.args.opening.now.goal c.args.first c.in-Some.before.state
     (choices_by c.args.problem.machine.now (choices_before c.args.store.now.entries c.args.opening.now.parent)) c.args.act c.in-Some.before.room (laid g (goal.at.place_rest-requires-clause-laid g c).After-mark-mark) c.requires.opened.placed
     c.in-Ok.ensures.suffix c.open_action.ensures.stands c.open_action.ensures.loaded c.in-Some.ensures.some c.requires.fewer
 
@@ -77,6 +77,6 @@ pub returns-clause-back : goal.returns-clause-back
 returns-clause-back g c =
     let keeps = c.marks_keep_boards.ensures in
     let u = c.undo_to.ensures in
-    taken-back g.N.Network.net g.N.Undo.content g.N.Undo.past g.N.Undo.aside g.N.Undo.mark_room keeps.mark keeps.back c.args.board.now c.mark-mark.new.self c.match-open_action.board c.undo_to.new.self
+    taken-back g.N.Network.net g.N.Undo.content g.N.Undo.past g.N.Undo.aside g.N.Undo.max_marks keeps.mark keeps.back c.args.board.now c.mark-mark.new.self c.match-open_action.board c.undo_to.new.self
     c.args.problem.machine.now c.mark-mark.result.0 (marked g (goal.at.returns-clause-back g c).After-mark-mark) (acted g c).since
     (record { content_then = u.content; past_less = u.past; aside_same = u.aside; room_same = u.room })

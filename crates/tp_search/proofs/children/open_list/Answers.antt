@@ -29,8 +29,8 @@ open_act-requires-clause-opened g c =
     let same = c.loop-at.invariant.same in
     let o = c.requires.opened in
     record {
-      laid = laid-same g.N.Network.net g.N.Undo.content g.N.Undo.past g.N.Undo.mark_room c.args.problem.machine.now c.args.problem.ask.now c.args.laid.first c.args.opening.now c.args.store.now c.loop-at.board c.loop-at.opening c.loop-at.store (λ cs. cs) same o.fresh
-          (laid-back g.N.Network.net g.N.Undo.content g.N.Undo.past g.N.Undo.mark_room c.args.board.now c.loop-at.board c.args.problem.machine.now c.args.problem.ask.now c.args.opening.now.goal c.args.laid.first (choices_by c.args.problem.machine.now (choices_before c.args.store.now.entries c.args.opening.now.parent)) c.loop-at.invariant.back o.laid);
+      laid = laid-same g.N.Network.net g.N.Undo.content g.N.Undo.past g.N.Undo.max_marks c.args.problem.machine.now c.args.problem.ask.now c.args.laid.first c.args.opening.now c.args.store.now c.loop-at.board c.loop-at.opening c.loop-at.store (λ cs. cs) same o.fresh
+          (laid-back g.N.Network.net g.N.Undo.content g.N.Undo.past g.N.Undo.max_marks c.args.board.now c.loop-at.board c.args.problem.machine.now c.args.problem.ask.now c.args.opening.now.goal c.args.laid.first (choices_by c.args.problem.machine.now (choices_before c.args.store.now.entries c.args.opening.now.parent)) c.loop-at.invariant.back o.laid);
       placed = subst (λ cs. IsPlaced c.args.problem.machine.now (choices_by c.args.problem.machine.now cs)) (sym (before-same c.args.problem.machine.now c.args.problem.ask.now c.args.opening.now c.loop-at.opening c.args.store.now c.loop-at.store same o.fresh)) o.placed;
       fresh = fresh-same c.args.problem.machine.now c.args.problem.ask.now c.args.opening.now c.loop-at.opening c.args.store.now c.loop-at.store same o.fresh;
       bounds = bounds-same c.args.problem.machine.now c.args.problem.ask.now c.args.opening.now c.loop-at.opening c.args.store.now c.loop-at.store same o.bounds;
@@ -38,7 +38,7 @@ open_act-requires-clause-opened g c =
 
 pub open_act-requires-clause-fewer : goal.open_act-requires-clause-fewer
 open_act-requires-clause-fewer g c =
-    let most = laid-at_most g.N.Network.net g.N.Undo.content g.N.Undo.past g.N.Undo.mark_room c.args.board.now c.args.problem.machine.now c.args.problem.ask.now c.args.opening.now.goal c.args.laid.first (choices_by c.args.problem.machine.now (choices_before c.args.store.now.entries c.args.opening.now.parent)) c.requires.opened.laid in
+    let most = laid-at_most g.N.Network.net g.N.Undo.content g.N.Undo.past g.N.Undo.max_marks c.args.board.now c.args.problem.machine.now c.args.problem.ask.now c.args.opening.now.goal c.args.laid.first (choices_by c.args.problem.machine.now (choices_before c.args.store.now.entries c.args.opening.now.parent)) c.requires.opened.laid in
     let same = ap (λ cs. length (choices_by c.args.problem.machine.now cs)) (before-same c.args.problem.machine.now c.args.problem.ask.now c.args.opening.now c.loop-at.opening c.args.store.now c.loop-at.store c.loop-at.invariant.same c.requires.opened.fresh) in
     omega arith
 
@@ -48,7 +48,7 @@ loop-at-preserved g c =
     record {
       progress = subst (λ ps. IsAtProgress c.args.problem.machine.now ps c.args.problem.ask.now c.open_act.new.opening c.open_act.new.store (up_to (c.loop-at.at + 1) [])) (sym act.back.loaded.plans) act.progress;
       same = same-trans c.args.opening.now c.loop-at.opening c.open_act.new.opening c.args.store.now c.loop-at.store c.open_act.new.store c.loop-at.invariant.same act.same;
-      back = back-trans g.N.Network.net g.N.Undo.content g.N.Undo.past g.N.Undo.mark_room c.args.board.now c.loop-at.board c.open_act.new.board c.args.problem.machine.now c.loop-at.invariant.back act.back;
+      back = back-trans g.N.Network.net g.N.Undo.content g.N.Undo.past g.N.Undo.max_marks c.args.board.now c.loop-at.board c.open_act.new.board c.args.problem.machine.now c.loop-at.invariant.back act.back;
     }
 
 pub returns-clause-progress : goal.returns-clause-progress

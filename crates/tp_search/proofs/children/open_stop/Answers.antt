@@ -26,26 +26,26 @@ abbrev stop_to : State → Stored
 stop_to goal = record { act = None; goal = goal; places = 0 ∷ 0 ∷ 0 ∷ 0 ∷ [] }
 
 -- the board was marked
-marked : (g : _) (c : After-mark-mark g) → IsMarked g.N.Network.net g.N.Undo.content g.N.Undo.past g.N.Undo.aside g.N.Undo.mark_room c.args.board.now c.mark-mark.new.self c.mark-mark.result.0
+marked : (g : _) (c : After-mark-mark g) → IsMarked g.N.Network.net g.N.Undo.content g.N.Undo.past g.N.Undo.aside g.N.Undo.max_marks c.args.board.now c.mark-mark.new.self c.mark-mark.result.0
 marked g c =
     let m = c.mark-mark.ensures in
     record { number = m.number; past_more = m.past; content_same = m.content; aside_same = m.aside; room_same = m.room }
 
 -- it carries the list as before, with the same plans
-laid : (g : _) (c : After-mark-mark g) → IsLaid g.N.Network.net g.N.Undo.content g.N.Undo.past g.N.Undo.mark_room c.mark-mark.new.self c.args.problem.machine.now c.args.problem.ask.now c.args.opening.now.goal c.args.laid.first
+laid : (g : _) (c : After-mark-mark g) → IsLaid g.N.Network.net g.N.Undo.content g.N.Undo.past g.N.Undo.max_marks c.mark-mark.new.self c.args.problem.machine.now c.args.problem.ask.now c.args.opening.now.goal c.args.laid.first
     (choices_by c.args.problem.machine.now (choices_before c.args.store.now.entries c.args.opening.now.parent))
 laid g c =
-    laid-marked g.N.Network.net g.N.Undo.content g.N.Undo.past g.N.Undo.aside g.N.Undo.mark_room c.marks_keep_boards.ensures.mark c.args.board.now c.mark-mark.new.self c.mark-mark.result.0 c.args.problem.machine.now c.args.problem.ask.now
+    laid-marked g.N.Network.net g.N.Undo.content g.N.Undo.past g.N.Undo.aside g.N.Undo.max_marks c.marks_keep_boards.ensures.mark c.args.board.now c.mark-mark.new.self c.mark-mark.result.0 c.args.problem.machine.now c.args.problem.ask.now
     c.args.opening.now.goal c.args.laid.first (choices_by c.args.problem.machine.now (choices_before c.args.store.now.entries c.args.opening.now.parent)) (marked g c) c.requires.opened.laid
 
 plans : (g : _) (c : After-mark-mark g) → c.args.board.now.plans ≡ c.mark-mark.new.self.plans
-plans g c = sym (load-of g.N.Network.net g.N.Undo.content g.N.Undo.past g.N.Undo.aside g.N.Undo.mark_room c.args.board.now c.mark-mark.new.self (marked g c).aside_same).plans
+plans g c = sym (load-of g.N.Network.net g.N.Undo.content g.N.Undo.past g.N.Undo.aside g.N.Undo.max_marks c.args.board.now c.mark-mark.new.self (marked g c).aside_same).plans
 
 progress : (g : _) (c : After-mark-mark g) → IsAtProgress c.args.problem.machine.now c.mark-mark.new.self.plans c.args.problem.ask.now c.args.opening.now c.args.store.now nothing
 progress g c = subst (λ ps. IsAtProgress c.args.problem.machine.now ps c.args.problem.ask.now c.args.opening.now c.args.store.now nothing) (plans g c) c.requires.progress
 
 -- where the list was stopped, it is looked at with its bound
-looked : (g : _) (c : After-stop g) → IsLaid g.N.Network.net g.N.Undo.content g.N.Undo.past g.N.Undo.mark_room c.mark-mark.new.self c.args.problem.machine.now c.args.problem.ask.now c.args.opening.now.goal c.args.laid.first
+looked : (g : _) (c : After-stop g) → IsLaid g.N.Network.net g.N.Undo.content g.N.Undo.past g.N.Undo.max_marks c.mark-mark.new.self c.args.problem.machine.now c.args.problem.ask.now c.args.opening.now.goal c.args.laid.first
     (choices_by c.args.problem.machine.now (choices_before c.args.store.now.entries c.args.opening.now.parent))
     → IsAtProgress c.args.problem.machine.now c.mark-mark.new.self.plans c.args.problem.ask.now c.args.opening.now c.args.store.now nothing
     → IsSomeAnd (suffix_of c.mark-mark.new.self) (λ x. suffix_of c.stop.new.self ≡ Some (with_stop x)) → (tick : ℕ)
@@ -56,9 +56,9 @@ looked : (g : _) (c : After-stop g) → IsLaid g.N.Network.net g.N.Undo.content 
 looked g c carries before put tick least =
     let at : c.in-Front.state ≡ c.args.laid.first = c.is_at.ensures.0 c.if-not-is_at.false in
     let some : 0 < length (choices_by c.args.problem.machine.now (choices_before c.args.store.now.entries c.args.opening.now.parent)) = omega arith in
-    stop-looked g.N.Network.net g.N.Undo.content g.N.Undo.past g.N.Undo.mark_room c.args.problem.machine.now c.args.problem.ask.now c.args.laid.first c.args.opening.now c.args.store.now c.in-Front.state c.in-Front.end c.in-Front.kept c.in-Front.is
+    stop-looked g.N.Network.net g.N.Undo.content g.N.Undo.past g.N.Undo.max_marks c.args.problem.machine.now c.args.problem.ask.now c.args.laid.first c.args.opening.now c.args.store.now c.in-Front.state c.in-Front.end c.in-Front.kept c.in-Front.is
     c.mark-mark.new.self carries at some (stop_to c.args.opening.now.goal) tick
-    (stopped-bound g.N.Network.net g.N.Undo.content g.N.Undo.past g.N.Undo.mark_room c.args.problem.machine.now c.args.problem.ask.now c.args.laid.first c.args.opening.now c.args.store.now c.in-Front.state c.in-Front.end c.in-Front.kept c.in-Front.is
+    (stopped-bound g.N.Network.net g.N.Undo.content g.N.Undo.past g.N.Undo.max_marks c.args.problem.machine.now c.args.problem.ask.now c.args.laid.first c.args.opening.now c.args.store.now c.in-Front.state c.in-Front.end c.in-Front.kept c.in-Front.is
     c.mark-mark.new.self carries at some c.stop.new.self tick c.requires.opened.placed put c.stop.ensures.loaded (least c.args.problem.machine.now (c.stop.ensures.stands c.args.problem.machine.now carries.stands)))
     refl refl c.requires.opened.fresh c.requires.opened.bounds before
 
@@ -71,7 +71,7 @@ returns-then-count-eq0-clause-progress g c = elim c.then-count-eq0.branch [
       empty-going c.args.problem.machine.now c.args.board.now.plans c.args.problem.ask.now c.args.opening.now c.args.store.now c.in-Front.state c.in-Front.end c.in-Front.kept c.in-Front.is
       (omega arith) c.requires.progress
   | then-count-eq0-via-else-count-eq0+then-not-is_at w ↦
-      other-going g.N.Network.net g.N.Undo.content g.N.Undo.past g.N.Undo.mark_room c.args.problem.machine.now c.args.problem.ask.now c.args.laid.first c.args.opening.now c.args.store.now
+      other-going g.N.Network.net g.N.Undo.content g.N.Undo.past g.N.Undo.max_marks c.args.problem.machine.now c.args.problem.ask.now c.args.laid.first c.args.opening.now c.args.store.now
       c.in-Front.state c.in-Front.end c.in-Front.kept c.in-Front.is c.args.board.now c.requires.opened.laid
       (λ same. both_ways w.is_at.result w.if-not-is_at.true (w.is_at.ensures.1 same)) c.requires.progress
 ]
@@ -101,7 +101,7 @@ returns-clause-progress g c =
       | in-Err w ↦
           subst (λ s. IsAtProgress c.args.problem.machine.now c.mark-mark.new.self.plans c.args.problem.ask.now c.match-stop.opening s (up_to 0 [])) (sym w.store-is)
           (subst (λ o. IsAtProgress c.args.problem.machine.now c.mark-mark.new.self.plans c.args.problem.ask.now o c.args.store.now (up_to 0 [])) (sym w.opening-is)
-          (late-going g.N.Network.net g.N.Undo.content g.N.Undo.past g.N.Undo.mark_room c.args.problem.machine.now c.args.problem.ask.now c.args.laid.first c.args.opening.now c.args.store.now
+          (late-going g.N.Network.net g.N.Undo.content g.N.Undo.past g.N.Undo.max_marks c.args.problem.machine.now c.args.problem.ask.now c.args.laid.first c.args.opening.now c.args.store.now
           c.in-Front.state c.in-Front.end c.in-Front.kept c.in-Front.is c.mark-mark.new.self carries
           (w.in-Err.ensures.late c.args.problem.machine.now carries.stands) before))
     ] in
@@ -122,7 +122,7 @@ returns-clause-back g c =
     let keeps = c.marks_keep_boards.ensures in
     let p = c.stop.ensures in
     let u = c.undo_to.ensures in
-    taken-back g.N.Network.net g.N.Undo.content g.N.Undo.past g.N.Undo.aside g.N.Undo.mark_room keeps.mark keeps.back c.args.board.now c.mark-mark.new.self c.stop.new.self c.undo_to.new.self c.args.problem.machine.now
+    taken-back g.N.Network.net g.N.Undo.content g.N.Undo.past g.N.Undo.aside g.N.Undo.max_marks keeps.mark keeps.back c.args.board.now c.mark-mark.new.self c.stop.new.self c.undo_to.new.self c.args.problem.machine.now
     c.mark-mark.result.0 (marked g (goal.at.returns-clause-back g c).After-mark-mark)
-    (since-step g.N.Network.net g.N.Undo.content g.N.Undo.past g.N.Undo.mark_room c.mark-mark.new.self c.stop.new.self c.args.problem.machine.now p.past p.loaded p.marks (λ s. p.stands c.args.problem.machine.now s))
+    (since-step g.N.Network.net g.N.Undo.content g.N.Undo.past g.N.Undo.max_marks c.mark-mark.new.self c.stop.new.self c.args.problem.machine.now p.past p.loaded p.marks (λ s. p.stands c.args.problem.machine.now s))
     (record { content_then = u.content; past_less = u.past; aside_same = u.aside; room_same = u.room })

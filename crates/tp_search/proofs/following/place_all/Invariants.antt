@@ -9,5 +9,5 @@ abbrev pub invariant-holds : goal.invariant-holds
 invariant-holds g l = record {
   stands : Stands g.N.Network.net g.N.Undo.content g.N.Undo.past l.board l.machine;
   suffix : IsSomeAnd (suffix_of l.fn.board) (λ x. suffix_of l.board ≡ Some (with_places (take l.hold l.places) x));
-  same : IsSameButSteps g.N.Undo.past g.N.Undo.mark_room l.fn.board l.board;
+  same : IsSameButSteps g.N.Undo.past g.N.Undo.max_marks l.fn.board l.board;
 }

@@ -27,8 +27,8 @@ returns-clause-bound g c =
     let m = c.mark-mark.ensures in
     let p = c.open_goal.ensures in
     let stands = c.marks_keep_boards.ensures.mark c.args.board.now c.mark-mark.new.self c.args.problem.machine.now m.content m.aside m.past c.requires.ready.stands in
-    let marked : IsSameLoad c.args.board.now c.mark-mark.new.self = load-of g.N.Network.net g.N.Undo.content g.N.Undo.past g.N.Undo.aside g.N.Undo.mark_room c.args.board.now c.mark-mark.new.self m.aside in
-    let load = load-trans g.N.Network.net g.N.Undo.content g.N.Undo.past g.N.Undo.mark_room c.args.board.now c.mark-mark.new.self c.open_goal.new.self marked p.loaded in
+    let marked : IsSameLoad c.args.board.now c.mark-mark.new.self = load-of g.N.Network.net g.N.Undo.content g.N.Undo.past g.N.Undo.aside g.N.Undo.max_marks c.args.board.now c.mark-mark.new.self m.aside in
+    let load = load-trans g.N.Network.net g.N.Undo.content g.N.Undo.past g.N.Undo.max_marks c.args.board.now c.mark-mark.new.self c.open_goal.new.self marked p.loaded in
     let at = c.in-Some.ensures.some in
     elim c.match-open_goal.branch [
       | in-Ok w ↦ subst (λ o. IfSome o (λ x. IsBound c.args.problem.machine.now c.args.board.now.plans c.args.problem.ask.now (list_of_goal x) x.bound)) (sym w.opened-is)
@@ -40,7 +40,7 @@ pub returns-clause-none : goal.returns-clause-none
 returns-clause-none g c =
     let m = c.mark-mark.ensures in
     let stands = c.marks_keep_boards.ensures.mark c.args.board.now c.mark-mark.new.self c.args.problem.machine.now m.content m.aside m.past c.requires.ready.stands in
-    let marked : IsSameLoad c.args.board.now c.mark-mark.new.self = load-of g.N.Network.net g.N.Undo.content g.N.Undo.past g.N.Undo.aside g.N.Undo.mark_room c.args.board.now c.mark-mark.new.self m.aside in
+    let marked : IsSameLoad c.args.board.now c.mark-mark.new.self = load-of g.N.Network.net g.N.Undo.content g.N.Undo.past g.N.Undo.aside g.N.Undo.max_marks c.args.board.now c.mark-mark.new.self m.aside in
     let at = c.in-Some.ensures.some in
     elim c.match-open_goal.branch [
       | in-Ok w ↦ subst (λ o. IfNone o (¬ IsOpen c.args.problem.machine.now c.args.board.now.plans c.args.problem.ask.now (going (state_at c.args.number) []))) (sym w.opened-is) tt
@@ -53,9 +53,9 @@ pub returns-clause-back : goal.returns-clause-back
 returns-clause-back g c =
     let m = c.mark-mark.ensures in
     let keeps = c.marks_keep_boards.ensures in
-    let marked : IsMarked g.N.Network.net g.N.Undo.content g.N.Undo.past g.N.Undo.aside g.N.Undo.mark_room c.args.board.now c.mark-mark.new.self c.mark-mark.result.0 = record { number = m.number; past_more = m.past; content_same = m.content; aside_same = m.aside; room_same = m.room } in
+    let marked : IsMarked g.N.Network.net g.N.Undo.content g.N.Undo.past g.N.Undo.aside g.N.Undo.max_marks c.args.board.now c.mark-mark.new.self c.mark-mark.result.0 = record { number = m.number; past_more = m.past; content_same = m.content; aside_same = m.aside; room_same = m.room } in
     let p = c.open_goal.ensures in
     let u = c.undo_to.ensures in
-    taken-back g.N.Network.net g.N.Undo.content g.N.Undo.past g.N.Undo.aside g.N.Undo.mark_room keeps.mark keeps.back c.args.board.now c.mark-mark.new.self c.open_goal.new.self c.undo_to.new.self c.args.problem.machine.now c.mark-mark.result.0 marked
-    (since-step g.N.Network.net g.N.Undo.content g.N.Undo.past g.N.Undo.mark_room c.mark-mark.new.self c.open_goal.new.self c.args.problem.machine.now p.past p.loaded p.marks (λ s. p.stands c.args.problem.machine.now s))
+    taken-back g.N.Network.net g.N.Undo.content g.N.Undo.past g.N.Undo.aside g.N.Undo.max_marks keeps.mark keeps.back c.args.board.now c.mark-mark.new.self c.open_goal.new.self c.undo_to.new.self c.args.problem.machine.now c.mark-mark.result.0 marked
+    (since-step g.N.Network.net g.N.Undo.content g.N.Undo.past g.N.Undo.max_marks c.mark-mark.new.self c.open_goal.new.self c.args.problem.machine.now p.past p.loaded p.marks (λ s. p.stands c.args.problem.machine.now s))
     (record { content_then = u.content; past_less = u.past; aside_same = u.aside; room_same = u.room })

@@ -70,7 +70,7 @@ module _ (g : _) (k : After-deref-5 g) where
   edges-are : all_edges k.args.machine.now k.deref-5.result.now k.put_plans.new.lines.orders k.deref-4.result.now ≡ edges
   edges-are = λ i. all_edges k.args.machine.now ((k.deref-5.ensures.value ∙ k.keep_live.ensures.plans) i) k.put_plans.new.lines.orders (k.deref-4.ensures.value i)
 
-  enough : most_edges ≤ g.N.Network.edge_room k.add_points-points.new.net
+  enough : most_edges ≤ g.N.Network.max_edges k.add_points-points.new.net
   enough = let a = k.self.invariant.room.edges in let b = k.clear.ensures.edges in let d = k.add_points-points.ensures.edges in omega arith
 
   few-edges : length edges ≤ loaded_edges
@@ -110,8 +110,8 @@ pub load-requires-clause-spare : goal.load-requires-clause-spare
 load-requires-clause-spare g c =
     let k = (goal.at.load-requires-clause-spare g c).After-deref-5 in
     let is = made _ _ _ _ c.deref-6.ensures.value c.add_edges.ensures.added c.clear-6.ensures.items ∙ edges-are g k in
-    subst (λ es. length (net g k).edges + length es ≤ g.N.Network.edge_room k.add_points-points.new.net) (sym is)
-    (edges-fit k.args.machine.now k.args.now (live g k) k.requires.can (net g k) (net-is g k) k.put_plans.new.lines k.put_plans.new.held.items (put g k) k.clear-2.new.self k.clear-2.ensures.plain (based g k) (g.N.Network.edge_room k.add_points-points.new.net) (enough g k))
+    subst (λ es. length (net g k).edges + length es ≤ g.N.Network.max_edges k.add_points-points.new.net) (sym is)
+    (edges-fit k.args.machine.now k.args.now (live g k) k.requires.can (net g k) (net-is g k) k.put_plans.new.lines k.put_plans.new.held.items (put g k) k.clear-2.new.self k.clear-2.ensures.plain (based g k) (g.N.Network.max_edges k.add_points-points.new.net) (enough g k))
 
 pub load-requires-clause-solution : goal.load-requires-clause-solution
 load-requires-clause-solution g c =

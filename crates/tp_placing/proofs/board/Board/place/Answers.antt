@@ -222,7 +222,7 @@ require_all-requires-clause-spare g k =
     let e = ap length (edges-made g c k.in-Some.act k.get-2.result.now r k.deref.result.now k.neighbours_of-neighbours.result.before k.neighbours_of-neighbours.result.behind k.step_tag-tag.result k.len-2.result k.gap_at-gap.result k.neighbour_edges.new.edges.items k.deref-2.result.now
     k.deref.ensures.value k.neighbours_of-neighbours.ensures.before k.neighbours_of-neighbours.ensures.behind k.step_tag-tag.ensures (k.len-2.ensures ∙ c.self.inside.steps.ok.0) k.gap_at-gap.ensures.gap k.neighbour_edges.ensures.edges k.deref-2.ensures.value) in
     let few = two g c k.in-Some.act k.get-2.result.now r in
-    let room = edge-room a.steps.items (length (g.N.Network.net a.net).edges) (g.N.Network.edge_room a.net) k.self.invariant.room.steps_few (newest-here g c).at.few_edges k.self.invariant.room.edges in
+    let room = edge-room a.steps.items (length (g.N.Network.net a.net).edges) (g.N.Network.max_edges a.net) k.self.invariant.room.steps_few (newest-here g c).at.few_edges k.self.invariant.room.edges in
     omega arith
 
 pub returns-in-Err-clause-late : goal.returns-in-Err-clause-late

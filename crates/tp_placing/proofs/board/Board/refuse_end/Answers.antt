@@ -9,7 +9,7 @@ use Rattle.tp_placing.proofs.board.Board.refuse_end.Goals as goal
 pub refuse_by-limit-requires-clause-room : goal.refuse_by-limit-requires-clause-room
 refuse_by-limit-requires-clause-room g c =
     let h = refuses-here g.N.Network.net g.N.Undo.content g.N.Undo.past _ c.args.last (rw (← c.self.view_is) at c.requires.below) (rw (← c.self.view_is) at c.requires.open) in
-    point-room g.N.Network.net g.N.Undo.content g.N.Undo.past _ c.args.last h (g.N.Network.point_room c.self.inside.net) c.self.invariant.room.points
+    point-room g.N.Network.net g.N.Undo.content g.N.Undo.past _ c.args.last h (g.N.Network.max_points c.self.inside.net) c.self.invariant.room.points
 
 pub refuse_by-limit-requires-clause-known : goal.refuse_by-limit-requires-clause-known
 refuse_by-limit-requires-clause-known g c =

@@ -85,7 +85,7 @@ pub require-requires-clause-spare : goal.require-requires-clause-spare
 require-requires-clause-spare g c =
     let a = c.self.inside in
     let r = c.self.invariant.room in
-    let room = edge-room a.steps.items (length (g.N.Network.net a.net).edges) (g.N.Network.edge_room a.net) r.steps_few (known g c).at.few_edges r.edges in
+    let room = edge-room a.steps.items (length (g.N.Network.net a.net).edges) (g.N.Network.max_edges a.net) r.steps_few (known g c).at.few_edges r.edges in
     omega arith
 
 pub returns-in-Err-clause-late : goal.returns-in-Err-clause-late

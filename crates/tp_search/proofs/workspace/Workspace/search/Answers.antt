@@ -31,7 +31,7 @@ search-requires-clause-posed g c = record {
 
 pub search-requires-clause-ready : goal.search-requires-clause-ready
 search-requires-clause-ready g c =
-    ready-back g.N.Network.net g.N.Undo.content g.N.Undo.past g.N.Undo.mark_room c.args.board.now c.find_goals.new.board c.args.machine.now c.args.ask.now c.find_goals.ensures.back
+    ready-back g.N.Network.net g.N.Undo.content g.N.Undo.past g.N.Undo.max_marks c.args.board.now c.find_goals.new.board c.args.machine.now c.args.ask.now c.find_goals.ensures.back
     (record { stands = c.requires.stands; asked = c.requires.asked; closed = ap suffix_after c.requires.closed })
 
 pub search-requires-clause-searching : goal.search-requires-clause-searching
@@ -47,5 +47,5 @@ search-requires-clause-searching g c =
 pub returns-clause-outcome : goal.returns-clause-outcome
 returns-clause-outcome g c =
     let nodes = ap (λ (s : StoreValue). s.room) c.clear.ensures ∙ ap (λ (w : WorkspaceValue). w.nodes) c.self.view_is in
-    subst (λ n. IsOutcome g.N.Network.net g.N.Undo.content g.N.Undo.past g.N.Undo.mark_room c.args.board.now c.search.new.board c.args.machine.now c.args.ask.now n c.search.result) nodes
-    (outcome-back g.N.Network.net g.N.Undo.content g.N.Undo.past g.N.Undo.mark_room c.args.board.now c.find_goals.new.board c.search.new.board c.args.machine.now c.args.ask.now c.clear.new.self.room c.search.result c.find_goals.ensures.back c.search.ensures.outcome)
+    subst (λ n. IsOutcome g.N.Network.net g.N.Undo.content g.N.Undo.past g.N.Undo.max_marks c.args.board.now c.search.new.board c.args.machine.now c.args.ask.now n c.search.result) nodes
+    (outcome-back g.N.Network.net g.N.Undo.content g.N.Undo.past g.N.Undo.max_marks c.args.board.now c.find_goals.new.board c.search.new.board c.args.machine.now c.args.ask.now c.clear.new.self.room c.search.result c.find_goals.ensures.back c.search.ensures.outcome)

@@ -35,8 +35,8 @@ past_is c =
     ap (λ ls. past_of a.marks.items a.saved.items ls c.push_reserved-2.new.self.items c.extend_from_slice.new.self.items) c.push_reserved.ensures.items
     ∙ ap (λ cs. past_of a.marks.items a.saved.items lows cs c.extend_from_slice.new.self.items) c.push_reserved-2.ensures.items
     ∙ ap (past_of a.marks.items a.saved.items lows caps) c.in-Ok.ensures.items
-    ∙ past_edge a.marks.items a.saved.items lows caps a.edges.items a.point_room (stacked_grown a.marks.items _ _ _ _ _ _ _ (omega arith) (omega arith) (omega arith) inv.stacked) c.args.edges.now
-    ∙ past_point a.marks.items a.saved.items a.lows.items a.caps.items a.edges.items a.point_room inv.stacked c.args.low c.args.cap inv.sound.caps
+    ∙ past_edge a.marks.items a.saved.items lows caps a.edges.items a.max_points (stacked_grown a.marks.items _ _ _ _ _ _ _ (omega arith) (omega arith) (omega arith) inv.stacked) c.args.edges.now
+    ∙ past_point a.marks.items a.saved.items a.lows.items a.caps.items a.edges.items a.max_points inv.stacked c.args.low c.args.cap inv.sound.caps
 
 pub invariant_of-self-in-Ok-solve : goal.invariant_of-self-in-Ok-solve
 invariant_of-self-in-Ok-solve c =
@@ -51,8 +51,8 @@ invariant_of-self-in-Ok-solve c =
     let f = c.if-low-cap.false in
     let v1 = ap (λ (s : PlainState). length s.net.lows) c.self.view_is in
     let v2 = ap (λ (s : PlainState). length s.net.edges) c.self.view_is in
-    let v3 = ap (λ (s : PlainState). s.point_room) c.self.view_is in
-    let v4 = ap (λ (s : PlainState). s.edge_room) c.self.view_is in
+    let v3 = ap (λ (s : PlainState). s.max_points) c.self.view_is in
+    let v4 = ap (λ (s : PlainState). s.max_edges) c.self.view_is in
     let q1 = c.requires.room in
     let q2 = c.requires.spare in
     let x = c.swap.ensures.x_after in
@@ -68,7 +68,7 @@ invariant_of-self-in-Ok-solve c =
     let k2 = c.push_reserved-2.ensures.capacity in
     let k3 = c.push_reserved-3.ensures.capacity in
     let k4 = c.in-Ok.ensures.capacity in
-    let w = c.in-Ok-solve.ensures.room a.point_room inv.room.working in
+    let w = c.in-Ok-solve.ensures.room a.max_points inv.room.working in
     let wt = w.times in
     let m = inv.sound.caps in
     let least = rw (c.deref.ensures.value, c.deref-2.ensures.value, c.deref-3.ensures.value) at c.in-Ok-solve.ensures.least in
@@ -130,7 +130,7 @@ invariant_of-self-in-Err c =
     let t2 = c.truncate-in-Err.ensures.capacity in
     let t3 = c.truncate-in-Err-2.ensures.capacity in
     let t4 = c.truncate-in-Err-3.ensures.capacity in
-    let w = c.in-Err.ensures.room a.point_room inv.room.working in
+    let w = c.in-Err.ensures.room a.max_points inv.room.working in
     let wp = w.path in
     let xc = ap (λ v. vec_capacity v) c.swap-in-Err.ensures.x_after in
     let yc = ap (λ v. vec_capacity v) c.swap-in-Err.ensures.y_after in

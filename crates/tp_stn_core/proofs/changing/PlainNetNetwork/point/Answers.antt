@@ -29,7 +29,7 @@ returns-clause-past c =
     let inv = c.self.invariant in
     ap (λ ls. past_of a.marks.items a.saved.items ls c.push_reserved-2.new.self.items a.edges.items) c.push_reserved.ensures.items
     ∙ ap (λ cs. past_of a.marks.items a.saved.items (a.lows.items ++ c.args.low ∷ []) cs a.edges.items) c.push_reserved-2.ensures.items
-    ∙ past_point a.marks.items a.saved.items a.lows.items a.caps.items a.edges.items a.point_room inv.stacked c.args.low c.args.cap inv.sound.caps
+    ∙ past_point a.marks.items a.saved.items a.lows.items a.caps.items a.edges.items a.max_points inv.stacked c.args.low c.args.cap inv.sound.caps
     ∙ ap (λ (s : PlainState). s.past) c.self.view_is
 
 pub invariant_of-self : goal.invariant_of-self
@@ -83,5 +83,5 @@ invariant_of-self c =
       least = solved c;
       past = subst (All IsSound) (sym (ap (λ ls. past_of a.marks.items a.saved.items ls c.push_reserved-2.new.self.items a.edges.items) el
           ∙ ap (λ cs. past_of a.marks.items a.saved.items (a.lows.items ++ c.args.low ∷ []) cs a.edges.items) ec
-          ∙ past_point a.marks.items a.saved.items a.lows.items a.caps.items a.edges.items a.point_room inv.stacked c.args.low c.args.cap n)) inv.past;
+          ∙ past_point a.marks.items a.saved.items a.lows.items a.caps.items a.edges.items a.max_points inv.stacked c.args.low c.args.cap n)) inv.past;
     }

@@ -31,7 +31,7 @@ past_is c =
     let a = c.self.inside in
     let inv = c.self.invariant in
     ap (λ ss. past_of a.marks.items ss (set a.lows.items c.args.point.0 c.args.low) a.caps.items a.edges.items) (saved_is c)
-    ∙ past_raised a.marks.items a.saved.items a.lows.items a.caps.items a.edges.items a.point_room inv.stacked a.newest.items c.args.point c.args.low c.index-old.result.now c.index-old.result.now inv.links (in_lows c) c.index-old.ensures
+    ∙ past_raised a.marks.items a.saved.items a.lows.items a.caps.items a.edges.items a.max_points inv.stacked a.newest.items c.args.point c.args.low c.index-old.result.now c.index-old.result.now inv.links (in_lows c) c.index-old.ensures
 
 pub returns-then-low-index-clause-refused : goal.returns-then-low-index-clause-refused
 returns-then-low-index-clause-refused c =
@@ -52,9 +52,9 @@ save-requires-clause-room c h =
     let v = ap (λ (s : PlainState). length s.net.lows) c.self.view_is in
     let k = c.requires.known in
     let due = rw (c.deref-in-Ok.ensures.value, c.deref_mut.ensures.value) at h in
-    let below = has_room a.marks.items a.saved.items a.newest.items (length a.lows.items) (length a.edges.items) a.point_room c.args.point c.index-old.result.now inv.stacked inv.links (omega arith) inv.points due in
+    let below = has_room a.marks.items a.saved.items a.newest.items (length a.lows.items) (length a.edges.items) a.max_points c.args.point c.index-old.result.now inv.stacked inv.links (omega arith) inv.points due in
     let r = inv.room.saved in
-    let m = mul-le-mul_left a.point_room inv.marks in
+    let m = mul-le-mul_left a.max_points inv.marks in
     omega arith
 
 pub invariant_of-self-in-Ok : goal.invariant_of-self-in-Ok
@@ -72,10 +72,10 @@ invariant_of-self-in-Ok c =
     let yc = ap (λ v. vec_capacity v) c.swap.ensures.y_after in
     let p = inv.points in
     let r0 = inv.room in
-    let w = c.in-Ok.ensures.room a.point_room inv.room.working in
+    let w = c.in-Ok.ensures.room a.max_points inv.room.working in
     let wt = w.times in
     let sc = c.save.ensures.capacity in
-    let long = length_raised a.marks.items a.saved.items a.newest.items (length a.lows.items) (length a.edges.items) a.point_room c.args.point c.index-old.result.now inv.stacked inv.links known inv.points inv.saved in
+    let long = length_raised a.marks.items a.saved.items a.newest.items (length a.lows.items) (length a.edges.items) a.max_points c.args.point c.index-old.result.now inv.stacked inv.links known inv.points inv.saved in
     let saved_len = ap length (saved_is c) in
     let long_0 = long.0 in
     let long_1 = long.1 in
@@ -97,7 +97,7 @@ invariant_of-self-in-Ok c =
         marks = inv.room.marks;
       };
       stacked = stacked_grown a.marks.items _ _ _ _ _ _ _ (omega arith) (omega arith) (omega arith) inv.stacked;
-      links = same_saved _ _ _ _ _ _ _ _ refl (saved_is c) (items ∙ newest_is c) n (saved_raised a.marks.items a.saved.items a.newest.items (length a.lows.items) (length a.edges.items) a.point_room c.args.point c.index-old.result.now inv.stacked inv.links known inv.points);
+      links = same_saved _ _ _ _ _ _ _ _ refl (saved_is c) (items ∙ newest_is c) n (saved_raised a.marks.items a.saved.items a.newest.items (length a.lows.items) (length a.edges.items) a.max_points c.args.point c.index-old.result.now inv.stacked inv.links known inv.points);
       sound = record {
         caps = inv.sound.caps ∙ sym n;
         within = raised_within a.lows.items a.caps.items c.args.point.0 c.args.low known at_most inv.sound.within;
@@ -138,7 +138,7 @@ invariant_of-self-in-Err c =
     let e : set (set a.lows.items c.args.point.0 c.args.low) c.args.point.0 c.index-old.result.now ≡ a.lows.items =
     set-set a.lows.items c.args.point.0 c.args.low c.index-old.result.now ∙ ap (set a.lows.items c.args.point.0) c.index-old.ensures ∙ set-get_or a.lows.items c.args.point.0 c.index-old.result.now in
     let r4 = inv.room.path in
-    let w = c.in-Err.ensures.room a.point_room inv.room.working in
+    let w = c.in-Err.ensures.room a.max_points inv.room.working in
     let wp = w.path in
     let xc = ap (λ v. vec_capacity v) c.swap-in-Err.ensures.x_after in
     let yc = ap (λ v. vec_capacity v) c.swap-in-Err.ensures.y_after in

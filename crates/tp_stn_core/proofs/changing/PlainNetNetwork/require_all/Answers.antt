@@ -28,7 +28,7 @@ invariant_of-self k =
     let e : k.extend_from_slice.new.self.items ≡ a.edges.items ++ k.args.edges.now = k.in-Ok.ensures.items in
     let n = ap length e ∙ length-append a.edges.items k.args.edges.now in
     let v = ap (λ (s : PlainState). length s.net.edges) k.self.view_is in
-    let r = ap (λ (s : PlainState). s.edge_room) k.self.view_is in
+    let r = ap (λ (s : PlainState). s.max_edges) k.self.view_is in
     let q = k.requires.spare in
     let x = k.swap.ensures.x_after in
     let xc = ap (λ v. vec_capacity v) x in
@@ -36,7 +36,7 @@ invariant_of-self k =
     let r1 = inv.room.times in
     let r5 = inv.room.edges in
     let s4 = k.in-Ok.ensures.capacity in
-    let w = k.in-Ok-solve.ensures.room a.point_room inv.room.working in
+    let w = k.in-Ok-solve.ensures.room a.max_points inv.room.working in
     let wt = w.times in
     let least = rw (k.deref.ensures.value, k.deref-2.ensures.value, k.deref-3.ensures.value) at k.in-Ok-solve.ensures.least in
     record {
@@ -65,13 +65,13 @@ invariant_of-self k =
       };
       times = ap (λ v. length v.items) x ∙ k.in-Ok-solve.ensures.len ∙ ap length k.deref.ensures.value;
       least = rw x least;
-      past = subst (All IsSound) (sym (ap (past_of a.marks.items a.saved.items a.lows.items a.caps.items) e ∙ past_edge a.marks.items a.saved.items a.lows.items a.caps.items a.edges.items a.point_room inv.stacked k.args.edges.now)) inv.past;
+      past = subst (All IsSound) (sym (ap (past_of a.marks.items a.saved.items a.lows.items a.caps.items) e ∙ past_edge a.marks.items a.saved.items a.lows.items a.caps.items a.edges.items a.max_points inv.stacked k.args.edges.now)) inv.past;
     }
 
 pub returns-in-Ok-solve-clause-past : goal.returns-in-Ok-solve-clause-past
 returns-in-Ok-solve-clause-past c =
     let a = c.self.inside in
-    ap (past_of a.marks.items a.saved.items a.lows.items a.caps.items) c.in-Ok.ensures.items ∙ past_edge a.marks.items a.saved.items a.lows.items a.caps.items a.edges.items a.point_room c.self.invariant.stacked c.args.edges.now ∙ ap (λ (s : PlainState). s.past) c.self.view_is
+    ap (past_of a.marks.items a.saved.items a.lows.items a.caps.items) c.in-Ok.ensures.items ∙ past_edge a.marks.items a.saved.items a.lows.items a.caps.items a.edges.items a.max_points c.self.invariant.stacked c.args.edges.now ∙ ap (λ (s : PlainState). s.past) c.self.view_is
 
 pub returns-in-Err-clause-late : goal.returns-in-Err-clause-late
 returns-in-Err-clause-late c =
@@ -91,7 +91,7 @@ invariant_of-self-in-Err c =
     let r5 = inv.room.edges in
     let s4 = c.in-Ok.ensures.capacity in
     let s5 = c.truncate.ensures.capacity in
-    let w = c.in-Err.ensures.room a.point_room inv.room.working in
+    let w = c.in-Err.ensures.room a.max_points inv.room.working in
     let wp = w.path in
     let xc = ap (λ v. vec_capacity v) c.swap-in-Err.ensures.x_after in
     let yc = ap (λ v. vec_capacity v) c.swap-in-Err.ensures.y_after in

@@ -19,9 +19,9 @@ invariant_of-self c =
     let n = ap length e ∙ length-append a.marks.items (m ∷ []) in
     let q = c.requires in
     let v1 = ap (λ (s : PlainState). length s.past) c.self.view_is in
-    let v2 = ap (λ (s : PlainState). s.mark_room) c.self.view_is in
+    let v2 = ap (λ (s : PlainState). s.max_marks) c.self.view_is in
     let v3 = length-map a.marks.items (net_at a.saved.items a.lows.items a.caps.items a.edges.items) in
-    let p : length c.push_reserved.new.self.items * a.point_room ≡ (length a.marks.items + 1) * a.point_room = ap (λ k. k * a.point_room) n in
+    let p : length c.push_reserved.new.self.items * a.max_points ≡ (length a.marks.items + 1) * a.max_points = ap (λ k. k * a.max_points) n in
     let s1 = inv.saved in
     let s3 = inv.marks in
     let r2 = inv.room.marks in
@@ -45,10 +45,10 @@ invariant_of-self c =
         newest = inv.room.newest;
         marks = omega arith;
       };
-      stacked = rw e (stacked_marked a.marks.items (length a.lows.items) (length a.edges.items) (length a.saved.items) a.point_room m mp me ms inv.stacked inv.saved);
+      stacked = rw e (stacked_marked a.marks.items (length a.lows.items) (length a.edges.items) (length a.saved.items) a.max_points m mp me ms inv.stacked inv.saved);
       links = rw e (saved_marked a.marks.items a.saved.items a.newest.items (length a.lows.items) m mp ms inv.links);
       sound = inv.sound;
       times = inv.times;
       least = inv.least;
-      past = rw (e, past_marked a.marks.items a.saved.items a.lows.items a.caps.items a.edges.items a.point_room inv.stacked m mp me ms inv.sound.caps) (All-push IsSound _ _ inv.past inv.sound);
+      past = rw (e, past_marked a.marks.items a.saved.items a.lows.items a.caps.items a.edges.items a.max_points inv.stacked m mp me ms inv.sound.caps) (All-push IsSound _ _ inv.past inv.sound);
     }

@@ -30,7 +30,7 @@ went : (c : After-restore) → Undone c.self.inside.marks.items c.self.inside.sa
 went c =
     let a = c.self.inside in
     let inv = c.self.invariant in
-    undone a.marks.items a.saved.items a.lows.items a.caps.items a.edges.items a.point_room c.args.mark.0 c.index.result.now _ _ _ _ (at c) c.restore.ensures.lows c.restore.ensures.caps c.restore.ensures.edges c.restore.ensures.saved inv.stacked inv.past
+    undone a.marks.items a.saved.items a.lows.items a.caps.items a.edges.items a.max_points c.args.mark.0 c.index.result.now _ _ _ _ (at c) c.restore.ensures.lows c.restore.ensures.caps c.restore.ensures.edges c.restore.ensures.saved inv.stacked inv.past
 
 pub solve-requires-clause-caps : goal.solve-requires-clause-caps
 solve-requires-clause-caps c =
@@ -81,7 +81,7 @@ returns-clause-past c =
     let m = c.index.result.now in
     let r = c.restore.ensures in
     same_past _ _ _ _ _ _ _ _ _ _ c.truncate.ensures.items r.saved r.lows r.caps r.edges
-    ∙ (past_undone a.marks.items a.saved.items a.lows.items a.caps.items a.edges.items a.point_room c.self.invariant.stacked c.args.mark.0 m (at k)
+    ∙ (past_undone a.marks.items a.saved.items a.lows.items a.caps.items a.edges.items a.max_points c.self.invariant.stacked c.args.mark.0 m (at k)
     ∙ ap (λ (s : PlainState). take c.args.mark.0 s.past) c.self.view_is)
 
 pub invariant_of-self : goal.invariant_of-self
@@ -95,7 +95,7 @@ invariant_of-self c =
     let force = in_force k in
     let em = c.truncate.ensures.items in
     let nm = ap length em ∙ length-take-le c.args.mark.0 a.marks.items (omega arith) in
-    let p : length c.truncate.new.self.items * a.point_room ≡ c.args.mark.0 * a.point_room = ap (λ i. i * a.point_room) nm in
+    let p : length c.truncate.new.self.items * a.max_points ≡ c.args.mark.0 * a.max_points = ap (λ i. i * a.max_points) nm in
     let b = inv.stacked.in_room c.args.mark.0 m here in
     let least = rw (c.deref.ensures.value, c.deref-2.ensures.value, c.deref-3.ensures.value) at c.in-Ok.ensures.least in
     let l1 = u.lows_len in
@@ -116,7 +116,7 @@ invariant_of-self c =
     let x = c.swap.ensures.x_after in
     let xc = ap (λ v. vec_capacity v) x in
     let yc = ap (λ v. vec_capacity v) c.swap.ensures.y_after in
-    let w = c.in-Ok.ensures.room a.point_room inv.room.working in
+    let w = c.in-Ok.ensures.room a.max_points inv.room.working in
     let wt = w.times in
     record {
       points = omega arith;
@@ -134,11 +134,11 @@ invariant_of-self c =
         newest = omega arith;
         marks = omega arith;
       };
-      stacked = rw (em, l1, l2, l3) (stacked_undone a.marks.items (length a.lows.items) (length a.edges.items) (length a.saved.items) a.point_room c.args.mark.0 m here inv.stacked);
-      links = same_saved _ _ _ _ _ _ _ _ em c.restore.ensures.saved c.restore.ensures.newest l1 (saved_undone a.marks.items a.saved.items a.newest.items (length a.lows.items) (length a.edges.items) a.point_room c.args.mark.0 m here inv.stacked inv.links);
+      stacked = rw (em, l1, l2, l3) (stacked_undone a.marks.items (length a.lows.items) (length a.edges.items) (length a.saved.items) a.max_points c.args.mark.0 m here inv.stacked);
+      links = same_saved _ _ _ _ _ _ _ _ em c.restore.ensures.saved c.restore.ensures.newest l1 (saved_undone a.marks.items a.saved.items a.newest.items (length a.lows.items) (length a.edges.items) a.max_points c.args.mark.0 m here inv.stacked inv.links);
       sound = u.sound;
       times = ap (λ v. length v.items) x ∙ c.in-Ok.ensures.len ∙ ap length c.deref.ensures.value;
       least = rw x least;
       past = subst (All IsSound) (sym (same_past _ _ _ _ _ _ _ _ _ _ em c.restore.ensures.saved c.restore.ensures.lows c.restore.ensures.caps c.restore.ensures.edges
-          ∙ past_undone a.marks.items a.saved.items a.lows.items a.caps.items a.edges.items a.point_room inv.stacked c.args.mark.0 m here)) (All-take IsSound c.args.mark.0 _ inv.past);
+          ∙ past_undone a.marks.items a.saved.items a.lows.items a.caps.items a.edges.items a.max_points inv.stacked c.args.mark.0 m here)) (All-take IsSound c.args.mark.0 _ inv.past);
     }

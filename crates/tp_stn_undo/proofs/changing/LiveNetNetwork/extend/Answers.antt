@@ -35,7 +35,7 @@ heads1 c = c.self.inside.heads.items ++ 0 ∷ []
 pushed : (c : After-push_point) → HoldsTogether c.self.inside (spots1 c) (caps1 c) c.self.inside.links.items (heads1 c) c.self.inside.saves.saved.items c.self.inside.saves.since.words.items
 pushed c =
     let v = ap (λ (s : LiveState). length s.net.lows) c.self.view_is in
-    let r = ap (λ (s : LiveState). s.point_room) c.self.view_is in
+    let r = ap (λ (s : LiveState). s.max_points) c.self.view_is in
     let n = lows_len c.self.inside.spots.items in
     let q = c.requires.room in
     let f = c.if-low-cap.false in
@@ -69,8 +69,8 @@ added c = rw (c.deref.ensures.value ∙ c.push_point.ensures.caps, c.deref_mut-2
 
 abbrev after : After-save_changes → Inside
 after c = record {
-  edge_room = c.self.inside.edge_room;
-  mark_room = c.self.inside.mark_room;
+  max_edges = c.self.inside.max_edges;
+  max_marks = c.self.inside.max_marks;
   spots = with_items c.push_point.new.spots c.add_edges.new.spots;
   caps = c.push_point.new.caps;
   links = c.add_edges.new.links;
@@ -113,7 +113,7 @@ holds c =
     let ad = added (goal.at.invariant_of-self-in-Ok c).In-Ok in
     let n = linked_len a.links.items c.add_edges.new.links.items c.args.edges.now ad.linked in
     let v = ap (λ (s : LiveState). length s.net.edges) c.self.view_is in
-    let r = ap (λ (s : LiveState). s.edge_room) c.self.view_is in
+    let r = ap (λ (s : LiveState). s.max_edges) c.self.view_is in
     let l = links_len a.links.items in
     let q = c.requires.spare in
     added_holds a c.self.invariant (spots1 k) c.add_edges.new.spots (caps1 k) c.add_edges.new.links.items (heads1 k) c.args.edges.now c.add_edges.new.working.changes.entries c.save_changes.new.saves.saved.items c.save_changes.new.saves.since.words.items

@@ -131,8 +131,8 @@ holds c =
 
 abbrev after : After-save_changes → Inside
 after c = record {
-  edge_room = c.self.inside.edge_room;
-  mark_room = c.self.inside.mark_room;
+  max_edges = c.self.inside.max_edges;
+  max_marks = c.self.inside.max_marks;
   spots = with_items (with_items c.self.inside.spots c.lift.new.spots) c.spread.new.spots;
   caps = c.self.inside.caps;
   links = c.self.inside.links;

@@ -27,8 +27,8 @@ save_changes-requires c =
 
 abbrev after : After-save_changes → Inside
 after c = record {
-  edge_room = c.self.inside.edge_room;
-  mark_room = c.self.inside.mark_room;
+  max_edges = c.self.inside.max_edges;
+  max_marks = c.self.inside.max_marks;
   spots = with_items c.self.inside.spots c.add_edges.new.spots;
   caps = c.self.inside.caps;
   links = c.add_edges.new.links;
@@ -70,7 +70,7 @@ holds c =
     let ad = added k in
     let n = linked_len a.links.items c.add_edges.new.links.items c.args.edges.now ad.linked in
     let v = ap (λ (s : LiveState). length s.net.edges) c.self.view_is in
-    let r = ap (λ (s : LiveState). s.edge_room) c.self.view_is in
+    let r = ap (λ (s : LiveState). s.max_edges) c.self.view_is in
     let l = links_len a.links.items in
     let q = c.requires.spare in
     added_holds a c.self.invariant a.spots.items c.add_edges.new.spots a.caps.items c.add_edges.new.links.items a.heads.items c.args.edges.now c.add_edges.new.working.changes.entries c.save_changes.new.saves.saved.items c.save_changes.new.saves.since.words.items

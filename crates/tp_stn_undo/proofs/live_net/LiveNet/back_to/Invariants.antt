@@ -10,7 +10,7 @@ invariant-marks l = record {
   content : (net : Net) → slice_get l.initial.self.past (length l.self.past) ≡ Some net → net ≡ l.self.net;
   past : l.self.past ≡ take (length l.self.past) l.initial.self.past;
   aside : aside_of l.self ≡ aside_of l.initial.self;
-  room : l.self.mark_room ≡ l.initial.self.mark_room;
+  room : l.self.max_marks ≡ l.initial.self.max_marks;
 }
 
 abbrev pub decreases-marks : goal.decreases-marks

@@ -35,8 +35,8 @@ some c =
 
 abbrev net : (c : After-restore) → Inside
 net c = record {
-  edge_room = c.self.inside.edge_room;
-  mark_room = c.self.inside.mark_room;
+  max_edges = c.self.inside.max_edges;
+  max_marks = c.self.inside.max_marks;
   spots = c.restore.new.spots;
   caps = c.restore.new.caps;
   links = c.restore.new.links;
