@@ -1,5 +1,5 @@
 -- Noting what points were, and putting it back.
-use Rattle.std.proofs.Common.{◌≡◌, ℕ, ◌<◌, Bool, false, List, [], ◌∷◌, ◌++◌, length, set, subst, Some, sym, ap, ◌∙◌, arith}
+use Rattle.std.proofs.Common.{◌≡◌, ℕ, suc, ◌-◌, ◌<◌, ◌≤◌, Bool, take, take-suc, get_or, false, List, [], ◌∷◌, ◌++◌, length, set, subst, Some, sym, ap, ◌∙◌, arith}
 use Rattle.std.proofs.lemmas.Option.{get_or_from_slice_get}
 use Rattle.std.proofs.lemmas.List.{set-set, set-get_or, get_or-map, length-map, map-append}
 use Rattle.std.specs.List.{Contains, slice_get}
@@ -37,3 +37,12 @@ held_popped flags xs ys e is a = held_back flags (points_in xs) e.point.0 (subst
 -- the last one put back
 pub restored_popped : (xs ys : List SavedSpot) (e : SavedSpot) (spots : List Spot) → ys ≡ xs ++ e ∷ [] → restored xs (set spots e.point.0 e.spot) ≡ restored ys spots
 restored_popped xs ys e spots is = sym (ap (λ (zs : List SavedSpot). restored zs spots) is ∙ restored-append xs (e ∷ []) spots)
+
+abbrev pub no_saved : SavedSpot
+no_saved = record { point = record { 0 = 0 }; spot = record { low = 0; time = 0; cause = 0 } }
+
+-- the last of the first ones
+pub last_of_first : (entries : List SavedSpot) (left : ℕ) → 0 < left → left ≤ length entries → take left entries ≡ take (left - 1) entries ++ get_or entries (left - 1) no_saved ∷ []
+last_of_first entries left some within =
+    let one_more : left ≡ suc (left - 1) = omega arith in
+    ap (λ n. take n entries) one_more ∙ take-suc entries (left - 1) no_saved (omega arith)

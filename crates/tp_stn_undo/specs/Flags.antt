@@ -25,6 +25,11 @@ pub record Waits : Type 0 where
   pub flags : List Bool
   pub points : List ℕ
 
+-- what can be seen of a line: the points in it, and how many there can be
+pub record LineValue : Type 0 where
+  pub points : List ℕ
+  pub room : ℕ
+
 abbrev pub AreBelow : ℕ → List ℕ → Type 0
 AreBelow count ps = All (λ p. p < count) ps
 

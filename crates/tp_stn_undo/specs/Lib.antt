@@ -5,6 +5,7 @@ pub mod Stacks
 pub mod LiveState
 pub mod Flags
 pub mod Bits
+pub mod Lines
 pub mod Waits
 pub mod Notes
 pub mod Spreading

@@ -49,7 +49,7 @@ pub(crate) fn push_point(
 /// Adds an edge, and raises the points that it makes later.
 #[inline(always)]
 fn add_edge(
-    edge: Edge,
+    edge: &Edge,
     caps: &[u32],
     links: &mut Vec<Link>,
     heads: &mut [u32],
@@ -57,10 +57,10 @@ fn add_edge(
     working: &mut Working,
 ) -> Result<(), Kept>
     requires ready { CanAdd caps.now links.old.items heads.old spots.old working.old }
-    requires known { IsKnown (length spots.old) edge }
+    requires known { IsKnown (length spots.old) edge.now }
     requires room { length links.old.items < vec_capacity links.old }
     requires few { length links.old.items + 1 < 2 ^ 32 }
-    ensures links { links.new.items ≡ links.old.items ++ newest_link heads.old edge ∷ [] }
+    ensures links { links.new.items ≡ links.old.items ++ newest_link heads.old edge.now ∷ [] }
     ensures linked { AreLinks links.new.items heads.new (length spots.old) }
     ensures back { LeadsBack links.new.items spots.old spots.new
         working.old.changes.entries working.new.changes.entries }
@@ -69,7 +69,7 @@ fn add_edge(
     ensures idle { OnOk result (AreIdle working.new.waiting.flags) }
     ensures none { OnOk result (working.new.waiting.points ≡ []) }
     ensures refuted { IfErr result (λ kept. KeptRefutes
-        (net_of (lows_of spots.old) caps.now (edges_of links.old.items ++ edge ∷ []))
+        (net_of (lows_of spots.old) caps.now (edges_of links.old.items ++ edge.now ∷ []))
         kept working.new.path.items) }
     ensures sizes { KeepsSizes working.old working.new }
     ensures zeros { AreZeros working.new.places.items }
@@ -111,7 +111,7 @@ pub(crate) fn add_edges(
 {
     let before = links.len();
     'each: for edge in edges {
-        match add_edge(*edge, caps, links, heads, spots, working) {
+        match add_edge(edge, caps, links, heads, spots, working) {
             Ok(()) => {}
             Err(kept) => {
                 unlink(links, heads, before);
@@ -140,7 +140,7 @@ fn link_all(edges: &[Edge], links: &mut Vec<Link>, heads: &mut [u32], waiting: &
     ensures capacity { vec_capacity links.new ≡ vec_capacity links.old }
 {
     'each: for edge in edges {
-        link(*edge, links, heads);
+        link(edge, links, heads);
         waiting.push(edge.from.0);
     }
 }

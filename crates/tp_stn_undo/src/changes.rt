@@ -2,7 +2,7 @@
 ghost use Rattle.std.specs.Prelude.{◌≡◌, ℕ, ◌<◌, ◌≤◌, List, [], length, slice_get, slice_set, Some, IfOk};
 ghost use Rattle.tp_stn_undo.specs.declared.spots.Spot.{Spot};
 ghost use Rattle.tp_stn_undo.specs.Saved.{restored};
-ghost use Rattle.tp_stn_undo.specs.Flags.{AreKnown};
+ghost use Rattle.tp_stn_undo.specs.Flags.{AreHeld, AreKnown, points_in};
 
 use crate::spots::{SavedSpot, Spot};
 use std::alloc::{AllocError, Global};
@@ -28,6 +28,38 @@ impl Model for Changes {
     ghost view = { noted_in };
 
     ghost invariant = { IsNoted };
+}
+
+/// Takes the flags of the entries away.
+fn forget_all(entries: &[SavedSpot], noted: &mut [bool])
+    requires { AreHeld noted.old (points_in entries.now) }
+    ensures none { AreHeld noted.new [] }
+    ensures len { length noted.new ≡ length noted.old }
+{
+    let mut left = entries.len();
+    'back: while left > 0 {
+        left -= 1;
+        noted[entries[left].point.0 as usize] = false;
+    }
+}
+
+/// Makes the points what the entries say, the last first, and takes the flags of the entries away.
+fn put_all_back(entries: &[SavedSpot], spots: &mut [Spot], noted: &mut [bool])
+    requires { AreHeld noted.old (points_in entries.now) }
+    ensures spots { spots.new ≡ restored entries.now spots.old }
+    ensures none { AreHeld noted.new [] }
+    ensures len { length noted.new ≡ length noted.old }
+{
+    let mut left = entries.len();
+    'back: while left > 0 {
+        left -= 1;
+        let entry = entries[left];
+        let at = entry.point.0 as usize;
+        if at < spots.len() {
+            spots[at] = entry.spot;
+        }
+        noted[at] = false;
+    }
 }
 
 impl Changes {
@@ -73,9 +105,8 @@ impl Changes {
         ensures entries { self.new.entries ≡ [] }
         ensures room { self.new.room ≡ self.old.room }
     {
-        'each: while let Some(entry) = self.entries.pop() {
-            self.noted[entry.point.0 as usize] = false;
-        }
+        forget_all(&self.entries, &mut self.noted);
+        self.entries.clear();
     }
 
     /// Makes the points what they were, and forgets all.
@@ -84,12 +115,7 @@ impl Changes {
         ensures entries { self.new.entries ≡ [] }
         ensures room { self.new.room ≡ self.old.room }
     {
-        'each: while let Some(entry) = self.entries.pop() {
-            let at = entry.point.0 as usize;
-            if at < spots.len() {
-                spots[at] = entry.spot;
-            }
-            self.noted[at] = false;
-        }
+        put_all_back(&self.entries, spots, &mut self.noted);
+        self.entries.clear();
     }
 }

@@ -6,6 +6,7 @@ mod bits;
 mod changes;
 mod changing;
 mod lifting;
+mod line;
 mod linking;
 mod links;
 mod live_net;

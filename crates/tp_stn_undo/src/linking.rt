@@ -8,17 +8,17 @@ use tp_base::Edge;
 
 /// Adds an edge. `heads` says for each point which edge from it is the newest, counted from 1.
 #[inline(always)]
-pub(crate) fn link(edge: Edge, links: &mut Vec<Link>, heads: &mut [u32])
-    requires known { edge.from.0 < length heads.old }
+pub(crate) fn link(edge: &Edge, links: &mut Vec<Link>, heads: &mut [u32])
+    requires known { edge.now.from.0 < length heads.old }
     requires room { length links.old.items < vec_capacity links.old }
     requires few { length links.old.items + 1 < 2 ^ 32 }
-    ensures links { links.new.items ≡ links.old.items ++ newest_link heads.old edge ∷ [] }
-    ensures heads { heads.new ≡ slice_set heads.old edge.from.0 (length links.old.items + 1) }
+    ensures links { links.new.items ≡ links.old.items ++ newest_link heads.old edge.now ∷ [] }
+    ensures heads { heads.new ≡ slice_set heads.old edge.now.from.0 (length links.old.items + 1) }
     ensures capacity { vec_capacity links.new ≡ vec_capacity links.old }
 {
     let from = edge.from.0 as usize;
     let older = heads[from];
-    links.push_reserved(Link { edge, older });
+    links.push_reserved(Link { edge: *edge, older });
     heads[from] = links.len() as u32;
 }
 

@@ -121,14 +121,15 @@ pub(crate) fn put_back(
     ensures flags { length since.new.words.items ≡ length since.old.words.items }
     ensures capacity { vec_capacity saved.new ≡ vec_capacity saved.old }
 {
-    'back: while saved.len() > to {
-        let Some(last) = saved.pop() else {
-            unreachable!()
-        };
+    let mut left = saved.len();
+    'back: while left > to {
+        left -= 1;
+        let last = saved[left];
         let at = last.point.0 as usize;
         if at < spots.len() {
             spots[at] = last.spot;
         }
         since.clear(row + at);
     }
+    saved.truncate(to);
 }

@@ -76,9 +76,7 @@ fn walk_back(
             return (Some(at), 0);
         }
         let edge = links[cause as usize - 1].edge;
-        let Ok(()) = path.push(edge) else {
-            unreachable!()
-        };
+        path.push_reserved(edge);
         places[at.0 as usize] = path.len() as u32;
         at = edge.from;
     }

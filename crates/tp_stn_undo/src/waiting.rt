@@ -1,15 +1,15 @@
 //! The points that wait.
-ghost use Rattle.std.specs.Prelude.{◌≡◌, ℕ, ◌<◌, ◌≤◌, length, replicate, [], ◌∷◌, false, true, slice_set, IfOk, IfSome, IfNone};
+ghost use Rattle.std.specs.Prelude.{◌≡◌, ℕ, ◌<◌, ◌≤◌, ◌^◌, length, replicate, [], ◌∷◌, false, true, slice_set, IfOk, IfSome, IfNone};
 ghost use Rattle.tp_stn_undo.specs.Flags.{AreIdle, AreBelow};
 
+use crate::line::Line;
 use std::alloc::{AllocError, Global};
-use std::collections::VecDeque;
 use std::marker::Model;
 
 /// The points whose edges have to be followed, each once, first come first served.
 #[derive(Drop)]
 pub(crate) struct Waiting {
-    line: VecDeque<u32>,
+    line: Line,
     /// For each point whether it is among them.
     waits: Vec<bool>,
 }
@@ -29,6 +29,7 @@ impl Model for Waiting {
 
 impl Waiting {
     pub(crate) fn new(alloc: Global, points: usize) -> Result<Waiting, AllocError>
+        requires { points < 2 ^ 32 }
         ensures flags { IfOk result (λ w. w.flags ≡ replicate points false) }
         ensures none { IfOk result (λ w. w.points ≡ []) }
     {
@@ -37,7 +38,7 @@ impl Waiting {
             unreachable!()
         };
         Ok(Waiting {
-            line: VecDeque::with_capacity(alloc, points)?,
+            line: Line::new(alloc, points)?,
             waits,
         })
     }

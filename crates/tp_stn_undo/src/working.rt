@@ -1,5 +1,5 @@
 //! What a change is worked out with.
-ghost use Rattle.std.specs.Prelude.{IfOk};
+ghost use Rattle.std.specs.Prelude.{◌<◌, ◌^◌, IfOk};
 
 use crate::changes::Changes;
 use crate::waiting::Waiting;
@@ -21,6 +21,7 @@ impl Working {
     ghost use Rattle.tp_stn_undo.specs.Working.{HasWorkingRoom, AtRest};
 
     pub(crate) fn new(alloc: Global, points: usize) -> Result<Working, AllocError>
+        requires { points < 2 ^ 32 }
         ensures room { IfOk result (λ w. HasWorkingRoom points w) }
         ensures rest { IfOk result (λ w. AtRest w) }
     {

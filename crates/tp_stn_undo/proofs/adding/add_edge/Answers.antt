@@ -17,7 +17,7 @@ linked : (c : After-link) → AreLinks c.link.new.links.items c.link.new.heads (
 linked c =
     let r = c.requires.ready in
     same_links _ _ _ _ _ _ c.link.ensures.links c.link.ensures.heads refl
-    (links_pushed c.args.links.now.items c.args.heads.now (length c.args.spots.now) (newest_link c.args.heads.now c.args.edge) r.linked c.requires.known.from refl)
+    (links_pushed c.args.links.now.items c.args.heads.now (length c.args.spots.now) (newest_link c.args.heads.now c.args.edge.now) r.linked c.requires.known.from refl)
 
 pub settle-requires-clause-heads : goal.settle-requires-clause-heads
 settle-requires-clause-heads c = rw c.deref.ensures.value (linked (goal.at.settle-requires-clause-heads c).After-link)
@@ -26,11 +26,11 @@ pub settle-requires-clause-supported : goal.settle-requires-clause-supported
 settle-requires-clause-supported c =
     let s = c.requires.ready.sound in
     subst (λ (ls : List Link). Supported ls c.args.spots.now c.args.spots.now) (sym (c.deref.ensures.value ∙ c.link.ensures.links))
-    (supported_more c.args.links.now.items (newest_link c.args.heads.now c.args.edge ∷ []) c.args.spots.now s.numbered s.supported)
+    (supported_more c.args.links.now.items (newest_link c.args.heads.now c.args.edge.now ∷ []) c.args.spots.now s.numbered s.supported)
 
 pub settle-requires-clause-kept : goal.settle-requires-clause-kept
 settle-requires-clause-kept c =
-    let l = newest_link c.args.heads.now c.args.edge in
+    let l = newest_link c.args.heads.now c.args.edge.now in
     let links = c.args.links.now.items in
     let t = slice_index (times_of c.args.spots.now) in
     let flags = c.args.working.now.waiting.flags in
@@ -44,10 +44,10 @@ returns-clause-linked c = linked (goal.at.returns-clause-linked c).After-link
 
 pub returns-clause-sound : goal.returns-clause-sound
 returns-clause-sound c =
-    let l = newest_link c.args.heads.now c.args.edge in
+    let l = newest_link c.args.heads.now c.args.edge.now in
     let links = c.args.links.now.items in
     let e = c.deref.ensures.value ∙ c.link.ensures.links in
     let s = rw e at c.settle.ensures in
     rw c.link.ensures.links (both_ok c.settle.result
     (λ rises keeps. sound_edges c.args.spots.now c.settle.new.spots c.args.caps.now links (l ∷ []) c.args.working.now.changes.entries c.settle.new.working.changes.entries c.requires.ready.sound
-    (known_one (length c.args.spots.now) c.args.edge c.requires.known) s.back rises s.below keeps) s.rises s.kept)
+    (known_one (length c.args.spots.now) c.args.edge.now c.requires.known) s.back rises s.below keeps) s.rises s.kept)

@@ -45,13 +45,13 @@ back-preserved c =
     let is = cause_some links spots at known no_link some (c.requires.numbered at no_spot known) in
     let e = (get_or links ((get_or spots at no_spot).cause - 1) no_link).edge in
     let to = (c.requires.causes at e k is).0 in
-    let n : c.len.result ≡ length path + 1 = omega (arith, c.len.ensures, c.in-Ok.ensures.len, c.back.path.ok.0) in
+    let n : c.len.result ≡ length path + 1 = omega (arith, c.len.ensures, c.push_reserved.ensures.len, c.back.path.ok.0) in
     let kept = c.back.invariant.path_kept in
-    let cap = c.in-Ok.ensures.capacity in
+    let cap = c.push_reserved.ensures.capacity in
     let ls = length-set places at (length path + 1) in
     record {
-      way = rw c.in-Ok.ensures.items (WayBack-push causes c.args.from.0 at path e w none c.requires.causes is);
-      marked = rw (c.in-Ok.ensures.items, n, ls) (AreMarked-push (length places) places path at e m (omega arith) to);
+      way = rw c.push_reserved.ensures.items (WayBack-push causes c.args.from.0 at path e w none c.requires.causes is);
+      marked = rw (c.push_reserved.ensures.items, n, ls) (AreMarked-push (length places) places path at e m (omega arith) to);
       path_kept = omega arith;
     }
 
@@ -63,9 +63,9 @@ back-smaller c =
     let a = c.back.auto.places in
     let r = c.requires.places_room in
     let s = short (causes_of (edges_of links) spots) c.back.places c.back.path.items c.args.from.0 c.back.at.0 c.back.invariant.marked c.back.invariant.way (omega arith) c.if-place-gt0.false in
-    let h = c.in-Ok.ensures.len in
+    let h = c.push_reserved.ensures.len in
     let n = c.back.path.ok.0 in
-    let m = c.push.new.self.ok.0 in
+    let m = c.push_reserved.new.self.ok.0 in
     omega arith
 
 pub overflow_cast-places : goal.overflow_cast-places
@@ -76,22 +76,21 @@ overflow_cast-places c =
     let a = c.back.auto.places in
     let r = c.requires.places_room in
     let s = short (causes_of (edges_of links) spots) c.back.places c.back.path.items c.args.from.0 c.back.at.0 c.back.invariant.marked c.back.invariant.way (omega arith) c.if-place-gt0.false in
-    let h = c.in-Ok.ensures.len in
+    let h = c.push_reserved.ensures.len in
     let n = c.back.path.ok.0 in
-    let m = c.push.new.self.ok.0 in
+    let m = c.push_reserved.new.self.ok.0 in
     let l = c.len.ensures in
     let small = c.requires.small in
     omega arith
 
-pub unreachable-requires : goal.unreachable-requires
-unreachable-requires c =
+pub push_reserved-requires : goal.push_reserved-requires
+push_reserved-requires c =
     let links = c.args.links.now in
     let spots = c.args.spots.now in
     let len = causes_len links spots in
     let a = c.back.auto.places in
     let r = c.requires.places_room in
     let s = short (causes_of (edges_of links) spots) c.back.places c.back.path.items c.args.from.0 c.back.at.0 c.back.invariant.marked c.back.invariant.way (omega arith) c.if-place-gt0.false in
-    let h = c.in_default.ensures.full in
     let n = c.back.path.ok.0 in
     let p = c.requires.path_room in
     let q = c.back.invariant.path_kept in
