@@ -12,7 +12,7 @@ use Rattle.tp_trees.specs.Chains.{gap_in}
 use Rattle.tp_bound_check.specs.Founds.{found_in, gap_out, is_outside, next_found}
 use Rattle.tp_bound_check.specs.declared.found.Found.{Found}
 
-abbrev slot-out : ℕ → ℕ → Option Found → Option Slot
+abbrev pub slot-out : ℕ → ℕ → Option Found → Option Slot
 slot-out lo hi None = None
 slot-out lo hi (Some f) = cond (is_outside lo hi f) (Some f.slot) None
 
@@ -125,10 +125,10 @@ next-none f = grind (arith, nat_tests)
 next-hi : (hi : ℕ) (f : Found) → is_outside 0 (suc hi) (next_found f) ≡ is_outside 0 hi f
 next-hi hi f = ap (λ t. t || leb (suc hi) (suc f.at)) (none-less (suc f.at) ∙ sym (none-less f.at)) ∙ ap (λ t. ltb f.at 0 || t) (le-next hi f.at)
 
-abbrev cut : ℕ → ℕ → List Slot → List Slot
+abbrev pub cut : ℕ → ℕ → List Slot → List Slot
 cut lo hi xs = take lo xs ++ drop hi xs
 
-find-cut : (a : Spot) (lo hi : ℕ) (xs : List Slot) → lo ≤ hi → AllPairs Apart xs → find (λ y. is_same_spot y.from a) (cut lo hi xs) ≡ slot-out lo hi (found_in a xs)
+pub find-cut : (a : Spot) (lo hi : ℕ) (xs : List Slot) → lo ≤ hi → AllPairs Apart xs → find (λ y. is_same_spot y.from a) (cut lo hi xs) ≡ slot-out lo hi (found_in a xs)
 find-cut a zero zero [] le apart = refl
 find-cut a zero (suc hi) [] le apart = refl
 find-cut a (suc lo) zero xs le apart = absurd (omega arith)

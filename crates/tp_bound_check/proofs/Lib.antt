@@ -17,3 +17,6 @@ pub mod KeyFacts
 pub mod LinkFacts
 pub mod StepFacts
 pub mod FrameFacts
+pub mod RankFacts
+pub mod PlacedFacts
+pub mod WayFacts

@@ -41,16 +41,21 @@ track-put b a order place s t at len before after is at-is len-is before-is afte
     ap (λ n. G n before after) l ∙ ap (λ x. G (length (insert order place s)) x after) e ∙ ap (λ y. G (length (insert order place s)) (found_in b (insert order place s)) y) f
 
 -- one place more
+pub places-one : (resource : ℕ) (from to : Spot) (rules : List HoldRule) (places : List ℕ) (at : ℕ) (rule : HoldRule) (place : ℕ) (order : List Slot) (d : HoldRule) → at < length rules → at < length places → rule ≡ get_or rules at d → place ≡ get_or places at 0
+    → put_places resource from to rules (take (at + 1) places) order
+    ≡ cond (rule.resource.0 == resource) (insert (put_places resource from to rules (take at places) order) place (record { rule = rule; from = from; to = to })) (put_places resource from to rules (take at places) order)
+places-one resource from to rules places at rule place order d within inside rule-is place-is =
+    let l : length (take at places) ≡ at = length-take-le at places (omega arith) in
+    let here : slice_get rules (length (take at places)) ≡ Some rule = ap (slice_get rules) l ∙ slice-is rules at d within ∙ ap (λ r. Some r) (sym rule-is) in
+    let one : take (at + 1) places ≡ take at places ++ place ∷ [] = take-one places at place (slice-is places at 0 inside ∙ ap (λ p. Some p) (sym place-is)) in
+    ap (λ ps. put_places resource from to rules ps order) one ∙ put_places-push resource from to rules (take at places) place rule order here
+
 pub places-more : (b a : Spot) (resource : ℕ) (from to : Spot) (rules : List HoldRule) (places : List ℕ) (at : ℕ) (rule : HoldRule) (place : ℕ) (order : List Slot) (t new : Track) (d : HoldRule) → at < length rules → at < length places
     → rule ≡ get_or rules at d → place ≡ get_or places at 0 → t ≡ track_of b a (put_places resource from to rules (take at places) order)
     → ((o : List Slot) → t ≡ track_of b a o → new ≡ track_of b a (cond (rule.resource.0 == resource) (insert o place (record { rule = rule; from = from; to = to })) o))
     → new ≡ track_of b a (put_places resource from to rules (take (at + 1) places) order)
 places-more b a resource from to rules places at rule place order t new d within inside rule-is place-is is put =
-    let l : length (take at places) ≡ at = length-take-le at places (omega arith) in
-    let here : slice_get rules (length (take at places)) ≡ Some rule = ap (slice_get rules) l ∙ slice-is rules at d within ∙ ap (λ r. Some r) (sym rule-is) in
-    let one : take (at + 1) places ≡ take at places ++ place ∷ [] = take-one places at place (slice-is places at 0 inside ∙ ap (λ p. Some p) (sym place-is)) in
-    put (put_places resource from to rules (take at places) order) is
-    ∙ ap (track_of b a) (sym (ap (λ ps. put_places resource from to rules ps order) one ∙ put_places-push resource from to rules (take at places) place rule order here))
+    put (put_places resource from to rules (take at places) order) is ∙ ap (track_of b a) (sym (places-one resource from to rules places at rule place order d within inside rule-is place-is))
 
 -- places for which there is no rule
 pub places-few : (resource : ℕ) (from to : Spot) (rules : List HoldRule) (places : List ℕ) (n : ℕ) (order : List Slot) → min (length rules) (length places) ≤ n → put_places resource from to rules (take n places) order ≡ put_places resource from to rules places order

@@ -46,3 +46,12 @@ abbrev pub gap_out : ℕ → ℕ → ℕ → Option Found → Option Found → O
 gap_out apart lo hi None other = None
 gap_out apart lo hi (Some a) None = None
 gap_out apart lo hi (Some a) (Some b) = if nat_lt a.at b.at && is_outside lo hi a && is_outside lo hi b then Some (slot_gap apart a.slot b.slot) else None
+
+-- a hold of an order where it stands from a place on, and where it stands before one
+abbrev pub slot_behind : ℕ → Option Found → Option Slot
+slot_behind hi None = None
+slot_behind hi (Some f) = if nat_le hi f.at then Some f.slot else None
+
+abbrev pub slot_before : ℕ → Option Found → Option Slot
+slot_before lo None = None
+slot_before lo (Some f) = if nat_lt f.at lo then Some f.slot else None

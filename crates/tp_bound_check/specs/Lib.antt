@@ -9,3 +9,4 @@ pub mod Looks
 pub mod Keys
 pub mod Links
 pub mod Frames
+pub mod Ranks

@@ -4,7 +4,7 @@ use Rattle.tp_machine.specs.declared.machine.Machine.{Machine}
 use Rattle.tp_schedule.specs.Choices.{placed}
 use Rattle.tp_schedule.specs.Spots.{Slot, slot_order}
 use Rattle.tp_schedule.specs.declared.parts.Plan.{Plan}
-use Rattle.tp_trees.specs.Places.{Branch, Span, Stand, next_rule}
+use Rattle.tp_trees.specs.Places.{Branch, Span, next_rule}
 use Rattle.tp_bound_check.specs.Founds.{IsTrack, track_of}
 use Rattle.tp_bound_check.specs.declared.found.Ends.{Ends}
 use Rattle.tp_bound_check.specs.declared.found.Part.{Part}
@@ -31,6 +31,3 @@ pub record IsPart (machine : Machine) (plans : List Plan) (b : Branch) (resource
 abbrev pub IsSpanOf : Machine → Branch → Option Span → Type 0
 IsSpanOf machine b None = Unit {0}
 IsSpanOf machine b (Some span) = (next_rule machine b.x ≡ Some span.rule) × (span.lo ≤ span.hi)
-
-abbrev pub IsSoundStand : Machine → Stand → Type 0
-IsSoundStand machine s = IsSpanOf machine s.branch s.span

@@ -2,7 +2,7 @@
 ghost use Rattle.std.specs.Prelude.{◌≡◌, ℕ, ◌+◌, ◌≤◌, ◌++◌, [], length, Some, IfOk, IfErr, OnOk, List};
 ghost use Rattle.tp_bound_check.specs.Frames.{IsOn, IsShallowStand};
 ghost use Rattle.tp_bound_check.specs.Looks.{IsFaultOf, IsSoundFrame, dues_of};
-ghost use Rattle.tp_bound_check.specs.Stands.{IsSoundStand};
+ghost use Rattle.tp_bound_check.specs.Ranks.{IsFrameBelow, IsSoundStand};
 ghost use Rattle.tp_machine.specs.declared.parts.State.{State};
 ghost use Rattle.tp_trees.specs.Chains.{spot_of};
 ghost use Rattle.tp_trees.specs.Rows.{row_of};
@@ -14,6 +14,7 @@ use crate::following::Walk;
 use crate::naming::spot_of;
 use crate::orders::Scene;
 use crate::points::Point;
+use crate::ranks::Ranks;
 use crate::stands::Stand;
 use tp_bounds::{Close, Head, Hops, TreePoint};
 
@@ -57,8 +58,15 @@ impl<'a> Scene<'a> {
         }
     }
 
-    fn chain_look(&self, stand: &Stand, first: &TreePoint, hops: &Hops) -> Result<(), Fault>
-        requires sound { IsSoundStand self.now.rows.machine.now stand.now }
+    fn chain_look(
+        &self,
+        stand: &Stand,
+        ranks: &Ranks,
+        first: &TreePoint,
+        hops: &Hops,
+    ) -> Result<(), Fault>
+        requires sound { IsSoundStand self.now.rows.machine.now self.now.plans.now stand.now
+            ranks.now }
         ensures ok { OnOk result (chain_look self.now.rows.machine.now self.now.plans.now
             self.now.rows.ask.now self.now.rows.rows.now self.now.limit stand.now (spot_of
             self.now.plans.now (length stand.now.branch.x.choices) first.now) hops.now ≡ due []) }
@@ -67,13 +75,14 @@ impl<'a> Scene<'a> {
             (spot_of self.now.plans.now (length stand.now.branch.x.choices) first.now) hops.now)) }
     {
         match spot_of(self.plans, stand.branch.count(), first) {
-            Some(at) => self.chain_from(stand, at, hops),
+            Some(at) => self.chain_from(stand, ranks, at, hops),
             None => Err(Fault::NoSuchHop(0)),
         }
     }
 
-    fn chain_from(&self, stand: &Stand, at: Point, hops: &Hops) -> Result<(), Fault>
-        requires sound { IsSoundStand self.now.rows.machine.now stand.now }
+    fn chain_from(&self, stand: &Stand, ranks: &Ranks, at: Point, hops: &Hops) -> Result<(), Fault>
+        requires sound { IsSoundStand self.now.rows.machine.now self.now.plans.now stand.now
+            ranks.now }
         ensures ok { OnOk result (chain_look self.now.rows.machine.now self.now.plans.now
             self.now.rows.ask.now self.now.rows.rows.now self.now.limit stand.now (Some at) hops.now
             ≡ due []) }
@@ -85,14 +94,21 @@ impl<'a> Scene<'a> {
             at,
             sum: self.low(&stand.branch, at),
         };
-        match self.follow(stand, from, hops) {
+        match self.follow(stand, ranks, from, hops) {
             Ok(walk) => reach_look(walk.sum, self.cap(&stand.branch, walk.at)),
             Err(hop) => Err(Fault::NoSuchHop(hop)),
         }
     }
 
-    fn loop_look(&self, stand: &Stand, first: &TreePoint, hops: &Hops) -> Result<(), Fault>
-        requires sound { IsSoundStand self.now.rows.machine.now stand.now }
+    fn loop_look(
+        &self,
+        stand: &Stand,
+        ranks: &Ranks,
+        first: &TreePoint,
+        hops: &Hops,
+    ) -> Result<(), Fault>
+        requires sound { IsSoundStand self.now.rows.machine.now self.now.plans.now stand.now
+            ranks.now }
         ensures ok { OnOk result (loop_look self.now.rows.machine.now self.now.plans.now
             self.now.rows.ask.now self.now.rows.rows.now self.now.limit stand.now (spot_of
             self.now.plans.now (length stand.now.branch.x.choices) first.now) hops.now ≡ due []) }
@@ -101,13 +117,14 @@ impl<'a> Scene<'a> {
             (spot_of self.now.plans.now (length stand.now.branch.x.choices) first.now) hops.now)) }
     {
         match spot_of(self.plans, stand.branch.count(), first) {
-            Some(at) => self.loop_from(stand, at, hops),
+            Some(at) => self.loop_from(stand, ranks, at, hops),
             None => Err(Fault::NoSuchHop(0)),
         }
     }
 
-    fn loop_from(&self, stand: &Stand, at: Point, hops: &Hops) -> Result<(), Fault>
-        requires sound { IsSoundStand self.now.rows.machine.now stand.now }
+    fn loop_from(&self, stand: &Stand, ranks: &Ranks, at: Point, hops: &Hops) -> Result<(), Fault>
+        requires sound { IsSoundStand self.now.rows.machine.now self.now.plans.now stand.now
+            ranks.now }
         ensures ok { OnOk result (loop_look self.now.rows.machine.now self.now.plans.now
             self.now.rows.ask.now self.now.rows.rows.now self.now.limit stand.now (Some at) hops.now
             ≡ due []) }
@@ -116,7 +133,7 @@ impl<'a> Scene<'a> {
             (Some at) hops.now)) }
     {
         let from = Walk { at, sum: 0 };
-        match self.follow(stand, from, hops) {
+        match self.follow(stand, ranks, from, hops) {
             Ok(walk) => {
                 if walk.at.is(at) {
                     reach_look(walk.sum, 0)
@@ -132,10 +149,12 @@ impl<'a> Scene<'a> {
     pub(crate) fn close_look(
         &self,
         stand: Stand,
+        ranks: &Ranks,
         head: &Head,
         close: &Close,
     ) -> Result<Frame, Fault>
-        requires sound { IsSoundStand self.now.rows.machine.now stand }
+        requires sound { IsSoundStand self.now.rows.machine.now self.now.plans.now stand
+            ranks.now }
         requires shallow { IsShallowStand stand }
         ensures ok { IfOk result (λ f. (goals : List State) → close_look self.now.rows.machine.now
             self.now.plans.now self.now.rows.ask.now self.now.rows.rows.now self.now.limit stand
@@ -146,6 +165,7 @@ impl<'a> Scene<'a> {
             self.now.plans.now self.now.rows.ask.now self.now.rows.rows.now self.now.limit stand
             head.now close.now)) }
         ensures depth { IfOk result (λ f. (n : ℕ) → n ≤ stand.branch.depth → IsOn f (n + 1)) }
+        ensures below { IfOk result (IsFrameBelow stand.branch) }
     {
         match close {
             Close::Split => self.split(stand),
@@ -153,11 +173,11 @@ impl<'a> Scene<'a> {
                 Ok(()) => Ok(Frame::Nothing),
                 Err(fault) => Err(fault),
             },
-            Close::Chain { first, hops } => match self.chain_look(&stand, first, hops) {
+            Close::Chain { first, hops } => match self.chain_look(&stand, ranks, first, hops) {
                 Ok(()) => Ok(Frame::Nothing),
                 Err(fault) => Err(fault),
             },
-            Close::Loop { first, hops } => match self.loop_look(&stand, first, hops) {
+            Close::Loop { first, hops } => match self.loop_look(&stand, ranks, first, hops) {
                 Ok(()) => Ok(Frame::Nothing),
                 Err(fault) => Err(fault),
             },

@@ -3,7 +3,8 @@ ghost use Rattle.std.specs.Prelude.{◌≡◌, ◌+◌, ◌-◌, ◌<◌, ◌≤
 ghost use Rattle.std.specs.Str.{bytes_eq};
 ghost use Rattle.tp_bound_check.specs.Founds.{IsTrack, track_of};
 ghost use Rattle.tp_bound_check.specs.Points.{IsWeight};
-ghost use Rattle.tp_bound_check.specs.Stands.{IsPart, IsSoundStand};
+ghost use Rattle.tp_bound_check.specs.Stands.{IsPart, IsSpanOf};
+ghost use Rattle.tp_bound_check.specs.Ranks.{IsSoundStand, own_among};
 ghost use Rattle.tp_constraints.specs.Gaps.{cap_in, low_in};
 ghost use Rattle.tp_constraints.specs.Suffixes.{order_in};
 ghost use Rattle.tp_machine.specs.Modes.{gap_at};
@@ -20,6 +21,7 @@ use crate::hops::{duration_gap, line_gap};
 use crate::naming::{resource_of, spot_of, start_of};
 use crate::orders::{Scene, rule_law};
 use crate::points::{Gap, Point, Slot};
+use crate::ranks::Ranks;
 use crate::stands::{Span, Stand};
 use tp_base::{Name, Tick};
 use tp_bounds::{Hop, Hops};
@@ -185,7 +187,7 @@ impl<'a> Scene<'a> {
 
     /// The same where the next hold of the branch is on the resource and has several places.
     fn span_gap(&self, stand: &Stand, resource: u16, ends: &Ends, part: Part) -> Option<Gap>
-        requires sound { IsSoundStand self.now.rows.machine.now stand.now }
+        requires sound { IsSpanOf self.now.rows.machine.now stand.now.branch stand.now.span }
         requires count { part.count ≤ length stand.now.branch.x.choices }
         requires part { IsPart self.now.rows.machine.now self.now.plans.now stand.now.branch
             resource ends.now part }
@@ -206,12 +208,12 @@ impl<'a> Scene<'a> {
         }
     }
 
-    /// What is between the holds of two actions on a resource. Which of two holds stands first is
-    /// settled once both are in its order: choices after them change nothing, and those of kept
-    /// actions are in it from the start.
-    fn resource_gap(&self, stand: &Stand, resource: u16, ends: &Ends) -> Option<Gap>
+    /// What is between the holds of two actions on a resource, by the branch's choices up to both.
+    /// Which of two holds stands first is settled once both are in its order: choices after them
+    /// change nothing, and those of kept actions are in it from the start.
+    fn walked_gap(&self, stand: &Stand, resource: u16, ends: &Ends) -> Option<Gap>
         requires known { resource < length self.now.rows.machine.now.resources }
-        requires sound { IsSoundStand self.now.rows.machine.now stand.now }
+        requires sound { IsSpanOf self.now.rows.machine.now stand.now.branch stand.now.span }
         ensures { result ≡ resource_gap self.now.rows.machine.now self.now.plans.now
             self.now.rows.ask.now self.now.limit stand.now resource ends.now.before ends.now.after }
     {
@@ -226,15 +228,62 @@ impl<'a> Scene<'a> {
         }
     }
 
+    /// What is between an own hold on a resource and a kept one. The ranks tell where the own one
+    /// stands, unless another hold of the branch has several places on the resource.
+    fn gap_to_kept(
+        &self,
+        stand: &Stand,
+        ranks: &Ranks,
+        resource: u16,
+        ends: &Ends,
+        start: u32,
+    ) -> Option<Gap>
+        requires known { resource < length self.now.rows.machine.now.resources }
+        requires sound { IsSoundStand self.now.rows.machine.now self.now.plans.now stand.now
+            ranks.now }
+        requires mixed { own_among ends.now.before ends.now.after ≡ Some start }
+        ensures { result ≡ resource_gap self.now.rows.machine.now self.now.plans.now
+            self.now.rows.ask.now self.now.limit stand.now resource ends.now.before ends.now.after }
+    {
+        match stand.span {
+            Some(span) => {
+                if span.rule.resource.0 != resource {
+                    self.placed_gap(&stand.branch, ranks, resource, ends, start)
+                } else if start == stand.branch.count() {
+                    self.span_gap_to_kept(&stand.branch, span, ranks, ends)
+                } else {
+                    self.walked_gap(stand, resource, ends)
+                }
+            }
+            None => self.placed_gap(&stand.branch, ranks, resource, ends, start),
+        }
+    }
+
+    /// What is between the holds of two actions on a resource.
+    fn resource_gap(&self, stand: &Stand, ranks: &Ranks, resource: u16, ends: &Ends) -> Option<Gap>
+        requires known { resource < length self.now.rows.machine.now.resources }
+        requires sound { IsSoundStand self.now.rows.machine.now self.now.plans.now stand.now
+            ranks.now }
+        ensures { result ≡ resource_gap self.now.rows.machine.now self.now.plans.now
+            self.now.rows.ask.now self.now.limit stand.now resource ends.now.before ends.now.after }
+    {
+        match ends.own() {
+            Some(start) => self.gap_to_kept(stand, ranks, resource, ends, start),
+            None => self.walked_gap(stand, resource, ends),
+        }
+    }
+
     fn gap_on(
         &self,
         stand: &Stand,
+        ranks: &Ranks,
         resource: u16,
         before: Option<Point>,
         after: Option<Point>,
     ) -> Option<Gap>
         requires known { resource < length self.now.rows.machine.now.resources }
-        requires sound { IsSoundStand self.now.rows.machine.now stand.now }
+        requires sound { IsSoundStand self.now.rows.machine.now self.now.plans.now stand.now
+            ranks.now }
         ensures { result ≡ hold_gap self.now.rows.machine.now self.now.plans.now
             self.now.rows.ask.now self.now.limit stand.now (Some resource) before after }
     {
@@ -242,7 +291,7 @@ impl<'a> Scene<'a> {
             Some(before) => match after {
                 Some(after) => {
                     let ends = Ends { before, after };
-                    self.resource_gap(stand, resource, &ends)
+                    self.resource_gap(stand, ranks, resource, &ends)
                 }
                 None => None,
             },
@@ -253,11 +302,13 @@ impl<'a> Scene<'a> {
     fn hold_gap(
         &self,
         stand: &Stand,
+        ranks: &Ranks,
         name: &Name,
         before: Option<Point>,
         after: Option<Point>,
     ) -> Option<Gap>
-        requires sound { IsSoundStand self.now.rows.machine.now stand.now }
+        requires sound { IsSoundStand self.now.rows.machine.now self.now.plans.now stand.now
+            ranks.now }
         ensures { result ≡ hold_gap self.now.rows.machine.now self.now.plans.now
             self.now.rows.ask.now self.now.limit stand.now
             (position (λ r. bytes_eq r.name name.now) self.now.rows.machine.now.resources)
@@ -265,14 +316,15 @@ impl<'a> Scene<'a> {
     {
         machine_law(self.rows.machine);
         match resource_of(self.rows.machine.resources.as_slice(), name) {
-            Some(resource) => self.gap_on(stand, resource as u16, before, after),
+            Some(resource) => self.gap_on(stand, ranks, resource as u16, before, after),
             None => None,
         }
     }
 
     /// What a hop from a point says, if it is allowed there.
-    fn gap_of(&self, stand: &Stand, from: Point, hop: &Hop) -> Option<Gap>
-        requires sound { IsSoundStand self.now.rows.machine.now stand.now }
+    fn gap_of(&self, stand: &Stand, ranks: &Ranks, from: Point, hop: &Hop) -> Option<Gap>
+        requires sound { IsSoundStand self.now.rows.machine.now self.now.plans.now stand.now
+            ranks.now }
         ensures { result ≡ gap_of self.now.rows.machine.now self.now.plans.now
             self.now.rows.ask.now self.now.limit stand.now from hop.now }
     {
@@ -296,7 +348,7 @@ impl<'a> Scene<'a> {
             } => {
                 let before = start_of(self.plans, count, before);
                 let after = start_of(self.plans, count, after);
-                from_here(from, self.hold_gap(stand, name, before, after))
+                from_here(from, self.hold_gap(stand, ranks, name, before, after))
             }
         }
     }
@@ -304,8 +356,15 @@ impl<'a> Scene<'a> {
     /// Where hops lead from a point, with the sum of what they take; or the number of the first hop
     /// that
     /// isn't allowed.
-    pub(crate) fn follow(&self, stand: &Stand, from: Walk, hops: &Hops) -> Result<Walk, u32>
-        requires sound { IsSoundStand self.now.rows.machine.now stand.now }
+    pub(crate) fn follow(
+        &self,
+        stand: &Stand,
+        ranks: &Ranks,
+        from: Walk,
+        hops: &Hops,
+    ) -> Result<Walk, u32>
+        requires sound { IsSoundStand self.now.rows.machine.now self.now.plans.now stand.now
+            ranks.now }
         requires least { pos 0 ≤ℤ from.sum }
         requires most { from.sum ≤ℤ pos (2 ^ 34) }
         ensures led { IfOk result (λ w. led w.at w.sum ≡ follow self.now.rows.machine.now
@@ -317,7 +376,7 @@ impl<'a> Scene<'a> {
     {
         let mut walk = from;
         'hops: for k in 0..hops.len() {
-            match self.gap_of(stand, walk.at, hops.get(k)) {
+            match self.gap_of(stand, ranks, walk.at, hops.get(k)) {
                 Some(gap) => walk = go_on(walk, gap),
                 None => return Err(k),
             }

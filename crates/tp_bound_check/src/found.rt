@@ -2,6 +2,7 @@
 ghost use Rattle.std.specs.Prelude.{◌≡◌, ◌+◌, ◌<◌, ◌≤◌, ◌^◌, ◌==◌, List, All, insert, length, max, min, if◌then◌else◌};
 ghost use Rattle.tp_bound_check.specs.Founds.{IsBelow, IsTrack, earlier, gap_out, is_outside, put_found, shifted, track_of};
 ghost use Rattle.tp_bound_check.specs.Points.{HasOffsets, choices_to};
+ghost use Rattle.tp_bound_check.specs.Ranks.{own_among};
 ghost use Rattle.tp_schedule.specs.Choices.{put_places};
 ghost use Rattle.tp_schedule.specs.Spots as spots;
 
@@ -29,6 +30,17 @@ impl Ends {
         ensures { result ≡ max (choices_to self.now.before) (choices_to self.now.after) }
     {
         self.before.choices_to().max(self.after.choices_to())
+    }
+
+    /// The own one of both, where the other is kept.
+    pub(crate) fn own(&self) -> Option<u32>
+        ensures { result ≡ own_among self.now.before self.now.after }
+    {
+        match (self.before.copy(), self.after.copy()) {
+            (None, Some(_)) => Some(self.before.at()),
+            (Some(_), None) => Some(self.after.at()),
+            _ => None,
+        }
     }
 }
 

@@ -6,6 +6,7 @@
 //! 322 frames: the stack never takes more memory than it was made with.
 ghost use Rattle.std.specs.Prelude.{◌≡◌, ℕ, ◌+◌, ◌<◌, ◌≤◌, ◌^◌, [], ◌∷◌, ◌++◌, length, Some, None, Option, IfOk, IfErr, OnOk, OnErr, IfSome, IfNone, List, All, map, drop, vec_capacity, true, false};
 ghost use Rattle.tp_bound_check.specs.Frames.{IsOn, has_due, with_frame};
+ghost use Rattle.tp_bound_check.specs.Ranks.{AreRankedFrames};
 ghost use Rattle.tp_bound_check.specs.Looks.{IsNodeFault, IsSoundFrame, IsSoundStack, IsStep, due_on, flaw_by};
 ghost use Rattle.tp_bound_check.specs.declared.dues.Frame.TheVariants.{Goals};
 ghost use Rattle.tp_machine.specs.declared.parts.State.{State};
@@ -16,6 +17,7 @@ ghost use Rattle.tp_trees.specs.Places.Due.{goal};
 use crate::dues::{Fault, Frame};
 use crate::orders::Scene;
 use crate::passing::Passing;
+use crate::ranks::Ranks;
 use std::alloc::{AllocError, Global};
 use tp_bounds::{Node, Nodes};
 use tp_machine::State;
@@ -106,8 +108,9 @@ impl<'a> Scene<'a> {
             Ok(stack) => stack,
             Err(_) => return Err(TreeFlaw::Memory),
         };
+        let mut ranks = Ranks::new();
         'nodes: for at in 0..nodes.len() {
-            match self.check_node(goals, &mut stack, nodes.get(at)) {
+            match self.check_node(goals, &mut stack, &mut ranks, nodes.get(at)) {
                 Ok(()) => {}
                 Err(fault) => return Err(flaw_of(at, fault)),
             }
@@ -120,8 +123,16 @@ impl<'a> Scene<'a> {
     }
 
     /// The node stands where the first is due, and what is due below it takes its place.
-    fn check_node(&self, goals: &[State], stack: &mut Vec<Frame>, node: &Node) -> Result<(), Fault>
+    fn check_node(
+        &self,
+        goals: &[State],
+        stack: &mut Vec<Frame>,
+        ranks: &mut Ranks,
+        node: &Node,
+    ) -> Result<(), Fault>
         requires stack { IsSoundStack self.now.rows.machine.now stack.old.items }
+        requires ranked { AreRankedFrames self.now.rows.machine.now self.now.plans.now
+            ranks.old.before stack.old.items }
         requires room { 322 ≤ vec_capacity stack.old }
         ensures ok { OnOk result (IsStep self.now.rows.machine.now self.now.plans.now
             self.now.rows.ask.now self.now.rows.rows.now self.now.limit (due_on
@@ -134,10 +145,12 @@ impl<'a> Scene<'a> {
             self.now.rows.machine.now self.now.plans.now self.now.rows.ask.now
             self.now.rows.rows.now self.now.limit goals.now stack.old.items) node.now) }
         ensures stack { OnOk result (IsSoundStack self.now.rows.machine.now stack.new.items) }
+        ensures ranked { OnOk result (AreRankedFrames self.now.rows.machine.now self.now.plans.now
+            ranks.new.before stack.new.items) }
         ensures room { 322 ≤ vec_capacity stack.new }
     {
         'frames: while let Some(frame) = stack.pop() {
-            match self.pass(goals, frame, node) {
+            match self.pass(goals, frame, ranks, node) {
                 Passing::Empty => {}
                 Passing::Wrong(fault) => return Err(fault),
                 Passing::Passed { left, below } => {

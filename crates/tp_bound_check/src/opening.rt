@@ -5,6 +5,7 @@ ghost use Rattle.std.specs.Str.{bytes_eq};
 ghost use Rattle.tp_bound_check.specs.Frames.{IsOn, IsShallow, IsShallowStand};
 ghost use Rattle.tp_bound_check.specs.Looks.{IsActOf, IsFaultOf, IsSoundFrame, dues_of};
 ghost use Rattle.tp_bound_check.specs.Links.{ends_of, next_at};
+ghost use Rattle.tp_bound_check.specs.Ranks.{IsFrameBelow};
 ghost use Rattle.tp_machine.specs.Using.{action_at};
 ghost use Rattle.tp_machine.specs.declared.parts.State.{State};
 ghost use Rattle.tp_schedule.specs.Answers.{kept_of};
@@ -129,6 +130,7 @@ impl<'a> Scene<'a> {
         ensures fault { IfErr result (IsFaultOf (split_look (children_of self.now.rows.machine.now
             self.now.plans.now self.now.rows.ask.now self.now.rows.rows.now branch None))) }
         ensures depth { IfOk result (λ f. (n : ℕ) → n ≤ branch.depth → IsOn f (n + 1)) }
+        ensures below { IfOk result (IsFrameBelow branch) }
     {
         let first = branch.first();
         if self.is_begun(first) {
@@ -155,6 +157,7 @@ impl<'a> Scene<'a> {
         ensures fault { IfErr result (IsFaultOf (split_look (children self.now.rows.machine.now
             self.now.plans.now self.now.rows.ask.now self.now.rows.rows.now stand))) }
         ensures depth { IfOk result (λ f. (n : ℕ) → n ≤ stand.branch.depth → IsOn f (n + 1)) }
+        ensures below { IfOk result (IsFrameBelow stand.branch) }
     {
         match stand.span {
             Some(_) => Err(Fault::Uncovered),

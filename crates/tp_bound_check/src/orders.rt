@@ -75,7 +75,7 @@ impl Order {
     }
 
     /// How many holds it has.
-    fn len(&self) -> u64
+    pub(crate) fn len(&self) -> u64
         ensures len { result ≡ length self.now }
         ensures few { result < 2 ^ 32 }
     {
@@ -83,7 +83,7 @@ impl Order {
     }
 
     /// The hold of the action that starts at the point.
-    fn found(&self, start: Point) -> Option<Found>
+    pub(crate) fn found(&self, start: Point) -> Option<Found>
         ensures found { result ≡ found_in start self.now }
         ensures below { IsBelow (length self.now) result }
     {

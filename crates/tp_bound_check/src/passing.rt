@@ -1,6 +1,7 @@
 //! A node at a frame: it stands where the first of the frame is due.
 ghost use Rattle.std.specs.Prelude.{◌≡◌, ℕ, ◌+◌, ◌-◌, ◌<◌, ◌≤◌, ◌^◌, [], ◌∷◌, ◌++◌, length, slice_get, Some, None, Option, IfOk, IfErr, IfSome, IfNone, List, if◌then◌else◌, false, true};
 ghost use Rattle.tp_bound_check.specs.Frames.{IsOn, IsShallow};
+ghost use Rattle.tp_bound_check.specs.Ranks.{AreRanked, IsRanked, IsRankedPassing, StayTo, next_number, number_of};
 ghost use Rattle.tp_bound_check.specs.Looks.{IsActOf, IsPassing, IsSoundFrame, IsSoundPassing, acts_at, dues_of, places_behind};
 ghost use Rattle.tp_bound_check.specs.declared.dues.Frame.TheVariants.{Acts, Goals, Held};
 ghost use Rattle.tp_machine.specs.Using.{action_at};
@@ -12,6 +13,7 @@ ghost use Rattle.tp_trees.specs.Places.Due.{action};
 use crate::branch::Branch;
 use crate::dues::{Fault, Frame};
 use crate::orders::Scene;
+use crate::ranks::Ranks;
 use tp_bounds::{Head, Node};
 use tp_machine::{ActId, HoldRule, State, allowed, regress};
 use tp_schedule::action_law;
@@ -86,18 +88,22 @@ impl<'a> Scene<'a> {
         None
     }
 
-    fn pass_act(&self, branch: Branch, from: Option<u16>, node: &Node) -> Passing
+    fn pass_act(&self, branch: Branch, ranks: &Ranks, from: Option<u16>, node: &Node) -> Passing
         requires shallow { IsShallow branch }
+        requires ranked { AreRanked self.now.rows.machine.now self.now.plans.now branch
+            ranks.now.before }
         requires from { IfSome from (IsActOf self.now.rows.machine.now branch) }
         ensures passing { (goals : List State) → IsPassing self.now.rows.machine.now
             self.now.plans.now self.now.rows.ask.now self.now.rows.rows.now self.now.limit goals
             (Acts branch false from) node.now result }
         ensures sound { IsSoundPassing self.now.rows.machine.now (Acts branch false from) result }
+        ensures ranked { IsRankedPassing self.now.rows.machine.now self.now.plans.now
+            ranks.now.before (Acts branch false from) result }
     {
         match self.next_act(&branch, from) {
             Some(next) => {
                 let stand = self.act_stand(&branch, next.act, next.state, &node.head, node.depth);
-                match self.look(stand, node) {
+                match self.look(stand, ranks, node) {
                     Ok(below) => {
                         let left = Frame::Acts {
                             branch,
@@ -113,16 +119,20 @@ impl<'a> Scene<'a> {
         }
     }
 
-    fn pass_stop(&self, branch: Branch, from: Option<u16>, node: &Node) -> Passing
+    fn pass_stop(&self, branch: Branch, ranks: &Ranks, from: Option<u16>, node: &Node) -> Passing
         requires shallow { IsShallow branch }
+        requires ranked { AreRanked self.now.rows.machine.now self.now.plans.now branch
+            ranks.now.before }
         requires from { IfSome from (IsActOf self.now.rows.machine.now branch) }
         ensures passing { (goals : List State) → IsPassing self.now.rows.machine.now
             self.now.plans.now self.now.rows.ask.now self.now.rows.rows.now self.now.limit goals
             (Acts branch true from) node.now result }
         ensures sound { IsSoundPassing self.now.rows.machine.now (Acts branch true from) result }
+        ensures ranked { IsRankedPassing self.now.rows.machine.now self.now.plans.now
+            ranks.now.before (Acts branch true from) result }
     {
         let stand = self.stop_stand(&branch, &node.head, node.depth);
-        match self.look(stand, node) {
+        match self.look(stand, ranks, node) {
             Ok(below) => {
                 let left = Frame::Acts {
                     branch,
@@ -135,19 +145,32 @@ impl<'a> Scene<'a> {
         }
     }
 
-    fn pass_place(&self, branch: Branch, rule: HoldRule, lo: u64, node: &Node) -> Passing
+    fn pass_place(
+        &self,
+        branch: Branch,
+        ranks: &mut Ranks,
+        rule: HoldRule,
+        lo: u64,
+        node: &Node,
+    ) -> Passing
         requires shallow { IsShallow branch }
+        requires ranked { AreRanked self.now.rows.machine.now self.now.plans.now branch
+            ranks.old.before }
         requires next { next_rule self.now.rows.machine.now branch.x ≡ Some rule }
         ensures passing { (goals : List State) → IsPassing self.now.rows.machine.now
             self.now.plans.now self.now.rows.ask.now self.now.rows.rows.now self.now.limit goals
             (Held branch rule lo) node.now result }
         ensures sound { IsSoundPassing self.now.rows.machine.now (Held branch rule lo) result }
+        ensures ranked { IsRankedPassing self.now.rows.machine.now self.now.plans.now
+            ranks.new.before (Held branch rule lo) result }
+        ensures stay { StayTo (next_number branch.x.choices) ranks.old.before ranks.new.before }
     {
         if lo > self.order_length(&branch, rule) {
             return Passing::Empty;
         }
         let stand = self.place_stand(&branch, rule, lo, &node.head, node.depth);
-        match self.look(stand, node) {
+        self.rank_node(&branch, ranks, rule, &node.head);
+        match self.look(stand, ranks, node) {
             Ok(below) => {
                 let left = places_behind(branch, rule, &node.head);
                 Passing::Passed { left, below }
@@ -156,17 +179,19 @@ impl<'a> Scene<'a> {
         }
     }
 
-    fn pass_goal(&self, goals: &[State], at: usize, node: &Node) -> Passing
+    fn pass_goal(&self, goals: &[State], ranks: &Ranks, at: usize, node: &Node) -> Passing
         ensures passing { IsPassing self.now.rows.machine.now self.now.plans.now
             self.now.rows.ask.now self.now.rows.rows.now self.now.limit goals.now (Goals at)
             node.now result }
         ensures sound { IsSoundPassing self.now.rows.machine.now (Goals at) result }
+        ensures ranked { IsRankedPassing self.now.rows.machine.now self.now.plans.now
+            ranks.now.before (Goals at) result }
     {
         let _count = goals.len();
         match goal_at(goals, at) {
             Some(state) => {
                 let stand = self.goal_stand(state, &node.head, node.depth);
-                match self.look(stand, node) {
+                match self.look(stand, ranks, node) {
                     Ok(below) => Passing::Passed {
                         left: Frame::Goals(at + 1),
                         below,
@@ -179,26 +204,37 @@ impl<'a> Scene<'a> {
     }
 
     /// What comes of a node at a frame.
-    pub(crate) fn pass(&self, goals: &[State], frame: Frame, node: &Node) -> Passing
-        requires { IsSoundFrame self.now.rows.machine.now frame }
+    pub(crate) fn pass(
+        &self,
+        goals: &[State],
+        frame: Frame,
+        ranks: &mut Ranks,
+        node: &Node,
+    ) -> Passing
+        requires sound { IsSoundFrame self.now.rows.machine.now frame }
+        requires ranked { IsRanked self.now.rows.machine.now self.now.plans.now ranks.old.before
+            frame }
         ensures passing { IsPassing self.now.rows.machine.now self.now.plans.now
             self.now.rows.ask.now self.now.rows.rows.now self.now.limit goals.now frame node.now
             result }
         ensures sound { IsSoundPassing self.now.rows.machine.now frame result }
+        ensures ranked { IsRankedPassing self.now.rows.machine.now self.now.plans.now
+            ranks.new.before frame result }
+        ensures stay { StayTo (number_of frame) ranks.old.before ranks.new.before }
     {
         match frame {
             Frame::Nothing => Passing::Empty,
-            Frame::Goals(at) => self.pass_goal(goals, at, node),
-            Frame::Held { branch, rule, lo } => self.pass_place(branch, rule, lo, node),
+            Frame::Goals(at) => self.pass_goal(goals, ranks, at, node),
+            Frame::Held { branch, rule, lo } => self.pass_place(branch, ranks, rule, lo, node),
             Frame::Acts {
                 branch,
                 with_stop,
                 at,
             } => {
                 if with_stop {
-                    self.pass_stop(branch, at, node)
+                    self.pass_stop(branch, ranks, at, node)
                 } else {
-                    self.pass_act(branch, at, node)
+                    self.pass_act(branch, ranks, at, node)
                 }
             }
         }

@@ -2,7 +2,8 @@
 ghost use Rattle.std.specs.Prelude.{◌≡◌, ℕ, ◌+◌, ◌<◌, ◌≤◌, ◌==◌, [], ◌∷◌, ◌++◌, length, slice_get, Some, None, Option, IfOk, IfErr, IfSome, List, suc};
 ghost use Rattle.tp_bound_check.specs.Frames.{IsOn, IsShallow, IsShallowStand};
 ghost use Rattle.tp_bound_check.specs.Looks.{IsFaultOf, IsSoundFrame, at_depth, dues_of};
-ghost use Rattle.tp_bound_check.specs.Stands.{IsSoundStand};
+ghost use Rattle.tp_bound_check.specs.Ranks as ranking;
+ghost use Rattle.tp_bound_check.specs.Ranks.{AreRanked, IsFrameOf, IsSoundStand, next_number};
 ghost use Rattle.tp_machine.specs.declared.parts.State.{State};
 ghost use Rattle.tp_machine.specs.Using.{action_at};
 ghost use Rattle.tp_trees.specs.Places.{Due, due_behind, is_name_of_act, is_name_of_resource, next_rule, order_length, room_at, stand_of};
@@ -13,6 +14,7 @@ ghost use Rattle.tp_trees.specs.Trees.Look.{due};
 use crate::branch::Branch;
 use crate::dues::{Fault, Frame};
 use crate::orders::{Scene, rule_law};
+use crate::ranks::Ranks;
 use crate::stands::{Span, Stand};
 use crate::states::is_named;
 use tp_base::Name;
@@ -73,7 +75,8 @@ impl<'a> Scene<'a> {
     pub(crate) fn goal_stand(&self, state: State, head: &Head, depth: u32) -> Option<Stand>
         ensures stand { result ≡ at_depth depth (stand_of self.now.rows.machine.now
             self.now.plans.now self.now.rows.ask.now self.now.rows.rows.now (goal state) head.now) }
-        ensures sound { IfSome result (IsSoundStand self.now.rows.machine.now) }
+        ensures sound { (ranks : ranking.Ranks) → IfSome result (λ s. IsSoundStand
+            self.now.rows.machine.now self.now.plans.now s ranks) }
         ensures shallow { IfSome result IsShallowStand }
     {
         match head {
@@ -101,9 +104,14 @@ impl<'a> Scene<'a> {
         ensures stand { result ≡ at_depth depth (stand_of self.now.rows.machine.now
             self.now.plans.now self.now.rows.ask.now self.now.rows.rows.now (action branch.now act
             state) head.now) }
-        ensures sound { IfSome result (IsSoundStand self.now.rows.machine.now) }
+        ensures sound { (ranks : ranking.Ranks) → AreRanked self.now.rows.machine.now
+            self.now.plans.now
+            branch.now ranks.before → IfSome result (λ s. IsSoundStand self.now.rows.machine.now
+            self.now.plans.now s ranks) }
         ensures shallow { IfSome result IsShallowStand }
         ensures deeper { IfSome result (λ s. s.branch.depth ≡ branch.now.depth + 1) }
+        ensures grows { IfSome result (λ s. next_number branch.now.x.choices ≤ next_number
+            s.branch.x.choices) }
     {
         match head {
             Head::Act { name } => {
@@ -123,9 +131,14 @@ impl<'a> Scene<'a> {
         ensures stand { result ≡ at_depth depth (stand_of self.now.rows.machine.now
             self.now.plans.now self.now.rows.ask.now self.now.rows.rows.now (stop branch.now)
             head.now) }
-        ensures sound { IfSome result (IsSoundStand self.now.rows.machine.now) }
+        ensures sound { (ranks : ranking.Ranks) → AreRanked self.now.rows.machine.now
+            self.now.plans.now
+            branch.now ranks.before → IfSome result (λ s. IsSoundStand self.now.rows.machine.now
+            self.now.plans.now s ranks) }
         ensures shallow { IfSome result IsShallowStand }
         ensures deeper { IfSome result (λ s. s.branch.depth ≡ branch.now.depth + 1) }
+        ensures grows { IfSome result (λ s. next_number branch.now.x.choices ≤ next_number
+            s.branch.x.choices) }
     {
         match head {
             Head::Stop => {
@@ -152,9 +165,10 @@ impl<'a> Scene<'a> {
         ensures stand { result ≡ at_depth depth (stand_of self.now.rows.machine.now
             self.now.plans.now self.now.rows.ask.now self.now.rows.rows.now (places branch.now rule
             lo) head.now) }
-        ensures sound { IfSome result (IsSoundStand self.now.rows.machine.now) }
         ensures shallow { IfSome result IsShallowStand }
         ensures deeper { IfSome result (λ s. s.branch.depth ≡ branch.now.depth + 1) }
+        ensures grows { IfSome result (λ s. next_number branch.now.x.choices ≤ next_number
+            s.branch.x.choices) }
     {
         let Head::At {
             resource,
@@ -189,8 +203,14 @@ impl<'a> Scene<'a> {
     }
 
     /// What is due below a node that stands here, if it stands anywhere, or what is wrong with it.
-    pub(crate) fn look(&self, stand: Option<Stand>, node: &Node) -> Result<Frame, Fault>
-        requires sound { IfSome stand (IsSoundStand self.now.rows.machine.now) }
+    pub(crate) fn look(
+        &self,
+        stand: Option<Stand>,
+        ranks: &Ranks,
+        node: &Node,
+    ) -> Result<Frame, Fault>
+        requires sound { IfSome stand (λ s. IsSoundStand self.now.rows.machine.now
+            self.now.plans.now s ranks.now) }
         requires shallow { IfSome stand IsShallowStand }
         ensures ok { IfOk result (λ f. (goals : List State) (d : Due) → stand ≡ at_depth
             node.now.depth (stand_of self.now.rows.machine.now self.now.plans.now
@@ -208,9 +228,10 @@ impl<'a> Scene<'a> {
             node.now) e) }
         ensures depth { IfOk result (λ f. (n : ℕ) → IfSome stand (λ s. n ≤ s.branch.depth)
             → IsOn f (n + 1)) }
+        ensures below { IfOk result (IsFrameOf stand) }
     {
         match stand {
-            Some(stand) => self.close_look(stand, &node.head, &node.close),
+            Some(stand) => self.close_look(stand, ranks, &node.head, &node.close),
             None => Err(Fault::Uncovered),
         }
     }

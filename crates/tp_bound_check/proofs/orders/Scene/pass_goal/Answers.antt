@@ -4,6 +4,7 @@ use Rattle.tp_bound_check.specs.declared.dues.Frame.TheVariants.{Goals}
 use Rattle.tp_bound_check.proofs.FrameFacts.{first-on}
 use Rattle.tp_bound_check.proofs.LinkFacts.{within}
 use Rattle.tp_bound_check.proofs.NodeFacts.{drop-none, goals-first, passed-is}
+use Rattle.tp_bound_check.proofs.WayFacts.{any-grows, passing-below}
 use Rattle.tp_bound_check.proofs.orders.Scene.pass_goal.Goals as goal
 
 pub returns-in-Ok-clause-passing : goal.returns-in-Ok-clause-passing
@@ -26,3 +27,12 @@ overflow_add-result c = let w = within c.args.goals.now c.args.at c.in-Some.stat
 
 pub returns-in-None-clause-passing : goal.returns-in-None-clause-passing
 returns-in-None-clause-passing c = ap (map (λ s. goal_due s)) (drop-none c.args.goals.now c.args.at (sym c.in-None.ensures))
+
+pub look-requires-clause-sound : goal.look-requires-clause-sound
+look-requires-clause-sound c = c.goal_stand-stand.ensures.sound c.args.ranks.now
+
+pub returns-in-Ok-clause-ranked : goal.returns-in-Ok-clause-ranked
+returns-in-Ok-clause-ranked c =
+    let s = c.args.self.now in let ranks = c.args.ranks.now in
+    let below = passing-below s.rows.machine.now s.plans.now c.goal_stand-stand.result c.in-Ok.below ranks 0 (c.goal_stand-stand.ensures.sound ranks) (any-grows c.goal_stand-stand.result) c.in-Ok.ensures.below in
+    (tt, below.0, λ _. refl, below.1)

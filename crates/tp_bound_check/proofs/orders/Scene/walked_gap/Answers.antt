@@ -1,7 +1,7 @@
 use Rattle.std.proofs.Common.{ap, arith}
 use Rattle.tp_trees.specs.Places.{Stand}
 use Rattle.tp_bound_check.proofs.TrackFacts.{first-gap, other-gap}
-use Rattle.tp_bound_check.proofs.orders.Scene.resource_gap.Goals as goal
+use Rattle.tp_bound_check.proofs.orders.Scene.walked_gap.Goals as goal
 
 pub returns-in-Some : goal.returns-in-Some
 returns-in-Some c =
