@@ -4,6 +4,7 @@ pub mod OnWhole
 pub mod OutageLines
 pub mod Scripts
 pub mod TurnLines
+pub mod Proved
 pub mod Promises
 pub mod TreeLines
 pub mod TreePlaces

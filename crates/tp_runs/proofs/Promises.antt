@@ -3,16 +3,18 @@ use Rattle.std.proofs.Common.{ℕ, Bool, List}
 use Rattle.tp_bounds.specs.declared.tree.BoundTree.{BoundTree}
 use Rattle.tp_machine.specs.declared.machine.Machine.{Machine}
 use Rattle.tp_script.specs.declared.event.Event.{Event}
-use Rattle.tp_turn.specs.Logs.{Entry, IsLawful}
+use Rattle.tp_turn.specs.Logs.{Entry}
 use Rattle.tp_headline.proofs.LawfulAnswers.{budgets-spent, nones-none, plans-earliest}
 use Rattle.tp_headline.proofs.LawfulLines.{lawful-headline}
 use Rattle.tp_runs.specs.Promised.{KeepsPromises}
-use Rattle.tp_runs.specs.Runs.{spent_by, tree_claims}
+use Rattle.tp_runs.specs.Runs.{IsLawfulRun, spent_by, tree_claims}
+use Rattle.tp_runs.proofs.Proved.{are-proved}
 use Rattle.tp_turn.proofs.LawfulLogs.{lawful-stocked}
 
 pub keeps-promises : (machine : Machine) (nodes : ℕ) (bounds : Bool) (events : List Event) (log : List (Entry BoundTree))
-    (lawful : IsLawful tree_claims bounds (spent_by nodes) machine events log) → KeepsPromises machine nodes bounds log lawful.last
-keeps-promises machine nodes bounds events log lawful =
+    (run : IsLawfulRun machine nodes bounds events log) → KeepsPromises machine nodes bounds log run.lawful.last
+keeps-promises machine nodes bounds events log run =
+    let lawful = run.lawful in
     let headline = lawful-headline tree_claims (spent_by nodes) machine bounds events log lawful in
     record {
       legal = headline.legal;
@@ -22,4 +24,5 @@ keeps-promises machine nodes bounds events log lawful =
       earliest = plans-earliest tree_claims (spent_by nodes) machine bounds events log lawful;
       none = nones-none tree_claims (spent_by nodes) machine bounds events log lawful;
       spent = budgets-spent tree_claims (spent_by nodes) machine bounds events log lawful;
+      proved = are-proved machine nodes bounds events log lawful run.has_text.1;
     }

@@ -116,7 +116,7 @@ pub lines-taken : (machine : Machine) (bounds : Bool) (now later : List BoundTre
 lines-taken machine bounds now later plans plans' (settled at) of_turn takes lines = subst (All IsPrintable) takes lines
 lines-taken machine false now later plans plans' (replied ask reply) of_turn takes lines = subst (All IsPrintable) takes lines
 lines-taken machine true now later plans plans' (replied ask Planned) of_turn (tree, (p, planned, claim, is)) lines =
-    subst (All IsPrintable) (sym is) (All-cons IsPrintable tree later (tree-lines machine plans ask (Earliest (end_of_plan p)) tree of_turn claim) lines)
+    subst (All IsPrintable) (sym is) (All-cons IsPrintable tree later (tree-lines machine plans ask (Earliest (end_of_plan p)) tree of_turn claim.0) lines)
 lines-taken machine true now later plans plans' (replied ask Never) of_turn (tree, claim, is) lines =
-    subst (All IsPrintable) (sym is) (All-cons IsPrintable tree later (tree-lines machine plans ask NeverClaim tree of_turn claim) lines)
+    subst (All IsPrintable) (sym is) (All-cons IsPrintable tree later (tree-lines machine plans ask NeverClaim tree of_turn claim.0) lines)
 lines-taken machine true now later plans plans' (replied ask (Spent bound)) of_turn takes lines = subst (All IsPrintable) takes lines

@@ -4,4 +4,5 @@ pub mod Wholes
 pub mod EventRuns
 pub mod Ends
 pub mod Told
+pub mod Proved
 pub mod Promised

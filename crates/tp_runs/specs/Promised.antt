@@ -15,6 +15,7 @@ use Rattle.tp_turn.specs.Receiving.{ReceivesInOrder, records_of}
 use Rattle.tp_turn.specs.States.{SessionState}
 use Rattle.tp_headline.specs.Given.{IsEarliestThere, IsNoneThere, IsSpentThere}
 use Rattle.tp_runs.specs.Ends.{IsAnswered, IsAnsweredTo}
+use Rattle.tp_runs.specs.Proved.{AreProved}
 use Rattle.tp_runs.specs.Runs.{IsLawfulRun, spent_by}
 use Rattle.tp_turn.specs.Laws.{IsStocked}
 
@@ -39,6 +40,8 @@ module _ (machine : Machine) (nodes : ℕ) (bounds : Bool) where
     pub spent : (before after : List Record) (copy : SheetName) (goal : Option (List ℕ)) (bound : ℕ)
         → records_of log ≡ before ++ Budget copy goal bound ∷ after
         → IsSpentThere (spent_by nodes) machine log last before (Budget copy goal bound)
+    -- with bounds, behind each plan and its moves, and behind each none, stands a tree that proves it
+    pub proved : IsTrue bounds → AreProved machine nodes log last
 
   -- of every lawful run, of every script that was answered, and of the first lines of one where the run stopped
   abbrev pub LawfulRunsKeepPromises : Type 0

@@ -9,7 +9,7 @@ use Rattle.tp_schedule.specs.declared.parts.Plan.{Plan}
 use Rattle.tp_schedule.specs.declared.records.Record.{Record}
 use Rattle.tp_schedule.specs.declared.records.Record.TheVariants.{Plan as TellsPlan, Move, Never as TellsNever}
 use Rattle.tp_script.specs.declared.event.Event.{Event}
-use Rattle.tp_trees.specs.Claims.{IsTreeFor}
+use Rattle.tp_trees.specs.Short.{IsShortTreeFor}
 use Rattle.tp_trees.specs.declared.claim.Claim.TheVariants.{Earliest, Never}
 use Rattle.tp_log.specs.Logs.{IsLog, log_text}
 use Rattle.tp_log.specs.declared.item.Item.{Item}
@@ -19,11 +19,11 @@ use Rattle.tp_turn.specs.States.{SessionState}
 use Rattle.tp_turn.specs.Turns.{Turn}
 
 -- what a tree claims, on the live part of the schedule at the ask's moment: that no alternative ends before the tick, or
--- that there is none
+-- that there is none. Each of its nodes has few hops
 abbrev pub tree_claims : TreeClaims BoundTree
 tree_claims = record {
-  none_before = λ machine plans ask end tree. IsTreeFor machine plans ask (Earliest end) tree;
-  never = λ machine plans ask tree. IsTreeFor machine plans ask Never tree;
+  none_before = λ machine plans ask end tree. IsShortTreeFor machine plans ask (Earliest end) tree;
+  never = λ machine plans ask tree. IsShortTreeFor machine plans ask Never tree;
 }
 
 -- the budget of so many lists of choices is spent

@@ -69,7 +69,8 @@ pub fn stopped_scripts_are_lawful()
 /// The headline, of every lawful run, of every script that was answered, and of the first lines of one where the run stopped:
 /// the last schedule is legal, past included, no resource is held twice and no stock overdrawn; each tray receives its line in order, and only
 /// sheets of broken jobs are skipped; each plan is earliest and least; each none means no alternative by the horizon; and each
-/// budget that as many different open lists with choices were stored as the budget allows, when one more had to be.
+/// budget that as many different open lists with choices were stored as the budget allows, when one more had to be. With
+/// bounds a tree that proves it stands behind each plan and its moves, and behind each none.
 pub fn runs_keep_promises()
     ensures lawful { (machine : Machine) (nodes : ℕ) (bounds : Bool)
         → LawfulRunsKeepPromises machine nodes bounds }

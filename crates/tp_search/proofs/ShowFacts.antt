@@ -20,7 +20,8 @@ use Rattle.tp_placing.specs.Writing.{IsLoadedFrom}
 use Rattle.tp_placing.proofs.WriteLive.{gone, gone-of, stays}
 use Rattle.tp_placing.proofs.WriteWhole.{filter-agree}
 use Rattle.tp_showing.specs.Showing as Shown
-use Rattle.tp_trees.specs.Claims.{IsTreeFor, live_part}
+use Rattle.tp_trees.specs.Claims.{live_part}
+use Rattle.tp_trees.specs.Short.{HasFewHops, IsShortTreeFor}
 use Rattle.tp_trees.specs.Trees.{IsBoundTree}
 use Rattle.tp_trees.specs.declared.claim.Claim.TheVariants.{Earliest, Never}
 use Rattle.tp_ways.specs.Ends.{EndsBy}
@@ -58,13 +59,13 @@ module _ (machine : Machine) (plans : List Plan) (ask : Ask) (live : List Plan) 
       none whole.0 whole.1
 
   -- a bound tree of the loaded plans is one for the claim
-  pub tree-never : (tree : BoundTree) → IsBoundTree machine live ask (pos (ask.now + machine.window)) tree → IsTreeFor machine plans ask Never tree
-  tree-never tree is = subst (λ ps. IsBoundTree machine ps ask (pos (ask.now + machine.window)) tree) loaded-live is
+  pub tree-never : (tree : BoundTree) → IsBoundTree machine live ask (pos (ask.now + machine.window)) tree → HasFewHops tree → IsShortTreeFor machine plans ask Never tree
+  tree-never tree is few = (subst (λ ps. IsBoundTree machine ps ask (pos (ask.now + machine.window)) tree) loaded-live is, few)
 
-  pub tree-earliest : (end last : ℕ) (tree : BoundTree) → end ≡ last + 1 → IsBoundTree machine live ask (pos last) tree → IsTreeFor machine plans ask (Earliest end) tree
-  tree-earliest end last tree one is =
+  pub tree-earliest : (end last : ℕ) (tree : BoundTree) → end ≡ last + 1 → IsBoundTree machine live ask (pos last) tree → HasFewHops tree → IsShortTreeFor machine plans ask (Earliest end) tree
+  tree-earliest end last tree one is few =
       let same : pos last ≡ pos end -ℤ pos 1 = omega (arith, ints, one) in
-      subst (λ n. IsBoundTree machine (live_part machine ask plans) ask n tree) same (subst (λ ps. IsBoundTree machine ps ask (pos last) tree) loaded-live is)
+      (subst (λ n. IsBoundTree machine (live_part machine ask plans) ask n tree) same (subst (λ ps. IsBoundTree machine ps ask (pos last) tree) loaded-live is), few)
 
 -- an alternative that ends by a tick is none where there is none, or none ends before the next tick
 pub never-early : (machine : Machine) (live : List Plan) (ask : Ask) (last : ℕ) → ((other : List Plan) → ¬ IsAlternative machine live ask other) → ¬ EndsBy machine live ask last

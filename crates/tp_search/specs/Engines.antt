@@ -11,7 +11,7 @@ use Rattle.tp_schedule.specs.declared.parts.Ask.{Ask}
 use Rattle.tp_schedule.specs.declared.parts.Plan.{Plan}
 use Rattle.tp_schedule.specs.declared.parts.Reply.{Reply}
 use Rattle.tp_schedule.specs.declared.parts.Reply.TheVariants.{Never, Planned, Spent}
-use Rattle.tp_trees.specs.Claims.{IsTreeFor}
+use Rattle.tp_trees.specs.Short.{IsShortTreeFor}
 use Rattle.tp_trees.specs.declared.claim.Claim.TheVariants.{Earliest, Never as NeverClaim}
 use Rattle.tp_placing.specs.Boards.{BoardValue}
 use Rattle.tp_placing.specs.declared.parts.MadeFor.{MadeFor}
@@ -42,10 +42,11 @@ abbrev pub HasFewLists : ℕ → Machine → List Plan → Deed → Type 0
 HasFewLists nodes machine plans (replied ask Never) = FewListsOpen machine plans ask nodes
 HasFewLists nodes machine plans _ = Unit {0}
 
--- the tree proves the answer: no alternative ends before the asked copy's plan, or there is none. Nothing proves a spent budget
+-- the tree proves the answer, by few hops a node: no alternative ends before the asked copy's plan, or there is none. Nothing
+-- proves a spent budget
 abbrev pub ProvesReply : Machine → List Plan → Ask → Reply → List Plan → BoundTree → Type 0
-ProvesReply machine plans ask Planned plans' tree = (p : Plan) × (plan_of ask.sheet plans' ≡ Some p) × IsTreeFor machine plans ask (Earliest (end_of_plan p)) tree
-ProvesReply machine plans ask Never plans' tree = IsTreeFor machine plans ask NeverClaim tree
+ProvesReply machine plans ask Planned plans' tree = (p : Plan) × (plan_of ask.sheet plans' ≡ Some p) × IsShortTreeFor machine plans ask (Earliest (end_of_plan p)) tree
+ProvesReply machine plans ask Never plans' tree = IsShortTreeFor machine plans ask NeverClaim tree
 ProvesReply machine plans ask (Spent bound) plans' tree = ⊥
 
 -- a plan and a none add a tree at the list's end, which proves them; a spent budget adds none

@@ -5,7 +5,7 @@ ghost use Rattle.tp_schedule.specs.declared.parts.Plan.{Plan};
 ghost use Rattle.tp_placing.specs.Writing.{IsLoadedFrom};
 ghost use Rattle.tp_search.specs.Boards.{HasMarks, IsBack, IsReady};
 ghost use Rattle.tp_search.specs.Workspaces.{IsFor};
-ghost use Rattle.tp_trees.specs.Claims.{IsTreeFor};
+ghost use Rattle.tp_trees.specs.Short.{IsShortTreeFor};
 ghost use Rattle.tp_trees.specs.declared.claim.Claim.TheVariants.{Earliest, Never};
 
 use crate::workspace::Workspace;
@@ -34,7 +34,7 @@ pub fn show_never<N: Network>(
     requires marks { HasMarks N.net N.content N.past N.max_marks 326 board.old }
     ensures tree { (plans : List Plan)
         → IsLoadedFrom machine.now plans ask.entry.now board.old.plans
-        → IfOk result (IsTreeFor machine.now plans ask.entry.now Never) }
+        → IfOk result (IsShortTreeFor machine.now plans ask.entry.now Never) }
     ensures back { IsBack N.net N.content N.past N.max_marks board.old board.new machine.now }
     ensures work { work.new ≡ work.old }
 {
@@ -65,7 +65,7 @@ pub(crate) fn show_earliest<N: Network>(
     requires marks { HasMarks N.net N.content N.past N.max_marks 326 board.old }
     ensures tree { (plans : List Plan)
         → IsLoadedFrom machine.now plans ask.entry.now board.old.plans
-        → IfOk result (IsTreeFor machine.now plans ask.entry.now (Earliest end)) }
+        → IfOk result (IsShortTreeFor machine.now plans ask.entry.now (Earliest end)) }
     ensures back { IsBack N.net N.content N.past N.max_marks board.old board.new machine.now }
     ensures work { work.new ≡ work.old }
 {

@@ -11,7 +11,7 @@ ghost use Rattle.tp_placing.specs.contracts.board.Board.{the_row};
 ghost use Rattle.tp_search.specs.Boards.{HasMarks, IsBack};
 ghost use Rattle.tp_search.specs.Trials.{EndsEarliest, IsEarliestTo, IsNoPlan, IsSameTrial, IsTrial, board_in, borrow_in, end_in};
 ghost use Rattle.tp_search.specs.Workspaces.{IsFor};
-ghost use Rattle.tp_trees.specs.Claims.{IsTreeFor};
+ghost use Rattle.tp_trees.specs.Short.{IsShortTreeFor};
 ghost use Rattle.tp_trees.specs.declared.claim.Claim.TheVariants.{Earliest};
 
 use crate::again::lay_again;
@@ -101,7 +101,7 @@ impl<N: Network> Trial<'_, N> {
             × IsLoadedFrom machine.now plans ask (board_in self.old).plans) }
         ensures tree { IsSomeAnd (board_in self.old).ask (λ ask. (plans : List Plan)
             → IsLoadedFrom machine.now plans ask (board_in self.old).plans
-            → IfOk result (IsTreeFor machine.now plans ask (Earliest (end_in self.old)))) }
+            → IfOk result (IsShortTreeFor machine.now plans ask (Earliest (end_in self.old)))) }
         ensures trial { (b : BoardValue N)
             → IsTrial N.net N.content N.past N.max_marks b machine.now self.old
             → IsTrial N.net N.content N.past N.max_marks b machine.now self.new }

@@ -9,6 +9,7 @@ ghost use Rattle.tp_search.specs.Outcomes.{IsOutcome};
 ghost use Rattle.tp_search.specs.Workspaces.{IsFor};
 ghost use Rattle.tp_showing.specs.Closes.{IsLimit};
 ghost use Rattle.tp_showing.specs.Showing.{IsEarlyEnd};
+ghost use Rattle.tp_trees.specs.Short.{HasFewHops};
 ghost use Rattle.tp_trees.specs.Trees.{IsBoundTree};
 
 use crate::goals::{OpenGoal, find_goals};
@@ -112,6 +113,7 @@ impl Workspace {
         requires marks { HasMarks N.net N.content N.past N.max_marks 326 board.old }
         ensures tree { IfOk result (IsBoundTree machine.now board.old.plans ask.entry.now
             (pos limit)) }
+        ensures short { IfOk result HasFewHops }
         ensures early { IfErr result (IsEarlyEnd machine.now board.old.plans ask.entry.now limit) }
         ensures back { IsBack N.net N.content N.past N.max_marks board.old board.new machine.now }
         ensures same { self.new ≡ self.old }

@@ -1,5 +1,5 @@
 -- The state before an action, and the node of an action that is opened.
-use Rattle.std.proofs.Common.{◌≡◌, ℕ, suc, ◌+◌, ◌<◌, Bool, true, false, cond, List, [], ◌∷◌, ◌++◌, length, refl, sym, ◌∙◌, ap, subst, add-one, find, Option, Some, None, option_and_then, option_map, unwrap_or, IsTrue}
+use Rattle.std.proofs.Common.{◌≡◌, ℕ, suc, ◌+◌, ◌<◌, Bool, true, false, cond, List, [], ◌∷◌, ◌++◌, length, refl, sym, ◌∙◌, ap, subst, arith, add-one, find, Option, Some, None, option_and_then, option_map, unwrap_or, IsTrue}
 use Rattle.std.specs.Prelude.{pos, IfSome, IfNone}
 use Rattle.std.specs.List.{slice_get}
 use Rattle.tp_bounds.specs.declared.tree.Close.TheVariants.{Dead}
@@ -106,7 +106,7 @@ module _ (machine : Machine) (plans : List Plan) (ask : Ask) (sums : List (Optio
       let none = has s known ∙ at in
       subst (λ ds. Adds machine plans ask rows (pos limit) ds old new []) (sym (due-by machine plans ask rows r x act (Some s) is))
       (adds-node machine plans ask rows (pos limit) (action (branch_by r x) act s) n old new []
-      (node-look machine plans ask rows (pos limit) (action (branch_by r x) act s) n (branch_by (opened_below r act s) (with_action act 0 x)) [] (act-stands machine plans ask rows r x act s name 0 (named rows) (ap or_zero none)) refl (ap (dead_look true) none)) put)
+      (node-look machine plans ask rows (pos limit) (action (branch_by r x) act s) n (branch_by (opened_below r act s) (with_action act 0 x)) [] (act-stands machine plans ask rows r x act s name 0 (named rows) (ap or_zero none)) refl (ap (dead_look true) none)) put (omega arith))
 
 pub skipped-shows : (machine : Machine) (plans : List Plan) (ask : Ask) (sums : List (Option ℕ)) (limit : ℕ) (old : List Node) (r : Branch) (x : Suffix) (act : ActId)
     → None ≡ cond (is_act_allowed machine ask.outs act) (state_before ask.want r.first (action_at machine act.0)) None → Shows machine plans ask sums limit old old (λ rows. action_due machine plans ask rows (branch_by r x) act) (λ _. [])

@@ -27,6 +27,7 @@ use Rattle.tp_placing.specs.declared.causes.Cause.TheVariants.{Limit}
 use Rattle.tp_placing.proofs.StandFacts.{some-and}
 use Rattle.tp_placing.proofs.TableFacts.{length-table}
 use Rattle.tp_trees.specs.Places.{Branch}
+use Rattle.tp_trees.specs.Short.{most_hops}
 use Rattle.tp_trees.specs.Trees.{close_look}
 use Rattle.tp_trees.specs.Trees.Look.{due}
 use Rattle.tp_showing.specs.Closes.{ClosesEnd, ClosesRefused, ClosesStop, IsEndRefused, IsLimit, IsRefused}
@@ -46,7 +47,7 @@ module _ {N C : Type 0} (net : N → Net) (content : N → C) (past : N → List
   on = stands.1
 
   -- the points of a network are few
-  few-points : (ask : Ask) (x : Suffix) (n : Net) → length x.choices ≤ 64 → IsBoardNet machine b.plans ask x (table_with b.plans (suc (length x.choices))) n → length n.lows < 100000
+  few-points : (ask : Ask) (x : Suffix) (n : Net) → length x.choices ≤ 64 → IsBoardNet machine b.plans ask x (table_with b.plans (suc (length x.choices))) n → length n.lows < most_hops
   few-points ask x n few is =
       let l = ap length is.lows in
       let m = length-map-low in
@@ -89,10 +90,13 @@ module _ {N C : Type 0} (net : N → Net) (content : N → C) (past : N → List
       }
 
   pub late-told : (close : Close) → IsToldReason refutes machine b close → ClosesRefused refutes machine b close
-  late-told close told ask x lim asked refused by rows br head same =
-      let r : IsRefused refutes machine b br.x = subst (IsRefused refutes machine b) (sym same) refused in
-      let q : IsReason refutes b machine ask br.x = subst (λ o. IsSomeAnd o (λ a. IsReason refutes b machine a br.x)) asked r.shown in
-      late-closes machine b.plans ask rows lim br b.causes q.net q.shown.late b.limit told.proof close head (setting ask br lim rows by) r.going q.no_limit q.is_net q.hops q.shown.part (told.refuted q.shown.late q.shown.shown) told.tells
+  late-told close told ask x lim asked refused by = (
+    told.few,
+    λ rows br head same. (
+        let r : IsRefused refutes machine b br.x = subst (IsRefused refutes machine b) (sym same) refused in
+        let q : IsReason refutes b machine ask br.x = subst (λ o. IsSomeAnd o (λ a. IsReason refutes b machine a br.x)) asked r.shown in
+        late-closes machine b.plans ask rows lim br b.causes q.net q.shown.late b.limit told.proof close head (setting ask br lim rows by) r.going q.no_limit q.is_net q.hops q.shown.part (told.refuted q.shown.late q.shown.shown) told.tells),
+  )
 
   -- ---- an end
   pub end-tellable : (x : Suffix) (last : ℕ) → length x.choices ≤ 64 → HasEndReason refutes machine b x last → IsTellableReason refutes machine b
@@ -117,10 +121,13 @@ module _ {N C : Type 0} (net : N → Net) (content : N → C) (past : N → List
       }
 
   pub end-told : (last : ℕ) (close : Close) → IsToldReason refutes machine b close → ClosesEnd refutes machine b last close
-  end-told last close told ask x asked refused by rows br head same =
-      let r : IsEndRefused refutes machine b br.x last = subst (λ y. IsEndRefused refutes machine b y last) (sym same) refused in
-      let q : IsEndReason refutes b machine ask br.x last = subst (λ o. IsSomeAnd o (λ a. IsEndReason refutes b machine a br.x last)) asked r.shown in
-      end-closes machine b.plans ask rows br b.causes last q.net q.end (setting ask br (pos last) rows by) r.going q.limit_cause q.is_net q.hops q.is_end q.shown.late q.shown.part b.limit told.proof close head q.limit (told.refuted q.shown.late q.shown.shown) told.tells
+  end-told last close told ask x asked refused by = (
+    told.few,
+    λ rows br head same. (
+        let r : IsEndRefused refutes machine b br.x last = subst (λ y. IsEndRefused refutes machine b y last) (sym same) refused in
+        let q : IsEndReason refutes b machine ask br.x last = subst (λ o. IsSomeAnd o (λ a. IsEndReason refutes b machine a br.x last)) asked r.shown in
+        end-closes machine b.plans ask rows br b.causes last q.net q.end (setting ask br (pos last) rows by) r.going q.limit_cause q.is_net q.hops q.is_end q.shown.late q.shown.part b.limit told.proof close head q.limit (told.refuted q.shown.late q.shown.shown) told.tells),
+  )
 
   -- ---- a stop
   record HasTicks (ask : Ask) (x : Suffix) : Type 0 where
@@ -139,11 +146,14 @@ module _ {N C : Type 0} (net : N → Net) (content : N → C) (past : N → List
     ask-is p q e = cc
 
   pub stop-told : (close : Close) → IsToldReason refutes machine b close → ClosesStop refutes machine b close
-  stop-told close told ask x lim asked refused flying some by rows br head same =
-      let mine = same-ask ask asked in
-      let ticks : HasTicks ask x = subst (λ a. HasTicks a x) mine (times-of x refused.carried) in
-      let q : IsReason refutes b machine ask (with_stop x) = subst (λ o. IsSomeAnd o (λ a. IsReason refutes b machine a (with_stop x))) asked refused.shown in
-      let set = setting ask (record { depth = br.depth; first = br.first; x = with_stop x }) lim rows by in
-      subst (λ y. close_look machine b.plans ask rows lim (record { branch = record { depth = br.depth; first = br.first; x = y }; span = None }) head close ≡ due []) (sym same)
-      (stop-closes machine b.plans ask rows lim br.depth br.first x b.causes q.net q.shown.late set (subst (IsAsked machine b.plans) mine on.origin) flying some ticks.ticks ticks.times q.is_net q.hops q.shown.part b.limit told.proof close head q.no_limit
-      (told.refuted q.shown.late q.shown.shown) told.tells)
+  stop-told close told ask x lim asked refused flying some by = (
+    told.few,
+    λ rows br head same. (
+        let mine = same-ask ask asked in
+        let ticks : HasTicks ask x = subst (λ a. HasTicks a x) mine (times-of x refused.carried) in
+        let q : IsReason refutes b machine ask (with_stop x) = subst (λ o. IsSomeAnd o (λ a. IsReason refutes b machine a (with_stop x))) asked refused.shown in
+        let set = setting ask (record { depth = br.depth; first = br.first; x = with_stop x }) lim rows by in
+        subst (λ y. close_look machine b.plans ask rows lim (record { branch = record { depth = br.depth; first = br.first; x = y }; span = None }) head close ≡ due []) (sym same)
+        (stop-closes machine b.plans ask rows lim br.depth br.first x b.causes q.net q.shown.late set (subst (IsAsked machine b.plans) mine on.origin) flying some ticks.ticks ticks.times q.is_net q.hops q.shown.part b.limit told.proof close head q.no_limit
+        (told.refuted q.shown.late q.shown.shown) told.tells)),
+  )

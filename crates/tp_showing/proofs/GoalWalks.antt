@@ -1,8 +1,9 @@
 -- A goal state from a mark of the board to the way back, and all of them.
-use Rattle.std.proofs.Common.{◌≡◌, ℕ, zero, suc, ◌+◌, ◌-◌, ◌≤◌, List, [], ◌∷◌, ◌++◌, length, drop, sym, ◌∙◌, add-one, ap, subst, arith, Result, Option, Some, None}
+use Rattle.std.proofs.Common.{◌≡◌, ℕ, zero, suc, ◌+◌, ◌-◌, ◌≤◌, List, [], ◌∷◌, ◌++◌, length, drop, sym, ◌∙◌, add-one, ap, subst, arith, All, Result, Option, Some, None}
 use Rattle.std.specs.Prelude.{map, pos, slice_get}
 use Rattle.std.specs.Result.{OnOk}
 use Rattle.std.proofs.lemmas.List.{append-nil, drop_all, length-append}
+use Rattle.std.proofs.lemmas.List.Elements.{All-nil}
 use Rattle.tp_base.specs.Net.{Net}
 use Rattle.tp_bounds.specs.declared.tree.Node.{Node}
 use Rattle.tp_bounds.specs.declared.tree.TreeRow.{TreeRow}
@@ -15,9 +16,10 @@ use Rattle.tp_placing.specs.Boards.{BoardValue, content_of, past_of, suffix_of}
 use Rattle.tp_placing.specs.Laws.{MarkKeeps}
 use Rattle.tp_trees.specs.Places.Due.{goal}
 use Rattle.tp_trees.specs.Places.{Due, goal_states}
+use Rattle.tp_trees.specs.Short.{IsOfFewHops}
 use Rattle.tp_trees.specs.Trees.{Covers, goals_due}
 use Rattle.tp_showing.specs.RoomRows.{HasRooms}
-use Rattle.tp_showing.specs.Showing.{Adds, GoalGoesOn, HasMarks, IsGoalEntered, IsSet, IsSince, LeadsTo, Shows, branch_by, kids_of}
+use Rattle.tp_showing.specs.Showing.{Adds, CoversBriefly, GoalGoesOn, HasMarks, IsGoalEntered, IsSet, IsSince, LeadsTo, Shows, branch_by, kids_of}
 use Rattle.tp_showing.specs.declared.scene.Branch.{Branch}
 use Rattle.tp_showing.proofs.AddFacts.{adds-behind}
 use Rattle.tp_showing.proofs.CarryFacts.{suffix-same}
@@ -98,9 +100,10 @@ goals-last machine plans ask sums limit one two ss at past shows = subst (λ us.
 
 -- the nodes of all goals cover them
 pub covers-all : (machine : Machine) (plans : List Plan) (ask : Ask) (sums : List (Option ℕ)) (limit : ℕ) (start nodes : List Node) (ss : List State) (rows : List TreeRow) → HasRooms machine sums rows → start ≡ [] → ss ≡ goal_states machine ask.want ask.goal
-    → Shows machine plans ask sums limit start nodes (λ _. goals_by ss) (λ _. []) → Covers machine plans ask rows (pos limit) (goals_due machine plans ask rows (pos limit)) nodes
+    → Shows machine plans ask sums limit start nodes (λ _. goals_by ss) (λ _. []) → Covers machine plans ask rows (pos limit) (goals_due machine plans ask rows (pos limit)) nodes × All IsOfFewHops nodes
+unfolding CoversBriefly
 covers-all machine plans ask sums limit start nodes ss rows has none are shows =
     let goals = goals_due machine plans ask rows (pos limit) in
     let adds = subst (λ (us : List State). Adds machine plans ask rows (pos limit) (goals_by us) [] nodes []) are (subst (λ ns. Adds machine plans ask rows (pos limit) (goals_by ss) ns nodes []) none (shows rows has)) in
-    let at_first : LeadsTo machine plans ask rows (pos limit) goals [] (goals ++ []) = λ tail covers. subst (λ ds. Covers machine plans ask rows (pos limit) ds tail) (append-nil goals) covers in
-    subst (Covers machine plans ask rows (pos limit) goals) (append-nil nodes) (adds goals [] at_first [] tt)
+    let at_first : LeadsTo machine plans ask rows (pos limit) goals [] (goals ++ []) = λ tail covers. subst (λ ds. CoversBriefly machine plans ask rows (pos limit) ds tail) (append-nil goals) covers in
+    subst (CoversBriefly machine plans ask rows (pos limit) goals) (append-nil nodes) (adds goals [] at_first [] (tt, All-nil IsOfFewHops))

@@ -19,7 +19,7 @@ use Rattle.tp_schedule.specs.declared.parts.Plan.{Plan}
 use Rattle.tp_constraints.specs.Suffixes.{Suffix, order_in, with_place}
 use Rattle.tp_trees.specs.Chains.{Led, follow, low, spot_of}
 use Rattle.tp_trees.specs.Chains.Led.{led, lost}
-use Rattle.tp_trees.specs.Places.{Stand, alone, next_rule, place_branch}
+use Rattle.tp_trees.specs.Places.{Branch, Stand, alone, at_places, next_rule, place_branch}
 use Rattle.tp_trees.specs.Trees.{chain_end, chain_look, close_look, loop_end, loop_look}
 use Rattle.tp_trees.specs.Trees.Look.{due}
 use Rattle.tp_trees.proofs.Lists.{number-same}
@@ -92,7 +92,7 @@ module _ (machine : Machine) (plans : List Plan) (ask : Ask) (limit : ℤ) (rule
       by-close (Loop p hops) a b e = loop-stays hops a b (spot_of plans count p) e
 
       pub many-closes : Many s2
-      many-closes = by-close close w.behind w.before (w.closes rows (record { depth = suc depth; first = first; x = with_place place (record { choices = c ∷ cs; rooms = rooms; stopped = stopped }) }) head refl)
+      many-closes = by-close close w.behind w.before (w.closes.1 rows (record { depth = suc depth; first = first; x = with_place place (record { choices = c ∷ cs; rooms = rooms; stopped = stopped }) }) head refl)
 
     pub some-closes : (choices : List Choice) → IsWide (record { choices = choices; rooms = rooms; stopped = stopped })
         → Many (record { branch = record { depth = suc depth; first = first; x = record { choices = choices; rooms = rooms; stopped = stopped } }; span = Some (record { rule = rule; lo = lo; hi = hi }) })
@@ -100,8 +100,8 @@ module _ (machine : Machine) (plans : List Plan) (ask : Ask) (limit : ℤ) (rule
     some-closes (c ∷ cs) w = many-closes c cs w
 
   -- at one place or at several
-  pub range-closes : (x : Suffix) → IsWide x → ClosesRange machine plans ask limit x rule lo hi close
-  range-closes x wide rows b head same = go (lo == hi) refl where
+  range-looks : (x : Suffix) → IsWide x → (rows : List TreeRow) (b : Branch) (head : Head) → b.x ≡ x → close_look machine plans ask rows limit (at_places machine plans ask rows b rule lo hi) head close ≡ due []
+  range-looks x wide rows b head same = go (lo == hi) refl where
     w : IsWide b.x
     w = subst IsWide (sym same) wide
 
@@ -110,5 +110,8 @@ module _ (machine : Machine) (plans : List Plan) (ask : Ask) (limit : ℤ) (rule
     go true u =
         let both : lo ≡ hi = eqb-true lo hi u in
         let only : place ≡ lo = omega arith in
-        w.closes rows (place_branch machine plans ask rows b lo) head (ap (λ k. with_place k b.x) (sym only))
+        w.closes.1 rows (place_branch machine plans ask rows b lo) head (ap (λ k. with_place k b.x) (sym only))
     go false u = some-closes rows head b.depth b.first b.x.rooms b.x.stopped u b.x.choices w
+
+  pub range-closes : (x : Suffix) → IsWide x → ClosesRange machine plans ask limit x rule lo hi close
+  range-closes x wide = (wide.closes.0, range-looks x wide)

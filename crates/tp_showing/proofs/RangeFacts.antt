@@ -68,9 +68,9 @@ range-shows machine plans ask sums limit old new r x rule lo hi name close named
     let s = at_places machine plans ask rows br rule lo hi in
     let deep : s.branch.depth ≡ r.depth + 1 = range-depth machine plans ask rows r x rule lo hi name (lo == hi) ∙ sym (add-one r.depth) in
     let t : (r.depth + 1 == s.branch.depth) ≡ true = ap (λ k. r.depth + 1 == k) deep ∙ number-same (r.depth + 1) in
-    let closed = ap (with_behind machine plans ask rows (pos limit) (due_behind machine plans ask rows d (AtHead name lo hi))) (closes rows br (AtHead name lo hi) refl) in
+    let closed = ap (with_behind machine plans ask rows (pos limit) (due_behind machine plans ask rows d (AtHead name lo hi))) (closes.1 rows br (AtHead name lo hi) refl) in
     let looks : look machine plans ask rows (pos limit) d n ≡ due (places_from machine plans ask rows br rule (suc hi)) = ap (stand_look machine plans ask rows (pos limit) d n) (range-stands machine plans ask rows r x rule lo hi name (named rows) below within) ∙ rw t closed in
-    let adds = adds-node machine plans ask rows (pos limit) d n old new (places_from machine plans ask rows br rule (suc hi)) looks put in
+    let adds = adds-node machine plans ask rows (pos limit) d n old new (places_from machine plans ask rows br rule (suc hi)) looks put closes.0 in
     let next : places_from machine plans ask rows br rule (suc hi) ≡ places_from machine plans ask rows br rule (hi + 1) = ap (places_from machine plans ask rows br rule) (sym (add-one hi)) in
     let here : lo ≤ length (order_in machine plans x rule.resource.0) = omega arith in
     subst (λ ds. Adds machine plans ask rows (pos limit) ds old new (places_from machine plans ask rows br rule (hi + 1))) (sym (places-due machine plans ask rows br rule lo here))

@@ -1,5 +1,5 @@
 -- A tree that is made on a board: the nodes so far and what is still due behind them, and what the board carries.
-use Rattle.std.specs.Prelude.{◌≡◌, ℕ, zero, suc, ◌+◌, ◌*◌, ◌-◌, ◌<◌, ◌≤◌, nat_lt, List, [], ◌∷◌, ◌++◌, length, slice_get, Option, Some, None, ℤ, pos, IsFalse, MatchOption, false, if◌then◌else◌}
+use Rattle.std.specs.Prelude.{◌≡◌, ℕ, zero, suc, ◌+◌, ◌*◌, ◌-◌, ◌<◌, ◌≤◌, nat_lt, List, [], ◌∷◌, ◌++◌, length, slice_get, All, Option, Some, None, ℤ, pos, IsFalse, MatchOption, false, if◌then◌else◌}
 use Rattle.tp_base.specs.Net.{Net}
 use Rattle.tp_bounds.specs.declared.tree.Head.{Head}
 use Rattle.tp_bounds.specs.declared.tree.Node.{Node}
@@ -22,6 +22,7 @@ use Rattle.tp_placing.specs.Standing.{Stands}
 use Rattle.tp_trees.specs.Places as places
 use Rattle.tp_trees.specs.Places.Due.{goal}
 use Rattle.tp_trees.specs.Places.{Due, action_due, actions_due, children, due_behind, is_begun, places_from, stand_of, stop_due}
+use Rattle.tp_trees.specs.Short.{IsOfFewHops}
 use Rattle.tp_trees.specs.Trees.{Covers}
 use Rattle.tp_ways.specs.Ends.{EndsBy, HasEndBy}
 use Rattle.tp_ways.specs.Ways.{IsWay}
@@ -31,9 +32,13 @@ use Rattle.tp_showing.specs.declared.scene.NotShown.{NotShown}
 use Rattle.tp_showing.specs.declared.scene.NotShown.TheVariants.{Early, Memory}
 
 module _ (machine : Machine) (plans : List Plan) (ask : Ask) (rows : List TreeRow) (limit : ℤ) where
+  -- nodes of few hops cover what is due
+  unfoldable pub CoversBriefly : List Due → List Node → Type 0
+  CoversBriefly ds nodes = Covers machine plans ask rows limit ds nodes × All IsOfFewHops nodes
+
   -- with nodes that cover what is due behind these, all that was due at the start is covered
   abbrev pub LeadsTo : List Due → List Node → List Due → Type 0
-  LeadsTo start nodes ds = (tail : List Node) → Covers machine plans ask rows limit ds tail → Covers machine plans ask rows limit start (nodes ++ tail)
+  LeadsTo start nodes ds = (tail : List Node) → CoversBriefly ds tail → CoversBriefly start (nodes ++ tail)
 
   -- where some dues were first, others are in their place with the new nodes
   abbrev pub Adds : List Due → List Node → List Node → List Due → Type 0

@@ -1,5 +1,5 @@
 -- What a tree tells of the edges of a board's reason.
-use Rattle.std.specs.Prelude.{◌≡◌, ℕ, ◌+◌, ◌<◌, ◌⊎◌, List, [], ◌∷◌, ◌++◌, length, take, drop, All, Option, Some, None, option_map, slice_get}
+use Rattle.std.specs.Prelude.{◌≡◌, ℕ, ◌+◌, ◌<◌, ◌≤◌, ◌⊎◌, List, [], ◌∷◌, ◌++◌, length, take, drop, All, Option, Some, None, option_map, slice_get}
 use Rattle.tp_base.specs.declared.edges.Edge.{Edge}
 use Rattle.tp_base.specs.declared.edges.PointId.{PointId}
 use Rattle.tp_base.specs.declared.edges.Proof.{Proof}
@@ -28,6 +28,7 @@ use Rattle.tp_placing.specs.declared.names.Spot.{Spot as SpotName}
 use Rattle.tp_placing.specs.declared.names.Spot.TheVariants.{Own as OwnSpot, Kept as KeptSpot, Limit as LimitSpot}
 use Rattle.tp_placing.specs.declared.names.Why.{Why}
 use Rattle.tp_placing.specs.declared.names.Why.TheVariants.{Forward as WhyForward, Back as WhyBack, Line as WhyLine, Resource as WhyResource, Stop as WhyStop, Limit as WhyLimit}
+use Rattle.tp_trees.specs.Short.{hops_in, most_hops}
 use Rattle.tp_trees.specs.Told.{told}
 
 -- the names of a board as those of a tree. The limit of a claimed end stands for the end
@@ -132,10 +133,11 @@ pub record IsTellableReason {N : Type 0} (refutes : N → Net → Type 0) (machi
   pub shown : IsShown refutes b.net net
   pub edges : All (IsTellable machine b.plans b.causes b.limit) net.edges
   pub ends : All (λ e. e.to.0 < length net.lows) net.edges
-  pub few : length net.lows < 1000000
+  pub few : length net.lows ≤ most_hops
 
--- the close tells of a proof that refutes all that the last refusal shows
+-- the close tells of a proof that refutes all that the last refusal shows, and passes no more points than there can be
 pub record IsToldReason {N : Type 0} (refutes : N → Net → Type 0) (machine : Machine) (b : BoardValue N) (close : Close) : Type 0 where
   pub proof : Proof
   pub refuted : (late : Net) → refutes b.net late → Refutes late proof
   pub tells : IsCloseOf machine b.plans b.causes b.limit proof close
+  pub few : hops_in close ≤ most_hops

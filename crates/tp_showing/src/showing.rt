@@ -10,6 +10,7 @@ ghost use Rattle.tp_schedule.specs.Routes.{IsGoalState};
 ghost use Rattle.tp_showing.specs.Closes.{IsLimit};
 ghost use Rattle.tp_showing.specs.Showing.{HasMarks, IsBack, IsEarlyEnd, IsSet, Shows};
 ghost use Rattle.tp_trees.specs.Places.Due.{goal};
+ghost use Rattle.tp_trees.specs.Short.{HasFewHops};
 ghost use Rattle.tp_trees.specs.Trees.{IsBoundTree};
 
 use crate::goals::goal_states;
@@ -100,9 +101,9 @@ fn show_goals<N: Network>(
 }
 
 /// A tree that shows that no alternative ends by the limit, a tick: room rows, and a node for each
-/// way that comes by it, with the reason why it goes no further. `Early` comes only where some
-/// alternative ends by the limit. Leaves the board as it was. Where memory runs out, the call may be
-/// made again.
+/// way that comes by it, with the reason why it goes no further. Hops are few, since no chain and no
+/// loop passes a point twice. `Early` comes only where some alternative ends by the limit. Leaves
+/// the board as it was. Where memory runs out, the call may be made again.
 pub fn show_limit<N: Network>(
     alloc: Global,
     rooms: &Rooms,
@@ -122,6 +123,7 @@ pub fn show_limit<N: Network>(
     requires marks { HasMarks N.net N.content N.past N.max_marks 326 board.old }
     ensures tree { IfOk result (IsBoundTree machine.entry.now board.old.plans ask.entry.now
         (pos limit)) }
+    ensures short { IfOk result HasFewHops }
     ensures early { IfErr result (IsEarlyEnd machine.entry.now board.old.plans ask.entry.now
         limit) }
     ensures back { IsBack N.net N.content N.past N.max_marks board.old board.new

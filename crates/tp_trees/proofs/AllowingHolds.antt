@@ -30,7 +30,7 @@ use Rattle.tp_constraints.specs.Suffixes.{Suffix, order_in}
 use Rattle.tp_constraints.proofs.HeldSlots.{OwnEach, placed-All}
 use Rattle.tp_constraints.proofs.Lists.{contains-get}
 use Rattle.tp_constraints.proofs.Numbering.{same_spot-refl}
-use Rattle.tp_trees.specs.Chains.{from_here, gap_in, gap_of, hold_gap, resource_gap, start_in, start_of}
+use Rattle.tp_trees.specs.Chains.{gap_in, gap_of, start_in, start_of}
 use Rattle.tp_trees.specs.Places.{Branch, Stand}
 use Rattle.tp_trees.specs.Told.{hold_name, resource_hop, sheet_name}
 use Rattle.tp_trees.proofs.Allowing.{gap-found, le-to, lt-to, plan-found}
@@ -73,7 +73,7 @@ module _ (plans : List Plan) (count : ℕ) (in_order : AllPairs IsEarlier plans)
     found = ap (start_in (i + 1)) (plan-found plans p in_order named in') ∙ (let n : i + 1 ≡ suc i = omega arith in let t = lt-to i (length p.acts) below in rw (n, t) refl);
   }
 
-  pub own-hold : (n : ℕ) → suc n ≤ count → IsNamedHold plans count (own (suc n))
+  own-hold : (n : ℕ) → suc n ≤ count → IsNamedHold plans count (own (suc n))
   own-hold n le = record { name = OwnHold (suc n); told = refl; found = let t = le-to (suc n) count le in rw t refl }
 
   abbrev IsNamedSlot : Slot → Type 0
@@ -126,26 +126,3 @@ order-allowed machine plans ask limit b resource i j x y k in_order named differ
       let t = same_spot-refl (slot_gap (gap_at machine resource) x y).from in
       subst (λ q. gap_of machine plans ask limit (record { branch = b; span = None }) (slot_gap (gap_at machine resource) x y).from q ≡ Some (slot_gap (gap_at machine resource) x y)) is
       (rw (place, nx.found, ny.found) (rw found (rw t refl)))
-
--- the same wherever the node's orders say the gap
-pub order-allowed_by : (machine : Machine) (plans : List Plan) (ask : Ask) (limit : ℤ) (s : Stand) (resource : ℕ) (x y : Slot) (k : TreeHop) → AreDifferent (map (λ r. r.name) machine.resources)
-    → IsNamedHold plans (length s.branch.x.choices) x.from → IsNamedHold plans (length s.branch.x.choices) y.from
-    → resource_gap machine plans ask limit s resource x.from y.from ≡ Some (slot_gap (gap_at machine resource) x y)
-    → option_and_then (resource_hop plans x.from y.from) (slice_get machine.resources resource) ≡ Some k
-    → gap_of machine plans ask limit s (slot_gap (gap_at machine resource) x y).from k ≡ Some (slot_gap (gap_at machine resource) x y)
-order-allowed_by machine plans ask limit s resource x y k differ nx ny found told = go (slice_get machine.resources resource) refl told where
-  go : (o : Option Resource) → slice_get machine.resources resource ≡ o → option_and_then (resource_hop plans x.from y.from) o ≡ Some k → gap_of machine plans ask limit s (slot_gap (gap_at machine resource) x y).from k ≡ Some (slot_gap (gap_at machine resource) x y)
-  go None u h = absurd cc
-  go (Some r) u h =
-      let step : resource_hop plans x.from y.from r ≡ Some (Res r.name nx.name ny.name) =
-      ap (option_and_then (λ p. option_map (λ q. Res r.name p q) (hold_name plans y.from))) nx.told ∙ ap (option_map (λ q. Res r.name nx.name q)) ny.told in
-      let is : Res r.name nx.name ny.name ≡ k = some-hop (Res r.name nx.name ny.name) k (sym step ∙ h) in
-      let place = resource-place machine.resources resource r differ u in
-      let t = same_spot-refl (slot_gap (gap_at machine resource) x y).from in
-      let hold : hold_gap machine plans ask limit s (position (λ q. bytes_eq q.name r.name) machine.resources) (start_of plans (length s.branch.x.choices) nx.name) (start_of plans (length s.branch.x.choices) ny.name) ≡ Some (slot_gap (gap_at machine resource) x y) =
-      ap (λ o. hold_gap machine plans ask limit s o (start_of plans (length s.branch.x.choices) nx.name) (start_of plans (length s.branch.x.choices) ny.name)) place
-      ∙ ap (λ o. hold_gap machine plans ask limit s (Some resource) o (start_of plans (length s.branch.x.choices) ny.name)) nx.found
-      ∙ ap (λ o. hold_gap machine plans ask limit s (Some resource) (Some x.from) o) ny.found
-      ∙ found in
-      subst (λ q. gap_of machine plans ask limit s (slot_gap (gap_at machine resource) x y).from q ≡ Some (slot_gap (gap_at machine resource) x y)) is
-      (ap (from_here (slot_gap (gap_at machine resource) x y).from) hold ∙ rw t refl)

@@ -21,4 +21,4 @@ pub mod AllowingHolds
 pub mod AllowingLines
 pub mod HopsTold
 pub mod AllowingSpans
-pub mod AllowingSides
+pub mod ShortLines

@@ -5,7 +5,8 @@
 ghost use Rattle.tp_trees.specs.Claims.{TreeTells};
 ghost use Rattle.tp_trees.specs.Flaws.{FlawlessIsBound};
 ghost use Rattle.tp_trees.specs.Laws.{TreeBounds};
-ghost use Rattle.tp_trees.specs.Told.{HopsAreAllowed, HopsAreTold, SpanHopsAreAllowed};
+ghost use Rattle.tp_trees.specs.Short.{FewHopsMakeShortLines};
+ghost use Rattle.tp_trees.specs.Told.{HopsAreAllowed, HopsAreTold};
 
 mod claim;
 
@@ -24,9 +25,14 @@ pub fn flawless_trees_are_bound()
 {}
 
 /// Each hop of a board's reason but a stop and a limit is told in a tree, is allowed there, and says
-/// the same. So it is at all places on its side of the one that was tried.
+/// the same.
 pub fn reasons_are_allowed_hops()
     ensures told { HopsAreTold }
     ensures alone { HopsAreAllowed }
-    ensures spanned { SpanHopsAreAllowed }
+{}
+
+/// Where no chain and no loop of a tree has more hops than there can be points, no line of its text
+/// is longer than 4,194,304 bytes.
+pub fn few_hops_make_short_lines()
+    ensures { FewHopsMakeShortLines }
 {}

@@ -4,7 +4,7 @@ use Rattle.tp_schedule.specs.Answers.{IsLeast, follows_front}
 use Rattle.tp_schedule.specs.declared.parts.Plan.{Plan}
 use Rattle.tp_placing.specs.Writing.{IsLoadedFrom}
 use Rattle.tp_search.specs.Trials.{IsEarliestTo, IsNoPlan, board_in}
-use Rattle.tp_trees.specs.Claims.{IsTreeFor}
+use Rattle.tp_trees.specs.Short.{IsShortTreeFor}
 use Rattle.tp_trees.specs.declared.claim.Claim.TheVariants.{Earliest}
 use Rattle.tp_search.proofs.answering.answer_with_tree.Goals as goal
 
@@ -45,11 +45,11 @@ returns-in-Ok-show-clause-tree g c =
     let asked = c.show.ensures.same.loaded.ask ∙ first in
     let loaded : IsLoadedFrom machine plans ask c.load.new.self.plans = record { can_ask = c.requires.can; live_part = c.load.ensures.plans } in
     let done = subst (λ o. IsSomeAnd o (λ ask. IsEarliestTo machine plans ask c.show.new.self.end c.commit.new.schedule.plans)) asked c.commit.ensures.earliest in
-    let shows = subst (λ o. IsSomeAnd o (λ ask. (plans : List Plan) → IsLoadedFrom machine plans ask (board_in c.in-Ok.trial).plans → IsTreeFor machine plans ask (Earliest c.in-Ok.trial.end) c.in-Ok-show.tree)) first c.in-Ok-show.ensures.tree in
+    let shows = subst (λ o. IsSomeAnd o (λ ask. (plans : List Plan) → IsLoadedFrom machine plans ask (board_in c.in-Ok.trial).plans → IsShortTreeFor machine plans ask (Earliest c.in-Ok.trial.end) c.in-Ok-show.tree)) first c.in-Ok-show.ensures.tree in
     let a = done.earliest.alternative in (
       a.plan,
       a.planned,
-      subst (λ end. IsTreeFor machine plans ask (Earliest end) c.in-Ok-show.tree) (sym (done.ends ∙ c.show.ensures.same.end))
+      subst (λ end. IsShortTreeFor machine plans ask (Earliest end) c.in-Ok-show.tree) (sym (done.ends ∙ c.show.ensures.same.end))
           (shows plans (subst (IsLoadedFrom machine plans ask) (sym c.in-Ok.ensures.trial.loaded.plans) loaded)),
     )
 

@@ -1,5 +1,5 @@
 use Rattle.std.proofs.Common.{◌<◌, length}
-use Rattle.tp_showing.proofs.ReasonFacts.{AreFit, chain-fits, chain-late, circle-fits, circle-late, told-reason}
+use Rattle.tp_showing.proofs.ReasonFacts.{AreFit, chain-fits, chain-late, chain-short, circle-fits, circle-late, circle-short, told-reason}
 use Rattle.tp_base.specs.declared.edges.Proof.TheVariants.{Chain, Circle}
 use Rattle.tp_showing.proofs.closing.close_of.Goals as goal
 use Rattle.tp_showing.proofs.closing.close_of.Goals.{In-Chain, In-Circle}
@@ -31,8 +31,12 @@ circle_of-requires-clause-some g c = (circle g c).1
 
 pub returns-in-Chain : goal.returns-in-Chain
 returns-in-Chain g c =
-    told-reason g.N.Network.refutes c.args.machine.now c.args.board.now c.reason.result (Chain c.in-Chain.first c.in-Chain.edges) c.reason.ensures c.in-Chain.is c.chain_of.result c.chain_of.ensures
+    told-reason g.N.Network.refutes c.args.machine.now c.args.board.now c.reason.result (Chain c.in-Chain.first c.in-Chain.edges) c.reason.ensures c.in-Chain.is
+    (λ close tells. chain-short c.args.machine.now c.args.board.now.plans c.args.board.now.causes c.args.board.now.limit c.in-Chain.edges.now close (chain g (goal.at.returns-in-Chain g c).In-Chain).short c.in-Chain.first tells)
+    c.chain_of.result c.chain_of.ensures
 
 pub returns-in-Circle : goal.returns-in-Circle
 returns-in-Circle g c =
-    told-reason g.N.Network.refutes c.args.machine.now c.args.board.now c.reason.result (Circle c.in-Circle.edges) c.reason.ensures c.in-Circle.is c.circle_of.result c.circle_of.ensures
+    told-reason g.N.Network.refutes c.args.machine.now c.args.board.now c.reason.result (Circle c.in-Circle.edges) c.reason.ensures c.in-Circle.is
+    (λ close tells. circle-short c.args.machine.now c.args.board.now.plans c.args.board.now.causes c.args.board.now.limit c.in-Circle.edges.now close (circle g (goal.at.returns-in-Circle g c).In-Circle).0.short tells)
+    c.circle_of.result c.circle_of.ensures
