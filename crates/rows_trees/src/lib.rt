@@ -11,3 +11,5 @@ mod lines;
 mod made;
 #[cfg(test)]
 mod texts;
+#[cfg(test)]
+mod watched;
