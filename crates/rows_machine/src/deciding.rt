@@ -11,10 +11,10 @@ use std::process::Abort;
 use std::test::Fail;
 use tp_base::Tick;
 use tp_deciding::{
-    Clash, Early, PlanPoint, find_below_floor, find_clash, find_early, find_past_horizon,
-    is_timed_plan,
+    Clash, Early, Misfit, Parting, PlanPoint, find_below_floor, find_clash, find_early,
+    find_misfit, find_parting, find_past_horizon, is_timed_plan,
 };
-use tp_machine::{Machine, Want};
+use tp_machine::{Machine, ResId, Want};
 use tp_schedule::{Hold, Schedule};
 
 /// What is told of a schedule: what clashes, or else what breaks floor or horizon at 0, or else what could stand earlier.
@@ -120,10 +120,80 @@ fn is_timed(machine: &Machine, points: &[Tick]) -> Result<bool, Fail>
     Ok(is_timed_plan(machine, &plan))
 }
 
+/// The first action of a sheet by print2 that does not last within its durations.
+fn misfit_at(machine: &Machine, points: &[Tick]) -> Result<Option<Misfit>, Fail>
+    requires { length points.now ≡ 4 }
+{
+    let want = sheet_of(Want::Mono, Want::Blank)?;
+    let plan = plan_of(FIRST, want, 3, &[0, 2, 3], points)?;
+    Ok(find_misfit(machine, &plan))
+}
+
+/// The number of an action, how long it lasts, and what that breaks.
+fn misfit(act: u32, lasts: i64, limit: u32) -> Option<Misfit> {
+    Some(Misfit { act, lasts, limit })
+}
+
 fn plans_are_timed(rt: &impl Abort, machine: &Machine) -> Result<(), Fail> {
     assert!(rt; is_timed(machine, &[3, 5, 13, 16])?);
     // The second engine takes at most 8 ticks.
     assert!(rt; !is_timed(machine, &[3, 5, 14, 17])?);
+    assert!(rt; misfit_at(machine, &[3, 5, 13, 16])?.is_none());
+    assert!(rt; misfit_at(machine, &[3, 5, 14, 17])? == misfit(2, 9, 8));
+    assert!(rt; misfit_at(machine, &[3, 5, 10, 13])? == misfit(2, 5, 6));
+    assert!(rt; misfit_at(machine, &[3, 8, 14, 12])? == misfit(1, 5, 4));
+    assert!(rt; misfit_at(machine, &[3, 5, 13, 10])? == misfit(3, -3, 3));
+    Ok(())
+}
+
+/// Where the orders of one pair of sheets part from those of another, of which both are legal.
+fn parting_of(
+    alloc: Global,
+    machine: &Machine,
+    one: &Schedule,
+    other: &Schedule,
+) -> Result<Option<Parting>, Fail>
+    requires one { IsLegal machine.now one.now.plans }
+    requires other { IsLegal machine.now other.now.plans }
+{
+    Ok(find_parting(alloc, machine, None, one, other)?)
+}
+
+/// The same for two pairs, or a failure where one of them is not legal.
+fn parting_between(
+    alloc: Global,
+    machine: &Machine,
+    one: &Schedule,
+    other: &Schedule,
+) -> Result<Option<Parting>, Fail> {
+    match find_clash(alloc, machine, one)? {
+        None => {}
+        Some(_) => return Err(Fail::from("the first pair is not legal")),
+    }
+    match find_clash(alloc, machine, other)? {
+        None => parting_of(alloc, machine, one, other),
+        Some(_) => Err(Fail::from("the second pair is not legal")),
+    }
+}
+
+fn orders_are_compared(rt: &impl Abort, alloc: Global, machine: &Machine) -> Result<(), Fail> {
+    // The second sheet by print1 is fed first, and may be moved; or it is fed second.
+    let first = pair_on_duo(alloc, &[0, 1, 3], &[3, 5, 14, 17])?;
+    let moved = pair_on_duo(alloc, &[0, 1, 3], &[3, 5, 15, 18])?;
+    let second = pair_on_duo(alloc, &[0, 1, 3], &[7, 9, 18, 21])?;
+    assert!(rt; parting_between(alloc, machine, &first, &moved)?.is_none());
+    let parting = Parting {
+        resource: ResId(2),
+        stood: Some(Hold {
+            sheet: SECOND,
+            act: 1,
+        }),
+        stands: Some(Hold {
+            sheet: FIRST,
+            act: 1,
+        }),
+    };
+    assert!(rt; parting_between(alloc, machine, &first, &second)? == Some(parting));
     Ok(())
 }
 
@@ -131,5 +201,6 @@ fn plans_are_timed(rt: &impl Abort, machine: &Machine) -> Result<(), Fail> {
 fn whole_schedules_on_duo(rt: HostRuntime) -> Result<(), Fail> {
     let duo = machine_of(rt.alloc(), DUO)?;
     plans_are_timed(&rt, &duo)?;
+    orders_are_compared(&rt, rt.alloc(), &duo)?;
     rows_are_told(&rt, rt.alloc(), &duo)
 }

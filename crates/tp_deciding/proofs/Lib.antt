@@ -8,3 +8,5 @@ pub mod MarkFacts
 pub mod StepFacts
 pub mod NumberFacts
 pub mod EarlyFacts
+pub mod MisfitFacts
+pub mod PartingFacts

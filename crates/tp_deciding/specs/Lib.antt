@@ -5,3 +5,5 @@ pub mod Clashes
 pub mod Marks
 pub mod Early
 pub mod Bounds
+pub mod Misfits
+pub mod Partings

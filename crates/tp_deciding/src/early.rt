@@ -30,7 +30,8 @@ pub struct Early {
     pub earlier: Tick,
 }
 
-pub(crate) fn is_exempt(exempt: Option<SheetId>, plan: &Plan) -> bool
+/// Whether the plan is that of the copy, if there is one.
+pub fn is_exempt(exempt: Option<SheetId>, plan: &Plan) -> bool
     ensures { result ≡ is_exempt exempt plan.now }
 {
     match exempt {
@@ -40,7 +41,7 @@ pub(crate) fn is_exempt(exempt: Option<SheetId>, plan: &Plan) -> bool
 }
 
 /// Whether the point is the start or the end of a released action, or any point of a front.
-pub(crate) fn is_fixed(plan: &Plan, at: u32) -> bool
+pub fn is_fixed(plan: &Plan, at: u32) -> bool
     ensures { result ≡ is_fixed plan.now at }
 {
     let begun = 0 < plan.released && at <= plan.released;
@@ -112,7 +113,7 @@ fn low_marks(
     Ok(marks)
 }
 
-fn action_of(machine: &Machine, act: ActId) -> Option<&Action>
+pub(crate) fn action_of(machine: &Machine, act: ActId) -> Option<&Action>
     ensures { option_copied result ≡ action_at machine.now act.0 }
 {
     machine.actions.as_slice().get(usize::from(act.0))

@@ -1,4 +1,4 @@
-use Rattle.std.proofs.Common.{◌+◌, ◌<◌, All, IsFalse, subst, arith}
+use Rattle.std.proofs.Common.{◌+◌, All, IsFalse, subst, arith}
 use Rattle.std.proofs.lemmas.List.Elements.{All-contains}
 use Rattle.tp_schedule.specs.declared.parts.Plan.{Plan}
 use Rattle.tp_deciding.specs.Bounds.{StartsAbove}

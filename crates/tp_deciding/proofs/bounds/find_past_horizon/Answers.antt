@@ -1,4 +1,4 @@
-use Rattle.std.proofs.Common.{◌+◌, ◌≤◌, All, subst, arith}
+use Rattle.std.proofs.Common.{◌+◌, All, subst, arith}
 use Rattle.std.proofs.lemmas.List.Elements.{All-contains}
 use Rattle.tp_deciding.specs.Bounds.{EndsWithin}
 use Rattle.tp_deciding.proofs.ListFacts.{All-more, take-whole}

@@ -1,0 +1,4 @@
+pub mod PlanFacts
+pub mod AlikeFacts
+pub mod AnswerFacts
+pub mod AskedFacts
