@@ -16,4 +16,6 @@ mod scripts;
 #[cfg(test)]
 mod sessions;
 #[cfg(test)]
+mod standings;
+#[cfg(test)]
 mod stocks;

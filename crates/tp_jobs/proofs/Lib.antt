@@ -5,6 +5,7 @@ pub mod OrderFacts
 pub mod FirstCopies
 pub mod RefusalFacts
 pub mod KeptFacts
+pub mod GivenJobs
 pub mod BrokenFacts
 pub mod WholeFacts
 pub mod MarkFacts

@@ -9,7 +9,9 @@ use crate::fault::JobFault;
 use crate::making::make_copies;
 use crate::parts::{Job, WaitingCopy};
 use crate::queueing::{first_open, has_copy_for, place_behind, place_of};
+use crate::rebuilding::{list_of, names_of};
 use crate::refusing::{count_sheets, find_tray, has_feeder};
+use crate::standing::{JobRows, WaitRows};
 use crate::undoing::{break_in, keep_waiting, make_whole};
 use indexmap::IndexSet;
 use std::alloc::Global;
@@ -53,7 +55,7 @@ impl Model for Lines {
 }
 
 impl Lines {
-    ghost use Rattle.tp_jobs.specs.Backlogs.{IsBacklog, no_backlog, marked, undone};
+    ghost use Rattle.tp_jobs.specs.Backlogs.{IsBacklog, no_backlog, marked, undone, unmarked};
     ghost use Rattle.tp_jobs.specs.Trying.{next_to_try};
 
     /// No job. It takes no memory.
@@ -68,6 +70,39 @@ impl Lines {
             kept_waiting: Vec::new(alloc),
             broken: Vec::new(alloc),
         }
+    }
+
+    /// Lines with exactly these jobs, in this order, and these copies that wait; the last mark is before the first job. Takes
+    /// the time of all jobs.
+    pub fn rebuild(alloc: Global, jobs: &JobRows, waiting: &WaitRows) -> Result<Lines, Memory>
+        requires { IsBacklog (unmarked jobs.now waiting.now) }
+        ensures { IfOk result (λ lines. lines ≡ unmarked jobs.now waiting.now) }
+    {
+        let jobs = jobs.as_slice();
+        let mut broken = Vec::new(alloc);
+        broken.reserve(jobs.len())?;
+        Ok(Lines {
+            names: names_of(alloc, jobs)?,
+            jobs: Vec::from_slice(alloc, jobs)?,
+            waiting: Vec::from_slice(alloc, waiting.as_slice())?,
+            kept_jobs: 0,
+            kept_waiting: Vec::new(alloc),
+            broken,
+        })
+    }
+
+    /// The jobs in the order of arrival, as `rebuild` takes them. Takes the time of all jobs.
+    pub fn job_rows(&self, alloc: Global) -> Result<JobRows, Memory>
+        ensures { IfOk result (λ rows. rows ≡ self.now.jobs) }
+    {
+        list_of(alloc, self.jobs.as_slice())
+    }
+
+    /// The copies that wait, in their order, as `rebuild` takes them.
+    pub fn wait_rows(&self, alloc: Global) -> Result<WaitRows, Memory>
+        ensures { IfOk result (λ rows. rows ≡ self.now.waiting) }
+    {
+        list_of(alloc, self.waiting.as_slice())
     }
 
     /// Every value keeps this. The call does nothing.

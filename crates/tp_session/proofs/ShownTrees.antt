@@ -12,7 +12,8 @@ use Rattle.tp_schedule.specs.declared.parts.Reply.{Reply}
 use Rattle.tp_schedule.specs.declared.parts.Reply.TheVariants.{Planned, Never, Spent}
 use Rattle.tp_schedule.proofs.CopyFacts.{plan_of-itself, same_copy-is}
 use Rattle.tp_schedule.proofs.Membership.{Contains-filter_from}
-use Rattle.tp_trees.specs.Claims.{IsTreeFor, limit_of, live_part}
+use Rattle.tp_trees.specs.Claims.{limit_of, live_part}
+use Rattle.tp_trees.specs.Short.{IsShortTreeFor}
 use Rattle.tp_trees.specs.Trees.{IsBoundTree}
 use Rattle.tp_trees.specs.declared.claim.Claim.{Claim}
 use Rattle.tp_trees.specs.declared.claim.Claim.TheVariants.{Earliest, Never as NeverClaim}
@@ -54,8 +55,8 @@ module _ (machine : Machine) (plans : List Plan) (ask : Ask) (can : CanAskLive m
       ∙ sym (filter-by (λ p. is_live machine ask.now p || is_same_copy p.sheet ask.sheet) (is_live machine ask.now) plans
       (λ p in'. first-holds (is_live machine ask.now p) (is_same_copy p.sheet ask.sheet) (front-live p in')))
 
-  tree-on : (claim : Claim) (tree : BoundTree) → IsTreeFor machine (live_at machine ask.now plans) ask claim tree → IsTreeFor machine plans ask claim tree
-  tree-on claim tree is = subst (λ ps. IsBoundTree machine ps ask (limit_of machine ask claim) tree) live-on is
+  tree-on : (claim : Claim) (tree : BoundTree) → IsShortTreeFor machine (live_at machine ask.now plans) ask claim tree → IsShortTreeFor machine plans ask claim tree
+  tree-on claim tree (is, few) = (subst (λ ps. IsBoundTree machine ps ask (limit_of machine ask claim) tree) live-on is, few)
 
   -- the plan of the asked copy
   plan-on : {spent : Machine → List Plan → Ask → ℕ → Type 0} (live : List Plan) (p : Plan) (w : IsAnswerOnWhole spent machine plans ask Planned live) → plan_of ask.sheet live ≡ Some p → plan_of ask.sheet w.whole ≡ Some p

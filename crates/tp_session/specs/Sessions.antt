@@ -1,5 +1,5 @@
 -- What a session is seen as, and what one event does to it.
-use Rattle.std.specs.Prelude.{◌≡◌, ℕ, ◌≤◌, Bool, true, List, [], Option, IsTrue, unwrap_or}
+use Rattle.std.specs.Prelude.{◌≡◌, ℕ, ◌+◌, ◌≤◌, Bool, true, List, [], Option, IsTrue, unwrap_or}
 use Rattle.tp_machine.specs.declared.machine.Machine.{Machine}
 use Rattle.tp_script.specs.declared.event.Event.{Event}
 use Rattle.tp_search.specs.Engines.{EngineValue, is_engine_for}
@@ -12,6 +12,9 @@ use Rattle.tp_turn.specs.States.{SessionState, empty_state}
 use Rattle.tp_runs.specs.Ends.{IsAnswered, IsAnsweredTo}
 use Rattle.tp_runs.specs.EventRuns.{IsRunOf}
 use Rattle.tp_runs.specs.Wholes.{TellsTurn}
+use Rattle.tp_standing.specs.Sound.{last_number}
+use Rattle.tp_standing.specs.Told.{told}
+use Rattle.tp_jobs.specs.declared.standing.Standing as kept
 
 -- the machine, the budget, whether bounds are shown, and the live part of the state: all that answers depend on
 pub record Standing : Type 0 where
@@ -27,14 +30,14 @@ pub record SessionValue (N : Type 0) : Type 0 where
   pub text : List ℕ
 
 -- what holds between events: the engine is for the machine, the budget and the bounds, it has no trees, and any event can be
--- taken
+-- taken. It may have gone on from a standing, whose copies have numbers and whose feeders refills of their own
 pub record IsSession {N : Type 0} (standing : Standing) (engine : EngineValue N) (answered : ℕ) : Type 0 where
   pub serves : IsTrue (is_engine_for engine standing.machine)
   pub nodes : engine.work.nodes ≡ standing.budget
   pub bounds : engine.bounds ≡ standing.bounds
   pub no_trees : engine.trees ≡ []
-  pub can : CanTakeEvents standing.machine answered standing.state
-  pub stocked : KeepsStock standing.machine answered standing.state
+  pub can : CanTakeEvents standing.machine (last_number + answered) standing.state
+  pub stocked : KeepsStock standing.machine (2 + answered) standing.state
   pub within : answered ≤ most_events
 
 -- an event's turn on every whole state behind the session's, with the text of its records and trees. All but the state stays
@@ -43,6 +46,10 @@ pub record Tells (s : Standing) (event : Event) (text : List ℕ) (s' : Standing
   pub same_budget : s'.budget ≡ s.budget
   pub same_bounds : s'.bounds ≡ s.bounds
   pub turn : TellsTurn s.machine s.budget s.bounds event s.state text s'.state
+
+-- where it stands once it goes on from what is kept of a session
+abbrev pub gone_on : Standing → kept.Standing → Standing
+gone_on s t = record s { state = told s.machine t }
 
 -- where a session stands before its first event: its budget is the one that is set, or else the machine's
 abbrev pub start_of : Machine → Option ℕ → Bool → Standing

@@ -13,11 +13,13 @@ use crate::turning::take_turn;
 use std::alloc::Global;
 use std::marker::Model;
 use tp_base::{Memory, Network, Tick};
+use tp_jobs::{Desk, Standing};
 use tp_machine::{LocId, Machine};
 use tp_placing::Board;
 use tp_schedule::Schedule;
 use tp_script::Event;
 use tp_search::Engine;
+use tp_standing::{sound_standings_go_on, standing_of, state_of};
 use tp_stn_undo::LiveNet;
 use tp_teller::{Probe, Teller};
 use tp_turn::LiveState;
@@ -121,8 +123,10 @@ impl<N: Network + Drop> SessionOver<N> {
 
 impl<N: Network> SessionOver<N> {
     ghost use Rattle.tp_session.specs.Probes.{Probes};
-    ghost use Rattle.tp_session.specs.Sessions.{Tells};
+    ghost use Rattle.tp_session.specs.Sessions.{Tells, gone_on};
     ghost use Rattle.tp_session.specs.Stocks.{IsFree};
+    ghost use Rattle.tp_standing.specs.Sound.{IsSound};
+    ghost use Rattle.tp_standing.specs.Told.{standing_of};
 
     /// Does the turn of one event, and appends its text. After `Memory` all is as before, but for the board that asks are
     /// answered on.
@@ -222,6 +226,28 @@ impl<N: Network> SessionOver<N> {
         free_sheets(&self.machine, &self.state, feeder)
     }
 
+    /// Where the session stands, as plain values. Takes the time of all jobs and of the live plans.
+    pub fn standing(&self, alloc: Global) -> Result<Standing, Memory>
+        ensures { IfOk result (λ told. told
+            ≡ standing_of self.now.standing.machine self.now.standing.state) }
+    {
+        standing_of(alloc, &self.machine, &self.state)
+    }
+
+    /// Goes on from where a session of this machine stood. Its text, its count of events, its budget and whether it shows bounds
+    /// stay. After `Memory` all is as before. Takes the time of all jobs and of the plans.
+    pub fn restore(&mut self, standing: &Standing) -> Result<(), Memory>
+        requires sound { IsSound self.old.standing.machine standing.now }
+        ensures restored { OnOk result (self.new ≡ record self.old {
+          standing = gone_on self.old.standing standing.entry.now;
+        }) }
+        ensures stays { OnErr result (self.new ≡ self.old) }
+    {
+        sound_standings_go_on();
+        self.state = state_of(self.alloc, &self.machine, standing)?;
+        Ok(())
+    }
+
     /// The board that asks are answered on, as the last one left it.
     pub fn board(&self) -> &Board<N>
         ensures { result.now ≡ self.now.engine.board }
@@ -264,5 +290,25 @@ impl<N: Network> Teller for SessionOver<N> {
 
     fn events(&self) -> u32 {
         self.events()
+    }
+}
+
+impl<N: Network> Desk for SessionOver<N> {
+    ghost use Rattle.tp_standing.specs.Sound.{IsSound};
+    ghost use Rattle.tp_standing.specs.Told.{standing_of};
+
+    ghost machine = { λ s. s.standing.machine };
+
+    ghost stands = { λ s. standing_of s.standing.machine s.standing.state };
+
+    ghost sound = { IsSound };
+
+    fn standing(&self, alloc: Global) -> Result<Standing, Memory> {
+        self.standing(alloc)
+    }
+
+    fn restore(&mut self, standing: &Standing) -> Result<(), Memory> {
+        sound_standings_go_on();
+        self.restore(standing)
     }
 }

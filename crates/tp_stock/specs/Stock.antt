@@ -85,10 +85,11 @@ IsNotOverdrawn machine refills plans = (f : Feeder) → Contains machine.feeders
 abbrev pub AreWithin : ℕ → List ℤ → Type 0
 AreWithin events refills = (loc : ℕ) → (neg_ℤ (pos (events * 1000000)) ≤ℤ refilled refills loc) × (refilled refills loc ≤ℤ pos (events * 1000000))
 
--- a stock and its refills, less what is forgotten, come to no more than this: it was refilled to the most that may be free,
--- while at most 256 plans were live
+-- a stock and its refills, less what is forgotten, come to no more than this: a feeder is refilled to 1,000,000 free sheets at
+-- most while at most 256 plans are live, so that 1,000,256 may be free when they are withdrawn; and a desk may go on from there
+-- with 256 plans
 abbrev pub most_stocked : ℕ
-most_stocked = 1000256
+most_stocked = 1000512
 
 abbrev pub IsStockedWithin : Machine → List ℤ → Type 0
 IsStockedWithin machine refills = (loc : ℕ) (f : Feeder) (stock : ℕ) → feeder_at machine loc ≡ Some f → f.stock ≡ Some stock

@@ -47,7 +47,7 @@ stock-empty machine = record {
   stocked : (f : Feeder) → Contains machine.feeders f → (stock : ℕ) → f.stock ≡ Some stock → stock ≤ 1000000
   stocked f in' stock is = subst (λ o. IfSome o (λ n. n ≤ 1000000)) is (All-contains (λ (g : Feeder). IfSome g.stock (λ n. n ≤ 1000000)) machine.feeders f (is_machine machine).stocks in')
 
-  low : (stock : ℕ) → stock ≤ 1000000 → (pos stock +ℤ pos 0) ≤ℤ pos 1000256
+  low : (stock : ℕ) → stock ≤ 1000000 → (pos stock +ℤ pos 0) ≤ℤ pos 1000512
   low stock le = omega (arith, ints)
 
 -- more events
@@ -126,10 +126,10 @@ module _ (machine : Machine) (events : ℕ) (s : SessionState) (few : length s.p
     count-few : (stock taken count : ℕ) (r : ℤ) → pos taken ≤ℤ (pos stock +ℤ r) → (((pos stock +ℤ r) -ℤ pos taken) +ℤ pos count) ≤ℤ pos 1000000 → count ≤ 1000000
     count-few stock taken count r low high = omega (arith, ints)
 
-    stock-few : (stock taken count : ℕ) (r : ℤ) → taken ≤ 256 → (((pos stock +ℤ r) -ℤ pos taken) +ℤ pos count) ≤ℤ pos 1000000 → (pos stock +ℤ (r +ℤ pos count)) ≤ℤ pos 1000256
+    stock-few : (stock taken count : ℕ) (r : ℤ) → taken ≤ 256 → (((pos stock +ℤ r) -ℤ pos taken) +ℤ pos count) ≤ℤ pos 1000000 → (pos stock +ℤ (r +ℤ pos count)) ≤ℤ pos 1000512
     stock-few stock taken count r low high = omega (arith, ints)
 
-    plain : (stock : ℕ) (r : ℤ) → (pos stock +ℤ r) ≤ℤ pos 1000256 → (pos stock +ℤ (r +ℤ pos 0)) ≤ℤ pos 1000256
+    plain : (stock : ℕ) (r : ℤ) → (pos stock +ℤ r) ≤ℤ pos 1000512 → (pos stock +ℤ (r +ℤ pos 0)) ≤ℤ pos 1000512
     plain stock r low = omega (arith, ints)
 
     most : IsStockedWithin machine (more_at f.loc.0 count s.refills)
@@ -141,8 +141,8 @@ module _ (machine : Machine) (events : ℕ) (s : SessionState) (few : length s.p
           let one : g ≡ f = same_Some g f (sym at' ∙ ap (feeder_at machine) e ∙ at) in
           let stocks : stock ≡ of.stock = same_Some stock of.stock (sym is ∙ ap (λ (h : Feeder). h.stock) one ∙ of.is) in
           rw (refilled-more f.loc.0 count s.refills loc low, same)
-          (subst (λ l. (pos stock +ℤ (refilled s.refills l +ℤ pos count)) ≤ℤ pos 1000256) (sym e)
-          (subst (λ n. (pos n +ℤ (refilled s.refills f.loc.0 +ℤ pos count)) ≤ℤ pos 1000256) (sym stocks) (stock-few of.stock (taken_at machine s.plans f.loc.0) count (refilled s.refills f.loc.0) (taken-few f.loc.0) of.few)))
+          (subst (λ l. (pos stock +ℤ (refilled s.refills l +ℤ pos count)) ≤ℤ pos 1000512) (sym e)
+          (subst (λ n. (pos n +ℤ (refilled s.refills f.loc.0 +ℤ pos count)) ≤ℤ pos 1000512) (sym stocks) (stock-few of.stock (taken_at machine s.plans f.loc.0) count (refilled s.refills f.loc.0) (taken-few f.loc.0) of.few)))
       | inr other ↦
           let found = find-Some (λ (h : Feeder). h.loc.0 == loc) machine.feeders g at' in
           let known = feeder-known machine g found.0 in
@@ -189,7 +189,7 @@ module _ (machine : Machine) (events : ℕ) (s : SessionState) (few : length s.p
         let less = fewer loc in
         let few' = taken-few loc in omega arith
 
-    lower : (stock n : ℕ) (r : ℤ) → (pos stock +ℤ r) ≤ℤ pos 1000256 → (pos stock +ℤ (r -ℤ pos n)) ≤ℤ pos 1000256
+    lower : (stock n : ℕ) (r : ℤ) → (pos stock +ℤ r) ≤ℤ pos 1000512 → (pos stock +ℤ (r -ℤ pos n)) ≤ℤ pos 1000512
     lower stock n r high = omega (arith, ints)
 
     most : IsStockedWithin machine (less_taken machine gone s.refills)

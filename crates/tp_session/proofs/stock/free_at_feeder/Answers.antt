@@ -1,8 +1,8 @@
 -- What is free at the feeder is a count.
-use Rattle.std.proofs.Common.{◌≡◌, ◌∙◌, Some, sym, ap, arith, pos, ◌≤ℤ◌, to_z, of_z, w64}
+use Rattle.std.proofs.Common.{◌≡◌, ◌∙◌, Some, sym, ap, arith, to_z, of_z, w64}
 use Rattle.std.proofs.lemmas.Int.{ints, to_z-of_z}
 use Rattle.tp_stock.proofs.StockFacts.{free-told}
-use Rattle.tp_stock.specs.Stock.{free_stock, most_stocked}
+use Rattle.tp_stock.specs.Stock.{free_stock}
 use Rattle.tp_session.proofs.FreeFacts.{free-within}
 use Rattle.tp_session.proofs.stock.free_at_feeder.Goals as goal
 

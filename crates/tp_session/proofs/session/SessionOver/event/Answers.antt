@@ -5,6 +5,7 @@ use Rattle.tp_search.specs.Engines.{is_engine_for}
 use Rattle.tp_teller.specs.Tellers.{most_events}
 use Rattle.tp_turn.specs.LiveStates.{seen}
 use Rattle.tp_turn.specs.Ready.{CanTakeEvents, KeepsStock, last_copy}
+use Rattle.tp_standing.specs.Sound.{last_number}
 use Rattle.tp_turn.proofs.ReadyTurns.{events-more}
 use Rattle.tp_session.proofs.session.SessionOver.event.Goals as goal
 use Rattle.tp_turn.proofs.StockKept.{stock-more}
@@ -12,12 +13,12 @@ use Rattle.tp_turn.proofs.StockKept.{stock-more}
 pub take_turn-result-requires-clause-can : goal.take_turn-result-requires-clause-can
 take_turn-result-requires-clause-can g c =
     subst (CanTakeEvents c.self.inside.machine last_copy) (sym c.in_ok-before.ensures.stays)
-    (events-more c.self.inside.machine c.self.inside.answered last_copy (seen c.self.inside.state) (omega (arith, c.self.invariant.within)) c.self.invariant.can)
+    (events-more c.self.inside.machine (last_number + c.self.inside.answered) last_copy (seen c.self.inside.state) (omega (arith, c.self.invariant.within)) c.self.invariant.can)
 
 pub take_turn-result-requires-clause-stocked : goal.take_turn-result-requires-clause-stocked
 take_turn-result-requires-clause-stocked g c =
     subst (KeepsStock c.self.inside.machine last_copy) (sym c.in_ok-before.ensures.stays)
-    (stock-more c.self.inside.machine c.self.inside.answered last_copy (seen c.self.inside.state) (omega (arith, c.self.invariant.within)) c.self.invariant.stocked)
+    (stock-more c.self.inside.machine (2 + c.self.inside.answered) last_copy (seen c.self.inside.state) (omega (arith, c.self.invariant.within)) c.self.invariant.stocked)
 
 pub invariant_of-self-in-Ok-1 : goal.invariant_of-self-in-Ok-1
 invariant_of-self-in-Ok-1 g c =
@@ -27,10 +28,13 @@ invariant_of-self-in-Ok-1 g c =
       nodes = ap (λ e. e.work.nodes) cleared ∙ c.take_turn-result.ensures.nodes ∙ c.self.invariant.nodes;
       bounds = ap (λ e. e.bounds) cleared ∙ c.take_turn-result.ensures.bounds ∙ c.self.invariant.bounds;
       no_trees = ap (λ e. e.trees) cleared;
-      can = c.in-Ok.ensures.kept c.self.inside.answered (subst (CanTakeEvents c.self.inside.machine c.self.inside.answered) (sym c.in_ok-before.ensures.stays) c.self.invariant.can);
-      stocked = c.in-Ok.ensures.stocked c.self.inside.answered (subst (KeepsStock c.self.inside.machine c.self.inside.answered) (sym c.in_ok-before.ensures.stays) c.self.invariant.stocked);
+      can = one_more (CanTakeEvents c.self.inside.machine) last_number c.self.inside.answered (c.in-Ok.ensures.kept (last_number + c.self.inside.answered) (subst (CanTakeEvents c.self.inside.machine (last_number + c.self.inside.answered)) (sym c.in_ok-before.ensures.stays) c.self.invariant.can));
+      stocked = one_more (KeepsStock c.self.inside.machine) 2 c.self.inside.answered (c.in-Ok.ensures.stocked (2 + c.self.inside.answered) (subst (KeepsStock c.self.inside.machine (2 + c.self.inside.answered)) (sym c.in_ok-before.ensures.stays) c.self.invariant.stocked));
       within = subst (λ n. n + 1 ≤ most_events) (sym (ap (λ v. v.answered) c.self.view_is)) (less c.requires.few);
     }
   where
+    one_more : {X : Type 0} {x : X} (P : ℕ → X → Type 0) (from n : ℕ) → P (from + n + 1) x → P (from + (n + 1)) x
+    one_more {X} {x} P from n p = subst (λ m. P m x) (omega arith) p
+
     less : {a b : ℕ} → a < b → a + 1 ≤ b
     less h = omega (arith, h)

@@ -1,5 +1,5 @@
 -- What was told of the live part, with the engine's nodes, is told of the session.
-use Rattle.std.proofs.Common.{ℕ, arith, subst}
+use Rattle.std.proofs.Common.{ℕ, ◌+◌, arith, subst}
 use Rattle.tp_turn.specs.LiveStates.{seen}
 use Rattle.tp_session.specs.Probes.{Probes}
 use Rattle.tp_session.proofs.ProbeFacts.{probes-behind}
@@ -21,4 +21,4 @@ returns-in-Err-clause-told g c =
     (probes-behind i.machine i.budget i.bounds (seen i.state) c.args.event.now c.in-Err.told (c.in-Err.ensures.told i.budget))
 
 pub first_ask-requires-clause-stocked : goal.first_ask-requires-clause-stocked
-first_ask-requires-clause-stocked g c = stock-more c.self.inside.machine c.self.inside.answered last_copy (seen c.self.inside.state) (omega (arith, c.self.invariant.within)) c.self.invariant.stocked
+first_ask-requires-clause-stocked g c = stock-more c.self.inside.machine (2 + c.self.inside.answered) last_copy (seen c.self.inside.state) (omega (arith, c.self.invariant.within)) c.self.invariant.stocked

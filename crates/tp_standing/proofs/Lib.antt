@@ -1,0 +1,4 @@
+pub mod FeederFacts
+pub mod Refilled
+pub mod PlanLists
+pub mod GoesOn

@@ -1,0 +1,3 @@
+pub mod Told
+pub mod Sound
+pub mod Laws
