@@ -5,5 +5,5 @@ mod matching;
 mod reading;
 mod request;
 
-pub use reading::read_request;
+pub use reading::{read_request, read_seed};
 pub use request::{Mode, Request, WordsFault};

@@ -20,6 +20,7 @@ fn mode_of(text: &str) -> Option<Mode>
         "check" => Some(Mode::Check),
         "soak" => Some(Mode::Soak),
         "compose" => Some(Mode::Compose),
+        "farm" => Some(Mode::Farm),
         _ => None,
     }
 }
@@ -37,13 +38,13 @@ fn budget_in(text: &[u8]) -> Option<u32>
     }
 }
 
-/// Whether the text spells a number of at most 4,294,967,295 in at most 10 digits.
-fn is_seed(text: &[u8]) -> bool
-    ensures { result ≡ is_arg Mode.Soak text.now }
+/// The number of a case that a text spells: at most 4,294,967,295, in at most 10 digits.
+pub fn read_seed(text: &str) -> Option<u32>
+    ensures { result ≡ seed_in text.now }
 {
-    match read_digits(text, 10) {
-        Some(n) => n <= 4_294_967_295,
-        None => false,
+    match read_digits(text.as_bytes(), 10) {
+        Some(n) if n <= 4_294_967_295 => Some(n as u32),
+        _ => None,
     }
 }
 
@@ -68,8 +69,9 @@ fn is_arg(mode: Mode, arg: &str) -> bool
     match mode {
         Mode::Run => true,
         Mode::Check => true,
-        Mode::Soak => is_seed(arg.as_bytes()),
+        Mode::Soak => read_seed(arg).is_some(),
         Mode::Compose => true,
+        Mode::Farm => true,
     }
 }
 

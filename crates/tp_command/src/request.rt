@@ -1,13 +1,14 @@
 //! What the words of the command line ask for.
 
-/// What is to be done: a script is run, a log is checked, a made script is run and counted, or a machine is composed of a
-/// rack.
+/// What is to be done: a script is run, a log is checked, a made script is run and counted, a machine is composed of a rack,
+/// or a script is run on a farm of machines.
 #[derive(Clone, Copy, Debug, PartialEq, Eq)]
 pub enum Mode {
     Run,
     Check,
     Soak,
     Compose,
+    Farm,
 }
 
 /// What the words ask for.

@@ -1,6 +1,6 @@
 //! The list of a farm's machines.
 
-ghost use Rattle.std.specs.Prelude.{◌≡◌, ◌≤◌, None, Some, length, option_map, IfOk, IfErr, IfSome};
+ghost use Rattle.std.specs.Prelude.{◌≡◌, ◌≤◌, All, None, Some, length, option_map, IfOk, IfErr, IfSome};
 ghost use Rattle.tp_farm.specs.Lists.{IfBadName, IsFileName, NoNames, names_of};
 ghost use Rattle.tp_words.specs.Parts.{shown};
 
@@ -19,8 +19,10 @@ pub enum ListFault {
 
 /// The names of the list, one on a line, each without its LF. None where it isn't 1 to 8 lines, each ended by a LF.
 fn split_names(alloc: Global, list: &[u8]) -> Result<Option<Vec<&[u8]>>, AllocError>
-    ensures { IfOk result
+    ensures names { IfOk result
         (λ names. option_map (λ v. shown v.items) names ≡ names_of list.entry.now) }
+    ensures some { IfOk result (λ names. IfSome names (λ v. 1 ≤ length v.items)) }
+    ensures few { IfOk result (λ names. IfSome names (λ v. length v.items ≤ 8)) }
 {
     let mut names = parts(alloc, list, b'\n')?;
     let count = names.len();
@@ -50,6 +52,8 @@ fn file_name(name: &[u8]) -> Option<&str>
 fn name_texts<'t>(alloc: Global, names: &[&'t [u8]]) -> Result<Vec<&'t str>, ListFault>
     requires { length names.now ≤ 8 }
     ensures texts { IfOk result (λ texts. shown texts.items ≡ shown names.now) }
+    ensures good { IfOk result (λ texts. All IsFileName (shown texts.items)) }
+    ensures count { IfOk result (λ texts. length texts.items ≡ length names.now) }
     ensures none { IfErr result (IfBadName (shown names.now)) }
 {
     let mut texts = Vec::new(alloc);
@@ -67,9 +71,12 @@ fn name_texts<'t>(alloc: Global, names: &[&'t [u8]]) -> Result<Vec<&'t str>, Lis
     Ok(texts)
 }
 
-/// The names of the list, as texts.
+/// The names of the list, as texts: 1 to 8, each of 1 to 255 bytes.
 pub fn read_list(alloc: Global, list: &[u8]) -> Result<Vec<&str>, ListFault>
     ensures names { IfOk result (λ texts. names_of list.entry.now ≡ Some (shown texts.items)) }
+    ensures good { IfOk result (λ texts. All IsFileName (shown texts.items)) }
+    ensures some { IfOk result (λ texts. 1 ≤ length texts.items) }
+    ensures few { IfOk result (λ texts. length texts.items ≤ 8) }
     ensures none { IfErr result (NoNames list.entry.now) }
 {
     match split_names(alloc, list) {

@@ -4,11 +4,13 @@ use Rattle.std.specs.Prelude.{IfSome, IsSome}
 use Rattle.tp_outside.specs.Outside.{Files, file_at}
 use Rattle.tp_command.specs.Form.{Asked, form}
 use Rattle.tp_command.specs.declared.request.Mode.{Mode}
-use Rattle.tp_command.specs.declared.request.Mode.TheVariants.{Run, Check, Soak, Compose}
+use Rattle.tp_command.specs.declared.request.Mode.TheVariants.{Run, Check, Soak, Compose, Farm}
 use Rattle.tp_program.specs.Composing.{ComposeEnds}
+use Rattle.tp_program.specs.Farming.{NoneListedMissing, FarmEnds}
 use Rattle.tp_program.specs.Modes.{Ends, EndsAs}
-use Rattle.tp_program.specs.Requests.{Asks, asked_by, built_of}
+use Rattle.tp_program.specs.Requests.{Asks, IsThereFor, asked_by, built_of}
 use Rattle.tp_program.specs.Runs.{RunEnds}
+use Rattle.tp_program.specs.Soaking.{SoakEnds}
 use Rattle.tp_program.specs.declared.status.Status.{Status}
 use Rattle.tp_program.specs.declared.status.Status.TheVariants as status
 
@@ -22,8 +24,9 @@ asks_nothing mode words P e = λ asked named is. (let some : Some asked ≡ None
 same_asked : (mode : Mode) (asked other : Asked) → built_of mode asked ≡ Some other → asked ≡ other
 same_asked Run asked other e = cc
 same_asked Compose asked other e = cc
+same_asked Farm asked other e = cc
 same_asked Check asked other e = absurd cc
-same_asked Soak asked other e = absurd cc
+same_asked Soak asked other e = cc
 
 module _ (words : List (List ℕ)) (asked : Asked) (named : form words ≡ Some asked) where
   asked-form : asked_by words ≡ built_of asked.mode asked
@@ -35,16 +38,17 @@ module _ (words : List (List ℕ)) (asked : Asked) (named : form words ≡ Some 
       let same = same_asked asked.mode asked other (sym asked-form ∙ is_other) in
       subst P same (holds (ap (λ (a : Asked). a.mode) same ∙ mode_is))
 
-  pub amiss_asked : (R : Type 0) (told : Option Files) → IfSome told (λ files. IsSome (file_at files asked.arg) → R)
-      → IfSome told (λ files. IfSome (asked_by words) (λ other. IsSome (file_at files other.arg) → R))
+  pub amiss_asked : (R : Type 0) (told : Option Files) → IfSome told (λ files. IsThereFor files asked → R)
+      → IfSome told (λ files. IfSome (asked_by words) (λ other. IsThereFor files other → R))
   amiss_asked R None h = h
-  amiss_asked R (Some files) h = subst (λ found. IfSome found (λ (other : Asked). IsSome (file_at files other.arg) → R)) (sym asked-form) (go asked.mode h)
+  amiss_asked R (Some files) h = subst (λ found. IfSome found (λ (other : Asked). IsThereFor files other → R)) (sym asked-form) (go asked.mode h)
     where
-      go : (mode : Mode) → (IsSome (file_at files asked.arg) → R) → IfSome (built_of mode asked) (λ other. IsSome (file_at files other.arg) → R)
+      go : (mode : Mode) → (IsThereFor files asked → R) → IfSome (built_of mode asked) (λ other. IsThereFor files other → R)
       go Run h = h
       go Compose h = h
+      go Farm h = h
       go Check h = tt
-      go Soak h = tt
+      go Soak h = h
 
   module _ {S K : Type 0} (left : S → Option (List ℕ)) (taken : K → Option (List ℕ)) (told : Option Files) (source source' : S) (sink sink' : K) (s : Status)
       (ends : Ends left taken told source source' sink sink' asked s) where
@@ -54,14 +58,24 @@ module _ (words : List (List ℕ)) (asked : Asked) (named : form words ≡ Some 
     pub compose_ends : Asks Compose words (λ a. ComposeEnds taken told source source' sink sink' a s)
     compose_ends = asks_this Compose (λ a. ComposeEnds taken told source source' sink sink' a s) (λ mode. subst (λ m. EndsAs left taken told source source' sink sink' m asked s) mode ends)
 
+    pub farm_ends : Asks Farm words (λ a. FarmEnds left taken told source source' sink sink' a s)
+    farm_ends = asks_this Farm (λ a. FarmEnds left taken told source source' sink sink' a s) (λ mode. subst (λ m. EndsAs left taken told source source' sink sink' m asked s) mode ends)
+
+    pub soak_ends : {H : Type 0} (shelf shelf' : H) → (asked.mode ≡ Soak → shelf' ≡ shelf) → Asks Soak words (λ a. (shelf' ≡ shelf) × SoakEnds taken source source' sink sink' a s)
+    soak_ends shelf shelf' unread =
+        asks_this Soak (λ a. (shelf' ≡ shelf) × SoakEnds taken source source' sink sink' a s) (λ mode. (unread mode, subst (λ m. EndsAs left taken told source source' sink sink' m asked s) mode ends))
+
     -- what isn't built is refused
     refused_here : (mode : Mode) → EndsAs left taken told source source' sink sink' mode asked status.Usage → (built_of mode asked ≡ None) × (source' ≡ source) × (sink' ≡ sink)
     refused_here Run (inl none) = absurd none.0
     refused_here Run (inr ran) = absurd ran.did
     refused_here Compose (same, inl none) = absurd none.0
     refused_here Compose (same, inr wrote) = absurd wrote.has.1
+    refused_here Farm (inl none) = absurd none.0
+    refused_here Farm (inr farmed) = absurd farmed.has
     refused_here Check refusal = (refl, refusal.1, refusal.2)
-    refused_here Soak refusal = (refl, refusal.1, refusal.2)
+    refused_here Soak (same, inl none) = (let no : status.Usage ≡ status.Memory = none.0 in absurd cc)
+    refused_here Soak (same, inr wrote) = absurd wrote.2
 
     pub usage : s ≡ status.Usage → (asked_by words ≡ None) × (source' ≡ source) × (sink' ≡ sink)
     usage is =
@@ -71,8 +85,9 @@ module _ (words : List (List ℕ)) (asked : Asked) (named : form words ≡ Some 
     used_here : (mode : Mode) → EndsAs left taken told source source' sink sink' mode asked s → built_of mode asked ≡ None → s ≡ status.Usage
     used_here Run ends none = absurd cc
     used_here Compose ends none = absurd cc
+    used_here Farm ends none = absurd cc
     used_here Check refusal none = refusal.0
-    used_here Soak refusal none = refusal.0
+    used_here Soak ends none = absurd cc
 
     pub used : asked_by words ≡ None → (s ≡ status.Usage) ⊎ ((s ≡ status.Memory) × (source' ≡ source) × (sink' ≡ sink))
     used none = inl (used_here asked.mode ends (sym asked-form ∙ none))
@@ -81,3 +96,13 @@ module _ (words : List (List ℕ)) (asked : Asked) (named : form words ≡ Some 
 pub as_asked : {S K : Type 0} (left : S → Option (List ℕ)) (taken : K → Option (List ℕ)) (told : Option Files) (source source' : S) (sink sink' : K) (asked : Asked) (s : Status) (mode : Mode)
     → asked.mode ≡ mode → EndsAs left taken told source source' sink sink' mode asked s → Ends left taken told source source' sink sink' asked s
 as_asked left taken told source source' sink sink' asked s mode is ends = subst (λ m. EndsAs left taken told source source' sink sink' m asked s) (sym is) ends
+
+-- where what is asked for is there, the text of ARG is, and of a farm all that its list names
+pub amiss_arg : (R : Type 0) (told : Option Files) (asked : Asked) → IfSome told (λ files. IsSome (file_at files asked.arg) → R) → IfSome told (λ files. IsThereFor files asked → R)
+amiss_arg R None asked h = tt
+amiss_arg R (Some files) asked h = λ there. h there.arg
+
+pub amiss_listed : (R : Type 0) (told : Option Files) (asked : Asked) → asked.mode ≡ Farm → IfSome told (λ files. IsSome (file_at files asked.arg) → NoneListedMissing files asked.arg → R)
+    → IfSome told (λ files. IsThereFor files asked → R)
+amiss_listed R None asked mode h = tt
+amiss_listed R (Some files) asked mode h = λ there. h there.arg (there.listed mode)

@@ -22,7 +22,7 @@ use Rattle.tp_program.proofs.Sizes.{not_too_long, not_too_many}
 not_longer : (n : ℕ) → n ≤ most_text → most_text < n → ⊥
 not_longer n fits long = omega (arith, fits, long)
 
-named_something : (words : List (List ℕ)) (asked : Asked) → asked_by words ≡ Some asked → asked_by words ≢ None
+pub named_something : (words : List (List ℕ)) (asked : Asked) → asked_by words ≡ Some asked → asked_by words ≢ None
 named_something words asked named none = (let some : Some asked ≡ None = sym named ∙ none in absurd cc)
 
 -- the text of a name that is there
@@ -33,10 +33,10 @@ module _ (files : Files) (name text : List ℕ) (there : IsThere files name text
       let here : file_at files name ≡ Some text = there.is_told in
       cc
 
-  has : (P : List ℕ → Type 0) → IsShelved (Some files) name P → P text
+  pub has : (P : List ℕ → Type 0) → IsShelved (Some files) name P → P text
   has P named = subst P (same_text P named) named.has
 
-  not_long : ¬ IsLongText (Some files) name
+  pub not_long : ¬ IsLongText (Some files) name
   not_long long = not_longer (length text) there.fits (subst (λ found. IsSomeAnd found (λ text. most_text < length text)) there.is_told long)
 
 module _ (words : List (List ℕ)) (files : Files) (script : List ℕ) (asked : Asked) (good : IsRunInOrder words files script asked) where
@@ -55,6 +55,7 @@ module _ (words : List (List ℕ)) (files : Files) (script : List ℕ) (asked : 
   found (status.TooLong size.Lines) is none = none
   found status.Usage is none = none
   found (status.Rack f) is none = none
+  found (status.Farm f) is none = none
   found status.Done is none = none
   found status.Memory is none = absurd cc
   found status.Shelf is none = absurd cc
@@ -72,6 +73,7 @@ module _ (words : List (List ℕ)) (files : Files) (script : List ℕ) (asked : 
   answered (status.Machine f) is left taken taken' ran = ran.did
   answered status.Usage is left taken taken' ran = ran.did
   answered (status.Rack f) is left taken taken' ran = ran.did
+  answered (status.Farm f) is left taken taken' ran = ran.did
   answered status.Done is left taken taken' ran = absurd cc
   answered status.Memory is left taken taken' ran = absurd cc
   answered status.Shelf is left taken taken' ran = ran.did
@@ -99,6 +101,7 @@ module _ (words : List (List ℕ)) (files : Files) (asked : Asked) (good : IsRac
   composed (status.TooLong size.Lines) is none = none
   composed status.Usage is none = none
   composed (status.Machine f) is none = none
+  composed (status.Farm f) is none = none
   composed status.Done is none = none
   composed status.Memory is none = absurd cc
   composed status.Shelf is none = absurd cc
@@ -110,6 +113,7 @@ module _ (words : List (List ℕ)) (files : Files) (asked : Asked) (good : IsRac
   written (status.TooLong long) is taken taken' wrote = wrote.has.1
   written status.Usage is taken taken' wrote = wrote.has.1
   written (status.Machine f) is taken taken' wrote = wrote.has.1
+  written (status.Farm f) is taken taken' wrote = wrote.has.1
   written status.Done is taken taken' wrote = absurd cc
   written status.Memory is taken taken' wrote = wrote.has.1
   written status.Shelf is taken taken' wrote = wrote.has.1

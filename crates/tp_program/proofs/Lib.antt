@@ -1,6 +1,9 @@
 mod AskedFacts
 mod ComposeFacts
+mod FarmingFacts
+mod FarmsInOrderFacts
 mod InOrderFacts
 mod RunFacts
+mod SeedFacts
 mod Sizes
 mod TextFacts

@@ -20,6 +20,7 @@ no_machine told name (status.Machine f) none = absurd none
 no_machine told name status.Source none = absurd none
 no_machine told name status.Sink none = absurd none
 no_machine told name (status.Rack f) none = absurd none
+no_machine told name (status.Farm f) none = absurd none
 
 pub no_rack : (told : Option Files) (name : List ℕ) (s : Status) → NoText told name s → NoRack told name s
 no_rack told name status.Memory none = none
@@ -33,3 +34,4 @@ no_rack told name (status.Machine f) none = absurd none
 no_rack told name status.Source none = absurd none
 no_rack told name status.Sink none = absurd none
 no_rack told name (status.Rack f) none = absurd none
+no_rack told name (status.Farm f) none = absurd none

@@ -14,7 +14,7 @@ use Rattle.tp_program.specs.Requests.{asked_by}
 use Rattle.tp_program.specs.Runs.{NoMachine, RanBy}
 use Rattle.tp_program.specs.Texts.{most_text}
 use Rattle.tp_program.specs.declared.status.Status.{Status}
-use Rattle.tp_program.specs.declared.status.Status.TheVariants.{Usage, Machine as MachineIs, TooLong, Rack}
+use Rattle.tp_program.specs.declared.status.Status.TheVariants.{Usage, Machine as MachineIs, TooLong, Rack, Farm}
 
 -- the status refuses what was given: it is neither an answer, nor want of memory, nor a fault of the outside
 abbrev pub is_refusal : Status → Bool
@@ -22,6 +22,7 @@ is_refusal Usage = true
 is_refusal (MachineIs fault) = true
 is_refusal (TooLong long) = true
 is_refusal (Rack fault) = true
+is_refusal (Farm fault) = true
 is_refusal _ = false
 
 -- the name is that of a text of at most 1,048,576 bytes

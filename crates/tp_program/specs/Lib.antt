@@ -4,5 +4,8 @@ pub mod Texts
 pub mod Writing
 pub mod Runs
 pub mod Composing
+pub mod Farming
+pub mod Soaking
 pub mod Modes
 pub mod InOrder
+pub mod FarmsInOrder

@@ -23,6 +23,16 @@ NoMachine told name (MachineIs NotToml) = IsShelved told name IsNotToml
 NoMachine told name (MachineIs (Rule n)) = IsShelved told name (IsBrokenAt n)
 NoMachine told name _ = ⊥
 
+-- how the answering of a script ends that has begun: all was done, or it stopped for the cause that the status tells
+abbrev pub EndsBy : Type 0 → (Stop → Type 0) → Status → Type 0
+EndsBy all stops Done = all
+EndsBy all stops Memory = stops stop.Memory
+EndsBy all stops Source = stops stop.Source
+EndsBy all stops Sink = stops stop.Sink
+EndsBy all stops (TooLong (Line n)) = stops (stop.Line n)
+EndsBy all stops (TooLong Lines) = stops stop.Lines
+EndsBy all stops _ = ⊥
+
 -- on a machine, with this budget and with bounds or without: what the source told before and after, and what the sink had
 -- taken before and after
 module _ (machine : Machine) (budget : ℕ) (bounds : Bool) (left left' taken taken' : Option (List ℕ)) where
@@ -36,13 +46,7 @@ module _ (machine : Machine) (budget : ℕ) (bounds : Bool) (left left' taken ta
 
   -- how a run ends that has begun: with Done the source was read to its end
   abbrev pub EndsOn : Status → Type 0
-  EndsOn Done = DoneOn × IfSome left (λ _. left' ≡ Some [])
-  EndsOn Memory = StopsOn stop.Memory
-  EndsOn Source = StopsOn stop.Source
-  EndsOn Sink = StopsOn stop.Sink
-  EndsOn (TooLong (Line n)) = StopsOn (stop.Line n)
-  EndsOn (TooLong Lines) = StopsOn stop.Lines
-  EndsOn _ = ⊥
+  EndsOn status = EndsBy (DoneOn × IfSome left (λ _. left' ≡ Some [])) StopsOn status
 
 -- the name is that of a machine's text, and the run on it with the budget of the words, or else the machine's, and with
 -- bounds where the words ask for them, did this

@@ -5,6 +5,8 @@ use Rattle.tp_machine_text.specs.declared.text.MachineFault.{MachineFault}
 use Rattle.tp_machine_text.specs.declared.text.MachineFault.TheVariants as fault
 use Rattle.tp_compose.specs.declared.composing.RackFault.{RackFault}
 use Rattle.tp_compose.specs.declared.composing.RackFault.TheVariants as rack
+use Rattle.tp_program.specs.declared.farm_fault.FarmFault.{FarmFault}
+use Rattle.tp_program.specs.declared.farm_fault.FarmFault.TheVariants as farm
 use Rattle.tp_program.specs.declared.status.Status.{Status}
 use Rattle.tp_program.specs.declared.status.Status.TheVariants as status
 
@@ -18,6 +20,7 @@ status_number status.Source = 5
 status_number status.Sink = 6
 status_number (status.TooLong long) = 7
 status_number (status.Rack f) = 10
+status_number (status.Farm f) = 11
 
 abbrev pub fault_line : MachineFault → List ℕ
 fault_line fault.Memory = codes "out of memory"
@@ -30,6 +33,13 @@ rack_line rack.NotToml = codes "not TOML"
 rack_line (rack.Rule n) = codes "rule " ++ decimal n
 rack_line (rack.Flat n) = codes "flat rule " ++ decimal n
 
+abbrev pub farm_line : FarmFault → List ℕ
+farm_line farm.Lines = codes "lines"
+farm_line (farm.Name n) = codes "name " ++ decimal n
+farm_line (farm.Machine at fault.Memory) = codes "machine " ++ decimal at ++ codes ": out of memory"
+farm_line (farm.Machine at fault.NotToml) = codes "machine " ++ decimal at ++ codes ": not TOML"
+farm_line (farm.Machine at (fault.Rule n)) = codes "machine " ++ decimal at ++ codes ": rule " ++ decimal n
+
 abbrev pub status_line : Status → List ℕ
 status_line status.Done = codes ""
 status_line status.Memory = codes "printer: out of memory"
@@ -40,3 +50,4 @@ status_line status.Source = codes "printer: cannot read the input"
 status_line status.Sink = codes "printer: cannot write the output"
 status_line (status.TooLong long) = codes "printer: input too long"
 status_line (status.Rack f) = codes "printer: rack: " ++ rack_line f
+status_line (status.Farm f) = codes "printer: farm: " ++ farm_line f

@@ -1,8 +1,8 @@
 //! The machine that the shelf has under a name.
 
-ghost use Rattle.std.specs.Prelude.{◌≡◌, IfOk, IfErr, IfSome, IsSome};
+ghost use Rattle.std.specs.Prelude.{◌≡◌, IfOk, IfErr, IfSome, IsSome, OnOk};
 ghost use Rattle.tp_machine_text.specs.Texts.{IsMachineText};
-ghost use Rattle.tp_outside.specs.Outside.{Rises, file_at};
+ghost use Rattle.tp_outside.specs.Outside.{IsCounted, Rises, file_at};
 ghost use Rattle.tp_program.specs.Runs.{NoMachine};
 ghost use Rattle.tp_program.specs.Texts.{IsShelved};
 
@@ -26,6 +26,10 @@ pub(crate) fn find_machine<H: Shelf>(
         → Rises (H.faults shelf.old) (H.faults shelf.new)) }
     ensures amiss { IfErr result (λ s. s ≡ Status.Shelf → IfSome (H.told shelf.old) (λ files.
         IsSome (file_at files name.now) → Rises (H.amiss shelf.old) (H.amiss shelf.new))) }
+    ensures told_stays { H.told shelf.new ≡ H.told shelf.old }
+    ensures counted { IsCounted (H.faults shelf.old) (H.faults shelf.new) }
+    ensures not_amiss { OnOk result (IfSome (H.told shelf.old)
+        (λ _. H.amiss shelf.new ≡ H.amiss shelf.old)) }
 {
     let text = match find_text(alloc, shelf, name) {
         Ok(text) => text,

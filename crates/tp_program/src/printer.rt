@@ -2,16 +2,21 @@
 
 ghost use Rattle.std.specs.Prelude.{◌≡◌, ◌⊎◌, None, map, string_bytes, IfSome, IsSome};
 ghost use Rattle.tp_command.specs.App.{seen};
-ghost use Rattle.tp_command.specs.declared.request.Mode.TheVariants.{Run, Compose};
-ghost use Rattle.tp_outside.specs.Outside.{Rises, file_at};
+ghost use Rattle.tp_command.specs.Form.{seed_in};
+ghost use Rattle.tp_command.specs.declared.request.Mode.TheVariants.{Run, Soak, Compose, Farm};
+ghost use Rattle.tp_outside.specs.Outside.{Rises};
 ghost use Rattle.tp_program.specs.Composing.{ComposeEnds};
+ghost use Rattle.tp_program.specs.Farming.{FarmEnds};
 ghost use Rattle.tp_program.specs.Modes.{Ends};
-ghost use Rattle.tp_program.specs.Requests.{Asks, asked_by};
+ghost use Rattle.tp_program.specs.Requests.{Asks, IsThereFor, asked_by};
 ghost use Rattle.tp_program.specs.Runs.{RunEnds};
+ghost use Rattle.tp_program.specs.Soaking.{SoakEnds};
 
 use crate::Status;
 use crate::composing::compose_to;
+use crate::farming::farm;
 use crate::run::run;
+use crate::soaking::soak_to;
 use std::alloc::Global;
 use tp_command::{Mode, Request, WordsFault, read_request};
 use tp_outside::{Shelf, Sink, Source};
@@ -24,19 +29,22 @@ fn answer<H: Shelf, S: Source, K: Sink>(
     source: &mut S,
     sink: &mut K,
 ) -> Status
+    requires { request.now.mode ≡ Soak → IsSome (seed_in request.now.arg.now) }
     ensures ends { Ends S.left K.taken (H.told shelf.old) source.old source.new sink.old sink.new
         (seen request.now) result }
+    ensures unread { request.now.mode ≡ Soak → shelf.new ≡ shelf.old }
     ensures shelf { result ≡ Status.Shelf → Rises (H.faults shelf.old) (H.faults shelf.new) }
     ensures amiss { result ≡ Status.Shelf → IfSome (H.told shelf.old) (λ files.
-        IsSome (file_at files request.now.arg.now)
-        → Rises (H.amiss shelf.old) (H.amiss shelf.new)) }
+        IsThereFor files (seen request.now) → Rises (H.amiss shelf.old) (H.amiss shelf.new)) }
     ensures source { result ≡ Status.Source → Rises (S.faults source.old) (S.faults source.new) }
     ensures sink { result ≡ Status.Sink → Rises (K.faults sink.old) (K.faults sink.new) }
 {
     match request.mode {
         Mode::Run => run(alloc, request, shelf, source, sink),
         Mode::Compose => compose_to(alloc, request.arg, shelf, sink),
-        Mode::Check | Mode::Soak => Status::Usage,
+        Mode::Farm => farm(alloc, request, shelf, source, sink),
+        Mode::Soak => soak_to(alloc, request, sink),
+        Mode::Check => Status::Usage,
     }
 }
 
@@ -67,10 +75,22 @@ pub fn printer_main<H: Shelf, S: Source, K: Sink>(
         (λ asked. ComposeEnds K.taken (H.told shelf.old) source.old source.new sink.old sink.new
         asked result) }
 
+    // And of a farm: with `Done` the source was read to its end, and the sink took what its machines told, each line with the
+    // machine's number. Of each machine the lines without it are the text of the log that answers, by a lawful run, the events
+    // that it was sent.
+    ensures farm { Asks Farm (map string_bytes words.now)
+        (λ asked. FarmEnds S.left K.taken (H.told shelf.old) source.old source.new sink.old sink.new
+        asked result) }
+
+    // And of soaking: with `Done` the sink took the line of the counts of a lawful log with bounds, for the machine and the events
+    // of the number. Neither shelf nor source is read.
+    ensures soak { Asks Soak (map string_bytes words.now) (λ asked. (shelf.new ≡ shelf.old)
+        × SoakEnds K.taken source.old source.new sink.old sink.new asked result) }
+
     // The outside failed.
     ensures shelf { result ≡ Status.Shelf → Rises (H.faults shelf.old) (H.faults shelf.new) }
     ensures amiss { result ≡ Status.Shelf → IfSome (H.told shelf.old) (λ files.
-        IfSome (asked_by (map string_bytes words.now)) (λ asked. IsSome (file_at files asked.arg)
+        IfSome (asked_by (map string_bytes words.now)) (λ asked. IsThereFor files asked
         → Rises (H.amiss shelf.old) (H.amiss shelf.new))) }
     ensures source { result ≡ Status.Source → Rises (S.faults source.old) (S.faults source.new) }
     ensures sink { result ≡ Status.Sink → Rises (K.faults sink.old) (K.faults sink.new) }

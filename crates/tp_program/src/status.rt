@@ -2,6 +2,7 @@
 ghost use Rattle.std.specs.Prelude.{◌≡◌};
 ghost use Rattle.tp_program.specs.Statuses.{status_number};
 
+use crate::farm_fault::FarmFault;
 use std::fmt;
 use tp_compose::RackFault;
 use tp_machine_text::MachineFault;
@@ -9,7 +10,7 @@ use tp_machine_text::MachineFault;
 /// What is too long.
 #[derive(Clone, Copy, Debug, PartialEq, Eq)]
 pub enum Long {
-    /// The machine text, or the rack text, has more than 1,048,576 bytes.
+    /// A machine text, the rack text, or the list of a farm, has more than 1,048,576 bytes.
     MachineText,
     /// The line of this number, counted from 1, has more than 4,096 bytes without its LF.
     Line(u64),
@@ -34,10 +35,12 @@ pub enum Status {
     Source,
     /// The sink failed.
     Sink,
-    /// The machine text, the rack text, a line or the script is longer than it may be.
+    /// A machine text, the rack text, the list of a farm, a line or the script is longer than it may be.
     TooLong(Long),
     /// The rack text is not TOML, or breaks a rule, or its flat table does. It never holds `Memory`.
     Rack(RackFault),
+    /// The list of a farm names no machines, or one that is refused.
+    Farm(FarmFault),
 }
 
 impl Status {
@@ -55,6 +58,7 @@ impl Status {
             Status::Sink => 6,
             Status::TooLong(_) => 7,
             Status::Rack(_) => 10,
+            Status::Farm(_) => 11,
         }
     }
 }
@@ -85,6 +89,7 @@ impl fmt::Display for Status {
             Status::Rack(RackFault::NotToml) => f.write_str("printer: rack: not TOML"),
             Status::Rack(RackFault::Rule(n)) => write!(f, "printer: rack: rule {n}"),
             Status::Rack(RackFault::Flat(n)) => write!(f, "printer: rack: flat rule {n}"),
+            Status::Farm(fault) => write!(f, "printer: farm: {fault}"),
         }
     }
 }

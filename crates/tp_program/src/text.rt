@@ -1,7 +1,7 @@
 //! The text that the shelf has under a name.
 
-ghost use Rattle.std.specs.Prelude.{◌≡◌, ◌≤◌, Some, length, IfOk, IfErr, IfSome, IsSome};
-ghost use Rattle.tp_outside.specs.Outside.{Rises, file_at};
+ghost use Rattle.std.specs.Prelude.{◌≡◌, ◌≤◌, Some, length, IfOk, IfErr, IfSome, IsSome, OnOk};
+ghost use Rattle.tp_outside.specs.Outside.{IsCounted, Rises, file_at};
 ghost use Rattle.tp_program.specs.Texts.{NoText, most_text};
 
 use crate::{Long, Status};
@@ -25,6 +25,10 @@ pub(crate) fn find_text<H: Shelf>(
         → Rises (H.faults shelf.old) (H.faults shelf.new)) }
     ensures amiss { IfErr result (λ s. s ≡ Status.Shelf → IfSome (H.told shelf.old) (λ files.
         IsSome (file_at files name.now) → Rises (H.amiss shelf.old) (H.amiss shelf.new))) }
+    ensures told_stays { H.told shelf.new ≡ H.told shelf.old }
+    ensures counted { IsCounted (H.faults shelf.old) (H.faults shelf.new) }
+    ensures not_amiss { OnOk result (IfSome (H.told shelf.old)
+        (λ _. H.amiss shelf.new ≡ H.amiss shelf.old)) }
 {
     match read_file(alloc, shelf, name, MOST_BYTES) {
         Ok(text) => Ok(text),

@@ -1,5 +1,6 @@
 -- One name more is a text.
-use Rattle.std.proofs.Common.{◌≡◌, ◌<◌, [], ◌∷◌, ◌++◌, length, get_or, sym, ap, ap₂, subst, ◌∙◌, arith}
+use Rattle.std.proofs.Common.{◌≡◌, ◌+◌, ◌<◌, [], ◌∷◌, ◌++◌, length, get_or, sym, ap, ap₂, subst, ◌∙◌, arith, length-append}
+use Rattle.std.specs.List.{All}
 use Rattle.std.proofs.lemmas.List.{length-map, map-append, take_more}
 use Rattle.std.proofs.lemmas.List.Elements.{All-more}
 use Rattle.tp_words.specs.Parts.{shown}
@@ -18,5 +19,9 @@ loop-place-preserved c =
       texts =
           ap shown c.in-Ok.ensures.items ∙ map-append (λ text. text.now) c.loop-place.texts.items (c.in-Some.text ∷ [])
           ∙ ap₂ (λ a b. a ++ b ∷ []) c.loop-place.invariant.texts name ∙ sym (take_more names c.loop-place.place [] there);
+      count = ap length c.in-Ok.ensures.items ∙ length-append c.loop-place.texts.items (c.in-Some.text ∷ []) ∙ ap (λ n. n + 1) c.loop-place.invariant.count;
       good = All-more IsFileName names c.loop-place.place [] there c.loop-place.invariant.good (subst IsFileName item c.in-Some.ensures.some);
     }
+
+pub returns-clause-good : goal.returns-clause-good
+returns-clause-good c = subst (All IsFileName) (sym c.loop-place.invariant.texts) c.loop-place.invariant.good

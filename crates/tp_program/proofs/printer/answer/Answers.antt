@@ -1,8 +1,8 @@
 -- Each mode ends as its function says.
 use Rattle.std.proofs.Common.{refl}
 use Rattle.tp_command.specs.App.{seen}
-use Rattle.tp_command.specs.declared.request.Mode.TheVariants.{Run, Compose}
-use Rattle.tp_program.proofs.AskedFacts.{as_asked}
+use Rattle.tp_command.specs.declared.request.Mode.TheVariants.{Run, Soak, Compose, Farm}
+use Rattle.tp_program.proofs.AskedFacts.{amiss_arg, amiss_listed, as_asked}
 use Rattle.tp_program.proofs.printer.answer.Goals as goal
 
 pub returns-in-Run-clause-ends : goal.returns-in-Run-clause-ends
@@ -11,3 +11,19 @@ returns-in-Run-clause-ends g c = as_asked g.S.Source.left g.K.Sink.taken _ _ _ _
 pub returns-in-Compose-clause-ends : goal.returns-in-Compose-clause-ends
 returns-in-Compose-clause-ends g c =
     as_asked g.S.Source.left g.K.Sink.taken _ _ _ _ _ (seen c.args.request.now) _ Compose c.in-Compose.is (refl, c.compose_to.ensures.ends)
+
+pub returns-in-Farm-clause-ends : goal.returns-in-Farm-clause-ends
+returns-in-Farm-clause-ends g c = as_asked g.S.Source.left g.K.Sink.taken _ _ _ _ _ (seen c.args.request.now) _ Farm c.in-Farm.is c.farm.ensures.ends
+
+pub returns-in-Run-clause-amiss : goal.returns-in-Run-clause-amiss
+returns-in-Run-clause-amiss g c = λ is. amiss_arg _ _ (seen c.args.request.now) (c.run.ensures.amiss is)
+
+pub returns-in-Compose-clause-amiss : goal.returns-in-Compose-clause-amiss
+returns-in-Compose-clause-amiss g c = λ is. amiss_arg _ _ (seen c.args.request.now) (c.compose_to.ensures.amiss is)
+
+pub returns-in-Farm-clause-amiss : goal.returns-in-Farm-clause-amiss
+returns-in-Farm-clause-amiss g c = λ is. amiss_listed _ _ (seen c.args.request.now) c.in-Farm.is (c.farm.ensures.amiss is)
+
+pub returns-in-Soak-clause-ends : goal.returns-in-Soak-clause-ends
+returns-in-Soak-clause-ends g c =
+    as_asked g.S.Source.left g.K.Sink.taken _ _ _ _ _ (seen c.args.request.now) _ Soak c.in-Soak.is (refl, c.soak_to.ensures.ends)

@@ -2,8 +2,9 @@
 use Rattle.std.proofs.Common.{inl, inr, refl}
 use Rattle.std.specs.Prelude.{map, string_bytes}
 use Rattle.tp_command.specs.App.{seen}
-use Rattle.tp_command.specs.declared.request.Mode.TheVariants.{Run, Compose}
-use Rattle.tp_program.proofs.AskedFacts.{amiss_asked, asks_nothing, compose_ends, none_asked, run_ends, usage, used}
+use Rattle.tp_command.specs.declared.request.Mode.TheVariants.{Run, Soak, Compose, Farm}
+use Rattle.tp_program.proofs.AskedFacts.{amiss_asked, asks_nothing, compose_ends, farm_ends, none_asked, run_ends, soak_ends, usage, used}
+use Rattle.tp_program.proofs.SeedFacts.{gives_seed}
 use Rattle.tp_program.proofs.printer.printer_main.Goals as goal
 
 pub returns-in-Ok-clause-usage : goal.returns-in-Ok-clause-usage
@@ -18,6 +19,15 @@ returns-in-Ok-clause-run g c = run_ends (map string_bytes c.args.words.now) (see
 pub returns-in-Ok-clause-compose : goal.returns-in-Ok-clause-compose
 returns-in-Ok-clause-compose g c = compose_ends (map string_bytes c.args.words.now) (seen c.in-Ok.request) c.in-Ok.ensures.ok g.S.Source.left g.K.Sink.taken _ _ _ _ _ _ c.answer.ensures.ends
 
+pub returns-in-Ok-clause-farm : goal.returns-in-Ok-clause-farm
+returns-in-Ok-clause-farm g c = farm_ends (map string_bytes c.args.words.now) (seen c.in-Ok.request) c.in-Ok.ensures.ok g.S.Source.left g.K.Sink.taken _ _ _ _ _ _ c.answer.ensures.ends
+
+pub answer-requires : goal.answer-requires
+answer-requires g c = gives_seed (map string_bytes c.args.words.now) (seen c.in-Ok.request) c.in-Ok.ensures.ok
+
+pub returns-in-Ok-clause-soak : goal.returns-in-Ok-clause-soak
+returns-in-Ok-clause-soak g c = soak_ends (map string_bytes c.args.words.now) (seen c.in-Ok.request) c.in-Ok.ensures.ok g.S.Source.left g.K.Sink.taken _ _ _ _ _ _ c.answer.ensures.ends _ _ c.answer.ensures.unread
+
 pub returns-in-Ok-clause-amiss : goal.returns-in-Ok-clause-amiss
 returns-in-Ok-clause-amiss g c = λ is. amiss_asked (map string_bytes c.args.words.now) (seen c.in-Ok.request) c.in-Ok.ensures.ok _ _ (c.answer.ensures.amiss is)
 
@@ -30,6 +40,12 @@ returns-in-Err-Memory-clause-run g c = λ asked named is. inl (tt, refl, refl)
 pub returns-in-Err-Memory-clause-compose : goal.returns-in-Err-Memory-clause-compose
 returns-in-Err-Memory-clause-compose g c = λ asked named is. (refl, inl (tt, refl))
 
+pub returns-in-Err-Memory-clause-farm : goal.returns-in-Err-Memory-clause-farm
+returns-in-Err-Memory-clause-farm g c = λ asked named is. inl (tt, refl, refl)
+
+pub returns-in-Err-Memory-clause-soak : goal.returns-in-Err-Memory-clause-soak
+returns-in-Err-Memory-clause-soak g c = λ asked named is. (refl, (refl, inl (refl, refl)))
+
 pub returns-in-Err-Usage-clause-usage : goal.returns-in-Err-Usage-clause-usage
 returns-in-Err-Usage-clause-usage g c = λ is. (none_asked (map string_bytes c.args.words.now) (c.in-Err-Usage.ensures.usage c.in-Err-Usage.field-0-is), refl, refl)
 
@@ -38,3 +54,9 @@ returns-in-Err-Usage-clause-run g c = asks_nothing Run (map string_bytes c.args.
 
 pub returns-in-Err-Usage-clause-compose : goal.returns-in-Err-Usage-clause-compose
 returns-in-Err-Usage-clause-compose g c = asks_nothing Compose (map string_bytes c.args.words.now) _ (c.in-Err-Usage.ensures.usage c.in-Err-Usage.field-0-is)
+
+pub returns-in-Err-Usage-clause-farm : goal.returns-in-Err-Usage-clause-farm
+returns-in-Err-Usage-clause-farm g c = asks_nothing Farm (map string_bytes c.args.words.now) _ (c.in-Err-Usage.ensures.usage c.in-Err-Usage.field-0-is)
+
+pub returns-in-Err-Usage-clause-soak : goal.returns-in-Err-Usage-clause-soak
+returns-in-Err-Usage-clause-soak g c = asks_nothing Soak (map string_bytes c.args.words.now) _ (c.in-Err-Usage.ensures.usage c.in-Err-Usage.field-0-is)

@@ -1,0 +1,61 @@
+-- What is counted of a log, and the line that tells it.
+use Rattle.std.specs.Prelude.{ℕ, Bool, true, false, List, ◌++◌, codes, count_by, decimal}
+use Rattle.tp_log.specs.declared.item.Item.{Item}
+use Rattle.tp_log.specs.declared.item.Item.TheVariants.{Event, Note, Tree}
+use Rattle.tp_schedule.specs.declared.records.Record.{Record}
+use Rattle.tp_schedule.specs.declared.records.Record.TheVariants.{Plan, Move, Never, Budget, Release, Done, Lost}
+use Rattle.tp_soak.specs.declared.counts.Counts.{Counts}
+use Rattle.tp_soak.specs.declared.counts.Kind.{Kind}
+use Rattle.tp_soak.specs.declared.counts.Kind.TheVariants as kind
+
+-- ---- counts
+
+-- whether it is events that are counted
+abbrev pub is_event : Kind → Bool
+is_event kind.Event = true
+is_event kind = false
+
+-- whether a record is of a kind
+abbrev pub is_of : Kind → Record → Bool
+is_of kind.Plan (Plan sheet place points acts) = true
+is_of kind.Move (Move sheet points) = true
+is_of kind.Release (Release sheet act name start end) = true
+is_of kind.Done (Done sheet place at) = true
+is_of kind.Lost (Lost sheet) = true
+is_of kind.Never (Never sheet goal) = true
+is_of kind.Budget (Budget sheet goal bound) = true
+is_of _ told = false
+
+-- whether an item is counted by a kind
+abbrev pub tells : Kind → Item → Bool
+tells kind (Note told) = is_of kind told
+tells kind (Event event) = is_event kind
+tells kind (Tree tree) = false
+
+-- the events of a log, and its records of each kind
+abbrev pub counts_of : List Item → Counts
+counts_of items = record {
+  events = count_by (tells kind.Event) items;
+  plans = count_by (tells kind.Plan) items;
+  moves = count_by (tells kind.Move) items;
+  releases = count_by (tells kind.Release) items;
+  dones = count_by (tells kind.Done) items;
+  lost = count_by (tells kind.Lost) items;
+  nones = count_by (tells kind.Never) items;
+  budgets = count_by (tells kind.Budget) items;
+}
+
+-- ---- the line, with its LF
+
+unfoldable pub head_text : ℕ → Counts → List ℕ
+head_text arg c =
+    (codes "soak " ++ decimal arg) ++ (codes " events " ++ decimal c.events) ++ (codes " plans " ++ decimal c.plans)
+    ++ (codes " moves " ++ decimal c.moves) ++ (codes " releases " ++ decimal c.releases)
+
+unfoldable pub tail_text : Counts → List ℕ
+tail_text c =
+    (codes " dones " ++ decimal c.dones) ++ (codes " lost " ++ decimal c.lost) ++ (codes " nones " ++ decimal c.nones)
+    ++ (codes " budgets " ++ decimal c.budgets) ++ codes "\n"
+
+abbrev pub summary_text : ℕ → Counts → List ℕ
+summary_text arg c = head_text arg c ++ tail_text c
