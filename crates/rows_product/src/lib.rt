@@ -6,11 +6,15 @@ mod bounds;
 #[cfg(test)]
 mod composing;
 #[cfg(test)]
+mod farming;
+#[cfg(test)]
 mod faults;
 #[cfg(test)]
 mod long_scripts;
 #[cfg(test)]
 mod running;
+#[cfg(test)]
+mod soaking;
 #[cfg(test)]
 mod statuses;
 #[cfg(test)]

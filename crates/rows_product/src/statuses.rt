@@ -19,7 +19,7 @@ fn duo_with(alloc: Global, begin: &str, end: &str) -> Result<String, Fail> {
 
 #[test]
 fn words_off_the_form(rt: HostRuntime) -> Result<(), Fail> {
-    let rows: [&[&str]; 12] = [
+    let rows: [&[&str]; 11] = [
         &[],
         &["run"],
         &["m.toml"],
@@ -31,7 +31,6 @@ fn words_off_the_form(rt: HostRuntime) -> Result<(), Fail> {
         &["run", "m.toml", "--bounds", "--bounds"],
         &["run", "m.toml", "--help"],
         &["check", "m.toml"],
-        &["soak", "1"],
     ];
     for words in rows {
         let given = Given {
