@@ -1,0 +1,127 @@
+"""Texts that nobody would write: sound ones changed at random, and a megabyte of one byte."""
+import random
+import re
+
+from trying import DONE, FARM, MACHINE, RACK, SHELF, TOO_LONG, read, side_by_side
+
+MEGABYTE = 1_048_576
+
+# How many changed texts of each kind are tried.
+TEXTS = 20_000
+
+NUMBERS = [b"0", b"-1", b"1", b"255", b"256", b"4096", b"4097", b"65536", b"2147483647", b"2147483648", b"4294967295",
+           b"4294967296", b"9223372036854775807", b"9223372036854775808", b"100000000000000000000", b"1.0", b"-0"]
+
+
+def flip(draw, text):
+    at = draw.randrange(len(text))
+    return text[:at] + bytes([draw.randrange(256)]) + text[at + 1 :]
+
+
+def cut(draw, text):
+    at = draw.randrange(len(text))
+    return text[:at] + text[at + draw.randrange(1, 40) :]
+
+
+def double_a_line(draw, text):
+    lines = text.splitlines(keepends=True)
+    at = draw.randrange(len(lines))
+    return b"".join(lines[: at + 1] + [lines[at]] * draw.choice([1, 2, 300]) + lines[at + 1 :])
+
+
+def swap_lines(draw, text):
+    lines = text.splitlines(keepends=True)
+    one, two = draw.randrange(len(lines)), draw.randrange(len(lines))
+    lines[one], lines[two] = lines[two], lines[one]
+    return b"".join(lines)
+
+
+def change_a_number(draw, text):
+    places = list(re.finditer(rb"\d+", text))
+    if not places:
+        return flip(draw, text)
+    place = draw.choice(places)
+    return text[: place.start()] + draw.choice(NUMBERS) + text[place.end() :]
+
+
+def nest(draw, text):
+    at = draw.randrange(len(text))
+    return text[:at] + draw.choice([b"[", b"{", b"{a=", b"[[", b"\""]) * draw.choice([1, 10, 1000]) + text[at:]
+
+
+CHANGES = [flip, cut, double_a_line, swap_lines, change_a_number, nest]
+
+
+def changed(draw, text):
+    for _ in range(draw.choice([1, 1, 1, 2, 5])):
+        text = draw.choice(CHANGES)(draw, text) if text else b"\n"
+    return text
+
+
+def fixed():
+    """A megabyte, and one byte more, of a byte that opens something."""
+    return [byte * size for byte in (b"[", b"{", b"=", b"\"", b"\n", b"#", b"\0", b"\xff", b"a.") for size in (MEGABYTE // len(byte), MEGABYTE + 1)]
+
+
+def ends_by(*statuses):
+    """The run ends with one of these statuses."""
+    return lambda text, run: None if run.status in statuses else f"status {run.status}"
+
+
+def is_event(line):
+    """Whether a line of a script is an event's."""
+    line = line.removesuffix(b"\r").strip(b" ")
+    return line != b"" and not line.startswith(b"#")
+
+
+def answers_each_line(text, run):
+    """The run is done and tells each event of the script, or a line is too long."""
+    if run.status == TOO_LONG:
+        return None
+    wanted = sum(is_event(line) for line in text.split(b"\n"))
+    told = sum(line.startswith(b"> ") for line in run.log.split(b"\n"))
+    return None if run.status == DONE and told == wanted else f"status {run.status}, {told} events of {wanted}"
+
+
+class Kind:
+    """A kind of text: sound ones, how the printer is run on one, and what is wrong with a run."""
+
+    def __init__(self, name, sounds, run, fault):
+        self.name, self.sounds, self.run, self.fault = name, sounds, run, fault
+
+
+def in_a_file(program, mode, script=b""):
+    """Runs a mode on a text in a file of its own."""
+
+    def run(at, text):
+        return program.run([mode, program.file(f"hostile-{at}", text)], script)
+
+    return run
+
+
+def kinds(program):
+    machines = [read(f"machines/{name}.toml") for name in ("duo", "line", "loop", "rack", "tail", "tint", "twin")]
+    racks = [read(f"racks/{name}.toml") for name in ("small", "duplex")]
+    scripts = [read(f"scripts/{name}.txt") for name in ("duo", "line", "loop", "tail", "tint", "twin")]
+    farms = [read("machines/farm.txt")]
+    script = b"job j1 t plain 2*M-:F\nclock 6\njam ENG1\n"
+    return [
+        Kind("machine texts", machines, in_a_file(program, "run", script), ends_by(DONE, MACHINE, TOO_LONG)),
+        Kind("rack texts", racks, in_a_file(program, "compose"), ends_by(DONE, RACK, TOO_LONG)),
+        Kind("lists of farms", farms, in_a_file(program, "farm", script), ends_by(DONE, FARM, SHELF, TOO_LONG)),
+        Kind("scripts", scripts, lambda at, text: program.run(["run", "machines/duo.toml"], text), answers_each_line),
+    ]
+
+
+def hostile(program, count):
+    """The printer ends each time, by a status that the text may have."""
+    for kind in kinds(program):
+        draw = random.Random(kind.name)
+        texts = fixed() + [changed(draw, draw.choice(kind.sounds)) for _ in range(TEXTS)]
+
+        def wrong(numbered):
+            at, text = numbered
+            fault = kind.fault(text, kind.run(at, text))
+            return None if fault is None else f"text {at}: {fault}"
+
+        count.tell(kind.name, side_by_side(wrong, enumerate(texts)), len(texts))

@@ -1,0 +1,115 @@
+"""Long scripts: how memory and time go as the past grows."""
+import random
+import subprocess
+import threading
+import time
+
+from trying import TOP
+
+ENGINES = [f"ENG{k}" for k in range(1, 9)]
+
+# More than a job's name, its row and its place in the index of names take together.
+JOB_BYTES = 250
+
+MODULES = ENGINES + ["FEED1", "FEED2", "OUT", "DUMP"]
+
+
+def random_events(number, seed):
+    """Jobs, clocks, jams, modules off and on, and refills, on the rack of eight engines."""
+    draw = random.Random(seed)
+    now = 0
+    for at in range(number):
+        kind = draw.randrange(100)
+        if kind < 40:
+            media, ink = draw.choice(["plain", "plain", "glossy"]), draw.choice(["M", "M", "C"])
+            yield f"job j{at} t {media} {draw.randrange(3) + 1}*{ink}-:F"
+        elif kind < 78:
+            now += draw.randrange(1, 60)
+            yield f"clock {now}"
+        elif kind < 79:
+            yield f"jam {draw.choice(ENGINES)}"
+        elif kind < 81:
+            yield f"off {draw.choice(ENGINES)}"
+        elif kind < 98:
+            yield f"on {draw.choice(MODULES)}"
+        else:
+            yield f"refill f1 {draw.randrange(100) + 1}"
+
+
+def small_jobs(number):
+    """Jobs of a sheet, each with a clock behind it that lets it come out."""
+    for at in range(number // 2):
+        yield f"job j{at} t plain M-:F"
+        yield f"clock {20 * (at + 1)}"
+
+
+def resident(pid):
+    """The kilobytes of memory that a process touches."""
+    with open(f"/proc/{pid}/status") as file:
+        for line in file:
+            if line.startswith("VmRSS:"):
+                return int(line.split()[1])
+    return 0
+
+
+class Watched:
+    """A run whose events are counted as they are answered."""
+
+    def __init__(self, program, words, events):
+        self.process = subprocess.Popen([program.path, *words], stdin=subprocess.PIPE, stdout=subprocess.PIPE, cwd=TOP)
+        self.events = events
+
+    def feed(self):
+        for event in self.events:
+            self.process.stdin.write(event.encode() + b"\n")
+        self.process.stdin.close()
+
+    def each(self, step):
+        """For each so many events: their number, the seconds since the last ones, and the memory in kilobytes."""
+        feeder = threading.Thread(target=self.feed)
+        feeder.start()
+        answered, last = 0, time.monotonic()
+        for line in self.process.stdout:
+            if line.startswith(b"> "):
+                answered += 1
+                if answered % step == 0:
+                    yield answered, time.monotonic() - last, resident(self.process.pid)
+                    last = time.monotonic()
+        feeder.join()
+        self.status = self.process.wait()
+
+
+def load(program, count):
+    """A hundred thousand random events in one process. Behind the first quarter an event takes no more time, but for a half, and
+    a job no more memory than its name and its row want."""
+    number, step = 100_000, 1000
+    events = list(random_events(number, 1))
+    run = Watched(program, ["run", "machines/rack.toml"], events)
+    rows = []
+    for answered, seconds, kilobytes in run.each(step):
+        rows.append((seconds, kilobytes))
+        print(f"    {answered} events: {1000 * seconds / step:.3f} ms an event, {kilobytes} kB", flush=True)
+    wrongs = [f"status {run.status}"] if run.status else []
+    quarter = len(rows) // 4
+    early, late = (sum(seconds for seconds, _ in part) for part in (rows[quarter : 2 * quarter], rows[-quarter:]))
+    if late > 1.5 * early:
+        wrongs.append(f"the time of an event grows by {late / early:.2f}")
+    jobs = sum(event.startswith("job ") for event in events[quarter * step :])
+    grown = 1024 * (rows[-1][1] - rows[quarter][1]) / jobs
+    print(f"    {grown:.0f} bytes a job", flush=True)
+    if grown > JOB_BYTES:
+        wrongs.append("memory grows")
+    count.tell("a hundred thousand events", wrongs, number)
+
+
+def lines(program, count):
+    """As many lines as a script may have: the second half takes as long as the first one, but for a quarter."""
+    number = 1_000_000
+    run = Watched(program, ["run", "machines/duo.toml"], small_jobs(number))
+    halves = [(seconds, kilobytes) for _, seconds, kilobytes in run.each(number // 2)]
+    wrongs = [f"status {run.status}"] if run.status else []
+    for seconds, kilobytes in halves:
+        print(f"    {number // 2} lines: {seconds:.1f} s, {kilobytes} kB", flush=True)
+    if len(halves) != 2 or halves[1][0] > 1.25 * halves[0][0]:
+        wrongs.append("the second half takes longer")
+    count.tell("a million lines", wrongs, number)
