@@ -8,6 +8,7 @@ use Rattle.tp_command.specs.Form.{Asked}
 use Rattle.tp_stream.specs.Takes.{IsReadFrom}
 use Rattle.tp_stream.specs.declared.stop.Stop.{Stop}
 use Rattle.tp_stream.specs.declared.stop.Stop.TheVariants as stop
+use Rattle.tp_turn.specs.States.{empty_state}
 use Rattle.tp_runs.specs.Ends.{IsAnswered, IsAnsweredTo}
 use Rattle.tp_program.specs.Texts.{IsLongText, IsShelved}
 use Rattle.tp_program.specs.declared.status.Long.TheVariants.{MachineText, Line, Lines}
@@ -38,11 +39,11 @@ EndsBy all stops _ = ⊥
 module _ (machine : Machine) (budget : ℕ) (bounds : Bool) (left left' taken taken' : Option (List ℕ)) where
   -- the script that the source gave was answered on the machine by a lawful run, and the text of its one log was written
   abbrev pub DoneOn : Type 0
-  DoneOn = (script : List ℕ) × IsReadFrom left script left' × IsAnswered machine budget bounds script taken taken'
+  DoneOn = (script : List ℕ) × IsReadFrom left script left' × IsAnswered machine budget bounds empty_state script taken taken'
 
   -- its first lines were, up to where the run stopped
   abbrev pub StopsOn : Stop → Type 0
-  StopsOn cause = (script : List ℕ) × IsReadFrom left script left' × IsAnsweredTo machine budget bounds cause script taken taken'
+  StopsOn cause = (script : List ℕ) × IsReadFrom left script left' × IsAnsweredTo machine budget bounds empty_state cause script taken taken'
 
   -- how a run ends that has begun: with Done the source was read to its end
   abbrev pub EndsOn : Status → Type 0

@@ -2,6 +2,8 @@
 use Rattle.std.proofs.Common.{◌≡◌, ℕ, ℤ, Bool, true, List, [], ◌∷◌, ◌++◌, map, Option, Some, None, refl, sym, ap, ap₂, subst, ◌∙◌, append_assoc}
 use Rattle.std.specs.List.{All, filter_map, flat_map}
 use Rattle.std.specs.Option.{MatchOption}
+use Rattle.std.proofs.lemmas.Grind.{flat_map-append}
+use Rattle.std.proofs.lemmas.List.{map-append}
 use Rattle.std.proofs.lemmas.List.Elements.{All-append, All-nil}
 use Rattle.tp_bounds.specs.declared.tree.BoundTree.{BoundTree}
 use Rattle.tp_bounds.specs.Lines.{node_text, node_words, row_text, row_words}
@@ -17,11 +19,13 @@ use Rattle.tp_log.specs.declared.item.Item.TheVariants as item
 use Rattle.tp_turn.specs.Logs.{Entry, Run}
 use Rattle.tp_turn.specs.States.{SessionState, empty_state}
 use Rattle.tp_headline.proofs.Headline.{order-empty}
+use Rattle.tp_outages.proofs.OutagesKeep.{through}
 use Rattle.tp_stream.specs.Answers.{AnswersAll}
 use Rattle.tp_stream.specs.Takes.{ends_whole}
 use Rattle.tp_stream.proofs.Lines.{ends_append, ends_line}
 use Rattle.tp_teller.specs.Tellers.{TellsAll}
 use Rattle.tp_runs.specs.EventRuns.{EventsAreLawful, TellsEvent, TurnsTellLines}
+use Rattle.tp_runs.specs.GoingOn.{EventsGoOn, FirstRunsAreLawful, RunsJoin}
 use Rattle.tp_runs.specs.Runs.{entry_of, items_in, items_of, run_text, spent_by, tree_claims}
 use Rattle.tp_runs.proofs.TreePlaces.{in_place}
 use Rattle.tp_runs.specs.Wholes.{IsWhole, LinesAreLawful, TellsLine, TellsTurn}
@@ -84,22 +88,49 @@ module _ (machine : Machine) (nodes : ℕ) (bounds : Bool) where
   events_of_lines (line ∷ lines) text s s' (told, (mid, (rest, one, others, same))) =
       one_more line lines text told rest s mid s' same (line_event line) refl one (events_of_lines lines rest mid s' others)
 
-  whole-empty : IsWhole machine empty_state empty_state
-  whole-empty = record { totals = []; order = order-empty machine; live = ap (λ (refills : List ℤ). record empty_state { refills = refills }) (less-none machine [] (λ loc. refl)) }
+  pub whole-empty : IsWhole machine empty_state empty_state
+  whole-empty = record { through = through machine [] empty_state (order-empty machine); live = ap (λ (refills : List ℤ). record empty_state { refills = refills }) (less-none machine [] (λ loc. refl)) }
+
+-- ---- runs that go on
+
+pub events_go_on : (machine : Machine) (nodes : ℕ) (bounds : Bool) → EventsGoOn machine nodes bounds
+events_go_on machine nodes bounds events text whole s s' behind h =
+    let r = run_over machine nodes bounds events text s s' whole behind h in
+    record {
+      log = r.log;
+      last = r.whole';
+      run = record { answers = r.answers; run = r.run; has_text = (in_place r.log, r.items) };
+      is_text = r.is_text;
+      behind = r.behind;
+    }
+
+pub first_runs_lawful : (machine : Machine) (nodes : ℕ) (bounds : Bool) → FirstRunsAreLawful machine nodes bounds
+first_runs_lawful machine nodes bounds events log last r = record { lawful = record { answers = r.answers; last = last; run = r.run }; has_text = r.has_text }
+
+-- one run behind another
+run-join : (machine : Machine) (nodes : ℕ) (bounds : Bool) (log more : List (Entry BoundTree)) (start mid last : SessionState)
+    → Runs machine nodes bounds start log mid → Runs machine nodes bounds mid more last → Runs machine nodes bounds start (log ++ more) last
+run-join machine nodes bounds [] more start mid last is behind = subst (λ s. Runs machine nodes bounds s more last) is behind
+run-join machine nodes bounds (entry ∷ log) more start mid last (next, turn, rest) behind = (next, turn, run-join machine nodes bounds log more next mid last rest behind)
+
+pub runs_join : (machine : Machine) (nodes : ℕ) (bounds : Bool) → RunsJoin machine nodes bounds
+runs_join machine nodes bounds start mid last events more log behind first second = record {
+  answers = map-append (λ e. e.event) log behind ∙ ap₂ (λ a b. a ++ b) first.answers second.answers;
+  run = run-join machine nodes bounds log behind start mid last first.run second.run;
+  has_text = (in_place (log ++ behind), subst (All IsItem) (sym (flat_map-append items_of log behind)) (All-append IsItem (items_in log) (items_in behind) first.has_text.1 second.has_text.1));
+}
+
+-- ---- runs from the empty state
 
 pub events_lawful : (machine : Machine) (nodes : ℕ) (bounds : Bool) → EventsAreLawful machine nodes bounds
 events_lawful machine nodes bounds events text s h =
-    let r = run_over machine nodes bounds events text empty_state s empty_state (whole-empty machine nodes bounds) h in
-    record {
-      log = r.log;
-      lawful = record { lawful = record { answers = r.answers; last = r.whole'; run = r.run }; has_text = (in_place r.log, r.items) };
-      is_text = r.is_text;
-    }
+    let r = events_go_on machine nodes bounds events text empty_state empty_state s (whole-empty machine nodes bounds) h in
+    record { log = r.log; lawful = first_runs_lawful machine nodes bounds events r.log r.last r.run; is_text = r.is_text }
 
 pub lines_lawful : (machine : Machine) (nodes : ℕ) (bounds : Bool) → LinesAreLawful machine nodes bounds
-lines_lawful machine nodes bounds lines text s h =
-    let r = events_lawful machine nodes bounds (filter_map line_event lines) text s (events_of_lines machine nodes bounds lines text empty_state s h) in
-    record { log = r.log; lawful = r.lawful; is_text = r.is_text }
+lines_lawful machine nodes bounds lines text whole s s' behind h =
+    let r = events_go_on machine nodes bounds (filter_map line_event lines) text whole s s' behind (events_of_lines machine nodes bounds lines text s s' h) in
+    record { log = r.log; last = r.last; run = r.run; is_text = r.is_text }
 
 -- ---- each item is written in whole lines
 

@@ -1,4 +1,5 @@
 pub mod Carry
+pub mod ThroughTurns
 pub mod Lawful
 pub mod OnWhole
 pub mod OutageLines

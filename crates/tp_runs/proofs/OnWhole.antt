@@ -9,25 +9,24 @@ use Rattle.tp_schedule.specs.declared.records.Record.{Record}
 use Rattle.tp_script.specs.declared.event.Event.{Event}
 use Rattle.tp_script.specs.declared.event.Event.TheVariants.{Bad, Job as NewJob, Clock, Jam, Off, On, Refill}
 use Rattle.tp_turn.specs.Keeping.{live_part}
-use Rattle.tp_turn.specs.Laws.{IsNoClock, IsNoOutage, is_outage, totals_after}
+use Rattle.tp_turn.specs.Laws.{IsNoClock, IsNoOutage, is_outage}
 use Rattle.tp_turn.specs.Planners.{PlannerSteps, right_steps}
 use Rattle.tp_turn.specs.States.{SessionState}
 use Rattle.tp_turn.specs.Turns.{Turn}
-use Rattle.tp_headline.proofs.LawfulLines.{order-turn}
 use Rattle.tp_turning.specs.Events.{LiveTurn}
 use Rattle.tp_turning.specs.LiveTurns.{AnswersAlone, SettlesRightly}
 use Rattle.tp_turning.proofs.LiveAlone.{live-clock_holds, live-outages_hold, live-turns_hold}
-use Rattle.tp_outages.proofs.OutagesKeep.{through}
 use Rattle.tp_runs.specs.Carrying.{KeepsNodes, ShowsTrees}
 use Rattle.tp_runs.specs.Wholes.{HasWholeTurn, IsWhole, TurnsOnWhole}
 use Rattle.tp_runs.proofs.Carry.{right_turns}
+use Rattle.tp_runs.proofs.ThroughTurns.{through-turn}
 
 module _ {P : Type 0} (spent : P → Machine → List Plan → Ask → ℕ → Type 0) (steps : P → Machine → List Plan → Deed → List Plan → P → Type 0)
     (stops : P → Machine → List Plan → Due → P → Type 0) (machine : Machine) where
   abbrev right : PlannerSteps P
   right = right_steps spent steps stops machine
 
-  -- a turn on the whole state is one of right answers, and keeps its order
+  -- a turn on the whole state is one of right answers, and keeps what it kept
   on-whole : (nodes : P → ℕ) (bounds : P → Bool) (trees : P → List BoundTree) → KeepsNodes spent steps stops machine nodes → ShowsTrees spent steps stops machine bounds trees → (event : Event) (whole whole' s s' : SessionState) (records : List Record) (p p' : P)
       → IsWhole machine whole s → trees p ≡ [] → Turn right machine event whole p records whole' p' → live_part machine whole' ≡ s'
       → HasWholeTurn machine (nodes p) (bounds p) event whole records (trees p') s' × (nodes p' ≡ nodes p)
@@ -37,8 +36,7 @@ module _ {P : Type 0} (spent : P → Machine → List Plan → Ask → ℕ → T
           whole',
           told,
           record {
-            totals = totals_after machine whole event w.totals;
-            order = order-turn right machine spent (λ p plans deed plans' p' does. does.0) event w.totals whole p records whole' p' turn w.order;
+            through = through-turn right machine spent (λ p plans deed plans' p' does. does.0) event whole p records whole' p' tt turn w.through;
             live = live;
           },
         ),
@@ -50,13 +48,13 @@ module _ {P : Type 0} (spent : P → Machine → List Plan → Ask → ℕ → T
       (whole s s' : SessionState) (records : List Record) (p p' : P) (w : IsWhole machine whole s) (empty : trees p ≡ []) where
     quiet : (event : Event) → IsNoOutage event → IsNoClock event → Turn right machine event s p records s' p' → HasWholeTurn machine (nodes p) (bounds p) event whole records (trees p') s' × (nodes p' ≡ nodes p)
     quiet event no_outage no_clock turn =
-        let (whole', t, live) = live-turns_hold right machine nodes event whole p records s' p' alone w.order.plans w.order.lines no_outage no_clock
+        let (whole', t, live) = live-turns_hold right machine nodes event whole p records s' p' alone w.through.plans w.through.lines no_outage no_clock
         (subst (λ x. Turn right machine event x p records s' p') (sym w.live) turn) in
         on-whole nodes bounds trees keeps shows event whole whole' s s' records p p' w empty t live
 
     outage : (event : Event) → IsTrue (is_outage event) → Turn right machine event s p records s' p' → HasWholeTurn machine (nodes p) (bounds p) event whole records (trees p') s' × (nodes p' ≡ nodes p)
     outage event is turn =
-        let (whole', t, live) = live-outages_hold right machine settles nodes event whole p records s' p' alone (through machine w.totals whole w.order) is
+        let (whole', t, live) = live-outages_hold right machine settles nodes event whole p records s' p' alone w.through is
         (subst (λ x. Turn right machine event x p records s' p') (sym w.live) turn) in
         on-whole nodes bounds trees keeps shows event whole whole' s s' records p p' w empty t live
 
@@ -64,7 +62,7 @@ module _ {P : Type 0} (spent : P → Machine → List Plan → Ask → ℕ → T
     by-event Bad turn = quiet Bad refl refl turn
     by-event (NewJob name tray media groups) turn = quiet (NewJob name tray media groups) refl refl turn
     by-event (Clock to) turn =
-        let (whole', t, live) = live-clock_holds right machine nodes to whole p records s' p' alone w.order.plans w.order.lines
+        let (whole', t, live) = live-clock_holds right machine nodes to whole p records s' p' alone w.through.plans w.through.lines
         (subst (λ x. LiveTurn right machine (Clock to) x p records s' p') (sym w.live) turn) in
         on-whole nodes bounds trees keeps shows (Clock to) whole whole' s s' records p p' w empty t live
     by-event (Jam name) turn = outage (Jam name) refl turn

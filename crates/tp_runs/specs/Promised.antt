@@ -12,7 +12,7 @@ use Rattle.tp_script.specs.declared.event.Event.{Event}
 use Rattle.tp_stream.specs.declared.stop.Stop.{Stop}
 use Rattle.tp_turn.specs.Logs.{Entry}
 use Rattle.tp_turn.specs.Receiving.{ReceivesInOrder, records_of}
-use Rattle.tp_turn.specs.States.{SessionState}
+use Rattle.tp_turn.specs.States.{SessionState, empty_state}
 use Rattle.tp_headline.specs.Given.{IsEarliestThere, IsNoneThere, IsSpentThere}
 use Rattle.tp_runs.specs.Ends.{IsAnswered, IsAnsweredTo}
 use Rattle.tp_runs.specs.Proved.{AreProved}
@@ -49,9 +49,9 @@ module _ (machine : Machine) (nodes : ℕ) (bounds : Bool) where
       → KeepsPromises log run.lawful.last
 
   abbrev pub AnswersKeepPromises : Type 0
-  AnswersKeepPromises = (script : List ℕ) (taken taken' : Option (List ℕ)) (answered : IsAnswered machine nodes bounds script taken taken')
-      → KeepsPromises answered.run.log answered.run.lawful.lawful.last
+  AnswersKeepPromises = (script : List ℕ) (taken taken' : Option (List ℕ)) (answered : IsAnswered machine nodes bounds empty_state script taken taken')
+      → KeepsPromises answered.run.log answered.run.last
 
   abbrev pub StopsKeepPromises : Type 0
-  StopsKeepPromises = (stop : Stop) (script : List ℕ) (taken taken' : Option (List ℕ)) (answered : IsAnsweredTo machine nodes bounds stop script taken taken')
-      → KeepsPromises answered.run.log answered.run.lawful.lawful.last
+  StopsKeepPromises = (stop : Stop) (script : List ℕ) (taken taken' : Option (List ℕ)) (answered : IsAnsweredTo machine nodes bounds empty_state stop script taken taken')
+      → KeepsPromises answered.run.log answered.run.last

@@ -1,5 +1,5 @@
 -- A run of the program: the events of a script, the records of each with the trees that prove them, and the text of all.
-use Rattle.std.specs.Prelude.{ℕ, Bool, true, false, not, ◌&&◌, List, [], ◌∷◌, ◌++◌, map, take, drop, if◌then◌else◌}
+use Rattle.std.specs.Prelude.{◌≡◌, ℕ, Bool, true, false, not, ◌&&◌, List, [], ◌∷◌, ◌++◌, map, take, drop, if◌then◌else◌}
 use Rattle.std.specs.List.{flat_map}
 use Rattle.tp_bounds.specs.declared.tree.BoundTree.{BoundTree}
 use Rattle.tp_machine.specs.declared.machine.Machine.{Machine}
@@ -14,7 +14,7 @@ use Rattle.tp_trees.specs.declared.claim.Claim.TheVariants.{Earliest, Never}
 use Rattle.tp_log.specs.Logs.{IsLog, log_text}
 use Rattle.tp_log.specs.declared.item.Item.{Item}
 use Rattle.tp_log.specs.declared.item.Item.TheVariants as item
-use Rattle.tp_turn.specs.Logs.{Entry, IsLawful, TreeClaims, right_answers}
+use Rattle.tp_turn.specs.Logs.{Entry, IsLawful, Run, TreeClaims, right_answers}
 use Rattle.tp_turn.specs.States.{SessionState}
 use Rattle.tp_turn.specs.Turns.{Turn}
 
@@ -81,4 +81,11 @@ run_text log = log_text (items_in log)
 -- the log answers the events by a lawful run, with bounds or without, and each of its items has a text
 pub record IsLawfulRun (machine : Machine) (nodes : ℕ) (bounds : Bool) (events : List Event) (log : List (Entry BoundTree)) : Type 0 where
   pub lawful : IsLawful tree_claims bounds (spent_by nodes) machine events log
+  pub has_text : IsLog (items_in log)
+
+-- from one state to another the log answers the events by turns of right answers, with bounds or without, and each of its items
+-- has a text
+pub record IsRunFrom (machine : Machine) (nodes : ℕ) (bounds : Bool) (start : SessionState) (events : List Event) (log : List (Entry BoundTree)) (last : SessionState) : Type 0 where
+  pub answers : map (λ e. e.event) log ≡ events
+  pub run : Run tree_claims bounds (spent_by nodes) machine start log last
   pub has_text : IsLog (items_in log)

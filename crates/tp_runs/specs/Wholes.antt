@@ -15,17 +15,16 @@ use Rattle.tp_stream.specs.Scripts.{AnswersLine}
 use Rattle.tp_turn.specs.Keeping.{live_part}
 use Rattle.tp_turn.specs.Logs.{Entry}
 use Rattle.tp_turn.specs.Planners.{right_steps}
-use Rattle.tp_turn.specs.States.{SessionState, empty_state}
-use Rattle.tp_outages.specs.Through.{KeepsOrder}
+use Rattle.tp_turn.specs.States.{SessionState}
+use Rattle.tp_outages.specs.Through.{KeepsThrough}
 use Rattle.tp_turning.specs.Events.{LiveTurn}
 use Rattle.tp_turning.specs.LiveTurns.{AnswersAlone, SettlesRightly}
 use Rattle.tp_runs.specs.Carrying.{KeepsNodes, ShowsTrees}
-use Rattle.tp_runs.specs.Runs.{IsLawfulRun, TurnOf, entry_of, items_of, run_text}
+use Rattle.tp_runs.specs.Runs.{IsRunFrom, TurnOf, entry_of, items_of, run_text}
 
--- a whole state behind a live one: it keeps its order, past included, with so many sheets of each job, and this is its live part
+-- a whole state behind a live one: it keeps what states keep through outages, past included, and this is its live part
 pub record IsWhole (machine : Machine) (whole s : SessionState) : Type 0 where
-  pub totals : List ℕ
-  pub order : KeepsOrder machine totals whole
+  pub through : KeepsThrough machine whole
   pub live : live_part machine whole ≡ s
 
 -- the event has this turn on the whole state, which leaves one behind the next live state
@@ -44,10 +43,11 @@ pub record TellsTurn (machine : Machine) (nodes : ℕ) (bounds : Bool) (event : 
   pub turn : TurnsLive machine nodes bounds event s records trees s'
   pub is_text : text ≡ log_text (items_of (entry_of event records trees))
 
--- from the empty state the lines are answered by a lawful run over their events, and this text is its log's
-pub record IsRunOver (machine : Machine) (nodes : ℕ) (bounds : Bool) (lines : List (List ℕ)) (text : List ℕ) : Type 0 where
+-- from a state on the lines are answered by a run over their events, and this text is its log's
+pub record IsRunOver (machine : Machine) (nodes : ℕ) (bounds : Bool) (start : SessionState) (lines : List (List ℕ)) (text : List ℕ) : Type 0 where
   pub log : List (Entry BoundTree)
-  pub lawful : IsLawfulRun machine nodes bounds (filter_map line_event lines) log
+  pub last : SessionState
+  pub run : IsRunFrom machine nodes bounds start (filter_map line_event lines) log last
   pub is_text : text ≡ run_text log
 
 -- a line is answered by the text of its event's turn
@@ -55,8 +55,8 @@ abbrev pub TellsLine : Machine → ℕ → Bool → SessionState → List ℕ �
 TellsLine machine nodes bounds = AnswersLine (λ s event. TellsTurn machine nodes bounds event s)
 
 abbrev pub LinesAreLawful : Machine → ℕ → Bool → Type 0
-LinesAreLawful machine nodes bounds = (lines : List (List ℕ)) (text : List ℕ) (s : SessionState)
-    → AnswersAll (TellsLine machine nodes bounds) empty_state lines text s → IsRunOver machine nodes bounds lines text
+LinesAreLawful machine nodes bounds = (lines : List (List ℕ)) (text : List ℕ) (whole s s' : SessionState) → IsWhole machine whole s
+    → AnswersAll (TellsLine machine nodes bounds) s lines text s' → IsRunOver machine nodes bounds whole lines text
 
 -- a planner that looks at schedules through its deeds alone, and whose number of nodes never changes, takes turns on the
 -- live part that are turns of right answers on every whole state behind it, with its trees

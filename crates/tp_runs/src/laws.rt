@@ -4,6 +4,7 @@ ghost use Rattle.std.specs.Prelude.{ℕ, Bool};
 ghost use Rattle.tp_machine.specs.declared.machine.Machine.{Machine};
 ghost use Rattle.tp_runs.specs.Carrying.{RightTurns, TreesHaveLines};
 ghost use Rattle.tp_runs.specs.EventRuns.{EventsAreLawful, TurnsTellLines};
+ghost use Rattle.tp_runs.specs.GoingOn.{EventsGoOn, FirstRunsAreLawful, RunsJoin};
 ghost use Rattle.tp_runs.specs.Ends.{ScriptsAreLawful, StopsAreLawful};
 ghost use Rattle.tp_runs.specs.Promised.{AnswersKeepPromises, LawfulRunsKeepPromises, StopsKeepPromises};
 ghost use Rattle.tp_runs.specs.Told.{LiveTurnsHaveLines, TurnsHaveLines};
@@ -38,8 +39,20 @@ pub fn shown_trees_have_lines<P: Planner>()
     ensures { (machine : Machine) → TreesHaveLines P.spent P.steps P.stop_steps machine }
 {}
 
-/// Where lines are answered, each by a turn on every whole state behind the live one, their events are answered by a lawful
-/// run, and the text of the answers is the text of its log.
+/// Where events are answered from a live state on, each by a turn on every whole state behind it, they are answered by a run from
+/// each of these, and the text of the answers is the text of its log. The next run may go on where it ends, and both are one run
+/// then. A run from the empty state is lawful.
+pub fn answered_events_go_on()
+    ensures events { (machine : Machine) (nodes : ℕ) (bounds : Bool)
+        → EventsGoOn machine nodes bounds }
+    ensures join { (machine : Machine) (nodes : ℕ) (bounds : Bool)
+        → RunsJoin machine nodes bounds }
+    ensures lawful { (machine : Machine) (nodes : ℕ) (bounds : Bool)
+        → FirstRunsAreLawful machine nodes bounds }
+{}
+
+/// Where lines are answered, each by a turn on every whole state behind the live one, their events are answered by a run from there,
+/// and the text of the answers is the text of its log.
 pub fn answered_lines_are_lawful()
     ensures { (machine : Machine) (nodes : ℕ) (bounds : Bool)
         → LinesAreLawful machine nodes bounds }
@@ -54,13 +67,13 @@ pub fn answered_events_are_lawful()
         → TurnsTellLines machine nodes bounds }
 {}
 
-/// A script that is answered whole is answered by a lawful run.
+/// A script that is answered whole, from any live state on, is answered by a run from each whole state behind it.
 pub fn answered_scripts_are_lawful()
     ensures { (machine : Machine) (nodes : ℕ) (bounds : Bool)
         → ScriptsAreLawful machine nodes bounds }
 {}
 
-/// Where a run over a script stops, what was written is the text of a lawful run over its first lines.
+/// Where a run over a script stops, what was written is the text of a run over its first lines.
 pub fn stopped_scripts_are_lawful()
     ensures { (machine : Machine) (nodes : ℕ) (bounds : Bool)
         → StopsAreLawful machine nodes bounds }

@@ -14,8 +14,8 @@ use Rattle.tp_teller.specs.Tellers.{TellsAll}
 use Rattle.tp_turn.specs.States.{SessionState, empty_state}
 use Rattle.tp_runs.specs.Ends.{IsAnswered, IsAnsweredTo}
 use Rattle.tp_runs.specs.EventRuns.{IsRunOf, TellsEvent}
-use Rattle.tp_runs.specs.Wholes.{TellsLine, TellsTurn}
-use Rattle.tp_runs.proofs.Lawful.{events_lawful, turns_tell_lines}
+use Rattle.tp_runs.specs.Wholes.{IsWhole, TellsLine, TellsTurn}
+use Rattle.tp_runs.proofs.Lawful.{events_lawful, turns_tell_lines, whole-empty}
 use Rattle.tp_runs.proofs.Scripts.{scripts_lawful, stops_lawful}
 use Rattle.tp_session.specs.Sessions.{SessionsTellLines, Standing, Tells}
 
@@ -24,10 +24,10 @@ module _ (machine : Machine) (nodes : ℕ) (bounds : Bool) where
   Lawful = TellsLine machine nodes bounds
 
   -- a standing with this machine and this budget, with bounds or without
-  record Has (s : Standing) : Type 0 where
-    machine_is : s.machine ≡ machine
-    budget_is : s.budget ≡ nodes
-    bounds_is : s.bounds ≡ bounds
+  pub record Has (s : Standing) : Type 0 where
+    pub machine_is : s.machine ≡ machine
+    pub budget_is : s.budget ≡ nodes
+    pub bounds_is : s.bounds ≡ bounds
 
   record LineOf (s : Standing) (line text : List ℕ) (s' : Standing) : Type 0 where
     answers : Lawful s.state line text s'.state
@@ -58,21 +58,12 @@ module _ (machine : Machine) (nodes : ℕ) (bounds : Bool) where
       let more = all_lines lines rest mid s' first.has others in
       record { answers = (told, (mid.state, (rest, first.answers, more.answers, same))); has = more.has }
 
-  abbrev start : Standing
-  start = record { machine = machine; budget = nodes; bounds = bounds; state = empty_state }
+  -- where a session stands in this state
+  abbrev at_state : SessionState → Standing
+  at_state live = record { machine = machine; budget = nodes; bounds = bounds; state = live }
 
-  starts : Has start
-  starts = record { machine_is = refl; budget_is = refl; bounds_is = refl }
-
-  pub sessions_lawful : (script : List ℕ) (taken taken' : Option (List ℕ)) (s : Standing) → TakesAll (AnswersLine Tells) 4096 1000000 (place_of start 0 taken) script s taken' → IsAnswered machine nodes bounds script taken taken'
-  sessions_lawful script taken taken' s h =
-      scripts_lawful machine nodes bounds script taken taken' s.state (record {
-        fit = h.fit;
-        few = h.few;
-        text = h.text;
-        answered = (all_lines (lines_of script) h.text start s starts h.answered).answers;
-        written = h.written;
-      })
+  starts : (live : SessionState) → Has (at_state live)
+  starts live = record { machine_is = refl; budget_is = refl; bounds_is = refl }
 
   abbrev seen_place : Place Standing → Place SessionState
   seen_place at = place_of at.state.state at.count at.taken
@@ -87,32 +78,53 @@ module _ (machine : Machine) (nodes : ℕ) (bounds : Bool) where
   seen_stop Sink rest at s taken' has h =
       record { line = h.line; more = h.more; next = h.next; told = h.told; answered = (one_line at.state s h.line h.told has h.answered).answers; cut = h.cut }
 
-  pub sessions_stop : (stop : Stop) (script : List ℕ) (taken taken' : Option (List ℕ)) (s : Standing) → Stops (AnswersLine Tells) NoRefusal 4096 1000000 (place_of start 0 taken) script stop s taken' → IsAnsweredTo machine nodes bounds stop script taken taken'
-  sessions_stop stop script taken taken' s h =
-      let t = h.takes in
-      let lines = all_lines (lines_of t.done) t.text start h.at.state starts t.answered in
-      stops_lawful machine nodes bounds stop script taken taken' s.state (record {
-        rest = h.rest;
-        at = seen_place h.at;
-        takes = record {
-          done = t.done;
-          bytes_are = t.bytes_are;
-          whole = t.whole;
-          fit = t.fit;
-          text = t.text;
-          answered = lines.answers;
-          written = t.written;
-          counted = t.counted;
-        };
-        few = h.few;
-        stops = seen_stop stop h.rest h.at s taken' lines.has h.stops;
-      })
+  module _ (whole live : SessionState) (behind : IsWhole machine whole live) where
+    pub scripts_from : (script : List ℕ) (taken taken' : Option (List ℕ)) (s : Standing) → TakesAll (AnswersLine Tells) 4096 1000000 (place_of (at_state live) 0 taken) script s taken'
+        → IsAnswered machine nodes bounds whole script taken taken'
+    scripts_from script taken taken' s h =
+        scripts_lawful machine nodes bounds whole live behind script taken taken' s.state (record {
+          fit = h.fit;
+          few = h.few;
+          text = h.text;
+          answered = (all_lines (lines_of script) h.text (at_state live) s (starts live) h.answered).answers;
+          written = h.written;
+        })
+
+    pub stops_from : (stop : Stop) (script : List ℕ) (taken taken' : Option (List ℕ)) (s : Standing)
+        → Stops (AnswersLine Tells) NoRefusal 4096 1000000 (place_of (at_state live) 0 taken) script stop s taken' → IsAnsweredTo machine nodes bounds whole stop script taken taken'
+    stops_from stop script taken taken' s h =
+        let t = h.takes in
+        let lines = all_lines (lines_of t.done) t.text (at_state live) h.at.state (starts live) t.answered in
+        stops_lawful machine nodes bounds whole live behind stop script taken taken' s.state (record {
+          rest = h.rest;
+          at = seen_place h.at;
+          takes = record {
+            done = t.done;
+            bytes_are = t.bytes_are;
+            whole = t.whole;
+            fit = t.fit;
+            text = t.text;
+            answered = lines.answers;
+            written = t.written;
+            counted = t.counted;
+          };
+          few = h.few;
+          stops = seen_stop stop h.rest h.at s taken' lines.has h.stops;
+        })
+
+  pub sessions_lawful : (script : List ℕ) (taken taken' : Option (List ℕ)) (s : Standing) → TakesAll (AnswersLine Tells) 4096 1000000 (place_of (at_state empty_state) 0 taken) script s taken'
+      → IsAnswered machine nodes bounds empty_state script taken taken'
+  sessions_lawful = scripts_from empty_state empty_state (whole-empty machine nodes bounds)
+
+  pub sessions_stop : (stop : Stop) (script : List ℕ) (taken taken' : Option (List ℕ)) (s : Standing)
+      → Stops (AnswersLine Tells) NoRefusal 4096 1000000 (place_of (at_state empty_state) 0 taken) script stop s taken' → IsAnsweredTo machine nodes bounds empty_state stop script taken taken'
+  sessions_stop = stops_from empty_state empty_state (whole-empty machine nodes bounds)
 
   -- events without lines around them
-  record EventsOf (s : Standing) (events : List Event) (text : List ℕ) (s' : Standing) : Type 0 where
-    tells : TellsAll (TellsEvent machine nodes bounds) s.state events text s'.state
+  pub record EventsOf (s : Standing) (events : List Event) (text : List ℕ) (s' : Standing) : Type 0 where
+    pub tells : TellsAll (TellsEvent machine nodes bounds) s.state events text s'.state
 
-  all_events : (events : List Event) (text : List ℕ) (s s' : Standing) → Has s → TellsAll Tells s events text s' → EventsOf s events text s'
+  pub all_events : (events : List Event) (text : List ℕ) (s s' : Standing) → Has s → TellsAll Tells s events text s' → EventsOf s events text s'
   all_events [] text s s' has (none, same) = record { tells = (none, ap (λ (x : Standing). x.state) same) }
   all_events (event ∷ events) text s s' has (told, (mid, (rest, one, others, same))) =
       let has-mid : Has mid = record { machine_is = one.same_machine ∙ has.machine_is; budget_is = one.same_budget ∙ has.budget_is; bounds_is = one.same_bounds ∙ has.bounds_is } in
@@ -120,8 +132,8 @@ module _ (machine : Machine) (nodes : ℕ) (bounds : Bool) where
       (subst (λ n. TellsTurn machine n s.bounds event s.state told mid.state) has.budget_is (subst (λ m. TellsTurn m s.budget s.bounds event s.state told mid.state) has.machine_is one.turn)) in
       record { tells = (told, (mid.state, (rest, first, (all_events events rest mid s' has-mid others).tells, same))) }
 
-  pub sessions_tell : (events : List Event) (text : List ℕ) (s : Standing) → TellsAll Tells start events text s → IsRunOf machine nodes bounds events text
-  sessions_tell events text s h = events_lawful machine nodes bounds events text s.state (all_events events text start s starts h).tells
+  pub sessions_tell : (events : List Event) (text : List ℕ) (s : Standing) → TellsAll Tells (at_state empty_state) events text s → IsRunOf machine nodes bounds events text
+  sessions_tell events text s h = events_lawful machine nodes bounds events text s.state (all_events events text (at_state empty_state) s (starts empty_state) h).tells
 
 pub sessions_tell_lines : SessionsTellLines
 sessions_tell_lines event s s' text h = turns_tell_lines s.machine s.budget s.bounds event s.state s'.state text h.turn

@@ -193,5 +193,5 @@ module _ (machine : Machine) (nodes : ℕ) (whole : SessionState) (lines : Keeps
 pub probes-behind : (machine : Machine) (nodes : ℕ) (bounds : Bool) (s : SessionState) (event : Event) (answer : Probe) → IsProbe machine nodes event s answer → Probes (record { machine = machine; budget = nodes; bounds = bounds; state = s }) event answer
 probes-behind machine nodes bounds s event answer told = record {
   here = told;
-  on_whole = λ whole w. probe-on machine nodes whole w.order.lines w.order.plans.legal w.order.plans.floors event answer (subst (λ r. IsProbe machine nodes event r answer) (sym w.live) told);
+  on_whole = λ whole w. probe-on machine nodes whole w.through.lines w.through.plans.legal w.through.plans.floors event answer (subst (λ r. IsProbe machine nodes event r answer) (sym w.live) told);
 }

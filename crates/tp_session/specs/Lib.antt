@@ -1,4 +1,5 @@
 pub mod Sessions
+pub mod GoingOn
 pub mod Texts
 pub mod Probes
 pub mod Stocks

@@ -3,6 +3,7 @@
 ghost use Rattle.std.specs.Prelude.{ℕ, Bool, Option};
 ghost use Rattle.tp_machine.specs.declared.machine.Machine.{Machine};
 ghost use Rattle.tp_runs.specs.Carrying.{KeepsNodes, ShowsTrees};
+ghost use Rattle.tp_session.specs.GoingOn.{ScriptsGoOn, SessionsGoOn, StopsGoOn};
 ghost use Rattle.tp_session.specs.Sessions.{SessionsLawful, SessionsStopLawful, SessionsTellLawful, SessionsTellLines};
 ghost use Rattle.tp_turn.specs.Planners.{right_steps};
 ghost use Rattle.tp_turning.specs.LiveTurns.{AnswersAlone, SettlesRightly};
@@ -38,4 +39,15 @@ pub fn sessions_are_lawful()
     ensures told { (machine : Machine) (budget : Option ℕ) (bounds : Bool)
         → SessionsTellLawful machine budget bounds }
     ensures lines { SessionsTellLines }
+{}
+
+/// Where a session goes on from a sound standing, the script that it answers is answered by a run from the state that the
+/// standing tells, and so are the first lines where it stops, and events without a script.
+pub fn sessions_go_on()
+    ensures whole { (machine : Machine) (budget : Option ℕ) (bounds : Bool)
+        → ScriptsGoOn machine budget bounds }
+    ensures stopped { (machine : Machine) (budget : Option ℕ) (bounds : Bool)
+        → StopsGoOn machine budget bounds }
+    ensures told { (machine : Machine) (budget : Option ℕ) (bounds : Bool)
+        → SessionsGoOn machine budget bounds }
 {}

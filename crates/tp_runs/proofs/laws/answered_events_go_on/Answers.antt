@@ -1,0 +1,11 @@
+use Rattle.tp_runs.proofs.Lawful.{events_go_on, first_runs_lawful, runs_join}
+use Rattle.tp_runs.proofs.laws.answered_events_go_on.Goals as goal
+
+pub returns-clause-events : goal.returns-clause-events
+returns-clause-events c = events_go_on
+
+pub returns-clause-join : goal.returns-clause-join
+returns-clause-join c = runs_join
+
+pub returns-clause-lawful : goal.returns-clause-lawful
+returns-clause-lawful c = first_runs_lawful

@@ -1,0 +1,36 @@
+-- Runs that go on: from the state that is told of a run before, or behind the log of the first events.
+use Rattle.std.specs.Prelude.{◌≡◌, ℕ, Bool, List, ◌++◌}
+use Rattle.tp_bounds.specs.declared.tree.BoundTree.{BoundTree}
+use Rattle.tp_machine.specs.declared.machine.Machine.{Machine}
+use Rattle.tp_script.specs.declared.event.Event.{Event}
+use Rattle.tp_teller.specs.Tellers.{TellsAll}
+use Rattle.tp_turn.specs.Logs.{Entry}
+use Rattle.tp_turn.specs.States.{SessionState, empty_state}
+use Rattle.tp_runs.specs.EventRuns.{TellsEvent}
+use Rattle.tp_runs.specs.Runs.{IsLawfulRun, IsRunFrom, run_text}
+use Rattle.tp_runs.specs.Wholes.{IsWhole}
+
+module _ (machine : Machine) (nodes : ℕ) (bounds : Bool) where
+  -- from a whole state the events are answered by a run, and this text is its log's. The state that it leaves stands behind this
+  -- live one, so that a run can go on from there
+  pub record GoesOn (start : SessionState) (events : List Event) (text : List ℕ) (live : SessionState) : Type 0 where
+    pub log : List (Entry BoundTree)
+    pub last : SessionState
+    pub run : IsRunFrom machine nodes bounds start events log last
+    pub is_text : text ≡ run_text log
+    pub behind : IsWhole machine last live
+
+  -- events that are answered from a live state on are answered by a run from each whole state behind it
+  abbrev pub EventsGoOn : Type 0
+  EventsGoOn = (events : List Event) (text : List ℕ) (whole s s' : SessionState) → IsWhole machine whole s
+      → TellsAll (TellsEvent machine nodes bounds) s events text s' → GoesOn whole events text s'
+
+  -- a run, and one from where it ends, are one run
+  abbrev pub RunsJoin : Type 0
+  RunsJoin = (start mid last : SessionState) (events more : List Event) (log behind : List (Entry BoundTree))
+      → IsRunFrom machine nodes bounds start events log mid → IsRunFrom machine nodes bounds mid more behind last → IsRunFrom machine nodes bounds start (events ++ more) (log ++ behind) last
+
+  -- a run from the empty state is lawful
+  abbrev pub FirstRunsAreLawful : Type 0
+  FirstRunsAreLawful = (events : List Event) (log : List (Entry BoundTree)) (last : SessionState)
+      → IsRunFrom machine nodes bounds empty_state events log last → IsLawfulRun machine nodes bounds events log
