@@ -1,0 +1,11 @@
+pub mod Releases
+pub mod PlanKeeps
+pub mod FateKeeps
+pub mod ModulesOut
+pub mod OutageKeeps
+pub mod AnswerKeeps
+pub mod LoopKeeps
+pub mod StockKeeps
+pub mod NewCopies
+pub mod TurnKeeps
+pub mod StandsSound

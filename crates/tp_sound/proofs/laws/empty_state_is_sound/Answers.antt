@@ -1,0 +1,5 @@
+use Rattle.tp_sound.proofs.TurnKeeps.{sound-empty}
+use Rattle.tp_sound.proofs.laws.empty_state_is_sound.Goals as goal
+
+pub returns : goal.returns
+returns c machine = record { can = c.empty_state_can_begin.ensures.can machine; sound = sound-empty machine }
