@@ -4,3 +4,4 @@ pub mod GoesOn
 pub mod ProbeFacts
 pub mod ToldText
 pub mod ShownTrees
+pub mod Soundly

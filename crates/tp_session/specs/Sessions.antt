@@ -1,5 +1,5 @@
 -- What a session is seen as, and what one event does to it.
-use Rattle.std.specs.Prelude.{◌≡◌, ℕ, ◌+◌, ◌≤◌, Bool, true, List, [], Option, IsTrue, unwrap_or}
+use Rattle.std.specs.Prelude.{◌≡◌, ℕ, ◌+◌, ◌≤◌, Bool, true, List, [], Option, IsTrue, length, unwrap_or}
 use Rattle.tp_machine.specs.declared.machine.Machine.{Machine}
 use Rattle.tp_script.specs.declared.event.Event.{Event}
 use Rattle.tp_search.specs.Engines.{EngineValue, is_engine_for}
@@ -12,8 +12,9 @@ use Rattle.tp_turn.specs.States.{SessionState, empty_state}
 use Rattle.tp_runs.specs.Ends.{IsAnswered, IsAnsweredTo}
 use Rattle.tp_runs.specs.EventRuns.{IsRunOf}
 use Rattle.tp_runs.specs.Wholes.{TellsTurn}
-use Rattle.tp_standing.specs.Sound.{last_number}
-use Rattle.tp_standing.specs.Told.{told}
+use Rattle.tp_sound.specs.Kept.{CanBeSaved}
+use Rattle.tp_standing.specs.Sound.{IsSound, last_number, most_jobs}
+use Rattle.tp_standing.specs.Told.{standing_of, told}
 use Rattle.tp_jobs.specs.declared.standing.Standing as kept
 
 -- the machine, the budget, whether bounds are shown, and the live part of the state: all that answers depend on
@@ -40,12 +41,14 @@ pub record IsSession {N : Type 0} (standing : Standing) (engine : EngineValue N)
   pub stocked : KeepsStock standing.machine (2 + answered) standing.state
   pub within : answered ≤ most_events
 
--- an event's turn on every whole state behind the session's, with the text of its records and trees. All but the state stays
+-- an event's turn on every whole state behind the session's, with the text of its records and trees. All but the state stays, and a
+-- state that can be saved leads to one that can
 pub record Tells (s : Standing) (event : Event) (text : List ℕ) (s' : Standing) : Type 0 where
   pub same_machine : s'.machine ≡ s.machine
   pub same_budget : s'.budget ≡ s.budget
   pub same_bounds : s'.bounds ≡ s.bounds
   pub turn : TellsTurn s.machine s.budget s.bounds event s.state text s'.state
+  pub saved : (events : ℕ) → CanBeSaved s.machine events s.state → CanBeSaved s.machine (events + 1) s'.state
 
 -- where it stands once it goes on from what is kept of a session
 abbrev pub gone_on : Standing → kept.Standing → Standing
@@ -76,3 +79,15 @@ SessionsTellLawful machine budget bounds = (events : List Event) (text : List �
 -- each by whole lines
 abbrev pub SessionsTellLines : Type 0
 SessionsTellLines = (event : Event) (s s' : Standing) (text : List ℕ) → Tells s event text s' → ends_whole text ≡ true
+
+-- where a session stands after these events from its start is sound to go on from, if not too many jobs came
+abbrev pub SessionsStandSoundly : Machine → Option ℕ → Bool → Type 0
+SessionsStandSoundly machine budget bounds = (events : List Event) (text : List ℕ) (s : Standing)
+    → TellsAll Tells (start_of machine budget bounds) events text s → length events ≤ most_events → length s.state.jobs ≤ most_jobs
+    → IsSound machine (standing_of machine s.state)
+
+-- and so it is after a script, which has few enough lines
+abbrev pub ScriptsEndSoundly : Machine → Option ℕ → Bool → Type 0
+ScriptsEndSoundly machine budget bounds = (script : List ℕ) (taken taken' : Option (List ℕ)) (s : Standing)
+    → TakesAll (AnswersLine Tells) line_bytes most_lines (place_of (start_of machine budget bounds) 0 taken) script s taken'
+    → IsSound machine (standing_of machine s.state)

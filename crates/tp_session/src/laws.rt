@@ -4,13 +4,14 @@ ghost use Rattle.std.specs.Prelude.{ℕ, Bool, Option};
 ghost use Rattle.tp_machine.specs.declared.machine.Machine.{Machine};
 ghost use Rattle.tp_runs.specs.Carrying.{KeepsNodes, ShowsTrees};
 ghost use Rattle.tp_session.specs.GoingOn.{ScriptsGoOn, SessionsGoOn, StopsGoOn};
-ghost use Rattle.tp_session.specs.Sessions.{SessionsLawful, SessionsStopLawful, SessionsTellLawful, SessionsTellLines};
+ghost use Rattle.tp_session.specs.Sessions.{ScriptsEndSoundly, SessionsLawful, SessionsStandSoundly, SessionsStopLawful, SessionsTellLawful, SessionsTellLines};
 ghost use Rattle.tp_turn.specs.Planners.{right_steps};
 ghost use Rattle.tp_turning.specs.LiveTurns.{AnswersAlone, SettlesRightly};
 
 use tp_base::Network;
 use tp_schedule::Planner;
 use tp_search::Engine;
+use tp_sound::{empty_state_is_sound, kept_states_stand_soundly};
 
 /// A workspace and a board look at schedules through right answers alone, settle times rightly, and never change their
 /// number of nodes.
@@ -51,3 +52,15 @@ pub fn sessions_go_on()
     ensures told { (machine : Machine) (budget : Option ℕ) (bounds : Bool)
         → SessionsGoOn machine budget bounds }
 {}
+
+/// Where a session stands after events from its start on is sound to go on from, if at most 1,000,000 jobs came; and so it is after
+/// any script.
+pub fn sessions_stand_soundly()
+    ensures events { (machine : Machine) (budget : Option ℕ) (bounds : Bool)
+        → SessionsStandSoundly machine budget bounds }
+    ensures script { (machine : Machine) (budget : Option ℕ) (bounds : Bool)
+        → ScriptsEndSoundly machine budget bounds }
+{
+    empty_state_is_sound();
+    kept_states_stand_soundly();
+}

@@ -9,7 +9,7 @@ mod stock;
 mod telling;
 mod turning;
 
-pub use laws::{engines_answer_alone, sessions_are_lawful, sessions_go_on};
+pub use laws::{engines_answer_alone, sessions_are_lawful, sessions_go_on, sessions_stand_soundly};
 pub use session::{Session, SessionOver};
 pub use settings::Settings;
 pub use tp_teller::Probe;

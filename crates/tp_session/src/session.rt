@@ -1,6 +1,6 @@
 //! A session keeps the live part of its state alone.
 
-ghost use Rattle.std.specs.Prelude.{◌≡◌, ◌+◌, ◌<◌, ◌≤◌, ◌++◌, ℕ, List, [], OnOk, OnErr, IfOk, IsOk};
+ghost use Rattle.std.specs.Prelude.{◌≡◌, ◌+◌, ◌<◌, ◌≤◌, ◌++◌, ℕ, List, [], length, OnOk, OnErr, IfOk, IsOk};
 ghost use Rattle.tp_placing.specs.Inside.{most_edges, most_points};
 ghost use Rattle.tp_script.specs.Printed.{IsEchoed};
 ghost use Rattle.tp_teller.specs.Tellers.{most_events};
@@ -19,6 +19,7 @@ use tp_placing::Board;
 use tp_schedule::Schedule;
 use tp_script::Event;
 use tp_search::Engine;
+use tp_sound::kept_states_stand_soundly;
 use tp_standing::{sound_standings_go_on, standing_of, state_of};
 use tp_stn_undo::LiveNet;
 use tp_teller::{Probe, Teller};
@@ -125,7 +126,8 @@ impl<N: Network> SessionOver<N> {
     ghost use Rattle.tp_session.specs.Probes.{Probes};
     ghost use Rattle.tp_session.specs.Sessions.{Tells, gone_on};
     ghost use Rattle.tp_session.specs.Stocks.{IsFree};
-    ghost use Rattle.tp_standing.specs.Sound.{IsSound};
+    ghost use Rattle.tp_sound.specs.Kept.{CanBeSaved};
+    ghost use Rattle.tp_standing.specs.Sound.{IsSound, last_number, most_jobs};
     ghost use Rattle.tp_standing.specs.Told.{standing_of};
 
     /// Does the turn of one event, and appends its text. After `Memory` all is as before, but for the board that asks are
@@ -226,11 +228,17 @@ impl<N: Network> SessionOver<N> {
         free_sheets(&self.machine, &self.state, feeder)
     }
 
-    /// Where the session stands, as plain values. Takes the time of all jobs and of the live plans.
+    /// Where the session stands, as plain values. It is sound to go on from after at most 4,000,000,000 events from `new` on, of which
+    /// at most 1,000,000 were jobs. Takes the time of all jobs and of the live plans.
     pub fn standing(&self, alloc: Global) -> Result<Standing, Memory>
-        ensures { IfOk result (λ told. told
+        ensures stands { IfOk result (λ told. told
             ≡ standing_of self.now.standing.machine self.now.standing.state) }
+        ensures sound { IfOk result (λ told. (events : ℕ) → events ≤ last_number
+            → length self.now.standing.state.jobs ≤ most_jobs
+            → CanBeSaved self.now.standing.machine events self.now.standing.state
+            → IsSound self.now.standing.machine told) }
     {
+        kept_states_stand_soundly();
         standing_of(alloc, &self.machine, &self.state)
     }
 

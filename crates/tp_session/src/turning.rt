@@ -5,6 +5,7 @@ ghost use Rattle.tp_machine.specs.declared.machine.Machine.{Machine};
 ghost use Rattle.tp_runs.specs.Wholes.{TellsTurn};
 ghost use Rattle.tp_script.specs.Printed.{IsEchoed};
 ghost use Rattle.tp_search.specs.Engines.{is_engine_for};
+ghost use Rattle.tp_sound.specs.Kept.{KeepsSound};
 ghost use Rattle.tp_turn.specs.LiveStates.{seen};
 ghost use Rattle.tp_turn.specs.Ready.{CanTakeEvents, KeepsStock, last_copy};
 
@@ -16,6 +17,7 @@ use tp_machine::Machine;
 use tp_runs::{live_turns_are_whole, shown_trees_have_lines, turns_have_lines};
 use tp_script::Event;
 use tp_search::Engine;
+use tp_sound::turns_keep_sound;
 use tp_turn::LiveState;
 use tp_turning::{take_event, turns_keep_stock};
 
@@ -42,6 +44,8 @@ pub(crate) fn take_turn<N: Network>(
         → CanTakeEvents machine.now (copies + 1) (seen state.new)) }
     ensures stocked { OnOk result ((events : ℕ) → KeepsStock machine.now events (seen state.old)
         → KeepsStock machine.now (events + 1) (seen state.new)) }
+    ensures sound { OnOk result (KeepsSound machine.now (seen state.old)
+        → KeepsSound machine.now (seen state.new)) }
     ensures text { OnErr result (text.new.items ≡ text.old.items) }
     ensures marked { state.new.lines.kept ≡ state.old.lines.kept }
     ensures nodes { engine.new.work.nodes ≡ engine.old.work.nodes }
@@ -54,6 +58,7 @@ pub(crate) fn take_turn<N: Network>(
     turns_have_lines::<Engine<N>>();
     shown_trees_have_lines::<Engine<N>>();
     turns_keep_stock::<Engine<N>>();
+    turns_keep_sound::<Engine<N>>();
     let mut notes = Vec::new(alloc);
     match take_event(alloc, machine, state, engine, event, &mut notes) {
         Ok(()) => {

@@ -75,3 +75,9 @@ returns-in-Ok-clause-stocked g c =
     let noted = c.in-Ok.ensures.turn in
     ok-of c.tell.result (λ events keeps.
     c.turns_keep_stock.ensures c.args.machine.now last_copy events c.args.event.now (seen c.args.state.now) c.args.engine.now noted.0 (seen c.take_event.new.state) c.take_event.new.planner c.requires.can.kept noted.2 keeps)
+
+pub returns-in-Ok-clause-sound : goal.returns-in-Ok-clause-sound
+returns-in-Ok-clause-sound g c =
+    let noted = c.in-Ok.ensures.turn in
+    ok-of c.tell.result (λ keeps.
+    c.turns_keep_sound.ensures c.args.machine.now last_copy c.args.event.now (seen c.args.state.now) c.args.engine.now noted.0 (seen c.take_event.new.state) c.take_event.new.planner c.requires.can.kept noted.2 keeps)

@@ -1,10 +1,13 @@
 -- An event can be taken after so many, and one more can be taken after it.
-use Rattle.std.proofs.Common.{ℕ, ◌+◌, ◌<◌, ◌≤◌, arith, sym, ap, subst, ◌∙◌}
+use Rattle.std.proofs.Common.{ℕ, ◌+◌, ◌<◌, ◌≤◌, ◌++◌, arith, refl, sym, ap, subst, ◌∙◌}
 use Rattle.std.specs.Prelude.{IsTrue}
 use Rattle.tp_search.specs.Engines.{is_engine_for}
 use Rattle.tp_teller.specs.Tellers.{most_events}
 use Rattle.tp_turn.specs.LiveStates.{seen}
 use Rattle.tp_turn.specs.Ready.{CanTakeEvents, KeepsStock, last_copy}
+use Rattle.tp_runs.specs.Wholes.{TellsTurn}
+use Rattle.tp_session.specs.Sessions.{Tells}
+use Rattle.tp_sound.specs.Kept.{KeepsSound}
 use Rattle.tp_standing.specs.Sound.{last_number}
 use Rattle.tp_turn.proofs.ReadyTurns.{events-more}
 use Rattle.tp_session.proofs.session.SessionOver.event.Goals as goal
@@ -19,6 +22,31 @@ pub take_turn-result-requires-clause-stocked : goal.take_turn-result-requires-cl
 take_turn-result-requires-clause-stocked g c =
     subst (KeepsStock c.self.inside.machine last_copy) (sym c.in_ok-before.ensures.stays)
     (stock-more c.self.inside.machine (2 + c.self.inside.answered) last_copy (seen c.self.inside.state) (omega (arith, c.self.invariant.within)) c.self.invariant.stocked)
+
+-- the turn that is told, with the budget and the bounds of the session, and what is kept of a state that can be saved
+pub returns-in-Ok-clause-told : goal.returns-in-Ok-clause-told
+returns-in-Ok-clause-told g c =
+    let i = c.self.inside in
+    let event = c.args.event.now in
+    let s = seen i.state in
+    let s' = seen c.take_turn-result.new.state in
+    let stays = c.in_ok-before.ensures.stays in
+    let (text, turn, grown) = c.in-Ok.ensures.told in (
+      text,
+      subst (λ v. Tells v.standing event text (record { machine = i.machine; budget = i.budget; bounds = i.bounds; state = s' })) c.self.view_is (record {
+        same_machine = refl;
+        same_budget = refl;
+        same_bounds = refl;
+        turn = subst (λ b. TellsTurn i.machine i.budget b event s text s') c.self.invariant.bounds
+            (subst (λ n. TellsTurn i.machine n i.engine.bounds event s text s') c.self.invariant.nodes
+            (subst (λ u. TellsTurn i.machine i.engine.work.nodes i.engine.bounds event u text s') stays turn));
+        saved = λ events k. record {
+          can = c.in-Ok.ensures.kept events (subst (CanTakeEvents i.machine events) (sym stays) k.can);
+          sound = c.in-Ok.ensures.sound (subst (KeepsSound i.machine) (sym stays) k.sound);
+        };
+      }),
+      grown ∙ ap (λ v. v.text ++ text) c.self.view_is,
+    )
 
 pub invariant_of-self-in-Ok-1 : goal.invariant_of-self-in-Ok-1
 invariant_of-self-in-Ok-1 g c =
