@@ -1,6 +1,6 @@
 -- What a change makes of a network.
-use Rattle.std.proofs.Common.{◌≡◌, ℕ, ◌<◌, ◌≤◌, Bool, List, ◌++◌, length, slice_index, set, sym, ap, ◌∙◌, subst, arith, vec_capacity, inl, inr}
-use Rattle.std.proofs.Math.Nat.{mul-le-mul_left}
+use Rattle.std.proofs.Common.{◌≡◌, ℕ, ◌+◌, ◌*◌, ◌<◌, ◌≤◌, Bool, List, ◌++◌, length, slice_index, set, sym, ap, ◌∙◌, subst, arith, vec_capacity, inl, inr}
+use Rattle.std.proofs.Math.Nat.{mul-le-mul_right}
 use Rattle.std.proofs.lemmas.Bool.{cases_eq}
 use Rattle.std.proofs.lemmas.List.{length-set, get_or-set_same, get_or-set_other}
 use Rattle.std.specs.List.{All}
@@ -11,10 +11,13 @@ use Rattle.tp_base.specs.Kept.{net_of}
 use Rattle.tp_stn_undo.specs.declared.spots.Spot.{Spot}
 use Rattle.tp_stn_undo.specs.declared.links.Link.{Link}
 use Rattle.tp_stn_undo.specs.declared.spots.SavedSpot.{SavedSpot}
+use Rattle.tp_stn_undo.specs.declared.marks.LiveMark.{LiveMark}
+use Rattle.tp_stn_undo.specs.Saved.{restored}
+use Rattle.tp_stn_undo.specs.Marks.{past_of}
 use Rattle.tp_stn_undo.specs.declared.live_net.LiveNet.TheInside.{Inside}
 use Rattle.tp_stn_undo.specs.Spots.{IsSound, lows_of, times_of, edges_of, causes_of}
-use Rattle.tp_stn_undo.specs.Flags.{AreKnown}
-use Rattle.tp_stn_undo.specs.Stacks.{IsStack, CanSave, CanRestore}
+use Rattle.tp_stn_undo.specs.Flags.{Noted, AreKnown, IsSameSave}
+use Rattle.tp_stn_undo.specs.Stacks.{IsStack, CanSave}
 use Rattle.tp_stn_undo.specs.Spreading.{SpotsRise, LeadsBack}
 use Rattle.tp_stn_undo.specs.Lifting.{Lifts}
 use Rattle.tp_stn_undo.specs.Live.{IsLive}
@@ -24,29 +27,51 @@ use Rattle.tp_stn_undo.proofs.FollowFacts.{risen_supported}
 use Rattle.tp_stn_undo.proofs.SoundFacts.{edges_more, supported_more, numbered_longer, known_more, solution_less, sound_risen}
 
 module _ (a : Inside) (inv : IsLive a) where
-  pub stack_of : (edges : ℕ) → length a.links.items ≤ edges → IsStack a.saves.marks.items a.saves.saved.items a.saves.since.words.items (length a.spots.items) edges a.saves.points
+  pub stack_of : (edges : ℕ) → length a.links.items ≤ edges → IsStack a.marks.items a.working.changes.older (length a.spots.items) edges a.working.changes.room
   stack_of edges h = record {
-    stacked = stacked_grown a.saves.marks.items _ _ _ _ _ _ _ (omega arith) h (omega arith) inv.stacked;
+    stacked = stacked_grown a.marks.items _ _ _ _ _ _ _ (omega arith) h (omega arith) inv.stacked;
     kept = inv.kept;
-    flagged = inv.flagged;
-    fits = inv.points;
     filled = inv.saved;
   }
 
-  pub can_save : (changed : List SavedSpot) → AreKnown (length a.spots.items) changed → CanSave a.saves.marks.items a.saves.saved.items a.saves.since.words.items a.saves.points (vec_capacity a.saves.saved) changed
-  can_save changed known =
-      let m = mul-le-mul_left a.saves.points inv.marks in
+  -- there is room to save a change of so many points, of which what is noted is known
+  pub can_save : (w : Noted) (points edges : ℕ) → IsSameSave a.working.changes w → points ≤ a.max_points → IsStack a.marks.items a.working.changes.older points edges a.working.changes.room → AreKnown points w.entries → CanSave a.marks.items w
+  can_save w points edges same fits stack known =
+      let m : length a.marks.items + 1 ≤ a.max_marks + 1 = (let i = inv.marks in omega arith) in
+      let p : (length a.marks.items + 1) * a.working.changes.room ≤ (a.max_marks + 1) * a.working.changes.room = mul-le-mul_right a.working.changes.room m in
       let s = inv.room.saved in
-      let t = inv.room.small in
-      let f = inv.room.flags in
-      record { points = length a.spots.items; edges = length a.links.items; stack = stack_of (length a.links.items) (omega arith); known = known; enough = omega arith; flags = omega arith; small = omega arith }
+      let n = inv.room.working.noted in
+      let e = same.most in
+      let r = same.room in
+      let q : (length a.marks.items + 1) * w.room ≡ (length a.marks.items + 1) * a.working.changes.room = ap (λ i. (length a.marks.items + 1) * i) r in
+      record {
+        points = points;
+        edges = edges;
+        stack = subst (λ (x : List SavedSpot). IsStack a.marks.items x points edges w.room) (sym same.older) (subst (IsStack a.marks.items a.working.changes.older points edges) (sym r) stack);
+        known = known;
+        fits = omega arith;
+        enough = omega arith;
+      }
 
-  pub can_restore : CanRestore a.saves
-  can_restore =
-      let m = mul-le-mul_left a.saves.points inv.marks in
-      let t = inv.room.small in
-      let f = inv.room.flags in
-      record { points = length a.spots.items; edges = length a.links.items; stack = stack_of (length a.links.items) (omega arith); flags = omega arith; small = omega arith }
+-- what saving a change keeps, where nothing but what is noted was new before
+module _ (marks ms : List LiveMark) (v w : Noted) (saved : List SavedSpot) (em : ms ≡ marks) (same : IsSameSave v w) where
+  there : (points edges : ℕ) → IsStack marks v.older points edges v.room → IsStack ms w.older points edges w.room
+  there points edges s =
+      subst (λ (x : List LiveMark). IsStack x w.older points edges w.room) (sym em)
+      (subst (λ (x : List SavedSpot). IsStack marks x points edges w.room) (sym same.older) (subst (IsStack marks v.older points edges) (sym same.room) s))
+
+  pub stack_by : ((count edges : ℕ) → AreKnown count w.entries → IsStack ms w.older count edges w.room → IsStack ms saved count edges w.room)
+      → (count edges : ℕ) → AreKnown count w.entries → IsStack marks v.older count edges v.room → IsStack marks saved count edges v.room
+  stack_by f count edges k s =
+      subst (IsStack marks saved count edges) same.room (subst (λ (x : List LiveMark). IsStack x saved count edges w.room) em (f count edges k (there count edges s)))
+
+  pub past_by : ((spots : List Spot) (caps : List ℕ) (links : List Link) (edges : ℕ) → IsStack ms w.older (length spots) edges w.room → past_of ms saved spots caps links ≡ past_of ms w.older (restored w.entries spots) caps links)
+      → (spots : List Spot) (caps : List ℕ) (links : List Link) (edges : ℕ) → IsStack marks v.older (length spots) edges v.room → past_of marks saved spots caps links ≡ past_of marks v.older (restored w.entries spots) caps links
+  past_by f spots caps links edges s =
+      ap (λ (x : List LiveMark). past_of x saved spots caps links) (sym em)
+      ∙ f spots caps links edges (there (length spots) edges s)
+      ∙ ap (λ (x : List LiveMark). past_of x w.older (restored w.entries spots) caps links) em
+      ∙ ap (λ (x : List SavedSpot). past_of marks x (restored w.entries spots) caps links) same.older
 
 -- edges are added, and points rise
 module _ (spots spots' : List Spot) (caps : List ℕ) (links more : List Link) (noted noted' : List SavedSpot) (s : IsSound (record { spots = spots; caps = caps; links = links }))

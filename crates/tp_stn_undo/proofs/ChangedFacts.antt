@@ -12,7 +12,7 @@ use Rattle.tp_stn_undo.specs.Saved.{restored}
 use Rattle.tp_stn_undo.specs.Flags.{AreKnown}
 use Rattle.tp_stn_undo.specs.Marks.{past_of, AreLinks, AreSaved}
 use Rattle.tp_stn_undo.specs.Stacks.{IsStack}
-use Rattle.tp_stn_undo.specs.Working.{KeepsSizes, AtRest}
+use Rattle.tp_stn_undo.specs.Working.{AtRest}
 use Rattle.tp_stn_undo.specs.Live.{past_in, IsLive}
 use Rattle.tp_stn_undo.specs.Adding.{Adds, new_spot}
 use Rattle.tp_stn_undo.proofs.StackFacts.{stacked_grown}
@@ -29,38 +29,40 @@ pub record IsChanged (a b : Inside) (S : List Spot) (C : List ℕ) (L : List Lin
   pub caps : b.caps.items ≡ C
   pub links : b.links.items ≡ L
   pub heads : b.heads.items ≡ H
-  pub marks : b.saves.marks.items ≡ a.saves.marks.items
-  pub points_same : b.saves.points ≡ a.saves.points
+  pub marks : b.marks.items ≡ a.marks.items
+  pub points_same : b.max_points ≡ a.max_points
   pub edges_same : b.max_edges ≡ a.max_edges
   pub marks_same : b.max_marks ≡ a.max_marks
   pub spots_room : vec_capacity b.spots ≡ vec_capacity a.spots
   pub caps_room : vec_capacity b.caps ≡ vec_capacity a.caps
   pub links_room : vec_capacity b.links ≡ vec_capacity a.links
   pub heads_room : vec_capacity b.heads ≡ vec_capacity a.heads
-  pub saved_room : vec_capacity b.saves.saved ≡ vec_capacity a.saves.saved
-  pub marks_room : vec_capacity b.saves.marks ≡ vec_capacity a.saves.marks
-  pub flags_room : length b.saves.since.words.items ≡ length a.saves.since.words.items
-  pub sizes : KeepsSizes a.working b.working
+  pub marks_room : vec_capacity b.marks ≡ vec_capacity a.marks
+  pub waits : length b.working.waiting.flags ≡ length a.working.waiting.flags
+  pub noted : b.working.changes.room ≡ a.working.changes.room
+  pub most : b.working.changes.most ≡ a.working.changes.most
+  pub path : vec_capacity a.working.path ≤ vec_capacity b.working.path
+  pub places : length b.working.places.items ≡ length a.working.places.items
   pub rest : AtRest b.working
 
 -- the lists hold together, and what stands at the marks is what stood there
-pub record HoldsTogether (a : Inside) (S : List Spot) (C : List ℕ) (L : List Link) (H : List ℕ) (V : List SavedSpot) (words : List ℕ) : Type 0 where
-  pub points : length S ≤ a.saves.points
+pub record HoldsTogether (a : Inside) (S : List Spot) (C : List ℕ) (L : List Link) (H : List ℕ) (V : List SavedSpot) : Type 0 where
+  pub points : length S ≤ a.max_points
   pub edges : length L ≤ a.max_edges
-  pub stack : IsStack a.saves.marks.items V words (length S) (length L) a.saves.points
-  pub past : past_of a.saves.marks.items V S C L ≡ past_in a
+  pub stack : IsStack a.marks.items V (length S) (length L) a.working.changes.room
+  pub past : past_of a.marks.items V S C L ≡ past_in a
   pub linked : AreLinks L H (length S)
   pub sound : IsSound (record { spots = S; caps = C; links = L })
 
 module _ (a : Inside) (inv : IsLive a) where
-  pub as_it_was : HoldsTogether a a.spots.items a.caps.items a.links.items a.heads.items a.saves.saved.items a.saves.since.words.items
+  pub as_it_was : HoldsTogether a a.spots.items a.caps.items a.links.items a.heads.items a.working.changes.older
   as_it_was = record { points = inv.points; edges = inv.edges; stack = stack_of a inv (length a.links.items) (omega arith); past = refl; linked = inv.linked; sound = inv.sound }
 
-  pub point_pushed : (low cap : ℕ) → length a.spots.items < a.saves.points → low ≤ cap
-      → HoldsTogether a (a.spots.items ++ new_spot low ∷ []) (a.caps.items ++ cap ∷ []) a.links.items (a.heads.items ++ 0 ∷ []) a.saves.saved.items a.saves.since.words.items
+  pub point_pushed : (low cap : ℕ) → length a.spots.items < a.max_points → low ≤ cap
+      → HoldsTogether a (a.spots.items ++ new_spot low ∷ []) (a.caps.items ++ cap ∷ []) a.links.items (a.heads.items ++ 0 ∷ []) a.working.changes.older
   point_pushed low cap room fits =
       let spots = a.spots.items in
-      let marks = a.saves.marks.items in
+      let marks = a.marks.items in
       let s = new_spot low in
       let n : length (spots ++ s ∷ []) ≡ length spots + 1 = length-append spots (s ∷ []) in
       record {
@@ -68,17 +70,15 @@ module _ (a : Inside) (inv : IsLive a) where
         edges = inv.edges;
         stack = record {
           stacked = stacked_grown marks _ _ _ _ _ _ _ (omega arith) (omega arith) (omega arith) inv.stacked;
-          kept = subst (AreSaved marks a.saves.saved.items) (sym n) (saved_pointed marks a.saves.saved.items (length spots) inv.kept);
-          flagged = inv.flagged;
-          fits = omega arith;
+          kept = subst (AreSaved marks a.working.changes.older) (sym n) (saved_pointed marks a.working.changes.older (length spots) inv.kept);
           filled = inv.saved;
         };
-        past = past_point marks a.saves.saved.items spots a.caps.items a.links.items a.saves.points inv.stacked s cap inv.sound.caps;
+        past = past_point marks a.working.changes.older spots a.caps.items a.links.items a.working.changes.room inv.stacked s cap inv.sound.caps;
         linked = subst (AreLinks a.links.items (a.heads.items ++ 0 ∷ [])) (sym n) (links_pointed a.links.items a.heads.items (length spots) inv.sound.known inv.linked);
         sound = sound_pushed spots a.caps.items a.links.items low cap inv.sound fits;
       }
 
-  module _ (b : Inside) (S : List Spot) (C : List ℕ) (L : List Link) (H : List ℕ) (c : IsChanged a b S C L H) (h : HoldsTogether a S C L H b.saves.saved.items b.saves.since.words.items) where
+  module _ (b : Inside) (S : List Spot) (C : List ℕ) (L : List Link) (H : List ℕ) (c : IsChanged a b S C L H) (h : HoldsTogether a S C L H b.working.changes.older) where
     pub changed_past : past_in b ≡ past_in a
     changed_past = same_past _ _ _ _ _ _ _ _ _ _ c.marks refl c.spots c.caps c.links ∙ h.past
 
@@ -93,8 +93,10 @@ module _ (a : Inside) (inv : IsLive a) where
         let nl = ap length c.links in
         let s = h.stack in
         let filled = s.filled in
-        let products : length b.saves.marks.items * b.saves.points ≡ length a.saves.marks.items * a.saves.points = ap (λ i. i * b.saves.points) nm ∙ ap (λ i. length a.saves.marks.items * i) ep in
-        let all : b.saves.points * b.max_marks ≡ a.saves.points * a.max_marks = ap (λ i. i * b.max_marks) ep ∙ ap (λ i. a.saves.points * i) mp in
+        let w2 = c.noted in
+        let products : length b.marks.items * b.working.changes.room ≡ length a.marks.items * a.working.changes.room = ap (λ i. i * b.working.changes.room) nm ∙ ap (λ i. length a.marks.items * i) w2 in
+        let all : b.max_marks * b.working.changes.room ≡ a.max_marks * a.working.changes.room = ap (λ i. i * b.working.changes.room) mp ∙ ap (λ i. a.max_marks * i) w2 in
+        let more : (b.max_marks + 1) * b.working.changes.room ≡ (a.max_marks + 1) * a.working.changes.room = ap (λ i. (i + 1) * b.working.changes.room) mp ∙ ap (λ i. (a.max_marks + 1) * i) w2 in
         let h1 = h.points in
         let h2 = h.edges in
         let i3 = inv.marks in
@@ -102,23 +104,20 @@ module _ (a : Inside) (inv : IsLive a) where
         let r1 = c.spots_room in
         let r2 = c.caps_room in
         let r3 = c.links_room in
-        let r4 = c.saved_room in
+        let r4 = c.most in
         let r5 = c.marks_room in
-        let r6 = c.flags_room in
         let r7 = c.heads_room in
         let s1 = r.spots in
         let s2 = r.caps in
         let s3 = r.links in
         let s4 = r.saved in
         let s5 = r.marks in
-        let s6 = r.flags in
         let s7 = r.heads in
         let s8 = r.small in
         let s9 = r.narrow in
-        let w1 = c.sizes.waits in
-        let w2 = c.sizes.noted in
-        let w3 = c.sizes.path in
-        let w4 = c.sizes.places in
+        let w1 = c.waits in
+        let w3 = c.path in
+        let w4 = c.places in
         let v1 = r.working.waits in
         let v2 = r.working.noted in
         let v3 = r.working.path in
@@ -135,38 +134,36 @@ module _ (a : Inside) (inv : IsLive a) where
             heads = omega arith;
             working = record { waits = omega arith; noted = omega arith; path = omega arith; places = omega arith };
             saved = omega arith;
-            flags = omega arith;
             marks = omega arith;
             small = omega arith;
             narrow = omega arith;
           };
           rest = c.rest;
-          stacked = rw (em, c.spots, c.links, ep) s.stacked;
+          stacked = rw (em, c.spots, c.links, w2) s.stacked;
           kept = rw (em, c.spots) s.kept;
-          flagged = rw (em, ep) s.flagged;
           linked = rw (c.links, c.heads, c.spots) h.linked;
           sound = rw (c.spots, c.caps, c.links) h.sound;
           past = subst (All IsSound) (sym changed_past) inv.past;
         }
 
   -- edges were added after points S with upper bounds C, and what was noted is saved
-  module _ (S S' : List Spot) (C : List ℕ) (L : List Link) (H : List ℕ) (edges : List Edge) (noted : List SavedSpot) (V : List SavedSpot) (words : List ℕ) (h : HoldsTogether a S C a.links.items H a.saves.saved.items a.saves.since.words.items)
+  module _ (S S' : List Spot) (C : List ℕ) (L : List Link) (H : List ℕ) (edges : List Edge) (noted : List SavedSpot) (V : List SavedSpot) (h : HoldsTogether a S C a.links.items H a.working.changes.older)
       (added : Adds edges C a.links.items L S S' noted) (room : length L ≤ a.max_edges) (H' : List ℕ) (linked : AreLinks L H' (length S))
-      (stack : (count edges : ℕ) → AreKnown count noted → IsStack a.saves.marks.items a.saves.saved.items a.saves.since.words.items count edges a.saves.points → IsStack a.saves.marks.items V words count edges a.saves.points)
-      (past : (spots : List Spot) (caps : List ℕ) (links : List Link) → AreKnown (length spots) noted → IsStack a.saves.marks.items a.saves.saved.items a.saves.since.words.items (length spots) (length links) a.saves.points
-      → past_of a.saves.marks.items V spots caps links ≡ past_of a.saves.marks.items a.saves.saved.items (restored noted spots) caps links) where
-    base : IsStack a.saves.marks.items a.saves.saved.items a.saves.since.words.items (length S') (length L) a.saves.points
+      (stack : (count edges : ℕ) → AreKnown count noted → IsStack a.marks.items a.working.changes.older count edges a.working.changes.room → IsStack a.marks.items V count edges a.working.changes.room)
+      (past : (spots : List Spot) (caps : List ℕ) (links : List Link) (edges : ℕ) → IsStack a.marks.items a.working.changes.older (length spots) edges a.working.changes.room
+      → past_of a.marks.items V spots caps links ≡ past_of a.marks.items a.working.changes.older (restored noted spots) caps links) where
+    base : IsStack a.marks.items a.working.changes.older (length S') (length L) a.working.changes.room
     base =
         let s = h.stack in
         let n = added.len in
         let e = ap length added.linked.after in
         let m = length-append a.links.items added.linked.more in
-        rw n (record { stacked = stacked_grown a.saves.marks.items _ _ _ _ _ _ _ (omega arith) (omega arith) (omega arith) s.stacked; kept = s.kept; flagged = s.flagged; fits = s.fits; filled = s.filled })
+        rw n (record { stacked = stacked_grown a.marks.items _ _ _ _ _ _ _ (omega arith) (omega arith) (omega arith) s.stacked; kept = s.kept; filled = s.filled })
 
     noted_known : AreKnown (length S') noted
     noted_known = rw added.len added.known
 
-    pub added_holds : HoldsTogether a S' C L H' V words
+    pub added_holds : HoldsTogether a S' C L H' V
     added_holds =
         let n = added.len in
         let p = h.points in
@@ -175,10 +172,10 @@ module _ (a : Inside) (inv : IsLive a) where
           edges = room;
           stack = stack (length S') (length L) noted_known base;
           past =
-              past S' C L noted_known base
-              ∙ ap (λ (ss : List Spot). past_of a.saves.marks.items a.saves.saved.items ss C L) added.back
-              ∙ ap (past_of a.saves.marks.items a.saves.saved.items S C) added.linked.after
-              ∙ past_edge a.saves.marks.items a.saves.saved.items S C a.links.items a.saves.points h.stack.stacked added.linked.more
+              past S' C L (length L) base
+              ∙ ap (λ (ss : List Spot). past_of a.marks.items a.working.changes.older ss C L) added.back
+              ∙ ap (past_of a.marks.items a.working.changes.older S C) added.linked.after
+              ∙ past_edge a.marks.items a.working.changes.older S C a.links.items a.working.changes.room h.stack.stacked added.linked.more
               ∙ h.past;
           linked = rw n linked;
           sound = added.sound;

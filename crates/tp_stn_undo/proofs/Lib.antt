@@ -1,7 +1,6 @@
 pub mod SavedFacts
 pub mod StackFacts
 pub mod LinkFacts
-pub mod FlaggedFacts
 pub mod KeepFacts
 pub mod PastFacts
 pub mod UndoFacts
@@ -22,4 +21,3 @@ pub mod SoundFacts
 pub mod ChangeFacts
 pub mod AddFacts
 pub mod ChangedFacts
-pub mod BitFacts

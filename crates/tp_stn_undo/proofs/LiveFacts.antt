@@ -10,27 +10,25 @@ use Rattle.tp_stn_undo.specs.declared.links.Link.{Link}
 use Rattle.tp_stn_undo.specs.declared.marks.LiveMark.{LiveMark}
 use Rattle.tp_stn_undo.specs.declared.spots.SavedSpot.{SavedSpot}
 use Rattle.tp_stn_undo.specs.declared.live_net.LiveNet.TheInside.{Inside}
-use Rattle.tp_stn_undo.specs.Bits.{has_bit}
 use Rattle.tp_stn_undo.specs.Marks.{core_at}
 use Rattle.tp_stn_undo.specs.Spots.{times_of, net_of_core}
 use Rattle.tp_stn_undo.specs.Live.{core_in, HasRoom, IsLive}
 use Rattle.tp_stn_undo.specs.Working.{AtRest}
-use Rattle.tp_stn_undo.proofs.FlaggedFacts.{no_mark}
 
-pub live_empty : (a : Inside) → a.spots.items ≡ [] → a.caps.items ≡ [] → a.links.items ≡ [] → a.heads.items ≡ [] → a.saves.saved.items ≡ [] → a.saves.marks.items ≡ [] → ((k v : ℕ) → v < a.saves.points → has_bit a.saves.since.words.items (k * a.saves.points + v) ≡ false) → HasRoom a → AtRest a.working → IsLive a
-live_empty a l c e h s m unset room rest =
+pub live_empty : (a : Inside) → a.spots.items ≡ [] → a.caps.items ≡ [] → a.links.items ≡ [] → a.heads.items ≡ [] → a.working.changes.older ≡ [] → a.marks.items ≡ [] → HasRoom a → AtRest a.working → IsLive a
+live_empty a l c e h s m room rest =
     let ll = ap length l in
     let lc = ap length c in
     let le = ap length e in
     let lh = ap length h in
     let ls = ap length s in
     let lm = ap length m in
-    let lp = length-map a.saves.marks.items (core_at a.saves.saved.items a.spots.items a.caps.items a.links.items) in
+    let lp = length-map a.marks.items (core_at a.working.changes.older a.spots.items a.caps.items a.links.items) in
     let lo = length-map a.spots.items (λ (s : Spot). s.low) in
     let lt = length-map a.spots.items (λ (s : Spot). s.time) in
     let ld = length-map a.links.items (λ (l : Link). l.edge) in
-    let no : (k : ℕ) (x : LiveMark) → slice_get a.saves.marks.items k ≡ Some x → ⊥ = λ k x h. (let w = slice_get_within a.saves.marks.items k x h in omega arith) in
-    let none : (k : ℕ) (x : SavedSpot) → slice_get a.saves.saved.items k ≡ Some x → ⊥ = λ k x h. (let w = slice_get_within a.saves.saved.items k x h in omega arith) in
+    let no : (k : ℕ) (x : LiveMark) → slice_get a.marks.items k ≡ Some x → ⊥ = λ k x h. (let w = slice_get_within a.marks.items k x h in omega arith) in
+    let none : (k : ℕ) (x : SavedSpot) → slice_get a.working.changes.older k ≡ Some x → ⊥ = λ k x h. (let w = slice_get_within a.working.changes.older k x h in omega arith) in
     let least : IsLeast (net_of_core (core_in a)) (slice_index (times_of a.spots.items)) = record {
       solution = record { above_low = λ i h. absurd (omega arith); below_cap = λ i h. absurd (omega arith); keeps = λ k d h. absurd (omega arith) };
       least = λ y sol i h. absurd (omega arith);
@@ -52,11 +50,9 @@ live_empty a l c e h s m unset room rest =
         saved_rise = λ j k x y h g f. absurd (no j x g);
       };
       kept = record {
-        parted = λ j x h. absurd (none j x h);
         known = λ j x h. absurd (none j x h);
         known_then = λ k x j y h g f. absurd (no k x h);
       };
-      flagged = λ k v h. unset k v h ∙ sym (no_mark a.saves.marks.items a.saves.saved.items k v (omega arith));
       linked = record { len = omega arith; head_is = λ v h. absurd (omega arith); linked = λ j x h. absurd (let w = slice_get_within a.links.items j x h in omega arith) };
       sound = record {
         caps = omega arith;

@@ -33,10 +33,19 @@ pub record LineValue : Type 0 where
 abbrev pub AreBelow : ℕ → List ℕ → Type 0
 AreBelow count ps = All (λ p. p < count) ps
 
--- what can be seen of the points of a change: what they were, and how many points there can be
+-- what can be seen of the points of a change: what was saved before it, what they were, how many points there can be, and how
+-- many can be saved in all
 pub record Noted : Type 0 where
+  pub older : List SavedSpot
   pub entries : List SavedSpot
   pub room : ℕ
+  pub most : ℕ
+
+-- only what is noted of the change is new
+pub record IsSameSave (old new : Noted) : Type 0 where
+  pub older : new.older ≡ old.older
+  pub room : new.room ≡ old.room
+  pub most : new.most ≡ old.most
 
 abbrev pub AreIdle : List Bool → Type 0
 AreIdle flags = (v : ℕ) → flag flags v ≡ false

@@ -4,7 +4,6 @@ pub mod Marks
 pub mod Stacks
 pub mod LiveState
 pub mod Flags
-pub mod Bits
 pub mod Lines
 pub mod Waits
 pub mod Notes

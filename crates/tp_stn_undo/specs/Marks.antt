@@ -6,8 +6,7 @@ use Rattle.tp_stn_undo.specs.declared.links.Link.{Link}
 use Rattle.tp_stn_undo.specs.declared.marks.LiveMark.{LiveMark}
 use Rattle.tp_stn_undo.specs.declared.spots.SavedSpot.{SavedSpot}
 use Rattle.tp_stn_undo.specs.Spots.{Core, net_of_core}
-use Rattle.tp_stn_undo.specs.Bits.{has_bit}
-use Rattle.tp_stn_undo.specs.Saved.{restored, newest_of, by_saved, by_link, is_saved}
+use Rattle.tp_stn_undo.specs.Saved.{restored, newest_of, by_link}
 
 -- the network at a mark
 abbrev pub core_at : List SavedSpot → List Spot → List ℕ → List Link → LiveMark → Core
@@ -33,15 +32,10 @@ pub record AreStacked (marks : List LiveMark) (points edges saved room : ℕ) : 
   pub edges_rise : (j k : ℕ) (m n : LiveMark) → j < k → slice_get marks j ≡ Some m → slice_get marks k ≡ Some n → m.edges ≤ n.edges
   pub saved_rise : (j k : ℕ) (m n : LiveMark) → j < k → slice_get marks j ≡ Some m → slice_get marks k ≡ Some n → m.saved ≤ n.saved
 
--- saved points; and a mark between each and the one before it for its point
+-- what was saved is of known points, and of points that were there at the marks behind it
 pub record AreSaved (marks : List LiveMark) (saved : List SavedSpot) (points : ℕ) : Type 0 where
-  pub parted : (j : ℕ) (s : SavedSpot) → slice_get saved j ≡ Some s → (k : ℕ) × (m : LiveMark) × (slice_get marks k ≡ Some m) × (newest_of by_saved (take j saved) s.point.0 ≤ m.saved) × (m.saved ≤ j)
   pub known : (j : ℕ) (s : SavedSpot) → slice_get saved j ≡ Some s → s.point.0 < points
   pub known_then : (k : ℕ) (m : LiveMark) (j : ℕ) (s : SavedSpot) → slice_get marks k ≡ Some m → j < m.saved → slice_get saved j ≡ Some s → s.point.0 < m.points
-
--- a row of flags for each mark, that tell which points were saved after it and before the next
-abbrev pub AreFlagged : List LiveMark → List SavedSpot → List ℕ → ℕ → Type 0
-AreFlagged marks saved words room = (k v : ℕ) → v < room → has_bit words (k * room + v) ≡ is_saved marks saved k v
 
 -- for each point the newest edge that begins there, and for each edge the one before it
 pub record AreLinks (links : List Link) (heads : List ℕ) (points : ℕ) : Type 0 where

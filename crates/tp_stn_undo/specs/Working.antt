@@ -1,7 +1,7 @@
 -- What a change is worked out with.
 use Rattle.std.specs.Prelude.{◌≡◌, ℕ, ◌≤◌, [], length, vec_capacity}
 use Rattle.tp_stn_undo.specs.declared.working.Working.{Working}
-use Rattle.tp_stn_undo.specs.Flags.{AreIdle}
+use Rattle.tp_stn_undo.specs.Flags.{AreIdle, IsSameSave}
 use Rattle.tp_stn_undo.specs.Tracing.{AreZeros}
 
 -- room for so many points
@@ -11,10 +11,10 @@ pub record HasWorkingRoom (points : ℕ) (w : Working) : Type 0 where
   pub path : points ≤ vec_capacity w.path
   pub places : points ≤ length w.places.items
 
--- the room stays
+-- the room stays, and what was saved before
 pub record KeepsSizes (old new : Working) : Type 0 where
   pub waits : length new.waiting.flags ≡ length old.waiting.flags
-  pub noted : new.changes.room ≡ old.changes.room
+  pub noted : IsSameSave old.changes new.changes
   pub path : vec_capacity old.path ≤ vec_capacity new.path
   pub places : length new.places.items ≡ length old.places.items
 

@@ -1,23 +1,27 @@
-//! What points were before the change that is being made.
-ghost use Rattle.std.specs.Prelude.{◌≡◌, ℕ, ◌<◌, ◌≤◌, List, [], length, slice_get, slice_set, Some, IfOk};
+//! What points were before they changed: for the marks in force, and before the change that is being made.
+ghost use Rattle.std.specs.Prelude.{◌≡◌, ℕ, ◌+◌, ◌*◌, ◌<◌, ◌≤◌, ◌^◌, List, [], length, take, drop, slice_get, slice_set, Some, IfOk, vec_capacity};
 ghost use Rattle.tp_stn_undo.specs.declared.spots.Spot.{Spot};
 ghost use Rattle.tp_stn_undo.specs.Saved.{restored};
-ghost use Rattle.tp_stn_undo.specs.Flags.{AreHeld, AreKnown, points_in};
+ghost use Rattle.tp_stn_undo.specs.Flags.{AreHeld, AreKnown, IsSameSave, points_in};
 
 use crate::spots::{SavedSpot, Spot};
 use std::alloc::{AllocError, Global};
 use std::marker::Model;
 use tp_base::PointId;
 
-/// What the points were before the change that is being made, each point once.
+/// What the points were before the changes that marks can take back, and behind that what they were before the change that is
+/// being made, each point once.
 #[derive(Drop)]
 pub(crate) struct Changes {
     entries: Vec<SavedSpot>,
-    /// For each point whether it is among them.
+    /// How many of them stand before those of the change that is being made.
+    before: usize,
+    /// For each point whether it is among those of the change that is being made.
     noted: Vec<bool>,
 }
 
-// Clauses see what the points were, and how many points there can be.
+// Clauses see what was saved before, what the points were before the change, how many points there can be, and how many can be
+// saved in all.
 impl Model for Changes {
     ghost use Rattle.tp_stn_undo.specs.Flags.{Noted};
 
@@ -43,79 +47,178 @@ fn forget_all(entries: &[SavedSpot], noted: &mut [bool])
     }
 }
 
-/// Makes the points what the entries say, the last first, and takes the flags of the entries away.
-fn put_all_back(entries: &[SavedSpot], spots: &mut [Spot], noted: &mut [bool])
-    requires { AreHeld noted.old (points_in entries.now) }
+/// Makes the points what the entries say, the last first.
+fn put_all_back(entries: &[SavedSpot], spots: &mut [Spot])
+    requires { AreKnown (length spots.old) entries.now }
     ensures spots { spots.new ≡ restored entries.now spots.old }
-    ensures none { AreHeld noted.new [] }
-    ensures len { length noted.new ≡ length noted.old }
 {
     let mut left = entries.len();
     'back: while left > 0 {
         left -= 1;
-        let entry = entries[left];
-        let at = entry.point.0 as usize;
-        if at < spots.len() {
-            spots[at] = entry.spot;
-        }
-        noted[at] = false;
+        let entry = &entries[left];
+        spots[entry.point.0 as usize] = entry.spot;
     }
 }
 
+/// Leaves the first one of each point from a place on.
+fn leave_firsts(entries: &mut Vec<SavedSpot>, noted: &mut [bool], from: usize)
+    requires from { from ≤ length entries.old.items }
+    requires known { AreKnown (length noted.old) (drop from entries.old.items) }
+    requires none { AreHeld noted.old [] }
+    ensures before { take from entries.new.items ≡ take from entries.old.items }
+    ensures back { (spots : List Spot) → restored (drop from entries.new.items) spots
+        ≡ restored (drop from entries.old.items) spots }
+    ensures known { (count : ℕ) → AreKnown count (drop from entries.old.items)
+        → AreKnown count (drop from entries.new.items) }
+    ensures held { AreHeld noted.new (points_in (drop from entries.new.items)) }
+    ensures len { length noted.new ≡ length noted.old }
+    ensures capacity { vec_capacity entries.new ≡ vec_capacity entries.old }
+{
+    let mut left = from;
+    'each: for at in from..entries.len() {
+        let entry = entries[at];
+        let point = entry.point.0 as usize;
+        if !noted[point] {
+            noted[point] = true;
+            entries[left] = entry;
+            left += 1;
+        }
+    }
+    entries.truncate(left);
+}
+
+/// Leaves no more from a place on than there can be points.
+fn make_short(entries: &mut Vec<SavedSpot>, noted: &mut [bool], from: usize)
+    requires from { from ≤ length entries.old.items }
+    requires known { AreKnown (length noted.old) (drop from entries.old.items) }
+    requires none { AreHeld noted.old [] }
+    ensures before { take from entries.new.items ≡ take from entries.old.items }
+    ensures back { (spots : List Spot) → restored (drop from entries.new.items) spots
+        ≡ restored (drop from entries.old.items) spots }
+    ensures known { (count : ℕ) → AreKnown count (drop from entries.old.items)
+        → AreKnown count (drop from entries.new.items) }
+    ensures few { length entries.new.items ≤ from + length noted.old }
+    ensures none { AreHeld noted.new [] }
+    ensures len { length noted.new ≡ length noted.old }
+    ensures capacity { vec_capacity entries.new ≡ vec_capacity entries.old }
+{
+    if entries.len() - from <= noted.len() {
+        return;
+    }
+    leave_firsts(entries, noted, from);
+    forget_all(&entries[from..], noted);
+}
+
 impl Changes {
-    pub(crate) fn new(alloc: Global, points: usize) -> Result<Changes, AllocError>
+    /// Has room for so many points once for each mark and once more.
+    pub(crate) fn new(alloc: Global, points: u32, marks: u32) -> Result<Changes, AllocError>
+        ensures older { IfOk result (λ c. c.older ≡ []) }
         ensures entries { IfOk result (λ c. c.entries ≡ []) }
         ensures room { IfOk result (λ c. c.room ≡ points) }
+        ensures most { IfOk result (λ c. points * (marks + 1) ≤ c.most) }
     {
-        let mut noted = Vec::with_capacity(alloc, points)?;
-        let Ok(()) = noted.resize(points, false) else {
+        let room = points as usize;
+        let mut noted = Vec::with_capacity(alloc, room)?;
+        let Ok(()) = noted.resize(room, false) else {
             unreachable!()
         };
         Ok(Changes {
-            entries: Vec::with_capacity(alloc, points)?,
+            entries: Vec::with_capacity(alloc, room * (marks as usize + 1))?,
+            before: 0,
             noted,
         })
     }
 
     /// Notes what a point is before it changes for the first time.
-    pub(crate) fn note(&mut self, point: PointId, spot: Spot)
+    pub(crate) fn note(&mut self, point: PointId, spot: &Spot)
         requires { point.0 < self.old.room }
-        ensures back { (spots : List Spot) (x : Spot) → slice_get spots point.0 ≡ Some spot
+        ensures back { (spots : List Spot) (x : Spot) → slice_get spots point.0 ≡ Some spot.now
             → restored self.new.entries (slice_set spots point.0 x)
             ≡ restored self.old.entries spots }
         ensures known { (count : ℕ) → point.0 < count → AreKnown count self.old.entries
             → AreKnown count self.new.entries }
-        ensures room { self.new.room ≡ self.old.room }
+        ensures same { IsSameSave self.old self.new }
     {
         let at = point.0 as usize;
         if !self.noted[at] {
             self.noted[at] = true;
-            self.entries.push_reserved(SavedSpot { point, spot });
+            self.entries.push_reserved(SavedSpot {
+                point,
+                spot: Spot {
+                    low: spot.low,
+                    time: spot.time,
+                    cause: spot.cause,
+                },
+            });
         }
     }
 
-    pub(crate) fn as_slice(&self) -> &[SavedSpot]
-        ensures { result.now ≡ self.now.entries }
+    /// How many were saved before the change.
+    pub(crate) fn saved(&self) -> u32
+        requires { length self.now.older < 2 ^ 32 }
+        ensures { result ≡ length self.now.older }
     {
-        self.entries.as_slice()
+        self.before as u32
+    }
+
+    /// Keeps what was noted, behind what was saved. From this place on no more is left than there can be points.
+    pub(crate) fn keep(&mut self, from: usize)
+        requires from { from ≤ length self.old.older }
+        requires room { from + 2 * self.old.room ≤ self.old.most }
+        requires known { AreKnown self.old.room self.old.older }
+        requires noted { AreKnown self.old.room self.old.entries }
+        ensures before { take from self.new.older ≡ take from self.old.older }
+        ensures back { (spots : List Spot) → restored (drop from self.new.older) spots
+            ≡ restored (drop from self.old.older) (restored self.old.entries spots) }
+        ensures known { (count : ℕ) → AreKnown count self.old.older
+            → AreKnown count self.old.entries → AreKnown count self.new.older }
+        ensures few { length self.new.older ≤ from + self.old.room }
+        ensures entries { self.new.entries ≡ [] }
+        ensures room { self.new.room ≡ self.old.room }
+        ensures most { self.new.most ≡ self.old.most }
+    {
+        forget_all(&self.entries[self.before..], &mut self.noted);
+        make_short(&mut self.entries, &mut self.noted, from);
+        self.before = self.entries.len();
     }
 
     /// Forgets all.
     pub(crate) fn clear(&mut self)
+        ensures older { self.new.older ≡ [] }
         ensures entries { self.new.entries ≡ [] }
         ensures room { self.new.room ≡ self.old.room }
+        ensures most { self.new.most ≡ self.old.most }
     {
-        forget_all(&self.entries, &mut self.noted);
+        forget_all(&self.entries[self.before..], &mut self.noted);
         self.entries.clear();
+        self.before = 0;
     }
 
-    /// Makes the points what they were, and forgets all.
+    /// Makes the points what they were before the change, and forgets it.
     pub(crate) fn put_back(&mut self, spots: &mut [Spot])
+        requires { AreKnown (length spots.old) self.old.entries }
         ensures spots { spots.new ≡ restored self.old.entries spots.old }
         ensures entries { self.new.entries ≡ [] }
-        ensures room { self.new.room ≡ self.old.room }
+        ensures same { IsSameSave self.old self.new }
     {
-        put_all_back(&self.entries, spots, &mut self.noted);
-        self.entries.clear();
+        put_all_back(&self.entries[self.before..], spots);
+        forget_all(&self.entries[self.before..], &mut self.noted);
+        self.entries.truncate(self.before);
+    }
+
+    /// Makes the points what they were when so many were saved, and forgets what was saved since.
+    pub(crate) fn back_to(&mut self, to: usize, spots: &mut [Spot])
+        requires to { to ≤ length self.old.older }
+        requires known { AreKnown (length spots.old) self.old.older }
+        requires rest { self.old.entries ≡ [] }
+        ensures spots { spots.new ≡ restored (drop to self.old.older) spots.old }
+        ensures older { self.new.older ≡ take to self.old.older }
+        ensures entries { self.new.entries ≡ [] }
+        ensures room { self.new.room ≡ self.old.room }
+        ensures most { self.new.most ≡ self.old.most }
+    {
+        put_all_back(&self.entries[to..], spots);
+        self.entries.truncate(to);
+        self.before = to;
     }
 }

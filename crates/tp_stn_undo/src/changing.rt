@@ -35,11 +35,11 @@ impl Network for LiveNet {
         self.caps.clear();
         self.links.clear();
         self.heads.clear();
-        self.saves.saved.clear();
+        self.working.changes.clear();
     }
 
     fn point(&mut self, low: Tick, cap: Tick) -> Result<PointId, Full> {
-        if self.spots.len() == self.saves.points as usize {
+        if self.spots.len() == self.max_points as usize {
             return Err(Full);
         }
         let number = self.spots.len() as u32;
@@ -65,7 +65,7 @@ impl Network for LiveNet {
             &mut self.working,
         ) {
             Ok(()) => {
-                save_changes(&mut self.saves, &mut self.working.changes);
+                save_changes(&self.marks, &mut self.working.changes);
                 Ok(())
             }
             Err(kept) => {
@@ -92,7 +92,7 @@ impl Network for LiveNet {
             &mut self.working,
         ) {
             Ok(()) => {
-                save_changes(&mut self.saves, &mut self.working.changes);
+                save_changes(&self.marks, &mut self.working.changes);
                 Ok(())
             }
             Err(kept) => {
@@ -114,7 +114,7 @@ impl Network for LiveNet {
             &mut self.spots,
             &mut self.working,
         );
-        save_changes(&mut self.saves, &mut self.working.changes);
+        save_changes(&self.marks, &mut self.working.changes);
     }
 
     fn raise(&mut self, point: PointId, low: Tick) -> Result<(), Late> {
@@ -140,7 +140,7 @@ impl Network for LiveNet {
             &mut self.working,
         ) {
             Ok(()) => {
-                save_changes(&mut self.saves, &mut self.working.changes);
+                save_changes(&self.marks, &mut self.working.changes);
                 Ok(())
             }
             Err(kept) => {

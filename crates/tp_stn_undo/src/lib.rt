@@ -2,7 +2,6 @@
 #![tactic(auto)]
 
 mod adding;
-mod bits;
 mod changes;
 mod changing;
 mod lifting;
@@ -11,7 +10,6 @@ mod linking;
 mod links;
 mod live_net;
 mod marks;
-mod saves;
 mod saving;
 mod spots;
 mod spreading;

@@ -2,7 +2,7 @@
 ghost use Rattle.std.specs.Prelude.{◌≡◌, ℕ, ◌<◌, ◌≤◌, List, length, slice_index, slice_set};
 ghost use Rattle.tp_stn_undo.specs.Spots.{lows_of, times_of};
 ghost use Rattle.tp_stn_undo.specs.Saved.{restored};
-ghost use Rattle.tp_stn_undo.specs.Flags.{AreKnown, AreBelow};
+ghost use Rattle.tp_stn_undo.specs.Flags.{AreKnown, AreBelow, IsSameSave};
 ghost use Rattle.tp_stn_undo.specs.Lifting.{Lifts};
 
 use crate::changes::Changes;
@@ -29,11 +29,11 @@ pub(crate) fn lift(
     ensures waiting { AreBelow (length spots.old) waiting.old.points
         → AreBelow (length spots.old) waiting.new.points }
     ensures waits { length waiting.new.flags ≡ length waiting.old.flags }
-    ensures room { changes.new.room ≡ changes.old.room }
+    ensures same { IsSameSave changes.old changes.new }
 {
     let at = point.0 as usize;
     let spot = spots[at];
-    changes.note(point, spot);
+    changes.note(point, &spot);
     if low <= spot.time {
         spots[at] = Spot {
             low,

@@ -6,7 +6,7 @@ ghost use Rattle.tp_stn_undo.specs.LiveState.{aside_of};
 ghost use Rattle.tp_stn_undo.specs.Chains.{IsSupport, HasMoreCauses};
 
 use crate::links::Link;
-use crate::saves::Saves;
+use crate::marks::LiveMark;
 use crate::spots::Spot;
 use crate::tracing::write_causes;
 use crate::undoing::restore;
@@ -16,10 +16,11 @@ use std::marker::Model;
 use tp_base::{Edge, Full, Kept, Memory, PointId, Trail};
 
 /// A network that keeps its least solution by a worklist: a change takes time for the points that rise, and for their edges.
-/// For each point it keeps the edge that it was raised along last, and of these it makes the proof of a refusal. A mark
-/// saves each point at most once, when it changes for the first time after the mark.
+/// For each point it keeps the edge that it was raised along last, and of these it makes the proof of a refusal. What a change
+/// saves of the points that it changes serves both to take it back where it is refused and to go back to a mark.
 #[derive(Drop)]
 pub struct LiveNet {
+    pub(crate) max_points: u32,
     pub(crate) max_edges: u32,
     pub(crate) max_marks: u32,
     pub(crate) spots: Vec<Spot>,
@@ -29,7 +30,7 @@ pub struct LiveNet {
     pub(crate) heads: Vec<u32>,
     pub(crate) working: Working,
     pub(crate) kept: Kept,
-    pub(crate) saves: Saves,
+    pub(crate) marks: Vec<LiveMark>,
 }
 
 // Clauses see the net, the nets at the marks in force, and what the network was made for.
@@ -59,15 +60,16 @@ impl LiveNet {
             return Err(Memory);
         }
         Ok(LiveNet {
+            max_points: points,
             max_edges: edges,
             max_marks: marks,
             spots: Vec::with_capacity(alloc, room)?,
             caps: Vec::with_capacity(alloc, room)?,
             links: Vec::with_capacity(alloc, edges as usize)?,
             heads: Vec::with_capacity(alloc, room)?,
-            working: Working::new(alloc, room)?,
+            working: Working::new(alloc, points, marks)?,
             kept: Kept::Nothing,
-            saves: Saves::new(alloc, points, marks)?,
+            marks: Vec::with_capacity(alloc, marks as usize)?,
         })
     }
 
@@ -100,7 +102,8 @@ impl LiveNet {
             &mut self.caps,
             &mut self.links,
             &mut self.heads,
-            &mut self.saves,
+            &mut self.marks,
+            &mut self.working.changes,
         );
     }
 
@@ -113,7 +116,7 @@ impl LiveNet {
         ensures aside { aside_of self.new ≡ aside_of self.old }
         ensures room { self.new.max_marks ≡ self.old.max_marks }
     {
-        'marks: while self.saves.marks.len() > place {
+        'marks: while self.marks.len() > place {
             self.undo_last();
         }
     }

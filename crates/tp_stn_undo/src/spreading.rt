@@ -7,7 +7,7 @@ ghost use Rattle.tp_base.specs.Grows.{IsKnown, IsSupported, PassesCap, AreWithin
 ghost use Rattle.tp_base.specs.Kept.{net_of, KeptRefutes};
 ghost use Rattle.tp_stn_undo.specs.Spots.{lows_of, times_of, edges_of, causes_of};
 ghost use Rattle.tp_stn_undo.specs.Marks.{AreLinks};
-ghost use Rattle.tp_stn_undo.specs.Flags.{AreIdle, AreBelow};
+ghost use Rattle.tp_stn_undo.specs.Flags.{AreIdle, AreBelow, IsSameSave};
 ghost use Rattle.tp_stn_undo.specs.Spreading.{AreNumbered, AsksMore, SpotsRise, LeadsBack, KeptFrom, IsMet, AreKept, weight};
 ghost use Rattle.tp_stn_undo.specs.Tracing.{AreZeros};
 ghost use Rattle.tp_stn_undo.specs.Working.{HasWorkingRoom, KeepsSizes};
@@ -45,7 +45,7 @@ fn raise_along(
     ensures waits { length waiting.new.flags ≡ length waiting.old.flags }
     ensures known { AreBelow (length spots.old) waiting.old.points
         → AreBelow (length spots.old) waiting.new.points }
-    ensures room { changes.new.room ≡ changes.old.room }
+    ensures same { IsSameSave changes.old changes.new }
     ensures kept { OnOk result ((edges : List Edge) (point left : ℕ)
         → KeptFrom edges (slice_index (times_of spots.old)) waiting.old.flags point left
         → KeptFrom edges (slice_index (times_of spots.new)) waiting.new.flags point left) }
@@ -60,7 +60,7 @@ fn raise_along(
     let to = edge.to.0 as usize;
     let reach = i64::from(spots[edge.from.0 as usize].time) + edge.weight;
     let spot = spots[to];
-    changes.note(edge.to, spot);
+    changes.note(edge.to, &spot);
     if reach > i64::from(caps[to]) {
         spots[to] = Spot {
             low: spot.low,

@@ -1,5 +1,5 @@
 //! What a change is worked out with.
-ghost use Rattle.std.specs.Prelude.{◌<◌, ◌^◌, IfOk};
+ghost use Rattle.std.specs.Prelude.{◌≡◌, ◌+◌, ◌*◌, ◌≤◌, [], IfOk};
 
 use crate::changes::Changes;
 use crate::waiting::Waiting;
@@ -20,19 +20,22 @@ pub(crate) struct Working {
 impl Working {
     ghost use Rattle.tp_stn_undo.specs.Working.{HasWorkingRoom, AtRest};
 
-    pub(crate) fn new(alloc: Global, points: usize) -> Result<Working, AllocError>
-        requires { points < 2 ^ 32 }
+    pub(crate) fn new(alloc: Global, points: u32, marks: u32) -> Result<Working, AllocError>
         ensures room { IfOk result (λ w. HasWorkingRoom points w) }
+        ensures noted { IfOk result (λ w. w.changes.room ≡ points) }
+        ensures most { IfOk result (λ w. points * (marks + 1) ≤ w.changes.most) }
+        ensures older { IfOk result (λ w. w.changes.older ≡ []) }
         ensures rest { IfOk result (λ w. AtRest w) }
     {
-        let mut places = Vec::with_capacity(alloc, points)?;
-        let Ok(()) = places.resize(points, 0) else {
+        let room = points as usize;
+        let mut places = Vec::with_capacity(alloc, room)?;
+        let Ok(()) = places.resize(room, 0) else {
             unreachable!()
         };
         Ok(Working {
-            waiting: Waiting::new(alloc, points)?,
-            changes: Changes::new(alloc, points)?,
-            path: Vec::with_capacity(alloc, points)?,
+            waiting: Waiting::new(alloc, room)?,
+            changes: Changes::new(alloc, points, marks)?,
+            path: Vec::with_capacity(alloc, room)?,
             places,
         })
     }

@@ -1,9 +1,11 @@
 use Rattle.std.proofs.Common.{arith, [], ◌∷◌, length, get_or, refl, ap, ◌∙◌, subst, sym}
 use Rattle.std.proofs.lemmas.List.{length-append}
 use Rattle.tp_stn_undo.specs.Marks.{AreLinks}
+use Rattle.tp_stn_undo.specs.Flags.{AreKnown}
 use Rattle.tp_stn_undo.specs.Adding.{newest_link}
 use Rattle.tp_stn_undo.proofs.CauseFacts.{no_link}
 use Rattle.tp_stn_undo.proofs.LinkedFacts.{same_links}
+use Rattle.tp_stn_undo.proofs.NoteFacts.{same_saves}
 use Rattle.tp_stn_undo.proofs.AddFacts.{linked_len, adds_next, refuted_next, unlinked}
 use Rattle.tp_stn_undo.proofs.adding.add_edges.Goals as goal
 
@@ -36,7 +38,7 @@ each-preserved c =
     let len = e.back.len in
     let w1 = e.sizes.waits in
     let w2 = r.room.waits in
-    let n1 = e.sizes.noted in
+    let n1 = e.sizes.noted.room in
     let n2 = r.room.noted in
     let p1 = e.sizes.path in
     let p2 = r.room.path in
@@ -56,6 +58,12 @@ each-preserved c =
         none = c.in-Ok.ensures.none;
         zeros = e.zeros;
       };
-      sizes = record { waits = w1 ∙ inv.sizes.waits; noted = n1 ∙ inv.sizes.noted; path = omega arith; places = q1 ∙ inv.sizes.places };
+      sizes = record { waits = w1 ∙ inv.sizes.waits; noted = same_saves inv.sizes.noted e.sizes.noted; path = omega arith; places = q1 ∙ inv.sizes.places };
       capacity = e.capacity ∙ inv.capacity;
     }
+
+pub put_back-requires : goal.put_back-requires
+put_back-requires c =
+    let a = c.each.invariant.added in
+    let e = c.add_edge.ensures.back in
+    subst (λ n. AreKnown n c.add_edge.new.working.changes.entries) (sym e.len) (e.known (subst (λ n. AreKnown n c.each.working.changes.entries) (sym a.len) a.known))

@@ -1,13 +1,11 @@
 use Rattle.std.proofs.Common.{◌≡◌, ◌≤◌, length, take}
-use Rattle.tp_stn_undo.specs.Flags.{AreHeld, points_in}
 use Rattle.tp_stn_undo.specs.Saved.{restored}
 use Rattle.tp_stn_undo.proofs.changes.put_all_back.Given as goal
 
 abbrev pub invariant-back : goal.invariant-back
 invariant-back l = record {
   within : l.left ≤ length l.entries;
-  held : AreHeld l.noted (points_in (take l.left l.entries));
-  len : length l.noted ≡ length l.initial.noted;
+  len : length l.spots ≡ length l.initial.spots;
   spots : restored (take l.left l.entries) l.spots ≡ restored l.entries l.initial.spots;
 }
 

@@ -14,6 +14,7 @@ use Rattle.tp_stn_undo.proofs.CauseFacts.{no_link}
 use Rattle.tp_stn_undo.proofs.RaiseFacts.{time_at, met_same, asks_more, known as edge_known}
 use Rattle.tp_stn_undo.proofs.FollowFacts.{risen_supported}
 use Rattle.tp_stn_undo.proofs.SpreadFacts.{Next, Reached, Spots-trans, LeadsBack-trans, reached_head, kept_head, next_of, kept_next, all_kept, reached_within}
+use Rattle.tp_stn_undo.proofs.NoteFacts.{same_saves}
 use Rattle.tp_stn_undo.proofs.spreading.spread.Goals as goal
 use Rattle.tp_stn_undo.proofs.spreading.spread.Goals.{In-Some}
 
@@ -163,7 +164,7 @@ edges-preserved-in-Ok c =
       back = LeadsBack-trans links c.args.spots.now c.edges.spots c.follow.new.spots c.args.working.now.changes.entries c.edges.working.changes.entries c.follow.new.working.changes.entries inv.back e.back;
       rises = Spots-trans links c.args.spots.now c.edges.spots c.follow.new.spots n inv.rises o.rises;
       below = e.below;
-      sizes = record { waits = e.sizes.waits ∙ inv.sizes.waits; noted = e.sizes.noted ∙ inv.sizes.noted; path = omega arith; places = e.sizes.places ∙ inv.sizes.places };
+      sizes = record { waits = e.sizes.waits ∙ inv.sizes.waits; noted = same_saves inv.sizes.noted e.sizes.noted; path = omega arith; places = e.sizes.places ∙ inv.sizes.places };
       waiting = subst (λ (m : ℕ). AreBelow m c.follow.new.working.waiting.points) n (e.known (subst (λ (m : ℕ). AreBelow m c.edges.working.waiting.points) (sym n) inv.waiting));
       reached = (next c.args.links.now c.args.heads.now c.args.spots.now c.edges.spots c.in-Some.point c.edges.left c.requires.heads c.requires.known c.edges.invariant.back.len c.edges.invariant.reached c.edges-test.true).reached;
       kept = kept_next links point c.edges.left _ (slice_index (times_of c.follow.new.spots)) c.follow.new.working.waiting.flags (next c.args.links.now c.args.heads.now c.args.spots.now c.edges.spots c.in-Some.point c.edges.left c.requires.heads c.requires.known c.edges.invariant.back.len c.edges.invariant.reached c.edges-test.true) c.edges-test.true (o.kept (edges_of links) point c.edges.left inv.kept) o.met;

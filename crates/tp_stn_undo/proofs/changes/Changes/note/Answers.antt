@@ -1,5 +1,5 @@
-use Rattle.std.proofs.Common.{arith, ◌≡◌, ◌∙◌, ◌<◌, Bool, false, true, ap, sym, length, subst, set}
-use Rattle.std.proofs.lemmas.List.{length-set, length-map, get_or_read}
+use Rattle.std.proofs.Common.{arith, ◌≡◌, ◌∙◌, ◌<◌, ◌++◌, ◌∷◌, [], List, drop, Bool, false, true, ap, sym, length, subst, set}
+use Rattle.std.proofs.lemmas.List.{length-set, length-map, length-append, length-drop, drop-append-le, get_or_read}
 use Rattle.tp_stn_undo.specs.declared.spots.SavedSpot.{SavedSpot}
 use Rattle.tp_stn_undo.specs.Saved.{restored}
 use Rattle.tp_stn_undo.specs.Flags.{flag, points_in, Noted}
@@ -21,9 +21,14 @@ invariant_of-self c =
     let l = length-set a.noted.items c.args.point.0 true in
     let n = c.self.invariant.room in
     let cap = c.push_reserved.ensures.capacity in
-    let e : SavedSpot = record { point = c.args.point; spot = c.args.spot } in
+    let e : SavedSpot = record { point = c.args.point; spot = c.args.spot.now } in
+    let w = c.self.invariant.within in
+    let m = length-append a.entries.items (e ∷ []) in
+    let q = ap length c.push_reserved.ensures.items in
+    let more : drop a.before (a.entries.items ++ e ∷ []) ≡ drop a.before a.entries.items ++ e ∷ [] = drop-append-le a.before a.entries.items (e ∷ []) w in
     record {
-      held = rw (c.push_reserved.ensures.items, points_in-push a.entries.items e) (held_push a.noted.items (points_in a.entries.items) c.args.point.0 (known k) (is k false c.if-not-index.true) c.self.invariant.held);
+      within = omega arith;
+      held = rw (c.push_reserved.ensures.items, more, points_in-push (drop a.before a.entries.items) e) (held_push a.noted.items (points_in (drop a.before a.entries.items)) c.args.point.0 (known k) (is k false c.if-not-index.true) c.self.invariant.held);
       room = omega arith;
     }
 
@@ -34,18 +39,20 @@ push_reserved-requires c =
     let m = c.self.invariant.room in
     let lt = flagged-lt a.noted.items c.args.point.0 (known k) (is k false c.if-not-index.true) in
     let s = c.self.invariant.held.short in
-    let l = length-map a.entries.items (λ (s : SavedSpot). s.point.0) in
+    let l = length-map (drop a.before a.entries.items) (λ (s : SavedSpot). s.point.0) in
+    let d = length-drop a.before a.entries.items in
+    let w = c.self.invariant.within in
     let ok = a.entries.ok.0 in
     omega arith
 
 pub returns-then-not-index-clause-back : goal.returns-then-not-index-clause-back
 returns-then-not-index-clause-back c = λ spots x g.
     let a = c.self.inside in
-    let e : SavedSpot = record { point = c.args.point; spot = c.args.spot } in
-    ap (λ (es : _). restored es (set spots c.args.point.0 x)) c.push_reserved.ensures.items ∙ noted_first a.entries.items e spots x g ∙ ap (λ (w : Noted). restored w.entries spots) c.self.view_is
+    let e : SavedSpot = record { point = c.args.point; spot = c.args.spot.now } in
+    ap (λ (es : List SavedSpot). restored es (set spots c.args.point.0 x)) (ap (drop a.before) c.push_reserved.ensures.items ∙ drop-append-le a.before a.entries.items (e ∷ []) c.self.invariant.within) ∙ noted_first (drop a.before a.entries.items) e spots x g ∙ ap (λ (w : Noted). restored w.entries spots) c.self.view_is
 
 pub returns-else-not-index-clause-back : goal.returns-else-not-index-clause-back
 returns-else-not-index-clause-back c = λ spots x g.
     let k = (goal.at.returns-else-not-index-clause-back c).After-index in
     subst (λ (w : Noted). restored w.entries (set spots c.args.point.0 x) ≡ restored w.entries spots) c.self.view_is
-    (noted_before c.self.inside.entries.items c.args.point.0 spots x (c.self.invariant.held.held c.args.point.0 (is k true c.if-not-index.false)))
+    (noted_before (drop c.self.inside.before c.self.inside.entries.items) c.args.point.0 spots x (c.self.invariant.held.held c.args.point.0 (is k true c.if-not-index.false)))

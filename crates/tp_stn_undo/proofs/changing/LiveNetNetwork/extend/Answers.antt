@@ -1,6 +1,5 @@
 use Rattle.std.proofs.Common.{arith, ◌≡◌, ℕ, List, [], ◌∷◌, ◌++◌, length, take, ap, subst, sym, refl, ◌∙◌}
 use Rattle.std.specs.Vec.{with_items}
-use Rattle.std.proofs.Math.Nat.{mul-le-mul_left}
 use Rattle.std.proofs.lemmas.List.{length-append, map-append, take_at}
 use Rattle.tp_stn_undo.specs.declared.spots.Spot.{Spot}
 use Rattle.tp_base.specs.Net.{with_point, with_edges}
@@ -16,7 +15,7 @@ use Rattle.tp_stn_undo.specs.Adding.{Adds, new_spot}
 use Rattle.tp_stn_undo.proofs.RaiseFacts.{lows_len}
 use Rattle.tp_stn_undo.proofs.SoundFacts.{links_len}
 use Rattle.tp_stn_undo.proofs.LinkedFacts.{same_links}
-use Rattle.tp_stn_undo.proofs.ChangeFacts.{stack_of}
+use Rattle.tp_stn_undo.proofs.ChangeFacts.{stack_of, can_save, stack_by, past_by}
 use Rattle.tp_stn_undo.proofs.AddFacts.{linked_len, points_cut}
 use Rattle.tp_stn_undo.proofs.ChangedFacts.{IsChanged, HoldsTogether, point_pushed, changed_live, changed_past, added_holds}
 use Rattle.tp_stn_undo.proofs.changing.LiveNetNetwork.extend.Goals as goal
@@ -32,7 +31,7 @@ caps1 c = c.self.inside.caps.items ++ c.args.cap ∷ []
 abbrev heads1 : After-push_point → List ℕ
 heads1 c = c.self.inside.heads.items ++ 0 ∷ []
 
-pushed : (c : After-push_point) → HoldsTogether c.self.inside (spots1 c) (caps1 c) c.self.inside.links.items (heads1 c) c.self.inside.saves.saved.items c.self.inside.saves.since.words.items
+pushed : (c : After-push_point) → HoldsTogether c.self.inside (spots1 c) (caps1 c) c.self.inside.links.items (heads1 c) c.self.inside.working.changes.older
 pushed c =
     let v = ap (λ (s : LiveState). length s.net.lows) c.self.view_is in
     let r = ap (λ (s : LiveState). s.max_points) c.self.view_is in
@@ -69,6 +68,7 @@ added c = rw (c.deref.ensures.value ∙ c.push_point.ensures.caps, c.deref_mut-2
 
 abbrev after : After-save_changes → Inside
 after c = record {
+  max_points = c.self.inside.max_points;
   max_edges = c.self.inside.max_edges;
   max_marks = c.self.inside.max_marks;
   spots = with_items c.push_point.new.spots c.add_edges.new.spots;
@@ -77,7 +77,7 @@ after c = record {
   heads = with_items c.push_point.new.heads c.add_edges.new.heads;
   working = record { waiting = c.add_edges.new.working.waiting; changes = c.save_changes.new.changes; path = c.add_edges.new.working.path; places = c.add_edges.new.working.places };
   kept = c.self.inside.kept;
-  saves = c.save_changes.new.saves;
+  marks = c.self.inside.marks;
 }
 
 changed : (c : After-save_changes) → IsChanged c.self.inside (after c) c.add_edges.new.spots (c.self.inside.caps.items ++ c.args.cap ∷ []) c.add_edges.new.links.items c.add_edges.new.heads
@@ -91,22 +91,24 @@ changed c =
       caps = q.caps;
       links = refl;
       heads = mut_items p.heads.len c.add_edges.new.heads _ (c.add_edges.auto.heads ∙ ap length c.deref_mut.ensures.value ∙ sym p.heads.ok.0);
-      marks = s.marks;
-      points_same = s.points;
+      marks = refl;
+      points_same = refl;
       edges_same = refl;
       marks_same = refl;
       spots_room = q.spots_kept;
       caps_room = q.caps_kept;
       links_room = e.capacity;
       heads_room = q.heads_kept;
-      saved_room = s.capacity;
-      marks_room = s.marks_room;
-      flags_room = s.flags;
-      sizes = record { waits = e.sizes.waits; noted = s.room ∙ e.sizes.noted; path = e.sizes.path; places = e.sizes.places };
+      marks_room = refl;
+      waits = e.sizes.waits;
+      noted = s.room ∙ e.sizes.noted.room;
+      most = s.most ∙ e.sizes.noted.most;
+      path = e.sizes.path;
+      places = e.sizes.places;
       rest = record { idle = e.idle; none = e.none; unchanged = s.none; zeros = e.zeros };
     }
 
-holds : (c : After-save_changes) → HoldsTogether c.self.inside c.add_edges.new.spots (c.self.inside.caps.items ++ c.args.cap ∷ []) c.add_edges.new.links.items c.add_edges.new.heads c.save_changes.new.saves.saved.items c.save_changes.new.saves.since.words.items
+holds : (c : After-save_changes) → HoldsTogether c.self.inside c.add_edges.new.spots (c.self.inside.caps.items ++ c.args.cap ∷ []) c.add_edges.new.links.items c.add_edges.new.heads c.save_changes.new.changes.older
 holds c =
     let a = c.self.inside in
     let k = (goal.at.invariant_of-self-in-Ok c).After-push_point in
@@ -116,18 +118,15 @@ holds c =
     let r = ap (λ (s : LiveState). s.max_edges) c.self.view_is in
     let l = links_len a.links.items in
     let q = c.requires.spare in
-    added_holds a c.self.invariant (spots1 k) c.add_edges.new.spots (caps1 k) c.add_edges.new.links.items (heads1 k) c.args.edges.now c.add_edges.new.working.changes.entries c.save_changes.new.saves.saved.items c.save_changes.new.saves.since.words.items
-    (pushed k) ad (omega arith) c.add_edges.new.heads (rw (c.deref_mut-2.ensures.value ∙ c.push_point.ensures.spots) at c.add_edges.ensures.linked) c.save_changes.ensures.stack c.save_changes.ensures.past
+    added_holds a c.self.invariant (spots1 k) c.add_edges.new.spots (caps1 k) c.add_edges.new.links.items (heads1 k) c.args.edges.now c.add_edges.new.working.changes.entries c.save_changes.new.changes.older
+    (pushed k) ad (omega arith) c.add_edges.new.heads (rw (c.deref_mut-2.ensures.value ∙ c.push_point.ensures.spots) at c.add_edges.ensures.linked) (stack_by a.marks.items _ a.working.changes c.add_edges.new.working.changes c.save_changes.new.changes.older c.deref-in-Ok.ensures.value c.add_edges.ensures.sizes.noted c.save_changes.ensures.stack) (past_by a.marks.items _ a.working.changes c.add_edges.new.working.changes c.save_changes.new.changes.older c.deref-in-Ok.ensures.value c.add_edges.ensures.sizes.noted c.save_changes.ensures.past)
 
 pub save_changes-requires : goal.save_changes-requires
 save_changes-requires c =
     let a = c.self.inside in
     let k = (goal.at.save_changes-requires c).After-push_point in
-    let m = mul-le-mul_left a.saves.points c.self.invariant.marks in
-    let s = c.self.invariant.room.saved in
-    let t = c.self.invariant.room.small in
-    let f = c.self.invariant.room.flags in
-    record { ready = record { points = length (spots1 k); edges = length a.links.items; stack = (pushed k).stack; known = (added (goal.at.save_changes-requires c).In-Ok).known; enough = omega arith; flags = omega arith; small = omega arith } }
+    let h = pushed k in
+    record { ready = rw c.deref-in-Ok.ensures.value (can_save a c.self.invariant c.add_edges.new.working.changes (length (spots1 k)) (length a.links.items) c.add_edges.ensures.sizes.noted h.points h.stack (added (goal.at.save_changes-requires c).In-Ok).known) }
 
 pub invariant_of-self-in-Ok : goal.invariant_of-self-in-Ok
 invariant_of-self-in-Ok c = changed_live c.self.inside c.self.invariant (after c) c.add_edges.new.spots (c.self.inside.caps.items ++ c.args.cap ∷ []) c.add_edges.new.links.items c.add_edges.new.heads (changed c) (holds c)
@@ -166,20 +165,22 @@ invariant_of-self-in-Err c =
       caps_room = c.truncate-in-Err.ensures.capacity ∙ q.caps_kept;
       links_room = e.capacity;
       heads_room = c.truncate-in-Err-2.ensures.capacity ∙ q.heads_kept;
-      saved_room = refl;
       marks_room = refl;
-      flags_room = refl;
-      sizes = e.sizes;
+      waits = e.sizes.waits;
+      noted = e.sizes.noted.room;
+      most = e.sizes.noted.most;
+      path = e.sizes.path;
+      places = e.sizes.places;
       rest = record { idle = e.idle; none = e.none; unchanged = f.unchanged; zeros = e.zeros };
     })
-    (record {
+    (subst (HoldsTogether a a.spots.items a.caps.items a.links.items (take (length a.spots.items) c.add_edges.new.heads)) (sym e.sizes.noted.older) (record {
       points = inv.points;
       edges = inv.edges;
       stack = stack_of a inv (length a.links.items) (omega arith);
       past = refl;
       linked = points_cut a.links.items c.add_edges.new.heads (length (a.spots.items ++ new_spot c.args.low ∷ [])) (length a.spots.items) (omega arith) linked;
       sound = inv.sound;
-    })
+    }))
 
 refuted : (c : In-Err) → KeptRefutes (with_edges (with_point (net_of_core (core_in c.self.inside)) c.args.low c.args.cap) c.args.edges.now) c.in-Err.kept c.add_edges.new.working.path.items
 refuted c =

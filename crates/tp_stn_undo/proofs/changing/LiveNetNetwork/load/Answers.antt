@@ -6,7 +6,7 @@ use Rattle.tp_stn_undo.specs.Marks.{nets_of}
 use Rattle.tp_stn_undo.specs.LiveState.{LiveState}
 use Rattle.tp_stn_undo.specs.Adding.{Adds}
 use Rattle.tp_stn_undo.proofs.SoundFacts.{links_len}
-use Rattle.tp_stn_undo.proofs.ChangeFacts.{can_save}
+use Rattle.tp_stn_undo.proofs.ChangeFacts.{stack_of, can_save, stack_by, past_by}
 use Rattle.tp_stn_undo.proofs.AddFacts.{linked_len}
 use Rattle.tp_stn_undo.proofs.ChangedFacts.{IsChanged, HoldsTogether, as_it_was, changed_live, changed_past, added_holds}
 use Rattle.tp_stn_undo.proofs.changing.LiveNetNetwork.load.Goals as goal
@@ -18,10 +18,13 @@ added c = rw (c.deref.ensures.value, c.deref_mut-2.ensures.value) at c.load_edge
 pub save_changes-requires : goal.save_changes-requires
 save_changes-requires c =
     let k = (goal.at.save_changes-requires c).After-load_edges in
-    record { ready = can_save c.self.inside c.self.invariant c.load_edges.new.working.changes.entries (added k).known }
+    let a = c.self.inside in
+    let inv = c.self.invariant in
+    record { ready = rw c.deref-2.ensures.value (can_save a inv c.load_edges.new.working.changes (length a.spots.items) (length a.links.items) c.load_edges.ensures.sizes.noted inv.points (stack_of a inv (length a.links.items) (omega arith)) (added k).known) }
 
 abbrev after : After-save_changes → Inside
 after c = record {
+  max_points = c.self.inside.max_points;
   max_edges = c.self.inside.max_edges;
   max_marks = c.self.inside.max_marks;
   spots = with_items c.self.inside.spots c.load_edges.new.spots;
@@ -30,7 +33,7 @@ after c = record {
   heads = with_items c.self.inside.heads c.load_edges.new.heads;
   working = record { waiting = c.load_edges.new.working.waiting; changes = c.save_changes.new.changes; path = c.load_edges.new.working.path; places = c.load_edges.new.working.places };
   kept = c.self.inside.kept;
-  saves = c.save_changes.new.saves;
+  marks = c.self.inside.marks;
 }
 
 changed : (c : After-save_changes) → IsChanged c.self.inside (after c) c.load_edges.new.spots c.self.inside.caps.items c.load_edges.new.links.items c.load_edges.new.heads
@@ -43,22 +46,24 @@ changed c =
       caps = refl;
       links = refl;
       heads = mut_items a.heads.len c.load_edges.new.heads _ (c.load_edges.auto.heads ∙ ap length c.deref_mut.ensures.value ∙ sym a.heads.ok.0);
-      marks = s.marks;
-      points_same = s.points;
+      marks = refl;
+      points_same = refl;
       edges_same = refl;
       marks_same = refl;
       spots_room = refl;
       caps_room = refl;
       links_room = e.capacity;
       heads_room = refl;
-      saved_room = s.capacity;
-      marks_room = s.marks_room;
-      flags_room = s.flags;
-      sizes = record { waits = e.sizes.waits; noted = s.room ∙ e.sizes.noted; path = e.sizes.path; places = e.sizes.places };
+      marks_room = refl;
+      waits = e.sizes.waits;
+      noted = s.room ∙ e.sizes.noted.room;
+      most = s.most ∙ e.sizes.noted.most;
+      path = e.sizes.path;
+      places = e.sizes.places;
       rest = record { idle = e.idle; none = e.none; unchanged = s.none; zeros = e.zeros };
     }
 
-holds : (c : After-save_changes) → HoldsTogether c.self.inside c.load_edges.new.spots c.self.inside.caps.items c.load_edges.new.links.items c.load_edges.new.heads c.save_changes.new.saves.saved.items c.save_changes.new.saves.since.words.items
+holds : (c : After-save_changes) → HoldsTogether c.self.inside c.load_edges.new.spots c.self.inside.caps.items c.load_edges.new.links.items c.load_edges.new.heads c.save_changes.new.changes.older
 holds c =
     let a = c.self.inside in
     let k = (goal.at.invariant_of-self c).After-load_edges in
@@ -68,8 +73,8 @@ holds c =
     let r = ap (λ (s : LiveState). s.max_edges) c.self.view_is in
     let l = links_len a.links.items in
     let q = c.requires.spare in
-    added_holds a c.self.invariant a.spots.items c.load_edges.new.spots a.caps.items c.load_edges.new.links.items a.heads.items c.args.edges.now c.load_edges.new.working.changes.entries c.save_changes.new.saves.saved.items c.save_changes.new.saves.since.words.items
-    (as_it_was a c.self.invariant) ad (omega arith) c.load_edges.new.heads (rw c.deref_mut-2.ensures.value at c.load_edges.ensures.linked) c.save_changes.ensures.stack c.save_changes.ensures.past
+    added_holds a c.self.invariant a.spots.items c.load_edges.new.spots a.caps.items c.load_edges.new.links.items a.heads.items c.args.edges.now c.load_edges.new.working.changes.entries c.save_changes.new.changes.older
+    (as_it_was a c.self.invariant) ad (omega arith) c.load_edges.new.heads (rw c.deref_mut-2.ensures.value at c.load_edges.ensures.linked) (stack_by a.marks.items _ a.working.changes c.load_edges.new.working.changes c.save_changes.new.changes.older c.deref-2.ensures.value c.load_edges.ensures.sizes.noted c.save_changes.ensures.stack) (past_by a.marks.items _ a.working.changes c.load_edges.new.working.changes c.save_changes.new.changes.older c.deref-2.ensures.value c.load_edges.ensures.sizes.noted c.save_changes.ensures.past)
 
 pub invariant_of-self : goal.invariant_of-self
 invariant_of-self c = changed_live c.self.inside c.self.invariant (after c) c.load_edges.new.spots c.self.inside.caps.items c.load_edges.new.links.items c.load_edges.new.heads (changed c) (holds c)

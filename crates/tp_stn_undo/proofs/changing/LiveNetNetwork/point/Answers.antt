@@ -21,14 +21,14 @@ sound c =
 pub returns-clause-solved : goal.returns-clause-solved
 returns-clause-solved c = (slice_index (times_of c.push_point.new.spots.items), (sound (goal.at.returns-clause-solved c).After-push_point).least)
 
-past_is : (c : After-push_point) → past_of c.self.inside.saves.marks.items c.self.inside.saves.saved.items c.push_point.new.spots.items c.push_point.new.caps.items c.self.inside.links.items ≡ past_of c.self.inside.saves.marks.items c.self.inside.saves.saved.items c.self.inside.spots.items c.self.inside.caps.items c.self.inside.links.items
+past_is : (c : After-push_point) → past_of c.self.inside.marks.items c.self.inside.working.changes.older c.push_point.new.spots.items c.push_point.new.caps.items c.self.inside.links.items ≡ past_of c.self.inside.marks.items c.self.inside.working.changes.older c.self.inside.spots.items c.self.inside.caps.items c.self.inside.links.items
 past_is c =
     let a = c.self.inside in
     let inv = c.self.invariant in
     let s : Spot = record { low = c.args.low; time = c.args.low; cause = 0 } in
-    ap (λ ls. past_of a.saves.marks.items a.saves.saved.items ls c.push_point.new.caps.items a.links.items) c.push_point.ensures.spots
-    ∙ ap (λ cs. past_of a.saves.marks.items a.saves.saved.items (a.spots.items ++ s ∷ []) cs a.links.items) c.push_point.ensures.caps
-    ∙ past_point a.saves.marks.items a.saves.saved.items a.spots.items a.caps.items a.links.items a.saves.points inv.stacked s c.args.cap inv.sound.caps
+    ap (λ ls. past_of a.marks.items a.working.changes.older ls c.push_point.new.caps.items a.links.items) c.push_point.ensures.spots
+    ∙ ap (λ cs. past_of a.marks.items a.working.changes.older (a.spots.items ++ s ∷ []) cs a.links.items) c.push_point.ensures.caps
+    ∙ past_point a.marks.items a.working.changes.older a.spots.items a.caps.items a.links.items a.working.changes.room inv.stacked s c.args.cap inv.sound.caps
 
 pub returns-clause-past : goal.returns-clause-past
 returns-clause-past c = ap nets_of (past_is (goal.at.returns-clause-past c).After-push_point) ∙ ap (λ (s : LiveState). s.past) c.self.view_is
@@ -63,15 +63,13 @@ invariant_of-self c =
         heads = omega arith;
         working = inv.room.working;
         saved = inv.room.saved;
-        flags = inv.room.flags;
         marks = inv.room.marks;
         small = inv.room.small;
         narrow = inv.room.narrow;
       };
       rest = inv.rest;
-      stacked = stacked_grown a.saves.marks.items _ _ _ _ _ _ _ (omega arith) (omega arith) (omega arith) inv.stacked;
-      kept = rw nl (saved_pointed a.saves.marks.items a.saves.saved.items (length a.spots.items) inv.kept);
-      flagged = inv.flagged;
+      stacked = stacked_grown a.marks.items _ _ _ _ _ _ _ (omega arith) (omega arith) (omega arith) inv.stacked;
+      kept = rw nl (saved_pointed a.marks.items a.working.changes.older (length a.spots.items) inv.kept);
       linked = rw (c.push_point.ensures.heads, nl) (links_pointed a.links.items a.heads.items (length a.spots.items) inv.sound.known inv.linked);
       sound = sound k;
       past = subst (All IsSound) (sym (past_is k)) inv.past;

@@ -4,14 +4,15 @@ use Rattle.std.specs.Vec.{with_items}
 use Rattle.tp_stn_undo.specs.declared.live_net.LiveNet.TheInside.{Inside}
 use Rattle.tp_base.specs.Net.{HasNoSolution, with_low}
 use Rattle.tp_base.specs.Refute.{IsLateChain}
-use Rattle.tp_base.specs.Grows.{AreWithin}
+use Rattle.tp_base.specs.Grows.{AreWithin, IsSupported, cause_of}
 use Rattle.tp_base.specs.Kept.{net_of}
 use Rattle.tp_base.proofs.LeastFacts.{mut_items, raised_chain}
 use Rattle.tp_base.proofs.RisenFacts.{kept_refutes}
 use Rattle.tp_stn_undo.specs.declared.spots.Spot.{Spot}
 use Rattle.tp_stn_undo.specs.declared.spots.SavedSpot.{SavedSpot}
-use Rattle.tp_stn_undo.specs.Spots.{IsSound, net_of_core, lows_of, times_of, edges_of}
-use Rattle.tp_stn_undo.specs.Flags.{AreKnown}
+use Rattle.tp_stn_undo.specs.declared.links.Link.{Link}
+use Rattle.tp_stn_undo.specs.Spots.{IsSound, net_of_core, lows_of, times_of, edges_of, causes_of}
+use Rattle.tp_stn_undo.specs.Flags.{AreKnown, IsSameSave}
 use Rattle.tp_stn_undo.specs.Live.{core_in}
 use Rattle.tp_stn_undo.specs.Marks.{past_of, nets_of}
 use Rattle.tp_stn_undo.specs.Saved.{restored}
@@ -21,7 +22,10 @@ use Rattle.tp_stn_undo.specs.Spreading.{LeadsBack}
 use Rattle.tp_stn_undo.specs.LiveState.{LiveState}
 use Rattle.tp_stn_undo.proofs.RaiseFacts.{times_len, lows_len}
 use Rattle.tp_stn_undo.proofs.SoundFacts.{within_of, kept_of}
-use Rattle.tp_stn_undo.proofs.ChangeFacts.{can_save, stack_of, sound_lift}
+use Rattle.tp_stn_undo.proofs.ChangeFacts.{can_save, stack_of, stack_by, past_by, sound_lift}
+use Rattle.tp_stn_undo.specs.declared.working.Working.{Working}
+use Rattle.tp_stn_undo.specs.Working.{KeepsSizes}
+use Rattle.tp_stn_undo.proofs.NoteFacts.{same_saves}
 use Rattle.tp_stn_undo.proofs.ChangedFacts.{IsChanged, HoldsTogether, as_it_was, changed_live, changed_past}
 use Rattle.tp_stn_undo.proofs.changing.LiveNetNetwork.raise.Goals as goal
 use Rattle.tp_stn_undo.proofs.changing.LiveNetNetwork.raise.Goals.{After-lift, After-save_changes}
@@ -86,11 +90,16 @@ noted c = (rw c.deref_mut.ensures.value at c.lift.ensures.known) (λ k d h. absu
 changed : (c : After-lift) (spots' : List Spot) (entries' : List SavedSpot) → LeadsBack c.self.inside.links.items c.lift.new.spots spots' c.lift.new.changes.entries entries' → AreKnown (length c.self.inside.spots.items) entries'
 changed c spots' entries' b = subst (λ n. AreKnown n entries') (lifts c).len (b.known (subst (λ n. AreKnown n c.lift.new.changes.entries) (sym (lifts c).len) (noted c)))
 
+saves : (c : After-lift) (w : Working) → KeepsSizes (record c.self.inside.working { waiting = c.lift.new.waiting; changes = c.lift.new.changes }) w → IsSameSave c.self.inside.working.changes w.changes
+saves c w s = same_saves c.lift.ensures.same s.noted
+
 pub save_changes-requires : goal.save_changes-requires
 save_changes-requires c =
     let k = (goal.at.save_changes-requires c).After-lift in
     let b : LeadsBack c.self.inside.links.items c.lift.new.spots c.spread.new.spots c.lift.new.changes.entries c.spread.new.working.changes.entries = rw (c.deref-2.ensures.value, c.deref_mut-2.ensures.value ∙ lifted k) at c.spread.ensures.back in
-    record { ready = can_save c.self.inside c.self.invariant c.spread.new.working.changes.entries (changed k _ _ b) }
+    let a = c.self.inside in
+    let inv = c.self.invariant in
+    record { ready = rw c.deref-in-Ok.ensures.value (can_save a inv c.spread.new.working.changes (length a.spots.items) (length a.links.items) (saves k c.spread.new.working c.spread.ensures.sizes) inv.points (stack_of a inv (length a.links.items) (omega arith)) (changed k _ _ b)) }
 
 back : (c : After-save_changes) → LeadsBack c.self.inside.links.items c.lift.new.spots c.spread.new.spots c.lift.new.changes.entries c.spread.new.working.changes.entries
 back c = rw (c.deref-2.ensures.value, c.deref_mut-2.ensures.value ∙ lifted (goal.at.invariant_of-self-in-Ok c).After-lift) at c.spread.ensures.back
@@ -110,7 +119,7 @@ sound c =
     (rw c.deref.ensures.value at c.spread.ensures.below)
     (rw c.deref-2.ensures.value at c.in-Ok.ensures.kept)
 
-holds : (c : After-save_changes) → HoldsTogether c.self.inside c.spread.new.spots c.self.inside.caps.items c.self.inside.links.items c.self.inside.heads.items c.save_changes.new.saves.saved.items c.save_changes.new.saves.since.words.items
+holds : (c : After-save_changes) → HoldsTogether c.self.inside c.spread.new.spots c.self.inside.caps.items c.self.inside.links.items c.self.inside.heads.items c.save_changes.new.changes.older
 holds c =
     let k = (goal.at.invariant_of-self-in-Ok c).After-lift in
     let a = c.self.inside in
@@ -118,19 +127,21 @@ holds c =
     let b = back c in
     let n : length c.spread.new.spots ≡ length a.spots.items = b.len ∙ (lifts k).len in
     let known : AreKnown (length c.spread.new.spots) c.spread.new.working.changes.entries = rw n (changed k _ _ b) in
-    let base : IsStack a.saves.marks.items a.saves.saved.items a.saves.since.words.items (length c.spread.new.spots) (length a.links.items) a.saves.points = rw n (stack_of a inv (length a.links.items) (omega arith)) in
+    let same = saves k c.spread.new.working c.spread.ensures.sizes in
+    let base : IsStack a.marks.items a.working.changes.older (length c.spread.new.spots) (length a.links.items) a.working.changes.room = rw n (stack_of a inv (length a.links.items) (omega arith)) in
     let p = inv.points in
     record {
       points = omega arith;
       edges = inv.edges;
-      stack = c.save_changes.ensures.stack (length c.spread.new.spots) (length a.links.items) known base;
-      past = c.save_changes.ensures.past c.spread.new.spots a.caps.items a.links.items known base ∙ ap (λ (ss : List Spot). past_of a.saves.marks.items a.saves.saved.items ss a.caps.items a.links.items) (b.back ∙ before k);
+      stack = stack_by a.marks.items _ a.working.changes c.spread.new.working.changes c.save_changes.new.changes.older c.deref-in-Ok.ensures.value same c.save_changes.ensures.stack (length c.spread.new.spots) (length a.links.items) known base;
+      past = past_by a.marks.items _ a.working.changes c.spread.new.working.changes c.save_changes.new.changes.older c.deref-in-Ok.ensures.value same c.save_changes.ensures.past c.spread.new.spots a.caps.items a.links.items (length a.links.items) base ∙ ap (λ (ss : List Spot). past_of a.marks.items a.working.changes.older ss a.caps.items a.links.items) (b.back ∙ before k);
       linked = rw n inv.linked;
       sound = sound c;
     }
 
 abbrev after : After-save_changes → Inside
 after c = record {
+  max_points = c.self.inside.max_points;
   max_edges = c.self.inside.max_edges;
   max_marks = c.self.inside.max_marks;
   spots = with_items (with_items c.self.inside.spots c.lift.new.spots) c.spread.new.spots;
@@ -139,7 +150,7 @@ after c = record {
   heads = c.self.inside.heads;
   working = record { waiting = c.spread.new.working.waiting; changes = c.save_changes.new.changes; path = c.spread.new.working.path; places = c.spread.new.working.places };
   kept = c.self.inside.kept;
-  saves = c.save_changes.new.saves;
+  marks = c.self.inside.marks;
 }
 
 changed_to : (c : After-save_changes) → IsChanged c.self.inside (after c) c.spread.new.spots c.self.inside.caps.items c.self.inside.links.items c.self.inside.heads.items
@@ -151,18 +162,20 @@ changed_to c =
       caps = refl;
       links = refl;
       heads = refl;
-      marks = s.marks;
-      points_same = s.points;
+      marks = refl;
+      points_same = refl;
       edges_same = refl;
       marks_same = refl;
       spots_room = refl;
       caps_room = refl;
       links_room = refl;
       heads_room = refl;
-      saved_room = s.capacity;
-      marks_room = s.marks_room;
-      flags_room = s.flags;
-      sizes = record { waits = e.sizes.waits ∙ c.lift.ensures.waits; noted = s.room ∙ e.sizes.noted ∙ c.lift.ensures.room; path = e.sizes.path; places = e.sizes.places };
+      marks_room = refl;
+      waits = e.sizes.waits ∙ c.lift.ensures.waits;
+      noted = s.room ∙ e.sizes.noted.room ∙ c.lift.ensures.same.room;
+      most = s.most ∙ e.sizes.noted.most ∙ c.lift.ensures.same.most;
+      path = e.sizes.path;
+      places = e.sizes.places;
       rest = record { idle = c.in-Ok.ensures.idle; none = c.in-Ok.ensures.none; unchanged = s.none; zeros = e.zeros };
     }
 
@@ -200,13 +213,15 @@ invariant_of-self-in-Err c =
       caps_room = refl;
       links_room = refl;
       heads_room = refl;
-      saved_room = refl;
       marks_room = refl;
-      flags_room = refl;
-      sizes = record { waits = c.clear-in-Err.ensures.len ∙ e.sizes.waits ∙ c.lift.ensures.waits; noted = c.put_back.ensures.room ∙ e.sizes.noted ∙ c.lift.ensures.room; path = e.sizes.path; places = e.sizes.places };
+      waits = c.clear-in-Err.ensures.len ∙ e.sizes.waits ∙ c.lift.ensures.waits;
+      noted = c.put_back.ensures.same.room ∙ e.sizes.noted.room ∙ c.lift.ensures.same.room;
+      most = c.put_back.ensures.same.most ∙ e.sizes.noted.most ∙ c.lift.ensures.same.most;
+      path = e.sizes.path;
+      places = e.sizes.places;
       rest = record { idle = c.clear-in-Err.ensures.idle; none = c.clear-in-Err.ensures.none; unchanged = c.put_back.ensures.entries; zeros = e.zeros };
     })
-    (as_it_was a inv)
+    (subst (HoldsTogether a a.spots.items a.caps.items a.links.items a.heads.items) (sym (c.put_back.ensures.same.older ∙ (saves k c.spread.new.working e.sizes).older)) (as_it_was a inv))
 
 pub returns-in-Err-clause-late : goal.returns-in-Err-clause-late
 returns-in-Err-clause-late c =
@@ -216,3 +231,19 @@ returns-in-Err-clause-late c =
     let none : HasNoSolution (net_of (lows_of c.lift.new.spots) a.caps.items (edges_of a.links.items)) = kept_refutes _ c.in-Err.kept c.spread.new.working.path.items r in
     subst (λ (s : LiveState). HasNoSolution (with_low s.net c.args.point.0 c.args.low)) c.self.view_is
     (subst (λ (ls : List ℕ). HasNoSolution (net_of ls a.caps.items (edges_of a.links.items))) (lifts k).lows none)
+
+pub put_back-requires : goal.put_back-requires
+put_back-requires c =
+    let k = (goal.at.put_back-requires c).After-lift in
+    let a = c.self.inside in
+    let b : LeadsBack a.links.items c.lift.new.spots c.spread.new.spots c.lift.new.changes.entries c.spread.new.working.changes.entries = rw (c.deref-2.ensures.value, c.deref_mut-2.ensures.value ∙ lifted k) at c.spread.ensures.back in
+    let v = c.deref_mut-in-Err.ensures.value ∙ mut_items a.spots.len c.spread.new.spots _ (b.len ∙ lift_len k) in
+    subst (λ n. AreKnown n c.spread.new.working.changes.entries) (sym (ap length v ∙ b.len ∙ (lifts k).len)) (changed k _ _ b)
+
+pub spread-requires-clause-supported : goal.spread-requires-clause-supported
+spread-requires-clause-supported c =
+    let k = (goal.at.spread-requires-clause-supported c).After-lift in
+    let spots = c.lift.new.spots in
+    subst (λ (ss : List Spot). IsSupported (lows_of ss) (edges_of c.deref-2.result.now) (slice_index (times_of ss)) (cause_of (causes_of (edges_of c.deref-2.result.now) ss))) (sym (c.deref_mut-2.ensures.value ∙ lifted k))
+    (subst (λ (ls : List Link). IsSupported (lows_of spots) (edges_of ls) (slice_index (times_of spots)) (cause_of (causes_of (edges_of ls) spots))) (sym c.deref-2.ensures.value)
+    ((lifts k).supported c.self.inside.links.items c.self.invariant.sound.supported))

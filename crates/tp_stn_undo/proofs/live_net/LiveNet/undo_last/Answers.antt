@@ -8,67 +8,70 @@ use Rattle.tp_stn_undo.specs.Marks.{core_at, nets_of}
 use Rattle.tp_stn_undo.specs.Spots.{net_of_core}
 use Rattle.tp_stn_undo.specs.Live.{past_in}
 use Rattle.tp_stn_undo.specs.LiveState.{LiveState}
-use Rattle.tp_stn_undo.proofs.ChangeFacts.{can_restore}
+use Rattle.tp_stn_undo.proofs.ChangeFacts.{stack_of}
 use Rattle.tp_stn_undo.proofs.BackFacts.{WentBack, back_past, back_content, back_live}
 use Rattle.tp_stn_undo.proofs.live_net.LiveNet.undo_last.Goals as goal
 use Rattle.tp_stn_undo.proofs.live_net.LiveNet.undo_last.Goals.{After-restore}
 
-pub restore-requires-clause-ready : goal.restore-requires-clause-ready
-restore-requires-clause-ready c = can_restore c.self.inside c.self.invariant
+pub restore-requires-clause-stack : goal.restore-requires-clause-stack
+restore-requires-clause-stack c = (length c.self.inside.links.items, c.self.inside.working.changes.room, stack_of c.self.inside c.self.invariant (length c.self.inside.links.items) (omega arith))
 
-left : (c : After-restore) → length c.args.self.now.past - 1 ≡ length c.self.inside.saves.marks.items - 1
+left : (c : After-restore) → length c.args.self.now.past - 1 ≡ length c.self.inside.marks.items - 1
 left c =
     let a = c.self.inside in
     let v = ap (λ (s : LiveState). length s.past) c.self.view_is in
-    let l = length-map a.saves.marks.items (core_at a.saves.saved.items a.spots.items a.caps.items a.links.items) in
+    let l = length-map a.marks.items (core_at a.working.changes.older a.spots.items a.caps.items a.links.items) in
     let m = length-map (past_in a) net_of_core in
     omega arith
 
-some : (c : After-restore) → length c.self.inside.saves.marks.items - 1 + 1 ≡ length c.self.inside.saves.marks.items
+some : (c : After-restore) → length c.self.inside.marks.items - 1 + 1 ≡ length c.self.inside.marks.items
 some c =
     let a = c.self.inside in
     let r = c.requires in
     let v = ap (λ (s : LiveState). length s.past) c.self.view_is in
-    let l = length-map a.saves.marks.items (core_at a.saves.saved.items a.spots.items a.caps.items a.links.items) in
+    let l = length-map a.marks.items (core_at a.working.changes.older a.spots.items a.caps.items a.links.items) in
     let m = length-map (past_in a) net_of_core in
     omega arith
 
 abbrev net : (c : After-restore) → Inside
 net c = record {
+  max_points = c.self.inside.max_points;
   max_edges = c.self.inside.max_edges;
   max_marks = c.self.inside.max_marks;
   spots = c.restore.new.spots;
   caps = c.restore.new.caps;
   links = c.restore.new.links;
   heads = c.restore.new.heads;
-  working = c.self.inside.working;
+  working = record { waiting = c.self.inside.working.waiting; changes = c.restore.new.changes; path = c.self.inside.working.path; places = c.self.inside.working.places };
   kept = c.self.inside.kept;
-  saves = c.restore.new.saves;
+  marks = c.restore.new.marks;
 }
 
-went : (c : After-restore) → WentBack c.self.inside (net c) (length c.self.inside.saves.marks.items - 1)
+went : (c : After-restore) → WentBack c.self.inside (net c) (length c.self.inside.marks.items - 1)
 went c =
     let e = c.restore.ensures in
     record {
       last = some c;
-      points_same = e.points;
+      points_same = refl;
       edges_same = refl;
       marks_same = refl;
-      working_same = refl;
+      waiting_same = refl;
+      path_same = refl;
+      places_same = refl;
+      noted = e.room;
+      most = e.most;
+      unchanged = e.rest;
       spots = e.spots;
       caps = e.caps;
       links = e.links;
       heads = e.heads;
       saved = e.saved;
       marks = e.marks;
-      flagged = e.flagged;
       spots_room = e.spots_room;
       caps_room = e.caps_room;
       links_room = e.links_room;
       heads_room = e.heads_room;
-      saved_room = e.saved_room;
       marks_room = e.marks_room;
-      flags_room = e.flags_room;
     }
 
 pub invariant_of-self : goal.invariant_of-self
@@ -77,7 +80,7 @@ invariant_of-self c = back_live c.self.inside (net c) _ c.self.invariant (went c
 pub returns-clause-content : goal.returns-clause-content
 returns-clause-content c =
     let k = (goal.at.returns-clause-content c).After-restore in
-    let n = length c.self.inside.saves.marks.items - 1 in
+    let n = length c.self.inside.marks.items - 1 in
     ap (slice_get c.args.self.now.past) (left k)
     ∙ ap (λ (s : LiveState). slice_get s.past n) (sym c.self.view_is)
     ∙ slice_get-map net_of_core (past_in c.self.inside) n
@@ -86,7 +89,7 @@ returns-clause-content c =
 pub returns-clause-past : goal.returns-clause-past
 returns-clause-past c =
     let k = (goal.at.returns-clause-past c).After-restore in
-    let n = length c.self.inside.saves.marks.items - 1 in
+    let n = length c.self.inside.marks.items - 1 in
     ap nets_of (back_past c.self.inside (net k) n c.self.invariant (went k))
     ∙ sym (take-map net_of_core n (past_in c.self.inside))
     ∙ ap (λ (s : LiveState). take n s.past) c.self.view_is

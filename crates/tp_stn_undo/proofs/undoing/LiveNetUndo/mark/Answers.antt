@@ -6,7 +6,6 @@ use Rattle.tp_stn_undo.specs.Marks.{core_at, past_of}
 use Rattle.tp_stn_undo.specs.Spots.{IsSound, net_of_core}
 use Rattle.tp_stn_undo.specs.LiveState.{LiveState}
 use Rattle.tp_stn_undo.proofs.StackFacts.{stacked_marked}
-use Rattle.tp_stn_undo.proofs.FlaggedFacts.{flagged_marked}
 use Rattle.tp_stn_undo.proofs.KeepFacts.{saved_marked}
 use Rattle.tp_stn_undo.proofs.PastFacts.{past_marked}
 use Rattle.tp_stn_undo.proofs.undoing.LiveNetUndo.mark.Goals as goal
@@ -15,22 +14,22 @@ pub invariant_of-self : goal.invariant_of-self
 invariant_of-self c =
     let inv = c.self.invariant in
     let a = c.self.inside in
-    let m : LiveMark = record { points = c.len.result; edges = c.len-2.result; saved = c.len-3.result } in
+    let m : LiveMark = record { points = c.len.result; edges = c.len-2.result; saved = c.saved.result } in
     let e = c.in-Ok.ensures.items in
-    let n = ap length e ∙ length-append a.saves.marks.items (m ∷ []) in
+    let n = ap length e ∙ length-append a.marks.items (m ∷ []) in
     let q = c.requires in
     let v1 = ap (λ (s : LiveState). length s.past) c.self.view_is in
     let v2 = ap (λ (s : LiveState). s.max_marks) c.self.view_is in
-    let v3 = length-map a.saves.marks.items (core_at a.saves.saved.items a.spots.items a.caps.items a.links.items) in
-    let v4 = length-map (past_of a.saves.marks.items a.saves.saved.items a.spots.items a.caps.items a.links.items) net_of_core in
-    let p : length c.push.new.self.items * a.saves.points ≡ (length a.saves.marks.items + 1) * a.saves.points = ap (λ k. k * a.saves.points) n in
+    let v3 = length-map a.marks.items (core_at a.working.changes.older a.spots.items a.caps.items a.links.items) in
+    let v4 = length-map (past_of a.marks.items a.working.changes.older a.spots.items a.caps.items a.links.items) net_of_core in
+    let p : length c.push.new.self.items * a.working.changes.room ≡ (length a.marks.items + 1) * a.working.changes.room = ap (λ k. k * a.working.changes.room) n in
     let s1 = inv.saved in
     let s3 = inv.marks in
     let r2 = inv.room.marks in
     let k = c.in-Ok.ensures.capacity in
     let mp = c.len.ensures ∙ a.spots.ok.0 in
     let me = c.len-2.ensures ∙ a.links.ok.0 in
-    let ms = c.len-3.ensures ∙ a.saves.saved.ok.0 in
+    let ms = c.saved.ensures in
     record {
       points = inv.points;
       edges = inv.edges;
@@ -43,16 +42,14 @@ invariant_of-self c =
         heads = inv.room.heads;
         working = inv.room.working;
         saved = inv.room.saved;
-        flags = inv.room.flags;
         marks = omega arith;
         small = inv.room.small;
         narrow = inv.room.narrow;
       };
       rest = inv.rest;
-      stacked = rw e (stacked_marked a.saves.marks.items (length a.spots.items) (length a.links.items) (length a.saves.saved.items) a.saves.points m mp me ms inv.stacked inv.saved);
-      kept = rw e (saved_marked a.saves.marks.items a.saves.saved.items (length a.spots.items) m mp ms inv.kept);
-      flagged = rw e (flagged_marked a.saves.marks.items a.saves.saved.items a.saves.since.words.items a.saves.points m ms inv.flagged);
+      stacked = rw e (stacked_marked a.marks.items (length a.spots.items) (length a.links.items) (length a.working.changes.older) a.working.changes.room m mp me ms inv.stacked inv.saved);
+      kept = rw e (saved_marked a.marks.items a.working.changes.older (length a.spots.items) m mp ms inv.kept);
       linked = inv.linked;
       sound = inv.sound;
-      past = rw (e, past_marked a.saves.marks.items a.saves.saved.items a.spots.items a.caps.items a.links.items a.saves.points inv.stacked m mp me ms inv.sound.caps) (All-push IsSound _ _ inv.past inv.sound);
+      past = rw (e, past_marked a.marks.items a.working.changes.older a.spots.items a.caps.items a.links.items a.working.changes.room inv.stacked m mp me ms inv.sound.caps) (All-push IsSound _ _ inv.past inv.sound);
     }
