@@ -1,5 +1,5 @@
 -- A network of nothing.
-use Rattle.std.proofs.Common.{◌≡◌, ℕ, ◌+◌, ◌*◌, ◌<◌, false, sym, [], length, slice_index, get_or, replicate, take, List, ◌++◌, ◌-◌, ◌∙◌, Some, ap, arith, inl, inr}
+use Rattle.std.proofs.Common.{◌≡◌, ℕ, [], length, slice_index, get_or, replicate, take, List, ◌++◌, ◌-◌, ◌∙◌, Some, ap, arith, inl, inr}
 use Rattle.std.proofs.lemmas.Option.{slice_get_within}
 use Rattle.std.proofs.lemmas.List.{length-map, length-replicate, get_or-replicate, get_or_past, take_all}
 use Rattle.std.proofs.lemmas.Bool.{cases_lt}

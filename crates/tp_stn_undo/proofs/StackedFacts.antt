@@ -1,10 +1,9 @@
 -- What was saved since the newest mark is written anew.
-use Rattle.std.proofs.Common.{◌≡◌, ℕ, ◌+◌, ◌*◌, ◌≤◌, List, length, take, length-take, length-take-le, Some, sym, ap, ◌∙◌, arith}
+use Rattle.std.proofs.Common.{◌≡◌, ℕ, ◌+◌, ◌*◌, ◌≤◌, List, length, take, length-take, length-take-le, Some, sym, ap, arith}
 use Rattle.std.specs.List.{slice_get}
 use Rattle.tp_stn_undo.specs.declared.marks.LiveMark.{LiveMark}
 use Rattle.tp_stn_undo.specs.declared.spots.SavedSpot.{SavedSpot}
 use Rattle.tp_stn_undo.specs.Flags.{AreKnown}
-use Rattle.tp_stn_undo.specs.Marks.{AreStacked}
 use Rattle.tp_stn_undo.specs.Stacks.{IsStack}
 use Rattle.tp_stn_undo.proofs.LinkFacts.{below_last}
 use Rattle.tp_stn_undo.proofs.KeepFacts.{saved_kept}

@@ -1,5 +1,5 @@
 -- What stands at the marks in force.
-use Rattle.std.specs.Prelude.{◌≡◌, ℕ, ◌+◌, ◌*◌, ◌<◌, ◌≤◌, List, length, take, drop, map, slice_get, slice_index, Some}
+use Rattle.std.specs.Prelude.{◌≡◌, ℕ, ◌*◌, ◌<◌, ◌≤◌, List, length, take, drop, map, slice_get, slice_index, Some}
 use Rattle.tp_base.specs.Net.{Net}
 use Rattle.tp_stn_undo.specs.declared.spots.Spot.{Spot}
 use Rattle.tp_stn_undo.specs.declared.links.Link.{Link}

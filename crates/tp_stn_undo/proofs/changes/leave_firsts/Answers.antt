@@ -1,7 +1,6 @@
-use Rattle.std.proofs.Common.{arith, ◌≡◌, ◌∙◌, ◌<◌, Bool, true, false, sym, length, take, get_or}
+use Rattle.std.proofs.Common.{arith, ◌≡◌, ◌<◌, sym, length, get_or}
 use Rattle.std.proofs.lemmas.List.{get_or_read}
-use Rattle.tp_stn_undo.specs.Flags.{flag}
-use Rattle.tp_stn_undo.proofs.NoteFacts.{IsLeft, no_saved, left_known, left_skip, left_keep}
+use Rattle.tp_stn_undo.proofs.NoteFacts.{no_saved, left_known, left_skip, left_keep}
 use Rattle.tp_stn_undo.proofs.changes.leave_firsts.Goals as goal
 use Rattle.tp_stn_undo.proofs.changes.leave_firsts.Goals.{After-index-entry, then-not-noted-point, else-not-noted-point}
 

@@ -1,4 +1,4 @@
-use Rattle.std.proofs.Common.{arith, ◌≡◌, ◌+◌, ◌*◌, [], List, length, ap, ◌∙◌}
+use Rattle.std.proofs.Common.{arith, ◌≡◌, ◌+◌, ◌*◌, [], List, length, ap}
 use Rattle.std.proofs.lemmas.List.{length-map, nil_from_length}
 use Rattle.tp_stn_undo.specs.declared.marks.LiveMark.{LiveMark}
 use Rattle.tp_stn_undo.specs.Marks.{core_at, past_of, nets_of}
