@@ -1,9 +1,9 @@
 -- Going through the edges that begin at a point.
-use Rattle.std.proofs.Common.{◌≡◌, ℕ, ◌+◌, ◌-◌, ◌<◌, ◌≤◌, Bool, true, false, List, length, slice_index, get_or, set, take, Some, sym, refl, ap, ◌∙◌, subst, arith, ◌⊎◌, inl, inr}
+use Rattle.std.proofs.Common.{◌≡◌, ℕ, ◌+◌, ◌-◌, ◌<◌, ◌≤◌, Bool, false, List, length, slice_index, get_or, set, take, Some, sym, refl, ap, ◌∙◌, subst, arith, inl, inr}
 use Rattle.std.specs.Prelude.{Result, Ok, Err, OnOk}
-use Rattle.std.proofs.lemmas.Bool.{cases_eq, cases_lt, true≢false}
+use Rattle.std.proofs.lemmas.Bool.{cases_eq, cases_lt}
 use Rattle.std.proofs.lemmas.Option.{same_Some, slice_get_within, slice_get-map}
-use Rattle.std.proofs.lemmas.List.{length-map, length-take-le, get_or-set_other, get_or-set_same}
+use Rattle.std.proofs.lemmas.List.{length-map, length-take-le, get_or-set_other}
 use Rattle.std.specs.List.{All, slice_get}
 use Rattle.std.specs.Option.{option_map}
 use Rattle.tp_base.specs.declared.edges.Edge.{Edge}
@@ -16,8 +16,8 @@ use Rattle.tp_stn_undo.specs.declared.spots.SavedSpot.{SavedSpot}
 use Rattle.tp_stn_undo.specs.Spots.{times_of, edges_of, causes_of}
 use Rattle.tp_stn_undo.specs.Saved.{by_link, newest_of}
 use Rattle.tp_stn_undo.specs.Marks.{AreLinks}
-use Rattle.tp_stn_undo.specs.Flags.{flag, AreIdle, AreKnown}
-use Rattle.tp_stn_undo.specs.Spreading.{SpotsRise, LeadsBack, KeptFrom, IsMet, AreKept}
+use Rattle.tp_stn_undo.specs.Flags.{AreIdle, AreKnown}
+use Rattle.tp_stn_undo.specs.Spreading.{SpotsRise, LeadsBack, KeptFrom, IsMet, AreKept, IsFrom, Reached}
 use Rattle.tp_stn_undo.proofs.SavedFacts.{Names, newest_late, newest_names}
 use Rattle.tp_stn_undo.proofs.LinkFacts.{slice_get_kept}
 use Rattle.tp_stn_undo.proofs.CauseFacts.{no_link, slice_get_at}
@@ -49,12 +49,28 @@ link_of links k e g =
     let l = get_or links k no_link in
     (l, at, same_Some l.edge e (sym (slice_get-map (λ (l : Link). l.edge) links k ∙ ap (option_map (λ (l : Link). l.edge)) at) ∙ g))
 
--- the number of an edge that begins at the point, or 0
-abbrev pub Reached : List Link → ℕ → ℕ → Type 0
-Reached links point left = (left ≡ 0) ⊎ Names by_link 0 links point left
+from_names : (links : List Link) (point left : ℕ) → Names by_link 0 links point left → IsFrom links point left
+from_names links point left n = let p = n.place_is in record { at = n.at; link = n.entry; get = n.get; begins = n.point; number_is = omega arith }
+
+newest_reached : (links : List Link) (point : ℕ) → Reached links point (newest_of by_link links point)
+newest_reached links point = elim (newest_names by_link links point) [
+  | inl z ↦ inl z
+  | inr n ↦ inr (from_names links point _ n)
+]
+
+-- the edge with the number begins at the point
+pub reached_from : (links : List Link) (point left : ℕ) → Reached links point left → 0 < left → (get_or links (left - 1) no_link).edge.from.0 ≡ point
+reached_from links point left r some = elim r [
+  | inl z ↦ absurd (omega arith)
+  | inr n ↦ (
+      let p = n.number_is in
+      let w = slice_get_within links n.at n.link n.get in
+      let at : left - 1 ≡ n.at = omega arith in
+      ap (λ (l : Link). l.edge.from.0) (ap (λ i. get_or links i no_link) at ∙ same_Some _ n.link (sym (slice_get_at links n.at no_link w) ∙ n.get)) ∙ n.begins)
+]
 
 pub reached_head : (links : List Link) (heads : List ℕ) (count point left : ℕ) → AreLinks links heads count → point < count → left ≡ slice_index heads point → Reached links point left
-reached_head links heads count point left a h e = subst (Reached links point) (sym (e ∙ a.head_is point h)) (newest_names by_link links point)
+reached_head links heads count point left a h e = subst (Reached links point) (sym (e ∙ a.head_is point h)) (newest_reached links point)
 
 pub kept_head : (links : List Link) (heads : List ℕ) (count point left : ℕ) (t : ℕ → ℕ) (flags : List Bool) → AreLinks links heads count → point < count → left ≡ slice_index heads point
     → AreKept (edges_of links) t flags → KeptFrom (edges_of links) t (set flags point false) point left
@@ -78,16 +94,16 @@ pub next_of : (links : List Link) (heads : List ℕ) (count point left next : �
 next_of links heads count point left next a r some is = elim r [
   | inl z ↦ absurd (omega arith)
   | inr n ↦ (
-      let p = n.place_is in
-      let w = slice_get_within links n.at n.entry n.get in
+      let p = n.number_is in
+      let w = slice_get_within links n.at n.link n.get in
       let at : left - 1 ≡ n.at = omega arith in
-      let entry : get_or links (left - 1) no_link ≡ n.entry = ap (λ i. get_or links i no_link) at ∙ same_Some _ n.entry (sym (slice_get_at links n.at no_link w) ∙ n.get) in
-      let older : next ≡ newest_of by_link (take n.at links) point = is ∙ ap (λ (l : Link). l.older) entry ∙ a.linked n.at n.entry n.get ∙ ap (newest_of by_link (take n.at links)) n.point in
+      let entry : get_or links (left - 1) no_link ≡ n.link = ap (λ i. get_or links i no_link) at ∙ same_Some _ n.link (sym (slice_get_at links n.at no_link w) ∙ n.get) in
+      let older : next ≡ newest_of by_link (take n.at links) point = is ∙ ap (λ (l : Link). l.older) entry ∙ a.linked n.at n.link n.get ∙ ap (newest_of by_link (take n.at links)) n.begins in
       let len = length-take-le n.at links (omega arith) in
       record {
         reached = subst (Reached links point) (sym older) (elim (newest_names by_link (take n.at links) point) [
           | inl z ↦ inl z
-          | inr m ↦ inr (record { at = m.at; entry = m.entry; get = (slice_get_take n.at links m.at m.entry m.get).1; point = m.point; place_is = m.place_is })
+          | inr m ↦ inr (let q = m.place_is in record { at = m.at; link = m.entry; get = (slice_get_take n.at links m.at m.entry m.get).1; begins = m.point; number_is = omega arith })
         ]);
         less = elim (newest_names by_link (take n.at links) point) [
           | inl z ↦ omega arith
@@ -115,7 +131,7 @@ all_kept edges t flags kept idle k d h = kept k (get_or edges k d) (slice_get_at
 pub reached_within : (links : List Link) (point left : ℕ) → Reached links point left → left ≤ length links
 reached_within links point left r = elim r [
   | inl z ↦ omega arith
-  | inr n ↦ (let p = n.place_is in let w = slice_get_within links n.at n.entry n.get in omega arith)
+  | inr n ↦ (let p = n.number_is in let w = slice_get_within links n.at n.link n.get in omega arith)
 ]
 
 -- all edges are kept: those before the newest, and the newest
@@ -127,24 +143,24 @@ kept_newest edges t flags n is kept met k e g f =
       | inr p ↦ (let q : k ≡ n - 1 = omega arith in met e (ap (slice_get edges) (sym q) ∙ g) f)
     ]
 
--- all edges but the newest are kept, and the point where that begins waits now
-pub kept_begun : (links : List Link) (t : ℕ → ℕ) (flags : List Bool) (n : ℕ) → 0 < n → n ≡ length links → (get_or links (n - 1) no_link).edge.from.0 < length flags
-    → AreKept (take (n - 1) (edges_of links)) t flags → AreKept (edges_of links) t (set flags (get_or links (n - 1) no_link).edge.from.0 true)
-kept_begun links t flags n some is known kept =
-    kept_newest (edges_of links) t (set flags p true) n (is ∙ sym (length-map links (λ (l : Link). l.edge)))
-    (λ k e g f _. kept k e g (sym (get_or-set_other flags p e.from.0 true false (other e.from.0 f)) ∙ f))
-    (λ e g f. absurd (other e.from.0 f (ap (λ (x : Edge). x.from.0) (begins e g))))
-  where
-    p : ℕ
-    p = (get_or links (n - 1) no_link).edge.from.0
+-- all edges but the newest are kept: those that begin elsewhere, and those before the newest
+pub kept_begun : (links : List Link) (t : ℕ → ℕ) (flags : List Bool) (n : ℕ) → 0 < n → n ≡ length links → AreKept (take (n - 1) (edges_of links)) t flags → KeptFrom (edges_of links) t flags (get_or links (n - 1) no_link).edge.from.0 n
+kept_begun links t flags n some is kept k e g f from =
+    let w = slice_get_within (edges_of links) k e g in
+    let l = length-map links (λ (l : Link). l.edge) in
+    elim (cases_lt k (n - 1)) [
+      | inl p ↦ kept k e (slice_get_kept (n - 1) (edges_of links) k p ∙ g) f
+      | inr p ↦ absurd (
+          let q : k ≡ n - 1 = omega arith in
+          let m = link_of links k e g in
+          let same : m.0 ≡ get_or links (n - 1) no_link = same_Some m.0 _ (sym m.1 ∙ ap (slice_get links) q ∙ slice_get_at links (n - 1) no_link (omega arith)) in
+          let b = from (ap (λ (x : Edge). x.from.0) (sym m.2) ∙ ap (λ (x : Link). x.edge.from.0) same) in
+          omega arith)
+    ]
 
-    other : (v : ℕ) → flag (set flags p true) v ≡ false → v ≡ p → ⊥
-    other v f q = true≢false (sym (get_or-set_same flags p true false known) ∙ ap (flag (set flags p true)) (sym q) ∙ f)
-
-    begins : (e : Edge) → slice_get (edges_of links) (n - 1) ≡ Some e → e ≡ (get_or links (n - 1) no_link).edge
-    begins e g = (
-        let l = link_of links (n - 1) e g in
-        sym l.2 ∙ ap (λ (x : Link). x.edge) (sym (same_Some _ l.0 (sym (slice_get_at links (n - 1) no_link (omega arith)) ∙ l.1))))
+-- the newest edge begins where it does
+pub reached_newest : (links : List Link) (n : ℕ) → 0 < n → n ≡ length links → Reached links (get_or links (n - 1) no_link).edge.from.0 n
+reached_newest links n some is = inr (record { at = n - 1; link = get_or links (n - 1) no_link; get = slice_get_at links (n - 1) no_link (omega arith); begins = refl; number_is = omega arith })
 
 pub on_ok : {T E P Q : Type 0} (r : Result T E) → (P → Q) → OnOk r P → OnOk r Q
 on_ok (Ok x) f h = f h

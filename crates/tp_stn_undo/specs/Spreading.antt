@@ -1,5 +1,5 @@
 -- What following edges does to points.
-use Rattle.std.specs.Prelude.{◌≡◌, ℕ, ◌+◌, ◌*◌, ◌≤◌, Bool, false, List, length, slice_get, Some, pos, ◌+ℤ◌, ◌<ℤ◌}
+use Rattle.std.specs.Prelude.{◌≡◌, ℕ, ℤ, ◌⊎◌, ◌+◌, ◌*◌, ◌≤◌, Bool, false, List, length, slice_get, Some, pos, ◌+ℤ◌, ◌<ℤ◌}
 use Rattle.std.specs.List.{All}
 use Rattle.tp_base.specs.declared.edges.Edge.{Edge}
 use Rattle.tp_base.specs.Net.{Keeps}
@@ -17,6 +17,22 @@ AreNumbered links spots = All (λ (s : Spot). s.cause ≤ length links) spots
 -- the edge with the number asks for more than the time of its end
 abbrev pub AsksMore : List Edge → ℕ → (ℕ → ℕ) → Type 0
 AsksMore edges number t = (e : Edge) → numbered edges number ≡ Some e → pos (t e.to.0) <ℤ (pos (t e.from.0) +ℤ e.weight)
+
+-- the edge with the number asks for this of its end
+abbrev pub AsksFor : List Edge → ℕ → (ℕ → ℕ) → ℤ → Type 0
+AsksFor edges number t reach = (e : Edge) → numbered edges number ≡ Some e → reach ≡ (pos (t e.from.0) +ℤ e.weight)
+
+-- the edge with this number, counted from 1, begins at the point
+pub record IsFrom (links : List Link) (point number : ℕ) : Type 0 where
+  pub at : ℕ
+  pub link : Link
+  pub get : slice_get links at ≡ Some link
+  pub begins : link.edge.from.0 ≡ point
+  pub number_is : number ≡ at + 1
+
+-- the number of an edge that begins at the point, counted from 1, or 0
+abbrev pub Reached : List Link → ℕ → ℕ → Type 0
+Reached links point number = (number ≡ 0) ⊎ IsFrom links point number
 
 -- the points have risen along edges
 abbrev pub SpotsRise : List Link → List Spot → List Spot → Type 0

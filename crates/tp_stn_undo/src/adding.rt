@@ -174,7 +174,7 @@ pub(crate) fn load_edges(
         return;
     }
     link_all(edges, links, heads, &mut working.waiting);
-    match spread(caps, links, heads, edges[0].from, spots, working) {
+    match spread(caps, links, heads, edges[0].from, 0, spots, working) {
         Ok(()) => {}
         Err(_) => unreachable!(),
     }

@@ -136,6 +136,7 @@ impl Network for LiveNet {
             &self.links,
             &self.heads,
             point,
+            0,
             &mut self.spots,
             &mut self.working,
         ) {

@@ -8,7 +8,7 @@ ghost use Rattle.tp_base.specs.Kept.{net_of, KeptRefutes};
 ghost use Rattle.tp_stn_undo.specs.Spots.{lows_of, times_of, edges_of, causes_of};
 ghost use Rattle.tp_stn_undo.specs.Marks.{AreLinks};
 ghost use Rattle.tp_stn_undo.specs.Flags.{AreIdle, AreBelow, IsSameSave};
-ghost use Rattle.tp_stn_undo.specs.Spreading.{AreNumbered, AsksMore, SpotsRise, LeadsBack, KeptFrom, IsMet, AreKept, weight};
+ghost use Rattle.tp_stn_undo.specs.Spreading.{AreNumbered, AsksMore, AsksFor, SpotsRise, LeadsBack, KeptFrom, IsMet, AreKept, Reached, weight};
 ghost use Rattle.tp_stn_undo.specs.Tracing.{AreZeros};
 ghost use Rattle.tp_stn_undo.specs.Working.{HasWorkingRoom, KeepsSizes};
 
@@ -21,12 +21,13 @@ use crate::working::Working;
 use tp_base::{Kept, PointId};
 
 /// Raises the end of an edge, given by its number counted from 1, to what the edge asks for, which is more; or, where that
-/// passes the upper bound, says which point that is.
+/// passes the upper bound, says which point that is. `reach` is what the edge asks for.
 #[inline(always)]
 fn raise_along(
     caps: &[u32],
     links: &[Link],
     number: u32,
+    reach: i64,
     spots: &mut [Spot],
     waiting: &mut Waiting,
     changes: &mut Changes,
@@ -35,6 +36,7 @@ fn raise_along(
     requires number { number ≤ length links.now }
     requires known { All (IsKnown (length spots.old)) (edges_of links.now) }
     requires more { AsksMore (edges_of links.now) number (slice_index (times_of spots.old)) }
+    requires reach { AsksFor (edges_of links.now) number (slice_index (times_of spots.old)) reach }
     requires caps { length caps.now ≡ length spots.old }
     requires below { AreWithin caps.now (times_of spots.old) }
     requires waits { length spots.old ≤ length waiting.old.flags }
@@ -56,25 +58,23 @@ fn raise_along(
     ensures late { IfErr result (λ p. PassesCap caps.now (edges_of links.now) (times_of spots.old)
         (causes_of (edges_of links.now) spots.old) (causes_of (edges_of links.now) spots.new) p.0) }
 {
-    let edge = links[number as usize - 1].edge;
-    let to = edge.to.0 as usize;
-    let reach = i64::from(spots[edge.from.0 as usize].time) + edge.weight;
-    let spot = spots[to];
-    changes.note(edge.to, &spot);
+    let end = links[number as usize - 1].edge.to;
+    let to = end.0 as usize;
+    changes.note(end, &spots[to]);
     if reach > i64::from(caps[to]) {
         spots[to] = Spot {
-            low: spot.low,
-            time: spot.time,
+            low: spots[to].low,
+            time: spots[to].time,
             cause: number,
         };
-        return Err(edge.to);
+        return Err(end);
     }
     spots[to] = Spot {
-        low: spot.low,
+        low: spots[to].low,
         time: reach as u32,
         cause: number,
     };
-    waiting.push(edge.to.0);
+    waiting.push(end.0);
     Ok(())
 }
 
@@ -85,6 +85,7 @@ pub(crate) fn follow(
     caps: &[u32],
     links: &[Link],
     number: u32,
+    reach: i64,
     watched: PointId,
     spots: &mut [Spot],
     working: &mut Working,
@@ -94,6 +95,7 @@ pub(crate) fn follow(
     requires watched { watched.0 < length spots.old }
     requires known { All (IsKnown (length spots.old)) (edges_of links.now) }
     requires more { AsksMore (edges_of links.now) number (slice_index (times_of spots.old)) }
+    requires reach { AsksFor (edges_of links.now) number (slice_index (times_of spots.old)) reach }
     requires caps { length caps.now ≡ length spots.old }
     requires below { AreWithin caps.now (times_of spots.old) }
     requires supported { IsSupported (lows_of spots.old) (edges_of links.now)
@@ -124,6 +126,7 @@ pub(crate) fn follow(
         caps,
         links,
         number,
+        reach,
         spots,
         &mut working.waiting,
         &mut working.changes,
@@ -157,12 +160,14 @@ pub(crate) fn follow(
     }
 }
 
-/// Follows the edges of the points that wait, until none waits.
+/// Follows the edges of the watched point from one on, given by its number counted from 1, if it is not 0, and those of the
+/// points that wait, until none waits.
 pub(crate) fn spread(
     caps: &[u32],
     links: &[Link],
     heads: &[u32],
     watched: PointId,
+    first: u32,
     spots: &mut [Spot],
     working: &mut Working,
 ) -> Result<(), Kept>
@@ -178,8 +183,9 @@ pub(crate) fn spread(
     requires room { HasWorkingRoom (length spots.old) working.old }
     requires zeros { AreZeros working.old.places.items }
     requires waiting { AreBelow (length spots.old) working.old.waiting.points }
-    requires kept { AreKept (edges_of links.now) (slice_index (times_of spots.old))
-        working.old.waiting.flags }
+    requires reached { Reached links.now watched.0 first }
+    requires kept { KeptFrom (edges_of links.now) (slice_index (times_of spots.old))
+        working.old.waiting.flags watched.0 first }
     ensures back { LeadsBack links.now spots.old spots.new
         working.old.changes.entries working.new.changes.entries }
     ensures rises { OnOk result (SpotsRise links.now spots.old spots.new) }
@@ -193,25 +199,31 @@ pub(crate) fn spread(
     ensures sizes { KeepsSizes working.old working.new }
     ensures zeros { AreZeros working.new.places.items }
 {
-    'points: while let Some(point) = working.waiting.pop() {
-        let mut left = heads[point as usize];
+    let mut point = watched.0;
+    let mut left = first;
+    'points: loop {
         'edges: while left > 0 {
-            let link = links[left as usize - 1];
-            let reach = i64::from(spots[link.edge.from.0 as usize].time) + link.edge.weight;
+            let link = &links[left as usize - 1];
+            let reach = i64::from(spots[point as usize].time) + link.edge.weight;
             if reach > i64::from(spots[link.edge.to.0 as usize].time) {
-                match follow(caps, links, left, watched, spots, working) {
+                match follow(caps, links, left, reach, watched, spots, working) {
                     Ok(()) => {}
                     Err(kept) => return Err(kept),
                 }
             }
             left = link.older;
         }
+        match working.waiting.pop() {
+            Some(next) => {
+                point = next;
+                left = heads[next as usize];
+            }
+            None => return Ok(()),
+        }
     }
-    Ok(())
 }
 
-/// Follows the newest edge, if it asks for more, and the edges of the points that rise: the point where it begins waits alone, so
-/// that it is followed first.
+/// Follows the newest edge, if it asks for more, and the edges of the points that rise: the newest is followed first.
 pub(crate) fn settle(
     caps: &[u32],
     links: &[Link],
@@ -254,6 +266,5 @@ pub(crate) fn settle(
     if reach <= i64::from(spots[edge.to.0 as usize].time) {
         return Ok(());
     }
-    working.waiting.push(edge.from.0);
-    spread(caps, links, heads, edge.from, spots, working)
+    spread(caps, links, heads, edge.from, number, spots, working)
 }

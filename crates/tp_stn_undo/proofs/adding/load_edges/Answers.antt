@@ -1,4 +1,4 @@
-use Rattle.std.proofs.Common.{arith, ◌++◌, List, length, slice_index, sym, ap, ◌∙◌, subst}
+use Rattle.std.proofs.Common.{arith, ◌++◌, List, length, slice_index, get_or, refl, inl, sym, ap, ◌∙◌, subst}
 use Rattle.std.specs.List.{All}
 use Rattle.tp_base.specs.declared.edges.Edge.{Edge}
 use Rattle.tp_base.specs.Net.{HasNoSolution}
@@ -9,7 +9,8 @@ use Rattle.tp_stn_undo.specs.declared.links.Link.{Link}
 use Rattle.tp_stn_undo.specs.declared.spots.SavedSpot.{SavedSpot}
 use Rattle.tp_stn_undo.specs.Spots.{IsSound, lows_of, times_of, edges_of}
 use Rattle.tp_stn_undo.specs.Saved.{restored}
-use Rattle.tp_stn_undo.specs.Spreading.{LeadsBack, AreKept}
+use Rattle.tp_stn_undo.specs.Spreading.{LeadsBack, KeptFrom}
+use Rattle.tp_stn_undo.proofs.CauseFacts.{no_link}
 use Rattle.tp_stn_undo.proofs.FollowFacts.{Supported}
 use Rattle.tp_stn_undo.proofs.SoundFacts.{supported_more}
 use Rattle.tp_stn_undo.proofs.ChangeFacts.{sound_edges}
@@ -27,8 +28,8 @@ pub spread-requires-clause-kept : goal.spread-requires-clause-kept
 spread-requires-clause-kept c =
     let t = slice_index (times_of c.args.spots.now) in
     let e = c.link_all.ensures in
-    subst (λ (ls : List Link). AreKept (edges_of ls) t c.link_all.new.waiting.flags) (sym c.deref.ensures.value)
-    (kept_waiting c.args.links.now.items c.link_all.new.links.items c.args.edges.now t c.args.working.now.waiting.flags c.link_all.new.waiting.flags e.added c.requires.ready.sound.least.solution.keeps e.wait)
+    subst (λ (ls : List Link). KeptFrom (edges_of ls) t c.link_all.new.waiting.flags (get_or c.args.edges.now 0 no_link.edge).from.0 0) (sym c.deref.ensures.value)
+    (λ k d g f _. kept_waiting c.args.links.now.items c.link_all.new.links.items c.args.edges.now t c.args.working.now.waiting.flags c.link_all.new.waiting.flags e.added c.requires.ready.sound.least.solution.keeps e.wait k d g f)
 
 pub unreachable-requires : goal.unreachable-requires
 unreachable-requires c =
@@ -58,3 +59,6 @@ returns-clause-added c =
       back = b.back ∙ ap (λ (es : List SavedSpot). restored es spots) c.requires.unchanged;
       known = b.known (λ i d h. absurd (omega arith));
     }
+
+pub spread-requires-clause-reached : goal.spread-requires-clause-reached
+spread-requires-clause-reached c = inl refl

@@ -10,19 +10,6 @@ use Rattle.tp_stn_undo.proofs.CauseFacts.{no_spot, no_link, slice_get_at, edge_a
 use Rattle.tp_stn_undo.proofs.RaiseFacts.{times_same, time_at, known, raised, after, lows_after, numbered_after, rises, passes, below_after, kept_after, met_after, less_after, weight_less}
 use Rattle.tp_stn_undo.proofs.spreading.raise_along.Goals as goal
 
-pub bounds-spots-edge : goal.bounds-spots-edge
-bounds-spots-edge c = (known c.args.links.now c.args.spots.now c.args.number c.requires.some c.requires.number c.requires.known).from
-
-pub overflow_add-reach : goal.overflow_add-reach
-overflow_add-reach c =
-    let k = known c.args.links.now c.args.spots.now c.args.number c.requires.some c.requires.number c.requires.known in
-    let a = k.least in
-    let b = k.most in
-    omega (arith, ints)
-
-pub slice_copy_out-spot : goal.slice_copy_out-spot
-slice_copy_out-spot c = (known c.args.links.now c.args.spots.now c.args.number c.requires.some c.requires.number c.requires.known).to
-
 pub note-requires : goal.note-requires
 note-requires c =
     let k = (known c.args.links.now c.args.spots.now c.args.number c.requires.some c.requires.number c.requires.known).to in
@@ -47,7 +34,9 @@ returns-then-reach-from-clause-back c =
     let within = c.requires.number in
     let all = c.requires.known in
     let e : Edge = (get_or links (number - 1) no_link).edge in
-    let z : ℤ = to_z w64 (of_z w64 (to_z w64 (of_z w64 c.from.result) +ℤ to_z w64 (of_z w64 e.weight))) in
+    let z : ℤ = to_z w64 (of_z w64 c.args.reach) in
+    let sum = c.requires.reach e (edge_at links number no_link some within) in
+    let fits = c.ranges.reach in
     let high : ℕ = nat_abs z in
     let k = known links spots number some within all in
     let least = k.least in
@@ -75,7 +64,9 @@ returns-then-reach-from-clause-below c =
     let within = c.requires.number in
     let all = c.requires.known in
     let e : Edge = (get_or links (number - 1) no_link).edge in
-    let z : ℤ = to_z w64 (of_z w64 (to_z w64 (of_z w64 c.from.result) +ℤ to_z w64 (of_z w64 e.weight))) in
+    let z : ℤ = to_z w64 (of_z w64 c.args.reach) in
+    let sum = c.requires.reach e (edge_at links number no_link some within) in
+    let fits = c.ranges.reach in
     let high : ℕ = nat_abs z in
     let k = known links spots number some within all in
     let least = k.least in
@@ -96,7 +87,9 @@ returns-then-reach-from-clause-late c =
     let within = c.requires.number in
     let all = c.requires.known in
     let e : Edge = (get_or links (number - 1) no_link).edge in
-    let z : ℤ = to_z w64 (of_z w64 (to_z w64 (of_z w64 c.from.result) +ℤ to_z w64 (of_z w64 e.weight))) in
+    let z : ℤ = to_z w64 (of_z w64 c.args.reach) in
+    let sum = c.requires.reach e (edge_at links number no_link some within) in
+    let fits = c.ranges.reach in
     let high : ℕ = nat_abs z in
     let k = known links spots number some within all in
     let least = k.least in
@@ -118,7 +111,9 @@ returns-clause-back c =
     let within = c.requires.number in
     let all = c.requires.known in
     let e : Edge = (get_or links (number - 1) no_link).edge in
-    let z : ℤ = to_z w64 (of_z w64 (to_z w64 (of_z w64 c.from.result) +ℤ to_z w64 (of_z w64 e.weight))) in
+    let z : ℤ = to_z w64 (of_z w64 c.args.reach) in
+    let sum = c.requires.reach e (edge_at links number no_link some within) in
+    let fits = c.ranges.reach in
     let high : ℕ = nat_abs z in
     let k = known links spots number some within all in
     let least = k.least in
@@ -146,7 +141,9 @@ returns-clause-rises c =
     let within = c.requires.number in
     let all = c.requires.known in
     let e : Edge = (get_or links (number - 1) no_link).edge in
-    let z : ℤ = to_z w64 (of_z w64 (to_z w64 (of_z w64 c.from.result) +ℤ to_z w64 (of_z w64 e.weight))) in
+    let z : ℤ = to_z w64 (of_z w64 c.args.reach) in
+    let sum = c.requires.reach e (edge_at links number no_link some within) in
+    let fits = c.ranges.reach in
     let high : ℕ = nat_abs z in
     let k = known links spots number some within all in
     let least = k.least in
@@ -167,7 +164,9 @@ returns-clause-below c =
     let within = c.requires.number in
     let all = c.requires.known in
     let e : Edge = (get_or links (number - 1) no_link).edge in
-    let z : ℤ = to_z w64 (of_z w64 (to_z w64 (of_z w64 c.from.result) +ℤ to_z w64 (of_z w64 e.weight))) in
+    let z : ℤ = to_z w64 (of_z w64 c.args.reach) in
+    let sum = c.requires.reach e (edge_at links number no_link some within) in
+    let fits = c.ranges.reach in
     let high : ℕ = nat_abs z in
     let k = known links spots number some within all in
     let least = k.least in
@@ -190,7 +189,9 @@ returns-clause-kept c =
     let within = c.requires.number in
     let all = c.requires.known in
     let e : Edge = (get_or links (number - 1) no_link).edge in
-    let z : ℤ = to_z w64 (of_z w64 (to_z w64 (of_z w64 c.from.result) +ℤ to_z w64 (of_z w64 e.weight))) in
+    let z : ℤ = to_z w64 (of_z w64 c.args.reach) in
+    let sum = c.requires.reach e (edge_at links number no_link some within) in
+    let fits = c.ranges.reach in
     let high : ℕ = nat_abs z in
     let k = known links spots number some within all in
     let least = k.least in
@@ -215,7 +216,9 @@ returns-clause-met c =
     let within = c.requires.number in
     let all = c.requires.known in
     let e : Edge = (get_or links (number - 1) no_link).edge in
-    let z : ℤ = to_z w64 (of_z w64 (to_z w64 (of_z w64 c.from.result) +ℤ to_z w64 (of_z w64 e.weight))) in
+    let z : ℤ = to_z w64 (of_z w64 c.args.reach) in
+    let sum = c.requires.reach e (edge_at links number no_link some within) in
+    let fits = c.ranges.reach in
     let high : ℕ = nat_abs z in
     let k = known links spots number some within all in
     let least = k.least in
@@ -239,7 +242,9 @@ returns-clause-less c =
     let within = c.requires.number in
     let all = c.requires.known in
     let e : Edge = (get_or links (number - 1) no_link).edge in
-    let z : ℤ = to_z w64 (of_z w64 (to_z w64 (of_z w64 c.from.result) +ℤ to_z w64 (of_z w64 e.weight))) in
+    let z : ℤ = to_z w64 (of_z w64 c.args.reach) in
+    let sum = c.requires.reach e (edge_at links number no_link some within) in
+    let fits = c.ranges.reach in
     let high : ℕ = nat_abs z in
     let k = known links spots number some within all in
     let least = k.least in
@@ -283,6 +288,20 @@ overflow_cast-spots c =
     let most = k.most in
     let at_from = time_at spots e.from.0 k.from in
     let at_to = time_at spots e.to.0 k.to in
+    let sum = c.requires.reach e (edge_at links number no_link some within) in
+    let range = c.ranges.reach in
     let asks = c.requires.more e (edge_at links number no_link some within) in
     let fit = c.if-reach-from.false in
     search (rules, arith, ints)
+
+pub bounds-spots-to-then-reach-from : goal.bounds-spots-to-then-reach-from
+bounds-spots-to-then-reach-from c = (known c.args.links.now c.args.spots.now c.args.number c.requires.some c.requires.number c.requires.known).to
+
+pub bounds-spots-to-then-reach-from-2 : goal.bounds-spots-to-then-reach-from-2
+bounds-spots-to-then-reach-from-2 c = (known c.args.links.now c.args.spots.now c.args.number c.requires.some c.requires.number c.requires.known).to
+
+pub bounds-spots-to-then-reach-from-3 : goal.bounds-spots-to-then-reach-from-3
+bounds-spots-to-then-reach-from-3 c = (known c.args.links.now c.args.spots.now c.args.number c.requires.some c.requires.number c.requires.known).to
+
+pub bounds-spots-to-3 : goal.bounds-spots-to-3
+bounds-spots-to-3 c = (known c.args.links.now c.args.spots.now c.args.number c.requires.some c.requires.number c.requires.known).to

@@ -4,10 +4,9 @@ use Rattle.std.proofs.lemmas.List.{length-map}
 use Rattle.tp_stn_undo.specs.declared.links.Link.{Link}
 use Rattle.tp_stn_undo.specs.Spots.{times_of, edges_of}
 use Rattle.tp_stn_undo.specs.Flags.{AreBelow}
-use Rattle.tp_stn_undo.specs.Spreading.{AreKept}
 use Rattle.tp_stn_undo.proofs.CauseFacts.{no_link}
 use Rattle.tp_stn_undo.proofs.RaiseFacts.{time_at, met_same, known}
-use Rattle.tp_stn_undo.proofs.SpreadFacts.{kept_newest, kept_begun, all_kept}
+use Rattle.tp_stn_undo.proofs.SpreadFacts.{kept_newest, kept_begun, reached_newest, all_kept}
 use Rattle.tp_stn_undo.proofs.spreading.settle.Goals as goal
 
 pub bounds-spots-edge : goal.bounds-spots-edge
@@ -44,20 +43,10 @@ spread-requires-clause-watched c = (known c.args.links.now c.args.spots.now c.ar
 
 pub spread-requires-clause-kept : goal.spread-requires-clause-kept
 spread-requires-clause-kept c =
-    let links = c.args.links.now in
-    let flags = c.args.working.now.waiting.flags in
-    let f = (known links c.args.spots.now c.args.number c.requires.some (omega arith) c.requires.known).from in
-    let w = c.requires.room.waits in
-    subst (AreKept (edges_of links) (slice_index (times_of c.args.spots.now))) (sym c.push.ensures.flags)
-    (kept_begun links (slice_index (times_of c.args.spots.now)) flags c.args.number c.requires.some c.requires.newest (omega arith) c.requires.kept)
+    kept_begun c.args.links.now (slice_index (times_of c.args.spots.now)) c.args.working.now.waiting.flags c.args.number c.requires.some c.requires.newest c.requires.kept
 
-pub push-requires : goal.push-requires
-push-requires c =
-    let f = (known c.args.links.now c.args.spots.now c.args.number c.requires.some (omega arith) c.requires.known).from in
-    let w = c.requires.room.waits in
-    omega arith
+pub spread-requires-clause-reached : goal.spread-requires-clause-reached
+spread-requires-clause-reached c = reached_newest c.args.links.now c.args.number c.requires.some c.requires.newest
 
 pub spread-requires-clause-waiting : goal.spread-requires-clause-waiting
-spread-requires-clause-waiting c =
-    let f = (known c.args.links.now c.args.spots.now c.args.number c.requires.some (omega arith) c.requires.known).from in
-    c.push.ensures.known (length c.args.spots.now) f (subst (AreBelow (length c.args.spots.now)) (sym c.requires.none) (λ k d h. absurd (omega arith)))
+spread-requires-clause-waiting c = subst (AreBelow (length c.args.spots.now)) (sym c.requires.none) (λ k d h. absurd (omega arith))

@@ -1,4 +1,4 @@
-use Rattle.std.proofs.Common.{arith, ◌≡◌, ℕ, ◌∙◌, ◌<◌, ◌≤◌, ◌-◌, Bool, List, length, slice_index, false, refl, sym, ap, subst, get_or}
+use Rattle.std.proofs.Common.{arith, ◌≡◌, ℕ, ◌∙◌, ◌<◌, ◌≤◌, ◌-◌, pos, ◌+ℤ◌, Bool, List, length, slice_index, false, refl, sym, ap, subst, get_or}
 use Rattle.std.proofs.lemmas.Int.{ints}
 use Rattle.std.proofs.lemmas.List.{length-set}
 use Rattle.std.proofs.lemmas.List.Elements.{All-tail}
@@ -9,56 +9,26 @@ use Rattle.tp_stn_undo.specs.declared.spots.Spot.{Spot}
 use Rattle.tp_stn_undo.specs.declared.links.Link.{Link}
 use Rattle.tp_stn_undo.specs.Marks.{AreLinks}
 use Rattle.tp_stn_undo.specs.Flags.{flag, AreBelow}
-use Rattle.tp_stn_undo.specs.Spreading.{KeptFrom}
-use Rattle.tp_stn_undo.proofs.CauseFacts.{no_link}
+use Rattle.tp_stn_undo.specs.Spreading.{KeptFrom, Reached}
+use Rattle.tp_base.specs.declared.edges.Edge.{Edge}
+use Rattle.std.proofs.lemmas.Option.{same_Some}
+use Rattle.tp_stn_undo.proofs.CauseFacts.{no_link, edge_at}
 use Rattle.tp_stn_undo.proofs.RaiseFacts.{time_at, met_same, asks_more, known as edge_known}
 use Rattle.tp_stn_undo.proofs.FollowFacts.{risen_supported}
-use Rattle.tp_stn_undo.proofs.SpreadFacts.{Next, Reached, Spots-trans, LeadsBack-trans, reached_head, kept_head, next_of, kept_next, all_kept, reached_within}
+use Rattle.tp_stn_undo.proofs.SpreadFacts.{Next, Spots-trans, LeadsBack-trans, reached_head, reached_from, kept_head, kept_end, next_of, kept_next, all_kept, reached_within}
 use Rattle.tp_stn_undo.proofs.NoteFacts.{same_saves}
 use Rattle.tp_stn_undo.proofs.spreading.spread.Goals as goal
-use Rattle.tp_stn_undo.proofs.spreading.spread.Goals.{In-Some}
-
--- the point that was taken is known
-known : (c : In-Some) → c.in-Some.point < length c.args.spots.now
-known c = (subst (AreBelow (length c.args.spots.now)) c.in-Some.ensures.first c.points.invariant.waiting) 0 c.in-Some.point (omega arith)
-
-pub bounds-heads-point : goal.bounds-heads-point
-bounds-heads-point c =
-    let k = known (goal.at.bounds-heads-point c).In-Some in
-    let l = c.requires.heads.len in
-    omega arith
-
-pub edges-init : goal.edges-init
-edges-init c =
-    let k = (goal.at.edges-init c).In-Some in
-    let links = c.args.links.now in
-    let heads = c.args.heads.now in
-    let point = c.in-Some.point in
-    let inv = c.points.invariant in
-    let f = c.in-Some.ensures.flags in
-    let l = ap length f ∙ length-set c.points.working.waiting.flags point false in
-    record {
-      back = inv.back;
-      rises = inv.rises;
-      below = inv.below;
-      sizes = record { waits = l ∙ inv.sizes.waits; noted = inv.sizes.noted; path = inv.sizes.path; places = inv.sizes.places };
-      waiting = All-tail (λ p. p < length c.args.spots.now) point c.pop.new.self.points (subst (AreBelow (length c.args.spots.now)) c.in-Some.ensures.first inv.waiting);
-      reached = reached_head links heads (length c.args.spots.now) point (slice_index heads point) c.requires.heads (known k) refl;
-      kept = subst (λ (fs : List Bool). KeptFrom (edges_of links) (slice_index (times_of c.points.spots)) fs point (slice_index heads point)) (sym f)
-          (kept_head links heads (length c.args.spots.now) point (slice_index heads point) (slice_index (times_of c.points.spots)) c.points.working.waiting.flags c.requires.heads (known k) refl inv.kept);
-      less = omega arith;
-      zeros = inv.zeros;
-    }
+use Rattle.tp_stn_undo.proofs.spreading.spread.Goals.{then-reach-from+in-Ok, else-reach-from}
 
 pub follow-requires-clause-number : goal.follow-requires-clause-number
-follow-requires-clause-number c = reached_within c.args.links.now c.in-Some.point c.edges.left c.edges.invariant.reached
+follow-requires-clause-number c = reached_within c.args.links.now c.points.point c.edges.left c.edges.invariant.reached
 
 pub returns-in-Err-clause-back : goal.returns-in-Err-clause-back
 returns-in-Err-clause-back c = LeadsBack-trans c.args.links.now c.args.spots.now c.edges.spots c.follow.new.spots c.args.working.now.changes.entries c.edges.working.changes.entries c.follow.new.working.changes.entries c.edges.invariant.back c.follow.ensures.back
 
 pub bounds-links-left : goal.bounds-links-left
 bounds-links-left c =
-    let r = reached_within c.args.links.now c.in-Some.point c.edges.left c.edges.invariant.reached in
+    let r = reached_within c.args.links.now c.points.point c.edges.left c.edges.invariant.reached in
     let t = c.edges-test.true in
     omega arith
 
@@ -74,37 +44,57 @@ module _ (links : List Link) (heads : List ℕ) (base spots : List Spot) (point 
   is_known : IsKnown (length spots) (get_or links (left - 1) no_link).edge
   is_known = edge_known links spots left some within all
 
+  point_known : point < length spots
+  point_known = let b = reached_from links point left reached some in let f = is_known.from in omega arith
+
   next : Next links point left (get_or links (left - 1) no_link).older
   next = next_of links heads (length base) point left (get_or links (left - 1) no_link).older heads_are reached some refl
 
 pub bounds-spots-link : goal.bounds-spots-link
-bounds-spots-link c = (is_known c.args.links.now c.args.heads.now c.args.spots.now c.edges.spots c.in-Some.point c.edges.left c.requires.heads c.requires.known c.edges.invariant.back.len c.edges.invariant.reached c.edges-test.true).from
-
-pub bounds-spots-link-in-edges : goal.bounds-spots-link-in-edges
-bounds-spots-link-in-edges c = (is_known c.args.links.now c.args.heads.now c.args.spots.now c.edges.spots c.in-Some.point c.edges.left c.requires.heads c.requires.known c.edges.invariant.back.len c.edges.invariant.reached c.edges-test.true).to
+bounds-spots-link c = (is_known c.args.links.now c.args.heads.now c.args.spots.now c.edges.spots c.points.point c.edges.left c.requires.heads c.requires.known c.edges.invariant.back.len c.edges.invariant.reached c.edges-test.true).to
 
 pub overflow_add-reach : goal.overflow_add-reach
 overflow_add-reach c =
-    let k = is_known c.args.links.now c.args.heads.now c.args.spots.now c.edges.spots c.in-Some.point c.edges.left c.requires.heads c.requires.known c.edges.invariant.back.len c.edges.invariant.reached c.edges-test.true in
+    let k = is_known c.args.links.now c.args.heads.now c.args.spots.now c.edges.spots c.points.point c.edges.left c.requires.heads c.requires.known c.edges.invariant.back.len c.edges.invariant.reached c.edges-test.true in
     let a = k.least in
     let b = k.most in
     omega (arith, ints)
 
+pub bounds-spots-point : goal.bounds-spots-point
+bounds-spots-point c = point_known c.args.links.now c.args.heads.now c.args.spots.now c.edges.spots c.points.point c.edges.left c.requires.heads c.requires.known c.edges.invariant.back.len c.edges.invariant.reached c.edges-test.true
+
+pub follow-requires-clause-reach : goal.follow-requires-clause-reach
+follow-requires-clause-reach c = λ e g.
+    let links = c.args.links.now in
+    let spots = c.edges.spots in
+    let w = is_known c.args.links.now c.args.heads.now c.args.spots.now c.edges.spots c.points.point c.edges.left c.requires.heads c.requires.known c.edges.invariant.back.len c.edges.invariant.reached c.edges-test.true in
+    let least = w.least in
+    let most = w.most in
+    let d = (get_or links (c.edges.left - 1) no_link).edge in
+    let begins = reached_from links c.points.point c.edges.left c.edges.invariant.reached c.edges-test.true in
+    let here : slice_index (times_of spots) c.points.point ≡ slice_index (times_of spots) d.from.0 = ap (slice_index (times_of spots)) (sym begins) in
+    let at_from = time_at spots c.points.point (point_known c.args.links.now c.args.heads.now c.args.spots.now c.edges.spots c.points.point c.edges.left c.requires.heads c.requires.known c.edges.invariant.back.len c.edges.invariant.reached c.edges-test.true) in
+    let same : d ≡ e = same_Some d e (sym (edge_at links c.edges.left no_link c.edges-test.true (within c.args.links.now c.args.heads.now c.args.spots.now c.edges.spots c.points.point c.edges.left c.requires.heads c.requires.known c.edges.invariant.back.len c.edges.invariant.reached c.edges-test.true)) ∙ g) in
+    let moved : (pos (slice_index (times_of spots) d.from.0) +ℤ d.weight) ≡ (pos (slice_index (times_of spots) e.from.0) +ℤ e.weight) = ap (λ (x : Edge). pos (slice_index (times_of spots) x.from.0) +ℤ x.weight) same in
+    omega (arith, ints)
+
 pub follow-requires-clause-known : goal.follow-requires-clause-known
-follow-requires-clause-known c = all c.args.links.now c.args.heads.now c.args.spots.now c.edges.spots c.in-Some.point c.edges.left c.requires.heads c.requires.known c.edges.invariant.back.len c.edges.invariant.reached c.edges-test.true
+follow-requires-clause-known c = all c.args.links.now c.args.heads.now c.args.spots.now c.edges.spots c.points.point c.edges.left c.requires.heads c.requires.known c.edges.invariant.back.len c.edges.invariant.reached c.edges-test.true
 
 pub follow-requires-clause-more : goal.follow-requires-clause-more
 follow-requires-clause-more c =
     let links = c.args.links.now in
     let spots = c.edges.spots in
-    let w = is_known c.args.links.now c.args.heads.now c.args.spots.now c.edges.spots c.in-Some.point c.edges.left c.requires.heads c.requires.known c.edges.invariant.back.len c.edges.invariant.reached c.edges-test.true in
+    let w = is_known c.args.links.now c.args.heads.now c.args.spots.now c.edges.spots c.points.point c.edges.left c.requires.heads c.requires.known c.edges.invariant.back.len c.edges.invariant.reached c.edges-test.true in
     let least = w.least in
     let most = w.most in
     let d = (get_or links (c.edges.left - 1) no_link).edge in
-    let at_from = time_at spots d.from.0 w.from in
+    let begins = reached_from links c.points.point c.edges.left c.edges.invariant.reached c.edges-test.true in
+    let here : slice_index (times_of spots) c.points.point ≡ slice_index (times_of spots) d.from.0 = ap (slice_index (times_of spots)) (sym begins) in
+    let at_from = time_at spots c.points.point (point_known c.args.links.now c.args.heads.now c.args.spots.now c.edges.spots c.points.point c.edges.left c.requires.heads c.requires.known c.edges.invariant.back.len c.edges.invariant.reached c.edges-test.true) in
     let at_to = time_at spots d.to.0 w.to in
     let test = c.if-reach-from.true in
-    asks_more links spots c.edges.left c.edges-test.true (within c.args.links.now c.args.heads.now c.args.spots.now c.edges.spots c.in-Some.point c.edges.left c.requires.heads c.requires.known c.edges.invariant.back.len c.edges.invariant.reached c.edges-test.true) (all c.args.links.now c.args.heads.now c.args.spots.now c.edges.spots c.in-Some.point c.edges.left c.requires.heads c.requires.known c.edges.invariant.back.len c.edges.invariant.reached c.edges-test.true) (omega (arith, ints))
+    asks_more links spots c.edges.left c.edges-test.true (within c.args.links.now c.args.heads.now c.args.spots.now c.edges.spots c.points.point c.edges.left c.requires.heads c.requires.known c.edges.invariant.back.len c.edges.invariant.reached c.edges-test.true) (all c.args.links.now c.args.heads.now c.args.spots.now c.edges.spots c.points.point c.edges.left c.requires.heads c.requires.known c.edges.invariant.back.len c.edges.invariant.reached c.edges-test.true) (omega (arith, ints))
 
 pub follow-requires-clause-supported : goal.follow-requires-clause-supported
 follow-requires-clause-supported c =
@@ -118,61 +108,94 @@ pub follow-requires-clause-numbered : goal.follow-requires-clause-numbered
 follow-requires-clause-numbered c = c.edges.invariant.back.numbered c.requires.numbered
 
 pub edges-smaller : goal.edges-smaller
-edges-smaller c = (next c.args.links.now c.args.heads.now c.args.spots.now c.edges.spots c.in-Some.point c.edges.left c.requires.heads c.requires.known c.edges.invariant.back.len c.edges.invariant.reached c.edges-test.true).less
-
-pub edges-smaller-in-Ok : goal.edges-smaller-in-Ok
-edges-smaller-in-Ok c = (next c.args.links.now c.args.heads.now c.args.spots.now c.edges.spots c.in-Some.point c.edges.left c.requires.heads c.requires.known c.edges.invariant.back.len c.edges.invariant.reached c.edges-test.true).less
+edges-smaller c = (next c.args.links.now c.args.heads.now c.args.spots.now c.edges.spots c.points.point c.edges.left c.requires.heads c.requires.known c.edges.invariant.back.len c.edges.invariant.reached c.edges-test.true).less
 
 pub edges-preserved : goal.edges-preserved
-edges-preserved c =
+edges-preserved c = elim c.if-reach-from.branch [
+  | then-reach-from+in-Ok w ↦ (
+      let links = c.args.links.now in
+      let inv = c.edges.invariant in
+      let e = w.follow.ensures in
+      let o = w.in-Ok.ensures in
+      let point = c.points.point in
+      let n = inv.back.len in
+      let less = inv.less in
+      let less2 = o.less in
+      let p1 = inv.sizes.path in
+      let p2 = e.sizes.path in
+      rw (w.spots-is, w.working-is) (record {
+        back = LeadsBack-trans links c.args.spots.now c.edges.spots w.follow.new.spots c.args.working.now.changes.entries c.edges.working.changes.entries w.follow.new.working.changes.entries inv.back e.back;
+        rises = Spots-trans links c.args.spots.now c.edges.spots w.follow.new.spots n inv.rises o.rises;
+        below = e.below;
+        sizes = record { waits = e.sizes.waits ∙ inv.sizes.waits; noted = same_saves inv.sizes.noted e.sizes.noted; path = omega arith; places = e.sizes.places ∙ inv.sizes.places };
+        waiting = subst (λ (m : ℕ). AreBelow m w.follow.new.working.waiting.points) n (e.known (subst (λ (m : ℕ). AreBelow m c.edges.working.waiting.points) (sym n) inv.waiting));
+        reached = (next c.args.links.now c.args.heads.now c.args.spots.now c.edges.spots c.points.point c.edges.left c.requires.heads c.requires.known c.edges.invariant.back.len c.edges.invariant.reached c.edges-test.true).reached;
+        kept = kept_next links point c.edges.left _ (slice_index (times_of w.follow.new.spots)) w.follow.new.working.waiting.flags (next c.args.links.now c.args.heads.now c.args.spots.now c.edges.spots c.points.point c.edges.left c.requires.heads c.requires.known c.edges.invariant.back.len c.edges.invariant.reached c.edges-test.true) c.edges-test.true (o.kept (edges_of links) point c.edges.left inv.kept) o.met;
+        less = omega arith;
+        zeros = e.zeros;
+      }))
+  | else-reach-from w ↦ (
+      let links = c.args.links.now in
+      let spots = c.edges.spots in
+      let inv = c.edges.invariant in
+      let known = is_known c.args.links.now c.args.heads.now c.args.spots.now c.edges.spots c.points.point c.edges.left c.requires.heads c.requires.known c.edges.invariant.back.len c.edges.invariant.reached c.edges-test.true in
+      let least = known.least in
+      let most = known.most in
+      let d = (get_or links (c.edges.left - 1) no_link).edge in
+      let begins = reached_from links c.points.point c.edges.left c.edges.invariant.reached c.edges-test.true in
+      let here : slice_index (times_of spots) c.points.point ≡ slice_index (times_of spots) d.from.0 = ap (slice_index (times_of spots)) (sym begins) in
+      let at_from = time_at spots c.points.point (point_known c.args.links.now c.args.heads.now c.args.spots.now c.edges.spots c.points.point c.edges.left c.requires.heads c.requires.known c.edges.invariant.back.len c.edges.invariant.reached c.edges-test.true) in
+      let at_to = time_at spots d.to.0 known.to in
+      let test = w.if-reach-from.false in
+      rw (w.spots-is, w.working-is) (record {
+        back = inv.back;
+        rises = inv.rises;
+        below = inv.below;
+        sizes = inv.sizes;
+        waiting = inv.waiting;
+        reached = (next c.args.links.now c.args.heads.now c.args.spots.now c.edges.spots c.points.point c.edges.left c.requires.heads c.requires.known c.edges.invariant.back.len c.edges.invariant.reached c.edges-test.true).reached;
+        kept = kept_next links c.points.point c.edges.left _ (slice_index (times_of spots)) c.edges.working.waiting.flags (next c.args.links.now c.args.heads.now c.args.spots.now c.edges.spots c.points.point c.edges.left c.requires.heads c.requires.known c.edges.invariant.back.len c.edges.invariant.reached c.edges-test.true) c.edges-test.true inv.kept
+            (met_same links spots c.edges.left c.edges-test.true (within c.args.links.now c.args.heads.now c.args.spots.now c.edges.spots c.points.point c.edges.left c.requires.heads c.requires.known c.edges.invariant.back.len c.edges.invariant.reached c.edges-test.true) (all c.args.links.now c.args.heads.now c.args.spots.now c.edges.spots c.points.point c.edges.left c.requires.heads c.requires.known c.edges.invariant.back.len c.edges.invariant.reached c.edges-test.true) c.edges.working.waiting.flags (omega (arith, ints)));
+        less = inv.less;
+        zeros = inv.zeros;
+      }))
+]
+
+pub bounds-heads-next : goal.bounds-heads-next
+bounds-heads-next c =
+    let k = (subst (AreBelow (length c.args.spots.now)) c.in-Some.ensures.first c.edges.invariant.waiting) 0 c.in-Some.next (omega arith) in
+    let l = c.requires.heads.len in
+    omega arith
+
+pub points-preserved : goal.points-preserved
+points-preserved c =
     let links = c.args.links.now in
-    let spots = c.edges.spots in
+    let heads = c.args.heads.now in
+    let point = c.in-Some.next in
     let inv = c.edges.invariant in
-    let w = is_known c.args.links.now c.args.heads.now c.args.spots.now c.edges.spots c.in-Some.point c.edges.left c.requires.heads c.requires.known c.edges.invariant.back.len c.edges.invariant.reached c.edges-test.true in
-    let least = w.least in
-    let most = w.most in
-    let d = (get_or links (c.edges.left - 1) no_link).edge in
-    let at_from = time_at spots d.from.0 w.from in
-    let at_to = time_at spots d.to.0 w.to in
-    let test = c.if-reach-from.false in
+    let k : point < length c.args.spots.now = (subst (AreBelow (length c.args.spots.now)) c.in-Some.ensures.first inv.waiting) 0 point (omega arith) in
+    let f = c.in-Some.ensures.flags in
+    let l = ap length f ∙ length-set c.edges.working.waiting.flags point false in
+    let end : c.edges.left ≡ 0 = omega (arith, c.edges-test.false) in
+    let all = kept_end (edges_of links) c.points.point (slice_index (times_of c.edges.spots)) c.edges.working.waiting.flags (subst (KeptFrom (edges_of links) (slice_index (times_of c.edges.spots)) c.edges.working.waiting.flags c.points.point) end inv.kept) in
     record {
       back = inv.back;
       rises = inv.rises;
       below = inv.below;
-      sizes = inv.sizes;
-      waiting = inv.waiting;
-      reached = (next c.args.links.now c.args.heads.now c.args.spots.now c.edges.spots c.in-Some.point c.edges.left c.requires.heads c.requires.known c.edges.invariant.back.len c.edges.invariant.reached c.edges-test.true).reached;
-      kept = kept_next links c.in-Some.point c.edges.left _ (slice_index (times_of spots)) c.edges.working.waiting.flags (next c.args.links.now c.args.heads.now c.args.spots.now c.edges.spots c.in-Some.point c.edges.left c.requires.heads c.requires.known c.edges.invariant.back.len c.edges.invariant.reached c.edges-test.true) c.edges-test.true inv.kept
-          (met_same links spots c.edges.left c.edges-test.true (within c.args.links.now c.args.heads.now c.args.spots.now c.edges.spots c.in-Some.point c.edges.left c.requires.heads c.requires.known c.edges.invariant.back.len c.edges.invariant.reached c.edges-test.true) (all c.args.links.now c.args.heads.now c.args.spots.now c.edges.spots c.in-Some.point c.edges.left c.requires.heads c.requires.known c.edges.invariant.back.len c.edges.invariant.reached c.edges-test.true) c.edges.working.waiting.flags (omega (arith, ints)));
-      less = inv.less;
+      sizes = record { waits = l ∙ inv.sizes.waits; noted = inv.sizes.noted; path = inv.sizes.path; places = inv.sizes.places };
+      waiting = All-tail (λ p. p < length c.args.spots.now) point c.pop.new.self.points (subst (AreBelow (length c.args.spots.now)) c.in-Some.ensures.first inv.waiting);
+      known = k;
+      reached = reached_head links heads (length c.args.spots.now) point (slice_index heads point) c.requires.heads k refl;
+      kept = subst (λ (fs : List Bool). KeptFrom (edges_of links) (slice_index (times_of c.edges.spots)) fs point (slice_index heads point)) (sym f)
+          (kept_head links heads (length c.args.spots.now) point (slice_index heads point) (slice_index (times_of c.edges.spots)) c.edges.working.waiting.flags c.requires.heads k refl all);
       zeros = inv.zeros;
     }
 
-pub edges-preserved-in-Ok : goal.edges-preserved-in-Ok
-edges-preserved-in-Ok c =
+pub returns-in-None-clause-kept : goal.returns-in-None-clause-kept
+returns-in-None-clause-kept c =
     let links = c.args.links.now in
     let inv = c.edges.invariant in
-    let e = c.follow.ensures in
-    let o = c.in-Ok.ensures in
-    let point = c.in-Some.point in
-    let n = inv.back.len in
-    let less = inv.less in
-    let less2 = o.less in
-    let p1 = inv.sizes.path in
-    let p2 = e.sizes.path in
-    record {
-      back = LeadsBack-trans links c.args.spots.now c.edges.spots c.follow.new.spots c.args.working.now.changes.entries c.edges.working.changes.entries c.follow.new.working.changes.entries inv.back e.back;
-      rises = Spots-trans links c.args.spots.now c.edges.spots c.follow.new.spots n inv.rises o.rises;
-      below = e.below;
-      sizes = record { waits = e.sizes.waits ∙ inv.sizes.waits; noted = same_saves inv.sizes.noted e.sizes.noted; path = omega arith; places = e.sizes.places ∙ inv.sizes.places };
-      waiting = subst (λ (m : ℕ). AreBelow m c.follow.new.working.waiting.points) n (e.known (subst (λ (m : ℕ). AreBelow m c.edges.working.waiting.points) (sym n) inv.waiting));
-      reached = (next c.args.links.now c.args.heads.now c.args.spots.now c.edges.spots c.in-Some.point c.edges.left c.requires.heads c.requires.known c.edges.invariant.back.len c.edges.invariant.reached c.edges-test.true).reached;
-      kept = kept_next links point c.edges.left _ (slice_index (times_of c.follow.new.spots)) c.follow.new.working.waiting.flags (next c.args.links.now c.args.heads.now c.args.spots.now c.edges.spots c.in-Some.point c.edges.left c.requires.heads c.requires.known c.edges.invariant.back.len c.edges.invariant.reached c.edges-test.true) c.edges-test.true (o.kept (edges_of links) point c.edges.left inv.kept) o.met;
-      less = omega arith;
-      zeros = e.zeros;
-    }
-
-pub returns-clause-kept : goal.returns-clause-kept
-returns-clause-kept c =
-    all_kept (edges_of c.args.links.now) (slice_index (times_of c.points.spots)) c.points.working.waiting.flags c.points.invariant.kept
-    (λ v. ap (λ (fs : List Bool). flag fs v) (sym c.in_default.ensures.same) ∙ c.in_default.ensures.idle v)
+    let end : c.edges.left ≡ 0 = omega (arith, c.edges-test.false) in
+    let all = kept_end (edges_of links) c.points.point (slice_index (times_of c.edges.spots)) c.edges.working.waiting.flags (subst (KeptFrom (edges_of links) (slice_index (times_of c.edges.spots)) c.edges.working.waiting.flags c.points.point) end inv.kept) in
+    all_kept (edges_of links) (slice_index (times_of c.edges.spots)) c.edges.working.waiting.flags all
+    (λ v. ap (λ (fs : List Bool). flag fs v) (sym c.in-None.ensures.same) ∙ c.in-None.ensures.idle v)

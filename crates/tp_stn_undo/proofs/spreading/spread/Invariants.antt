@@ -1,11 +1,10 @@
-use Rattle.std.proofs.Common.{◌≤◌, length, slice_index}
+use Rattle.std.proofs.Common.{◌<◌, ◌≤◌, length, slice_index}
 use Rattle.tp_base.specs.Grows.{AreWithin}
 use Rattle.tp_stn_undo.specs.Spots.{times_of, edges_of}
-use Rattle.tp_stn_undo.specs.Spreading.{SpotsRise, LeadsBack, KeptFrom, AreKept, weight}
+use Rattle.tp_stn_undo.specs.Spreading.{SpotsRise, LeadsBack, KeptFrom, Reached, weight}
 use Rattle.tp_stn_undo.specs.Flags.{AreBelow}
 use Rattle.tp_stn_undo.specs.Tracing.{AreZeros}
 use Rattle.tp_stn_undo.specs.Working.{KeepsSizes}
-use Rattle.tp_stn_undo.proofs.SpreadFacts.{Reached}
 use Rattle.tp_stn_undo.proofs.spreading.spread.Given as goal
 
 abbrev pub invariant-points : goal.invariant-points
@@ -15,7 +14,9 @@ invariant-points l = record {
   below : AreWithin l.caps (times_of l.spots);
   sizes : KeepsSizes l.fn.working l.working;
   waiting : AreBelow (length l.fn.spots) l.working.waiting.points;
-  kept : AreKept (edges_of l.links) (slice_index (times_of l.spots)) l.working.waiting.flags;
+  known : l.point < length l.fn.spots;
+  reached : Reached l.links l.point l.left;
+  kept : KeptFrom (edges_of l.links) (slice_index (times_of l.spots)) l.working.waiting.flags l.point l.left;
   zeros : AreZeros l.working.places.items;
 }
 

@@ -1,4 +1,4 @@
-use Rattle.std.proofs.Common.{arith, ◌≡◌, ℕ, ◌<◌, ◌≤◌, List, [], ◌++◌, length, ap, subst, sym, refl, ◌∙◌, slice_index, take, drop}
+use Rattle.std.proofs.Common.{arith, ◌≡◌, ℕ, ◌<◌, ◌≤◌, List, [], ◌++◌, length, ap, subst, sym, refl, ◌∙◌, slice_index, take, drop, inl}
 use Rattle.std.proofs.lemmas.List.{get_or_read}
 use Rattle.std.specs.Vec.{with_items}
 use Rattle.tp_stn_undo.specs.declared.live_net.LiveNet.TheInside.{Inside}
@@ -82,7 +82,7 @@ pub spread-requires-clause-kept : goal.spread-requires-clause-kept
 spread-requires-clause-kept c =
     let k = (goal.at.spread-requires-clause-kept c).After-lift in
     let a = c.self.inside in
-    rw (c.deref_mut-2.ensures.value ∙ lifted k, c.deref-2.ensures.value) ((lifts k).kept (edges_of a.links.items) (kept_of (edges_of a.links.items) (slice_index (times_of a.spots.items)) a.working.waiting.flags c.self.invariant.sound.least.solution.keeps))
+    rw (c.deref_mut-2.ensures.value ∙ lifted k, c.deref-2.ensures.value) (λ i e g f _. (lifts k).kept (edges_of a.links.items) (kept_of (edges_of a.links.items) (slice_index (times_of a.spots.items)) a.working.waiting.flags c.self.invariant.sound.least.solution.keeps) i e g f)
 
 noted : (c : After-lift) → AreKnown (length c.self.inside.spots.items) c.lift.new.changes.entries
 noted c = (rw c.deref_mut.ensures.value at c.lift.ensures.known) (λ k d h. absurd (let e = ap length c.self.invariant.rest.unchanged in omega arith))
@@ -247,3 +247,6 @@ spread-requires-clause-supported c =
     subst (λ (ss : List Spot). IsSupported (lows_of ss) (edges_of c.deref-2.result.now) (slice_index (times_of ss)) (cause_of (causes_of (edges_of c.deref-2.result.now) ss))) (sym (c.deref_mut-2.ensures.value ∙ lifted k))
     (subst (λ (ls : List Link). IsSupported (lows_of spots) (edges_of ls) (slice_index (times_of spots)) (cause_of (causes_of (edges_of ls) spots))) (sym c.deref-2.ensures.value)
     ((lifts k).supported c.self.inside.links.items c.self.invariant.sound.supported))
+
+pub spread-requires-clause-reached : goal.spread-requires-clause-reached
+spread-requires-clause-reached c = inl refl
