@@ -9,4 +9,5 @@ mod unlike;
 
 pub use asked::answers_ask;
 pub use finding::{Fault, find_fault, find_unsettled};
+pub use plans::plan_of;
 pub use unlike::{Unlike, find_unlike};

@@ -6,7 +6,7 @@ use tp_machine::ActId;
 use tp_schedule::{Plan, Schedule, SheetId};
 
 /// The plan that the copy has in the schedule, if it has one.
-pub(crate) fn plan_of(schedule: &Schedule, copy: SheetId) -> Option<&Plan>
+pub fn plan_of(schedule: &Schedule, copy: SheetId) -> Option<&Plan>
     ensures plan { option_copied result ≡ plan_of copy schedule.now.plans }
     ensures formed { IfSome (option_copied result) IsFormed }
 {

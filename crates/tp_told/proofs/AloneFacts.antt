@@ -1,0 +1,41 @@
+-- What a plan breaks by itself no right plan does.
+use Rattle.std.proofs.Common.{◌≡◌, ℕ, ◌+◌, ◌<◌, ◌≤◌, List, Option, Some, None, inl, inr, arith, refl, sym, subst, pos}
+use Rattle.std.specs.Prelude.{IfSome, IsSomeAnd, Bool}
+use Rattle.std.proofs.lemmas.Int.{ints}
+use Rattle.tp_machine.specs.Using.{action_at}
+use Rattle.tp_machine.specs.declared.machine.Machine.{Machine}
+use Rattle.tp_machine.specs.declared.parts.Action.{Action}
+use Rattle.tp_schedule.specs.Answers.{KeepsFloors, KeepsHorizon}
+use Rattle.tp_schedule.specs.Plans.{IsTimedPlan, LastsWithin, point}
+use Rattle.tp_schedule.specs.declared.parts.Plan.{Plan}
+use Rattle.tp_deciding.specs.Bounds.{IsBelowFloor, IsPastHorizon}
+use Rattle.tp_deciding.specs.Misfits.{IsMisfit}
+use Rattle.tp_deciding.specs.declared.bounds.PlanPoint.{PlanPoint}
+use Rattle.tp_deciding.specs.declared.misfit.Misfit.{Misfit}
+
+pub any-some : {X : Type 0} (o : Option X) (P : Type 0) → P → IfSome o (λ x. P)
+any-some None P holds = tt
+any-some (Some x) P holds = holds
+
+pub some-by : {X : Type 0} (o : Option X) (P Q : Type 0) → (P → Q) → IfSome o (λ x. P) → IfSome o (λ x. Q)
+some-by None P Q f holds = tt
+some-by (Some x) P Q f holds = f holds
+
+pub floor-breaks : (machine : Machine) (now : ℕ) (exempt : Plan → Bool) (plans : List Plan) (x : PlanPoint) → IsBelowFloor machine now exempt plans x → KeepsFloors machine now exempt plans → ⊥
+floor-breaks machine now exempt plans x low keeps =
+    let above : now + machine.lead < point low.plan x.at = keeps low.plan low.point_of.planned low.bound x.at low.low.unreleased low.low.start in
+    absurd (omega (arith, above, low.low.low))
+
+pub horizon-breaks : (machine : Machine) (now : ℕ) (plans : List Plan) (x : PlanPoint) → IsPastHorizon machine now plans x → KeepsHorizon machine now plans → ⊥
+horizon-breaks machine now plans x late keeps =
+    let within : point late.plan x.at ≤ now + machine.window = keeps late.plan late.point_of.planned x.at late.past.within late.past.free in
+    absurd (omega (arith, within, late.past.past))
+
+pub misfit-breaks : (machine : Machine) (p : Plan) (m : Misfit) → IsMisfit machine p m → IsTimedPlan machine p → ⊥
+misfit-breaks machine p m is timed =
+    let lasts : LastsWithin machine is.id (point p is.place) (point p (is.place + 1)) = timed.lasts is.place is.id is.there in
+    let both = subst (λ o. IsSomeAnd o (λ (a : Action). (point p is.place + a.least ≤ point p (is.place + 1)) × (point p (is.place + 1) ≤ point p is.place + a.most))) is.known lasts in
+    elim is.breaks [
+      | inl short ↦ absurd (omega (arith, ints, both.0, short.0, short.1, is.lasts))
+      | inr long ↦ absurd (omega (arith, ints, both.1, long.0, long.1, is.lasts))
+    ]

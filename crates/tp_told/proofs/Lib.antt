@@ -1,0 +1,13 @@
+pub mod AloneFacts
+pub mod AnswerFacts
+pub mod LabelFacts
+pub mod MoveFacts
+pub mod MoveSteps
+pub mod NameFacts
+pub mod PlaceFacts
+pub mod PlanFacts
+pub mod PutFacts
+pub mod ReplyFacts
+pub mod SettleFacts
+pub mod ToldFacts
+pub mod TreeFacts

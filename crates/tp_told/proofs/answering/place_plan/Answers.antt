@@ -1,0 +1,74 @@
+-- A plan is placed among the moved ones, and looked at.
+use Rattle.std.proofs.Common.{◌≡◌, ◌∙◌, ℕ, ◌-◌, List, ◌∷◌, None, drop, length, slice_index, take, ap, subst, sym}
+use Rattle.std.proofs.lemmas.Option.{get_or_from_slice_get}
+use Rattle.tp_log.specs.declared.item.Item.{Item}
+use Rattle.tp_log.specs.declared.item.Item.TheVariants.{Note}
+use Rattle.tp_schedule.specs.Answers.{NoneBefore}
+use Rattle.tp_schedule.specs.Plans.{end_of_plan, plan_of}
+use Rattle.tp_trees.specs.declared.claim.Claim.TheVariants.{Earliest}
+use Rattle.tp_answers.specs.Faults.{IsRight}
+use Rattle.tp_told.specs.Answering.{DoTellPlan}
+use Rattle.tp_told.specs.Failing.{Denies}
+use Rattle.tp_told.specs.Moving.{DoTellMoves}
+use Rattle.tp_told.specs.Showing.{BeginsWithTree}
+use Rattle.tp_told.proofs.MoveSteps.{rest-is}
+use Rattle.tp_told.proofs.PlaceFacts.{few-left, placed, right-too, tells-moves-too, tree-too}
+use Rattle.tp_told.proofs.TreeFacts.{denies-from, denies-like}
+use Rattle.std.specs.Prelude.{Some}
+use Rattle.tp_told.proofs.answering.place_plan.Goals as goal
+
+pub returns-in-Err-clause-refused : goal.returns-in-Err-clause-refused
+returns-in-Err-clause-refused c = λ told only first. (
+    let m = c.args.machine.now in
+    let plans = c.args.schedule.now.plans in
+    let ask = c.args.ask.now in
+    let P = DoTellPlan m plans ask (Note told ∷ c.args.later.now) in
+    denies-like P c.in-Err.failure c.behind.result c.behind.ensures
+    (denies-from (DoTellMoves m ask.now (Some ask.sheet) plans c.args.later.now) P c.in-Err.failure (tells-moves-too m plans ask c.requires.can told c.args.later.now first c.args.plan only) c.in-Err.ensures.refused))
+
+pub put_plan-requires-clause-few : goal.put_plan-requires-clause-few
+put_plan-requires-clause-few c = λ none. (
+    let mid = c.take_all_moves.new.after.plans in
+    few-left c.args.machine.now c.args.schedule.now.plans mid c.args.ask.now c.requires.can c.in-Ok-take_all_moves.ensures.moved.sheets
+    (subst (λ copy. plan_of copy mid ≡ None) c.requires.sheet none))
+
+pub returns-in-Err-check_answer-clause-refused : goal.returns-in-Err-check_answer-clause-refused
+returns-in-Err-check_answer-clause-refused c = λ told only first. (
+    let m = c.args.machine.now in
+    let plans = c.args.schedule.now.plans in
+    let ask = c.args.ask.now in
+    let after = c.put_plan.new.schedule.plans in
+    denies-from (IsRight m plans ask after) (DoTellPlan m plans ask (Note told ∷ c.args.later.now)) c.in-Err-check_answer.failure
+    (right-too m plans ask c.requires.can told c.args.later.now first c.args.plan only c.take_all_moves.new.after.plans c.in-Ok-take_all_moves.taken c.in-Ok-take_all_moves.ensures.moved after c.in-Ok-put_plan.ensures)
+    c.in-Err-check_answer.ensures.refused)
+
+pub returns-in-Err-take_tree-clause-refused : goal.returns-in-Err-take_tree-clause-refused
+returns-in-Err-take_tree-clause-refused c = λ told only first. (
+    let m = c.args.machine.now in
+    let plans = c.args.schedule.now.plans in
+    let ask = c.args.ask.now in
+    let plan = c.args.plan in
+    let later = c.args.later.now in
+    let taken = c.in-Ok-take_all_moves.taken in
+    let end : end_of_plan plan ≡ c.get.result = ap (slice_index c.args.plan.points) (sym c.len.ensures.len) ∙ get_or_from_slice_get plan.points c.len.result c.get.result 0 c.get.ensures in
+    let T : ℕ → List Item → Type 0 = λ e items. BeginsWithTree m plans ask (Earliest e) items in
+    let P = DoTellPlan m plans ask (Note told ∷ later) in
+    let too = tree-too m plans ask c.requires.can told later first plan only c.take_all_moves.new.after.plans taken c.in-Ok-take_all_moves.ensures.moved c.put_plan.new.schedule.plans c.in-Ok-put_plan.ensures in
+    denies-like P c.in-Err-take_tree.failure c.behind-in-Err-take_tree.result c.behind-in-Err-take_tree.ensures
+    (denies-from (T c.get.result (take (length later - taken) (drop taken later))) P c.in-Err-take_tree.failure
+    (λ it. subst (T c.get.result) (sym (rest-is later taken)) (subst (λ e. T e (drop taken later)) end (too it))) c.in-Err-take_tree.ensures.refused))
+
+pub returns-clause-told : goal.returns-clause-told
+returns-clause-told c = λ told only first. (
+    let m = c.args.machine.now in
+    let plans = c.args.schedule.now.plans in
+    let ask = c.args.ask.now in
+    let plan = c.args.plan in
+    let later = c.args.later.now in
+    let taken = c.in-Ok-take_all_moves.taken in
+    let end : end_of_plan plan ≡ c.get.result = ap (slice_index c.args.plan.points) (sym c.len.ensures.len) ∙ get_or_from_slice_get plan.points c.len.result c.get.result 0 c.get.ensures in
+    let T : ℕ → List Item → Type 0 = λ e items. BeginsWithTree m plans ask (Earliest e) items in
+    let begins = subst (λ e. T e (drop taken later)) (sym end) (subst (T c.get.result) (rest-is later taken) c.in-Ok-take_tree.ensures.shown) in
+    let before : NoneBefore m plans ask (end_of_plan plan) = subst (NoneBefore m plans ask) (sym end) (c.in-Ok-take_tree.ensures.told c.requires.can.plan_on.legal c.requires.can.asked) in
+    placed m plans ask c.requires.can told later first plan only c.take_all_moves.new.after.plans taken c.in-Ok-take_all_moves.ensures.moved c.put_plan.new.schedule.plans c.in-Ok-put_plan.ensures
+    c.in-Ok-check_answer.ensures.right begins before)

@@ -1,0 +1,35 @@
+-- A plan is told by its record, and a none by its tree.
+use Rattle.std.proofs.Common.{◌≡◌, ◌∷◌, subst, sym}
+use Rattle.tp_log.specs.declared.item.Item.TheVariants.{Note}
+use Rattle.tp_schedule.specs.Planning.Due.{asking}
+use Rattle.tp_schedule.specs.declared.parts.Reply.TheVariants.{Never, Spent}
+use Rattle.tp_told.specs.Answering.{DoTellPlan, TakesAnswer}
+use Rattle.tp_told.specs.Telling.{TellsDue}
+use Rattle.tp_told.proofs.PlaceFacts.{first-is}
+use Rattle.tp_told.proofs.ReplyFacts.{head-of, never-taken, plan-due}
+use Rattle.tp_told.proofs.TreeFacts.{denies-from}
+use Rattle.tp_told.proofs.answering.take_told.Goals as goal
+
+pub returns-in-Err-clause-refused : goal.returns-in-Err-clause-refused
+returns-in-Err-clause-refused c =
+    let m = c.args.machine.now in
+    let plans = c.args.schedule.now.plans in
+    let ask = c.args.ask.now in
+    let told = c.args.told.now in
+    let later = c.args.later.now in
+    let first = first-is told later c.requires.first in
+    let is = c.in-Plan.is in
+    denies-from (DoTellPlan m plans ask (Note told ∷ later)) (TellsDue m plans (Note told ∷ later) (asking ask)) c.in-Err.failure
+    (plan-due m plans ask (Note told ∷ later)
+    (λ others rest tells. (let h = head-of m plans ask told later first Never others rest tells in absurd cc))
+    (λ bound others rest tells. (let h = head-of m plans ask told later first (Spent bound) others rest tells in absurd cc)))
+    c.in-Err.ensures.refused
+
+pub returns-in-Ok-take_tree-clause-told : goal.returns-in-Ok-take_tree-clause-told
+returns-in-Ok-take_tree-clause-told c =
+    let m = c.args.machine.now in
+    let plans = c.args.schedule.now.plans in
+    let ask = c.args.ask.now in
+    subst (λ r. TakesAnswer m plans ask (Note r ∷ c.args.later.now) Never plans 2) (sym c.in-Never.is)
+    (never-taken m plans ask c.in-Never.sheet c.in-Never.goal c.args.later.now (c.is_about-about.ensures.0 c.if-not-about.false) c.in-Ok-take_tree.ensures.shown
+    (c.in-Ok-take_tree.ensures.told c.requires.can.plan_on.legal c.requires.can.asked))

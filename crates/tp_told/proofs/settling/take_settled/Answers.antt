@@ -1,0 +1,25 @@
+-- The moves settle the times, or nothing that is told does.
+use Rattle.std.proofs.Common.{None}
+use Rattle.tp_schedule.specs.Planning.{IsSettled}
+use Rattle.tp_told.specs.Answering.{DoTellSettled}
+use Rattle.tp_told.specs.Moving.{DoTellMoves}
+use Rattle.tp_told.proofs.SettleFacts.{settled-moves, settled-taken, settled-too}
+use Rattle.tp_told.proofs.TreeFacts.{denies-from}
+use Rattle.tp_told.proofs.settling.take_settled.Goals as goal
+
+pub returns-in-Err-clause-refused : goal.returns-in-Err-clause-refused
+returns-in-Err-clause-refused c =
+    denies-from (DoTellMoves c.args.machine.now c.args.now None c.args.schedule.now.plans c.args.items.now) (DoTellSettled c.args.machine.now c.args.schedule.now.plans c.args.now c.args.items.now) c.in-Err.failure
+    (settled-moves c.args.machine.now c.args.schedule.now.plans c.args.now c.requires.can.plan_on.legal c.args.items.now c.requires.first) c.in-Err.ensures.refused
+
+pub returns-in-Err-check_settled-clause-refused : goal.returns-in-Err-check_settled-clause-refused
+returns-in-Err-check_settled-clause-refused c =
+    let after = c.take_all_moves.new.after.plans in
+    denies-from (IsSettled c.args.machine.now c.args.now c.args.schedule.now.plans after) (DoTellSettled c.args.machine.now c.args.schedule.now.plans c.args.now c.args.items.now) c.in-Err-check_settled.failure
+    (settled-too c.args.machine.now c.args.schedule.now.plans c.args.now c.requires.can.plan_on.legal c.args.items.now c.requires.first after c.in-Ok-take_all_moves.taken c.in-Ok-take_all_moves.ensures.moved)
+    c.in-Err-check_settled.ensures.refused
+
+pub returns-clause-told : goal.returns-clause-told
+returns-clause-told c =
+    settled-taken c.args.machine.now c.args.schedule.now.plans c.args.now c.requires.can.plan_on.legal c.args.items.now c.requires.first c.take_all_moves.new.after.plans c.in-Ok-take_all_moves.taken
+    c.in-Ok-take_all_moves.ensures.moved c.in-Ok-take_all_moves.ensures.over c.in-Ok-check_settled.ensures.settled

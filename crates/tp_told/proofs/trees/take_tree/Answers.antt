@@ -1,0 +1,13 @@
+-- The first item is looked at.
+use Rattle.tp_told.specs.Showing.{BeginsWithTree, IsTreeItem}
+use Rattle.tp_told.proofs.TreeFacts.{denies-from, first-tree, tree-first}
+use Rattle.tp_told.proofs.trees.take_tree.Goals as goal
+
+pub returns-in-Ok-clause-shown : goal.returns-in-Ok-clause-shown
+returns-in-Ok-clause-shown c =
+    first-tree c.args.machine.now c.args.before.now.plans c.args.ask.now c.args.claim c.args.items.now c.item-item.result c.in-len1-up.len_at_least c.item-item.is c.in-Ok.ensures.shown
+
+pub returns-in-Err-clause-refused : goal.returns-in-Err-clause-refused
+returns-in-Err-clause-refused c =
+    denies-from (IsTreeItem c.args.machine.now c.args.before.now.plans c.args.ask.now c.args.claim c.item-item.result) (BeginsWithTree c.args.machine.now c.args.before.now.plans c.args.ask.now c.args.claim c.args.items.now)
+    c.in-Err.failure (tree-first c.args.machine.now c.args.before.now.plans c.args.ask.now c.args.claim c.args.items.now c.item-item.result c.in-len1-up.len_at_least c.item-item.is) c.in-Err.ensures.refused

@@ -1,0 +1,6 @@
+pub mod Answering
+pub mod Failing
+pub mod Moving
+pub mod Planning
+pub mod Showing
+pub mod Telling

@@ -1,0 +1,36 @@
+//! Why the items of an event tell no right answer.
+use tp_base::Tick;
+use tp_trees::TreeFlaw;
+
+#[derive(Clone, Copy, PartialEq, Eq, Debug)]
+pub enum Reason {
+    /// Another item is due here, or none, or one more.
+    Due,
+    /// A rule compares these two numbers, and they break it: ticks, or how many actions a plan has and may have.
+    Illegal { first: i64, second: i64 },
+    /// A point stands at `given`, and could stand at `least`.
+    NotLeast { given: Tick, least: Tick },
+    /// The tree does not show what is claimed. This is never `TreeFlaw::Memory`.
+    Tree(TreeFlaw),
+}
+
+/// The number of an item, counted from 0, and why it is wrong. It is the number of all items where another one is due behind
+/// them.
+#[derive(Clone, Copy, PartialEq, Eq, Debug)]
+pub struct Stop {
+    pub item: usize,
+    pub reason: Reason,
+}
+
+/// Why there is no answer.
+#[derive(Clone, Copy)]
+pub(crate) enum Failure {
+    Memory,
+    Stop(Stop),
+}
+
+impl From<tp_base::Memory> for Failure {
+    fn from(_memory: tp_base::Memory) -> Failure {
+        Failure::Memory
+    }
+}

@@ -1,0 +1,87 @@
+//! The tree that shows an answer.
+ghost use Rattle.std.specs.Prelude.{◌≡◌, IfErr, OnOk};
+ghost use Rattle.tp_schedule.specs.Answers.{IsAsked};
+ghost use Rattle.tp_schedule.specs.Legality.{IsLegal};
+ghost use Rattle.tp_trees.specs.Claims.{IsTold};
+ghost use Rattle.tp_told.specs.Failing.{Denies, failure_of};
+ghost use Rattle.tp_told.specs.Showing.{BeginsWithTree, IsTreeItem};
+
+use crate::stop::{Failure, Reason, Stop};
+use std::alloc::Global;
+use tp_bound_check::check_bound;
+use tp_log::Item;
+use tp_machine::Machine;
+use tp_schedule::{Ask, Schedule};
+use tp_trees::{Claim, TreeFlaw, flawless_trees_are_bound};
+
+/// Why there is no answer where a tree has the flaw.
+fn failure_of(flaw: TreeFlaw) -> Failure
+    ensures { result ≡ failure_of flaw }
+{
+    match flaw {
+        TreeFlaw::Memory => Failure::Memory,
+        _ => Failure::Stop(Stop {
+            item: 0,
+            reason: Reason::Tree(flaw),
+        }),
+    }
+}
+
+/// Looks at the tree that is due as this item.
+fn check_item(
+    alloc: Global,
+    machine: &Machine,
+    before: &Schedule,
+    ask: &Ask,
+    claim: Claim,
+    item: &Item,
+) -> Result<(), Failure>
+    ensures shown { OnOk result (IsTreeItem machine.now before.now.plans ask.entry.now claim
+        item.now) }
+    ensures told { OnOk result (IsLegal machine.now before.now.plans
+        → IsAsked machine.now before.now.plans ask.entry.now
+        → IsTold machine.now before.now.plans ask.entry.now claim) }
+    ensures refused { IfErr result (Denies (IsTreeItem machine.now before.now.plans ask.entry.now
+        claim item.now)) }
+{
+    flawless_trees_are_bound();
+    match item {
+        Item::Tree(tree) => match check_bound(alloc, machine, before, ask, claim, tree) {
+            Ok(()) => Ok(()),
+            Err(flaw) => Err(failure_of(flaw)),
+        },
+        _ => Err(Failure::Stop(Stop {
+            item: 0,
+            reason: Reason::Due,
+        })),
+    }
+}
+
+/// Looks at the tree that is due as the first item.
+pub(crate) fn take_tree(
+    alloc: Global,
+    machine: &Machine,
+    before: &Schedule,
+    ask: &Ask,
+    claim: Claim,
+    items: &[Item],
+) -> Result<(), Failure>
+    ensures shown { OnOk result (BeginsWithTree machine.now before.now.plans ask.entry.now claim
+        items.now) }
+    ensures told { OnOk result (IsLegal machine.now before.now.plans
+        → IsAsked machine.now before.now.plans ask.entry.now
+        → IsTold machine.now before.now.plans ask.entry.now claim) }
+    ensures refused { IfErr result (Denies (BeginsWithTree machine.now before.now.plans
+        ask.entry.now claim items.now)) }
+{
+    match items {
+        [item, ..] => match check_item(alloc, machine, before, ask, claim, item) {
+            Ok(()) => Ok(()),
+            Err(failure) => Err(failure),
+        },
+        [] => Err(Failure::Stop(Stop {
+            item: 0,
+            reason: Reason::Due,
+        })),
+    }
+}
