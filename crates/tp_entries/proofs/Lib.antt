@@ -1,0 +1,2 @@
+pub mod PendingFacts
+pub mod HeightFacts
