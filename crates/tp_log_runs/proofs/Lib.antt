@@ -1,0 +1,3 @@
+pub mod TreesOn
+pub mod Told
+pub mod Lawful

@@ -1,0 +1,19 @@
+//! What holds of logs that are accepted. The calls do nothing: their contracts are the laws.
+
+ghost use Rattle.tp_machine.specs.declared.machine.Machine.{Machine};
+ghost use Rattle.tp_log_runs.specs.Accepting.{AcceptedLogsLawful, OneMoreAccepted, TurnsAccepted};
+
+use tp_schedule::Planner;
+
+/// A turn on the live part of a state, over a planner whose answers take the next of the trees that are to come, is one of right answers on
+/// every whole state behind it, proved by these trees in turn. What a spent budget says is taken on trust.
+pub fn told_turns_are_whole<P: Planner>()
+    ensures { (machine : Machine) → TurnsAccepted P.spent P.steps P.stop_steps machine }
+{}
+
+/// Where entries are accepted one after another from the empty state, they are a lawful log with bounds, but for the causes of its
+/// budgets; and so they are with one entry more that is accepted.
+pub fn accepted_logs_are_lawful()
+    ensures lawful { (machine : Machine) → AcceptedLogsLawful machine }
+    ensures more { (machine : Machine) → OneMoreAccepted machine }
+{}

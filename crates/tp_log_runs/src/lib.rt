@@ -1,0 +1,6 @@
+//! Accepted logs: why entries whose turns are taken over answers that are told, with their trees, make a lawful log.
+#![tactic(auto)]
+
+mod laws;
+
+pub use laws::{accepted_logs_are_lawful, told_turns_are_whole};
