@@ -1,3 +1,4 @@
 pub mod TreesOn
 pub mod Told
 pub mod Lawful
+pub mod Back

@@ -11,13 +11,13 @@ use Rattle.tp_schedule.specs.declared.parts.Plan.{Plan}
 use Rattle.tp_schedule.specs.declared.parts.Reply.{Reply}
 use Rattle.tp_schedule.specs.declared.parts.Reply.TheVariants.{Planned, Never, Spent}
 use Rattle.tp_schedule.proofs.CopyFacts.{plan_of-itself, same_copy-is}
-use Rattle.tp_schedule.proofs.Membership.{Contains-filter_from}
+use Rattle.tp_schedule.proofs.Membership.{Contains-filter, Contains-filter_from}
 use Rattle.tp_trees.specs.Claims.{IsTreeFor, limit_of, live_part}
 use Rattle.tp_trees.specs.Trees.{IsBoundTree}
 use Rattle.tp_trees.specs.declared.claim.Claim.{Claim}
 use Rattle.tp_trees.specs.declared.claim.Claim.TheVariants.{Earliest, Never as NeverClaim}
 use Rattle.tp_turn.specs.Logs.{TakesTree}
-use Rattle.tp_turning.specs.LiveAnswers.{CanAskLive, IsAnswerOnWhole, live_at}
+use Rattle.tp_turning.specs.LiveAnswers.{CanAskLive, IsAnswerOnLive, IsAnswerOnWhole, live_at}
 use Rattle.tp_turning.proofs.LiveLists.{filter-by}
 use Rattle.tp_turning.proofs.LivePast.{gone-is, gone_at, may-ask}
 use Rattle.tp_log_runs.specs.Accepting.{bound_claims}
@@ -70,3 +70,28 @@ module _ (machine : Machine) (plans : List Plan) (ask : Ask) (can : CanAskLive m
   takes-on Planned live trees trees' w (tree, (p, planned, shows, taken)) = (tree, (p, plan-on live p w planned, tree-on (Earliest (end_of_plan p)) tree shows, taken))
   takes-on Never live trees trees' w (tree, shows, taken) = (tree, tree-on NeverClaim tree shows, taken)
   takes-on (Spent bound) live trees trees' w taken = taken
+
+  -- and back: the asked copy's plan is live, since what is past is as it was
+  asked-live : {spent : Machine → List Plan → Ask → ℕ → Type 0} (reply : Reply) (whole : List Plan) (p : Plan) (w : IsAnswerOnLive spent machine plans ask reply whole) → Contains whole p → is_same_copy p.sheet ask.sheet ≡ true
+      → (b : Bool) → is_live machine ask.now p ≡ b → b ≡ true
+  asked-live reply whole p w in' same true e = refl
+  asked-live reply whole p w in' same false e =
+      let past = Contains-filter (λ q. not (is_live machine ask.now q)) whole p in' (ap not e) in
+      let before = Contains-filter_from (λ q. not (is_live machine ask.now q)) plans p (subst (λ ps. Contains ps p) w.past_part past) in
+      sym e ∙ front-live p before.0 same
+
+  plan-back : {spent : Machine → List Plan → Ask → ℕ → Type 0} (whole : List Plan) (p : Plan) (w : IsAnswerOnLive spent machine plans ask Planned whole) → plan_of ask.sheet whole ≡ Some p → plan_of ask.sheet (live_at machine ask.now whole) ≡ Some p
+  plan-back {spent} whole p w planned =
+      let found = find-Some (λ q. is_same_copy q.sheet ask.sheet) whole p planned in
+      let lives = asked-live {spent = spent} Planned whole p w found.0 found.1 (is_live machine ask.now p) refl in
+      let there = Contains-filter (is_live machine ask.now) whole p found.0 lives in
+      subst (λ c. plan_of c (live_at machine ask.now whole) ≡ Some p) (same_copy-is p.sheet ask.sheet found.1) (plan_of-itself (live_at machine ask.now whole) p w.answer.0.alternative.legal.in_order there)
+
+  tree-back : (claim : Claim) (tree : BoundTree) → IsTreeFor machine plans ask claim tree → IsTreeFor machine (live_at machine ask.now plans) ask claim tree
+  tree-back claim tree is = subst (λ ps. IsBoundTree machine ps ask (limit_of machine ask claim) tree) (sym live-on) is
+
+  pub takes-back : {spent : Machine → List Plan → Ask → ℕ → Type 0} (reply : Reply) (whole : List Plan) (trees trees' : List BoundTree) (w : IsAnswerOnLive spent machine plans ask reply whole)
+      → TakesTree bound_claims machine plans ask reply whole trees trees' → TakesTree bound_claims machine (live_at machine ask.now plans) ask reply (live_at machine ask.now whole) trees trees'
+  takes-back {spent} Planned whole trees trees' w (tree, (p, planned, shows, taken)) = (tree, (p, plan-back {spent = spent} whole p w planned, tree-back (Earliest (end_of_plan p)) tree shows, taken))
+  takes-back Never whole trees trees' w (tree, shows, taken) = (tree, tree-back NeverClaim tree shows, taken)
+  takes-back (Spent bound) whole trees trees' w taken = taken

@@ -9,6 +9,7 @@ use Rattle.tp_schedule.specs.declared.records.Record.{Record}
 use Rattle.tp_script.specs.declared.event.Event.{Event}
 use Rattle.tp_trees.specs.Claims.{IsTreeFor}
 use Rattle.tp_trees.specs.declared.claim.Claim.TheVariants.{Earliest, Never}
+use Rattle.tp_turn.specs.Keeping.{live_part}
 use Rattle.tp_turn.specs.Logs.{Entry, IsLawful, TakesTrees, TreeClaims, right_answers, spent_on_trust}
 use Rattle.tp_turn.specs.Planners.{right_steps}
 use Rattle.tp_turn.specs.States.{SessionState, empty_state}
@@ -57,6 +58,12 @@ module _ (machine : Machine) where
   abbrev pub AreAccepted : SessionState → List (Entry BoundTree) → SessionState → Type 0
   AreAccepted s [] s' = s' ≡ s
   AreAccepted s (e ∷ log) s' = (mid : SessionState) × IsAccepted s e mid × AreAccepted mid log s'
+
+  -- and back: such a turn on a whole state is one on the live part, which leaves the live part of what it leaves
+  abbrev pub AcceptedTurnsComeBack : Type 0
+  AcceptedTurnsComeBack = (event : Event) (whole s whole' : SessionState) (trees : List BoundTree) (records : List Record) (rest : List BoundTree)
+      → IsWhole machine whole s → AcceptedTurn machine event whole trees records whole' rest
+      → LiveTurn (right_answers bound_claims true spent_on_trust machine) machine event s trees records (live_part machine whole') rest
 
   -- from the empty state they are a lawful log with bounds, but for the causes of its budgets
   abbrev pub AcceptedLogsLawful : Type 0

@@ -1,7 +1,7 @@
 //! What holds of logs that are accepted. The calls do nothing: their contracts are the laws.
 
 ghost use Rattle.tp_machine.specs.declared.machine.Machine.{Machine};
-ghost use Rattle.tp_log_runs.specs.Accepting.{AcceptedLogsLawful, OneMoreAccepted, TurnsAccepted};
+ghost use Rattle.tp_log_runs.specs.Accepting.{AcceptedLogsLawful, AcceptedTurnsComeBack, OneMoreAccepted, TurnsAccepted};
 
 use tp_schedule::Planner;
 
@@ -9,6 +9,11 @@ use tp_schedule::Planner;
 /// every whole state behind it, proved by these trees in turn. What a spent budget says is taken on trust.
 pub fn told_turns_are_whole<P: Planner>()
     ensures { (machine : Machine) → TurnsAccepted P.spent P.steps P.stop_steps machine }
+{}
+
+/// A turn of right answers on a whole state, its budgets on trust, is one on its live part, with the same records and trees.
+pub fn accepted_turns_come_back()
+    ensures { (machine : Machine) → AcceptedTurnsComeBack machine }
 {}
 
 /// Where entries are accepted one after another from the empty state, they are a lawful log with bounds, but for the causes of its

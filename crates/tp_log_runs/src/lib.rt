@@ -3,4 +3,4 @@
 
 mod laws;
 
-pub use laws::{accepted_logs_are_lawful, told_turns_are_whole};
+pub use laws::{accepted_logs_are_lawful, accepted_turns_come_back, told_turns_are_whole};
