@@ -1,12 +1,15 @@
 //! The event that is under way: what was told of it so far.
 
-ghost use Rattle.std.specs.Prelude.{◌≡◌, ◌+◌, ◌<◌, ◌≤◌, ◌++◌, ◌∷◌, [], OnOk, OnErr, IfOk, vec_len, vec_capacity};
+ghost use Rattle.std.specs.Prelude.{List, ◌≡◌, ◌+◌, ◌<◌, ◌≤◌, ◌++◌, ◌∷◌, [], OnOk, OnErr, IfOk, vec_len, vec_capacity};
 ghost use Rattle.std.specs.Bool.{MatchBool};
 ghost use Rattle.tp_bounds.specs.Lines.{IsNode, IsRow};
 ghost use Rattle.tp_entries.specs.Gathered.{IsPending, IsSame, items_of, lines_of};
 ghost use Rattle.tp_log.specs.Gathering.{closed, has_lines};
 ghost use Rattle.tp_log.specs.Grammar.{IsRecord};
 ghost use Rattle.tp_log.specs.LogLines.{AreInOrder};
+ghost use Rattle.tp_bounds.specs.declared.tree.BoundTree.{BoundTree};
+ghost use Rattle.tp_log.specs.declared.item.Item.{Item};
+ghost use Rattle.tp_log.specs.declared.item.Item.TheVariants.{Event as EventItem};
 ghost use Rattle.tp_log.specs.declared.log_line.LogLine.TheVariants.{Event as EventLine, Note as NoteLine, Room as RowLine, Node as NodeLine};
 ghost use Rattle.tp_script.specs.Printed.{IsEchoed};
 
@@ -151,18 +154,38 @@ impl Pending {
         Ok(true)
     }
 
-    /// Ends the tree, if there is one, so that the items have all lines. After `Memory` all is as before.
-    pub fn end(&mut self) -> Result<(), Memory>
-        requires pending { IsPending self.old }
+    /// Ends the tree, if there is one, so that the items have all lines, and tells whether there was one. After `Memory` all is as
+    /// before.
+    pub fn end(&mut self) -> Result<bool, Memory>
         ensures items { OnOk result (items_of self.new ≡ closed (items_of self.old) self.old.tree) }
+        ensures ended { IfOk result (λ ended. ended ≡ has_lines self.old.tree) }
         ensures tree { OnOk result (self.new.tree ≡ record { rows = []; nodes = [] }) }
         ensures next { self.new.next ≡ self.old.next }
         ensures event { self.new.event ≡ self.old.event }
         ensures line { self.new.line ≡ self.old.line }
         ensures memory { OnErr result (IsSame self.old self.new) }
     {
+        let ended = has_lines(&self.tree);
         self.reserve(1)?;
         self.end_tree();
-        Ok(())
+        Ok(ended)
+    }
+
+    /// Takes back that the tree was ended, if there was one.
+    pub fn reopen(&mut self, ended: bool)
+        ensures back { (items : List Item) (tree : BoundTree) → ended ≡ has_lines tree
+            → items_of self.old ≡ closed (EventItem self.old.event ∷ items) tree
+            → self.old.tree ≡ record { rows = []; nodes = [] }
+            → (self.new.items.items ≡ items) × (self.new.tree ≡ tree) }
+        ensures next { self.new.next ≡ self.old.next }
+        ensures event { self.new.event ≡ self.old.event }
+        ensures line { self.new.line ≡ self.old.line }
+    {
+        if ended {
+            match self.items.pop() {
+                Some(Item::Tree(tree)) => self.tree = tree,
+                Some(Item::Event(_)) | Some(Item::Note(_)) | None => {}
+            }
+        }
     }
 }
