@@ -1,5 +1,5 @@
 -- What is counted of a log: its events, and the plans, nones and budgets that are told in it.
-use Rattle.std.specs.Prelude.{ℕ, ◌+◌, ◌<◌, ◌^◌, Bool, true, false, List, count_by}
+use Rattle.std.specs.Prelude.{ℕ, ◌+◌, ◌<◌, ◌≤◌, ◌^◌, Bool, true, false, List, count_by}
 use Rattle.tp_log.specs.declared.log_line.LogLine.{LogLine}
 use Rattle.tp_log.specs.declared.log_line.LogLine.TheVariants.{Event, Note, Room, Node}
 use Rattle.tp_schedule.specs.declared.records.Record.{Record}
@@ -37,3 +37,10 @@ pub record CanGrow (c : Counts) : Type 0 where
   pub plans : c.plans + 1 < 2 ^ 64
   pub nones : c.nones + 1 < 2 ^ 64
   pub budgets : c.budgets + 1 < 2 ^ 64
+
+-- no count grew by more than one
+pub record AreOneMore (c c' : Counts) : Type 0 where
+  pub events : c'.events ≤ c.events + 1
+  pub plans : c'.plans ≤ c.plans + 1
+  pub nones : c'.nones ≤ c.nones + 1
+  pub budgets : c'.budgets ≤ c.budgets + 1

@@ -1,7 +1,7 @@
 //! What is counted of a log.
 
 ghost use Rattle.std.specs.Prelude.{◌≡◌, ◌++◌, ◌∷◌, [], List};
-ghost use Rattle.tp_entries.specs.Counting.{CanGrow, counts_of};
+ghost use Rattle.tp_entries.specs.Counting.{AreOneMore, CanGrow, counts_of};
 ghost use Rattle.tp_log.specs.declared.log_line.LogLine.{LogLine};
 
 use tp_log::LogLine;
@@ -32,8 +32,9 @@ impl Counts {
     /// With one line more.
     pub fn with(self, told: &LogLine) -> Counts
         requires room { CanGrow self }
-        ensures { (lines : List LogLine) → self ≡ counts_of lines
+        ensures counted { (lines : List LogLine) → self ≡ counts_of lines
             → result ≡ counts_of (lines ++ told.now ∷ []) }
+        ensures grows { AreOneMore self result }
     {
         match told {
             LogLine::Event(_) => Counts {
