@@ -16,7 +16,6 @@ use Rattle.tp_turn.specs.States.{SessionState}
 use Rattle.tp_turning.specs.Events.{LiveTurn}
 use Rattle.tp_turning.specs.WholeTurns.{AnswersBack, DoesRight}
 use Rattle.tp_turning.proofs.WholeEvents.{whole-clock_holds, whole-turns_hold}
-use Rattle.tp_outages.proofs.OutagesKeep.{through}
 use Rattle.tp_runs.specs.Wholes.{IsWhole}
 use Rattle.tp_log_runs.specs.Accepting.{AcceptedTurn, AcceptedTurnsComeBack, bound_claims}
 use Rattle.tp_log_runs.proofs.TreesOn.{takes-back}
@@ -45,14 +44,14 @@ module _ (machine : Machine) where
     quiet : (event : Event) → IsNoClock event → AcceptedTurn machine event whole trees records whole' rest → AcceptedTurn machine event s trees records (live_part machine whole') rest
     quiet event still turn =
         subst (λ x. AcceptedTurn machine event x trees records (live_part machine whole') rest) w.live
-        (whole-turns_hold steps machine trust does-right event whole trees records whole' rest alone (through machine w.totals whole w.order) still turn)
+        (whole-turns_hold steps machine trust does-right event whole trees records whole' rest alone w.through still turn)
 
     by-event : (event : Event) → AcceptedTurn machine event whole trees records whole' rest → LiveTurn steps machine event s trees records (live_part machine whole') rest
     by-event Bad turn = quiet Bad refl turn
     by-event (NewJob name tray media groups) turn = quiet (NewJob name tray media groups) refl turn
     by-event (Clock to) turn =
         subst (λ x. LiveTurn steps machine (Clock to) x trees records (live_part machine whole') rest) w.live
-        (whole-clock_holds steps machine trust does-right to whole trees records whole' rest alone w.order.plans w.order.lines turn)
+        (whole-clock_holds steps machine trust does-right to whole trees records whole' rest alone w.through.plans w.through.lines turn)
     by-event (Jam name) turn = quiet (Jam name) refl turn
     by-event (Off name) turn = quiet (Off name) refl turn
     by-event (On name) turn = quiet (On name) refl turn

@@ -1,11 +1,10 @@
 -- Entries that are accepted one after another are a lawful log.
-use Rattle.std.proofs.Common.{◌≡◌, ℤ, true, List, [], ◌∷◌, ◌++◌, map, refl, sym, ap, subst}
+use Rattle.std.proofs.Common.{◌≡◌, true, List, [], ◌∷◌, ◌++◌, map, refl, sym, subst}
 use Rattle.tp_bounds.specs.declared.tree.BoundTree.{BoundTree}
 use Rattle.tp_machine.specs.declared.machine.Machine.{Machine}
 use Rattle.tp_turn.specs.Logs.{Entry, Run, spent_on_trust}
 use Rattle.tp_turn.specs.States.{SessionState, empty_state}
-use Rattle.tp_headline.proofs.Headline.{order-empty}
-use Rattle.tp_stock.proofs.StockFacts.{less-none}
+use Rattle.tp_runs.proofs.Lawful.{whole-empty}
 use Rattle.tp_runs.specs.Wholes.{IsWhole}
 use Rattle.tp_log_runs.specs.Accepting.{AcceptedLogsLawful, AreAccepted, IsAccepted, OneMoreAccepted, bound_claims}
 
@@ -20,12 +19,9 @@ module _ (machine : Machine) where
       let (last, run) = run_over log mid s' next behind' others in
       (last, (next, turn, run))
 
-  whole-empty : IsWhole machine empty_state empty_state
-  whole-empty = record { totals = []; order = order-empty machine; live = ap (λ (refills : List ℤ). record empty_state { refills = refills }) (less-none machine [] (λ loc. refl)) }
-
 pub logs_lawful : (machine : Machine) → AcceptedLogsLawful machine
 logs_lawful machine log s accepted =
-    let (last, run) = run_over machine log empty_state s empty_state (whole-empty machine) accepted in
+    let (last, run) = run_over machine log empty_state s empty_state (whole-empty machine 0 true) accepted in
     record { answers = refl; last = last; run = run }
 
 pub one_more : (machine : Machine) → OneMoreAccepted machine

@@ -12,16 +12,15 @@ use Rattle.tp_schedule.specs.declared.records.Record.{Record}
 use Rattle.tp_script.specs.declared.event.Event.{Event}
 use Rattle.tp_script.specs.declared.event.Event.TheVariants.{Bad, Job as NewJob, Clock, Jam, Off, On, Refill}
 use Rattle.tp_turn.specs.Keeping.{live_part}
-use Rattle.tp_turn.specs.Laws.{IsNoClock, IsNoOutage, is_outage, totals_after}
+use Rattle.tp_turn.specs.Laws.{IsNoClock, IsNoOutage, is_outage}
 use Rattle.tp_turn.specs.Logs.{TakesTrees, right_answers, spent_on_trust}
 use Rattle.tp_turn.specs.Planners.{PlannerSteps, right_steps}
 use Rattle.tp_turn.specs.States.{SessionState}
 use Rattle.tp_turn.specs.Turns.{Turn}
-use Rattle.tp_headline.proofs.LawfulLines.{order-turn}
 use Rattle.tp_turning.specs.Events.{LiveTurn}
 use Rattle.tp_turning.specs.LiveTurns.{Follows, PassesTurnOn, SettlesRightly}
 use Rattle.tp_turning.proofs.LiveEvents.{clock-passes_on, outages-pass_on, turns-pass_on}
-use Rattle.tp_outages.proofs.OutagesKeep.{through}
+use Rattle.tp_runs.proofs.ThroughTurns.{through-turn}
 use Rattle.tp_runs.specs.Wholes.{IsWhole}
 use Rattle.tp_log_runs.specs.Accepting.{HasAcceptedTurn, TakesItsTrees, TurnsAccepted, bound_claims}
 use Rattle.tp_log_runs.proofs.TreesOn.{takes-on}
@@ -63,34 +62,33 @@ module _ {P : Type 0} (spent : P → Machine → List Plan → Ask → ℕ → T
   rightly p p' plans live now legal floors does = does.0
 
   module _ (whole s s' : SessionState) (records : List Record) (p p' : P) (w : IsWhole machine whole s) where
-    -- what passes on keeps the order of the whole
+    -- what passes on leaves a whole state
     behind : (event : Event) → PassesTurnOn live_steps whole_steps machine Together event whole p records s' (trees p') → HasAcceptedTurn machine event whole (trees p) records s' (trees p')
     behind event (whole', ((q, turn, same), live)) =
         let accepted = subst (λ ts. Turn whole_steps machine event whole ts records whole' (trees p')) (sym same) turn in (
           whole',
           accepted,
           record {
-            totals = totals_after machine whole event w.totals;
-            order = order-turn whole_steps machine (λ q. spent_on_trust) (λ q plans deed plans' q' does. does.0) event w.totals whole (trees p) records whole' (trees p') accepted w.order;
+            through = through-turn whole_steps machine (λ q. spent_on_trust) (λ q plans deed plans' q' does. does.0) event whole (trees p) records whole' (trees p') tt accepted w.through;
             live = live;
           },
         )
 
     quiet : (event : Event) → IsNoOutage event → IsNoClock event → Turn live_steps machine event s p records s' p' → HasAcceptedTurn machine event whole (trees p) records s' (trees p')
     quiet event calm still turn =
-        behind event (turns-pass_on live_steps whole_steps machine Together (λ p. spent_on_trust) (λ p. spent_on_trust) event whole p records s' p' (trees p') follows refl w.order.plans w.order.lines calm still
+        behind event (turns-pass_on live_steps whole_steps machine Together (λ p. spent_on_trust) (λ p. spent_on_trust) event whole p records s' p' (trees p') follows refl w.through.plans w.through.lines calm still
         (subst (λ x. Turn live_steps machine event x p records s' p') (sym w.live) turn))
 
     outage : (event : Event) → IsTrue (is_outage event) → Turn live_steps machine event s p records s' p' → HasAcceptedTurn machine event whole (trees p) records s' (trees p')
     outage event is turn =
-        behind event (outages-pass_on live_steps whole_steps machine Together (λ p. spent_on_trust) (λ p. spent_on_trust) event whole p records s' p' (trees p') follows rightly refl (through machine w.totals whole w.order) is
+        behind event (outages-pass_on live_steps whole_steps machine Together (λ p. spent_on_trust) (λ p. spent_on_trust) event whole p records s' p' (trees p') follows rightly refl w.through is
         (subst (λ x. Turn live_steps machine event x p records s' p') (sym w.live) turn))
 
     by-event : (event : Event) → LiveTurn live_steps machine event s p records s' p' → HasAcceptedTurn machine event whole (trees p) records s' (trees p')
     by-event Bad turn = quiet Bad refl refl turn
     by-event (NewJob name tray media groups) turn = quiet (NewJob name tray media groups) refl refl turn
     by-event (Clock to) turn =
-        behind (Clock to) (clock-passes_on live_steps whole_steps machine Together (λ p. spent_on_trust) (λ p. spent_on_trust) to whole p records s' p' (trees p') follows refl w.order.plans w.order.lines
+        behind (Clock to) (clock-passes_on live_steps whole_steps machine Together (λ p. spent_on_trust) (λ p. spent_on_trust) to whole p records s' p' (trees p') follows refl w.through.plans w.through.lines
         (subst (λ x. LiveTurn live_steps machine (Clock to) x p records s' p') (sym w.live) turn))
     by-event (Jam name) turn = outage (Jam name) refl turn
     by-event (Off name) turn = outage (Off name) refl turn
