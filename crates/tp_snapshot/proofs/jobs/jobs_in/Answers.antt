@@ -1,0 +1,27 @@
+use Rattle.std.proofs.Common.{◌≡◌, ◌≤◌, ◌∷◌, [], Some, None, length, refl, sym, ap, ◌∙◌, arith, length-append}
+use Rattle.tp_snapshot.specs.Jobs.{job_of}
+use Rattle.tp_snapshot.proofs.Seen.{few-all, read-all, read-none, read-stop, read-turn}
+use Rattle.tp_snapshot.proofs.jobs.jobs_in.Goals as goal
+
+pub loop-value-init : goal.loop-value-init
+loop-value-init c = record {
+  reads = read-none (job_of c.args.machine.now) c.args.values.now c.new-jobs.result c.new-jobs.ensures;
+  many = rw c.new-jobs.ensures refl;
+}
+
+pub returns-in-None : goal.returns-in-None
+returns-in-None c =
+    let few : length c.args.values.now ≤ 1000000 = omega arith in
+    let stop = read-stop (job_of c.args.machine.now) c.args.values.now c.loop-value.jobs c.loop-value.value-index c.value-item.result c.loop-value-test.true c.value-item.is (sym c.read_job.ensures ∙ c.in-None.is) c.loop-value.invariant.reads in
+    sym (few-all (job_of c.args.machine.now) 1000000 c.args.values.now None few stop)
+
+pub loop-value-preserved : goal.loop-value-preserved
+loop-value-preserved c = record {
+  reads = rw c.in_ok-push-in-Some.ensures.ok (read-turn (job_of c.args.machine.now) c.args.values.now c.loop-value.jobs c.loop-value.value-index c.value-item.result c.in-Some.job c.loop-value-test.true c.value-item.is (sym c.read_job.ensures ∙ c.in-Some.is) c.loop-value.invariant.reads);
+  many = rw c.in_ok-push-in-Some.ensures.ok (omega (arith, length-append c.loop-value.jobs (c.in-Some.job ∷ []), c.loop-value.invariant.many));
+}
+
+pub returns : goal.returns
+returns c =
+    let few : length c.args.values.now ≤ 1000000 = omega arith in
+    sym (few-all (job_of c.args.machine.now) 1000000 c.args.values.now (Some c.loop-value.jobs) few (read-all (job_of c.args.machine.now) c.args.values.now c.loop-value.jobs c.loop-value.value-index c.loop-value-test.false c.loop-value.invariant.reads))

@@ -1,0 +1,17 @@
+use Rattle.std.proofs.Common.{ℕ, List, ap, ◌∙◌}
+use Rattle.serde_json.specs.View.{view}
+use Rattle.tp_snapshot.proofs.Depth.{written}
+use Rattle.tp_snapshot.proofs.Named.{has-names}
+use Rattle.tp_snapshot.specs.Written.{snapshot_data}
+use Rattle.tp_snapshot.proofs.writing.write_snapshot.Goals as goal
+
+pub returns : goal.returns
+returns c =
+    written c.in_ok-text.text.items c.in_ok-to_vec.field-0.items c.args.machine.now c.args.standing.now (view c.in_ok-value.value) c.in_ok-text.ensures
+    (c.in_ok-value.ensures ∙ ap (λ (bytes : List ℕ). snapshot_data bytes c.args.machine.now c.args.standing.now) c.as_slice.ensures.value) c.in_ok-to_vec.ensures.utf8 c.in_ok-to_vec.ensures.reads_back
+
+pub snapshot_value-requires-clause-utf8 : goal.snapshot_value-requires-clause-utf8
+snapshot_value-requires-clause-utf8 c = rw c.as_slice.ensures.value c.in_ok-text.ensures.1.utf8
+
+pub snapshot_value-requires-clause-named : goal.snapshot_value-requires-clause-named
+snapshot_value-requires-clause-named c = has-names c.args.machine.now c.args.standing.now c.requires

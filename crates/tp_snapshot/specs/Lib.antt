@@ -1,0 +1,9 @@
+pub mod Written
+pub mod Values
+pub mod Moments
+pub mod Copies
+pub mod Jobs
+pub mod Waiting
+pub mod Plans
+pub mod Texts
+pub mod Told

@@ -1,0 +1,129 @@
+//! The jobs of a snapshot, read and written.
+ghost use Rattle.std.specs.Prelude.{◌≡◌, IfOk, codes, map, true};
+ghost use Rattle.std.specs.List.{list_all};
+ghost use Rattle.serde_json.specs.Data.{array, boolean, member, no_members, object};
+ghost use Rattle.serde_json.specs.View.{items_of, view};
+ghost use Rattle.tp_machine.specs.Rules.{is_among};
+ghost use Rattle.tp_jobs.specs.Refusing.{tray_named};
+ghost use Rattle.tp_snapshot.specs.Jobs.{job_of, jobs_of, tray_in};
+ghost use Rattle.tp_snapshot.specs.Values.{few_read, field_of};
+ghost use Rattle.tp_snapshot.specs.Written.{has_place, job_data};
+
+use crate::looking::{has_members, name_at, read_name, truth_at, value_at, values_at};
+use crate::making::name_value;
+use serde_json::{Value, json};
+use std::alloc::{AllocError, Global};
+use tp_base::{Items, Memory, Name};
+use tp_jobs::{JobRow, JobRows};
+use tp_machine::{LocId, Machine};
+use tp_telling::location_name;
+
+/// The most jobs of a snapshot.
+const MOST_JOBS: usize = 1_000_000;
+
+fn is_tray(trays: &[LocId], place: LocId) -> bool
+    ensures { result ≡ is_among trays.now place }
+{
+    trays.iter().any(|tray| tray.0 == place.0)
+}
+
+/// The tray of this name.
+fn tray_named(machine: &Machine, name: &Name) -> Option<LocId>
+    ensures { result ≡ tray_named machine.now name.now }
+{
+    let place = LocId(machine.locations.find(name)?);
+    if is_tray(machine.trays.as_slice(), place) {
+        Some(place)
+    } else {
+        None
+    }
+}
+
+/// The tray that the value names.
+pub(crate) fn read_tray(machine: &Machine, value: &Value) -> Option<LocId>
+    ensures { result ≡ tray_in machine.now (view value.now) }
+{
+    tray_named(machine, &read_name(value)?)
+}
+
+fn tray_at(machine: &Machine, value: &Value) -> Option<LocId>
+    ensures { result ≡ field_of (codes "tray") (tray_in machine.now) (view value.now) }
+{
+    read_tray(machine, value_at(value, "tray")?)
+}
+
+#[tactic(auto, unfolding(crate::specs::Jobs::job_of, crate::specs::Jobs::job_from))]
+fn read_job(machine: &Machine, value: &Value) -> Option<JobRow>
+    ensures { result ≡ job_of machine.now (view value.now) }
+{
+    if !has_members(value, 3) {
+        return None;
+    }
+    let broken = truth_at(value, "broken")?;
+    let name = name_at(value, "name")?;
+    let tray = tray_at(machine, value)?;
+    Some(JobRow { name, tray, broken })
+}
+
+/// The jobs of the values, where each is one.
+fn jobs_in(alloc: Global, machine: &Machine, values: &[Value]) -> Result<Option<JobRows>, Memory>
+    ensures { IfOk result (λ jobs. jobs
+        ≡ few_read 1000000 (job_of machine.now) (map view values.now)) }
+{
+    if values.len() > MOST_JOBS {
+        return Ok(None);
+    }
+    let mut jobs = Items::new(alloc);
+    for value in values {
+        match read_job(machine, value) {
+            Some(job) => jobs.push(job)?,
+            None => return Ok(None),
+        }
+    }
+    Ok(Some(jobs))
+}
+
+/// The jobs of a snapshot.
+pub(crate) fn read_jobs(
+    alloc: Global,
+    machine: &Machine,
+    value: &Value,
+) -> Result<Option<JobRows>, Memory>
+    ensures { IfOk result (λ jobs. jobs ≡ jobs_of machine.now (view value.now)) }
+{
+    match values_at(value, "jobs") {
+        Some(values) => jobs_in(alloc, machine, values),
+        None => Ok(None),
+    }
+}
+
+fn job_object(alloc: Global, broken: bool, name: Value, tray: Value) -> Result<Value, AllocError>
+    ensures { IfOk result (λ value. view value ≡ object (member (codes "broken") (boolean broken)
+        (member (codes "name") (view name) (member (codes "tray") (view tray) no_members)))) }
+{
+    json!(in alloc; {"broken": broken, "name": name, "tray": tray})
+}
+
+fn job_value(alloc: Global, machine: &Machine, job: &JobRow) -> Result<Value, Memory>
+    requires { has_place machine.now job.now ≡ true }
+    ensures { IfOk result (λ value. view value ≡ job_data machine.now job.now) }
+{
+    let name = name_value(alloc, &job.name)?;
+    let tray = name_value(alloc, &location_name(machine, job.tray))?;
+    Ok(job_object(alloc, job.broken, name, tray)?)
+}
+
+/// An array of the jobs.
+pub(crate) fn jobs_value(alloc: Global, machine: &Machine, jobs: &[JobRow]) -> Result<Value, Memory>
+    requires { list_all (has_place machine.now) jobs.now ≡ true }
+    ensures { IfOk result (λ value. view value
+        ≡ array (items_of (map (job_data machine.now) jobs.now))) }
+{
+    let mut array = Vec::new(alloc);
+    let mut rest = jobs;
+    'jobs: while let [job, others @ ..] = rest {
+        array.push(job_value(alloc, machine, job)?)?;
+        rest = others;
+    }
+    Ok(Value::from(array))
+}

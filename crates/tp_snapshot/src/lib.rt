@@ -1,0 +1,21 @@
+//! Saved sessions: a machine and where its session stands as one line of JSON, written and read.
+#![tactic(auto)]
+
+mod copies;
+mod course;
+mod fault;
+mod jobs;
+mod looking;
+mod making;
+mod moments;
+mod naming;
+mod plans;
+mod reading;
+mod sides;
+mod standing;
+mod waiting;
+mod writing;
+
+pub use fault::TellFault;
+pub use reading::read_standing;
+pub use writing::write_snapshot;
