@@ -6,3 +6,9 @@ pub mod Names
 pub mod TellFacts
 pub mod Named
 pub mod PlanFacts
+pub mod Back
+pub mod OutsBack
+pub mod ListsBack
+pub mod PlansBack
+pub mod ToldBack
+pub mod OneTold

@@ -16,7 +16,7 @@ use Rattle.tp_snapshot.specs.Waiting.{waiting_of}
 none-some : {X : Type 0} (o : Option X) (x : X) → o ≡ None → o ≡ Some x → ⊥
 none-some o x none some = let apart : None ≡ Some x = sym none ∙ some in absurd cc
 
-both : {X : Type 0} (o : Option X) (x y : X) → o ≡ Some x → o ≡ Some y → x ≡ y
+pub both : {X : Type 0} (o : Option X) (x y : X) → o ≡ Some x → o ≡ Some y → x ≡ y
 both o x y one other = same_Some x y (sym one ∙ other)
 
 pub no-waiting : (m : Machine) (d : Data) (jobs : List Job) → jobs_of m d ≡ Some jobs → waiting_of (names_of jobs) d ≡ None → TellsNone m d

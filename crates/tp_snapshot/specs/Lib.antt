@@ -7,3 +7,4 @@ pub mod Waiting
 pub mod Plans
 pub mod Texts
 pub mod Told
+pub mod Laws

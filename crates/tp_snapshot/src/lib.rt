@@ -5,6 +5,7 @@ mod copies;
 mod course;
 mod fault;
 mod jobs;
+mod laws;
 mod looking;
 mod making;
 mod moments;
@@ -17,5 +18,6 @@ mod waiting;
 mod writing;
 
 pub use fault::TellFault;
+pub use laws::standings_are_read_back;
 pub use reading::read_standing;
 pub use writing::write_snapshot;
