@@ -1,0 +1,3 @@
+pub mod TakenTrees
+pub mod Sections
+pub mod Reading

@@ -1,0 +1,61 @@
+-- What a checker has read, with one line more, and at the end.
+use Rattle.std.proofs.Common.{◌≡◌, ℕ, true, List, [], ◌∷◌, ◌++◌, All, map, Option, Some, None, refl, sym, ap, subst, ◌∙◌, append_assoc}
+use Rattle.std.proofs.lemmas.List.{append-nil}
+use Rattle.std.proofs.lemmas.List.Elements.{All-append, All-head, All-nil, All-tail}
+use Rattle.tp_entries.specs.Counting.{counts_of}
+use Rattle.tp_entries.specs.Gathered.{lines_of}
+use Rattle.tp_entries.specs.declared.counts.Counts.{Counts}
+use Rattle.tp_entries.specs.declared.pending.Pending.{Pending}
+use Rattle.tp_log.specs.Gathering.{log_lines}
+use Rattle.tp_log.specs.Logs.{AreInPlace, IsItem, IsLog, StandEach}
+use Rattle.tp_log.specs.declared.item.Item.{Item}
+use Rattle.tp_log.specs.declared.item.Item.TheVariants.{Event, Note, Tree}
+use Rattle.tp_log.specs.declared.log_line.LogLine.{LogLine}
+use Rattle.tp_log_runs.proofs.Lawful.{logs_lawful}
+use Rattle.tp_log_runs.specs.Accepting.{AreAccepted}
+use Rattle.tp_machine.specs.declared.machine.Machine.{Machine}
+use Rattle.tp_turn.specs.States.{SessionState, empty_state}
+use Rattle.tp_log_check.specs.Checking.{CheckerValue, HasRead, HasTaken, IsAcceptedLog, Section, Underway, entries_of, items_of, lines_under, section_items, underway}
+use Rattle.tp_log_check.specs.declared.flaw.Flaw.{Flaw}
+
+-- only the machine, the state and the event that is under way matter
+pub same-taken : (machine : Machine) (state : SessionState) (under : Option Underway) (events events' lines lines' : ℕ) (counts counts' : Counts) (flaw flaw' : Option Flaw) (told : List LogLine)
+    → HasTaken (record { machine = machine; state = state; under = under; events = events; lines = lines; counts = counts; flaw = flaw }) told
+    → HasTaken (record { machine = machine; state = state; under = under; events = events'; lines = lines'; counts = counts'; flaw = flaw' }) told
+same-taken machine state under events events' lines lines' counts counts' flaw flaw' told h = record { sections = h.sections; logs = h.logs; accepted = h.accepted; lines = h.lines }
+
+-- a line more of the event that is under way
+pub line-more : (machine : Machine) (state : SessionState) (events lines : ℕ) (counts : Counts) (flaw : Option Flaw) (p q : Pending) (line : LogLine) (told : List LogLine) → lines_of q ≡ lines_of p ++ line ∷ []
+    → HasTaken (record { machine = machine; state = state; under = Some (underway p); events = events; lines = lines; counts = counts; flaw = flaw }) told
+    → HasTaken (record { machine = machine; state = state; under = Some (underway q); events = events; lines = lines; counts = counts; flaw = flaw }) (told ++ line ∷ [])
+line-more machine state events lines counts flaw p q line told more h = record {
+  sections = h.sections;
+  logs = h.logs;
+  accepted = h.accepted;
+  lines = ap (λ ls. ls ++ line ∷ []) h.lines ∙ append_assoc (log_lines (items_of h.sections)) (lines_of p) (line ∷ []) ∙ ap (λ ls. log_lines (items_of h.sections) ++ ls) (sym more);
+}
+
+-- ---- the sections of a log are a log
+
+stand-on : (before : Item) (xs ys : List Item) → StandEach before xs → AreInPlace ys → StandEach before (xs ++ ys)
+stand-on before [] [] h k = tt
+stand-on before [] (Event e ∷ ys) h k = (tt, k.1)
+stand-on before [] (Note r ∷ ys) h k = absurd cc
+stand-on before [] (Tree t ∷ ys) h k = absurd cc
+stand-on before (x ∷ xs) ys h k = (h.0, stand-on x xs ys h.1 k)
+
+sections-log : (sections : List Section) → All (λ s. IsLog (section_items s)) sections → IsLog (items_of sections)
+sections-log [] h = (tt, All-nil IsItem)
+sections-log (s ∷ sections) h =
+    let first = All-head (λ (s : Section). IsLog (section_items s)) s sections h in
+    let others = sections-log sections (All-tail (λ (s : Section). IsLog (section_items s)) s sections h) in
+    ((refl, stand-on (Event s.event) s.items (items_of sections) first.0.1 others.0), All-append IsItem (section_items s) (items_of sections) first.1 others.1)
+
+pub read-log : (c : CheckerValue) (told : List LogLine) (counts : Counts) → HasTaken c told → c.under ≡ None → counts ≡ counts_of told → IsAcceptedLog c.machine told counts
+read-log c told counts h none counted = record {
+  sections = h.sections;
+  log = sections-log h.sections h.logs;
+  lines = h.lines ∙ ap (λ u. log_lines (items_of h.sections) ++ lines_under u) none ∙ append-nil (log_lines (items_of h.sections));
+  lawful = logs_lawful c.machine (entries_of h.sections) c.state h.accepted;
+  counted = counted;
+}

@@ -1,0 +1,79 @@
+-- What a checker has taken, with one event more that is accepted.
+use Rattle.std.proofs.Common.{◌≡◌, ℕ, ◌+◌, ◌≤◌, true, false, List, [], ◌∷◌, ◌++◌, All, map, Option, Some, None, Result, Ok, Err, refl, sym, ap, subst, ◌∙◌, arith, append_assoc}
+use Rattle.std.specs.Prelude.{IfOk, IsNone}
+use Rattle.std.proofs.lemmas.List.{append-nil, map-append}
+use Rattle.std.proofs.lemmas.List.Concat.{flat_map-append}
+use Rattle.std.proofs.lemmas.List.Elements.{All-append, All-from_recursion, All-nil}
+use Rattle.tp_entries.specs.Gathered.{IsPending, lines_of}
+use Rattle.tp_entries.specs.Gathered as entries
+use Rattle.tp_entries.specs.declared.counts.Counts.{Counts}
+use Rattle.tp_entries.specs.declared.pending.Pending.{Pending}
+use Rattle.tp_log.specs.Gathering.{closed, item_lines, lines_with, log_lines, next_of}
+use Rattle.tp_log.specs.Logs.{IsLog}
+use Rattle.tp_log.specs.declared.item.Item.{Item}
+use Rattle.tp_log.specs.declared.item.Item.TheVariants.{Event, Note, Tree}
+use Rattle.tp_log.specs.declared.log_line.LogLine.{LogLine}
+use Rattle.tp_log.proofs.GatherFacts.{closed-lines, closed_log}
+use Rattle.tp_log_runs.specs.Accepting.{AreAccepted, IsAccepted}
+use Rattle.tp_log_runs.proofs.Lawful.{one_more}
+use Rattle.tp_machine.specs.declared.machine.Machine.{Machine}
+use Rattle.tp_turn.specs.Ready.{CanTakeEvents, KeepsStock, last_copy}
+use Rattle.tp_turn.specs.States.{SessionState, empty_state}
+use Rattle.tp_turn.proofs.ReadyTurns.{events-more}
+use Rattle.tp_turn.proofs.StockKept.{stock-more}
+use Rattle.tp_log_check.specs.Checking.{CanGoOn, CheckerValue, HasTaken, Section, entries_of, items_of, lines_under, section_items, underway}
+use Rattle.tp_log_check.specs.Judging.{entry}
+use Rattle.tp_log_check.specs.declared.flaw.Flaw.{Flaw}
+
+-- what holds where nothing was found
+pub judged : {A E P : Type 0} (r : Result (Option A) E) (found : Option A) → r ≡ Ok found → found ≡ None → IfOk r (λ f. IsNone f → P) → P
+judged {A} {E} {P} r found is none h = (subst (λ x. IfOk x (λ (f : Option A). IsNone f → P)) (is ∙ ap (λ (f : Option A). Ok f) none) h) refl
+
+pub is-none : {A : Type 0} (o : Option A) → o ≡ None → IsNone o
+is-none o e = subst IsNone (sym e) refl
+
+-- ---- what holds between calls
+
+pub can-take : (machine : Machine) (s : SessionState) (pending : Option Pending) (events : ℕ) → CanGoOn machine s pending events → CanTakeEvents machine last_copy s
+can-take machine s pending events c = let h = c.behind in let k = c.few in events-more machine c.taken last_copy s (omega (arith, h, k)) c.can
+
+pub keeps-stock : (machine : Machine) (s : SessionState) (pending : Option Pending) (events : ℕ) → CanGoOn machine s pending events → KeepsStock machine last_copy s
+keeps-stock machine s pending events c = let h = c.behind in let k = c.few in stock-more machine c.taken last_copy s (omega (arith, h, k)) c.stocked
+
+pub went-on : (machine : Machine) (s s' : SessionState) (p : Pending) (before after : Option Pending) (events : ℕ) → CanGoOn machine s before events → before ≡ Some p → after ≡ None
+    → ((n : ℕ) → CanTakeEvents machine n s → CanTakeEvents machine (n + 1) s') → ((n : ℕ) → KeepsStock machine n s → KeepsStock machine (n + 1) s') → CanGoOn machine s' after events
+went-on machine s s' p before after events c is none can stocked = subst (λ o. CanGoOn machine s' o events) (sym none) (go (subst (λ o. CanGoOn machine s o events) is c)) where
+  go : CanGoOn machine s (Some p) events → CanGoOn machine s' None events
+  go c = record {
+    under = tt;
+    taken = c.taken + 1;
+    behind = let h = c.behind in omega (arith, h);
+    few = c.few;
+    can = can c.taken c.can;
+    stocked = stocked c.taken c.stocked;
+  }
+
+-- ---- what was taken
+
+module _ (machine : Machine) (state state' : SessionState) (events lines : ℕ) (counts : Counts) (flaw : Option Flaw) (p q : Pending) where
+  abbrev before : CheckerValue
+  before = record { machine = machine; state = state; under = Some (underway p); events = events; lines = lines; counts = counts; flaw = flaw }
+
+  abbrev after : CheckerValue
+  after = record { machine = machine; state = state'; under = None; events = events; lines = lines; counts = counts; flaw = flaw }
+
+  pub taken-more : IsPending p → entries.items_of q ≡ closed (entries.items_of p) p.tree → IsAccepted machine state (entry q.event q.items.items) state' → (told : List LogLine) → HasTaken before told → HasTaken after told
+  taken-more pending ended accepted told h =
+      let last : Section = record { event = q.event; items = q.items.items } in
+      let all_items : items_of (h.sections ++ last ∷ []) ≡ items_of h.sections ++ entries.items_of q = flat_map-append section_items h.sections (last ∷ []) ∙ ap (λ is. items_of h.sections ++ is) (append-nil (section_items last)) in
+      let log : IsLog (section_items last) = subst IsLog (sym ended) (closed_log (entries.items_of p) p.tree (next_of (lines_of p)) pending.gathered) in
+      let last_lines : log_lines (entries.items_of q) ≡ lines_with (entries.items_of p) p.tree = ap log_lines ended ∙ closed-lines (entries.items_of p) p.tree in
+      let all_lines : log_lines (items_of (h.sections ++ last ∷ [])) ≡ log_lines (items_of h.sections) ++ lines_with (entries.items_of p) p.tree =
+      ap log_lines all_items ∙ flat_map-append item_lines (items_of h.sections) (entries.items_of q) ∙ ap (λ ls. log_lines (items_of h.sections) ++ ls) last_lines in
+      record {
+        sections = h.sections ++ last ∷ [];
+        logs = All-append (λ s. IsLog (section_items s)) h.sections (last ∷ []) h.logs (All-from_recursion (λ s. IsLog (section_items s)) (last ∷ []) (log, tt));
+        accepted = subst (λ es. AreAccepted machine empty_state es state') (sym (map-append (λ (s : Section). entry s.event s.items) h.sections (last ∷ [])))
+            (one_more machine (entries_of h.sections) (entry q.event q.items.items) empty_state state state' h.accepted accepted);
+        lines = h.lines ∙ sym all_lines ∙ sym (append-nil (log_lines (items_of (h.sections ++ last ∷ []))));
+      }

@@ -1,0 +1,31 @@
+use Rattle.std.proofs.Common.{◌≡◌, refl, sym, ap, subst, ◌∙◌}
+use Rattle.std.specs.Prelude.{IfSome, option_map}
+use Rattle.tp_entries.specs.Gathered.{IsPending}
+use Rattle.tp_turn.specs.LiveStates.{seen}
+use Rattle.tp_log_check.specs.Checking.{HasTaken, underway}
+use Rattle.tp_log_check.proofs.Sections.{is-none, keeps-stock, taken-more, went-on}
+use Rattle.tp_log_check.proofs.checker.LogChecker.end_event.Goals as goal
+
+pub look-requires-clause-stocked : goal.look-requires-clause-stocked
+look-requires-clause-stocked c = keeps-stock c.self.inside.machine (seen c.self.inside.state) c.self.inside.pending c.self.inside.events c.self.invariant.0
+
+pub invariant_of-self-in-Ok-None : goal.invariant_of-self-in-Ok-None
+invariant_of-self-in-Ok-None c =
+    let is = sym c.take.ensures.value ∙ c.in-Some.is in
+    let none = is-none c.in-Ok-None.field-0 c.in-Ok-None.field-0-is in (
+      went-on c.self.inside.machine (seen c.self.inside.state) (seen c.look.new.state) c.in-Some.pending c.self.inside.pending c.take.new.self c.self.inside.events c.self.invariant.0 is c.take.ensures.after
+          (c.in-Ok-None.ensures.kept none) (c.in-Ok-None.ensures.stocked none),
+      c.self.invariant.1,
+    )
+
+pub returns-in-Ok-None-clause-taken : goal.returns-in-Ok-None-clause-taken
+returns-in-Ok-None-clause-taken c told h =
+    let is = sym c.take.ensures.value ∙ c.in-Some.is in
+    let p = c.in-Some.pending in
+    let inside = c.self.inside in
+    let pending : IsPending p = subst (λ o. IfSome o IsPending) is c.self.invariant.0.under in
+    let accepted = rw c.in-Ok-None.field-0-is at c.in-Ok-None.ensures.accepted in
+    let seen_h = subst (λ v. HasTaken v told) (sym c.self.view_is) h in
+    let with_p = subst (λ o. HasTaken (record { machine = inside.machine; state = seen inside.state; under = option_map underway o; events = inside.events; lines = inside.lines; counts = inside.counts; flaw = inside.flaw }) told) is seen_h in
+    let more = taken-more inside.machine (seen inside.state) (seen c.look.new.state) inside.events inside.lines inside.counts inside.flaw p c.end.new.self pending c.in-Ok.ensures.items accepted told with_p in
+    subst (λ o. HasTaken (record { machine = inside.machine; state = seen c.look.new.state; under = option_map underway o; events = inside.events; lines = inside.lines; counts = inside.counts; flaw = inside.flaw }) told) (sym c.take.ensures.after) more

@@ -1,0 +1,26 @@
+use Rattle.std.proofs.Common.{◌≡◌, List, sym, ap, subst, ◌∙◌}
+use Rattle.std.specs.Prelude.{IfOk}
+use Rattle.tp_entries.specs.Counting.{counts_of}
+use Rattle.tp_log.specs.declared.log_line.LogLine.{LogLine}
+use Rattle.tp_log_check.specs.Checking.{HasRead, HasTaken, IsAcceptedLog}
+use Rattle.tp_log_check.proofs.Reading.{read-log}
+use Rattle.tp_log_check.proofs.checker.LogChecker.finish.Goals.{in-Ok, in-Err}
+use Rattle.tp_log_check.proofs.checker.LogChecker.finish.Goals as goal
+
+pub returns-clause-lawful : goal.returns-clause-lawful
+returns-clause-lawful c = elim c.match-end_event.branch [
+  | in-Ok w ↦ subst (λ r. IfOk r (λ counts. (told : List LogLine) → HasRead c.args.self.now told → IsAcceptedLog c.args.self.now.machine told counts)) (sym w.result-is) (λ told h.
+      let there = h.taken in
+      let takes = w.in-Ok.ensures.taken told in
+      let next : HasTaken c.end_event.new.self told = search (takes, there) in
+      let now_machine = ap (λ v. v.machine) c.self.view_is in
+      let now_counts = ap (λ v. v.counts) c.self.view_is in
+      let new_counts = ap (λ v. v.counts) c.self-2.view_is in
+      let same_machine = c.end_event.ensures.machine in
+      let same_counts = c.end_event.ensures.counts in
+      let counted = h.counted in
+      let machine : c.end_event.new.self.machine ≡ c.args.self.now.machine = cc in
+      let all : c.self-2.inside.counts ≡ counts_of told = cc in
+      subst (λ m. IsAcceptedLog m told c.self-2.inside.counts) machine (read-log c.end_event.new.self told c.self-2.inside.counts next w.in-Ok.ensures.ended all))
+  | in-Err w ↦ subst (λ r. IfOk r (λ counts. (told : List LogLine) → HasRead c.args.self.now told → IsAcceptedLog c.args.self.now.machine told counts)) (sym w.result-is) tt
+]

@@ -1,0 +1,31 @@
+-- A turn whose notes are the records of the items, and which leaves no tree, accepts them.
+use Rattle.std.proofs.Common.{◌≡◌, List, [], ◌∷◌, ◌++◌, drop, refl, sym, ap, ◌∙◌}
+use Rattle.tp_log.specs.declared.item.Item.{Item}
+use Rattle.tp_schedule.specs.declared.records.Record.{Record}
+use Rattle.tp_runs.specs.Proved.{records_in}
+use Rattle.tp_told.specs.Telling.{ahead}
+use Rattle.tp_turn.specs.LiveStates.{seen}
+use Rattle.tp_turn.specs.Ready.{last_copy}
+use Rattle.tp_log_check.specs.Judging.{trees_in}
+use Rattle.tp_log_check.proofs.TakenTrees.{accepted-as, takes-trees}
+use Rattle.tp_log_check.proofs.judging.judge.Goals as goal
+
+pub returns-in-Ok-clause-accepted : goal.returns-in-Ok-clause-accepted
+returns-in-Ok-clause-accepted c none whole behind =
+    let noted = c.in-Ok.ensures.turn in
+    let right = c.judge_done.ensures.right none in
+    let told = c.args.told.now in
+    let told' = c.take_event.new.planner in
+    let same_items : told'.items ≡ told.items = c.in-Ok.ensures.lasts in
+    let seen_items : c.items.result.now ≡ told.items = c.items.ensures ∙ same_items in
+    let all : c.as_slice.result.now ≡ noted.0 = c.as_slice.ensures.value ∙ noted.1 ∙ ap (λ notes. notes ++ noted.0) c.new-notes.ensures.items in
+    let records : noted.0 ≡ records_in told.items = sym all ∙ right.0 ∙ ap records_in seen_items in
+    let rest : trees_in (ahead told') ≡ [] = (λ i. trees_in (drop (sym c.at.ensures.at i) (sym c.items.ensures i))) ∙ right.1 in
+    accepted-as c.args.machine.now c.args.event.now whole (seen c.take_event.new.state) (trees_in (ahead told)) (trees_in told.items) (trees_in (ahead told')) noted.0 (records_in told.items)
+    (ap (λ n. trees_in (drop n told.items)) c.requires.begins) records rest
+    (c.told_turns_are_whole.ensures c.args.machine.now (λ p. trees_in (ahead p)) (takes-trees c.args.machine.now) c.args.event.now whole (seen c.args.state.now) (seen c.take_event.new.state) noted.0 told told' behind noted.2)
+
+pub returns-in-Ok-clause-stocked : goal.returns-in-Ok-clause-stocked
+returns-in-Ok-clause-stocked c none events keeps =
+    let noted = c.in-Ok.ensures.turn in
+    c.turns_keep_stock.ensures c.args.machine.now last_copy events c.args.event.now (seen c.args.state.now) c.args.told.now noted.0 (seen c.take_event.new.state) c.take_event.new.planner c.requires.can.kept noted.2 keeps

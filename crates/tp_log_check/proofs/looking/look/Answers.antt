@@ -1,0 +1,22 @@
+use Rattle.std.proofs.Common.{◌≡◌, sym, ap, subst, ◌∙◌}
+use Rattle.tp_log_runs.specs.Accepting.{IsAccepted}
+use Rattle.tp_turn.specs.LiveStates.{seen}
+use Rattle.tp_turn.specs.Ready.{CanTakeEvents, KeepsStock}
+use Rattle.tp_log_check.specs.Judging.{entry}
+use Rattle.tp_log_check.proofs.Sections.{is-none}
+use Rattle.tp_log_check.proofs.looking.look.Goals as goal
+
+pub returns-in-Ok-None-clause-accepted : goal.returns-in-Ok-None-clause-accepted
+returns-in-Ok-None-clause-accepted c =
+    let is : IsAccepted c.args.machine.now (seen c.remember.new.self) (entry c.args.pending.now.event c.new-told.result.items) (seen c.judge.new.state) = c.in-Ok-None.ensures.accepted (is-none c.in-Ok-None.field-0 c.in-Ok-None.field-0-is) in
+    let items = c.new-told.ensures.items ∙ ap (λ v. v.items) c.replace-items.ensures.value in
+    subst (λ is. IsAccepted c.args.machine.now (seen c.args.state.now) (entry c.args.pending.now.event is) (seen c.judge.new.state)) items
+    (subst (λ s. IsAccepted c.args.machine.now s (entry c.args.pending.now.event c.new-told.result.items) (seen c.judge.new.state)) c.remember.ensures.stays is)
+
+pub returns-in-Ok-None-clause-kept : goal.returns-in-Ok-None-clause-kept
+returns-in-Ok-None-clause-kept c nothing copies can =
+    c.in-Ok-None.ensures.kept (is-none c.in-Ok-None.field-0 c.in-Ok-None.field-0-is) copies (subst (CanTakeEvents c.args.machine.now copies) (sym c.remember.ensures.stays) can)
+
+pub returns-in-Ok-None-clause-stocked : goal.returns-in-Ok-None-clause-stocked
+returns-in-Ok-None-clause-stocked c nothing events keeps =
+    c.in-Ok-None.ensures.stocked (is-none c.in-Ok-None.field-0 c.in-Ok-None.field-0-is) events (subst (KeepsStock c.args.machine.now events) (sym c.remember.ensures.stays) keeps)

@@ -1,0 +1,3 @@
+pub mod FlawText
+pub mod Judging
+pub mod Checking

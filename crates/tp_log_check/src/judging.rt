@@ -1,0 +1,84 @@
+//! Whether what is told of an event is what its turn tells.
+
+ghost use Rattle.std.specs.Prelude.{◌≡◌, ◌+◌, ◌≤◌, ℕ, [], IfOk, IfSome, IsNone, drop, length};
+ghost use Rattle.tp_log_check.specs.Judging.{entry, trees_in};
+ghost use Rattle.tp_log_runs.specs.Accepting.{IsAccepted};
+ghost use Rattle.tp_runs.specs.Proved.{records_in};
+ghost use Rattle.tp_turn.specs.LiveStates.{seen};
+ghost use Rattle.tp_turn.specs.Ready.{CanTakeEvents, KeepsStock, last_copy};
+
+use crate::parting::{find_parting, find_tree};
+use std::alloc::Global;
+use tp_base::Memory;
+use tp_log::Item;
+use tp_log_runs::told_turns_are_whole;
+use tp_machine::Machine;
+use tp_schedule::{Halt, Record};
+use tp_script::Event;
+use tp_told::{Reason, Stop, Told};
+use tp_turn::LiveState;
+use tp_turning::{take_event, turns_keep_stock};
+
+fn due(item: usize) -> Stop
+    ensures { result.item ≡ item }
+{
+    Stop {
+        item,
+        reason: Reason::Due,
+    }
+}
+
+/// What is wrong where the turn was done.
+fn judge_done(notes: &[Record], items: &[Item], at: usize) -> Option<Stop>
+    requires { at ≤ length items.now }
+    ensures right { IsNone result
+        → (notes.now ≡ records_in items.now) × (trees_in (drop at items.now) ≡ []) }
+{
+    match (find_parting(notes, items), find_tree(items, at)) {
+        (None, None) => None,
+        (Some(item), None) | (None, Some(item)) => Some(due(item)),
+        (Some(one), Some(other)) => Some(due(one.min(other))),
+    }
+}
+
+/// What is wrong where the turn stopped: a record before that is not the one that is due, or what the planner stopped for.
+fn judge_stopped(notes: &[Record], told: &Told) -> Stop {
+    let next = told.next();
+    match find_parting(notes, &told.items()[..next]) {
+        Some(item) => due(item),
+        None => told.stop().unwrap_or(due(next)),
+    }
+}
+
+/// Does the turn of the event with the answers that are told, and says what is wrong. After want of memory, or where something is
+/// wrong, nothing is known of the state, but its lines keep their mark.
+pub(crate) fn judge(
+    alloc: Global,
+    machine: &Machine,
+    state: &mut LiveState,
+    event: &Event,
+    told: &mut Told,
+) -> Result<Option<Stop>, Memory>
+    requires can { CanTakeEvents machine.now last_copy (seen state.old) }
+    requires stocked { KeepsStock machine.now last_copy (seen state.old) }
+    requires begins { told.old.at ≡ 0 }
+    ensures accepted { IfOk result (λ found. IsNone found → IsAccepted machine.now (seen state.old)
+        (entry event.now told.old.items) (seen state.new)) }
+    ensures kept { IfOk result (λ found. IsNone found → (copies : ℕ)
+        → CanTakeEvents machine.now copies (seen state.old)
+        → CanTakeEvents machine.now (copies + 1) (seen state.new)) }
+    ensures stocked { IfOk result (λ found. IsNone found → (events : ℕ)
+        → KeepsStock machine.now events (seen state.old)
+        → KeepsStock machine.now (events + 1) (seen state.new)) }
+    ensures items { told.new.items ≡ told.old.items }
+    ensures marked { state.new.lines.kept ≡ state.old.lines.kept }
+{
+    told_turns_are_whole::<Told>();
+    turns_keep_stock::<Told>();
+    let mut notes = Vec::new(alloc);
+    match take_event(alloc, machine, state, told, event, &mut notes) {
+        Ok(()) => Ok(judge_done(notes.as_slice(), told.items(), told.at())),
+        Err(Halt::Stopped) => Ok(Some(judge_stopped(notes.as_slice(), told))),
+        Err(Halt::Memory) => Err(Memory),
+    }
+}
