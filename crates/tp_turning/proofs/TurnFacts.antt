@@ -35,9 +35,6 @@ match-true b A B e a = subst (λ c. MatchBool c A B) (sym e) a
 pub match-false : (b : Bool) (A B : Type 0) → b ≡ false → B → MatchBool b A B
 match-false b A B e a = subst (λ c. MatchBool c A B) (sym e) a
 
-pub is-full : (machine : Machine) (s : SessionState) (live : ℕ) → live ≡ live_count machine s.now s.plans → 256 ≤ live → is_full machine s ≡ true
-is-full machine s live is most = grind (arith, nat_tests)
-
 pub is-free : (machine : Machine) (s : SessionState) (live : ℕ) → live ≡ live_count machine s.now s.plans → live < 256 → is_full machine s ≡ false
 is-free machine s live is few = grind (arith, nat_tests)
 

@@ -9,7 +9,7 @@ ghost use Rattle.tp_schedule.specs.declared.parts.Halt.TheVariants.{Stopped};
 ghost use Rattle.tp_jobs.specs.Waiting.{find_waiting};
 ghost use Rattle.tp_stock.specs.Stock.{IsBounded};
 ghost use Rattle.tp_turn.specs.Answering.{told_of_reply};
-ghost use Rattle.tp_turn.specs.Asking.{ask_waiting};
+ghost use Rattle.tp_turn.specs.Asking.{ask_waiting, is_full};
 ghost use Rattle.tp_turn.specs.LiveStates.{seen};
 ghost use Rattle.tp_turn.specs.Planners.{right_steps};
 ghost use Rattle.tp_turn.specs.Ready.{CanTakeEvents, KeepsLive, last_copy};
@@ -82,6 +82,16 @@ fn ask_planner<P: Planner>(
     Ok(reply)
 }
 
+/// Whether as many copies are live as may be at once. They are counted only where there are as many plans.
+fn is_full(machine: &Machine, state: &LiveState) -> bool
+    ensures { result ≡ is_full machine.now (seen state.now) }
+{
+    if state.schedule.len() < MOST_LIVE {
+        return false;
+    }
+    state.schedule.live(machine, state.moment) >= MOST_LIVE
+}
+
 /// Gives a copy its turn: notes that too many copies are live, or asks it. Answers whether it was planned. It then waits
 /// no more.
 fn try_copy<P: Planner>(
@@ -112,7 +122,7 @@ fn try_copy<P: Planner>(
     ensures marked { state.new.lines.kept ≡ state.old.lines.kept }
     ensures refills { state.new.refills ≡ state.old.refills }
 {
-    if state.schedule.live(machine, state.moment) >= MOST_LIVE {
+    if is_full(machine, state) {
         let sheet = label(state.lines.name_of(copy.job), copy);
         let Ok(()) = tell_full(sheet, notes) else {
             return Err(Halt::Memory);

@@ -1,31 +1,31 @@
 -- The copy is told full, or it is asked, and waits no more where it is planned.
-use Rattle.std.proofs.Common.{◌≡◌, ◌+◌, inl, inr, true, false, refl, sym, ap, arith}
+use Rattle.std.proofs.Common.{◌≡◌, ◌∙◌, ◌+◌, inl, inr, true, false, refl, sym, ap, arith}
 use Rattle.tp_turn.specs.LiveStates.{seen}
 use Rattle.tp_turn.specs.Planners.{right_steps}
 use Rattle.tp_turn.specs.Ready.{last_copy}
 use Rattle.tp_turning.specs.Phases.{is_planned}
-use Rattle.tp_turning.proofs.TurnFacts.{is-full, is-free, can-ask-made, full-turn, asked-turn, after-planned, after-refused, refused-stays}
+use Rattle.tp_turning.proofs.TurnFacts.{can-ask-made, full-turn, asked-turn, after-planned, after-refused, refused-stays}
 use Rattle.tp_turning.proofs.asking.try_copy.Goals as goal
 
-pub returns-then-live-ge-MOST_LIVE-clause-tried : goal.returns-then-live-ge-MOST_LIVE-clause-tried
-returns-then-live-ge-MOST_LIVE-clause-tried g c =
+pub returns-then-is_full-clause-tried : goal.returns-then-is_full-clause-tried
+returns-then-is_full-clause-tried g c =
     let s = seen c.args.state.now in
     full-turn (right_steps g.P.Planner.spent g.P.Planner.steps g.P.Planner.stop_steps c.args.machine.now) c.args.machine.now s c.args.planner.now c.args.copy c.args.notes.now.items _
     c.name_of.result c.label-sheet.result c.requires.waits c.name_of.ensures c.label-sheet.ensures
-    (is-full c.args.machine.now s c.live.result c.live.ensures (omega (arith, c.if-live-ge-MOST_LIVE.true))) c.in-Ok.ensures
+    (sym c.is_full.ensures ∙ c.if-is_full.true) c.in-Ok.ensures
 
 pub ask_planner-requires-clause-can_ask : goal.ask_planner-requires-clause-can_ask
 ask_planner-requires-clause-can_ask g c =
     let s = seen c.args.state.now in
     can-ask-made c.args.machine.now (last_copy + 1) s c.args.copy c.make_ask-ask.result c.requires.can c.requires.waits c.make_ask-ask.ensures
-    (is-free c.args.machine.now s c.live.result c.live.ensures (omega (arith, c.if-live-ge-MOST_LIVE.false)))
+    (sym c.is_full.ensures ∙ c.if-is_full.false)
 
 pub returns-in-Planned-clause-tried : goal.returns-in-Planned-clause-tried
 returns-in-Planned-clause-tried g c =
     let s = seen c.args.state.now in
     asked-turn (right_steps g.P.Planner.spent g.P.Planner.steps g.P.Planner.stop_steps c.args.machine.now) c.args.machine.now s c.args.planner.now c.args.copy c.args.notes.now.items c.ask_planner.new.notes.items
     c.make_ask-ask.result c.in_ok-ask_planner.field-0 true _ c.ask_planner.new.planner c.requires.waits c.make_ask-ask.ensures
-    (is-free c.args.machine.now s c.live.result c.live.ensures (omega (arith, c.if-live-ge-MOST_LIVE.false)))
+    (sym c.is_full.ensures ∙ c.if-is_full.false)
     c.in_ok-ask_planner.ensures.answers c.in_ok-ask_planner.ensures.told
     (sym (ap is_planned c.in-Planned.is))
     (after-planned s c.args.state.now.lines.kept c.args.copy c.in_ok-ask_planner.field-0 c.ask_planner.new.schedule.plans c.taken.new.self c.in-Planned.is c.taken.ensures)
@@ -41,7 +41,7 @@ returns-in-Never g c =
       tried =
           asked-turn (right_steps g.P.Planner.spent g.P.Planner.steps g.P.Planner.stop_steps c.args.machine.now) c.args.machine.now s c.args.planner.now c.args.copy c.args.notes.now.items c.ask_planner.new.notes.items
           c.make_ask-ask.result c.in_ok-ask_planner.field-0 false _ c.ask_planner.new.planner c.requires.waits c.make_ask-ask.ensures
-          (is-free c.args.machine.now s c.live.result c.live.ensures (omega (arith, c.if-live-ge-MOST_LIVE.false)))
+          (sym c.is_full.ensures ∙ c.if-is_full.false)
           c.in_ok-ask_planner.ensures.answers c.in_ok-ask_planner.ensures.told
           (sym refused)
           (λ w same. after-refused s c.in_ok-ask_planner.field-0 c.ask_planner.new.schedule.plans refused
