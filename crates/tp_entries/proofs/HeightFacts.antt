@@ -1,5 +1,5 @@
 -- The lines of items, one after another.
-use Rattle.std.proofs.Common.{◌≡◌, ◌+◌, List, ◌∷◌, length, length-append}
+use Rattle.std.proofs.Common.{◌≡◌, ◌+◌, List, ◌∷◌, length-append}
 use Rattle.tp_log.specs.Gathering.{item_lines, log_lines}
 use Rattle.tp_log.specs.declared.item.Item.{Item}
 use Rattle.tp_entries.specs.Heights.{height, heights}

@@ -1,5 +1,5 @@
 -- An event that is under way, with one line more.
-use Rattle.std.proofs.Common.{◌≡◌, true, false, List, [], ◌∷◌, ◌++◌, refl, sym, ap, subst, ◌∙◌}
+use Rattle.std.proofs.Common.{◌≡◌, true, false, List, [], ◌∷◌, ◌++◌, refl, sym, subst, ◌∙◌}
 use Rattle.tp_bounds.specs.Lines.{IsNode, IsRow}
 use Rattle.tp_bounds.specs.declared.tree.BoundTree.{BoundTree}
 use Rattle.tp_bounds.specs.declared.tree.Node.{Node as ANode}
@@ -8,13 +8,12 @@ use Rattle.tp_log.specs.Gathering.{AreGathered, behind, closed, lines_with, next
 use Rattle.tp_log.specs.Grammar.{IsRecord}
 use Rattle.tp_log.specs.LogLines.{AreInOrder, takes_node, takes_row}
 use Rattle.tp_log.specs.declared.item.Item.{Item}
-use Rattle.tp_log.specs.declared.item.Item.TheVariants.{Event, Note, Tree}
+use Rattle.tp_log.specs.declared.item.Item.TheVariants.{Event, Note}
 use Rattle.tp_log.specs.declared.log_line.LogLine.{LogLine}
 use Rattle.tp_log.specs.declared.log_line.LogLine.TheVariants as line
 use Rattle.tp_log.proofs.GatherFacts.{empty_tree, lines_with_row, not_in_order, with_node, with_record, with_row}
 use Rattle.tp_log.proofs.Items.{tree_of}
 use Rattle.tp_schedule.specs.declared.records.Record.{Record}
-use Rattle.tp_script.specs.declared.event.Event.{Event as AnEvent}
 use Rattle.tp_entries.specs.Gathered.{IsPending, IsSame, items_of, lines_of}
 use Rattle.tp_entries.specs.declared.next.Next.{Next}
 use Rattle.tp_entries.specs.declared.pending.Pending.{Pending}

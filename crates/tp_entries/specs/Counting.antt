@@ -1,8 +1,7 @@
 -- What is counted of a log: its events, and the plans, nones and budgets that are told in it.
-use Rattle.std.specs.Prelude.{ℕ, ◌+◌, ◌<◌, ◌≤◌, ◌^◌, Bool, true, false, List, count_by}
+use Rattle.std.specs.Prelude.{◌+◌, ◌<◌, ◌≤◌, ◌^◌, Bool, true, false, List, count_by}
 use Rattle.tp_log.specs.declared.log_line.LogLine.{LogLine}
-use Rattle.tp_log.specs.declared.log_line.LogLine.TheVariants.{Event, Note, Room, Node}
-use Rattle.tp_schedule.specs.declared.records.Record.{Record}
+use Rattle.tp_log.specs.declared.log_line.LogLine.TheVariants.{Event, Note}
 use Rattle.tp_schedule.specs.declared.records.Record.TheVariants.{Plan, Never, Budget}
 use Rattle.tp_entries.specs.declared.counts.Counts.{Counts}
 

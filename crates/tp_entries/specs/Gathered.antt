@@ -1,12 +1,9 @@
 -- An event that is under way, as lines of a log.
-use Rattle.std.specs.Prelude.{◌≡◌, ℕ, List, ◌∷◌}
-use Rattle.tp_bounds.specs.declared.tree.BoundTree.{BoundTree}
-use Rattle.tp_script.specs.declared.event.Event.{Event}
+use Rattle.std.specs.Prelude.{◌≡◌, List, ◌∷◌}
 use Rattle.tp_log.specs.Gathering.{AreGathered, lines_with, next_of}
 use Rattle.tp_log.specs.declared.item.Item.{Item}
 use Rattle.tp_log.specs.declared.item.Item.TheVariants as item
 use Rattle.tp_log.specs.declared.log_line.LogLine.{LogLine}
-use Rattle.tp_entries.specs.declared.next.Next.{Next}
 use Rattle.tp_entries.specs.declared.pending.Pending.{Pending}
 
 -- the event and what is told of it so far

@@ -1,5 +1,5 @@
 -- What a checker has read, with one line more, and at the end.
-use Rattle.std.proofs.Common.{◌≡◌, ℕ, true, List, [], ◌∷◌, ◌++◌, All, map, Option, Some, None, refl, sym, ap, subst, ◌∙◌, append_assoc}
+use Rattle.std.proofs.Common.{◌≡◌, ℕ, List, [], ◌∷◌, ◌++◌, All, Option, Some, None, refl, sym, ap, ◌∙◌, append_assoc}
 use Rattle.std.proofs.lemmas.List.{append-nil}
 use Rattle.std.proofs.lemmas.List.Elements.{All-append, All-head, All-nil, All-tail}
 use Rattle.tp_entries.specs.Counting.{counts_of}
@@ -12,10 +12,9 @@ use Rattle.tp_log.specs.declared.item.Item.{Item}
 use Rattle.tp_log.specs.declared.item.Item.TheVariants.{Event, Note, Tree}
 use Rattle.tp_log.specs.declared.log_line.LogLine.{LogLine}
 use Rattle.tp_log_runs.proofs.Lawful.{logs_lawful}
-use Rattle.tp_log_runs.specs.Accepting.{AreAccepted}
 use Rattle.tp_machine.specs.declared.machine.Machine.{Machine}
-use Rattle.tp_turn.specs.States.{SessionState, empty_state}
-use Rattle.tp_log_check.specs.Checking.{CheckerValue, HasRead, HasTaken, IsAcceptedLog, Section, Underway, entries_of, items_of, lines_under, section_items, underway}
+use Rattle.tp_turn.specs.States.{SessionState}
+use Rattle.tp_log_check.specs.Checking.{CheckerValue, HasTaken, IsAcceptedLog, Section, Underway, entries_of, items_of, lines_under, section_items, underway}
 use Rattle.tp_log_check.specs.declared.flaw.Flaw.{Flaw}
 
 -- only the machine, the state and the event that is under way matter

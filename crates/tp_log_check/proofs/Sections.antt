@@ -1,17 +1,15 @@
 -- What a checker has taken, with one event more that is accepted.
-use Rattle.std.proofs.Common.{◌≡◌, ℕ, ◌+◌, ◌≤◌, true, false, List, [], ◌∷◌, ◌++◌, All, map, Option, Some, None, Result, Ok, Err, refl, sym, ap, subst, ◌∙◌, arith, append_assoc}
+use Rattle.std.proofs.Common.{◌≡◌, ℕ, ◌+◌, List, [], ◌∷◌, ◌++◌, Option, Some, None, Result, Ok, refl, sym, ap, subst, ◌∙◌, arith}
 use Rattle.std.specs.Prelude.{IfOk, IsNone}
 use Rattle.std.proofs.lemmas.List.{append-nil, map-append}
 use Rattle.std.proofs.lemmas.List.Concat.{flat_map-append}
-use Rattle.std.proofs.lemmas.List.Elements.{All-append, All-from_recursion, All-nil}
+use Rattle.std.proofs.lemmas.List.Elements.{All-append, All-from_recursion}
 use Rattle.tp_entries.specs.Gathered.{IsPending, lines_of}
 use Rattle.tp_entries.specs.Gathered as entries
 use Rattle.tp_entries.specs.declared.counts.Counts.{Counts}
 use Rattle.tp_entries.specs.declared.pending.Pending.{Pending}
 use Rattle.tp_log.specs.Gathering.{closed, item_lines, lines_with, log_lines, next_of}
 use Rattle.tp_log.specs.Logs.{IsLog}
-use Rattle.tp_log.specs.declared.item.Item.{Item}
-use Rattle.tp_log.specs.declared.item.Item.TheVariants.{Event, Note, Tree}
 use Rattle.tp_log.specs.declared.log_line.LogLine.{LogLine}
 use Rattle.tp_log.proofs.GatherFacts.{closed-lines, closed_log}
 use Rattle.tp_log_runs.specs.Accepting.{AreAccepted, IsAccepted}
@@ -21,7 +19,7 @@ use Rattle.tp_turn.specs.Ready.{CanTakeEvents, KeepsStock, last_copy}
 use Rattle.tp_turn.specs.States.{SessionState, empty_state}
 use Rattle.tp_turn.proofs.ReadyTurns.{events-more}
 use Rattle.tp_turn.proofs.StockKept.{stock-more}
-use Rattle.tp_log_check.specs.Checking.{CanGoOn, CheckerValue, HasTaken, Section, entries_of, items_of, lines_under, section_items, underway}
+use Rattle.tp_log_check.specs.Checking.{CanGoOn, CheckerValue, HasTaken, Section, entries_of, items_of, section_items, underway}
 use Rattle.tp_log_check.specs.Judging.{entry}
 use Rattle.tp_log_check.specs.declared.flaw.Flaw.{Flaw}
 

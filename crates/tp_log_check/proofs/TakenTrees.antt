@@ -1,5 +1,5 @@
 -- The planner that is told its answers takes the trees of its items one after another.
-use Rattle.std.proofs.Common.{◌≡◌, ℕ, Bool, true, false, List, [], ◌∷◌, ◌++◌, map, refl, sym, ap, subst, ◌∙◌}
+use Rattle.std.proofs.Common.{◌≡◌, Bool, true, false, List, [], ◌∷◌, ◌++◌, refl, sym, ap, subst, ◌∙◌}
 use Rattle.std.specs.Prelude.{if◌then◌else◌}
 use Rattle.tp_bounds.specs.declared.tree.BoundTree.{BoundTree}
 use Rattle.tp_log.specs.declared.item.Item.{Item}
@@ -17,7 +17,7 @@ use Rattle.tp_turn.specs.Answering.{moves, told_of_reply}
 use Rattle.tp_turn.specs.Logs.{TakesTree, TakesTrees}
 use Rattle.tp_turn.specs.States.{SessionState}
 use Rattle.tp_log_runs.specs.Accepting.{HasAcceptedTurn, bound_claims}
-use Rattle.tp_told.specs.Telling.{IsShown, TakesOn, Tells, ToldValue, ahead, behind_asides, is_other, notes}
+use Rattle.tp_told.specs.Telling.{TakesOn, Tells, ToldValue, ahead, behind_asides, is_other, notes}
 use Rattle.tp_log_check.specs.Judging.{trees_in}
 
 -- no tree is an aside, nor a record

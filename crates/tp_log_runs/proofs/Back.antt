@@ -1,8 +1,7 @@
 -- An accepted turn on a whole state is one on its live part.
-use Rattle.std.proofs.Common.{◌≡◌, ℕ, true, List, refl, sym, ap, subst, ◌∙◌}
+use Rattle.std.proofs.Common.{ℕ, true, List, refl, subst}
 use Rattle.tp_bounds.specs.declared.tree.BoundTree.{BoundTree}
 use Rattle.tp_machine.specs.declared.machine.Machine.{Machine}
-use Rattle.tp_schedule.specs.Planning.Deed.{replied, settled}
 use Rattle.tp_schedule.specs.declared.parts.Ask.{Ask}
 use Rattle.tp_schedule.specs.declared.parts.Plan.{Plan}
 use Rattle.tp_schedule.specs.declared.records.Record.{Record}
@@ -10,7 +9,7 @@ use Rattle.tp_script.specs.declared.event.Event.{Event}
 use Rattle.tp_script.specs.declared.event.Event.TheVariants.{Bad, Job as NewJob, Clock, Jam, Off, On, Refill}
 use Rattle.tp_turn.specs.Keeping.{live_part}
 use Rattle.tp_turn.specs.Laws.{IsNoClock}
-use Rattle.tp_turn.specs.Logs.{TakesTrees, right_answers, spent_on_trust}
+use Rattle.tp_turn.specs.Logs.{right_answers, spent_on_trust}
 use Rattle.tp_turn.specs.Planners.{PlannerSteps}
 use Rattle.tp_turn.specs.States.{SessionState}
 use Rattle.tp_turning.specs.Events.{LiveTurn}

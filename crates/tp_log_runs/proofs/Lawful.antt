@@ -1,5 +1,5 @@
 -- Entries that are accepted one after another are a lawful log.
-use Rattle.std.proofs.Common.{◌≡◌, true, List, [], ◌∷◌, ◌++◌, map, refl, sym, subst}
+use Rattle.std.proofs.Common.{true, List, [], ◌∷◌, refl, subst}
 use Rattle.tp_bounds.specs.declared.tree.BoundTree.{BoundTree}
 use Rattle.tp_machine.specs.declared.machine.Machine.{Machine}
 use Rattle.tp_turn.specs.Logs.{Entry, Run, spent_on_trust}

@@ -11,7 +11,6 @@ use Rattle.tp_schedule.specs.declared.parts.Reply.TheVariants.{Planned, Never, S
 use Rattle.tp_schedule.specs.declared.records.Record.{Record}
 use Rattle.tp_script.specs.declared.event.Event.{Event}
 use Rattle.tp_script.specs.declared.event.Event.TheVariants.{Bad, Job as NewJob, Clock, Jam, Off, On, Refill}
-use Rattle.tp_turn.specs.Keeping.{live_part}
 use Rattle.tp_turn.specs.Laws.{IsNoClock, IsNoOutage, is_outage}
 use Rattle.tp_turn.specs.Logs.{TakesTrees, right_answers, spent_on_trust}
 use Rattle.tp_turn.specs.Planners.{PlannerSteps, right_steps}

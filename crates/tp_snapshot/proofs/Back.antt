@@ -1,10 +1,9 @@
 -- Names, copies and what is wanted, written and read back.
-use Rattle.std.proofs.Common.{◌≡◌, ◌≢◌, ℕ, suc, ◌<◌, ◌≤◌, ◌^◌, Bool, true, false, List, [], ◌∷◌, ◌++◌, length, get_or, map, All, AllPairs, Option, Some, None, refl, sym, ap, ◌∙◌, arith}
-use Rattle.std.specs.Prelude.{Contains, option_and_then, option_map, position, slice_get}
+use Rattle.std.proofs.Common.{◌≡◌, ◌≢◌, ℕ, suc, ◌<◌, ◌≤◌, Bool, true, false, List, [], ◌∷◌, length, get_or, map, All, AllPairs, Option, Some, refl, sym, arith}
+use Rattle.std.specs.Prelude.{position}
 use Rattle.std.specs.List.{position_or_len}
 use Rattle.std.specs.Str.{bytes_eq}
 use Rattle.std.proofs.lemmas.Bool.{le-leb, lt-ltb}
-use Rattle.std.proofs.lemmas.Option.{slice_get-get_or}
 use Rattle.std.proofs.lemmas.List.Sums.{position_or_len_is}
 use Rattle.std.proofs.lemmas.Slice.Eq.{bytes_eq-Decides}
 use Rattle.serde_json.specs.Data.{Data}
@@ -21,9 +20,9 @@ use Rattle.tp_script.specs.Script.{face_byte, spec_text, want_byte}
 use Rattle.tp_words.proofs.PartFacts.{cut_again, lacks_from}
 use Rattle.tp_words.proofs.Spelling.{name_spells}
 use Rattle.tp_words.specs.Each.{each_read}
-use Rattle.tp_words.specs.Fields.{IsName, name_of, pair_of}
+use Rattle.tp_words.specs.Fields.{IsName, pair_of}
 use Rattle.tp_bounds.proofs.SheetFacts.{sheet_spells}
-use Rattle.tp_bounds.specs.Sheets.{sheet_of, sheet_text}
+use Rattle.tp_bounds.specs.Sheets.{sheet_text}
 use Rattle.tp_turn.specs.Labels.{label_by}
 use Rattle.tp_snapshot.specs.Copies.{copy_of, want_of}
 use Rattle.tp_snapshot.specs.Written.{one_sheet, want_text}

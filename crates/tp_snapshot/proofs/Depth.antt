@@ -1,5 +1,5 @@
 -- What is written nests four deep, so that it is read back.
-use Rattle.std.proofs.Common.{◌≡◌, ap, ◌∙◌, ℕ, suc, ◌≤◌, max, List, [], ◌∷◌, map, length, Option, Some, None, arith, codes}
+use Rattle.std.proofs.Common.{◌≡◌, ap, ◌∙◌, ℕ, ◌≤◌, List, [], ◌∷◌, map, Option, Some, None, arith}
 use Rattle.serde_json.specs.Data.{Data, string, depth, items_depth}
 use Rattle.std.specs.Prelude.{IsUtf8}
 use Rattle.serde_json.specs.Read.{read}

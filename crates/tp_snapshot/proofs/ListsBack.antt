@@ -1,9 +1,8 @@
 -- The lists of a standing, written and read back.
-use Rattle.std.proofs.Common.{◌≡◌, ◌≢◌, ℕ, zero, suc, ◌+◌, ◌<◌, ◌≤◌, ◌==◌, ◌&&◌, Bool, true, false, not, List, [], ◌∷◌, length, get_or, map, take, All, AllPairs, Contains, Option, Some, None, inl, inr, refl, sym, ap, subst, ◌∙◌, arith, codes}
-use Rattle.std.specs.Prelude.{◌↔◌, option_and_then, position, slice_get}
-use Rattle.std.specs.List.{prefix_len, list_any}
+use Rattle.std.proofs.Common.{◌≡◌, ℕ, ◌<◌, ◌≤◌, ◌==◌, true, List, [], length, get_or, map, All, Contains, Option, Some, inl, inr, refl, sym, ap, subst, ◌∙◌, arith}
+use Rattle.std.specs.Prelude.{position}
 use Rattle.std.specs.Str.{bytes_eq}
-use Rattle.std.proofs.lemmas.Bool.{and_from, eq-eqb, le-leb, lt-ltb}
+use Rattle.std.proofs.lemmas.Bool.{eq-eqb, le-leb}
 use Rattle.std.proofs.lemmas.List.{get_or-map, length-map}
 use Rattle.std.proofs.lemmas.List.Elements.{All-contains}
 use Rattle.std.proofs.lemmas.List.Folds.{list_any_at}
@@ -20,9 +19,8 @@ use Rattle.tp_jobs.specs.Backlogs.{names_of}
 use Rattle.tp_jobs.specs.declared.parts.Job.{Job}
 use Rattle.tp_jobs.specs.declared.parts.WaitingCopy.{WaitingCopy}
 use Rattle.tp_words.proofs.Spelling.{name_spells}
-use Rattle.tp_words.specs.Each.{each_read}
 use Rattle.tp_words.specs.Fields.{IsName}
-use Rattle.tp_turn.specs.Labels.{job_name, location_name}
+use Rattle.tp_turn.specs.Labels.{location_name}
 use Rattle.tp_snapshot.proofs.Back.{copy-back, each-back, position-at, want-back}
 use Rattle.tp_snapshot.proofs.Seen.{values_of-items}
 use Rattle.tp_snapshot.specs.Jobs.{DoNamesDiffer, job_from, job_of, tray_in}

@@ -1,6 +1,6 @@
 -- The modules that are out and what is free at the feeders, read one by one.
-use Rattle.std.proofs.Common.{◌≡◌, ℕ, zero, suc, ◌<◌, ◌≤◌, ◌+◌, Bool, true, false, List, [], ◌∷◌, ◌++◌, map, length, drop, get_or, slice_get, Option, Some, None, inl, inr, refl, ap, sym, ◌∙◌, arith, append_assoc}
-use Rattle.std.specs.Prelude.{◌≢◌, option_map, option_and_then}
+use Rattle.std.proofs.Common.{◌≡◌, ℕ, zero, suc, ◌<◌, ◌≤◌, ◌+◌, true, false, List, [], ◌∷◌, ◌++◌, map, length, drop, get_or, slice_get, Option, Some, None, inl, inr, refl, ap, sym, ◌∙◌, arith, append_assoc}
+use Rattle.std.specs.Prelude.{◌≢◌, option_and_then}
 use Rattle.std.proofs.lemmas.List.{drop_all, drop_more, append-nil}
 use Rattle.std.proofs.lemmas.Option.{slice_get_cases}
 use Rattle.serde_json.specs.Data.{Data, string}

@@ -1,17 +1,15 @@
 -- Values of the code beside the data that they stand for.
-use denote.Ref.{Bor}
-use Rattle.std.proofs.Common.{◌≡◌, ℕ, suc, ◌<◌, ◌≤◌, ◌+◌, List, [], ◌∷◌, ◌++◌, map, length, get_or, drop, Option, Some, None, String, Global, refl, ap, sym, ◌∙◌, arith, nat_le, cond, append_assoc}
-use Rattle.std.specs.Prelude.{option_and_then, option_map, ◌==◌}
+use Rattle.std.proofs.Common.{◌≡◌, ℕ, suc, ◌<◌, ◌≤◌, ◌+◌, List, [], ◌∷◌, ◌++◌, map, length, get_or, drop, Option, Some, None, String, Global, refl, ap, sym, ◌∙◌, append_assoc}
+use Rattle.std.specs.Prelude.{option_and_then, option_map}
 use Rattle.std.proofs.lemmas.Bool.{le-leb}
 use Rattle.std.proofs.lemmas.List.{length-map}
-use Rattle.serde_json.proofs.Views.{view-Array, view-Object}
-use Rattle.serde_json.specs.Data.{Data, array, object}
+use Rattle.serde_json.specs.Data.{Data}
 use Rattle.serde_json.specs.Find.{as_array, get}
 use Rattle.serde_json.specs.View.{view, items_of, items_view, members_view}
 use Rattle.serde_json.specs.declared.value.Value.{Value}
 use Rattle.tp_words.specs.Each.{each_read, with_front}
 use Rattle.tp_words.proofs.EachFacts.{each-turn, each-stop, each-end, front-nil}
-use Rattle.tp_snapshot.specs.Values.{count_of, few_read, field_of, has_members, list_of, values_of}
+use Rattle.tp_snapshot.specs.Values.{count_of, few_read, field_of, list_of, values_of}
 
 pub values_of-items : (ds : List Data) → values_of (items_of ds) ≡ ds
 values_of-items [] = refl

@@ -1,15 +1,11 @@
 -- Where a part of a standing is not read, the value tells none.
-use Rattle.std.proofs.Common.{◌≡◌, ℕ, List, Option, Some, None, refl, sym, ap, subst, ◌∙◌}
+use Rattle.std.proofs.Common.{◌≡◌, List, Option, Some, None, sym, ap, ◌∙◌}
 use Rattle.std.proofs.lemmas.Option.{same_Some}
 use Rattle.serde_json.specs.Data.{Data}
 use Rattle.tp_machine.specs.declared.machine.Machine.{Machine}
-use Rattle.tp_schedule.specs.declared.parts.Plan.{Plan}
 use Rattle.tp_jobs.specs.Backlogs.{names_of}
 use Rattle.tp_jobs.specs.declared.parts.Job.{Job}
-use Rattle.tp_jobs.specs.declared.parts.WaitingCopy.{WaitingCopy}
-use Rattle.tp_snapshot.specs.Jobs.{DoNamesDiffer, jobs_of}
-use Rattle.tp_snapshot.specs.Moments.{now_of, outs_of, stock_of}
-use Rattle.tp_snapshot.specs.Plans.{plans_of}
+use Rattle.tp_snapshot.specs.Jobs.{jobs_of}
 use Rattle.tp_snapshot.specs.Told.{TellsNone}
 use Rattle.tp_snapshot.specs.Waiting.{waiting_of}
 

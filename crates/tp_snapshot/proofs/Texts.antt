@@ -1,13 +1,12 @@
 -- The texts of copies and of what is wanted are UTF-8.
-use Rattle.std.proofs.Common.{◌≡◌, ℕ, ◌<◌, Bool, true, ◌&&◌, List, [], ◌∷◌, ◌++◌, IsTrue, append_assoc, arith, lit<}
+use Rattle.std.proofs.Common.{◌≡◌, ℕ, ◌<◌, Bool, true, List, [], ◌∷◌, ◌++◌, IsTrue, append_assoc, arith, lit<}
 use Rattle.std.specs.List.{list_all}
-use Rattle.std.specs.Char.{is_ascii_digit}
 use Rattle.std.specs.Str.{IsAscii, IsUtf8}
 use Rattle.std.proofs.lemmas.Bool.{and_parts}
 use Rattle.std.proofs.lemmas.Bool.Decides.{nat_tests}
 use Rattle.std.proofs.lemmas.Str.{IsUtf8-append, IsUtf8-from_ascii}
 use Rattle.std.proofs.lemmas.Str.Ascii.{IsAscii-nil, IsAscii-cons}
-use Rattle.tp_base.specs.NameText.{is_name_byte, is_name_text}
+use Rattle.tp_base.specs.NameText.{is_name_text}
 use Rattle.tp_machine.specs.declared.parts.Face.{Face}
 use Rattle.tp_machine.specs.declared.parts.Face.TheVariants.{Front, Back}
 use Rattle.tp_machine.specs.declared.parts.Sheet.{Sheet}
@@ -16,7 +15,6 @@ use Rattle.tp_machine.specs.declared.parts.Want.TheVariants.{Blank, Mono, Colour
 use Rattle.tp_machine_text.proofs.NameBytes.{name_utf8}
 use Rattle.tp_schedule.specs.declared.records.SheetName.{SheetName}
 use Rattle.tp_script.specs.Script.{face_byte, spec_text, want_byte}
-use Rattle.tp_words.proofs.Spelling.{either}
 use Rattle.tp_bounds.proofs.SheetFacts.{sheet_byte, sheet_spells}
 use Rattle.tp_bounds.specs.Sheets.{IsSheet, sheet_text}
 use Rattle.tp_snapshot.specs.Written.{one_sheet, want_text}

@@ -1,6 +1,5 @@
 -- What is written for a sound standing is told back.
-use Rattle.std.proofs.Common.{◌≡◌, ℕ, ◌<◌, ◌≤◌, ◌^◌, Bool, true, false, List, [], ◌∷◌, length, get_or, map, All, Option, Some, None, refl, sym, ap, subst, ◌∙◌, codes}
-use Rattle.std.specs.List.{Any}
+use Rattle.std.proofs.Common.{◌≡◌, ℕ, true, List, [], ◌∷◌, length, get_or, map, Option, Some, None, refl, sym, subst, codes}
 use Rattle.std.specs.Str.{bytes_eq}
 use Rattle.std.proofs.lemmas.Bool.{le-leb, ltb-true}
 use Rattle.std.proofs.lemmas.List.Folds.{Any-from_list_any}
@@ -27,7 +26,7 @@ use Rattle.tp_snapshot.specs.Jobs.{job_of}
 use Rattle.tp_snapshot.specs.Laws.{IsSpelled}
 use Rattle.tp_snapshot.specs.Moments.{free_in, now_of, outs_of, stock_from, stock_of}
 use Rattle.tp_snapshot.specs.Plans.{plan_of}
-use Rattle.tp_snapshot.specs.Texts.{IsJson, IsWritten}
+use Rattle.tp_snapshot.specs.Texts.{IsWritten}
 use Rattle.tp_snapshot.specs.Told.{IsToldBy, Tells}
 use Rattle.tp_snapshot.specs.Waiting.{wait_of}
 use Rattle.tp_snapshot.specs.Written.{job_data, out_names, plan_data, snapshot_data, stock_data, wait_data}

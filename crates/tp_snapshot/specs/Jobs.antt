@@ -1,5 +1,5 @@
 -- The jobs of a snapshot.
-use Rattle.std.specs.Prelude.{ℕ, ◌≡◌, ◌≢◌, ◌≤◌, Bool, List, length, Option, Some, None, AllPairs, codes, if◌then◌else◌}
+use Rattle.std.specs.Prelude.{◌≢◌, List, Option, Some, None, AllPairs, codes, if◌then◌else◌}
 use Rattle.serde_json.specs.Data.{Data}
 use Rattle.serde_json.specs.Find.{as_bool}
 use Rattle.tp_machine.specs.declared.machine.Machine.{Machine}

@@ -1,5 +1,5 @@
 -- The plans of a snapshot.
-use Rattle.std.specs.Prelude.{ℕ, ◌+◌, Bool, true, false, ◌&&◌, ◌==◌, nat_le, List, [], ◌∷◌, length, slice_get, take, Option, Some, None, position, codes, if◌then◌else◌}
+use Rattle.std.specs.Prelude.{ℕ, ◌+◌, Bool, true, false, ◌&&◌, ◌==◌, nat_le, List, length, slice_get, take, Option, Some, None, position, codes, if◌then◌else◌}
 use Rattle.std.specs.List.{prefix_len}
 use Rattle.std.specs.Str.{bytes_eq}
 use Rattle.serde_json.specs.Data.{Data, null}
@@ -8,13 +8,11 @@ use Rattle.tp_machine.specs.declared.machine.Machine.{Machine}
 use Rattle.tp_machine.specs.declared.parts.ActId.{ActId}
 use Rattle.tp_machine.specs.declared.parts.Action.{Action}
 use Rattle.tp_machine.specs.declared.parts.LocId.{LocId}
-use Rattle.tp_machine.specs.declared.parts.Sheet.{Sheet}
 use Rattle.tp_schedule.specs.declared.parts.Goal.{Goal}
 use Rattle.tp_schedule.specs.declared.parts.Goal.TheVariants.{Tray, Purge}
 use Rattle.tp_schedule.specs.declared.parts.Kind.{Kind}
 use Rattle.tp_schedule.specs.declared.parts.Kind.TheVariants.{Whole, Front}
 use Rattle.tp_schedule.specs.declared.parts.Plan.{Plan}
-use Rattle.tp_schedule.specs.declared.parts.SheetId.{SheetId}
 use Rattle.tp_words.specs.Fields.{◌>>=◌}
 use Rattle.tp_jobs.specs.Backlogs.{names_of}
 use Rattle.tp_jobs.specs.declared.parts.Job.{Job}

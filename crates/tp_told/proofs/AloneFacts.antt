@@ -1,8 +1,7 @@
 -- What a plan breaks by itself no right plan does.
-use Rattle.std.proofs.Common.{◌≡◌, ℕ, ◌+◌, ◌<◌, ◌≤◌, List, Option, Some, None, inl, inr, arith, refl, sym, subst, pos}
+use Rattle.std.proofs.Common.{ℕ, ◌+◌, ◌<◌, ◌≤◌, List, Option, Some, None, inl, inr, arith, subst}
 use Rattle.std.specs.Prelude.{IfSome, IsSomeAnd, Bool}
 use Rattle.std.proofs.lemmas.Int.{ints}
-use Rattle.tp_machine.specs.Using.{action_at}
 use Rattle.tp_machine.specs.declared.machine.Machine.{Machine}
 use Rattle.tp_machine.specs.declared.parts.Action.{Action}
 use Rattle.tp_schedule.specs.Answers.{KeepsFloors, KeepsHorizon}

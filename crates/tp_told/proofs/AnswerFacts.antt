@@ -2,7 +2,6 @@
 use Rattle.std.proofs.Common.{◌≡◌, ℕ, ◌+◌, ◌<◌, ◌≤◌, ◌&&◌, Bool, true, false, cond, not, List, [], ◌∷◌, ◌++◌, drop, length, refl, sym, ap, subst, ◌∙◌, arith, inl, inr, Contains, All, Option, Some, None}
 use Rattle.std.specs.Prelude.{nat_lt, IsFalse}
 use Rattle.std.proofs.lemmas.Option.{same_Some}
-use Rattle.std.proofs.lemmas.List.{map-append}
 use Rattle.std.proofs.lemmas.List.Elements.{All-contains}
 use Rattle.tp_bounds.specs.declared.tree.BoundTree.{BoundTree}
 use Rattle.tp_log.specs.declared.item.Item.{Item}
@@ -13,13 +12,10 @@ use Rattle.tp_schedule.specs.Legality.{IsLegal}
 use Rattle.tp_schedule.specs.Plans.{AreNamed, IsFormed, IsTimedPlan, change_plan, end_of_plan, is_fixed, is_same_copy, point, plan_of, put_plan, without}
 use Rattle.tp_schedule.specs.declared.parts.Ask.{Ask}
 use Rattle.tp_schedule.specs.declared.parts.Plan.{Plan}
-use Rattle.tp_schedule.specs.declared.parts.Reply.{Reply}
-use Rattle.tp_schedule.specs.declared.parts.Reply.TheVariants.{Never, Planned, Spent}
+use Rattle.tp_schedule.specs.declared.parts.Reply.TheVariants.{Planned}
 use Rattle.tp_schedule.specs.declared.parts.SheetId.{SheetId}
 use Rattle.tp_schedule.specs.declared.records.Record.{Record}
-use Rattle.tp_schedule.specs.declared.records.Record.TheVariants.{Plan as TellsPlan}
-use Rattle.tp_schedule.specs.declared.records.SheetName.{SheetName}
-use Rattle.tp_schedule.proofs.ChangeFacts.{All-plan_of, plan_of-sheet}
+use Rattle.tp_schedule.proofs.ChangeFacts.{All-plan_of}
 use Rattle.tp_schedule.proofs.CopyFacts.{InOrder, plan_of-itself, same_copy-refl}
 use Rattle.tp_schedule.proofs.Membership.{All-from_contains, Contains-cons_cases, Contains-filter_from}
 use Rattle.tp_schedule.proofs.PlanOrder.{All-without, Contains-put_plan, put-without, without-put_plan}
@@ -31,7 +27,6 @@ use Rattle.tp_deciding.proofs.LineFacts.{found-one}
 use Rattle.tp_answers.specs.Alike.{others}
 use Rattle.tp_answers.specs.Faults.{IsGoodPlan, IsRight, exempt_of}
 use Rattle.tp_answers.proofs.AnswerFacts.{exempt-same, plans-of}
-use Rattle.tp_told.specs.Answering.{TakesAnswer}
 use Rattle.tp_told.specs.Moving.{IsKeptPlan, TakesMoves, TellsMoves}
 use Rattle.tp_told.specs.Planning.{IsOnlyPlan, IsToldPlan}
 use Rattle.tp_told.specs.Showing.{BeginsWithTree}

@@ -1,6 +1,5 @@
 -- The plans are gone through from a place on, with the items from another place on.
-use Rattle.std.proofs.Common.{◌≡◌, ℕ, ◌+◌, ◌-◌, ◌≤◌, ◌⊎◌, inl, inr, Bool, true, false, cond, not, List, [], ◌∷◌, ◌++◌, drop, length, map, take, refl, sym, ap, subst, ◌∙◌, arith, Contains, AllPairs, IsTrue, Option, Some, None, slice_get, append_assoc}
-use Rattle.std.specs.Prelude.{IsFalse}
+use Rattle.std.proofs.Common.{◌≡◌, ℕ, ◌+◌, ◌-◌, ◌≤◌, ◌⊎◌, inl, inr, Bool, true, false, cond, not, List, [], ◌∷◌, ◌++◌, drop, length, map, take, refl, sym, ap, subst, ◌∙◌, arith, Contains, IsTrue, Option, Some, None, slice_get, append_assoc}
 use Rattle.std.proofs.lemmas.List.{append-nil, drop_all, length-drop, map-append, take-append-drop}
 use Rattle.std.proofs.lemmas.List.Elements.{All-contains, Contains-append_right}
 use Rattle.std.proofs.lemmas.Slice.Eq.{bytes_eq-Decides}
@@ -23,7 +22,7 @@ use Rattle.tp_deciding.proofs.ListFacts.{take-whole}
 use Rattle.tp_answers.specs.Alike.{AreAlike, KeepsPoints, others}
 use Rattle.tp_answers.proofs.AlikeFacts.{keeps, passes}
 use Rattle.tp_told.specs.Moving.{IsKeptPlan, TakesMoves, TellsMoves, moved_points, points_for}
-use Rattle.tp_told.specs.Telling.{begins_with_move, notes}
+use Rattle.tp_told.specs.Telling.{notes}
 use Rattle.tp_told.proofs.LabelFacts.{Moved, labels-differ, moved-some}
 use Rattle.tp_told.proofs.MoveFacts.{TellsOn, tells-moves, tells-stays, told-moves, told-stays}
 

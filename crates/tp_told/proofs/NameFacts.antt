@@ -1,10 +1,9 @@
 -- Actions of a machine are told apart by their names.
-use Rattle.std.proofs.Common.{◌≡◌, ◌≢◌, ℕ, ◌-◌, ◌<◌, ◌≤◌, ◌++◌, Bool, true, false, drop, take, append_assoc, zero, suc, List, [], ◌∷◌, map, length, refl, sym, ap, ◌∙◌, arith, All, AllPairs, Option, Some, slice_get, get_or, ◌⊎◌, inl, inr}
+use Rattle.std.proofs.Common.{◌≡◌, ◌≢◌, ℕ, ◌-◌, ◌<◌, ◌≤◌, ◌++◌, Bool, true, false, drop, take, append_assoc, zero, suc, List, [], ◌∷◌, map, length, refl, sym, ap, ◌∙◌, arith, All, Some, slice_get, get_or, inl, inr}
 use Rattle.std.proofs.lemmas.Bool.{cases_order}
 use Rattle.std.proofs.lemmas.List.{length-map}
 use Rattle.std.proofs.lemmas.List.Elements.{All-cons, All-head, All-tail}
-use Rattle.tp_machine.specs.Machines.{AreDifferent, IsMachine}
-use Rattle.tp_machine.specs.Using.{action_at}
+use Rattle.tp_machine.specs.Machines.{IsMachine}
 use Rattle.tp_machine.specs.declared.machine.Machine.{Machine}
 use Rattle.tp_machine.specs.declared.parts.ActId.{ActId}
 use Rattle.tp_machine.specs.declared.parts.Action.{Action}

@@ -1,13 +1,13 @@
 -- A plan that is read and placed among the moved ones is what the items tell.
-use Rattle.std.proofs.Common.{◌≡◌, ℕ, suc, ◌+◌, ◌^◌, ◌<◌, ◌≤◌, Bool, true, false, cond, List, [], ◌∷◌, ◌++◌, drop, length, map, refl, sym, ap, subst, ◌∙◌, arith, Option, Some, None}
+use Rattle.std.proofs.Common.{◌≡◌, ℕ, suc, ◌+◌, ◌^◌, ◌<◌, Bool, true, false, cond, List, [], ◌∷◌, drop, length, map, refl, sym, ap, subst, ◌∙◌, arith, Some, None}
 use Rattle.std.proofs.lemmas.List.{length-map}
 use Rattle.std.proofs.lemmas.Option.{same_Some}
 use Rattle.tp_log.specs.declared.item.Item.{Item}
-use Rattle.tp_log.specs.declared.item.Item.TheVariants.{Note, Tree}
+use Rattle.tp_log.specs.declared.item.Item.TheVariants.{Note}
 use Rattle.tp_machine.specs.declared.machine.Machine.{Machine}
-use Rattle.tp_schedule.specs.Answers.{IsAskedFrom, NoneBefore, kept_of}
+use Rattle.tp_schedule.specs.Answers.{IsAskedFrom, NoneBefore}
 use Rattle.tp_schedule.specs.Planning.{CanAsk, HasTimeFrom}
-use Rattle.tp_schedule.specs.Plans.{IsTimedPlan, end_of_plan, is_same_copy, plan_of, put_plan, without}
+use Rattle.tp_schedule.specs.Plans.{end_of_plan, is_same_copy, plan_of, put_plan, without}
 use Rattle.tp_schedule.specs.declared.parts.Ask.{Ask}
 use Rattle.tp_schedule.specs.declared.parts.Origin.{Origin}
 use Rattle.tp_schedule.specs.declared.parts.Origin.TheVariants.{Feeder as FromFeeder, Front as FromFront}
@@ -17,7 +17,6 @@ use Rattle.tp_schedule.specs.declared.parts.Reply.TheVariants.{Never, Planned, S
 use Rattle.tp_schedule.specs.declared.parts.SheetId.{SheetId}
 use Rattle.tp_schedule.specs.declared.records.Record.{Record}
 use Rattle.tp_trees.specs.declared.claim.Claim.TheVariants.{Earliest}
-use Rattle.tp_turn.specs.Answering.{told_of_plan}
 use Rattle.tp_answers.specs.Faults.{IsRight, exempt_of}
 use Rattle.tp_told.specs.Answering.{DoTellPlan, TakesAnswer}
 use Rattle.tp_told.specs.Moving.{DoTellMoves, IsKeptPlan, TakesMoves}

@@ -1,8 +1,8 @@
 -- A plan that was read from a record is told by it, and no other right one is.
-use Rattle.std.proofs.Common.{◌≡◌, ◌≢◌, ℕ, ◌+◌, ◌<◌, ◌≤◌, zero, suc, List, [], ◌∷◌, ◌++◌, drop, take, length, map, refl, sym, ap, subst, ◌∙◌, arith, Bool, true, All, Option, Some, None, IsTrue, slice_get, slice_index, get_or}
+use Rattle.std.proofs.Common.{◌≡◌, ◌≢◌, ℕ, ◌+◌, ◌<◌, ◌≤◌, suc, List, [], ◌∷◌, ◌++◌, drop, take, length, map, refl, sym, ap, subst, ◌∙◌, arith, All, Option, Some, None, IsTrue, slice_get, slice_index}
 use Rattle.std.specs.Prelude.{IfSome}
 use Rattle.std.proofs.lemmas.List.{drop-append-le, drop_all, length-append, length-drop, length-map, take-append-drop}
-use Rattle.std.proofs.lemmas.Option.{get_or_from_slice_get, same_Some, slice_get-get_or}
+use Rattle.std.proofs.lemmas.Option.{same_Some, slice_get-get_or}
 use Rattle.std.proofs.Math.ListN.{get_or-append}
 use Rattle.std.proofs.Math.Seq.{drop-append_seam}
 use Rattle.tp_machine.specs.Machines.{IsMachine}
@@ -12,7 +12,7 @@ use Rattle.tp_schedule.specs.Answers.{AnswersAsk, IsAsked, IsAskedFrom, acts_in,
 use Rattle.std.proofs.lemmas.List.Elements.{All-append, All-nil}
 use Rattle.tp_schedule.specs.Legality.{IsLegal}
 use Rattle.tp_schedule.proofs.ChangeFacts.{All-plan_of}
-use Rattle.tp_schedule.specs.Plans.{IsFormed, IsTimedPlan, end_of_plan, is_fixed, is_front, plan_of, point}
+use Rattle.tp_schedule.specs.Plans.{IsFormed, IsTimedPlan, end_of_plan, is_fixed, plan_of}
 use Rattle.tp_schedule.specs.declared.parts.Ask.{Ask}
 use Rattle.tp_schedule.specs.declared.parts.Kind.TheVariants.{Front}
 use Rattle.tp_schedule.specs.declared.parts.Origin.{Origin}
@@ -24,12 +24,10 @@ use Rattle.tp_schedule.proofs.Pairs.{All-append_right}
 use Rattle.tp_telling.specs.Telling.{IsKnown}
 use Rattle.tp_telling.proofs.ListSteps.{drop_from}
 use Rattle.tp_telling.proofs.NameFacts.{acts-known}
-use Rattle.tp_turn.specs.Answering.{label_of_asked, told_of_plan}
+use Rattle.tp_turn.specs.Answering.{label_of_asked}
 use Rattle.tp_turn.specs.Labels.{action_name, end_location, location_name}
 use Rattle.tp_answers.specs.Alike.{KeepsPoints}
-use Rattle.tp_answers.specs.Faults.{IsGoodPlan}
 use Rattle.tp_told.specs.Planning.{DoFit, HaveNames, IsJoined, IsToldPlan, plan_with, points_behind}
-use Rattle.tp_told.proofs.MoveSteps.{drop-next}
 use Rattle.tp_told.proofs.NameFacts.{one-names}
 
 -- ---- lists of points

@@ -1,5 +1,5 @@
 -- Moves among items that settle the times.
-use Rattle.std.proofs.Common.{◌≡◌, ℕ, Bool, true, false, List, [], ◌∷◌, ◌++◌, drop, refl, sym, ap, subst, ◌∙◌, Contains, All, None}
+use Rattle.std.proofs.Common.{◌≡◌, ℕ, List, [], ◌∷◌, ◌++◌, drop, refl, sym, ap, subst, ◌∙◌, All, None}
 use Rattle.std.specs.Prelude.{IsFalse}
 use Rattle.std.proofs.lemmas.List.Elements.{All-contains}
 use Rattle.tp_log.specs.declared.item.Item.{Item}
@@ -10,7 +10,7 @@ use Rattle.tp_schedule.specs.Plans.{AreNamed, IsTimedPlan}
 use Rattle.tp_schedule.specs.declared.parts.Plan.{Plan}
 use Rattle.tp_schedule.proofs.Membership.{All-from_contains}
 use Rattle.tp_turn.specs.Answering.{moves}
-use Rattle.tp_answers.specs.Alike.{AreAlike, others}
+use Rattle.tp_answers.specs.Alike.{others}
 use Rattle.tp_answers.proofs.AnswerFacts.{alike-of}
 use Rattle.tp_told.specs.Answering.{DoTellSettled, TakesSettled}
 use Rattle.tp_told.specs.Moving.{DoTellMoves, IsKeptPlan, TakesMoves, TellsMoves}

@@ -1,11 +1,9 @@
 -- What is taken from the first item that is no aside on is taken of the items to come.
-use Rattle.std.proofs.Common.{◌≡◌, ℕ, zero, suc, ◌+◌, ◌≤◌, Bool, true, false, cond, List, [], ◌∷◌, ◌++◌, drop, get_or, length, refl, sym, ap, subst, ◌∙◌, arith}
+use Rattle.std.proofs.Common.{◌≡◌, ℕ, zero, suc, ◌+◌, ◌≤◌, Bool, true, false, cond, List, [], ◌∷◌, drop, get_or, length, refl, sym, ap, subst, ◌∙◌, arith}
 use Rattle.tp_log.specs.declared.item.Item.{Item}
 use Rattle.tp_machine.specs.declared.machine.Machine.{Machine}
-use Rattle.tp_schedule.specs.Planning.{Due}
 use Rattle.tp_schedule.specs.Planning.Deed.{replied, settled}
 use Rattle.tp_schedule.specs.Planning.Due.{asking, settling}
-use Rattle.tp_schedule.specs.Plans.{AreNamed}
 use Rattle.tp_schedule.specs.declared.parts.Ask.{Ask}
 use Rattle.tp_schedule.specs.declared.parts.Halt.{Halt}
 use Rattle.tp_schedule.specs.declared.parts.Plan.{Plan}

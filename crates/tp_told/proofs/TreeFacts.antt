@@ -1,5 +1,5 @@
 -- A tree with a flaw is no tree for what is claimed.
-use Rattle.std.proofs.Common.{◌≡◌, ◌≤◌, ◌∙◌, List, [], ◌∷◌, length, get_or, ap, sym, arith, Option, Some, None}
+use Rattle.std.proofs.Common.{◌≡◌, ◌≤◌, ◌∙◌, List, [], ◌∷◌, length, get_or, ap, sym, arith, Option, None}
 use Rattle.tp_log.specs.declared.item.Item.{Item}
 use Rattle.tp_log.specs.declared.item.Item.TheVariants.{Tree}
 use Rattle.tp_machine.specs.declared.machine.Machine.{Machine}

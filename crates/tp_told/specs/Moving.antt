@@ -2,13 +2,12 @@
 use Rattle.std.specs.Prelude.{◌≡◌, ℕ, ◌==◌, ◌&&◌, ◌≤◌, Bool, not, List, [], ◌∷◌, ◌++◌, drop, length, map, Option, Some, None, All, IsFalse, if◌then◌else◌}
 use Rattle.std.specs.Str.{bytes_eq}
 use Rattle.tp_log.specs.declared.item.Item.{Item}
-use Rattle.tp_log.specs.declared.item.Item.TheVariants.{Event, Note, Tree}
+use Rattle.tp_log.specs.declared.item.Item.TheVariants.{Note}
 use Rattle.tp_machine.specs.declared.machine.Machine.{Machine}
 use Rattle.tp_schedule.specs.Answers.{KeepsFloors, KeepsHorizon}
 use Rattle.tp_schedule.specs.Plans.{AreNamed, IsTimedPlan}
 use Rattle.tp_schedule.specs.declared.parts.Plan.{Plan}
 use Rattle.tp_schedule.specs.declared.parts.SheetId.{SheetId}
-use Rattle.tp_schedule.specs.declared.records.Record.{Record}
 use Rattle.tp_schedule.specs.declared.records.Record.TheVariants.{Move}
 use Rattle.tp_schedule.specs.declared.records.SheetName.{SheetName}
 use Rattle.tp_turn.specs.Answering.{label_of_plan, moves}

@@ -1,7 +1,5 @@
 -- A turn whose notes are the records of the items, and which leaves no tree, accepts them.
-use Rattle.std.proofs.Common.{◌≡◌, List, [], ◌∷◌, ◌++◌, drop, refl, sym, ap, ◌∙◌}
-use Rattle.tp_log.specs.declared.item.Item.{Item}
-use Rattle.tp_schedule.specs.declared.records.Record.{Record}
+use Rattle.std.proofs.Common.{◌≡◌, [], ◌++◌, drop, sym, ap, ◌∙◌}
 use Rattle.tp_runs.specs.Proved.{records_in}
 use Rattle.tp_told.specs.Telling.{ahead}
 use Rattle.tp_turn.specs.LiveStates.{seen}

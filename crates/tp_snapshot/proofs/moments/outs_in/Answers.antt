@@ -1,4 +1,4 @@
-use Rattle.std.proofs.Common.{◌≡◌, ◌≤◌, ◌<◌, length, refl, sym, ◌∙◌, arith}
+use Rattle.std.proofs.Common.{◌<◌, length, sym, ◌∙◌, arith}
 use Rattle.tp_snapshot.proofs.Outs.{out-passed, out-taken, outs-all, outs-more, passed-none}
 use Rattle.tp_snapshot.proofs.moments.outs_in.Goals as goal
 use Rattle.tp_snapshot.proofs.moments.outs_in.Goals.{then-taken-values+then-is_text, else-taken-values, else-taken-values-via-then-taken-values+else-is_text, else-taken-values-via-else-taken-values}

@@ -1,4 +1,4 @@
-use Rattle.std.proofs.Common.{◌≡◌, ◌<◌, Vec, Global, length, map, refl, sym, ap, ◌∙◌, arith}
+use Rattle.std.proofs.Common.{Vec, Global, map, sym, ap, ◌∙◌, arith}
 use Rattle.serde_json.specs.Data.{string}
 use Rattle.serde_json.specs.declared.value.Value.{Value}
 use Rattle.tp_snapshot.proofs.Outs.{out-left, out-written}

@@ -1,4 +1,4 @@
-use Rattle.std.proofs.Common.{◌≡◌, ◌≤◌, ◌∷◌, [], Some, None, length, refl, sym, ap, ◌∙◌, arith, length-append}
+use Rattle.std.proofs.Common.{◌≤◌, ◌∷◌, [], Some, None, length, refl, sym, ◌∙◌, arith, length-append}
 use Rattle.tp_snapshot.specs.Plans.{plan_of}
 use Rattle.tp_snapshot.proofs.Seen.{few-all, read-all, read-none, read-stop, read-turn}
 use Rattle.tp_snapshot.proofs.plans.plans_in.Goals as goal

@@ -1,11 +1,9 @@
-use Rattle.std.proofs.Common.{◌≡◌, ◌≤◌, ◌+◌, true, List, ℕ, Some, None, length, refl, sym, ap, ◌∙◌, arith}
-use Rattle.std.specs.Prelude.{slice_get}
+use Rattle.std.proofs.Common.{◌≡◌, ◌+◌, List, ℕ, Some, length, sym, ap, ◌∙◌, arith}
 use Rattle.serde_json.specs.View.{view}
 use Rattle.tp_schedule.specs.declared.parts.Plan.{Plan}
 use Rattle.tp_jobs.specs.Backlogs.{names_of}
 use Rattle.tp_snapshot.proofs.PlanFacts.{plan-made}
-use Rattle.tp_snapshot.specs.Plans.{course_of, owner_of}
-use Rattle.tp_snapshot.specs.Values.{has_members}
+use Rattle.tp_snapshot.specs.Plans.{owner_of}
 use Rattle.tp_snapshot.proofs.plans.read_plan.Goals as goal
 
 pub plan_with-requires-clause-points : goal.plan_with-requires-clause-points

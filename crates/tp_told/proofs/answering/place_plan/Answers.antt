@@ -8,7 +8,6 @@ use Rattle.tp_schedule.specs.Plans.{end_of_plan, plan_of}
 use Rattle.tp_trees.specs.declared.claim.Claim.TheVariants.{Earliest}
 use Rattle.tp_answers.specs.Faults.{IsRight}
 use Rattle.tp_told.specs.Answering.{DoTellPlan}
-use Rattle.tp_told.specs.Failing.{Denies}
 use Rattle.tp_told.specs.Moving.{DoTellMoves}
 use Rattle.tp_told.specs.Showing.{BeginsWithTree}
 use Rattle.tp_told.proofs.MoveSteps.{rest-is}

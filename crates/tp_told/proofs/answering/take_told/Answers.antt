@@ -1,5 +1,5 @@
 -- A plan is told by its record, and a none by its tree.
-use Rattle.std.proofs.Common.{◌≡◌, ◌∷◌, subst, sym}
+use Rattle.std.proofs.Common.{◌∷◌, subst, sym}
 use Rattle.tp_log.specs.declared.item.Item.TheVariants.{Note}
 use Rattle.tp_schedule.specs.Planning.Due.{asking}
 use Rattle.tp_schedule.specs.declared.parts.Reply.TheVariants.{Never, Spent}

@@ -1,4 +1,4 @@
-use Rattle.std.proofs.Common.{◌≡◌, ◌≢◌, ◌<◌}
+use Rattle.std.proofs.Common.{◌≢◌, ◌<◌}
 use Rattle.tp_machine.specs.declared.parts.ActId.{ActId}
 use Rattle.tp_turn.specs.Labels.{action_name}
 use Rattle.tp_told.proofs.naming.act_named.Given as goal

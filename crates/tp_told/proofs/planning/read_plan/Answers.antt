@@ -1,7 +1,6 @@
 -- What is read makes one plan, and no other right one is told.
-use Rattle.std.proofs.Common.{◌≡◌, ◌++◌, ◌∙◌, List, Option, Bool, true, false, All, ap, subst, sym}
+use Rattle.std.proofs.Common.{◌≡◌, ◌++◌, ◌∙◌, All, ap, subst, sym}
 use Rattle.std.specs.Prelude.{IfSome, option_copied}
-use Rattle.tp_machine.specs.declared.parts.ActId.{ActId}
 use Rattle.tp_schedule.specs.Answers.{AnswersAsk, acts_in}
 use Rattle.tp_schedule.specs.Plans.{IsFormed, plan_of}
 use Rattle.tp_schedule.specs.declared.parts.Plan.{Plan}
@@ -10,7 +9,7 @@ use Rattle.tp_telling.specs.Telling.{IsKnown}
 use Rattle.tp_turn.specs.Answering.{label_of_asked}
 use Rattle.tp_turn.specs.Labels.{end_location, location_name}
 use Rattle.tp_told.specs.Planning.{DoFit, IsToldPlan, plan_with}
-use Rattle.tp_told.proofs.PlanFacts.{IsRead, fits, is-made, made-formed, made-told, made-known, read-from, told-of}
+use Rattle.tp_told.proofs.PlanFacts.{fits, is-made, made-formed, made-told, made-known, read-from, told-of}
 use Rattle.tp_told.proofs.planning.read_plan.Goals as goal
 
 pub returns-in-Some : goal.returns-in-Some

@@ -1,5 +1,4 @@
-use Rattle.std.proofs.Common.{◌≡◌, ◌+◌, ◌≤◌, List, [], ◌∷◌, ◌++◌, sym, ap, subst, ◌∙◌, arith}
-use Rattle.tp_entries.specs.Counting.{counts_of}
+use Rattle.std.proofs.Common.{◌+◌, [], ◌∷◌, ◌++◌, sym, ap, subst, ◌∙◌, arith}
 use Rattle.tp_turn.specs.LiveStates.{seen}
 use Rattle.tp_log_check.specs.Checking.{HasTaken, underway}
 use Rattle.tp_log_check.proofs.Reading.{same-taken}

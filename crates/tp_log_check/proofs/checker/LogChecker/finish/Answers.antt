@@ -1,4 +1,4 @@
-use Rattle.std.proofs.Common.{◌≡◌, List, sym, ap, subst, ◌∙◌}
+use Rattle.std.proofs.Common.{◌≡◌, List, sym, ap, subst}
 use Rattle.std.specs.Prelude.{IfOk}
 use Rattle.tp_entries.specs.Counting.{counts_of}
 use Rattle.tp_log.specs.declared.log_line.LogLine.{LogLine}

@@ -1,4 +1,4 @@
-use Rattle.std.proofs.Common.{◌≡◌, [], refl, sym, subst, arith}
+use Rattle.std.proofs.Common.{[], refl, sym, subst, arith}
 use Rattle.std.proofs.lemmas.List.Elements.{All-nil}
 use Rattle.tp_log.specs.Logs.{IsLog}
 use Rattle.tp_turn.specs.Ready.{CanTakeEvents, KeepsStock}
