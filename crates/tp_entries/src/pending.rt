@@ -120,7 +120,8 @@ impl Pending {
         ensures lines { IfOk result (λ stands. MatchBool stands
             (lines_of self.new ≡ lines_of self.old ++ RowLine row ∷ [])
             (AreInOrder (lines_of self.old ++ RowLine row ∷ []) → ⊥)) }
-        ensures off { IfOk result (λ stands. MatchBool stands (Unit {0}) (IsSame self.old self.new)) }
+        ensures off { IfOk result (λ stands.
+            MatchBool stands (Unit {0}) (IsSame self.old self.new)) }
         ensures event { self.new.event ≡ self.old.event }
         ensures line { self.new.line ≡ self.old.line }
         ensures memory { OnErr result (IsSame self.old self.new) }
@@ -141,7 +142,8 @@ impl Pending {
         ensures lines { IfOk result (λ stands. MatchBool stands
             (lines_of self.new ≡ lines_of self.old ++ NodeLine node ∷ [])
             (AreInOrder (lines_of self.old ++ NodeLine node ∷ []) → ⊥)) }
-        ensures off { IfOk result (λ stands. MatchBool stands (Unit {0}) (IsSame self.old self.new)) }
+        ensures off { IfOk result (λ stands.
+            MatchBool stands (Unit {0}) (IsSame self.old self.new)) }
         ensures event { self.new.event ≡ self.old.event }
         ensures line { self.new.line ≡ self.old.line }
         ensures memory { OnErr result (IsSame self.old self.new) }

@@ -30,7 +30,12 @@ impl Model for Told {
 
     ghost Value = { ToldValue };
 
-    ghost view = { λ p. record { items = p.items.items; at = p.at; stops = p.stops; stop = p.stop } };
+    ghost view = { λ p. record {
+      items = p.items.items;
+      at = p.at;
+      stops = p.stops;
+      stop = p.stop;
+    } };
 
     ghost invariant = { λ p. p.at ≤ length p.items.items };
 }
