@@ -16,6 +16,4 @@ mod scripts;
 #[cfg(test)]
 mod sessions;
 #[cfg(test)]
-mod standings;
-#[cfg(test)]
 mod stocks;

@@ -45,7 +45,7 @@ pub(crate) fn on_duo(script: &[u8]) -> Given<'_> {
     }
 }
 
-pub(crate) fn words_of(alloc: Global, texts: &[&str]) -> Result<Vec<String>, Fail> {
+fn words_of(alloc: Global, texts: &[&str]) -> Result<Vec<String>, Fail> {
     let mut words = Vec::new(alloc);
     for text in texts {
         words.push(String::from_str(alloc, text)?)?;
