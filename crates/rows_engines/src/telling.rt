@@ -42,7 +42,8 @@ fn edge_names<N: Network>(
 pub(crate) fn reason_of<N: Network>(alloc: Global, board: &Board<N>) -> Result<Reason, Fail>
     requires stands { (m : Machine) × Stands N.net N.content N.past board.now m }
     requires told { IsTold N.refutes board.now }
-    ensures { IfOk result (λ reason. AreNames N.refutes board.now reason.first reason.edges.items) }
+    ensures { IfOk result
+        (λ reason. AreNames N.refutes board.now reason.first reason.edges.items) }
 {
     match board.reason() {
         Proof::Chain { first, edges } => Ok(Reason {
@@ -64,7 +65,8 @@ pub(crate) fn reason_by<N: Network>(
 ) -> Result<Reason, Fail>
     requires stands { (m : Machine) × Stands N.net N.content N.past board.old m }
     requires open { IsSome (suffix_of board.old) }
-    ensures { IfOk result (λ reason. AreNames N.refutes board.new reason.first reason.edges.items) }
+    ensures { IfOk result
+        (λ reason. AreNames N.refutes board.new reason.first reason.edges.items) }
 {
     if board.end_bound() <= last {
         return Err(Fail::from("the end can come by then"));

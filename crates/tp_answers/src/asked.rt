@@ -71,7 +71,8 @@ fn does_lead_from(machine: &Machine, ask: &Ask, acts: &[ActId], start: State) ->
 }
 
 fn does_lead_from_feeder(machine: &Machine, ask: &Ask, acts: &[ActId]) -> bool
-    ensures { IsTrue result ↔ Any (λ f. LeadsFrom machine.now ask.entry.now acts.now (fresh f.loc))
+    ensures { IsTrue result
+        ↔ Any (λ f. LeadsFrom machine.now ask.entry.now acts.now (fresh f.loc))
         machine.now.feeders }
 {
     'feeders: for at in 0..machine.feeders.len() {

@@ -37,7 +37,8 @@ pub enum Fault {
 /// What is wrong with the plan that the asked copy has in the second schedule, at this place.
 fn find_in_plan(machine: &Machine, ask: &Ask, before: &Schedule, plan: &Plan) -> Option<Fault>
     requires { IsFormed plan.now }
-    ensures right { IsNone result ↔ IsGoodPlan machine.now before.now.plans ask.entry.now plan.now }
+    ensures right { IsNone result ↔ IsGoodPlan machine.now before.now.plans
+        ask.entry.now plan.now }
     ensures fault { IfSome result
         (IsPlanFault machine.now before.now.plans ask.entry.now plan.now) }
 {

@@ -8,5 +8,6 @@ ghost use Rattle.tp_base.specs.Refute.{IsLateChain, IsLateCircle};
 pub fn proofs_refute()
     ensures chain { (net : Net) (first : ℕ) (edges : List Edge) → IsLateChain net first edges
         → HasNoSolution net }
-    ensures circle { (net : Net) (edges : List Edge) → IsLateCircle net edges → HasNoSolution net }
+    ensures circle { (net : Net) (edges : List Edge) → IsLateCircle net edges
+        → HasNoSolution net }
 {}

@@ -100,7 +100,8 @@ pub trait Network: Undo {
     fn load(&mut self, edges: &[Edge])
         requires known { All (IsKnown (length (net self.old).lows)) edges.now }
         requires spare { length (net self.old).edges + length edges.now ≤ max_edges self.old }
-        requires solution { (x : ℕ → ℕ) × IsSolution (with_edges (net self.old) edges.now) x }
+        requires solution { (x : ℕ → ℕ) × IsSolution
+            (with_edges (net self.old) edges.now) x }
         ensures added { net self.new ≡ with_edges (net self.old) edges.now }
         ensures solved { HasLeast (net self.new) }
         ensures past { Self.past self.new ≡ Self.past self.old }
@@ -133,7 +134,8 @@ pub trait Network: Undo {
         ensures { (late : Net) → refutes self.now late → Refutes late result };
 
     /// What a mark keeps is the net.
-    ghost net_by_content: { (a b : Self) → Self.content a ≡ Self.content b → net a ≡ net b };
+    ghost net_by_content: { (a b : Self) → Self.content a ≡ Self.content b
+        → net a ≡ net b };
 
     /// What marks leave alone has what is kept of the last refusal,
     ghost refutes_by_aside: { (a b : Self) (late : Net) → Self.aside a ≡ Self.aside b

@@ -16,7 +16,8 @@ pub fn trace_causes(
     requires causes { AreCauses causes.now }
     requires path_room { length causes.now ≤ vec_capacity path.old }
     requires places_room { length causes.now ≤ vec_capacity places.old }
-    ensures chain { IfSome result (λ first. IsCauseChain causes.now first.0 path.new.items from.0) }
+    ensures chain { IfSome result
+        (λ first. IsCauseChain causes.now first.0 path.new.items from.0) }
     ensures circle { IfNone result (IsCauseCircle causes.now path.new.items) }
     ensures path_kept { vec_capacity path.old ≤ vec_capacity path.new }
     ensures places_kept { vec_capacity places.old ≤ vec_capacity places.new }

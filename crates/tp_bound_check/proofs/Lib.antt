@@ -17,6 +17,8 @@ pub mod KeyFacts
 pub mod LinkFacts
 pub mod StepFacts
 pub mod FrameFacts
+pub mod KeptRanks
 pub mod RankFacts
+pub mod SeamFacts
 pub mod PlacedFacts
 pub mod WayFacts

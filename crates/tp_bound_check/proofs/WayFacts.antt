@@ -22,7 +22,7 @@ use Rattle.tp_bound_check.specs.Ranks.{AreRanked, AreRankedFrames, AreRising, Is
 use Rattle.tp_bound_check.specs.declared.dues.Frame.{Frame}
 use Rattle.tp_bound_check.specs.declared.dues.Frame.TheVariants.{Goals, Held, Acts, Nothing}
 use Rattle.tp_bound_check.specs.declared.passing.Passing.TheVariants.{Passed}
-use Rattle.tp_bound_check.proofs.PlacedFacts.{few-rules, reverse-one, seam}
+use Rattle.tp_bound_check.proofs.SeamFacts.{few-rules, reverse-one, seam}
 use Rattle.tp_bound_check.proofs.TakeFacts.{all-last, all-left, all-with}
 
 -- ---- numbers of holds

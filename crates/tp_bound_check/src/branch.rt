@@ -111,7 +111,8 @@ impl Branch {
     /// The places of a choice, by its number from the end.
     pub(crate) fn places(&self, at: u32) -> &[u32]
         requires { at < length self.now.x.choices }
-        ensures { (c : Choice) → slice_get (reverse self.now.x.choices) at ≡ Some c → result.now ≡
+        ensures { (c : Choice) → slice_get (reverse self.now.x.choices) at
+            ≡ Some c → result.now ≡
             c.places }
     {
         self.choices.places(at)
@@ -165,7 +166,8 @@ impl Branch {
     /// One place more for the newest choice.
     pub(crate) fn place(&self, depth: u32, place: u32) -> Branch
         requires some { 0 < length self.now.x.choices }
-        requires room { (c : Choice) → newest_in self.now.x.choices ≡ Some c → length c.places < 4 }
+        requires room { (c : Choice) → newest_in self.now.x.choices ≡ Some c
+            → length c.places < 4 }
         ensures { result ≡ record {
           depth = depth;
           first = self.now.first;

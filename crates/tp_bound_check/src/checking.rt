@@ -85,7 +85,8 @@ fn check_tree(
     tree: &BoundTree,
 ) -> Result<(), TreeFlaw>
     requires { IsOrdered plans.now }
-    ensures ok { OnOk result (tree_flaw machine.now plans.now ask.entry.now limit tree.now ≡ None) }
+    ensures ok { OnOk result
+        (tree_flaw machine.now plans.now ask.entry.now limit tree.now ≡ None) }
     ensures flaw { IfErr result (IsFlawOf (tree_flaw machine.now plans.now ask.entry.now limit
         tree.now)) }
 {

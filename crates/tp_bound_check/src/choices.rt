@@ -29,7 +29,8 @@ impl Model for Choices {
 
     ghost view = { λ c. map choice_by (take c.len c.raw) };
 
-    ghost invariant = { λ c. (c.len ≤ 64) × (length c.raw ≡ 64) × All IsRaw (take c.len c.raw) };
+    ghost invariant = { λ c. (c.len ≤ 64) × (length c.raw ≡ 64)
+        × All IsRaw (take c.len c.raw) };
 }
 
 impl Choices {
@@ -76,7 +77,8 @@ impl Choices {
     /// The places of the choice.
     pub(crate) fn places(&self, at: u32) -> &[u32]
         requires { at < length self.now }
-        ensures places { (c : Choice) → slice_get self.now at ≡ Some c → result.now ≡ c.places }
+        ensures places { (c : Choice) → slice_get self.now at ≡ Some c
+            → result.now ≡ c.places }
         ensures few { length result.now ≤ 4 }
     {
         let raw = &self.raw[at as usize];
@@ -110,7 +112,8 @@ impl Choices {
     /// One place more for the newest choice.
     pub(crate) fn place_newest(&mut self, place: u32)
         requires some { 0 < length self.old }
-        requires room { (c : Choice) → newest_in (reverse self.old) ≡ Some c → length c.places < 4 }
+        requires room { (c : Choice) → newest_in (reverse self.old) ≡ Some c
+            → length c.places < 4 }
         ensures choices { reverse self.new ≡ place_first place (reverse self.old) }
         ensures len { length self.new ≡ length self.old }
     {

@@ -156,7 +156,8 @@ impl<'a> Scene<'a> {
         requires sound { IsSoundStand self.now.rows.machine.now self.now.plans.now stand
             ranks.now }
         requires shallow { IsShallowStand stand }
-        ensures ok { IfOk result (λ f. (goals : List State) → close_look self.now.rows.machine.now
+        ensures ok { IfOk result (λ f. (goals : List State)
+            → close_look self.now.rows.machine.now
             self.now.plans.now self.now.rows.ask.now self.now.rows.rows.now self.now.limit stand
             head.now close.now ≡ due (dues_of self.now.rows.machine.now self.now.plans.now
             self.now.rows.ask.now self.now.rows.rows.now self.now.limit goals f)) }
@@ -164,7 +165,8 @@ impl<'a> Scene<'a> {
         ensures fault { IfErr result (IsFaultOf (close_look self.now.rows.machine.now
             self.now.plans.now self.now.rows.ask.now self.now.rows.rows.now self.now.limit stand
             head.now close.now)) }
-        ensures depth { IfOk result (λ f. (n : ℕ) → n ≤ stand.branch.depth → IsOn f (n + 1)) }
+        ensures depth { IfOk result (λ f. (n : ℕ) → n ≤ stand.branch.depth
+            → IsOn f (n + 1)) }
         ensures below { IfOk result (IsFrameBelow stand.branch) }
     {
         match close {

@@ -164,7 +164,8 @@ impl Track {
         requires track { IsTrack self.now }
         ensures order { (order : List spots.Slot) → self.now ≡ track_of ends.now.before
             ends.now.after order
-            → result ≡ track_of ends.now.before ends.now.after (if rule.now.resource.0 == resource
+            → result ≡ track_of ends.now.before ends.now.after
+            (if rule.now.resource.0 == resource
             then insert order place
             (record { rule = rule.now; from = leg.now.from; to = leg.now.to })
             else order) }

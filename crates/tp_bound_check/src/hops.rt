@@ -60,7 +60,8 @@ fn is_next(at: u32, next: u32) -> bool
 fn kept_gap(machine: &Machine, plans: &Sheets, from: Point, to: Point, copy: SheetId) -> Option<Gap>
     requires from { copy_in from ≡ Some copy }
     requires to { copy_in to ≡ Some copy }
-    ensures { (branch : List Choice) → result ≡ duration_gap machine.now plans.now branch from to }
+    ensures { (branch : List Choice) → result
+        ≡ duration_gap machine.now plans.now branch from to }
 {
     if is_next(from.at(), to.at()) {
         least_gap(

@@ -65,7 +65,8 @@ pub(crate) fn places_of<K: Copy + Drop + Eq + Hash>(
     alloc: Global,
     keys: &[K],
 ) -> Result<HashMap<K, usize>, Memory>
-    ensures { IfOk result (λ places. (key : K) → get K.eq places key ≡ position_from (λ k. K.eq k
+    ensures { IfOk result (λ places. (key : K)
+        → get K.eq places key ≡ position_from (λ k. K.eq k
         key) 0 keys.now) }
 {
     let mut places = HashMap::with_capacity(alloc, keys.len())?;

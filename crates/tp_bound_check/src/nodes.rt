@@ -101,7 +101,8 @@ impl<'a> Scene<'a> {
             self.now.rows.ask.now self.now.rows.rows.now self.now.limit 0 (map (λ s. goal s)
             goals.now) nodes.now ≡ None) }
         ensures flaw { IfErr result (IsFlawOf (bad_node_from self.now.rows.machine.now
-            self.now.plans.now self.now.rows.ask.now self.now.rows.rows.now self.now.limit 0 (map (λ
+            self.now.plans.now self.now.rows.ask.now self.now.rows.rows.now
+            self.now.limit 0 (map (λ
             s. goal s) goals.now) nodes.now)) }
     {
         let mut stack = match goal_stack(alloc) {

@@ -26,7 +26,8 @@ use tp_schedule::{Origin, new_sheet};
 
 /// The hold of the action that has no place yet.
 fn rule_at(machine: &Machine, act: ActId, places: &[u32]) -> Option<HoldRule>
-    ensures { result ≡ slice_get (holds_of_act (action_at machine.now act.0)) (length places.now) }
+    ensures { result ≡ slice_get (holds_of_act (action_at machine.now act.0))
+        (length places.now) }
 {
     holds_of(machine, act).get(places.len()).copied()
 }
@@ -156,7 +157,8 @@ impl<'a> Scene<'a> {
         ensures sound { IfOk result (IsSoundFrame self.now.rows.machine.now) }
         ensures fault { IfErr result (IsFaultOf (split_look (children self.now.rows.machine.now
             self.now.plans.now self.now.rows.ask.now self.now.rows.rows.now stand))) }
-        ensures depth { IfOk result (λ f. (n : ℕ) → n ≤ stand.branch.depth → IsOn f (n + 1)) }
+        ensures depth { IfOk result (λ f. (n : ℕ) → n ≤ stand.branch.depth
+            → IsOn f (n + 1)) }
         ensures below { IfOk result (IsFrameBelow stand.branch) }
     {
         match stand.span {

@@ -131,7 +131,8 @@ pub(crate) fn rule_law(machine: &Machine, branch: &Branch, rule: HoldRule)
     requires next { next_rule machine.now branch.now.x ≡ Some rule }
     ensures offsets { HasOffsets rule }
     ensures known { rule.resource.0 < length machine.now.resources }
-    ensures few { (c : Choice) → newest_in branch.now.x.choices ≡ Some c → length c.places < 4 }
+    ensures few { (c : Choice) → newest_in branch.now.x.choices ≡ Some c
+        → length c.places < 4 }
     ensures some { 0 < length branch.now.x.choices }
 {
     machine_law(machine);

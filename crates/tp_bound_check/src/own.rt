@@ -92,7 +92,8 @@ impl<'a> Scene<'a> {
     fn placed(&self, branch: &Branch, ranks: &Ranks, resource: u16, start: u32) -> Option<Stance>
         requires ranked { AreRanked self.now.rows.machine.now self.now.plans.now branch.now
             ranks.now.before }
-        ensures gap { (apart : ℕ) (b a : Spot) → own_among b a ≡ Some start → gap_in apart b a
+        ensures gap { (apart : ℕ) (b a : Spot) → own_among b a ≡ Some start
+            → gap_in apart b a
             (order_in self.now.rows.machine.now self.now.plans.now branch.now.x resource)
             ≡ mixed_gap apart b a result (slot_order self.now.rows.machine.now self.now.plans.now
             resource) }

@@ -33,7 +33,8 @@ pub(crate) struct Rows<'a> {
 
 impl<'a> Rows<'a> {
     fn has_by(&self, state: State, top: u64) -> bool
-        ensures { result ≡ has_row_by self.now.machine.now self.now.ask.now self.now.rows.now state
+        ensures { result ≡ has_row_by self.now.machine.now self.now.ask.now
+            self.now.rows.now state
             top }
     {
         self.table.has_by(state, top)
@@ -47,7 +48,8 @@ impl<'a> Rows<'a> {
     }
 
     fn is_row_after(&self, top: u64, after: Option<State>) -> bool
-        ensures { result ≡ is_row_after self.now.machine.now self.now.ask.now self.now.rows.now top
+        ensures { result ≡ is_row_after self.now.machine.now self.now.ask.now
+            self.now.rows.now top
             after }
     {
         match after {
@@ -85,8 +87,10 @@ impl<'a> Rows<'a> {
 
     /// Whether the row is of a location's state that was not seen, and the steps from it are kept.
     fn is_good(&self, seen: &[bool], row: &TreeRow) -> bool
-        ensures { (earlier : List TreeRow) → AreSeen self.now.machine.now earlier seen.now → result
-            ≡ is_good_row self.now.machine.now self.now.ask.now self.now.rows.now earlier row.now }
+        ensures { (earlier : List TreeRow) → AreSeen self.now.machine.now earlier
+            seen.now → result
+            ≡ is_good_row self.now.machine.now self.now.ask.now self.now.rows.now
+            earlier row.now }
     {
         match state_of(self.machine, &row.state) {
             Some(state) => !was_seen(seen, state) && self.are_steps_kept(state, row.room),
@@ -170,7 +174,8 @@ fn write_seen(seen: &mut Vec<bool>, state: State)
 
 fn see(machine: &Machine, seen: &mut Vec<bool>, row: &TreeRow)
     requires within { vec_len seen.old ≡ length machine.now.locations * 8 }
-    ensures seen { (earlier : List TreeRow) → AreSeen machine.now earlier seen.old.items → AreSeen
+    ensures seen { (earlier : List TreeRow)
+        → AreSeen machine.now earlier seen.old.items → AreSeen
         machine.now (earlier ++ row.entry.now ∷ []) seen.new.items }
     ensures len { vec_len seen.new ≡ vec_len seen.old }
 {

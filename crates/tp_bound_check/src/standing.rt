@@ -221,7 +221,8 @@ impl<'a> Scene<'a> {
             self.now.rows.rows.now self.now.limit goals f ++ due_behind self.now.rows.machine.now
             self.now.plans.now self.now.rows.ask.now self.now.rows.rows.now d node.now.head)) }
         ensures sound { IfOk result (IsSoundFrame self.now.rows.machine.now) }
-        ensures fault { IfErr result (λ e. (d : Due) → stand ≡ at_depth node.now.depth (stand_of
+        ensures fault { IfErr result (λ e. (d : Due)
+            → stand ≡ at_depth node.now.depth (stand_of
             self.now.rows.machine.now self.now.plans.now self.now.rows.ask.now
             self.now.rows.rows.now d node.now.head) → IsFaultOf (look self.now.rows.machine.now
             self.now.plans.now self.now.rows.ask.now self.now.rows.rows.now self.now.limit d

@@ -153,7 +153,8 @@ impl Table {
 
     /// Whether a row of the state has at most this number.
     pub(crate) fn has_by(&self, state: State, top: u64) -> bool
-        ensures { result ≡ is_by top (slice_index_or self.now.leasts.items (place_of state) None) }
+        ensures { result ≡ is_by top (slice_index_or self.now.leasts.items
+            (place_of state) None) }
     {
         match self.leasts.as_slice().get(place_of(state)) {
             Some(Some(room)) => u64::from(*room) <= top,

@@ -41,11 +41,13 @@ pub fn chart_main<H: Shelf, S: Source, K: Sink>(
     // The log is too long, or a line of it is off the grammar.
     ensures long_log { result ≡ Status.TooLong Long.Log
         → IfSome (S.left source.old) (λ bytes. most_log < length bytes) }
-    ensures line { (n : ℕ) → result ≡ Status.Line n → IfSome (S.left source.old) (IsFirstOff n) }
+    ensures line { (n : ℕ) → result ≡ Status.Line n
+        → IfSome (S.left source.old) (IsFirstOff n) }
 
     // The outside failed.
     ensures shelf { result ≡ Status.Shelf → Rises (H.faults shelf.old) (H.faults shelf.new) }
-    ensures source { result ≡ Status.Source → Rises (S.faults source.old) (S.faults source.new) }
+    ensures source { result ≡ Status.Source
+        → Rises (S.faults source.old) (S.faults source.new) }
     ensures sink { result ≡ Status.Sink → Rises (K.faults sink.old) (K.faults sink.new) }
 
     // Nothing is written but a whole picture, or a part of it where the sink failed.

@@ -70,7 +70,8 @@ fn plan(
     points: &[Tick],
     acts: &[Name],
 ) -> Result<(), Memory>
-    ensures { OnOk result (courses.new.items ≡ planned sheet.now (joined place points.now acts.now)
+    ensures { OnOk result (courses.new.items ≡ planned sheet.now
+        (joined place points.now acts.now)
         (fresh sheet.now place points.now acts.now) courses.old.items) }
 {
     match place_of(courses, sheet) {

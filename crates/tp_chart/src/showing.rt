@@ -75,8 +75,10 @@ pub(crate) fn show<S: Source, K: Sink>(
         (S.left source.old) (K.taken sink.old) (K.taken sink.new) }
     ensures too_long { result ≡ Status.TooLong Long.Log
         → IfSome (S.left source.old) (λ bytes. most_log < length bytes) }
-    ensures line { (n : ℕ) → result ≡ Status.Line n → IfSome (S.left source.old) (IsFirstOff n) }
-    ensures source { result ≡ Status.Source → Rises (S.faults source.old) (S.faults source.new) }
+    ensures line { (n : ℕ) → result ≡ Status.Line n
+        → IfSome (S.left source.old) (IsFirstOff n) }
+    ensures source { result ≡ Status.Source
+        → Rises (S.faults source.old) (S.faults source.new) }
     ensures sink { result ≡ Status.Sink → Rises (K.faults sink.old) (K.faults sink.new) }
     ensures silent { IsFalse (may_have_written result) → sink.new ≡ sink.old }
     ensures which { IsTrue (is_of_show result) }

@@ -72,7 +72,8 @@ fn values<'m, 'a>(matches: &'m ArgMatches<'a>, id: &str) -> Option<&'m [&'a str]
 
 /// How often an id stands in the words.
 fn count(matches: &ArgMatches<'_>, id: &str) -> usize
-    ensures { result ≡ length (values_or_none (values_in id.now (rows_of (found_of matches.now)))) }
+    ensures { result ≡ length (values_or_none
+        (values_in id.now (rows_of (found_of matches.now)))) }
 {
     match values(matches, id) {
         Some(texts) => texts.len(),
@@ -126,7 +127,8 @@ fn asked<'a>(matches: &ArgMatches<'a>) -> Option<Request<'a>>
 
 /// What the words ask for, the program's own name left out. `Usage` comes exactly where they are not of the form.
 pub(crate) fn read_words<'a>(alloc: Global, words: &'a [String]) -> Result<Request<'a>, WordsFault>
-    ensures ok { IfOk result (λ r. chart_asked (map string_bytes words.entry.now) ≡ Some (seen r)) }
+    ensures ok { IfOk result (λ r. chart_asked
+        (map string_bytes words.entry.now) ≡ Some (seen r)) }
     ensures usage { IfErr result (λ e.
         e ≡ WordsFault.Usage → chart_asked (map string_bytes words.entry.now) ≡ None) }
 {

@@ -37,7 +37,8 @@ pub(crate) fn match_words<'a>(
     ensures rows { IfOk result (λ m.
         rows_of (found_of m) ≡ matches_of printer (map string_bytes words.entry.now)) }
     ensures usage { IfErr result (λ e.
-        e ≡ WordsFault.Usage → ¬ (fault_of printer (map string_bytes words.entry.now) ≡ [])) }
+        e ≡ WordsFault.Usage → ¬ (fault_of printer
+        (map string_bytes words.entry.now) ≡ [])) }
 {
     let Ok(command) = command(alloc) else {
         return Err(WordsFault::Memory);

@@ -104,7 +104,8 @@ fn ask_at<'a>(places: &[&'a str], bounds: usize, budgets: &[&str]) -> Option<Req
 
 /// How often an id stands in the words.
 fn count(matches: &ArgMatches<'_>, id: &str) -> usize
-    ensures { result ≡ length (values_or_none (values_in id.now (rows_of (found_of matches.now)))) }
+    ensures { result ≡ length (values_or_none
+        (values_in id.now (rows_of (found_of matches.now)))) }
 {
     match values(matches, id) {
         Some(texts) => texts.len(),

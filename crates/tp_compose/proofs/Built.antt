@@ -1,5 +1,5 @@
 -- The flat table as it is put together.
-use Rattle.std.proofs.Common.{◌≡◌, ℕ, List}
+use Rattle.std.proofs.Common.{◌≡◌}
 use Rattle.std.specs.Prelude.{codes, pos}
 use Rattle.toml.specs.Data.{Data, integer, array, table, Members, no_members, get_member}
 use Rattle.toml.specs.View.{items_of}

@@ -1,13 +1,13 @@
 -- The parts of a rack that keeps the rules, their ports and actions, and the ENDs.
-use Rattle.std.proofs.Common.{◌≡◌, ◌⊎◌, inl, inr, ℕ, Bool, true, false, not, ◌&&◌, is_some, List, [], ◌∷◌, length, map, Option, Some, None, refl, ap, sym, ◌∙◌, subst}
+use Rattle.std.proofs.Common.{◌≡◌, inl, inr, ℕ, true, not, ◌&&◌, is_some, List, ◌∷◌, length, map, Option, Some, None, refl, ap, sym, ◌∙◌, subst}
 use Rattle.std.specs.Prelude.{codes, nat_le}
-use Rattle.std.specs.List.{list_all, flat_map}
+use Rattle.std.specs.List.{list_all}
 use Rattle.std.specs.Ordering.{nat_cmp, match_ordering}
 use Rattle.std.specs.Cmp.Lexicographic.{slice_cmp}
 use Rattle.std.proofs.Common.{Ordering, Less, Equal, Greater}
 use Rattle.std.proofs.lemmas.Bool.{and_parts}
 use Rattle.toml.specs.Data.{Data, string, integer, float, boolean, datetime, array, table, Members, no_members, member, get_member, get}
-use Rattle.tp_machine_text.specs.Words.{keys_of, data_of, elements_in, text_of, text_in, text_at, is_there, is_fit, is_array, is_table, is_one_of, is_count, is_among, are_different}
+use Rattle.tp_machine_text.specs.Words.{keys_of, data_of, elements_in, text_of, text_in, text_at, is_there, is_fit, is_array, is_table, is_one_of, is_count, are_different}
 use Rattle.tp_compose.specs.Racks.{types, parts, ports, type_actions, typed, typed_parts, type_in, part_ends, ends, dotted, hyphened, own_names}
 use Rattle.tp_compose.specs.TypeRules.{is_short, is_short_text, are_shorts, has_ports, has_deeds, is_deed}
 use Rattle.tp_compose.specs.EndRules.{is_end_text, is_end}

@@ -1,12 +1,12 @@
 -- What stands in the flat table of a rack.
-use Rattle.std.proofs.Common.{◌≡◌, ℕ, Bool, true, false, List, [], ◌∷◌, map, Option, Some, None, refl, ap, sym, ◌∙◌}
+use Rattle.std.proofs.Common.{◌≡◌, ℕ, false, List, map, Option, Some, None, refl, ap, ◌∙◌}
 use Rattle.std.specs.Prelude.{codes}
 use Rattle.std.specs.Str.{bytes_eq}
-use Rattle.toml.specs.Data.{Data, string, integer, float, boolean, datetime, array, table, Members, no_members, member, get_member, get, as_table}
-use Rattle.tp_machine_text.specs.Words.{elements_in, elements_at, keys_of, members_of, members_at, table_in, text_of, text_in, text_at, is_among}
+use Rattle.toml.specs.Data.{Data, string, integer, float, boolean, datetime, array, table, Members, get_member, get, as_table}
+use Rattle.tp_machine_text.specs.Words.{elements_in, keys_of, members_of, members_at, table_in, text_of, text_in, text_at, is_among}
 use Rattle.tp_machine_text.specs.Keys as text
 use Rattle.tp_machine_text.specs.Printed.{put_member}
-use Rattle.tp_machine_text.specs.TheMachine.{loc_of, action_of, prints_word, truth_in}
+use Rattle.tp_machine_text.specs.TheMachine.{loc_of, action_of, truth_in}
 use Rattle.tp_machine_text.proofs.Back.{texts_back}
 use Rattle.tp_machine_text.proofs.Seen.{values_of-items}
 use Rattle.tp_compose.specs.Racks.{parts, dotted, hyphened, own_names, first_ends, place_by}

@@ -1,16 +1,16 @@
 -- The joins of a rack as pairs of ENDs. No END stands in them twice, so each END is one place with at most one other.
-use Rattle.std.proofs.Common.{◌≡◌, ◌⊎◌, inl, inr, ℕ, Bool, true, false, ◌&&◌, List, [], ◌∷◌, ◌++◌, map, Option, Some, None, refl, ap, sym, ◌∙◌, subst}
-use Rattle.std.specs.Prelude.{codes, Any}
+use Rattle.std.proofs.Common.{◌≡◌, inl, inr, ℕ, true, ◌&&◌, List, [], ◌∷◌, ◌++◌, map, Option, Some, None, refl, ap, sym, ◌∙◌, subst}
+use Rattle.std.specs.Prelude.{codes}
 use Rattle.std.specs.List.{list_all, flat_map}
 use Rattle.std.proofs.lemmas.Bool.{and_parts}
 use Rattle.toml.specs.Data.{Data, string, Members, no_members, get_member}
 use Rattle.tp_machine_text.specs.Words.{elements, text_of, is_fit, is_array, are_different}
-use Rattle.tp_compose.specs.Racks.{joins, own_names, join_entry, join_entries, first_ends, first_in, put_all}
-use Rattle.tp_compose.specs.EndRules.{is_end, is_end_text, are_two_ends, is_join, joined, has_joins}
+use Rattle.tp_compose.specs.Racks.{joins, own_names, join_entry, join_entries, first_ends, first_in}
+use Rattle.tp_compose.specs.EndRules.{is_end, is_end_text, are_two_ends, is_join, joined}
 use Rattle.tp_compose.specs.Walks.{IsJoined, IsOnePlace}
 use Rattle.tp_compose.proofs.Lists.{In, Apart, apart_of, in_any, any_in, in_map, in_map_back, in_flat, in_flat_back, all_in}
 use Rattle.tp_compose.proofs.Puts.{put_some, put_there}
-use Rattle.tp_compose.proofs.EndFacts.{end_some, end_text}
+use Rattle.tp_compose.proofs.EndFacts.{end_text}
 use Rattle.tp_compose.proofs.KeptRack.{KeepsRackRules}
 
 abbrev Texts : Type 0

@@ -3,7 +3,7 @@ use Rattle.std.proofs.Common.{◌≡◌, ℕ, suc, Bool, true, false, List, [], 
 use Rattle.toml.specs.Data.{Members}
 use Rattle.tp_machine_text.specs.Order.{first_from, or_else}
 use Rattle.tp_compose.specs.Racks.{own_names, first_ends}
-use Rattle.tp_compose.specs.TypeRules.{has_types, have_ports, have_deeds, have_grips, has_parts, type_rules}
+use Rattle.tp_compose.specs.TypeRules.{have_ports, have_deeds, has_parts, type_rules}
 use Rattle.tp_compose.specs.EndRules.{has_joins, has_ends, has_feeders_apart, end_rules}
 use Rattle.tp_compose.specs.Broken.{first_broken}
 

@@ -9,5 +9,6 @@ pub mod Places
 pub mod FlatFacts
 pub mod Stepping
 pub mod Rows
+pub mod EntryFacts
 pub mod WalkLaw
 pub mod OneRack

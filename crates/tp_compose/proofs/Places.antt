@@ -1,6 +1,6 @@
 -- Two ENDs have the same location exactly where they are one place.
-use Rattle.std.proofs.Common.{◌≡◌, ℕ, true, List, Some, refl, ap, sym, ◌∙◌}
-use Rattle.toml.specs.Data.{Data, string, Members, get_member}
+use Rattle.std.proofs.Common.{◌≡◌, ℕ, true, List, ap, sym, ◌∙◌}
+use Rattle.toml.specs.Data.{Members}
 use Rattle.tp_machine_text.specs.Words.{text_of, text_in}
 use Rattle.tp_compose.specs.Racks.{own_names, place_of}
 use Rattle.tp_compose.specs.EndRules.{is_end_text}

@@ -1,28 +1,26 @@
 -- Each action of the machine of a rack is that of one pair.
-use Rattle.std.proofs.Common.{◌≡◌, ◌⊎◌, inl, inr, ℕ, Bool, true, false, ◌&&◌, List, [], ◌∷◌, length, map, Option, Some, None, slice_get, refl, ap, sym, ◌∙◌, subst}
-use Rattle.std.specs.Prelude.{codes, Contains, Any}
-use Rattle.std.specs.List.{list_all, flat_map}
-use Rattle.std.proofs.lemmas.Bool.{and_parts}
-use Rattle.toml.specs.Data.{Data, string, Members}
+use Rattle.std.proofs.Common.{◌≡◌, inl, inr, ℕ, List, [], ◌∷◌, map, Some, None, slice_get, refl, ap, sym, ◌∙◌, subst}
+use Rattle.std.specs.Prelude.{codes, Contains}
+use Rattle.toml.specs.Data.{Data, Members}
 use Rattle.tp_machine.specs.Using.{action_at}
 use Rattle.tp_machine.specs.declared.parts.ActId.{ActId}
 use Rattle.tp_machine.specs.declared.parts.Action.{Action}
 use Rattle.tp_machine.specs.declared.machine.Machine.{Machine}
-use Rattle.tp_machine_text.specs.Words.{keys_of, elements_at, text_of, text_at, is_name, are_names, are_different}
+use Rattle.tp_machine_text.specs.Words.{keys_of, elements_at, text_at}
 use Rattle.tp_machine_text.specs.Keys as text
 use Rattle.tp_machine_text.specs.Broken as machine_table
 use Rattle.tp_machine_text.specs.Kept.{KeepsRules}
 use Rattle.tp_machine_text.specs.TheMachine.{action_of}
 use Rattle.tp_machine_text.proofs.Kept as table
 use Rattle.tp_machine_text.proofs.KeptFacts.{names_parts}
-use Rattle.tp_compose.specs.Racks.{types, parts, ports, type_actions, typed_parts, dotted, hyphened, own_names, first_ends}
+use Rattle.tp_compose.specs.Racks.{types, parts, type_actions, typed_parts, hyphened, own_names, first_ends}
 use Rattle.tp_compose.specs.Flat.{flat_action, part_actions, actions, flat}
 use Rattle.tp_compose.specs.Texts.{flat_broken, IsMachineOfRack}
 use Rattle.tp_compose.specs.Walks.{Pair, IsPair, IsPairOf}
 use Rattle.tp_compose.proofs.Lists.{In, Apart, apart_of, in_any, any_in, in_contained, contained_in, in_map, in_map_back, in_flat_back, in_slice}
 use Rattle.tp_compose.proofs.Spelling.{short_lacks, split}
 use Rattle.tp_compose.proofs.KeptRack.{KeepsRackRules, kept}
-use Rattle.tp_compose.proofs.EndFacts.{Deeds, deeds, one_type, part_short}
+use Rattle.tp_compose.proofs.EndFacts.{deeds, one_type, part_short}
 use Rattle.tp_compose.proofs.FlatFacts.{modules_are, actions_are, action_name}
 
 -- the part of a pair with its type, and the pair's action among the type's

@@ -1,5 +1,5 @@
 -- One step of a sheet through an action, and through what is like it but for the locations.
-use Rattle.std.proofs.Common.{◌≡◌, ℕ, Bool, true, false, not, ◌&&◌, ◌||◌, ◌==◌, cond, Option, Some, None, option_map, refl, ap, sym, ◌∙◌}
+use Rattle.std.proofs.Common.{◌≡◌, Bool, true, false, not, ◌&&◌, ◌||◌, ◌==◌, cond, Some, None, option_map, refl, ◌∙◌}
 use Rattle.tp_machine.specs.Steps.{wanted, is_done, prints, prints_kind, after, step_of}
 use Rattle.tp_machine.specs.declared.parts.Action.{Action}
 use Rattle.tp_machine.specs.declared.parts.LocId.{LocId}

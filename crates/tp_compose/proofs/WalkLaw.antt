@@ -1,13 +1,10 @@
 -- A list of actions is a route to a tray exactly where its pairs are a walk of the rack.
-use Rattle.std.proofs.Common.{◌≡◌, ◌≢◌, ◌⊎◌, inl, inr, ℕ, zero, suc, Bool, true, false, ◌&&◌, ◌||◌, ◌==◌, cond, is_some, List, [], ◌∷◌, length, map, Option, Some, None, option_map, option_and_then, refl, ap, sym, ◌∙◌, subst, arith}
-use Rattle.std.specs.Prelude.{codes, Contains, Any}
+use Rattle.std.proofs.Common.{◌≡◌, ◌≢◌, ◌⊎◌, inl, inr, ℕ, Bool, true, false, ◌&&◌, ◌==◌, cond, is_some, List, [], ◌∷◌, map, Option, Some, None, option_map, option_and_then, refl, ap, sym, ◌∙◌, subst}
+use Rattle.std.specs.Prelude.{codes, Contains}
 use Rattle.std.specs.List.{list_all}
-use Rattle.std.specs.Str.{bytes_eq}
 use Rattle.std.proofs.lemmas.Bool.{and_parts}
-use Rattle.std.proofs.lemmas.Bool.Decides.{nat_tests}
-use Rattle.toml.specs.Data.{Data, string, integer, float, boolean, datetime, array, table, Members, no_members, member, get_member, get}
+use Rattle.toml.specs.Data.{Data, string, Members, no_members, get_member, get}
 use Rattle.tp_machine.specs.Steps.{step_of, after}
-use Rattle.tp_machine.specs.Using.{action_at}
 use Rattle.tp_machine.specs.declared.parts.ActId.{ActId}
 use Rattle.tp_machine.specs.declared.parts.Action.{Action}
 use Rattle.tp_machine.specs.declared.parts.Feeder.{Feeder}
@@ -16,86 +13,26 @@ use Rattle.tp_machine.specs.declared.parts.Sheet.{Sheet}
 use Rattle.tp_machine.specs.declared.parts.State.{State}
 use Rattle.tp_machine.specs.declared.machine.Machine.{Machine}
 use Rattle.tp_schedule.specs.Routes.{step_by, walk, fresh, finished, IsFreshStart}
-use Rattle.tp_machine_text.specs.Words.{keys_of, data_of, elements_at, members_at, text_of, text_in, text_at, is_there, is_array, is_fit, is_table, is_name, is_one_of, is_among, are_from}
+use Rattle.tp_machine_text.specs.Words.{keys_of, data_of, elements_at, text_of, text_at, is_there, is_array, is_table, is_name, is_one_of, is_among}
 use Rattle.tp_machine_text.specs.ActionRules.{has_ends}
 use Rattle.tp_machine_text.specs.Keys as text
-use Rattle.tp_machine_text.specs.TheMachine.{place_in, loc_of, feeders_of}
+use Rattle.tp_machine_text.specs.TheMachine.{loc_of, feeders_of}
 use Rattle.tp_machine_text.proofs.ActionFacts.{there_known}
 use Rattle.tp_machine_text.proofs.KeptFacts.{trays_from, texts_known, feeders_known}
 use Rattle.tp_compose.specs.TypeRules.{is_deed}
-use Rattle.tp_compose.specs.Racks.{feeders, entries, ports, type_actions, typed_parts, own_names, first_ends, place_of, place_by, dotted, put_all}
+use Rattle.tp_compose.specs.Racks.{feeders, entries, ports, type_actions, typed_parts, own_names, first_ends, place_of, place_by, put_all}
 use Rattle.tp_compose.specs.EndRules.{is_end, is_end_text, has_trays, has_purges, has_feeders}
 use Rattle.tp_compose.specs.Flat.{flat, flat_action, part_actions, placed_feeders, places}
 use Rattle.tp_compose.specs.Texts.{IsMachineOfRack}
 use Rattle.tp_compose.specs.Walks.{Pair, IsOnePlace, anywhere, work_of, from_end, to_end, LeadsOn, IsWalk, ArePairsOf, IsNewRoute}
-use Rattle.tp_compose.proofs.Lists.{In, Apart, apart_of, in_any, any_in, in_contained, contained_in, in_map, in_map_back, in_flat, all_in, among_in}
-use Rattle.tp_compose.proofs.Puts.{same_bytes, own_bytes, in_all, in_all_back}
-use Rattle.tp_compose.proofs.EndFacts.{DeedEnds, deed_ends, deeds, port_end, end_text}
+use Rattle.tp_compose.proofs.Lists.{In, Apart, apart_of, in_any, any_in, in_contained, contained_in, in_map, in_map_back, in_flat, all_in}
+use Rattle.tp_compose.proofs.Puts.{in_all, in_all_back}
+use Rattle.tp_compose.proofs.EndFacts.{deed_ends, deeds, port_end, end_text}
 use Rattle.tp_compose.proofs.Places.{same_place, one_place}
 use Rattle.tp_compose.proofs.FlatFacts.{trays_are, feeders_are, actions_are, from_is, action_from, action_to, to_is, same_mono, same_colour, same_flip, work_from, work_to}
 use Rattle.tp_compose.proofs.Stepping.{put_at, lifted}
 use Rattle.tp_compose.proofs.Rows.{rules, flat_rules, action_by, flat_by_pair, IsRow, IsLike, like_of}
-
--- ---- one place of names, one name
-
-same_name : (names : List (List ℕ)) (a b : List ℕ) → is_among names a ≡ true → is_among names b ≡ true → place_in names a ≡ place_in names b → a ≡ b
-same_name [] a b in_a in_b same = cc
-same_name (n ∷ names) a b in_a in_b same = cases (bytes_eq a n) (bytes_eq b n) refl refl in_a in_b same (same_name names a b) where
-  cases : (s t : Bool) → bytes_eq a n ≡ s → bytes_eq b n ≡ t → (s || is_among names a) ≡ true → (t || is_among names b) ≡ true → cond s 0 (suc (place_in names a)) ≡ cond t 0 (suc (place_in names b))
-      → (is_among names a ≡ true → is_among names b ≡ true → place_in names a ≡ place_in names b → a ≡ b) → a ≡ b
-  cases true true e f in_a in_b same rest = same_bytes a n e ∙ sym (same_bytes b n f)
-  cases true false e f in_a in_b same rest = absurd (omega arith)
-  cases false true e f in_a in_b same rest = absurd (omega arith)
-  cases false false e f in_a in_b same rest = rest in_a in_b (omega arith)
-
-loc_name : (names : List (List ℕ)) (a b : List ℕ) → is_among names a ≡ true → is_among names b ≡ true → loc_of names a ≡ loc_of names b → a ≡ b
-loc_name names a b in_a in_b same = same_name names a b in_a in_b (ap (λ l. l.0) same)
-
-equal_test : (n : ℕ) → (n == n) ≡ true
-equal_test n = grind (arith, nat_tests)
-
-test_equal : (n k : ℕ) → (n == k) ≡ true → n ≡ k
-test_equal n k test = grind (arith, nat_tests)
-
--- ---- keys and values
-
-entry_key : (ms : Members) (k : List ℕ) (d : Data) → In (entries ms) (k, d) → In (keys_of ms) k
-entry_key no_members k d within = elim within [ ]
-entry_key (member l e ms) k d (inl same) = inl (λ i. (same i).0)
-entry_key (member l e ms) k d (inr rest) = inr (entry_key ms k d rest)
-
-entry_data : (ms : Members) (k : List ℕ) (d : Data) → In (entries ms) (k, d) → In (data_of ms) d
-entry_data no_members k d within = elim within [ ]
-entry_data (member l e ms) k d (inl same) = inl (λ i. (same i).1)
-entry_data (member l e ms) k d (inr rest) = inr (entry_data ms k d rest)
-
-name_text : (d : Data) → is_name d ≡ true → d ≡ string (text_of d)
-name_text (string text) test = refl
-name_text (integer z) test = cc
-name_text (float x) test = cc
-name_text (boolean b) test = cc
-name_text (datetime t) test = cc
-name_text (array ds) test = cc
-name_text (table ms) test = cc
-
-placed_keys : (own firsts ms : Members) → map (λ e. e.0) (placed_feeders own firsts ms) ≡ map (place_by own firsts) (keys_of ms)
-placed_keys own firsts no_members = refl
-placed_keys own firsts (member k d ms) = ap (λ t. place_by own firsts k ∷ t) (placed_keys own firsts ms)
-
--- a feeder of the machine is an entry of its table
-pub record IsEntry (names : List (List ℕ)) (f : Feeder) (k : List ℕ) (d : Data) : Type 0 where
-  pub loc : f.loc ≡ loc_of names k
-  pub media : f.media ≡ text_of d
-
-feeder_entry : (names : List (List ℕ)) (stocks ms : Members) (f : Feeder) → In (feeders_of names stocks ms) f → (e : List ℕ × Data) × In (entries ms) e × IsEntry names f e.0 e.1
-feeder_entry names stocks no_members f within = elim within [ ]
-feeder_entry names stocks (member k d ms) f (inl same) = ((k, d), inl refl, record { loc = sym (ap (λ x. x.loc) same); media = sym (ap (λ x. x.media) same) })
-feeder_entry names stocks (member k d ms) f (inr rest) = let b = feeder_entry names stocks ms f rest in (b.0, inr b.1, b.2)
-
-entry_feeder : (names : List (List ℕ)) (stocks ms : Members) (k : List ℕ) (d : Data) → In (entries ms) (k, d) → (f : Feeder) × In (feeders_of names stocks ms) f × IsEntry names f k d
-entry_feeder names stocks no_members k d within = elim within [ ]
-entry_feeder names stocks (member l e ms) k d (inl same) = (_, inl refl, record { loc = ap (loc_of names) (λ i. (same i).0); media = ap text_of (λ i. (same i).1) })
-entry_feeder names stocks (member l e ms) k d (inr rest) = let b = entry_feeder names stocks ms k d rest in (b.0, inr b.1, b.2)
+use Rattle.tp_compose.proofs.EntryFacts.{IsEntry, entry_data, entry_feeder, entry_key, equal_test, feeder_entry, loc_name, name_text, placed_keys, test_equal}
 
 -- ---- steps and locations
 

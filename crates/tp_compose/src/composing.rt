@@ -33,8 +33,10 @@ pub fn compose(alloc: Global, text: &[u8]) -> Result<Vec<u8>, RackFault>
     ensures ok { IfOk result (λ bytes. IsComposed text.now bytes.items) }
     ensures sound { IfOk result (λ _. IsSoundRack text.now) }
     ensures not_toml { IfErr result (λ e. e ≡ RackFault.NotToml → IsNotToml text.now) }
-    ensures rule { IfErr result (λ e. (n : ℕ) → e ≡ RackFault.Rule n → IsRackBrokenAt n text.now) }
-    ensures flat { IfErr result (λ e. (n : ℕ) → e ≡ RackFault.Flat n → IsFlatBrokenAt n text.now) }
+    ensures rule { IfErr result (λ e. (n : ℕ) → e ≡ RackFault.Rule n
+        → IsRackBrokenAt n text.now) }
+    ensures flat { IfErr result (λ e. (n : ℕ) → e ≡ RackFault.Flat n
+        → IsFlatBrokenAt n text.now) }
 {
     match toml::table_from_slice(alloc, text) {
         Ok(table) => compose_table(alloc, &table),

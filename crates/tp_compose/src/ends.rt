@@ -41,7 +41,8 @@ pub(crate) fn hyphened(alloc: Global, part: &str, name: &str) -> Result<String, 
 /// The values of the array at a key of a part's type.
 pub(crate) fn kind_values<'a>(types: Option<&'a Table>, kind: &Value, key: &str) -> &'a [Value]
     ensures { map view result.now ≡ elements_in (get key.now (type_in (get_member
-        (text_of (view kind.now)) (members_of (option_map (λ m. table_view m.now) types.entry))))) }
+        (text_of (view kind.now)) (members_of
+        (option_map (λ m. table_view m.now) types.entry))))) }
 {
     match type_of(types, kind) {
         Some(kind) => values_in(field(kind, key)),
@@ -190,7 +191,8 @@ pub(crate) fn first_broken_end(
 
 #[tactic(auto, using(tp_machine_text::proofs::Seen::seen))]
 fn has_joins(alloc: Global, table: &Table, own: &Table) -> Result<bool, Memory>
-    ensures { IfOk result (λ test. test ≡ has_joins (table_view own.now) (table_view table.now)) }
+    ensures { IfOk result (λ test. test ≡ has_joins (table_view own.now)
+        (table_view table.now)) }
 {
     let joins = values_at(table, "joins");
     let texts = joined(alloc, joins)?;

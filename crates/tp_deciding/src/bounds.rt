@@ -40,7 +40,8 @@ fn low_start(plan: &Plan, floor: u64) -> Option<u32>
 
 fn low_start_of(plan: &Plan, floor: u64, exempt: Option<SheetId>) -> Option<u32>
     requires { IsFormed plan.now }
-    ensures { MatchOption result (IsFalse (is_exempt exempt plan.now) → StartsAbove floor plan.now)
+    ensures { MatchOption result (IsFalse (is_exempt exempt plan.now)
+        → StartsAbove floor plan.now)
         (λ at. IsFalse (is_exempt exempt plan.now) × IsLowStart floor plan.now at) }
 {
     if is_exempt(exempt, plan) {

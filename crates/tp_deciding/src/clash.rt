@@ -117,7 +117,8 @@ fn find_in_lines(
     requires in_order { AllPairs IsEarlier schedule.now.plans }
     requires timed { All (IsTimedPlan machine.now) schedule.now.plans }
     requires apart { AreHoldsApart machine.now schedule.now.plans }
-    ensures legal { IfOk result (λ found. IsNone found ↔ IsLegal machine.now schedule.now.plans) }
+    ensures legal { IfOk result (λ found. IsNone found
+        ↔ IsLegal machine.now schedule.now.plans) }
     ensures clash { IfOk result (λ found. IfSome found (IsClash machine.now schedule.now.plans)) }
 {
     let pairs = line_pairs(alloc, schedule)?;
@@ -140,7 +141,8 @@ fn find_between(
 ) -> Result<Option<Clash>, Memory>
     requires in_order { AllPairs IsEarlier schedule.now.plans }
     requires timed { All (IsTimedPlan machine.now) schedule.now.plans }
-    ensures legal { IfOk result (λ found. IsNone found ↔ IsLegal machine.now schedule.now.plans) }
+    ensures legal { IfOk result (λ found. IsNone found
+        ↔ IsLegal machine.now schedule.now.plans) }
     ensures clash { IfOk result (λ found. IfSome found (IsClash machine.now schedule.now.plans)) }
 {
     let holds = sorted_holds(alloc, machine, schedule)?;
@@ -157,7 +159,8 @@ pub fn find_clash(
     machine: &Machine,
     schedule: &Schedule,
 ) -> Result<Option<Clash>, Memory>
-    ensures legal { IfOk result (λ found. IsNone found ↔ IsLegal machine.now schedule.now.plans) }
+    ensures legal { IfOk result (λ found. IsNone found
+        ↔ IsLegal machine.now schedule.now.plans) }
     ensures clash { IfOk result (λ found. IfSome found (IsClash machine.now schedule.now.plans)) }
 {
     schedule.ordered();

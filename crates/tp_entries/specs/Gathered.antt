@@ -1,6 +1,7 @@
 -- An event that is under way, as lines of a log.
-use Rattle.std.specs.Prelude.{◌≡◌, List, ◌∷◌}
+use Rattle.std.specs.Prelude.{◌≡◌, All, IsFalse, List, ◌∷◌}
 use Rattle.tp_log.specs.Gathering.{AreGathered, lines_with, next_of}
+use Rattle.tp_log.specs.Logs.{is_echo}
 use Rattle.tp_log.specs.declared.item.Item.{Item}
 use Rattle.tp_log.specs.declared.item.Item.TheVariants as item
 use Rattle.tp_log.specs.declared.log_line.LogLine.{LogLine}
@@ -14,8 +15,13 @@ items_of p = item.Event p.event ∷ p.items.items
 abbrev pub lines_of : Pending → List LogLine
 lines_of p = lines_with (items_of p) p.tree
 
--- its lines are those of a log, and it is known which may stand behind them
+-- no event is among the items
+abbrev pub ArePlain : List Item → Type 0
+ArePlain items = All (λ item. IsFalse (is_echo item)) items
+
+-- its lines are those of a log with one event, and it is known which may stand behind them
 pub record IsPending (p : Pending) : Type 0 where
+  pub plain : ArePlain p.items.items
   pub gathered : AreGathered (items_of p) p.tree (next_of (lines_of p))
   pub row : p.next.row ≡ (next_of (lines_of p)).row
   pub node : p.next.node ≡ (next_of (lines_of p)).node

@@ -100,7 +100,8 @@ impl Pending {
         requires pending { IsPending self.old }
         requires line { IsRecord told }
         ensures pending { OnOk result (IsPending self.new) }
-        ensures lines { OnOk result (lines_of self.new ≡ lines_of self.old ++ NoteLine told ∷ []) }
+        ensures lines { OnOk result (lines_of self.new ≡ lines_of self.old
+            ++ NoteLine told ∷ []) }
         ensures event { self.new.event ≡ self.old.event }
         ensures line { self.new.line ≡ self.old.line }
         ensures memory { OnErr result (IsSame self.old self.new) }
@@ -159,7 +160,8 @@ impl Pending {
     /// Ends the tree, if there is one, so that the items have all lines, and tells whether there was one. After `Memory` all is as
     /// before.
     pub fn end(&mut self) -> Result<bool, Memory>
-        ensures items { OnOk result (items_of self.new ≡ closed (items_of self.old) self.old.tree) }
+        ensures items { OnOk result (items_of self.new ≡ closed
+            (items_of self.old) self.old.tree) }
         ensures ended { IfOk result (λ ended. ended ≡ has_lines self.old.tree) }
         ensures tree { OnOk result (self.new.tree ≡ record { rows = []; nodes = [] }) }
         ensures next { self.new.next ≡ self.old.next }

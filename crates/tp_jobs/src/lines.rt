@@ -226,7 +226,8 @@ impl Lines {
         ensures refused { refusal_in result ≡ job_fault machine.now self.old.jobs
             (length self.old.waiting) name tray media groups.now }
         ensures number { IfOk result (λ job. job ≡ length self.old.jobs) }
-        ensures added { OnOk result (self.new ≡ with_job (new_job machine.now name tray groups.now)
+        ensures added { OnOk result (self.new ≡ with_job
+            (new_job machine.now name tray groups.now)
             (sheets_of media groups.now) self.old) }
         ensures kept { OnErr result (self.new ≡ self.old) }
     {
@@ -331,7 +332,8 @@ impl Lines {
     /// The copy waits no more.
     pub fn taken(&mut self, sheet: SheetId)
         requires { IsSome (find_waiting sheet self.old.waiting) }
-        ensures { self.new ≡ record self.old { waiting = without_waiting sheet self.old.waiting } }
+        ensures { self.new ≡ record self.old
+            { waiting = without_waiting sheet self.old.waiting } }
     {
         let at = place_of(self.waiting.as_slice(), sheet);
         self.waiting.remove(at);

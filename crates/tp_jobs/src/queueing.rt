@@ -37,7 +37,8 @@ pub(crate) fn first_open(
     blocked: &Blocked,
 ) -> Option<SheetId>
     requires { All (IsOfJob jobs.now) waiting.now }
-    ensures { result ≡ option_map (λ w. w.sheet) (find (is_open jobs.now blocked.now) waiting.now) }
+    ensures { result ≡ option_map (λ w. w.sheet)
+        (find (is_open jobs.now blocked.now) waiting.now) }
 {
     for copy in waiting {
         let tray = jobs[copy.sheet.job as usize].tray;

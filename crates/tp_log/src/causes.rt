@@ -78,7 +78,8 @@ pub fn put_cause(out: &mut Vec<u8>, cause: &Cause) -> Result<(), Memory>
 }
 
 fn put_cause_of(out: &mut Vec<u8>, cause: &[u8], name: &Name) -> Result<(), Memory>
-    ensures { OnOk result (out.new.items ≡ (out.old.items ++ 32 ∷ cause.now) ++ 32 ∷ name.now) }
+    ensures { OnOk result (out.new.items ≡
+        (out.old.items ++ 32 ∷ cause.now) ++ 32 ∷ name.now) }
 {
     put_word(out, cause)?;
     put_word(out, name.as_bytes())

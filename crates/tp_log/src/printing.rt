@@ -43,7 +43,8 @@ fn put_release(
     end: Tick,
 ) -> Result<(), Memory>
     ensures { OnOk result (out.new.items ≡ out.old.items
-        ++ spaced (codes "release" ∷ sheet_text sheet.now ∷ decimal act ∷ name.now ∷ decimal start ∷
+        ++ spaced (codes "release" ∷ sheet_text sheet.now ∷ decimal act ∷ name.now
+        ∷ decimal start ∷
         decimal end ∷ [])) }
 {
     put_heading(out, b"release", sheet)?;

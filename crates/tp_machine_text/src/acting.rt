@@ -17,7 +17,8 @@ use tp_base::{Items, Memory};
 use tp_machine::{Action, HoldRule, Holds, ResId};
 
 fn resource_of(resources: Option<&Table>, text: &str) -> ResId
-    requires { length (keys_of (members_of (option_map (λ m. table_view m.now) resources))) ≤ 256 }
+    requires { length (keys_of (members_of
+        (option_map (λ m. table_view m.now) resources))) ≤ 256 }
     ensures { result ≡ resource_of
         (keys_of (members_of (option_map (λ m. table_view m.now) resources.entry))) text.now }
 {
@@ -170,7 +171,8 @@ pub(crate) fn actions_of(
         (keys_of (members_of (option_map (λ m. table_view m.now) resources))))
         (map view actions.now) ≡ true }
     ensures { IfOk result (λ made. made
-        ≡ map (action_of (map text_of (map view locations.now)) (map text_of (map view modules.now))
+        ≡ map (action_of (map text_of (map view locations.now))
+        (map text_of (map view modules.now))
         (keys_of (members_of (option_map (λ m. table_view m.now) resources.entry))))
         (map view actions.now)) }
 {

@@ -190,7 +190,8 @@ fn are_ways(trays: &[Value], purges: &[Value], feeders: Option<&Table>, actions:
 
 #[tactic(auto, unfolding(crate::specs::ActionRules::is_way))]
 fn is_way(trays: &[Value], purges: &[Value], feeders: Option<&Table>, action: &Value) -> bool
-    ensures { result ≡ is_way (map text_of (map view trays.now)) (map text_of (map view purges.now))
+    ensures { result ≡ is_way (map text_of (map view trays.now))
+        (map text_of (map view purges.now))
         (keys_of (members_of (option_map (λ m. table_view m.now) feeders.entry)))
         (view action.now) }
 {

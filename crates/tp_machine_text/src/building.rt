@@ -108,7 +108,8 @@ pub(crate) fn locs_of(
     requires few { length locations.now ≤ 256 }
     requires within { length values.now ≤ 256 }
     ensures { IfOk result (λ locs. locs
-        ≡ map (loc_of (map text_of (map view locations.now))) (map text_of (map view values.now))) }
+        ≡ map (loc_of (map text_of (map view locations.now)))
+        (map text_of (map view values.now))) }
 {
     let mut locs = Items::new(alloc);
     let mut rest = values;

@@ -7,7 +7,9 @@ ghost use Rattle.tp_machine_text.specs.Texts.{IsMachineText};
 
 /// A text has one machine, and so has a table.
 pub fn one_machine()
-    ensures of_text { (text : List ℕ) (m n : Machine) → IsMachineText text m → IsMachineText text n
+    ensures of_text { (text : List ℕ) (m n : Machine) → IsMachineText text m
+        → IsMachineText text n
         → m ≡ n }
-    ensures of_table { (t : Members) (m n : Machine) → IsMachineOf t m → IsMachineOf t n → m ≡ n }
+    ensures of_table { (t : Members) (m n : Machine) → IsMachineOf t m
+        → IsMachineOf t n → m ≡ n }
 {}

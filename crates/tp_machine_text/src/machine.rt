@@ -87,7 +87,8 @@ fn feeders(alloc: Global, table: &Table) -> Result<Items<Feeder>, Memory>
         ≡ feeders_of (text.locations (table_view table.now))
         (text.stocks (table_view table.now))
         (members_at (codes "feeders") (table_view table.now))) }
-    ensures rise { IfOk result (λ _. IsTrue (do_names_rise (text.feeders (table_view table.now)))) }
+    ensures rise { IfOk result (λ _. IsTrue
+        (do_names_rise (text.feeders (table_view table.now)))) }
 {
     match table_in(value_at(table, "feeders")) {
         Some(feeders) => {

@@ -92,9 +92,11 @@ pub(crate) fn resources_table(
     modules: &Names,
     resources: &[Resource],
 ) -> Result<Table, Memory>
-    requires known { list_all (λ r. nat_lt r.module.0 (length modules.now)) resources.now ≡ true }
+    requires known { list_all (λ r. nat_lt r.module.0 (length modules.now))
+        resources.now ≡ true }
     requires rise { do_names_rise (resource_names resources.now) ≡ true }
-    ensures { IfOk result (λ table. table_view table ≡ resource_members modules.now resources.now) }
+    ensures { IfOk result (λ table. table_view table
+        ≡ resource_members modules.now resources.now) }
 {
     match resources {
         [resource, rest @ ..] => {

@@ -88,7 +88,8 @@ pub(crate) fn is_second(table: &Table) -> bool
 
 /// Whether the value at the key, where it is there, is a whole number from `low` to `high`.
 fn is_fit(table: &Table, key: &str, low: i64, high: i64) -> bool
-    ensures { result ≡ is_fit (is_whole_from low high) (get_member key.now (table_view table.now)) }
+    ensures { result ≡ is_fit (is_whole_from low high)
+        (get_member key.now (table_view table.now)) }
 {
     match value_at(table, key) {
         Some(value) => is_whole(value, low, high),

@@ -27,7 +27,8 @@ pub fn read_machine(alloc: Global, text: &[u8]) -> Result<Machine, MachineFault>
     ensures ok { IfOk result (IsMachineText text.now) }
     ensures sound { IfOk result (λ _. IsSound text.now) }
     ensures not_toml { IfErr result (λ e. e ≡ MachineFault.NotToml → IsNotToml text.now) }
-    ensures rule { IfErr result (λ e. (n : ℕ) → e ≡ MachineFault.Rule n → IsBrokenAt n text.now) }
+    ensures rule { IfErr result (λ e. (n : ℕ) → e ≡ MachineFault.Rule n
+        → IsBrokenAt n text.now) }
 {
     match toml::table_from_slice(alloc, text) {
         Ok(table) => read_table(alloc, &table),

@@ -63,7 +63,8 @@ fn add_back<N: Network>(points: &mut Points, net: &N, first: PointId, count: u32
     requires few { length points.old + count < 65 }
     requires known { first.0 < length (N.net net.now).lows }
     requires within { count ≤ first.0 }
-    ensures times { (sol : ℕ → ℕ) → IsLeast (N.net net.now) sol → points.new ≡ points.old
+    ensures times { (sol : ℕ → ℕ) → IsLeast (N.net net.now) sol
+        → points.new ≡ points.old
         ++ ticks_from (back_from sol first.0) 0 (suc count) }
     ensures count { length points.new ≡ length points.old + suc count }
 {

@@ -53,7 +53,8 @@ fn add_plan<N: Network>(net: &mut N, plan: &Plan, floor: Tick, horizon: Tick)
         ≤ N.max_points net.old }
     requires fits { floor + 1 < 2 ^ 32 }
     requires least { HasLeast (N.net net.old) }
-    ensures added { N.net net.new ≡ with_bounds (lows_of floor plan.now) (caps_of horizon plan.now)
+    ensures added { N.net net.new ≡ with_bounds (lows_of floor plan.now)
+        (caps_of horizon plan.now)
         (N.net net.old) }
     ensures solved { HasLeast (N.net net.new) }
     ensures past { N.past net.new ≡ N.past net.old }

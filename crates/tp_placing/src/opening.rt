@@ -34,7 +34,8 @@ impl<N: Network> Board<N> {
             → IsSomeAnd (suffix_of self.old) (λ x. HasNoTimes m self.old (with_stop x))) }
         ensures shown { OnErr result
             ((m : Machine) → Stands N.net N.content N.past self.old m
-            → IsSomeAnd (suffix_of self.old) (λ x. HasReason N.refutes m self.new (with_stop x))) }
+            → IsSomeAnd (suffix_of self.old) (λ x. HasReason N.refutes m self.new
+            (with_stop x))) }
         ensures same { OnErr result
             (content_of N.content self.new ≡ content_of N.content self.old) }
         ensures stands { (m : Machine) → Stands N.net N.content N.past self.old m
@@ -75,7 +76,8 @@ impl<N: Network> Board<N> {
         requires next { IsSomeAnd (suffix_of self.old)
             (λ x. CanPlace machine.now self.old.plans x hold place) }
         ensures suffix { OnOk result
-            (IsSomeAnd (suffix_of self.old) (λ x. suffix_of self.new ≡ Some (with_place place x))) }
+            (IsSomeAnd (suffix_of self.old) (λ x. suffix_of self.new ≡ Some
+            (with_place place x))) }
         ensures times { OnOk result
             (IsSomeAnd (suffix_of self.new) (HasTimes machine.now self.new)) }
         ensures late { OnErr result

@@ -30,7 +30,8 @@ fn farm_on<S: Source, K: Sink>(
         → state_of (λ s. s.standing) farm ≡ farm_start machines budget bounds
         → FarmEndsOn machines budget bounds (S.left source.old) (S.left source.new)
         (K.taken sink.old) (K.taken sink.new) result }
-    ensures source { result ≡ Status.Source → Rises (S.faults source.old) (S.faults source.new) }
+    ensures source { result ≡ Status.Source
+        → Rises (S.faults source.old) (S.faults source.new) }
     ensures sink { result ≡ Status.Sink → Rises (K.faults sink.old) (K.faults sink.new) }
 {
     farms_are_lawful();
@@ -62,7 +63,8 @@ pub(crate) fn farm<H: Shelf, S: Source, K: Sink>(
     ensures amiss { result ≡ Status.Shelf → IfSome (H.told shelf.old) (λ files.
         IsSome (file_at files request.now.arg.now) → NoneListedMissing files request.now.arg.now
         → Rises (H.amiss shelf.old) (H.amiss shelf.new)) }
-    ensures source { result ≡ Status.Source → Rises (S.faults source.old) (S.faults source.new) }
+    ensures source { result ≡ Status.Source
+        → Rises (S.faults source.old) (S.faults source.new) }
     ensures sink { result ≡ Status.Sink → Rises (K.faults sink.old) (K.faults sink.new) }
 {
     match find_farm(alloc, request, shelf) {

@@ -36,7 +36,8 @@ fn answer<H: Shelf, S: Source, K: Sink>(
     ensures shelf { result ≡ Status.Shelf → Rises (H.faults shelf.old) (H.faults shelf.new) }
     ensures amiss { result ≡ Status.Shelf → IfSome (H.told shelf.old) (λ files.
         IsThereFor files (seen request.now) → Rises (H.amiss shelf.old) (H.amiss shelf.new)) }
-    ensures source { result ≡ Status.Source → Rises (S.faults source.old) (S.faults source.new) }
+    ensures source { result ≡ Status.Source
+        → Rises (S.faults source.old) (S.faults source.new) }
     ensures sink { result ≡ Status.Sink → Rises (K.faults sink.old) (K.faults sink.new) }
 {
     match request.mode {
@@ -79,7 +80,8 @@ pub fn printer_main<H: Shelf, S: Source, K: Sink>(
     // machine's number. Of each machine the lines without it are the text of the log that answers, by a lawful run, the events
     // that it was sent.
     ensures farm { Asks Farm (map string_bytes words.now)
-        (λ asked. FarmEnds S.left K.taken (H.told shelf.old) source.old source.new sink.old sink.new
+        (λ asked. FarmEnds S.left K.taken (H.told shelf.old) source.old source.new
+        sink.old sink.new
         asked result) }
 
     // And of soaking: with `Done` the sink took the line of the counts of a lawful log with bounds, for the machine and the events
@@ -92,7 +94,8 @@ pub fn printer_main<H: Shelf, S: Source, K: Sink>(
     ensures amiss { result ≡ Status.Shelf → IfSome (H.told shelf.old) (λ files.
         IfSome (asked_by (map string_bytes words.now)) (λ asked. IsThereFor files asked
         → Rises (H.amiss shelf.old) (H.amiss shelf.new))) }
-    ensures source { result ≡ Status.Source → Rises (S.faults source.old) (S.faults source.new) }
+    ensures source { result ≡ Status.Source
+        → Rises (S.faults source.old) (S.faults source.new) }
     ensures sink { result ≡ Status.Sink → Rises (K.faults sink.old) (K.faults sink.new) }
 {
     match read_request(alloc, words) {

@@ -29,7 +29,8 @@ pub(crate) fn run<H: Shelf, S: Source, K: Sink>(
     ensures amiss { result ≡ Status.Shelf → IfSome (H.told shelf.old) (λ files.
         IsSome (file_at files request.now.arg.now)
         → Rises (H.amiss shelf.old) (H.amiss shelf.new)) }
-    ensures source { result ≡ Status.Source → Rises (S.faults source.old) (S.faults source.new) }
+    ensures source { result ≡ Status.Source
+        → Rises (S.faults source.old) (S.faults source.new) }
     ensures sink { result ≡ Status.Sink → Rises (K.faults sink.old) (K.faults sink.new) }
 {
     match find_machine(alloc, shelf, request.arg) {

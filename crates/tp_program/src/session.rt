@@ -48,7 +48,8 @@ pub(crate) fn run_on<S: Source, K: Sink>(
 ) -> Status
     ensures ends { EndsOn machine (unwrap_or settings.budget machine.budget) settings.bounds
         (S.left source.old) (S.left source.new) (K.taken sink.old) (K.taken sink.new) result }
-    ensures source { result ≡ Status.Source → Rises (S.faults source.old) (S.faults source.new) }
+    ensures source { result ≡ Status.Source
+        → Rises (S.faults source.old) (S.faults source.new) }
     ensures sink { result ≡ Status.Sink → Rises (K.faults sink.old) (K.faults sink.new) }
 {
     match answer_on(alloc, machine, settings, source, sink) {

@@ -64,7 +64,8 @@ fn tell_by_copy(
     requires in_order { AllPairs StandsBefore copies.now }
     ensures { OnOk result ((rule : Plan → Befalls)
         → AreFates rule state.now.schedule.plans fates.now
-        → notes.new.items ≡ notes.old.items ++ told_by_copy state.now.lines.jobs state.now.moment
+        → notes.new.items ≡ notes.old.items
+        ++ told_by_copy state.now.lines.jobs state.now.moment
         rule copies.now state.now.schedule.plans) }
 {
     state.schedule.ordered();

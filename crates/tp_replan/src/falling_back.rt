@@ -53,7 +53,8 @@ fn wait_next(
     requires next { HasNextCopy displaced.now.sheet }
     requires new_copy { IsTrue displaced.now.again
         → find_waiting (next_copy displaced.now.sheet) state.old.lines.waiting ≡ None }
-    requires room { IsTrue displaced.now.again → length state.old.lines.waiting + 1 ≤ most_waiting }
+    requires room { IsTrue displaced.now.again
+        → length state.old.lines.waiting + 1 ≤ most_waiting }
     ensures leads { OnOk result (Leads (next_waits displaced.now (seen state.old))
         notes.old.items notes.new.items (seen state.new)) }
     ensures marked { state.new.lines.kept ≡ state.old.lines.kept }

@@ -41,7 +41,8 @@ pub(crate) fn purge_at(schedule: &mut Schedule, at: u32)
 /// The plan at the place goes.
 fn withdraw_at(schedule: &mut Schedule, at: u32)
     requires there { at < length schedule.old.plans }
-    ensures { schedule.new.plans ≡ take at schedule.old.plans ++ drop (at + 1) schedule.old.plans }
+    ensures { schedule.new.plans ≡ take at schedule.old.plans ++ drop
+        (at + 1) schedule.old.plans }
 {
     schedule.ordered();
     let sheet = schedule.plan_at(at).sheet;

@@ -32,7 +32,8 @@ pub(crate) fn offer(
     ensures spread { (busy count : ℕ)
         → IsSpreadTo machine.now ask.entry.now sums.old waiting.old.items busy count
         → IsSpreadTo machine.now ask.entry.now sums.new waiting.new.items busy count }
-    ensures busy { (n v : ℕ) → v ≤ sum → sum_at sums.old n ≡ Some v → sum_at sums.new n ≡ Some v }
+    ensures busy { (n v : ℕ) → v ≤ sum → sum_at sums.old n ≡ Some v
+        → sum_at sums.new n ≡ Some v }
     ensures room { length sums.new ≤ vec_capacity waiting.new }
     ensures nearer { left_to_fill sums.new waiting.new.items
         ≤ left_to_fill sums.old waiting.old.items }
@@ -122,11 +123,13 @@ pub(crate) fn settle(
 )
     requires index { IsIndexOf machine.now index.now.firsts.items index.now.nexts.items }
     requires filling { IsFilling machine.now ask.now sums.old waiting.old.items }
-    requires spread { (busy : ℕ) → IsSpreadTo machine.now ask.now sums.old waiting.old.items busy
+    requires spread { (busy : ℕ) → IsSpreadTo machine.now ask.now sums.old
+        waiting.old.items busy
         (length machine.now.actions) }
     requires room { length sums.old ≤ vec_capacity waiting.old }
     ensures filling { IsFilling machine.now ask.entry.now sums.new waiting.new.items }
-    ensures spread { (busy : ℕ) → IsSpreadTo machine.now ask.entry.now sums.new waiting.new.items
+    ensures spread { (busy : ℕ) → IsSpreadTo machine.now ask.entry.now sums.new
+        waiting.new.items
         busy (length machine.now.actions) }
     ensures lowers { Lowers sums.old sums.new }
     ensures rest { waiting.new.items ≡ [] }

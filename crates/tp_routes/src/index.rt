@@ -65,7 +65,8 @@ fn clear(numbers: &mut [Option<u16>])
 /// The location that an action starts from.
 fn place_from(machine: &Machine, at: u32) -> usize
     requires { at < length machine.now.actions }
-    ensures place { IfSome (slice_get machine.now.actions at) (λ action. result ≡ action.from.0) }
+    ensures place { IfSome (slice_get machine.now.actions at)
+        (λ action. result ≡ action.from.0) }
     ensures within { result < length machine.now.locations }
 {
     usize::from(machine.actions.get(at).from.0)

@@ -15,7 +15,8 @@ pub(crate) fn start(machine: &Machine, ask: &Ask, sums: &mut [Option<u32>], wait
     requires room { length sums.old ≤ vec_capacity waiting.old }
     requires origin { IsKnownOrigin machine.now ask.now.origin }
     ensures filling { IsFilling machine.now ask.entry.now sums.new waiting.new.items }
-    ensures spread { (busy : ℕ) → IsSpreadTo machine.now ask.entry.now sums.new waiting.new.items
+    ensures spread { (busy : ℕ) → IsSpreadTo machine.now ask.entry.now sums.new
+        waiting.new.items
         busy (length machine.now.actions) }
     ensures starts { StartsAreIn machine.now ask.entry.now sums.new }
     ensures room { length sums.new ≤ vec_capacity waiting.new }
@@ -37,12 +38,14 @@ fn may_begin(ask: &Ask, feeder: &Feeder) -> bool
 /// Puts a new sheet at each feeder of the ask's media that isn't empty into the table.
 fn start_fresh(machine: &Machine, ask: &Ask, sums: &mut [Option<u32>], waiting: &mut Vec<u32>)
     requires filling { IsFilling machine.now ask.now sums.old waiting.old.items }
-    requires spread { (busy : ℕ) → IsSpreadTo machine.now ask.now sums.old waiting.old.items busy
+    requires spread { (busy : ℕ) → IsSpreadTo machine.now ask.now sums.old
+        waiting.old.items busy
         (length machine.now.actions) }
     requires room { length sums.old ≤ vec_capacity waiting.old }
     requires fresh { ask.now.origin ≡ Origin.Feeder }
     ensures filling { IsFilling machine.now ask.entry.now sums.new waiting.new.items }
-    ensures spread { (busy : ℕ) → IsSpreadTo machine.now ask.entry.now sums.new waiting.new.items
+    ensures spread { (busy : ℕ) → IsSpreadTo machine.now ask.entry.now sums.new
+        waiting.new.items
         busy (length machine.now.actions) }
     ensures starts { StartsAreIn machine.now ask.entry.now sums.new }
     ensures room { length sums.new ≤ vec_capacity waiting.new }

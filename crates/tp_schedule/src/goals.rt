@@ -33,7 +33,8 @@ fn is_among(places: &[LocId], place: LocId) -> bool
 
 /// Whether the state is a goal state of the ask.
 pub fn is_goal(machine: &Machine, ask: &Ask, state: State) -> bool
-    ensures { IsTrue result ↔ IsGoalState machine.now ask.entry.now.want ask.entry.now.goal state }
+    ensures { IsTrue result ↔ IsGoalState machine.now ask.entry.now.want
+        ask.entry.now.goal state }
 {
     match ask.goal {
         Goal::Tray(tray) => state == finished(&ask.want, tray),

@@ -41,7 +41,8 @@ pub trait Planner {
             schedule.old.plans (asking ask.entry.now) self.new }
         ensures stops_only { IfErr result (StopsOnlyWhere (stops self.old) (stops self.new)) }
         ensures counted { stops self.old ≤ stops self.new }
-        ensures still_serves { (other : Machine) → serves self.new other ≡ serves self.old other }
+        ensures still_serves { (other : Machine)
+            → serves self.new other ≡ serves self.old other }
         ensures lasts { lasting self.new ≡ lasting self.old };
 
     fn settle(&mut self, machine: &Machine, schedule: &mut Schedule, now: Tick) -> Result<(), Halt>
@@ -55,6 +56,7 @@ pub trait Planner {
             schedule.old.plans (settling now) self.new }
         ensures stops_only { IfErr result (StopsOnlyWhere (stops self.old) (stops self.new)) }
         ensures counted { stops self.old ≤ stops self.new }
-        ensures still_serves { (other : Machine) → serves self.new other ≡ serves self.old other }
+        ensures still_serves { (other : Machine)
+            → serves self.new other ≡ serves self.old other }
         ensures lasts { lasting self.new ≡ lasting self.old };
 }

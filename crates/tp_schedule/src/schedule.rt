@@ -126,7 +126,8 @@ impl Schedule {
     pub fn set_points(&mut self, sheet: SheetId, points: &Points)
         requires planned { IsSomeAnd (plan_of sheet self.old.plans)
             (λ p. length points.now ≡ length p.points) }
-        ensures plans { self.new.plans ≡ change_plan sheet (with_points points.now) self.old.plans }
+        ensures plans { self.new.plans ≡ change_plan sheet
+            (with_points points.now) self.old.plans }
         ensures spare { self.new.spare ≡ self.old.spare }
     {
         let mut plan = plan_in(self.plans.as_slice(), sheet).copy();
@@ -136,7 +137,8 @@ impl Schedule {
 
     /// The first `count` actions of the copy's plan are released, and no others.
     pub fn freeze(&mut self, sheet: SheetId, count: u32)
-        requires planned { IsSomeAnd (plan_of sheet self.old.plans) (λ p. count ≤ length p.acts) }
+        requires planned { IsSomeAnd (plan_of sheet self.old.plans)
+            (λ p. count ≤ length p.acts) }
         ensures plans { self.new.plans ≡ change_plan sheet (with_released count) self.old.plans }
         ensures spare { self.new.spare ≡ self.old.spare }
     {

@@ -18,7 +18,12 @@ impl Model for Group {
 
     ghost Value = { GroupForm };
 
-    ghost view = { λ g. record { count = g.count; front = g.front; back = g.back; face = g.face } };
+    ghost view = { λ g. record {
+      count = g.count;
+      front = g.front;
+      back = g.back;
+      face = g.face;
+    } };
 
     ghost invariant = { λ g. (1 ≤ g.count) × (g.count ≤ 4096) };
 

@@ -12,15 +12,18 @@ pub fn printed_is_read()
 
 /// No line gives two events.
 pub fn one_reading()
-    ensures { (words : List (List ℕ)) (e f : Event) → IsEvent words e → IsEvent words f → e ≡ f }
+    ensures { (words : List (List ℕ)) (e f : Event) → IsEvent words e
+        → IsEvent words f → e ≡ f }
 {}
 
 /// No two events have one text.
 pub fn one_text()
-    ensures { (e f : Event) → IsEchoed e → IsEchoed f → event_text e ≡ event_text f → e ≡ f }
+    ensures { (e f : Event) → IsEchoed e → IsEchoed f
+        → event_text e ≡ event_text f → e ≡ f }
 {}
 
 /// Reading gives an event exactly where the grammar does.
 pub fn reading_is_grammar()
-    ensures { (words : List (List ℕ)) (e : Event) → (event_of words ≡ Some e) ↔ IsEvent words e }
+    ensures { (words : List (List ℕ)) (e : Event) → (event_of words ≡ Some e)
+        ↔ IsEvent words e }
 {}

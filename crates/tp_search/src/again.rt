@@ -38,7 +38,8 @@ fn goal_again<N: Network>(board: &mut Board<N>, room: u32, reached: Reached) -> 
         × CanMake N.net N.content N.past board.old machine (Goal room) reached }
     ensures { (machine : Machine)
         → CanMake N.net N.content N.past board.old machine (Goal room) reached
-        → IsMade N.net N.content N.past N.max_marks board.old board.new machine (Goal room) result }
+        → IsMade N.net N.content N.past N.max_marks board.old board.new machine
+        (Goal room) result }
 {
     if reached.has_goal() {
         return reached;

@@ -39,9 +39,11 @@ pub fn answer<N: Network>(
         schedule.new.plans }
     ensures few { result ≡ Never
         → FewListsOpen machine.now schedule.old.plans ask.entry.now work.old.nodes }
-    ensures new_copy { result ≡ Planned → plan_of ask.entry.now.sheet schedule.old.plans ≡ None
+    ensures new_copy { result ≡ Planned
+        → plan_of ask.entry.now.sheet schedule.old.plans ≡ None
         → schedule.new.spare + 1 ≡ schedule.old.spare }
-    ensures in_flight { result ≡ Planned → IsSome (plan_of ask.entry.now.sheet schedule.old.plans)
+    ensures in_flight { result ≡ Planned
+        → IsSome (plan_of ask.entry.now.sheet schedule.old.plans)
         → schedule.new.spare ≡ schedule.old.spare }
     ensures stays { result ≢ Planned → schedule.new ≡ schedule.old }
     ensures work { work.new ≡ work.old }

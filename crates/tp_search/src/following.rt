@@ -36,7 +36,8 @@ fn place_all<N: Network>(board: &mut Board<N>, machine: &Machine, act: ActId, pl
     ensures stands { Stands N.net N.content N.past board.new machine.now }
     ensures suffix { IsSomeAnd (suffix_of board.old)
         (λ x. suffix_of board.new
-        ≡ Some (with_places (take (length (holds_of_act (action_at machine.now act.0))) places.now)
+        ≡ Some (with_places
+        (take (length (holds_of_act (action_at machine.now act.0))) places.now)
         x)) }
     ensures same { IsSameButSteps N.past N.max_marks board.old board.new }
 {

@@ -57,7 +57,8 @@ pub(crate) fn show_earliest<N: Network>(
     end: Tick,
 ) -> Result<BoundTree, Memory>
     requires work { IsFor work.old machine.now }
-    requires loaded { (plans : List Plan) × IsLoadedFrom machine.now plans ask.now board.old.plans }
+    requires loaded { (plans : List Plan)
+        × IsLoadedFrom machine.now plans ask.now board.old.plans }
     requires none { NoneBefore machine.now board.old.plans ask.now end }
     requires some { 1 ≤ end }
     requires within { end ≤ ask.now.now + machine.now.window }

@@ -49,7 +49,8 @@ pub fn plan<'b, N: Network>(
     ask: &Ask,
 ) -> Result<Trial<'b, N>, NoPlan>
     requires work { IsFor work.old machine.now }
-    requires loaded { (plans : List Plan) × IsLoadedFrom machine.now plans ask.now board.old.plans }
+    requires loaded { (plans : List Plan)
+        × IsLoadedFrom machine.now plans ask.now board.old.plans }
     requires stands { Stands N.net N.content N.past board.old machine.now }
     requires asked { board.old.ask ≡ Some ask.now }
     requires closed { board.old.steps ≡ [] }
@@ -60,7 +61,8 @@ pub fn plan<'b, N: Network>(
         (λ new. IsBack N.net N.content N.past N.max_marks board.old new machine.now)) }
     ensures same_reference { IfOk result (λ trial. borrow_in trial ≡ board.entry.ghost_name) }
     ensures trial { IfOk result (IsTrial N.net N.content N.past N.max_marks board.old machine.now) }
-    ensures end { (plans : List Plan) → IsLoadedFrom machine.now plans ask.entry.now board.old.plans
+    ensures end { (plans : List Plan) → IsLoadedFrom machine.now plans ask.entry.now
+        board.old.plans
         → IfOk result (λ trial. EndsEarliest machine.now plans ask.entry.now (end_in trial)) }
     ensures none { (plans : List Plan)
         → IsLoadedFrom machine.now plans ask.entry.now board.old.plans

@@ -76,7 +76,8 @@ pub(crate) fn put_stop<N: Network>(
     requires limit { IsLimit scene.machine.now scene.ask.now (pos scene.limit) }
     requires flying { IsInFlight scene.ask.now.origin }
     requires refused { (x : Suffix) × IsStopRefused N.refutes scene.machine.now board.now x }
-    ensures { OnOk result ((b : places.Branch) (x : Suffix) → b.depth ≡ depth → b.x ≡ with_stop x
+    ensures { OnOk result ((b : places.Branch) (x : Suffix) → b.depth ≡ depth
+        → b.x ≡ with_stop x
         → 0 < length x.choices → IsStopRefused N.refutes scene.entry.machine.now board.now x
         → PutsNode scene.entry.machine.now board.now.plans scene.entry.ask.now scene.entry.limit
         nodes.old nodes.new b head (λ _. [])) }
@@ -185,7 +186,8 @@ pub(crate) fn put_carried<N: Network>(
         scene.entry.limit nodes.old nodes.new (branch_by child x) head
         (λ rows. kids_of scene.entry.machine.now board.old.plans scene.entry.ask.now rows
         (branch_by child x)))) }
-    ensures splits { IfOk result (λ o. IfSome o (λ _. hold_of scene.entry.machine.now child ≡ None
+    ensures splits { IfOk result (λ o. IfSome o
+        (λ _. hold_of scene.entry.machine.now child ≡ None
         → is_begun scene.entry.machine.now scene.entry.ask.now scene.entry.ask.now.origin
         child.first ≡ false)) }
     ensures split_early { IfOk result (λ o. IfSome o (λ _. IsEarly scene.entry.machine.now

@@ -45,7 +45,8 @@ impl Range {
         requires begins { places.lo ≤ place }
         requires ends { place ≤ places.last }
         ensures { IfSome result (λ range. (plans : List Plan) (x : Suffix)
-            → AllPairs IsEarlier plans → next_rule scene.entry.machine.now x ≡ Some places.rule
+            → AllPairs IsEarlier plans → next_rule scene.entry.machine.now x
+            ≡ Some places.rule
             → branch.count ≡ length x.choices
             → places.last ≡ length (order_in scene.entry.machine.now plans x
             places.rule.resource.0)

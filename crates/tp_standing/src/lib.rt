@@ -7,5 +7,5 @@ mod stocking;
 mod telling;
 
 pub use laws::sound_standings_go_on;
-pub use restoring::state_of;
+pub use restoring::{schedule_of, state_of};
 pub use telling::standing_of;

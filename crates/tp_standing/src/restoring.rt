@@ -16,7 +16,7 @@ use tp_schedule::{Kind, Plan, Schedule, SheetId};
 use tp_turn::LiveState;
 
 /// A schedule of exactly these plans.
-fn schedule_of(alloc: Global, plans: &[Plan]) -> Result<Schedule, Memory>
+pub fn schedule_of(alloc: Global, plans: &[Plan]) -> Result<Schedule, Memory>
     requires ordered { IsOrdered plans.now }
     requires few { length plans.now + 1 < 2 ^ 32 }
     ensures { IfOk result (λ schedule. schedule.plans ≡ plans.now) }

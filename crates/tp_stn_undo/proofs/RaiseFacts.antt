@@ -1,5 +1,5 @@
 -- One step along an edge that is named by its number.
-use Rattle.std.proofs.Common.{◌≡◌, ℕ, suc, ◌+◌, ◌-◌, ◌*◌, ◌<◌, ◌≤◌, Bool, true, false, List, length, slice_index, get_or, set, Option, Some, None, pos, ◌+ℤ◌, ◌≤ℤ◌, ◌<ℤ◌, sym, refl, ap, ◌∙◌, subst, arith, inl, inr}
+use Rattle.std.proofs.Common.{◌≡◌, ℕ, suc, ◌+◌, ◌-◌, ◌*◌, ◌^◌, ◌<◌, ◌≤◌, Bool, true, false, List, length, slice_index, get_or, set, Option, Some, None, ℤ, pos, nat_abs, to_z, of_z, w64, ◌+ℤ◌, ◌≤ℤ◌, ◌<ℤ◌, sym, refl, ap, ◌∙◌, subst, arith, inl, inr}
 use Rattle.std.proofs.lemmas.Bool.{cases_eq, true≢false}
 use Rattle.std.proofs.lemmas.Int.{ints}
 use Rattle.std.proofs.lemmas.Option.{same_Some, slice_get_within, get_or_from_slice_get}
@@ -11,12 +11,12 @@ use Rattle.std.specs.List.{All, Contains, slice_get}
 use Rattle.tp_base.specs.declared.edges.Edge.{Edge}
 use Rattle.tp_base.specs.Net.{Keeps}
 use Rattle.tp_base.specs.Grows.{IsKnown, Grows, Rises, PassesCap, AreWithin, cause_of, slack}
-use Rattle.tp_base.proofs.GrowsFacts.{Grows-step, Changes-set, Changes-changed, changed, slack-set, still_kept}
+use Rattle.tp_base.proofs.GrowsFacts.{nat_abs-is, nat_abs-above, Grows-step, Changes-set, Changes-changed, changed, slack-set, still_kept}
 use Rattle.tp_stn_undo.specs.declared.spots.Spot.{Spot}
 use Rattle.tp_stn_undo.specs.declared.links.Link.{Link}
 use Rattle.tp_stn_undo.specs.Spots.{lows_of, times_of, edges_of, causes_of, numbered}
 use Rattle.tp_stn_undo.specs.Flags.{flag}
-use Rattle.tp_stn_undo.specs.Spreading.{AreNumbered, AsksMore, SpotsRise, KeptFrom, IsMet}
+use Rattle.tp_stn_undo.specs.Spreading.{AreNumbered, AsksFor, AsksMore, SpotsRise, KeptFrom, IsMet}
 use Rattle.tp_stn_undo.proofs.CauseFacts.{no_spot, no_link, numbered_at, edge_at}
 
 pub times_len : (spots : List Spot) → length (times_of spots) ≡ length spots
@@ -30,6 +30,15 @@ causes_len links spots = length-map spots (λ (s : Spot). numbered (edges_of lin
 
 pub time_at : (spots : List Spot) (p : ℕ) → p < length spots → slice_index (times_of spots) p ≡ (get_or spots p no_spot).time
 time_at spots p h = get_or-map (λ (s : Spot). s.time) spots p no_spot 0 h
+
+-- what is asked for, as a time
+abbrev pub height : ℤ → ℕ
+height reach = nat_abs (to_z w64 (of_z w64 reach))
+
+pub record Pulls (from to : ℕ) (weight asked : ℤ) : Type 0 where
+  pub is : pos (height asked) ≡ asked
+  pub reach : pos (height asked) ≡ (pos from +ℤ weight)
+  pub more : to < height asked
 
 module _ (links : List Link) (spots : List Spot) (number : ℕ) (some : 0 < number) (within : number ≤ length links) (all : All (IsKnown (length spots)) (edges_of links)) where
   abbrev pub edge : Edge
@@ -81,6 +90,20 @@ module _ (links : List Link) (spots : List Spot) (number : ℕ) (some : 0 < numb
         | inl e ↦ (let a = ap (λ (s : Spot). s.cause) (get_or-set_same spots to (raised high) d t) in let b = ap (λ (i : ℕ). (get_or (after high) i d).cause) e in omega arith)
         | inr e ↦ (let a = ap (λ (s : Spot). s.cause) (get_or-set_other spots to k (raised high) d e) in let b = n k d (omega arith) in omega arith)
       ]
+
+  -- what the edge asks for is more than the time of its end
+  pub pulls : (reach : ℤ) → AsksFor (edges_of links) number (slice_index times) reach → AsksMore (edges_of links) number (slice_index times) → reach <ℤ pos (2 ^ 63)
+      → Pulls (slice_index times edge.from.0) (slice_index times to) edge.weight reach
+  pulls reach for more fits =
+      let sum = for edge (edge_at links number no_link some within) in
+      let asks = more edge (edge_at links number no_link some within) in
+      let least = known.least in
+      let most = known.most in
+      let from = time_at spots edge.from.0 known.from in
+      let end = time_at spots to known.to in
+      let z : ℤ = to_z w64 (of_z w64 reach) in
+      let high : pos (nat_abs z) ≡ (pos (slice_index times edge.from.0) +ℤ edge.weight) = nat_abs-is z (pos (slice_index times edge.from.0) +ℤ edge.weight) (omega (arith, ints)) (omega (arith, ints)) in
+      record { is = high ∙ sym sum; reach = high; more = nat_abs-above (slice_index times to) z (omega (arith, ints)) }
 
   module _ (high : ℕ) (reach : pos high ≡ (pos (slice_index times edge.from.0) +ℤ edge.weight)) (more : slice_index times to < high) where
     to_in : to < length times

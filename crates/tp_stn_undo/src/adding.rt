@@ -14,7 +14,7 @@ ghost use Rattle.tp_stn_undo.specs.Adding.{CanAdd, Adds, AreLinkedAfter, AllWait
 use crate::linking::{link, unlink};
 use crate::links::Link;
 use crate::spots::Spot;
-use crate::spreading::{settle, spread};
+use crate::spreading::{Start, settle, spread};
 use crate::waiting::Waiting;
 use crate::working::Working;
 use tp_base::{Edge, Kept};
@@ -174,7 +174,11 @@ pub(crate) fn load_edges(
         return;
     }
     link_all(edges, links, heads, &mut working.waiting);
-    match spread(caps, links, heads, edges[0].from, 0, spots, working) {
+    let start = Start {
+        watched: edges[0].from,
+        first: 0,
+    };
+    match spread(caps, links, heads, start, spots, working) {
         Ok(()) => {}
         Err(_) => unreachable!(),
     }

@@ -3,7 +3,7 @@ use crate::adding::{add_edges, load_edges, push_point};
 use crate::lifting::lift;
 use crate::live_net::LiveNet;
 use crate::saving::save_changes;
-use crate::spreading::spread;
+use crate::spreading::{Start, spread};
 use tp_base::{Edge, Full, Kept, Late, Network, PointId, Proof, Tick};
 
 impl Network for LiveNet {
@@ -131,12 +131,15 @@ impl Network for LiveNet {
             &mut self.working.waiting,
             &mut self.working.changes,
         );
+        let start = Start {
+            watched: point,
+            first: 0,
+        };
         match spread(
             &self.caps,
             &self.links,
             &self.heads,
-            point,
-            0,
+            start,
             &mut self.spots,
             &mut self.working,
         ) {

@@ -23,7 +23,8 @@ pub(crate) fn lift(
     requires waits { length spots.old ≤ length waiting.old.flags }
     requires room { length spots.old ≤ changes.old.room }
     ensures lifts { Lifts spots.old spots.new point.0 low waiting.old.flags waiting.new.flags }
-    ensures back { restored changes.new.entries spots.new ≡ restored changes.old.entries spots.old }
+    ensures back { restored changes.new.entries spots.new
+        ≡ restored changes.old.entries spots.old }
     ensures known { AreKnown (length spots.old) changes.old.entries
         → AreKnown (length spots.old) changes.new.entries }
     ensures waiting { AreBelow (length spots.old) waiting.old.points

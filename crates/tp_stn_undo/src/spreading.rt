@@ -20,23 +20,38 @@ use crate::waiting::Waiting;
 use crate::working::Working;
 use tp_base::{Kept, PointId};
 
-/// Raises the end of an edge, given by its number counted from 1, to what the edge asks for, which is more; or, where that
-/// passes the upper bound, says which point that is. `reach` is what the edge asks for.
+/// An edge that asks for more: its number, counted from 1, and what it asks for.
+#[derive(Clone, Copy)]
+pub(crate) struct Pull {
+    number: u32,
+    reach: i64,
+}
+
+/// Where following begins: with the edges of a point from one on, given by its number counted from 1; with none of them where
+/// that is 0. If the point rises, the causes are followed back.
+#[derive(Clone, Copy)]
+pub(crate) struct Start {
+    pub(crate) watched: PointId,
+    pub(crate) first: u32,
+}
+
+/// Raises the end of an edge to what the edge asks for, which is more; or, where that passes the upper bound, says which point
+/// that is.
 #[inline(always)]
 fn raise_along(
     caps: &[u32],
     links: &[Link],
-    number: u32,
-    reach: i64,
+    pull: Pull,
     spots: &mut [Spot],
     waiting: &mut Waiting,
     changes: &mut Changes,
 ) -> Result<(), PointId>
-    requires some { 0 < number }
-    requires number { number ≤ length links.now }
+    requires some { 0 < pull.number }
+    requires number { pull.number ≤ length links.now }
     requires known { All (IsKnown (length spots.old)) (edges_of links.now) }
-    requires more { AsksMore (edges_of links.now) number (slice_index (times_of spots.old)) }
-    requires reach { AsksFor (edges_of links.now) number (slice_index (times_of spots.old)) reach }
+    requires more { AsksMore (edges_of links.now) pull.number (slice_index (times_of spots.old)) }
+    requires reach { AsksFor (edges_of links.now) pull.number (slice_index (times_of spots.old))
+        pull.reach }
     requires caps { length caps.now ≡ length spots.old }
     requires below { AreWithin caps.now (times_of spots.old) }
     requires waits { length spots.old ≤ length waiting.old.flags }
@@ -52,50 +67,50 @@ fn raise_along(
         → KeptFrom edges (slice_index (times_of spots.old)) waiting.old.flags point left
         → KeptFrom edges (slice_index (times_of spots.new)) waiting.new.flags point left) }
     ensures met { OnOk result (IsMet (edges_of links.now) (slice_index (times_of spots.new))
-        waiting.new.flags (number - 1)) }
+        waiting.new.flags (pull.number - 1)) }
     ensures less { OnOk result
         (weight caps.now spots.new waiting.new ≤ weight caps.now spots.old waiting.old) }
     ensures late { IfErr result (λ p. PassesCap caps.now (edges_of links.now) (times_of spots.old)
         (causes_of (edges_of links.now) spots.old) (causes_of (edges_of links.now) spots.new) p.0) }
 {
-    let end = links[number as usize - 1].edge.to;
+    let end = links[pull.number as usize - 1].edge.to;
     let to = end.0 as usize;
     changes.note(end, &spots[to]);
-    if reach > i64::from(caps[to]) {
+    if pull.reach > i64::from(caps[to]) {
         spots[to] = Spot {
             low: spots[to].low,
             time: spots[to].time,
-            cause: number,
+            cause: pull.number,
         };
         return Err(end);
     }
     spots[to] = Spot {
         low: spots[to].low,
-        time: reach as u32,
-        cause: number,
+        time: pull.reach as u32,
+        cause: pull.number,
     };
     waiting.push(end.0);
     Ok(())
 }
 
-/// Follows an edge that asks for more, given by its number counted from 1. Where a point has to pass its upper bound, or the
-/// watched point rises and the causes lead round, writes what shows that there is no solution.
+/// Follows an edge that asks for more. Where a point has to pass its upper bound, or the watched point rises and the causes lead
+/// round, writes what shows that there is no solution.
 #[inline(always)]
 pub(crate) fn follow(
     caps: &[u32],
     links: &[Link],
-    number: u32,
-    reach: i64,
+    pull: Pull,
     watched: PointId,
     spots: &mut [Spot],
     working: &mut Working,
 ) -> Result<(), Kept>
-    requires some { 0 < number }
-    requires number { number ≤ length links.now }
+    requires some { 0 < pull.number }
+    requires number { pull.number ≤ length links.now }
     requires watched { watched.0 < length spots.old }
     requires known { All (IsKnown (length spots.old)) (edges_of links.now) }
-    requires more { AsksMore (edges_of links.now) number (slice_index (times_of spots.old)) }
-    requires reach { AsksFor (edges_of links.now) number (slice_index (times_of spots.old)) reach }
+    requires more { AsksMore (edges_of links.now) pull.number (slice_index (times_of spots.old)) }
+    requires reach { AsksFor (edges_of links.now) pull.number (slice_index (times_of spots.old))
+        pull.reach }
     requires caps { length caps.now ≡ length spots.old }
     requires below { AreWithin caps.now (times_of spots.old) }
     requires supported { IsSupported (lows_of spots.old) (edges_of links.now)
@@ -112,9 +127,10 @@ pub(crate) fn follow(
         → AreBelow (length spots.old) working.new.waiting.points }
     ensures kept { OnOk result ((edges : List Edge) (point left : ℕ)
         → KeptFrom edges (slice_index (times_of spots.old)) working.old.waiting.flags point left
-        → KeptFrom edges (slice_index (times_of spots.new)) working.new.waiting.flags point left) }
+        → KeptFrom edges (slice_index (times_of spots.new))
+        working.new.waiting.flags point left) }
     ensures met { OnOk result (IsMet (edges_of links.now) (slice_index (times_of spots.new))
-        working.new.waiting.flags (number - 1)) }
+        working.new.waiting.flags (pull.number - 1)) }
     ensures less { OnOk result (weight caps.now spots.new working.new.waiting
         ≤ weight caps.now spots.old working.old.waiting) }
     ensures refuted { IfErr result (λ kept. KeptRefutes
@@ -125,14 +141,13 @@ pub(crate) fn follow(
     match raise_along(
         caps,
         links,
-        number,
-        reach,
+        pull,
         spots,
         &mut working.waiting,
         &mut working.changes,
     ) {
         Ok(()) => {
-            if links[number as usize - 1].edge.to.0 == watched.0 {
+            if links[pull.number as usize - 1].edge.to.0 == watched.0 {
                 if trace_causes(
                     spots,
                     links,
@@ -160,19 +175,17 @@ pub(crate) fn follow(
     }
 }
 
-/// Follows the edges of the watched point from one on, given by its number counted from 1, if it is not 0, and those of the
-/// points that wait, until none waits.
+/// Follows the edges with which it starts, and those of the points that wait, until none waits.
 pub(crate) fn spread(
     caps: &[u32],
     links: &[Link],
     heads: &[u32],
-    watched: PointId,
-    first: u32,
+    start: Start,
     spots: &mut [Spot],
     working: &mut Working,
 ) -> Result<(), Kept>
     requires heads { AreLinks links.now heads.now (length spots.old) }
-    requires watched { watched.0 < length spots.old }
+    requires watched { start.watched.0 < length spots.old }
     requires known { All (IsKnown (length spots.old)) (edges_of links.now) }
     requires caps { length caps.now ≡ length spots.old }
     requires below { AreWithin caps.now (times_of spots.old) }
@@ -183,9 +196,9 @@ pub(crate) fn spread(
     requires room { HasWorkingRoom (length spots.old) working.old }
     requires zeros { AreZeros working.old.places.items }
     requires waiting { AreBelow (length spots.old) working.old.waiting.points }
-    requires reached { Reached links.now watched.0 first }
+    requires reached { Reached links.now start.watched.0 start.first }
     requires kept { KeptFrom (edges_of links.now) (slice_index (times_of spots.old))
-        working.old.waiting.flags watched.0 first }
+        working.old.waiting.flags start.watched.0 start.first }
     ensures back { LeadsBack links.now spots.old spots.new
         working.old.changes.entries working.new.changes.entries }
     ensures rises { OnOk result (SpotsRise links.now spots.old spots.new) }
@@ -199,14 +212,18 @@ pub(crate) fn spread(
     ensures sizes { KeepsSizes working.old working.new }
     ensures zeros { AreZeros working.new.places.items }
 {
-    let mut point = watched.0;
-    let mut left = first;
+    let mut point = start.watched.0;
+    let mut left = start.first;
     'points: loop {
         'edges: while left > 0 {
             let link = &links[left as usize - 1];
             let reach = i64::from(spots[point as usize].time) + link.edge.weight;
             if reach > i64::from(spots[link.edge.to.0 as usize].time) {
-                match follow(caps, links, left, reach, watched, spots, working) {
+                let pull = Pull {
+                    number: left,
+                    reach,
+                };
+                match follow(caps, links, pull, start.watched, spots, working) {
                     Ok(()) => {}
                     Err(kept) => return Err(kept),
                 }
@@ -266,5 +283,9 @@ pub(crate) fn settle(
     if reach <= i64::from(spots[edge.to.0 as usize].time) {
         return Ok(());
     }
-    spread(caps, links, heads, edge.from, number, spots, working)
+    let start = Start {
+        watched: edge.from,
+        first: number,
+    };
+    spread(caps, links, heads, start, spots, working)
 }

@@ -157,7 +157,8 @@ fn tell_move(
     after: &Plan,
     notes: &mut Vec<Record>,
 ) -> Result<(), Memory>
-    ensures { OnOk result (notes.new.items ≡ notes.old.items ++ told_of_move before.now after.now) }
+    ensures { OnOk result (notes.new.items ≡ notes.old.items
+        ++ told_of_move before.now after.now) }
 {
     if before.points.as_slice() != after.points.as_slice() {
         let sheet = label(after.name, after.sheet);

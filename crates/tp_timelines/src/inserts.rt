@@ -33,7 +33,8 @@ pub(crate) fn empty_orders(
 /// Takes all numbers out.
 pub(crate) fn empty_all(orders: &mut Vec<Vec<u32>>)
     ensures numbers { numbers_of orders.new.items ≡ replicate (length orders.old.items) [] }
-    ensures room { (holds : ℕ) → HaveRoom holds orders.old.items → HaveRoom holds orders.new.items }
+    ensures room { (holds : ℕ) → HaveRoom holds orders.old.items
+        → HaveRoom holds orders.new.items }
 {
     'orders: for at in 0..orders.len() {
         orders[at].clear();
@@ -50,7 +51,8 @@ pub(crate) fn take_back(orders: &mut Vec<Vec<u32>>, inserted: &mut Vec<Insert>, 
     ensures stand { StandAt (numbers_of orders.new.items) inserted.new.items }
     ensures all { total (numbers_of orders.old.items) ≡ length inserted.old.items
         → total (numbers_of orders.new.items) ≡ length inserted.new.items }
-    ensures room { (holds : ℕ) → HaveRoom holds orders.old.items → HaveRoom holds orders.new.items }
+    ensures room { (holds : ℕ) → HaveRoom holds orders.old.items
+        → HaveRoom holds orders.new.items }
     ensures capacity { vec_capacity inserted.new ≡ vec_capacity inserted.old }
 {
     'back: while inserted.len() > to {

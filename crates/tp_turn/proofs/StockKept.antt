@@ -15,8 +15,8 @@ use Rattle.tp_schedule.specs.Living.{is_live, live_count}
 use Rattle.tp_schedule.specs.declared.parts.Plan.{Plan}
 use Rattle.tp_schedule.specs.declared.records.Cause.{Cause}
 use Rattle.tp_schedule.specs.declared.records.Cause.TheVariants.{Endless, Feeder as NoFeeder, Stock}
-use Rattle.tp_stock.specs.Stock.{AreWithin, IsBounded, IsNotOverdrawn, IsStockedWithin, begins_at, feeder_at, feeder_named, free_of, free_stock, less_taken, more_at, most_free, no_refills, refilled, taken_at}
-use Rattle.tp_stock.proofs.StockFacts.{at-location, at-none, count-cons, drawn-fewer, drawn-more, drawn-part, feeder-known, refilled-less, refilled-more}
+use Rattle.tp_stock.specs.Stock.{AreWithin, IsBounded, IsNotOverdrawn, IsStockedWithin, begins_at, drawn_at, feeder_at, feeder_named, free_of, free_stock, less_taken, more_at, most_free, no_refills, refilled, taken_at}
+use Rattle.tp_stock.proofs.StockFacts.{at-location, at-none, count-cons, drawn-few, drawn-fewer, drawn-more, drawn-part, feeder-known, refilled-less, refilled-more}
 use Rattle.tp_turn.proofs.LeftPlans.{AreLeft}
 use Rattle.tp_turn.proofs.ListFacts.{find-Some}
 use Rattle.tp_turn.proofs.ReleasedPlans.{AreLeft-released}
@@ -198,12 +198,12 @@ module _ (machine : Machine) (events : ℕ) (s : SessionState) (few : length s.p
         let known = feeder-known machine g found.0 in
         let e = eqb-true g.loc.0 loc found.1 in
         let low : loc < 256 = omega (arith, e) in
-        rw (refilled-less machine gone s.refills loc low) (lower stock (taken_at machine gone loc) (refilled s.refills loc) (keeps.most loc g stock at is))
+        rw (refilled-less machine gone s.refills loc low) (lower stock (drawn_at machine gone loc) (refilled s.refills loc) (keeps.most loc g stock at is))
 
     within : AreWithin (events + 1) (less_taken machine gone s.refills)
     within loc = elim (cases_lt loc 256) [
-      | inl low ↦ rw (refilled-less machine gone s.refills loc low) (off (refilled s.refills loc) (taken_at machine gone loc) (gone-few loc) (keeps.within loc))
-      | inr high ↦ rw (at-none (λ loc. refilled s.refills loc -ℤ pos (taken_at machine gone loc)) loc (pos 0) high) (omega (arith, ints), omega (arith, ints))
+      | inl low ↦ rw (refilled-less machine gone s.refills loc low) (off (refilled s.refills loc) (drawn_at machine gone loc) (let few = drawn-few machine gone loc in let all = gone-few loc in omega arith) (keeps.within loc))
+      | inr high ↦ rw (at-none (λ loc. refilled s.refills loc -ℤ pos (drawn_at machine gone loc)) loc (pos 0) high) (omega (arith, ints), omega (arith, ints))
     ] where
       off : (r : ℤ) (n : ℕ) → n ≤ 256 → (neg_ℤ (pos (events * 1000000)) ≤ℤ r) × (r ≤ℤ pos (events * 1000000)) → (neg_ℤ (pos ((events + 1) * 1000000)) ≤ℤ (r -ℤ pos n)) × ((r -ℤ pos n) ≤ℤ pos ((events + 1) * 1000000))
       off r n le (low, high) = (omega (arith, ints), omega (arith, ints))

@@ -3,7 +3,7 @@ use Rattle.tp_machine.specs.declared.parts.Anchor.TheVariants.{Start}
 use Rattle.tp_machine.specs.declared.parts.HoldRule.{HoldRule}
 use Rattle.tp_schedule.specs.Choices.{put_places}
 use Rattle.tp_constraints.proofs.Steps.{put_places-none}
-use Rattle.tp_bound_check.proofs.PlacedFacts.{off-it}
+use Rattle.tp_bound_check.proofs.SeamFacts.{off-it}
 use Rattle.tp_bound_check.proofs.TrackFacts.{places-few, places-one}
 use Rattle.tp_bound_check.proofs.own.number_on.Goals as goal
 

@@ -4,7 +4,7 @@ use Rattle.tp_machine.specs.declared.parts.HoldRule.{HoldRule}
 use Rattle.tp_schedule.specs.Choices.{put_places}
 use Rattle.tp_bound_check.specs.Ranks.{rank_at}
 use Rattle.tp_constraints.proofs.Steps.{put_places-none}
-use Rattle.tp_bound_check.proofs.RankFacts.{rank-one}
+use Rattle.tp_bound_check.proofs.KeptRanks.{rank-one}
 use Rattle.tp_bound_check.proofs.TrackFacts.{places-few}
 use Rattle.tp_bound_check.proofs.ranking.place_below.Goals as goal
 

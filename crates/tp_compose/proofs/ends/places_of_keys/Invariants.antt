@@ -1,6 +1,6 @@
-use Rattle.std.proofs.Common.{◌≡◌, ◌++◌, length, map, option_map}
+use Rattle.std.proofs.Common.{◌≡◌, ◌++◌, map}
 use Rattle.toml.specs.View.{view, members_view, table_view}
-use Rattle.tp_machine_text.specs.Words.{text_of, keys_of, members_of}
+use Rattle.tp_machine_text.specs.Words.{text_of, keys_of}
 use Rattle.tp_compose.specs.Racks.{place_by}
 use Rattle.tp_compose.proofs.ends.places_of_keys.Given as goal
 

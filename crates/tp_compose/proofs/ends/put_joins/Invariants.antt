@@ -1,6 +1,6 @@
-use Rattle.std.proofs.Common.{◌≡◌, ◌++◌, length, map, option_map}
+use Rattle.std.proofs.Common.{◌≡◌, length, map}
 use Rattle.std.specs.List.{flat_map}
-use Rattle.toml.specs.View.{view, members_view, table_view}
+use Rattle.toml.specs.View.{view, table_view}
 use Rattle.tp_compose.specs.Racks.{join_entries, put_all}
 use Rattle.tp_compose.proofs.ends.put_joins.Given as goal
 

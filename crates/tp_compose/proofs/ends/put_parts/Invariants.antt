@@ -1,7 +1,7 @@
-use Rattle.std.proofs.Common.{◌≡◌, ◌++◌, length, map, option_map}
+use Rattle.std.proofs.Common.{◌≡◌, option_map}
 use Rattle.std.specs.List.{flat_map}
-use Rattle.toml.specs.View.{view, members_view, table_view}
-use Rattle.tp_machine_text.specs.Words.{text_of, keys_of, members_of}
+use Rattle.toml.specs.View.{members_view, table_view}
+use Rattle.tp_machine_text.specs.Words.{members_of}
 use Rattle.tp_compose.specs.Racks.{part_ends, typed, put_all}
 use Rattle.tp_compose.proofs.ends.put_parts.Given as goal
 

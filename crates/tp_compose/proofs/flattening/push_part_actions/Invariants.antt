@@ -1,5 +1,5 @@
-use Rattle.std.proofs.Common.{◌≡◌, ◌++◌, length, map, option_map}
-use Rattle.toml.specs.View.{view, members_view, table_view}
+use Rattle.std.proofs.Common.{◌≡◌, ◌++◌, length, map}
+use Rattle.toml.specs.View.{view, table_view}
 use Rattle.tp_compose.specs.Flat.{flat_action}
 use Rattle.tp_compose.proofs.flattening.push_part_actions.Given as goal
 

@@ -1,5 +1,5 @@
-use Rattle.std.proofs.Common.{◌≡◌, ◌++◌, length, map, option_map}
-use Rattle.toml.specs.View.{view, members_view, table_view}
+use Rattle.std.proofs.Common.{◌≡◌}
+use Rattle.toml.specs.View.{members_view, table_view}
 use Rattle.tp_compose.specs.Racks.{put_all}
 use Rattle.tp_compose.specs.Flat.{placed_feeders}
 use Rattle.tp_compose.proofs.flattening.put_feeders.Given as goal

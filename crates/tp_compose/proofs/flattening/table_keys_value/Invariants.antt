@@ -1,7 +1,7 @@
-use Rattle.std.proofs.Common.{◌≡◌, ◌++◌, length, map, option_map}
+use Rattle.std.proofs.Common.{◌≡◌, ◌++◌, map}
 use Rattle.toml.specs.Data.{string}
 use Rattle.toml.specs.View.{view, members_view, table_view}
-use Rattle.tp_machine_text.specs.Words.{text_of, keys_of, members_of}
+use Rattle.tp_machine_text.specs.Words.{keys_of}
 use Rattle.tp_compose.proofs.flattening.table_keys_value.Given as goal
 
 abbrev pub invariant-entries : goal.invariant-entries

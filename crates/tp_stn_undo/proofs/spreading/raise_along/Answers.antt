@@ -1,284 +1,192 @@
-use Rattle.std.proofs.Common.{arith, ◌≡◌, ℕ, ℤ, ◌∙◌, ◌<◌, ◌≤◌, ◌+◌, ◌-◌, ◌*◌, pos, ◌+ℤ◌, nat_abs, Bool, List, length, slice_index, get_or, sym, ap, subst, to_z, of_z, w64, true, rules}
+use Rattle.std.proofs.Common.{arith, ℕ, ◌∙◌, ◌≤◌, ◌+◌, ◌-◌, ◌*◌, Bool, List, length, slice_index, get_or, sym, ap, subst, true, rules}
 use Rattle.std.proofs.lemmas.Int.{ints}
 use Rattle.std.proofs.lemmas.List.{length-set}
 use Rattle.tp_base.specs.declared.edges.Edge.{Edge}
 use Rattle.tp_base.specs.Grows.{AreWithin, slack}
-use Rattle.tp_base.proofs.GrowsFacts.{nat_abs-is, nat_abs-above, nat_abs-at_most}
 use Rattle.tp_stn_undo.specs.Spots.{times_of, edges_of}
 use Rattle.tp_stn_undo.specs.Spreading.{KeptFrom, IsMet}
 use Rattle.tp_stn_undo.proofs.CauseFacts.{no_spot, no_link, slice_get_at, edge_at}
-use Rattle.tp_stn_undo.proofs.RaiseFacts.{times_same, time_at, known, raised, after, lows_after, numbered_after, rises, passes, below_after, kept_after, met_after, less_after, weight_less}
+use Rattle.tp_stn_undo.proofs.RaiseFacts.{times_same, time_at, known, to, height, pulls, raised, after, lows_after, numbered_after, rises, passes, below_after, kept_after, met_after, less_after, weight_less}
 use Rattle.tp_stn_undo.proofs.spreading.raise_along.Goals as goal
 
 pub note-requires : goal.note-requires
 note-requires c =
-    let k = (known c.args.links.now c.args.spots.now c.args.number c.requires.some c.requires.number c.requires.known).to in
+    let k = (known c.args.links.now c.args.spots.now c.args.pull.number c.requires.some c.requires.number c.requires.known).to in
     let r = c.requires.room in
     omega arith
 
 pub bounds-caps-to : goal.bounds-caps-to
 bounds-caps-to c =
-    let k = (known c.args.links.now c.args.spots.now c.args.number c.requires.some c.requires.number c.requires.known).to in
+    let k = (known c.args.links.now c.args.spots.now c.args.pull.number c.requires.some c.requires.number c.requires.known).to in
     let r = c.requires.caps in
     omega arith
 
 pub bounds-spots-to : goal.bounds-spots-to
-bounds-spots-to c = (known c.args.links.now c.args.spots.now c.args.number c.requires.some c.requires.number c.requires.known).to
+bounds-spots-to c = (known c.args.links.now c.args.spots.now c.args.pull.number c.requires.some c.requires.number c.requires.known).to
 
-pub returns-then-reach-from-clause-back : goal.returns-then-reach-from-clause-back
-returns-then-reach-from-clause-back c =
+pub returns-then-pull-from-clause-back : goal.returns-then-pull-from-clause-back
+returns-then-pull-from-clause-back c =
     let links = c.args.links.now in
     let spots = c.args.spots.now in
-    let number = c.args.number in
+    let number = c.args.pull.number in
     let some = c.requires.some in
     let within = c.requires.number in
     let all = c.requires.known in
-    let e : Edge = (get_or links (number - 1) no_link).edge in
-    let z : ℤ = to_z w64 (of_z w64 c.args.reach) in
-    let sum = c.requires.reach e (edge_at links number no_link some within) in
-    let fits = c.ranges.reach in
-    let high : ℕ = nat_abs z in
-    let k = known links spots number some within all in
-    let least = k.least in
-    let most = k.most in
-    let at_from = time_at spots e.from.0 k.from in
-    let at_to = time_at spots e.to.0 k.to in
-    let asks = c.requires.more e (edge_at links number no_link some within) in
-    let reach : pos high ≡ (pos (slice_index (times_of spots) e.from.0) +ℤ e.weight) = nat_abs-is z (pos (slice_index (times_of spots) e.from.0) +ℤ e.weight) (omega (arith, ints)) (omega (arith, ints)) in
-    let more : slice_index (times_of spots) e.to.0 < high = nat_abs-above (slice_index (times_of spots) e.to.0) z (omega (arith, ints)) in
-    let get = slice_get_at spots e.to.0 no_spot k.to in
+    let high = height c.args.pull.reach in
+    let pulled = pulls links spots number some within all c.args.pull.reach c.requires.reach c.requires.more (omega (arith, ints)) in
+    let at = to links spots number some within all in
+    let inside = (known links spots number some within all).to in
+    let get = slice_get_at spots at no_spot inside in
     record {
-      back = c.note.ensures.back spots (raised links spots number some within all (get_or spots e.to.0 no_spot).time) get;
-      known = c.note.ensures.known (length spots) k.to;
-      lows = lows_after links spots number some within all (get_or spots e.to.0 no_spot).time;
-      numbered = numbered_after links spots number some within all (get_or spots e.to.0 no_spot).time;
-      len = length-set spots e.to.0 (raised links spots number some within all (get_or spots e.to.0 no_spot).time);
+      back = c.note.ensures.back spots (raised links spots number some within all (get_or spots at no_spot).time) get;
+      known = c.note.ensures.known (length spots) inside;
+      lows = lows_after links spots number some within all (get_or spots at no_spot).time;
+      numbered = numbered_after links spots number some within all (get_or spots at no_spot).time;
+      len = length-set spots at (raised links spots number some within all (get_or spots at no_spot).time);
     }
 
-pub returns-then-reach-from-clause-below : goal.returns-then-reach-from-clause-below
-returns-then-reach-from-clause-below c =
+pub returns-then-pull-from-clause-below : goal.returns-then-pull-from-clause-below
+returns-then-pull-from-clause-below c =
     let links = c.args.links.now in
     let spots = c.args.spots.now in
-    let number = c.args.number in
+    let number = c.args.pull.number in
     let some = c.requires.some in
     let within = c.requires.number in
     let all = c.requires.known in
-    let e : Edge = (get_or links (number - 1) no_link).edge in
-    let z : ℤ = to_z w64 (of_z w64 c.args.reach) in
-    let sum = c.requires.reach e (edge_at links number no_link some within) in
-    let fits = c.ranges.reach in
-    let high : ℕ = nat_abs z in
-    let k = known links spots number some within all in
-    let least = k.least in
-    let most = k.most in
-    let at_from = time_at spots e.from.0 k.from in
-    let at_to = time_at spots e.to.0 k.to in
-    let asks = c.requires.more e (edge_at links number no_link some within) in
-    let reach : pos high ≡ (pos (slice_index (times_of spots) e.from.0) +ℤ e.weight) = nat_abs-is z (pos (slice_index (times_of spots) e.from.0) +ℤ e.weight) (omega (arith, ints)) (omega (arith, ints)) in
-    let more : slice_index (times_of spots) e.to.0 < high = nat_abs-above (slice_index (times_of spots) e.to.0) z (omega (arith, ints)) in
+    let high = height c.args.pull.reach in
+    let pulled = pulls links spots number some within all c.args.pull.reach c.requires.reach c.requires.more (omega (arith, ints)) in
     subst (λ (ts : List ℕ). AreWithin c.args.caps.now ts) (sym (times_same links spots number some within all)) c.requires.below
 
-pub returns-then-reach-from-clause-late : goal.returns-then-reach-from-clause-late
-returns-then-reach-from-clause-late c =
+pub returns-then-pull-from-clause-late : goal.returns-then-pull-from-clause-late
+returns-then-pull-from-clause-late c =
     let links = c.args.links.now in
     let spots = c.args.spots.now in
-    let number = c.args.number in
+    let number = c.args.pull.number in
     let some = c.requires.some in
     let within = c.requires.number in
     let all = c.requires.known in
-    let e : Edge = (get_or links (number - 1) no_link).edge in
-    let z : ℤ = to_z w64 (of_z w64 c.args.reach) in
-    let sum = c.requires.reach e (edge_at links number no_link some within) in
-    let fits = c.ranges.reach in
-    let high : ℕ = nat_abs z in
-    let k = known links spots number some within all in
-    let least = k.least in
-    let most = k.most in
-    let at_from = time_at spots e.from.0 k.from in
-    let at_to = time_at spots e.to.0 k.to in
-    let asks = c.requires.more e (edge_at links number no_link some within) in
-    let reach : pos high ≡ (pos (slice_index (times_of spots) e.from.0) +ℤ e.weight) = nat_abs-is z (pos (slice_index (times_of spots) e.from.0) +ℤ e.weight) (omega (arith, ints)) (omega (arith, ints)) in
-    let more : slice_index (times_of spots) e.to.0 < high = nat_abs-above (slice_index (times_of spots) e.to.0) z (omega (arith, ints)) in
-    let above = c.if-reach-from.true in
-    passes links spots number some within all high reach more c.args.caps.now (get_or spots e.to.0 no_spot).time (nat_abs-above (slice_index c.args.caps.now e.to.0) z (omega (arith, ints)))
+    let high = height c.args.pull.reach in
+    let pulled = pulls links spots number some within all c.args.pull.reach c.requires.reach c.requires.more (omega (arith, ints)) in
+    let at = to links spots number some within all in
+    let above = c.if-pull-from.true in
+    let is = pulled.is in
+    passes links spots number some within all high pulled.reach pulled.more c.args.caps.now (get_or spots at no_spot).time (omega (arith, ints))
 
 pub returns-clause-back : goal.returns-clause-back
 returns-clause-back c =
     let links = c.args.links.now in
     let spots = c.args.spots.now in
-    let number = c.args.number in
+    let number = c.args.pull.number in
     let some = c.requires.some in
     let within = c.requires.number in
     let all = c.requires.known in
-    let e : Edge = (get_or links (number - 1) no_link).edge in
-    let z : ℤ = to_z w64 (of_z w64 c.args.reach) in
-    let sum = c.requires.reach e (edge_at links number no_link some within) in
-    let fits = c.ranges.reach in
-    let high : ℕ = nat_abs z in
-    let k = known links spots number some within all in
-    let least = k.least in
-    let most = k.most in
-    let at_from = time_at spots e.from.0 k.from in
-    let at_to = time_at spots e.to.0 k.to in
-    let asks = c.requires.more e (edge_at links number no_link some within) in
-    let reach : pos high ≡ (pos (slice_index (times_of spots) e.from.0) +ℤ e.weight) = nat_abs-is z (pos (slice_index (times_of spots) e.from.0) +ℤ e.weight) (omega (arith, ints)) (omega (arith, ints)) in
-    let more : slice_index (times_of spots) e.to.0 < high = nat_abs-above (slice_index (times_of spots) e.to.0) z (omega (arith, ints)) in
-    let get = slice_get_at spots e.to.0 no_spot k.to in
+    let high = height c.args.pull.reach in
+    let pulled = pulls links spots number some within all c.args.pull.reach c.requires.reach c.requires.more (omega (arith, ints)) in
+    let at = to links spots number some within all in
+    let inside = (known links spots number some within all).to in
+    let get = slice_get_at spots at no_spot inside in
     record {
       back = c.note.ensures.back spots (raised links spots number some within all high) get;
-      known = c.note.ensures.known (length spots) k.to;
+      known = c.note.ensures.known (length spots) inside;
       lows = lows_after links spots number some within all high;
       numbered = numbered_after links spots number some within all high;
-      len = length-set spots e.to.0 (raised links spots number some within all high);
+      len = length-set spots at (raised links spots number some within all high);
     }
 
 pub returns-clause-rises : goal.returns-clause-rises
 returns-clause-rises c =
     let links = c.args.links.now in
     let spots = c.args.spots.now in
-    let number = c.args.number in
+    let number = c.args.pull.number in
     let some = c.requires.some in
     let within = c.requires.number in
     let all = c.requires.known in
-    let e : Edge = (get_or links (number - 1) no_link).edge in
-    let z : ℤ = to_z w64 (of_z w64 c.args.reach) in
-    let sum = c.requires.reach e (edge_at links number no_link some within) in
-    let fits = c.ranges.reach in
-    let high : ℕ = nat_abs z in
-    let k = known links spots number some within all in
-    let least = k.least in
-    let most = k.most in
-    let at_from = time_at spots e.from.0 k.from in
-    let at_to = time_at spots e.to.0 k.to in
-    let asks = c.requires.more e (edge_at links number no_link some within) in
-    let reach : pos high ≡ (pos (slice_index (times_of spots) e.from.0) +ℤ e.weight) = nat_abs-is z (pos (slice_index (times_of spots) e.from.0) +ℤ e.weight) (omega (arith, ints)) (omega (arith, ints)) in
-    let more : slice_index (times_of spots) e.to.0 < high = nat_abs-above (slice_index (times_of spots) e.to.0) z (omega (arith, ints)) in
-    rises links spots number some within all high reach more
+    let high = height c.args.pull.reach in
+    let pulled = pulls links spots number some within all c.args.pull.reach c.requires.reach c.requires.more (omega (arith, ints)) in
+    rises links spots number some within all high pulled.reach pulled.more
 
 pub returns-clause-below : goal.returns-clause-below
 returns-clause-below c =
     let links = c.args.links.now in
     let spots = c.args.spots.now in
-    let number = c.args.number in
+    let number = c.args.pull.number in
     let some = c.requires.some in
     let within = c.requires.number in
     let all = c.requires.known in
-    let e : Edge = (get_or links (number - 1) no_link).edge in
-    let z : ℤ = to_z w64 (of_z w64 c.args.reach) in
-    let sum = c.requires.reach e (edge_at links number no_link some within) in
-    let fits = c.ranges.reach in
-    let high : ℕ = nat_abs z in
-    let k = known links spots number some within all in
-    let least = k.least in
-    let most = k.most in
-    let at_from = time_at spots e.from.0 k.from in
-    let at_to = time_at spots e.to.0 k.to in
-    let asks = c.requires.more e (edge_at links number no_link some within) in
-    let reach : pos high ≡ (pos (slice_index (times_of spots) e.from.0) +ℤ e.weight) = nat_abs-is z (pos (slice_index (times_of spots) e.from.0) +ℤ e.weight) (omega (arith, ints)) (omega (arith, ints)) in
-    let more : slice_index (times_of spots) e.to.0 < high = nat_abs-above (slice_index (times_of spots) e.to.0) z (omega (arith, ints)) in
-    let fit = c.if-reach-from.false in
-    let fits : high ≤ slice_index c.args.caps.now e.to.0 = nat_abs-at_most z _ (omega (arith, ints)) (omega (arith, ints)) in
-    below_after links spots number some within all high reach more c.args.caps.now fits c.requires.below
+    let high = height c.args.pull.reach in
+    let pulled = pulls links spots number some within all c.args.pull.reach c.requires.reach c.requires.more (omega (arith, ints)) in
+    let fit = c.if-pull-from.false in
+    let is = pulled.is in
+    let fits : high ≤ slice_index c.args.caps.now (to links spots number some within all) = omega (arith, ints) in
+    below_after links spots number some within all high pulled.reach pulled.more c.args.caps.now fits c.requires.below
 
 pub returns-clause-kept : goal.returns-clause-kept
 returns-clause-kept c =
     let links = c.args.links.now in
     let spots = c.args.spots.now in
-    let number = c.args.number in
+    let number = c.args.pull.number in
     let some = c.requires.some in
     let within = c.requires.number in
     let all = c.requires.known in
-    let e : Edge = (get_or links (number - 1) no_link).edge in
-    let z : ℤ = to_z w64 (of_z w64 c.args.reach) in
-    let sum = c.requires.reach e (edge_at links number no_link some within) in
-    let fits = c.ranges.reach in
-    let high : ℕ = nat_abs z in
-    let k = known links spots number some within all in
-    let least = k.least in
-    let most = k.most in
-    let at_from = time_at spots e.from.0 k.from in
-    let at_to = time_at spots e.to.0 k.to in
-    let asks = c.requires.more e (edge_at links number no_link some within) in
-    let reach : pos high ≡ (pos (slice_index (times_of spots) e.from.0) +ℤ e.weight) = nat_abs-is z (pos (slice_index (times_of spots) e.from.0) +ℤ e.weight) (omega (arith, ints)) (omega (arith, ints)) in
-    let more : slice_index (times_of spots) e.to.0 < high = nat_abs-above (slice_index (times_of spots) e.to.0) z (omega (arith, ints)) in
+    let high = height c.args.pull.reach in
+    let pulled = pulls links spots number some within all c.args.pull.reach c.requires.reach c.requires.more (omega (arith, ints)) in
     λ edges point left kept.
     let w = c.requires.waits in
-    let t = k.to in
+    let t = (known links spots number some within all).to in
     subst (λ (fs : List Bool). KeptFrom edges (slice_index (times_of (after links spots number some within all high))) fs point left) (sym c.push.ensures.flags)
-    (kept_after links spots number some within all high reach more c.args.waiting.now.flags edges point left (omega arith) kept)
+    (kept_after links spots number some within all high pulled.reach pulled.more c.args.waiting.now.flags edges point left (omega arith) kept)
 
 pub returns-clause-met : goal.returns-clause-met
 returns-clause-met c =
     let links = c.args.links.now in
     let spots = c.args.spots.now in
-    let number = c.args.number in
+    let number = c.args.pull.number in
     let some = c.requires.some in
     let within = c.requires.number in
     let all = c.requires.known in
-    let e : Edge = (get_or links (number - 1) no_link).edge in
-    let z : ℤ = to_z w64 (of_z w64 c.args.reach) in
-    let sum = c.requires.reach e (edge_at links number no_link some within) in
-    let fits = c.ranges.reach in
-    let high : ℕ = nat_abs z in
-    let k = known links spots number some within all in
-    let least = k.least in
-    let most = k.most in
-    let at_from = time_at spots e.from.0 k.from in
-    let at_to = time_at spots e.to.0 k.to in
-    let asks = c.requires.more e (edge_at links number no_link some within) in
-    let reach : pos high ≡ (pos (slice_index (times_of spots) e.from.0) +ℤ e.weight) = nat_abs-is z (pos (slice_index (times_of spots) e.from.0) +ℤ e.weight) (omega (arith, ints)) (omega (arith, ints)) in
-    let more : slice_index (times_of spots) e.to.0 < high = nat_abs-above (slice_index (times_of spots) e.to.0) z (omega (arith, ints)) in
+    let high = height c.args.pull.reach in
+    let pulled = pulls links spots number some within all c.args.pull.reach c.requires.reach c.requires.more (omega (arith, ints)) in
     let w = c.requires.waits in
-    let t = k.to in
+    let t = (known links spots number some within all).to in
     subst (λ (fs : List Bool). IsMet (edges_of links) (slice_index (times_of (after links spots number some within all high))) fs (number - 1)) (sym c.push.ensures.flags)
-    (met_after links spots number some within all high reach more c.args.waiting.now.flags (omega arith))
+    (met_after links spots number some within all high pulled.reach pulled.more c.args.waiting.now.flags (omega arith))
 
 pub returns-clause-less : goal.returns-clause-less
 returns-clause-less c =
     let links = c.args.links.now in
     let spots = c.args.spots.now in
-    let number = c.args.number in
+    let number = c.args.pull.number in
     let some = c.requires.some in
     let within = c.requires.number in
     let all = c.requires.known in
-    let e : Edge = (get_or links (number - 1) no_link).edge in
-    let z : ℤ = to_z w64 (of_z w64 c.args.reach) in
-    let sum = c.requires.reach e (edge_at links number no_link some within) in
-    let fits = c.ranges.reach in
-    let high : ℕ = nat_abs z in
-    let k = known links spots number some within all in
-    let least = k.least in
-    let most = k.most in
-    let at_from = time_at spots e.from.0 k.from in
-    let at_to = time_at spots e.to.0 k.to in
-    let asks = c.requires.more e (edge_at links number no_link some within) in
-    let reach : pos high ≡ (pos (slice_index (times_of spots) e.from.0) +ℤ e.weight) = nat_abs-is z (pos (slice_index (times_of spots) e.from.0) +ℤ e.weight) (omega (arith, ints)) (omega (arith, ints)) in
-    let more : slice_index (times_of spots) e.to.0 < high = nat_abs-above (slice_index (times_of spots) e.to.0) z (omega (arith, ints)) in
-    let fit = c.if-reach-from.false in
-    let fits : high ≤ slice_index c.args.caps.now e.to.0 = nat_abs-at_most z _ (omega (arith, ints)) (omega (arith, ints)) in
-    let less = less_after links spots number some within all high reach more c.args.caps.now c.requires.caps fits in
-    let l = ap length c.push.ensures.flags ∙ length-set c.args.waiting.now.flags e.to.0 true in
+    let high = height c.args.pull.reach in
+    let pulled = pulls links spots number some within all c.args.pull.reach c.requires.reach c.requires.more (omega (arith, ints)) in
+    let fit = c.if-pull-from.false in
+    let is = pulled.is in
+    let fits : high ≤ slice_index c.args.caps.now (to links spots number some within all) = omega (arith, ints) in
+    let less = less_after links spots number some within all high pulled.reach pulled.more c.args.caps.now c.requires.caps fits in
+    let l = ap length c.push.ensures.flags ∙ length-set c.args.waiting.now.flags (to links spots number some within all) true in
     let few = c.push.ensures.few in
     subst (λ (n : ℕ). slack c.args.caps.now (times_of (after links spots number some within all high)) * (n + 1) + length c.push.new.self.points ≤ slack c.args.caps.now (times_of spots) * (length c.args.waiting.now.flags + 1) + length c.args.waiting.now.points) (sym l)
     (weight_less (slack c.args.caps.now (times_of spots)) (slack c.args.caps.now (times_of (after links spots number some within all high))) (length c.args.waiting.now.flags) (length c.args.waiting.now.points) (length c.push.new.self.points) less (omega arith))
 
 pub bounds-spots-to-2 : goal.bounds-spots-to-2
-bounds-spots-to-2 c = (known c.args.links.now c.args.spots.now c.args.number c.requires.some c.requires.number c.requires.known).to
+bounds-spots-to-2 c = (known c.args.links.now c.args.spots.now c.args.pull.number c.requires.some c.requires.number c.requires.known).to
 
 pub push-requires : goal.push-requires
 push-requires c =
-    let k = (known c.args.links.now c.args.spots.now c.args.number c.requires.some c.requires.number c.requires.known).to in
+    let k = (known c.args.links.now c.args.spots.now c.args.pull.number c.requires.some c.requires.number c.requires.known).to in
     let w = c.requires.waits in
     omega arith
 
 pub returns-clause-known : goal.returns-clause-known
-returns-clause-known c = c.push.ensures.known (length c.args.spots.now) (known c.args.links.now c.args.spots.now c.args.number c.requires.some c.requires.number c.requires.known).to
+returns-clause-known c = c.push.ensures.known (length c.args.spots.now) (known c.args.links.now c.args.spots.now c.args.pull.number c.requires.some c.requires.number c.requires.known).to
 
 pub overflow_cast-spots : goal.overflow_cast-spots
 overflow_cast-spots c =
     let links = c.args.links.now in
     let spots = c.args.spots.now in
-    let number = c.args.number in
+    let number = c.args.pull.number in
     let some = c.requires.some in
     let within = c.requires.number in
     let all = c.requires.known in
@@ -289,19 +197,18 @@ overflow_cast-spots c =
     let at_from = time_at spots e.from.0 k.from in
     let at_to = time_at spots e.to.0 k.to in
     let sum = c.requires.reach e (edge_at links number no_link some within) in
-    let range = c.ranges.reach in
     let asks = c.requires.more e (edge_at links number no_link some within) in
-    let fit = c.if-reach-from.false in
+    let fit = c.if-pull-from.false in
     search (rules, arith, ints)
 
-pub bounds-spots-to-then-reach-from : goal.bounds-spots-to-then-reach-from
-bounds-spots-to-then-reach-from c = (known c.args.links.now c.args.spots.now c.args.number c.requires.some c.requires.number c.requires.known).to
+pub bounds-spots-to-then-pull-from : goal.bounds-spots-to-then-pull-from
+bounds-spots-to-then-pull-from c = (known c.args.links.now c.args.spots.now c.args.pull.number c.requires.some c.requires.number c.requires.known).to
 
-pub bounds-spots-to-then-reach-from-2 : goal.bounds-spots-to-then-reach-from-2
-bounds-spots-to-then-reach-from-2 c = (known c.args.links.now c.args.spots.now c.args.number c.requires.some c.requires.number c.requires.known).to
+pub bounds-spots-to-then-pull-from-2 : goal.bounds-spots-to-then-pull-from-2
+bounds-spots-to-then-pull-from-2 c = (known c.args.links.now c.args.spots.now c.args.pull.number c.requires.some c.requires.number c.requires.known).to
 
-pub bounds-spots-to-then-reach-from-3 : goal.bounds-spots-to-then-reach-from-3
-bounds-spots-to-then-reach-from-3 c = (known c.args.links.now c.args.spots.now c.args.number c.requires.some c.requires.number c.requires.known).to
+pub bounds-spots-to-then-pull-from-3 : goal.bounds-spots-to-then-pull-from-3
+bounds-spots-to-then-pull-from-3 c = (known c.args.links.now c.args.spots.now c.args.pull.number c.requires.some c.requires.number c.requires.known).to
 
 pub bounds-spots-to-3 : goal.bounds-spots-to-3
-bounds-spots-to-3 c = (known c.args.links.now c.args.spots.now c.args.number c.requires.some c.requires.number c.requires.known).to
+bounds-spots-to-3 c = (known c.args.links.now c.args.spots.now c.args.pull.number c.requires.some c.requires.number c.requires.known).to

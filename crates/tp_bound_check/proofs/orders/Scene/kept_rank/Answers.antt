@@ -1,6 +1,6 @@
 use Rattle.std.proofs.Common.{◌≡◌, ◌∙◌, min, length, sym, arith}
 use Rattle.tp_schedule.specs.Spots.{slot_order}
-use Rattle.tp_bound_check.proofs.RankFacts.{rank-kept}
+use Rattle.tp_bound_check.proofs.KeptRanks.{rank-kept}
 use Rattle.tp_bound_check.proofs.orders.Scene.kept_rank.Goals as goal
 
 pub returns : goal.returns

@@ -8,4 +8,4 @@ returns-then-not-takes_node-clause-lines c = node_off c.args.self.now c.requires
 
 pub returns-clause-pending : goal.returns-clause-pending
 returns-clause-pending c =
-    pending_of _ (line.Node c.args.node) (node_gathered c.args.self.now c.requires.pending c.args.node c.requires.line (sym c.takes_node.ensures ∙ c.if-not-takes_node.false) c.push.new.self c.in_ok-push.ensures.ok) c.behind_node-self.ensures
+    pending_of _ (line.Node c.args.node) c.requires.pending.plain (node_gathered c.args.self.now c.requires.pending c.args.node c.requires.line (sym c.takes_node.ensures ∙ c.if-not-takes_node.false) c.push.new.self c.in_ok-push.ensures.ok) c.behind_node-self.ensures

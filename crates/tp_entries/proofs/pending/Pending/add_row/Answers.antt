@@ -8,7 +8,7 @@ returns-then-not-takes_row-clause-lines c = row_off c.args.self.now c.requires.p
 
 pub returns-clause-pending : goal.returns-clause-pending
 returns-clause-pending c =
-    pending_of _ (line.Room c.args.row) (row_gathered c.args.self.now c.requires.pending c.args.row c.requires.line (sym c.takes_row.ensures ∙ c.if-not-takes_row.false) c.push.new.self c.in_ok-push.ensures.ok) c.behind_row-self.ensures
+    pending_of _ (line.Room c.args.row) c.requires.pending.plain (row_gathered c.args.self.now c.requires.pending c.args.row c.requires.line (sym c.takes_row.ensures ∙ c.if-not-takes_row.false) c.push.new.self c.in_ok-push.ensures.ok) c.behind_row-self.ensures
 
 pub returns-clause-lines : goal.returns-clause-lines
 returns-clause-lines c = row_lines c.args.self.now c.requires.pending c.args.row c.requires.line (sym c.takes_row.ensures ∙ c.if-not-takes_row.false) c.push.new.self c.in_ok-push.ensures.ok
