@@ -25,7 +25,7 @@ use Rattle.tp_stream.specs.Takes.{ends_whole}
 use Rattle.tp_stream.proofs.Lines.{ends_append, ends_line}
 use Rattle.tp_teller.specs.Tellers.{TellsAll}
 use Rattle.tp_runs.specs.EventRuns.{EventsAreLawful, TellsEvent, TurnsTellLines}
-use Rattle.tp_runs.specs.GoingOn.{EventsGoOn, FirstRunsAreLawful, RunsJoin}
+use Rattle.tp_runs.specs.GoingOn.{EventsGoOn, FirstRunsAreLawful, LinesGoOn, RunsJoin}
 use Rattle.tp_runs.specs.Runs.{entry_of, items_in, items_of, run_text, spent_by, tree_claims}
 use Rattle.tp_runs.proofs.TreePlaces.{in_place}
 use Rattle.tp_runs.specs.Wholes.{IsWhole, LinesAreLawful, TellsLine, TellsTurn}
@@ -104,6 +104,10 @@ events_go_on machine nodes bounds events text whole s s' behind h =
       behind = r.behind;
     }
 
+pub lines_go_on : (machine : Machine) (nodes : ℕ) (bounds : Bool) → LinesGoOn machine nodes bounds
+lines_go_on machine nodes bounds lines text whole s s' behind h =
+    events_go_on machine nodes bounds (filter_map line_event lines) text whole s s' behind (events_of_lines machine nodes bounds lines text s s' h)
+
 pub first_runs_lawful : (machine : Machine) (nodes : ℕ) (bounds : Bool) → FirstRunsAreLawful machine nodes bounds
 first_runs_lawful machine nodes bounds events log last r = record { lawful = record { answers = r.answers; last = last; run = r.run }; has_text = r.has_text }
 
@@ -112,6 +116,9 @@ run-join : (machine : Machine) (nodes : ℕ) (bounds : Bool) (log more : List (E
     → Runs machine nodes bounds start log mid → Runs machine nodes bounds mid more last → Runs machine nodes bounds start (log ++ more) last
 run-join machine nodes bounds [] more start mid last is behind = subst (λ s. Runs machine nodes bounds s more last) is behind
 run-join machine nodes bounds (entry ∷ log) more start mid last (next, turn, rest) behind = (next, turn, run-join machine nodes bounds log more next mid last rest behind)
+
+pub run_text-append : (log more : List (Entry BoundTree)) → run_text (log ++ more) ≡ run_text log ++ run_text more
+run_text-append log more = ap log_text (flat_map-append items_of log more) ∙ log_text-append (items_in log) (items_in more)
 
 pub runs_join : (machine : Machine) (nodes : ℕ) (bounds : Bool) → RunsJoin machine nodes bounds
 runs_join machine nodes bounds start mid last events more log behind first second = record {
@@ -129,7 +136,7 @@ events_lawful machine nodes bounds events text s h =
 
 pub lines_lawful : (machine : Machine) (nodes : ℕ) (bounds : Bool) → LinesAreLawful machine nodes bounds
 lines_lawful machine nodes bounds lines text whole s s' behind h =
-    let r = events_go_on machine nodes bounds (filter_map line_event lines) text whole s s' behind (events_of_lines machine nodes bounds lines text s s' h) in
+    let r = lines_go_on machine nodes bounds lines text whole s s' behind h in
     record { log = r.log; last = r.last; run = r.run; is_text = r.is_text }
 
 -- ---- each item is written in whole lines

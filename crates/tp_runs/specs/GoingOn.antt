@@ -1,14 +1,17 @@
 -- Runs that go on: from the state that is told of a run before, or behind the log of the first events.
 use Rattle.std.specs.Prelude.{◌≡◌, ℕ, Bool, List, ◌++◌}
+use Rattle.std.specs.List.{filter_map}
 use Rattle.tp_bounds.specs.declared.tree.BoundTree.{BoundTree}
 use Rattle.tp_machine.specs.declared.machine.Machine.{Machine}
+use Rattle.tp_script.specs.Lines.{line_event}
 use Rattle.tp_script.specs.declared.event.Event.{Event}
+use Rattle.tp_stream.specs.Answers.{AnswersAll}
 use Rattle.tp_teller.specs.Tellers.{TellsAll}
 use Rattle.tp_turn.specs.Logs.{Entry}
 use Rattle.tp_turn.specs.States.{SessionState, empty_state}
 use Rattle.tp_runs.specs.EventRuns.{TellsEvent}
 use Rattle.tp_runs.specs.Runs.{IsLawfulRun, IsRunFrom, run_text}
-use Rattle.tp_runs.specs.Wholes.{IsWhole}
+use Rattle.tp_runs.specs.Wholes.{IsWhole, TellsLine}
 
 module _ (machine : Machine) (nodes : ℕ) (bounds : Bool) where
   -- from a whole state the events are answered by a run, and this text is its log's. The state that it leaves stands behind this
@@ -24,6 +27,11 @@ module _ (machine : Machine) (nodes : ℕ) (bounds : Bool) where
   abbrev pub EventsGoOn : Type 0
   EventsGoOn = (events : List Event) (text : List ℕ) (whole s s' : SessionState) → IsWhole machine whole s
       → TellsAll (TellsEvent machine nodes bounds) s events text s' → GoesOn whole events text s'
+
+  -- and so are lines, by a run over their events
+  abbrev pub LinesGoOn : Type 0
+  LinesGoOn = (lines : List (List ℕ)) (text : List ℕ) (whole s s' : SessionState) → IsWhole machine whole s
+      → AnswersAll (TellsLine machine nodes bounds) s lines text s' → GoesOn whole (filter_map line_event lines) text s'
 
   -- a run, and one from where it ends, are one run
   abbrev pub RunsJoin : Type 0

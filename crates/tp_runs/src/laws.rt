@@ -4,7 +4,7 @@ ghost use Rattle.std.specs.Prelude.{ℕ, Bool};
 ghost use Rattle.tp_machine.specs.declared.machine.Machine.{Machine};
 ghost use Rattle.tp_runs.specs.Carrying.{RightTurns, TreesHaveLines};
 ghost use Rattle.tp_runs.specs.EventRuns.{EventsAreLawful, TurnsTellLines};
-ghost use Rattle.tp_runs.specs.GoingOn.{EventsGoOn, FirstRunsAreLawful, RunsJoin};
+ghost use Rattle.tp_runs.specs.GoingOn.{EventsGoOn, FirstRunsAreLawful, LinesGoOn, RunsJoin};
 ghost use Rattle.tp_runs.specs.Ends.{ScriptsAreLawful, StopsAreLawful};
 ghost use Rattle.tp_runs.specs.Promised.{AnswersKeepPromises, LawfulRunsKeepPromises, StopsKeepPromises};
 ghost use Rattle.tp_runs.specs.Told.{LiveTurnsHaveLines, TurnsHaveLines};
@@ -40,11 +40,13 @@ pub fn shown_trees_have_lines<P: Planner>()
 {}
 
 /// Where events are answered from a live state on, each by a turn on every whole state behind it, they are answered by a run from
-/// each of these, and the text of the answers is the text of its log. The next run may go on where it ends, and both are one run
-/// then. A run from the empty state is lawful.
+/// each of these, and the text of the answers is the text of its log; and so are lines. The next run may go on where it ends, and both
+/// are one run then. A run from the empty state is lawful.
 pub fn answered_events_go_on()
     ensures events { (machine : Machine) (nodes : ℕ) (bounds : Bool)
         → EventsGoOn machine nodes bounds }
+    ensures lines { (machine : Machine) (nodes : ℕ) (bounds : Bool)
+        → LinesGoOn machine nodes bounds }
     ensures join { (machine : Machine) (nodes : ℕ) (bounds : Bool)
         → RunsJoin machine nodes bounds }
     ensures lawful { (machine : Machine) (nodes : ℕ) (bounds : Bool)

@@ -1,5 +1,5 @@
 -- A session that goes on from a standing answers by a run from the state that this tells.
-use Rattle.std.proofs.Common.{◌≡◌, ℕ, ◌<◌, pos, ◌-ℤ◌, Bool, true, false, cond, not, List, [], ◌∷◌, map, filter, refl, ap, ◌∙◌, arith, All, Option}
+use Rattle.std.proofs.Common.{◌≡◌, ℕ, ◌<◌, pos, ◌-ℤ◌, Bool, true, false, cond, not, List, [], ◌∷◌, map, filter, refl, ap, ◌∙◌, arith, All}
 use Rattle.std.specs.Prelude.{ℤ}
 use Rattle.std.specs.List.{range_with_len}
 use Rattle.std.proofs.lemmas.Int.{ints}
@@ -10,25 +10,22 @@ use Rattle.tp_script.specs.declared.event.Event.{Event}
 use Rattle.tp_jobs.specs.declared.standing.Standing as kept
 use Rattle.tp_schedule.specs.Living.{is_live}
 use Rattle.tp_schedule.specs.declared.parts.Plan.{Plan}
-use Rattle.tp_stock.specs.Stock.{by_location, less_taken, taken_at}
-use Rattle.tp_stock.proofs.StockFacts.{at-location}
+use Rattle.tp_stock.specs.Stock.{by_location, drawn_at, less_taken, taken_at}
+use Rattle.tp_stock.proofs.StockFacts.{at-location, drawn-few}
 use Rattle.tp_choices.proofs.Lists.{filter-all}
-use Rattle.tp_stream.specs.Scripts.{AnswersLine, NoRefusal}
-use Rattle.tp_stream.specs.Takes.{Stops, TakesAll, place_of}
-use Rattle.tp_stream.specs.declared.stop.Stop.{Stop}
 use Rattle.tp_teller.specs.Tellers.{TellsAll}
 use Rattle.tp_turn.specs.Keeping.{is_planned_among, live_part}
 use Rattle.tp_turn.specs.Seen.{fronts_of}
+use Rattle.tp_turn.specs.States.{SessionState}
 use Rattle.tp_turning.proofs.LiveFacts.{lost-part}
 use Rattle.tp_standing.specs.Sound.{IsSound}
 use Rattle.tp_standing.specs.Told.{refill_at, told, told_refills}
 use Rattle.tp_standing.proofs.GoesOn.{goes-on}
-use Rattle.tp_runs.specs.Ends.{IsAnswered, IsAnsweredTo}
 use Rattle.tp_runs.specs.GoingOn.{GoesOn}
 use Rattle.tp_runs.specs.Wholes.{IsWhole}
 use Rattle.tp_runs.proofs.Lawful.{events_go_on}
 use Rattle.tp_session.specs.Sessions.{Standing, Tells}
-use Rattle.tp_session.proofs.Lawfully.{all_events, scripts_from, stops_from}
+use Rattle.tp_session.proofs.Lawfully.{all_events, at_state, starts}
 
 by-same : (f g : ℕ → ℤ) → ((loc : ℕ) → loc < 256 → f loc ≡ g loc) → by_location f ≡ by_location g
 unfolding by_location
@@ -40,7 +37,9 @@ less-none r = omega (arith, ints)
 
 -- nothing is taken off for no plans
 less-nothing : (machine : Machine) (f : ℕ → ℤ) → less_taken machine [] (by_location f) ≡ by_location f
-less-nothing machine f = by-same _ f (λ loc within. ap (λ r. r -ℤ pos 0) (at-location f loc (pos 0) within) ∙ less-none (f loc))
+less-nothing machine f = by-same _ f (λ loc within. ap (λ r. r -ℤ pos (drawn_at machine [] loc)) (at-location f loc (pos 0) within) ∙ ap (λ n. f loc -ℤ pos n) (none loc) ∙ less-none (f loc)) where
+  none : (loc : ℕ) → drawn_at machine [] loc ≡ 0
+  none loc = let few = drawn-few machine [] loc in omega (arith, few)
 
 none-fails : (test : Plan → Bool) (plans : List Plan) → All (λ p. test p ≡ true) plans → filter (λ p. not (test p)) plans ≡ []
 none-fails test [] all = refl
@@ -78,19 +77,7 @@ module _ (machine : Machine) (t : kept.Standing) (sound : IsSound machine t) whe
         live = λ i. record (told machine t) { plans = same-plans i; lost = same-lost i; refills = same-refills i };
       }
 
-module _ (machine : Machine) (nodes : ℕ) (bounds : Bool) (t : kept.Standing) (sound : IsSound machine t) where
-  abbrev start : Standing
-  start = record { machine = machine; budget = nodes; bounds = bounds; state = told machine t }
-
-  pub events_from_told : (events : List Event) (text : List ℕ) (s : Standing) → TellsAll Tells start events text s → GoesOn machine nodes bounds (told machine t) events text s.state
-  events_from_told events text s h =
-      events_go_on machine nodes bounds events text (told machine t) (told machine t) s.state (told-whole machine t sound)
-      (all_events machine nodes bounds events text start s (record { machine_is = refl; budget_is = refl; bounds_is = refl }) h).tells
-
-  pub scripts_from_told : (script : List ℕ) (taken taken' : Option (List ℕ)) (s : Standing) → TakesAll (AnswersLine Tells) 4096 1000000 (place_of start 0 taken) script s taken'
-      → IsAnswered machine nodes bounds (told machine t) script taken taken'
-  scripts_from_told = scripts_from machine nodes bounds (told machine t) (told machine t) (told-whole machine t sound)
-
-  pub stops_from_told : (stop : Stop) (script : List ℕ) (taken taken' : Option (List ℕ)) (s : Standing) → Stops (AnswersLine Tells) NoRefusal 4096 1000000 (place_of start 0 taken) script stop s taken'
-      → IsAnsweredTo machine nodes bounds (told machine t) stop script taken taken'
-  stops_from_told = stops_from machine nodes bounds (told machine t) (told machine t) (told-whole machine t sound)
+module _ (machine : Machine) (nodes : ℕ) (bounds : Bool) (whole live : SessionState) (behind : IsWhole machine whole live) where
+  pub events_from : (events : List Event) (text : List ℕ) (s : Standing) → TellsAll Tells (at_state machine nodes bounds live) events text s → GoesOn machine nodes bounds whole events text s.state
+  events_from events text s h =
+      events_go_on machine nodes bounds events text whole live s.state behind (all_events machine nodes bounds events text (at_state machine nodes bounds live) s (starts machine nodes bounds live) h).tells

@@ -47,11 +47,11 @@ module _ (machine : Machine) (nodes : ℕ) (bounds : Bool) where
         record { machine_is = h.same_machine ∙ has.machine_is; budget_is = h.same_budget ∙ has.budget_is; bounds_is = h.same_bounds ∙ has.bounds_is },
       )
 
-  record LinesOf (s : Standing) (lines : List (List ℕ)) (text : List ℕ) (s' : Standing) : Type 0 where
-    answers : AnswersAll Lawful s.state lines text s'.state
-    has : Has s'
+  pub record LinesOf (s : Standing) (lines : List (List ℕ)) (text : List ℕ) (s' : Standing) : Type 0 where
+    pub answers : AnswersAll Lawful s.state lines text s'.state
+    pub has : Has s'
 
-  all_lines : (lines : List (List ℕ)) (text : List ℕ) (s s' : Standing) → Has s → AnswersAll (AnswersLine Tells) s lines text s' → LinesOf s lines text s'
+  pub all_lines : (lines : List (List ℕ)) (text : List ℕ) (s s' : Standing) → Has s → AnswersAll (AnswersLine Tells) s lines text s' → LinesOf s lines text s'
   all_lines [] text s s' has (none, same) = record { answers = (none, ap (λ (x : Standing). x.state) same); has = subst Has (sym same) has }
   all_lines (line ∷ lines) text s s' has (told, (mid, (rest, one, others, same))) =
       let first = one_line s mid line told has one in
@@ -59,10 +59,10 @@ module _ (machine : Machine) (nodes : ℕ) (bounds : Bool) where
       record { answers = (told, (mid.state, (rest, first.answers, more.answers, same))); has = more.has }
 
   -- where a session stands in this state
-  abbrev at_state : SessionState → Standing
+  abbrev pub at_state : SessionState → Standing
   at_state live = record { machine = machine; budget = nodes; bounds = bounds; state = live }
 
-  starts : (live : SessionState) → Has (at_state live)
+  pub starts : (live : SessionState) → Has (at_state live)
   starts live = record { machine_is = refl; budget_is = refl; bounds_is = refl }
 
   abbrev seen_place : Place Standing → Place SessionState

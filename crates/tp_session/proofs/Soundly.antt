@@ -10,11 +10,15 @@ use Rattle.tp_stream.specs.Scripts.{AnswersLine}
 use Rattle.tp_stream.specs.Takes.{TakesAll, place_of}
 use Rattle.tp_teller.specs.Tellers.{TellsAll}
 use Rattle.tp_turn.proofs.ReadyTurns.{events-more}
+use Rattle.tp_turn.proofs.StockKept.{stock-more}
 use Rattle.tp_turn.specs.States.{SessionState, empty_state}
 use Rattle.tp_sound.specs.Kept.{CanBeSaved}
 use Rattle.tp_standing.specs.Sound.{IsSound}
-use Rattle.tp_standing.specs.Told.{standing_of}
+use Rattle.tp_standing.specs.Told.{standing_of, told as state_told}
+use Rattle.tp_runs.proofs.Lawful.{lines_go_on, whole-empty}
+use Rattle.tp_session.specs.Ending.{ScriptEnds}
 use Rattle.tp_session.specs.Sessions.{Standing, Tells}
+use Rattle.tp_session.proofs.Lawfully.{all_lines, starts as begins}
 
 module _ (machine : Machine) where
   -- a standing of this machine that can be saved
@@ -25,7 +29,11 @@ module _ (machine : Machine) where
   more : (events : ℕ) (s : Standing) → Saves events s → Saves (events + 1) s
   more events s h = record {
     machine_is = h.machine_is;
-    can = record { can = events-more machine events (events + 1) s.state (omega arith) h.can.can; sound = h.can.sound };
+    can = record {
+      can = events-more machine events (events + 1) s.state (omega arith) h.can.can;
+      stocked = stock-more machine events (events + 1) s.state (omega arith) h.can.stocked;
+      sound = h.can.sound;
+    };
   }
 
   one-event : (events : ℕ) (event : Event) (text : List ℕ) (s s' : Standing) → Saves events s → Tells s event text s' → Saves (events + 1) s'
@@ -51,7 +59,8 @@ module _ (machine : Machine) where
       subst (λ m. Saves m s') (omega arith) (all-lines lines rest (n + 1) mid s' (one-line n line told s mid h one) others)
 
   module _ (nodes : ℕ) (bounds : Bool) (empty : CanBeSaved machine 0 empty_state)
-      (sound : (events : ℕ) (s : SessionState) → events ≤ 4000000000 → length s.jobs ≤ 1000000 → CanBeSaved machine events s → IsSound machine (standing_of machine s)) where
+      (sound : (events : ℕ) (s : SessionState) → events ≤ 4000000000 → length s.jobs ≤ 1000000 → CanBeSaved machine events s → IsSound machine (standing_of machine s))
+      (back : (events : ℕ) (s : SessionState) → CanBeSaved machine events s → state_told machine (standing_of machine s) ≡ s) where
     abbrev start : Standing
     start = record { machine = machine; budget = nodes; bounds = bounds; state = empty_state }
 
@@ -61,9 +70,24 @@ module _ (machine : Machine) where
     pub sessions-stand : (events : List Event) (text : List ℕ) (s : Standing) → TellsAll Tells start events text s → length events ≤ 100000000 → length s.state.jobs ≤ 1000000 → IsSound machine (standing_of machine s.state)
     sessions-stand events text s h few few_jobs = sound (0 + length events) s.state (omega arith) few_jobs (all-events events text 0 start s starts h).can
 
-    pub scripts-end : (script : List ℕ) (taken taken' : Option (List ℕ)) (s : Standing) → TakesAll (AnswersLine Tells) 4096 1000000 (place_of start 0 taken) script s taken' → IsSound machine (standing_of machine s.state)
-    scripts-end script taken taken' s h =
+    script-sound : (script : List ℕ) (taken taken' : Option (List ℕ)) (s : Standing) → TakesAll (AnswersLine Tells) 4096 1000000 (place_of start 0 taken) script s taken' → IsSound machine (standing_of machine s.state)
+    script-sound script taken taken' s h =
         let can = (all-lines (lines_of script) h.text 0 start s starts h.answered).can in
         let few : 0 + length (lines_of script) ≤ 1000000 = h.few in
         let jobs : length s.state.jobs ≤ 0 + length (lines_of script) = can.can.kept.numbers.jobs in
         sound (0 + length (lines_of script)) s.state (omega arith) (omega arith) can
+
+    pub scripts-end : (script : List ℕ) (taken taken' : Option (List ℕ)) (s : Standing) → TakesAll (AnswersLine Tells) 4096 1000000 (place_of start 0 taken) script s taken' → ScriptEnds machine nodes bounds script taken taken' s
+    scripts-end script taken taken' s h = record {
+      same_machine = (all-lines (lines_of script) h.text 0 start s starts h.answered).machine_is;
+      ends = record {
+        fit = h.fit;
+        few = omega (arith, h.few);
+        text = h.text;
+        run = lines_go_on machine nodes bounds (lines_of script) h.text empty_state empty_state s.state (whole-empty machine nodes bounds)
+            (all_lines machine nodes bounds (lines_of script) h.text start s (begins machine nodes bounds empty_state) h.answered).answers;
+        sound = script-sound script taken taken' s h;
+        as_told = back (0 + length (lines_of script)) s.state (all-lines (lines_of script) h.text 0 start s starts h.answered).can;
+      };
+      written = h.written;
+    }

@@ -1,4 +1,4 @@
--- A session that goes on from what is kept of another.
+-- A session that goes on from any live state.
 use Rattle.std.specs.Prelude.{ℕ, Bool, List, Option, unwrap_or}
 use Rattle.tp_machine.specs.declared.machine.Machine.{Machine}
 use Rattle.tp_script.specs.declared.event.Event.{Event}
@@ -6,26 +6,39 @@ use Rattle.tp_jobs.specs.declared.standing.Standing as kept
 use Rattle.tp_stream.specs.Scripts.{AnswersLine, NoRefusal, line_bytes, most_lines}
 use Rattle.tp_stream.specs.Takes.{Stops, TakesAll, place_of}
 use Rattle.tp_stream.specs.declared.stop.Stop.{Stop}
+use Rattle.tp_turn.specs.States.{SessionState, empty_state}
 use Rattle.tp_runs.specs.Ends.{IsAnswered, IsAnsweredTo}
 use Rattle.tp_runs.specs.GoingOn.{GoesOn}
-use Rattle.tp_session.specs.Sessions.{Standing, Tells, gone_on, start_of}
+use Rattle.tp_runs.specs.Wholes.{IsWhole}
+use Rattle.tp_session.specs.Sessions.{Standing, Tells, start_of}
 use Rattle.tp_standing.specs.Sound.{IsSound}
 use Rattle.tp_standing.specs.Told.{told}
 use Rattle.tp_teller.specs.Tellers.{TellsAll}
 
--- events that it answers from there are answered by a run from the state that the standing tells
+-- where a session of the machine stands in this state
+abbrev pub stands_at : Machine → Option ℕ → Bool → SessionState → Standing
+stands_at machine budget bounds live = record (start_of machine budget bounds) { state = live }
+
+-- events that it answers from there are answered by a run from every whole state behind the live one
 abbrev pub SessionsGoOn : Machine → Option ℕ → Bool → Type 0
-SessionsGoOn machine budget bounds = (t : kept.Standing) (events : List Event) (text : List ℕ) (s : Standing) → IsSound machine t
-    → TellsAll Tells (gone_on (start_of machine budget bounds) t) events text s
-    → GoesOn machine (unwrap_or budget machine.budget) bounds (told machine t) events text s.state
+SessionsGoOn machine budget bounds = (whole live : SessionState) → IsWhole machine whole live → (events : List Event) (text : List ℕ) (s : Standing)
+    → TellsAll Tells (stands_at machine budget bounds live) events text s
+    → GoesOn machine (unwrap_or budget machine.budget) bounds whole events text s.state
 
 -- and so is a script, and the first lines of one where the session stops
 abbrev pub ScriptsGoOn : Machine → Option ℕ → Bool → Type 0
-ScriptsGoOn machine budget bounds = (t : kept.Standing) (script : List ℕ) (taken taken' : Option (List ℕ)) (s : Standing) → IsSound machine t
-    → TakesAll (AnswersLine Tells) line_bytes most_lines (place_of (gone_on (start_of machine budget bounds) t) 0 taken) script s taken'
-    → IsAnswered machine (unwrap_or budget machine.budget) bounds (told machine t) script taken taken'
+ScriptsGoOn machine budget bounds = (whole live : SessionState) → IsWhole machine whole live → (script : List ℕ) (taken taken' : Option (List ℕ)) (s : Standing)
+    → TakesAll (AnswersLine Tells) line_bytes most_lines (place_of (stands_at machine budget bounds live) 0 taken) script s taken'
+    → IsAnswered machine (unwrap_or budget machine.budget) bounds whole script taken taken'
 
 abbrev pub StopsGoOn : Machine → Option ℕ → Bool → Type 0
-StopsGoOn machine budget bounds = (t : kept.Standing) (stop : Stop) (script : List ℕ) (taken taken' : Option (List ℕ)) (s : Standing) → IsSound machine t
-    → Stops (AnswersLine Tells) NoRefusal line_bytes most_lines (place_of (gone_on (start_of machine budget bounds) t) 0 taken) script stop s taken'
-    → IsAnsweredTo machine (unwrap_or budget machine.budget) bounds (told machine t) stop script taken taken'
+StopsGoOn machine budget bounds = (whole live : SessionState) → IsWhole machine whole live → (stop : Stop) (script : List ℕ) (taken taken' : Option (List ℕ)) (s : Standing)
+    → Stops (AnswersLine Tells) NoRefusal line_bytes most_lines (place_of (stands_at machine budget bounds live) 0 taken) script stop s taken'
+    → IsAnsweredTo machine (unwrap_or budget machine.budget) bounds whole stop script taken taken'
+
+-- the empty state is its own live part, and so is the state that a sound standing tells
+abbrev pub EmptyIsWhole : Type 0
+EmptyIsWhole = (machine : Machine) → IsWhole machine empty_state empty_state
+
+abbrev pub ToldIsWhole : Type 0
+ToldIsWhole = (machine : Machine) (t : kept.Standing) → IsSound machine t → IsWhole machine (told machine t) (told machine t)

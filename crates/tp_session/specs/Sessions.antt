@@ -85,9 +85,3 @@ abbrev pub SessionsStandSoundly : Machine → Option ℕ → Bool → Type 0
 SessionsStandSoundly machine budget bounds = (events : List Event) (text : List ℕ) (s : Standing)
     → TellsAll Tells (start_of machine budget bounds) events text s → length events ≤ most_events → length s.state.jobs ≤ most_jobs
     → IsSound machine (standing_of machine s.state)
-
--- and so it is after a script, which has few enough lines
-abbrev pub ScriptsEndSoundly : Machine → Option ℕ → Bool → Type 0
-ScriptsEndSoundly machine budget bounds = (script : List ℕ) (taken taken' : Option (List ℕ)) (s : Standing)
-    → TakesAll (AnswersLine Tells) line_bytes most_lines (place_of (start_of machine budget bounds) 0 taken) script s taken'
-    → IsSound machine (standing_of machine s.state)

@@ -3,8 +3,9 @@
 ghost use Rattle.std.specs.Prelude.{ℕ, Bool, Option};
 ghost use Rattle.tp_machine.specs.declared.machine.Machine.{Machine};
 ghost use Rattle.tp_runs.specs.Carrying.{KeepsNodes, ShowsTrees};
-ghost use Rattle.tp_session.specs.GoingOn.{ScriptsGoOn, SessionsGoOn, StopsGoOn};
-ghost use Rattle.tp_session.specs.Sessions.{ScriptsEndSoundly, SessionsLawful, SessionsStandSoundly, SessionsStopLawful, SessionsTellLawful, SessionsTellLines};
+ghost use Rattle.tp_session.specs.Ending.{ScriptsEndSoundly};
+ghost use Rattle.tp_session.specs.GoingOn.{EmptyIsWhole, ScriptsGoOn, SessionsGoOn, StopsGoOn, ToldIsWhole};
+ghost use Rattle.tp_session.specs.Sessions.{SessionsLawful, SessionsStandSoundly, SessionsStopLawful, SessionsTellLawful, SessionsTellLines};
 ghost use Rattle.tp_turn.specs.Planners.{right_steps};
 ghost use Rattle.tp_turning.specs.LiveTurns.{AnswersAlone, SettlesRightly};
 
@@ -42,9 +43,12 @@ pub fn sessions_are_lawful()
     ensures lines { SessionsTellLines }
 {}
 
-/// Where a session goes on from a sound standing, the script that it answers is answered by a run from the state that the
-/// standing tells, and so are the first lines where it stops, and events without a script.
+/// Where a session goes on from a live state, the script that it answers is answered by a run from every whole state behind this one,
+/// and so are the first lines where it stops, and events without a script. The empty state is such a whole state behind itself, and so
+/// is the state that a sound standing tells.
 pub fn sessions_go_on()
+    ensures empty { EmptyIsWhole }
+    ensures sound { ToldIsWhole }
     ensures whole { (machine : Machine) (budget : Option ℕ) (bounds : Bool)
         → ScriptsGoOn machine budget bounds }
     ensures stopped { (machine : Machine) (budget : Option ℕ) (bounds : Bool)
@@ -54,7 +58,7 @@ pub fn sessions_go_on()
 {}
 
 /// Where a session stands after events from its start on is sound to go on from, if at most 1,000,000 jobs came; and so it is after
-/// any script.
+/// any script, whose answers are the text of a lawful run up to there.
 pub fn sessions_stand_soundly()
     ensures events { (machine : Machine) (budget : Option ℕ) (bounds : Bool)
         → SessionsStandSoundly machine budget bounds }

@@ -192,6 +192,13 @@ impl<N: Network> SessionOver<N> {
         &self.text
     }
 
+    /// The machine that it plans for.
+    pub fn machine(&self) -> &Machine
+        ensures { result.now ≡ self.now.standing.machine }
+    {
+        &self.machine
+    }
+
     /// Empties the text alone.
     pub fn clear_text(&mut self)
         ensures { self.new ≡ record self.old { text = [] } }

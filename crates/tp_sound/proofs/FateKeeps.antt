@@ -17,7 +17,7 @@ use Rattle.tp_turn.specs.States.{Outcome, SessionState, and_then, nothing_told}
 use Rattle.tp_outages.proofs.Members.{flat_map-from}
 use Rattle.tp_outages.proofs.Waits.{put-all-from, put-from}
 use Rattle.tp_standing.specs.Sound.{AreModules}
-use Rattle.tp_sound.specs.Kept.{IsCounted, IsFreeWithin, KeepsWaiting}
+use Rattle.tp_sound.specs.Kept.{IsCounted, KeepsRefills, KeepsWaiting}
 use Rattle.tp_sound.proofs.PlanKeeps.{StaysPlan, stays-front, stays-purged}
 
 -- what is kept in the midst of a turn
@@ -25,7 +25,7 @@ pub record StaysSound (machine : Machine) (s : SessionState) : Type 0 where
   pub outs : AreModules machine s.outs
   pub plans : (p : Plan) → Contains s.plans p → StaysPlan machine s.now p
   pub waiting : (w : WaitingCopy) → Contains s.waiting w → KeepsWaiting machine w
-  pub stock : IsFreeWithin machine s.refills
+  pub stock : KeepsRefills machine s.refills
 
 pub only : {X : Type 0} (x y : X) → Contains (x ∷ []) y → x ≡ y
 only x y i = elim (Contains-cons_cases x [] y i) [

@@ -5,7 +5,9 @@ pub mod ModulesOut
 pub mod OutageKeeps
 pub mod AnswerKeeps
 pub mod LoopKeeps
+pub mod CountedRefills
 pub mod StockKeeps
 pub mod NewCopies
 pub mod TurnKeeps
 pub mod StandsSound
+pub mod ToldBack

@@ -60,7 +60,7 @@ module _ (machine : Machine) (s : SessionState) (k : KeepsSound machine s) where
     go None is = tt
     go (Some stock) is =
         count-few ((pos stock +ℤ refilled s.refills f.loc.0) -ℤ pos (taken_at machine s.plans f.loc.0))
-        (less stock (taken_at machine s.plans f.loc.0) (refilled s.refills f.loc.0) (k.stock f.loc.0 f stock (found machine.feeders (feeders-apart machine) f in') is))
+        (less stock (taken_at machine s.plans f.loc.0) (refilled s.refills f.loc.0) (k.stock.few f.loc.0 f stock (found machine.feeders (feeders-apart machine) f in') is))
 
   free-all : (feeders : List Feeder) → ((f : Feeder) → Contains feeders f → IsFreeOf f.stock (free_sheets machine s f)) → AreFree feeders (map (free_sheets machine s) feeders)
   free-all [] each = tt

@@ -1,5 +1,5 @@
 -- A stock and its refills stay within what may be free: a refill is accepted only where little is, and what is forgotten is taken off.
-use Rattle.std.proofs.Common.{◌≡◌, ℕ, ◌<◌, ◌≤◌, ◌==◌, eqb, List, length, sym, ap, ◌∙◌, subst, inl, inr, arith, Contains, Option, Some, None, option_and_then, pos, ◌+ℤ◌, ◌-ℤ◌, ◌≤ℤ◌}
+use Rattle.std.proofs.Common.{◌≡◌, ℕ, ◌<◌, ◌≤◌, ◌==◌, eqb, true, false, cond, List, length, refl, sym, ap, ◌∙◌, subst, inl, inr, arith, Contains, Option, Some, None, option_and_then, pos, ◌+ℤ◌, ◌-ℤ◌, ◌≤ℤ◌}
 use Rattle.std.specs.Prelude.{IfSome, ℤ, position}
 use Rattle.std.specs.Str.{bytes_eq}
 use Rattle.std.proofs.lemmas.Bool.{cases_Bool, eqb-true}
@@ -11,12 +11,13 @@ use Rattle.tp_machine.specs.declared.parts.Feeder.{Feeder}
 use Rattle.tp_machine.specs.declared.machine.Machine.{Machine}
 use Rattle.tp_machine.proofs.MachineFacts.{is_machine}
 use Rattle.tp_schedule.specs.declared.parts.Plan.{Plan}
-use Rattle.tp_stock.specs.Stock.{begins_at, feeder_at, feeder_named, less_taken, more_at, no_refills, refilled, taken_at}
-use Rattle.tp_stock.proofs.StockFacts.{at-location, feeder-known, refilled-less, refilled-more}
+use Rattle.tp_stock.specs.Stock.{begins_at, drawn_at, feeder_at, feeder_named, is_counted, less_taken, more_at, no_refills, refilled, taken_at}
+use Rattle.tp_stock.proofs.StockFacts.{at-location, counted-there, feeder-known, refilled-less, refilled-more}
 use Rattle.tp_turn.proofs.ListFacts.{find-Some}
 use Rattle.tp_turn.proofs.StockKept.{IsAccepted, accepted-refill}
 use Rattle.tp_turn.specs.Refusals.{refill_refusal}
-use Rattle.tp_sound.specs.Kept.{IsFreeWithin}
+use Rattle.tp_sound.specs.Kept.{KeepsRefills}
+use Rattle.tp_sound.proofs.CountedRefills.{IsFreeWithin, counted-by, uncounted}
 
 -- where a feeder of the machine stands
 place : (machine : Machine) (loc : ℕ) (f : Feeder) → feeder_at machine loc ≡ Some f → Contains machine.feeders f × (f.loc.0 ≡ loc) × (loc < 256)
@@ -26,7 +27,7 @@ place machine loc f at =
     let known = feeder-known machine f found.0 in
     (found.0, e, omega arith)
 
-pub free-empty : (machine : Machine) → IsFreeWithin machine no_refills
+free-empty : (machine : Machine) → IsFreeWithin machine no_refills
 free-empty machine loc f stock at is =
     let here = place machine loc f at in
     let le : stock ≤ 1000000 = subst (λ o. IfSome o (λ n. n ≤ 1000000)) is (All-contains (λ (g : Feeder). IfSome g.stock (λ n. n ≤ 1000000)) machine.feeders f (is_machine machine).stocks here.0) in
@@ -52,7 +53,7 @@ module _ (machine : Machine) (refills : List ℤ) (plans : List Plan) (few : len
   plain stock r low = omega (arith, ints)
 
   -- a refill is accepted
-  pub free-refilled : (name : List ℕ) (count : ℕ) (f : Feeder) → refill_refusal machine refills plans name count ≡ None → feeder_named machine name ≡ Some f → IsFreeWithin machine (more_at f.loc.0 count refills)
+  free-refilled : (name : List ℕ) (count : ℕ) (f : Feeder) → refill_refusal machine refills plans name count ≡ None → feeder_named machine name ≡ Some f → IsFreeWithin machine (more_at f.loc.0 count refills)
   free-refilled name count f accepted named loc g stock at' is = elim (cases_Bool (eqb loc f.loc.0)) [
     | inl same ↦
         let e = eqb-true loc f.loc.0 same in
@@ -70,8 +71,39 @@ module _ (machine : Machine) (refills : List ℤ) (plans : List Plan) (few : len
     of = accepted-refill machine refills plans name count f accepted named
 
 -- plans are forgotten
-pub free-forgotten : (machine : Machine) (refills : List ℤ) (gone : List Plan) → IsFreeWithin machine refills → IsFreeWithin machine (less_taken machine gone refills)
+free-forgotten : (machine : Machine) (refills : List ℤ) (gone : List Plan) → IsFreeWithin machine refills → IsFreeWithin machine (less_taken machine gone refills)
 free-forgotten machine refills gone free loc g stock at is =
-    rw (refilled-less machine gone refills loc (place machine loc g at).2) (lower stock (taken_at machine gone loc) (refilled refills loc) (free loc g stock at is)) where
+    rw (refilled-less machine gone refills loc (place machine loc g at).2) (lower stock (drawn_at machine gone loc) (refilled refills loc) (free loc g stock at is)) where
       lower : (stock n : ℕ) (r : ℤ) → (pos stock +ℤ r) ≤ℤ pos 1000256 → (pos stock +ℤ (r -ℤ pos n)) ≤ℤ pos 1000256
       lower stock n r high = omega (arith, ints)
+
+-- ---- and only where sheets are counted there are refills
+
+pub refills-empty : (machine : Machine) → KeepsRefills machine no_refills
+refills-empty machine = record { few = free-empty machine; counted = counted-by machine (λ loc. pos 0) (λ loc within none. refl) }
+
+pub refills-forgotten : (machine : Machine) (refills : List ℤ) (gone : List Plan) → KeepsRefills machine refills → KeepsRefills machine (less_taken machine gone refills)
+refills-forgotten machine refills gone k = record {
+  few = free-forgotten machine refills gone k.few;
+  counted = counted-by machine (λ loc. refilled refills loc -ℤ pos (drawn_at machine gone loc)) (λ loc within none.
+      ap (λ b. refilled refills loc -ℤ pos (cond b (taken_at machine gone loc) 0)) none ∙ ap (λ r. r -ℤ pos 0) (uncounted machine refills k.counted loc within none));
+}
+
+pub refills-refilled : (machine : Machine) (refills : List ℤ) (plans : List Plan) → length plans ≤ 256 → KeepsRefills machine refills → (name : List ℕ) (count : ℕ) (f : Feeder)
+    → refill_refusal machine refills plans name count ≡ None → feeder_named machine name ≡ Some f → KeepsRefills machine (more_at f.loc.0 count refills)
+refills-refilled machine refills plans few k name count f accepted named = record {
+  few = free-refilled machine refills plans few k.few name count f accepted named;
+  counted = counted-by machine (λ loc. refilled refills loc +ℤ pos (cond (loc == f.loc.0) count 0)) (λ loc within none.
+      ap (λ b. refilled refills loc +ℤ pos (cond b count 0)) (elsewhere loc none) ∙ ap (λ r. r +ℤ pos 0) (uncounted machine refills k.counted loc within none));
+} where
+  of : IsAccepted machine refills plans f count
+  of = accepted-refill machine refills plans name count f accepted named
+
+  there : is_counted machine f.loc.0 ≡ true
+  there = counted-there machine f of.stock (place machine f.loc.0 f (named-at machine refills plans few k.few name f named)).0 of.is
+
+  elsewhere : (loc : ℕ) → is_counted machine loc ≡ false → (loc == f.loc.0) ≡ false
+  elsewhere loc none = elim (cases_Bool (eqb loc f.loc.0)) [
+    | inl same ↦ (let e = eqb-true loc f.loc.0 same in let clash : true ≡ false = sym there ∙ subst (λ l. is_counted machine l ≡ false) e none in absurd cc)
+    | inr other ↦ other
+  ]

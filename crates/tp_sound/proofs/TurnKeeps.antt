@@ -36,11 +36,11 @@ use Rattle.tp_sound.proofs.LoopKeeps.{stays-asks, stays-goes}
 use Rattle.tp_sound.proofs.ModulesOut.{named-module, none-modules, on-modules}
 use Rattle.tp_sound.proofs.NewCopies.{new-copies}
 use Rattle.tp_sound.proofs.PlanKeeps.{StaysPlan, stays-released, stays-timed}
-use Rattle.tp_sound.proofs.StockKeeps.{free-empty, free-forgotten, free-refilled}
+use Rattle.tp_sound.proofs.StockKeeps.{refills-empty, refills-forgotten, refills-refilled}
 
 -- in the empty state
 pub sound-empty : (machine : Machine) → KeepsSound machine empty_state
-sound-empty machine = record { outs = none-modules machine; plans = All-nil (KeepsPlan machine 0); waiting = All-nil (KeepsWaiting machine); stock = free-empty machine }
+sound-empty machine = record { outs = none-modules machine; plans = All-nil (KeepsPlan machine 0); waiting = All-nil (KeepsWaiting machine); stock = refills-empty machine }
 
 -- into the midst of a turn, and out of it
 stays-before : (machine : Machine) (copies : ℕ) (s : SessionState) → KeepsLive machine copies s → KeepsSound machine s → StaysSound machine s
@@ -76,7 +76,7 @@ module _ (machine : Machine) where
     outs = k.outs;
     plans = λ q in'. k.plans q (Contains-filter_from (is_live machine s.now) s.plans q in').0;
     waiting = k.waiting;
-    stock = free-forgotten machine s.refills (filter (λ p. not (is_live machine s.now p)) s.plans) k.stock;
+    stock = refills-forgotten machine s.refills (filter (λ p. not (is_live machine s.now p)) s.plans) k.stock;
   }
 
   stays-job : (name tray media : List ℕ) (groups : List GroupForm) (s : SessionState) → All (KeepsWaiting machine) (first_copies (length s.jobs) 1 (sheets_of media groups)) → StaysSound machine s
@@ -109,7 +109,7 @@ module _ {P : Type 0} (steps : PlannerSteps P) (machine : Machine) (spent : P �
   begins-keep copies (On name) s p records s' p' accepted live (m, known, told, is, same) k =
       subst (StaysSound machine) (sym is) (record { outs = on-modules machine s.outs m k.outs; plans = k.plans; waiting = k.waiting; stock = k.stock })
   begins-keep copies (Refill name count) s p records s' p' accepted live (f, known, told, is, same) k =
-      subst (StaysSound machine) (sym is) (record { outs = k.outs; plans = k.plans; waiting = k.waiting; stock = free-refilled machine s.refills s.plans (few-plans machine copies s live) k.stock name count f accepted known })
+      subst (StaysSound machine) (sym is) (record { outs = k.outs; plans = k.plans; waiting = k.waiting; stock = refills-refilled machine s.refills s.plans (few-plans machine copies s live) k.stock name count f accepted known })
 
   turn-keeps : (copies : ℕ) (event : Event) (s : SessionState) (p : P) (records : List Record) (s' : SessionState) (p' : P)
       → KeepsLive machine copies s → Turn steps machine event s p records s' p' → KeepsSound machine s → KeepsSound machine s'

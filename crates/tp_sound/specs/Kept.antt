@@ -1,16 +1,16 @@
 -- What a state keeps besides where it came from the empty one: with what it keeps between events, it stands where it is sound to
 -- go on from.
-use Rattle.std.specs.Prelude.{◌≡◌, ℕ, ◌+◌, ◌<◌, ◌≤◌, List, length, Some, All, IsTrue, ℤ, pos, ◌+ℤ◌, ◌≤ℤ◌}
+use Rattle.std.specs.Prelude.{◌≡◌, ℕ, ◌+◌, ◌<◌, ◌≤◌, List, length, Some, All, IsTrue, if◌then◌else◌, ℤ, pos, ◌+ℤ◌, ◌≤ℤ◌}
 use Rattle.tp_machine.specs.declared.machine.Machine.{Machine}
 use Rattle.tp_machine.specs.declared.parts.Feeder.{Feeder}
 use Rattle.tp_schedule.specs.Plans.{is_front, point}
 use Rattle.tp_schedule.specs.declared.parts.Plan.{Plan}
 use Rattle.tp_schedule.specs.declared.parts.SheetId.{SheetId}
-use Rattle.tp_stock.specs.Stock.{feeder_at, refilled}
+use Rattle.tp_stock.specs.Stock.{by_location, feeder_at, is_counted, refilled}
 use Rattle.tp_jobs.specs.Refusing.{has_media}
 use Rattle.tp_jobs.specs.declared.parts.WaitingCopy.{WaitingCopy}
 use Rattle.tp_standing.specs.Sound.{AreModules, last_sheet, most_free}
-use Rattle.tp_turn.specs.Ready.{CanTakeEvents}
+use Rattle.tp_turn.specs.Ready.{CanTakeEvents, KeepsStock}
 use Rattle.tp_turn.specs.States.{SessionState}
 
 -- sheets and copies are numbered from 1, and a job has at most 4,096 sheets
@@ -31,19 +31,23 @@ pub record KeepsWaiting (machine : Machine) (w : WaitingCopy) : Type 0 where
   pub counted : IsCounted w.sheet
   pub media : IsTrue (has_media machine w.want.media)
 
--- a stock and its refills are at most what may be free once a refill was taken, with the sheets of all live plans
-abbrev pub IsFreeWithin : Machine → List ℤ → Type 0
-IsFreeWithin machine refills = (loc : ℕ) (f : Feeder) (stock : ℕ) → feeder_at machine loc ≡ Some f → f.stock ≡ Some stock
-    → (pos stock +ℤ refilled refills loc) ≤ℤ pos most_free
+-- a stock and its refills are at most what may be free once a refill was taken, with the sheets of all live plans; and only where
+-- sheets are counted there are refills
+pub record KeepsRefills (machine : Machine) (refills : List ℤ) : Type 0 where
+  pub few : (loc : ℕ) (f : Feeder) (stock : ℕ) → feeder_at machine loc ≡ Some f → f.stock ≡ Some stock
+      → (pos stock +ℤ refilled refills loc) ≤ℤ pos most_free
+  pub counted : refills ≡ by_location (λ loc. if is_counted machine loc then refilled refills loc else pos 0)
 
 -- modules that are out are the machine's, and so it is with each plan, each copy that waits and the stock
 pub record KeepsSound (machine : Machine) (s : SessionState) : Type 0 where
   pub outs : AreModules machine s.outs
   pub plans : All (KeepsPlan machine s.now) s.plans
   pub waiting : All (KeepsWaiting machine) s.waiting
-  pub stock : IsFreeWithin machine s.refills
+  pub stock : KeepsRefills machine s.refills
 
--- after so many events from the empty state on: any event can be taken, no copy has a greater number, and the rest is kept
+-- after so many events from the empty state on: any event can be taken, no copy has a greater number, no stock is overdrawn, and the
+-- rest is kept
 pub record CanBeSaved (machine : Machine) (events : ℕ) (s : SessionState) : Type 0 where
   pub can : CanTakeEvents machine events s
+  pub stocked : KeepsStock machine events s
   pub sound : KeepsSound machine s

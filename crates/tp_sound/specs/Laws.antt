@@ -1,5 +1,5 @@
 -- What is kept from the empty state on, and what it is good for.
-use Rattle.std.specs.Prelude.{ℕ, ◌≤◌, List, length}
+use Rattle.std.specs.Prelude.{◌≡◌, ℕ, ◌≤◌, List, length}
 use Rattle.tp_machine.specs.declared.machine.Machine.{Machine}
 use Rattle.tp_schedule.specs.declared.records.Record.{Record}
 use Rattle.tp_script.specs.declared.event.Event.{Event}
@@ -8,7 +8,7 @@ use Rattle.tp_turn.specs.Ready.{KeepsLive}
 use Rattle.tp_turn.specs.States.{SessionState}
 use Rattle.tp_turning.specs.Events.{LiveTurn}
 use Rattle.tp_standing.specs.Sound.{IsSound, last_number, most_jobs}
-use Rattle.tp_standing.specs.Told.{standing_of}
+use Rattle.tp_standing.specs.Told.{standing_of, told}
 use Rattle.tp_sound.specs.Kept.{CanBeSaved, KeepsSound}
 
 -- what a live state keeps besides is kept through the turn of any event
@@ -20,3 +20,7 @@ KeepsSoundInTurns {P} planner_steps machine = (copies : ℕ) (event : Event) (s 
 abbrev pub StandsSoundly : Type 0
 StandsSoundly = (machine : Machine) (events : ℕ) (s : SessionState) → events ≤ last_number → length s.jobs ≤ most_jobs
     → CanBeSaved machine events s → IsSound machine (standing_of machine s)
+
+-- and what is told of that is the state itself
+abbrev pub StandsAsTold : Type 0
+StandsAsTold = (machine : Machine) (events : ℕ) (s : SessionState) → CanBeSaved machine events s → told machine (standing_of machine s) ≡ s

@@ -2,7 +2,7 @@
 
 ghost use Rattle.tp_machine.specs.declared.machine.Machine.{Machine};
 ghost use Rattle.tp_sound.specs.Kept.{CanBeSaved};
-ghost use Rattle.tp_sound.specs.Laws.{KeepsSoundInTurns, StandsSoundly};
+ghost use Rattle.tp_sound.specs.Laws.{KeepsSoundInTurns, StandsAsTold, StandsSoundly};
 ghost use Rattle.tp_turn.specs.Planners.{right_steps};
 ghost use Rattle.tp_turn.specs.States.{empty_state};
 
@@ -22,7 +22,8 @@ pub fn turns_keep_sound<P: Planner>()
         (right_steps P.spent P.steps P.stop_steps machine) machine }
 {}
 
-/// A live state that can be saved stands where it is sound to go on from.
+/// A live state that can be saved stands where it is sound to go on from, and what is told of that is the state itself.
 pub fn kept_states_stand_soundly()
-    ensures { StandsSoundly }
+    ensures sound { StandsSoundly }
+    ensures told { StandsAsTold }
 {}

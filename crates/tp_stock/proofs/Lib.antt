@@ -1,3 +1,4 @@
+pub mod CountedFacts
 pub mod StockFacts
 pub mod CountFacts
 pub mod EmptyFacts

@@ -1,13 +1,13 @@
 -- Counts of plans that are parted, and the free stock of what is left.
 use Rattle.std.proofs.Common.{◌≡◌, ◌≢◌, ℕ, zero, suc, ◌+◌, ◌<◌, ◌≤◌, ◌==◌, ◌||◌, eqb, Bool, true, false, cond, not, List, [], ◌∷◌, length, map, filter, set, get_or-set_other, get_or-set_same, length-set, refl, sym, ap, ◌∙◌, subst, inl, inr, arith, All, Contains, Option, Some, None, pos, ◌+ℤ◌, ◌-ℤ◌, ◌≤ℤ◌}
-use Rattle.std.specs.Prelude.{IfSome, count_by, find, get_or, option_and_then, position, ℤ}
+use Rattle.std.specs.Prelude.{IfSome, ◌&&◌, count_by, find, get_or, is_some, option_and_then, position, ℤ}
 use Rattle.std.specs.Str.{bytes_eq}
 use Rattle.std.proofs.lemmas.Option.{same_Some}
-use Rattle.std.specs.List.{fold, range_with_len}
+use Rattle.std.specs.List.{fold, list_any, range_with_len}
 use Rattle.std.specs.Option.{option_eq}
 use Rattle.std.specs.Ordering.{int_eq}
 use Rattle.std.proofs.lemmas.Int.{ints}
-use Rattle.std.proofs.lemmas.Bool.{cases_Bool, eqb-true, eq-eqb}
+use Rattle.std.proofs.lemmas.Bool.{eqb-true, eq-eqb}
 use Rattle.std.proofs.lemmas.Bool.Decides.{nat_tests}
 use Rattle.std.proofs.lemmas.List.Elements.{All-contains, All-filter, All-head, All-tail}
 use Rattle.std.proofs.lemmas.List.FromFn.{fill_by_all, get_or-map-range_with_len, length-map-range_with_len}
@@ -23,7 +23,7 @@ use Rattle.tp_schedule.specs.LocationSets.{has, nowhere, with}
 use Rattle.tp_schedule.specs.declared.parts.Empties.{Empties}
 use Rattle.tp_schedule.specs.declared.parts.Plan.{Plan}
 use Rattle.tp_stock.specs.Laws.{ForgettingKeepsEmpties, ForgettingKeepsStock}
-use Rattle.tp_stock.specs.Stock.{IsNotOverdrawn, begins_at, by_location, empties, feeder_at, feeder_named, free_of, free_stock, is_empty, less_taken, more_at, no_refills, refilled, taken_at}
+use Rattle.tp_stock.specs.Stock.{IsNotOverdrawn, begins_at, by_location, drawn_at, empties, feeder_at, feeder_named, free_of, free_stock, is_counted, is_empty, left_of, less_taken, more_at, no_refills, refilled, taken_at}
 
 pub at-location : {X : Type 0} (f : ℕ → X) (loc : ℕ) (d : X) → loc < 256 → get_or (by_location f) loc d ≡ f loc
 unfolding by_location
@@ -48,16 +48,50 @@ feeder-known machine f in' =
     let few = (is_machine machine).locations.1 in
     omega arith
 
-free-same : (stock : Option ℕ) (more : ℤ) (gone left all : ℕ) → left + gone ≡ all → free_of stock (more -ℤ pos gone) left ≡ free_of stock more all
-free-same None more gone left all e = refl
-free-same (Some stock) more gone left all e = ap Some (omega (arith, ints))
+-- at a feeder with a stock the sheets are counted
+pub counted-there : (machine : Machine) (f : Feeder) (stock : ℕ) → Contains machine.feeders f → f.stock ≡ Some stock → is_counted machine f.loc.0 ≡ true
+counted-there machine f stock in' is = go machine.feeders in' where
+  same-at : (n : ℕ) → (n == n) ≡ true
+  same-at n = grind (arith, nat_tests)
+
+  or-any : (b c : Bool) → c ≡ true → (b || c) ≡ true
+  or-any true c e = refl
+  or-any false c e = e
+
+  go : (fs : List Feeder) → Contains fs f → list_any (λ (g : Feeder). (g.loc.0 == f.loc.0) && is_some g.stock) fs ≡ true
+  go [] at = absurd (omega (arith, at.1))
+  go (g ∷ fs) at = elim (Contains-cons_cases g fs f at) [
+    | inl same ↦
+        subst (λ (h : Feeder). (((h.loc.0 == f.loc.0) && is_some h.stock) || list_any (λ (g : Feeder). (g.loc.0 == f.loc.0) && is_some g.stock) fs) ≡ true) (sym same)
+        (rw (same-at f.loc.0, is) refl)
+    | inr later ↦ or-any ((g.loc.0 == f.loc.0) && is_some g.stock) (list_any (λ (g : Feeder). (g.loc.0 == f.loc.0) && is_some g.stock) fs) (go fs later)
+  ]
+
+pub drawn-there : (machine : Machine) (plans : List Plan) (f : Feeder) (stock : ℕ) → Contains machine.feeders f → f.stock ≡ Some stock → drawn_at machine plans f.loc.0 ≡ taken_at machine plans f.loc.0
+drawn-there machine plans f stock in' is = ap (λ b. cond b (taken_at machine plans f.loc.0) 0) (counted-there machine f stock in' is)
+
+-- no more is taken of a stock than is taken
+pub drawn-few : (machine : Machine) (plans : List Plan) (loc : ℕ) → drawn_at machine plans loc ≤ taken_at machine plans loc
+drawn-few machine plans loc = go (is_counted machine loc) where
+  go : (b : Bool) → cond b (taken_at machine plans loc) 0 ≤ taken_at machine plans loc
+  go true = omega arith
+  go false = omega arith
 
 pub keeps-stock : ForgettingKeepsStock
-keeps-stock machine refills plans stays f in' =
-    let gone = filter (λ p. not (stays p)) plans in
-    let more = at-location (λ loc. refilled refills loc -ℤ pos (taken_at machine gone loc)) f.loc.0 (pos 0) (feeder-known machine f in') in
-    rw more (free-same f.stock (refilled refills f.loc.0) (taken_at machine gone f.loc.0) (taken_at machine (filter stays plans) f.loc.0) (taken_at machine plans f.loc.0)
-    (parted (begins_at machine f.loc.0) stays plans))
+keeps-stock machine refills plans stays f in' = go f.stock refl where
+  gone : List Plan
+  gone = filter (λ p. not (stays p)) plans
+
+  more : refilled (less_taken machine gone refills) f.loc.0 ≡ refilled refills f.loc.0 -ℤ pos (drawn_at machine gone f.loc.0)
+  more = at-location (λ loc. refilled refills loc -ℤ pos (drawn_at machine gone loc)) f.loc.0 (pos 0) (feeder-known machine f in')
+
+  sums : (stock : ℕ) (r : ℤ) (gone left all : ℕ) → left + gone ≡ all → (pos stock +ℤ (r -ℤ pos gone)) -ℤ pos left ≡ (pos stock +ℤ r) -ℤ pos all
+  sums stock r gone left all e = omega (arith, ints)
+
+  go : (o : Option ℕ) → f.stock ≡ o → free_of o (refilled (less_taken machine gone refills) f.loc.0) (taken_at machine (filter stays plans) f.loc.0) ≡ free_of o (refilled refills f.loc.0) (taken_at machine plans f.loc.0)
+  go None e = refl
+  go (Some stock) e = rw (more, drawn-there machine gone f stock in' e) (ap Some (sums stock (refilled refills f.loc.0) (taken_at machine gone f.loc.0) (taken_at machine (filter stays plans) f.loc.0) (taken_at machine plans f.loc.0)
+      (parted (begins_at machine f.loc.0) stays plans)))
 
 filter-same : {X : Type 0} (p q : X → Bool) (xs : List X) → ((x : X) → Contains xs x → p x ≡ q x) → filter p xs ≡ filter q xs
 filter-same p q [] each = refl
@@ -80,16 +114,20 @@ by-same f g each = fill_by_all g (map f (range_with_len 0 256)) 256 (pos 0) (len
     (λ loc within. get_or-map-range_with_len f 0 256 loc loc (pos 0) within (omega arith) ∙ each loc within)
 
 -- what was counted before, less what is still counted, is what is gone
-pub forgets : (machine : Machine) (refills : List ℤ) (before after : List ℕ) (plans left : List Plan) (stays : Plan → Bool) → before ≡ by_location (taken_at machine plans) → after ≡ by_location (taken_at machine left) → left ≡ filter stays plans
-    → by_location (λ loc. (refilled refills loc +ℤ pos (get_or after loc 0)) -ℤ pos (get_or before loc 0)) ≡ less_taken machine (filter (λ p. not (stays p)) plans) refills
-forgets machine refills before after plans left stays was is some = by-same _ _ (λ loc within.
+pub forgets : (machine : Machine) (refills : List ℤ) (counted : List Bool) (before after : List ℕ) (plans left : List Plan) (stays : Plan → Bool) → counted ≡ by_location (is_counted machine)
+    → before ≡ by_location (taken_at machine plans) → after ≡ by_location (taken_at machine left) → left ≡ filter stays plans
+    → by_location (λ loc. left_of (get_or counted loc false) (refilled refills loc) (get_or before loc 0) (get_or after loc 0)) ≡ less_taken machine (filter (λ p. not (stays p)) plans) refills
+forgets machine refills counted before after plans left stays marks was is some = by-same _ _ (λ loc within.
+    let m : get_or counted loc false ≡ is_counted machine loc = ap (λ xs. get_or xs loc false) marks ∙ at-location (is_counted machine) loc false within in
     let b : get_or before loc 0 ≡ taken_at machine plans loc = ap (λ xs. get_or xs loc 0) was ∙ at-location (taken_at machine plans) loc 0 within in
     let a : get_or after loc 0 ≡ taken_at machine (filter stays plans) loc = ap (λ xs. get_or xs loc 0) is ∙ at-location (taken_at machine left) loc 0 within ∙ ap (λ ps. taken_at machine ps loc) some in
-    sums (refilled refills loc) (get_or after loc 0) (get_or before loc 0) (taken_at machine (filter (λ p. not (stays p)) plans) loc)
+    ap (λ c. left_of c (refilled refills loc) (get_or before loc 0) (get_or after loc 0)) m
+    ∙ sums (is_counted machine loc) (refilled refills loc) (get_or after loc 0) (get_or before loc 0) (taken_at machine (filter (λ p. not (stays p)) plans) loc)
     (let all = parted (begins_at machine loc) stays plans in omega (arith, all, a, b)))
   where
-    sums : (r : ℤ) (left before gone : ℕ) → left + gone ≡ before → (r +ℤ pos left) -ℤ pos before ≡ r -ℤ pos gone
-    sums r left before gone e = omega (arith, ints)
+    sums : (counted : Bool) (r : ℤ) (left before gone : ℕ) → left + gone ≡ before → left_of counted r before left ≡ r -ℤ pos (cond counted gone 0)
+    sums true r left before gone e = omega (arith, ints)
+    sums false r left before gone e = omega (arith, ints)
 
 pub by-same-counts : (f g : ℕ → ℕ) → ((loc : ℕ) → f loc ≡ g loc) → by_location f ≡ by_location g
 unfolding by_location
@@ -133,9 +171,9 @@ less-more-one r n gone = omega (arith, ints)
 
 pub less-more : (machine : Machine) (gone : List Plan) (at count : ℕ) (refills : List ℤ) → less_taken machine gone (more_at at count refills) ≡ more_at at count (less_taken machine gone refills)
 less-more machine gone at count refills = by-same _ _ (λ loc within.
-    ap (λ r. r -ℤ pos (taken_at machine gone loc)) (at-location (λ loc. refilled refills loc +ℤ pos (cond (loc == at) count 0)) loc (pos 0) within)
-    ∙ less-more-one (refilled refills loc) (cond (loc == at) count 0) (taken_at machine gone loc)
-    ∙ ap (λ r. r +ℤ pos (cond (loc == at) count 0)) (sym (at-location (λ loc. refilled refills loc -ℤ pos (taken_at machine gone loc)) loc (pos 0) within)))
+    ap (λ r. r -ℤ pos (drawn_at machine gone loc)) (at-location (λ loc. refilled refills loc +ℤ pos (cond (loc == at) count 0)) loc (pos 0) within)
+    ∙ less-more-one (refilled refills loc) (cond (loc == at) count 0) (drawn_at machine gone loc)
+    ∙ ap (λ r. r +ℤ pos (cond (loc == at) count 0)) (sym (at-location (λ loc. refilled refills loc -ℤ pos (drawn_at machine gone loc)) loc (pos 0) within)))
 
 -- plans that are forgotten one part after another
 less-less-one : (r : ℤ) (first next all : ℕ) → first + next ≡ all → (r -ℤ pos first) -ℤ pos next ≡ r -ℤ pos all
@@ -144,13 +182,21 @@ less-less-one r first next all e = omega (arith, ints)
 pub less-less : (machine : Machine) (first next all : List Plan) (refills : List ℤ) → ((loc : ℕ) → taken_at machine first loc + taken_at machine next loc ≡ taken_at machine all loc)
     → less_taken machine next (less_taken machine first refills) ≡ less_taken machine all refills
 less-less machine first next all refills parts = by-same _ _ (λ loc within.
-    ap (λ r. r -ℤ pos (taken_at machine next loc)) (at-location (λ loc. refilled refills loc -ℤ pos (taken_at machine first loc)) loc (pos 0) within)
-    ∙ less-less-one (refilled refills loc) (taken_at machine first loc) (taken_at machine next loc) (taken_at machine all loc) (parts loc))
+    ap (λ r. r -ℤ pos (drawn_at machine next loc)) (at-location (λ loc. refilled refills loc -ℤ pos (drawn_at machine first loc)) loc (pos 0) within)
+    ∙ less-less-one (refilled refills loc) (drawn_at machine first loc) (drawn_at machine next loc) (drawn_at machine all loc)
+    (both (is_counted machine loc) (taken_at machine first loc) (taken_at machine next loc) (taken_at machine all loc) (parts loc)))
+  where
+    both : (b : Bool) (first next all : ℕ) → first + next ≡ all → cond b first 0 + cond b next 0 ≡ cond b all 0
+    both true first next all e = e
+    both false first next all e = refl
 
 -- nothing is forgotten of none
 pub less-none : (machine : Machine) (gone : List Plan) → ((loc : ℕ) → taken_at machine gone loc ≡ 0) → less_taken machine gone no_refills ≡ no_refills
 less-none machine gone none = by-same _ _ (λ loc within.
-    ap (λ r. r -ℤ pos (taken_at machine gone loc)) (at-location (λ loc. pos 0) loc (pos 0) within) ∙ ap (λ n. pos 0 -ℤ pos n) (none loc))
+    ap (λ r. r -ℤ pos (drawn_at machine gone loc)) (at-location (λ loc. pos 0) loc (pos 0) within)
+    ∙ ap (λ n. pos 0 -ℤ pos n) (nothing loc)) where
+      nothing : (loc : ℕ) → drawn_at machine gone loc ≡ 0
+      nothing loc = omega (arith, drawn-few machine gone loc, none loc)
 
 -- a location beyond the last has no refills
 beyond : {X : Type 0} (xs : List X) (loc : ℕ) (d : X) → length xs ≤ loc → get_or xs loc d ≡ d
@@ -166,8 +212,8 @@ at-none f loc d high = beyond (map f (range_with_len 0 256)) loc d (omega (arith
 pub refilled-more : (at count : ℕ) (refills : List ℤ) (loc : ℕ) → loc < 256 → refilled (more_at at count refills) loc ≡ refilled refills loc +ℤ pos (cond (loc == at) count 0)
 refilled-more at count refills loc within = at-location (λ loc. refilled refills loc +ℤ pos (cond (loc == at) count 0)) loc (pos 0) within
 
-pub refilled-less : (machine : Machine) (gone : List Plan) (refills : List ℤ) (loc : ℕ) → loc < 256 → refilled (less_taken machine gone refills) loc ≡ refilled refills loc -ℤ pos (taken_at machine gone loc)
-refilled-less machine gone refills loc within = at-location (λ loc. refilled refills loc -ℤ pos (taken_at machine gone loc)) loc (pos 0) within
+pub refilled-less : (machine : Machine) (gone : List Plan) (refills : List ℤ) (loc : ℕ) → loc < 256 → refilled (less_taken machine gone refills) loc ≡ refilled refills loc -ℤ pos (drawn_at machine gone loc)
+refilled-less machine gone refills loc within = at-location (λ loc. refilled refills loc -ℤ pos (drawn_at machine gone loc)) loc (pos 0) within
 
 -- one number changed
 pub set-more : (at count : ℕ) (refills : List ℤ) → length refills ≡ 256 → at < 256 → set refills at (get_or refills at (pos 0) +ℤ pos count) ≡ more_at at count refills
@@ -204,7 +250,7 @@ drawn-more machine at count refills plans drawn f in' stock is =
 pub drawn-part : (machine : Machine) (refills : List ℤ) (plans : List Plan) (stays : Plan → Bool) → IsNotOverdrawn machine refills plans
     → IsNotOverdrawn machine (less_taken machine (filter (λ p. not (stays p)) plans) refills) (filter stays plans)
 drawn-part machine refills plans stays drawn f in' stock is =
-    rw (refilled-less machine (filter (λ p. not (stays p)) plans) refills f.loc.0 (feeder-known machine f in'))
+    rw (refilled-less machine (filter (λ p. not (stays p)) plans) refills f.loc.0 (feeder-known machine f in'), drawn-there machine (filter (λ p. not (stays p)) plans) f stock in' is)
     (off (taken_at machine (filter stays plans) f.loc.0) (taken_at machine (filter (λ p. not (stays p)) plans) f.loc.0) (taken_at machine plans f.loc.0) (pos stock) (refilled refills f.loc.0) (parted (begins_at machine f.loc.0) stays plans) (drawn f in' stock is))
   where
     off : (left gone all : ℕ) (b r : ℤ) → left + gone ≡ all → pos all ≤ℤ (b +ℤ r) → pos left ≤ℤ (b +ℤ (r -ℤ pos gone))

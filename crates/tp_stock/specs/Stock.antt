@@ -1,6 +1,6 @@
 -- The free stock of feeders, and which of them are empty.
-use Rattle.std.specs.Prelude.{◌≡◌, ℕ, ◌*◌, ◌==◌, Bool, false, List, map, filter, find, position, count_by, get_or, slice_get, Contains, Option, Some, None, option_and_then, if◌then◌else◌, ℤ, pos, neg_ℤ, ◌+ℤ◌, ◌-ℤ◌, ◌≤ℤ◌, ◌^◌}
-use Rattle.std.specs.List.{fold, range_with_len}
+use Rattle.std.specs.Prelude.{◌≡◌, ℕ, ◌*◌, ◌==◌, ◌&&◌, Bool, false, List, map, filter, find, position, count_by, get_or, slice_get, Contains, Option, Some, None, option_and_then, is_some, if◌then◌else◌, ℤ, pos, neg_ℤ, ◌+ℤ◌, ◌-ℤ◌, ◌≤ℤ◌, ◌^◌}
+use Rattle.std.specs.List.{fold, list_any, range_with_len}
 use Rattle.std.specs.Option.{option_eq}
 use Rattle.std.specs.Ordering.{int_eq}
 use Rattle.std.specs.Str.{bytes_eq}
@@ -36,9 +36,21 @@ no_refills = by_location (λ loc. pos 0)
 abbrev pub refilled : List ℤ → ℕ → ℤ
 refilled refills loc = get_or refills loc (pos 0)
 
--- the refills less what these plans took, which are forgotten
+-- whether the sheets at this location are counted: a feeder is there that is not endless
+abbrev pub is_counted : Machine → ℕ → Bool
+is_counted machine loc = list_any (λ f. (f.loc.0 == loc) && is_some f.stock) machine.feeders
+
+-- how many sheets of a stock the plans took at the location
+abbrev pub drawn_at : Machine → List Plan → ℕ → ℕ
+drawn_at machine plans loc = if is_counted machine loc then taken_at machine plans loc else 0
+
+-- refills where so many sheets were taken before, and so many of those still are
+abbrev pub left_of : Bool → ℤ → ℕ → ℕ → ℤ
+left_of counted refills before after = if counted then ((refills +ℤ pos after) -ℤ pos before) else refills
+
+-- the refills less what these plans took of a stock, which are forgotten
 abbrev pub less_taken : Machine → List Plan → List ℤ → List ℤ
-less_taken machine gone refills = by_location (λ loc. refilled refills loc -ℤ pos (taken_at machine gone loc))
+less_taken machine gone refills = by_location (λ loc. refilled refills loc -ℤ pos (drawn_at machine gone loc))
 
 -- the refills with so many sheets more at the location of this number
 abbrev pub more_at : ℕ → ℕ → List ℤ → List ℤ

@@ -1,7 +1,7 @@
 //! The refills of feeders.
-ghost use Rattle.std.specs.Prelude.{◌≡◌, ℕ, ◌<◌, ◌^◌, Bool, List, filter, get_or, not, pos, ◌+ℤ◌, ◌-ℤ◌};
+ghost use Rattle.std.specs.Prelude.{◌≡◌, ℕ, ◌<◌, ◌^◌, Bool, false, List, filter, get_or, not};
 ghost use Rattle.tp_schedule.specs.declared.parts.Plan.{Plan};
-ghost use Rattle.tp_stock.specs.Stock.{IsBounded, by_location, less_taken, more_at, refilled, taken_at};
+ghost use Rattle.tp_stock.specs.Stock.{IsBounded, by_location, is_counted, left_of, less_taken, more_at, refilled, taken_at};
 
 use crate::counting::{Taken, count_taken};
 use tp_machine::{LocId, Machine};
@@ -12,15 +12,30 @@ use tp_schedule::Schedule;
 #[derive(Clone, Copy, Debug)]
 pub struct Refills(pub [i64; 256]);
 
-/// The refills where so much was taken before, and so much of it still is.
-fn less(refills: &Refills, before: &Taken, after: &Taken) -> Refills
-    requires bounded { IsBounded refills.now.0 }
-    ensures { result.0 ≡ by_location (λ loc. (refilled refills.now.0 loc
-        +ℤ pos (get_or after.now.0 loc 0)) -ℤ pos (get_or before.now.0 loc 0)) }
+/// At which locations sheets are counted.
+fn counted_locations(machine: &Machine) -> [bool; 256]
+    ensures { result ≡ by_location (is_counted machine.now) }
 {
-    let mut left = [0i64; 256];
+    let mut counted = [false; 256];
+    'feeders: for feeder in machine.feeders.as_slice() {
+        if feeder.stock.is_some() && feeder.loc.0 < 256 {
+            counted[usize::from(feeder.loc.0)] = true;
+        }
+    }
+    counted
+}
+
+/// The refills where so much was taken before, and so much of it still is, at the locations where sheets are counted.
+fn less(refills: &Refills, counted: &[bool; 256], before: &Taken, after: &Taken) -> Refills
+    requires bounded { IsBounded refills.now.0 }
+    ensures { result.0 ≡ by_location (λ loc. left_of (get_or counted.now loc false)
+        (refilled refills.now.0 loc) (get_or before.now.0 loc 0) (get_or after.now.0 loc 0)) }
+{
+    let mut left = refills.0;
     'locations: for at in 0..256 {
-        left[at] = refills.0[at] + i64::from(after.0[at]) - i64::from(before.0[at]);
+        if counted[at] {
+            left[at] = refills.0[at] + i64::from(after.0[at]) - i64::from(before.0[at]);
+        }
     }
     Refills(left)
 }
@@ -54,9 +69,10 @@ impl Refills {
         ensures { (plans : List Plan) (stays : Plan → Bool)
             → before.now.0 ≡ by_location (taken_at machine.now plans)
             → left.now.plans ≡ filter stays plans
-            → result.0 ≡ less_taken machine.now (filter (λ p. not (stays p)) plans) self.now.0 }
+            → result.0 ≡ less_taken machine.now
+            (filter (λ p. not (stays p)) plans) self.now.0 }
     {
         let after = count_taken(machine, left);
-        less(self, before, &after)
+        less(self, &counted_locations(machine), before, &after)
     }
 }

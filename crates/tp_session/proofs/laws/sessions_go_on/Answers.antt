@@ -1,12 +1,20 @@
-use Rattle.std.specs.Prelude.{unwrap_or}
-use Rattle.tp_session.proofs.GoesOn.{events_from_told, scripts_from_told, stops_from_told}
+use Rattle.std.specs.Prelude.{true, unwrap_or}
+use Rattle.tp_runs.proofs.Lawful.{whole-empty}
+use Rattle.tp_session.proofs.GoesOn.{events_from, told-whole}
+use Rattle.tp_session.proofs.Lawfully.{scripts_from, stops_from}
 use Rattle.tp_session.proofs.laws.sessions_go_on.Goals as goal
 
+pub returns-clause-empty : goal.returns-clause-empty
+returns-clause-empty c machine = whole-empty machine 0 true
+
+pub returns-clause-sound : goal.returns-clause-sound
+returns-clause-sound c = told-whole
+
 pub returns-clause-whole : goal.returns-clause-whole
-returns-clause-whole c machine budget bounds t script taken taken' s sound = scripts_from_told machine (unwrap_or budget machine.budget) bounds t sound script taken taken' s
+returns-clause-whole c machine budget bounds = scripts_from machine (unwrap_or budget machine.budget) bounds
 
 pub returns-clause-stopped : goal.returns-clause-stopped
-returns-clause-stopped c machine budget bounds t stop script taken taken' s sound = stops_from_told machine (unwrap_or budget machine.budget) bounds t sound stop script taken taken' s
+returns-clause-stopped c machine budget bounds = stops_from machine (unwrap_or budget machine.budget) bounds
 
 pub returns-clause-told : goal.returns-clause-told
-returns-clause-told c machine budget bounds t events text s sound = events_from_told machine (unwrap_or budget machine.budget) bounds t sound events text s
+returns-clause-told c machine budget bounds = events_from machine (unwrap_or budget machine.budget) bounds

@@ -42,6 +42,7 @@ returns-in-Ok-clause-told g c =
             (subst (λ u. TellsTurn i.machine i.engine.work.nodes i.engine.bounds event u text s') stays turn));
         saved = λ events k. record {
           can = c.in-Ok.ensures.kept events (subst (CanTakeEvents i.machine events) (sym stays) k.can);
+          stocked = c.in-Ok.ensures.stocked events (subst (KeepsStock i.machine events) (sym stays) k.stocked);
           sound = c.in-Ok.ensures.sound (subst (KeepsSound i.machine) (sym stays) k.sound);
         };
       }),

@@ -16,4 +16,4 @@ returns-clause-sound g c =
     let i = c.self.inside in
     subst (λ v. IfOk c.standing_of.result (λ told. (events : ℕ) → events ≤ last_number → length v.standing.state.jobs ≤ most_jobs → CanBeSaved v.standing.machine events v.standing.state → IsSound v.standing.machine told)) c.self.view_is
     (if-told (λ told. told ≡ standing_of i.machine (seen i.state)) _ c.standing_of.result
-    (λ told is events few jobs k. subst (IsSound i.machine) (sym is) (c.kept_states_stand_soundly.ensures i.machine events (seen i.state) few jobs k)) c.standing_of.ensures)
+    (λ told is events few jobs k. subst (IsSound i.machine) (sym is) (c.kept_states_stand_soundly.ensures.sound i.machine events (seen i.state) few jobs k)) c.standing_of.ensures)

@@ -1,6 +1,5 @@
 -- One number is changed, and no sum passes 64 bits.
-use Rattle.std.proofs.Common.{rules, ◌≡◌, ◌∙◌, length, set, get_or, sym, ap, arith, pos, ◌+ℤ◌}
-use Rattle.std.specs.Prelude.{ℤ}
+use Rattle.std.proofs.Common.{rules, ◌≡◌, ◌∙◌, length, set, ap, arith}
 use Rattle.std.proofs.lemmas.Int.{ints, to_z-of_z}
 use Rattle.tp_stock.proofs.StockFacts.{set-more}
 use Rattle.tp_stock.proofs.refills.Refills.add.Goals as goal
