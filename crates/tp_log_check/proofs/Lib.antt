@@ -1,3 +1,9 @@
 pub mod TakenTrees
 pub mod Sections
 pub mod Reading
+pub mod Cutting
+pub mod Refusing
+pub mod Judged
+pub mod Denying
+pub mod InPlace
+pub mod PlacedTurns

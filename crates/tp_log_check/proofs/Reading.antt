@@ -1,5 +1,5 @@
 -- What a checker has read, with one line more, and at the end.
-use Rattle.std.proofs.Common.{◌≡◌, ℕ, List, [], ◌∷◌, ◌++◌, All, Option, Some, None, refl, sym, ap, ◌∙◌, append_assoc}
+use Rattle.std.proofs.Common.{◌≡◌, ℕ, List, [], ◌∷◌, ◌++◌, All, Option, Some, None, refl, sym, ap, subst, ◌∙◌, append_assoc}
 use Rattle.std.proofs.lemmas.List.{append-nil}
 use Rattle.std.proofs.lemmas.List.Elements.{All-append, All-head, All-nil, All-tail}
 use Rattle.tp_entries.specs.Counting.{counts_of}
@@ -13,7 +13,9 @@ use Rattle.tp_log.specs.declared.item.Item.TheVariants.{Event, Note, Tree}
 use Rattle.tp_log.specs.declared.log_line.LogLine.{LogLine}
 use Rattle.tp_log_runs.proofs.Lawful.{logs_lawful}
 use Rattle.tp_machine.specs.declared.machine.Machine.{Machine}
+use Rattle.tp_runs.specs.Runs.{items_in}
 use Rattle.tp_turn.specs.States.{SessionState}
+use Rattle.tp_log_check.specs.Lawful.{AreInPlaces}
 use Rattle.tp_log_check.specs.Checking.{CheckerValue, HasTaken, IsAcceptedLog, Section, Underway, entries_of, items_of, lines_under, section_items, underway}
 use Rattle.tp_log_check.specs.declared.flaw.Flaw.{Flaw}
 
@@ -21,7 +23,7 @@ use Rattle.tp_log_check.specs.declared.flaw.Flaw.{Flaw}
 pub same-taken : (machine : Machine) (state : SessionState) (under : Option Underway) (events events' lines lines' : ℕ) (counts counts' : Counts) (flaw flaw' : Option Flaw) (told : List LogLine)
     → HasTaken (record { machine = machine; state = state; under = under; events = events; lines = lines; counts = counts; flaw = flaw }) told
     → HasTaken (record { machine = machine; state = state; under = under; events = events'; lines = lines'; counts = counts'; flaw = flaw' }) told
-same-taken machine state under events events' lines lines' counts counts' flaw flaw' told h = record { sections = h.sections; logs = h.logs; accepted = h.accepted; lines = h.lines }
+same-taken machine state under events events' lines lines' counts counts' flaw flaw' told h = record { sections = h.sections; logs = h.logs; plain = h.plain; places = h.places; accepted = h.accepted; only = h.only; lines = h.lines }
 
 -- a line more of the event that is under way
 pub line-more : (machine : Machine) (state : SessionState) (events lines : ℕ) (counts : Counts) (flaw : Option Flaw) (p q : Pending) (line : LogLine) (told : List LogLine) → lines_of q ≡ lines_of p ++ line ∷ []
@@ -30,7 +32,10 @@ pub line-more : (machine : Machine) (state : SessionState) (events lines : ℕ) 
 line-more machine state events lines counts flaw p q line told more h = record {
   sections = h.sections;
   logs = h.logs;
+  plain = h.plain;
+  places = h.places;
   accepted = h.accepted;
+  only = h.only;
   lines = ap (λ ls. ls ++ line ∷ []) h.lines ∙ append_assoc (log_lines (items_of h.sections)) (lines_of p) (line ∷ []) ∙ ap (λ ls. log_lines (items_of h.sections) ++ ls) (sym more);
 }
 
@@ -43,12 +48,20 @@ stand-on before [] (Note r ∷ ys) h k = absurd cc
 stand-on before [] (Tree t ∷ ys) h k = absurd cc
 stand-on before (x ∷ xs) ys h k = (h.0, stand-on x xs ys h.1 k)
 
-sections-log : (sections : List Section) → All (λ s. IsLog (section_items s)) sections → IsLog (items_of sections)
+pub sections-log : (sections : List Section) → All (λ s. IsLog (section_items s)) sections → IsLog (items_of sections)
 sections-log [] h = (tt, All-nil IsItem)
 sections-log (s ∷ sections) h =
     let first = All-head (λ (s : Section). IsLog (section_items s)) s sections h in
     let others = sections-log sections (All-tail (λ (s : Section). IsLog (section_items s)) s sections h) in
     ((refl, stand-on (Event s.event) s.items (items_of sections) first.0.1 others.0), All-append IsItem (section_items s) (items_of sections) first.1 others.1)
+
+-- the items of their entries are theirs
+entry-items : (sections : List Section) → All (λ s. AreInPlaces s.items) sections → items_in (entries_of sections) ≡ items_of sections
+entry-items [] places = refl
+entry-items (s ∷ sections) places =
+    let first = All-head (λ (s : Section). AreInPlaces s.items) s sections places in
+    let others = entry-items sections (All-tail (λ (s : Section). AreInPlaces s.items) s sections places) in
+    (λ k. (Event s.event ∷ sym first k) ++ others k)
 
 pub read-log : (c : CheckerValue) (told : List LogLine) (counts : Counts) → HasTaken c told → c.under ≡ None → counts ≡ counts_of told → IsAcceptedLog c.machine told counts
 read-log c told counts h none counted = record {
@@ -57,4 +70,10 @@ read-log c told counts h none counted = record {
   lines = h.lines ∙ ap (λ u. log_lines (items_of h.sections) ++ lines_under u) none ∙ append-nil (log_lines (items_of h.sections));
   lawful = logs_lawful c.machine (entries_of h.sections) c.state h.accepted;
   counted = counted;
+  places = record {
+    log = entries_of h.sections;
+    is_log = subst IsLog (sym (entry-items h.sections h.places)) (sections-log h.sections h.logs);
+    lines = h.lines ∙ ap (λ u. log_lines (items_of h.sections) ++ lines_under u) none ∙ append-nil (log_lines (items_of h.sections)) ∙ ap log_lines (sym (entry-items h.sections h.places));
+    lawful = logs_lawful c.machine (entries_of h.sections) c.state h.accepted;
+  };
 }

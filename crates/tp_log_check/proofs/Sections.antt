@@ -4,10 +4,11 @@ use Rattle.std.specs.Prelude.{IfOk, IsNone}
 use Rattle.std.proofs.lemmas.List.{append-nil, map-append}
 use Rattle.std.proofs.lemmas.List.Concat.{flat_map-append}
 use Rattle.std.proofs.lemmas.List.Elements.{All-append, All-from_recursion}
-use Rattle.tp_entries.specs.Gathered.{IsPending, lines_of}
+use Rattle.tp_entries.specs.Gathered.{ArePlain, IsPending, lines_of}
 use Rattle.tp_entries.specs.Gathered as entries
 use Rattle.tp_entries.specs.declared.counts.Counts.{Counts}
 use Rattle.tp_entries.specs.declared.pending.Pending.{Pending}
+use Rattle.tp_entries.proofs.PendingFacts.{plain_closed}
 use Rattle.tp_log.specs.Gathering.{closed, item_lines, lines_with, log_lines, next_of}
 use Rattle.tp_log.specs.Logs.{IsLog}
 use Rattle.tp_log.specs.declared.log_line.LogLine.{LogLine}
@@ -19,7 +20,8 @@ use Rattle.tp_turn.specs.Ready.{CanTakeEvents, KeepsStock, last_copy}
 use Rattle.tp_turn.specs.States.{SessionState, empty_state}
 use Rattle.tp_turn.proofs.ReadyTurns.{events-more}
 use Rattle.tp_turn.proofs.StockKept.{stock-more}
-use Rattle.tp_log_check.specs.Checking.{CanGoOn, CheckerValue, HasTaken, Section, entries_of, items_of, section_items, underway}
+use Rattle.tp_log_check.specs.Lawful.{AreInPlaces, LeadsTo}
+use Rattle.tp_log_check.specs.Checking.{CanGoOn, CheckerValue, HasTaken, LeadOn, Section, entries_of, items_of, section_items, underway}
 use Rattle.tp_log_check.specs.Judging.{entry}
 use Rattle.tp_log_check.specs.declared.flaw.Flaw.{Flaw}
 
@@ -53,6 +55,10 @@ went-on machine s s' p before after events c is none can stocked = subst (λ o. 
 
 -- ---- what was taken
 
+lead-more : (machine : Machine) (sections : List Section) (last : Section) (s mid s' : SessionState) → LeadOn machine s sections mid → LeadsTo machine mid last.event last.items s' → LeadOn machine s (sections ++ last ∷ []) s'
+lead-more machine [] last s mid s' on leads = (s', subst (λ x. LeadsTo machine x last.event last.items s') on leads, refl)
+lead-more machine (section ∷ sections) last s mid s' (next, first, on) leads = (next, first, lead-more machine sections last next mid s' on leads)
+
 module _ (machine : Machine) (state state' : SessionState) (events lines : ℕ) (counts : Counts) (flaw : Option Flaw) (p q : Pending) where
   abbrev before : CheckerValue
   before = record { machine = machine; state = state; under = Some (underway p); events = events; lines = lines; counts = counts; flaw = flaw }
@@ -60,8 +66,8 @@ module _ (machine : Machine) (state state' : SessionState) (events lines : ℕ) 
   abbrev after : CheckerValue
   after = record { machine = machine; state = state'; under = None; events = events; lines = lines; counts = counts; flaw = flaw }
 
-  pub taken-more : IsPending p → entries.items_of q ≡ closed (entries.items_of p) p.tree → IsAccepted machine state (entry q.event q.items.items) state' → (told : List LogLine) → HasTaken before told → HasTaken after told
-  taken-more pending ended accepted told h =
+  pub taken-more : IsPending p → entries.items_of q ≡ closed (entries.items_of p) p.tree → IsAccepted machine state (entry q.event q.items.items) state' → LeadsTo machine state q.event q.items.items state' → AreInPlaces q.items.items → (told : List LogLine) → HasTaken before told → HasTaken after told
+  taken-more pending ended accepted only places told h =
       let last : Section = record { event = q.event; items = q.items.items } in
       let all_items : items_of (h.sections ++ last ∷ []) ≡ items_of h.sections ++ entries.items_of q = flat_map-append section_items h.sections (last ∷ []) ∙ ap (λ is. items_of h.sections ++ is) (append-nil (section_items last)) in
       let log : IsLog (section_items last) = subst IsLog (sym ended) (closed_log (entries.items_of p) p.tree (next_of (lines_of p)) pending.gathered) in
@@ -71,7 +77,11 @@ module _ (machine : Machine) (state state' : SessionState) (events lines : ℕ) 
       record {
         sections = h.sections ++ last ∷ [];
         logs = All-append (λ s. IsLog (section_items s)) h.sections (last ∷ []) h.logs (All-from_recursion (λ s. IsLog (section_items s)) (last ∷ []) (log, tt));
+        plain = All-append (λ s. ArePlain s.items) h.sections (last ∷ []) h.plain
+            (All-from_recursion (λ s. ArePlain s.items) (last ∷ []) (plain_closed p.event q.event p.items.items q.items.items p.tree ended pending.plain, tt));
+        places = All-append (λ s. AreInPlaces s.items) h.sections (last ∷ []) h.places (All-from_recursion (λ s. AreInPlaces s.items) (last ∷ []) (places, tt));
         accepted = subst (λ es. AreAccepted machine empty_state es state') (sym (map-append (λ (s : Section). entry s.event s.items) h.sections (last ∷ [])))
             (one_more machine (entries_of h.sections) (entry q.event q.items.items) empty_state state state' h.accepted accepted);
+        only = lead-more machine h.sections last empty_state state state' h.only only;
         lines = h.lines ∙ sym all_lines ∙ sym (append-nil (log_lines (items_of (h.sections ++ last ∷ []))));
       }

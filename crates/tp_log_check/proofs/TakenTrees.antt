@@ -25,7 +25,7 @@ behind-note : (told : Record) (items : List Item) (b : Bool) → trees_in (behin
 behind-note told items true same = same
 behind-note told items false same = refl
 
-trees-behind : (items : List Item) → trees_in (behind_asides items) ≡ trees_in items
+pub trees-behind : (items : List Item) → trees_in (behind_asides items) ≡ trees_in items
 trees-behind [] = refl
 trees-behind (Event event ∷ items) = refl
 trees-behind (Tree tree ∷ items) = refl
@@ -35,11 +35,11 @@ trees-notes : (records : List Record) (items : List Item) → trees_in (notes re
 trees-notes [] items = refl
 trees-notes (r ∷ records) items = trees-notes records items
 
-trees-told : (items rest : List Item) (records : List Record) → behind_asides items ≡ notes records ++ rest → trees_in items ≡ trees_in rest
+pub trees-told : (items rest : List Item) (records : List Record) → behind_asides items ≡ notes records ++ rest → trees_in items ≡ trees_in rest
 trees-told items rest records told = sym (trees-behind items) ∙ ap trees_in told ∙ trees-notes records rest
 
 module _ (machine : Machine) (plans : List Plan) (ask : Ask) (items rest : List Item) (plans' : List Plan) where
-  takes-answer : (reply : Reply) → Tells machine plans ask items reply plans' rest → TakesTree bound_claims machine plans ask reply plans' (trees_in items) (trees_in rest)
+  pub takes-answer : (reply : Reply) → Tells machine plans ask items reply plans' rest → TakesTree bound_claims machine plans ask reply plans' (trees_in items) (trees_in rest)
   takes-answer Planned t =
       let (tree, (plan, found, proves, shown)) = t.shows in
       (tree, (plan, found, proves, trees-told items (t.shown ++ rest) (told_of_reply machine plans ask Planned plans') t.told ∙ ap (λ xs. trees_in (xs ++ rest)) shown))

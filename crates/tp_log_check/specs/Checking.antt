@@ -1,11 +1,12 @@
 -- What a checker of logs is seen as, and what it has read.
-use Rattle.std.specs.Prelude.{◌≡◌, ℕ, ◌+◌, ◌≤◌, true, List, [], ◌∷◌, ◌++◌, map, flat_map, All, Option, Some, None, IfSome}
+use Rattle.std.specs.Prelude.{◌≡◌, ℕ, ◌+◌, ◌≤◌, true, List, [], ◌∷◌, ◌++◌, map, flat_map, All, Option, Some, None, IfSome, if◌then◌else◌}
 use Rattle.tp_bounds.specs.declared.tree.BoundTree.{BoundTree}
 use Rattle.tp_entries.specs.Counting.{counts_of}
-use Rattle.tp_entries.specs.Gathered.{IsPending}
+use Rattle.tp_entries.specs.Gathered.{ArePlain, IsPending}
 use Rattle.tp_entries.specs.declared.counts.Counts.{Counts}
 use Rattle.tp_entries.specs.declared.pending.Pending.{Pending}
 use Rattle.tp_log.specs.Gathering.{lines_with, log_lines}
+use Rattle.tp_log.specs.LogLines.{is_event}
 use Rattle.tp_log.specs.Logs.{IsLog}
 use Rattle.tp_log.specs.declared.item.Item.{Item}
 use Rattle.tp_log.specs.declared.item.Item.TheVariants.{Event}
@@ -17,6 +18,7 @@ use Rattle.tp_turn.specs.Logs.{Entry, IsLawful, spent_on_trust}
 use Rattle.tp_turn.specs.Ready.{CanTakeEvents, KeepsStock}
 use Rattle.tp_turn.specs.States.{SessionState, empty_state}
 use Rattle.tp_log_check.specs.Judging.{entry}
+use Rattle.tp_log_check.specs.Lawful.{AreInPlaces, IsLawfulLog, LeadsTo}
 use Rattle.tp_log_check.specs.declared.flaw.Flaw.{Flaw}
 
 -- the event that is under way: the number of its line, the items behind it, and the tree to which lines may still come
@@ -65,6 +67,10 @@ pub record AreWithin (lines : ℕ) (counts : Counts) : Type 0 where
   pub nones : counts.nones ≤ lines
   pub budgets : counts.budgets ≤ lines
 
+-- how many lines of events a line is
+abbrev pub events_in : LogLine → ℕ
+events_in told = if is_event told then 1 else 0
+
 -- ---- what was read
 
 -- an event, and the items behind it
@@ -81,6 +87,11 @@ items_of sections = flat_map section_items sections
 abbrev pub entries_of : List Section → List (Entry BoundTree)
 entries_of sections = map (λ s. entry s.event s.items) sections
 
+-- each turn by the items of these events leads from the one live state to the other
+abbrev pub LeadOn : Machine → SessionState → List Section → SessionState → Type 0
+LeadOn machine s [] s' = s' ≡ s
+LeadOn machine s (section ∷ sections) s' = (mid : SessionState) × LeadsTo machine s section.event section.items mid × LeadOn machine mid sections s'
+
 -- the lines of the event that is under way
 abbrev pub lines_under : Option Underway → List LogLine
 lines_under None = []
@@ -90,18 +101,24 @@ lines_under (Some u) = lines_with (Event u.event ∷ u.items) u.tree
 pub record HasTaken (c : CheckerValue) (told : List LogLine) : Type 0 where
   pub sections : List Section
   pub logs : All (λ s. IsLog (section_items s)) sections
+  pub plain : All (λ s. ArePlain s.items) sections
+  pub places : All (λ s. AreInPlaces s.items) sections
   pub accepted : AreAccepted c.machine empty_state (entries_of sections) c.state
+  pub only : LeadOn c.machine empty_state sections c.state
   pub lines : told ≡ log_lines (items_of sections) ++ lines_under c.under
 
--- these lines were fed, and they are counted
+-- these lines were fed, and they are counted. Nothing is wrong with them, and the last event is under way
 pub record HasRead (c : CheckerValue) (told : List LogLine) : Type 0 where
   pub taken : HasTaken c told
   pub counted : c.counts ≡ counts_of told
+  pub flawless : c.flaw ≡ None
+  pub begun : c.under ≡ None → told ≡ []
 
--- the lines are those of a log that is lawful with bounds, but for the causes of its budgets, and has these counts
+-- the lines are those of a log that is lawful with bounds, but for the causes of its budgets, and has these counts. Each tree is in its place
 pub record IsAcceptedLog (machine : Machine) (told : List LogLine) (counts : Counts) : Type 0 where
   pub sections : List Section
   pub log : IsLog (items_of sections)
   pub lines : told ≡ log_lines (items_of sections)
   pub lawful : IsLawful bound_claims true spent_on_trust machine (map (λ e. e.event) (entries_of sections)) (entries_of sections)
   pub counted : counts ≡ counts_of told
+  pub places : IsLawfulLog machine told

@@ -1,3 +1,4 @@
 pub mod FlawText
 pub mod Judging
+pub mod Lawful
 pub mod Checking

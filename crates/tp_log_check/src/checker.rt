@@ -1,6 +1,6 @@
 //! A log looked at line by line.
 
-ghost use Rattle.std.specs.Prelude.{◌≡◌, ◌≢◌, ◌+◌, ◌<◌, ◌^◌, ◌++◌, ◌∷◌, [], List, Some, None, Err, false, OnOk, OnErr, IfOk, IfErr, length};
+ghost use Rattle.std.specs.Prelude.{◌≡◌, ◌≢◌, ◌+◌, ◌<◌, ◌^◌, ◌++◌, ◌∷◌, [], List, Some, None, Err, false, OnOk, OnErr, IfOk, IfErr, IsSome, length};
 ghost use Rattle.std.specs.Bool.{MatchBool};
 ghost use Rattle.tp_log.specs.LogLines.{IsLogLine, is_event, log_line_text};
 ghost use Rattle.tp_log.specs.declared.log_line.LogLine.{LogLine};
@@ -75,13 +75,16 @@ impl Model for LogChecker {
 }
 
 impl LogChecker {
-    ghost use Rattle.tp_log_check.specs.Checking.{HasRead, HasTaken, IsAcceptedLog, most_events};
+    ghost use Rattle.tp_log.specs.LogLines.{AreInOrder};
+    ghost use Rattle.tp_log_check.specs.Checking.{HasRead, HasTaken, IsAcceptedLog, events_in, most_events};
+    ghost use Rattle.tp_log_check.specs.Lawful.{EndEvent, IsLawfulLog};
 
     /// Before the first line of a log of the machine.
     pub fn new(alloc: Global, machine: Machine) -> Result<LogChecker, Memory>
         ensures read { IfOk result (λ c. HasRead c []) }
         ensures machine { IfOk result (λ c. c.machine ≡ machine) }
         ensures flawless { IfOk result (λ c. c.flaw ≡ None) }
+        ensures none { IfOk result (λ c. c.events ≡ 0) }
     {
         empty_state_can_begin();
         Ok(LogChecker {
@@ -107,6 +110,9 @@ impl LogChecker {
     fn end_event(&mut self) -> Result<(), Flaw>
         ensures taken { OnOk result ((told : List LogLine) → HasTaken self.old told
             → HasTaken self.new told) }
+        ensures refused { IfErr result (λ flaw. flaw ≢ WantsMemory → (told more : List LogLine)
+            → HasTaken self.old told → EndEvent more
+            → IsLawfulLog self.old.machine (told ++ more) → ⊥) }
         ensures ended { OnOk result (self.new.under ≡ None) }
         ensures machine { self.new.machine ≡ self.old.machine }
         ensures events { self.new.events ≡ self.old.events }
@@ -114,7 +120,8 @@ impl LogChecker {
         ensures counts { self.new.counts ≡ self.old.counts }
         ensures flawless { OnOk result (self.new.flaw ≡ self.old.flaw) }
         ensures memory { IfErr result (λ flaw. flaw ≡ WantsMemory → self.new ≡ self.old) }
-        ensures kept { IfErr result (λ flaw. flaw ≢ WantsMemory → self.new.flaw ≡ Some flaw) }
+        ensures kept { IfErr result (λ flaw. flaw ≢ WantsMemory
+            → self.new.flaw ≡ Some flaw) }
     {
         let Some(mut pending) = self.pending.take() else {
             return Ok(());
@@ -144,13 +151,18 @@ impl LogChecker {
         requires echoed { IsEchoed event }
         ensures taken { OnOk result ((told : List LogLine) → HasTaken self.old told
             → HasTaken self.new (told ++ EventLine event ∷ [])) }
+        ensures refused { IfErr result (λ flaw. flaw ≢ WantsMemory → (told more : List LogLine)
+            → HasTaken self.old told
+            → IsLawfulLog self.old.machine (told ++ EventLine event ∷ more) → ⊥) }
+        ensures begun { OnOk result (IsSome self.new.under) }
         ensures machine { self.new.machine ≡ self.old.machine }
         ensures events { OnOk result (self.new.events ≡ self.old.events + 1) }
         ensures lines { self.new.lines ≡ self.old.lines }
         ensures counts { self.new.counts ≡ self.old.counts }
         ensures flawless { OnOk result (self.new.flaw ≡ self.old.flaw) }
         ensures memory { IfErr result (λ flaw. flaw ≡ WantsMemory → self.new ≡ self.old) }
-        ensures kept { IfErr result (λ flaw. flaw ≢ WantsMemory → self.new.flaw ≡ Some flaw) }
+        ensures kept { IfErr result (λ flaw. flaw ≢ WantsMemory
+            → self.new.flaw ≡ Some flaw) }
     {
         match self.end_event() {
             Ok(()) => {
@@ -194,6 +206,12 @@ impl LogChecker {
         ensures taken { IfOk result (λ stands. MatchBool stands ((before : List LogLine)
             → HasTaken self.old before → HasTaken self.new (before ++ told ∷ []))
             (self.new ≡ self.old)) }
+        ensures refused { IfOk result (λ stands. MatchBool stands (Unit {0})
+            ((before : List LogLine) → HasTaken self.old before
+            → (self.old.under ≡ None → before ≡ [])
+            → AreInOrder (before ++ told ∷ []) → ⊥)) }
+        ensures begun { IfOk result (λ stands. MatchBool stands
+            (IsSome self.new.under) (Unit {0})) }
         ensures memory { OnErr result (self.new ≡ self.old) }
         ensures machine { self.new.machine ≡ self.old.machine }
         ensures events { self.new.events ≡ self.old.events }
@@ -221,12 +239,19 @@ impl LogChecker {
         requires line { IsLogLine told }
         ensures taken { OnOk result ((before : List LogLine) → HasTaken self.old before
             → HasTaken self.new (before ++ told ∷ [])) }
+        ensures refused { IfErr result (λ flaw. flaw ≢ WantsMemory
+            → (before more : List LogLine)
+            → HasTaken self.old before → (self.old.under ≡ None → before ≡ [])
+            → IsLawfulLog self.old.machine (before ++ told ∷ more) → ⊥) }
+        ensures begun { OnOk result (IsSome self.new.under) }
         ensures machine { self.new.machine ≡ self.old.machine }
+        ensures events { OnOk result (self.new.events ≡ self.old.events + events_in told) }
         ensures lines { OnOk result (self.new.lines ≡ self.old.lines) }
         ensures counts { OnOk result (self.new.counts ≡ self.old.counts) }
         ensures flawless { OnOk result (self.new.flaw ≡ self.old.flaw) }
         ensures memory { IfErr result (λ flaw. flaw ≡ WantsMemory → self.new ≡ self.old) }
-        ensures kept { IfErr result (λ flaw. flaw ≢ WantsMemory → self.new.flaw ≡ Some flaw) }
+        ensures kept { IfErr result (λ flaw. flaw ≢ WantsMemory
+            → self.new.flaw ≡ Some flaw) }
     {
         match told {
             LogLine::Event(event) => self.begin(line, event),
@@ -239,16 +264,25 @@ impl LogChecker {
     }
 
     /// Takes the log's next line, given with its LF. What is told of an event is looked at as the next event's line comes, or a line off the
-    /// grammar. After `Memory` all is as before; after any other flaw each later call answers it again.
+    /// grammar. With a flaw other than `Memory` no lawful log begins with the lines so far. After `Memory` all is as before; after any other
+    /// flaw each later call answers it again.
     pub fn feed(&mut self, line: &[u8]) -> Result<(), Flaw>
         requires few { self.old.events < most_events }
         requires short { length line.now + 1 < 2 ^ 32 }
         ensures read { OnOk result ((told : LogLine) × IsLogLine told
-            × (line.now ≡ log_line_text told) × ((before : List LogLine) → HasRead self.old before
+            × (line.now ≡ log_line_text told) ×
+            ((before : List LogLine) → HasRead self.old before
             → HasRead self.new (before ++ told ∷ []))) }
+        ensures events { OnOk result ((told : LogLine) × (line.now ≡ log_line_text told)
+            × (self.new.events ≡ self.old.events + events_in told)) }
+        ensures refused { IfErr result (λ flaw. flaw ≢ WantsMemory
+            → (before more : List LogLine)
+            → (told : LogLine) → HasRead self.old before → line.now ≡ log_line_text told
+            → IsLawfulLog self.old.machine (before ++ told ∷ more) → ⊥) }
         ensures machine { self.new.machine ≡ self.old.machine }
         ensures memory { IfErr result (λ flaw. flaw ≡ WantsMemory → self.new ≡ self.old) }
-        ensures kept { IfErr result (λ flaw. flaw ≢ WantsMemory → self.new.flaw ≡ Some flaw) }
+        ensures kept { IfErr result (λ flaw. flaw ≢ WantsMemory
+            → self.new.flaw ≡ Some flaw) }
         ensures again { (flaw : Flaw) → self.old.flaw ≡ Some flaw → result ≡ Err flaw }
     {
         if let Some(flaw) = self.flaw {
@@ -275,12 +309,15 @@ impl LogChecker {
         }
     }
 
-    /// Ends the log. After `Memory` all is as before; after any other flaw each later call answers it again.
+    /// Ends the log. With a flaw other than `Memory` it is no lawful one. After `Memory` all is as before; after any other flaw each later call answers it again.
     pub fn finish(&mut self) -> Result<Counts, Flaw>
         ensures lawful { IfOk result (λ counts. (told : List LogLine) → HasRead self.old told
             → IsAcceptedLog self.old.machine told counts) }
+        ensures refused { IfErr result (λ flaw. flaw ≢ WantsMemory → (told : List LogLine)
+            → HasRead self.old told → IsLawfulLog self.old.machine told → ⊥) }
         ensures memory { IfErr result (λ flaw. flaw ≡ WantsMemory → self.new ≡ self.old) }
-        ensures kept { IfErr result (λ flaw. flaw ≢ WantsMemory → self.new.flaw ≡ Some flaw) }
+        ensures kept { IfErr result (λ flaw. flaw ≢ WantsMemory
+            → self.new.flaw ≡ Some flaw) }
         ensures again { (flaw : Flaw) → self.old.flaw ≡ Some flaw → result ≡ Err flaw }
     {
         if let Some(flaw) = self.flaw {

@@ -1,7 +1,9 @@
 //! Whether what is told of an event is what its turn tells.
 
-ghost use Rattle.std.specs.Prelude.{◌≡◌, ◌+◌, ◌≤◌, ℕ, [], IfOk, IfSome, IsNone, drop, length};
+ghost use Rattle.std.specs.Prelude.{◌≡◌, ◌↔◌, ◌+◌, ◌≤◌, ℕ, [], IfOk, IfSome, IsNone, MatchOption, drop, length};
+ghost use Rattle.tp_entries.specs.Gathered.{ArePlain};
 ghost use Rattle.tp_log_check.specs.Judging.{entry, trees_in};
+ghost use Rattle.tp_log_check.specs.Lawful.{AreInPlaces, HasNoTurn, LeadsTo};
 ghost use Rattle.tp_log_runs.specs.Accepting.{IsAccepted};
 ghost use Rattle.tp_runs.specs.Proved.{records_in};
 ghost use Rattle.tp_turn.specs.LiveStates.{seen};
@@ -11,7 +13,7 @@ use crate::parting::{find_parting, find_tree};
 use std::alloc::Global;
 use tp_base::Memory;
 use tp_log::Item;
-use tp_log_runs::told_turns_are_whole;
+use tp_log_runs::{lawful_turns_are_accepted, told_turns_are_whole};
 use tp_machine::Machine;
 use tp_schedule::{Halt, Record};
 use tp_script::Event;
@@ -32,7 +34,7 @@ fn due(item: usize) -> Stop
 fn judge_done(notes: &[Record], items: &[Item], at: usize) -> Option<Stop>
     requires { at ≤ length items.now }
     ensures right { IsNone result
-        → (notes.now ≡ records_in items.now) × (trees_in (drop at items.now) ≡ []) }
+        ↔ ((notes.now ≡ records_in items.now) × (trees_in (drop at items.now) ≡ [])) }
 {
     match (find_parting(notes, items), find_tree(items, at)) {
         (None, None) => None,
@@ -50,7 +52,8 @@ fn judge_stopped(notes: &[Record], told: &Told) -> Stop {
     }
 }
 
-/// Does the turn of the event with the answers that are told, and says what is wrong. After want of memory, or where something is
+/// Does the turn of the event with the answers that are told, and says what is wrong, which is nothing exactly where a lawful log may tell
+/// these items of it. After want of memory, or where something is
 /// wrong, nothing is known of the state, but its lines keep their mark.
 pub(crate) fn judge(
     alloc: Global,
@@ -62,8 +65,14 @@ pub(crate) fn judge(
     requires can { CanTakeEvents machine.now last_copy (seen state.old) }
     requires stocked { KeepsStock machine.now last_copy (seen state.old) }
     requires begins { told.old.at ≡ 0 }
-    ensures accepted { IfOk result (λ found. IsNone found → IsAccepted machine.now (seen state.old)
+    ensures accepted { IfOk result (λ found. IsNone found
+        → IsAccepted machine.now (seen state.old)
         (entry event.now told.old.items) (seen state.new)) }
+    ensures only { IfOk result (λ found. MatchOption found
+        (LeadsTo machine.now (seen state.old) event.now told.old.items (seen state.new))
+        (λ stop. HasNoTurn machine.now (seen state.old) event.now told.old.items)) }
+    ensures places { IfOk result (λ found. IsNone found → ArePlain told.old.items
+        → AreInPlaces told.old.items) }
     ensures kept { IfOk result (λ found. IsNone found → (copies : ℕ)
         → CanTakeEvents machine.now copies (seen state.old)
         → CanTakeEvents machine.now (copies + 1) (seen state.new)) }
@@ -73,6 +82,7 @@ pub(crate) fn judge(
     ensures items { told.new.items ≡ told.old.items }
     ensures marked { state.new.lines.kept ≡ state.old.lines.kept }
 {
+    lawful_turns_are_accepted();
     told_turns_are_whole::<Told>();
     turns_keep_stock::<Told>();
     let mut notes = Vec::new(alloc);

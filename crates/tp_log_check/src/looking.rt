@@ -1,8 +1,9 @@
 //! The event that is under way looked at, and the state as it was where something is wrong.
 
 ghost use Rattle.std.specs.Prelude.{◌≡◌, ◌+◌, ℕ, IfOk, OnErr, IsNone, MatchOption};
-ghost use Rattle.tp_entries.specs.Gathered.{IsSame};
+ghost use Rattle.tp_entries.specs.Gathered.{ArePlain, IsSame};
 ghost use Rattle.tp_log_check.specs.Judging.{entry};
+ghost use Rattle.tp_log_check.specs.Lawful.{AreInPlaces, HasNoTurn, LeadsTo};
 ghost use Rattle.tp_log_runs.specs.Accepting.{IsAccepted};
 ghost use Rattle.tp_turn.specs.LiveStates.{seen};
 ghost use Rattle.tp_turn.specs.Ready.{CanTakeEvents, KeepsStock, last_copy};
@@ -30,6 +31,13 @@ pub(crate) fn look(
         (IsAccepted machine.now (seen state.old)
         (entry pending.old.event pending.old.items.items) (seen state.new))
         (λ stop. seen state.new ≡ seen state.old)) }
+    ensures only { IfOk result (λ found. MatchOption found
+        (LeadsTo machine.now (seen state.old) pending.old.event pending.old.items.items
+        (seen state.new))
+        (λ stop. HasNoTurn machine.now (seen state.old) pending.old.event
+        pending.old.items.items)) }
+    ensures places { IfOk result (λ found. IsNone found
+        → ArePlain pending.old.items.items → AreInPlaces pending.old.items.items) }
     ensures kept { IfOk result (λ found. IsNone found → (copies : ℕ)
         → CanTakeEvents machine.now copies (seen state.old)
         → CanTakeEvents machine.now (copies + 1) (seen state.new)) }

@@ -30,7 +30,8 @@ fn behind_record<'a>(due: &'a [Record], told: &Record) -> Option<&'a [Record]>
 
 /// What is due behind the item, if its record is due.
 fn behind<'a>(due: &'a [Record], item: &Item) -> Option<&'a [Record]>
-    ensures { MatchOption result ((rest : List Item) → due.now ≡ records_in (item.now ∷ rest) → ⊥)
+    ensures { MatchOption result ((rest : List Item)
+        → due.now ≡ records_in (item.now ∷ rest) → ⊥)
         (λ left. (rest : List Item) → (due.now ≡ records_in (item.now ∷ rest))
         ↔ (left.now ≡ records_in rest)) }
 {

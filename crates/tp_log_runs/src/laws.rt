@@ -2,6 +2,7 @@
 
 ghost use Rattle.tp_machine.specs.declared.machine.Machine.{Machine};
 ghost use Rattle.tp_log_runs.specs.Accepting.{AcceptedLogsLawful, AcceptedTurnsComeBack, OneMoreAccepted, TurnsAccepted};
+ghost use Rattle.tp_log_runs.specs.Following.{LawfulTurnsAccepted};
 
 use tp_schedule::Planner;
 
@@ -21,4 +22,10 @@ pub fn accepted_turns_come_back()
 pub fn accepted_logs_are_lawful()
     ensures lawful { (machine : Machine) → AcceptedLogsLawful machine }
     ensures more { (machine : Machine) → OneMoreAccepted machine }
+{}
+
+/// Where the event of an entry has a turn of right answers on a whole state, its budgets on trust, the planner that is told the entry's records
+/// and trees never stops in the turn on the live part, and tells and leaves the same.
+pub fn lawful_turns_are_accepted()
+    ensures { (machine : Machine) → LawfulTurnsAccepted machine }
 {}

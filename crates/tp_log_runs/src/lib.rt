@@ -3,4 +3,7 @@
 
 mod laws;
 
-pub use laws::{accepted_logs_are_lawful, accepted_turns_come_back, told_turns_are_whole};
+pub use laws::{
+    accepted_logs_are_lawful, accepted_turns_come_back, lawful_turns_are_accepted,
+    told_turns_are_whole,
+};

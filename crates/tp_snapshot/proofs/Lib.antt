@@ -12,3 +12,14 @@ pub mod ListsBack
 pub mod PlansBack
 pub mod ToldBack
 pub mod OneTold
+pub mod ReadFacts
+pub mod MomentsRead
+pub mod PartsRead
+pub mod PlansRead
+pub mod Soundness
+pub mod RuleFacts
+pub mod Verdicts
+pub mod ReadBack
+pub mod OneLine
+pub mod PlainData
+pub mod Passing

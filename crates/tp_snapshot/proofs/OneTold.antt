@@ -13,7 +13,7 @@ use Rattle.tp_snapshot.specs.Plans.{plans_of}
 use Rattle.tp_snapshot.specs.Told.{IsToldBy, Tells}
 use Rattle.tp_snapshot.specs.Waiting.{waiting_of}
 
-one : (m : Machine) (d : Data) (t t' : Standing) → IsToldBy m d t → IsToldBy m d t' → t ≡ t'
+pub one : (m : Machine) (d : Data) (t t' : Standing) → IsToldBy m d t → IsToldBy m d t' → t ≡ t'
 one m d t t' a b =
     let now = both (now_of d) t.now t'.now a.now b.now in
     let outs = both (outs_of m d) t.outs t'.outs a.outs b.outs in

@@ -9,7 +9,7 @@ use Rattle.tp_snapshot.specs.Jobs.{jobs_of}
 use Rattle.tp_snapshot.specs.Told.{TellsNone}
 use Rattle.tp_snapshot.specs.Waiting.{waiting_of}
 
-none-some : {X : Type 0} (o : Option X) (x : X) → o ≡ None → o ≡ Some x → ⊥
+pub none-some : {X : Type 0} (o : Option X) (x : X) → o ≡ None → o ≡ Some x → ⊥
 none-some o x none some = let apart : None ≡ Some x = sym none ∙ some in absurd cc
 
 pub both : {X : Type 0} (o : Option X) (x y : X) → o ≡ Some x → o ≡ Some y → x ≡ y

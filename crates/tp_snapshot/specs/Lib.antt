@@ -7,4 +7,5 @@ pub mod Waiting
 pub mod Plans
 pub mod Texts
 pub mod Told
+pub mod Rules
 pub mod Laws

@@ -1,10 +1,10 @@
-/// Why bytes tell no standing of a machine.
+/// Why bytes are no snapshot.
 #[derive(Clone, Copy, PartialEq, Eq, Debug)]
-pub enum TellFault {
+pub enum SnapFault {
     /// Memory ran out. It says nothing of the bytes.
     Memory,
     /// The bytes are no JSON.
     NotJson,
-    /// Their value tells no standing of the machine.
-    Untold,
+    /// The number of the first rule, from 1 to 10, that the bytes break.
+    Rule(u8),
 }

@@ -17,7 +17,7 @@ mod standing;
 mod waiting;
 mod writing;
 
-pub use fault::TellFault;
-pub use laws::standings_are_read_back;
-pub use reading::read_standing;
+pub use fault::SnapFault;
+pub use laws::{snapshots_are_read_back, standings_are_read_back};
+pub use reading::{Opened, read_snapshot};
 pub use writing::write_snapshot;

@@ -1,6 +1,6 @@
 //! What a value of JSON is read as.
-ghost use Rattle.std.specs.Prelude.{◌≡◌, map, option_map};
-ghost use Rattle.serde_json.specs.Find.{as_bool, get};
+ghost use Rattle.std.specs.Prelude.{◌≡◌, is_some, map, option_map};
+ghost use Rattle.serde_json.specs.Find.{as_bool, as_str, get};
 ghost use Rattle.serde_json.specs.View.{view};
 ghost use Rattle.tp_snapshot.specs.Values.{field_of, has_members, list_of, name_in, whole_of};
 
@@ -12,6 +12,13 @@ pub(crate) fn value_at<'a>(value: &'a Value, key: &str) -> Option<&'a Value>
     ensures { option_map (λ v. view v.now) result ≡ get key.now (view value.now) }
 {
     value.get(key)
+}
+
+/// Whether there is a value at a key.
+pub(crate) fn has_key(value: &Value, key: &str) -> bool
+    ensures { result ≡ is_some (get key.now (view value.now)) }
+{
+    value_at(value, key).is_some()
 }
 
 /// Whether it is an object of so many members.
@@ -29,6 +36,13 @@ pub(crate) fn truth_at(value: &Value, key: &str) -> Option<bool>
     ensures { result ≡ field_of key.now as_bool (view value.now) }
 {
     value_at(value, key)?.as_bool()
+}
+
+/// The text at a key.
+pub(crate) fn text_at<'a>(value: &'a Value, key: &str) -> Option<&'a str>
+    ensures { option_map (λ text. text.now) result ≡ field_of key.now as_str (view value.now) }
+{
+    value_at(value, key)?.as_str()
 }
 
 /// The values of the array at a key.

@@ -10,7 +10,8 @@ use tp_jobs::JobRow;
 
 /// The names of the jobs, in their order, where no two have one name.
 pub(crate) fn names_of(alloc: Global, jobs: &[JobRow]) -> Result<Option<IndexSet<Name>>, Memory>
-    ensures names { IfOk result (λ read. IfSome read (λ names. names.keys ≡ names_of jobs.now)) }
+    ensures names { IfOk result (λ read. IfSome read
+        (λ names. names.keys ≡ names_of jobs.now)) }
     ensures differ { IfOk result (λ read. IfSome read (λ _. DoNamesDiffer jobs.now)) }
     ensures none { IfOk result (λ read. read ≡ None → ¬ DoNamesDiffer jobs.now) }
 {

@@ -1,7 +1,8 @@
 //! A snapshot written.
-ghost use Rattle.std.specs.Prelude.{◌≡◌, IfOk, IsUtf8, codes};
+ghost use Rattle.std.specs.Prelude.{◌≡◌, IfOk, IsUtf8, codes, true};
 ghost use Rattle.serde_json.specs.Data.{member, no_members, object};
 ghost use Rattle.serde_json.specs.View.{view};
+ghost use Rattle.tp_words.specs.Parts.{lacks};
 ghost use Rattle.tp_standing.specs.Sound.{IsSound};
 ghost use Rattle.tp_snapshot.specs.Texts.{HasNames, IsWritten};
 ghost use Rattle.tp_snapshot.specs.Written.{snapshot_data, whole_data};
@@ -89,7 +90,8 @@ pub fn write_snapshot(
     standing: &Standing,
 ) -> Result<Vec<u8>, Memory>
     requires { IsSound machine.now standing.now }
-    ensures { IfOk result (λ bytes. IsWritten bytes.items machine.now standing.entry.now) }
+    ensures written { IfOk result (λ bytes. IsWritten bytes.items machine.now standing.entry.now) }
+    ensures one_line { IfOk result (λ bytes. lacks 10 bytes.items ≡ true) }
 {
     let text = print_machine(alloc, machine)?;
     let value = snapshot_value(alloc, text.as_slice(), machine, standing)?;

@@ -29,7 +29,8 @@ fn act_named(machine: &Machine, name: &Name) -> Option<ActId>
 pub(crate) fn add_named(machine: &Machine, names: &[Name], acts: &mut Acts) -> bool
     requires { length acts.old + length names.now ≤ 64 }
     ensures { MatchBool result
-        ((ids : List ActId) × (acts.new ≡ acts.old ++ ids) × HaveNames machine.now names.now ids)
+        ((ids : List ActId) × (acts.new ≡ acts.old ++ ids)
+        × HaveNames machine.now names.now ids)
         ((ids : List ActId) → HaveNames machine.now names.now ids → ⊥) }
 {
     if let [name, later @ ..] = names {

@@ -1,17 +1,19 @@
 -- A turn whose notes are the records of the items, and which leaves no tree, accepts them.
-use Rattle.std.proofs.Common.{◌≡◌, [], ◌++◌, drop, sym, ap, ◌∙◌}
+use Rattle.std.proofs.Common.{rules, ◌≡◌, [], ◌++◌, drop, sym, ap, ◌∙◌}
 use Rattle.tp_runs.specs.Proved.{records_in}
 use Rattle.tp_told.specs.Telling.{ahead}
 use Rattle.tp_turn.specs.LiveStates.{seen}
 use Rattle.tp_turn.specs.Ready.{last_copy}
 use Rattle.tp_log_check.specs.Judging.{trees_in}
+use Rattle.tp_log_check.proofs.Judged.{judged-done, judged-stopped}
+use Rattle.tp_log_check.proofs.PlacedTurns.{judged-places}
 use Rattle.tp_log_check.proofs.TakenTrees.{accepted-as, takes-trees}
 use Rattle.tp_log_check.proofs.judging.judge.Goals as goal
 
 pub returns-in-Ok-clause-accepted : goal.returns-in-Ok-clause-accepted
 returns-in-Ok-clause-accepted c none whole behind =
     let noted = c.in-Ok.ensures.turn in
-    let right = c.judge_done.ensures.right none in
+    let right = c.judge_done.ensures.right.0 none in
     let told = c.args.told.now in
     let told' = c.take_event.new.planner in
     let same_items : told'.items ≡ told.items = c.in-Ok.ensures.lasts in
@@ -27,3 +29,36 @@ pub returns-in-Ok-clause-stocked : goal.returns-in-Ok-clause-stocked
 returns-in-Ok-clause-stocked c none events keeps =
     let noted = c.in-Ok.ensures.turn in
     c.turns_keep_stock.ensures c.args.machine.now last_copy events c.args.event.now (seen c.args.state.now) c.args.told.now noted.0 (seen c.take_event.new.state) c.take_event.new.planner c.requires.can.kept noted.2 keeps
+
+pub returns-in-Ok-clause-only : goal.returns-in-Ok-clause-only
+returns-in-Ok-clause-only c =
+    let machine = c.args.machine.now in
+    let noted = c.in-Ok.ensures.turn in
+    let told = c.args.told.now in
+    let told' = c.take_event.new.planner in
+    let same_items : told'.items ≡ told.items = c.in-Ok.ensures.lasts in
+    let seen_items : c.items.result.now ≡ told.items = c.items.ensures ∙ same_items in
+    let all : c.as_slice.result.now ≡ noted.0 = c.as_slice.ensures.value ∙ noted.1 ∙ ap (λ notes. notes ++ noted.0) c.new-notes.ensures.items in
+    let left : trees_in (ahead told') ≡ trees_in (drop c.at.result c.items.result.now) = (λ i. trees_in (drop (sym c.at.ensures.at i) (sym c.items.ensures i))) in
+    judged-done machine (c.lawful_turns_are_accepted.ensures machine) last_copy (seen c.args.state.now) c.requires.can c.args.event.now told c.requires.begins noted.0 (seen c.take_event.new.state) told' noted.2 c.judge_done.result (
+      λ none. (let right = c.judge_done.ensures.right.0 none in (sym all ∙ right.0 ∙ ap records_in seen_items, left ∙ right.1)),
+      λ both. c.judge_done.ensures.right.1 (all ∙ both.0 ∙ ap records_in (sym seen_items), sym left ∙ both.1),
+    )
+
+pub returns-in-Ok-clause-places : goal.returns-in-Ok-clause-places
+returns-in-Ok-clause-places c none plain =
+    let noted = c.in-Ok.ensures.turn in
+    let right = c.judge_done.ensures.right.0 none in
+    let told = c.args.told.now in
+    let told' = c.take_event.new.planner in
+    let same_items : told'.items ≡ told.items = c.in-Ok.ensures.lasts in
+    let seen_items : c.items.result.now ≡ told.items = c.items.ensures ∙ same_items in
+    let all : c.as_slice.result.now ≡ noted.0 = c.as_slice.ensures.value ∙ noted.1 ∙ ap (λ notes. notes ++ noted.0) c.new-notes.ensures.items in
+    let records : noted.0 ≡ records_in told.items = sym all ∙ right.0 ∙ ap records_in seen_items in
+    let rest : trees_in (ahead told') ≡ [] = (λ i. trees_in (drop (sym c.at.ensures.at i) (sym c.items.ensures i))) ∙ right.1 in
+    judged-places c.args.machine.now last_copy (seen c.args.state.now) c.requires.can c.args.event.now told c.requires.begins noted.0 (seen c.take_event.new.state) told' noted.2 records rest same_items plain
+
+pub returns-in-Err-Stopped-clause-only : goal.returns-in-Err-Stopped-clause-only
+returns-in-Err-Stopped-clause-only c =
+    let stops = c.in-Err-Stopped.ensures.stopped (search rules) in
+    judged-stopped c.args.machine.now (c.lawful_turns_are_accepted.ensures c.args.machine.now) last_copy (seen c.args.state.now) c.requires.can c.args.event.now c.args.told.now c.requires.begins stops.0 c.take_event.new.planner stops.2

@@ -3,6 +3,8 @@ use Rattle.tp_log_runs.specs.Accepting.{IsAccepted}
 use Rattle.tp_turn.specs.LiveStates.{seen}
 use Rattle.tp_turn.specs.Ready.{CanTakeEvents, KeepsStock}
 use Rattle.tp_log_check.specs.Judging.{entry}
+use Rattle.tp_log_check.specs.Lawful.{AreInPlaces, HasNoTurn, LeadsTo}
+use Rattle.tp_entries.specs.Gathered.{ArePlain}
 use Rattle.tp_log_check.proofs.Sections.{is-none}
 use Rattle.tp_log_check.proofs.looking.look.Goals as goal
 
@@ -20,3 +22,22 @@ returns-in-Ok-None-clause-kept c nothing copies can =
 pub returns-in-Ok-None-clause-stocked : goal.returns-in-Ok-None-clause-stocked
 returns-in-Ok-None-clause-stocked c nothing events keeps =
     c.in-Ok-None.ensures.stocked (is-none c.in-Ok-None.field-0 c.in-Ok-None.field-0-is) events (subst (KeepsStock c.args.machine.now events) (sym c.remember.ensures.stays) keeps)
+
+pub returns-in-Ok-None-clause-only : goal.returns-in-Ok-None-clause-only
+returns-in-Ok-None-clause-only c =
+    let is : LeadsTo c.args.machine.now (seen c.remember.new.self) c.args.pending.now.event c.new-told.result.items (seen c.judge.new.state) = rw c.in-Ok-None.field-0-is at c.in-Ok-None.ensures.only in
+    let items = c.new-told.ensures.items ∙ ap (λ v. v.items) c.replace-items.ensures.value in
+    subst (λ is. LeadsTo c.args.machine.now (seen c.args.state.now) c.args.pending.now.event is (seen c.judge.new.state)) items
+    (subst (λ s. LeadsTo c.args.machine.now s c.args.pending.now.event c.new-told.result.items (seen c.judge.new.state)) c.remember.ensures.stays is)
+
+pub returns-in-Ok-Some-clause-only : goal.returns-in-Ok-Some-clause-only
+returns-in-Ok-Some-clause-only c =
+    let is : HasNoTurn c.args.machine.now (seen c.remember.new.self) c.args.pending.now.event c.new-told.result.items = rw c.in-Ok-Some.field-0-is at c.in-Ok-Some.ensures.only in
+    let items = c.new-told.ensures.items ∙ ap (λ v. v.items) c.replace-items.ensures.value in
+    subst (λ is. HasNoTurn c.args.machine.now (seen c.args.state.now) c.args.pending.now.event is) items
+    (subst (λ s. HasNoTurn c.args.machine.now s c.args.pending.now.event c.new-told.result.items) c.remember.ensures.stays is)
+
+pub returns-in-Ok-None-clause-places : goal.returns-in-Ok-None-clause-places
+returns-in-Ok-None-clause-places c nothing plain =
+    let items = c.new-told.ensures.items ∙ ap (λ v. v.items) c.replace-items.ensures.value in
+    subst AreInPlaces items (c.in-Ok-None.ensures.places (is-none c.in-Ok-None.field-0 c.in-Ok-None.field-0-is) (subst ArePlain (sym items) plain))

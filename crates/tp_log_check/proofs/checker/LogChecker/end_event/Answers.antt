@@ -1,8 +1,11 @@
-use Rattle.std.proofs.Common.{sym, subst, ◌∙◌}
+use Rattle.std.proofs.Common.{◌++◌, ap, sym, subst, ◌∙◌}
 use Rattle.std.specs.Prelude.{IfSome, option_map}
 use Rattle.tp_entries.specs.Gathered.{IsPending}
 use Rattle.tp_turn.specs.LiveStates.{seen}
 use Rattle.tp_log_check.specs.Checking.{HasTaken, underway}
+use Rattle.tp_log_check.specs.Lawful.{IsLawfulLog}
+use Rattle.tp_entries.proofs.PendingFacts.{plain_closed}
+use Rattle.tp_log_check.proofs.Denying.{taken-none}
 use Rattle.tp_log_check.proofs.Sections.{is-none, keeps-stock, taken-more, went-on}
 use Rattle.tp_log_check.proofs.checker.LogChecker.end_event.Goals as goal
 
@@ -25,7 +28,22 @@ returns-in-Ok-None-clause-taken c told h =
     let inside = c.self.inside in
     let pending : IsPending p = subst (λ o. IfSome o IsPending) is c.self.invariant.0.under in
     let accepted = rw c.in-Ok-None.field-0-is at c.in-Ok-None.ensures.accepted in
+    let places = c.in-Ok-None.ensures.places (is-none c.in-Ok-None.field-0 c.in-Ok-None.field-0-is)
+    (plain_closed p.event c.end.new.self.event p.items.items c.end.new.self.items.items p.tree c.in-Ok.ensures.items pending.plain) in
+    let leads = rw c.in-Ok-None.field-0-is at c.in-Ok-None.ensures.only in
     let seen_h = subst (λ v. HasTaken v told) (sym c.self.view_is) h in
     let with_p = subst (λ o. HasTaken (record { machine = inside.machine; state = seen inside.state; under = option_map underway o; events = inside.events; lines = inside.lines; counts = inside.counts; flaw = inside.flaw }) told) is seen_h in
-    let more = taken-more inside.machine (seen inside.state) (seen c.look.new.state) inside.events inside.lines inside.counts inside.flaw p c.end.new.self pending c.in-Ok.ensures.items accepted told with_p in
+    let more = taken-more inside.machine (seen inside.state) (seen c.look.new.state) inside.events inside.lines inside.counts inside.flaw p c.end.new.self pending c.in-Ok.ensures.items accepted leads places told with_p in
     subst (λ o. HasTaken (record { machine = inside.machine; state = seen c.look.new.state; under = option_map underway o; events = inside.events; lines = inside.lines; counts = inside.counts; flaw = inside.flaw }) told) (sym c.take.ensures.after) more
+
+pub returns-in-Ok-Some-clause-refused : goal.returns-in-Ok-Some-clause-refused
+returns-in-Ok-Some-clause-refused c other told more h cut lawful =
+    let is = sym c.take.ensures.value ∙ c.in-Some.is in
+    let p = c.in-Some.pending in
+    let inside = c.self.inside in
+    let pending : IsPending p = subst (λ o. IfSome o IsPending) is c.self.invariant.0.under in
+    let none = rw c.in-Ok-Some.field-0-is at c.in-Ok-Some.ensures.only in
+    let seen_h = subst (λ v. HasTaken v told) (sym c.self.view_is) h in
+    let with_p = subst (λ o. HasTaken (record { machine = inside.machine; state = seen inside.state; under = option_map underway o; events = inside.events; lines = inside.lines; counts = inside.counts; flaw = inside.flaw }) told) is seen_h in
+    taken-none inside.machine (seen inside.state) inside.events inside.lines inside.counts inside.flaw p c.end.new.self pending c.in-Ok.ensures.items none told more with_p cut
+    (subst (λ m. IsLawfulLog m (told ++ more)) (sym (ap (λ v. v.machine) c.self.view_is)) lawful)

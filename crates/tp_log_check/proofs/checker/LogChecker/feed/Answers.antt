@@ -1,8 +1,12 @@
-use Rattle.std.proofs.Common.{◌+◌, [], ◌∷◌, ◌++◌, sym, ap, subst, ◌∙◌, arith}
+use Rattle.std.proofs.Common.{◌≡◌, ◌+◌, [], ◌∷◌, ◌++◌, Some, None, Err, sym, ap, subst, ◌∙◌, arith}
 use Rattle.tp_turn.specs.LiveStates.{seen}
 use Rattle.tp_log_check.specs.Checking.{HasTaken, underway}
 use Rattle.tp_log_check.proofs.Reading.{same-taken}
-use Rattle.std.specs.Prelude.{option_map}
+use Rattle.std.specs.Prelude.{IsSome, option_map}
+use Rattle.tp_log.specs.LogLines.{ReadsLogLine}
+use Rattle.tp_log.proofs.BoundLines.{one_log_line}
+use Rattle.tp_log_check.specs.Lawful.{IsLawfulLog}
+use Rattle.tp_log_check.proofs.Denying.{lawful-line, some-not_none}
 use Rattle.tp_log_check.proofs.checker.LogChecker.feed.Goals as goal
 
 pub invariant_of-self : goal.invariant_of-self
@@ -32,5 +36,31 @@ returns-in-Ok-take-clause-read c = (
       record {
         taken = same-taken s.machine (seen s.state) (option_map underway s.pending) s.events s.events s.lines (c.self.inside.lines + 1) s.counts c.with-counts.result s.flaw s.flaw (before ++ c.in-Ok.told ∷ []) opened;
         counted = c.with-counts.ensures.counted before (ap (λ v. v.counts) c.self.view_is ∙ h.counted);
+        flawless = ap (λ v. v.flaw) c.self-in-Ok.view_is ∙ c.in-Ok-take.ensures.flawless ∙ h.flawless;
+        begun = λ none. absurd (some-not_none (option_map underway s.pending) (subst IsSome (sym (ap (λ v. v.under) c.self-in-Ok.view_is)) c.in-Ok-take.ensures.begun) none);
       },
 )
+
+pub returns-in-Ok-take-clause-events : goal.returns-in-Ok-take-clause-events
+returns-in-Ok-take-clause-events c =
+    let old = ap (λ v. v.events) c.self.view_is in
+    let new = ap (λ v. v.events) c.self-in-Ok.view_is in
+    (c.in-Ok.told, c.in-Ok.ensures.1, omega (arith, old, new, c.in-Ok-take.ensures.events))
+
+pub returns-in-Some-clause-refused : goal.returns-in-Some-clause-refused
+returns-in-Some-clause-refused c other before more told h same lawful =
+    let is = sym (ap (λ v. v.flaw) c.self.view_is) in
+    let some = c.in-Some.is in
+    let none = h.flawless in
+    let no : Some c.in-Some.flaw ≡ None = sym some ∙ sym is ∙ none in
+    cc
+
+pub returns-in-Err-Syntax-clause-refused : goal.returns-in-Err-Syntax-clause-refused
+returns-in-Err-Syntax-clause-refused c other before more told h same lawful =
+    (subst (λ f. ReadsLogLine c.args.line.now (Err f)) c.in-Err-Syntax.field-0-is c.in-Err-Syntax.ensures) told (lawful-line c.args.self.now.machine before told more lawful) same
+
+pub returns-in-Err-clause-refused : goal.returns-in-Err-clause-refused
+returns-in-Err-clause-refused c other before more told h same lawful =
+    let line = lawful-line c.args.self.now.machine before told more lawful in
+    let is = one_log_line told c.in-Ok.told line c.in-Ok.ensures.0 (sym same ∙ c.in-Ok.ensures.1) in
+    c.in-Err.ensures.refused other before more h.taken h.begun (subst (λ t. IsLawfulLog c.args.self.now.machine (before ++ t ∷ more)) is lawful)

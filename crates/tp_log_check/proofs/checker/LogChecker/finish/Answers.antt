@@ -1,7 +1,10 @@
-use Rattle.std.proofs.Common.{◌≡◌, List, sym, ap, subst}
-use Rattle.std.specs.Prelude.{IfOk}
+use Rattle.std.proofs.Common.{◌≡◌, ◌≢◌, List, [], sym, ap, subst}
+use Rattle.std.specs.Prelude.{IfErr, IfOk}
+use Rattle.std.proofs.lemmas.List.{append-nil}
 use Rattle.tp_entries.specs.Counting.{counts_of}
 use Rattle.tp_log.specs.declared.log_line.LogLine.{LogLine}
+use Rattle.tp_log_check.specs.Lawful.{IsLawfulLog}
+use Rattle.tp_log_check.specs.declared.flaw.Flaw.TheVariants.{Memory as WantsMemory}
 use Rattle.tp_log_check.specs.Checking.{HasRead, HasTaken, IsAcceptedLog}
 use Rattle.tp_log_check.proofs.Reading.{read-log}
 use Rattle.tp_log_check.proofs.checker.LogChecker.finish.Goals.{in-Ok, in-Err}
@@ -23,4 +26,12 @@ returns-clause-lawful c = elim c.match-end_event.branch [
       let all : c.self-2.inside.counts ≡ counts_of told = cc in
       subst (λ m. IsAcceptedLog m told c.self-2.inside.counts) machine (read-log c.end_event.new.self told c.self-2.inside.counts next w.in-Ok.ensures.ended all))
   | in-Err w ↦ subst (λ r. IfOk r (λ counts. (told : List LogLine) → HasRead c.args.self.now told → IsAcceptedLog c.args.self.now.machine told counts)) (sym w.result-is) tt
+]
+
+pub returns-clause-refused : goal.returns-clause-refused
+returns-clause-refused c = elim c.match-end_event.branch [
+  | in-Ok w ↦ subst (λ r. IfErr r (λ flaw. flaw ≢ WantsMemory → (told : List LogLine) → HasRead c.args.self.now told → IsLawfulLog c.args.self.now.machine told → ⊥)) (sym w.result-is) tt
+  | in-Err w ↦ subst (λ r. IfErr r (λ flaw. flaw ≢ WantsMemory → (told : List LogLine) → HasRead c.args.self.now told → IsLawfulLog c.args.self.now.machine told → ⊥)) (sym w.result-is) (λ other told h lawful.
+      let whole = subst (IsLawfulLog c.args.self.now.machine) (sym (append-nil told)) lawful in
+      w.in-Err.ensures.refused other told [] h.taken tt whole)
 ]

@@ -1,7 +1,9 @@
 use Rattle.std.proofs.Common.{[], refl, sym, subst, arith}
 use Rattle.std.proofs.lemmas.List.Elements.{All-nil}
+use Rattle.tp_entries.specs.Gathered.{ArePlain}
 use Rattle.tp_log.specs.Logs.{IsLog}
 use Rattle.tp_turn.specs.Ready.{CanTakeEvents, KeepsStock}
+use Rattle.tp_log_check.specs.Lawful.{AreInPlaces}
 use Rattle.tp_log_check.specs.Checking.{AreWithin, section_items}
 use Rattle.tp_log_check.proofs.checker.LogChecker.new.Goals as goal
 
@@ -23,8 +25,13 @@ returns-clause-read c = record {
   taken = record {
     sections = [];
     logs = All-nil (λ s. IsLog (section_items s));
+    plain = All-nil (λ s. ArePlain s.items);
+    places = All-nil (λ s. AreInPlaces s.items);
     accepted = c.new.ensures;
+    only = c.new.ensures;
     lines = refl;
   };
   counted = c.none.ensures;
+  flawless = refl;
+  begun = λ none. refl;
 }

@@ -1,0 +1,50 @@
+-- The end of a log of which all lines were taken.
+use Rattle.std.proofs.Common.{◌≡◌, ◌≢◌, ℕ, ◌+◌, List, [], ◌++◌, Option, length, refl, sym, ap, subst, ◌∙◌, arith}
+use Rattle.std.specs.List.{flat_map}
+use Rattle.std.proofs.lemmas.List.{append-nil}
+use Rattle.tp_entries.specs.declared.counts.Counts.{Counts}
+use Rattle.tp_log.specs.Logs.{log_text}
+use Rattle.tp_log.specs.LogLines.{log_line_text}
+use Rattle.tp_log.proofs.Items.{text_of-log}
+use Rattle.tp_log_check.specs.Checking.{CheckerValue, IsAcceptedLog, items_of}
+use Rattle.tp_log_check.specs.declared.flaw.Flaw.{Flaw}
+use Rattle.tp_log_check.specs.declared.flaw.Flaw.TheVariants.{Memory as WantsMemory}
+use Rattle.tp_machine.specs.declared.machine.Machine.{Machine}
+use Rattle.tp_checking.specs.declared.cause.Cause.{Cause}
+use Rattle.tp_checking.specs.declared.cause.Cause.TheVariants.{Memory, Flaw as Flawed}
+use Rattle.tp_checking.specs.Ends.{EndsFor, IsAcceptedText, IsTakenBy, StopsFor, StopsFrom}
+use Rattle.tp_checking.specs.Sizes.{KeepsSizes}
+use Rattle.tp_stream.specs.Takes.{IsReadFrom, ends_whole}
+use Rattle.tp_checking.proofs.Lines.{ends-text, joined, joined_lines, joined_told}
+
+module _ (machine : Machine) (c : CheckerValue) (text : List ℕ) (is : c.machine ≡ machine) (h : IsTakenBy c text) (sizes : KeepsSizes text) where
+  whole-text : text ≡ flat_map log_line_text h.told
+  whole-text = sym (joined_lines text) ∙ ap joined h.lines ∙ joined_told h.told
+
+  pub accepted-text : (counts : Counts) → IsAcceptedLog c.machine h.told counts → IsAcceptedText machine text counts
+  accepted-text counts accepted = go (subst (λ m. IsAcceptedLog m h.told counts) is accepted)
+    where
+      go : IsAcceptedLog machine h.told counts → IsAcceptedText machine text counts
+      go log = record {
+        sizes = sizes;
+        told = h.told;
+        accepted = log;
+        is_text = whole-text ∙ ap (flat_map log_line_text) log.lines ∙ text_of-log (items_of log.sections);
+      }
+
+  -- and where the end is refused
+  refused-at-end : (flaw : Flaw) → flaw ≢ WantsMemory → StopsFor machine text (Flawed flaw)
+  refused-at-end flaw real = record {
+    done = text;
+    rest = [];
+    parts = sym (append-nil text);
+    whole = ap ends_whole whole-text ∙ ends-text h.told;
+    sizes = sizes;
+    taken = (c, is, h);
+    stops = (record { line = []; more = []; next = refl; bytes = (let b = sizes.bytes in omega (arith, b)); events = (let e = sizes.events in omega (arith, e)) }, real);
+  }
+
+  pub refused-end : (left left' : Option (List ℕ)) (cause : Cause) → IsReadFrom left text left' → EndsFor cause → StopsFrom machine left left' cause
+  refused-end left left' Memory read ends = tt
+  refused-end left left' (Flawed flaw) read ends = (text, read, refused-at-end flaw ends)
+  refused-end left left' other read ends = absurd ends

@@ -1,0 +1,4 @@
+pub mod Summary
+pub mod Sizes
+pub mod Taking
+pub mod Ends
