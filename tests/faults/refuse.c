@@ -79,24 +79,22 @@ int open(const char *path, int flags, ...) {
     return syscall(SYS_open, path, flags, mode);
 }
 
+/* How many of these bytes a call may move: one where it is cut short, and -1 where it is refused. */
+static ssize_t allowed(const char *of, size_t count) {
+    if (!is_chosen(of))
+        return count;
+    if (is_short)
+        return count < 1 ? count : 1;
+    errno = EIO;
+    return -1;
+}
+
 ssize_t read(int file, void *bytes, size_t count) {
-    if (is_chosen("read")) {
-        if (!is_short) {
-            errno = EIO;
-            return -1;
-        }
-        count = count < 1 ? count : 1;
-    }
-    return syscall(SYS_read, file, bytes, count);
+    ssize_t most = allowed("read", count);
+    return most < 0 ? -1 : syscall(SYS_read, file, bytes, most);
 }
 
 ssize_t write(int file, const void *bytes, size_t count) {
-    if (is_chosen("write")) {
-        if (!is_short) {
-            errno = EIO;
-            return -1;
-        }
-        count = count < 1 ? count : 1;
-    }
-    return syscall(SYS_write, file, bytes, count);
+    ssize_t most = allowed("write", count);
+    return most < 0 ? -1 : syscall(SYS_write, file, bytes, most);
 }
