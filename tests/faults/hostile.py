@@ -2,7 +2,7 @@
 import random
 import re
 
-from trying import DONE, FARM, MACHINE, RACK, SHELF, TOO_LONG, read, side_by_side
+from trying import DONE, FARM, MACHINE, RACK, REJECTED, SHELF, SNAPSHOT, TOO_LONG, read, side_by_side
 
 MEGABYTE = 1_048_576
 
@@ -26,7 +26,8 @@ def cut(draw, text):
 def double_a_line(draw, text):
     lines = text.splitlines(keepends=True)
     at = draw.randrange(len(lines))
-    return b"".join(lines[: at + 1] + [lines[at]] * draw.choice([1, 2, 300]) + lines[at + 1 :])
+    most = 1 + 65_536 // len(lines[at])
+    return b"".join(lines[: at + 1] + [lines[at]] * min(draw.choice([1, 2, 300]), most) + lines[at + 1 :])
 
 
 def swap_lines(draw, text):
@@ -105,11 +106,17 @@ def kinds(program):
     scripts = [read(f"scripts/{name}.txt") for name in ("duo", "line", "loop", "tail", "tint", "twin")]
     farms = [read("machines/farm.txt")]
     script = b"job j1 t plain 2*M-:F\nclock 6\njam ENG1\n"
+    duo, later = "machines/duo.toml", b"job j9 t plain M-:F\nclock 100\n"
+    logs = [program.log_of(duo, read("scripts/duo.txt")), program.log_of(duo, script)]
+    first_lines = b"".join(read("scripts/duo.txt").splitlines(True)[:3])
+    snapshots = [program.snapshot_of(duo, script), program.snapshot_of(duo, first_lines)]
     return [
         Kind("machine texts", machines, in_a_file(program, "run", script), ends_by(DONE, MACHINE, TOO_LONG)),
         Kind("rack texts", racks, in_a_file(program, "compose"), ends_by(DONE, RACK, TOO_LONG)),
         Kind("lists of farms", farms, in_a_file(program, "farm", script), ends_by(DONE, FARM, SHELF, TOO_LONG)),
-        Kind("scripts", scripts, lambda at, text: program.run(["run", "machines/duo.toml"], text), answers_each_line),
+        Kind("scripts", scripts, lambda at, text: program.run(["run", duo], text), answers_each_line),
+        Kind("logs", logs, lambda at, text: program.run(["check", duo], text), ends_by(DONE, REJECTED, TOO_LONG)),
+        Kind("snapshots", snapshots, in_a_file(program, "resume", later), ends_by(DONE, SNAPSHOT, TOO_LONG)),
     ]
 
 

@@ -110,6 +110,23 @@ def load(program, count):
     count.tell("a hundred thousand events", wrongs, number)
 
 
+def checked(program, count):
+    """The log of as many random events, with bounds, is accepted while it is written."""
+    number, machine = 100_000, "machines/rack.toml"
+    writer = subprocess.Popen([program.path, "run", "--bounds", machine], stdin=subprocess.PIPE, stdout=subprocess.PIPE, cwd=TOP)
+    checker = subprocess.Popen([program.path, "check", machine], stdin=writer.stdout, stdout=subprocess.PIPE, cwd=TOP)
+    writer.stdout.close()
+    for event in random_events(number, 1):
+        writer.stdin.write(event.encode() + b"\n")
+    writer.stdin.close()
+    summary = checker.communicate()[0].decode()
+    print(f"    {summary.strip()}", flush=True)
+    wrongs = [f"status {status}" for status in (writer.wait(), checker.returncode) if status]
+    if not summary.startswith(f"accepted {number} events "):
+        wrongs.append("the log is not accepted")
+    count.tell("the log of a hundred thousand events is checked", wrongs, number)
+
+
 def lines(program, count):
     """As many lines as a script may have: the second half takes as much work as the first one, but for a half."""
     number = 1_000_000

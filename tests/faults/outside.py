@@ -3,7 +3,7 @@ import os
 import subprocess
 import threading
 
-from trying import DONE, MACHINE, PATIENCE, SHELF, SINK, SOURCE, TOP, read
+from trying import DONE, MACHINE, PATIENCE, SHELF, SINK, SNAPSHOT, SOURCE, TOP, read
 
 DUO = "machines/duo.toml"
 
@@ -45,6 +45,10 @@ def with_machine(path):
     return lambda program: program.run(["run", path], SCRIPT).status
 
 
+def with_snapshot(path):
+    return lambda program: program.run(["resume", path], SCRIPT).status
+
+
 def from_fifo(program):
     path = os.path.join(program.folder, "fifo")
     os.mkfifo(path)
@@ -81,6 +85,11 @@ ROWS = [
     ("a folder for a machine text", with_machine("machines"), {SHELF}),
     ("a name that is no file's", with_machine("machines/none.toml"), {SHELF}),
     ("a device for a machine text", with_machine("/dev/null"), {MACHINE}),
+    ("a folder for a snapshot", with_snapshot("machines"), {SHELF}),
+    ("a name that is no snapshot's", with_snapshot("machines/none.json"), {SHELF}),
+    ("a machine text for a snapshot", with_snapshot(DUO), {SNAPSHOT}),
+    ("a device for a snapshot", with_snapshot("/dev/null"), {SNAPSHOT}),
+    ("a folder for a log", by_shell(f'exec "$0" check {DUO} </ >/dev/null'), {SOURCE}),
     ("a pipe for a machine text", from_fifo, {DONE}),
 ]
 

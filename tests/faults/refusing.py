@@ -9,6 +9,8 @@ TWO_SHEETS = b"job j1 t plain 2*M-:F\n"
 
 JAM = b"job j1 t plain M-:F\nclock 6\njam ENG2\noff ENG2\non ENG2\non ENG2\njam X\n"
 
+LATER = b"job j2 t plain 2*M-:F\nclock 40\n"
+
 
 @dataclass
 class Case:
@@ -19,13 +21,16 @@ class Case:
     script: bytes
 
 
-def cases():
+def cases(program):
     duo = "machines/duo.toml"
     return [
         Case("two sheets", ["run", duo], TWO_SHEETS),
         Case("two sheets with bounds", ["run", duo, "--bounds"], TWO_SHEETS),
         Case("a jam", ["run", duo], JAM),
         Case("a jam with bounds", ["run", duo, "--bounds"], JAM),
+        Case("a log is checked", ["check", duo], program.log_of(duo, JAM)),
+        Case("a script is saved", ["save", duo], JAM),
+        Case("a saved script goes on", ["resume", program.file("snapshot", program.snapshot_of(duo, JAM))], LATER),
         Case("a rack is composed", ["compose", "racks/small.toml"], b""),
         Case("a farm", ["farm", "machines/farm.txt"], read("scripts/farm.txt")),
     ]
@@ -95,13 +100,13 @@ def try_all(program, count, case, kind, statuses, short=False, whole_lines=True)
 
 def allocations(program, count):
     """Each allocation is refused: the run ends with want of memory behind whole lines of the log, or is done."""
-    for case in cases():
+    for case in cases(program):
         try_all(program, count, case, "alloc", {MEMORY})
 
 
 def calls(program, count):
     """Each open, read and write is refused, and each read and write moves a byte alone."""
-    for case in cases():
+    for case in cases(program):
         try_all(program, count, case, "open", {SHELF})
         try_all(program, count, case, "read", {SHELF, SOURCE})
         try_all(program, count, case, "write", {SINK}, whole_lines=False)

@@ -9,7 +9,7 @@ TOP = os.path.dirname(os.path.dirname(os.path.dirname(os.path.abspath(__file__))
 # Longer than any run of a small text takes, in seconds.
 PATIENCE = 60
 
-DONE, MEMORY, MACHINE, SHELF, SOURCE, SINK, TOO_LONG, RACK, FARM = 0, 1, 3, 4, 5, 6, 7, 10, 11
+DONE, MEMORY, MACHINE, SHELF, SOURCE, SINK, TOO_LONG, REJECTED, SNAPSHOT, RACK, FARM = 0, 1, 3, 4, 5, 6, 7, 8, 9, 10, 11
 
 
 def at_top(name):
@@ -59,6 +59,15 @@ class Program:
         except subprocess.TimeoutExpired as late:
             return Run(None, late.stdout or b"")
         return Run(done.returncode, done.stdout)
+
+    def log_of(self, machine, script):
+        """The log with bounds of a script."""
+        return self.run(["run", "--bounds", machine], script).log
+
+    def snapshot_of(self, machine, script):
+        """The snapshot that a saved script ends with."""
+        last = self.run(["save", machine], script).log.splitlines()[-1]
+        return last.removeprefix(b"= ")
 
 
 class Count:

@@ -81,7 +81,7 @@ fn log_of(alloc: Global, text: &str, budget: Option<u32>, script: &[u8]) -> Resu
         .ok_or("memory")?;
     let session = session_on(alloc, text.as_bytes(), budget)?;
     match answer_script(alloc, session, &mut source, &mut sink) {
-        Ok(()) => Ok(sink.bytes().to_vec(alloc)?),
+        Ok(_) => Ok(sink.bytes().to_vec(alloc)?),
         Err(_) => Err(Fail::from("the script is not answered")),
     }
 }

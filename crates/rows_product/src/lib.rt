@@ -4,6 +4,8 @@
 #[cfg(test)]
 mod bounds;
 #[cfg(test)]
+mod checking;
+#[cfg(test)]
 mod composing;
 #[cfg(test)]
 mod farming;
@@ -13,6 +15,8 @@ mod faults;
 mod long_scripts;
 #[cfg(test)]
 mod running;
+#[cfg(test)]
+mod saving;
 #[cfg(test)]
 mod soaking;
 #[cfg(test)]

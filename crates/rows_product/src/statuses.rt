@@ -30,7 +30,7 @@ fn words_off_the_form(rt: HostRuntime) -> Result<(), Fail> {
         &["run", "m.toml", "--budget", "1", "--budget=1"],
         &["run", "m.toml", "--bounds", "--bounds"],
         &["run", "m.toml", "--help"],
-        &["check", "m.toml"],
+        &["check"],
     ];
     for words in rows {
         let given = Given {

@@ -7,7 +7,7 @@ use std::test::Fail;
 use tp_program::Status;
 
 /// The line with so many sheets at its feeder.
-fn with_stock(alloc: Global, sheets: u32) -> Result<String, Fail> {
+pub(crate) fn with_stock(alloc: Global, sheets: u32) -> Result<String, Fail> {
     let Some((before, after)) = LINE.split_once("format = 1\n") else {
         return Err(Fail::from("the machine is not of format 1"));
     };

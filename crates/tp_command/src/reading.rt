@@ -12,11 +12,14 @@ use std::alloc::Global;
 use tp_words::read_digits;
 
 /// The mode of this name.
+#[tactic(auto, unfolding(crate::specs::Form::mode_of))]
 fn mode_of(text: &str) -> Option<Mode>
     ensures { result ≡ mode_of text.now }
 {
     match text {
         "run" => Some(Mode::Run),
+        "save" => Some(Mode::Save),
+        "resume" => Some(Mode::Resume),
         "check" => Some(Mode::Check),
         "soak" => Some(Mode::Soak),
         "compose" => Some(Mode::Compose),
@@ -68,6 +71,8 @@ fn is_arg(mode: Mode, arg: &str) -> bool
 {
     match mode {
         Mode::Run => true,
+        Mode::Save => true,
+        Mode::Resume => true,
         Mode::Check => true,
         Mode::Soak => read_seed(arg).is_some(),
         Mode::Compose => true,

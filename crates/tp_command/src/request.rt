@@ -1,10 +1,12 @@
 //! What the words of the command line ask for.
 
-/// What is to be done: a script is run, a log is checked, a made script is run and counted, a machine is composed of a rack,
-/// or a script is run on a farm of machines.
+/// What is to be done: a script is run, with what stands at its end saved or going on from what was saved; a log is checked;
+/// a made script is run and counted; a machine is composed of a rack; or a script is run on a farm of machines.
 #[derive(Clone, Copy, Debug, PartialEq, Eq)]
 pub enum Mode {
     Run,
+    Save,
+    Resume,
     Check,
     Soak,
     Compose,

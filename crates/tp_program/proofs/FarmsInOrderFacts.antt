@@ -11,7 +11,6 @@ use Rattle.tp_farm.specs.Lists.{IsBadName, IsFileName, IsNoList, names_of}
 use Rattle.tp_program.specs.Farming.{AreNames, FarmedBy, IsFirstOther, IsListed, NoFarm, NoMachines}
 use Rattle.tp_program.specs.FarmsInOrder.{IsFarmInOrder, IsOfMachine, NoFarmIsRefused}
 use Rattle.tp_program.specs.InOrder.{is_refusal}
-use Rattle.tp_program.specs.Requests.{asked_by}
 use Rattle.tp_program.specs.Texts.{IsLongText, IsShelved}
 use Rattle.tp_program.specs.declared.farm_fault.FarmFault.TheVariants as farm
 use Rattle.tp_program.specs.declared.status.Long.TheVariants as size

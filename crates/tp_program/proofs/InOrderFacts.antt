@@ -2,17 +2,18 @@
 use Rattle.std.proofs.Common.{◌≡◌, ◌≢◌, ℕ, ◌<◌, ◌≤◌, List, length, Option, Some, None, inl, inr, sym, subst, ◌∙◌, arith}
 use Rattle.std.specs.Prelude.{IsSomeAnd, IsTrue}
 use Rattle.tp_outside.specs.Outside.{Files, file_at}
-use Rattle.tp_command.specs.Form.{Asked}
+use Rattle.tp_command.specs.Form.{Asked, form}
 use Rattle.tp_compose.specs.Texts.{IsFlatBrokenAt, IsRackBrokenAt}
 use Rattle.tp_compose.specs.declared.composing.RackFault.TheVariants as rack
-use Rattle.tp_machine_text.specs.Texts.{IsBrokenAt, IsNotToml, IsSound}
+use Rattle.tp_machine.specs.declared.machine.Machine.{Machine}
+use Rattle.tp_machine_text.specs.Texts.{IsBrokenAt, IsMachineText, IsNotToml, IsSound}
 use Rattle.tp_machine_text.specs.declared.text.MachineFault.TheVariants as fault
 use Rattle.tp_machine_text.proofs.OneTable.{sound}
 use Rattle.tp_stream.specs.declared.stop.Stop.TheVariants as stop
 use Rattle.tp_program.specs.Composing.{NoRack, WritesComposed}
 use Rattle.tp_program.specs.InOrder.{IsRackInOrder, IsRunInOrder, IsThere, NoRackIsRefused, NoRunIsRefused, is_refusal}
-use Rattle.tp_program.specs.Requests.{asked_by}
 use Rattle.tp_program.specs.Runs.{NoMachine, RanBy}
+use Rattle.tp_program.specs.Saving.{SavedBy}
 use Rattle.tp_program.specs.Texts.{IsLongText, IsShelved, most_text}
 use Rattle.tp_program.specs.declared.status.Long.TheVariants as size
 use Rattle.tp_program.specs.declared.status.Status.{Status}
@@ -22,7 +23,7 @@ use Rattle.tp_program.proofs.Sizes.{not_too_long, not_too_many}
 not_longer : (n : ℕ) → n ≤ most_text → most_text < n → ⊥
 not_longer n fits long = omega (arith, fits, long)
 
-pub named_something : (words : List (List ℕ)) (asked : Asked) → asked_by words ≡ Some asked → asked_by words ≢ None
+pub named_something : (words : List (List ℕ)) (asked : Asked) → form words ≡ Some asked → form words ≢ None
 named_something words asked named none = (let some : Some asked ≡ None = sym named ∙ none in absurd cc)
 
 -- the text of a name that is there
@@ -39,29 +40,21 @@ module _ (files : Files) (name text : List ℕ) (there : IsThere files name text
   pub not_long : ¬ IsLongText (Some files) name
   not_long long = not_longer (length text) there.fits (subst (λ found. IsSomeAnd found (λ text. most_text < length text)) there.is_told long)
 
+-- the text of a machine
+module _ (files : Files) (name text : List ℕ) (there : IsThere files name text) (machine : Machine) (is_text : IsMachineText text machine) where
+  is_sound : IsSound text
+  is_sound = sound text is_text.0 is_text.1 is_text.2
+
+  pub found_machine : (s : Status) → IsTrue (is_refusal s) → ¬ NoMachine (Some files) name s
+  found_machine (status.Machine fault.NotToml) is none = is_sound.0 (has files name text there IsNotToml none)
+  found_machine (status.Machine (fault.Rule n)) is none = is_sound.1 n (has files name text there (IsBrokenAt n) none)
+  found_machine (status.Machine fault.Memory) is none = none
+  found_machine (status.TooLong size.MachineText) is none = not_long files name text there none
+  found_machine status.Memory is none = absurd cc
+  found_machine status.Shelf is none = absurd cc
+  found_machine s is none = none
+
 module _ (words : List (List ℕ)) (files : Files) (script : List ℕ) (asked : Asked) (good : IsRunInOrder words files script asked) where
-  is_sound : IsSound good.text
-  is_sound = sound good.text good.is_text.0 good.is_text.1 good.is_text.2
-
-  has_text : (P : List ℕ → Type 0) → IsShelved (Some files) asked.arg P → P good.text
-  has_text = has files asked.arg good.text good.there
-
-  found : (s : Status) → IsTrue (is_refusal s) → ¬ NoMachine (Some files) asked.arg s
-  found (status.Machine fault.NotToml) is none = is_sound.0 (has_text IsNotToml none)
-  found (status.Machine (fault.Rule n)) is none = is_sound.1 n (has_text (IsBrokenAt n) none)
-  found (status.Machine fault.Memory) is none = none
-  found (status.TooLong size.MachineText) is none = not_long files asked.arg good.text good.there none
-  found (status.TooLong (size.Line n)) is none = none
-  found (status.TooLong size.Lines) is none = none
-  found status.Usage is none = none
-  found (status.Rack f) is none = none
-  found (status.Farm f) is none = none
-  found status.Done is none = none
-  found status.Memory is none = absurd cc
-  found status.Shelf is none = absurd cc
-  found status.Source is none = none
-  found status.Sink is none = none
-
   answered : (s : Status) → IsTrue (is_refusal s) → (left taken taken' : Option (List ℕ)) → ¬ RanBy (Some files) asked (Some script) left taken taken' s
   answered (status.TooLong (size.Line n)) is left taken taken' ran =
       let (read, (after, whole, rest_left), to) = ran.did in
@@ -69,22 +62,37 @@ module _ (words : List (List ℕ)) (files : Files) (script : List ℕ) (asked : 
   answered (status.TooLong size.Lines) is left taken taken' ran =
       let (read, (after, whole, rest_left), to) = ran.did in
       not_too_many 1000000 script read to.done to.rest after good.few whole to.parts to.whole to.stops.0 to.stops.1
-  answered (status.TooLong size.MachineText) is left taken taken' ran = ran.did
-  answered (status.Machine f) is left taken taken' ran = ran.did
-  answered status.Usage is left taken taken' ran = ran.did
-  answered (status.Rack f) is left taken taken' ran = ran.did
-  answered (status.Farm f) is left taken taken' ran = ran.did
   answered status.Done is left taken taken' ran = absurd cc
   answered status.Memory is left taken taken' ran = absurd cc
-  answered status.Shelf is left taken taken' ran = ran.did
   answered status.Source is left taken taken' ran = absurd cc
   answered status.Sink is left taken taken' ran = absurd cc
+  answered s is left taken taken' ran = ran.did
+
+  saved : (s : Status) → IsTrue (is_refusal s) → (left taken taken' : Option (List ℕ)) → ¬ SavedBy (Some files) asked (Some script) left taken taken' s
+  saved (status.TooLong (size.Line n)) is left taken taken' ran = elim ran.did [
+    | inl stops ↦
+        (let (read, (after, whole, rest_left), to) = stops in
+        not_too_long 4096 script read to.done to.rest after good.lines_fit whole to.parts to.whole to.stops.0)
+    | inr none ↦ none
+  ]
+  saved (status.TooLong size.Lines) is left taken taken' ran = elim ran.did [
+    | inl stops ↦
+        (let (read, (after, whole, rest_left), to) = stops in
+        not_too_many 1000000 script read to.done to.rest after good.few whole to.parts to.whole to.stops.0 to.stops.1)
+    | inr none ↦ none
+  ]
+  saved status.Done is left taken taken' ran = absurd cc
+  saved status.Memory is left taken taken' ran = absurd cc
+  saved status.Source is left taken taken' ran = absurd cc
+  saved status.Sink is left taken taken' ran = absurd cc
+  saved s is left taken taken' ran = ran.did
 
 pub no_run_is_refused : NoRunIsRefused
 no_run_is_refused words files script asked good = record {
   no_usage = named_something words asked good.named;
-  found = found words files script asked good;
+  found = found_machine files asked.arg good.text good.there good.machine good.is_text;
   answered = answered words files script asked good;
+  saved = saved words files script asked good;
 }
 
 module _ (words : List (List ℕ)) (files : Files) (asked : Asked) (good : IsRackInOrder words files asked) where
@@ -97,28 +105,14 @@ module _ (words : List (List ℕ)) (files : Files) (asked : Asked) (good : IsRac
   composed (status.Rack (rack.Flat n)) is none = good.is_rack.2 n (has_rack (IsFlatBrokenAt n) none)
   composed (status.Rack rack.Memory) is none = none
   composed (status.TooLong size.MachineText) is none = not_long files asked.arg good.text good.there none
-  composed (status.TooLong (size.Line n)) is none = none
-  composed (status.TooLong size.Lines) is none = none
-  composed status.Usage is none = none
-  composed (status.Machine f) is none = none
-  composed (status.Farm f) is none = none
-  composed status.Done is none = none
   composed status.Memory is none = absurd cc
   composed status.Shelf is none = absurd cc
-  composed status.Source is none = none
-  composed status.Sink is none = none
+  composed s is none = none
 
   written : (s : Status) → IsTrue (is_refusal s) → (taken taken' : Option (List ℕ)) → ¬ WritesComposed (Some files) asked.arg taken taken' s
-  written (status.Rack f) is taken taken' wrote = wrote.has.1
-  written (status.TooLong long) is taken taken' wrote = wrote.has.1
-  written status.Usage is taken taken' wrote = wrote.has.1
-  written (status.Machine f) is taken taken' wrote = wrote.has.1
-  written (status.Farm f) is taken taken' wrote = wrote.has.1
   written status.Done is taken taken' wrote = absurd cc
-  written status.Memory is taken taken' wrote = wrote.has.1
-  written status.Shelf is taken taken' wrote = wrote.has.1
-  written status.Source is taken taken' wrote = wrote.has.1
   written status.Sink is taken taken' wrote = absurd cc
+  written s is taken taken' wrote = wrote.has.1
 
 pub no_rack_is_refused : NoRackIsRefused
 no_rack_is_refused words files asked good = record {

@@ -1,9 +1,15 @@
 mod AskedFacts
+mod CheckFacts
+mod ChecksInOrderFacts
 mod ComposeFacts
 mod FarmingFacts
 mod FarmsInOrderFacts
 mod InOrderFacts
+mod JoiningFacts
+mod LogSizes
+mod ResumesInOrderFacts
 mod RunFacts
+mod SavingFacts
 mod SeedFacts
 mod Sizes
 mod TextFacts

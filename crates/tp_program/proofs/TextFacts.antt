@@ -12,26 +12,10 @@ pub no_machine : (told : Option Files) (name : List ℕ) (s : Status) → NoText
 no_machine told name status.Memory none = none
 no_machine told name status.Shelf none = none
 no_machine told name (status.TooLong size.MachineText) none = none
-no_machine told name (status.TooLong (size.Line n)) none = absurd none
-no_machine told name (status.TooLong size.Lines) none = absurd none
-no_machine told name status.Done none = absurd none
-no_machine told name status.Usage none = absurd none
-no_machine told name (status.Machine f) none = absurd none
-no_machine told name status.Source none = absurd none
-no_machine told name status.Sink none = absurd none
-no_machine told name (status.Rack f) none = absurd none
-no_machine told name (status.Farm f) none = absurd none
+no_machine told name s none = absurd none
 
 pub no_rack : (told : Option Files) (name : List ℕ) (s : Status) → NoText told name s → NoRack told name s
 no_rack told name status.Memory none = none
 no_rack told name status.Shelf none = none
 no_rack told name (status.TooLong size.MachineText) none = none
-no_rack told name (status.TooLong (size.Line n)) none = absurd none
-no_rack told name (status.TooLong size.Lines) none = absurd none
-no_rack told name status.Done none = absurd none
-no_rack told name status.Usage none = absurd none
-no_rack told name (status.Machine f) none = absurd none
-no_rack told name status.Source none = absurd none
-no_rack told name status.Sink none = absurd none
-no_rack told name (status.Rack f) none = absurd none
-no_rack told name (status.Farm f) none = absurd none
+no_rack told name s none = absurd none

@@ -3,14 +3,13 @@ use Rattle.std.specs.Prelude.{◌≡◌, ◌≢◌, ℕ, ◌≤◌, List, All, l
 use Rattle.tp_outside.specs.Outside.{Files}
 use Rattle.tp_machine.specs.declared.machine.Machine.{Machine}
 use Rattle.tp_machine_text.specs.Texts.{IsMachineText}
-use Rattle.tp_command.specs.Form.{Asked}
+use Rattle.tp_command.specs.Form.{Asked, form}
 use Rattle.tp_command.specs.declared.request.Mode.TheVariants.{Farm}
 use Rattle.tp_words.specs.Texts.{lines_of}
 use Rattle.tp_stream.specs.Scripts.{line_bytes, most_lines}
 use Rattle.tp_stream.specs.Takes.{FitsIn}
 use Rattle.tp_program.specs.Farming.{AreNames, FarmedBy, NoFarm}
 use Rattle.tp_program.specs.InOrder.{IsThere, is_refusal}
-use Rattle.tp_program.specs.Requests.{asked_by}
 use Rattle.tp_program.specs.declared.status.Status.{Status}
 
 -- the name is that of a machine's text, which keeps its size
@@ -22,7 +21,7 @@ pub record IsOfMachine (files : Files) (name : List ℕ) : Type 0 where
 
 -- the words ask for a farm of a list of machine texts, and the list, the texts and the script keep their sizes
 pub record IsFarmInOrder (words : List (List ℕ)) (files : Files) (script : List ℕ) (asked : Asked) : Type 0 where
-  pub named : asked_by words ≡ Some asked
+  pub named : form words ≡ Some asked
   pub mode : asked.mode ≡ Farm
   pub list : List ℕ
   pub there : IsThere files asked.arg list
@@ -34,7 +33,7 @@ pub record IsFarmInOrder (words : List (List ℕ)) (files : Files) (script : Lis
 
 -- then no cause of a refusal holds
 pub record FarmIsNotRefused (words : List (List ℕ)) (files : Files) (script : List ℕ) (asked : Asked) : Type 0 where
-  pub no_usage : asked_by words ≢ None
+  pub no_usage : form words ≢ None
   pub found : (status : Status) → IsTrue (is_refusal status) → ¬ NoFarm (Some files) asked.arg status
   pub answered : (status : Status) → IsTrue (is_refusal status) → (left taken taken' : Option (List ℕ))
       → ¬ FarmedBy (Some files) asked (Some script) left taken taken' status

@@ -2,10 +2,17 @@ pub mod Requests
 pub mod Statuses
 pub mod Texts
 pub mod Writing
+pub mod Beginnings
 pub mod Runs
+pub mod Checks
+pub mod Saving
+pub mod Resuming
+pub mod Joining
 pub mod Composing
 pub mod Farming
 pub mod Soaking
 pub mod Modes
 pub mod InOrder
 pub mod FarmsInOrder
+pub mod ChecksInOrder
+pub mod ResumesInOrder

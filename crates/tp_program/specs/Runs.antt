@@ -8,7 +8,7 @@ use Rattle.tp_command.specs.Form.{Asked}
 use Rattle.tp_stream.specs.Takes.{IsReadFrom}
 use Rattle.tp_stream.specs.declared.stop.Stop.{Stop}
 use Rattle.tp_stream.specs.declared.stop.Stop.TheVariants as stop
-use Rattle.tp_turn.specs.States.{empty_state}
+use Rattle.tp_turn.specs.States.{SessionState, empty_state}
 use Rattle.tp_runs.specs.Ends.{IsAnswered, IsAnsweredTo}
 use Rattle.tp_program.specs.Texts.{IsLongText, IsShelved}
 use Rattle.tp_program.specs.declared.status.Long.TheVariants.{MachineText, Line, Lines}
@@ -34,16 +34,16 @@ EndsBy all stops (TooLong (Line n)) = stops (stop.Line n)
 EndsBy all stops (TooLong Lines) = stops stop.Lines
 EndsBy all stops _ = ⊥
 
--- on a machine, with this budget and with bounds or without: what the source told before and after, and what the sink had
--- taken before and after
-module _ (machine : Machine) (budget : ℕ) (bounds : Bool) (left left' taken taken' : Option (List ℕ)) where
+-- on a machine, with this budget and with bounds or without, from this state on: what the source told before and after, and what
+-- the sink had taken before and after
+module _ (machine : Machine) (budget : ℕ) (bounds : Bool) (start : SessionState) (left left' taken taken' : Option (List ℕ)) where
   -- the script that the source gave was answered on the machine by a lawful run, and the text of its one log was written
   abbrev pub DoneOn : Type 0
-  DoneOn = (script : List ℕ) × IsReadFrom left script left' × IsAnswered machine budget bounds empty_state script taken taken'
+  DoneOn = (script : List ℕ) × IsReadFrom left script left' × IsAnswered machine budget bounds start script taken taken'
 
   -- its first lines were, up to where the run stopped
   abbrev pub StopsOn : Stop → Type 0
-  StopsOn cause = (script : List ℕ) × IsReadFrom left script left' × IsAnsweredTo machine budget bounds empty_state cause script taken taken'
+  StopsOn cause = (script : List ℕ) × IsReadFrom left script left' × IsAnsweredTo machine budget bounds start cause script taken taken'
 
   -- how a run ends that has begun: with Done the source was read to its end
   abbrev pub EndsOn : Status → Type 0
@@ -58,7 +58,7 @@ pub record RunsOn (told : Option Files) (asked : Asked) (Did : Machine → ℕ �
 
 abbrev pub RanBy : Option Files → Asked → Option (List ℕ) → Option (List ℕ) → Option (List ℕ) → Option (List ℕ) → Status → Type 0
 RanBy told asked left left' taken taken' status =
-    RunsOn told asked (λ machine budget bounds. EndsOn machine budget bounds left left' taken taken' status)
+    RunsOn told asked (λ machine budget bounds. EndsOn machine budget bounds empty_state left left' taken taken' status)
 
 -- how a run ends: there is no machine, and nothing is read or written; or it ran
 module _ {S K : Type 0} (left : S → Option (List ℕ)) (taken : K → Option (List ℕ)) (told : Option Files) (source source' : S) (sink sink' : K) where

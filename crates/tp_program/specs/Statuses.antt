@@ -5,6 +5,9 @@ use Rattle.tp_machine_text.specs.declared.text.MachineFault.{MachineFault}
 use Rattle.tp_machine_text.specs.declared.text.MachineFault.TheVariants as fault
 use Rattle.tp_compose.specs.declared.composing.RackFault.{RackFault}
 use Rattle.tp_compose.specs.declared.composing.RackFault.TheVariants as rack
+use Rattle.tp_log_check.specs.FlawText.{flaw_text}
+use Rattle.tp_snapshot.specs.declared.fault.SnapFault.{SnapFault}
+use Rattle.tp_snapshot.specs.declared.fault.SnapFault.TheVariants as snap
 use Rattle.tp_program.specs.declared.farm_fault.FarmFault.{FarmFault}
 use Rattle.tp_program.specs.declared.farm_fault.FarmFault.TheVariants as farm
 use Rattle.tp_program.specs.declared.status.Status.{Status}
@@ -18,7 +21,9 @@ status_number (status.Machine f) = 3
 status_number status.Shelf = 4
 status_number status.Source = 5
 status_number status.Sink = 6
-status_number (status.TooLong long) = 7
+status_number (status.TooLong what) = 7
+status_number (status.Rejected f) = 8
+status_number (status.Snapshot f) = 9
 status_number (status.Rack f) = 10
 status_number (status.Farm f) = 11
 
@@ -26,6 +31,11 @@ abbrev pub fault_line : MachineFault → List ℕ
 fault_line fault.Memory = codes "out of memory"
 fault_line fault.NotToml = codes "not TOML"
 fault_line (fault.Rule n) = codes "rule " ++ decimal n
+
+abbrev pub snapshot_line : SnapFault → List ℕ
+snapshot_line snap.Memory = codes "out of memory"
+snapshot_line snap.NotJson = codes "not JSON"
+snapshot_line (snap.Rule n) = codes "rule " ++ decimal n
 
 abbrev pub rack_line : RackFault → List ℕ
 rack_line rack.Memory = codes "out of memory"
@@ -48,6 +58,8 @@ status_line (status.Machine f) = codes "printer: machine: " ++ fault_line f
 status_line status.Shelf = codes "printer: cannot read the machine text"
 status_line status.Source = codes "printer: cannot read the input"
 status_line status.Sink = codes "printer: cannot write the output"
-status_line (status.TooLong long) = codes "printer: input too long"
+status_line (status.TooLong what) = codes "printer: input too long"
+status_line (status.Rejected f) = codes "printer: " ++ flaw_text f
+status_line (status.Snapshot f) = codes "printer: snapshot: " ++ snapshot_line f
 status_line (status.Rack f) = codes "printer: rack: " ++ rack_line f
 status_line (status.Farm f) = codes "printer: farm: " ++ farm_line f

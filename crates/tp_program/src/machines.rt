@@ -32,6 +32,8 @@ fn of_machine(number: u32, status: Status) -> Status
         | Status::Source
         | Status::Sink
         | Status::TooLong(_)
+        | Status::Rejected(_)
+        | Status::Snapshot(_)
         | Status::Rack(_)
         | Status::Farm(_) => status,
     }

@@ -1,12 +1,30 @@
 //! What holds where everything is in order. The calls do nothing: their contracts are the laws.
 
+ghost use Rattle.tp_program.specs.ChecksInOrder.{NoCheckIsRefused};
 ghost use Rattle.tp_program.specs.FarmsInOrder.{NoFarmIsRefused};
 ghost use Rattle.tp_program.specs.InOrder.{NoRackIsRefused, NoRunIsRefused};
+ghost use Rattle.tp_program.specs.ResumesInOrder.{NoResumeIsRefused};
 
-/// Where the words ask for a run, name the text of a machine, and the script keeps its sizes, no cause of a refusal holds. So
+use tp_snapshot::snapshots_are_read_back;
+
+/// Where the words ask for a run, saved or not, name the text of a machine, and the script keeps its sizes, no cause of a refusal holds. So
 /// where the outside doesn't fail either, a run ends in `Done`, or in `Memory`.
 pub fn runs_in_order_are_answered()
     ensures { NoRunIsRefused }
+{}
+
+/// Where the words ask to go on from a snapshot, and snapshot and script keep their sizes, no cause of a refusal holds. So where the
+/// outside doesn't fail either, the run ends in `Done`, or in `Memory`.
+pub fn resumes_in_order_are_answered()
+    ensures { NoResumeIsRefused }
+{
+    snapshots_are_read_back();
+}
+
+/// Where the words ask for a check, name the text of a machine, and the log keeps its sizes, no cause of a refusal holds but a flaw of the
+/// log. So where the outside doesn't fail either, a check ends in `Done`, in `Rejected`, or in `Memory`.
+pub fn checks_in_order_are_answered()
+    ensures { NoCheckIsRefused }
 {}
 
 /// Where the words ask for what is composed of a rack, and name the text of one, no cause of a refusal holds. So where the

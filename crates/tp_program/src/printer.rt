@@ -2,20 +2,26 @@
 
 ghost use Rattle.std.specs.Prelude.{◌≡◌, ◌⊎◌, None, map, string_bytes, IfSome, IsSome};
 ghost use Rattle.tp_command.specs.App.{seen};
-ghost use Rattle.tp_command.specs.Form.{seed_in};
-ghost use Rattle.tp_command.specs.declared.request.Mode.TheVariants.{Run, Soak, Compose, Farm};
+ghost use Rattle.tp_command.specs.Form.{form, seed_in};
+ghost use Rattle.tp_command.specs.declared.request.Mode.TheVariants.{Run, Save, Resume, Check, Soak, Compose, Farm};
 ghost use Rattle.tp_outside.specs.Outside.{Rises};
+ghost use Rattle.tp_program.specs.Checks.{CheckEnds};
 ghost use Rattle.tp_program.specs.Composing.{ComposeEnds};
 ghost use Rattle.tp_program.specs.Farming.{FarmEnds};
 ghost use Rattle.tp_program.specs.Modes.{Ends};
-ghost use Rattle.tp_program.specs.Requests.{Asks, IsThereFor, asked_by};
+ghost use Rattle.tp_program.specs.Requests.{Asks, IsThereFor};
+ghost use Rattle.tp_program.specs.Resuming.{ResumeEnds};
 ghost use Rattle.tp_program.specs.Runs.{RunEnds};
+ghost use Rattle.tp_program.specs.Saving.{SaveEnds};
 ghost use Rattle.tp_program.specs.Soaking.{SoakEnds};
 
 use crate::Status;
+use crate::checking::check;
 use crate::composing::compose_to;
 use crate::farming::farm;
+use crate::resuming::resume;
 use crate::run::run;
+use crate::saving::save;
 use crate::soaking::soak_to;
 use std::alloc::Global;
 use tp_command::{Mode, Request, WordsFault, read_request};
@@ -45,7 +51,9 @@ fn answer<H: Shelf, S: Source, K: Sink>(
         Mode::Compose => compose_to(alloc, request.arg, shelf, sink),
         Mode::Farm => farm(alloc, request, shelf, source, sink),
         Mode::Soak => soak_to(alloc, request, sink),
-        Mode::Check => Status::Usage,
+        Mode::Check => check(alloc, request, shelf, source, sink),
+        Mode::Save => save(alloc, request, shelf, source, sink),
+        Mode::Resume => resume(alloc, request, shelf, source, sink),
     }
 }
 
@@ -59,9 +67,9 @@ pub fn printer_main<H: Shelf, S: Source, K: Sink>(
     sink: &mut K,
 ) -> Status
     // The words are not of the form: nothing is read or written. Want of memory may come first.
-    ensures usage { result ≡ Status.Usage → (asked_by (map string_bytes words.now) ≡ None)
+    ensures usage { result ≡ Status.Usage → (form (map string_bytes words.now) ≡ None)
         × (source.new ≡ source.old) × (sink.new ≡ sink.old) }
-    ensures used { asked_by (map string_bytes words.now) ≡ None
+    ensures used { form (map string_bytes words.now) ≡ None
         → (result ≡ Status.Usage)
         ⊎ ((result ≡ Status.Memory) × (source.new ≡ source.old) × (sink.new ≡ sink.old)) }
 
@@ -69,6 +77,26 @@ pub fn printer_main<H: Shelf, S: Source, K: Sink>(
     // answers the script's events by a lawful run on the machine; with any other that text for the first lines, up to the cause.
     ensures run { Asks Run (map string_bytes words.now)
         (λ asked. RunEnds S.left K.taken (H.told shelf.old) source.old source.new sink.old sink.new
+        asked result) }
+
+    // And of checking: with `Done` the source was read to its end, what it gave is the text of a log that is lawful with bounds, but
+    // for the causes of its budgets, and the sink took the one line of its counts. With `Rejected`, as with any other status, the
+    // first lines were those of such a log so far, and nothing is written.
+    ensures check { Asks Check (map string_bytes words.now)
+        (λ asked. CheckEnds S.left K.taken (H.told shelf.old) source.old source.new
+        sink.old sink.new
+        asked result) }
+
+    // And of a run that is saved: with `Done` behind that text stands one line, a snapshot of the machine and of where the run ended.
+    ensures save { Asks Save (map string_bytes words.now)
+        (λ asked. SaveEnds S.left K.taken (H.told shelf.old) source.old source.new
+        sink.old sink.new
+        asked result) }
+
+    // And of a run that is resumed: with `Done` it is as of a run, on the machine of the snapshot and from where its standing says.
+    ensures resume { Asks Resume (map string_bytes words.now)
+        (λ asked. ResumeEnds S.left K.taken (H.told shelf.old) source.old source.new
+        sink.old sink.new
         asked result) }
 
     // And of composing: with `Done` the sink took a machine text of the machine that the rack comes to.
@@ -92,7 +120,7 @@ pub fn printer_main<H: Shelf, S: Source, K: Sink>(
     // The outside failed.
     ensures shelf { result ≡ Status.Shelf → Rises (H.faults shelf.old) (H.faults shelf.new) }
     ensures amiss { result ≡ Status.Shelf → IfSome (H.told shelf.old) (λ files.
-        IfSome (asked_by (map string_bytes words.now)) (λ asked. IsThereFor files asked
+        IfSome (form (map string_bytes words.now)) (λ asked. IsThereFor files asked
         → Rises (H.amiss shelf.old) (H.amiss shelf.new))) }
     ensures source { result ≡ Status.Source
         → Rises (S.faults source.old) (S.faults source.new) }

@@ -7,7 +7,7 @@ ghost use Rattle.tp_program.specs.Runs.{RunEnds};
 
 use crate::Status;
 use crate::machine::find_machine;
-use crate::session::run_on;
+use crate::session::{Beginning, run_on};
 use std::alloc::Global;
 use tp_command::Request;
 use tp_outside::{Shelf, Sink, Source};
@@ -35,11 +35,15 @@ pub(crate) fn run<H: Shelf, S: Source, K: Sink>(
 {
     match find_machine(alloc, shelf, request.arg) {
         Ok(machine) => {
-            let settings = Settings {
-                budget: request.budget,
-                bounds: request.bounds,
+            let beginning = Beginning {
+                machine,
+                settings: Settings {
+                    budget: request.budget,
+                    bounds: request.bounds,
+                },
+                from: None,
             };
-            run_on(alloc, machine, settings, source, sink)
+            run_on(alloc, beginning, source, sink)
         }
         Err(status) => status,
     }

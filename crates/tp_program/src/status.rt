@@ -5,17 +5,23 @@ ghost use Rattle.tp_program.specs.Statuses.{status_number};
 use crate::farm_fault::FarmFault;
 use std::fmt;
 use tp_compose::RackFault;
+use tp_log_check::Flaw;
 use tp_machine_text::MachineFault;
+use tp_snapshot::SnapFault;
 
 /// What is too long.
 #[derive(Clone, Copy, Debug, PartialEq, Eq)]
 pub enum Long {
     /// A machine text, the rack text, or the list of a farm, has more than 1,048,576 bytes.
     MachineText,
-    /// The line of this number, counted from 1, has more than 4,096 bytes without its LF.
+    /// The line of this number, counted from 1, has more than 4,096 bytes without its LF, and of a log more than 4,194,304.
     Line(u64),
     /// The script has more than 1,000,000 lines.
     Lines,
+    /// The log has more than 10^18 bytes, or more than 1,000,000 lines of events.
+    Log,
+    /// A snapshot has more than 134,217,728 bytes.
+    Snapshot,
 }
 
 /// How what the words ask for ended, with the number and the line that tell it.
@@ -35,8 +41,12 @@ pub enum Status {
     Source,
     /// The sink failed.
     Sink,
-    /// A machine text, the rack text, the list of a farm, a line or the script is longer than it may be.
+    /// A machine text, the rack text, the list of a farm, a snapshot, a line, the script or the log is longer than it may be.
     TooLong(Long),
+    /// The log is refused. The flaw is never `Memory`.
+    Rejected(Flaw),
+    /// The snapshot is not JSON, or breaks a rule. It never holds `Memory`.
+    Snapshot(SnapFault),
     /// The rack text is not TOML, or breaks a rule, or its flat table does. It never holds `Memory`.
     Rack(RackFault),
     /// The list of a farm names no machines, or one that is refused.
@@ -57,6 +67,8 @@ impl Status {
             Status::Source => 5,
             Status::Sink => 6,
             Status::TooLong(_) => 7,
+            Status::Rejected(_) => 8,
+            Status::Snapshot(_) => 9,
             Status::Rack(_) => 10,
             Status::Farm(_) => 11,
         }
@@ -85,6 +97,12 @@ impl fmt::Display for Status {
             Status::Source => f.write_str("printer: cannot read the input"),
             Status::Sink => f.write_str("printer: cannot write the output"),
             Status::TooLong(_) => f.write_str("printer: input too long"),
+            Status::Rejected(flaw) => write!(f, "printer: {flaw}"),
+            Status::Snapshot(SnapFault::Memory) => {
+                f.write_str("printer: snapshot: out of memory")
+            }
+            Status::Snapshot(SnapFault::NotJson) => f.write_str("printer: snapshot: not JSON"),
+            Status::Snapshot(SnapFault::Rule(n)) => write!(f, "printer: snapshot: rule {n}"),
             Status::Rack(RackFault::Memory) => f.write_str("printer: rack: out of memory"),
             Status::Rack(RackFault::NotToml) => f.write_str("printer: rack: not TOML"),
             Status::Rack(RackFault::Rule(n)) => write!(f, "printer: rack: rule {n}"),

@@ -13,6 +13,7 @@ mod naming;
 mod plans;
 mod reading;
 mod sides;
+mod spelling;
 mod standing;
 mod waiting;
 mod writing;

@@ -4,6 +4,8 @@ ghost use Rattle.serde_json.specs.Data.{member, no_members, object};
 ghost use Rattle.serde_json.specs.View.{view};
 ghost use Rattle.tp_words.specs.Parts.{lacks};
 ghost use Rattle.tp_standing.specs.Sound.{IsSound};
+ghost use Rattle.tp_snapshot.specs.Laws.{IsSpelled};
+ghost use Rattle.tp_snapshot.specs.Rules.{IsSnapshot};
 ghost use Rattle.tp_snapshot.specs.Texts.{HasNames, IsWritten};
 ghost use Rattle.tp_snapshot.specs.Written.{snapshot_data, whole_data};
 
@@ -11,6 +13,7 @@ use crate::jobs::jobs_value;
 use crate::making::text_value;
 use crate::moments::{outs_value, stock_value};
 use crate::plans::plans_value;
+use crate::spelling::standing_law;
 use crate::waiting::waiting_value;
 use serde_json::{Value, json};
 use std::alloc::{AllocError, Global};
@@ -83,7 +86,8 @@ fn snapshot_value(
     Ok(snapshot_object(alloc, standing.now, parts)?)
 }
 
-/// The machine and where its session stands, as one line without its end. Takes memory and time in proportion to the line.
+/// The machine and where its session stands, as one line without its end: a snapshot of both. Takes memory and time in proportion to
+/// the line.
 pub fn write_snapshot(
     alloc: Global,
     machine: &Machine,
@@ -91,8 +95,12 @@ pub fn write_snapshot(
 ) -> Result<Vec<u8>, Memory>
     requires { IsSound machine.now standing.now }
     ensures written { IfOk result (λ bytes. IsWritten bytes.items machine.now standing.entry.now) }
+    ensures snapshot { IfOk result (λ bytes.
+        IsSnapshot bytes.items machine.now standing.entry.now) }
+    ensures spelled { IfOk result (λ _. IsSpelled standing.entry.now) }
     ensures one_line { IfOk result (λ bytes. lacks 10 bytes.items ≡ true) }
 {
+    standing_law(standing);
     let text = print_machine(alloc, machine)?;
     let value = snapshot_value(alloc, text.as_slice(), machine, standing)?;
     Ok(value.to_vec(alloc)?)

@@ -28,10 +28,10 @@ module _ {S : Type 0} (tells : S → Event → List ℕ → S → Type 0) where
   abbrev pub AnswersLine : S → List ℕ → List ℕ → S → Type 0
   AnswersLine s line text s' = MatchOption (line_event line) ((text ≡ []) × (s' ≡ s)) (λ event. tells s event text s')
 
-  -- from the start all lines of what the source gave were answered
-  abbrev pub IsTaken : S → Option (List ℕ) → Option (List ℕ) → Option (List ℕ) → Option (List ℕ) → Type 0
-  IsTaken start left taken left' taken' = (bytes : List ℕ) × IsReadFrom left bytes left'
-      × ((s : S) × TakesAll AnswersLine line_bytes most_lines (place_of start 0 taken) bytes s taken')
+  -- from the start on all lines of what the source gave were answered, up to the last state
+  abbrev pub IsTaken : S → Option (List ℕ) → Option (List ℕ) → S → Option (List ℕ) → Option (List ℕ) → Type 0
+  IsTaken start left taken last left' taken' = (bytes : List ℕ) × IsReadFrom left bytes left'
+      × TakesAll AnswersLine line_bytes most_lines (place_of start 0 taken) bytes last taken'
 
   -- or the first lines, and then the run stopped for this cause
   abbrev pub IsStopped : S → Option (List ℕ) → Option (List ℕ) → Stop → Option (List ℕ) → Option (List ℕ) → Type 0

@@ -76,19 +76,19 @@ impl<T: Teller> LineTaker for Scripted<T> {
 }
 
 /// Answers the events of a script, and writes each answer before the next line is handled. Lines have at most 4,096 bytes
-/// without their LF, and there are at most 1,000,000; blank lines and comments are passed over.
+/// without their LF, and there are at most 1,000,000; blank lines and comments are passed over. Gives the teller back as the last
+/// event left it.
 pub fn answer_script<T: Teller + Drop, S: Source, K: Sink>(
     alloc: Global,
     teller: T,
     source: &mut S,
     sink: &mut K,
-) -> Result<(), Stop>
+) -> Result<T, Stop>
     requires fresh { T.answered teller ≡ 0 }
     requires clear { T.text teller ≡ [] }
     // The script is answered whole, and the source was read to its end.
-    ensures all { OnOk result (IsTaken T.tells (T.state teller) (S.left source.old)
-        (K.taken sink.old)
-        (S.left source.new) (K.taken sink.new)) }
+    ensures all { IfOk result (λ t. IsTaken T.tells (T.state teller) (S.left source.old)
+        (K.taken sink.old) (T.state t) (S.left source.new) (K.taken sink.new)) }
     ensures end { OnOk result (IfSome (S.left source.old) (λ _. S.left source.new ≡ Some [])) }
     // Else its first lines are answered, up to the cause.
     ensures stops { IfErr result (λ stop. IsStopped T.tells (T.state teller) (S.left source.old)
@@ -100,5 +100,8 @@ pub fn answer_script<T: Teller + Drop, S: Source, K: Sink>(
     ensures sink_counted { IsCounted (K.faults sink.old) (K.faults sink.new) }
 {
     let mut scripted = Scripted { alloc, teller };
-    stream(alloc, &mut scripted, source, sink, SCRIPT_LIMITS)
+    match stream(alloc, &mut scripted, source, sink, SCRIPT_LIMITS) {
+        Ok(()) => Ok(scripted.teller),
+        Err(stop) => Err(stop),
+    }
 }

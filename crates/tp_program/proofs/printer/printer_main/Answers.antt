@@ -2,8 +2,8 @@
 use Rattle.std.proofs.Common.{inl, inr, refl}
 use Rattle.std.specs.Prelude.{map, string_bytes}
 use Rattle.tp_command.specs.App.{seen}
-use Rattle.tp_command.specs.declared.request.Mode.TheVariants.{Run, Soak, Compose, Farm}
-use Rattle.tp_program.proofs.AskedFacts.{amiss_asked, asks_nothing, compose_ends, farm_ends, none_asked, run_ends, soak_ends, usage, used}
+use Rattle.tp_command.specs.declared.request.Mode.TheVariants.{Run, Save, Resume, Check, Soak, Compose, Farm}
+use Rattle.tp_program.proofs.AskedFacts.{amiss_asked, asks_nothing, check_ends, compose_ends, farm_ends, resume_ends, run_ends, save_ends, soak_ends, usage, used}
 use Rattle.tp_program.proofs.SeedFacts.{gives_seed}
 use Rattle.tp_program.proofs.printer.printer_main.Goals as goal
 
@@ -15,6 +15,15 @@ returns-in-Ok-clause-used g c = used (map string_bytes c.args.words.now) (seen c
 
 pub returns-in-Ok-clause-run : goal.returns-in-Ok-clause-run
 returns-in-Ok-clause-run g c = run_ends (map string_bytes c.args.words.now) (seen c.in-Ok.request) c.in-Ok.ensures.ok g.S.Source.left g.K.Sink.taken _ _ _ _ _ _ c.answer.ensures.ends
+
+pub returns-in-Ok-clause-check : goal.returns-in-Ok-clause-check
+returns-in-Ok-clause-check g c = check_ends (map string_bytes c.args.words.now) (seen c.in-Ok.request) c.in-Ok.ensures.ok g.S.Source.left g.K.Sink.taken _ _ _ _ _ _ c.answer.ensures.ends
+
+pub returns-in-Ok-clause-save : goal.returns-in-Ok-clause-save
+returns-in-Ok-clause-save g c = save_ends (map string_bytes c.args.words.now) (seen c.in-Ok.request) c.in-Ok.ensures.ok g.S.Source.left g.K.Sink.taken _ _ _ _ _ _ c.answer.ensures.ends
+
+pub returns-in-Ok-clause-resume : goal.returns-in-Ok-clause-resume
+returns-in-Ok-clause-resume g c = resume_ends (map string_bytes c.args.words.now) (seen c.in-Ok.request) c.in-Ok.ensures.ok g.S.Source.left g.K.Sink.taken _ _ _ _ _ _ c.answer.ensures.ends
 
 pub returns-in-Ok-clause-compose : goal.returns-in-Ok-clause-compose
 returns-in-Ok-clause-compose g c = compose_ends (map string_bytes c.args.words.now) (seen c.in-Ok.request) c.in-Ok.ensures.ok g.S.Source.left g.K.Sink.taken _ _ _ _ _ _ c.answer.ensures.ends
@@ -37,6 +46,15 @@ returns-in-Err-Memory-clause-used g c = λ none. inr (refl, refl, refl)
 pub returns-in-Err-Memory-clause-run : goal.returns-in-Err-Memory-clause-run
 returns-in-Err-Memory-clause-run g c = λ asked named is. inl (tt, refl, refl)
 
+pub returns-in-Err-Memory-clause-check : goal.returns-in-Err-Memory-clause-check
+returns-in-Err-Memory-clause-check g c = λ asked named is. inl (tt, refl, refl)
+
+pub returns-in-Err-Memory-clause-save : goal.returns-in-Err-Memory-clause-save
+returns-in-Err-Memory-clause-save g c = λ asked named is. inl (tt, refl, refl)
+
+pub returns-in-Err-Memory-clause-resume : goal.returns-in-Err-Memory-clause-resume
+returns-in-Err-Memory-clause-resume g c = λ asked named is. inl (tt, refl, refl)
+
 pub returns-in-Err-Memory-clause-compose : goal.returns-in-Err-Memory-clause-compose
 returns-in-Err-Memory-clause-compose g c = λ asked named is. (refl, inl (tt, refl))
 
@@ -47,10 +65,19 @@ pub returns-in-Err-Memory-clause-soak : goal.returns-in-Err-Memory-clause-soak
 returns-in-Err-Memory-clause-soak g c = λ asked named is. (refl, (refl, inl (refl, refl)))
 
 pub returns-in-Err-Usage-clause-usage : goal.returns-in-Err-Usage-clause-usage
-returns-in-Err-Usage-clause-usage g c = λ is. (none_asked (map string_bytes c.args.words.now) (c.in-Err-Usage.ensures.usage c.in-Err-Usage.field-0-is), refl, refl)
+returns-in-Err-Usage-clause-usage g c = λ is. (c.in-Err-Usage.ensures.usage c.in-Err-Usage.field-0-is, refl, refl)
 
 pub returns-in-Err-Usage-clause-run : goal.returns-in-Err-Usage-clause-run
 returns-in-Err-Usage-clause-run g c = asks_nothing Run (map string_bytes c.args.words.now) _ (c.in-Err-Usage.ensures.usage c.in-Err-Usage.field-0-is)
+
+pub returns-in-Err-Usage-clause-check : goal.returns-in-Err-Usage-clause-check
+returns-in-Err-Usage-clause-check g c = asks_nothing Check (map string_bytes c.args.words.now) _ (c.in-Err-Usage.ensures.usage c.in-Err-Usage.field-0-is)
+
+pub returns-in-Err-Usage-clause-save : goal.returns-in-Err-Usage-clause-save
+returns-in-Err-Usage-clause-save g c = asks_nothing Save (map string_bytes c.args.words.now) _ (c.in-Err-Usage.ensures.usage c.in-Err-Usage.field-0-is)
+
+pub returns-in-Err-Usage-clause-resume : goal.returns-in-Err-Usage-clause-resume
+returns-in-Err-Usage-clause-resume g c = asks_nothing Resume (map string_bytes c.args.words.now) _ (c.in-Err-Usage.ensures.usage c.in-Err-Usage.field-0-is)
 
 pub returns-in-Err-Usage-clause-compose : goal.returns-in-Err-Usage-clause-compose
 returns-in-Err-Usage-clause-compose g c = asks_nothing Compose (map string_bytes c.args.words.now) _ (c.in-Err-Usage.ensures.usage c.in-Err-Usage.field-0-is)

@@ -1,19 +1,13 @@
--- What a session answered from its start is a run on its machine.
-use Rattle.std.proofs.lemmas.Result.{IfErr-weaker, on_ok_weaker}
-use Rattle.tp_program.proofs.RunFacts.{done_on, never_began, stops_on}
+-- The script is answered from where the session stands; or none could be made, and nothing was read.
+use Rattle.std.proofs.lemmas.Result.{IfErr-weaker, IfOk-weaker}
+use Rattle.tp_program.proofs.RunFacts.{never_began, stopped_at, taken_at}
 use Rattle.tp_program.proofs.session.answer_on.Goals as goal
 
-pub returns-in-Ok-clause-done : goal.returns-in-Ok-clause-done
-returns-in-Ok-clause-done g c =
-    on_ok_weaker c.answer_script.result
-    (done_on c.args.machine c.args.settings.budget c.args.settings.bounds _ _ _ _ c.in-Ok.session.standing (c.sessions_are_lawful.ensures.whole c.args.machine c.args.settings.budget c.args.settings.bounds) c.in-Ok.ensures.standing)
-    c.answer_script.ensures.all
+pub returns-in-Ok-clause-all : goal.returns-in-Ok-clause-all
+returns-in-Ok-clause-all g c = IfOk-weaker c.answer_script.result _ _ (λ s. taken_at _ _ _ _ c.in-Ok.session.standing _ s.standing c.in-Ok.ensures.begins) c.answer_script.ensures.all
 
 pub returns-in-Ok-clause-stops : goal.returns-in-Ok-clause-stops
-returns-in-Ok-clause-stops g c =
-    IfErr-weaker c.answer_script.result _ _
-    (λ stop. stops_on c.args.machine c.args.settings.budget c.args.settings.bounds _ _ _ _ c.in-Ok.session.standing stop (c.sessions_are_lawful.ensures.stopped c.args.machine c.args.settings.budget c.args.settings.bounds) c.in-Ok.ensures.standing)
-    c.answer_script.ensures.stops
+returns-in-Ok-clause-stops g c = IfErr-weaker c.answer_script.result _ _ (λ cause. stopped_at _ _ _ _ c.in-Ok.session.standing _ cause c.in-Ok.ensures.begins) c.answer_script.ensures.stops
 
 pub returns-in-Err-clause-stops : goal.returns-in-Err-clause-stops
-returns-in-Err-clause-stops g c = never_began c.args.machine c.args.settings.budget c.args.settings.bounds _ _ (c.sessions_are_lawful.ensures.stopped c.args.machine c.args.settings.budget c.args.settings.bounds)
+returns-in-Err-clause-stops g c = never_began _ _ _

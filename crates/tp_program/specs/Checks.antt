@@ -1,0 +1,65 @@
+-- How checking a log ends, by its status.
+use Rattle.std.specs.Prelude.{◌≡◌, ◌⊎◌, ℕ, List, [], Option, Some, IfSome}
+use Rattle.tp_outside.specs.Outside.{Files}
+use Rattle.tp_machine.specs.declared.machine.Machine.{Machine}
+use Rattle.tp_machine_text.specs.Texts.{IsMachineText}
+use Rattle.tp_command.specs.Form.{Asked}
+use Rattle.tp_entries.specs.declared.counts.Counts.{Counts}
+use Rattle.tp_checking.specs.Ends.{IsAcceptedFrom, StopsFrom}
+use Rattle.tp_checking.specs.Summary.{counts_text}
+use Rattle.tp_checking.specs.declared.cause.Cause.{Cause}
+use Rattle.tp_checking.specs.declared.cause.Cause.TheVariants as cause
+use Rattle.tp_program.specs.Runs.{NoMachine}
+use Rattle.tp_program.specs.Texts.{IsShelved}
+use Rattle.tp_program.specs.Writing.{WritesOne}
+use Rattle.tp_program.specs.declared.status.Long.TheVariants.{Line, Log}
+use Rattle.tp_program.specs.declared.status.Status.{Status}
+use Rattle.tp_program.specs.declared.status.Status.TheVariants.{Done, Memory, Source, Sink, TooLong, Rejected}
+
+abbrev pub status_of : Cause → Status
+status_of cause.Memory = Memory
+status_of cause.Source = Source
+status_of (cause.Line n) = TooLong (Line n)
+status_of cause.Log = TooLong Log
+status_of (cause.Flaw flaw) = Rejected flaw
+
+-- the line of these counts was written, or a first part of it
+abbrev pub WritesCounts : Counts → Option (List ℕ) → Option (List ℕ) → Status → Type 0
+WritesCounts counts taken taken' status = WritesOne (λ text. text ≡ counts_text counts) taken taken' status
+
+-- on a machine: what the source told before and after, and the sink before and after
+module _ {K : Type 0} (taken : K → Option (List ℕ)) (machine : Machine) (left left' : Option (List ℕ)) (sink sink' : K) where
+  -- the source was read to its end, what it gave is the text of a log that is lawful with bounds, but for the causes of its
+  -- budgets, and the line of the log's counts was written, or a first part of it
+  pub record Accepts (status : Status) : Type 0 where
+    pub counts : Counts
+    pub log : IsAcceptedFrom machine left left' counts
+    pub all : IfSome left (λ _. left' ≡ Some [])
+    pub written : WritesCounts counts (taken sink) (taken sink') status
+
+  -- the first lines were those of such a log so far, up to the cause, and nothing was written
+  abbrev pub StopsBy : Cause → Type 0
+  StopsBy why = StopsFrom machine left left' why × (sink' ≡ sink)
+
+  abbrev pub ChecksOn : Status → Type 0
+  ChecksOn Done = Accepts Done
+  ChecksOn Sink = Accepts Sink
+  ChecksOn Memory = sink' ≡ sink
+  ChecksOn Source = StopsBy cause.Source
+  ChecksOn (TooLong (Line n)) = StopsBy (cause.Line n)
+  ChecksOn (TooLong Log) = StopsBy cause.Log
+  ChecksOn (Rejected flaw) = StopsBy (cause.Flaw flaw)
+  ChecksOn _ = ⊥
+
+-- the name is that of a machine's text, and the log was looked at as one of the machine
+pub record CheckedBy {K : Type 0} (taken : K → Option (List ℕ)) (told : Option Files) (asked : Asked) (left left' : Option (List ℕ)) (sink sink' : K) (status : Status) : Type 0 where
+  pub machine : Machine
+  pub text : IsShelved told asked.arg (λ text. IsMachineText text machine)
+  pub did : ChecksOn taken machine left left' sink sink' status
+
+-- how a check ends: there is no machine, and nothing is read or written; or the log was looked at
+module _ {S K : Type 0} (left : S → Option (List ℕ)) (taken : K → Option (List ℕ)) (told : Option Files) (source source' : S) (sink sink' : K) where
+  abbrev pub CheckEnds : Asked → Status → Type 0
+  CheckEnds asked status =
+      (NoMachine told asked.arg status × (source' ≡ source) × (sink' ≡ sink))
+      ⊎ CheckedBy taken told asked (left source) (left source') sink sink' status

@@ -1,0 +1,35 @@
+-- Checks in which everything but the log itself is in order, and what that excludes.
+use Rattle.std.specs.Prelude.{◌≡◌, ◌≢◌, ℕ, List, Option, Some, None, IsTrue}
+use Rattle.tp_outside.specs.Outside.{Files}
+use Rattle.tp_machine.specs.declared.machine.Machine.{Machine}
+use Rattle.tp_machine_text.specs.Texts.{IsMachineText}
+use Rattle.tp_command.specs.Form.{Asked, form}
+use Rattle.tp_command.specs.declared.request.Mode.TheVariants.{Check}
+use Rattle.tp_checking.specs.Sizes.{KeepsSizes}
+use Rattle.tp_log_check.specs.declared.flaw.Flaw.{Flaw}
+use Rattle.tp_program.specs.Checks.{CheckedBy}
+use Rattle.tp_program.specs.InOrder.{IsThere, is_refusal}
+use Rattle.tp_program.specs.Runs.{NoMachine}
+use Rattle.tp_program.specs.declared.status.Status.{Status}
+use Rattle.tp_program.specs.declared.status.Status.TheVariants.{Rejected}
+
+-- the words ask for a check on the text of a machine, and the text and the log keep their sizes
+pub record IsCheckInOrder (words : List (List ℕ)) (files : Files) (log : List ℕ) (asked : Asked) : Type 0 where
+  pub named : form words ≡ Some asked
+  pub mode : asked.mode ≡ Check
+  pub text : List ℕ
+  pub there : IsThere files asked.arg text
+  pub machine : Machine
+  pub is_text : IsMachineText text machine
+  pub sizes : KeepsSizes log
+
+-- then no cause of a refusal holds but a flaw of the log
+pub record CheckIsNotRefused (words : List (List ℕ)) (files : Files) (log : List ℕ) (asked : Asked) : Type 0 where
+  pub no_usage : form words ≢ None
+  pub found : (status : Status) → IsTrue (is_refusal status) → ¬ NoMachine (Some files) asked.arg status
+  pub looked : (status : Status) → IsTrue (is_refusal status) → ((flaw : Flaw) → status ≢ Rejected flaw) → (left taken taken' : Option (List ℕ))
+      → ¬ CheckedBy (λ t. t) (Some files) asked (Some log) left taken taken' status
+
+abbrev pub NoCheckIsRefused : Type 0
+NoCheckIsRefused = (words : List (List ℕ)) (files : Files) (log : List ℕ) (asked : Asked)
+    → IsCheckInOrder words files log asked → CheckIsNotRefused words files log asked
