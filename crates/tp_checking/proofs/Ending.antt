@@ -7,6 +7,8 @@ use Rattle.tp_log.specs.Logs.{log_text}
 use Rattle.tp_log.specs.LogLines.{log_line_text}
 use Rattle.tp_log.proofs.Items.{text_of-log}
 use Rattle.tp_log_check.specs.Checking.{CheckerValue, IsAcceptedLog, items_of}
+use Rattle.tp_log_check.specs.FlawLines.{LiesInLast}
+use Rattle.tp_log_check.proofs.FlawPlaces.{at-last}
 use Rattle.tp_log_check.specs.declared.flaw.Flaw.{Flaw}
 use Rattle.tp_log_check.specs.declared.flaw.Flaw.TheVariants.{Memory as WantsMemory}
 use Rattle.tp_machine.specs.declared.machine.Machine.{Machine}
@@ -33,18 +35,18 @@ module _ (machine : Machine) (c : CheckerValue) (text : List ℕ) (is : c.machin
       }
 
   -- and where the end is refused
-  refused-at-end : (flaw : Flaw) → flaw ≢ WantsMemory → StopsFor machine text (Flawed flaw)
-  refused-at-end flaw real = record {
+  refused-at-end : (flaw : Flaw) → flaw ≢ WantsMemory → LiesInLast h.told flaw → StopsFor machine text (Flawed flaw)
+  refused-at-end flaw real lies = record {
     done = text;
     rest = [];
     parts = sym (append-nil text);
     whole = ap ends_whole whole-text ∙ ends-text h.told;
     sizes = sizes;
     taken = (c, is, h);
-    stops = (record { line = []; more = []; next = refl; bytes = (let b = sizes.bytes in omega (arith, b)); events = (let e = sizes.events in omega (arith, e)) }, real);
+    stops = (record { line = []; more = []; next = refl; bytes = (let b = sizes.bytes in omega (arith, b)); events = (let e = sizes.events in omega (arith, e)) }, real, record { told = h.told; lines = h.lines; lies = at-last h.told [] flaw lies });
   }
 
-  pub refused-end : (left left' : Option (List ℕ)) (cause : Cause) → IsReadFrom left text left' → EndsFor cause → StopsFrom machine left left' cause
+  pub refused-end : (left left' : Option (List ℕ)) (cause : Cause) → IsReadFrom left text left' → EndsFor c cause → StopsFrom machine left left' cause
   refused-end left left' Memory read ends = tt
-  refused-end left left' (Flawed flaw) read ends = (text, read, refused-at-end flaw ends)
+  refused-end left left' (Flawed flaw) read ends = (text, read, refused-at-end flaw ends.0 (ends.1 h.told h.read))
   refused-end left left' other read ends = absurd ends

@@ -52,7 +52,7 @@ why-refused machine at done rest line more (Flaw f) h next w =
     let events = h.events in
     let few_bytes = w.0.bytes in
     let few_events = w.0.events in
-    (record { line = line; more = more; next = next; bytes = omega (arith, bytes, few_bytes); events = omega (arith, events, few_events) }, w.1)
+    (record { line = line; more = more; next = next; bytes = omega (arith, bytes, few_bytes); events = omega (arith, events, few_events) }, w.1, record { told = h.by.told; lines = h.by.lines; lies = w.2 h.by.told h.by.read })
 
 no-told : (before told : List ℕ) → Some [] ≡ Some (before ++ told) → before ≡ []
 no-told [] told e = refl

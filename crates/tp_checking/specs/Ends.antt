@@ -6,6 +6,7 @@ use Rattle.tp_log.specs.LogLines.{IsLogLine, log_line_text}
 use Rattle.tp_log.specs.Logs.{log_text}
 use Rattle.tp_log.specs.declared.log_line.LogLine.{LogLine}
 use Rattle.tp_log_check.specs.Checking.{CheckerValue, HasRead, IsAcceptedLog, items_of}
+use Rattle.tp_log_check.specs.FlawLines.{LiesAt, LiesInLast}
 use Rattle.tp_log_check.specs.declared.flaw.Flaw.{Flaw}
 use Rattle.tp_log_check.specs.declared.flaw.Flaw.TheVariants.{Memory as WantsMemory}
 use Rattle.tp_machine.specs.declared.machine.Machine.{Machine}
@@ -47,19 +48,25 @@ pub record IsRefusedAt (done rest : List ℕ) : Type 0 where
   pub bytes : length done + length line ≤ most_bytes
   pub events : event_lines done + events_in line ≤ most_events
 
+-- a flaw is told where it lies behind the first lines: the line is the first that is off the grammar, or it is a flaw of the last event
+pub record IsToldBehind (done line : List ℕ) (flaw : Flaw) : Type 0 where
+  pub told : List LogLine
+  pub lines : lines_of done ≡ map log_line_text told
+  pub lies : LiesAt told line flaw
+
 -- why the lines behind the first ones are not taken
 abbrev pub StopsAt : List ℕ → List ℕ → Cause → Type 0
 StopsAt done rest Memory = ⊥
 StopsAt done rest Source = lacks 10 rest ≡ true
 StopsAt done rest (Line n) = BeginsTooLong line_bytes rest × (n ≡ length (lines_of done) + 1)
 StopsAt done rest Log = (most_bytes < length done + length rest) ⊎ ((event_lines done ≡ most_events) × (begins_event rest ≡ true))
-StopsAt done rest (Flawed flaw) = IsRefusedAt done rest × (flaw ≢ WantsMemory)
+StopsAt done rest (Flawed flaw) = (refused : IsRefusedAt done rest) × (flaw ≢ WantsMemory) × IsToldBehind done refused.line flaw
 
--- why the end of a log is not accepted of which all lines were taken
-abbrev pub EndsFor : Cause → Type 0
-EndsFor Memory = Unit {0}
-EndsFor (Flawed flaw) = flaw ≢ WantsMemory
-EndsFor _ = ⊥
+-- why the end of a log is not accepted of which the checker took all lines
+abbrev pub EndsFor : CheckerValue → Cause → Type 0
+EndsFor c Memory = Unit {0}
+EndsFor c (Flawed flaw) = (flaw ≢ WantsMemory) × ((told : List LogLine) → HasRead c told → LiesInLast told flaw)
+EndsFor c _ = ⊥
 
 -- the first lines of the text were taken, and then it was stopped for this cause
 pub record StopsFor (machine : Machine) (text : List ℕ) (cause : Cause) : Type 0 where

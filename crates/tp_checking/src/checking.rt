@@ -52,17 +52,26 @@ fn feed_all<S: Source>(alloc: Global, checked: &mut Checked, source: &mut S) -> 
     }
 }
 
-/// Ends the log of which all lines were taken.
-fn end(mut checked: Checked) -> Result<Counts, Cause>
+/// Ends the log of which the checker took all lines.
+fn finish(checker: &mut LogChecker) -> Result<Counts, Cause>
     ensures accepted { IfOk result (λ counts. (told : List LogLine)
-        → HasRead checked.checker told → IsAcceptedLog checked.checker.machine told counts) }
-    ensures ends { IfErr result EndsFor }
+        → HasRead checker.old told → IsAcceptedLog checker.old.machine told counts) }
+    ensures ends { IfErr result (EndsFor checker.old) }
 {
-    match checked.checker.finish() {
+    match checker.finish() {
         Ok(counts) => Ok(counts),
         Err(Flaw::Memory) => Err(Cause::Memory),
         Err(flaw) => Err(Cause::Flaw(flaw)),
     }
+}
+
+/// Ends the log of which all lines were taken.
+fn end(mut checked: Checked) -> Result<Counts, Cause>
+    ensures accepted { IfOk result (λ counts. (told : List LogLine)
+        → HasRead checked.checker told → IsAcceptedLog checked.checker.machine told counts) }
+    ensures ends { IfErr result (EndsFor checked.checker) }
+{
+    finish(&mut checked.checker)
 }
 
 /// Reads the source to its end and looks at its lines as those of a log of the machine with bounds, up to the first thing that is

@@ -7,3 +7,5 @@ pub mod Judged
 pub mod Denying
 pub mod InPlace
 pub mod PlacedTurns
+pub mod FlawPlaces
+pub mod HeightFacts

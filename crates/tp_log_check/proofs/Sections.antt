@@ -84,4 +84,5 @@ module _ (machine : Machine) (state state' : SessionState) (events lines : ℕ) 
             (one_more machine (entries_of h.sections) (entry q.event q.items.items) empty_state state state' h.accepted accepted);
         only = lead-more machine h.sections last empty_state state state' h.only only;
         lines = h.lines ∙ sym all_lines ∙ sym (append-nil (log_lines (items_of (h.sections ++ last ∷ []))));
+        number = tt;
       }

@@ -1,5 +1,5 @@
 -- What a checker of logs is seen as, and what it has read.
-use Rattle.std.specs.Prelude.{◌≡◌, ℕ, ◌+◌, ◌≤◌, true, List, [], ◌∷◌, ◌++◌, map, flat_map, All, Option, Some, None, IfSome, if◌then◌else◌}
+use Rattle.std.specs.Prelude.{◌≡◌, ℕ, ◌+◌, ◌<◌, ◌≤◌, ◌^◌, true, List, [], ◌∷◌, ◌++◌, length, map, flat_map, All, Option, Some, None, IfSome, if◌then◌else◌}
 use Rattle.tp_bounds.specs.declared.tree.BoundTree.{BoundTree}
 use Rattle.tp_entries.specs.Counting.{counts_of}
 use Rattle.tp_entries.specs.Gathered.{ArePlain, IsPending}
@@ -60,8 +60,9 @@ pub record CanGoOn (machine : Machine) (state : SessionState) (pending : Option 
   pub can : CanTakeEvents machine taken state
   pub stocked : KeepsStock machine taken state
 
--- no count is beyond the lines
+-- no count is beyond the lines, and the line behind them has a number
 pub record AreWithin (lines : ℕ) (counts : Counts) : Type 0 where
+  pub numbered : lines + 1 < 2 ^ 64
   pub events : counts.events ≤ lines
   pub plans : counts.plans ≤ lines
   pub nones : counts.nones ≤ lines
@@ -106,10 +107,12 @@ pub record HasTaken (c : CheckerValue) (told : List LogLine) : Type 0 where
   pub accepted : AreAccepted c.machine empty_state (entries_of sections) c.state
   pub only : LeadOn c.machine empty_state sections c.state
   pub lines : told ≡ log_lines (items_of sections) ++ lines_under c.under
+  pub number : IfSome c.under (λ u. u.line ≡ length (log_lines (items_of sections)) + 1)
 
 -- these lines were fed, and they are counted. Nothing is wrong with them, and the last event is under way
 pub record HasRead (c : CheckerValue) (told : List LogLine) : Type 0 where
   pub taken : HasTaken c told
+  pub fed : c.lines ≡ length told
   pub counted : c.counts ≡ counts_of told
   pub flawless : c.flaw ≡ None
   pub begun : c.under ≡ None → told ≡ []

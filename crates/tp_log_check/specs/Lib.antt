@@ -1,4 +1,5 @@
 pub mod FlawText
 pub mod Judging
 pub mod Lawful
+pub mod FlawLines
 pub mod Checking

@@ -1,10 +1,13 @@
 //! A log looked at line by line.
 
-ghost use Rattle.std.specs.Prelude.{◌≡◌, ◌≢◌, ◌+◌, ◌<◌, ◌^◌, ◌++◌, ◌∷◌, [], List, Some, None, Err, false, OnOk, OnErr, IfOk, IfErr, IsSome, length};
+ghost use Rattle.std.specs.Prelude.{◌≡◌, ◌≢◌, ◌+◌, ◌<◌, ◌^◌, ◌++◌, ◌∷◌, [], List, Some, None, Err, false, OnOk, OnErr, IfOk, IfErr, IfSome, IsSome, length};
 ghost use Rattle.std.specs.Bool.{MatchBool};
+ghost use Rattle.std.specs.List.{All};
+ghost use Rattle.tp_entries.specs.Heights.{heights};
 ghost use Rattle.tp_log.specs.LogLines.{IsLogLine, is_event, log_line_text};
 ghost use Rattle.tp_log.specs.declared.log_line.LogLine.{LogLine};
 ghost use Rattle.tp_log.specs.declared.log_line.LogLine.TheVariants.{Event as EventLine};
+ghost use Rattle.tp_log_check.specs.FlawLines.{IsOffOr, LiesAt, LiesBehind, LiesInLast};
 ghost use Rattle.tp_log_check.specs.declared.flaw.Flaw.{Flaw};
 ghost use Rattle.tp_log_check.specs.declared.flaw.Flaw.TheVariants.{Memory as WantsMemory};
 ghost use Rattle.tp_script.specs.Printed.{IsEchoed};
@@ -37,19 +40,23 @@ pub struct LogChecker {
     flaw: Option<Flaw>,
 }
 
-/// What is wrong before a line that is off the grammar, or that it is.
-fn off_flaw(pending: &Pending, found: Option<Stop>, line: u64) -> Flaw
-    ensures { result ≢ WantsMemory }
+/// What is wrong with what is told of the event before a line that is off the grammar.
+fn flaw_before(pending: &Pending, found: Option<Stop>) -> Option<Flaw>
+    ensures known { IfSome result (λ flaw. flaw ≢ WantsMemory) }
+    ensures lies { IfSome result (λ flaw.
+        pending.now.line + 1 + heights pending.now.items.items < 2 ^ 64
+        → LiesBehind pending.now.line
+        (pending.now.line + 1 + heights pending.now.items.items) flaw) }
 {
     match found {
         Some(stop) => {
             if stop.item < pending.items.len() {
-                flaw_of(&pending.items, pending.line, stop)
+                Some(flaw_of(&pending.items, pending.line, stop))
             } else {
-                Flaw::Text { line }
+                None
             }
         }
-        None => Flaw::Text { line },
+        None => None,
     }
 }
 
@@ -113,6 +120,8 @@ impl LogChecker {
         ensures refused { IfErr result (λ flaw. flaw ≢ WantsMemory → (told more : List LogLine)
             → HasTaken self.old told → EndEvent more
             → IsLawfulLog self.old.machine (told ++ more) → ⊥) }
+        ensures lies { IfErr result (λ flaw. flaw ≢ WantsMemory → (told : List LogLine)
+            → HasTaken self.old told → length told + 1 < 2 ^ 64 → LiesInLast told flaw) }
         ensures ended { OnOk result (self.new.under ≡ None) }
         ensures machine { self.new.machine ≡ self.old.machine }
         ensures events { self.new.events ≡ self.old.events }
@@ -150,10 +159,12 @@ impl LogChecker {
         requires few { self.old.events < most_events }
         requires echoed { IsEchoed event }
         ensures taken { OnOk result ((told : List LogLine) → HasTaken self.old told
-            → HasTaken self.new (told ++ EventLine event ∷ [])) }
+            → line ≡ length told + 1 → HasTaken self.new (told ++ EventLine event ∷ [])) }
         ensures refused { IfErr result (λ flaw. flaw ≢ WantsMemory → (told more : List LogLine)
             → HasTaken self.old told
             → IsLawfulLog self.old.machine (told ++ EventLine event ∷ more) → ⊥) }
+        ensures lies { IfErr result (λ flaw. flaw ≢ WantsMemory → (told : List LogLine)
+            → HasTaken self.old told → line ≡ length told + 1 → LiesInLast told flaw) }
         ensures begun { OnOk result (IsSome self.new.under) }
         ensures machine { self.new.machine ≡ self.old.machine }
         ensures events { OnOk result (self.new.events ≡ self.old.events + 1) }
@@ -176,6 +187,8 @@ impl LogChecker {
 
     /// Notes that the line is off the grammar, or what is wrong before it. Or memory is wanting, and all is as before.
     fn end_off(&mut self, line: u64) -> Flaw
+        ensures lies { result ≢ WantsMemory → (told : List LogLine) → HasTaken self.old told
+            → length told + 1 < 2 ^ 64 → IsOffOr told line result }
         ensures memory { result ≡ WantsMemory → self.new ≡ self.old }
         ensures machine { self.new.machine ≡ self.old.machine }
         ensures kept { result ≢ WantsMemory → self.new.flaw ≡ Some result }
@@ -186,11 +199,17 @@ impl LogChecker {
             return flaw;
         };
         match look_off(self.alloc, &self.machine, &mut self.state, &mut pending) {
-            Ok(found) => {
-                let flaw = off_flaw(&pending, found, line);
-                self.flaw = Some(flaw);
-                flaw
-            }
+            Ok(found) => match flaw_before(&pending, found) {
+                Some(flaw) => {
+                    self.flaw = Some(flaw);
+                    flaw
+                }
+                None => {
+                    let flaw = Flaw::Text { line };
+                    self.flaw = Some(flaw);
+                    flaw
+                }
+            },
             Err(_) => {
                 self.pending = Some(pending);
                 Flaw::Memory
@@ -238,11 +257,15 @@ impl LogChecker {
         requires few { self.old.events < most_events }
         requires line { IsLogLine told }
         ensures taken { OnOk result ((before : List LogLine) → HasTaken self.old before
-            → HasTaken self.new (before ++ told ∷ [])) }
+            → line ≡ length before + 1 → HasTaken self.new (before ++ told ∷ [])) }
         ensures refused { IfErr result (λ flaw. flaw ≢ WantsMemory
             → (before more : List LogLine)
             → HasTaken self.old before → (self.old.under ≡ None → before ≡ [])
             → IsLawfulLog self.old.machine (before ++ told ∷ more) → ⊥) }
+        ensures lies { IfErr result (λ flaw. flaw ≢ WantsMemory → (before : List LogLine)
+            → HasTaken self.old before → (self.old.under ≡ None → before ≡ [])
+            → line ≡ length before + 1 → All IsLogLine before → AreInOrder before
+            → LiesAt before (log_line_text told) flaw) }
         ensures begun { OnOk result (IsSome self.new.under) }
         ensures machine { self.new.machine ≡ self.old.machine }
         ensures events { OnOk result (self.new.events ≡ self.old.events + events_in told) }
@@ -279,6 +302,8 @@ impl LogChecker {
             → (before more : List LogLine)
             → (told : LogLine) → HasRead self.old before → line.now ≡ log_line_text told
             → IsLawfulLog self.old.machine (before ++ told ∷ more) → ⊥) }
+        ensures lies { IfErr result (λ flaw. flaw ≢ WantsMemory → (before : List LogLine)
+            → HasRead self.old before → LiesAt before line.now flaw) }
         ensures machine { self.new.machine ≡ self.old.machine }
         ensures memory { IfErr result (λ flaw. flaw ≡ WantsMemory → self.new ≡ self.old) }
         ensures kept { IfErr result (λ flaw. flaw ≢ WantsMemory
@@ -288,7 +313,8 @@ impl LogChecker {
         if let Some(flaw) = self.flaw {
             return Err(flaw);
         }
-        if self.lines == u64::MAX {
+        // The line behind the last one has a number too.
+        if self.lines == u64::MAX - 1 {
             return Err(Flaw::Memory);
         }
         let number = self.lines + 1;
@@ -315,6 +341,8 @@ impl LogChecker {
             → IsAcceptedLog self.old.machine told counts) }
         ensures refused { IfErr result (λ flaw. flaw ≢ WantsMemory → (told : List LogLine)
             → HasRead self.old told → IsLawfulLog self.old.machine told → ⊥) }
+        ensures lies { IfErr result (λ flaw. flaw ≢ WantsMemory → (told : List LogLine)
+            → HasRead self.old told → LiesInLast told flaw) }
         ensures memory { IfErr result (λ flaw. flaw ≡ WantsMemory → self.new ≡ self.old) }
         ensures kept { IfErr result (λ flaw. flaw ≢ WantsMemory
             → self.new.flaw ≡ Some flaw) }

@@ -1,6 +1,9 @@
 //! The lines on which items stand.
 
-ghost use Rattle.std.specs.Prelude.{◌≢◌};
+ghost use Rattle.std.specs.Prelude.{◌≡◌, ◌≢◌, ◌+◌, ◌<◌, ◌≤◌, ◌^◌};
+ghost use Rattle.tp_log.specs.declared.item.Item.TheVariants.{Tree as TreeItem};
+ghost use Rattle.tp_entries.specs.Heights.{height, heights};
+ghost use Rattle.tp_log_check.specs.FlawLines.{LiesBehind};
 ghost use Rattle.tp_log_check.specs.declared.flaw.Flaw.TheVariants.{Memory as WantsMemory};
 
 use crate::flaw::Flaw;
@@ -9,7 +12,9 @@ use tp_log::Item;
 use tp_told::{Reason, Stop};
 use tp_trees::TreeFlaw;
 
-fn height(item: &Item) -> u64 {
+fn height(item: &Item) -> u64
+    ensures { height item.now < 2 ^ 64 → result ≡ height item.now }
+{
     match item {
         Item::Event(_) | Item::Note(_) => 1,
         Item::Tree(tree) => tree.rows.len().saturating_add(tree.nodes.len()),
@@ -17,16 +22,22 @@ fn height(item: &Item) -> u64 {
 }
 
 /// The line behind the items, where the first stands behind this line.
-fn line_behind(items: &[Item], line: u64) -> u64 {
+fn line_behind(items: &[Item], line: u64) -> u64
+    ensures { line + 1 + heights items.now < 2 ^ 64 → result ≡ line + 1 + heights items.now }
+{
     let mut next = line.saturating_add(1);
-    for item in items {
+    let mut rest = items;
+    'items: while let [item, others @ ..] = rest {
         next = next.saturating_add(height(item));
+        rest = others;
     }
     next
 }
 
 /// How far behind its first line a tree has a flaw: the row or the node, or the line behind the tree.
-fn flawed_line(tree: &BoundTree, flaw: TreeFlaw) -> u64 {
+fn flawed_line(tree: &BoundTree, flaw: TreeFlaw) -> u64
+    ensures { result ≤ height (TreeItem tree.now) }
+{
     let rows = tree.rows.len();
     let nodes = tree.nodes.len();
     match flaw {
@@ -41,27 +52,33 @@ fn flawed_line(tree: &BoundTree, flaw: TreeFlaw) -> u64 {
         TreeFlaw::Uncovered { node }
         | TreeFlaw::NoSuchHop { node, .. }
         | TreeFlaw::Weak { node, .. }
-        | TreeFlaw::NotDead { node } => rows.saturating_add(node),
+        | TreeFlaw::NotDead { node } => rows.saturating_add(node.min(nodes)),
     }
 }
 
-/// The flaw of a tree that stands on this line.
-fn tree_flaw(item: Option<&Item>, line: u64, flaw: TreeFlaw) -> Flaw
-    ensures { result ≢ WantsMemory }
+/// How far behind the first of these items a tree has the flaw, where that one is the tree.
+fn lines_into(items: &[Item], flaw: TreeFlaw) -> u64
+    ensures { result ≤ heights items.now }
 {
-    let behind = match item {
-        Some(Item::Tree(tree)) => flawed_line(tree, flaw),
+    match items {
+        [Item::Tree(tree), ..] => flawed_line(tree, flaw),
         _ => 0,
-    };
-    Flaw::Tree {
-        line: line.saturating_add(behind),
-        flaw,
     }
+}
+
+/// The line so many lines further.
+fn further(line: u64, count: u64) -> u64
+    ensures from { line ≤ result }
+    ensures up_to { result ≤ line + count }
+{
+    line.saturating_add(count)
 }
 
 /// What is wrong with the items behind the event on this line. It is never want of memory.
 pub(crate) fn flaw_of(items: &[Item], line: u64, stop: Stop) -> Flaw
-    ensures { result ≢ WantsMemory }
+    ensures known { result ≢ WantsMemory }
+    ensures lies { line + 1 + heights items.now < 2 ^ 64
+        → LiesBehind line (line + 1 + heights items.now) result }
 {
     let at = stop.item.min(items.len());
     let line = line_behind(&items[..at], line);
@@ -73,6 +90,9 @@ pub(crate) fn flaw_of(items: &[Item], line: u64, stop: Stop) -> Flaw
             second,
         },
         Reason::NotLeast { given, least } => Flaw::NotLeast { line, given, least },
-        Reason::Tree(flaw) => tree_flaw(items.get(at), line, flaw),
+        Reason::Tree(flaw) => Flaw::Tree {
+            line: further(line, lines_into(&items[at..], flaw)),
+            flaw,
+        },
     }
 }

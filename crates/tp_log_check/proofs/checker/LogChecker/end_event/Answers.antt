@@ -1,11 +1,14 @@
-use Rattle.std.proofs.Common.{◌++◌, ap, sym, subst, ◌∙◌}
+use Rattle.std.proofs.Common.{◌+◌, ◌<◌, ◌^◌, ◌++◌, ap, sym, subst, ◌∙◌}
 use Rattle.std.specs.Prelude.{IfSome, option_map}
 use Rattle.tp_entries.specs.Gathered.{IsPending}
 use Rattle.tp_turn.specs.LiveStates.{seen}
 use Rattle.tp_log_check.specs.Checking.{HasTaken, underway}
+use Rattle.tp_entries.specs.Heights.{heights}
+use Rattle.tp_log_check.specs.FlawLines.{LiesBehind}
 use Rattle.tp_log_check.specs.Lawful.{IsLawfulLog}
 use Rattle.tp_entries.proofs.PendingFacts.{plain_closed}
 use Rattle.tp_log_check.proofs.Denying.{taken-none}
+use Rattle.tp_log_check.proofs.FlawPlaces.{found-ended}
 use Rattle.tp_log_check.proofs.Sections.{is-none, keeps-stock, taken-more, went-on}
 use Rattle.tp_log_check.proofs.checker.LogChecker.end_event.Goals as goal
 
@@ -47,3 +50,14 @@ returns-in-Ok-Some-clause-refused c other told more h cut lawful =
     let with_p = subst (λ o. HasTaken (record { machine = inside.machine; state = seen inside.state; under = option_map underway o; events = inside.events; lines = inside.lines; counts = inside.counts; flaw = inside.flaw }) told) is seen_h in
     taken-none inside.machine (seen inside.state) inside.events inside.lines inside.counts inside.flaw p c.end.new.self pending c.in-Ok.ensures.items none told more with_p cut
     (subst (λ m. IsLawfulLog m (told ++ more)) (sym (ap (λ v. v.machine) c.self.view_is)) lawful)
+
+pub returns-in-Ok-Some-clause-lies : goal.returns-in-Ok-Some-clause-lies
+returns-in-Ok-Some-clause-lies c other told h fits =
+    let is = sym c.take.ensures.value ∙ c.in-Some.is in
+    let p = c.in-Some.pending in
+    let inside = c.self.inside in
+    let pending : IsPending p = subst (λ o. IfSome o IsPending) is c.self.invariant.0.under in
+    let seen_h = subst (λ v. HasTaken v told) (sym c.self.view_is) h in
+    let with_p = subst (λ o. HasTaken (record { machine = inside.machine; state = seen inside.state; under = option_map underway o; events = inside.events; lines = inside.lines; counts = inside.counts; flaw = inside.flaw }) told) is seen_h in
+    found-ended inside.machine (seen inside.state) inside.events inside.lines inside.counts inside.flaw p c.end.new.self c.look.new.pending pending told with_p c.in-Ok.ensures.items c.end.ensures.line c.look.ensures.same fits c.flaw_of-flaw.result
+    (subst (λ is. c.look.new.pending.line + 1 + heights is < 2 ^ 64 → LiesBehind c.look.new.pending.line (c.look.new.pending.line + 1 + heights is) c.flaw_of-flaw.result) c.deref.ensures.value c.flaw_of-flaw.ensures.lies)

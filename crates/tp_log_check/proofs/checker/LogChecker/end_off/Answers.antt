@@ -1,6 +1,21 @@
+use Rattle.std.proofs.Common.{sym, subst, ◌∙◌}
+use Rattle.std.specs.Prelude.{IfSome, option_map}
+use Rattle.tp_entries.specs.Gathered.{IsPending}
 use Rattle.tp_turn.specs.LiveStates.{seen}
+use Rattle.tp_log_check.specs.Checking.{HasTaken, underway}
+use Rattle.tp_log_check.proofs.FlawPlaces.{found-so-far, off-last}
 use Rattle.tp_log_check.proofs.Sections.{keeps-stock}
 use Rattle.tp_log_check.proofs.checker.LogChecker.end_off.Goals as goal
 
 pub look_off-requires-clause-stocked : goal.look_off-requires-clause-stocked
 look_off-requires-clause-stocked c = keeps-stock c.self.inside.machine (seen c.self.inside.state) c.self.inside.pending c.self.inside.events c.self.invariant.0
+
+pub returns-in-Some-flaw_before-clause-lies : goal.returns-in-Some-flaw_before-clause-lies
+returns-in-Some-flaw_before-clause-lies c other told h fits =
+    let is = sym c.take.ensures.value ∙ c.in-Some.is in
+    let p = c.in-Some.pending in
+    let inside = c.self.inside in
+    let pending : IsPending p = subst (λ o. IfSome o IsPending) is c.self.invariant.0.under in
+    let seen_h = subst (λ v. HasTaken v told) (sym c.self.view_is) h in
+    let with_p = subst (λ o. HasTaken (record { machine = inside.machine; state = seen inside.state; under = option_map underway o; events = inside.events; lines = inside.lines; counts = inside.counts; flaw = inside.flaw }) told) is seen_h in
+    off-last told c.args.line c.in-Some-flaw_before.flaw (found-so-far inside.machine (seen inside.state) inside.events inside.lines inside.counts inside.flaw p c.look_off.new.pending pending told with_p c.look_off.ensures.same fits c.in-Some-flaw_before.flaw c.in-Some-flaw_before.ensures.lies)

@@ -1,8 +1,9 @@
-use Rattle.std.proofs.Common.{◌≡◌, ◌≢◌, List, [], sym, ap, subst}
+use Rattle.std.proofs.Common.{◌≡◌, ◌≢◌, ◌+◌, ◌<◌, ◌^◌, List, [], length, sym, ◌∙◌, ap, subst}
 use Rattle.std.specs.Prelude.{IfErr, IfOk}
 use Rattle.std.proofs.lemmas.List.{append-nil}
 use Rattle.tp_entries.specs.Counting.{counts_of}
 use Rattle.tp_log.specs.declared.log_line.LogLine.{LogLine}
+use Rattle.tp_log_check.specs.FlawLines.{LiesInLast}
 use Rattle.tp_log_check.specs.Lawful.{IsLawfulLog}
 use Rattle.tp_log_check.specs.declared.flaw.Flaw.TheVariants.{Memory as WantsMemory}
 use Rattle.tp_log_check.specs.Checking.{HasRead, HasTaken, IsAcceptedLog}
@@ -34,4 +35,12 @@ returns-clause-refused c = elim c.match-end_event.branch [
   | in-Err w ↦ subst (λ r. IfErr r (λ flaw. flaw ≢ WantsMemory → (told : List LogLine) → HasRead c.args.self.now told → IsLawfulLog c.args.self.now.machine told → ⊥)) (sym w.result-is) (λ other told h lawful.
       let whole = subst (IsLawfulLog c.args.self.now.machine) (sym (append-nil told)) lawful in
       w.in-Err.ensures.refused other told [] h.taken tt whole)
+]
+
+pub returns-clause-lies : goal.returns-clause-lies
+returns-clause-lies c = elim c.match-end_event.branch [
+  | in-Ok w ↦ subst (λ r. IfErr r (λ flaw. flaw ≢ WantsMemory → (told : List LogLine) → HasRead c.args.self.now told → LiesInLast told flaw)) (sym w.result-is) tt
+  | in-Err w ↦ subst (λ r. IfErr r (λ flaw. flaw ≢ WantsMemory → (told : List LogLine) → HasRead c.args.self.now told → LiesInLast told flaw)) (sym w.result-is) (λ other told h.
+      let lines : c.self.inside.lines ≡ length told = ap (λ v. v.lines) c.self.view_is ∙ h.fed in
+      w.in-Err.ensures.lies other told h.taken (subst (λ n. n + 1 < 2 ^ 64) lines c.self.invariant.1.numbered))
 ]

@@ -17,7 +17,7 @@ invariant_of-result c = (
     can = subst (CanTakeEvents c.args.machine 0) (sym c.new.ensures) (c.empty_state_can_begin.ensures.can c.args.machine);
     stocked = subst (KeepsStock c.args.machine 0) (sym c.new.ensures) (c.empty_state_can_begin.ensures.stocked c.args.machine);
   },
-  subst (AreWithin 0) (sym c.none.ensures) (record { events = omega arith; plans = omega arith; nones = omega arith; budgets = omega arith }),
+  subst (AreWithin 0) (sym c.none.ensures) (record { numbered = omega arith; events = omega arith; plans = omega arith; nones = omega arith; budgets = omega arith }),
 )
 
 pub returns-clause-read : goal.returns-clause-read
@@ -30,7 +30,9 @@ returns-clause-read c = record {
     accepted = c.new.ensures;
     only = c.new.ensures;
     lines = refl;
+    number = tt;
   };
+  fed = refl;
   counted = c.none.ensures;
   flawless = refl;
   begun = λ none. refl;

@@ -1,4 +1,6 @@
-use Rattle.std.proofs.Common.{◌≡◌, ◌≢◌, arith, ℕ, ◌+◌, None, [], ◌∷◌, ◌++◌, List, refl, sym, ap, ◌∙◌, subst}
+use Rattle.std.proofs.Common.{◌≡◌, ◌≢◌, arith, ℕ, ◌+◌, ◌<◌, ◌^◌, None, [], ◌∷◌, ◌++◌, List, length, refl, sym, ap, ◌∙◌, subst}
+use Rattle.std.specs.List.{All}
+use Rattle.tp_log.specs.LogLines.{AreInOrder, IsLogLine, log_line_text}
 use Rattle.tp_log.specs.declared.log_line.LogLine.{LogLine}
 use Rattle.tp_log.specs.declared.log_line.LogLine.TheVariants.{Event as EventLine}
 use Rattle.tp_log_check.specs.Checking.{HasTaken, events_in}
@@ -6,6 +8,8 @@ use Rattle.tp_script.specs.declared.event.Event.{Event as AnEvent}
 use Rattle.tp_log_check.specs.Lawful.{IsLawfulLog}
 use Rattle.tp_log_check.specs.declared.flaw.Flaw.{Flaw}
 use Rattle.tp_log_check.specs.declared.flaw.Flaw.TheVariants.{Memory as WantsMemory}
+use Rattle.tp_log_check.specs.FlawLines.{LiesAt, LiesInLast}
+use Rattle.tp_log_check.proofs.FlawPlaces.{at-last, at-off, off-told}
 use Rattle.tp_log_check.proofs.Denying.{if-err, lawful-order}
 use Rattle.tp_log_check.proofs.checker.LogChecker.take.Goals as goal
 
@@ -21,6 +25,20 @@ returns-in-Ok-false-clause-refused c other before more h none lawful =
     let refused = rw c.in-Ok-false.field-0-test at c.in-Ok-false.ensures.refused in
     refused before h none (lawful-order c.args.self.now.machine before c.args.told more lawful)
 
+pub returns-in-Event-clause-lies : goal.returns-in-Event-clause-lies
+returns-in-Event-clause-lies c =
+    if-err (λ (flaw : Flaw). flaw ≢ WantsMemory → (told : List LogLine) → HasTaken c.args.self.now told → c.args.line ≡ length told + 1 → LiesInLast told flaw)
+    (λ (flaw : Flaw). flaw ≢ WantsMemory → (before : List LogLine) → HasTaken c.args.self.now before → (c.args.self.now.under ≡ None → before ≡ []) → c.args.line ≡ length before + 1 → All IsLogLine before → AreInOrder before → LiesAt before (log_line_text c.args.told) flaw)
+    c.begin.result c.begin.ensures.lies
+    (λ flaw lies other before h none numbered known order. at-last before (log_line_text c.args.told) flaw (lies other before h numbered))
+
+pub returns-in-Ok-false-clause-lies : goal.returns-in-Ok-false-clause-lies
+returns-in-Ok-false-clause-lies c other before h none numbered known order =
+    let refused = rw c.in-Ok-false.field-0-test at c.in-Ok-false.ensures.refused in
+    let same : c.add.new.self ≡ c.args.self.now = rw c.in-Ok-false.field-0-test at c.in-Ok-false.ensures.taken in
+    at-off before (log_line_text c.args.told) c.args.line c.end_off.result numbered known order (off-told before c.args.told c.requires.line (refused before h none))
+    (c.end_off.ensures.lies other before (subst (λ v. HasTaken v before) (sym same) h) (subst (λ n. n < 2 ^ 64) numbered c.ranges.line.fits))
+
 plus-zero : (n : ℕ) → n + 0 ≡ n
 plus-zero n = omega arith
 
@@ -30,8 +48,9 @@ no-event _ none = refl
 
 pub returns-in-Ok-true : goal.returns-in-Ok-true
 returns-in-Ok-true c = record {
-  taken = rw c.in-Ok-true.field-0-test at c.in-Ok-true.ensures.taken;
+  taken = λ before h numbered. (let taken = rw c.in-Ok-true.field-0-test at c.in-Ok-true.ensures.taken in taken before h);
   refused = tt;
+  lies = tt;
   begun = rw c.in-Ok-true.field-0-test at c.in-Ok-true.ensures.begun;
   machine = c.in-Ok-true.ensures.machine;
   events = c.in-Ok-true.ensures.events ∙ sym (ap (λ n. c.args.self.now.events + n) (no-event c.args.told c.in_default.not-Event) ∙ plus-zero c.args.self.now.events);
