@@ -4,6 +4,7 @@ use crate::running::{Given, Outside, SOUND, run};
 use std::alloc::Global;
 use std::test::Fail;
 use tp_cases::soak_case;
+use tp_machine_text::print_machine;
 use tp_program::Status;
 use tp_script::print_event;
 
@@ -20,7 +21,7 @@ fn leasts_of(alloc: Global, number: u32) -> Result<Vec<u32>, Fail> {
 }
 
 /// The events of a number, a line for each.
-fn script_of(alloc: Global, number: u32) -> Result<Vec<u8>, Fail> {
+pub(crate) fn script_of(alloc: Global, number: u32) -> Result<Vec<u8>, Fail> {
     let case = soak_case(alloc, number).ok().ok_or("memory")?;
     let mut text = Vec::new(alloc);
     for event in &case.events {
@@ -28,6 +29,12 @@ fn script_of(alloc: Global, number: u32) -> Result<Vec<u8>, Fail> {
         text.push(b'\n')?;
     }
     Ok(text)
+}
+
+/// The text of a number's machine.
+pub(crate) fn machine_of(alloc: Global, number: u32) -> Result<Vec<u8>, Fail> {
+    let case = soak_case(alloc, number).ok().ok_or("memory")?;
+    Ok(print_machine(alloc, &case.machine)?)
 }
 
 const FIRST_SCRIPT: &[u8] = b"job j1 t plain 3*M-:F\nclock 20\n\
@@ -137,5 +144,37 @@ fn a_line_that_is_cut_short(rt: HostRuntime) -> Result<(), Fail> {
     let (status, line) = run(rt.alloc(), soaked(&["soak", "1"]), outside)?;
     assert_eq!(rt; status, Status::Sink);
     assert_eq!(rt; line.as_slice(), b"soak 1 ev".as_slice());
+    Ok(())
+}
+
+const FAST: Outside<'static> = Outside {
+    read_most: 4096,
+    ..SOUND
+};
+
+/// Whether the log of a number's case is accepted, with its bounds.
+fn is_accepted(alloc: Global, number: u32) -> Result<bool, Fail> {
+    let machine = machine_of(alloc, number)?;
+    let script = script_of(alloc, number)?;
+    let given = Given {
+        machine: &machine,
+        words: &["run", "--bounds", "m.toml"],
+        script: &script,
+    };
+    let (_, log) = run(alloc, given, FAST)?;
+    let given = Given {
+        machine: &machine,
+        words: &["check", "m.toml"],
+        script: &log,
+    };
+    let (status, line) = run(alloc, given, FAST)?;
+    Ok(status == Status::Done && line.starts_with(b"accepted 27 events "))
+}
+
+#[test]
+fn logs_of_cases_are_accepted(rt: HostRuntime) -> Result<(), Fail> {
+    for number in [1, 7] {
+        assert!(rt; is_accepted(rt.alloc(), number)?);
+    }
     Ok(())
 }
