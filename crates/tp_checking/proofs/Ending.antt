@@ -7,6 +7,7 @@ use Rattle.tp_log.specs.Logs.{log_text}
 use Rattle.tp_log.specs.LogLines.{log_line_text}
 use Rattle.tp_log.proofs.Items.{text_of-log}
 use Rattle.tp_log_check.specs.Checking.{CheckerValue, IsAcceptedLog, items_of}
+use Rattle.tp_log_check.specs.Causes.{HasCause}
 use Rattle.tp_log_check.specs.FlawLines.{LiesInLast}
 use Rattle.tp_log_check.proofs.FlawPlaces.{at-last}
 use Rattle.tp_log_check.specs.declared.flaw.Flaw.{Flaw}
@@ -35,8 +36,9 @@ module _ (machine : Machine) (c : CheckerValue) (text : List ℕ) (is : c.machin
       }
 
   -- and where the end is refused
-  refused-at-end : (flaw : Flaw) → flaw ≢ WantsMemory → LiesInLast h.told flaw → StopsFor machine text (Flawed flaw)
-  refused-at-end flaw real lies = record {
+  refused-at-end : (flaw : Flaw) → flaw ≢ WantsMemory → LiesInLast h.told flaw → HasCause c flaw → StopsFor machine text (Flawed flaw)
+  refused-at-end flaw real lies cause = record {
+    caused = cause;
     done = text;
     rest = [];
     parts = sym (append-nil text);
@@ -48,5 +50,5 @@ module _ (machine : Machine) (c : CheckerValue) (text : List ℕ) (is : c.machin
 
   pub refused-end : (left left' : Option (List ℕ)) (cause : Cause) → IsReadFrom left text left' → EndsFor c cause → StopsFrom machine left left' cause
   refused-end left left' Memory read ends = tt
-  refused-end left left' (Flawed flaw) read ends = (text, read, refused-at-end flaw ends.0 (ends.1 h.told h.read))
+  refused-end left left' (Flawed flaw) read ends = (text, read, (let told = ends.1 h.told h.read in refused-at-end flaw ends.0 told.0 told.1))
   refused-end left left' other read ends = absurd ends

@@ -9,7 +9,7 @@ use Rattle.tp_stream.specs.declared.stop.Stop.TheVariants as stop
 use Rattle.tp_words.specs.Texts.{lines_of}
 use Rattle.tp_checking.specs.declared.cause.Cause.{Cause}
 use Rattle.tp_checking.specs.declared.cause.Cause.TheVariants.{Memory, Source, Line, Log, Flaw}
-use Rattle.tp_checking.specs.Ends.{StopsAt, StopsFor, StopsFrom}
+use Rattle.tp_checking.specs.Ends.{IsCaused, StopsAt, StopsFor, StopsFrom}
 use Rattle.tp_checking.specs.Sizes.{KeepsSizes, begins_event, event_lines, events_in, line_bytes, most_bytes, most_events, most_lines}
 use Rattle.tp_checking.specs.Taking.{Answers, LogState, RefusesLine}
 use Rattle.tp_checking.proofs.Feeding.{Feeds, HasTakenText, IsAtStart, feeds-all, taken-text}
@@ -52,7 +52,15 @@ why-refused machine at done rest line more (Flaw f) h next w =
     let events = h.events in
     let few_bytes = w.0.bytes in
     let few_events = w.0.events in
-    (record { line = line; more = more; next = next; bytes = omega (arith, bytes, few_bytes); events = omega (arith, events, few_events) }, w.1, record { told = h.by.told; lines = h.by.lines; lies = w.2 h.by.told h.by.read })
+    (record { line = line; more = more; next = next; bytes = omega (arith, bytes, few_bytes); events = omega (arith, events, few_events) }, w.1, record { told = h.by.told; lines = h.by.lines; lies = (w.2 h.by.told h.by.read).0 })
+
+-- and a flaw for what it tells
+why-caused : (machine : Machine) (at : LogState) (done line : List ℕ) (cause : Cause) → HasTakenText machine at done → RefusesLine at line cause → IsCaused at.checker cause
+why-caused machine at done line (Flaw f) h w = (w.2 h.by.told h.by.read).1
+why-caused machine at done line Memory h w = tt
+why-caused machine at done line Source h w = tt
+why-caused machine at done line (Line n) h w = tt
+why-caused machine at done line Log h w = tt
 
 no-told : (before told : List ℕ) → Some [] ≡ Some (before ++ told) → before ≡ []
 no-told [] told e = refl
@@ -62,8 +70,8 @@ module _ (s s' : LogState) (text : List ℕ) (start : IsAtStart s) (rest : List 
   done-so-far : takes.text ≡ [] → HasTakenText s.checker.machine at.state takes.done
   done-so-far none = taken-text s at.state takes.done start (feeds-all (lines_of takes.done) takes.text s at.state takes.answered none)
 
-  stops-for : (cause : Cause) → HasTakenText s.checker.machine at.state takes.done → StopsAt takes.done rest cause → StopsFor s.checker.machine text cause
-  stops-for cause h w =
+  stops-for : (cause : Cause) → HasTakenText s.checker.machine at.state takes.done → StopsAt takes.done rest cause → IsCaused at.state.checker cause → StopsFor s.checker.machine text cause
+  stops-for cause h w caused =
       let bytes = h.bytes in
       let events = h.events in
       let few_bytes = h.few_bytes in
@@ -76,6 +84,7 @@ module _ (s s' : LogState) (text : List ℕ) (start : IsAtStart s) (rest : List 
         sizes = record { lines = takes.fit; bytes = omega (arith, bytes, few_bytes); events = omega (arith, events, few_events) };
         taken = (at.state.checker, h.same_machine, h.by);
         stops = w;
+        caused = caused;
       }
 
   silent : Some [] ≡ at.taken → takes.text ≡ []
@@ -84,7 +93,7 @@ module _ (s s' : LogState) (text : List ℕ) (start : IsAtStart s) (rest : List 
   pub stopped : (why : Stop) → StopsBefore Answers NoRefusal line_bytes most_lines why rest at s' (Some []) → AsCause why s' (StopsFor s.checker.machine text)
   stopped stop.Memory h = tt
   stopped stop.Refused h = h.0.refused
-  stopped stop.Source h = stops-for Source (done-so-far (silent h.1)) h.0
+  stopped stop.Source h = stops-for Source (done-so-far (silent h.1)) h.0 tt
   stopped stop.Sink h = go h.told h.answered (cut takes.written)
     where
       -- nothing was told before this line, and of it something is
@@ -97,10 +106,10 @@ module _ (s s' : LogState) (text : List ℕ) (start : IsAtStart s) (rest : List 
       go [] answered k = absurd (let short = k.1 in omega (arith, short))
       go (b ∷ told) (cause, found, refused) k =
           let before = done-so-far k.0 in
-          (cause, found, stops-for cause before (why-refused s.checker.machine at.state takes.done rest h.line h.more cause before h.next refused))
+          (cause, found, stops-for cause before (why-refused s.checker.machine at.state takes.done rest h.line h.more cause before h.next refused) (why-caused s.checker.machine at.state takes.done h.line cause before refused))
   stopped (stop.Line n) h =
       let count = takes.counted in
-      stops-for (Line n) (done-so-far (silent h.2)) (h.0, (let n_is = h.1 in omega (arith, n_is, count)))
+      stops-for (Line n) (done-so-far (silent h.2)) (h.0, (let n_is = h.1 in omega (arith, n_is, count))) tt
   stopped stop.Lines h =
       let before = done-so-far (silent h.2) in
       let count = takes.counted in

@@ -6,6 +6,7 @@ use Rattle.tp_log.specs.LogLines.{IsLogLine, log_line_text}
 use Rattle.tp_log.specs.Logs.{log_text}
 use Rattle.tp_log.specs.declared.log_line.LogLine.{LogLine}
 use Rattle.tp_log_check.specs.Checking.{CheckerValue, HasRead, IsAcceptedLog, items_of}
+use Rattle.tp_log_check.specs.Causes.{HasCause}
 use Rattle.tp_log_check.specs.FlawLines.{LiesAt, LiesInLast}
 use Rattle.tp_log_check.specs.declared.flaw.Flaw.{Flaw}
 use Rattle.tp_log_check.specs.declared.flaw.Flaw.TheVariants.{Memory as WantsMemory}
@@ -65,8 +66,13 @@ StopsAt done rest (Flawed flaw) = (refused : IsRefusedAt done rest) × (flaw ≢
 -- why the end of a log is not accepted of which the checker took all lines
 abbrev pub EndsFor : CheckerValue → Cause → Type 0
 EndsFor c Memory = Unit {0}
-EndsFor c (Flawed flaw) = (flaw ≢ WantsMemory) × ((told : List LogLine) → HasRead c told → LiesInLast told flaw)
+EndsFor c (Flawed flaw) = (flaw ≢ WantsMemory) × ((told : List LogLine) → HasRead c told → LiesInLast told flaw × HasCause c flaw)
 EndsFor c _ = ⊥
+
+-- a flaw is told for what its rule says of the turn at which the checker stands
+abbrev pub IsCaused : CheckerValue → Cause → Type 0
+IsCaused c (Flawed flaw) = HasCause c flaw
+IsCaused c _ = Unit {0}
 
 -- the first lines of the text were taken, and then it was stopped for this cause
 pub record StopsFor (machine : Machine) (text : List ℕ) (cause : Cause) : Type 0 where
@@ -77,6 +83,7 @@ pub record StopsFor (machine : Machine) (text : List ℕ) (cause : Cause) : Type
   pub sizes : KeepsSizes done
   pub taken : IsTaken machine done
   pub stops : StopsAt done rest cause
+  pub caused : IsCaused taken.0 cause
 
 -- ---- of what a source gave
 

@@ -3,6 +3,7 @@ use Rattle.std.specs.Prelude.{◌≡◌, ◌≢◌, ℕ, ◌+◌, ◌≤◌, Lis
 use Rattle.tp_log.specs.LogLines.{IsLogLine, log_line_text}
 use Rattle.tp_log.specs.declared.log_line.LogLine.{LogLine}
 use Rattle.tp_log_check.specs.Checking.{CheckerValue, HasRead}
+use Rattle.tp_log_check.specs.Causes.{HasCause}
 use Rattle.tp_log_check.specs.FlawLines.{LiesAt}
 use Rattle.tp_log_check.specs.declared.flaw.Flaw.{Flaw}
 use Rattle.tp_log_check.specs.declared.flaw.Flaw.TheVariants.{Memory as WantsMemory}
@@ -35,7 +36,7 @@ pub record TakesLine (s : LogState) (line : List ℕ) (s' : LogState) : Type 0 w
 -- why it is refused
 abbrev pub RefusesLine : LogState → List ℕ → Cause → Type 0
 RefusesLine s line Log = IsPastSizes (s.bytes + length line) (s.checker.events + events_in line)
-RefusesLine s line (Flawed flaw) = KeepsSizesWith s line × (flaw ≢ WantsMemory) × ((before : List LogLine) → HasRead s.checker before → LiesAt before line flaw)
+RefusesLine s line (Flawed flaw) = KeepsSizesWith s line × (flaw ≢ WantsMemory) × ((before : List LogLine) → HasRead s.checker before → LiesAt before line flaw × HasCause s.checker flaw)
 RefusesLine s line _ = ⊥
 
 -- a line without a text is taken, and one with a text is refused for what was found

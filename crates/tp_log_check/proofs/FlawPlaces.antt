@@ -1,5 +1,5 @@
 -- The lines on which flaws are told are those of the last event.
-use Rattle.std.proofs.Common.{◌≡◌, ℕ, ◌+◌, ◌<◌, ◌≤◌, ◌^◌, false, List, [], ◌∷◌, ◌++◌, All, Option, Some, None, length, refl, sym, ap, subst, ◌∙◌, append_assoc, arith}
+use Rattle.std.proofs.Common.{◌≡◌, ℕ, ◌+◌, ◌<◌, ◌≤◌, ◌^◌, false, List, [], ◌∷◌, ◌++◌, All, Option, Some, None, length, refl, sym, ap, subst, ◌∙◌, arith}
 use Rattle.std.specs.Prelude.{IfSome, option_map}
 use Rattle.std.specs.List.{AllByRecursion}
 use Rattle.std.proofs.lemmas.List.{append-nil, length-append}
@@ -15,7 +15,7 @@ use Rattle.tp_entries.specs.declared.counts.Counts.{Counts}
 use Rattle.tp_entries.specs.declared.pending.Pending.{Pending}
 use Rattle.tp_log.specs.Gathering.{closed, item_lines, log_lines, next_of}
 use Rattle.tp_log.specs.LogLines.{AreInOrder, IsLogLine, is_event, log_line_text}
-use Rattle.tp_log.specs.Logs.{AreInPlace, IsItem, IsLog, is_echo}
+use Rattle.tp_log.specs.Logs.{is_echo}
 use Rattle.tp_log.specs.declared.item.Item.{Item}
 use Rattle.tp_log.specs.declared.item.Item.TheVariants.{Event, Note, Tree}
 use Rattle.tp_log.specs.declared.log_line.LogLine.{LogLine}
@@ -26,7 +26,7 @@ use Rattle.tp_log.proofs.Items.{in_order, log_known, node_lines, row_lines}
 use Rattle.tp_machine.specs.declared.machine.Machine.{Machine}
 use Rattle.tp_turn.specs.States.{SessionState}
 use Rattle.tp_log_check.specs.Checking.{CheckerValue, HasRead, HasTaken, Underway, items_of, underway}
-use Rattle.tp_log_check.specs.FlawLines.{IsFirstOff, IsOffOr, LiesAt, LiesBehind, LiesInLast}
+use Rattle.tp_log_check.specs.FlawLines.{IsOffOr, LiesAt, LiesBehind, LiesInLast}
 use Rattle.tp_log_check.specs.declared.flaw.Flaw.{Flaw}
 use Rattle.tp_log_check.specs.declared.flaw.Flaw.TheVariants.{Memory, Text, Due, Illegal, NotLeast, Tree as TreeFlaw}
 use Rattle.tp_log_check.proofs.Reading.{log-more, sections-log}

@@ -1,5 +1,5 @@
 -- How many lines the first items have, and those behind them.
-use Rattle.std.proofs.Common.{◌≡◌, ℕ, zero, suc, ◌+◌, ◌<◌, ◌≤◌, ◌^◌, List, [], ◌∷◌, take, drop, length, refl, arith}
+use Rattle.std.proofs.Common.{◌≡◌, ℕ, zero, suc, ◌+◌, ◌<◌, ◌≤◌, ◌^◌, List, [], ◌∷◌, take, drop, refl, arith}
 use Rattle.std.proofs.lemmas.List.{length-append}
 use Rattle.tp_entries.specs.Heights.{height, heights}
 use Rattle.tp_log.specs.Gathering.{item_lines, log_lines}

@@ -9,3 +9,4 @@ pub mod InPlace
 pub mod PlacedTurns
 pub mod FlawPlaces
 pub mod HeightFacts
+pub mod FlawCauses

@@ -6,7 +6,7 @@ use Rattle.tp_log.specs.declared.log_line.LogLine.{LogLine}
 use Rattle.tp_log.specs.declared.log_line.LogLine.TheVariants.{Event}
 use Rattle.tp_script.specs.declared.event.Event.{Event as AnEvent}
 use Rattle.tp_log_check.specs.declared.flaw.Flaw.{Flaw}
-use Rattle.tp_log_check.specs.declared.flaw.Flaw.TheVariants.{Memory, Text, Due, Illegal, NotLeast, Tree}
+use Rattle.tp_log_check.specs.declared.flaw.Flaw.TheVariants.{Text, Due, Illegal, NotLeast, Tree}
 
 -- line n, the one behind these, is the first that is off the grammar: these are lines of a log in order, and it is no line that may
 -- stand behind them

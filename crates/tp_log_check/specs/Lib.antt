@@ -3,3 +3,4 @@ pub mod Judging
 pub mod Lawful
 pub mod FlawLines
 pub mod Checking
+pub mod Causes

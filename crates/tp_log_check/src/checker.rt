@@ -7,6 +7,7 @@ ghost use Rattle.tp_entries.specs.Heights.{heights};
 ghost use Rattle.tp_log.specs.LogLines.{IsLogLine, is_event, log_line_text};
 ghost use Rattle.tp_log.specs.declared.log_line.LogLine.{LogLine};
 ghost use Rattle.tp_log.specs.declared.log_line.LogLine.TheVariants.{Event as EventLine};
+ghost use Rattle.tp_log_check.specs.Causes.{HasCause, reason_told};
 ghost use Rattle.tp_log_check.specs.FlawLines.{IsOffOr, LiesAt, LiesBehind, LiesInLast};
 ghost use Rattle.tp_log_check.specs.declared.flaw.Flaw.{Flaw};
 ghost use Rattle.tp_log_check.specs.declared.flaw.Flaw.TheVariants.{Memory as WantsMemory};
@@ -43,6 +44,8 @@ pub struct LogChecker {
 /// What is wrong with what is told of the event before a line that is off the grammar.
 fn flaw_before(pending: &Pending, found: Option<Stop>) -> Option<Flaw>
     ensures known { IfSome result (λ flaw. flaw ≢ WantsMemory) }
+    ensures reason { IfSome result (λ flaw. (stop : Stop) × (found ≡ Some stop)
+        × (reason_told flaw ≡ Some stop.reason)) }
     ensures lies { IfSome result (λ flaw.
         pending.now.line + 1 + heights pending.now.items.items < 2 ^ 64
         → LiesBehind pending.now.line
@@ -122,6 +125,7 @@ impl LogChecker {
             → IsLawfulLog self.old.machine (told ++ more) → ⊥) }
         ensures lies { IfErr result (λ flaw. flaw ≢ WantsMemory → (told : List LogLine)
             → HasTaken self.old told → length told + 1 < 2 ^ 64 → LiesInLast told flaw) }
+        ensures why { IfErr result (λ flaw. flaw ≢ WantsMemory → HasCause self.old flaw) }
         ensures ended { OnOk result (self.new.under ≡ None) }
         ensures machine { self.new.machine ≡ self.old.machine }
         ensures events { self.new.events ≡ self.old.events }
@@ -165,6 +169,7 @@ impl LogChecker {
             → IsLawfulLog self.old.machine (told ++ EventLine event ∷ more) → ⊥) }
         ensures lies { IfErr result (λ flaw. flaw ≢ WantsMemory → (told : List LogLine)
             → HasTaken self.old told → line ≡ length told + 1 → LiesInLast told flaw) }
+        ensures why { IfErr result (λ flaw. flaw ≢ WantsMemory → HasCause self.old flaw) }
         ensures begun { OnOk result (IsSome self.new.under) }
         ensures machine { self.new.machine ≡ self.old.machine }
         ensures events { OnOk result (self.new.events ≡ self.old.events + 1) }
@@ -189,6 +194,7 @@ impl LogChecker {
     fn end_off(&mut self, line: u64) -> Flaw
         ensures lies { result ≢ WantsMemory → (told : List LogLine) → HasTaken self.old told
             → length told + 1 < 2 ^ 64 → IsOffOr told line result }
+        ensures why { result ≢ WantsMemory → HasCause self.old result }
         ensures memory { result ≡ WantsMemory → self.new ≡ self.old }
         ensures machine { self.new.machine ≡ self.old.machine }
         ensures kept { result ≢ WantsMemory → self.new.flaw ≡ Some result }
@@ -266,6 +272,7 @@ impl LogChecker {
             → HasTaken self.old before → (self.old.under ≡ None → before ≡ [])
             → line ≡ length before + 1 → All IsLogLine before → AreInOrder before
             → LiesAt before (log_line_text told) flaw) }
+        ensures why { IfErr result (λ flaw. flaw ≢ WantsMemory → HasCause self.old flaw) }
         ensures begun { OnOk result (IsSome self.new.under) }
         ensures machine { self.new.machine ≡ self.old.machine }
         ensures events { OnOk result (self.new.events ≡ self.old.events + events_in told) }
@@ -304,6 +311,8 @@ impl LogChecker {
             → IsLawfulLog self.old.machine (before ++ told ∷ more) → ⊥) }
         ensures lies { IfErr result (λ flaw. flaw ≢ WantsMemory → (before : List LogLine)
             → HasRead self.old before → LiesAt before line.now flaw) }
+        ensures why { IfErr result (λ flaw. flaw ≢ WantsMemory → (before : List LogLine)
+            → HasRead self.old before → HasCause self.old flaw) }
         ensures machine { self.new.machine ≡ self.old.machine }
         ensures memory { IfErr result (λ flaw. flaw ≡ WantsMemory → self.new ≡ self.old) }
         ensures kept { IfErr result (λ flaw. flaw ≢ WantsMemory
@@ -343,6 +352,8 @@ impl LogChecker {
             → HasRead self.old told → IsLawfulLog self.old.machine told → ⊥) }
         ensures lies { IfErr result (λ flaw. flaw ≢ WantsMemory → (told : List LogLine)
             → HasRead self.old told → LiesInLast told flaw) }
+        ensures why { IfErr result (λ flaw. flaw ≢ WantsMemory → (told : List LogLine)
+            → HasRead self.old told → HasCause self.old flaw) }
         ensures memory { IfErr result (λ flaw. flaw ≡ WantsMemory → self.new ≡ self.old) }
         ensures kept { IfErr result (λ flaw. flaw ≢ WantsMemory
             → self.new.flaw ≡ Some flaw) }

@@ -1,7 +1,8 @@
 //! Whether what is told of an event is what its turn tells.
 
-ghost use Rattle.std.specs.Prelude.{◌≡◌, ◌↔◌, ◌+◌, ◌≤◌, ℕ, [], IfOk, IfSome, IsNone, MatchOption, drop, length};
+ghost use Rattle.std.specs.Prelude.{◌≡◌, ◌↔◌, ◌+◌, ◌≤◌, ◌⊎◌, ℕ, [], Some, IfOk, IfSome, IsNone, MatchOption, drop, length};
 ghost use Rattle.tp_entries.specs.Gathered.{ArePlain};
+ghost use Rattle.tp_log_check.specs.Causes.{IsDueOrStops};
 ghost use Rattle.tp_log_check.specs.Judging.{entry, trees_in};
 ghost use Rattle.tp_log_check.specs.Lawful.{AreInPlaces, HasNoTurn, LeadsTo};
 ghost use Rattle.tp_log_runs.specs.Accepting.{IsAccepted};
@@ -22,7 +23,8 @@ use tp_turn::LiveState;
 use tp_turning::{take_event, turns_keep_stock};
 
 fn due(item: usize) -> Stop
-    ensures { result.item ≡ item }
+    ensures item { result.item ≡ item }
+    ensures reason { result.reason ≡ Reason.Due }
 {
     Stop {
         item,
@@ -35,6 +37,7 @@ fn judge_done(notes: &[Record], items: &[Item], at: usize) -> Option<Stop>
     requires { at ≤ length items.now }
     ensures right { IsNone result
         ↔ ((notes.now ≡ records_in items.now) × (trees_in (drop at items.now) ≡ [])) }
+    ensures due { IfSome result (λ stop. stop.reason ≡ Reason.Due) }
 {
     match (find_parting(notes, items), find_tree(items, at)) {
         (None, None) => None,
@@ -44,11 +47,16 @@ fn judge_done(notes: &[Record], items: &[Item], at: usize) -> Option<Stop>
 }
 
 /// What is wrong where the turn stopped: a record before that is not the one that is due, or what the planner stopped for.
-fn judge_stopped(notes: &[Record], told: &Told) -> Stop {
+fn judge_stopped(notes: &[Record], told: &Told) -> Stop
+    ensures { (result.reason ≡ Reason.Due) ⊎ (told.now.stop ≡ Some result) }
+{
     let next = told.next();
     match find_parting(notes, &told.items()[..next]) {
         Some(item) => due(item),
-        None => told.stop().unwrap_or(due(next)),
+        None => match told.stop() {
+            Some(stop) => stop,
+            None => due(next),
+        },
     }
 }
 
@@ -71,6 +79,8 @@ pub(crate) fn judge(
     ensures only { IfOk result (λ found. MatchOption found
         (LeadsTo machine.now (seen state.old) event.now told.old.items (seen state.new))
         (λ stop. HasNoTurn machine.now (seen state.old) event.now told.old.items)) }
+    ensures why { IfOk result (λ found. IfSome found
+        (IsDueOrStops machine.now (seen state.old) event.now told.old.items)) }
     ensures places { IfOk result (λ found. IsNone found → ArePlain told.old.items
         → AreInPlaces told.old.items) }
     ensures kept { IfOk result (λ found. IsNone found → (copies : ℕ)

@@ -1,8 +1,9 @@
 //! The lines on which items stand.
 
-ghost use Rattle.std.specs.Prelude.{◌≡◌, ◌≢◌, ◌+◌, ◌<◌, ◌≤◌, ◌^◌};
+ghost use Rattle.std.specs.Prelude.{◌≡◌, ◌≢◌, ◌+◌, ◌<◌, ◌≤◌, ◌^◌, Some};
 ghost use Rattle.tp_log.specs.declared.item.Item.TheVariants.{Tree as TreeItem};
 ghost use Rattle.tp_entries.specs.Heights.{height, heights};
+ghost use Rattle.tp_log_check.specs.Causes.{reason_told};
 ghost use Rattle.tp_log_check.specs.FlawLines.{LiesBehind};
 ghost use Rattle.tp_log_check.specs.declared.flaw.Flaw.TheVariants.{Memory as WantsMemory};
 
@@ -77,6 +78,7 @@ fn further(line: u64, count: u64) -> u64
 /// What is wrong with the items behind the event on this line. It is never want of memory.
 pub(crate) fn flaw_of(items: &[Item], line: u64, stop: Stop) -> Flaw
     ensures known { result ≢ WantsMemory }
+    ensures reason { reason_told result ≡ Some stop.reason }
     ensures lies { line + 1 + heights items.now < 2 ^ 64
         → LiesBehind line (line + 1 + heights items.now) result }
 {

@@ -1,7 +1,8 @@
 //! The event that is under way looked at, and the state as it was where something is wrong.
 
-ghost use Rattle.std.specs.Prelude.{◌≡◌, ◌+◌, ℕ, IfOk, OnErr, IsNone, MatchOption};
+ghost use Rattle.std.specs.Prelude.{◌≡◌, ◌+◌, ℕ, IfOk, IfSome, OnErr, IsNone, MatchOption};
 ghost use Rattle.tp_entries.specs.Gathered.{ArePlain, IsSame};
+ghost use Rattle.tp_log_check.specs.Causes.{IsDueOrStops};
 ghost use Rattle.tp_log_check.specs.Judging.{entry};
 ghost use Rattle.tp_log_check.specs.Lawful.{AreInPlaces, HasNoTurn, LeadsTo};
 ghost use Rattle.tp_log_runs.specs.Accepting.{IsAccepted};
@@ -36,6 +37,8 @@ pub(crate) fn look(
         (seen state.new))
         (λ stop. HasNoTurn machine.now (seen state.old) pending.old.event
         pending.old.items.items)) }
+    ensures why { IfOk result (λ found. IfSome found (IsDueOrStops machine.now
+        (seen state.old) pending.old.event pending.old.items.items)) }
     ensures places { IfOk result (λ found. IsNone found
         → ArePlain pending.old.items.items → AreInPlaces pending.old.items.items) }
     ensures kept { IfOk result (λ found. IsNone found → (copies : ℕ)
@@ -78,6 +81,8 @@ pub(crate) fn look_off(
 ) -> Result<Option<Stop>, Memory>
     requires can { CanTakeEvents machine.now last_copy (seen state.old) }
     requires stocked { KeepsStock machine.now last_copy (seen state.old) }
+    ensures why { IfOk result (λ found. IfSome found (IsDueOrStops machine.now
+        (seen state.old) pending.old.event pending.old.items.items)) }
     ensures stays { seen state.new ≡ seen state.old }
     ensures same { IsSame pending.old pending.new }
 {

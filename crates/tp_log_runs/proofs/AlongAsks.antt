@@ -16,7 +16,8 @@ use Rattle.tp_schedule.specs.declared.parts.Reply.{Reply}
 use Rattle.tp_schedule.specs.declared.parts.Reply.TheVariants.{Planned, Never, Spent}
 use Rattle.tp_schedule.specs.declared.records.Record.{Record}
 use Rattle.tp_schedule.specs.declared.records.Record.TheVariants.{FullUp}
-use Rattle.tp_told.specs.Telling.{StopsAt, TakesOn, ToldValue, ahead, behind_asides}
+use Rattle.tp_told.specs.Stopping.{StopsAt}
+use Rattle.tp_told.specs.Telling.{TakesOn, ToldValue, ahead, behind_asides}
 use Rattle.tp_turn.specs.Answering.{told_of_reply}
 use Rattle.tp_turn.specs.Asking.{AsksInTurn, ask_waiting, is_full, is_passed_over, passed_after, state_after_reply}
 use Rattle.tp_turn.specs.Labels.{label}

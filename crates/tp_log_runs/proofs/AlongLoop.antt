@@ -12,7 +12,8 @@ use Rattle.tp_schedule.specs.declared.parts.Plan.{Plan}
 use Rattle.tp_schedule.specs.declared.parts.Reply.{Reply}
 use Rattle.tp_schedule.specs.declared.parts.Reply.TheVariants.{Planned, Never, Spent}
 use Rattle.tp_schedule.specs.declared.records.Record.{Record}
-use Rattle.tp_told.specs.Telling.{StopsAt, TakesOn, TellsSettled, ToldValue, ahead, behind_asides, notes}
+use Rattle.tp_told.specs.Stopping.{StopsAt}
+use Rattle.tp_told.specs.Telling.{TakesOn, TellsSettled, ToldValue, ahead, behind_asides, notes}
 use Rattle.tp_jobs.specs.declared.parts.Job.{Job}
 use Rattle.tp_turn.specs.Answering.{Answer, moves, told_of_reply}
 use Rattle.tp_turn.specs.Laws.{IsPlannable}

@@ -5,7 +5,8 @@ use Rattle.tp_log.specs.declared.item.Item.{Item}
 use Rattle.tp_machine.specs.declared.machine.Machine.{Machine}
 use Rattle.tp_schedule.specs.declared.records.Record.{Record}
 use Rattle.tp_script.specs.declared.event.Event.{Event}
-use Rattle.tp_told.specs.Telling.{StopsAt, TakesOn, ToldValue, ahead, behind_asides}
+use Rattle.tp_told.specs.Stopping.{StopsAt}
+use Rattle.tp_told.specs.Telling.{TakesOn, ToldValue, ahead, behind_asides}
 use Rattle.tp_turn.specs.Keeping.{live_part}
 use Rattle.tp_turn.specs.Logs.{Entry, spent_on_trust}
 use Rattle.tp_turn.specs.Planners.{PlannerSteps, right_steps}

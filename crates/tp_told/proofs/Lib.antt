@@ -11,3 +11,4 @@ pub mod ReplyFacts
 pub mod SettleFacts
 pub mod ToldFacts
 pub mod TreeFacts
+pub mod ReasonFacts

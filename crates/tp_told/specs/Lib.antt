@@ -4,3 +4,5 @@ pub mod Moving
 pub mod Planning
 pub mod Showing
 pub mod Telling
+pub mod Reasons
+pub mod Stopping

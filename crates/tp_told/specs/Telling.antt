@@ -113,11 +113,6 @@ pub record TakesOn (p : ToldValue) (machine : Machine) (plans : List Plan) (deed
   pub further : p.at ≤ p'.at
   pub same : p' ≡ record p { at = p'.at }
 
--- where it stops the items to come don't tell what is due, and none are taken
-pub record StopsAt (p : ToldValue) (machine : Machine) (plans : List Plan) (due : Due) (p' : ToldValue) : Type 0 where
-  pub denied : AreNamed plans → TellsDue machine plans (ahead p) due → ⊥
-  pub same : p' ≡ record p { stops = p'.stops; stop = p'.stop }
-
 -- a stop is counted, and why is kept
 pub record HasStopped (p : ToldValue) (halt : Halt) (p' : ToldValue) : Type 0 where
   pub halts : halt ≡ Stopped

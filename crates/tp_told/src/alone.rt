@@ -6,7 +6,7 @@ ghost use Rattle.tp_schedule.specs.Answers.{KeepsFloors, KeepsHorizon, unmoved};
 ghost use Rattle.tp_schedule.specs.Plans.{IsFormed};
 ghost use Rattle.tp_told.specs.Moving.{IsKeptPlan};
 
-use crate::stop::Reason;
+use crate::stop::Wrong;
 use std::alloc::Global;
 use tp_answers::{Unlike, find_unlike};
 use tp_base::{Memory, Tick};
@@ -25,10 +25,10 @@ fn alone(alloc: Global, plan: &Plan) -> Result<Schedule, Memory>
     Ok(schedule)
 }
 
-fn illegal(first: i64, second: i64) -> Option<Reason>
-    ensures { result ≡ Some (Reason.Illegal first second) }
+fn illegal(first: i64, second: i64) -> Option<Wrong>
+    ensures { result ≡ Some (Wrong.Illegal first second) }
 {
-    Some(Reason::Illegal { first, second })
+    Some(Wrong::Illegal { first, second })
 }
 
 /// A start that is not above now + lead, or a point that is past the horizon.
@@ -37,7 +37,7 @@ fn find_out_of_bounds(
     now: Tick,
     exempt: Option<SheetId>,
     schedule: &Schedule,
-) -> Option<Reason>
+) -> Option<Wrong>
     ensures { IfSome result (λ reason.
         KeepsFloors machine.now now (is_exempt exempt) schedule.now.plans
         → KeepsHorizon machine.now now schedule.now.plans → ⊥) }
@@ -67,7 +67,7 @@ pub(crate) fn find_in_plan(
     now: Tick,
     exempt: Option<SheetId>,
     plan: &Plan,
-) -> Result<Option<Reason>, Memory>
+) -> Result<Option<Wrong>, Memory>
     requires { IsFormed plan.now }
     ensures { IfOk result (λ found. IfSome found
         (λ reason. IsKeptPlan machine.now now exempt plan.now → ⊥)) }
@@ -81,11 +81,7 @@ pub(crate) fn find_in_plan(
 }
 
 /// A fixed point of the plan that stands elsewhere in the other one.
-pub(crate) fn find_unkept(
-    alloc: Global,
-    plan: &Plan,
-    other: &Plan,
-) -> Result<Option<Reason>, Memory>
+pub(crate) fn find_unkept(alloc: Global, plan: &Plan, other: &Plan) -> Result<Option<Wrong>, Memory>
     requires formed { IsFormed plan.now }
     requires other_formed { IsFormed other.now }
     requires same { unmoved other.now ≡ unmoved plan.now }

@@ -14,13 +14,14 @@ ghost use Rattle.tp_answers.specs.Faults.{IsRight, exempt_of};
 ghost use Rattle.tp_told.specs.Answering.{DoTellPlan, TakesAnswer};
 ghost use Rattle.tp_told.specs.Failing.{Denies, is_stop};
 ghost use Rattle.tp_told.specs.Planning.{IsOnlyPlan, TellsNoPlan};
+ghost use Rattle.tp_told.specs.Reasons.{IfStop, IsAskedReason, IsPlain, IsTimesReason, reason_in};
 ghost use Rattle.tp_told.specs.Telling.{TellsDue, behind_asides, is_aside, is_other};
 
 use crate::alone::find_in_plan;
 use crate::faults::Read;
 use crate::moving::{Moving, take_all_moves};
 use crate::planning::read_plan;
-use crate::stop::{Failure, Reason, Stop};
+use crate::stop::{Failure, Reason, Stop, Wrong, reason_of};
 use crate::trees::take_tree;
 use std::alloc::Global;
 use tp_answers::{find_fault, plan_of};
@@ -33,7 +34,8 @@ use tp_trees::Claim;
 
 /// Another item is due in place of the first one.
 fn due() -> Failure
-    ensures { IsTrue (is_stop result) }
+    ensures stops { IsTrue (is_stop result) }
+    ensures why { IfStop IsPlain result }
 {
     Failure::Stop(Stop {
         item: 0,
@@ -43,7 +45,8 @@ fn due() -> Failure
 
 /// The same failure, of items that stand so much further behind.
 pub(crate) fn behind(failure: Failure, count: usize) -> Failure
-    ensures { is_stop result ≡ is_stop failure }
+    ensures stops { is_stop result ≡ is_stop failure }
+    ensures reason { reason_in result ≡ reason_in failure }
 {
     match failure {
         Failure::Memory => Failure::Memory,
@@ -113,6 +116,8 @@ fn check_answer(
         (IsRight machine.now before.now.plans ask.entry.now after.now.plans) }
     ensures refused { IfErr result
         (Denies (IsRight machine.now before.now.plans ask.entry.now after.now.plans)) }
+    ensures why { IfErr result (IfStop (IsTimesReason machine.now ask.entry.now.now
+        (exempt_of ask.entry.now) after.now.plans)) }
 {
     match find_fault(alloc, machine, ask, before, after) {
         Err(_) => Err(Failure::Memory),
@@ -152,6 +157,10 @@ fn place_plan(
         → IsOnlyPlan machine.now schedule.old.plans ask.entry.now told plan
         → IsFalse (is_other told)
         → Denies (DoTellPlan machine.now schedule.old.plans ask.entry.now
+        (Note told ∷ later.now)) failure) }
+    ensures why { IfErr result (λ failure. (told : Record)
+        → IsOnlyPlan machine.now schedule.old.plans ask.entry.now told plan
+        → IfStop (IsAskedReason machine.now schedule.old.plans ask.entry.now
         (Note told ∷ later.now)) failure) }
     ensures stays { OnErr result (schedule.new.plans ≡ schedule.old.plans) }
 {
@@ -202,7 +211,7 @@ fn is_about(machine: &Machine, ask: &Ask, sheet: &SheetName, goal: &Option<Name>
 }
 
 /// The plan that a record tells.
-fn read_told(machine: &Machine, before: &Schedule, ask: &Ask, told: &Record) -> Result<Plan, Reason>
+fn read_told(machine: &Machine, before: &Schedule, ask: &Ask, told: &Record) -> Result<Plan, Wrong>
     requires legal { IsLegal machine.now before.now.plans }
     requires asked { IsAsked machine.now before.now.plans ask.now }
     ensures { MatchResult result
@@ -218,7 +227,7 @@ fn read_told(machine: &Machine, before: &Schedule, ask: &Ask, told: &Record) -> 
         } => {
             let of = is_of(ask, sheet);
             if !of {
-                return Err(Reason::Due);
+                return Err(Wrong::Due);
             }
             read_plan(
                 machine,
@@ -229,8 +238,19 @@ fn read_told(machine: &Machine, before: &Schedule, ask: &Ask, told: &Record) -> 
                 acts.as_slice(),
             )
         }
-        _ => Err(Reason::Due),
+        _ => Err(Wrong::Due),
     }
+}
+
+/// The record of a plan is wrong.
+fn wrong_plan(wrong: Wrong) -> Failure
+    ensures stops { IsTrue (is_stop result) }
+    ensures why { IfStop IsPlain result }
+{
+    Failure::Stop(Stop {
+        item: 0,
+        reason: reason_of(wrong),
+    })
 }
 
 /// Takes a plan, by its record and the items behind it. How many items those are.
@@ -248,15 +268,17 @@ fn take_plan(
         (Note told.now ∷ later.now) Planned schedule.new.plans (taken + 1)) }
     ensures refused { IfErr result (Denies (DoTellPlan machine.now schedule.old.plans
         ask.entry.now (Note told.now ∷ later.now))) }
+    ensures why { IfErr result (IfStop (IsAskedReason machine.now schedule.old.plans
+        ask.entry.now (Note told.now ∷ later.now))) }
     ensures stays { OnErr result (schedule.new.plans ≡ schedule.old.plans) }
 {
     let plan = match read_told(machine, schedule, ask, told) {
         Ok(plan) => plan,
-        Err(reason) => return Err(Failure::Stop(Stop { item: 0, reason })),
+        Err(wrong) => return Err(wrong_plan(wrong)),
     };
     match find_in_plan(alloc, machine, ask.now, exempt_of(ask), &plan) {
         Err(_) => return Err(Failure::Memory),
-        Ok(Some(reason)) => return Err(Failure::Stop(Stop { item: 0, reason })),
+        Ok(Some(wrong)) => return Err(wrong_plan(wrong)),
         Ok(None) => {}
     }
     match place_plan(alloc, machine, ask, plan, later, schedule) {
@@ -281,6 +303,8 @@ fn take_told(
         (Note told.now ∷ later.now) taken.0 schedule.new.plans taken.1) }
     ensures refused { IfErr result (Denies (TellsDue machine.now schedule.old.plans
         (Note told.now ∷ later.now) (asking ask.entry.now))) }
+    ensures why { IfErr result (IfStop (IsAskedReason machine.now schedule.old.plans
+        ask.entry.now (Note told.now ∷ later.now))) }
     ensures stays { OnErr result (schedule.new.plans ≡ schedule.old.plans) }
 {
     match told {
@@ -325,6 +349,8 @@ fn take_item(
         (item.now ∷ later.now) taken.0 schedule.new.plans taken.1) }
     ensures refused { IfErr result (Denies (TellsDue machine.now schedule.old.plans
         (item.now ∷ later.now) (asking ask.entry.now))) }
+    ensures why { IfErr result (IfStop (IsAskedReason machine.now schedule.old.plans
+        ask.entry.now (item.now ∷ later.now))) }
     ensures stays { OnErr result (schedule.new.plans ≡ schedule.old.plans) }
 {
     match item {
@@ -351,6 +377,8 @@ pub(crate) fn take_answer(
         items.now taken.0 schedule.new.plans taken.1) }
     ensures refused { IfErr result (Denies (TellsDue machine.now schedule.old.plans items.now
         (asking ask.entry.now))) }
+    ensures why { IfErr result (IfStop (IsAskedReason machine.now schedule.old.plans
+        ask.entry.now items.now)) }
     ensures stays { OnErr result (schedule.new.plans ≡ schedule.old.plans) }
 {
     match items {

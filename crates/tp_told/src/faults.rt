@@ -1,6 +1,7 @@
 //! Which item is wrong by a fault of the schedule that the items tell, and why.
 ghost use Rattle.std.specs.Prelude.{◌≤◌, length};
 ghost use Rattle.tp_schedule.specs.Plans.{IsFormed};
+ghost use Rattle.tp_told.specs.Reasons.{IsPlain, TellsFault};
 
 use crate::stop::{Reason, Stop};
 use tp_answers::{Fault, Unlike};
@@ -74,7 +75,9 @@ impl Read<'_> {
         self.item_of(one).max(self.item_of(other))
     }
 
-    fn stop_at(&self, item: usize, first: i64, second: i64) -> Stop {
+    fn stop_at(&self, item: usize, first: i64, second: i64) -> Stop
+        ensures { IsPlain result.reason }
+    {
         Stop {
             item,
             reason: Reason::Illegal { first, second },
@@ -82,7 +85,9 @@ impl Read<'_> {
     }
 
     /// The begins of two holds that stand in another order than before.
-    fn parting(&self, machine: &Machine, parting: &Parting) -> Stop {
+    fn parting(&self, machine: &Machine, parting: &Parting) -> Stop
+        ensures { IsPlain result.reason }
+    {
         match (parting.stood, parting.stands) {
             (Some(stood), Some(stands)) => {
                 let first = begin_of(machine, self.after, stood, parting.resource);
@@ -98,14 +103,18 @@ impl Read<'_> {
         }
     }
 
-    fn due(&self, item: usize) -> Stop {
+    fn due(&self, item: usize) -> Stop
+        ensures { IsPlain result.reason }
+    {
         Stop {
             item,
             reason: Reason::Due,
         }
     }
 
-    fn clash(&self, clash: &Clash) -> Stop {
+    fn clash(&self, clash: &Clash) -> Stop
+        ensures { IsPlain result.reason }
+    {
         match clash {
             Clash::NotTimed { sheet } => self.due(self.item_of(*sheet)),
             Clash::Overlap {
@@ -133,7 +142,9 @@ impl Read<'_> {
     }
 
     /// Which item is wrong by the fault, and why.
-    pub(crate) fn stop_of(&self, machine: &Machine, fault: &Fault) -> Stop {
+    pub(crate) fn stop_of(&self, machine: &Machine, fault: &Fault) -> Stop
+        ensures { TellsFault fault.now result.reason }
+    {
         match fault {
             Fault::Asked | Fault::Unlike(Unlike::Changed) => self.due(self.unmoved),
             Fault::Unlike(

@@ -4,12 +4,13 @@ ghost use Rattle.tp_schedule.specs.Plans.{IsFormed, with_points};
 ghost use Rattle.tp_answers.specs.Alike.{KeepsPoints};
 ghost use Rattle.tp_told.specs.Failing.{Denies};
 ghost use Rattle.tp_told.specs.Moving.{DoTellMoves, IsKeptPlan, TakesMoves, moved_points, other_points, points_for};
+ghost use Rattle.tp_told.specs.Reasons.{IfStop, IsPlain};
 ghost use Rattle.tp_told.specs.Telling.{begins_with_move};
 
 use crate::alone::{find_in_plan, find_unkept};
 use crate::asides::begins_with_move;
 use crate::points::points_of;
-use crate::stop::{Failure, Reason, Stop};
+use crate::stop::{Failure, Reason, Stop, Wrong, reason_of};
 use std::alloc::Global;
 use tp_base::{Memory, Tick};
 use tp_deciding::is_exempt;
@@ -79,7 +80,7 @@ fn find_in_move(
     now: Tick,
     plan: &Plan,
     points: &Points,
-) -> Result<Option<Reason>, Memory>
+) -> Result<Option<Wrong>, Memory>
     requires formed { IsFormed plan.now }
     requires long { length points.now ≡ length plan.now.points }
     ensures { IfOk result (λ found. IfSome found
@@ -107,6 +108,7 @@ fn take_moves(
         before.now.plans after.new.plans items.now) }
     ensures refused { IfErr result (Denies (DoTellMoves machine.now moving.now.moment
         moving.now.asked before.now.plans items.now)) }
+    ensures why { IfErr result (IfStop IsPlain) }
 {
     before.ordered();
     let mut taken = 0;
@@ -116,10 +118,10 @@ fn take_moves(
             Some(points) => {
                 match find_in_move(alloc, machine, moving.moment, plan, &points) {
                     Err(_) => return Err(Failure::Memory),
-                    Ok(Some(reason)) => {
+                    Ok(Some(wrong)) => {
                         return Err(Failure::Stop(Stop {
                             item: taken,
-                            reason,
+                            reason: reason_of(wrong),
                         }));
                     }
                     Ok(None) => {}
@@ -149,6 +151,7 @@ pub(crate) fn take_all_moves(
     ensures over { IfOk result (λ taken. IsFalse (begins_with_move (drop taken items.now))) }
     ensures refused { IfErr result (Denies (DoTellMoves machine.now moving.now.moment
         moving.now.asked before.now.plans items.now)) }
+    ensures why { IfErr result (IfStop IsPlain) }
 {
     match take_moves(alloc, machine, moving, items, before, after) {
         Err(failure) => Err(failure),

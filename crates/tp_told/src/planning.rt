@@ -11,7 +11,7 @@ ghost use Rattle.tp_told.specs.Planning.{DoFit, IsJoined, IsOnlyPlan, TellsNoPla
 
 use crate::naming::add_named;
 use crate::points::points_behind;
-use crate::stop::Reason;
+use crate::stop::Wrong;
 use tp_answers::{answers_ask, plan_of};
 use tp_base::{Name, Tick};
 use tp_machine::{Machine, machine_law};
@@ -32,7 +32,7 @@ fn kept_acts(front: Option<&Plan>) -> Acts
 }
 
 /// The first new point and the end of the front, where they are two.
-fn find_apart(front: Option<&Plan>, points: &[Tick]) -> Option<Reason>
+fn find_apart(front: Option<&Plan>, points: &[Tick]) -> Option<Wrong>
     requires formed { IfSome (option_copied front) IsFormed }
     requires some { 1 ≤ length points.now }
     ensures { MatchOption result (IsJoined (option_copied front.entry) points.now)
@@ -45,7 +45,7 @@ fn find_apart(front: Option<&Plan>, points: &[Tick]) -> Option<Reason>
             if first == end {
                 None
             } else {
-                Some(Reason::Illegal {
+                Some(Wrong::Illegal {
                     first: i64::from(first),
                     second: i64::from(end),
                 })
@@ -56,7 +56,7 @@ fn find_apart(front: Option<&Plan>, points: &[Tick]) -> Option<Reason>
 }
 
 /// Why new points and actions of these names don't fit the front.
-fn find_unfit(front: Option<&Plan>, points: &[Tick], names: &[Name]) -> Option<Reason>
+fn find_unfit(front: Option<&Plan>, points: &[Tick], names: &[Name]) -> Option<Wrong>
     requires { IfSome (option_copied front) IsFormed }
     ensures { MatchOption result (DoFit (option_copied front.entry) points.now names.now)
         (λ reason. DoFit (option_copied front.entry) points.now names.now → ⊥) }
@@ -64,13 +64,13 @@ fn find_unfit(front: Option<&Plan>, points: &[Tick], names: &[Name]) -> Option<R
     let kept = kept_acts(front);
     let count = u64::from(kept.len()) + names.len() as u64;
     if u64::from(MOST_ACTS) < count {
-        return Some(Reason::Illegal {
+        return Some(Wrong::Illegal {
             first: i64::try_from(count).unwrap_or(i64::MAX),
             second: i64::from(MOST_ACTS),
         });
     }
     if names.is_empty() || points.len() != names.len() + 1 {
-        return Some(Reason::Due);
+        return Some(Wrong::Due);
     }
     find_apart(front, points)
 }
@@ -119,7 +119,7 @@ pub(crate) fn read_plan(
     place: &Name,
     points: &[Tick],
     names: &[Name],
-) -> Result<Plan, Reason>
+) -> Result<Plan, Wrong>
     requires legal { IsLegal machine.now before.now.plans }
     requires asked { IsAsked machine.now before.now.plans ask.now }
     ensures { MatchResult result
@@ -137,16 +137,16 @@ pub(crate) fn read_plan(
     let mut acts = kept_acts(front);
     let named = add_named(machine, names, &mut acts);
     if !named {
-        return Err(Reason::Due);
+        return Err(Wrong::Due);
     }
     let plan = make_plan(ask, front, acts, points);
     let answers = answers_ask(machine, before, ask, &plan);
     if !answers {
-        return Err(Reason::Due);
+        return Err(Wrong::Due);
     }
     let ends = is_same_name(&end_name(machine, &plan), place);
     if !ends {
-        return Err(Reason::Due);
+        return Err(Wrong::Due);
     }
     Ok(plan)
 }

@@ -1,9 +1,10 @@
 //! Settled times, from the moves that tell them.
-ghost use Rattle.std.specs.Prelude.{◌≡◌, ◌≤◌, IfErr, IfOk, OnErr, OnOk};
+ghost use Rattle.std.specs.Prelude.{◌≡◌, ◌≤◌, None, IfErr, IfOk, OnErr, OnOk};
 ghost use Rattle.tp_schedule.specs.Legality.{IsLegal};
 ghost use Rattle.tp_schedule.specs.Planning.{CanSettle, IsSettled, last_tick};
 ghost use Rattle.tp_told.specs.Answering.{DoTellSettled, TakesSettled};
 ghost use Rattle.tp_told.specs.Failing.{Denies};
+ghost use Rattle.tp_told.specs.Reasons.{IfStop, IsSettlingReason, IsTimesReason};
 ghost use Rattle.tp_told.specs.Telling.{behind_asides};
 
 use crate::faults::Read;
@@ -30,6 +31,7 @@ fn check_settled(
     ensures settled { OnOk result (IsSettled machine.now now before.now.plans after.now.plans) }
     ensures refused { IfErr result
         (Denies (IsSettled machine.now now before.now.plans after.now.plans)) }
+    ensures why { IfErr result (IfStop (IsTimesReason machine.now now None after.now.plans)) }
 {
     match find_unsettled(alloc, machine, now, before, after) {
         Err(_) => Err(Failure::Memory),
@@ -62,6 +64,8 @@ pub(crate) fn take_settled(
         (TakesSettled machine.now schedule.old.plans now items.now schedule.new.plans) }
     ensures refused { IfErr result
         (Denies (DoTellSettled machine.now schedule.old.plans now items.now)) }
+    ensures why { IfErr result
+        (IfStop (IsSettlingReason machine.now schedule.old.plans now items.now)) }
     ensures stays { OnErr result (schedule.new.plans ≡ schedule.old.plans) }
 {
     let moving = Moving {

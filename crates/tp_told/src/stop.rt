@@ -1,4 +1,6 @@
 //! Why the items of an event tell no right answer.
+ghost use Rattle.tp_told.specs.Reasons.{IsPlain};
+
 use tp_base::Tick;
 use tp_trees::TreeFlaw;
 
@@ -12,6 +14,23 @@ pub enum Reason {
     NotLeast { given: Tick, least: Tick },
     /// The tree does not show what is claimed. This is never `TreeFlaw::Memory`.
     Tree(TreeFlaw),
+}
+
+/// Why a record is wrong by itself.
+#[derive(Clone, Copy)]
+pub(crate) enum Wrong {
+    Due,
+    Illegal { first: i64, second: i64 },
+}
+
+/// The same as a reason.
+pub(crate) fn reason_of(wrong: Wrong) -> Reason
+    ensures { IsPlain result }
+{
+    match wrong {
+        Wrong::Due => Reason::Due,
+        Wrong::Illegal { first, second } => Reason::Illegal { first, second },
+    }
 }
 
 /// The number of an item, counted from 0, and why it is wrong. It is the number of all items where another one is due behind

@@ -49,9 +49,10 @@ fn count_stop(stops: u64) -> u64
 }
 
 impl Told {
-    ghost use Rattle.std.specs.Prelude.{MatchBool};
+    ghost use Rattle.std.specs.Prelude.{MatchBool, option_map};
     ghost use Rattle.tp_schedule.specs.declared.parts.Halt.TheVariants.{Memory as NoMemory};
     ghost use Rattle.tp_told.specs.Failing.{is_stop};
+    ghost use Rattle.tp_told.specs.Reasons.{reason_in};
     ghost use Rattle.tp_told.specs.Telling.{HasStopped, ahead, behind_asides};
 
     /// A planner for the records and trees behind an event, as the log has them. It takes no memory.
@@ -110,8 +111,10 @@ impl Told {
 
     /// Keeps why there is no answer from the item of this number on, if that isn't want of memory.
     fn halt(&mut self, failure: Failure, next: usize) -> Halt
-        ensures { MatchBool (is_stop failure) (HasStopped self.old result self.new)
+        ensures halts { MatchBool (is_stop failure) (HasStopped self.old result self.new)
             ((result ≡ NoMemory) × (self.new ≡ self.old)) }
+        ensures reason { MatchBool (is_stop failure)
+            (option_map (λ stop. stop.reason) self.new.stop ≡ reason_in failure) (Unit {0}) }
     {
         match behind(failure, next) {
             Failure::Memory => Halt::Memory,
@@ -132,7 +135,8 @@ impl Planner for Told {
     ghost use Rattle.tp_schedule.specs.Planning.Due.{asking, settling};
     ghost use Rattle.tp_schedule.specs.declared.parts.Halt.TheVariants.{Memory as NoMemory, Stopped};
     ghost use Rattle.tp_turn.specs.Logs.{spent_on_trust};
-    ghost use Rattle.tp_told.specs.Telling.{StopsAt, TakesOn};
+    ghost use Rattle.tp_told.specs.Stopping.{StopsAt};
+    ghost use Rattle.tp_told.specs.Telling.{TakesOn};
 
     ghost serves = { λ p machine. true };
 

@@ -1,9 +1,10 @@
 //! The tree that shows an answer.
-ghost use Rattle.std.specs.Prelude.{◌≡◌, IfErr, OnOk};
+ghost use Rattle.std.specs.Prelude.{◌≡◌, [], ◌∷◌, IfErr, OnOk};
 ghost use Rattle.tp_schedule.specs.Answers.{IsAsked};
 ghost use Rattle.tp_schedule.specs.Legality.{IsLegal};
 ghost use Rattle.tp_trees.specs.Claims.{IsTold};
 ghost use Rattle.tp_told.specs.Failing.{Denies, failure_of};
+ghost use Rattle.tp_told.specs.Reasons.{IfStop, IsTreeReason};
 ghost use Rattle.tp_told.specs.Showing.{BeginsWithTree, IsTreeItem};
 
 use crate::stop::{Failure, Reason, Stop};
@@ -43,6 +44,8 @@ fn check_item(
         → IsTold machine.now before.now.plans ask.entry.now claim) }
     ensures refused { IfErr result (Denies (IsTreeItem machine.now before.now.plans ask.entry.now
         claim item.now)) }
+    ensures why { IfErr result (IfStop (IsTreeReason machine.now before.now.plans
+        ask.entry.now claim (item.now ∷ []))) }
 {
     flawless_trees_are_bound();
     match item {
@@ -72,6 +75,8 @@ pub(crate) fn take_tree(
         → IsAsked machine.now before.now.plans ask.entry.now
         → IsTold machine.now before.now.plans ask.entry.now claim) }
     ensures refused { IfErr result (Denies (BeginsWithTree machine.now before.now.plans
+        ask.entry.now claim items.now)) }
+    ensures why { IfErr result (IfStop (IsTreeReason machine.now before.now.plans
         ask.entry.now claim items.now)) }
 {
     match items {

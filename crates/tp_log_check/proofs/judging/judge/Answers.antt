@@ -1,10 +1,14 @@
 -- A turn whose notes are the records of the items, and which leaves no tree, accepts them.
-use Rattle.std.proofs.Common.{rules, ◌≡◌, [], ◌++◌, drop, sym, ap, ◌∙◌}
+use Rattle.std.proofs.Common.{inl, inr, refl, rules, ◌≡◌, [], ◌++◌, drop, sym, ap, ◌∙◌}
 use Rattle.tp_runs.specs.Proved.{records_in}
 use Rattle.tp_told.specs.Telling.{ahead}
 use Rattle.tp_turn.specs.LiveStates.{seen}
 use Rattle.tp_turn.specs.Ready.{last_copy}
 use Rattle.tp_log_check.specs.Judging.{trees_in}
+use Rattle.tp_told.specs.declared.stop.Reason.TheVariants as reason
+use Rattle.tp_told.specs.declared.stop.Stop.{Stop}
+use Rattle.tp_log_check.specs.Causes.{IsDueOrStops}
+use Rattle.tp_log_check.proofs.FlawCauses.{some-from}
 use Rattle.tp_log_check.proofs.Judged.{judged-done, judged-stopped}
 use Rattle.tp_log_check.proofs.PlacedTurns.{judged-places}
 use Rattle.tp_log_check.proofs.TakenTrees.{accepted-as, takes-trees}
@@ -62,3 +66,15 @@ pub returns-in-Err-Stopped-clause-only : goal.returns-in-Err-Stopped-clause-only
 returns-in-Err-Stopped-clause-only c =
     let stops = c.in-Err-Stopped.ensures.stopped (search rules) in
     judged-stopped c.args.machine.now (c.lawful_turns_are_accepted.ensures c.args.machine.now) last_copy (seen c.args.state.now) c.requires.can c.args.event.now c.args.told.now c.requires.begins stops.0 c.take_event.new.planner stops.2
+
+pub returns-in-Ok-clause-why : goal.returns-in-Ok-clause-why
+returns-in-Ok-clause-why c =
+    some-from (λ (stop : Stop). stop.reason ≡ reason.Due) (IsDueOrStops c.args.machine.now (seen c.args.state.now) c.args.event.now c.args.told.now.items) c.judge_done.result (λ stop due. inl due) c.judge_done.ensures.due
+
+pub returns-in-Err-Stopped-clause-why : goal.returns-in-Err-Stopped-clause-why
+returns-in-Err-Stopped-clause-why c =
+    let stops = c.in-Err-Stopped.ensures.stopped (search rules) in
+    elim c.judge_stopped.ensures [
+      | inl due ↦ inl due
+      | inr kept ↦ inr (record { planner = c.args.told.now; items_are = refl; begins = c.requires.begins; notes = stops.0; last = c.take_event.new.planner; stops = stops.2; kept = kept })
+    ]

@@ -5,6 +5,7 @@ use Rattle.tp_turn.specs.Ready.{CanTakeEvents, KeepsStock}
 use Rattle.tp_log_check.specs.Judging.{entry}
 use Rattle.tp_log_check.specs.Lawful.{AreInPlaces, HasNoTurn, LeadsTo}
 use Rattle.tp_entries.specs.Gathered.{ArePlain}
+use Rattle.tp_log_check.specs.Causes.{IsDueOrStops}
 use Rattle.tp_log_check.proofs.Sections.{is-none}
 use Rattle.tp_log_check.proofs.looking.look.Goals as goal
 
@@ -41,3 +42,10 @@ pub returns-in-Ok-None-clause-places : goal.returns-in-Ok-None-clause-places
 returns-in-Ok-None-clause-places c nothing plain =
     let items = c.new-told.ensures.items ∙ ap (λ v. v.items) c.replace-items.ensures.value in
     subst AreInPlaces items (c.in-Ok-None.ensures.places (is-none c.in-Ok-None.field-0 c.in-Ok-None.field-0-is) (subst ArePlain (sym items) plain))
+
+pub returns-in-Ok-Some-clause-why : goal.returns-in-Ok-Some-clause-why
+returns-in-Ok-Some-clause-why c =
+    let is = rw c.in-Ok-Some.field-0-is at c.in-Ok-Some.ensures.why in
+    let items = c.new-told.ensures.items ∙ ap (λ v. v.items) c.replace-items.ensures.value in
+    subst (λ is. IsDueOrStops c.args.machine.now (seen c.args.state.now) c.args.pending.now.event is c.in-Ok-Some.stop) items
+    (subst (λ s. IsDueOrStops c.args.machine.now s c.args.pending.now.event c.new-told.result.items c.in-Ok-Some.stop) c.remember.ensures.stays is)

@@ -14,6 +14,11 @@ use Rattle.tp_told.proofs.MoveSteps.{rest-is}
 use Rattle.tp_told.proofs.PlaceFacts.{few-left, placed, right-too, tells-moves-too, tree-too}
 use Rattle.tp_told.proofs.TreeFacts.{denies-from, denies-like}
 use Rattle.std.specs.Prelude.{Some}
+use Rattle.std.proofs.Common.{refl, ◌++◌}
+use Rattle.std.proofs.lemmas.List.{take-append-drop}
+use Rattle.tp_answers.specs.Faults.{exempt_of}
+use Rattle.tp_told.specs.Reasons.{IsAskedReason, IsPlain, IsTimesReason, IsTreeReason}
+use Rattle.tp_told.proofs.ReasonFacts.{asked-reason, plain-asked, same-stop, stop-from, tree-reason}
 use Rattle.tp_told.proofs.answering.place_plan.Goals as goal
 
 pub returns-in-Err-clause-refused : goal.returns-in-Err-clause-refused
@@ -22,7 +27,7 @@ returns-in-Err-clause-refused c = λ told only first. (
     let plans = c.args.schedule.now.plans in
     let ask = c.args.ask.now in
     let P = DoTellPlan m plans ask (Note told ∷ c.args.later.now) in
-    denies-like P c.in-Err.failure c.behind.result c.behind.ensures
+    denies-like P c.in-Err.failure c.behind.result c.behind.ensures.stops
     (denies-from (DoTellMoves m ask.now (Some ask.sheet) plans c.args.later.now) P c.in-Err.failure (tells-moves-too m plans ask c.requires.can told c.args.later.now first c.args.plan only) c.in-Err.ensures.refused))
 
 pub put_plan-requires-clause-few : goal.put_plan-requires-clause-few
@@ -53,7 +58,7 @@ returns-in-Err-take_tree-clause-refused c = λ told only first. (
     let T : ℕ → List Item → Type 0 = λ e items. BeginsWithTree m plans ask (Earliest e) items in
     let P = DoTellPlan m plans ask (Note told ∷ later) in
     let too = tree-too m plans ask c.requires.can told later first plan only c.take_all_moves.new.after.plans taken c.in-Ok-take_all_moves.ensures.moved c.put_plan.new.schedule.plans c.in-Ok-put_plan.ensures in
-    denies-like P c.in-Err-take_tree.failure c.behind-in-Err-take_tree.result c.behind-in-Err-take_tree.ensures
+    denies-like P c.in-Err-take_tree.failure c.behind-in-Err-take_tree.result c.behind-in-Err-take_tree.ensures.stops
     (denies-from (T c.get.result (take (length later - taken) (drop taken later))) P c.in-Err-take_tree.failure
     (λ it. subst (T c.get.result) (sym (rest-is later taken)) (subst (λ e. T e (drop taken later)) end (too it))) c.in-Err-take_tree.ensures.refused))
 
@@ -71,3 +76,45 @@ returns-clause-told c = λ told only first. (
     let before : NoneBefore m plans ask (end_of_plan plan) = subst (NoneBefore m plans ask) (sym end) (c.in-Ok-take_tree.ensures.told c.requires.can.plan_on.legal c.requires.can.asked) in
     placed m plans ask c.requires.can told later first plan only c.take_all_moves.new.after.plans taken c.in-Ok-take_all_moves.ensures.moved c.put_plan.new.schedule.plans c.in-Ok-put_plan.ensures
     c.in-Ok-check_answer.ensures.right begins before)
+
+pub returns-in-Err-clause-why : goal.returns-in-Err-clause-why
+returns-in-Err-clause-why c = λ told only. (
+    let m = c.args.machine.now in
+    let plans = c.args.schedule.now.plans in
+    let ask = c.args.ask.now in
+    let items = Note told ∷ c.args.later.now in
+    same-stop (IsAskedReason m plans ask items) c.in-Err.failure c.behind.result c.behind.ensures.reason
+    (stop-from IsPlain (IsAskedReason m plans ask items) c.in-Err.failure (plain-asked m plans ask items) c.in-Err.ensures.why))
+
+pub returns-in-Err-check_answer-clause-why : goal.returns-in-Err-check_answer-clause-why
+returns-in-Err-check_answer-clause-why c = λ told only. (
+    let m = c.args.machine.now in
+    let plans = c.args.schedule.now.plans in
+    let ask = c.args.ask.now in
+    let items = Note told ∷ c.args.later.now in
+    let after = c.put_plan.new.schedule.plans in
+    stop-from (IsTimesReason m ask.now (exempt_of ask) after) (IsAskedReason m plans ask items) c.in-Err-check_answer.failure
+    (asked-reason m plans ask items after (record {
+      plan = c.args.plan;
+      first = record { told = told; later = c.args.later.now; is = refl; only = only };
+      mid = c.take_all_moves.new.after.plans;
+      taken = c.in-Ok-take_all_moves.taken;
+      moved = c.in-Ok-take_all_moves.ensures.moved;
+      placed = c.in-Ok-put_plan.ensures;
+    })) c.in-Err-check_answer.ensures.why)
+
+pub returns-in-Err-take_tree-clause-why : goal.returns-in-Err-take_tree-clause-why
+returns-in-Err-take_tree-clause-why c = λ told only. (
+    let m = c.args.machine.now in
+    let plans = c.args.schedule.now.plans in
+    let ask = c.args.ask.now in
+    let plan = c.args.plan in
+    let later = c.args.later.now in
+    let items = Note told ∷ later in
+    let taken = c.in-Ok-take_all_moves.taken in
+    let end : end_of_plan plan ≡ c.get.result = ap (slice_index c.args.plan.points) (sym c.len.ensures.len) ∙ get_or_from_slice_get plan.points c.len.result c.get.result 0 c.get.ensures in
+    let behind = take (length later - taken) (drop taken later) in
+    let parts : items ≡ (Note told ∷ take taken later) ++ behind = (λ k. Note told ∷ (sym (take-append-drop taken later) ∙ ap (λ xs. take taken later ++ xs) (sym (rest-is later taken))) k) in
+    same-stop (IsAskedReason m plans ask items) c.in-Err-take_tree.failure c.behind-in-Err-take_tree.result c.behind-in-Err-take_tree.ensures.reason
+    (stop-from (IsTreeReason m plans ask (Earliest c.get.result) behind) (IsAskedReason m plans ask items) c.in-Err-take_tree.failure
+    (tree-reason m plans ask (Earliest c.get.result) items (Note told ∷ take taken later) behind (plan, (record { told = told; later = later; is = refl; only = only }, sym end)) parts) c.in-Err-take_tree.ensures.why))

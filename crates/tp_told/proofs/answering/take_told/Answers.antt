@@ -1,10 +1,16 @@
 -- A plan is told by its record, and a none by its tree.
-use Rattle.std.proofs.Common.{◌∷◌, subst, sym}
+use Rattle.std.proofs.Common.{◌≡◌, [], ◌∷◌, ◌∙◌, refl, subst, sym}
 use Rattle.tp_log.specs.declared.item.Item.TheVariants.{Note}
 use Rattle.tp_schedule.specs.Planning.Due.{asking}
 use Rattle.tp_schedule.specs.declared.parts.Reply.TheVariants.{Never, Spent}
 use Rattle.tp_told.specs.Answering.{DoTellPlan, TakesAnswer}
 use Rattle.tp_told.specs.Telling.{TellsDue}
+use Rattle.tp_schedule.specs.declared.records.Record.TheVariants.{Never as TellsNever}
+use Rattle.tp_trees.specs.declared.claim.Claim.TheVariants.{Never as NeverClaim}
+use Rattle.tp_turn.specs.Answering.{label_of_asked}
+use Rattle.tp_turn.specs.Labels.{goal_name}
+use Rattle.tp_told.specs.Reasons.{IsAskedReason, IsTreeReason}
+use Rattle.tp_told.proofs.ReasonFacts.{same-stop, stop-from, tree-reason}
 use Rattle.tp_told.proofs.PlaceFacts.{first-is}
 use Rattle.tp_told.proofs.ReplyFacts.{head-of, never-taken, plan-due}
 use Rattle.tp_told.proofs.TreeFacts.{denies-from}
@@ -33,3 +39,17 @@ returns-in-Ok-take_tree-clause-told c =
     subst (λ r. TakesAnswer m plans ask (Note r ∷ c.args.later.now) Never plans 2) (sym c.in-Never.is)
     (never-taken m plans ask c.in-Never.sheet c.in-Never.goal c.args.later.now (c.is_about-about.ensures.0 c.if-not-about.false) c.in-Ok-take_tree.ensures.shown
     (c.in-Ok-take_tree.ensures.told c.requires.can.plan_on.legal c.requires.can.asked))
+
+pub returns-in-Err-take_tree-clause-why : goal.returns-in-Err-take_tree-clause-why
+returns-in-Err-take_tree-clause-why c =
+    let m = c.args.machine.now in
+    let plans = c.args.schedule.now.plans in
+    let ask = c.args.ask.now in
+    let told = c.args.told.now in
+    let later = c.args.later.now in
+    let items = Note told ∷ later in
+    let about = c.is_about-about.ensures.0 c.if-not-about.false in
+    let never : told ≡ TellsNever (label_of_asked ask) (goal_name m ask.goal) = c.in-Never.is ∙ (λ k. TellsNever (about.0 k) (about.1 k)) in
+    same-stop (IsAskedReason m plans ask items) c.in-Err-take_tree.failure c.behind.result c.behind.ensures.reason
+    (stop-from (IsTreeReason m plans ask NeverClaim later) (IsAskedReason m plans ask items) c.in-Err-take_tree.failure
+    (tree-reason m plans ask NeverClaim items (Note told ∷ []) later (later, (λ k. Note (never k) ∷ later)) refl) c.in-Err-take_tree.ensures.why)

@@ -4,6 +4,8 @@ use Rattle.tp_schedule.specs.Planning.{IsSettled}
 use Rattle.tp_told.specs.Answering.{DoTellSettled}
 use Rattle.tp_told.specs.Moving.{DoTellMoves}
 use Rattle.tp_told.proofs.SettleFacts.{settled-moves, settled-taken, settled-too}
+use Rattle.tp_told.specs.Reasons.{IsPlain, IsSettlingReason, IsTimesReason}
+use Rattle.tp_told.proofs.ReasonFacts.{plain-settling, settled-reason, stop-from}
 use Rattle.tp_told.proofs.TreeFacts.{denies-from}
 use Rattle.tp_told.proofs.settling.take_settled.Goals as goal
 
@@ -23,3 +25,17 @@ pub returns-clause-told : goal.returns-clause-told
 returns-clause-told c =
     settled-taken c.args.machine.now c.args.schedule.now.plans c.args.now c.requires.can.plan_on.legal c.args.items.now c.requires.first c.take_all_moves.new.after.plans c.in-Ok-take_all_moves.taken
     c.in-Ok-take_all_moves.ensures.moved c.in-Ok-take_all_moves.ensures.over c.in-Ok-check_settled.ensures.settled
+
+pub returns-in-Err-clause-why : goal.returns-in-Err-clause-why
+returns-in-Err-clause-why c =
+    let m = c.args.machine.now in
+    let plans = c.args.schedule.now.plans in
+    stop-from IsPlain (IsSettlingReason m plans c.args.now c.args.items.now) c.in-Err.failure (plain-settling m plans c.args.now c.args.items.now) c.in-Err.ensures.why
+
+pub returns-in-Err-check_settled-clause-why : goal.returns-in-Err-check_settled-clause-why
+returns-in-Err-check_settled-clause-why c =
+    let m = c.args.machine.now in
+    let plans = c.args.schedule.now.plans in
+    let after = c.take_all_moves.new.after.plans in
+    stop-from (IsTimesReason m c.args.now None after) (IsSettlingReason m plans c.args.now c.args.items.now) c.in-Err-check_settled.failure
+    (settled-reason m plans c.args.now c.args.items.now after c.in-Ok-take_all_moves.taken c.in-Ok-take_all_moves.ensures.moved) c.in-Err-check_settled.ensures.why

@@ -1,8 +1,11 @@
-use Rattle.std.proofs.Common.{◌+◌, ◌<◌, ◌^◌, ◌++◌, ap, sym, subst, ◌∙◌}
+use Rattle.std.proofs.Common.{◌≡◌, ◌∷◌, inr, ◌+◌, ◌<◌, ◌^◌, ◌++◌, ap, sym, subst, ◌∙◌}
 use Rattle.std.specs.Prelude.{IfSome, option_map}
 use Rattle.tp_entries.specs.Gathered.{IsPending}
 use Rattle.tp_turn.specs.LiveStates.{seen}
-use Rattle.tp_log_check.specs.Checking.{HasTaken, underway}
+use Rattle.tp_log.specs.declared.item.Item.TheVariants.{Event}
+use Rattle.tp_log_check.specs.Causes.{HasCause, IsDueOrStops}
+use Rattle.tp_log_check.proofs.FlawCauses.{caused}
+use Rattle.tp_log_check.specs.Checking.{CheckerValue, HasTaken, underway}
 use Rattle.tp_entries.specs.Heights.{heights}
 use Rattle.tp_log_check.specs.FlawLines.{LiesBehind}
 use Rattle.tp_log_check.specs.Lawful.{IsLawfulLog}
@@ -61,3 +64,16 @@ returns-in-Ok-Some-clause-lies c other told h fits =
     let with_p = subst (λ o. HasTaken (record { machine = inside.machine; state = seen inside.state; under = option_map underway o; events = inside.events; lines = inside.lines; counts = inside.counts; flaw = inside.flaw }) told) is seen_h in
     found-ended inside.machine (seen inside.state) inside.events inside.lines inside.counts inside.flaw p c.end.new.self c.look.new.pending pending told with_p c.in-Ok.ensures.items c.end.ensures.line c.look.ensures.same fits c.flaw_of-flaw.result
     (subst (λ is. c.look.new.pending.line + 1 + heights is < 2 ^ 64 → LiesBehind c.look.new.pending.line (c.look.new.pending.line + 1 + heights is) c.flaw_of-flaw.result) c.deref.ensures.value c.flaw_of-flaw.ensures.lies)
+
+pub returns-in-Ok-Some-clause-why : goal.returns-in-Ok-Some-clause-why
+returns-in-Ok-Some-clause-why c other =
+    let is = sym c.take.ensures.value ∙ c.in-Some.is in
+    let p = c.in-Some.pending in
+    let q = c.end.new.self in
+    let inside = c.self.inside in
+    let value : CheckerValue = record { machine = inside.machine; state = seen inside.state; under = option_map underway inside.pending; events = inside.events; lines = inside.lines; counts = inside.counts; flaw = inside.flaw } in
+    let event : q.event ≡ p.event = c.end.ensures.event in
+    let why = rw c.in-Ok-Some.field-0-is at c.in-Ok-Some.ensures.why in
+    subst (λ v. HasCause v c.flaw_of-flaw.result) c.self.view_is
+    (caused value p (ap (option_map underway) is) q.items.items (inr ((λ k. Event (sym event k) ∷ q.items.items) ∙ c.in-Ok.ensures.items)) c.in-Ok-Some.stop c.flaw_of-flaw.result c.flaw_of-flaw.ensures.reason
+    (subst (λ e. IsDueOrStops inside.machine (seen inside.state) e q.items.items c.in-Ok-Some.stop) event why))

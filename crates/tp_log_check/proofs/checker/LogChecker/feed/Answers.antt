@@ -94,3 +94,11 @@ returns-in-Err-clause-lies c other before h =
     let inside = c.self.inside in
     let there = before-lines inside.machine (seen inside.state) inside.events inside.lines inside.counts inside.flaw inside.pending c.self.invariant.0.under c.args.self.now before c.self.view_is h in
     subst (λ text. LiesAt before text c.in-Err.flaw) (sym c.in-Ok.ensures.1) (c.in-Err.ensures.lies other before h.taken h.begun there.0 there.1 there.2)
+
+pub returns-in-Some-clause-why : goal.returns-in-Some-clause-why
+returns-in-Some-clause-why c other before h =
+    let is = sym (ap (λ v. v.flaw) c.self.view_is) in
+    let some = c.in-Some.is in
+    let none = h.flawless in
+    let no : Some c.in-Some.flaw ≡ None = sym some ∙ sym is ∙ none in
+    cc

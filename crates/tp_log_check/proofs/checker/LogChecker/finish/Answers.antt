@@ -3,6 +3,7 @@ use Rattle.std.specs.Prelude.{IfErr, IfOk}
 use Rattle.std.proofs.lemmas.List.{append-nil}
 use Rattle.tp_entries.specs.Counting.{counts_of}
 use Rattle.tp_log.specs.declared.log_line.LogLine.{LogLine}
+use Rattle.tp_log_check.specs.Causes.{HasCause}
 use Rattle.tp_log_check.specs.FlawLines.{LiesInLast}
 use Rattle.tp_log_check.specs.Lawful.{IsLawfulLog}
 use Rattle.tp_log_check.specs.declared.flaw.Flaw.TheVariants.{Memory as WantsMemory}
@@ -43,4 +44,10 @@ returns-clause-lies c = elim c.match-end_event.branch [
   | in-Err w ↦ subst (λ r. IfErr r (λ flaw. flaw ≢ WantsMemory → (told : List LogLine) → HasRead c.args.self.now told → LiesInLast told flaw)) (sym w.result-is) (λ other told h.
       let lines : c.self.inside.lines ≡ length told = ap (λ v. v.lines) c.self.view_is ∙ h.fed in
       w.in-Err.ensures.lies other told h.taken (subst (λ n. n + 1 < 2 ^ 64) lines c.self.invariant.1.numbered))
+]
+
+pub returns-clause-why : goal.returns-clause-why
+returns-clause-why c = elim c.match-end_event.branch [
+  | in-Ok w ↦ subst (λ r. IfErr r (λ flaw. flaw ≢ WantsMemory → (told : List LogLine) → HasRead c.args.self.now told → HasCause c.args.self.now flaw)) (sym w.result-is) tt
+  | in-Err w ↦ subst (λ r. IfErr r (λ flaw. flaw ≢ WantsMemory → (told : List LogLine) → HasRead c.args.self.now told → HasCause c.args.self.now flaw)) (sym w.result-is) (λ other told h. w.in-Err.ensures.why other)
 ]

@@ -8,6 +8,7 @@ use Rattle.tp_script.specs.declared.event.Event.{Event as AnEvent}
 use Rattle.tp_log_check.specs.Lawful.{IsLawfulLog}
 use Rattle.tp_log_check.specs.declared.flaw.Flaw.{Flaw}
 use Rattle.tp_log_check.specs.declared.flaw.Flaw.TheVariants.{Memory as WantsMemory}
+use Rattle.tp_log_check.specs.Causes.{HasCause}
 use Rattle.tp_log_check.specs.FlawLines.{LiesAt, LiesInLast}
 use Rattle.tp_log_check.proofs.FlawPlaces.{at-last, at-off, off-told}
 use Rattle.tp_log_check.proofs.Denying.{if-err, lawful-order}
@@ -39,6 +40,11 @@ returns-in-Ok-false-clause-lies c other before h none numbered known order =
     at-off before (log_line_text c.args.told) c.args.line c.end_off.result numbered known order (off-told before c.args.told c.requires.line (refused before h none))
     (c.end_off.ensures.lies other before (subst (λ v. HasTaken v before) (sym same) h) (subst (λ n. n < 2 ^ 64) numbered c.ranges.line.fits))
 
+pub returns-in-Ok-false-clause-why : goal.returns-in-Ok-false-clause-why
+returns-in-Ok-false-clause-why c other =
+    let same : c.add.new.self ≡ c.args.self.now = rw c.in-Ok-false.field-0-test at c.in-Ok-false.ensures.taken in
+    subst (λ v. HasCause v c.end_off.result) same (c.end_off.ensures.why other)
+
 plus-zero : (n : ℕ) → n + 0 ≡ n
 plus-zero n = omega arith
 
@@ -51,6 +57,7 @@ returns-in-Ok-true c = record {
   taken = λ before h numbered. (let taken = rw c.in-Ok-true.field-0-test at c.in-Ok-true.ensures.taken in taken before h);
   refused = tt;
   lies = tt;
+  why = tt;
   begun = rw c.in-Ok-true.field-0-test at c.in-Ok-true.ensures.begun;
   machine = c.in-Ok-true.ensures.machine;
   events = c.in-Ok-true.ensures.events ∙ sym (ap (λ n. c.args.self.now.events + n) (no-event c.args.told c.in_default.not-Event) ∙ plus-zero c.args.self.now.events);

@@ -7,6 +7,10 @@ use Rattle.tp_told.proofs.MoveSteps.{rest-is}
 use Rattle.tp_schedule.specs.Planning.Due.{asking}
 use Rattle.tp_told.specs.Answering.{TakesAnswer}
 use Rattle.tp_told.specs.Telling.{TellsDue}
+use Rattle.std.specs.Prelude.{IfSome}
+use Rattle.tp_told.specs.Reasons.{IsAskedReason}
+use Rattle.tp_told.specs.declared.stop.Reason.{Reason}
+use Rattle.tp_told.proofs.ReasonFacts.{kept-reason}
 use Rattle.tp_told.proofs.ToldFacts.{first, halted, stops-asked, takes-on}
 use Rattle.tp_told.proofs.told.ToldPlanner.ask.Goals as goal
 
@@ -39,6 +43,8 @@ returns-in-Err-clause-stopped c = λ e. (
     rest-is c.deref.result.now next ∙ ap (drop next) (c.deref.ensures.value ∙ (λ k. (c.self.view_is k).items)) in
     let P : List Item → Type 0 = λ xs. TellsDue m plans xs (asking ask) in
     let halts : c.halt.result ≡ Stopped = cc in
-    let both = halted (P (take (length c.deref.result.now - next) (drop next c.deref.result.now))) c.in-Err.failure c.args.self.now c.halt.result c.halt.new.self c.halt.ensures halts c.in-Err.ensures.refused in
+    let both = halted (P (take (length c.deref.result.now - next) (drop next c.deref.result.now))) c.in-Err.failure c.args.self.now c.halt.result c.halt.new.self c.halt.ensures.halts halts c.in-Err.ensures.refused in
+    let R : List Item → Reason → Type 0 = λ xs r. IsAskedReason m plans ask xs r in
+    let why = kept-reason (R (take (length c.deref.result.now - next) (drop next c.deref.result.now))) c.in-Err.failure c.halt.new.self.stop c.args.self.now c.halt.result c.halt.new.self c.halt.ensures.halts halts c.halt.ensures.reason c.in-Err.ensures.why in
     let stopped : HasStopped c.args.self.now c.halt.result c.halt.new.self = both.1 in
-    stops-asked m plans c.args.self.now next c.next-next.ensures.items c.next-next.ensures.further ask c.halt.result c.halt.new.self (subst (λ xs. P xs → ⊥) path both.0) stopped)
+    stops-asked m plans c.args.self.now next c.next-next.ensures.items c.next-next.ensures.further ask c.halt.result c.halt.new.self (subst (λ xs. P xs → ⊥) path both.0) (subst (λ xs. IfSome c.halt.new.self.stop (λ stop. R xs stop.reason)) path why) stopped)
