@@ -73,17 +73,28 @@ fn text_after(alloc: Global, session: &mut Session, lines: &[&[u8]]) -> Result<V
     Ok(session.text().to_vec(alloc)?)
 }
 
-/// The log of a script, which the session answers as a stream of lines.
+/// Whether a fresh session answers the script of the source as a stream of lines.
+fn is_answered(alloc: Global, session: Session, source: &mut MemSource, sink: &mut MemSink) -> bool
+    requires fresh { session.answered ≡ 0 }
+    requires clear { session.text ≡ [] }
+{
+    match answer_script(alloc, session, source, sink) {
+        Ok(_) => true,
+        Err(_) => false,
+    }
+}
+
+/// The log of a script, which a session answers so.
 fn log_of(alloc: Global, text: &str, budget: Option<u32>, script: &[u8]) -> Result<Vec<u8>, Fail> {
     let mut source = MemSource::new(script.to_vec(alloc)?, 7, Vec::new(alloc));
     let mut sink = MemSink::new(alloc, 65_536, 4096, Vec::new(alloc))
         .ok()
         .ok_or("memory")?;
     let session = session_on(alloc, text.as_bytes(), budget)?;
-    match answer_script(alloc, session, &mut source, &mut sink) {
-        Ok(_) => Ok(sink.bytes().to_vec(alloc)?),
-        Err(_) => Err(Fail::from("the script is not answered")),
+    if !is_answered(alloc, session, &mut source, &mut sink) {
+        return Err(Fail::from("the script is not answered"));
     }
+    Ok(sink.bytes().to_vec(alloc)?)
 }
 
 #[test]
