@@ -1,7 +1,7 @@
 -- Reasons for which items don't tell what is due, from what is wrong with a schedule or a tree.
-use Rattle.std.proofs.Common.{◌≡◌, ℕ, ◌≤◌, List, [], ◌∷◌, ◌++◌, inl, inr, Option, Some, None, get_or, length, refl, sym, ap, subst, ◌∙◌, arith}
+use Rattle.std.proofs.Common.{◌≡◌, ℕ, ℤ, ◌≤◌, List, [], ◌∷◌, ◌++◌, inl, inr, Option, Some, None, get_or, length, refl, sym, ap, subst, ◌∙◌, arith}
 use Rattle.std.specs.Bool.{MatchBool}
-use Rattle.std.specs.Prelude.{IfSome, option_map}
+use Rattle.std.specs.Prelude.{IfOk, IfSome, Result, Ok, Err, option_map}
 use Rattle.tp_bounds.specs.declared.tree.BoundTree.{BoundTree}
 use Rattle.tp_log.specs.declared.item.Item.{Item}
 use Rattle.tp_log.specs.declared.item.Item.TheVariants.{Tree as TreeItem}
@@ -11,6 +11,8 @@ use Rattle.tp_schedule.specs.declared.parts.Halt.{Halt}
 use Rattle.tp_schedule.specs.declared.parts.Halt.TheVariants.{Memory as NoMemory, Stopped}
 use Rattle.tp_schedule.specs.declared.parts.Plan.{Plan}
 use Rattle.tp_schedule.specs.declared.parts.SheetId.{SheetId}
+use Rattle.tp_deciding.specs.Early.{IsEarly, is_exempt}
+use Rattle.tp_deciding.specs.declared.early.Early.{Early as AnEarly}
 use Rattle.tp_answers.specs.Faults.{IsAnswerFault, IsAskedIn, IsSettlingFault, exempt_of}
 use Rattle.tp_answers.specs.declared.finding.Fault.{Fault}
 use Rattle.tp_answers.specs.declared.finding.Fault.TheVariants.{Asked, Unlike, Clash, Floor, Horizon, Order, Early}
@@ -19,15 +21,17 @@ use Rattle.tp_trees.specs.Flaws.{IsFlawOf, tree_flaw}
 use Rattle.tp_trees.specs.declared.claim.Claim.{Claim}
 use Rattle.tp_trees.specs.declared.claim.TreeFlaw.{TreeFlaw}
 use Rattle.tp_trees.specs.declared.claim.TreeFlaw.TheVariants.{Memory, RoomRow, Uncovered, NoSuchHop, Weak, NotDead}
+use Rattle.tp_told.specs.Breaches.{AreOfFault, HasFault}
 use Rattle.tp_told.specs.Failing.{failure_of, is_stop}
 use Rattle.tp_told.specs.Moving.{TakesMoves}
-use Rattle.tp_told.specs.Reasons.{DoClaim, IfStop, IsAskedReason, IsPlain, IsSettlingReason, IsTimesReason, IsTreeReason, TellSchedule, TellsFault, reason_in}
+use Rattle.tp_told.specs.Reasons.{DoClaim, IfStop, IsAskedReason, IsBreach, IsOff, IsOffAnswer, IsOffSettling, IsSettlingReason, IsTimesReason, IsTreeReason, TellSchedule, TellsFault, reason_in, reason_of}
 use Rattle.tp_told.specs.Telling.{HasStopped, ToldValue}
 use Rattle.tp_told.specs.declared.stop.Failure.{Failure}
 use Rattle.tp_told.specs.declared.stop.Failure.TheVariants as failure
 use Rattle.tp_told.specs.declared.stop.Reason.{Reason}
 use Rattle.tp_told.specs.declared.stop.Reason.TheVariants.{Due as IsDue, Illegal, NotLeast, Tree}
 use Rattle.tp_told.specs.declared.stop.Stop.{Stop}
+use Rattle.tp_told.specs.declared.stop.Wrong.{Wrong}
 
 -- ---- failures
 
@@ -50,61 +54,91 @@ kept-reason P failure.Memory o p halt p' match' is kept h = let e = match'.0 in 
 kept-reason P (failure.Stop stop) None p halt p' match' is kept h = absurd cc
 kept-reason P (failure.Stop stop) (Some s) p halt p' match' is kept h = some-reason P stop.reason s.reason kept h
 
--- ---- plain reasons
+-- ---- plain reasons, and broken rules
 
-pub plain-times : (machine : Machine) (now : ℕ) (exempt : Option SheetId) (plans' : List Plan) (r : Reason) → IsPlain r → IsTimesReason machine now exempt plans' r
-plain-times machine now exempt plans' IsDue h = h
-plain-times machine now exempt plans' (Illegal first second) h = h
-plain-times machine now exempt plans' (NotLeast given least) h = absurd h
-plain-times machine now exempt plans' (Tree flaw) h = h
+module _ (P : ℤ → ℤ → Type 0) where
+  pub settling-breach : (machine : Machine) (plans : List Plan) (now : ℕ) (items : List Item) → ((a b : ℤ) → P a b → IsOffSettling machine plans now items a b) → (r : Reason) → IsBreach P r → IsSettlingReason machine plans now items r
+  settling-breach machine plans now items to IsDue h = h
+  settling-breach machine plans now items to (Illegal first second) h = to first second h
+  settling-breach machine plans now items to (NotLeast given least) h = absurd h
+  settling-breach machine plans now items to (Tree flaw) h = h
 
-pub plain-settling : (machine : Machine) (plans : List Plan) (now : ℕ) (items : List Item) (r : Reason) → IsPlain r → IsSettlingReason machine plans now items r
-plain-settling machine plans now items IsDue h = h
-plain-settling machine plans now items (Illegal first second) h = h
-plain-settling machine plans now items (NotLeast given least) h = absurd h
-plain-settling machine plans now items (Tree flaw) h = h
+  pub asked-breach : (machine : Machine) (plans : List Plan) (ask : Ask) (items : List Item) → ((a b : ℤ) → P a b → IsOffAnswer machine plans ask items a b) → (r : Reason) → IsBreach P r → IsAskedReason machine plans ask items r
+  asked-breach machine plans ask items to IsDue h = h
+  asked-breach machine plans ask items to (Illegal first second) h = to first second h
+  asked-breach machine plans ask items to (NotLeast given least) h = absurd h
+  asked-breach machine plans ask items to (Tree flaw) h = absurd h
 
-pub plain-asked : (machine : Machine) (plans : List Plan) (ask : Ask) (items : List Item) (r : Reason) → IsPlain r → IsAskedReason machine plans ask items r
-plain-asked machine plans ask items IsDue h = h
-plain-asked machine plans ask items (Illegal first second) h = h
-plain-asked machine plans ask items (NotLeast given least) h = absurd h
-plain-asked machine plans ask items (Tree flaw) h = absurd h
+  pub breach-by : (Q : ℤ → ℤ → Type 0) → ((a b : ℤ) → P a b → Q a b) → (r : Reason) → IsBreach P r → IsBreach Q r
+  breach-by Q to IsDue h = h
+  breach-by Q to (Illegal first second) h = to first second h
+  breach-by Q to (NotLeast given least) h = h
+  breach-by Q to (Tree flaw) h = h
+
+  times-breach : (IsOne : Fault → Type 0) (machine : Machine) (now : ℕ) (exempt : Option SheetId) (plans' : List Plan) → ((a b : ℤ) → P a b → HasFault IsOne machine now a b)
+      → (r : Reason) → IsBreach P r → IsTimesReason IsOne machine now exempt plans' r
+  times-breach IsOne machine now exempt plans' to IsDue h = h
+  times-breach IsOne machine now exempt plans' to (Illegal first second) h = to first second h
+  times-breach IsOne machine now exempt plans' to (NotLeast given least) h = absurd h
+  times-breach IsOne machine now exempt plans' to (Tree flaw) h = h
+
+pub wrong-stop : (P : ℤ → ℤ → Type 0) (Q : Reason → Type 0) (w : Wrong) (f : Failure) → reason_in f ≡ Some (reason_of w) → ((r : Reason) → IsBreach P r → Q r) → IsOff P w → IfStop Q f
+wrong-stop P Q w failure.Memory e to h = tt
+wrong-stop P Q w (failure.Stop stop) e to h = some-reason Q (reason_of w) stop.reason e (to (reason_of w) h)
+
+module _ (P Q : ℤ → ℤ → Type 0) (to : (a b : ℤ) → P a b → Q a b) where
+  pub off-by : (w : Wrong) → IsOff P w → IsOff Q w
+  off-by w h = breach-by P Q to (reason_of w) h
+
+  pub off-some : (o : Option Wrong) → IfSome o (IsOff P) → IfSome o (IsOff Q)
+  off-some None h = tt
+  off-some (Some w) h = off-by w h
+
+  pub off-ok : (E : Type 0) (r : Result (Option Wrong) E) → IfOk r (λ found. IfSome found (IsOff P)) → IfOk r (λ found. IfSome found (IsOff Q))
+  off-ok E (Ok o) h = off-some o h
+  off-ok E (Err e) h = tt
 
 -- ---- schedules
 
-pub settling-times : (machine : Machine) (now : ℕ) (plans plans' : List Plan) (fault : Fault) (r : Reason) → IsSettlingFault machine now plans plans' fault → TellsFault fault r → IsTimesReason machine now None plans' r
-settling-times machine now plans plans' Asked r h told = plain-times machine now None plans' r told
-settling-times machine now plans plans' (Unlike u) r h told = plain-times machine now None plans' r told
-settling-times machine now plans plans' (Clash x) r h told = plain-times machine now None plans' r told
-settling-times machine now plans plans' (Floor x) r h told = plain-times machine now None plans' r told
-settling-times machine now plans plans' (Horizon x) r h told = plain-times machine now None plans' r told
-settling-times machine now plans plans' (Order x) r h told = plain-times machine now None plans' r told
-settling-times machine now plans plans' (Early e) r h told = subst (IsTimesReason machine now None plans') (sym told) (record { early = e; is = h; given_is = refl; least_is = refl })
+module _ (machine : Machine) (now : ℕ) (exempt : Option SheetId) (plans' : List Plan) (IsOne : Fault → Type 0) (early : (e : AnEarly) → IsOne (Early e) → IsEarly machine now (is_exempt exempt) plans' e) where
+  of-fault : (fault : Fault) → IsOne fault → (r : Reason) → IsBreach (AreOfFault machine now fault) r → IsTimesReason IsOne machine now exempt plans' r
+  of-fault fault is r told = times-breach (AreOfFault machine now fault) IsOne machine now exempt plans' (λ a b numbers. record { fault = fault; is = is; told = numbers }) r told
 
-pub asked-times : (machine : Machine) (plans : List Plan) (ask : Ask) (plans' : List Plan) (fault : Fault) (r : Reason) → IsAnswerFault machine plans ask plans' fault → TellsFault fault r → IsTimesReason machine ask.now (exempt_of ask) plans' r
-asked-times machine plans ask plans' Asked r h told = plain-times machine ask.now (exempt_of ask) plans' r told
-asked-times machine plans ask plans' (Unlike u) r h told = plain-times machine ask.now (exempt_of ask) plans' r told
-asked-times machine plans ask plans' (Clash x) r h told = plain-times machine ask.now (exempt_of ask) plans' r told
-asked-times machine plans ask plans' (Floor x) r h told = plain-times machine ask.now (exempt_of ask) plans' r told
-asked-times machine plans ask plans' (Horizon x) r h told = plain-times machine ask.now (exempt_of ask) plans' r told
-asked-times machine plans ask plans' (Order x) r h told = plain-times machine ask.now (exempt_of ask) plans' r told
-asked-times machine plans ask plans' (Early e) r (inr h) told = subst (IsTimesReason machine ask.now (exempt_of ask) plans') (sym told) (record { early = e; is = h; given_is = refl; least_is = refl })
-asked-times machine plans ask plans' (Early e) r (inl h) told = absurd (none _ h) where
-  none : (o : Option Plan) → IsAskedIn machine plans ask o (Early e) → ⊥
-  none None h = cc
-  none (Some p) h = h
+  fault-times : (fault : Fault) (r : Reason) → IsOne fault → TellsFault machine now fault r → IsTimesReason IsOne machine now exempt plans' r
+  fault-times Asked r h told = of-fault Asked h r told
+  fault-times (Unlike u) r h told = of-fault (Unlike u) h r told
+  fault-times (Clash x) r h told = of-fault (Clash x) h r told
+  fault-times (Floor x) r h told = of-fault (Floor x) h r told
+  fault-times (Horizon x) r h told = of-fault (Horizon x) h r told
+  fault-times (Order x) r h told = of-fault (Order x) h r told
+  fault-times (Early e) r h told = subst (IsTimesReason IsOne machine now exempt plans') (sym told) (record { early = e; is = early e h; given_is = refl; least_is = refl })
+
+pub settling-times : (machine : Machine) (now : ℕ) (plans plans' : List Plan) (fault : Fault) (r : Reason) → IsSettlingFault machine now plans plans' fault → TellsFault machine now fault r
+    → IsTimesReason (IsSettlingFault machine now plans plans') machine now None plans' r
+settling-times machine now plans plans' = fault-times machine now None plans' (IsSettlingFault machine now plans plans') (λ e h. h)
+
+pub asked-times : (machine : Machine) (plans : List Plan) (ask : Ask) (plans' : List Plan) (fault : Fault) (r : Reason) → IsAnswerFault machine plans ask plans' fault → TellsFault machine ask.now fault r
+    → IsTimesReason (IsAnswerFault machine plans ask plans') machine ask.now (exempt_of ask) plans' r
+asked-times machine plans ask plans' = fault-times machine ask.now (exempt_of ask) plans' (IsAnswerFault machine plans ask plans') early where
+  none : (e : AnEarly) (o : Option Plan) → IsAskedIn machine plans ask o (Early e) → ⊥
+  none e None h = cc
+  none e (Some p) h = h
+
+  early : (e : AnEarly) → IsAnswerFault machine plans ask plans' (Early e) → IsEarly machine ask.now (is_exempt (exempt_of ask)) plans' e
+  early e (inr h) = h
+  early e (inl h) = absurd (none e _ h)
 
 pub settled-reason : (machine : Machine) (plans : List Plan) (now : ℕ) (items : List Item) (plans' : List Plan) (taken : ℕ) → TakesMoves machine now None plans plans' items taken
-    → (r : Reason) → IsTimesReason machine now None plans' r → IsSettlingReason machine plans now items r
+    → (r : Reason) → IsTimesReason (IsSettlingFault machine now plans plans') machine now None plans' r → IsSettlingReason machine plans now items r
 settled-reason machine plans now items plans' taken takes IsDue h = h
-settled-reason machine plans now items plans' taken takes (Illegal first second) h = h
+settled-reason machine plans now items plans' taken takes (Illegal first second) h = inr (plans', (taken, (takes, h)))
 settled-reason machine plans now items plans' taken takes (NotLeast given least) h = (plans', (taken, (takes, h)))
 settled-reason machine plans now items plans' taken takes (Tree flaw) h = h
 
 pub asked-reason : (machine : Machine) (plans : List Plan) (ask : Ask) (items : List Item) (plans' : List Plan) → TellSchedule machine plans ask items plans'
-    → (r : Reason) → IsTimesReason machine ask.now (exempt_of ask) plans' r → IsAskedReason machine plans ask items r
+    → (r : Reason) → IsTimesReason (IsAnswerFault machine plans ask plans') machine ask.now (exempt_of ask) plans' r → IsAskedReason machine plans ask items r
 asked-reason machine plans ask items plans' tells IsDue h = h
-asked-reason machine plans ask items plans' tells (Illegal first second) h = h
+asked-reason machine plans ask items plans' tells (Illegal first second) h = inr (inr (record { plans' = plans'; told = tells; fault = h }))
 asked-reason machine plans ask items plans' tells (NotLeast given least) h = (plans', (tells, h))
 asked-reason machine plans ask items plans' tells (Tree flaw) h = absurd h
 
@@ -132,6 +166,6 @@ module _ (machine : Machine) (plans : List Plan) (ask : Ask) (claim : Claim) whe
 
   pub tree-reason : (items before behind : List Item) → DoClaim machine plans ask items claim → items ≡ before ++ behind → (r : Reason) → IsTreeReason machine plans ask claim behind r → IsAskedReason machine plans ask items r
   tree-reason items before behind claimed parts IsDue h = h
-  tree-reason items before behind claimed parts (Illegal first second) h = h
+  tree-reason items before behind claimed parts (Illegal first second) h = absurd h
   tree-reason items before behind claimed parts (NotLeast given least) h = absurd h
   tree-reason items before behind claimed parts (Tree flaw) h = record { claim = claim; claimed = claimed; before = before; behind = behind; parts = parts; flawed = h }

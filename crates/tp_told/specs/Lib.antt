@@ -4,5 +4,6 @@ pub mod Moving
 pub mod Planning
 pub mod Showing
 pub mod Telling
+pub mod Breaches
 pub mod Reasons
 pub mod Stopping

@@ -4,7 +4,9 @@ ghost use Rattle.tp_answers.specs.Alike.{KeepsPoints};
 ghost use Rattle.tp_deciding.specs.Early.{is_exempt};
 ghost use Rattle.tp_schedule.specs.Answers.{KeepsFloors, KeepsHorizon, unmoved};
 ghost use Rattle.tp_schedule.specs.Plans.{IsFormed};
+ghost use Rattle.tp_told.specs.Breaches.{IsOffByItself, IsOutOfBounds, IsUnkept};
 ghost use Rattle.tp_told.specs.Moving.{IsKeptPlan};
+ghost use Rattle.tp_told.specs.Reasons.{IsOff};
 
 use crate::stop::Wrong;
 use std::alloc::Global;
@@ -38,9 +40,11 @@ fn find_out_of_bounds(
     exempt: Option<SheetId>,
     schedule: &Schedule,
 ) -> Option<Wrong>
-    ensures { IfSome result (λ reason.
+    ensures breaks { IfSome result (λ reason.
         KeepsFloors machine.now now (is_exempt exempt) schedule.now.plans
         → KeepsHorizon machine.now now schedule.now.plans → ⊥) }
+    ensures why { IfSome result
+        (IsOff (IsOutOfBounds machine.now now exempt schedule.now.plans)) }
 {
     match find_below_floor(machine, now, exempt, schedule) {
         Some(low) => {
@@ -69,8 +73,10 @@ pub(crate) fn find_in_plan(
     plan: &Plan,
 ) -> Result<Option<Wrong>, Memory>
     requires { IsFormed plan.now }
-    ensures { IfOk result (λ found. IfSome found
+    ensures breaks { IfOk result (λ found. IfSome found
         (λ reason. IsKeptPlan machine.now now exempt plan.now → ⊥)) }
+    ensures why { IfOk result (λ found. IfSome found
+        (IsOff (IsOffByItself machine.now now exempt plan.now))) }
 {
     match find_misfit(machine, plan) {
         Some(misfit) => return Ok(illegal(misfit.lasts, i64::from(misfit.limit))),
@@ -85,8 +91,9 @@ pub(crate) fn find_unkept(alloc: Global, plan: &Plan, other: &Plan) -> Result<Op
     requires formed { IsFormed plan.now }
     requires other_formed { IsFormed other.now }
     requires same { unmoved other.now ≡ unmoved plan.now }
-    ensures { IfOk result (λ found. IfSome found
+    ensures breaks { IfOk result (λ found. IfSome found
         (λ reason. KeepsPoints plan.now other.now → ⊥)) }
+    ensures why { IfOk result (λ found. IfSome found (IsOff (IsUnkept plan.now other.now))) }
 {
     let before = alone(alloc, plan)?;
     let after = alone(alloc, other)?;

@@ -1,5 +1,5 @@
 //! An answer to an ask, from the record and the items that tell it.
-ghost use Rattle.std.specs.Prelude.{◌≡◌, ◌+◌, ◌↔◌, ◌<◌, ◌≤◌, ◌^◌, ◌∷◌, None, IfErr, IfOk, IsFalse, IsSome, IsTrue, MatchBool, MatchResult, OnErr, OnOk, length};
+ghost use Rattle.std.specs.Prelude.{◌≡◌, ◌+◌, ◌↔◌, ◌<◌, ◌≤◌, ◌^◌, ◌∷◌, None, Some, IfErr, IfOk, IsFalse, IsSome, IsTrue, MatchBool, MatchResult, OnErr, OnOk, length};
 ghost use Rattle.tp_log.specs.declared.item.Item.TheVariants.{Note};
 ghost use Rattle.tp_schedule.specs.Answers.{IsAsked};
 ghost use Rattle.tp_schedule.specs.Legality.{IsLegal};
@@ -10,11 +10,12 @@ ghost use Rattle.tp_schedule.specs.declared.parts.Reply.TheVariants.{Planned};
 ghost use Rattle.tp_schedule.specs.declared.records.Record.{Record};
 ghost use Rattle.tp_turn.specs.Answering.{label_of_asked};
 ghost use Rattle.tp_turn.specs.Labels.{goal_name};
-ghost use Rattle.tp_answers.specs.Faults.{IsRight, exempt_of};
+ghost use Rattle.tp_answers.specs.Faults.{IsAnswerFault, IsRight, exempt_of};
 ghost use Rattle.tp_told.specs.Answering.{DoTellPlan, TakesAnswer};
+ghost use Rattle.tp_told.specs.Breaches.{TellsUnfit};
 ghost use Rattle.tp_told.specs.Failing.{Denies, is_stop};
 ghost use Rattle.tp_told.specs.Planning.{IsOnlyPlan, TellsNoPlan};
-ghost use Rattle.tp_told.specs.Reasons.{IfStop, IsAskedReason, IsPlain, IsTimesReason, reason_in};
+ghost use Rattle.tp_told.specs.Reasons.{IfStop, IsAskedReason, IsOff, IsPlain, IsTimesReason, reason_in, reason_of};
 ghost use Rattle.tp_told.specs.Telling.{TellsDue, behind_asides, is_aside, is_other};
 
 use crate::alone::find_in_plan;
@@ -116,8 +117,9 @@ fn check_answer(
         (IsRight machine.now before.now.plans ask.entry.now after.now.plans) }
     ensures refused { IfErr result
         (Denies (IsRight machine.now before.now.plans ask.entry.now after.now.plans)) }
-    ensures why { IfErr result (IfStop (IsTimesReason machine.now ask.entry.now.now
-        (exempt_of ask.entry.now) after.now.plans)) }
+    ensures why { IfErr result (IfStop (IsTimesReason
+        (IsAnswerFault machine.now before.now.plans ask.entry.now after.now.plans)
+        machine.now ask.entry.now.now (exempt_of ask.entry.now) after.now.plans)) }
 {
     match find_fault(alloc, machine, ask, before, after) {
         Err(_) => Err(Failure::Memory),
@@ -214,9 +216,11 @@ fn is_about(machine: &Machine, ask: &Ask, sheet: &SheetName, goal: &Option<Name>
 fn read_told(machine: &Machine, before: &Schedule, ask: &Ask, told: &Record) -> Result<Plan, Wrong>
     requires legal { IsLegal machine.now before.now.plans }
     requires asked { IsAsked machine.now before.now.plans ask.now }
-    ensures { MatchResult result
+    ensures told { MatchResult result
         (IsOnlyPlan machine.now before.now.plans ask.entry.now told.now)
         (λ reason. TellsNoPlan machine.now before.now.plans ask.entry.now told.now) }
+    ensures why { IfErr result
+        (IsOff (TellsUnfit before.now.plans ask.entry.now told.now)) }
 {
     match told {
         Record::Plan {
@@ -245,7 +249,7 @@ fn read_told(machine: &Machine, before: &Schedule, ask: &Ask, told: &Record) -> 
 /// The record of a plan is wrong.
 fn wrong_plan(wrong: Wrong) -> Failure
     ensures stops { IsTrue (is_stop result) }
-    ensures why { IfStop IsPlain result }
+    ensures reason { reason_in result ≡ Some (reason_of wrong) }
 {
     Failure::Stop(Stop {
         item: 0,

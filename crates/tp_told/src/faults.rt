@@ -1,7 +1,10 @@
 //! Which item is wrong by a fault of the schedule that the items tell, and why.
-ghost use Rattle.std.specs.Prelude.{◌≤◌, length};
+ghost use Rattle.std.specs.Prelude.{◌≡◌, ◌≤◌, length};
 ghost use Rattle.tp_schedule.specs.Plans.{IsFormed};
-ghost use Rattle.tp_told.specs.Reasons.{IsPlain, TellsFault};
+ghost use Rattle.tp_answers.specs.declared.finding.Fault.TheVariants.{Order};
+ghost use Rattle.tp_told.specs.Breaches.{AreOfClash, AreOfFault};
+ghost use Rattle.tp_told.specs.Reasons.{IsBreach, TellsFault};
+ghost use Rattle.tp_told.specs.declared.stop.Reason.TheVariants.{Due as IsDue, Illegal};
 
 use crate::stop::{Reason, Stop};
 use tp_answers::{Fault, Unlike};
@@ -76,7 +79,7 @@ impl Read<'_> {
     }
 
     fn stop_at(&self, item: usize, first: i64, second: i64) -> Stop
-        ensures { IsPlain result.reason }
+        ensures { result.reason ≡ Illegal first second }
     {
         Stop {
             item,
@@ -86,7 +89,8 @@ impl Read<'_> {
 
     /// The begins of two holds that stand in another order than before.
     fn parting(&self, machine: &Machine, parting: &Parting) -> Stop
-        ensures { IsPlain result.reason }
+        ensures { IsBreach (AreOfFault machine.now self.entry.now.now (Order parting.now))
+            result.reason }
     {
         match (parting.stood, parting.stands) {
             (Some(stood), Some(stands)) => {
@@ -104,7 +108,7 @@ impl Read<'_> {
     }
 
     fn due(&self, item: usize) -> Stop
-        ensures { IsPlain result.reason }
+        ensures { result.reason ≡ IsDue }
     {
         Stop {
             item,
@@ -113,7 +117,7 @@ impl Read<'_> {
     }
 
     fn clash(&self, clash: &Clash) -> Stop
-        ensures { IsPlain result.reason }
+        ensures { IsBreach (AreOfClash clash.now) result.reason }
     {
         match clash {
             Clash::NotTimed { sheet } => self.due(self.item_of(*sheet)),
@@ -143,7 +147,7 @@ impl Read<'_> {
 
     /// Which item is wrong by the fault, and why.
     pub(crate) fn stop_of(&self, machine: &Machine, fault: &Fault) -> Stop
-        ensures { TellsFault fault.now result.reason }
+        ensures { TellsFault machine.now self.entry.now.now fault.now result.reason }
     {
         match fault {
             Fault::Asked | Fault::Unlike(Unlike::Changed) => self.due(self.unmoved),

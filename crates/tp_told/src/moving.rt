@@ -4,7 +4,8 @@ ghost use Rattle.tp_schedule.specs.Plans.{IsFormed, with_points};
 ghost use Rattle.tp_answers.specs.Alike.{KeepsPoints};
 ghost use Rattle.tp_told.specs.Failing.{Denies};
 ghost use Rattle.tp_told.specs.Moving.{DoTellMoves, IsKeptPlan, TakesMoves, moved_points, other_points, points_for};
-ghost use Rattle.tp_told.specs.Reasons.{IfStop, IsPlain};
+ghost use Rattle.tp_told.specs.Breaches.{HasOffMove, IsOffMove};
+ghost use Rattle.tp_told.specs.Reasons.{IfStop, IsBreach, IsOff};
 ghost use Rattle.tp_told.specs.Telling.{begins_with_move};
 
 use crate::alone::{find_in_plan, find_unkept};
@@ -83,9 +84,11 @@ fn find_in_move(
 ) -> Result<Option<Wrong>, Memory>
     requires formed { IsFormed plan.now }
     requires long { length points.now ≡ length plan.now.points }
-    ensures { IfOk result (λ found. IfSome found
+    ensures breaks { IfOk result (λ found. IfSome found
         (λ reason. IsKeptPlan machine.now now None (with_points points.now plan.now)
         → KeepsPoints plan.now (with_points points.now plan.now) → ⊥)) }
+    ensures why { IfOk result (λ found. IfSome found
+        (IsOff (IsOffMove machine.now now plan.now (with_points points.now plan.now)))) }
 {
     let moved = with_points(plan, points);
     match find_unkept(alloc, plan, &moved)? {
@@ -108,7 +111,8 @@ fn take_moves(
         before.now.plans after.new.plans items.now) }
     ensures refused { IfErr result (Denies (DoTellMoves machine.now moving.now.moment
         moving.now.asked before.now.plans items.now)) }
-    ensures why { IfErr result (IfStop IsPlain) }
+    ensures why { IfErr result (IfStop (IsBreach (HasOffMove machine.now moving.now.moment
+        moving.now.asked before.now.plans items.now))) }
 {
     before.ordered();
     let mut taken = 0;
@@ -151,7 +155,8 @@ pub(crate) fn take_all_moves(
     ensures over { IfOk result (λ taken. IsFalse (begins_with_move (drop taken items.now))) }
     ensures refused { IfErr result (Denies (DoTellMoves machine.now moving.now.moment
         moving.now.asked before.now.plans items.now)) }
-    ensures why { IfErr result (IfStop IsPlain) }
+    ensures why { IfErr result (IfStop (IsBreach (HasOffMove machine.now moving.now.moment
+        moving.now.asked before.now.plans items.now))) }
 {
     match take_moves(alloc, machine, moving, items, before, after) {
         Err(failure) => Err(failure),

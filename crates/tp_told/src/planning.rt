@@ -1,13 +1,15 @@
 //! The plan that a record tells.
-ghost use Rattle.std.specs.Prelude.{◌≡◌, ◌↔◌, ◌≤◌, All, IfSome, IsTrue, MatchOption, MatchResult, length, option_copied};
+ghost use Rattle.std.specs.Prelude.{◌≡◌, ◌↔◌, ◌≤◌, All, IfErr, IfSome, IsTrue, MatchOption, MatchResult, length, option_copied};
 ghost use Rattle.tp_schedule.specs.Answers.{IsAsked, acts_in};
 ghost use Rattle.tp_schedule.specs.Legality.{IsLegal};
-ghost use Rattle.tp_schedule.specs.Plans.{IsFormed};
+ghost use Rattle.tp_schedule.specs.Plans.{IsFormed, plan_of};
 ghost use Rattle.tp_schedule.specs.declared.records.Record.TheVariants.{Plan as TellsPlan};
 ghost use Rattle.tp_telling.specs.Telling.{IsKnown};
 ghost use Rattle.tp_turn.specs.Answering.{label_of_asked};
 ghost use Rattle.tp_turn.specs.Labels.{end_location, location_name};
+ghost use Rattle.tp_told.specs.Breaches.{IsUnfit, IsUnjoined};
 ghost use Rattle.tp_told.specs.Planning.{DoFit, IsJoined, IsOnlyPlan, TellsNoPlan, plan_with, points_behind};
+ghost use Rattle.tp_told.specs.Reasons.{IsOff};
 
 use crate::naming::add_named;
 use crate::points::points_behind;
@@ -35,8 +37,10 @@ fn kept_acts(front: Option<&Plan>) -> Acts
 fn find_apart(front: Option<&Plan>, points: &[Tick]) -> Option<Wrong>
     requires formed { IfSome (option_copied front) IsFormed }
     requires some { 1 ≤ length points.now }
-    ensures { MatchOption result (IsJoined (option_copied front.entry) points.now)
+    ensures joined { MatchOption result (IsJoined (option_copied front.entry) points.now)
         (λ reason. IsJoined (option_copied front.entry) points.now → ⊥) }
+    ensures why { IfSome result
+        (IsOff (IsUnjoined (option_copied front.entry) points.now)) }
 {
     match front {
         Some(front) => {
@@ -58,8 +62,10 @@ fn find_apart(front: Option<&Plan>, points: &[Tick]) -> Option<Wrong>
 /// Why new points and actions of these names don't fit the front.
 fn find_unfit(front: Option<&Plan>, points: &[Tick], names: &[Name]) -> Option<Wrong>
     requires { IfSome (option_copied front) IsFormed }
-    ensures { MatchOption result (DoFit (option_copied front.entry) points.now names.now)
+    ensures fit { MatchOption result (DoFit (option_copied front.entry) points.now names.now)
         (λ reason. DoFit (option_copied front.entry) points.now names.now → ⊥) }
+    ensures why { IfSome result
+        (IsOff (IsUnfit (option_copied front.entry) points.now names.now)) }
 {
     let kept = kept_acts(front);
     let count = u64::from(kept.len()) + names.len() as u64;
@@ -122,11 +128,13 @@ pub(crate) fn read_plan(
 ) -> Result<Plan, Wrong>
     requires legal { IsLegal machine.now before.now.plans }
     requires asked { IsAsked machine.now before.now.plans ask.now }
-    ensures { MatchResult result
+    ensures told { MatchResult result
         (IsOnlyPlan machine.now before.now.plans ask.entry.now
         (TellsPlan (label_of_asked ask.entry.now) place.now points.now names.now))
         (λ reason. TellsNoPlan machine.now before.now.plans ask.entry.now
         (TellsPlan (label_of_asked ask.entry.now) place.now points.now names.now)) }
+    ensures why { IfErr result (IsOff (IsUnfit (plan_of ask.entry.now.sheet before.now.plans)
+        points.now names.now)) }
 {
     machine_law(machine);
     let front = plan_of(before, ask.sheet);

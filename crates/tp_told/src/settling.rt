@@ -3,6 +3,7 @@ ghost use Rattle.std.specs.Prelude.{◌≡◌, ◌≤◌, None, IfErr, IfOk, OnE
 ghost use Rattle.tp_schedule.specs.Legality.{IsLegal};
 ghost use Rattle.tp_schedule.specs.Planning.{CanSettle, IsSettled, last_tick};
 ghost use Rattle.tp_told.specs.Answering.{DoTellSettled, TakesSettled};
+ghost use Rattle.tp_answers.specs.Faults.{IsSettlingFault};
 ghost use Rattle.tp_told.specs.Failing.{Denies};
 ghost use Rattle.tp_told.specs.Reasons.{IfStop, IsSettlingReason, IsTimesReason};
 ghost use Rattle.tp_told.specs.Telling.{behind_asides};
@@ -31,7 +32,8 @@ fn check_settled(
     ensures settled { OnOk result (IsSettled machine.now now before.now.plans after.now.plans) }
     ensures refused { IfErr result
         (Denies (IsSettled machine.now now before.now.plans after.now.plans)) }
-    ensures why { IfErr result (IfStop (IsTimesReason machine.now now None after.now.plans)) }
+    ensures why { IfErr result (IfStop (IsTimesReason (IsSettlingFault machine.now now
+        before.now.plans after.now.plans) machine.now now None after.now.plans)) }
 {
     match find_unsettled(alloc, machine, now, before, after) {
         Err(_) => Err(Failure::Memory),

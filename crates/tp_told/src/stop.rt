@@ -1,5 +1,6 @@
 //! Why the items of an event tell no right answer.
-ghost use Rattle.tp_told.specs.Reasons.{IsPlain};
+ghost use Rattle.std.specs.Prelude.{◌≡◌};
+ghost use Rattle.tp_told.specs.Reasons.{reason_of};
 
 use tp_base::Tick;
 use tp_trees::TreeFlaw;
@@ -25,7 +26,7 @@ pub(crate) enum Wrong {
 
 /// The same as a reason.
 pub(crate) fn reason_of(wrong: Wrong) -> Reason
-    ensures { IsPlain result }
+    ensures { result ≡ reason_of wrong }
 {
     match wrong {
         Wrong::Due => Reason::Due,

@@ -8,17 +8,18 @@ use Rattle.tp_schedule.specs.Plans.{end_of_plan, plan_of}
 use Rattle.tp_trees.specs.declared.claim.Claim.TheVariants.{Earliest}
 use Rattle.tp_answers.specs.Faults.{IsRight}
 use Rattle.tp_told.specs.Answering.{DoTellPlan}
+use Rattle.tp_told.specs.Breaches.{HasOffMove}
 use Rattle.tp_told.specs.Moving.{DoTellMoves}
 use Rattle.tp_told.specs.Showing.{BeginsWithTree}
 use Rattle.tp_told.proofs.MoveSteps.{rest-is}
 use Rattle.tp_told.proofs.PlaceFacts.{few-left, placed, right-too, tells-moves-too, tree-too}
 use Rattle.tp_told.proofs.TreeFacts.{denies-from, denies-like}
 use Rattle.std.specs.Prelude.{Some}
-use Rattle.std.proofs.Common.{refl, ◌++◌}
+use Rattle.std.proofs.Common.{ℤ, inl, inr, refl, ◌++◌}
 use Rattle.std.proofs.lemmas.List.{take-append-drop}
-use Rattle.tp_answers.specs.Faults.{exempt_of}
-use Rattle.tp_told.specs.Reasons.{IsAskedReason, IsPlain, IsTimesReason, IsTreeReason}
-use Rattle.tp_told.proofs.ReasonFacts.{asked-reason, plain-asked, same-stop, stop-from, tree-reason}
+use Rattle.tp_answers.specs.Faults.{IsAnswerFault, exempt_of}
+use Rattle.tp_told.specs.Reasons.{IsAskedReason, IsBreach, IsTimesReason, IsTreeReason}
+use Rattle.tp_told.proofs.ReasonFacts.{asked-breach, asked-reason, same-stop, stop-from, tree-reason}
 use Rattle.tp_told.proofs.answering.place_plan.Goals as goal
 
 pub returns-in-Err-clause-refused : goal.returns-in-Err-clause-refused
@@ -83,8 +84,13 @@ returns-in-Err-clause-why c = λ told only. (
     let plans = c.args.schedule.now.plans in
     let ask = c.args.ask.now in
     let items = Note told ∷ c.args.later.now in
+    let P : ℤ → ℤ → Type 0 = HasOffMove m ask.now (Some ask.sheet) plans c.args.later.now in
     same-stop (IsAskedReason m plans ask items) c.in-Err.failure c.behind.result c.behind.ensures.reason
-    (stop-from IsPlain (IsAskedReason m plans ask items) c.in-Err.failure (plain-asked m plans ask items) c.in-Err.ensures.why))
+    (stop-from (IsBreach P) (IsAskedReason m plans ask items) c.in-Err.failure (asked-breach P m plans ask items (λ a b off. inr (inl (record {
+      plan = c.args.plan;
+      told = record { told = told; later = c.args.later.now; is = refl; only = only };
+      off = off;
+    })))) c.in-Err.ensures.why))
 
 pub returns-in-Err-check_answer-clause-why : goal.returns-in-Err-check_answer-clause-why
 returns-in-Err-check_answer-clause-why c = λ told only. (
@@ -93,7 +99,7 @@ returns-in-Err-check_answer-clause-why c = λ told only. (
     let ask = c.args.ask.now in
     let items = Note told ∷ c.args.later.now in
     let after = c.put_plan.new.schedule.plans in
-    stop-from (IsTimesReason m ask.now (exempt_of ask) after) (IsAskedReason m plans ask items) c.in-Err-check_answer.failure
+    stop-from (IsTimesReason (IsAnswerFault m plans ask after) m ask.now (exempt_of ask) after) (IsAskedReason m plans ask items) c.in-Err-check_answer.failure
     (asked-reason m plans ask items after (record {
       plan = c.args.plan;
       first = record { told = told; later = c.args.later.now; is = refl; only = only };

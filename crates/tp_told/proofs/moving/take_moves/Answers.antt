@@ -1,8 +1,14 @@
 -- The plans are gone through one by one, each with the item that moves it, if one does.
-use Rattle.std.proofs.Common.{◌≡◌, ℕ, ◌+◌, ◌-◌, List, drop, length, take, arith, ap, subst, sym}
+use Rattle.std.proofs.Common.{◌≡◌, ℕ, ℤ, Some, ◌+◌, ◌-◌, List, drop, length, take, arith, ap, subst, sym}
 use Rattle.std.specs.Prelude.{IsSomeAnd}
 use Rattle.tp_schedule.specs.Timetables.{Timetable}
 use Rattle.tp_schedule.specs.declared.parts.Plan.{Plan}
+use Rattle.tp_schedule.specs.Plans.{with_points}
+use Rattle.tp_told.specs.Breaches.{HasOffMove, IsOffMove}
+use Rattle.tp_told.specs.Moving.{points_for}
+use Rattle.tp_told.specs.Reasons.{IsBreach}
+use Rattle.tp_constraints.proofs.Lists.{contains-get}
+use Rattle.tp_told.proofs.ReasonFacts.{off-by}
 use Rattle.tp_told.proofs.MoveSteps.{MovedSoFar, for-some, found-there, moves-next, no-moves, none-next, none-yet, rest-is, takes-moves}
 use Rattle.tp_told.proofs.moving.take_moves.Goals as goal
 use Rattle.tp_told.proofs.moving.take_moves.Goals.{in-Some+in-Ok-None, in-None}
@@ -21,7 +27,26 @@ returns-in-Ok-Some-clause-refused c = λ told. (
     (take (length c.args.items.now - c.plans.taken) (drop c.plans.taken c.args.items.now)) (rest-is c.args.items.now c.plans.taken) c.in-Some.points (sym c.in-Some.ensures) in
     no-moves c.args.machine.now c.args.moving.now.moment c.args.moving.now.asked c.args.before.now.plans c.args.items.now c.plans.after.plans c.plans.at c.plans.taken c.plans.invariant
     c.plan_at-plan.result.now c.plan_at-plan.ensures.plan some.0 c.in-Some.points some.1 c.ordered.ensures.ordered.in_order
-    (rw c.in-Ok-Some.field-0-is at c.in-Ok-Some.ensures) told.0 told.1.0 told.1.1.0 told.1.1.1)
+    (rw c.in-Ok-Some.field-0-is at c.in-Ok-Some.ensures.breaks) told.0 told.1.0 told.1.1.0 told.1.1.1)
+
+pub returns-in-Ok-Some-clause-why : goal.returns-in-Ok-Some-clause-why
+returns-in-Ok-Some-clause-why c =
+    let m = c.args.machine.now in
+    let now = c.args.moving.now.moment in
+    let asked = c.args.moving.now.asked in
+    let before = c.args.before.now.plans in
+    let items = c.args.items.now in
+    let p = c.plan_at-plan.result.now in
+    let points = c.in-Some.points in
+    let P : ℤ → ℤ → Type 0 = HasOffMove m now asked before items in
+    subst (IsBreach P) (sym c.reason_of.ensures) (off-by (IsOffMove m now p (with_points points p)) P (λ a b off. record {
+      plan = p;
+      planned = contains-get before c.plans.at p c.plan_at-plan.ensures.plan;
+      place = c.plans.taken;
+      points = points;
+      told = subst (λ xs. points_for asked p xs ≡ Some points) (rest-is items c.plans.taken) (sym c.in-Some.ensures);
+      off = off;
+    }) c.in-Ok-Some.wrong (rw c.in-Ok-Some.field-0-is at c.in-Ok-Some.ensures.why))
 
 pub set_points-requires : goal.set_points-requires
 set_points-requires c =

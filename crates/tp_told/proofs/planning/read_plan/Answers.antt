@@ -9,34 +9,39 @@ use Rattle.tp_telling.specs.Telling.{IsKnown}
 use Rattle.tp_turn.specs.Answering.{label_of_asked}
 use Rattle.tp_turn.specs.Labels.{end_location, location_name}
 use Rattle.tp_told.specs.Planning.{DoFit, IsToldPlan, plan_with}
+use Rattle.tp_told.specs.Breaches.{IsUnfit}
+use Rattle.tp_told.specs.Reasons.{IsOff}
 use Rattle.tp_told.proofs.PlanFacts.{fits, is-made, made-formed, made-told, made-known, read-from, told-of}
 use Rattle.tp_told.proofs.planning.read_plan.Goals as goal
 
-pub returns-in-Some : goal.returns-in-Some
-returns-in-Some c = λ q timed t. (
+pub returns-in-Some-clause-told : goal.returns-in-Some-clause-told
+returns-in-Some-clause-told c = λ q timed t. (
     let machine = c.args.machine.now in
     let plans = c.args.before.now.plans in
     let ask = c.args.ask.now in
     let front = c.plan_of-front.ensures.plan in
     let formed = subst (λ o. IfSome o IsFormed) front c.plan_of-front.ensures.formed in
     let of = told-of machine plans ask c.requires.asked formed c.args.place.now c.args.points.now c.args.names.now q timed t in
-    c.in-Some.ensures (subst (λ o. DoFit o c.args.points.now c.args.names.now) (sym front) (fits machine plans ask c.requires.asked formed c.args.place.now c.args.points.now c.args.names.now q of)))
+    c.in-Some.ensures.fit (subst (λ o. DoFit o c.args.points.now c.args.names.now) (sym front) (fits machine plans ask c.requires.asked formed c.args.place.now c.args.points.now c.args.names.now q of)))
 
-pub returns-then-not-named : goal.returns-then-not-named
-returns-then-not-named c = λ q timed t. (
+pub returns-in-Some-clause-why : goal.returns-in-Some-clause-why
+returns-in-Some-clause-why c = subst (λ o. IsOff (IsUnfit o c.args.points.now c.args.names.now) c.in-Some.reason) c.plan_of-front.ensures.plan c.in-Some.ensures.why
+
+pub returns-then-not-named-clause-told : goal.returns-then-not-named-clause-told
+returns-then-not-named-clause-told c = λ q timed t. (
     let formed = subst (λ o. IfSome o IsFormed) c.plan_of-front.ensures.plan c.plan_of-front.ensures.formed in
     let of = told-of c.args.machine.now c.args.before.now.plans c.args.ask.now c.requires.asked formed c.args.place.now c.args.points.now c.args.names.now q timed t in
     c.if-not-named.ensures of.route of.have)
 
-pub returns-then-not-answers : goal.returns-then-not-answers
-returns-then-not-answers c = λ q timed t. (
+pub returns-then-not-answers-clause-told : goal.returns-then-not-answers-clause-told
+returns-then-not-answers-clause-told c = λ q timed t. (
     let machine = c.args.machine.now in
     let plans = c.args.before.now.plans in
     let ask = c.args.ask.now in
     let front = c.plan_of-front.ensures.plan in
     let formed = subst (λ o. IfSome o IsFormed) front c.plan_of-front.ensures.formed in
     let named = c.if-not-named.ensures in
-    let fit = subst (λ o. DoFit o c.args.points.now c.args.names.now) front c.in-None.ensures in
+    let fit = subst (λ o. DoFit o c.args.points.now c.args.names.now) front c.in-None.ensures.fit in
     let read = read-from machine plans ask c.args.names.now c.args.points.now named.0 c.requires.asked formed fit named.2 in
     let made : c.make_plan-plan.result ≡ plan_with ask (plan_of ask.sheet plans) (acts_in (plan_of ask.sheet plans) ++ named.0) c.args.points.now =
     c.make_plan-plan.ensures ∙ ap (λ acts. plan_with ask (option_copied c.plan_of-front.result) acts c.args.points.now) (named.1 ∙ ap (λ acts. acts ++ named.0) c.kept_acts-acts.ensures)
@@ -54,7 +59,7 @@ end_name-requires-clause-formed c =
     let front = c.plan_of-front.ensures.plan in
     let formed = subst (λ o. IfSome o IsFormed) front c.plan_of-front.ensures.formed in
     let named = c.if-not-named.ensures in
-    let fit = subst (λ o. DoFit o c.args.points.now c.args.names.now) front c.in-None.ensures in
+    let fit = subst (λ o. DoFit o c.args.points.now c.args.names.now) front c.in-None.ensures.fit in
     let read = read-from machine plans ask c.args.names.now c.args.points.now named.0 c.requires.asked formed fit named.2 in
     let made : c.make_plan-plan.result ≡ plan_with ask (plan_of ask.sheet plans) (acts_in (plan_of ask.sheet plans) ++ named.0) c.args.points.now =
     c.make_plan-plan.ensures ∙ ap (λ acts. plan_with ask (option_copied c.plan_of-front.result) acts c.args.points.now) (named.1 ∙ ap (λ acts. acts ++ named.0) c.kept_acts-acts.ensures)
@@ -71,15 +76,15 @@ end_name-requires-clause-known c =
     ap (λ (p : Plan). p.acts) c.make_plan-plan.ensures ∙ named.1 ∙ ap (λ acts. acts ++ named.0) (c.kept_acts-acts.ensures ∙ ap acts_in c.plan_of-front.ensures.plan) in
     subst (All (IsKnown machine)) (sym acts) (made-known machine plans ask named.0 c.requires.legal named.2.known)
 
-pub returns-then-not-ends : goal.returns-then-not-ends
-returns-then-not-ends c = λ q timed t. (
+pub returns-then-not-ends-clause-told : goal.returns-then-not-ends-clause-told
+returns-then-not-ends-clause-told c = λ q timed t. (
     let machine = c.args.machine.now in
     let plans = c.args.before.now.plans in
     let ask = c.args.ask.now in
     let front = c.plan_of-front.ensures.plan in
     let formed = subst (λ o. IfSome o IsFormed) front c.plan_of-front.ensures.formed in
     let named = c.if-not-named.ensures in
-    let fit = subst (λ o. DoFit o c.args.points.now c.args.names.now) front c.in-None.ensures in
+    let fit = subst (λ o. DoFit o c.args.points.now c.args.names.now) front c.in-None.ensures.fit in
     let read = read-from machine plans ask c.args.names.now c.args.points.now named.0 c.requires.asked formed fit named.2 in
     let made : c.make_plan-plan.result ≡ plan_with ask (plan_of ask.sheet plans) (acts_in (plan_of ask.sheet plans) ++ named.0) c.args.points.now =
     c.make_plan-plan.ensures ∙ ap (λ acts. plan_with ask (option_copied c.plan_of-front.result) acts c.args.points.now) (named.1 ∙ ap (λ acts. acts ++ named.0) c.kept_acts-acts.ensures)
@@ -91,15 +96,15 @@ returns-then-not-ends c = λ q timed t. (
     let no = c.if-not-ends.true in
     absurd cc)
 
-pub returns : goal.returns
-returns c =
+pub returns-clause-told : goal.returns-clause-told
+returns-clause-told c =
     let machine = c.args.machine.now in
     let plans = c.args.before.now.plans in
     let ask = c.args.ask.now in
     let front = c.plan_of-front.ensures.plan in
     let formed = subst (λ o. IfSome o IsFormed) front c.plan_of-front.ensures.formed in
     let named = c.if-not-named.ensures in
-    let fit = subst (λ o. DoFit o c.args.points.now c.args.names.now) front c.in-None.ensures in
+    let fit = subst (λ o. DoFit o c.args.points.now c.args.names.now) front c.in-None.ensures.fit in
     let read = read-from machine plans ask c.args.names.now c.args.points.now named.0 c.requires.asked formed fit named.2 in
     let made : c.make_plan-plan.result ≡ plan_with ask (plan_of ask.sheet plans) (acts_in (plan_of ask.sheet plans) ++ named.0) c.args.points.now =
     c.make_plan-plan.ensures ∙ ap (λ acts. plan_with ask (option_copied c.plan_of-front.result) acts c.args.points.now) (named.1 ∙ ap (λ acts. acts ++ named.0) c.kept_acts-acts.ensures)

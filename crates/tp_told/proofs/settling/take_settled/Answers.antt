@@ -1,11 +1,13 @@
 -- The moves settle the times, or nothing that is told does.
-use Rattle.std.proofs.Common.{None}
+use Rattle.std.proofs.Common.{ℤ, None, inl}
 use Rattle.tp_schedule.specs.Planning.{IsSettled}
+use Rattle.tp_answers.specs.Faults.{IsSettlingFault}
 use Rattle.tp_told.specs.Answering.{DoTellSettled}
+use Rattle.tp_told.specs.Breaches.{HasOffMove}
 use Rattle.tp_told.specs.Moving.{DoTellMoves}
 use Rattle.tp_told.proofs.SettleFacts.{settled-moves, settled-taken, settled-too}
-use Rattle.tp_told.specs.Reasons.{IsPlain, IsSettlingReason, IsTimesReason}
-use Rattle.tp_told.proofs.ReasonFacts.{plain-settling, settled-reason, stop-from}
+use Rattle.tp_told.specs.Reasons.{IsBreach, IsSettlingReason, IsTimesReason}
+use Rattle.tp_told.proofs.ReasonFacts.{settled-reason, settling-breach, stop-from}
 use Rattle.tp_told.proofs.TreeFacts.{denies-from}
 use Rattle.tp_told.proofs.settling.take_settled.Goals as goal
 
@@ -30,12 +32,13 @@ pub returns-in-Err-clause-why : goal.returns-in-Err-clause-why
 returns-in-Err-clause-why c =
     let m = c.args.machine.now in
     let plans = c.args.schedule.now.plans in
-    stop-from IsPlain (IsSettlingReason m plans c.args.now c.args.items.now) c.in-Err.failure (plain-settling m plans c.args.now c.args.items.now) c.in-Err.ensures.why
+    let P : ℤ → ℤ → Type 0 = HasOffMove m c.args.now None plans c.args.items.now in
+    stop-from (IsBreach P) (IsSettlingReason m plans c.args.now c.args.items.now) c.in-Err.failure (settling-breach P m plans c.args.now c.args.items.now (λ a b. inl)) c.in-Err.ensures.why
 
 pub returns-in-Err-check_settled-clause-why : goal.returns-in-Err-check_settled-clause-why
 returns-in-Err-check_settled-clause-why c =
     let m = c.args.machine.now in
     let plans = c.args.schedule.now.plans in
     let after = c.take_all_moves.new.after.plans in
-    stop-from (IsTimesReason m c.args.now None after) (IsSettlingReason m plans c.args.now c.args.items.now) c.in-Err-check_settled.failure
+    stop-from (IsTimesReason (IsSettlingFault m c.args.now plans after) m c.args.now None after) (IsSettlingReason m plans c.args.now c.args.items.now) c.in-Err-check_settled.failure
     (settled-reason m plans c.args.now c.args.items.now after c.in-Ok-take_all_moves.taken c.in-Ok-take_all_moves.ensures.moved) c.in-Err-check_settled.ensures.why

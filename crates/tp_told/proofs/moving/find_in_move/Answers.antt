@@ -1,0 +1,16 @@
+-- What the plan breaks by itself at the new points the move breaks.
+use Rattle.std.proofs.Common.{None, inr, subst}
+use Rattle.std.specs.Prelude.{IfOk, IfSome}
+use Rattle.tp_schedule.specs.Plans.{with_points}
+use Rattle.tp_told.specs.Breaches.{IsOffByItself, IsOffMove}
+use Rattle.tp_told.specs.Reasons.{IsOff}
+use Rattle.tp_told.proofs.ReasonFacts.{off-ok}
+use Rattle.tp_told.proofs.moving.find_in_move.Goals as goal
+
+pub returns-in-None-clause-why : goal.returns-in-None-clause-why
+returns-in-None-clause-why c =
+    let m = c.args.machine.now in
+    let p = c.args.plan.now in
+    let q = with_points c.args.points.now p in
+    off-ok (IsOffByItself m c.args.now None q) (IsOffMove m c.args.now p q) (λ a b. inr) _ c.find_in_plan.result
+    (subst (λ x. IfOk c.find_in_plan.result (λ found. IfSome found (IsOff (IsOffByItself m c.args.now None x)))) c.with_points-moved.ensures c.find_in_plan.ensures.why)
