@@ -1,7 +1,6 @@
 //! Sessions that are saved and resumed, through the program.
 
 use crate::running::{Given, RUN, SOUND, run};
-use crate::soaking::{machine_of, script_of};
 use crate::stock::with_stock;
 use memchr::{memchr_iter, memmem};
 use rows_machine::machines::DUO;
@@ -171,21 +170,5 @@ const AFTERMATHS: &[u8] = b"job j1 t plain 2*M-:F\njob j2 t plain M-:F\nclock 6\
 fn aftermaths(rt: HostRuntime) -> Result<(), Fail> {
     let machine = with_stock(rt.alloc(), 3)?;
     assert!(rt; joins_at_each_line(rt.alloc(), machine.as_bytes(), AFTERMATHS)?);
-    Ok(())
-}
-
-/// Whether the logs of a number's case join, wherever its script is parted.
-fn case_joins(alloc: Global, number: u32) -> Result<bool, Fail> {
-    let machine = machine_of(alloc, number)?;
-    let script = script_of(alloc, number)?;
-    joins_at_each_line(alloc, &machine, &script)
-}
-
-// Jobs as they come on random machines, and an engine that jams and comes back.
-#[test]
-fn cases_of_numbers(rt: HostRuntime) -> Result<(), Fail> {
-    for number in 1..6 {
-        assert!(rt; case_joins(rt.alloc(), number)?);
-    }
     Ok(())
 }

@@ -21,7 +21,7 @@ fn leasts_of(alloc: Global, number: u32) -> Result<Vec<u32>, Fail> {
 }
 
 /// The events of a number, a line for each.
-pub(crate) fn script_of(alloc: Global, number: u32) -> Result<Vec<u8>, Fail> {
+fn script_of(alloc: Global, number: u32) -> Result<Vec<u8>, Fail> {
     let case = soak_case(alloc, number).ok().ok_or("memory")?;
     let mut text = Vec::new(alloc);
     for event in &case.events {
@@ -32,7 +32,7 @@ pub(crate) fn script_of(alloc: Global, number: u32) -> Result<Vec<u8>, Fail> {
 }
 
 /// The text of a number's machine.
-pub(crate) fn machine_of(alloc: Global, number: u32) -> Result<Vec<u8>, Fail> {
+fn machine_of(alloc: Global, number: u32) -> Result<Vec<u8>, Fail> {
     let case = soak_case(alloc, number).ok().ok_or("memory")?;
     Ok(print_machine(alloc, &case.machine)?)
 }
