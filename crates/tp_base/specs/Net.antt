@@ -48,3 +48,6 @@ with_edges net es = record { lows = net.lows; caps = net.caps; edges = net.edges
 
 abbrev pub with_low : Net → ℕ → ℕ → Net
 with_low net p low = record { lows = slice_set net.lows p low; caps = net.caps; edges = net.edges }
+
+abbrev pub with_bounds_at : Net → ℕ → ℕ → ℕ → Net
+with_bounds_at net p low cap = record { lows = slice_set net.lows p low; caps = slice_set net.caps p cap; edges = net.edges }

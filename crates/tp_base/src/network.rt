@@ -1,6 +1,6 @@
 ghost use Rattle.std.specs.Prelude.{◌≡◌, ℕ, ◌+◌, ◌<◌, ◌≤◌, ◌≤ℤ◌, pos, negsuc, ◌↔◌, [], length, slice_index, All, OnOk, OnErr, IfOk, IsErr};
 ghost use Rattle.tp_base.specs.Grows.{IsKnown};
-ghost use Rattle.tp_base.specs.Net.{Net, HasLeast, HasNoSolution, IsEarliest, IsSolution, empty_net, with_point, with_edge, with_edges, with_low};
+ghost use Rattle.tp_base.specs.Net.{Net, HasLeast, HasNoSolution, IsEarliest, IsLeast, IsSolution, empty_net, with_bounds_at, with_edge, with_edges, with_low, with_point};
 
 use crate::edges::{Edge, PointId, Proof};
 use crate::refusals::{Full, Late};
@@ -119,6 +119,20 @@ pub trait Network: Undo {
         ensures kept { OnErr result (Self.content self.new ≡ Self.content self.old) }
         ensures refused { OnErr result (refutes self.new (with_low (net self.old) point.0 low)) }
         ensures past { Self.past self.new ≡ Self.past self.old }
+        ensures marks { Self.max_marks self.new ≡ Self.max_marks self.old }
+        ensures points { max_points self.new ≡ max_points self.old }
+        ensures edges { max_edges self.new ≡ max_edges self.old };
+
+    /// Moves the bounds of a point round its time: the lower one up, and the upper one either way. So the least solution stays,
+    /// and nothing is worked out. No mark may be in force.
+    fn set_bounds(&mut self, point: PointId, low: u32, cap: u32)
+        requires known { point.0 < length (net self.old).lows }
+        requires unmarked { Self.past self.old ≡ [] }
+        requires more { slice_index (net self.old).lows point.0 ≤ low }
+        requires around { (t : ℕ) → IsEarliest (net self.old) point.0 t → (low ≤ t) × (t ≤ cap) }
+        ensures moved { net self.new ≡ with_bounds_at (net self.old) point.0 low cap }
+        ensures same_least { (x : ℕ → ℕ) → IsLeast (net self.old) x → IsLeast (net self.new) x }
+        ensures past { Self.past self.new ≡ [] }
         ensures marks { Self.max_marks self.new ≡ Self.max_marks self.old }
         ensures points { max_points self.new ≡ max_points self.old }
         ensures edges { max_edges self.new ≡ max_edges self.old };

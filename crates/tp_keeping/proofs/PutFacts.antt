@@ -1,6 +1,7 @@
 -- What putting holds in does to orders.
-use Rattle.std.proofs.Common.{◌≡◌, ℕ, zero, suc, ◌≤◌, ◌<◌, Bool, true, false, cond, ◌==◌, List, [], ◌∷◌, ◌++◌, length, insert, refl, sym, arith, All, AllPairs, ap, subst, Option, Some, None}
+use Rattle.std.proofs.Common.{◌≡◌, ◌∙◌, ℕ, zero, suc, ◌≤◌, ◌<◌, Bool, true, false, cond, ◌==◌, List, [], ◌∷◌, ◌++◌, length, insert, refl, sym, arith, All, AllPairs, ap, subst, Option, Some, None}
 use Rattle.std.specs.Prelude.{IsPermutation, slice_get}
+use Rattle.std.proofs.lemmas.List.{append-nil, append_assoc}
 use Rattle.std.proofs.lemmas.List.Elements.{All-nil, All-cons, All-head, All-tail, All-append}
 use Rattle.std.proofs.lemmas.List.Sorted.{IsPermutation-refl, IsPermutation-trans, IsPermutation-insert, IsPermutation-append_right, IsPermutation-middle, IsPermutation-sym}
 use Rattle.std.proofs.lemmas.Bool.Decides.{nat_tests}
@@ -176,3 +177,36 @@ module _ (machine : Machine) (P : Hop → Type 0) where
       (before-hop r (before_place (orders r) p.place) p.slot (λ a e. later a p.slot (after-neighbour (orders r) p.place p.slot a within.0 e)))
       (after-hop r (slice_get (orders r) p.place) p.slot (λ a e. later p.slot a (until-neighbour (orders r) p.place p.slot a within.0 e))))
       (puts-hops puts (with_put p orders) within.1 each)
+
+-- ---- one hold more
+pub puts-push : (puts : List Put) (x : Put) (orders : ℕ → List Slot) → with_puts (puts ++ x ∷ []) orders ≡ with_put x (with_puts puts orders)
+puts-push [] x orders = refl
+puts-push (p ∷ puts) x orders = puts-push puts x (with_put p orders)
+
+pub within-push : (puts : List Put) (x : Put) (orders : ℕ → List Slot) → AreWithin puts orders → x.place ≤ length (with_puts puts orders (resource_of x)) → AreWithin (puts ++ x ∷ []) orders
+within-push [] x orders within le = (le, tt)
+within-push (p ∷ puts) x orders within le = (within.0, within-push puts x (with_put p orders) within.1 le)
+
+pub put_hops-push : (machine : Machine) (puts : List Put) (x : Put) (orders : ℕ → List Slot)
+    → put_hops machine (puts ++ x ∷ []) orders ≡ put_hops machine puts orders ++ place_hops machine (resource_of x) (with_puts puts orders (resource_of x)) x.place x.slot
+put_hops-push machine [] x orders = append-nil (place_hops machine (resource_of x) (orders (resource_of x)) x.place x.slot)
+put_hops-push machine (p ∷ puts) x orders =
+    let here = place_hops machine (resource_of p) (orders (resource_of p)) p.place p.slot in
+    ap (λ hs. here ++ hs) (put_hops-push machine puts x (with_put p orders))
+    ∙ sym (append_assoc here (put_hops machine puts (with_put p orders)) (place_hops machine (resource_of x) (with_puts puts (with_put p orders) (resource_of x)) x.place x.slot))
+
+-- each order has holds of its resource
+abbrev pub IsOf : ℕ → Slot → Type 0
+IsOf r s = s.rule.resource.0 ≡ r
+
+insert-all : (P : Slot → Type 0) (xs : List Slot) (i : ℕ) (s : Slot) → P s → All P xs → All P (insert xs i s)
+insert-all P xs zero s one all = All-cons P s xs one all
+insert-all P [] (suc i) s one all = All-cons P s [] one all
+insert-all P (x ∷ xs) (suc i) s one all = All-cons P x (insert xs i s) (All-head P x xs all) (insert-all P xs i s one (All-tail P x xs all))
+
+pub puts-on : (puts : List Put) (orders : ℕ → List Slot) → ((r : ℕ) → All (IsOf r) (orders r)) → (r : ℕ) → All (IsOf r) (with_puts puts orders r)
+puts-on [] orders on r = on r
+puts-on (p ∷ puts) orders on r = puts-on puts (with_put p orders) (λ q. go q (resource_of p == q) refl) r where
+  go : (q : ℕ) (b : Bool) → (resource_of p == q) ≡ b → All (IsOf q) (cond b (insert (orders q) p.place p.slot) (orders q))
+  go q true e = let same : resource_of p ≡ q = grind (arith, nat_tests) in insert-all (IsOf q) (orders q) p.place p.slot same (on q)
+  go q false e = on q

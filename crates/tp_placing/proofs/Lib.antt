@@ -52,3 +52,12 @@ pub mod NameFacts
 pub mod SwapFacts
 pub mod WalkFacts
 pub mod BackFacts
+pub mod GrowFacts
+pub mod SameLists
+pub mod LineEnds
+pub mod LoadedAgain
+pub mod AddFacts
+pub mod AddedParts
+pub mod AddedNet
+pub mod FollowFacts
+pub mod BehindFacts

@@ -29,14 +29,7 @@ use Rattle.tp_placing.specs.Loading.{point_id, act_edges, acts_edges, plans_edge
 use Rattle.tp_base.specs.Grows.{IsKnown}
 use Rattle.tp_placing.proofs.CauseFacts.{numbered-in}
 use Rattle.tp_placing.proofs.LoadTable.{StandsAt, AreNumbered}
-
--- edges that are these hops with their causes, over which no step writes, and that may be required of a network with the
--- points of the plans
-pub record AreHops (plans : List Plan) (causes : List Cause) (es : List Edge) (hs : List Hop) : Type 0 where
-  pub hops : map (hop_by plans causes) es ≡ hs
-  pub can : All (IsKnown (length (table_of plans))) es
-  pub tags : All (λ e. e.tag < length causes) es
-  pub safe : All (IsSafe 0) es
+pub use Rattle.tp_placing.specs.Growing.{AreHops}
 
 pub hops-none : (plans : List Plan) (causes : List Cause) → AreHops plans causes [] []
 hops-none plans causes = record { hops = refl; can = All-nil (IsKnown (length (table_of plans))); tags = All-nil (λ (e : Edge). e.tag < length causes); safe = All-nil (IsSafe 0) }
@@ -96,7 +89,7 @@ module _ (all : List Plan) (causes : List Cause) (plain : ArePlain causes) where
       (hops-one all causes (edge_of (point_id (n + 1)) (point_id n) (neg_ℤ (pos x.most)) back_tag) (hop back (gap to from (neg_ℤ (pos x.most)))) (λ i. hop (again i) (gap (q i) (p i) (neg_ℤ (pos x.most))))
       (record { from = behind; to = within; least = omega (arith, ints, r.1); most = omega (arith, ints) }) (few-tags back_tag (omega arith)) (inl (omega arith)))
 
-  acts-hops : (machine : Machine) (n : ℕ) (copy : SheetId) (first : ℕ) (acts : List ActId) → StandsAt (table_of all) n copy first (length acts) → AreHops all causes (acts_edges machine n acts) (acts_hops machine copy first acts)
+  pub acts-hops : (machine : Machine) (n : ℕ) (copy : SheetId) (first : ℕ) (acts : List ActId) → StandsAt (table_of all) n copy first (length acts) → AreHops all causes (acts_edges machine n acts) (acts_hops machine copy first acts)
   acts-hops machine n copy first [] at = hops-none all causes
   acts-hops machine n copy first (act ∷ acts) at =
       let e0 : n ≡ n + 0 = omega arith in
@@ -149,7 +142,7 @@ module _ (all : List Plan) (causes : List Cause) (plain : ArePlain causes) where
       (lines-hops (n + length p.acts + 1) plans at.1))
 
 -- how many edges there are
-acts-count : (machine : Machine) (n : ℕ) (acts : List ActId) → length (acts_edges machine n acts) ≤ 2 * length acts
+pub acts-count : (machine : Machine) (n : ℕ) (acts : List ActId) → length (acts_edges machine n acts) ≤ 2 * length acts
 acts-count machine n [] = omega arith
 acts-count machine n (act ∷ acts) =
     let a = length-append (act_edges (action_at machine act.0) n) (acts_edges machine (n + 1) acts) in

@@ -65,9 +65,10 @@ pub record IsMarked (pasts max_marks : ℕ) (lines : Orders) (marks : Vec BoardM
   pub at_marks : AreMarks marks.items steps held
 
 -- room for all points, edges, holds, steps and plans that there can be
-pub record HasRoom (max_points max_edges : ℕ) (lines : Orders) (held : Vec Held Global) (begins : Vec Begin Global) (plans : Vec Plan Global) (firsts : Vec PointId Global) (steps : Vec Step Global) (made : Vec Edge Global) (made_for : MadeFor) : Type 0 where
+pub record HasRoom (max_points max_edges edge_room : ℕ) (lines : Orders) (held : Vec Held Global) (begins : Vec Begin Global) (plans : Vec Plan Global) (firsts : Vec PointId Global) (steps : Vec Step Global) (made : Vec Edge Global) (made_for : MadeFor) : Type 0 where
   pub points : most_points ≤ max_points
   pub edges : most_edges ≤ max_edges
+  pub all_edges : edge_room ≡ max_edges
   pub resources : length lines.orders ≡ made_for.resources
   pub holds : most_holds ≤ lines.hold_room
   pub held_few : length held.items ≤ most_holds
@@ -79,7 +80,7 @@ pub record HasRoom (max_points max_edges : ℕ) (lines : Orders) (held : Vec Hel
   pub first_space : most_plans ≤ vec_capacity firsts
   pub edge_space : most_edges ≤ vec_capacity made
 
-pub record IsBoard (pasts max_marks max_points max_edges : ℕ) (lines : Orders) (held : Vec Held Global) (begins : Vec Begin Global) (plans : Vec Plan Global) (firsts : Vec PointId Global) (steps : Vec Step Global)
+pub record IsBoard (pasts max_marks max_points max_edges edge_room : ℕ) (lines : Orders) (held : Vec Held Global) (begins : Vec Begin Global) (plans : Vec Plan Global) (firsts : Vec PointId Global) (steps : Vec Step Global)
     (marks : Vec BoardMark Global) (made : Vec Edge Global) (made_for : MadeFor) : Type 0 where
   pub marked : IsMarked pasts max_marks lines marks (length steps.items) (length held.items)
-  pub room : HasRoom max_points max_edges lines held begins plans firsts steps made made_for
+  pub room : HasRoom max_points max_edges edge_room lines held begins plans firsts steps made made_for

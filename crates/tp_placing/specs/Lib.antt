@@ -12,3 +12,4 @@ pub mod Writing
 pub mod Loaded
 pub mod Reasons
 pub mod Walking
+pub mod Growing

@@ -26,6 +26,8 @@ pub struct Board<N: Network> {
     pub(crate) steps: Vec<Step>,
     pub(crate) marks: Vec<BoardMark>,
     pub(crate) made_for: MadeFor,
+    /// How many edges the network takes in all.
+    pub(crate) edge_room: u32,
     /// Where the edges of one step are made, and those of a schedule.
     pub(crate) edges: Vec<Edge>,
     /// Why the edges of the network stand, by their tags.
@@ -46,6 +48,6 @@ impl<N: Network> Model for Board<N> {
         b.floor b.horizon b.ask b.steps.items b.marks.items b.made_for b.causes b.limit };
 
     ghost invariant = { λ b. IsBoard (length (N.past b.net)) (N.max_marks b.net)
-        (N.max_points b.net) (N.max_edges b.net) b.lines b.held b.begins b.plans b.firsts
-        b.steps b.marks b.edges b.made_for };
+        (N.max_points b.net) (N.max_edges b.net) b.edge_room b.lines b.held b.begins b.plans
+        b.firsts b.steps b.marks b.edges b.made_for };
 }

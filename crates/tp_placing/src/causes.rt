@@ -99,6 +99,13 @@ impl Causes {
         self.kept.truncate(STEP_CAUSES);
     }
 
+    /// How many causes stand in the table.
+    pub(crate) fn len(&self) -> usize
+        ensures { result ≡ length self.now }
+    {
+        self.kept.len()
+    }
+
     /// Adds a cause of the loaded orders, and answers its tag.
     pub(crate) fn push(&mut self, cause: Cause) -> u32
         requires room { length self.old < most_causes }

@@ -32,7 +32,7 @@ fn add_act(edges: &mut Vec<Edge>, machine: &Machine, from: u32, act: ActId)
 }
 
 /// Adds the durations of actions, of which the first starts at the point.
-fn add_acts(edges: &mut Vec<Edge>, machine: &Machine, from: u32, acts: &[ActId])
+pub(crate) fn add_acts(edges: &mut Vec<Edge>, machine: &Machine, from: u32, acts: &[ActId])
     requires space { vec_len edges.old + length (acts_edges machine.now from acts.now)
         ≤ vec_capacity edges.old }
     requires fits { from + length acts.now < 2 ^ 32 }
@@ -62,7 +62,7 @@ pub(crate) fn add_durations(edges: &mut Vec<Edge>, machine: &Machine, plans: &[P
 }
 
 /// Whether both plans are whole and go to one tray.
-fn are_in_line(plan: &Plan, other: &Plan) -> bool
+pub(crate) fn are_in_line(plan: &Plan, other: &Plan) -> bool
     ensures { result ≡ is_same_line plan.now other.now }
 {
     plan.kind == Kind::Whole && goes_along(plan.goal, other)

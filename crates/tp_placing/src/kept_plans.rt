@@ -21,7 +21,7 @@ use tp_schedule::{Plan, Schedule, is_plan_live};
 use tp_timelines::Timelines;
 
 /// Whether a plan is live at the moment. Mostly its end tells.
-fn is_live(machine: &Machine, now: Tick, plan: &Plan) -> bool
+pub(crate) fn is_live(machine: &Machine, now: Tick, plan: &Plan) -> bool
     ensures { result ≡ is_live machine.now now plan.now }
 {
     match plan.points.as_slice().last() {

@@ -47,7 +47,7 @@ fn highest(plan: &Plan, at: u32, horizon: Tick) -> Tick
 }
 
 /// Adds the points of a plan.
-fn add_plan<N: Network>(net: &mut N, plan: &Plan, floor: Tick, horizon: Tick)
+pub(crate) fn add_plan<N: Network>(net: &mut N, plan: &Plan, floor: Tick, horizon: Tick)
     requires bounds { HasBounds floor horizon plan.now }
     requires room { length (N.net net.old).lows + (length plan.now.acts + 1)
         ≤ N.max_points net.old }

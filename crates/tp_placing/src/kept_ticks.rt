@@ -38,7 +38,7 @@ pub(crate) fn count_near(firsts: &[PointId], guess: usize, point: PointId) -> us
 }
 
 /// The tick of a point, of which the plan is found by its first point: the last of so many plans, or another.
-fn tick_at(plans: &[Plan], firsts: &[PointId], guess: usize, point: PointId) -> Tick
+pub(crate) fn tick_at(plans: &[Plan], firsts: &[PointId], guess: usize, point: PointId) -> Tick
     requires formed { All HasPoints plans.now }
     requires firsts { firsts.now ≡ firsts_from 0 plans.now }
     requires within { point.0 < length (ticks_in plans.now) }

@@ -1,12 +1,15 @@
 //! A schedule as a network with timelines, to which the choices for one sheet are added and taken back.
 #![tactic(auto)]
 
+mod adding;
 mod asked;
 mod board;
 mod causes;
 mod committing;
 mod edges;
 mod finding;
+mod following;
+mod growing;
 mod kept_chains;
 mod kept_edges;
 mod kept_holds;
@@ -24,6 +27,7 @@ mod opening;
 mod parts;
 mod reading;
 mod reasons;
+mod renewing;
 mod settling;
 mod undoing;
 mod walking;

@@ -11,7 +11,7 @@ use tp_machine::Machine;
 use tp_schedule::{Ask, Origin, Schedule};
 
 /// The least tick of the first own point: above now and the lead, or the end of the front.
-fn start_floor(machine: &Machine, ask: &Ask) -> Tick
+pub(crate) fn start_floor(machine: &Machine, ask: &Ask) -> Tick
     requires can { ask.now.now + machine.now.lead + 1 < 2 ^ 32 }
     ensures { result ≡ start_floor machine.now ask.entry.now.now ask.entry.now.origin }
 {

@@ -37,6 +37,7 @@ impl<N: Network + Drop> Board<N> {
     {
         net.clear();
         let marks = net.spare_marks();
+        let edge_room = net.spare_edges();
         let made_for = MadeFor {
             locations: machine.locations.len(),
             resources: machine.resources.len(),
@@ -56,6 +57,7 @@ impl<N: Network + Drop> Board<N> {
             steps: Vec::with_capacity(alloc, STEPS)?,
             marks: Vec::with_capacity(alloc, marks as usize)?,
             made_for,
+            edge_room,
             edges: Vec::with_capacity(alloc, EDGES)?,
             causes: Causes::new(alloc)?,
             limit: None,

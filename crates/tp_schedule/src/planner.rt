@@ -1,4 +1,4 @@
-ghost use Rattle.std.specs.Prelude.{◌≡◌, ◌≤◌, ℕ, Bool, List, IsTrue, IfOk, OnOk, IfErr, Err};
+ghost use Rattle.std.specs.Prelude.{◌≡◌, ◌≤◌, ℕ, List, IfOk, OnOk, IfErr, Err};
 ghost use Rattle.tp_machine.specs.declared.machine.Machine.{Machine};
 ghost use Rattle.tp_schedule.specs.declared.parts.Ask.{Ask};
 ghost use Rattle.tp_schedule.specs.declared.parts.Plan.{Plan};
@@ -13,8 +13,8 @@ use tp_machine::Machine;
 
 /// What answers asks and settles times. After a `Halt` nothing is known of the schedule.
 pub trait Planner {
-    // the machines that it serves
-    ghost serves: { Self → Machine → Bool };
+    // that it serves this machine, as it stands
+    ghost serves: { Self → Machine → Type 0 };
     // what no call changes of it, whatever the answer
     ghost Lasting: { Type 0 };
 
@@ -29,7 +29,7 @@ pub trait Planner {
     ghost stop_steps: { Self → Machine → List Plan → Due → Self → Type 0 };
 
     fn ask(&mut self, machine: &Machine, schedule: &mut Schedule, ask: &Ask) -> Result<Reply, Halt>
-        requires served { IsTrue (serves self.old machine.now) }
+        requires served { serves self.old machine.now }
         requires can_ask { CanAsk machine.now schedule.old.plans ask.now }
         ensures answer { IfOk result (λ reply.
             IsAnswer (spent self.old) machine.now schedule.old.plans ask.entry.now reply
@@ -41,12 +41,11 @@ pub trait Planner {
             schedule.old.plans (asking ask.entry.now) self.new }
         ensures stops_only { IfErr result (StopsOnlyWhere (stops self.old) (stops self.new)) }
         ensures counted { stops self.old ≤ stops self.new }
-        ensures still_serves { (other : Machine)
-            → serves self.new other ≡ serves self.old other }
+        ensures still_serves { serves self.new machine.now }
         ensures lasts { lasting self.new ≡ lasting self.old };
 
     fn settle(&mut self, machine: &Machine, schedule: &mut Schedule, now: Tick) -> Result<(), Halt>
-        requires served { IsTrue (serves self.old machine.now) }
+        requires served { serves self.old machine.now }
         requires can_settle { CanSettle machine.now now schedule.old.plans }
         ensures settles { OnOk result (IsSettled machine.now now schedule.old.plans
             schedule.new.plans) }
@@ -56,7 +55,6 @@ pub trait Planner {
             schedule.old.plans (settling now) self.new }
         ensures stops_only { IfErr result (StopsOnlyWhere (stops self.old) (stops self.new)) }
         ensures counted { stops self.old ≤ stops self.new }
-        ensures still_serves { (other : Machine)
-            → serves self.new other ≡ serves self.old other }
+        ensures still_serves { serves self.new machine.now }
         ensures lasts { lasting self.new ≡ lasting self.old };
 }

@@ -1,5 +1,5 @@
 -- What a search found is a trial: its end is that of the earliest plans, and what is committed is one of them.
-use Rattle.std.proofs.Common.{◌≡◌, ℕ, ◌<◌, List, length, filter, sym, subst, ◌∙◌, Some, IsSomeAnd, arith}
+use Rattle.std.proofs.Common.{◌≡◌, ℕ, ◌<◌, List, [], ap, length, filter, sym, subst, ◌∙◌, Some, IsSomeAnd, arith}
 use Rattle.std.proofs.lemmas.List.{length-map}
 use Rattle.tp_base.specs.Net.{Net}
 use Rattle.tp_machine.specs.Machines.{IsMachine}
@@ -20,12 +20,13 @@ use Rattle.tp_choices.specs.LiveParts.{forgotten_on, shift_choice, shifted}
 use Rattle.tp_choices.proofs.CompleteAnswers.{complete_answers}
 use Rattle.tp_choices.proofs.LiveLists.{live_opens}
 use Rattle.tp_choices.proofs.ShiftedLists.{acts-shifted}
-use Rattle.tp_placing.specs.Boards.{BoardValue, suffix_of}
+use Rattle.tp_placing.specs.Boards.{BoardValue, past_of, suffix_of}
 use Rattle.tp_placing.specs.Laws.{UndoKeeps}
+use Rattle.tp_placing.specs.Standing.{Stands}
 use Rattle.tp_placing.specs.Ticks.{HasLeastTick, IsLeastTick, TimesOf}
 use Rattle.tp_placing.specs.Writing.{CanCommit}
 use Rattle.tp_placing.proofs.WriteLive.{gone, may-ask, may-forget}
-use Rattle.tp_search.specs.Boards.{IsBack, IsReady}
+use Rattle.tp_search.specs.Boards.{IsAtRest, IsBack, IsReady}
 use Rattle.tp_search.specs.Outcomes.{HasAnswer}
 use Rattle.tp_schedule.specs.Planning.{IsKnownGoal}
 use Rattle.tp_search.specs.Trials.{EndsEarliest, IsEarliestTo, IsTrial, board_in}
@@ -103,6 +104,15 @@ module _ {N C : Type 0} (net : N → Net) (content : N → C) (past : N → List
   pub trial-back : {A : Type 0} → (aside : N → A) → UndoKeeps net content past aside → (b' : BoardValue N) → IsTrial net content past max_marks b machine trial
       → IsUndone net content past aside max_marks (board_in trial) b' trial.base.0 → IsBack net content past max_marks b b' machine
   trial-back aside undoes b' t u = undone-back net content past aside max_marks undoes b (board_in trial) b' machine trial.base.0 t.number t.past_more t.loaded t.marks (λ _. t.stands) u
+
+-- a board that is back where it was at rest is at rest
+pub at-rest : {N C : Type 0} (net : N → Net) (content : N → C) (past : N → List C) (max_marks : N → ℕ) (b b' : BoardValue N) (machine : Machine) → Stands net content past b machine → b.steps ≡ [] → past_of past b ≡ []
+    → IsBack net content past max_marks b b' machine → IsAtRest net content past max_marks b' machine
+at-rest net content past max_marks b b' machine stands closed unmarked back = record {
+  stands = back.stands stands;
+  closed = ap (λ x. x.steps) back.same_content ∙ closed;
+  unmarked = back.same_past ∙ unmarked;
+}
 
 -- a board has one least end
 pub same-end : {N : Type 0} → (machine : Machine) (b : BoardValue N) (ask : Ask) → b.ask ≡ Some ask → (end other : ℕ) → HasLeastTick machine b (own 0) end → HasLeastTick machine b (own 0) other → end ≡ other

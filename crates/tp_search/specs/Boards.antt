@@ -1,5 +1,5 @@
 -- What a board carries while a list is opened, and that it is left as it was.
-use Rattle.std.specs.Prelude.{◌≡◌, ℕ, ◌+◌, ◌-◌, ◌≤◌, List, length, None, Some, IsFalse, IsSomeAnd}
+use Rattle.std.specs.Prelude.{◌≡◌, ℕ, ◌+◌, ◌-◌, ◌≤◌, List, [], length, None, Some, IsFalse, IsSomeAnd}
 use Rattle.tp_base.specs.Net.{Net}
 use Rattle.tp_machine.specs.declared.parts.State.{State}
 use Rattle.tp_machine.specs.declared.machine.Machine.{Machine}
@@ -42,3 +42,9 @@ module _ {N C : Type 0} (net : N → Net) (content : N → C) (past : N → List
     pub loaded : IsSameLoad b b'
     pub marks : max_marks b'.net - 1 ≡ max_marks b.net - 1
     pub stands : Stands net content past b machine → Stands net content past b' machine
+
+  -- the board stands on the machine, with no goal open and no mark in force
+  pub record IsAtRest (b : BoardValue N) (machine : Machine) : Type 0 where
+    pub stands : Stands net content past b machine
+    pub closed : b.steps ≡ []
+    pub unmarked : past_of past b ≡ []

@@ -5,6 +5,7 @@ ghost use Rattle.tp_schedule.specs.Plans.{plan_of};
 ghost use Rattle.tp_schedule.specs.Spending.{FewListsOpen};
 ghost use Rattle.tp_schedule.specs.declared.parts.Reply.TheVariants.{Never, Planned};
 ghost use Rattle.tp_placing.specs.Standing.{IsMadeFor};
+ghost use Rattle.tp_search.specs.Boards.{IsAtRest};
 ghost use Rattle.tp_search.specs.Engines.{HasTree};
 ghost use Rattle.tp_search.specs.Trials.{EndsEarliest, IsNoPlan};
 ghost use Rattle.tp_search.specs.Workspaces.{IsFor, IsSpentOf};
@@ -20,8 +21,8 @@ use tp_placing::Board;
 use tp_schedule::{Ask, Reply, Schedule};
 
 /// Answers an ask on a schedule: writes the earliest plan into it, or leaves it as it is and tells that there is none, or
-/// that the workspace stores too few lists to tell. Where there is none, no more lists are open than it stores. A new copy takes one of the schedule's spare plans. What the board
-/// carries then means nothing: whoever asks next loads it again. Takes no memory.
+/// that the workspace stores too few lists to tell. Where there is none, no more lists are open than it stores. A new copy takes one of the schedule's spare plans. The board is at rest
+/// then, and holds the schedule as it was. Takes no memory.
 pub fn answer<N: Network>(
     work: &mut Workspace,
     board: &mut Board<N>,
@@ -49,6 +50,8 @@ pub fn answer<N: Network>(
     ensures work { work.new ≡ work.old }
     ensures board { board.new.made_for ≡ board.old.made_for }
     ensures marks { N.max_marks board.new.net ≡ N.max_marks board.old.net }
+    ensures rests { IsAtRest N.net N.content N.past N.max_marks board.new
+        machine.now }
 {
     board.load(machine, schedule, ask);
     match plan(board, work, machine, ask) {
@@ -80,6 +83,8 @@ pub(crate) fn earliest_end<N: Network>(
     ensures work { work.new ≡ work.old }
     ensures board { board.new.made_for ≡ board.old.made_for }
     ensures marks { N.max_marks board.new.net ≡ N.max_marks board.old.net }
+    ensures rests { IsAtRest N.net N.content N.past N.max_marks board.new
+        machine.now }
 {
     board.load(machine, schedule, ask);
     match plan(board, work, machine, ask) {
@@ -125,6 +130,8 @@ pub(crate) fn answer_with_tree<N: Network>(
     ensures work { work.new ≡ work.old }
     ensures board { board.new.made_for ≡ board.old.made_for }
     ensures marks { N.max_marks board.new.net ≡ N.max_marks board.old.net }
+    ensures rests { IsAtRest N.net N.content N.past N.max_marks board.new
+        machine.now }
 {
     board.load(machine, schedule, ask);
     match plan(board, work, machine, ask) {

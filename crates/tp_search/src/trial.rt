@@ -1,6 +1,7 @@
 //! The earliest plan of an ask on a board, before it is written into the schedule.
 ghost use Rattle.std.specs.Prelude.{◌≡◌, ◌+◌, ◌<◌, ◌≤◌, [], List, None, Some, IfErr, IfOk, IsSome, IsSomeAnd};
 ghost use Rattle.std.specs.Borrow.{RestsIfErr, sem};
+ghost use Rattle.tp_machine.specs.declared.machine.Machine.{Machine as MachineValue};
 ghost use Rattle.tp_schedule.specs.Answers.{IsLeast, follows_front};
 ghost use Rattle.tp_schedule.specs.Plans.{plan_of};
 ghost use Rattle.tp_schedule.specs.declared.parts.Plan.{Plan};
@@ -126,9 +127,9 @@ impl<N: Network> Trial<'_, N> {
         tree
     }
 
-    /// Writes the plan, and the times of all live plans with it, into the schedule that the board was loaded from. Takes one
-    /// spare plan for a new copy, and no memory. The board is no longer right for that schedule: whoever asks next loads it
-    /// again.
+    /// Writes the plan, and the times of all live plans with it, into the schedule that the board was loaded from, and takes
+    /// it off the board, which is then as before `plan`. Takes one spare plan for a new copy, and no memory. The board holds
+    /// the schedule as it was: whoever asks next renews it.
     pub fn commit(self, machine: &Machine, schedule: &mut Schedule)
         requires trial { (b : BoardValue N)
             × IsTrial N.net N.content N.past N.max_marks b machine.now self }
@@ -147,14 +148,18 @@ impl<N: Network> Trial<'_, N> {
         ensures in_flight { IsSomeAnd (board_in self.entry).ask
             (λ ask. IsSome (plan_of ask.sheet schedule.old.plans) → schedule.new.spare
             ≡ schedule.old.spare) }
-        ensures board { self.exit.0.now ≡ board_in self.entry }
+        ensures back { (b : BoardValue N) (m : MachineValue)
+            → IsTrial N.net N.content N.past N.max_marks b m self.entry
+            → IsBack N.net N.content N.past N.max_marks b self.exit.0.now m }
     {
+        marks_keep_boards::<N>();
         let Trial {
             board,
-            base: _,
+            base,
             end: _,
         } = self;
         board.commit(machine, schedule);
+        board.undo_to(base);
     }
 
     /// Takes the plan off the board, which is then as before `plan`.

@@ -138,6 +138,12 @@ impl Network for PlainNet {
         }
     }
 
+    fn set_bounds(&mut self, point: PointId, low: Tick, cap: Tick) {
+        let at = point.0 as usize;
+        self.lows[at] = low;
+        self.caps[at] = cap;
+    }
+
     fn earliest(&self, point: PointId) -> Tick {
         self.times[point.0 as usize]
     }

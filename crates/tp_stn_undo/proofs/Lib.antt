@@ -21,3 +21,4 @@ pub mod SoundFacts
 pub mod ChangeFacts
 pub mod AddFacts
 pub mod ChangedFacts
+pub mod BoundFacts

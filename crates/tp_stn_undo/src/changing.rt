@@ -3,6 +3,7 @@ use crate::adding::{add_edges, load_edges, push_point};
 use crate::lifting::lift;
 use crate::live_net::LiveNet;
 use crate::saving::save_changes;
+use crate::spots::Spot;
 use crate::spreading::{Start, spread};
 use tp_base::{Edge, Full, Kept, Late, Network, PointId, Proof, Tick};
 
@@ -154,6 +155,17 @@ impl Network for LiveNet {
                 Err(Late)
             }
         }
+    }
+
+    fn set_bounds(&mut self, point: PointId, low: Tick, cap: Tick) {
+        let at = point.0 as usize;
+        let spot = self.spots[at];
+        self.spots[at] = Spot {
+            low,
+            time: spot.time,
+            cause: spot.cause,
+        };
+        self.caps[at] = cap;
     }
 
     fn earliest(&self, point: PointId) -> Tick {

@@ -144,7 +144,7 @@ invariant_of-self-2 g k =
     let few = few-steps g (goal.at.invariant_of-self-2 g k).After-index-newest in
     let len = ap length k.in-Ok-push.ensures.items ∙ length-append a.steps.items (_ ∷ []) in
     let space = k.in-Ok-push.ensures.capacity in
-    board-step _ _ _ _ _ _ _ _ _ _ _ _ _ k.self.invariant _ _ _ _ a.lines a.held k.push.new.self a.edges
+    board-step _ _ _ _ _ _ _ _ _ _ _ _ _ _ k.self.invariant _ _ _ _ a.lines a.held k.push.new.self a.edges
     (ap length k.in-Ok.ensures.past) k.in-Ok.ensures.marks k.in-Ok.ensures.points k.in-Ok.ensures.edges refl refl refl refl (omega arith) k.self.invariant.room.held_few (omega arith)
     (omega arith) (omega arith) (omega arith) (omega arith)
 

@@ -101,7 +101,7 @@ invariant_of-self-2 g k =
     let none = ap length (empty g.N.Network.net g.N.Undo.content g.N.Undo.past (board g c) c.requires.stands.0 c.in-Some.ask (known g c) (closed g c) k.args.room) in
     let len = ap length k.in-Ok-push.ensures.items ∙ length-append a.steps.items (_ ∷ []) in
     let space = k.in-Ok-push.ensures.capacity in
-    board-step _ _ _ _ _ _ _ _ _ _ _ _ _ k.self.invariant _ _ _ _ a.lines a.held k.push.new.self k.line_edges.new.edges
+    board-step _ _ _ _ _ _ _ _ _ _ _ _ _ _ k.self.invariant _ _ _ _ a.lines a.held k.push.new.self k.line_edges.new.edges
     (ap length k.in-Ok.ensures.past) k.in-Ok.ensures.marks k.in-Ok.ensures.points k.in-Ok.ensures.edges refl refl refl refl (omega arith) k.self.invariant.room.held_few (omega arith)
     (omega arith) (omega arith) (omega arith) k.line_edges.ensures.capacity
 

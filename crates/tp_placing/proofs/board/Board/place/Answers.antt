@@ -291,7 +291,7 @@ invariant_of-self-2 g k =
     let steps_space = k.in-Ok-push-2.ensures.capacity in
     let held_space = k.in-Ok-push.ensures.capacity in
     let made_space = k.neighbour_edges.ensures.capacity in
-    board-step _ _ _ _ _ _ _ _ _ _ _ _ _ k.self.invariant _ _ _ _ k.insert.new.self k.push.new.self k.push-2.new.self k.neighbour_edges.new.edges
+    board-step _ _ _ _ _ _ _ _ _ _ _ _ _ _ k.self.invariant _ _ _ _ k.insert.new.self k.push.new.self k.push-2.new.self k.neighbour_edges.new.edges
     (ap length k.in-Ok.ensures.past) k.in-Ok.ensures.marks k.in-Ok.ensures.points k.in-Ok.ensures.edges (ap length k.in-Ok-insert.ensures.past) k.in-Ok-insert.ensures.marks lines_len k.in-Ok-insert.ensures.holds
     (omega arith) (omega arith) (omega arith) (omega arith) (omega arith) (omega arith) (omega arith)
 

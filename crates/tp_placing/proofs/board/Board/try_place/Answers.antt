@@ -336,7 +336,7 @@ invariant_of-self-2 g k =
     let lines_len = ap length k.in-Ok-insert.ensures.ok ∙ length-set a.lines.orders _ _ in
     let steps_space = k.in-Ok-push-2.ensures.capacity in
     let held_space = k.in-Ok-push.ensures.capacity in
-    board-step _ _ _ _ _ _ _ _ _ _ _ _ _ k.self.invariant _ _ _ _ k.insert.new.self k.push.new.self k.push-2.new.self a.edges
+    board-step _ _ _ _ _ _ _ _ _ _ _ _ _ _ k.self.invariant _ _ _ _ k.insert.new.self k.push.new.self k.push-2.new.self a.edges
     (ap length k.in-Ok.ensures.past) k.in-Ok.ensures.marks k.in-Ok.ensures.points k.in-Ok.ensures.edges (ap length k.in-Ok-insert.ensures.past) k.in-Ok-insert.ensures.marks lines_len k.in-Ok-insert.ensures.holds
     (omega arith) (omega arith) (omega arith) (omega arith) (omega arith) (omega arith) (omega arith)
 

@@ -23,7 +23,7 @@ invariant_of-self g c =
     let lr = c.mark-line_mark.ensures.room in
     let cap = c.in-Ok.ensures.capacity in
     let i1 = i.spare in let i2 = i.line_marks in let i3 = i.line_room in let i4 = i.board_marks in let i5 = i.mark_space in
-    let r1 = r.points in let r2 = r.edges in let r3 = r.resources in let r4 = r.holds in
+    let r1 = r.points in let r2 = r.edges in let r2a = r.all_edges in let r3 = r.resources in let r4 = r.holds in
     record {
       marked = record {
         spare = omega arith;
@@ -36,6 +36,7 @@ invariant_of-self g c =
       room = record {
         points = omega arith;
         edges = omega arith;
+        all_edges = omega arith;
         resources = omega arith;
         holds = omega arith;
         held_few = r.held_few;

@@ -58,7 +58,7 @@ invariant_of-self g c =
     let cap1 = c.truncate.ensures.capacity in
     let cap2 = c.truncate-2.ensures.capacity in
     let cap3 = c.truncate-3.ensures.capacity in
-    let r1 = r.points in let r2 = r.edges in let r3 = r.resources in let r4 = r.holds in let r5 = r.held_few in let r6 = r.held_space in let r7 = r.steps_few in let r8 = r.steps_space in
+    let r1 = r.points in let r2 = r.edges in let r2a = r.all_edges in let r3 = r.resources in let r4 = r.holds in let r5 = r.held_few in let r6 = r.held_space in let r7 = r.steps_few in let r8 = r.steps_space in
     record {
       marked = record {
         spare = omega arith;
@@ -71,6 +71,7 @@ invariant_of-self g c =
       room = record {
         points = omega arith;
         edges = omega arith;
+        all_edges = omega arith;
         resources = omega arith;
         holds = omega arith;
         held_few = omega arith;

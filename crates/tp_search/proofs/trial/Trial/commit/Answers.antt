@@ -7,7 +7,7 @@ use Rattle.tp_placing.specs.Writing.{IsLoadedFrom}
 use Rattle.tp_placing.proofs.StandFacts.{and-some}
 use Rattle.tp_search.specs.Trials.{IsEarliestTo}
 use Rattle.tp_search.proofs.AnswerFacts.{none_before-whole}
-use Rattle.tp_search.proofs.TrialFacts.{earliest-to, same-end}
+use Rattle.tp_search.proofs.TrialFacts.{earliest-to, same-end, trial-back}
 use Rattle.tp_search.proofs.trial.Trial.commit.Goals as goal
 
 pub returns-clause-earliest : goal.returns-clause-earliest
@@ -19,3 +19,9 @@ returns-clause-earliest g c =
     and-some b.ask t.ask (λ ask. IsEarliestTo c.args.machine.now c.args.schedule.now.plans ask c.args.self.end c.commit.new.schedule.plans) t.asked
     (earliest-to c.args.machine.now c.args.schedule.now.plans t.ask c.args.self.end (none_before-whole c.args.machine.now c.args.schedule.now.plans t.ask loaded.can_ask b.plans loaded.live_part c.args.self.end t.none_before)
     c.commit.new.schedule.plans done.0 (same-end c.args.machine.now b t.ask t.asked (end_of_plan done.0.plan) c.args.self.end done.1 t.ends))
+
+pub returns-clause-back : goal.returns-clause-back
+returns-clause-back g c b m trial =
+    let u = c.undo_to.ensures in
+    trial-back g.N.Network.net g.N.Undo.content g.N.Undo.past g.N.Undo.max_marks b m c.args.self g.N.Undo.aside c.marks_keep_boards.ensures.back c.undo_to.new.self trial
+    (record { content_then = u.content; past_less = u.past; aside_same = u.aside; room_same = u.room })

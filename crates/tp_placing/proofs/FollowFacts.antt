@@ -1,0 +1,61 @@
+-- What a board that follows the schedule has become.
+use Rattle.std.proofs.Common.{◌≡◌, ◌∙◌, ℕ, suc, ◌+◌, false, List, [], ◌∷◌, ◌++◌, arith, drop, length, subst, sym, take, Some}
+use Rattle.std.proofs.lemmas.List.{drop_all, take_all}
+use Rattle.tp_base.specs.Net.{Net}
+use Rattle.tp_base.specs.declared.edges.PointId.{PointId}
+use Rattle.tp_machine.specs.declared.machine.Machine.{Machine}
+use Rattle.tp_schedule.specs.declared.parts.Ask.{Ask}
+use Rattle.tp_schedule.specs.declared.parts.Plan.{Plan}
+use Rattle.tp_constraints.proofs.Lists.{get-there}
+use Rattle.tp_constraints.specs.Laws.{IsLoadable}
+use Rattle.tp_placing.specs.Boards.{BoardValue, side_by_side}
+use Rattle.tp_placing.specs.Growing.{IsBehind}
+use Rattle.tp_placing.specs.Loaded.{CanLoad, IsLoaded}
+use Rattle.tp_placing.specs.Loading.{point_count}
+use Rattle.tp_placing.specs.Standing.{Stands}
+use Rattle.tp_placing.specs.declared.causes.Cause.{Cause}
+use Rattle.tp_placing.specs.declared.parts.BoardMark.{BoardMark}
+use Rattle.tp_placing.specs.declared.parts.Held.{Held}
+use Rattle.tp_placing.specs.declared.parts.Step.{Step}
+use Rattle.tp_placing.proofs.AddFacts.{split-at}
+use Rattle.tp_placing.proofs.LoadTable.{length-table-of}
+use Rattle.tp_placing.proofs.LoadedAgain.{loaded-again}
+
+-- a board on which no goal is open, at the moment of its ask
+pub record IsStill (machine : Machine) (now : ℕ) (plans : List Plan) (n : Net) (lines : List (List ℕ)) (held : List Held) (firsts : List PointId) (last : ℕ) (causes : List Cause) : Type 0 where
+  pub loadable : IsLoadable machine now (λ _. false) plans
+  pub loaded : IsLoaded machine now plans n lines held firsts causes
+  pub last_point : last ≡ point_count plans
+
+pub still : {N C : Type 0} (net : N → Net) (content : N → C) (past : N → List C) (b : BoardValue N) (machine : Machine) (now : ℕ) → Stands net content past b machine → b.steps ≡ [] → ((before : Ask) → b.ask ≡ Some before → before.now ≡ now)
+    → IsStill machine now b.plans (net b.net) b.orders.orders b.held b.firsts b.last.0 b.causes
+still net content past b machine now (ask, s) closed moment =
+    let same = moment ask s.asked in
+    record {
+      loadable = subst (λ t. IsLoadable machine t (λ _. false) b.plans) same s.loadable;
+      loaded = subst (λ t. IsLoaded machine t b.plans (net b.net) b.orders.orders b.held b.firsts b.causes) same (loaded-again net content past b machine ask s closed);
+      last_point = s.last ∙ length-table-of b.plans;
+    }
+
+-- the plans are as before, or there is one behind them
+pub none-more : {X : Type 0} (old new : List X) → take (length old) new ≡ old → length new ≡ length old → new ≡ old
+none-more old new first same = sym (take_all (length old) new (omega arith)) ∙ first
+
+one-more : {X : Type 0} (old new : List X) → take (length old) new ≡ old → length new ≡ length old + 1 → (x : X) × (new ≡ old ++ x ∷ [])
+one-more old new first more =
+    let x = get-there new (length old) (omega arith) in
+    let none : drop (suc (length old)) new ≡ [] = drop_all (suc (length old)) new (omega arith) in
+    (x.0, split-at new (length old) x.0 x.1 ∙ (λ i. first i ++ x.0 ∷ none i))
+
+pub one-behind : (machine : Machine) (now : ℕ) (old new : List Plan) (n : Net) (lines : List (List ℕ)) (held : List Held) (firsts : List PointId) (last : ℕ) (causes : List Cause) → IsStill machine now old n lines held firsts last causes
+    → CanLoad machine now new → take (length old) new ≡ old → length new ≡ length old + 1 → IsBehind machine now new n lines held firsts last causes
+one-behind machine now old new n lines held firsts last causes was can first more =
+    let x = one-more old new first more in
+    record { plans = old; newest = x.0; are = x.1; can = subst (CanLoad machine now) x.1 can; loadable = was.loadable; loaded = was.loaded; last_point = was.last_point }
+
+-- without marks there are none, whatever holds and steps there are
+pub no-past : {C : Type 0} (held held' : List Held) (steps steps' : List Step) (cs : List C) (os : List (List (List ℕ))) (ms : List BoardMark) → side_by_side held steps cs os ms ≡ [] → side_by_side held' steps' cs os ms ≡ []
+no-past held held' steps steps' [] os ms none = none
+no-past held held' steps steps' (c ∷ cs) [] ms none = none
+no-past held held' steps steps' (c ∷ cs) (o ∷ os) [] none = none
+no-past held held' steps steps' (c ∷ cs) (o ∷ os) (m ∷ ms) none = absurd cc

@@ -1,0 +1,93 @@
+//! A board that lives on from ask to ask: it follows the schedule where it can, and is loaded afresh elsewhere.
+ghost use Rattle.std.specs.Prelude.{◌≡◌, ◌≤◌, [], filter, true, Some};
+ghost use Rattle.tp_schedule.specs.Living.{is_live};
+ghost use Rattle.tp_schedule.specs.Planning.{CanAsk};
+ghost use Rattle.tp_schedule.specs.declared.parts.Ask.{Ask as AskValue};
+ghost use Rattle.tp_placing.specs.Boards.{past_of};
+ghost use Rattle.tp_placing.specs.Loaded.{CanLoad, IsLoaded};
+ghost use Rattle.tp_placing.specs.Loading.{point_count};
+ghost use Rattle.tp_placing.specs.Standing.{IsMadeFor, Stands};
+
+use crate::board::Board;
+use crate::following::follow_live;
+use crate::loading::start_floor;
+use tp_base::{Network, Tick};
+use tp_machine::Machine;
+use tp_schedule::{Ask, Schedule};
+
+/// Whether an ask was asked at the moment.
+fn is_of_moment(ask: Option<Ask>, now: Tick) -> bool
+    ensures { result ≡ true → (before : AskValue) → ask ≡ Some before → before.now ≡ now }
+{
+    match ask {
+        Some(before) => before.now == now,
+        None => false,
+    }
+}
+
+impl<N: Network> Board<N> {
+    /// Follows the plans that are live at the moment, where it is that of the ask before, and where they are those that the
+    /// board holds, or one more behind them. Answers whether the board is loaded with them.
+    fn follow(&mut self, machine: &Machine, schedule: &Schedule, now: Tick) -> bool
+        requires made { IsMadeFor self.old.made_for machine.now }
+        requires can { CanLoad machine.now now
+            (filter (is_live machine.now now) schedule.now.plans) }
+        requires stands { Stands N.net N.content N.past self.old machine.now }
+        requires closed { self.old.steps ≡ [] }
+        requires unmarked { past_of N.past self.old ≡ [] }
+        ensures made { self.new.made_for ≡ self.old.made_for }
+        ensures plans { result ≡ true → self.new.plans
+            ≡ filter (is_live machine.now now) schedule.now.plans }
+        ensures loaded { result ≡ true → IsLoaded machine.now now self.new.plans
+            (N.net self.new.net) self.new.orders.orders self.new.held self.new.firsts
+            self.new.causes }
+        ensures last { result ≡ true → self.new.last.0 ≡ point_count self.new.plans }
+        ensures closed { self.new.steps ≡ [] }
+        ensures past { past_of N.past self.new ≡ [] }
+        ensures marks { N.max_marks self.new.net ≡ N.max_marks self.old.net }
+    {
+        if !is_of_moment(self.ask, now) {
+            return false;
+        }
+        let count = self.plans.len();
+        if !follow_live(&mut self.plans, machine, schedule, now) {
+            return false;
+        }
+        if self.plans.len() == count {
+            return true;
+        }
+        if self.plans.len() == count + 1 {
+            self.add_last(machine, now)
+        } else {
+            false
+        }
+    }
+
+    /// Holds the schedule's live plans from now on, to be asked this, as `load` does. What the board holds stays where it still
+    /// fits: at the moment of the ask before, where no plan but a new one behind all others changed. Costs a step for each
+    /// live point then, and elsewhere as much as `load`. Takes no memory.
+    pub fn renew(&mut self, machine: &Machine, schedule: &Schedule, ask: &Ask)
+        requires made { IsMadeFor self.old.made_for machine.now }
+        requires can_ask { CanAsk machine.now schedule.now.plans ask.now }
+        requires stands { Stands N.net N.content N.past self.old machine.now }
+        requires closed { self.old.steps ≡ [] }
+        requires unmarked { past_of N.past self.old ≡ [] }
+        ensures made { self.new.made_for ≡ self.old.made_for }
+        ensures plans { self.new.plans
+            ≡ filter (is_live machine.now ask.entry.now.now) schedule.now.plans }
+        ensures asked { self.new.ask ≡ Some ask.entry.now }
+        ensures closed { self.new.steps ≡ [] }
+        ensures stands { Stands N.net N.content N.past self.new machine.now }
+        ensures past { past_of N.past self.new ≡ [] }
+        ensures marks { N.max_marks self.new.net ≡ N.max_marks self.old.net }
+    {
+        if self.follow(machine, schedule, ask.now) {
+            self.floor = start_floor(machine, ask);
+            self.horizon = ask.now + machine.window;
+            self.ask = Some(*ask);
+            self.limit = None;
+        } else {
+            self.load(machine, schedule, ask);
+        }
+    }
+}
