@@ -34,9 +34,9 @@ fn next_end<P: Planner>(
     number: u32,
     prints: (Want, Want),
 ) -> Result<Tick, Fail>
-    requires served { IsTrue (P.serves planner.old machine.now) }
+    requires served { P.serves planner.old machine.now }
     requires plan_on { CanPlanOn machine.now 0 schedule.old.plans }
-    ensures served { OnOk result (IsTrue (P.serves planner.new machine.now)) }
+    ensures served { OnOk result (P.serves planner.new machine.now) }
     ensures plan_on { OnOk result (CanPlanOn machine.now 0 schedule.new.plans) }
 {
     let _reply = ask_sheet(planner, machine, schedule, number, prints)?;
@@ -62,7 +62,7 @@ fn ends_in_turn<P: Planner>(
     machine: &Machine,
     prints: (Want, Want),
 ) -> Result<[Tick; 2], Fail>
-    requires { IsTrue (P.serves planner.old machine.now) }
+    requires { P.serves planner.old machine.now }
 {
     let mut schedule = Schedule::new(alloc);
     let one = next_end(planner, machine, &mut schedule, 1, prints)?;

@@ -75,9 +75,9 @@ pub(crate) fn ask_sheet<P: Planner>(
     number: u32,
     prints: (Want, Want),
 ) -> Result<Reply, Fail>
-    requires served { IsTrue (P.serves planner.old machine.now) }
+    requires served { P.serves planner.old machine.now }
     requires plan_on { CanPlanOn machine.now 0 schedule.old.plans }
-    ensures served { OnOk result (IsTrue (P.serves planner.new machine.now)) }
+    ensures served { OnOk result (P.serves planner.new machine.now) }
     ensures plan_on { OnOk result (CanPlanOn machine.now 0 schedule.new.plans) }
 {
     let ask = first_tray_ask(machine, number, prints)?;
@@ -96,7 +96,7 @@ fn settle_all<P: Planner>(
     machine: &Machine,
     schedule: &mut Schedule,
 ) -> Result<(), Fail>
-    requires served { IsTrue (P.serves planner.old machine.now) }
+    requires served { P.serves planner.old machine.now }
     requires plan_on { CanPlanOn machine.now 0 schedule.old.plans }
 {
     if schedule.live(machine, 0) > 256 {
@@ -114,7 +114,7 @@ fn told_in_turn<P: Planner>(
     planner: &mut P,
     machine: &Machine,
 ) -> Result<([Reply; 2], [[Tick; 4]; 5]), Fail>
-    requires { IsTrue (P.serves planner.old machine.now) }
+    requires { P.serves planner.old machine.now }
 {
     let mut schedule = Schedule::new(alloc);
     let one = ask_sheet(planner, machine, &mut schedule, 1, MONO)?;

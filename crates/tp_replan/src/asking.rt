@@ -1,9 +1,8 @@
 //! The ask for the first loose copy.
 
 ghost use Rattle.std.specs.Prelude.{◌≡◌, ◌<◌, ◌≤◌, ◌++◌, length, slice_get, find, All, None};
-ghost use Rattle.std.specs.Prelude.{IsTrue, IfOk, IfErr, Err};
+ghost use Rattle.std.specs.Prelude.{IfOk, IfErr, Err};
 ghost use Rattle.std.specs.Option.{MatchOption};
-ghost use Rattle.tp_machine.specs.declared.machine.Machine.{Machine};
 ghost use Rattle.tp_schedule.specs.Planning.{CanAsk, StopsOnlyWhere};
 ghost use Rattle.tp_schedule.specs.Planning.Deed.{replied};
 ghost use Rattle.tp_schedule.specs.Planning.Due.{asking};
@@ -114,7 +113,7 @@ pub(crate) fn ask_planner<P: Planner>(
     ask: &Ask,
     notes: &mut Vec<Record>,
 ) -> Result<Reply, Halt>
-    requires served { IsTrue (P.serves planner.old machine.now) }
+    requires served { P.serves planner.old machine.now }
     requires can_ask { CanAsk machine.now schedule.old.plans ask.now }
     ensures answers { IfOk result (λ reply.
         (right_steps P.spent P.steps P.stop_steps machine.now).does planner.old
@@ -126,8 +125,7 @@ pub(crate) fn ask_planner<P: Planner>(
         planner.new) }
     ensures stops_only { IfErr result (StopsOnlyWhere (P.stops planner.old) (P.stops planner.new)) }
     ensures counted { P.stops planner.old ≤ P.stops planner.new }
-    ensures still_serves { (other : Machine)
-        → P.serves planner.new other ≡ P.serves planner.old other }
+    ensures still_serves { P.serves planner.new machine.now }
     ensures lasts { P.lasting planner.new ≡ P.lasting planner.old }
 {
     let Ok(before) = schedule.copy(alloc) else {

@@ -1,7 +1,6 @@
 //! A module goes out: the outage, the loop over loose copies, and the settling, over any planner.
 
-ghost use Rattle.std.specs.Prelude.{◌≡◌, ℕ, ◌+◌, ◌≤◌, ◌<◌, length, IsTrue, OnOk, IfOk, IfErr, Err};
-ghost use Rattle.tp_machine.specs.declared.machine.Machine.{Machine};
+ghost use Rattle.std.specs.Prelude.{◌≡◌, ℕ, ◌+◌, ◌≤◌, ◌<◌, length, OnOk, IfOk, IfErr, Err};
 ghost use Rattle.tp_schedule.specs.Planning.{StopsOnlyWhere};
 ghost use Rattle.tp_schedule.specs.Plans.{is_front};
 ghost use Rattle.tp_turn.specs.LiveStates.{seen};
@@ -34,7 +33,7 @@ pub fn go_out<P: Planner>(
     event: Outage,
     notes: &mut Vec<Record>,
 ) -> Result<(), Halt>
-    requires served { IsTrue (P.serves planner.old machine.now) }
+    requires served { P.serves planner.old machine.now }
     requires there { event.module.0 < length machine.now.modules }
     requires can { KeepsLive machine.now last_copy (seen state.old) }
     ensures out { OnOk result
@@ -48,8 +47,7 @@ pub fn go_out<P: Planner>(
         → CanTakeEvents machine.now (copies + 1) (seen state.new)) }
     ensures stops_only { IfErr result (StopsOnlyWhere (P.stops planner.old) (P.stops planner.new)) }
     ensures counted { P.stops planner.old ≤ P.stops planner.new }
-    ensures still_serves { (other : Machine)
-        → P.serves planner.new other ≡ P.serves planner.old other }
+    ensures still_serves { P.serves planner.new machine.now }
     ensures lasts { P.lasting planner.new ≡ P.lasting planner.old }
     ensures marked { state.new.lines.kept ≡ state.old.lines.kept }
 {
@@ -121,7 +119,7 @@ pub fn handle_out<P: Planner>(
     jammed: bool,
     notes: &mut Vec<Record>,
 ) -> Result<(), Halt>
-    requires served { IsTrue (P.serves planner.old machine.now) }
+    requires served { P.serves planner.old machine.now }
     requires there { id.0 < length machine.now.modules }
     requires can { KeepsLive machine.now last_copy
         (state_seen now schedule.old.plans lines.old outs.old) }
@@ -141,8 +139,7 @@ pub fn handle_out<P: Planner>(
         (state_seen now schedule.new.plans lines.new outs.new)) }
     ensures stops_only { IfErr result (StopsOnlyWhere (P.stops planner.old) (P.stops planner.new)) }
     ensures counted { P.stops planner.old ≤ P.stops planner.new }
-    ensures still_serves { (other : Machine)
-        → P.serves planner.new other ≡ P.serves planner.old other }
+    ensures still_serves { P.serves planner.new machine.now }
     ensures lasts { P.lasting planner.new ≡ P.lasting planner.old }
 {
     let Ok(mut state) = take_state(alloc, schedule, lines, *outs, now) else {

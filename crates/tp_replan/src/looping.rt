@@ -1,7 +1,6 @@
 //! The loop over loose copies, and the settling.
 
-ghost use Rattle.std.specs.Prelude.{◌≡◌, ◌≤◌, ◌++◌, Some, None, IsTrue, OnOk, IfErr, Err};
-ghost use Rattle.tp_machine.specs.declared.machine.Machine.{Machine};
+ghost use Rattle.std.specs.Prelude.{◌≡◌, ◌≤◌, ◌++◌, Some, None, OnOk, IfErr, Err};
 ghost use Rattle.tp_schedule.specs.Planning.{CanSettle, StopsOnlyWhere};
 ghost use Rattle.tp_schedule.specs.Planning.Deed.{settled};
 ghost use Rattle.tp_schedule.specs.Planning.Due.{asking, settling};
@@ -32,7 +31,7 @@ fn answer_loose<P: Planner>(
     ask: &Ask,
     notes: &mut Vec<Record>,
 ) -> Result<(), Halt>
-    requires served { IsTrue (P.serves planner.old machine.now) }
+    requires served { P.serves planner.old machine.now }
     requires can { CanLoop machine.now (seen state.old) }
     requires is_due { next_ask machine.now (seen state.old) ≡ Some ask.now }
     ensures answered { OnOk result
@@ -44,8 +43,7 @@ fn answer_loose<P: Planner>(
         planner.new) }
     ensures stops_only { IfErr result (StopsOnlyWhere (P.stops planner.old) (P.stops planner.new)) }
     ensures counted { P.stops planner.old ≤ P.stops planner.new }
-    ensures still_serves { (other : Machine)
-        → P.serves planner.new other ≡ P.serves planner.old other }
+    ensures still_serves { P.serves planner.new machine.now }
     ensures lasts { P.lasting planner.new ≡ P.lasting planner.old }
     ensures marked { state.new.lines.kept ≡ state.old.lines.kept }
 {
@@ -76,7 +74,7 @@ pub(crate) fn run_loop<P: Planner>(
     planner: &mut P,
     notes: &mut Vec<Record>,
 ) -> Result<(), Halt>
-    requires served { IsTrue (P.serves planner.old machine.now) }
+    requires served { P.serves planner.old machine.now }
     requires can { CanLoop machine.now (seen state.old) }
     ensures in_loop { OnOk result
         (IsInLoop (right_steps P.spent P.steps P.stop_steps machine.now) machine.now
@@ -88,8 +86,7 @@ pub(crate) fn run_loop<P: Planner>(
         (seen state.old) planner.old notes.old.items planner.new notes.new.items }
     ensures stops_only { IfErr result (StopsOnlyWhere (P.stops planner.old) (P.stops planner.new)) }
     ensures counted { P.stops planner.old ≤ P.stops planner.new }
-    ensures still_serves { (other : Machine)
-        → P.serves planner.new other ≡ P.serves planner.old other }
+    ensures still_serves { P.serves planner.new machine.now }
     ensures lasts { P.lasting planner.new ≡ P.lasting planner.old }
     ensures marked { state.new.lines.kept ≡ state.old.lines.kept }
 {
@@ -107,7 +104,7 @@ pub(crate) fn settle<P: Planner>(
     planner: &mut P,
     notes: &mut Vec<Record>,
 ) -> Result<(), Halt>
-    requires served { IsTrue (P.serves planner.old machine.now) }
+    requires served { P.serves planner.old machine.now }
     requires can { CanSettle machine.now state.old.moment state.old.schedule.plans }
     ensures settled { OnOk result
         ((right_steps P.spent P.steps P.stop_steps machine.now).does planner.old
@@ -122,8 +119,7 @@ pub(crate) fn settle<P: Planner>(
         (settling state.old.moment) planner.new) }
     ensures stops_only { IfErr result (StopsOnlyWhere (P.stops planner.old) (P.stops planner.new)) }
     ensures counted { P.stops planner.old ≤ P.stops planner.new }
-    ensures still_serves { (other : Machine)
-        → P.serves planner.new other ≡ P.serves planner.old other }
+    ensures still_serves { P.serves planner.new machine.now }
     ensures lasts { P.lasting planner.new ≡ P.lasting planner.old }
     ensures marked { state.new.lines.kept ≡ state.old.lines.kept }
 {

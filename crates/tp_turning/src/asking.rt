@@ -1,7 +1,6 @@
 //! The phase of asks: the copies that wait are asked in their order, over any planner.
 
-ghost use Rattle.std.specs.Prelude.{◌≡◌, ℕ, Err, ◌+◌, ◌<◌, ◌≤◌, ◌++◌, length, IsTrue, IsSome, IsSomeAnd, IfOk, OnOk, IfErr};
-ghost use Rattle.tp_machine.specs.declared.machine.Machine.{Machine};
+ghost use Rattle.std.specs.Prelude.{◌≡◌, ℕ, Err, ◌+◌, ◌<◌, ◌≤◌, ◌++◌, length, IsSome, IsSomeAnd, IfOk, OnOk, IfErr};
 ghost use Rattle.tp_schedule.specs.Planning.{CanAsk, StopsOnlyWhere};
 ghost use Rattle.tp_schedule.specs.Planning.Deed.{replied};
 ghost use Rattle.tp_schedule.specs.Planning.Due.{asking};
@@ -56,7 +55,7 @@ fn ask_planner<P: Planner>(
     ask: &Ask,
     notes: &mut Vec<Record>,
 ) -> Result<Reply, Halt>
-    requires served { IsTrue (P.serves planner.old machine.now) }
+    requires served { P.serves planner.old machine.now }
     requires can_ask { CanAsk machine.now schedule.old.plans ask.now }
     ensures answers { IfOk result (λ reply.
         (right_steps P.spent P.steps P.stop_steps machine.now).does planner.old schedule.old.plans
@@ -68,8 +67,7 @@ fn ask_planner<P: Planner>(
         (asking ask.entry.now) planner.new }
     ensures stops_only { IfErr result (StopsOnlyWhere (P.stops planner.old) (P.stops planner.new)) }
     ensures counted { P.stops planner.old ≤ P.stops planner.new }
-    ensures still_serves { (other : Machine)
-        → P.serves planner.new other ≡ P.serves planner.old other }
+    ensures still_serves { P.serves planner.new machine.now }
     ensures lasts { P.lasting planner.new ≡ P.lasting planner.old }
 {
     let Ok(before) = schedule.copy(alloc) else {
@@ -102,7 +100,7 @@ fn try_copy<P: Planner>(
     copy: SheetId,
     notes: &mut Vec<Record>,
 ) -> Result<bool, Halt>
-    requires served { IsTrue (P.serves planner.old machine.now) }
+    requires served { P.serves planner.old machine.now }
     requires can { KeepsLive machine.now (last_copy + 1) (seen state.old) }
     requires waits { IsSome (find_waiting copy state.old.lines.waiting) }
     requires job { copy.job < length state.old.lines.jobs }
@@ -116,8 +114,7 @@ fn try_copy<P: Planner>(
         (seen state.old) planner.old notes.old.items planner.new notes.new.items }
     ensures stops_only { IfErr result (StopsOnlyWhere (P.stops planner.old) (P.stops planner.new)) }
     ensures counted { P.stops planner.old ≤ P.stops planner.new }
-    ensures still_serves { (other : Machine)
-        → P.serves planner.new other ≡ P.serves planner.old other }
+    ensures still_serves { P.serves planner.new machine.now }
     ensures lasts { P.lasting planner.new ≡ P.lasting planner.old }
     ensures marked { state.new.lines.kept ≡ state.old.lines.kept }
     ensures refills { state.new.refills ≡ state.old.refills }
@@ -150,7 +147,7 @@ pub(crate) fn ask_waiting<P: Planner>(
     planner: &mut P,
     notes: &mut Vec<Record>,
 ) -> Result<(), Halt>
-    requires served { IsTrue (P.serves planner.old machine.now) }
+    requires served { P.serves planner.old machine.now }
     requires can { KeepsLive machine.now (last_copy + 1) (seen state.old) }
     requires bounded { IsBounded state.old.refills.0 }
     ensures asks { OnOk result (
@@ -163,8 +160,7 @@ pub(crate) fn ask_waiting<P: Planner>(
         → CanTakeEvents machine.now copies (seen state.new)) }
     ensures stops_only { IfErr result (StopsOnlyWhere (P.stops planner.old) (P.stops planner.new)) }
     ensures counted { P.stops planner.old ≤ P.stops planner.new }
-    ensures still_serves { (other : Machine)
-        → P.serves planner.new other ≡ P.serves planner.old other }
+    ensures still_serves { P.serves planner.new machine.now }
     ensures lasts { P.lasting planner.new ≡ P.lasting planner.old }
     ensures marked { state.new.lines.kept ≡ state.old.lines.kept }
 {

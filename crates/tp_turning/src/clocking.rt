@@ -1,7 +1,6 @@
 //! The clock moves, and what that tells by names.
 
-ghost use Rattle.std.specs.Prelude.{◌≡◌, ℕ, Err, ◌+◌, ◌≤◌, ◌++◌, map, filter, All, IsTrue, OnOk, IfErr};
-ghost use Rattle.tp_machine.specs.declared.machine.Machine.{Machine};
+ghost use Rattle.std.specs.Prelude.{◌≡◌, ℕ, Err, ◌+◌, ◌≤◌, ◌++◌, map, filter, All, OnOk, IfErr};
 ghost use Rattle.tp_schedule.specs.Planning.{StopsOnlyWhere};
 ghost use Rattle.tp_schedule.specs.declared.parts.Halt.TheVariants.{Stopped};
 ghost use Rattle.tp_script.specs.declared.event.Event.TheVariants.{Clock};
@@ -38,7 +37,7 @@ pub(crate) fn move_clock<P: Planner>(
     to: Tick,
     notes: &mut Vec<Record>,
 ) -> Result<(), Halt>
-    requires served { IsTrue (P.serves planner.old machine.now) }
+    requires served { P.serves planner.old machine.now }
     requires can { CanTakeEvents machine.now last_copy (seen state.old) }
     requires stocked { KeepsStock machine.now last_copy (seen state.old) }
     ensures turn { OnOk result (
@@ -51,8 +50,7 @@ pub(crate) fn move_clock<P: Planner>(
         → CanTakeEvents machine.now (copies + 1) (seen state.new)) }
     ensures stops_only { IfErr result (StopsOnlyWhere (P.stops planner.old) (P.stops planner.new)) }
     ensures counted { P.stops planner.old ≤ P.stops planner.new }
-    ensures still_serves { (other : Machine)
-        → P.serves planner.new other ≡ P.serves planner.old other }
+    ensures still_serves { P.serves planner.new machine.now }
     ensures lasts { P.lasting planner.new ≡ P.lasting planner.old }
     ensures marked { state.new.lines.kept ≡ state.old.lines.kept }
 {

@@ -1,7 +1,6 @@
 //! Modules that go out and come back.
 
 ghost use Rattle.std.specs.Prelude.{◌≡◌, ℕ, Err, ◌+◌, ◌≤◌, IsTrue, OnOk, IfErr};
-ghost use Rattle.tp_machine.specs.declared.machine.Machine.{Machine};
 ghost use Rattle.tp_schedule.specs.Planning.{StopsOnlyWhere};
 ghost use Rattle.tp_schedule.specs.declared.parts.Halt.TheVariants.{Stopped};
 ghost use Rattle.tp_turn.specs.Laws.{is_outage};
@@ -34,7 +33,7 @@ pub(crate) fn take_out<P: Planner>(
     event: &Event,
     notes: &mut Vec<Record>,
 ) -> Result<(), Halt>
-    requires served { IsTrue (P.serves planner.old machine.now) }
+    requires served { P.serves planner.old machine.now }
     requires can { CanTakeEvents machine.now last_copy (seen state.old) }
     requires stocked { KeepsStock machine.now last_copy (seen state.old) }
     requires goes_out { IsTrue (is_outage event.now) }
@@ -48,8 +47,7 @@ pub(crate) fn take_out<P: Planner>(
         → CanTakeEvents machine.now (copies + 1) (seen state.new)) }
     ensures stops_only { IfErr result (StopsOnlyWhere (P.stops planner.old) (P.stops planner.new)) }
     ensures counted { P.stops planner.old ≤ P.stops planner.new }
-    ensures still_serves { (other : Machine)
-        → P.serves planner.new other ≡ P.serves planner.old other }
+    ensures still_serves { P.serves planner.new machine.now }
     ensures marked { state.new.lines.kept ≡ state.old.lines.kept }
     ensures lasts { P.lasting planner.new ≡ P.lasting planner.old }
 {
@@ -77,7 +75,7 @@ pub(crate) fn take_back<P: Planner>(
     event: &Event,
     notes: &mut Vec<Record>,
 ) -> Result<(), Halt>
-    requires served { IsTrue (P.serves planner.old machine.now) }
+    requires served { P.serves planner.old machine.now }
     requires can { CanTakeEvents machine.now last_copy (seen state.old) }
     requires stocked { KeepsStock machine.now last_copy (seen state.old) }
     requires comes_back { IsTrue (comes_back event.now) }
@@ -91,8 +89,7 @@ pub(crate) fn take_back<P: Planner>(
         → CanTakeEvents machine.now (copies + 1) (seen state.new)) }
     ensures stops_only { IfErr result (StopsOnlyWhere (P.stops planner.old) (P.stops planner.new)) }
     ensures counted { P.stops planner.old ≤ P.stops planner.new }
-    ensures still_serves { (other : Machine)
-        → P.serves planner.new other ≡ P.serves planner.old other }
+    ensures still_serves { P.serves planner.new machine.now }
     ensures lasts { P.lasting planner.new ≡ P.lasting planner.old }
     ensures marked { state.new.lines.kept ≡ state.old.lines.kept }
 {

@@ -1,7 +1,6 @@
 //! The turn of any event, over any planner.
 
-ghost use Rattle.std.specs.Prelude.{◌≡◌, ℕ, Err, ◌+◌, ◌≤◌, IsTrue, OnOk, IfErr};
-ghost use Rattle.tp_machine.specs.declared.machine.Machine.{Machine};
+ghost use Rattle.std.specs.Prelude.{◌≡◌, ℕ, Err, ◌+◌, ◌≤◌, OnOk, IfErr};
 ghost use Rattle.tp_schedule.specs.Planning.{StopsOnlyWhere};
 ghost use Rattle.tp_schedule.specs.declared.parts.Halt.TheVariants.{Stopped};
 ghost use Rattle.tp_turn.specs.LiveStates.{seen};
@@ -35,7 +34,7 @@ pub fn take_event<P: Planner>(
     event: &Event,
     notes: &mut Vec<Record>,
 ) -> Result<(), Halt>
-    requires served { IsTrue (P.serves planner.old machine.now) }
+    requires served { P.serves planner.old machine.now }
     requires can { CanTakeEvents machine.now last_copy (seen state.old) }
     requires stocked { KeepsStock machine.now last_copy (seen state.old) }
     ensures turn { OnOk result (
@@ -48,8 +47,7 @@ pub fn take_event<P: Planner>(
         → CanTakeEvents machine.now (copies + 1) (seen state.new)) }
     ensures stops_only { IfErr result (StopsOnlyWhere (P.stops planner.old) (P.stops planner.new)) }
     ensures counted { P.stops planner.old ≤ P.stops planner.new }
-    ensures still_serves { (other : Machine)
-        → P.serves planner.new other ≡ P.serves planner.old other }
+    ensures still_serves { P.serves planner.new machine.now }
     ensures marked { state.new.lines.kept ≡ state.old.lines.kept }
     ensures lasts { P.lasting planner.new ≡ P.lasting planner.old }
 {

@@ -34,7 +34,7 @@ loose-preserved g c =
           c.args.notes.now.items s c.loose.planner notes t planner last inv.under_way answered;
       few = omega (arith, inv.few, less.copies);
       counted = omega (arith, inv.counted, c.in_ok-answer_loose.ensures.counted);
-      still_serves = λ other. c.in_ok-answer_loose.ensures.still_serves other ∙ inv.still_serves other;
+      serves = c.in_ok-answer_loose.ensures.still_serves;
       marked = c.in_ok-answer_loose.ensures.marked ∙ inv.marked;
       lasts = c.in_ok-answer_loose.ensures.lasts ∙ inv.lasts;
     }

@@ -1,5 +1,4 @@
 use Rattle.std.proofs.Common.{◌≡◌, ◌≤◌, ◌+◌}
-use Rattle.tp_machine.specs.declared.machine.Machine.{Machine}
 use Rattle.tp_turn.specs.LiveStates.{seen}
 use Rattle.tp_turn.specs.Planners.{right_steps}
 use Rattle.tp_replan.specs.Answered.{IsInLoop}
@@ -13,7 +12,7 @@ invariant-loose g l = record {
       (seen l.fn.state) l.fn.planner l.fn.notes.items (seen l.state) l.planner l.notes.items;
   few : copies_left (seen l.state) ≤ copies_left (seen l.fn.state);
   counted : g.P.Planner.stops l.fn.planner ≤ g.P.Planner.stops l.planner;
-  still_serves : (other : Machine) → g.P.Planner.serves l.planner other ≡ g.P.Planner.serves l.fn.planner other;
+  serves : g.P.Planner.serves l.planner l.machine;
   marked : l.state.lines.kept ≡ l.fn.state.lines.kept;
   lasts : g.P.Planner.lasting l.planner ≡ g.P.Planner.lasting l.fn.planner;
 }

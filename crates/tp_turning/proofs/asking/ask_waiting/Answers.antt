@@ -16,7 +16,7 @@ asks-init g c = record {
   under_way = begins (right_steps g.P.Planner.spent g.P.Planner.steps g.P.Planner.stop_steps c.args.machine.now) c.args.machine.now (seen c.args.state.now)
       c.args.planner.now c.args.notes.now.items c.none-blocked.result c.none-blocked.ensures c.requires.can;
   counted = omega arith;
-  still_serves = λ other. refl;
+  serves = c.requires.served;
   marked = refl;
   refills = refl;
   lasts = refl;
@@ -57,7 +57,7 @@ pub asks-preserved-then-not-planned : goal.asks-preserved-then-not-planned
 asks-preserved-then-not-planned g c = record {
   under_way = (refused g c).on;
   counted = omega (arith, c.asks.invariant.counted, c.in_ok-planned.ensures.counted);
-  still_serves = λ other. c.in_ok-planned.ensures.still_serves other ∙ c.asks.invariant.still_serves other;
+  serves = c.in_ok-planned.ensures.still_serves;
   marked = c.in_ok-planned.ensures.marked ∙ c.asks.invariant.marked;
   refills = c.in_ok-planned.ensures.refills ∙ c.asks.invariant.refills;
   lasts = c.in_ok-planned.ensures.lasts ∙ c.asks.invariant.lasts;
@@ -70,7 +70,7 @@ pub asks-preserved : goal.asks-preserved
 asks-preserved g c = record {
   under_way = (planned g c).on;
   counted = omega (arith, c.asks.invariant.counted, c.in_ok-planned.ensures.counted);
-  still_serves = λ other. c.in_ok-planned.ensures.still_serves other ∙ c.asks.invariant.still_serves other;
+  serves = c.in_ok-planned.ensures.still_serves;
   marked = c.in_ok-planned.ensures.marked ∙ c.asks.invariant.marked;
   refills = c.in_ok-planned.ensures.refills ∙ c.asks.invariant.refills;
   lasts = c.in_ok-planned.ensures.lasts ∙ c.asks.invariant.lasts;

@@ -1,5 +1,4 @@
 use Rattle.std.proofs.Common.{◌≡◌, ◌≤◌, length}
-use Rattle.tp_machine.specs.declared.machine.Machine.{Machine}
 use Rattle.tp_turn.specs.LiveStates.{seen}
 use Rattle.tp_turn.specs.Planners.{right_steps}
 use Rattle.tp_turning.proofs.LeftFacts.{left}
@@ -11,7 +10,7 @@ invariant-asks g l = record {
   under_way : IsUnderWay (right_steps g.P.Planner.spent g.P.Planner.steps g.P.Planner.stop_steps l.machine) l.machine
       (seen l.fn.state) l.fn.planner l.fn.notes.items (seen l.state) l.planner l.notes.items l.last l.blocked;
   counted : g.P.Planner.stops l.fn.planner ≤ g.P.Planner.stops l.planner;
-  still_serves : (other : Machine) → g.P.Planner.serves l.planner other ≡ g.P.Planner.serves l.fn.planner other;
+  serves : g.P.Planner.serves l.planner l.machine;
   marked : l.state.lines.kept ≡ l.fn.state.lines.kept;
   refills : l.state.refills ≡ l.fn.state.refills;
   lasts : g.P.Planner.lasting l.planner ≡ g.P.Planner.lasting l.fn.planner;
