@@ -8,4 +8,4 @@ returns-then-body-limits-clause-stops g c = λ more.
 
 pub returns-in-Err-clause-stops : goal.returns-in-Err-clause-stops
 returns-in-Err-clause-stops g c = λ more.
-    stops_here g.T.LineTaker.answers g.T.LineTaker.refuses c.args.limits.bytes c.args.limits.lines _ c.args.line.now.items c.args.body.now more _ _ _ c.in-Err.stop (search rules) (c.in-Err.ensures.stops c.args.count.now)
+    stops_here g.T.LineTaker.answers g.T.LineTaker.refuses c.args.limits.bytes c.args.limits.lines _ c.args.line.now.items c.args.body.now more _ _ _ c.in-Err.stop c.requires.open c.requires.body (search rules) (c.in-Err.ensures.stops c.args.count.now)

@@ -8,4 +8,4 @@ returns-in-Ok-clause-all g c =
 
 pub returns-in-Err-clause-stops : goal.returns-in-Err-clause-stops
 returns-in-Err-clause-stops g c =
-    end_stops g.T.LineTaker.answers g.T.LineTaker.refuses c.args.limits.bytes c.args.limits.lines _ c.args.line.now _ _ c.in-Err.stop (c.in-Err.ensures.stops c.args.count)
+    end_stops g.T.LineTaker.answers g.T.LineTaker.refuses c.args.limits.bytes c.args.limits.lines _ c.args.line.now _ _ c.in-Err.stop c.requires.open (search rules) (c.in-Err.ensures.stops c.args.count)
