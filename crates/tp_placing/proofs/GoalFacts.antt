@@ -15,9 +15,9 @@ use Rattle.tp_constraints.specs.Gaps.{low_at, cap_at}
 use Rattle.tp_constraints.specs.Hops.{GoalHops, hop, no_choices}
 use Rattle.tp_constraints.specs.Hops.HopKind.{line}
 use Rattle.tp_constraints.specs.Laws.{no_own}
-use Rattle.tp_constraints.specs.Nets.{GoalNet, BoardLate, IsBoardNet}
+use Rattle.tp_constraints.specs.Nets.{BoardLate, IsBoardNet}
 use Rattle.tp_constraints.specs.Numbers.{gap_by, table_of}
-use Rattle.tp_constraints.specs.Suffixes.{SuffixTimes, end_gaps, with_goal}
+use Rattle.tp_constraints.specs.Suffixes.{SuffixTimes, with_goal}
 use Rattle.tp_placing.specs.declared.parts.Step.{Step}
 use Rattle.tp_placing.specs.Boards.{BoardValue, suffix_after}
 use Rattle.tp_placing.specs.Causes.{IsNamedHop, line_tag}
@@ -29,6 +29,8 @@ use Rattle.tp_placing.proofs.CauseFacts.{AreMade, caused-more, hops-more}
 use Rattle.tp_placing.proofs.PartFacts.{shown-point}
 use Rattle.tp_placing.proofs.LineFacts.{end-tags, goal-can, goal-gaps, length-edges}
 use Rattle.tp_placing.proofs.LowFacts.{low-is, none-with-sum}
+use Rattle.tp_placing.proofs.NearFacts.{near_gaps}
+use Rattle.tp_placing.proofs.NearNet.{near-hops, near-net}
 use Rattle.tp_placing.proofs.PlaceFacts.{edges-of}
 use Rattle.tp_placing.proofs.SlotFacts.{slots-grown}
 use Rattle.tp_placing.proofs.StepFacts.{at-hand-push}
@@ -82,30 +84,30 @@ module _ {N C : Type 0} (net : N → Net) (content : N → C) (past : N → List
   abbrev Extended : ℕ → Net
   Extended low = with_edges (with_point (net b.net) low horizon) es
 
-  gaps : map (gap_by points) es ≡ end_gaps ask b.plans
+  gaps : map (gap_by points) es ≡ near_gaps ask b.plans
   gaps = goal-gaps ask b.plans b.firsts b.last s.firsts s.last
 
-  board-net : GoalNet → IsBoardNet m b.plans ask (with_goal room) points (Extended sum)
-  board-net goal_net = goal_net m b.plans ask room (table_of b.plans) (net b.net) es at-none.net (edges-of points es can-points) gaps
+  board-net : IsBoardNet m b.plans ask (with_goal room) points (Extended sum)
+  board-net = near-net m b.plans ask room (table_of b.plans) (net b.net) es at-none.net (edges-of points es can-points) gaps
 
-  pub goal-refused : GoalNet → BoardLate → HasNoSolution (Extended (min sum (horizon + 1))) → (t : Ticks) → ¬ SuffixTimes m b.plans ask (with_goal room) t
-  goal-refused goal_net late none = (late m b.plans ask (with_goal room) points (Extended sum) (board-net goal_net)).0 (none-with-sum (net b.net) sum horizon es caps-lows none)
+  pub goal-refused : BoardLate → HasNoSolution (Extended (min sum (horizon + 1))) → (t : Ticks) → ¬ SuffixTimes m b.plans ask (with_goal room) t
+  goal-refused late none = (late m b.plans ask (with_goal room) points (Extended sum) board-net).0 (none-with-sum (net b.net) sum horizon es caps-lows none)
 
   tags : All (λ e. e.tag ≡ line_tag) es
   tags = end-tags ask b.plans b.firsts b.last
 
-  made : (steps : ℕ) → AreMade steps b.plans b.causes es (map (hop line) (end_gaps ask b.plans))
-  made steps = lines-made steps b.plans 1 b.causes es (end_gaps ask b.plans) s.plain tags (edges-of points es can-points) gaps
+  made : (steps : ℕ) → AreMade steps b.plans b.causes es (map (hop line) (near_gaps ask b.plans))
+  made steps = lines-made steps b.plans 1 b.causes es (near_gaps ask b.plans) s.plain tags (edges-of points es can-points) gaps
 
   none-chosen : choices_of (suffix_after b.steps) ≡ no_choices
   none-chosen = ap choices_of closed
 
-  pub goal-reason : (refutes : N → Net → Type 0) (n : N) → GoalNet → GoalHops → refutes n (Extended (min sum (horizon + 1)))
+  pub goal-reason : (refutes : N → Net → Type 0) (n : N) → GoalHops → refutes n (Extended (min sum (horizon + 1)))
       → IsReason refutes (record b { net = n; limit = None }) m ask (with_goal room)
-  goal-reason refutes n goal_net law refused = record {
+  goal-reason refutes n law refused = record {
     net = Extended sum;
-    is_net = board-net goal_net;
-    hops = hops-more m b.plans ask no_choices (with_goal room) 0 b.causes (net b.net).edges es _ (subst (λ y. All (IsNamedHop m b.plans ask y b.causes) (net b.net).edges) none-chosen s.caused.hops) (made 0) (λ os all. law m b.plans ask room os all);
+    is_net = board-net;
+    hops = hops-more m b.plans ask no_choices (with_goal room) 0 b.causes (net b.net).edges es _ (subst (λ y. All (IsNamedHop m b.plans ask y b.causes) (net b.net).edges) none-chosen s.caused.hops) (made 0) (near-hops law m b.plans ask room);
     no_limit = refl;
     shown = shown-point refutes n (net b.net) (min sum (horizon + 1)) sum horizon es (omega arith) refused;
   }
@@ -113,11 +115,11 @@ module _ {N C : Type 0} (net : N → Net) (content : N → C) (past : N → List
   pub goal-caused : GoalHops → (step : Step) → suffix_after (b.steps ++ step ∷ []) ≡ Some (with_goal room) → AreCaused m b.plans ask b.causes (b.steps ++ step ∷ []) (Extended (min sum (horizon + 1)))
   goal-caused law step after =
       caused-more m b.plans ask no_choices (with_goal room) b.causes b.steps step (net b.net) (Extended (min sum (horizon + 1))) es _
-      none-chosen (ap choices_of after) refl s.caused (made (length b.steps + 1)) (λ os all. law m b.plans ask room os all)
+      none-chosen (ap choices_of after) refl s.caused (made (length b.steps + 1)) (near-hops law m b.plans ask room)
 
-  pub goal-at : GoalNet → HasLeast (Extended (min sum (horizon + 1))) → (step : Step) → step.newest ≡ None → step.first ≡ b.last
+  pub goal-at : HasLeast (Extended (min sum (horizon + 1))) → (step : Step) → step.newest ≡ None → step.first ≡ b.last
       → IsAtWith m b.plans ask (Some (with_goal room)) (b.steps ++ step ∷ []) (Extended (min sum (horizon + 1))) b.orders.orders b.held
-  goal-at goal_net solved step newest_is first_is =
+  goal-at solved step newest_is first_is =
       let low : min sum (horizon + 1) ≡ sum = low-is (net b.net) sum horizon es caps-lows solved in
       let l = length-append b.steps (step ∷ []) in
       let none = ap length empty in
@@ -128,7 +130,7 @@ module _ {N C : Type 0} (net : N → Net) (content : N → C) (past : N → List
       let fs = at-none.few_steps.1 in
       let last = s.last in
       subst (λ k. IsAtWith m b.plans ask (Some (with_goal room)) (b.steps ++ step ∷ []) (Extended k) b.orders.orders b.held) (sym low) (record {
-        net = board-net goal_net;
+        net = board-net;
         solved = subst (λ k. HasLeast (Extended k)) low solved;
         orders = λ q known. subst (λ h. AreSlots points h (order_on b.orders.orders q) (slot_order m b.plans q)) (append-nil b.held) (slots-grown (table_of b.plans) (own 0 ∷ []) b.held [] (order_on b.orders.orders q) (slot_order m b.plans q) (at-none.orders q known));
         at_hand = at-hand-push (length (table_of b.plans)) (Some (with_goal room)) b.steps step (newest_is, (let f = ap (λ (p : PointId). p.0) first_is in omega arith));

@@ -13,6 +13,8 @@ pub mod NeighbourFacts
 pub mod PlaceFacts
 pub mod LowFacts
 pub mod ActionFacts
+pub mod NearFacts
+pub mod NearNet
 pub mod LineFacts
 pub mod GoalFacts
 pub mod ReadFacts

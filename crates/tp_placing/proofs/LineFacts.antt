@@ -7,80 +7,70 @@ use Rattle.std.proofs.lemmas.List.{append_assoc, append-nil, length-append, map-
 use Rattle.std.proofs.lemmas.List.Elements.{All-append, All-cons, All-nil}
 use Rattle.tp_base.specs.declared.edges.Edge.{Edge}
 use Rattle.tp_base.specs.declared.edges.PointId.{PointId}
-use Rattle.tp_schedule.specs.Plans.{is_before}
 use Rattle.tp_schedule.specs.Spots.{Spot}
 use Rattle.tp_schedule.specs.Spots.Spot.{kept, own}
 use Rattle.tp_schedule.specs.declared.parts.Ask.{Ask}
 use Rattle.tp_schedule.specs.declared.parts.Plan.{Plan}
-use Rattle.tp_constraints.specs.Gaps.{gap, end_spot, is_in_line}
+use Rattle.tp_constraints.specs.Gaps.{gap, end_spot}
 use Rattle.tp_constraints.specs.Numbers.{gap_by, points_from, spot_at, table_of}
-use Rattle.tp_constraints.specs.Suffixes.{end_gap, end_gaps}
 use Rattle.tp_placing.specs.Causes.{line_tag}
-use Rattle.tp_placing.specs.Edges.{edge_of, end_edge, edge_list, plan_end, end_edges}
+use Rattle.tp_placing.specs.Edges.{edge_of, edge_to, end_edges, end_if, first_end, first_of, is_ahead, is_behind, last_end, line_edge, plan_end}
 use Rattle.tp_placing.specs.Standing.{AreFirsts, table_with}
 use Rattle.tp_base.specs.Grows.{IsKnown}
+use Rattle.tp_placing.proofs.NearFacts.{first_plan, gap_from, gap_to, last_plan, near_gaps, plan_if}
 use Rattle.tp_placing.proofs.TableFacts.{begins-at, get-right, length-firsts, length-points, points-get, table-own}
 use Rattle.tp_base.proofs.SliceFacts.{slice_get_left}
 
+first-assoc : (a b c : Option PointId) → first_of (first_of a b) c ≡ first_of a (first_of b c)
+first-assoc None b c = refl
+first-assoc (Some x) b c = refl
+
 -- one plan more
-pub edges-push : (ask : Ask) (plans : List Plan) (firsts : List PointId) (p : Plan) (f end : PointId) → length firsts ≡ length plans
-    → end_edges ask (plans ++ p ∷ []) (firsts ++ f ∷ []) end ≡ end_edges ask plans firsts end ++ edge_list (end_edge ask p (plan_end p f) end)
-edges-push ask [] [] p f end h = append-nil (edge_list (end_edge ask p (plan_end p f) end))
-edges-push ask [] (g ∷ firsts) p f end h = absurd (omega arith)
-edges-push ask (q ∷ plans) [] p f end h = absurd (omega arith)
-edges-push ask (q ∷ plans) (g ∷ firsts) p f end h =
-    ap (λ es. edge_list (end_edge ask q (plan_end q g) end) ++ es) (edges-push ask plans firsts p f end (omega arith))
-    ∙ sym (append_assoc (edge_list (end_edge ask q (plan_end q g) end)) (end_edges ask plans firsts end) (edge_list (end_edge ask p (plan_end p f) end)))
+last-push : (wanted : Plan → Bool) (plans : List Plan) (firsts : List PointId) (p : Plan) (f : PointId) → length firsts ≡ length plans
+    → last_end wanted (plans ++ p ∷ []) (firsts ++ f ∷ []) ≡ first_of (end_if (wanted p) (plan_end p f)) (last_end wanted plans firsts)
+last-push wanted [] [] p f h = go (wanted p) where
+  go : (b : Bool) → end_if b (plan_end p f) ≡ first_of (end_if b (plan_end p f)) None
+  go true = refl
+  go false = refl
+last-push wanted [] (g ∷ firsts) p f h = absurd (omega arith)
+last-push wanted (q ∷ plans) [] p f h = absurd (omega arith)
+last-push wanted (q ∷ plans) (g ∷ firsts) p f h =
+    ap (λ o. first_of o (end_if (wanted q) (plan_end q g))) (last-push wanted plans firsts p f (omega arith))
+    ∙ first-assoc (end_if (wanted p) (plan_end p f)) (last_end wanted plans firsts) (end_if (wanted q) (plan_end q g))
 
--- an edge is the gap of the plan
-one-gap : (table : List Spot) (ask : Ask) (p : Plan) (last end : PointId) → spot_at table last.0 ≡ end_spot p → spot_at table end.0 ≡ own 0 → map (gap_by table) (edge_list (end_edge ask p last end)) ≡ end_gap ask p
-one-gap table ask p last end a b = go (is_in_line ask.goal p) (is_before p.sheet ask.sheet) (is_before ask.sheet p.sheet) where
-  go : (x y z : Bool) → map (gap_by table) (edge_list (cond x (cond y (Some (edge_of last end (pos 1) line_tag)) (cond z (Some (edge_of end last (pos 1) line_tag)) None)) None))
-      ≡ cond x (cond y (gap (end_spot p) (own 0) (pos 1) ∷ []) (cond z (gap (own 0) (end_spot p) (pos 1) ∷ []) [])) []
-  go true true z = λ i. gap (a i) (b i) (pos 1) ∷ []
-  go true false true = λ i. gap (b i) (a i) (pos 1) ∷ []
-  go true false false = refl
-  go false y z = refl
+first-push : (wanted : Plan → Bool) (plans : List Plan) (firsts : List PointId) (p : Plan) (f : PointId) → length firsts ≡ length plans
+    → first_end wanted (plans ++ p ∷ []) (firsts ++ f ∷ []) ≡ first_of (first_end wanted plans firsts) (end_if (wanted p) (plan_end p f))
+first-push wanted [] [] p f h = go (wanted p) where
+  go : (b : Bool) → first_of (end_if b (plan_end p f)) None ≡ end_if b (plan_end p f)
+  go true = refl
+  go false = refl
+first-push wanted [] (g ∷ firsts) p f h = absurd (omega arith)
+first-push wanted (q ∷ plans) [] p f h = absurd (omega arith)
+first-push wanted (q ∷ plans) (g ∷ firsts) p f h =
+    ap (λ o. first_of (end_if (wanted q) (plan_end q g)) o) (first-push wanted plans firsts p f (omega arith))
+    ∙ sym (first-assoc (end_if (wanted q) (plan_end q g)) (first_end wanted plans firsts) (end_if (wanted p) (plan_end p f)))
 
--- the points of the edges
-one-can : (points : ℕ) (ask : Ask) (p : Plan) (last end : PointId) → last.0 < points → end.0 < points → All (IsKnown points) (edge_list (end_edge ask p last end))
-one-can points ask p last end a b = go (is_in_line ask.goal p) (is_before p.sheet ask.sheet) (is_before ask.sheet p.sheet) where
-  go : (x y z : Bool) → All (IsKnown points) (edge_list (cond x (cond y (Some (edge_of last end (pos 1) line_tag)) (cond z (Some (edge_of end last (pos 1) line_tag)) None)) None))
-  go true true z = All-cons (IsKnown points) (edge_of last end (pos 1) line_tag) [] (record { from = a; to = b; least = omega (arith, ints); most = omega (arith, ints) }) (All-nil (IsKnown points))
-  go true false true = All-cons (IsKnown points) (edge_of end last (pos 1) line_tag) [] (record { from = b; to = a; least = omega (arith, ints); most = omega (arith, ints) }) (All-nil (IsKnown points))
-  go true false false = All-nil (IsKnown points)
-  go false y z = All-nil (IsKnown points)
+-- there are at most two edges, with the tag of lines
+pub length-edges : (ask : Ask) (plans : List Plan) (firsts : List PointId) (end : PointId) → length (end_edges ask plans firsts end) ≤ 2
+length-edges ask plans firsts end = go (last_end (is_ahead ask) plans firsts) (first_end (is_behind ask) plans firsts) where
+  go : (a b : Option PointId) → length (edge_to a end ++ line_edge end b) ≤ 2
+  go None None = omega arith
+  go None (Some y) = omega arith
+  go (Some x) None = omega arith
+  go (Some x) (Some y) = omega arith
 
-one-tag : (ask : Ask) (p : Plan) (last end : PointId) → All (λ e. e.tag ≡ line_tag) (edge_list (end_edge ask p last end))
-one-tag ask p last end = go (is_in_line ask.goal p) (is_before p.sheet ask.sheet) (is_before ask.sheet p.sheet) where
+pub end-tags : (ask : Ask) (plans : List Plan) (firsts : List PointId) (end : PointId) → All (λ e. e.tag ≡ line_tag) (end_edges ask plans firsts end)
+end-tags ask plans firsts end = All-append Tag (edge_to (last_end (is_ahead ask) plans firsts) end) (line_edge end (first_end (is_behind ask) plans firsts)) (to (last_end (is_ahead ask) plans firsts)) (from end (first_end (is_behind ask) plans firsts)) where
   Tag : Edge → Type 0
   Tag e = e.tag ≡ line_tag
 
-  go : (x y z : Bool) → All (λ e. e.tag ≡ line_tag) (edge_list (cond x (cond y (Some (edge_of last end (pos 1) line_tag)) (cond z (Some (edge_of end last (pos 1) line_tag)) None)) None))
-  go true true z = All-cons Tag (edge_of last end (pos 1) line_tag) [] refl (All-nil Tag)
-  go true false true = All-cons Tag (edge_of end last (pos 1) line_tag) [] refl (All-nil Tag)
-  go true false false = All-nil Tag
-  go false y z = All-nil Tag
+  from : (x : PointId) (o : Option PointId) → All (λ e. e.tag ≡ line_tag) (line_edge x o)
+  from x None = All-nil Tag
+  from x (Some y) = All-cons Tag (edge_of x y (pos 1) line_tag) [] refl (All-nil Tag)
 
--- they have the tag of lines
-pub end-tags : (ask : Ask) (plans : List Plan) (firsts : List PointId) (end : PointId) → All (λ e. e.tag ≡ line_tag) (end_edges ask plans firsts end)
-end-tags ask [] firsts end = All-nil (λ (e : Edge). e.tag ≡ line_tag)
-end-tags ask (p ∷ plans) [] end = All-nil (λ (e : Edge). e.tag ≡ line_tag)
-end-tags ask (p ∷ plans) (f ∷ firsts) end =
-    All-append (λ (e : Edge). e.tag ≡ line_tag) (edge_list (end_edge ask p (plan_end p f) end)) (end_edges ask plans firsts end) (one-tag ask p (plan_end p f) end) (end-tags ask plans firsts end)
-
-one-long : (o : Option Edge) → length (edge_list o) ≤ 1
-one-long None = omega arith
-one-long (Some e) = omega arith
-
-pub length-edges : (ask : Ask) (plans : List Plan) (firsts : List PointId) (end : PointId) → length (end_edges ask plans firsts end) ≤ length plans
-length-edges ask [] firsts end = omega arith
-length-edges ask (p ∷ plans) [] end = omega arith
-length-edges ask (p ∷ plans) (f ∷ firsts) end =
-    let a = one-long (end_edge ask p (plan_end p f) end) in
-    let b = length-edges ask plans firsts end in
-    let l = length-append (edge_list (end_edge ask p (plan_end p f) end)) (end_edges ask plans firsts end) in
-    omega arith
+  to : (o : Option PointId) → All (λ e. e.tag ≡ line_tag) (edge_to o end)
+  to None = All-nil Tag
+  to (Some x) = from x (Some end)
 
 -- where each plan's last point is in the table
 abbrev EndsInTable : List Spot → List Plan → List PointId → Type 0
@@ -88,38 +78,77 @@ EndsInTable table [] firsts = Unit {0}
 EndsInTable table (p ∷ plans) [] = Unit {0}
 EndsInTable table (p ∷ plans) (f ∷ firsts) = (slice_get table (plan_end p f).0 ≡ Some (end_spot p)) × EndsInTable table plans firsts
 
-all-gaps : (table : List Spot) (ask : Ask) (plans : List Plan) (firsts : List PointId) (end : PointId) → length firsts ≡ length plans → EndsInTable table plans firsts → spot_at table end.0 ≡ own 0
-    → map (gap_by table) (end_edges ask plans firsts end) ≡ end_gaps ask plans
-all-gaps table ask [] firsts end h e o = refl
-all-gaps table ask (p ∷ plans) [] end h e o = absurd (omega arith)
-all-gaps table ask (p ∷ plans) (f ∷ firsts) end h e o =
-    let at : spot_at table (plan_end p f).0 ≡ end_spot p = rw e.0 refl in
-    let x = one-gap table ask p (plan_end p f) end at o in
-    let y = all-gaps table ask plans firsts end (omega arith) e.1 o in
-    map-append (gap_by table) (edge_list (end_edge ask p (plan_end p f) end)) (end_edges ask plans firsts end) ∙ (λ i. x i ++ y i)
+-- an end is that of a plan
+abbrev IsEndOf : List Spot → Option PointId → Option Plan → Type 0
+IsEndOf table None None = Unit {0}
+IsEndOf table None (Some p) = ⊥
+IsEndOf table (Some x) None = ⊥
+IsEndOf table (Some x) (Some p) = slice_get table x.0 ≡ Some (end_spot p)
 
-all-can : (table : List Spot) (ask : Ask) (plans : List Plan) (firsts : List PointId) (end : PointId) → EndsInTable table plans firsts → end.0 < length table → All (IsKnown (length table)) (end_edges ask plans firsts end)
-all-can table ask [] firsts end e o = All-nil (IsKnown (length table))
-all-can table ask (p ∷ plans) [] end e o = All-nil (IsKnown (length table))
-all-can table ask (p ∷ plans) (f ∷ firsts) end e o =
-    All-append (IsKnown (length table)) (edge_list (end_edge ask p (plan_end p f) end)) (end_edges ask plans firsts end)
-    (one-can (length table) ask p (plan_end p f) end (slice_get_within table (plan_end p f).0 (end_spot p) e.0) o) (all-can table ask plans firsts end e.1 o)
+first-is : (table : List Spot) (a b : Option PointId) (p q : Option Plan) → IsEndOf table a p → IsEndOf table b q → IsEndOf table (first_of a b) (first_of p q)
+first-is table None b None q x y = y
+first-is table None b (Some p) q x y = absurd x
+first-is table (Some e) b None q x y = absurd x
+first-is table (Some e) b (Some p) q x y = x
+
+if-is : (table : List Spot) (b : Bool) (p : Plan) (f : PointId) → slice_get table (plan_end p f).0 ≡ Some (end_spot p) → IsEndOf table (end_if b (plan_end p f)) (plan_if b p)
+if-is table true p f at = at
+if-is table false p f at = tt
+
+last-is : (table : List Spot) (wanted : Plan → Bool) (plans : List Plan) (firsts : List PointId) → length firsts ≡ length plans → EndsInTable table plans firsts → IsEndOf table (last_end wanted plans firsts) (last_plan wanted plans)
+last-is table wanted [] firsts h e = tt
+last-is table wanted (p ∷ plans) [] h e = absurd (omega arith)
+last-is table wanted (p ∷ plans) (f ∷ firsts) h e =
+    first-is table (last_end wanted plans firsts) (end_if (wanted p) (plan_end p f)) (last_plan wanted plans) (plan_if (wanted p) p) (last-is table wanted plans firsts (omega arith) e.1) (if-is table (wanted p) p f e.0)
+
+beside-is : (table : List Spot) (wanted : Plan → Bool) (plans : List Plan) (firsts : List PointId) → length firsts ≡ length plans → EndsInTable table plans firsts → IsEndOf table (first_end wanted plans firsts) (first_plan wanted plans)
+beside-is table wanted [] firsts h e = tt
+beside-is table wanted (p ∷ plans) [] h e = absurd (omega arith)
+beside-is table wanted (p ∷ plans) (f ∷ firsts) h e =
+    first-is table (end_if (wanted p) (plan_end p f)) (first_end wanted plans firsts) (plan_if (wanted p) p) (first_plan wanted plans) (if-is table (wanted p) p f e.0) (beside-is table wanted plans firsts (omega arith) e.1)
+
+-- the edges are the gaps to the plans, and between points of the table
+to-gaps : (table : List Spot) (end : PointId) (o : Option PointId) (p : Option Plan) → IsEndOf table o p → spot_at table end.0 ≡ own 0 → map (gap_by table) (edge_to o end) ≡ gap_to p
+to-gaps table end None None at own_is = refl
+to-gaps table end None (Some p) at own_is = absurd at
+to-gaps table end (Some x) None at own_is = absurd at
+to-gaps table end (Some x) (Some p) at own_is = let a : spot_at table x.0 ≡ end_spot p = rw at refl in λ i. gap (a i) (own_is i) (pos 1) ∷ []
+
+from-gaps : (table : List Spot) (end : PointId) (o : Option PointId) (p : Option Plan) → IsEndOf table o p → spot_at table end.0 ≡ own 0 → map (gap_by table) (line_edge end o) ≡ gap_from p
+from-gaps table end None None at own_is = refl
+from-gaps table end None (Some p) at own_is = absurd at
+from-gaps table end (Some x) None at own_is = absurd at
+from-gaps table end (Some x) (Some p) at own_is = let a : spot_at table x.0 ≡ end_spot p = rw at refl in λ i. gap (own_is i) (a i) (pos 1) ∷ []
+
+one-can : (points : ℕ) (x y : PointId) → x.0 < points → y.0 < points → All (IsKnown points) (edge_of x y (pos 1) line_tag ∷ [])
+one-can points x y a b = All-cons (IsKnown points) (edge_of x y (pos 1) line_tag) [] (record { from = a; to = b; least = omega (arith, ints); most = omega (arith, ints) }) (All-nil (IsKnown points))
+
+to-can : (table : List Spot) (end : PointId) (o : Option PointId) (p : Option Plan) → IsEndOf table o p → end.0 < length table → All (IsKnown (length table)) (edge_to o end)
+to-can table end None p at within = All-nil (IsKnown (length table))
+to-can table end (Some x) None at within = absurd at
+to-can table end (Some x) (Some p) at within = one-can (length table) x end (slice_get_within table x.0 (end_spot p) at) within
+
+from-can : (table : List Spot) (end : PointId) (o : Option PointId) (p : Option Plan) → IsEndOf table o p → end.0 < length table → All (IsKnown (length table)) (line_edge end o)
+from-can table end None p at within = All-nil (IsKnown (length table))
+from-can table end (Some x) None at within = absurd at
+from-can table end (Some x) (Some p) at within = one-can (length table) end x within (slice_get_within table x.0 (end_spot p) at)
 
 -- one plan more of a list, where it has been read
-pub edges-next : (ask : Ask) (plans : List Plan) (firsts : List PointId) (end : PointId) (i : ℕ) (p : Plan) (d : PointId) → length firsts ≡ length plans → i < length plans → p ≡ get_or plans i p
-    → end_edges ask (take (i + 1) plans) (take (i + 1) firsts) end ≡ end_edges ask (take i plans) (take i firsts) end ++ edge_list (end_edge ask p (plan_end p (get_or firsts i d)) end)
-edges-next ask plans firsts end i p d same within read =
-    let a : take (i + 1) plans ≡ take i plans ++ p ∷ [] = take_more plans i p within ∙ ap (λ q. take i plans ++ q ∷ []) (sym read) in
-    let b : take (i + 1) firsts ≡ take i firsts ++ get_or firsts i d ∷ [] = take_more firsts i d (omega arith) in
-    let l = length-take-le i plans (omega arith) in
-    let k = length-take-le i firsts (omega arith) in
-    (λ j. end_edges ask (a j) (b j) end) ∙ edges-push ask (take i plans) (take i firsts) p (get_or firsts i d) end (omega arith)
+module _ (plans : List Plan) (firsts : List PointId) (i : ℕ) (p : Plan) (d : PointId) (same : length firsts ≡ length plans) (within : i < length plans) (read : p ≡ get_or plans i p) where
+  plans-next : take (i + 1) plans ≡ take i plans ++ p ∷ []
+  plans-next = take_more plans i p within ∙ ap (λ q. take i plans ++ q ∷ []) (sym read)
 
-pub edges-all : (ask : Ask) (plans : List Plan) (firsts : List PointId) (end : PointId) (i : ℕ) → length firsts ≡ length plans → length plans ≤ i → end_edges ask (take i plans) (take i firsts) end ≡ end_edges ask plans firsts end
-edges-all ask plans firsts end i same past =
-    let a = take_all i plans past in
-    let b = take_all i firsts (omega arith) in
-    λ j. end_edges ask (a j) (b j) end
+  firsts-next : take (i + 1) firsts ≡ take i firsts ++ get_or firsts i d ∷ []
+  firsts-next = take_more firsts i d (omega arith)
+
+  lengths : length (take i firsts) ≡ length (take i plans)
+  lengths = let l = length-take-le i plans (omega arith) in let k = length-take-le i firsts (omega arith) in omega arith
+
+  pub last-next : (wanted : Plan → Bool) → last_end wanted (take (i + 1) plans) (take (i + 1) firsts) ≡ first_of (end_if (wanted p) (plan_end p (get_or firsts i d))) (last_end wanted (take i plans) (take i firsts))
+  last-next wanted = (λ j. last_end wanted (plans-next j) (firsts-next j)) ∙ last-push wanted (take i plans) (take i firsts) p (get_or firsts i d) lengths
+
+  pub first-next : (wanted : Plan → Bool) → first_end wanted (take (i + 1) plans) (take (i + 1) firsts) ≡ first_of (first_end wanted (take i plans) (take i firsts)) (end_if (wanted p) (plan_end p (get_or firsts i d)))
+  first-next wanted = (λ j. first_end wanted (plans-next j) (firsts-next j)) ∙ first-push wanted (take i plans) (take i firsts) p (get_or firsts i d) lengths
 
 -- the last point of a plan that was read fits
 pub end-fits : (plans : List Plan) (firsts : List PointId) (i : ℕ) (p : Plan) (d : PointId) → AreFirsts 0 plans firsts → i < length plans → p ≡ get_or plans i p → (get_or firsts i d).0 + length p.acts < length (table_of plans)
@@ -154,7 +183,7 @@ EndsInTable-more table more (p ∷ plans) [] e = tt
 EndsInTable-more table more (p ∷ plans) (f ∷ firsts) e =
     (slice_get_left table more (plan_end p f).0 (slice_get_within table (plan_end p f).0 (end_spot p) e.0) ∙ e.0, EndsInTable-more table more plans firsts e.1)
 
--- the edges of an opened goal are the gaps of its line
+-- the edges of an opened goal are the gaps to the plans next to it in its line
 module _ (ask : Ask) (plans : List Plan) (firsts : List PointId) (end : PointId) (a : AreFirsts 0 plans firsts) (end_is : end.0 ≡ length (table_of plans)) where
   in-table : EndsInTable (table_with plans 1) plans firsts
   in-table = EndsInTable-more (table_of plans) (own 0 ∷ []) plans firsts (ends-in 0 [] plans firsts refl a)
@@ -162,8 +191,20 @@ module _ (ask : Ask) (plans : List Plan) (firsts : List PointId) (end : PointId)
   end-own : slice_get (table_with plans 1) end.0 ≡ Some (own 0)
   end-own = let e : end.0 ≡ length (table_of plans) + 0 = omega arith in ap (λ k. slice_get (table_with plans 1) k) e ∙ table-own plans 1 0 (omega arith)
 
-  pub goal-gaps : map (gap_by (table_with plans 1)) (end_edges ask plans firsts end) ≡ end_gaps ask plans
-  goal-gaps = all-gaps (table_with plans 1) ask plans firsts end (length-firsts 0 plans firsts a) in-table (rw end-own refl)
+  ahead-is : IsEndOf (table_with plans 1) (last_end (is_ahead ask) plans firsts) (last_plan (is_ahead ask) plans)
+  ahead-is = last-is (table_with plans 1) (is_ahead ask) plans firsts (length-firsts 0 plans firsts a) in-table
+
+  behind-is : IsEndOf (table_with plans 1) (first_end (is_behind ask) plans firsts) (first_plan (is_behind ask) plans)
+  behind-is = beside-is (table_with plans 1) (is_behind ask) plans firsts (length-firsts 0 plans firsts a) in-table
+
+  pub goal-gaps : map (gap_by (table_with plans 1)) (end_edges ask plans firsts end) ≡ near_gaps ask plans
+  goal-gaps =
+      let x = to-gaps (table_with plans 1) end _ _ ahead-is (rw end-own refl) in
+      let y = from-gaps (table_with plans 1) end _ _ behind-is (rw end-own refl) in
+      map-append (gap_by (table_with plans 1)) (edge_to (last_end (is_ahead ask) plans firsts) end) (line_edge end (first_end (is_behind ask) plans firsts)) ∙ (λ i. x i ++ y i)
 
   pub goal-can : All (IsKnown (length (table_with plans 1))) (end_edges ask plans firsts end)
-  goal-can = all-can (table_with plans 1) ask plans firsts end in-table (slice_get_within (table_with plans 1) end.0 _ end-own)
+  goal-can =
+      let within = slice_get_within (table_with plans 1) end.0 _ end-own in
+      All-append (IsKnown (length (table_with plans 1))) (edge_to (last_end (is_ahead ask) plans firsts) end) (line_edge end (first_end (is_behind ask) plans firsts))
+      (to-can (table_with plans 1) end _ _ ahead-is within) (from-can (table_with plans 1) end _ _ behind-is within)

@@ -25,7 +25,8 @@ use Rattle.tp_constraints.specs.Numbers.{gap_by, spot_at, spot_in, table_of}
 use Rattle.tp_placing.specs.Causes.{ArePlain, IsSafe, forward_tag, back_tag, line_tag, hop_by, kind_of, numbered}
 use Rattle.tp_placing.specs.declared.causes.Cause.{Cause}
 use Rattle.tp_placing.specs.Edges.{edge_of}
-use Rattle.tp_placing.specs.Loading.{point_id, act_edges, acts_edges, plans_edges, next_end, line_edge, lines_edges}
+use Rattle.tp_placing.specs.Edges.{line_edge}
+use Rattle.tp_placing.specs.Loading.{point_id, act_edges, acts_edges, plans_edges, next_end, lines_edges}
 use Rattle.tp_base.specs.Grows.{IsKnown}
 use Rattle.tp_placing.proofs.CauseFacts.{numbered-in}
 use Rattle.tp_placing.proofs.LoadTable.{StandsAt, AreNumbered}

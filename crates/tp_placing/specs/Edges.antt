@@ -1,5 +1,5 @@
 -- The edges of a board's network, as the gaps that they stand for.
-use Rattle.std.specs.Prelude.{ℕ, zero, suc, ◌+◌, List, [], ◌∷◌, ◌++◌, length, ℤ, pos, neg_ℤ, ◌-ℤ◌, ◌+ℤ◌, Option, Some, None, slice_get, if◌then◌else◌}
+use Rattle.std.specs.Prelude.{ℕ, zero, suc, Bool, ◌&&◌, ◌+◌, List, [], ◌∷◌, ◌++◌, length, ℤ, pos, neg_ℤ, ◌-ℤ◌, ◌+ℤ◌, Option, Some, None, slice_get, if◌then◌else◌}
 use Rattle.tp_base.specs.declared.edges.Edge.{Edge}
 use Rattle.tp_base.specs.declared.edges.PointId.{PointId}
 use Rattle.tp_machine.specs.Modes.{gap_between}
@@ -57,20 +57,44 @@ held_before held order (suc place) = held_of held (slice_get order place)
 abbrev pub held_behind : List Held → List ℕ → ℕ → Option Held
 held_behind held order place = held_of held (slice_get order place)
 
--- the asked copy ends after the earlier plans of its line, and before the later ones
-abbrev pub end_edge : Ask → Plan → PointId → PointId → Option Edge
-end_edge ask p plan_end end =
-    if is_in_line ask.goal p then (if is_before p.sheet ask.sheet then Some (edge_of plan_end end (pos 1) line_tag) else (if is_before ask.sheet p.sheet then Some (edge_of end plan_end (pos 1) line_tag) else None)) else None
+-- the plan is of the asked copy's line, and of an earlier copy, or of a later one
+abbrev pub is_ahead : Ask → Plan → Bool
+is_ahead ask p = is_in_line ask.goal p && is_before p.sheet ask.sheet
 
-abbrev pub edge_list : Option Edge → List Edge
-edge_list None = []
-edge_list (Some e) = e ∷ []
+abbrev pub is_behind : Ask → Plan → Bool
+is_behind ask p = is_in_line ask.goal p && is_before ask.sheet p.sheet
 
 abbrev pub plan_end : Plan → PointId → PointId
 plan_end p first = record { 0 = first.0 + length p.acts }
 
--- the edges along the line, plan by plan with its first point
+abbrev pub end_if : Bool → PointId → Option PointId
+end_if wanted end = if wanted then Some end else None
+
+-- the first of two that is there
+abbrev pub first_of : {X : Type 0} → Option X → Option X → Option X
+first_of None other = other
+first_of (Some x) other = Some x
+
+-- the last points of the last and of the first of some plans, each plan with its first point
+abbrev pub last_end : (Plan → Bool) → List Plan → List PointId → Option PointId
+last_end wanted [] firsts = None
+last_end wanted (p ∷ plans) [] = None
+last_end wanted (p ∷ plans) (f ∷ firsts) = first_of (last_end wanted plans firsts) (end_if (wanted p) (plan_end p f))
+
+abbrev pub first_end : (Plan → Bool) → List Plan → List PointId → Option PointId
+first_end wanted [] firsts = None
+first_end wanted (p ∷ plans) [] = None
+first_end wanted (p ∷ plans) (f ∷ firsts) = first_of (end_if (wanted p) (plan_end p f)) (first_end wanted plans firsts)
+
+-- an end comes before the next one of its line, if there is one, or behind the one before
+abbrev pub line_edge : PointId → Option PointId → List Edge
+line_edge end None = []
+line_edge end (Some next) = edge_of end next (pos 1) line_tag ∷ []
+
+abbrev pub edge_to : Option PointId → PointId → List Edge
+edge_to None end = []
+edge_to (Some before) end = line_edge before (Some end)
+
+-- the asked copy ends after the last plan ahead of it in its line, and before the first one behind it
 abbrev pub end_edges : Ask → List Plan → List PointId → PointId → List Edge
-end_edges ask [] firsts end = []
-end_edges ask (p ∷ plans) [] end = []
-end_edges ask (p ∷ plans) (f ∷ firsts) end = edge_list (end_edge ask p (plan_end p f) end) ++ end_edges ask plans firsts end
+end_edges ask plans firsts end = edge_to (last_end (is_ahead ask) plans firsts) end ++ line_edge end (first_end (is_behind ask) plans firsts)

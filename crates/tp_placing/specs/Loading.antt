@@ -16,7 +16,7 @@ use Rattle.tp_timelines.specs.Orders.{order_on}
 use Rattle.tp_placing.specs.Causes.{line_tag, cause_between}
 use Rattle.tp_placing.specs.declared.causes.Cause.{Cause}
 use Rattle.tp_placing.specs.declared.parts.Held.{Held}
-use Rattle.tp_placing.specs.Edges.{edge_of, duration_edges, hold_edge}
+use Rattle.tp_placing.specs.Edges.{edge_of, duration_edges, hold_edge, line_edge}
 
 abbrev pub point_id : ℕ → PointId
 point_id n = record { 0 = n }
@@ -73,11 +73,7 @@ abbrev pub next_end : Plan → ℕ → List Plan → Option PointId
 next_end p n [] = None
 next_end p n (q ∷ plans) = if is_same_line p q then Some (point_id (n + length q.acts)) else next_end p (n + length q.acts + 1) plans
 
--- a plan ends before the next one of its line
-abbrev pub line_edge : PointId → Option PointId → List Edge
-line_edge end None = []
-line_edge end (Some next) = edge_of end next (pos 1) line_tag ∷ []
-
+-- each plan ends before the next one of its line
 abbrev pub lines_edges : ℕ → List Plan → List Edge
 lines_edges n [] = []
 lines_edges n (p ∷ plans) = line_edge (point_id (n + length p.acts)) (next_end p (n + length p.acts + 1) plans) ++ lines_edges (n + length p.acts + 1) plans

@@ -3,7 +3,8 @@
 ghost use Rattle.std.specs.Prelude.{◌≡◌, ◌+◌, ◌<◌, ◌≤◌, ◌^◌, ◌++◌, length, vec_len, vec_capacity};
 ghost use Rattle.tp_machine.specs.Using.{action_at};
 ghost use Rattle.tp_constraints.specs.Gaps.{is_same_line};
-ghost use Rattle.tp_placing.specs.Loading.{act_edges, acts_edges, line_edge, lines_edges, next_end, plans_edges, point_count};
+ghost use Rattle.tp_placing.specs.Edges.{line_edge};
+ghost use Rattle.tp_placing.specs.Loading.{act_edges, acts_edges, lines_edges, next_end, plans_edges, point_count};
 
 use crate::causes::LINE;
 use crate::edges::{edge_between, lasting};
@@ -85,7 +86,7 @@ fn end_of_next(plan: &Plan, from: u32, later: &[Plan]) -> Option<PointId>
 }
 
 /// Adds that a plan ends before the next one of its line, if there is one.
-fn add_line(edges: &mut Vec<Edge>, end: PointId, next: Option<PointId>)
+pub(crate) fn add_line(edges: &mut Vec<Edge>, end: PointId, next: Option<PointId>)
     requires space { vec_len edges.old + length (line_edge end next) ≤ vec_capacity edges.old }
     ensures added { edges.new.items ≡ edges.old.items ++ line_edge end next }
     ensures space { vec_capacity edges.old ≤ vec_capacity edges.new }

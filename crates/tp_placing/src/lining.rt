@@ -1,12 +1,11 @@
-ghost use Rattle.std.specs.Prelude.{◌≡◌, ◌^◌, ◌<◌, ◌≤◌, length, vec_capacity};
+ghost use Rattle.std.specs.Prelude.{◌≡◌, ◌+◌, ◌^◌, ◌<◌, ◌≤◌, ◌++◌, length, vec_len, vec_capacity};
 ghost use Rattle.tp_schedule.specs.Plans.{is_before};
 ghost use Rattle.tp_constraints.specs.Gaps.{is_in_line};
 ghost use Rattle.tp_constraints.specs.Numbers.{table_of};
-ghost use Rattle.tp_placing.specs.Edges.{end_edge, end_edges};
+ghost use Rattle.tp_placing.specs.Edges.{edge_to, end_edges, end_if, first_end, first_of, is_ahead, is_behind, last_end};
 ghost use Rattle.tp_placing.specs.Standing.{AreFirsts};
 
-use crate::causes::LINE;
-use crate::edges::edge_between;
+use crate::kept_edges::add_line;
 use tp_base::{Edge, PointId};
 use tp_schedule::{Ask, Goal, Kind, Plan, SheetId};
 
@@ -28,22 +27,68 @@ fn comes_before(one: SheetId, other: SheetId) -> bool
             && (one.number < other.number || (one.number == other.number && one.copy < other.copy)))
 }
 
-/// The edge between the asked copy's end and that of a plan of its line, whose last point this is.
-fn line_edge(ask: &Ask, plan: &Plan, plan_end: PointId, end: PointId) -> Option<Edge>
-    ensures { result ≡ end_edge ask.entry.now plan.now plan_end end }
+/// Whether the plan is of the asked copy's line, and of an earlier copy.
+fn is_ahead(ask: &Ask, plan: &Plan) -> bool
+    ensures { result ≡ is_ahead ask.entry.now plan.now }
 {
-    if !goes_along(ask.goal, plan) {
-        None
-    } else if comes_before(plan.sheet, ask.sheet) {
-        Some(edge_between(plan_end, end, 1, LINE))
-    } else if comes_before(ask.sheet, plan.sheet) {
-        Some(edge_between(end, plan_end, 1, LINE))
-    } else {
-        None
+    goes_along(ask.goal, plan) && comes_before(plan.sheet, ask.sheet)
+}
+
+/// Whether the plan is of the asked copy's line, and of a later copy.
+fn is_behind(ask: &Ask, plan: &Plan) -> bool
+    ensures { result ≡ is_behind ask.entry.now plan.now }
+{
+    goes_along(ask.goal, plan) && comes_before(ask.sheet, plan.sheet)
+}
+
+/// The end, if it is wanted.
+fn end_if(wanted: bool, end: PointId) -> Option<PointId>
+    ensures { result ≡ end_if wanted end }
+{
+    if wanted { Some(end) } else { None }
+}
+
+/// The first of two that is there.
+fn first_of(one: Option<PointId>, other: Option<PointId>) -> Option<PointId>
+    ensures { result ≡ first_of one other }
+{
+    match one {
+        Some(end) => Some(end),
+        None => other,
     }
 }
 
-/// Writes the edges of the asked copy's end, which is this point, along its line, in place of what was there.
+/// The last points of the plans next to the asked copy in its line: of the last one ahead of it, and of the first one behind.
+fn ends_beside(plans: &[Plan], firsts: &[PointId], ask: &Ask) -> (Option<PointId>, Option<PointId>)
+    requires firsts { AreFirsts 0 plans.now firsts.now }
+    requires few { length (table_of plans.now) < 2 ^ 32 }
+    ensures ahead { result.0 ≡ last_end (is_ahead ask.entry.now) plans.now firsts.now }
+    ensures behind { result.1 ≡ first_end (is_behind ask.entry.now) plans.now firsts.now }
+{
+    let mut ahead = None;
+    let mut behind = None;
+    for (at, plan) in plans.iter().enumerate() {
+        let end = PointId(firsts[at].0 + plan.acts.len());
+        ahead = first_of(end_if(is_ahead(ask, plan), end), ahead);
+        behind = first_of(behind, end_if(is_behind(ask, plan), end));
+    }
+    (ahead, behind)
+}
+
+/// Adds that the asked copy's end comes after this end, if there is one.
+fn add_ahead(edges: &mut Vec<Edge>, ahead: Option<PointId>, end: PointId)
+    requires space { vec_len edges.old < vec_capacity edges.old }
+    ensures added { edges.new.items ≡ edges.old.items ++ edge_to ahead end }
+    ensures capacity { vec_capacity edges.old ≤ vec_capacity edges.new }
+{
+    match ahead {
+        Some(before) => add_line(edges, before, Some(end)),
+        None => {}
+    }
+}
+
+/// Writes the edges between the asked copy's end, which is this point, and the plans next to it in its line, in place of what
+/// was there. The others of the line follow from them, since each plan of a line ends before the next one.
 pub(crate) fn line_edges(
     edges: &mut Vec<Edge>,
     plans: &[Plan],
@@ -53,17 +98,12 @@ pub(crate) fn line_edges(
 )
     requires firsts { AreFirsts 0 plans.now firsts.now }
     requires few { length (table_of plans.now) < 2 ^ 32 }
-    requires room { length plans.now ≤ vec_capacity edges.old }
+    requires room { 2 ≤ vec_capacity edges.old }
     ensures edges { edges.new.items ≡ end_edges ask.entry.now plans.now firsts.now end }
     ensures capacity { vec_capacity edges.old ≤ vec_capacity edges.new }
 {
     edges.clear();
-    for (at, plan) in plans.iter().enumerate() {
-        let plan_end = PointId(firsts[at].0 + plan.acts.len());
-        if let Some(edge) = line_edge(ask, plan, plan_end, end) {
-            let Ok(()) = edges.push(edge) else {
-                unreachable!()
-            };
-        }
-    }
+    let (ahead, behind) = ends_beside(plans, firsts, ask);
+    add_ahead(edges, ahead, end);
+    add_line(edges, end, behind);
 }

@@ -207,7 +207,6 @@ impl<N: Network> Board<N> {
     {
         gaps_are_hops();
         solutions_are_ticks();
-        steps_add_edges();
         self.limit = None;
         let Some(ask) = self.ask else { unreachable!() };
         let low = lowest(self.floor, room, self.horizon);

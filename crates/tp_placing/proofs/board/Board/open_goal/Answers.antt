@@ -78,7 +78,7 @@ returns-in-Err-clause-late g k m st =
     let e = edges-are g c _ _ _ _ k.deref.ensures.value k.deref-2.ensures.value k.deref-3.ensures.value k.line_edges.ensures.edges in
     let none = subst HasNoSolution (net-asked g c m k.args.room s k.lowest-low.result _ k.lowest-low.ensures e) k.in-Err.ensures.late in
     rw (← c.self.view_is) (and-some (board g c).ask c.in-Some.ask _ c.in-Some.is
-    (goal-refused g.N.Network.net g.N.Undo.content g.N.Undo.past (board g c) m c.in-Some.ask s (closed g c) k.args.room c.steps_add_edges.ensures.goal c.solutions_are_ticks.ensures.late none))
+    (goal-refused g.N.Network.net g.N.Undo.content g.N.Undo.past (board g c) m c.in-Some.ask s (closed g c) k.args.room c.solutions_are_ticks.ensures.late none))
 
 pub returns-in-Err-clause-shown : goal.returns-in-Err-clause-shown
 returns-in-Err-clause-shown g k m st =
@@ -87,7 +87,7 @@ returns-in-Err-clause-shown g k m st =
     let e = edges-are g c _ _ _ _ k.deref.ensures.value k.deref-2.ensures.value k.deref-3.ensures.value k.line_edges.ensures.edges in
     let refused = subst (g.N.Network.refutes k.extend.new.self) (net-asked g c m k.args.room s k.lowest-low.result _ k.lowest-low.ensures e) k.in-Err.ensures.refused in
     and-some (board g c).ask c.in-Some.ask _ c.in-Some.is
-    (goal-reason g.N.Network.net g.N.Undo.content g.N.Undo.past (board g c) m c.in-Some.ask s (closed g c) k.args.room g.N.Network.refutes k.extend.new.self c.steps_add_edges.ensures.goal c.gaps_are_hops.ensures.goal refused)
+    (goal-reason g.N.Network.net g.N.Undo.content g.N.Undo.past (board g c) m c.in-Some.ask s (closed g c) k.args.room g.N.Network.refutes k.extend.new.self c.gaps_are_hops.ensures.goal refused)
 
 pub returns-in-Err-clause-stands : goal.returns-in-Err-clause-stands
 returns-in-Err-clause-stands g k m st =
@@ -122,7 +122,7 @@ after : (g : _) (c : In-Some g) (m : Machine) (room : ℕ) → StandsOn g.N.Netw
     → IsAtWith m c.self.inside.plans.items c.in-Some.ask (Some (with_goal room)) steps n c.self.inside.lines.orders c.self.inside.held.items
 after g c m room s n low edges steps step low_is edges_are added solved pushed newest first =
     let net = added ∙ net-asked g c m room s low edges low_is edges_are in
-    let at = goal-at g.N.Network.net g.N.Undo.content g.N.Undo.past (board g c) m c.in-Some.ask s (closed g c) room c.steps_add_edges.ensures.goal (subst HasLeast net solved) step newest first in
+    let at = goal-at g.N.Network.net g.N.Undo.content g.N.Undo.past (board g c) m c.in-Some.ask s (closed g c) room (subst HasLeast net solved) step newest first in
     let P : Net → List Step → Type 0 = λ n steps. IsAtWith m c.self.inside.plans.items c.in-Some.ask (Some (with_goal room)) steps n c.self.inside.lines.orders c.self.inside.held.items in
     subst (λ n. P n steps) (sym net) (subst (P _) (sym pushed) at)
 
