@@ -1,5 +1,5 @@
 //! The times of a network's least solution, written into a schedule.
-ghost use Rattle.std.specs.Prelude.{◌≡◌, ℕ, suc, ◌+◌, ◌^◌, ◌<◌, ◌≤◌, All, AllPairs, length, map, IsSome, Some, None};
+ghost use Rattle.std.specs.Prelude.{◌≡◌, ℕ, suc, ◌+◌, ◌^◌, ◌<◌, ◌≤◌, All, AllPairs, length, map, true, IsSome, Some, None};
 ghost use Rattle.tp_base.specs.Net.{HasLeast, IsLeast};
 ghost use Rattle.tp_schedule.specs.Plans.{IsEarlier, IsFormed, change_plan, plan_of, put_plan, with_points, without};
 ghost use Rattle.tp_schedule.specs.Spots.{Ticks};
@@ -8,7 +8,7 @@ ghost use Rattle.tp_constraints.specs.Numbers.{table_of};
 ghost use Rattle.tp_placing.specs.Standing.{AreFirsts};
 ghost use Rattle.tp_placing.specs.Writing.{AreLeastTicks, retimed_in};
 
-use tp_base::{Network, PointId};
+use tp_base::{Network, PointId, Tick};
 use tp_schedule::{Plan, Points, Schedule};
 
 /// The least times of so many points from one on.
@@ -27,6 +27,21 @@ pub(crate) fn times_from<N: Network>(net: &N, first: PointId, count: u32) -> Poi
     points
 }
 
+/// Whether the points from one on have these least times.
+fn have_times<N: Network>(net: &N, first: PointId, times: &[Tick]) -> bool
+    requires known { first.0 + length times.now ≤ length (N.net net.now).lows }
+    requires fits { first.0 + length times.now < 2 ^ 32 }
+    ensures { result ≡ true → (sol : ℕ → ℕ) → IsLeast (N.net net.now) sol
+        → times.now ≡ ticks_from sol first.0 (length times.now) }
+{
+    for (at, time) in times.iter().enumerate() {
+        if net.earliest(PointId(first.0 + at as u32)) != *time {
+            return false;
+        }
+    }
+    true
+}
+
 /// Gives a plan of the schedule its least times. Writes nothing where it has them.
 fn write_points<N: Network>(net: &N, plan: &Plan, first: PointId, schedule: &mut Schedule)
     requires formed { IsFormed plan.now }
@@ -38,8 +53,8 @@ fn write_points<N: Network>(net: &N, plan: &Plan, first: PointId, schedule: &mut
         (with_points (ticks_from sol first.0 (suc (length plan.now.acts)))) schedule.old.plans }
     ensures spare { schedule.new.spare ≡ schedule.old.spare }
 {
-    let points = times_from(net, first, plan.acts.len() + 1);
-    if points.as_slice() != plan.points.as_slice() {
+    if !have_times(net, first, plan.points.as_slice()) {
+        let points = times_from(net, first, plan.acts.len() + 1);
         schedule.set_points(plan.sheet, &points);
     }
 }
