@@ -107,7 +107,7 @@ module _ {N C : Type 0} (net : N → Net) (content : N → C) (past : N → List
 
 -- a board that is back where it was at rest is at rest
 pub at-rest : {N C : Type 0} (net : N → Net) (content : N → C) (past : N → List C) (max_marks : N → ℕ) (b b' : BoardValue N) (machine : Machine) → Stands net content past b machine → b.steps ≡ [] → past_of past b ≡ []
-    → IsBack net content past max_marks b b' machine → IsAtRest net content past max_marks b' machine
+    → IsBack net content past max_marks b b' machine → IsAtRest net content past b' machine
 at-rest net content past max_marks b b' machine stands closed unmarked back = record {
   stands = back.stands stands;
   closed = ap (λ x. x.steps) back.same_content ∙ closed;

@@ -43,8 +43,8 @@ module _ {N C : Type 0} (net : N → Net) (content : N → C) (past : N → List
     pub marks : max_marks b'.net - 1 ≡ max_marks b.net - 1
     pub stands : Stands net content past b machine → Stands net content past b' machine
 
-  -- the board stands on the machine, with no goal open and no mark in force
-  pub record IsAtRest (b : BoardValue N) (machine : Machine) : Type 0 where
-    pub stands : Stands net content past b machine
-    pub closed : b.steps ≡ []
-    pub unmarked : past_of past b ≡ []
+-- the board stands on the machine, with no goal open and no mark in force
+pub record IsAtRest {N C : Type 0} (net : N → Net) (content : N → C) (past : N → List C) (b : BoardValue N) (machine : Machine) : Type 0 where
+  pub stands : Stands net content past b machine
+  pub closed : b.steps ≡ []
+  pub unmarked : past_of past b ≡ []

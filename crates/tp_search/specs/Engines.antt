@@ -1,6 +1,7 @@
 -- A workspace and a board that answer asks together.
-use Rattle.std.specs.Prelude.{◌≡◌, ℕ, ◌≤◌, ◌==◌, ◌&&◌, Bool, List, [], ◌∷◌, ◌++◌, length, Option, Some, None, IsSomeAnd}
+use Rattle.std.specs.Prelude.{◌≡◌, ℕ, ◌≤◌, ◌==◌, ◌&&◌, Bool, true, IsTrue, List, [], ◌∷◌, ◌++◌, length, Option, Some, None, IsSomeAnd}
 use Rattle.std.specs.Bool.{MatchBool}
+use Rattle.tp_base.specs.Net.{Net}
 use Rattle.tp_bounds.specs.declared.tree.BoundTree.{BoundTree}
 use Rattle.tp_machine.specs.declared.machine.Machine.{Machine}
 use Rattle.tp_schedule.specs.Planning.{Deed}
@@ -15,12 +16,15 @@ use Rattle.tp_trees.specs.Short.{IsShortTreeFor}
 use Rattle.tp_trees.specs.declared.claim.Claim.TheVariants.{Earliest, Never as NeverClaim}
 use Rattle.tp_placing.specs.Boards.{BoardValue}
 use Rattle.tp_placing.specs.declared.parts.MadeFor.{MadeFor}
+use Rattle.tp_search.specs.Boards.{IsAtRest}
 use Rattle.tp_search.specs.Workspaces.{WorkspaceValue}
 
--- what a search takes memory for, the board that it runs on, whether answers are shown by trees, and the trees so far
+-- what a search takes memory for, the board that it runs on, and whether that is kept from ask to ask; whether answers are shown
+-- by trees, and the trees so far
 pub record EngineValue (N : Type 0) : Type 0 where
   pub work : WorkspaceValue
   pub board : BoardValue N
+  pub kept : Bool
   pub bounds : Bool
   pub trees : List BoundTree
 
@@ -36,6 +40,11 @@ pub record IsEngine {N : Type 0} (max_marks : N → ℕ) (work : WorkspaceValue)
 -- whether the machine has the numbers that it was made for
 abbrev pub is_engine_for : {N : Type 0} → EngineValue N → Machine → Bool
 is_engine_for e machine = e.work.locations == length machine.locations && e.work.resources == length machine.resources && e.work.window == machine.window
+
+-- it was made for a machine with these numbers, and a board that is kept is at rest on that machine
+pub record Serves {N C : Type 0} (net : N → Net) (content : N → C) (past : N → List C) (e : EngineValue N) (machine : Machine) : Type 0 where
+  pub made : IsTrue (is_engine_for e machine)
+  pub rests : e.kept ≡ true → IsAtRest net content past e.board machine
 
 -- where the deed is the answer that there is no plan, no more different lists with choices are open than nodes
 abbrev pub HasFewLists : ℕ → Machine → List Plan → Deed → Type 0

@@ -1,10 +1,12 @@
 //! The answer to an ask on a schedule: the earliest plan, that there is none, or that the budget is spent.
-ghost use Rattle.std.specs.Prelude.{◌≡◌, ◌≢◌, ◌+◌, ◌<◌, ◌≤◌, None, IfErr, IfOk, IsSome, OnErr};
+ghost use Rattle.std.specs.Prelude.{◌≡◌, ◌≢◌, ◌+◌, ◌<◌, ◌≤◌, List, None, Some, IfErr, IfOk, IsSome, OnErr};
 ghost use Rattle.tp_schedule.specs.Planning.{CanAsk, IsAnswer};
 ghost use Rattle.tp_schedule.specs.Plans.{plan_of};
 ghost use Rattle.tp_schedule.specs.Spending.{FewListsOpen};
 ghost use Rattle.tp_schedule.specs.declared.parts.Reply.TheVariants.{Never, Planned};
+ghost use Rattle.tp_schedule.specs.declared.parts.Plan.{Plan};
 ghost use Rattle.tp_placing.specs.Standing.{IsMadeFor};
+ghost use Rattle.tp_placing.specs.Writing.{IsLoadedFrom};
 ghost use Rattle.tp_search.specs.Boards.{IsAtRest};
 ghost use Rattle.tp_search.specs.Engines.{HasTree};
 ghost use Rattle.tp_search.specs.Trials.{EndsEarliest, IsNoPlan};
@@ -21,8 +23,8 @@ use tp_placing::Board;
 use tp_schedule::{Ask, Reply, Schedule};
 
 /// Answers an ask on a schedule: writes the earliest plan into it, or leaves it as it is and tells that there is none, or
-/// that the workspace stores too few lists to tell. Where there is none, no more lists are open than it stores. A new copy takes one of the schedule's spare plans. The board is at rest
-/// then, and holds the schedule as it was. Takes no memory.
+/// that the workspace stores too few lists to tell. Where there is none, no more lists are open than it stores. A new copy
+/// takes one of the schedule's spare plans. The board is at rest then, and holds the schedule as it was. Takes no memory.
 pub fn answer<N: Network>(
     work: &mut Workspace,
     board: &mut Board<N>,
@@ -50,10 +52,43 @@ pub fn answer<N: Network>(
     ensures work { work.new ≡ work.old }
     ensures board { board.new.made_for ≡ board.old.made_for }
     ensures marks { N.max_marks board.new.net ≡ N.max_marks board.old.net }
-    ensures rests { IsAtRest N.net N.content N.past N.max_marks board.new
-        machine.now }
+    ensures rests { IsAtRest N.net N.content N.past board.new machine.now }
 {
     board.load(machine, schedule, ask);
+    answer_loaded(work, board, machine, schedule, ask)
+}
+
+/// Answers the ask for which the board is loaded, as `answer` does.
+pub(crate) fn answer_loaded<N: Network>(
+    work: &mut Workspace,
+    board: &mut Board<N>,
+    machine: &Machine,
+    schedule: &mut Schedule,
+    ask: &Ask,
+) -> Reply
+    requires work { IsFor work.old machine.now }
+    requires marks { 8 ≤ N.max_marks board.old.net }
+    requires loaded { IsLoadedFrom machine.now schedule.old.plans ask.now board.old.plans }
+    requires asked { board.old.ask ≡ Some ask.now }
+    requires rests { IsAtRest N.net N.content N.past board.old machine.now }
+    requires spare { plan_of ask.now.sheet schedule.old.plans ≡ None → 0 < schedule.old.spare }
+    ensures answer { IsAnswer
+        (IsSpentOf work.old.nodes) machine.now schedule.old.plans ask.entry.now result
+        schedule.new.plans }
+    ensures few { result ≡ Never
+        → FewListsOpen machine.now schedule.old.plans ask.entry.now work.old.nodes }
+    ensures new_copy { result ≡ Planned
+        → plan_of ask.entry.now.sheet schedule.old.plans ≡ None
+        → schedule.new.spare + 1 ≡ schedule.old.spare }
+    ensures in_flight { result ≡ Planned
+        → IsSome (plan_of ask.entry.now.sheet schedule.old.plans)
+        → schedule.new.spare ≡ schedule.old.spare }
+    ensures stays { result ≢ Planned → schedule.new ≡ schedule.old }
+    ensures work { work.new ≡ work.old }
+    ensures board { board.new.made_for ≡ board.old.made_for }
+    ensures marks { N.max_marks board.new.net ≡ N.max_marks board.old.net }
+    ensures rests { IsAtRest N.net N.content N.past board.new machine.now }
+{
     match plan(board, work, machine, ask) {
         Ok(trial) => {
             trial.commit(machine, schedule);
@@ -64,29 +99,30 @@ pub fn answer<N: Network>(
     }
 }
 
-/// The tick at which the earliest plans of an ask end, or why there is none. The schedule stays, and the board carries no plan of
-/// the ask. Takes no memory.
+/// The tick at which the earliest plans end of the ask for which the board is loaded, or why there is none. Takes no memory.
 pub(crate) fn earliest_end<N: Network>(
     work: &mut Workspace,
     board: &mut Board<N>,
     machine: &Machine,
-    schedule: &Schedule,
     ask: &Ask,
 ) -> Result<Tick, NoPlan>
     requires work { IsFor work.old machine.now }
-    requires board { IsMadeFor board.old.made_for machine.now }
     requires marks { 8 ≤ N.max_marks board.old.net }
-    requires can { CanAsk machine.now schedule.now.plans ask.now }
-    ensures end { IfOk result (EndsEarliest machine.now schedule.now.plans ask.entry.now) }
-    ensures none { IfErr result
-        (IsNoPlan machine.now schedule.now.plans ask.entry.now work.old.nodes) }
+    requires loaded { (plans : List Plan)
+        × IsLoadedFrom machine.now plans ask.now board.old.plans }
+    requires asked { board.old.ask ≡ Some ask.now }
+    requires rests { IsAtRest N.net N.content N.past board.old machine.now }
+    ensures end { (plans : List Plan)
+        → IsLoadedFrom machine.now plans ask.entry.now board.old.plans
+        → IfOk result (EndsEarliest machine.now plans ask.entry.now) }
+    ensures none { (plans : List Plan)
+        → IsLoadedFrom machine.now plans ask.entry.now board.old.plans
+        → IfErr result (IsNoPlan machine.now plans ask.entry.now work.old.nodes) }
     ensures work { work.new ≡ work.old }
     ensures board { board.new.made_for ≡ board.old.made_for }
     ensures marks { N.max_marks board.new.net ≡ N.max_marks board.old.net }
-    ensures rests { IsAtRest N.net N.content N.past N.max_marks board.new
-        machine.now }
+    ensures rests { IsAtRest N.net N.content N.past board.new machine.now }
 {
-    board.load(machine, schedule, ask);
     match plan(board, work, machine, ask) {
         Ok(trial) => {
             let end = trial.end();
@@ -104,8 +140,8 @@ pub(crate) struct Shown {
     pub(crate) tree: Option<BoundTree>,
 }
 
-/// Answers an ask as `answer` does, with a tree that proves a plan earliest, or that there is none. After `Memory` the schedule
-/// is as before.
+/// Answers the ask for which the board is loaded, as `answer` does, with a tree that proves a plan earliest, or that there is
+/// none. After `Memory` the schedule is as before.
 pub(crate) fn answer_with_tree<N: Network>(
     alloc: Global,
     work: &mut Workspace,
@@ -115,9 +151,10 @@ pub(crate) fn answer_with_tree<N: Network>(
     ask: &Ask,
 ) -> Result<Shown, Memory>
     requires work { IsFor work.old machine.now }
-    requires board { IsMadeFor board.old.made_for machine.now }
     requires marks { 330 ≤ N.max_marks board.old.net }
-    requires can { CanAsk machine.now schedule.old.plans ask.now }
+    requires loaded { IsLoadedFrom machine.now schedule.old.plans ask.now board.old.plans }
+    requires asked { board.old.ask ≡ Some ask.now }
+    requires rests { IsAtRest N.net N.content N.past board.old machine.now }
     requires spare { plan_of ask.now.sheet schedule.old.plans ≡ None → 0 < schedule.old.spare }
     ensures answer { IfOk result (λ shown. IsAnswer
         (IsSpentOf work.old.nodes) machine.now schedule.old.plans ask.entry.now shown.reply
@@ -130,10 +167,8 @@ pub(crate) fn answer_with_tree<N: Network>(
     ensures work { work.new ≡ work.old }
     ensures board { board.new.made_for ≡ board.old.made_for }
     ensures marks { N.max_marks board.new.net ≡ N.max_marks board.old.net }
-    ensures rests { IsAtRest N.net N.content N.past N.max_marks board.new
-        machine.now }
+    ensures rests { IsAtRest N.net N.content N.past board.new machine.now }
 {
-    board.load(machine, schedule, ask);
     match plan(board, work, machine, ask) {
         Ok(mut trial) => match trial.show(alloc, work, machine) {
             Ok(tree) => {

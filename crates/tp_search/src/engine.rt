@@ -1,14 +1,16 @@
 //! A workspace and a board as a planner.
-ghost use Rattle.std.specs.Prelude.{◌≡◌, ◌<◌, ◌≤◌, ◌⊎◌, ◌++◌, [], IfErr, IfOk, IsOk, IsTrue, OnErr, OnOk, vec_capacity, vec_len};
+ghost use Rattle.std.specs.Prelude.{◌≡◌, ◌<◌, ◌≤◌, ◌⊎◌, ◌++◌, [], Some, IfErr, IfOk, IsOk, IsTrue, OnErr, OnOk, vec_capacity, vec_len};
 ghost use Rattle.tp_schedule.specs.Planning.{CanAsk, CanSettle, HasTimeFrom, IsAnswer, IsSettled};
 ghost use Rattle.tp_schedule.specs.Planning.Deed.{replied};
 ghost use Rattle.tp_schedule.specs.declared.parts.Origin.TheVariants.{Feeder};
 ghost use Rattle.tp_placing.specs.Inside.{most_edges, most_points};
-ghost use Rattle.tp_search.specs.Engines.{AddsTree, EngineLasts, HasFewLists, IsSameEngine, KeepsTrees, StepsOn, is_engine_for, list_of};
+ghost use Rattle.tp_placing.specs.Writing.{IsLoadedFrom};
+ghost use Rattle.tp_search.specs.Boards.{IsAtRest};
+ghost use Rattle.tp_search.specs.Engines.{AddsTree, EngineLasts, HasFewLists, IsSameEngine, KeepsTrees, Serves, StepsOn, list_of};
 ghost use Rattle.tp_search.specs.Trials.{EndsEarliest, IsNoPlan};
 ghost use Rattle.tp_search.specs.Workspaces.{IsSpentOf};
 
-use crate::answering::{answer, answer_with_tree, earliest_end};
+use crate::answering::{answer_loaded, answer_with_tree, earliest_end};
 use crate::trial::NoPlan;
 use crate::workspace::Workspace;
 use std::alloc::Global;
@@ -21,12 +23,13 @@ use tp_schedule::{Ask, Halt, Origin, Planner, Reply, Schedule};
 
 /// A planner for machines with the same numbers of locations and resources and the same window as the one that it was made
 /// for. It stores as many lists of choices as it has nodes: the budget of an ask. With bounds it keeps a tree for each answer that
-/// is a plan or a none, in their order.
+/// is a plan or a none, in their order. Its board is kept from ask to ask where it was left at rest, and follows the schedule.
 #[derive(Drop)]
 pub struct Engine<N: Network> {
     alloc: Global,
     work: Workspace,
     board: Board<N>,
+    kept: bool,
     bounds: bool,
     trees: Vec<BoundTree>,
 }
@@ -39,6 +42,7 @@ impl<N: Network> Model for Engine<N> {
     ghost view = { λ e. record {
       work = e.work;
       board = e.board;
+      kept = e.kept;
       bounds = e.bounds;
       trees = e.trees.items;
     } };
@@ -59,7 +63,8 @@ impl<N: Network + Drop> Engine<N> {
         requires points { most_points ≤ N.max_points net }
         requires edges { most_edges ≤ N.max_edges net }
         requires marks { 330 ≤ N.max_marks net }
-        ensures serves { IfOk result (λ e. IsTrue (is_engine_for e machine.now)) }
+        ensures serves { IfOk result (λ e.
+            Serves N.net N.content N.past e machine.now) }
         ensures nodes { IfOk result (λ e. e.work.nodes ≡ nodes) }
         ensures bounds { IfOk result (λ e. (e.bounds ≡ bounds) × (e.trees ≡ [])) }
         ensures kept { IfOk result (λ e. N.max_marks e.board.net ≡ N.max_marks net) }
@@ -68,6 +73,7 @@ impl<N: Network + Drop> Engine<N> {
             alloc,
             work: Workspace::new(alloc, machine, nodes)?,
             board: Board::new(alloc, machine, net)?,
+            kept: false,
             bounds,
             trees: Vec::new(alloc),
         })
@@ -96,6 +102,26 @@ impl<N: Network> Engine<N> {
         self.trees.clear();
     }
 
+    /// Loads the board for an ask: it follows the schedule where it is kept. It is kept from then on.
+    fn ready(&mut self, machine: &Machine, schedule: &Schedule, ask: &Ask)
+        requires served { Serves N.net N.content N.past self.old machine.now }
+        requires can_ask { CanAsk machine.now schedule.now.plans ask.now }
+        ensures loaded { IsLoadedFrom machine.now schedule.now.plans ask.entry.now
+            self.new.board.plans }
+        ensures asked { self.new.board.ask ≡ Some ask.entry.now }
+        ensures rests { IsAtRest N.net N.content N.past self.new.board machine.now }
+        ensures served { Serves N.net N.content N.past self.new machine.now }
+        ensures same { IsSameEngine N.max_marks self.old self.new }
+        ensures trees { self.new.trees ≡ self.old.trees }
+    {
+        if self.kept {
+            self.board.renew(machine, schedule, ask);
+        } else {
+            self.board.load(machine, schedule, ask);
+        }
+        self.kept = true;
+    }
+
     /// The tick at which the earliest plans of an ask end, or why there is none. No plan is made: the schedule stays as it is.
     /// Takes no memory.
     pub fn probe(
@@ -104,26 +130,31 @@ impl<N: Network> Engine<N> {
         schedule: &Schedule,
         ask: &Ask,
     ) -> Result<Tick, NoPlan>
-        requires served { IsTrue (is_engine_for self.old machine.now) }
+        requires served { Serves N.net N.content N.past self.old machine.now }
         requires can_ask { CanAsk machine.now schedule.now.plans ask.now }
         ensures end { IfOk result (EndsEarliest machine.now schedule.now.plans ask.entry.now) }
         ensures none { IfErr result
             (IsNoPlan machine.now schedule.now.plans ask.entry.now self.old.work.nodes) }
+        ensures still_serves { Serves N.net N.content N.past self.new machine.now }
         ensures same { IsSameEngine N.max_marks self.old self.new }
         ensures trees { self.new.trees ≡ self.old.trees }
     {
-        earliest_end(&mut self.work, &mut self.board, machine, schedule, ask)
+        self.ready(machine, schedule, ask);
+        earliest_end(&mut self.work, &mut self.board, machine, ask)
     }
 
-    /// Answers the ask, and keeps the tree of the answer. After `Memory` the trees are as before.
+    /// Answers the ask for which the board is loaded, and keeps the tree of the answer. After `Memory` the trees are as before.
     fn ask_with_tree(
         &mut self,
         machine: &Machine,
         schedule: &mut Schedule,
         ask: &Ask,
     ) -> Result<Reply, Halt>
-        requires served { IsTrue (is_engine_for self.old machine.now) }
-        requires can_ask { CanAsk machine.now schedule.old.plans ask.now }
+        requires served { Serves N.net N.content N.past self.old machine.now }
+        requires loaded { IsLoadedFrom machine.now schedule.old.plans ask.now
+            self.old.board.plans }
+        requires asked { self.old.board.ask ≡ Some ask.now }
+        requires rests { IsAtRest N.net N.content N.past self.old.board machine.now }
         requires spare { ask.now.origin ≡ Feeder → 0 < schedule.old.spare }
         ensures answer { IfOk result
             (λ reply. IsAnswer (IsSpentOf self.old.work.nodes) machine.now schedule.old.plans
@@ -134,6 +165,7 @@ impl<N: Network> Engine<N> {
         ensures trees { IfOk result
             (λ reply. AddsTree machine.now schedule.old.plans ask.entry.now reply
             schedule.new.plans self.old.trees self.new.trees) }
+        ensures still_serves { Serves N.net N.content N.past self.new machine.now }
         ensures same { IsSameEngine N.max_marks self.old self.new }
         ensures memory { IfErr result (λ halt. halt ≡ Halt.Memory) }
         ensures stays { OnErr result (schedule.new.plans ≡ schedule.old.plans) }
@@ -184,7 +216,7 @@ fn make_spare(schedule: &mut Schedule, ask: &Ask) -> Result<(), Memory>
 }
 
 impl<N: Network> Planner for Engine<N> {
-    ghost serves = { is_engine_for };
+    ghost serves = { λ e machine. Serves N.net N.content N.past e machine };
 
     ghost Lasting = { EngineLasts };
 
@@ -201,7 +233,7 @@ impl<N: Network> Planner for Engine<N> {
 
     /// Wants memory for the spare plan of a new copy, and with bounds for trees, and never stops.
     fn ask(&mut self, machine: &Machine, schedule: &mut Schedule, ask: &Ask) -> Result<Reply, Halt>
-        requires served { IsTrue (is_engine_for self.old machine.now) }
+        requires served { Serves N.net N.content N.past self.old machine.now }
         requires can_ask { CanAsk machine.now schedule.old.plans ask.now }
         ensures answer { IfOk result
             (λ reply. IsAnswer (IsSpentOf self.old.work.nodes) machine.now schedule.old.plans
@@ -209,6 +241,7 @@ impl<N: Network> Planner for Engine<N> {
         ensures few { IfOk result
             (λ reply. HasFewLists self.old.work.nodes machine.now schedule.old.plans
             (replied ask.entry.now reply)) }
+        ensures still_serves { Serves N.net N.content N.past self.new machine.now }
         ensures same { IsSameEngine N.max_marks self.old self.new }
         ensures memory { IfErr result (λ halt. halt ≡ Halt.Memory) }
         ensures trees { IfOk result
@@ -222,23 +255,32 @@ impl<N: Network> Planner for Engine<N> {
             Ok(()) => {}
             Err(_) => return Err(Halt::Memory),
         }
+        self.ready(machine, schedule, ask);
         if self.bounds {
             self.ask_with_tree(machine, schedule, ask)
         } else {
-            Ok(answer(&mut self.work, &mut self.board, machine, schedule, ask))
+            Ok(answer_loaded(
+                &mut self.work,
+                &mut self.board,
+                machine,
+                schedule,
+                ask,
+            ))
         }
     }
 
     /// Takes no memory, and never stops.
     fn settle(&mut self, machine: &Machine, schedule: &mut Schedule, now: Tick) -> Result<(), Halt>
-        requires served { IsTrue (is_engine_for self.old machine.now) }
+        requires served { Serves N.net N.content N.past self.old machine.now }
         requires can_settle { CanSettle machine.now now schedule.old.plans }
         ensures settles { IsSettled machine.now now schedule.old.plans schedule.new.plans }
         ensures spare { schedule.new.spare ≡ schedule.old.spare }
+        ensures still_serves { Serves N.net N.content N.past self.new machine.now }
         ensures same { IsSameEngine N.max_marks self.old self.new }
         ensures trees { self.new.trees ≡ self.old.trees }
         ensures done { IsOk result }
     {
+        self.kept = false;
         self.board.settle(machine, schedule, now);
         Ok(())
     }
