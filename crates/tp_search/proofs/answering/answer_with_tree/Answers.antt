@@ -8,30 +8,29 @@ use Rattle.tp_trees.specs.Short.{IsShortTreeFor}
 use Rattle.tp_trees.specs.declared.claim.Claim.TheVariants.{Earliest}
 use Rattle.tp_search.proofs.answering.answer_with_tree.Goals as goal
 
-has-marks : (marks room past : ℕ) → past ≡ 0 → room ≡ marks → 330 ≤ marks → past + 326 ≤ room - 1
-has-marks marks room past none same many = omega (arith, none, same, many)
+has-marks : (marks past : ℕ) → past ≡ 0 → 330 ≤ marks → past + 326 ≤ marks - 1
+has-marks marks past none many = omega (arith, none, many)
 
 pub show-requires-clause-trial : goal.show-requires-clause-trial
 show-requires-clause-trial g c =
-    (c.load.new.self, (c.in-Ok.ensures.trial, has-marks _ _ _ (ap length c.load.ensures.past) c.load.ensures.marks c.requires.marks))
+    (c.args.board.now, (c.in-Ok.ensures.trial, has-marks _ _ (ap length c.requires.rests.unmarked) c.requires.marks))
 
 pub show-requires-clause-loaded : goal.show-requires-clause-loaded
 show-requires-clause-loaded g c =
     let plans = c.args.schedule.now.plans in
-    let asked = c.in-Ok.ensures.trial.loaded.ask ∙ c.load.ensures.asked in
-    let loaded : IsLoadedFrom c.args.machine.now plans c.args.ask.now c.load.new.self.plans = record { can_ask = c.requires.can; live_part = c.load.ensures.plans } in
+    let asked = c.in-Ok.ensures.trial.loaded.ask ∙ c.requires.asked in
     subst (λ o. IsSomeAnd o (λ ask. (x : List Plan) × IsLoadedFrom c.args.machine.now x ask (board_in c.in-Ok.trial).plans)) (sym asked)
-    (plans, subst (IsLoadedFrom c.args.machine.now plans c.args.ask.now) (sym c.in-Ok.ensures.trial.loaded.plans) loaded)
+    (plans, subst (IsLoadedFrom c.args.machine.now plans c.args.ask.now) (sym c.in-Ok.ensures.trial.loaded.plans) c.requires.loaded)
 
 pub commit-requires-clause-trial : goal.commit-requires-clause-trial
-commit-requires-clause-trial g c = (c.load.new.self, c.show.ensures.trial c.load.new.self c.in-Ok.ensures.trial)
+commit-requires-clause-trial g c = (c.args.board.now, c.show.ensures.trial c.args.board.now c.in-Ok.ensures.trial)
 
 pub abandon-requires : goal.abandon-requires
-abandon-requires g c = record { trial = (c.load.new.self, c.args.machine.now, c.show.ensures.trial c.load.new.self c.in-Ok.ensures.trial) }
+abandon-requires g c = record { trial = (c.args.board.now, c.args.machine.now, c.show.ensures.trial c.args.board.now c.in-Ok.ensures.trial) }
 
 pub returns-in-Ok-show-clause-answer : goal.returns-in-Ok-show-clause-answer
 returns-in-Ok-show-clause-answer g c =
-    let asked = c.show.ensures.same.loaded.ask ∙ c.in-Ok.ensures.trial.loaded.ask ∙ c.load.ensures.asked in
+    let asked = c.show.ensures.same.loaded.ask ∙ c.in-Ok.ensures.trial.loaded.ask ∙ c.requires.asked in
     let done = subst (λ o. IsSomeAnd o (λ ask. IsEarliestTo c.args.machine.now c.args.schedule.now.plans ask c.show.new.self.end c.commit.new.schedule.plans)) asked c.commit.ensures.earliest in
     let least = subst (λ o. IsSomeAnd o (λ ask. IsLeast c.args.machine.now ask.now (follows_front ask) c.commit.new.schedule.plans)) asked c.commit.ensures.least in
     (done.earliest, least)
@@ -41,20 +40,18 @@ returns-in-Ok-show-clause-tree g c =
     let machine = c.args.machine.now in
     let plans = c.args.schedule.now.plans in
     let ask = c.args.ask.now in
-    let first = c.in-Ok.ensures.trial.loaded.ask ∙ c.load.ensures.asked in
+    let first = c.in-Ok.ensures.trial.loaded.ask ∙ c.requires.asked in
     let asked = c.show.ensures.same.loaded.ask ∙ first in
-    let loaded : IsLoadedFrom machine plans ask c.load.new.self.plans = record { can_ask = c.requires.can; live_part = c.load.ensures.plans } in
     let done = subst (λ o. IsSomeAnd o (λ ask. IsEarliestTo machine plans ask c.show.new.self.end c.commit.new.schedule.plans)) asked c.commit.ensures.earliest in
     let shows = subst (λ o. IsSomeAnd o (λ ask. (plans : List Plan) → IsLoadedFrom machine plans ask (board_in c.in-Ok.trial).plans → IsShortTreeFor machine plans ask (Earliest c.in-Ok.trial.end) c.in-Ok-show.tree)) first c.in-Ok-show.ensures.tree in
     let a = done.earliest.alternative in (
       a.plan,
       a.planned,
       subst (λ end. IsShortTreeFor machine plans ask (Earliest end) c.in-Ok-show.tree) (sym (done.ends ∙ c.show.ensures.same.end))
-          (shows plans (subst (IsLoadedFrom machine plans ask) (sym c.in-Ok.ensures.trial.loaded.plans) loaded)),
+          (shows plans (subst (IsLoadedFrom machine plans ask) (sym c.in-Ok.ensures.trial.loaded.plans) c.requires.loaded)),
     )
 
 pub returns-in-Ok-show_never-clause-answer : goal.returns-in-Ok-show_never-clause-answer
 returns-in-Ok-show_never-clause-answer g c =
-    let loaded : IsLoadedFrom c.args.machine.now c.args.schedule.now.plans c.args.ask.now c.load.new.self.plans = record { can_ask = c.requires.can; live_part = c.load.ensures.plans } in
-    let told = subst (IsNoPlan c.args.machine.now c.args.schedule.now.plans c.args.ask.now c.args.work.now.nodes) c.in-Err-Never.field-0-is (c.in-Err-Never.ensures.none c.args.schedule.now.plans loaded) in
+    let told = subst (IsNoPlan c.args.machine.now c.args.schedule.now.plans c.args.ask.now c.args.work.now.nodes) c.in-Err-Never.field-0-is (c.in-Err-Never.ensures.none c.args.schedule.now.plans c.requires.loaded) in
     (refl, told.0)

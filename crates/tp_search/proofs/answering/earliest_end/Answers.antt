@@ -4,6 +4,4 @@ use Rattle.tp_search.specs.Trials.{EndsEarliest}
 use Rattle.tp_search.proofs.answering.earliest_end.Goals as goal
 
 pub returns-in-Ok-clause-end : goal.returns-in-Ok-clause-end
-returns-in-Ok-clause-end g c =
-    subst (EndsEarliest c.args.machine.now c.args.schedule.now.plans c.args.ask.now) (sym c.end-end.ensures)
-    (c.in-Ok.ensures.end c.args.schedule.now.plans (record { can_ask = c.requires.can; live_part = c.load.ensures.plans }))
+returns-in-Ok-clause-end g c plans loaded = subst (EndsEarliest c.args.machine.now plans c.args.ask.now) (sym c.end-end.ensures) (c.in-Ok.ensures.end plans loaded)

@@ -1,23 +1,20 @@
 use Rattle.std.proofs.Common.{refl, subst, ◌∙◌, IsSomeAnd}
 use Rattle.tp_schedule.specs.Answers.{IsLeast, follows_front}
-use Rattle.tp_placing.specs.Writing.{IsLoadedFrom}
 use Rattle.tp_search.specs.Trials.{IsEarliestTo, IsNoPlan}
 use Rattle.tp_search.specs.declared.trial.NoPlan.TheVariants.{Never}
-use Rattle.tp_search.proofs.answering.answer.Goals as goal
-use Rattle.tp_search.proofs.answering.answer.Goals.{In-Err-Never}
+use Rattle.tp_search.proofs.answering.answer_loaded.Goals as goal
+use Rattle.tp_search.proofs.answering.answer_loaded.Goals.{In-Err-Never}
 
 pub returns-in-Ok-clause-answer : goal.returns-in-Ok-clause-answer
 returns-in-Ok-clause-answer g c =
-    let asked = c.in-Ok.ensures.trial.loaded.ask ∙ c.load.ensures.asked in
+    let asked = c.in-Ok.ensures.trial.loaded.ask ∙ c.requires.asked in
     let done = subst (λ o. IsSomeAnd o (λ ask. IsEarliestTo c.args.machine.now c.args.schedule.now.plans ask c.in-Ok.trial.end c.commit.new.schedule.plans)) asked c.commit.ensures.earliest in
     let least = subst (λ o. IsSomeAnd o (λ ask. IsLeast c.args.machine.now ask.now (follows_front ask) c.commit.new.schedule.plans)) asked c.commit.ensures.least in
     (done.earliest, least)
 
 -- what the search told of the whole schedule
 told : (g : _) (c : In-Err-Never g) → IsNoPlan c.args.machine.now c.args.schedule.now.plans c.args.ask.now c.args.work.now.nodes Never
-told g c =
-    let loaded : IsLoadedFrom c.args.machine.now c.args.schedule.now.plans c.args.ask.now c.load.new.self.plans = record { can_ask = c.requires.can; live_part = c.load.ensures.plans } in
-    subst (IsNoPlan c.args.machine.now c.args.schedule.now.plans c.args.ask.now c.args.work.now.nodes) c.in-Err-Never.field-0-is (c.in-Err-Never.ensures.none c.args.schedule.now.plans loaded)
+told g c = subst (IsNoPlan c.args.machine.now c.args.schedule.now.plans c.args.ask.now c.args.work.now.nodes) c.in-Err-Never.field-0-is (c.in-Err-Never.ensures.none c.args.schedule.now.plans c.requires.loaded)
 
 pub returns-in-Err-Never-clause-answer : goal.returns-in-Err-Never-clause-answer
 returns-in-Err-Never-clause-answer g c = (refl, (told g (goal.at.returns-in-Err-Never-clause-answer g c).In-Err-Never).0)
