@@ -1,6 +1,6 @@
 //! Logs looked at by the program: those that are accepted, and of each other the first line that is wrong and why.
 
-use crate::running::{Given, Outside, SOUND, run};
+use crate::running::{FAST, Given, Outside, SOUND, run};
 use rows_machine::machines::DUO;
 use rows_machine::worked::{WORKED, Worked};
 use std::alloc::Global;
@@ -329,11 +329,6 @@ fn changed_logs(rt: HostRuntime) -> Result<(), Fail> {
     }
     Ok(())
 }
-
-const FAST: Outside<'static> = Outside {
-    read_most: 4096,
-    ..SOUND
-};
 
 /// How looking at a log of one line of so many bytes ends, and how much is written.
 fn looked_at(alloc: Global, bytes: usize) -> Result<(Status, usize), Fail> {

@@ -1,6 +1,7 @@
 //! Sessions that are saved and resumed, through the program.
 
-use crate::running::{Given, RUN, SOUND, run};
+use crate::running::{FAST, Given, RUN, run};
+use crate::soaking::{machine_of, script_of};
 use crate::stock::with_stock;
 use memchr::{memchr_iter, memmem};
 use rows_machine::machines::DUO;
@@ -17,7 +18,7 @@ fn saved(alloc: Global, machine: &[u8], script: &[u8]) -> Result<Vec<u8>, Fail> 
         words: &["save", "m.toml"],
         script,
     };
-    let (status, written) = run(alloc, given, SOUND)?;
+    let (status, written) = run(alloc, given, FAST)?;
     if status != Status::Done {
         return Err(Fail::from("the script is not saved"));
     }
@@ -31,7 +32,7 @@ fn resumed(alloc: Global, snapshot: &[u8], script: &[u8]) -> Result<(Status, Vec
         words: &["resume", "m.toml"],
         script,
     };
-    run(alloc, given, SOUND)
+    run(alloc, given, FAST)
 }
 
 /// The log and the snapshot behind it. No line of a log has the sign that stands before the snapshot.
@@ -141,7 +142,7 @@ fn joins_at_each_line(alloc: Global, machine: &[u8], script: &[u8]) -> Result<bo
         words: &RUN,
         script,
     };
-    let (_, log) = run(alloc, given, SOUND)?;
+    let (_, log) = run(alloc, given, FAST)?;
     let mut joins = split_at(alloc, machine, script, 0)? == log;
     for end in memchr_iter(b'\n', script) {
         joins = joins && split_at(alloc, machine, script, end.saturating_add(1))? == log;
@@ -170,5 +171,43 @@ const AFTERMATHS: &[u8] = b"job j1 t plain 2*M-:F\njob j2 t plain M-:F\nclock 6\
 fn aftermaths(rt: HostRuntime) -> Result<(), Fail> {
     let machine = with_stock(rt.alloc(), 3)?;
     assert!(rt; joins_at_each_line(rt.alloc(), machine.as_bytes(), AFTERMATHS)?);
+    Ok(())
+}
+
+/// Whether the logs of a number's case join, wherever its script is parted.
+fn case_joins(alloc: Global, number: u32) -> Result<bool, Fail> {
+    let machine = machine_of(alloc, number)?;
+    let script = script_of(alloc, number)?;
+    joins_at_each_line(alloc, &machine, &script)
+}
+
+// Jobs as they come on random machines, and an engine that jams and comes back. A test has a minute, so each case is one.
+#[test]
+fn first_case(rt: HostRuntime) -> Result<(), Fail> {
+    assert!(rt; case_joins(rt.alloc(), 1)?);
+    Ok(())
+}
+
+#[test]
+fn second_case(rt: HostRuntime) -> Result<(), Fail> {
+    assert!(rt; case_joins(rt.alloc(), 2)?);
+    Ok(())
+}
+
+#[test]
+fn third_case(rt: HostRuntime) -> Result<(), Fail> {
+    assert!(rt; case_joins(rt.alloc(), 3)?);
+    Ok(())
+}
+
+#[test]
+fn fourth_case(rt: HostRuntime) -> Result<(), Fail> {
+    assert!(rt; case_joins(rt.alloc(), 4)?);
+    Ok(())
+}
+
+#[test]
+fn fifth_case(rt: HostRuntime) -> Result<(), Fail> {
+    assert!(rt; case_joins(rt.alloc(), 5)?);
     Ok(())
 }

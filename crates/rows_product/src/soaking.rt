@@ -1,6 +1,6 @@
 //! Cases of numbers: what is made of a number, and the line of what the log of its case tells.
 
-use crate::running::{Given, Outside, SOUND, run};
+use crate::running::{FAST, Given, Outside, SOUND, run};
 use std::alloc::Global;
 use std::test::Fail;
 use tp_cases::soak_case;
@@ -21,7 +21,7 @@ fn leasts_of(alloc: Global, number: u32) -> Result<Vec<u32>, Fail> {
 }
 
 /// The events of a number, a line for each.
-fn script_of(alloc: Global, number: u32) -> Result<Vec<u8>, Fail> {
+pub(crate) fn script_of(alloc: Global, number: u32) -> Result<Vec<u8>, Fail> {
     let case = soak_case(alloc, number).ok().ok_or("memory")?;
     let mut text = Vec::new(alloc);
     for event in &case.events {
@@ -32,7 +32,7 @@ fn script_of(alloc: Global, number: u32) -> Result<Vec<u8>, Fail> {
 }
 
 /// The text of a number's machine.
-fn machine_of(alloc: Global, number: u32) -> Result<Vec<u8>, Fail> {
+pub(crate) fn machine_of(alloc: Global, number: u32) -> Result<Vec<u8>, Fail> {
     let case = soak_case(alloc, number).ok().ok_or("memory")?;
     Ok(print_machine(alloc, &case.machine)?)
 }
@@ -146,11 +146,6 @@ fn a_line_that_is_cut_short(rt: HostRuntime) -> Result<(), Fail> {
     assert_eq!(rt; line.as_slice(), b"soak 1 ev".as_slice());
     Ok(())
 }
-
-const FAST: Outside<'static> = Outside {
-    read_most: 4096,
-    ..SOUND
-};
 
 /// Whether the log of a number's case is accepted, with its bounds.
 fn is_accepted(alloc: Global, number: u32) -> Result<bool, Fail> {
