@@ -1,7 +1,6 @@
 //! The same asks over the plain network and over the live one.
-ghost use Rattle.std.specs.Prelude.{◌≡◌, IfOk, IsTrue, OnOk};
+ghost use Rattle.std.specs.Prelude.{◌≡◌, IfOk, OnOk};
 ghost use Rattle.tp_schedule.specs.Planning.{CanPlanOn};
-ghost use Rattle.tp_search.specs.Engines.{is_engine_for};
 
 use crate::by_hand::machine_of;
 use crate::engine_rows::{MONO, ask_sheet, engine_for};
@@ -15,7 +14,7 @@ use tp_search::Engine;
 use tp_stn_undo::LiveNet;
 
 fn live_engine_for(alloc: Global, machine: &Machine) -> Result<Engine<LiveNet>, Fail>
-    ensures { IfOk result (λ engine. IsTrue (is_engine_for engine machine.now)) }
+    ensures { IfOk result (λ engine. ⟦<Engine<LiveNet> as Planner>⟧.serves engine machine.now) }
 {
     match LiveNet::new(alloc, 16_642, 100_000, 330) {
         Ok(net) => match Engine::new(alloc, machine, net, 1000, false) {

@@ -1,10 +1,9 @@
 //! A planner that is asked and settles on the machine DUO, and the trial of a plan.
-ghost use Rattle.std.specs.Prelude.{◌≡◌, ◌<◌, ◌≤◌, [], IfOk, IsTrue, List, OnOk};
+ghost use Rattle.std.specs.Prelude.{◌≡◌, ◌<◌, ◌≤◌, [], IfOk, List, OnOk};
 ghost use Rattle.tp_placing.specs.Standing.{IsMadeFor};
 ghost use Rattle.tp_schedule.specs.Planning.{CanAsk, CanPlanOn, IsOpenGoal};
 ghost use Rattle.tp_schedule.specs.declared.parts.Origin.TheVariants.{Feeder};
 ghost use Rattle.tp_schedule.specs.declared.parts.Plan.{Plan};
-ghost use Rattle.tp_search.specs.Engines.{is_engine_for};
 ghost use Rattle.tp_search.specs.Workspaces.{IsFor};
 ghost use Rattle.rows_engines.specs.Trying.{IsReady};
 
@@ -38,7 +37,7 @@ pub(crate) fn engine_for(
     machine: &Machine,
     bounds: bool,
 ) -> Result<Engine<PlainNet>, Fail>
-    ensures { IfOk result (λ engine. IsTrue (is_engine_for engine machine.now)) }
+    ensures { IfOk result (λ engine. ⟦<Engine<PlainNet> as Planner>⟧.serves engine machine.now) }
 {
     match PlainNet::new(alloc, 16_642, 100_000, 330) {
         Ok(net) => match Engine::new(alloc, machine, net, 1000, bounds) {

@@ -1,7 +1,6 @@
 //! Trees that an engine with bounds shows, looked at by the checker of trees, which knows no network and no search.
-ghost use Rattle.std.specs.Prelude.{IsTrue, OnOk};
+ghost use Rattle.std.specs.Prelude.{OnOk};
 ghost use Rattle.tp_schedule.specs.Planning.{CanPlanOn};
-ghost use Rattle.tp_search.specs.Engines.{is_engine_for};
 
 use crate::engine_rows::{MONO, ask_sheet, engine_for, first_tray_ask};
 use rows_machine::machines::{DUO, TAIL};
@@ -11,7 +10,7 @@ use std::test::Fail;
 use tp_bound_check::{Claim, check_bound};
 use tp_machine::Machine;
 use tp_machine_text::read_machine;
-use tp_schedule::{Ask, Reply, Schedule};
+use tp_schedule::{Ask, Planner, Reply, Schedule};
 use tp_search::Engine;
 use tp_stn_core::PlainNet;
 
@@ -38,9 +37,10 @@ fn claim_shown(
     schedule: &mut Schedule,
     number: u32,
 ) -> Result<Claim, Fail>
-    requires served { IsTrue (is_engine_for engine.old machine.now) }
+    requires served { ⟦<Engine<PlainNet> as Planner>⟧.serves engine.old machine.now }
     requires plan_on { CanPlanOn machine.now 0 schedule.old.plans }
-    ensures served { OnOk result (IsTrue (is_engine_for engine.new machine.now)) }
+    ensures served { OnOk result
+        (⟦<Engine<PlainNet> as Planner>⟧.serves engine.new machine.now) }
     ensures plan_on { OnOk result (CanPlanOn machine.now 0 schedule.new.plans) }
 {
     let Ok(before) = schedule.copy(alloc) else {
@@ -64,7 +64,7 @@ fn both_shown(
     engine: &mut Engine<PlainNet>,
     machine: &Machine,
 ) -> Result<[Claim; 2], Fail>
-    requires { IsTrue (is_engine_for engine.old machine.now) }
+    requires { ⟦<Engine<PlainNet> as Planner>⟧.serves engine.old machine.now }
 {
     let mut schedule = Schedule::new(alloc);
     let first = claim_shown(alloc, engine, machine, &mut schedule, 1)?;

@@ -2,6 +2,8 @@
 #![tactic(auto)]
 
 #[cfg(test)]
+mod afresh;
+#[cfg(test)]
 mod changes;
 #[cfg(test)]
 mod checks;

@@ -1,7 +1,6 @@
 //! Whole scripts with bounds: the checker of trees, which knows no network and no search, looks at each tree as it is shown.
-ghost use Rattle.std.specs.Prelude.{◌≡◌, ◌+◌, ◌≤◌, IfOk, IsTrue, OnOk};
+ghost use Rattle.std.specs.Prelude.{◌≡◌, ◌+◌, ◌≤◌, IfOk, OnOk};
 ghost use Rattle.tp_script.specs.Printed.{IsEchoed};
-ghost use Rattle.tp_search.specs.Engines.{is_engine_for};
 ghost use Rattle.tp_turn.specs.LiveStates.{seen};
 ghost use Rattle.tp_turn.specs.Ready.{CanTakeEvents, KeepsStock};
 
@@ -69,10 +68,10 @@ impl Watched {
 }
 
 impl Planner for Watched {
-    ghost use Rattle.tp_search.specs.Engines.{EngineLasts, is_engine_for};
+    ghost use Rattle.tp_search.specs.Engines.{EngineLasts};
     ghost use Rattle.tp_search.specs.Workspaces.{IsSpentOf};
 
-    ghost serves = { λ w machine. is_engine_for w.engine machine };
+    ghost serves = { λ w machine. ⟦<Engine<LiveNet> as Planner>⟧.serves w.engine machine };
 
     ghost Lasting = { EngineLasts };
 
@@ -117,7 +116,7 @@ impl Planner for Watched {
 }
 
 fn watched_for(alloc: Global, machine: &Machine) -> Result<Watched, Fail>
-    ensures { IfOk result (λ w. IsTrue (is_engine_for w.engine machine.now)) }
+    ensures { IfOk result (λ w. ⟦<Watched as Planner>⟧.serves w machine.now) }
 {
     let Ok(net) = LiveNet::new(alloc, 16_642, 100_000, 330) else {
         return Err(Fail::from("memory"));
@@ -150,39 +149,39 @@ fn event_of(alloc: Global, line: &[u8]) -> Result<Event, Fail>
 }
 
 /// Takes the event of a line, behind so many lines.
-fn take_line(
+fn take_line<P: Planner>(
     alloc: Global,
     machine: &Machine,
     state: &mut LiveState,
-    watched: &mut Watched,
+    planner: &mut P,
     line: &[u8],
     taken: u32,
 ) -> Result<(), Fail>
-    requires served { IsTrue (is_engine_for watched.old.engine machine.now) }
+    requires served { P.serves planner.old machine.now }
     requires can { CanTakeEvents machine.now taken (seen state.old) }
     requires stocked { KeepsStock machine.now taken (seen state.old) }
     requires few { taken ≤ 1000 }
-    ensures served { OnOk result (IsTrue (is_engine_for watched.new.engine machine.now)) }
+    ensures served { OnOk result (P.serves planner.new machine.now) }
     ensures can { OnOk result (CanTakeEvents machine.now (taken + 1) (seen state.new)) }
     ensures stocked { OnOk result (KeepsStock machine.now (taken + 1) (seen state.new)) }
 {
-    turns_keep_stock::<Watched>();
+    turns_keep_stock::<P>();
     let event = event_of(alloc, line)?;
     let mut notes = Vec::new(alloc);
-    match take_event(alloc, machine, state, watched, &event, &mut notes) {
+    match take_event(alloc, machine, state, planner, &event, &mut notes) {
         Ok(()) => Ok(()),
         Err(_) => Err(Fail::from("memory")),
     }
 }
 
 /// Takes the events of a script, one after another.
-fn take_script(
+pub(crate) fn take_script<P: Planner>(
     alloc: Global,
     machine: &Machine,
-    watched: &mut Watched,
+    planner: &mut P,
     script: &[u8],
 ) -> Result<(), Fail>
-    requires { IsTrue (is_engine_for watched.old.engine machine.now) }
+    requires { P.serves planner.old machine.now }
 {
     empty_state_can_begin();
     let mut state = LiveState::new(alloc);
@@ -193,7 +192,7 @@ fn take_script(
             return Err(Fail::from("more lines than a row has"));
         }
         let (line, more) = first_line(rest);
-        take_line(alloc, machine, &mut state, watched, line, taken)?;
+        take_line(alloc, machine, &mut state, planner, line, taken)?;
         taken += 1;
         rest = more;
     }

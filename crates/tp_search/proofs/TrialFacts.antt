@@ -1,5 +1,5 @@
 -- What a search found is a trial: its end is that of the earliest plans, and what is committed is one of them.
-use Rattle.std.proofs.Common.{◌≡◌, ℕ, ◌<◌, List, [], ap, length, filter, sym, subst, ◌∙◌, Some, IsSomeAnd, arith}
+use Rattle.std.proofs.Common.{◌≡◌, ℕ, ◌-◌, ◌<◌, ◌≤◌, List, ap, length, filter, sym, subst, ◌∙◌, Some, IsSomeAnd, arith}
 use Rattle.std.proofs.lemmas.List.{length-map}
 use Rattle.tp_base.specs.Net.{Net}
 use Rattle.tp_machine.specs.Machines.{IsMachine}
@@ -20,9 +20,8 @@ use Rattle.tp_choices.specs.LiveParts.{forgotten_on, shift_choice, shifted}
 use Rattle.tp_choices.proofs.CompleteAnswers.{complete_answers}
 use Rattle.tp_choices.proofs.LiveLists.{live_opens}
 use Rattle.tp_choices.proofs.ShiftedLists.{acts-shifted}
-use Rattle.tp_placing.specs.Boards.{BoardValue, past_of, suffix_of}
+use Rattle.tp_placing.specs.Boards.{BoardValue, suffix_of}
 use Rattle.tp_placing.specs.Laws.{UndoKeeps}
-use Rattle.tp_placing.specs.Standing.{Stands}
 use Rattle.tp_placing.specs.Ticks.{HasLeastTick, IsLeastTick, TimesOf}
 use Rattle.tp_placing.specs.Writing.{CanCommit}
 use Rattle.tp_placing.proofs.WriteLive.{gone, may-ask, may-forget}
@@ -106,13 +105,17 @@ module _ {N C : Type 0} (net : N → Net) (content : N → C) (past : N → List
   trial-back aside undoes b' t u = undone-back net content past aside max_marks undoes b (board_in trial) b' machine trial.base.0 t.number t.past_more t.loaded t.marks (λ _. t.stands) u
 
 -- a board that is back where it was at rest is at rest
-pub at-rest : {N C : Type 0} (net : N → Net) (content : N → C) (past : N → List C) (max_marks : N → ℕ) (b b' : BoardValue N) (machine : Machine) → Stands net content past b machine → b.steps ≡ [] → past_of past b ≡ []
+pub at-rest : {N C : Type 0} (net : N → Net) (content : N → C) (past : N → List C) (max_marks : N → ℕ) (b b' : BoardValue N) (machine : Machine) → IsAtRest net content past b machine
     → IsBack net content past max_marks b b' machine → IsAtRest net content past b' machine
-at-rest net content past max_marks b b' machine stands closed unmarked back = record {
-  stands = back.stands stands;
-  closed = ap (λ x. x.steps) back.same_content ∙ closed;
-  unmarked = back.same_past ∙ unmarked;
+at-rest net content past max_marks b b' machine rests back = record {
+  stands = back.stands rests.stands;
+  closed = ap (λ x. x.steps) back.same_content ∙ rests.closed;
+  unmarked = back.same_past ∙ rests.unmarked;
 }
+
+-- it has as many marks in all
+pub same-marks : (marks marks' : ℕ) → marks' - 1 ≡ marks - 1 → 330 ≤ marks → marks' ≡ marks
+same-marks marks marks' same many = omega (arith, same, many)
 
 -- a board has one least end
 pub same-end : {N : Type 0} → (machine : Machine) (b : BoardValue N) (ask : Ask) → b.ask ≡ Some ask → (end other : ℕ) → HasLeastTick machine b (own 0) end → HasLeastTick machine b (own 0) other → end ≡ other

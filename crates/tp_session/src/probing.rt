@@ -7,7 +7,7 @@ ghost use Rattle.tp_schedule.specs.declared.parts.Goal.TheVariants.{Tray};
 ghost use Rattle.tp_schedule.specs.declared.parts.Origin.TheVariants.{Feeder};
 ghost use Rattle.tp_script.specs.Printed.{IsEchoed};
 ghost use Rattle.tp_script.specs.declared.event.Event.TheVariants.{Job as NewJob};
-ghost use Rattle.tp_search.specs.Engines.{IsSameEngine, is_engine_for};
+ghost use Rattle.tp_search.specs.Engines.{IsSameEngine, Serves};
 ghost use Rattle.tp_session.specs.Probes.{AskGives, GivesProbe, IsProbe};
 ghost use Rattle.tp_stock.specs.Stock.{IsBounded, empties};
 ghost use Rattle.tp_turn.specs.LiveStates.{seen};
@@ -135,10 +135,11 @@ pub(crate) fn try_ask<N: Network>(
     schedule: &Schedule,
     ask: &Ask,
 ) -> Probe
-    requires served { IsTrue (is_engine_for engine.old machine.now) }
+    requires served { Serves N.net N.content N.past engine.old machine.now }
     requires can_ask { CanAsk machine.now schedule.now.plans ask.now }
     ensures gives { AskGives engine.old.work.nodes machine.now schedule.now.plans
         ask.entry.now result }
+    ensures still_serves { Serves N.net N.content N.past engine.new machine.now }
     ensures same { IsSameEngine N.max_marks engine.old engine.new }
     ensures trees { engine.new.trees ≡ engine.old.trees }
 {

@@ -68,7 +68,7 @@ impl<N: Network> Model for SessionOver<N> {
       text = s.text.items;
     } };
 
-    ghost invariant = { λ s. IsSession
+    ghost invariant = { λ s. IsSession N.net N.content N.past
         (record { machine = s.machine; budget = s.budget; bounds = s.bounds; state = seen s.state })
         s.engine s.answered };
 }

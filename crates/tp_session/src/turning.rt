@@ -1,10 +1,9 @@
 //! The turn of one event, with its text.
 
-ghost use Rattle.std.specs.Prelude.{◌≡◌, ◌+◌, ◌++◌, ℕ, List, [], IsTrue, OnOk, OnErr};
-ghost use Rattle.tp_machine.specs.declared.machine.Machine.{Machine};
+ghost use Rattle.std.specs.Prelude.{◌≡◌, ◌+◌, ◌++◌, ℕ, List, [], OnOk, OnErr};
 ghost use Rattle.tp_runs.specs.Wholes.{TellsTurn};
 ghost use Rattle.tp_script.specs.Printed.{IsEchoed};
-ghost use Rattle.tp_search.specs.Engines.{is_engine_for};
+ghost use Rattle.tp_search.specs.Engines.{Serves};
 ghost use Rattle.tp_sound.specs.Kept.{KeepsSound};
 ghost use Rattle.tp_turn.specs.LiveStates.{seen};
 ghost use Rattle.tp_turn.specs.Ready.{CanTakeEvents, KeepsStock, last_copy};
@@ -31,7 +30,7 @@ pub(crate) fn take_turn<N: Network>(
     event: &Event,
     text: &mut Vec<u8>,
 ) -> Result<(), Memory>
-    requires serves { IsTrue (is_engine_for engine.old machine.now) }
+    requires serves { Serves N.net N.content N.past engine.old machine.now }
     requires can { CanTakeEvents machine.now last_copy (seen state.old) }
     requires stocked { KeepsStock machine.now last_copy (seen state.old) }
     requires echoed { IsEchoed event.now }
@@ -50,8 +49,7 @@ pub(crate) fn take_turn<N: Network>(
     ensures marked { state.new.lines.kept ≡ state.old.lines.kept }
     ensures nodes { engine.new.work.nodes ≡ engine.old.work.nodes }
     ensures bounds { engine.new.bounds ≡ engine.old.bounds }
-    ensures serves { (other : Machine) → is_engine_for engine.new other
-        ≡ is_engine_for engine.old other }
+    ensures serves { Serves N.net N.content N.past engine.new machine.now }
 {
     engines_answer_alone::<N>();
     live_turns_are_whole::<Engine<N>>();

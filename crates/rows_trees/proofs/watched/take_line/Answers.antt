@@ -7,15 +7,15 @@ use Rattle.tp_turn.proofs.StockKept.{stock-more}
 use Rattle.rows_trees.proofs.watched.take_line.Goals as goal
 
 pub take_event-requires-clause-can : goal.take_event-requires-clause-can
-take_event-requires-clause-can c = events-more c.args.machine.now c.args.taken last_copy (seen c.args.state.now) (omega (arith, c.requires.few)) c.requires.can
+take_event-requires-clause-can g c = events-more c.args.machine.now c.args.taken last_copy (seen c.args.state.now) (omega (arith, c.requires.few)) c.requires.can
 
 pub take_event-requires-clause-stocked : goal.take_event-requires-clause-stocked
-take_event-requires-clause-stocked c = stock-more c.args.machine.now c.args.taken last_copy (seen c.args.state.now) (omega (arith, c.requires.few)) c.requires.stocked
+take_event-requires-clause-stocked g c = stock-more c.args.machine.now c.args.taken last_copy (seen c.args.state.now) (omega (arith, c.requires.few)) c.requires.stocked
 
 pub returns-in-Ok-clause-stocked : goal.returns-in-Ok-clause-stocked
-returns-in-Ok-clause-stocked c =
+returns-in-Ok-clause-stocked g c =
     let noted = c.in-Ok.ensures.turn in
-    c.turns_keep_stock.ensures c.args.machine.now c.args.taken c.args.taken c.in_ok-event.event (seen c.args.state.now) c.args.watched.now noted.0 (seen c.take_event.new.state) c.take_event.new.planner c.requires.can.kept noted.2 c.requires.stocked
+    c.turns_keep_stock.ensures c.args.machine.now c.args.taken c.args.taken c.in_ok-event.event (seen c.args.state.now) c.args.planner.now noted.0 (seen c.take_event.new.state) c.take_event.new.planner c.requires.can.kept noted.2 c.requires.stocked
 
 pub returns-in-Ok-clause-can : goal.returns-in-Ok-clause-can
-returns-in-Ok-clause-can c = c.in-Ok.ensures.kept c.args.taken c.requires.can
+returns-in-Ok-clause-can g c = c.in-Ok.ensures.kept c.args.taken c.requires.can

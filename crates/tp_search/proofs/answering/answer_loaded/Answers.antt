@@ -2,6 +2,7 @@ use Rattle.std.proofs.Common.{refl, subst, ◌∙◌, IsSomeAnd}
 use Rattle.tp_schedule.specs.Answers.{IsLeast, follows_front}
 use Rattle.tp_search.specs.Trials.{IsEarliestTo, IsNoPlan}
 use Rattle.tp_search.specs.declared.trial.NoPlan.TheVariants.{Never}
+use Rattle.tp_search.proofs.TrialFacts.{at-rest}
 use Rattle.tp_search.proofs.answering.answer_loaded.Goals as goal
 use Rattle.tp_search.proofs.answering.answer_loaded.Goals.{In-Err-Never}
 
@@ -21,3 +22,6 @@ returns-in-Err-Never-clause-answer g c = (refl, (told g (goal.at.returns-in-Err-
 
 pub returns-in-Err-Never-clause-few : goal.returns-in-Err-Never-clause-few
 returns-in-Err-Never-clause-few g c = λ is. (told g (goal.at.returns-in-Err-Never-clause-few g c).In-Err-Never).1
+
+pub returns-in-Ok-clause-rests : goal.returns-in-Ok-clause-rests
+returns-in-Ok-clause-rests g c = at-rest g.N.Network.net g.N.Undo.content g.N.Undo.past g.N.Undo.max_marks c.args.board.now _ c.args.machine.now c.requires.rests (c.commit.ensures.back c.args.board.now c.args.machine.now c.in-Ok.ensures.trial)

@@ -6,6 +6,7 @@ use Rattle.tp_placing.specs.Writing.{IsLoadedFrom}
 use Rattle.tp_search.specs.Trials.{IsEarliestTo, IsNoPlan, board_in}
 use Rattle.tp_trees.specs.Short.{IsShortTreeFor}
 use Rattle.tp_trees.specs.declared.claim.Claim.TheVariants.{Earliest}
+use Rattle.tp_search.proofs.TrialFacts.{at-rest, same-marks}
 use Rattle.tp_search.proofs.answering.answer_with_tree.Goals as goal
 
 has-marks : (marks past : ℕ) → past ≡ 0 → 330 ≤ marks → past + 326 ≤ marks - 1
@@ -55,3 +56,19 @@ pub returns-in-Ok-show_never-clause-answer : goal.returns-in-Ok-show_never-claus
 returns-in-Ok-show_never-clause-answer g c =
     let told = subst (IsNoPlan c.args.machine.now c.args.schedule.now.plans c.args.ask.now c.args.work.now.nodes) c.in-Err-Never.field-0-is (c.in-Err-Never.ensures.none c.args.schedule.now.plans c.requires.loaded) in
     (refl, told.0)
+
+pub returns-in-Ok-show-clause-board : goal.returns-in-Ok-show-clause-board
+returns-in-Ok-show-clause-board g c = (c.commit.ensures.back c.args.board.now c.args.machine.now (c.show.ensures.trial c.args.board.now c.in-Ok.ensures.trial)).loaded.made_for
+
+pub returns-in-Ok-show-clause-marks : goal.returns-in-Ok-show-clause-marks
+returns-in-Ok-show-clause-marks g c = same-marks _ _ (c.commit.ensures.back c.args.board.now c.args.machine.now (c.show.ensures.trial c.args.board.now c.in-Ok.ensures.trial)).marks c.requires.marks
+
+pub returns-in-Ok-show-clause-rests : goal.returns-in-Ok-show-clause-rests
+returns-in-Ok-show-clause-rests g c =
+    at-rest g.N.Network.net g.N.Undo.content g.N.Undo.past g.N.Undo.max_marks c.args.board.now _ c.args.machine.now c.requires.rests
+    (c.commit.ensures.back c.args.board.now c.args.machine.now (c.show.ensures.trial c.args.board.now c.in-Ok.ensures.trial))
+
+pub returns-in-Err-clause-rests : goal.returns-in-Err-clause-rests
+returns-in-Err-clause-rests g c =
+    at-rest g.N.Network.net g.N.Undo.content g.N.Undo.past g.N.Undo.max_marks c.args.board.now _ c.args.machine.now c.requires.rests
+    (c.abandon.ensures.back c.args.board.now c.args.machine.now (c.show.ensures.trial c.args.board.now c.in-Ok.ensures.trial))

@@ -1,7 +1,6 @@
 -- An event can be taken after so many, and one more can be taken after it.
 use Rattle.std.proofs.Common.{ℕ, ◌+◌, ◌<◌, ◌≤◌, ◌++◌, arith, refl, sym, ap, subst, ◌∙◌}
-use Rattle.std.specs.Prelude.{IsTrue}
-use Rattle.tp_search.specs.Engines.{is_engine_for}
+use Rattle.tp_search.specs.Engines.{Serves}
 use Rattle.tp_teller.specs.Tellers.{most_events}
 use Rattle.tp_turn.specs.LiveStates.{seen}
 use Rattle.tp_turn.specs.Ready.{CanTakeEvents, KeepsStock, last_copy}
@@ -53,7 +52,7 @@ pub invariant_of-self-in-Ok-1 : goal.invariant_of-self-in-Ok-1
 invariant_of-self-in-Ok-1 g c =
     let cleared = c.clear_trees.ensures in
     record {
-      serves = subst (λ e. IsTrue (is_engine_for e c.self.inside.machine)) (sym cleared) (subst IsTrue (sym (c.take_turn-result.ensures.serves c.self.inside.machine)) c.self.invariant.serves);
+      serves = subst (λ e. Serves g.N.Network.net g.N.Undo.content g.N.Undo.past e c.self.inside.machine) (sym cleared) (record { made = c.take_turn-result.ensures.serves.made; rests = c.take_turn-result.ensures.serves.rests });
       nodes = ap (λ e. e.work.nodes) cleared ∙ c.take_turn-result.ensures.nodes ∙ c.self.invariant.nodes;
       bounds = ap (λ e. e.bounds) cleared ∙ c.take_turn-result.ensures.bounds ∙ c.self.invariant.bounds;
       no_trees = ap (λ e. e.trees) cleared;
