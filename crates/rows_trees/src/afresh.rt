@@ -125,9 +125,13 @@ fn long_script(alloc: Global) -> Result<String, Fail> {
         let clock = n * 20;
         let sheets = n % 3 + 1;
         let round = match n % 10 {
-            3 => format!(in alloc; "off ENG1\njob a{n} t plain {sheets}*M-:F\non ENG1\nclock {clock}\n")?,
+            3 => format!(in alloc;
+                "off ENG1\njob a{n} t plain {sheets}*M-:F\non ENG1\nclock {clock}\n"
+            )?,
             7 => format!(in alloc; "jam ENG2\njob b{n} t plain M-:F\non ENG2\nclock {clock}\n")?,
-            _ => format!(in alloc; "job c{n} t plain {sheets}*M-:F\njob d{n} t plain C-:F\nclock {clock}\nclock {clock}\n")?,
+            _ => format!(in alloc;
+                "job c{n} t plain {sheets}*M-:F\njob d{n} t plain C-:F\nclock {clock}\nclock {clock}\n"
+            )?,
         };
         script.push_str(round.as_str())?;
     }

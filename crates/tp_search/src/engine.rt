@@ -259,13 +259,7 @@ impl<N: Network> Planner for Engine<N> {
         if self.bounds {
             self.ask_with_tree(machine, schedule, ask)
         } else {
-            Ok(answer_loaded(
-                &mut self.work,
-                &mut self.board,
-                machine,
-                schedule,
-                ask,
-            ))
+            Ok(answer_loaded(&mut self.work, &mut self.board, machine, schedule, ask))
         }
     }
 
