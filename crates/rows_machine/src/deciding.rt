@@ -4,8 +4,8 @@ ghost use Rattle.tp_schedule.specs.Answers.{KeepsFloors, KeepsHorizon};
 ghost use Rattle.tp_schedule.specs.Legality.{IsLegal};
 ghost use Rattle.tp_deciding.specs.Early.{is_exempt};
 
-use crate::machines::DUO;
-use crate::schedules::{FIRST, SECOND, machine_of, pair_on_duo, plan_of, sheet_of};
+use crate::machines::{DUO, machine_of};
+use crate::schedules::{FIRST, SECOND, pair_on_duo, plan_of, sheet_of};
 use std::alloc::Global;
 use std::process::Abort;
 use std::test::Fail;
@@ -197,10 +197,16 @@ fn orders_are_compared(rt: &impl Abort, alloc: Global, machine: &Machine) -> Res
     Ok(())
 }
 
+fn look_at_duo(rt: &impl Abort, alloc: Global, duo: &Machine) -> Result<(), Fail> {
+    plans_are_timed(rt, duo)?;
+    orders_are_compared(rt, alloc, duo)?;
+    rows_are_told(rt, alloc, duo)
+}
+
 #[test]
 fn whole_schedules_on_duo(rt: HostRuntime) -> Result<(), Fail> {
-    let duo = machine_of(rt.alloc(), DUO)?;
-    plans_are_timed(&rt, &duo)?;
-    orders_are_compared(&rt, rt.alloc(), &duo)?;
-    rows_are_told(&rt, rt.alloc(), &duo)
+    let duo = machine_of(rt.alloc(), DUO.as_bytes())?;
+    let looked = look_at_duo(&rt, rt.alloc(), &duo);
+    drop(duo);
+    looked
 }

@@ -1,5 +1,18 @@
 //! The machines of the rows, as the files of machines/ have them.
 
+use std::alloc::Global;
+use std::test::Fail;
+use tp_machine::Machine;
+use tp_machine_text::read_machine;
+
+/// The machine of a text. All rows read their machines here.
+pub fn machine_of(alloc: Global, text: &[u8]) -> Result<Machine, Fail> {
+    match read_machine(alloc, text) {
+        Ok(machine) => Ok(machine),
+        Err(_) => Err(Fail::from("a machine of the rows is refused")),
+    }
+}
+
 pub const DUO: &str = r#"format = 1
 lead = 2
 window = 200

@@ -1,20 +1,15 @@
 //! What is printed for a machine, and read back.
-use crate::machines::{DUO, GAP, LINE, LOOP, TAIL, TWIN};
+use crate::machines::{DUO, GAP, LINE, LOOP, TAIL, TWIN, machine_of};
 use std::alloc::Global;
 use std::test::Fail;
-use tp_machine::Machine;
-use tp_machine_text::{print_machine, read_machine};
+use tp_machine_text::print_machine;
 
 /// The text that is printed for the machine of a text.
 fn printed(alloc: Global, text: &[u8]) -> Result<Vec<u8>, Fail> {
-    match read_machine(alloc, text) {
-        Ok(machine) => text_of(alloc, &machine),
-        Err(_) => Err(Fail::from("refused")),
-    }
-}
-
-fn text_of(alloc: Global, machine: &Machine) -> Result<Vec<u8>, Fail> {
-    Ok(print_machine(alloc, machine).ok().ok_or("memory")?)
+    let machine = machine_of(alloc, text)?;
+    let printed = print_machine(alloc, &machine);
+    drop(machine);
+    Ok(printed.ok().ok_or("memory")?)
 }
 
 #[test]

@@ -2,24 +2,16 @@
 ghost use Rattle.std.specs.Prelude.{◌≡◌, ◌+◌, ◌<◌, ◌≤◌, false, [], ◌∷◌, length, IfOk};
 ghost use Rattle.tp_schedule.specs.Plans.{IsFormed, is_same_copy};
 
-use crate::machines::{DUO, LOOP, TAIL};
+use crate::machines::{DUO, LOOP, TAIL, machine_of};
 use std::alloc::Global;
 use std::process::Abort;
 use std::test::Fail;
 use tp_base::{Name, Tick};
 use tp_machine::{ActId, Face, LocId, Machine, Outs, ResId, Sheet, State, Want};
-use tp_machine_text::read_machine;
 use tp_schedule::{
     Acts, Ask, Empties, Goal, Kind, Origin, Plan, Points, Schedule, SheetId, finished, is_earlier,
     is_goal, is_start, new_sheet,
 };
-
-pub(crate) fn machine_of(alloc: Global, text: &str) -> Result<Machine, Fail> {
-    match read_machine(alloc, text.as_bytes()) {
-        Ok(machine) => Ok(machine),
-        Err(_) => Err(Fail::from("a machine of the rows is refused")),
-    }
-}
 
 fn name_of(text: &[u8]) -> Result<Name, Fail> {
     match Name::read(text) {
@@ -227,10 +219,14 @@ fn look_at_duo(rt: &impl Abort, alloc: Global, duo: &Machine) -> Result<(), Fail
     a_new_copy_goes_from_a_feeder_to_its_tray(rt, duo)
 }
 
+// What a function lets go of at its end is proved anew for each of its ways out. So a machine is lent to a function that may fail, and
+// then given to `drop`, which is proved once.
 #[test]
 fn schedules_on_duo(rt: HostRuntime) -> Result<(), Fail> {
-    let duo = machine_of(rt.alloc(), DUO)?;
-    look_at_duo(&rt, rt.alloc(), &duo)
+    let duo = machine_of(rt.alloc(), DUO.as_bytes())?;
+    let looked = look_at_duo(&rt, rt.alloc(), &duo);
+    drop(duo);
+    looked
 }
 
 #[test]
@@ -268,8 +264,10 @@ fn look_at_tail(rt: &impl Abort, alloc: Global, tail: &Machine) -> Result<(), Fa
 
 #[test]
 fn schedules_on_tail(rt: HostRuntime) -> Result<(), Fail> {
-    let tail = machine_of(rt.alloc(), TAIL)?;
-    look_at_tail(&rt, rt.alloc(), &tail)
+    let tail = machine_of(rt.alloc(), TAIL.as_bytes())?;
+    let looked = look_at_tail(&rt, rt.alloc(), &tail);
+    drop(tail);
+    looked
 }
 
 fn a_state_is_passed_twice(rt: &impl Abort, alloc: Global, machine: &Machine) -> Result<(), Fail> {
@@ -282,8 +280,10 @@ fn a_state_is_passed_twice(rt: &impl Abort, alloc: Global, machine: &Machine) ->
 
 #[test]
 fn schedule_on_loop(rt: HostRuntime) -> Result<(), Fail> {
-    let machine = machine_of(rt.alloc(), LOOP)?;
-    a_state_is_passed_twice(&rt, rt.alloc(), &machine)
+    let machine = machine_of(rt.alloc(), LOOP.as_bytes())?;
+    let looked = a_state_is_passed_twice(&rt, rt.alloc(), &machine);
+    drop(machine);
+    looked
 }
 
 #[test]

@@ -48,6 +48,13 @@ fn fault_of(alloc: Global, text: &str) -> Option<MachineFault> {
     read_machine(alloc, text.as_bytes()).err()
 }
 
+fn fault_for(rule: Option<u8>) -> Option<MachineFault> {
+    match rule {
+        Some(rule) => Some(MachineFault::Rule(rule)),
+        None => None,
+    }
+}
+
 #[test]
 fn each_rule_alone_and_with_the_next(rt: HostRuntime) -> Result<(), Fail> {
     let alloc = rt.alloc();
@@ -97,11 +104,7 @@ fn gaps_modes_and_stocks(rt: HostRuntime) -> Result<(), Fail> {
     let alloc = rt.alloc();
     for (rule, old, new) in EDITS_OF_GAP {
         let text = edited(alloc, GAP, old, new)?;
-        assert_eq!(rt;
-            fault_of(alloc, text.as_str()),
-            rule.map(MachineFault::Rule),
-            "{new}"
-        );
+        assert_eq!(rt; fault_of(alloc, text.as_str()), fault_for(rule), "{new}");
     }
     Ok(())
 }
