@@ -241,18 +241,36 @@ impl Seen {
         Ok(())
     }
 
-    /// Draws a rack and looks at its lists, where it comes to a machine.
-    fn draw(&mut self, alloc: Global, draws: &mut Draws) -> Result<(), Fail> {
-        let rack = draws.rack(alloc)?;
-        let text = rack.text(alloc)?;
-        let Ok(bytes) = compose(alloc, text.as_bytes()) else {
+    /// Looks at the lists of a rack, where it comes to a machine.
+    fn look_at_rack(&mut self, alloc: Global, rack: &Rack) -> Result<(), Fail> {
+        let Some(machine) = machine_for(alloc, rack)? else {
             return Ok(());
         };
-        let Ok(machine) = read_machine(alloc, bytes.as_slice()) else {
-            return Err(Fail::from("what is composed is no machine text"));
-        };
         self.racks = self.racks.saturating_add(1);
-        self.look_at_sheets(alloc, &rack, &machine)
+        let looked = self.look_at_sheets(alloc, rack, &machine);
+        drop(machine);
+        looked
+    }
+
+    // What a function lets go of at its end is proved anew for each of its ways out. So what is large is lent to a function that may
+    // fail, and then given to `drop`, which is proved once.
+    fn draw(&mut self, alloc: Global, draws: &mut Draws) -> Result<(), Fail> {
+        let rack = draws.rack(alloc)?;
+        let looked = self.look_at_rack(alloc, &rack);
+        drop(rack);
+        looked
+    }
+}
+
+/// The machine that the rack comes to.
+fn machine_for(alloc: Global, rack: &Rack) -> Result<Option<Machine>, Fail> {
+    let text = rack.text(alloc)?;
+    let Ok(bytes) = compose(alloc, text.as_bytes()) else {
+        return Ok(None);
+    };
+    match read_machine(alloc, bytes.as_slice()) {
+        Ok(machine) => Ok(Some(machine)),
+        Err(_) => Err(Fail::from("what is composed is no machine text")),
     }
 }
 
