@@ -7,17 +7,18 @@ ghost use Rattle.tp_schedule.specs.Planning.{CanPlanOn, IsOpenGoal, none_exempt}
 ghost use Rattle.tp_schedule.specs.declared.parts.Origin.TheVariants.{Feeder};
 ghost use Rattle.tp_search.specs.Workspaces.{IsFor};
 
-use rows_machine::machines::{DUO, TAIL};
+use crate::records::name_of;
+use rows_machine::machines::{DUO, TAIL, machine_of};
 use std::alloc::Global;
+use std::process::Abort;
 use std::test::Fail;
-use tp_base::{Name, Network, Tick};
+use tp_base::{Network, Tick};
 use tp_machine::{ActId, Face, LocId, Machine, Outs, Sheet, Want};
-use tp_machine_text::read_machine;
 use tp_placing::Board;
 use tp_release::{AdvanceFault, Tell, advance};
 use tp_schedule::{Ask, Empties, Goal, Origin, Reply, Schedule, SheetId};
 use tp_search::{Workspace, answer};
-use tp_stn_core::PlainNet;
+use tp_stn_undo::LiveNet;
 
 const FIRST: SheetId = SheetId {
     job: 0,
@@ -25,22 +26,11 @@ const FIRST: SheetId = SheetId {
     copy: 1,
 };
 
-fn machine_of(alloc: Global, text: &str) -> Result<Machine, Fail> {
-    match read_machine(alloc, text.as_bytes()) {
-        Ok(machine) => Ok(machine),
-        Err(_) => Err(Fail::from("a machine of the rows is refused")),
-    }
-}
-
-fn name_of(text: &[u8]) -> Result<Name, Fail> {
-    Ok(Name::read(text).ok_or("a name of the rows is refused")?)
-}
-
-fn board_for(alloc: Global, machine: &Machine) -> Result<Board<PlainNet>, Fail>
+fn board_for(alloc: Global, machine: &Machine) -> Result<Board<LiveNet>, Fail>
     ensures made { IfOk result (λ board. IsMadeFor board.made_for machine.now) }
     ensures marks { IfOk result (λ board. board.net.max_marks ≡ 330) }
 {
-    match PlainNet::new(alloc, 16_642, 100_000, 330) {
+    match LiveNet::new(alloc, 16_642, 100_000, 330) {
         Ok(net) => match Board::new(alloc, machine, net) {
             Ok(board) => Ok(board),
             Err(_) => Err(Fail::from("memory")),
@@ -112,29 +102,39 @@ fn plan_alone<N: Network>(
     }
 }
 
-/// A schedule with the earliest plan of the first sheet.
-fn first_planned<N: Network>(
+/// Plans the first sheet on an empty schedule.
+fn plan_first<N: Network>(
     alloc: Global,
     board: &mut Board<N>,
     machine: &Machine,
+    schedule: &mut Schedule,
     front: Want,
-) -> Result<Schedule, Fail>
+) -> Result<(), Fail>
     requires made { IsMadeFor board.old.made_for machine.now }
     requires marks { 8 ≤ N.max_marks board.old.net }
-    ensures { IfOk result (λ schedule. CanPlanOn machine.now 0 schedule.plans) }
+    requires empty { schedule.old.plans ≡ [] }
+    ensures { OnOk result (CanPlanOn machine.now 0 schedule.new.plans) }
 {
     let ask = first_ask(machine, front)?;
     let mut work = work_for(alloc, machine)?;
-    let mut schedule = Schedule::new(alloc);
-    plan_alone(&mut work, board, machine, &mut schedule, &ask)?;
-    Ok(schedule)
+    let planned = plan_alone(&mut work, board, machine, schedule, &ask);
+    drop(work);
+    planned
 }
 
-fn planned_on(alloc: Global, machine: &Machine, front: Want) -> Result<Schedule, Fail>
-    ensures { IfOk result (λ schedule. CanPlanOn machine.now 0 schedule.plans) }
+fn plan_on_board(
+    alloc: Global,
+    machine: &Machine,
+    schedule: &mut Schedule,
+    front: Want,
+) -> Result<(), Fail>
+    requires { schedule.old.plans ≡ [] }
+    ensures { OnOk result (CanPlanOn machine.now 0 schedule.new.plans) }
 {
     let mut board = board_for(alloc, machine)?;
-    first_planned(alloc, &mut board, machine, front)
+    let planned = plan_first(alloc, &mut board, machine, schedule, front);
+    drop(board);
+    planned
 }
 
 /// Moves the clock to the moments in turn, and gathers what is told.
@@ -170,8 +170,10 @@ fn told_until(
 {
     match planned.copy(alloc) {
         Ok(mut schedule) => {
-            let told = told_in_turn(alloc, machine, &mut schedule, moments)?;
-            Ok((told, schedule.len()))
+            let told = told_in_turn(alloc, machine, &mut schedule, moments);
+            let left = schedule.len();
+            drop(schedule);
+            Ok((told?, left))
         }
         Err(_) => Err(Fail::from("memory")),
     }
@@ -195,16 +197,71 @@ fn done(place: u16, at: Tick) -> Tell {
     }
 }
 
+/// What a clock is moved on: a machine text, and what the first sheet's front wants. Then what is told in all, and as the clock moves
+/// to moments in turn how much of it, and how many plans are left.
+#[derive(Clone, Copy)]
+struct Moved<'a> {
+    machine: &'static str,
+    front: Want,
+    told: &'a [Tell],
+    moves: &'a [(&'a [Tick], usize, u32)],
+}
+
+/// Moves the clock on the planned schedule.
+fn look_at_moves(
+    rt: &impl Abort,
+    alloc: Global,
+    machine: &Machine,
+    planned: &Schedule,
+    row: Moved<'_>,
+) -> Result<(), Fail>
+    requires { CanPlanOn machine.now 0 planned.now.plans }
+{
+    for (moments, many, left) in row.moves {
+        let (told, plans) = told_until(alloc, machine, planned, *moments)?;
+        let (wanted, _) = row.told.split_at_checked(*many).ok_or("less is told")?;
+        assert_eq!(rt; told.as_slice(), wanted, "{moments:?}");
+        assert_eq!(rt; plans, *left, "{moments:?}");
+    }
+    Ok(())
+}
+
+fn look_at_planned(
+    rt: &impl Abort,
+    alloc: Global,
+    machine: &Machine,
+    schedule: &mut Schedule,
+    row: Moved<'_>,
+) -> Result<(), Fail>
+    requires { schedule.old.plans ≡ [] }
+{
+    plan_on_board(alloc, machine, schedule, row.front)?;
+    look_at_moves(rt, alloc, machine, schedule, row)
+}
+
+fn look_on(rt: &impl Abort, alloc: Global, machine: &Machine, row: Moved<'_>) -> Result<(), Fail> {
+    let mut schedule = Schedule::new(alloc);
+    let looked = look_at_planned(rt, alloc, machine, &mut schedule, row);
+    drop(schedule);
+    looked
+}
+
+fn look_at(rt: &impl Abort, alloc: Global, row: Moved<'_>) -> Result<(), Fail> {
+    let machine = machine_of(alloc, row.machine.as_bytes())?;
+    let looked = look_on(rt, alloc, &machine, row);
+    drop(machine);
+    looked
+}
+
 #[test]
 fn the_clock_step_by_step_and_in_one_go(rt: HostRuntime) -> Result<(), Fail> {
-    let machine = machine_of(rt.alloc(), DUO)?;
-    let wanted = [
+    let told = [
         release(1, 0, 3, 5),
         release(2, 2, 5, 11),
         release(3, 3, 11, 14),
         done(3, 14),
     ];
-    let rows: [(&[Tick], usize, u32); 7] = [
+    let moves: [(&[Tick], usize, u32); 7] = [
         (&[0], 0, 1),
         (&[2], 1, 1),
         (&[2, 5], 2, 1),
@@ -213,27 +270,31 @@ fn the_clock_step_by_step_and_in_one_go(rt: HostRuntime) -> Result<(), Fail> {
         (&[13], 3, 1),
         (&[20], 4, 0),
     ];
-    let planned = planned_on(rt.alloc(), &machine, Want::Mono)?;
-    for (moments, many, left) in rows {
-        let (told, plans) = told_until(rt.alloc(), &machine, &planned, moments)?;
-        assert_eq!(rt; told.as_slice(), &wanted[..many], "{moments:?}");
-        assert_eq!(rt; plans, left, "{moments:?}");
-    }
-    Ok(())
+    let row = Moved {
+        machine: DUO,
+        front: Want::Mono,
+        told: &told,
+        moves: &moves,
+    };
+    look_at(&rt, rt.alloc(), row)
 }
 
 #[test]
 fn a_hold_outlasts_its_plan(rt: HostRuntime) -> Result<(), Fail> {
-    let machine = machine_of(rt.alloc(), TAIL)?;
-    let wanted = [release(1, 0, 3, 5), release(2, 1, 5, 8), done(2, 8)];
-    let rows: [(&[Tick], u32); 4] = [(&[8], 1), (&[8, 9], 1), (&[8, 10], 0), (&[10], 0)];
-    let planned = planned_on(rt.alloc(), &machine, Want::Blank)?;
-    for (moments, left) in rows {
-        let (told, plans) = told_until(rt.alloc(), &machine, &planned, moments)?;
-        assert_eq!(rt; told.as_slice(), wanted.as_slice(), "{moments:?}");
-        assert_eq!(rt; plans, left, "{moments:?}");
-    }
-    Ok(())
+    let told = [release(1, 0, 3, 5), release(2, 1, 5, 8), done(2, 8)];
+    let moves: [(&[Tick], usize, u32); 4] = [
+        (&[8], 3, 1),
+        (&[8, 9], 3, 1),
+        (&[8, 10], 3, 0),
+        (&[10], 3, 0),
+    ];
+    let row = Moved {
+        machine: TAIL,
+        front: Want::Blank,
+        told: &told,
+        moves: &moves,
+    };
+    look_at(&rt, rt.alloc(), row)
 }
 
 /// Why the clock is not moved, on an empty schedule.
@@ -245,20 +306,27 @@ fn fault_of(alloc: Global, machine: &Machine, now: Tick, to: Tick) -> Option<Adv
     }
 }
 
+const LAST: Tick = 1_000_000_000;
+
+const REFUSED: [(Tick, Tick, Option<AdvanceFault>); 5] = [
+    (5, 4, Some(AdvanceFault::ClockBack { now: 5 })),
+    (5, 5, None),
+    (0, LAST, None),
+    (LAST, 1_000_000_001, Some(AdvanceFault::ClockEnd)),
+    (
+        LAST,
+        999_999_999,
+        Some(AdvanceFault::ClockBack { now: LAST }),
+    ),
+];
+
 #[test]
 fn moments_that_are_refused(rt: HostRuntime) -> Result<(), Fail> {
-    let machine = machine_of(rt.alloc(), DUO)?;
-    let last = 1_000_000_000;
-    let rows = [
-        (5, 4, Some(AdvanceFault::ClockBack { now: 5 })),
-        (5, 5, None),
-        (0, last, None),
-        (last, last + 1, Some(AdvanceFault::ClockEnd)),
-        (last, last - 1, Some(AdvanceFault::ClockBack { now: last })),
-    ];
-    for (now, to, wanted) in rows {
+    let machine = machine_of(rt.alloc(), DUO.as_bytes())?;
+    for (now, to, wanted) in REFUSED {
         let fault = fault_of(rt.alloc(), &machine, now, to);
         assert_eq!(rt; fault, wanted, "{now} {to}");
     }
+    drop(machine);
     Ok(())
 }

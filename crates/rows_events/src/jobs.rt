@@ -2,14 +2,13 @@
 ghost use Rattle.std.specs.Prelude.{◌≡◌, ◌+◌, ◌<◌, ◌≤◌, ◌^◌, length, IfOk, IsSome, OnOk};
 ghost use Rattle.tp_jobs.specs.Waiting.{find_waiting};
 
-use rows_machine::machines::DUO;
+use rows_machine::machines::{DUO, machine_of};
 use std::alloc::Global;
 use std::process::Abort;
 use std::test::Fail;
 use tp_base::Name;
 use tp_jobs::{Blocked, JobFault, Lines};
-use tp_machine::{Face, LocId, Machine, Want};
-use tp_machine_text::read_machine;
+use tp_machine::{LocId, Machine, Want};
 use tp_schedule::SheetId;
 use tp_script::{Event, read_line};
 
@@ -40,20 +39,6 @@ least = 2
 most = 4
 "#;
 
-fn machine_of(alloc: Global, text: &str) -> Result<Machine, Fail> {
-    match read_machine(alloc, text.as_bytes()) {
-        Ok(machine) => Ok(machine),
-        Err(_) => Err(Fail::from("a machine text is refused")),
-    }
-}
-
-fn name_of(text: &[u8]) -> Result<Name, Fail> {
-    match Name::read(text) {
-        Some(name) => Ok(name),
-        None => Err(Fail::from("a name of the rows is refused")),
-    }
-}
-
 fn job_of(alloc: Global, line: &[u8]) -> Result<Event, Fail> {
     if line.len() > 99 {
         return Err(Fail::from("a longer line than a row has"));
@@ -83,6 +68,20 @@ fn add(lines: &mut Lines, machine: &Machine, job: &Event) -> Result<u32, JobFaul
     }
 }
 
+/// Adds the job of a line.
+fn add_line(
+    alloc: Global,
+    lines: &mut Lines,
+    machine: &Machine,
+    line: &[u8],
+) -> Result<Result<u32, JobFault>, Fail>
+    requires { length lines.old.jobs + 1 < 2 ^ 32 }
+    ensures { length lines.new.jobs ≤ length lines.old.jobs + 1 }
+{
+    let job = job_of(alloc, line)?;
+    Ok(add(lines, machine, &job))
+}
+
 fn put_name(out: &mut Vec<u8>, word: &[u8], name: &Name) -> Result<(), Fail> {
     out.extend_from_slice(word)?;
     out.extend_from_slice(name.as_bytes())?;
@@ -109,18 +108,33 @@ fn told(alloc: Global, answer: &Result<u32, JobFault>) -> Result<Vec<u8>, Fail> 
     Ok(out)
 }
 
-/// What is told of the second job.
+/// What is told of the second job, where none has come.
 fn second_told(
+    alloc: Global,
+    machine: &Machine,
+    lines: &mut Lines,
+    first: &[u8],
+    second: &[u8],
+) -> Result<Vec<u8>, Fail>
+    requires { length lines.old.jobs ≡ 0 }
+{
+    let _first = add_line(alloc, lines, machine, first)?;
+    let answer = add_line(alloc, lines, machine, second)?;
+    told(alloc, &answer)
+}
+
+// What a function lets go of at its end is proved anew for each of its ways out. So what is large is lent to a function that may
+// fail, and then given to `drop`, which is proved once.
+fn told_of_two(
     alloc: Global,
     machine: &Machine,
     first: &[u8],
     second: &[u8],
 ) -> Result<Vec<u8>, Fail> {
-    let first = job_of(alloc, first)?;
-    let second = job_of(alloc, second)?;
     let mut lines = Lines::new(alloc);
-    let _first = add(&mut lines, machine, &first);
-    told(alloc, &add(&mut lines, machine, &second))
+    let told = second_told(alloc, machine, &mut lines, first, second);
+    drop(lines);
+    told
 }
 
 fn look_at_refusals(rt: &impl Abort, alloc: Global, machine: &Machine) -> Result<(), Fail> {
@@ -167,7 +181,7 @@ fn look_at_refusals(rt: &impl Abort, alloc: Global, machine: &Machine) -> Result
         ),
     ];
     for (first, second, wanted) in rows {
-        let given = second_told(alloc, machine, first, second)?;
+        let given = told_of_two(alloc, machine, first, second)?;
         assert_eq!(rt; given.as_slice(), wanted, "{second:?}");
     }
     Ok(())
@@ -175,8 +189,10 @@ fn look_at_refusals(rt: &impl Abort, alloc: Global, machine: &Machine) -> Result
 
 #[test]
 fn refusals(rt: HostRuntime) -> Result<(), Fail> {
-    let machine = machine_of(rt.alloc(), DUO)?;
-    look_at_refusals(&rt, rt.alloc(), &machine)
+    let machine = machine_of(rt.alloc(), DUO.as_bytes())?;
+    let looked = look_at_refusals(&rt, rt.alloc(), &machine);
+    drop(machine);
+    looked
 }
 
 fn letter(want: Want) -> &'static str {
@@ -233,12 +249,16 @@ fn one_job(alloc: Global, machine: &Machine, job: &[u8]) -> Result<Lines, Fail>
 /// The copies of two groups.
 fn two_groups(alloc: Global, machine: &Machine) -> Result<Vec<u8>, Fail> {
     let lines = one_job(alloc, machine, b"job j t plain 2*MM:F C-:B")?;
-    tried(alloc, &lines, &Blocked::none())
+    let given = tried(alloc, &lines, &Blocked::none());
+    drop(lines);
+    given
 }
 
 fn groups_on_duo(alloc: Global) -> Result<Vec<u8>, Fail> {
-    let machine = machine_of(alloc, DUO)?;
-    two_groups(alloc, &machine)
+    let machine = machine_of(alloc, DUO.as_bytes())?;
+    let given = two_groups(alloc, &machine);
+    drop(machine);
+    given
 }
 
 #[test]
@@ -248,19 +268,32 @@ fn wants(rt: HostRuntime) -> Result<(), Fail> {
     Ok(())
 }
 
+/// Two jobs more, of which the first goes to the other tray.
+fn add_two(alloc: Global, lines: &mut Lines, machine: &Machine) -> Result<(), Fail>
+    requires { length lines.old.jobs ≤ 1 }
+{
+    let _second = add_line(alloc, lines, machine, b"job b u plain 2*C-:F")?;
+    let _third = add_line(alloc, lines, machine, b"job c t plain -M:F")?;
+    Ok(())
+}
+
 /// Three jobs of the two trays, in turn.
 fn jobs_of_both(alloc: Global, machine: &Machine) -> Result<Lines, Fail> {
-    let second = job_of(alloc, b"job b u plain 2*C-:F")?;
-    let third = job_of(alloc, b"job c t plain -M:F")?;
     let mut lines = one_job(alloc, machine, b"job a t plain 2*M-:F")?;
-    let _second = add(&mut lines, machine, &second);
-    let _third = add(&mut lines, machine, &third);
-    Ok(lines)
+    match add_two(alloc, &mut lines, machine) {
+        Ok(()) => Ok(lines),
+        Err(fail) => {
+            drop(lines);
+            Err(fail)
+        }
+    }
 }
 
 fn three_jobs(alloc: Global) -> Result<Lines, Fail> {
-    let machine = machine_of(alloc, TWO_TRAYS)?;
-    jobs_of_both(alloc, &machine)
+    let machine = machine_of(alloc, TWO_TRAYS.as_bytes())?;
+    let lines = jobs_of_both(alloc, &machine);
+    drop(machine);
+    lines
 }
 
 fn only_blocked(loc: u16) -> Blocked {
@@ -280,12 +313,6 @@ fn look_at_both(rt: &impl Abort, alloc: Global, lines: &Lines) -> Result<(), Fai
     let given = tried(alloc, lines, &only_blocked(1))?;
     assert_eq!(rt; given.as_slice(), b"b.1.1 C- b.2.1 C- ".as_slice());
     Ok(())
-}
-
-#[test]
-fn two_lines(rt: HostRuntime) -> Result<(), Fail> {
-    let lines = three_jobs(rt.alloc())?;
-    look_at_both(&rt, rt.alloc(), &lines)
 }
 
 /// Takes the copy that is tried first, and puts it back if asked to.
@@ -311,11 +338,6 @@ fn copy_of(alloc: Global, lines: &Lines) -> Result<Lines, Fail> {
     }
 }
 
-fn copy_of_three(alloc: Global) -> Result<Lines, Fail> {
-    let lines = three_jobs(alloc)?;
-    copy_of(alloc, &lines)
-}
-
 fn look_at_taken(rt: &impl Abort, alloc: Global, copy: &mut Lines) -> Result<(), Fail> {
     retake(copy, &only_blocked(1), true)?;
     let given = tried(alloc, copy, &Blocked::none())?;
@@ -330,6 +352,13 @@ fn look_at_taken(rt: &impl Abort, alloc: Global, copy: &mut Lines) -> Result<(),
         b"a.1.1 M- a.2.1 M- b.2.1 C- c.1.1 -M ".as_slice()
     );
     Ok(())
+}
+
+fn look_at_copy(rt: &impl Abort, alloc: Global, lines: &Lines) -> Result<(), Fail> {
+    let mut copy = copy_of(alloc, lines)?;
+    let looked = look_at_taken(rt, alloc, &mut copy);
+    drop(copy);
+    looked
 }
 
 /// Takes the only copy that waits, and lets the next copy of its sheet wait.
@@ -394,21 +423,34 @@ fn look_back(rt: &impl Abort, alloc: Global, lines: &mut Lines) -> Result<(), Fa
     look_at_both(rt, alloc, lines)
 }
 
+/// As they are, gone back to, and a copy of them.
+fn look_at_three(rt: &impl Abort, alloc: Global, lines: &mut Lines) -> Result<(), Fail> {
+    look_at_both(rt, alloc, lines)?;
+    look_back(rt, alloc, lines)?;
+    look_at_copy(rt, alloc, lines)
+}
+
 #[test]
-fn back_to_a_mark(rt: HostRuntime) -> Result<(), Fail> {
+fn two_lines(rt: HostRuntime) -> Result<(), Fail> {
     let mut lines = three_jobs(rt.alloc())?;
-    look_back(&rt, rt.alloc(), &mut lines)
+    let looked = look_at_three(&rt, rt.alloc(), &mut lines);
+    drop(lines);
+    looked
 }
 
 fn one_on_duo(alloc: Global) -> Result<Lines, Fail> {
-    let machine = machine_of(alloc, DUO)?;
-    one_job(alloc, &machine, b"job j t plain MM:F")
+    let machine = machine_of(alloc, DUO.as_bytes())?;
+    let lines = one_job(alloc, &machine, b"job j t plain MM:F");
+    drop(machine);
+    lines
 }
 
 #[test]
 fn again_and_broken(rt: HostRuntime) -> Result<(), Fail> {
     let mut lines = one_on_duo(rt.alloc())?;
-    look_at_next(&rt, rt.alloc(), &mut lines)
+    let looked = look_at_next(&rt, rt.alloc(), &mut lines);
+    drop(lines);
+    looked
 }
 
 /// A job of one sheet, with this number in its name. Where 4,096 copies wait, the first is taken.
@@ -426,49 +468,51 @@ fn add_numbered(
     {
         lines.taken(first);
     }
-    let job = job_of(
-        alloc,
-        format!(in alloc; "job j{number} t plain M-:F")?.as_bytes(),
-    )?;
-    match add(lines, machine, &job) {
+    let line = format!(in alloc; "job j{number} t plain M-:F")?;
+    match add_line(alloc, lines, machine, line.as_bytes())? {
         Ok(_) => Ok(()),
         Err(_) => Err(Fail::from("a job is refused")),
     }
 }
 
-fn ten_thousand_jobs(alloc: Global, machine: &Machine) -> Result<Lines, Fail>
-    ensures { IfOk result (λ lines. length lines.jobs ≤ 10000) }
+fn add_ten_thousand(alloc: Global, lines: &mut Lines, machine: &Machine) -> Result<(), Fail>
+    requires { length lines.old.jobs ≡ 0 }
+    ensures { OnOk result (length lines.new.jobs ≤ 10000) }
 {
-    let mut lines = Lines::new(alloc);
     for number in 0..10_000 {
-        add_numbered(alloc, &mut lines, machine, number)?;
+        add_numbered(alloc, lines, machine, number)?;
     }
-    Ok(lines)
+    Ok(())
 }
 
 /// Where ten thousand jobs came, one more of a name among theirs is refused.
 fn look_at_one_more(
     rt: &impl Abort,
     alloc: Global,
-    machine: &Machine,
     lines: &mut Lines,
+    machine: &Machine,
 ) -> Result<(), Fail>
-    requires { length lines.old.jobs ≤ 10000 }
+    requires { length lines.old.jobs ≡ 0 }
 {
+    add_ten_thousand(alloc, lines, machine)?;
     assert_eq!(rt; lines.waiting(), 4096);
-    let job = job_of(alloc, b"job j77 t plain M-:F")?;
-    let given = told(alloc, &add(lines, machine, &job))?;
+    let answer = add_line(alloc, lines, machine, b"job j77 t plain M-:F")?;
+    let given = told(alloc, &answer)?;
     assert_eq!(rt; given.as_slice(), b"named j77".as_slice());
     Ok(())
 }
 
 fn look_at_ten_thousand(rt: &impl Abort, alloc: Global, machine: &Machine) -> Result<(), Fail> {
-    let mut lines = ten_thousand_jobs(alloc, machine)?;
-    look_at_one_more(rt, alloc, machine, &mut lines)
+    let mut lines = Lines::new(alloc);
+    let looked = look_at_one_more(rt, alloc, &mut lines, machine);
+    drop(lines);
+    looked
 }
 
 #[test]
 fn ten_thousand(rt: HostRuntime) -> Result<(), Fail> {
-    let machine = machine_of(rt.alloc(), DUO)?;
-    look_at_ten_thousand(&rt, rt.alloc(), &machine)
+    let machine = machine_of(rt.alloc(), DUO.as_bytes())?;
+    let looked = look_at_ten_thousand(&rt, rt.alloc(), &machine);
+    drop(machine);
+    looked
 }

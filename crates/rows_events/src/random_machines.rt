@@ -1,6 +1,7 @@
 //! Small machines with gaps and modes, made at random. The schedules of their sessions are looked at tick by tick.
 
-use crate::sessions::{machine_of, session_on, take_line};
+use crate::sessions::{session_on, take_line};
+use rows_machine::machines::machine_of;
 use std::alloc::Global;
 use std::test::Fail;
 use tp_base::Tick;
@@ -254,16 +255,30 @@ impl Seen {
     ) -> Result<(), Fail> {
         let text = text_of(alloc, number, gaps)?;
         let mut session = session_on(alloc, text.as_slice(), None)?;
-        self.watch(alloc, &mut session, machine, number)
+        let watched = self.watch(alloc, &mut session, machine, number);
+        drop(session);
+        watched
     }
 }
 
-/// Runs sessions on the machine of this number, with its gaps and without any.
+/// Runs sessions with the gaps of this number's machine and without any, and looks at both as the machine has it.
+fn run_both(
+    alloc: Global,
+    number: u64,
+    machine: &Machine,
+    apart: &mut Seen,
+    close: &mut Seen,
+) -> Result<(), Fail> {
+    apart.run(alloc, number, GAPS, machine)?;
+    close.run(alloc, number, "", machine)
+}
+
 fn compare(alloc: Global, number: u64, apart: &mut Seen, close: &mut Seen) -> Result<(), Fail> {
     let text = text_of(alloc, number, GAPS)?;
     let machine = machine_of(alloc, text.as_slice())?;
-    apart.run(alloc, number, GAPS, &machine)?;
-    close.run(alloc, number, "", &machine)
+    let compared = run_both(alloc, number, &machine, apart, close);
+    drop(machine);
+    compared
 }
 
 #[test]

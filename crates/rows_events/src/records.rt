@@ -8,7 +8,7 @@ use tp_base::{Items, Memory, Name, Tick};
 use tp_log::print_record;
 use tp_schedule::{Cause, Record, SheetName};
 
-fn name_of(text: &[u8]) -> Result<Name, Fail> {
+pub(crate) fn name_of(text: &[u8]) -> Result<Name, Fail> {
     match Name::read(text) {
         Some(name) => Ok(name),
         None => Err(Fail::from("a name of the rows is refused")),
@@ -16,20 +16,25 @@ fn name_of(text: &[u8]) -> Result<Name, Fail> {
 }
 
 /// Fails where the record's line is another one.
-fn is_line(alloc: Global, rec: Record, line: &[u8]) -> Result<(), Fail>
-    requires { IsPrintable rec }
+fn has_line(alloc: Global, rec: &Record, line: &[u8]) -> Result<(), Fail>
+    requires { IsPrintable rec.now }
 {
     let mut out = Vec::new(alloc);
     out.extend_from_slice(b"before ")?;
-    print_record(&rec, &mut out).ok().ok_or("memory")?;
-    let mut wanted = Vec::new(alloc);
-    wanted.extend_from_slice(b"before ")?;
-    wanted.extend_from_slice(line)?;
-    if out.as_slice() == wanted.as_slice() {
+    print_record(rec, &mut out).ok().ok_or("memory")?;
+    if out.as_slice().strip_prefix(b"before ") == Some(line) {
         Ok(())
     } else {
         Err(Fail::from("another line than the row's"))
     }
+}
+
+fn is_line(alloc: Global, rec: Record, line: &[u8]) -> Result<(), Fail>
+    requires { IsPrintable rec }
+{
+    let told = has_line(alloc, &rec, line);
+    drop(rec);
+    told
 }
 
 fn first() -> Result<SheetName, Fail> {

@@ -3,23 +3,14 @@
 ghost use Rattle.std.specs.Prelude.{◌≡◌, [], IfOk};
 ghost use Rattle.tp_script.specs.Printed.{IsEchoed};
 
-use rows_machine::machines::{DUO, LINE};
+use rows_machine::machines::{DUO, LINE, machine_of};
 use rows_machine::worked::WORKED;
 use std::alloc::Global;
 use std::test::Fail;
-use tp_machine::Machine;
-use tp_machine_text::read_machine;
 use tp_outside::{MemSink, MemSource};
 use tp_script::{Event, LineFault, read_printed};
 use tp_session::{Probe, Session, Settings};
 use tp_stream::answer_script;
-
-pub(crate) fn machine_of(alloc: Global, text: &[u8]) -> Result<Machine, Fail> {
-    match read_machine(alloc, text) {
-        Ok(machine) => Ok(machine),
-        Err(_) => Err(Fail::from("a machine of the rows is refused")),
-    }
-}
 
 pub(crate) fn session_on(alloc: Global, text: &[u8], budget: Option<u32>) -> Result<Session, Fail>
     ensures { IfOk result (λ session. (session.answered ≡ 0) × (session.text ≡ [])) }
@@ -49,10 +40,10 @@ fn event_of(alloc: Global, line: &[u8]) -> Result<Event, Fail>
 }
 
 pub(crate) fn take_line(alloc: Global, session: &mut Session, line: &[u8]) -> Result<(), Fail> {
-    let event = event_of(alloc, line)?;
     if session.events() > 999 {
         return Err(Fail::from("more lines than a row has"));
     }
+    let event = event_of(alloc, line)?;
     match session.event(&event) {
         Ok(()) => Ok(()),
         Err(_) => Err(Fail::from("memory")),
@@ -66,34 +57,49 @@ fn take_lines(alloc: Global, session: &mut Session, lines: &[&[u8]]) -> Result<(
     Ok(())
 }
 
-// A function that owns a session takes long to prove for each of its ways out. So each of these owns one, and lends it to
-// the next.
 fn text_after(alloc: Global, session: &mut Session, lines: &[&[u8]]) -> Result<Vec<u8>, Fail> {
     take_lines(alloc, session, lines)?;
     Ok(session.text().to_vec(alloc)?)
 }
 
-/// Whether a fresh session answers the script of the source as a stream of lines.
-fn is_answered(alloc: Global, session: Session, source: &mut MemSource, sink: &mut MemSink) -> bool
+/// Whether a fresh session answers the script as a stream of lines.
+fn is_answered(alloc: Global, session: Session, script: Vec<u8>, sink: &mut MemSink) -> bool
     requires fresh { session.answered ≡ 0 }
     requires clear { session.text ≡ [] }
 {
-    match answer_script(alloc, session, source, sink) {
-        Ok(_) => true,
+    let mut source = MemSource::new(script, 7, Vec::new(alloc));
+    match answer_script(alloc, session, &mut source, sink) {
+        Ok(session) => {
+            drop(session);
+            true
+        }
         Err(_) => false,
+    }
+}
+
+/// Has a session answer a script.
+fn answer(
+    alloc: Global,
+    text: &str,
+    budget: Option<u32>,
+    script: &[u8],
+    sink: &mut MemSink,
+) -> Result<(), Fail> {
+    let script = script.to_vec(alloc)?;
+    let session = session_on(alloc, text.as_bytes(), budget)?;
+    if is_answered(alloc, session, script, sink) {
+        Ok(())
+    } else {
+        Err(Fail::from("the script is not answered"))
     }
 }
 
 /// The log of a script, which a session answers so.
 fn log_of(alloc: Global, text: &str, budget: Option<u32>, script: &[u8]) -> Result<Vec<u8>, Fail> {
-    let mut source = MemSource::new(script.to_vec(alloc)?, 7, Vec::new(alloc));
     let mut sink = MemSink::new(alloc, 65_536, 4096, Vec::new(alloc))
         .ok()
         .ok_or("memory")?;
-    let session = session_on(alloc, text.as_bytes(), budget)?;
-    if !is_answered(alloc, session, &mut source, &mut sink) {
-        return Err(Fail::from("the script is not answered"));
-    }
+    answer(alloc, text, budget, script, &mut sink)?;
     Ok(sink.bytes().to_vec(alloc)?)
 }
 
@@ -163,7 +169,9 @@ fn kept_between(
 
 fn kept_on_duo(alloc: Global, first: &[&[u8]], second: &[&[u8]]) -> Result<(Kept, Vec<u8>), Fail> {
     let mut session = session_on(alloc, DUO.as_bytes(), None)?;
-    kept_between(alloc, &mut session, first, second)
+    let kept = kept_between(alloc, &mut session, first, second);
+    drop(session);
+    kept
 }
 
 #[test]
@@ -204,7 +212,9 @@ fn probe_after(alloc: Global, session: &mut Session, row: Probed) -> Result<(Pro
 
 fn probe_of(alloc: Global, row: Probed) -> Result<(Probe, bool), Fail> {
     let mut session = session_on(alloc, row.machine.as_bytes(), row.budget)?;
-    probe_after(alloc, &mut session, row)
+    let told = probe_after(alloc, &mut session, row);
+    drop(session);
+    told
 }
 
 /// A row on DUO by the machine's budget.

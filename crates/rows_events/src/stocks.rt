@@ -183,7 +183,9 @@ fn stocked(alloc: Global) -> Result<String, Fail> {
 fn run(alloc: Global, number: u64, seen: &mut Seen) -> Result<(), Fail> {
     let text = stocked(alloc)?;
     let mut session = session_on(alloc, text.as_bytes(), None)?;
-    watch(alloc, &mut session, number, seen)
+    let watched = watch(alloc, &mut session, number, seen);
+    drop(session);
+    watched
 }
 
 #[test]
