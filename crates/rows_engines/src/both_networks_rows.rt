@@ -2,9 +2,8 @@
 ghost use Rattle.std.specs.Prelude.{◌≡◌, IfOk, OnOk};
 ghost use Rattle.tp_schedule.specs.Planning.{CanPlanOn};
 
-use crate::by_hand::machine_of;
 use crate::engine_rows::{MONO, ask_sheet, engine_for};
-use rows_machine::machines::{DUO, LOOP, TAIL};
+use rows_machine::machines::{DUO, LOOP, TAIL, machine_of};
 use std::alloc::Global;
 use std::test::Fail;
 use tp_base::Tick;
@@ -54,7 +53,21 @@ fn last_end(schedule: &Schedule) -> Result<Tick, Fail> {
     Ok(points.get(points.len() - 1))
 }
 
-/// The ends of two sheets, asked for one after the other.
+/// The ends of two sheets, asked for one after the other on an empty schedule.
+fn ends_on<P: Planner>(
+    planner: &mut P,
+    machine: &Machine,
+    schedule: &mut Schedule,
+    prints: (Want, Want),
+) -> Result<[Tick; 2], Fail>
+    requires served { IsTrue (P.serves planner.old machine.now) }
+    requires plan_on { CanPlanOn machine.now 0 schedule.old.plans }
+{
+    let one = next_end(planner, machine, schedule, 1, prints)?;
+    let other = next_end(planner, machine, schedule, 2, prints)?;
+    Ok([one, other])
+}
+
 fn ends_in_turn<P: Planner>(
     alloc: Global,
     planner: &mut P,
@@ -64,9 +77,9 @@ fn ends_in_turn<P: Planner>(
     requires { P.serves planner.old machine.now }
 {
     let mut schedule = Schedule::new(alloc);
-    let one = next_end(planner, machine, &mut schedule, 1, prints)?;
-    let other = next_end(planner, machine, &mut schedule, 2, prints)?;
-    Ok([one, other])
+    let ends = ends_on(planner, machine, &mut schedule, prints);
+    drop(schedule);
+    ends
 }
 
 fn ends_over_plain(
@@ -75,7 +88,9 @@ fn ends_over_plain(
     prints: (Want, Want),
 ) -> Result<[Tick; 2], Fail> {
     let mut engine = engine_for(alloc, machine, false)?;
-    ends_in_turn(alloc, &mut engine, machine, prints)
+    let ends = ends_in_turn(alloc, &mut engine, machine, prints);
+    drop(engine);
+    ends
 }
 
 fn ends_over_live(
@@ -84,15 +99,26 @@ fn ends_over_live(
     prints: (Want, Want),
 ) -> Result<[Tick; 2], Fail> {
     let mut engine = live_engine_for(alloc, machine)?;
-    ends_in_turn(alloc, &mut engine, machine, prints)
+    let ends = ends_in_turn(alloc, &mut engine, machine, prints);
+    drop(engine);
+    ends
 }
 
-fn ends_over_both(alloc: Global, text: &str, prints: (Want, Want)) -> Result<[[Tick; 2]; 2], Fail> {
-    let machine = machine_of(alloc, text)?;
-    Ok([
-        ends_over_plain(alloc, &machine, prints)?,
-        ends_over_live(alloc, &machine, prints)?,
-    ])
+fn ends_over_both(
+    alloc: Global,
+    machine: &Machine,
+    prints: (Want, Want),
+) -> Result<[[Tick; 2]; 2], Fail> {
+    let plain = ends_over_plain(alloc, machine, prints)?;
+    let live = ends_over_live(alloc, machine, prints)?;
+    Ok([plain, live])
+}
+
+fn ends_of(alloc: Global, text: &str, prints: (Want, Want)) -> Result<[[Tick; 2]; 2], Fail> {
+    let machine = machine_of(alloc, text.as_bytes())?;
+    let ends = ends_over_both(alloc, &machine, prints);
+    drop(machine);
+    ends
 }
 
 // On TAIL a hold outlasts its action; on LOOP the way passes one state twice.
@@ -100,9 +126,9 @@ fn ends_over_both(alloc: Global, text: &str, prints: (Want, Want)) -> Result<[[T
 fn both_networks_give_equal_ends(rt: HostRuntime) -> Result<(), Fail> {
     let blank = (Want::Blank, Want::Blank);
     let both = (Want::Mono, Want::Mono);
-    assert_eq!(rt; ends_over_both(rt.alloc(), DUO, MONO)?, [[14, 17]; 2]);
-    assert_eq!(rt; ends_over_both(rt.alloc(), TAIL, blank)?, [[8, 15]; 2]);
-    let [plain, live] = ends_over_both(rt.alloc(), LOOP, both)?;
+    assert_eq!(rt; ends_of(rt.alloc(), DUO, MONO)?, [[14, 17]; 2]);
+    assert_eq!(rt; ends_of(rt.alloc(), TAIL, blank)?, [[8, 15]; 2]);
+    let [plain, live] = ends_of(rt.alloc(), LOOP, both)?;
     assert_eq!(rt; plain, live);
     assert_eq!(rt; live[0], 16);
     Ok(())

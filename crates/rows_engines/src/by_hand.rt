@@ -9,7 +9,6 @@ use std::alloc::Global;
 use std::test::Fail;
 use tp_base::{Name, Network};
 use tp_machine::{ActId, Face, Machine, Outs, Sheet, Want};
-use tp_machine_text::read_machine;
 use tp_placing::Board;
 use tp_schedule::{Ask, Empties, Goal, Origin, SheetId};
 use tp_stn_core::PlainNet;
@@ -21,13 +20,6 @@ pub(crate) const PRINT1: ActId = ActId(1);
 pub(crate) const PRINT2: ActId = ActId(2);
 
 pub(crate) const OUT: ActId = ActId(3);
-
-pub(crate) fn machine_of(alloc: Global, text: &str) -> Result<Machine, Fail> {
-    match read_machine(alloc, text.as_bytes()) {
-        Ok(machine) => Ok(machine),
-        Err(_) => Err(Fail::from("the machine text is refused")),
-    }
-}
 
 pub(crate) fn name_of(text: &[u8]) -> Result<Name, Fail> {
     Ok(Name::read(text).ok_or("no name")?)

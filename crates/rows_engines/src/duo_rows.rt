@@ -4,7 +4,7 @@ ghost use Rattle.tp_placing.specs.Standing.{IsMadeFor};
 ghost use Rattle.tp_routes.specs.Tables.{IsMadeFor as IsTableFor};
 
 use crate::board_rows::bounds;
-use crate::by_hand::{board_for, machine_of};
+use crate::by_hand::board_for;
 use crate::flying_rows::way_out_behind_a_front;
 use crate::planned_rows::{
     choices_of_the_second, place_before_the_first_is_late, places_from_the_end, plans_in_turn,
@@ -14,7 +14,7 @@ use crate::rooms_rows::{copy_in_flight, new_copies, rooms_for};
 use crate::search_rows::{
     earliest_in_turn, modules_out, nodes_for_the_first, nodes_for_the_second,
 };
-use rows_machine::machines::DUO;
+use rows_machine::machines::{DUO, machine_of};
 use std::alloc::Global;
 use std::process::Abort;
 use std::test::Fail;
@@ -78,8 +78,8 @@ fn look_at_all<N: Network>(
     look_at_plans(rt, alloc, board, rooms, machine)
 }
 
-// A function that owns a machine, a board or rooms takes long to prove for each of its ways out. So each of these owns one, and
-// lends it to the next.
+// What a function lets go of at its end is proved anew for each of its ways out. So each of these lends what it owns to the next, and
+// then gives it to `drop`, which is proved once.
 fn look_with_rooms<N: Network>(
     rt: &impl Abort,
     alloc: Global,
@@ -90,16 +90,22 @@ fn look_with_rooms<N: Network>(
     requires marks { N.max_marks board.old.net ≡ 330 }
 {
     let mut rooms = rooms_for(alloc, machine)?;
-    look_at_all(rt, alloc, board, &mut rooms, machine)
+    let looked = look_at_all(rt, alloc, board, &mut rooms, machine);
+    drop(rooms);
+    looked
 }
 
 fn look_with_board(rt: &impl Abort, alloc: Global, machine: &Machine) -> Result<(), Fail> {
     let mut board = board_for(alloc, machine)?;
-    look_with_rooms(rt, alloc, &mut board, machine)
+    let looked = look_with_rooms(rt, alloc, &mut board, machine);
+    drop(board);
+    looked
 }
 
 #[test]
 fn rows_on_duo(rt: HostRuntime) -> Result<(), Fail> {
-    let machine = machine_of(rt.alloc(), DUO)?;
-    look_with_board(&rt, rt.alloc(), &machine)
+    let machine = machine_of(rt.alloc(), DUO.as_bytes())?;
+    let looked = look_with_board(&rt, rt.alloc(), &machine);
+    drop(machine);
+    looked
 }

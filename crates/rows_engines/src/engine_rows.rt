@@ -10,13 +10,13 @@ ghost use Rattle.rows_engines.specs.Trying.{IsReady};
 use crate::by_hand::{ask_for, board_for, goal_of, name_of};
 use crate::laying::is_askable;
 use crate::planned_rows::points_of;
-use rows_machine::machines::DUO;
+use crate::search_rows::work_for;
+use rows_machine::machines::{DUO, machine_of};
 use std::alloc::Global;
 use std::process::Abort;
 use std::test::Fail;
 use tp_base::{Network, Tick, Undo};
 use tp_machine::{Machine, Want};
-use tp_machine_text::read_machine;
 use tp_placing::Board;
 use tp_schedule::{Ask, Planner, Reply, Schedule};
 use tp_search::{Engine, Workspace, plan};
@@ -24,13 +24,6 @@ use tp_stn_core::PlainNet;
 
 /// A print on the front alone.
 pub(crate) const MONO: (Want, Want) = (Want::Mono, Want::Blank);
-
-fn duo_machine(alloc: Global) -> Result<Machine, Fail> {
-    match read_machine(alloc, DUO.as_bytes()) {
-        Ok(machine) => Ok(machine),
-        Err(_) => Err(Fail::from("the machine text is refused")),
-    }
-}
 
 pub(crate) fn engine_for(
     alloc: Global,
@@ -107,7 +100,25 @@ fn settle_all<P: Planner>(
     }
 }
 
-/// The replies to two asks, and the points: of the first plan, of both plans, and of both once they are settled.
+/// The replies to two asks on an empty schedule, and the points: of the first plan, of both plans, and of both once they are settled.
+fn told_on<P: Planner>(
+    planner: &mut P,
+    machine: &Machine,
+    schedule: &mut Schedule,
+) -> Result<([Reply; 2], [[Tick; 4]; 5]), Fail>
+    requires served { IsTrue (P.serves planner.old machine.now) }
+    requires plan_on { CanPlanOn machine.now 0 schedule.old.plans }
+{
+    let one = ask_sheet(planner, machine, schedule, 1, MONO)?;
+    let alone = points_of(schedule, 1, 0)?;
+    let other = ask_sheet(planner, machine, schedule, 2, MONO)?;
+    let [first, second] = [points_of(schedule, 2, 0)?, points_of(schedule, 2, 1)?];
+    settle_all(planner, machine, schedule)?;
+    let settled = [points_of(schedule, 2, 0)?, points_of(schedule, 2, 1)?];
+    let points = [alone, first, second, settled[0], settled[1]];
+    Ok(([one, other], points))
+}
+
 fn told_in_turn<P: Planner>(
     alloc: Global,
     planner: &mut P,
@@ -116,14 +127,9 @@ fn told_in_turn<P: Planner>(
     requires { P.serves planner.old machine.now }
 {
     let mut schedule = Schedule::new(alloc);
-    let one = ask_sheet(planner, machine, &mut schedule, 1, MONO)?;
-    let alone = points_of(&schedule, 1, 0)?;
-    let other = ask_sheet(planner, machine, &mut schedule, 2, MONO)?;
-    let [first, second] = [points_of(&schedule, 2, 0)?, points_of(&schedule, 2, 1)?];
-    settle_all(planner, machine, &mut schedule)?;
-    let settled = [points_of(&schedule, 2, 0)?, points_of(&schedule, 2, 1)?];
-    let points = [alone, first, second, settled[0], settled[1]];
-    Ok(([one, other], points))
+    let told = told_on(planner, machine, &mut schedule);
+    drop(schedule);
+    told
 }
 
 /// The end of the earliest plan, which is then abandoned.
@@ -195,6 +201,25 @@ fn tried_twice<N: Network>(
 }
 
 /// The end and the points of the first sheet's plan on an empty schedule.
+fn first_on<N: Network>(
+    board: &mut Board<N>,
+    work: &mut Workspace,
+    machine: &Machine,
+    schedule: &mut Schedule,
+) -> Result<(Tick, [Tick; 4]), Fail>
+    requires work { IsFor work.old machine.now }
+    requires made { IsMadeFor board.old.made_for machine.now }
+    requires marks { 8 ≤ N.max_marks board.old.net }
+    requires empty { schedule.old.plans ≡ [] }
+{
+    let ask = first_tray_ask(machine, 1, MONO)?;
+    match schedule.reserve() {
+        Ok(()) => {}
+        Err(_) => return Err(Fail::from("memory")),
+    }
+    tried_twice(board, work, machine, schedule, &ask)
+}
+
 fn first_tried<N: Network>(
     alloc: Global,
     board: &mut Board<N>,
@@ -203,26 +228,46 @@ fn first_tried<N: Network>(
     requires made { IsMadeFor board.old.made_for machine.now }
     requires marks { 8 ≤ N.max_marks board.old.net }
 {
+    let mut work = work_for(alloc, machine, 1000)?;
     let mut schedule = Schedule::new(alloc);
-    let ask = first_tray_ask(machine, 1, MONO)?;
-    let (Ok(()), Ok(mut work)) = (schedule.reserve(), Workspace::new(alloc, machine, 1000)) else {
-        return Err(Fail::from("memory"));
-    };
-    tried_twice(board, &mut work, machine, &mut schedule, &ask)
+    let tried = first_on(board, &mut work, machine, &mut schedule);
+    drop(schedule);
+    drop(work);
+    tried
 }
 
 /// The replies and the points in turn, and how many marks of the board are spare then.
+fn told_by_engine(
+    alloc: Global,
+    machine: &Machine,
+) -> Result<([Reply; 2], [[Tick; 4]; 5], u32), Fail> {
+    let mut engine = engine_for(alloc, machine, false)?;
+    let told = told_in_turn(alloc, &mut engine, machine);
+    let spare = engine.board().spare_marks();
+    drop(engine);
+    let (replies, points) = told?;
+    Ok((replies, points, spare))
+}
+
 fn told_on_duo(alloc: Global) -> Result<([Reply; 2], [[Tick; 4]; 5], u32), Fail> {
-    let machine = duo_machine(alloc)?;
-    let mut engine = engine_for(alloc, &machine, false)?;
-    let (replies, points) = told_in_turn(alloc, &mut engine, &machine)?;
-    Ok((replies, points, engine.board().spare_marks()))
+    let machine = machine_of(alloc, DUO.as_bytes())?;
+    let told = told_by_engine(alloc, &machine);
+    drop(machine);
+    told
+}
+
+fn tried_by_board(alloc: Global, machine: &Machine) -> Result<(Tick, [Tick; 4]), Fail> {
+    let mut board = board_for(alloc, machine)?;
+    let tried = first_tried(alloc, &mut board, machine);
+    drop(board);
+    tried
 }
 
 fn tried_on_duo(alloc: Global) -> Result<(Tick, [Tick; 4]), Fail> {
-    let machine = duo_machine(alloc)?;
-    let mut board = board_for(alloc, &machine)?;
-    first_tried(alloc, &mut board, &machine)
+    let machine = machine_of(alloc, DUO.as_bytes())?;
+    let tried = tried_by_board(alloc, &machine);
+    drop(machine);
+    tried
 }
 
 // The second sheet is fed ahead of the first, which gives way. All points are as early as they can be, so the times settle where

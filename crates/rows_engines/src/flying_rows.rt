@@ -32,7 +32,9 @@ fn first_flying<N: Network>(
     ensures plan_on { IfOk result (λ flying. CanPlanOn machine.now 0 flying.plans) }
 {
     let planned = one_planned(alloc, board, rooms, machine)?;
-    one_flying(alloc, machine, &planned, 2)
+    let flying = one_flying(alloc, machine, &planned, 2);
+    drop(planned);
+    flying
 }
 
 /// Where the front ends, and the bound of the sheet's end where only the way out is left.
@@ -78,7 +80,9 @@ pub(crate) fn way_out_behind_a_front<N: Network>(
     ensures table { OnOk result (IsTableFor rooms.new machine.now) }
 {
     let flying = first_flying(alloc, board, rooms, machine)?;
-    let told = bound_behind_front(board, rooms, machine, &flying)?;
+    let told = bound_behind_front(board, rooms, machine, &flying);
+    drop(flying);
+    let told = told?;
     let origin = Origin::Front {
         state: state_at(2, true, false),
         end: 11,

@@ -98,6 +98,7 @@ fn go_along<N: Network>(rt: &impl Abort, net: &mut N)
 fn long_chain(rt: HostRuntime) -> Result<(), Fail> {
     let mut net = PlainNet::new(rt.alloc(), POINTS, 100_000, MARKS)?;
     go_along(&rt, &mut net);
+    drop(net);
     Ok(())
 }
 
@@ -105,5 +106,6 @@ fn long_chain(rt: HostRuntime) -> Result<(), Fail> {
 fn long_live_chain(rt: HostRuntime) -> Result<(), Fail> {
     let mut net = LiveNet::new(rt.alloc(), POINTS, 100_000, MARKS)?;
     go_along(&rt, &mut net);
+    drop(net);
     Ok(())
 }

@@ -3,6 +3,7 @@ ghost use Rattle.tp_base.specs.Net.{empty_net};
 ghost use Rattle.rows_engines.specs.Rows.{edge_of, three_points};
 
 use crate::probing::could_take;
+use std::alloc::Global;
 use std::process::Abort;
 use std::test::Fail;
 use tp_base::{Edge, Full, Late, Network, PointId, Proof, Trail, Undo};
@@ -140,6 +141,7 @@ fn shows_its_support(rt: &impl Abort, net: &LiveNet, two: &mut Trail<Edge>, one:
 fn network_rows(rt: HostRuntime) -> Result<(), Fail> {
     let mut net = PlainNet::new(rt.alloc(), 3, 5, 1)?;
     look_at_net(&rt, &mut net);
+    drop(net);
     Ok(())
 }
 
@@ -147,9 +149,27 @@ fn network_rows(rt: HostRuntime) -> Result<(), Fail> {
 fn live_network_rows(rt: HostRuntime) -> Result<(), Fail> {
     let mut net = LiveNet::new(rt.alloc(), 3, 5, 1)?;
     look_at_net(&rt, &mut net);
-    let mut net = LiveNet::new(rt.alloc(), 3, 2, 0)?;
-    lay_out(&rt, &mut net);
-    let (mut two, mut one) = (Trail::new(rt.alloc(), 2)?, Trail::new(rt.alloc(), 1)?);
-    shows_its_support(&rt, &net, &mut two, &mut one);
+    drop(net);
     Ok(())
+}
+
+/// The support of C on a network with room for no edge more.
+fn look_at_support(rt: &impl Abort, alloc: Global, net: &mut LiveNet) -> Result<(), Fail>
+    requires empty { net.old.net ≡ empty_net }
+    requires points { net.old.max_points ≡ 3 }
+    requires edges { net.old.max_edges ≡ 2 }
+{
+    lay_out(rt, net);
+    let mut two = Trail::new(alloc, 2)?;
+    let mut one = Trail::new(alloc, 1)?;
+    shows_its_support(rt, net, &mut two, &mut one);
+    Ok(())
+}
+
+#[test]
+fn live_network_supports(rt: HostRuntime) -> Result<(), Fail> {
+    let mut net = LiveNet::new(rt.alloc(), 3, 2, 0)?;
+    let looked = look_at_support(&rt, rt.alloc(), &mut net);
+    drop(net);
+    looked
 }

@@ -193,7 +193,9 @@ pub(crate) fn second_begun<N: Network>(
         (length way.now)) }
 {
     let schedule = one_planned(alloc, board, rooms, machine)?;
-    begun_behind(board, rooms, machine, &schedule, way)
+    let begun = begun_behind(board, rooms, machine, &schedule, way);
+    drop(schedule);
+    begun
 }
 
 /// The bounds of the second sheet's end on a way, and with each of two choices more.
@@ -235,7 +237,9 @@ pub(crate) fn plans_in_turn<N: Network>(
     ensures table { OnOk result (IsTableFor rooms.new machine.now) }
 {
     let mut schedule = one_planned(alloc, board, rooms, machine)?;
-    let points = points_in_turn(alloc, board, rooms, machine, &mut schedule)?;
+    let points = points_in_turn(alloc, board, rooms, machine, &mut schedule);
+    drop(schedule);
+    let points = points?;
     let wanted = [
         [3, 5, 11, 14],
         [5, 7, 13, 16],

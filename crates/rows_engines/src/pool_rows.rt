@@ -28,6 +28,7 @@ fn full_pool(rt: HostRuntime) -> Result<(), Fail> {
     assert_eq!(rt; pool.bound(1), 7);
     pool.clear();
     assert_eq!(rt; pool.len(), 0);
+    drop(pool);
     Ok(())
 }
 
@@ -44,6 +45,7 @@ fn three_choices(rt: HostRuntime) -> Result<(), Fail> {
     assert_eq!(rt; pool.choice_at(2, 1), stop);
     assert_eq!(rt; pool.choice_at(2, 2), first);
     assert_eq!(rt; pool.choice_at(2, 3), second);
+    drop(pool);
     Ok(())
 }
 
@@ -58,5 +60,6 @@ fn least_bound_first(rt: HostRuntime) -> Result<(), Fail> {
     assert_eq!(rt; queue.take(), Some(0));
     assert_eq!(rt; queue.take(), Some(2));
     assert_eq!(rt; queue.take(), None);
+    drop(queue);
     Ok(())
 }

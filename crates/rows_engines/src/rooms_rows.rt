@@ -2,8 +2,8 @@
 ghost use Rattle.std.specs.Prelude.{◌≡◌, ◌<◌, IfOk, length};
 ghost use Rattle.tp_routes.specs.Tables.{IsMadeFor};
 
-use crate::by_hand::{machine_of, name_of};
-use rows_machine::machines::LOOP;
+use crate::by_hand::name_of;
+use rows_machine::machines::{LOOP, machine_of};
 use std::alloc::Global;
 use std::process::Abort;
 use std::test::Fail;
@@ -158,12 +158,16 @@ fn room_of_both(rooms: &mut Rooms, machine: &Machine) -> Result<Option<u32>, Fai
 
 fn new_room_of_both(alloc: Global, machine: &Machine) -> Result<Option<u32>, Fail> {
     let mut rooms = rooms_for(alloc, machine)?;
-    room_of_both(&mut rooms, machine)
+    let room = room_of_both(&mut rooms, machine);
+    drop(rooms);
+    room
 }
 
 fn room_on_loop(alloc: Global) -> Result<Option<u32>, Fail> {
-    let machine = machine_of(alloc, LOOP)?;
-    new_room_of_both(alloc, &machine)
+    let machine = machine_of(alloc, LOOP.as_bytes())?;
+    let room = new_room_of_both(alloc, &machine);
+    drop(machine);
+    room
 }
 
 #[test]

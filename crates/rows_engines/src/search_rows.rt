@@ -17,7 +17,7 @@ use tp_placing::Board;
 use tp_schedule::{Ask, Reply, Schedule};
 use tp_search::{Workspace, answer};
 
-fn work_for(alloc: Global, machine: &Machine, nodes: u32) -> Result<Workspace, Fail>
+pub(crate) fn work_for(alloc: Global, machine: &Machine, nodes: u32) -> Result<Workspace, Fail>
     ensures made { IfOk result (λ work. IsFor work machine.now) }
     ensures nodes { IfOk result (λ work. work.nodes ≡ nodes) }
 {
@@ -92,6 +92,28 @@ fn answer_sheet<N: Network>(
     answer_new(work, board, machine, schedule, &ask)
 }
 
+/// Searches for a plan of the sheet of this number with so many nodes, where these modules are out.
+fn answer_with<N: Network>(
+    alloc: Global,
+    board: &mut Board<N>,
+    machine: &Machine,
+    schedule: &mut Schedule,
+    asked: (u32, u32, Outs),
+) -> Result<Reply, Fail>
+    requires made { IsMadeFor board.old.made_for machine.now }
+    requires marks { 8 ≤ N.max_marks board.old.net }
+    requires plan_on { CanPlanOn machine.now 0 schedule.old.plans }
+    ensures made { IsMadeFor board.new.made_for machine.now }
+    ensures marks { 8 ≤ N.max_marks board.new.net }
+    ensures plan_on { OnOk result (CanPlanOn machine.now 0 schedule.new.plans) }
+{
+    let (number, nodes, outs) = asked;
+    let mut work = work_for(alloc, machine, nodes)?;
+    let reply = answer_sheet(&mut work, board, machine, schedule, number, outs);
+    drop(work);
+    reply
+}
+
 /// The first sheet's reply on an empty schedule, with so many nodes and where these modules are out, and the schedule then.
 fn first_answered<N: Network>(
     alloc: Global,
@@ -106,10 +128,37 @@ fn first_answered<N: Network>(
     ensures marks { 8 ≤ N.max_marks board.new.net }
     ensures plan_on { IfOk result (λ answered. CanPlanOn machine.now 0 answered.1.plans) }
 {
-    let mut work = work_for(alloc, machine, nodes)?;
     let mut schedule = Schedule::new(alloc);
-    let reply = answer_sheet(&mut work, board, machine, &mut schedule, 1, outs)?;
-    Ok((reply, schedule))
+    match answer_with(alloc, board, machine, &mut schedule, (1, nodes, outs)) {
+        Ok(reply) => Ok((reply, schedule)),
+        Err(fail) => {
+            drop(schedule);
+            Err(fail)
+        }
+    }
+}
+
+/// The points of the one plan, the second sheet's reply, and the points of both plans then.
+fn points_with_second<N: Network>(
+    alloc: Global,
+    board: &mut Board<N>,
+    machine: &Machine,
+    schedule: &mut Schedule,
+) -> Result<(Reply, [[Tick; 4]; 3]), Fail>
+    requires made { IsMadeFor board.old.made_for machine.now }
+    requires marks { 8 ≤ N.max_marks board.old.net }
+    requires plan_on { CanPlanOn machine.now 0 schedule.old.plans }
+    ensures made { IsMadeFor board.new.made_for machine.now }
+    ensures marks { 8 ≤ N.max_marks board.new.net }
+{
+    let alone = points_of(schedule, 1, 0)?;
+    let reply = answer_with(alloc, board, machine, schedule, (2, 1000, Outs(0)))?;
+    let points = [
+        alone,
+        points_of(schedule, 2, 0)?,
+        points_of(schedule, 2, 1)?,
+    ];
+    Ok((reply, points))
 }
 
 /// The points of the first plan, and of both once the second sheet is planned.
@@ -124,15 +173,19 @@ fn points_in_turn<N: Network>(
     ensures marks { 8 ≤ N.max_marks board.new.net }
 {
     let (one, mut schedule) = first_answered(alloc, board, machine, 1000, Outs(0))?;
-    let alone = points_of(&schedule, 1, 0)?;
-    let mut work = work_for(alloc, machine, 1000)?;
-    let other = answer_sheet(&mut work, board, machine, &mut schedule, 2, Outs(0))?;
-    let points = [
-        alone,
-        points_of(&schedule, 2, 0)?,
-        points_of(&schedule, 2, 1)?,
-    ];
+    let told = points_with_second(alloc, board, machine, &mut schedule);
+    drop(schedule);
+    let (other, points) = told?;
     Ok(([one, other], points))
+}
+
+/// The end of the one plan, if there is one.
+fn end_of(schedule: &Schedule) -> Result<Option<Tick>, Fail> {
+    if schedule.len() == 0 {
+        return Ok(None);
+    }
+    let [_, _, _, end] = points_of(schedule, 1, 0)?;
+    Ok(Some(end))
 }
 
 /// The first sheet's reply, and the end of its plan if there is one.
@@ -149,11 +202,9 @@ fn first_end<N: Network>(
     ensures marks { 8 ≤ N.max_marks board.new.net }
 {
     let (reply, schedule) = first_answered(alloc, board, machine, nodes, outs)?;
-    if schedule.len() == 0 {
-        return Ok((reply, None));
-    }
-    let [_, _, _, end] = points_of(&schedule, 1, 0)?;
-    Ok((reply, Some(end)))
+    let end = end_of(&schedule);
+    drop(schedule);
+    Ok((reply, end?))
 }
 
 /// The second sheet's reply with so many nodes, where the first is planned.
@@ -169,8 +220,9 @@ fn second_reply<N: Network>(
     ensures marks { 8 ≤ N.max_marks board.new.net }
 {
     let (_, mut schedule) = first_answered(alloc, board, machine, 1000, Outs(0))?;
-    let mut work = work_for(alloc, machine, nodes)?;
-    answer_sheet(&mut work, board, machine, &mut schedule, 2, Outs(0))
+    let reply = answer_with(alloc, board, machine, &mut schedule, (2, nodes, Outs(0)));
+    drop(schedule);
+    reply
 }
 
 // Each sheet has one way that ends first. The first sheet takes the faster engine, from 3 to 14. The second takes the other

@@ -24,6 +24,7 @@ fn timelines_rows(rt: HostRuntime) -> Result<(), Fail> {
     lines.undo_to(mark);
     assert_eq!(rt; lines.len(FIRST), 3);
     assert_eq!(rt; lines.at(FIRST, 0), 7);
+    drop(lines);
     Ok(())
 }
 
@@ -36,5 +37,6 @@ fn full_over_both(rt: HostRuntime) -> Result<(), Fail> {
     assert_eq!(rt; lines.spare_marks(), 1);
     lines.clear();
     assert_eq!(rt; lines.len(SECOND), 0);
+    drop(lines);
     Ok(())
 }
