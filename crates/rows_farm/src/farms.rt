@@ -2,21 +2,17 @@
 
 ghost use Rattle.std.specs.Prelude.{◌≡◌, [], ◌∷◌, IfOk};
 
-use rows_machine::machines::{DUO, LINE};
+use rows_machine::machines::{DUO, LINE, machine_of};
 use std::alloc::Global;
 use std::test::Fail;
 use tp_farm::{Farm, answer_farm};
-use tp_machine_text::read_machine;
 use tp_outside::{MemSink, MemSource};
 use tp_session::{Session, Settings};
 
 fn session_on(alloc: Global, text: &str) -> Result<Session, Fail>
     ensures { IfOk result (λ session. (session.answered ≡ 0) × (session.text ≡ [])) }
 {
-    let machine = match read_machine(alloc, text.as_bytes()) {
-        Ok(machine) => machine,
-        Err(_) => return Err(Fail::from("a machine of the rows is refused")),
-    };
+    let machine = machine_of(alloc, text.as_bytes())?;
     let settings = Settings {
         budget: None,
         bounds: false,
@@ -45,7 +41,14 @@ fn pair_on(alloc: Global, first: &str, second: &str) -> Result<Farm<Session>, Fa
     ensures { IfOk result (λ farm. farm.lines ≡ 0) }
 {
     let one = session_on(alloc, first)?;
-    let other = session_on(alloc, second)?;
+    // What a function lets go of at its end is proved anew for each of its ways out, and what is given to `drop` once.
+    let other = match session_on(alloc, second) {
+        Ok(other) => other,
+        Err(fail) => {
+            drop(one);
+            return Err(fail);
+        }
+    };
     let sessions = two(alloc, one, other)?;
     Ok(Farm::new(alloc, sessions))
 }

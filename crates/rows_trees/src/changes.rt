@@ -174,15 +174,17 @@ fn counted(alloc: Global, case: &Case, text: &[u8], counts: Counts) -> Result<Co
         }
         Err(TreeFault::Memory) => return Err(Fail::from("no memory")),
     };
-    let mut new = counts;
-    match check_bound(
+    let told = check_bound(
         alloc,
         case.machine,
         case.schedule,
         case.ask,
         case.claim,
         &tree,
-    ) {
+    );
+    drop(tree);
+    let mut new = counts;
+    match told {
         Ok(()) => new.bound = new.bound.saturating_add(1),
         Err(TreeFlaw::RoomRow { .. }) => new.room_row = new.room_row.saturating_add(1),
         Err(TreeFlaw::Uncovered { .. }) => new.uncovered = new.uncovered.saturating_add(1),
@@ -260,7 +262,9 @@ fn are_counted(
         claim,
         text,
     };
-    count_rows(alloc, &case, rows)
+    let counted = count_rows(alloc, &case, rows);
+    drop(machine);
+    counted
 }
 
 /// The first sheet, cut short behind its running feed.
@@ -303,7 +307,6 @@ fn ask_on(goal: Goal) -> Result<Ask, Fail> {
 
 #[test]
 fn first_sheet_changed(rt: HostRuntime) -> Result<(), Fail> {
-    let schedule = Schedule::new(rt.alloc());
     let text = b"b room f:F00 0\n\
              b room a:F00 2\n\
              b room b:F10 8\n\
@@ -318,10 +321,12 @@ fn first_sheet_changed(rt: HostRuntime) -> Result<(), Fail> {
         (Change::LineLeftOut, [0, 0, 5, 1, 0, 0, 0]),
         (Change::LineTwice, [0, 0, 5, 1, 0, 0, 0]),
     ];
+    let ask = ask_of(1, Outs(0))?;
+    let schedule = Schedule::new(rt.alloc());
     are_counted(
         rt.alloc(),
         &schedule,
-        &ask_of(1, Outs(0))?,
+        &ask,
         Claim::Earliest(14),
         text,
         &rows,
@@ -330,7 +335,6 @@ fn first_sheet_changed(rt: HostRuntime) -> Result<(), Fail> {
 
 #[test]
 fn second_sheet_changed(rt: HostRuntime) -> Result<(), Fail> {
-    let schedule = schedule_of(rt.alloc(), first_plan()?)?;
     let text = b"b room f:F00 0\n\
              b room a:F00 2\n\
              b room b:F10 8\n\
@@ -352,10 +356,12 @@ fn second_sheet_changed(rt: HostRuntime) -> Result<(), Fail> {
         (Change::LineLeftOut, [0, 0, 5, 8, 0, 0, 0]),
         (Change::LineTwice, [0, 0, 5, 8, 0, 0, 0]),
     ];
+    let ask = ask_of(2, Outs(0))?;
+    let schedule = schedule_of(rt.alloc(), first_plan()?)?;
     are_counted(
         rt.alloc(),
         &schedule,
-        &ask_of(2, Outs(0))?,
+        &ask,
         Claim::Earliest(17),
         text,
         &rows,
@@ -364,7 +370,6 @@ fn second_sheet_changed(rt: HostRuntime) -> Result<(), Fail> {
 
 #[test]
 fn tray_out_of_reach_changed(rt: HostRuntime) -> Result<(), Fail> {
-    let schedule = Schedule::new(rt.alloc());
     let text = b"b room f:F00 0\n\
              b room a:F00 2\n\
              b room b:F10 8\n\
@@ -378,20 +383,14 @@ fn tray_out_of_reach_changed(rt: HostRuntime) -> Result<(), Fail> {
         (Change::LineLeftOut, [0, 0, 4, 1, 0, 0, 0]),
         (Change::LineTwice, [0, 0, 4, 1, 0, 0, 0]),
     ];
-    are_counted(
-        rt.alloc(),
-        &schedule,
-        &ask_of(1, OUT)?,
-        Claim::Never,
-        text,
-        &rows,
-    )
+    let ask = ask_of(1, OUT)?;
+    let schedule = Schedule::new(rt.alloc());
+    are_counted(rt.alloc(), &schedule, &ask, Claim::Never, text, &rows)
 }
 
 /// The way may stop at the front's end, or go on to a state that can't be reached any more.
 #[test]
 fn copy_in_flight_changed(rt: HostRuntime) -> Result<(), Fail> {
-    let schedule = schedule_of(rt.alloc(), front()?)?;
     let text = b"b room a:F00 0\n\
              b room b:F10 6\n\
              b room t:F10 9\n\
@@ -412,10 +411,12 @@ fn copy_in_flight_changed(rt: HostRuntime) -> Result<(), Fail> {
         (Change::LineLeftOut, [0, 0, 4, 8, 0, 0, 0]),
         (Change::LineTwice, [0, 0, 4, 8, 0, 0, 0]),
     ];
+    let ask = ask_on(Goal::Tray(TRAY))?;
+    let schedule = schedule_of(rt.alloc(), front()?)?;
     are_counted(
         rt.alloc(),
         &schedule,
-        &ask_on(Goal::Tray(TRAY))?,
+        &ask,
         Claim::Earliest(14),
         text,
         &rows,
@@ -425,7 +426,6 @@ fn copy_in_flight_changed(rt: HostRuntime) -> Result<(), Fail> {
 /// Each state at the purge tray whose done sides are wanted is a goal.
 #[test]
 fn purge_changed(rt: HostRuntime) -> Result<(), Fail> {
-    let schedule = schedule_of(rt.alloc(), front()?)?;
     let text = b"b room a:F00 0\n\
              b room b:F10 6\n\
              b room t:F10 9\n\
@@ -442,10 +442,12 @@ fn purge_changed(rt: HostRuntime) -> Result<(), Fail> {
         (Change::LineLeftOut, [0, 0, 4, 4, 0, 0, 0]),
         (Change::LineTwice, [0, 0, 4, 4, 0, 0, 0]),
     ];
+    let ask = ask_on(Goal::Purge)?;
+    let schedule = schedule_of(rt.alloc(), front()?)?;
     are_counted(
         rt.alloc(),
         &schedule,
-        &ask_on(Goal::Purge)?,
+        &ask,
         Claim::Earliest(14),
         text,
         &rows,

@@ -3,13 +3,12 @@ ghost use Rattle.std.specs.Prelude.{◌≡◌, ◌+◌, ◌≤◌, ◌<◌, leng
 ghost use Rattle.tp_schedule.specs.Plans.{IsFormed};
 
 use crate::texts::read;
-use rows_machine::machines::DUO;
+use rows_machine::machines::{self, DUO};
 use std::alloc::Global;
 use std::test::Fail;
 use tp_base::{Name, Tick};
 use tp_bound_check::{Claim, TreeFlaw, check_bound};
 use tp_machine::{ActId, Face, LocId, Machine, Outs, Sheet, Want};
-use tp_machine_text::read_machine;
 use tp_schedule::{Acts, Ask, Empties, Goal, Kind, Origin, Plan, Points, Schedule, SheetId};
 
 pub(crate) const TRAY: LocId = LocId(3);
@@ -18,10 +17,7 @@ pub(crate) const TRAY: LocId = LocId(3);
 pub(crate) const OUT: Outs = Outs(8);
 
 pub(crate) fn machine_of(alloc: Global, text: &str) -> Result<Machine, Fail> {
-    match read_machine(alloc, text.as_bytes()) {
-        Ok(machine) => Ok(machine),
-        Err(_) => Err(Fail::from("a machine of the rows is refused")),
-    }
+    machines::machine_of(alloc, text.as_bytes())
 }
 
 fn name_of(text: &[u8]) -> Result<Name, Fail> {
@@ -130,15 +126,29 @@ fn flaw_of(
 /// A claim, a tree, and its first flaw.
 type Row = (Claim, &'static [u8], Option<TreeFlaw>);
 
-fn are_told(alloc: Global, schedule: &Schedule, ask: &Ask, rows: &[Row]) -> Result<(), Fail> {
-    let machine = machine_of(alloc, DUO)?;
+fn are_told_on(
+    alloc: Global,
+    machine: &Machine,
+    schedule: &Schedule,
+    ask: &Ask,
+    rows: &[Row],
+) -> Result<(), Fail> {
     for (claim, text, wanted) in rows {
-        let flaw = flaw_of(alloc, &machine, schedule, ask, *claim, *text)?;
+        let flaw = flaw_of(alloc, machine, schedule, ask, *claim, *text)?;
         if flaw != *wanted {
             return Err(Fail::from("another flaw than the row's"));
         }
     }
     Ok(())
+}
+
+// What a function lets go of at its end is proved anew for each of its ways out. So what is large is lent to a function that may
+// fail, and then given to `drop`, which is proved once.
+fn are_told(alloc: Global, schedule: &Schedule, ask: &Ask, rows: &[Row]) -> Result<(), Fail> {
+    let machine = machine_of(alloc, DUO)?;
+    let told = are_told_on(alloc, &machine, schedule, ask, rows);
+    drop(machine);
+    told
 }
 
 #[test]
@@ -265,8 +275,9 @@ fn first_sheet(rt: HostRuntime) -> Result<(), Fail> {
             }),
         ),
     ];
+    let ask = ask_of(1, Outs(0))?;
     let schedule = Schedule::new(rt.alloc());
-    are_told(rt.alloc(), &schedule, &ask_of(1, Outs(0))?, &rows)
+    are_told(rt.alloc(), &schedule, &ask, &rows)
 }
 
 #[test]
@@ -388,8 +399,9 @@ fn second_sheet(rt: HostRuntime) -> Result<(), Fail> {
             Some(TreeFlaw::NoSuchHop { node: 2, hop: 0 }),
         ),
     ];
+    let ask = ask_of(2, Outs(0))?;
     let schedule = schedule_of(rt.alloc(), first_plan()?)?;
-    are_told(rt.alloc(), &schedule, &ask_of(2, Outs(0))?, &rows)
+    are_told(rt.alloc(), &schedule, &ask, &rows)
 }
 
 #[test]
@@ -416,22 +428,27 @@ fn tray_out_of_reach(rt: HostRuntime) -> Result<(), Fail> {
             None,
         ),
     ];
+    let ask = ask_of(1, OUT)?;
     let schedule = Schedule::new(rt.alloc());
-    are_told(rt.alloc(), &schedule, &ask_of(1, OUT)?, &rows)
+    are_told(rt.alloc(), &schedule, &ask, &rows)
 }
 
-#[test]
-fn feeder_without_sheets(rt: HostRuntime) -> Result<(), Fail> {
+fn look_without_sheets(alloc: Global, schedule: &Schedule) -> Result<(), Fail> {
     let text = b"b 0 goal t:F10 dead\n";
-    let schedule = Schedule::new(rt.alloc());
     let ask = ask_of(1, Outs(0))?;
     let without_sheets = Ask {
         empty: Empties::none().with(LocId(0)),
         ..ask
     };
     let dead: [Row; 1] = [(Claim::Never, text, None)];
-    are_told(rt.alloc(), &schedule, &without_sheets, &dead)?;
+    are_told(alloc, schedule, &without_sheets, &dead)?;
     // Where the feeder isn't empty, it needs a row.
     let lacking: [Row; 1] = [(Claim::Never, text, Some(TreeFlaw::RoomRow { row: 0 }))];
-    are_told(rt.alloc(), &schedule, &ask, &lacking)
+    are_told(alloc, schedule, &ask, &lacking)
+}
+
+#[test]
+fn feeder_without_sheets(rt: HostRuntime) -> Result<(), Fail> {
+    let schedule = Schedule::new(rt.alloc());
+    look_without_sheets(rt.alloc(), &schedule)
 }
