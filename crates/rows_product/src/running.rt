@@ -1,5 +1,7 @@
 //! Runs of the program over an outside in memory.
 
+ghost use Rattle.std.specs.Prelude.{◌≤◌};
+
 use rows_machine::machines::DUO;
 use std::alloc::Global;
 use std::test::Fail;
@@ -69,6 +71,62 @@ fn shelf_of(alloc: Global, machine: &[u8], failing: &[u32]) -> Result<MemShelf, 
     Ok(shelf)
 }
 
+/// The status of a run into this sink.
+fn status_of(
+    alloc: Global,
+    words: &[String],
+    shelf: &mut MemShelf,
+    sink: &mut MemSink,
+    given: Given<'_>,
+    outside: Outside<'_>,
+) -> Result<Status, Fail>
+    requires { 1 ≤ outside.read_most }
+{
+    let failing = outside.source.to_vec(alloc)?;
+    let script = given.script.to_vec(alloc)?;
+    let mut source = MemSource::new(script, outside.read_most, failing);
+    let status = printer_main(alloc, words, shelf, &mut source, sink);
+    drop(source);
+    Ok(status)
+}
+
+// What a function lets go of at its end is proved anew for each of its ways out. So what is large is lent to a function that may
+// fail, and then given to `drop`, which is proved once.
+fn run_with(
+    alloc: Global,
+    words: &[String],
+    shelf: &mut MemShelf,
+    given: Given<'_>,
+    outside: Outside<'_>,
+) -> Result<(Status, Vec<u8>), Fail>
+    requires source { 1 ≤ outside.read_most }
+    requires sink { 1 ≤ outside.write_most }
+{
+    let failing = outside.sink.to_vec(alloc)?;
+    let mut sink = MemSink::new(alloc, 1_048_576, outside.write_most, failing)
+        .ok()
+        .ok_or("memory")?;
+    let status = status_of(alloc, words, shelf, &mut sink, given, outside);
+    let written = sink.bytes().to_vec(alloc);
+    drop(sink);
+    Ok((status?, written?))
+}
+
+fn run_words(
+    alloc: Global,
+    words: &[String],
+    given: Given<'_>,
+    outside: Outside<'_>,
+) -> Result<(Status, Vec<u8>), Fail>
+    requires source { 1 ≤ outside.read_most }
+    requires sink { 1 ≤ outside.write_most }
+{
+    let mut shelf = shelf_of(alloc, given.machine, outside.shelf)?;
+    let told = run_with(alloc, words, &mut shelf, given, outside);
+    drop(shelf);
+    told
+}
+
 /// The status of the run, and what was written.
 pub(crate) fn run(
     alloc: Global,
@@ -79,17 +137,7 @@ pub(crate) fn run(
         return Err(Fail::from("no byte would go"));
     }
     let words = words_of(alloc, given.words)?;
-    let mut shelf = shelf_of(alloc, given.machine, outside.shelf)?;
-    let script = given.script.to_vec(alloc)?;
-    let mut source = MemSource::new(script, outside.read_most, outside.source.to_vec(alloc)?);
-    let mut sink = MemSink::new(
-        alloc,
-        1_048_576,
-        outside.write_most,
-        outside.sink.to_vec(alloc)?,
-    )
-    .ok()
-    .ok_or("memory")?;
-    let status = printer_main(alloc, &words, &mut shelf, &mut source, &mut sink);
-    Ok((status, sink.bytes().to_vec(alloc)?))
+    let told = run_words(alloc, &words, given, outside);
+    drop(words);
+    told
 }

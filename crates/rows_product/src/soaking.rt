@@ -4,15 +4,15 @@ use crate::running::{FAST, Given, Outside, SOUND, run};
 use std::alloc::Global;
 use std::test::Fail;
 use tp_cases::soak_case;
+use tp_machine::Machine;
 use tp_machine_text::print_machine;
 use tp_program::Status;
-use tp_script::print_event;
+use tp_script::{Event, print_event};
 
-/// The least ticks of a print by each engine of a number's machine.
-fn leasts_of(alloc: Global, number: u32) -> Result<Vec<u32>, Fail> {
-    let case = soak_case(alloc, number).ok().ok_or("memory")?;
+/// The least ticks of a print by each engine of a machine.
+fn leasts_in(alloc: Global, machine: &Machine) -> Result<Vec<u32>, Fail> {
     let mut leasts = Vec::new(alloc);
-    for action in case.machine.actions.as_slice() {
+    for action in machine.actions.as_slice() {
         if action.mono {
             leasts.push(action.least)?;
         }
@@ -20,21 +20,38 @@ fn leasts_of(alloc: Global, number: u32) -> Result<Vec<u32>, Fail> {
     Ok(leasts)
 }
 
-/// The events of a number, a line for each.
-pub(crate) fn script_of(alloc: Global, number: u32) -> Result<Vec<u8>, Fail> {
+/// Those of a number's machine.
+fn leasts_of(alloc: Global, number: u32) -> Result<Vec<u32>, Fail> {
     let case = soak_case(alloc, number).ok().ok_or("memory")?;
+    let leasts = leasts_in(alloc, &case.machine);
+    drop(case);
+    leasts
+}
+
+/// The events, a line for each.
+fn script_with(alloc: Global, events: &[Event]) -> Result<Vec<u8>, Fail> {
     let mut text = Vec::new(alloc);
-    for event in &case.events {
+    for event in events {
         print_event(event, &mut text).ok().ok_or("memory")?;
         text.push(b'\n')?;
     }
     Ok(text)
 }
 
+/// Those of a number.
+pub(crate) fn script_of(alloc: Global, number: u32) -> Result<Vec<u8>, Fail> {
+    let case = soak_case(alloc, number).ok().ok_or("memory")?;
+    let script = script_with(alloc, &case.events);
+    drop(case);
+    script
+}
+
 /// The text of a number's machine.
 pub(crate) fn machine_of(alloc: Global, number: u32) -> Result<Vec<u8>, Fail> {
     let case = soak_case(alloc, number).ok().ok_or("memory")?;
-    Ok(print_machine(alloc, &case.machine)?)
+    let text = print_machine(alloc, &case.machine);
+    drop(case);
+    Ok(text?)
 }
 
 const FIRST_SCRIPT: &[u8] = b"job j1 t plain 3*M-:F\nclock 20\n\
