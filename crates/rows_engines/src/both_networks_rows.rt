@@ -60,7 +60,7 @@ fn ends_on<P: Planner>(
     schedule: &mut Schedule,
     prints: (Want, Want),
 ) -> Result<[Tick; 2], Fail>
-    requires served { IsTrue (P.serves planner.old machine.now) }
+    requires served { P.serves planner.old machine.now }
     requires plan_on { CanPlanOn machine.now 0 schedule.old.plans }
 {
     let one = next_end(planner, machine, schedule, 1, prints)?;

@@ -106,7 +106,7 @@ fn told_on<P: Planner>(
     machine: &Machine,
     schedule: &mut Schedule,
 ) -> Result<([Reply; 2], [[Tick; 4]; 5]), Fail>
-    requires served { IsTrue (P.serves planner.old machine.now) }
+    requires served { P.serves planner.old machine.now }
     requires plan_on { CanPlanOn machine.now 0 schedule.old.plans }
 {
     let one = ask_sheet(planner, machine, schedule, 1, MONO)?;

@@ -39,7 +39,8 @@ fn claim_against(
 ) -> Result<Claim, Fail>
     requires served { ⟦<Engine<PlainNet> as Planner>⟧.serves engine.old machine.now }
     requires plan_on { CanPlanOn machine.now 0 schedule.old.plans }
-    ensures served { OnOk result (IsTrue (is_engine_for engine.new machine.now)) }
+    ensures served { OnOk result
+        (⟦<Engine<PlainNet> as Planner>⟧.serves engine.new machine.now) }
     ensures plan_on { OnOk result (CanPlanOn machine.now 0 schedule.new.plans) }
 {
     let ask = first_tray_ask(machine, number, MONO)?;
