@@ -114,12 +114,13 @@ impl<N: Network> Engine<N> {
         ensures same { IsSameEngine N.max_marks self.old self.new }
         ensures trees { self.new.trees ≡ self.old.trees }
     {
-        if self.kept {
+        let kept = self.kept;
+        self.kept = true;
+        if kept {
             self.board.renew(machine, schedule, ask);
         } else {
             self.board.load(machine, schedule, ask);
         }
-        self.kept = true;
     }
 
     /// The tick at which the earliest plans of an ask end, or why there is none. No plan is made: the schedule stays as it is.

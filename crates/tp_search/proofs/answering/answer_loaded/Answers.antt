@@ -1,4 +1,4 @@
-use Rattle.std.proofs.Common.{refl, subst, ◌∙◌, IsSomeAnd}
+use Rattle.std.proofs.Common.{refl, subst, ◌∙◌, IsSomeAnd, rules}
 use Rattle.tp_schedule.specs.Answers.{IsLeast, follows_front}
 use Rattle.tp_search.specs.Trials.{IsEarliestTo, IsNoPlan}
 use Rattle.tp_search.specs.declared.trial.NoPlan.TheVariants.{Never}
@@ -24,4 +24,6 @@ pub returns-in-Err-Never-clause-few : goal.returns-in-Err-Never-clause-few
 returns-in-Err-Never-clause-few g c = λ is. (told g (goal.at.returns-in-Err-Never-clause-few g c).In-Err-Never).1
 
 pub returns-in-Ok-clause-rests : goal.returns-in-Ok-clause-rests
-returns-in-Ok-clause-rests g c = at-rest g.N.Network.net g.N.Undo.content g.N.Undo.past g.N.Undo.max_marks c.args.board.now _ c.args.machine.now c.requires.rests (c.commit.ensures.back c.args.board.now c.args.machine.now c.in-Ok.ensures.trial)
+returns-in-Ok-clause-rests g c =
+    let rests = at-rest g.N.Network.net g.N.Undo.content g.N.Undo.past g.N.Undo.max_marks c.args.board.now c.commit.new.self.0 c.args.machine.now c.requires.rests (c.commit.ensures.back c.args.board.now c.args.machine.now c.in-Ok.ensures.trial) in
+    search rules

@@ -1,5 +1,5 @@
 -- The trial and its tree are of the ask for which the board was loaded.
-use Rattle.std.proofs.Common.{◌≡◌, ℕ, ◌+◌, ◌-◌, ◌≤◌, List, length, refl, sym, ap, subst, ◌∙◌, IsSomeAnd, arith}
+use Rattle.std.proofs.Common.{◌≡◌, ℕ, ◌+◌, ◌-◌, ◌≤◌, List, length, refl, sym, ap, subst, ◌∙◌, IsSomeAnd, arith, rules}
 use Rattle.tp_schedule.specs.Answers.{IsLeast, follows_front}
 use Rattle.tp_schedule.specs.declared.parts.Plan.{Plan}
 use Rattle.tp_placing.specs.Writing.{IsLoadedFrom}
@@ -58,17 +58,21 @@ returns-in-Ok-show_never-clause-answer g c =
     (refl, told.0)
 
 pub returns-in-Ok-show-clause-board : goal.returns-in-Ok-show-clause-board
-returns-in-Ok-show-clause-board g c = (c.commit.ensures.back c.args.board.now c.args.machine.now (c.show.ensures.trial c.args.board.now c.in-Ok.ensures.trial)).loaded.made_for
+returns-in-Ok-show-clause-board g c =
+    let same = (c.commit.ensures.back c.args.board.now c.args.machine.now (c.show.ensures.trial c.args.board.now c.in-Ok.ensures.trial)).loaded.made_for in
+    search rules
 
 pub returns-in-Ok-show-clause-marks : goal.returns-in-Ok-show-clause-marks
-returns-in-Ok-show-clause-marks g c = same-marks _ _ (c.commit.ensures.back c.args.board.now c.args.machine.now (c.show.ensures.trial c.args.board.now c.in-Ok.ensures.trial)).marks c.requires.marks
+returns-in-Ok-show-clause-marks g c =
+    let same = same-marks (g.N.Undo.max_marks c.args.board.now.net) (g.N.Undo.max_marks c.commit.new.self.0.net) (c.commit.ensures.back c.args.board.now c.args.machine.now (c.show.ensures.trial c.args.board.now c.in-Ok.ensures.trial)).marks c.requires.marks in
+    search rules
 
 pub returns-in-Ok-show-clause-rests : goal.returns-in-Ok-show-clause-rests
 returns-in-Ok-show-clause-rests g c =
-    at-rest g.N.Network.net g.N.Undo.content g.N.Undo.past g.N.Undo.max_marks c.args.board.now _ c.args.machine.now c.requires.rests
-    (c.commit.ensures.back c.args.board.now c.args.machine.now (c.show.ensures.trial c.args.board.now c.in-Ok.ensures.trial))
+    let rests = at-rest g.N.Network.net g.N.Undo.content g.N.Undo.past g.N.Undo.max_marks c.args.board.now c.commit.new.self.0 c.args.machine.now c.requires.rests (c.commit.ensures.back c.args.board.now c.args.machine.now (c.show.ensures.trial c.args.board.now c.in-Ok.ensures.trial)) in
+    search rules
 
 pub returns-in-Err-clause-rests : goal.returns-in-Err-clause-rests
 returns-in-Err-clause-rests g c =
-    at-rest g.N.Network.net g.N.Undo.content g.N.Undo.past g.N.Undo.max_marks c.args.board.now _ c.args.machine.now c.requires.rests
-    (c.abandon.ensures.back c.args.board.now c.args.machine.now (c.show.ensures.trial c.args.board.now c.in-Ok.ensures.trial))
+    let rests = at-rest g.N.Network.net g.N.Undo.content g.N.Undo.past g.N.Undo.max_marks c.args.board.now c.abandon.new.self.0 c.args.machine.now c.requires.rests (c.abandon.ensures.back c.args.board.now c.args.machine.now (c.show.ensures.trial c.args.board.now c.in-Ok.ensures.trial)) in
+    search rules

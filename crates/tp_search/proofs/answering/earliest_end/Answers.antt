@@ -1,5 +1,5 @@
 -- The trial ends where the earliest plans of the whole schedule end.
-use Rattle.std.proofs.Common.{sym, subst}
+use Rattle.std.proofs.Common.{sym, subst, rules}
 use Rattle.tp_search.specs.Trials.{EndsEarliest}
 use Rattle.tp_search.proofs.TrialFacts.{at-rest}
 use Rattle.tp_search.proofs.answering.earliest_end.Goals as goal
@@ -8,4 +8,6 @@ pub returns-in-Ok-clause-end : goal.returns-in-Ok-clause-end
 returns-in-Ok-clause-end g c plans loaded = subst (EndsEarliest c.args.machine.now plans c.args.ask.now) (sym c.end-end.ensures) (c.in-Ok.ensures.end plans loaded)
 
 pub returns-in-Ok-clause-rests : goal.returns-in-Ok-clause-rests
-returns-in-Ok-clause-rests g c = at-rest g.N.Network.net g.N.Undo.content g.N.Undo.past g.N.Undo.max_marks c.args.board.now _ c.args.machine.now c.requires.rests (c.abandon.ensures.back c.args.board.now c.args.machine.now c.in-Ok.ensures.trial)
+returns-in-Ok-clause-rests g c =
+    let rests = at-rest g.N.Network.net g.N.Undo.content g.N.Undo.past g.N.Undo.max_marks c.args.board.now c.abandon.new.self.0 c.args.machine.now c.requires.rests (c.abandon.ensures.back c.args.board.now c.args.machine.now c.in-Ok.ensures.trial) in
+    search rules

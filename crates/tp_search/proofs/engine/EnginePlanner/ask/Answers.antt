@@ -1,11 +1,14 @@
 -- The answer was given on the same plans, and the engine has the nodes of its workspace.
-use Rattle.std.proofs.Common.{subst}
+use Rattle.std.proofs.Common.{ap, subst, ◌∙◌}
 use Rattle.tp_schedule.specs.Spending.{FewListsOpen}
 use Rattle.tp_search.proofs.EngineFacts.{few-told}
 use Rattle.tp_search.proofs.engine.EnginePlanner.ask.Goals as goal
 
 pub returns-else-self-clause-few : goal.returns-else-self-clause-few
 returns-else-self-clause-few g c =
-    few-told c.args.self.now.work.nodes c.args.machine.now c.args.schedule.now.plans c.args.ask.now c.answer.result
-    (λ is. subst (FewListsOpen c.args.machine.now c.args.schedule.now.plans c.args.ask.now) (λ k. (c.self.view_is k).work.nodes)
-    (subst (λ plans. FewListsOpen c.args.machine.now plans c.args.ask.now c.self.inside.work.nodes) c.make_spare.ensures.plans (c.answer.ensures.few is)))
+    let machine = c.args.machine.now in
+    let ask = c.args.ask.now in
+    let nodes = ap (λ e. e.work.nodes) c.self.view_is ∙ ap (λ w. w.nodes) c.ready.ensures.same.work in
+    few-told c.args.self.now.work.nodes machine c.args.schedule.now.plans ask c.answer_loaded.result
+    (λ is. subst (FewListsOpen machine c.args.schedule.now.plans ask) nodes
+    (subst (λ plans. FewListsOpen machine plans ask c.self.inside.work.nodes) c.make_spare.ensures.plans (c.answer_loaded.ensures.few is)))
