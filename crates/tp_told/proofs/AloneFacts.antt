@@ -1,6 +1,6 @@
 -- What a plan breaks by itself no right plan does.
 use Rattle.std.proofs.Common.{ℕ, ◌+◌, ◌<◌, ◌≤◌, List, Option, Some, None, inl, inr, arith, subst}
-use Rattle.std.specs.Prelude.{IfSome, IsSomeAnd, Bool}
+use Rattle.std.specs.Prelude.{IfOk, IfSome, IsSomeAnd, Bool, Result, Ok, Err}
 use Rattle.std.proofs.lemmas.Int.{ints}
 use Rattle.tp_machine.specs.declared.machine.Machine.{Machine}
 use Rattle.tp_machine.specs.declared.parts.Action.{Action}
@@ -19,6 +19,10 @@ any-some (Some x) P holds = holds
 pub some-by : {X : Type 0} (o : Option X) (P Q : Type 0) → (P → Q) → IfSome o (λ x. P) → IfSome o (λ x. Q)
 some-by None P Q f holds = tt
 some-by (Some x) P Q f holds = f holds
+
+pub ok-some-by : {X E : Type 0} (P Q : Type 0) (r : Result (Option X) E) → (P → Q) → IfOk r (λ found. IfSome found (λ x. P)) → IfOk r (λ found. IfSome found (λ x. Q))
+ok-some-by P Q (Ok found) f holds = some-by found P Q f holds
+ok-some-by P Q (Err e) f holds = tt
 
 pub floor-breaks : (machine : Machine) (now : ℕ) (exempt : Plan → Bool) (plans : List Plan) (x : PlanPoint) → IsBelowFloor machine now exempt plans x → KeepsFloors machine now exempt plans → ⊥
 floor-breaks machine now exempt plans x low keeps =

@@ -1,11 +1,14 @@
 pub mod AloneFacts
 pub mod AnswerFacts
+pub mod BeginFacts
 pub mod LabelFacts
 pub mod MoveFacts
 pub mod MoveSteps
 pub mod NameFacts
 pub mod PlaceFacts
 pub mod PlanFacts
+pub mod FormFacts
+pub mod DueFacts
 pub mod PutFacts
 pub mod ReplyFacts
 pub mod SettleFacts

@@ -21,7 +21,7 @@ use Rattle.tp_deciding.specs.Early.{is_exempt}
 use Rattle.tp_deciding.proofs.ListFacts.{take-whole}
 use Rattle.tp_answers.specs.Alike.{AreAlike, KeepsPoints, others}
 use Rattle.tp_answers.proofs.AlikeFacts.{keeps, passes}
-use Rattle.tp_told.specs.Moving.{IsKeptPlan, TakesMoves, TellsMoves, moved_points, points_for}
+use Rattle.tp_told.specs.Moving.{IsKeptPlan, TakesMoves, TellsMoves, behind_move, behind_moves, moved_points, points_for}
 use Rattle.tp_told.specs.Telling.{notes}
 use Rattle.tp_told.proofs.LabelFacts.{Moved, labels-differ, moved-some}
 use Rattle.tp_told.proofs.MoveFacts.{TellsOn, tells-moves, tells-stays, told-moves, told-stays}
@@ -93,6 +93,7 @@ pub record MovedSoFar (machine : Machine) (now : ℕ) (asked : Option SheetId) (
   pub within : taken ≤ length items
   pub sheets : map (λ p. p.sheet) after ≡ map (λ p. p.sheet) before
   pub told : items ≡ notes sofar ++ drop taken items
+  pub left : behind_moves asked (drop at before) (drop taken items) ≡ behind_moves asked before items
   pub moved : (ys : List Plan) → moves (others asked before) (others asked done ++ ys) ≡ sofar ++ moves (others asked (drop at before)) ys
   pub only : AreNamed before → (qs : List Plan) (rest : List Item) → TellsMoves machine now (others asked before) qs items rest
       → (ys : List Plan) × (qs ≡ others asked done ++ ys) × TellsMoves machine now (others asked (drop at before)) ys (drop taken items) rest
@@ -106,6 +107,7 @@ module _ (machine : Machine) (now : ℕ) (asked : Option SheetId) (before : List
     within = omega arith;
     sheets = ap (map (λ (p : Plan). p.sheet)) same;
     told = refl;
+    left = refl;
     moved = λ ys. refl;
     only = λ named qs rest tells. (qs, refl, tells);
   }
@@ -117,15 +119,23 @@ module _ (machine : Machine) (now : ℕ) (asked : Option SheetId) (before : List
     pub found-there : InOrder after → plan_of p.sheet after ≡ Some p
     found-there order = ap (plan_of p.sheet) next-plans ∙ plan-at s.done (drop (at + 1) before) p (subst InOrder next-plans order)
 
+    -- what is left behind the moves, where the plan takes this item of the rest
+    left-next : (o : Option (List ℕ)) → points_for asked p (drop taken items) ≡ o
+        → behind_moves asked (drop (at + 1) before) (behind_move o (drop taken items)) ≡ behind_moves asked before items
+    left-next o e =
+        ap (λ x. behind_moves asked (drop (at + 1) before) (behind_move x (drop taken items))) (sym e)
+        ∙ sym (ap (λ ps. behind_moves asked ps (drop taken items)) (drop_from before at p there)) ∙ s.left
+
     -- the asked copy's plan is passed over
-    pub asked-next : is_exempt asked p ≡ true → MovedSoFar machine now asked before after items (at + 1) taken
-    asked-next asks = record {
+    pub asked-next : points_for asked p (drop taken items) ≡ None → is_exempt asked p ≡ true → MovedSoFar machine now asked before after items (at + 1) taken
+    asked-next none asks = record {
       done = s.done ++ p ∷ [];
       sofar = s.sofar;
       plans = next-plans ∙ sym (append_assoc s.done (p ∷ []) (drop (at + 1) before));
       within = s.within;
       sheets = s.sheets;
       told = s.told;
+      left = left-next None none;
       moved = λ ys. ap (λ xs. moves (others asked before) (xs ++ ys)) same ∙ s.moved ys ∙ ap (λ xs. s.sofar ++ moves xs ys) left;
       only = λ named qs rest tells. (
           let r = s.only named qs rest tells in
@@ -148,14 +158,15 @@ module _ (machine : Machine) (now : ℕ) (asked : Option SheetId) (before : List
       behind q ys e = ap (λ xs. xs ++ ys) (more q e) ∙ append_assoc (others asked s.done) (q ∷ []) ys
 
       -- a plan stays
-      pub stays-next : IsFormed p → moved_points p (drop taken items) ≡ None → MovedSoFar machine now asked before after items (at + 1) taken
-      stays-next formed none = record {
+      pub stays-next : points_for asked p (drop taken items) ≡ None → IsFormed p → moved_points p (drop taken items) ≡ None → MovedSoFar machine now asked before after items (at + 1) taken
+      stays-next stays formed none = record {
         done = s.done ++ p ∷ [];
         sofar = s.sofar;
         plans = next-plans ∙ sym (append_assoc s.done (p ∷ []) (drop (at + 1) before));
         within = s.within;
         sheets = s.sheets;
         told = s.told;
+        left = left-next None stays;
         moved = λ ys.
             ap (moves (others asked before)) (behind p ys refl) ∙ s.moved (p ∷ ys) ∙ ap (λ xs. s.sofar ++ moves xs (p ∷ ys)) left
             ∙ ap (λ rs. s.sofar ++ (rs ++ moves (others asked (drop (at + 1) before)) ys)) (told-stays p p ((bytes_eq-Decides p.points p.points).1 refl));
@@ -194,8 +205,8 @@ module _ (machine : Machine) (now : ℕ) (asked : Option SheetId) (before : List
         no-moves breaks named qs rest tells = let r = tells-here named qs rest tells in breaks r.2.kept r.2.keeps
 
         -- a plan moves
-        pub moves-next : (after' : List Plan) → InOrder after → after' ≡ change_plan p.sheet (with_points points) after → MovedSoFar machine now asked before after' items (at + 1) (taken + 1)
-        moves-next after' order' is = record {
+        pub moves-next : points_for asked p (drop taken items) ≡ Some points → (after' : List Plan) → InOrder after → after' ≡ change_plan p.sheet (with_points points) after → MovedSoFar machine now asked before after' items (at + 1) (taken + 1)
+        moves-next takes after' order' is = record {
           done = s.done ++ q ∷ [];
           sofar = s.sofar ++ Move (label_of_plan p) points ∷ [];
           plans = is ∙ ap (change_plan p.sheet (with_points points)) next-plans ∙ change-at s.done (drop (at + 1) before) p (with_points points) (subst InOrder next-plans order')
@@ -205,6 +216,7 @@ module _ (machine : Machine) (now : ℕ) (asked : Option SheetId) (before : List
           told = s.told ∙ ap (λ xs. notes s.sofar ++ xs) (m.is ∙ ap (λ xs. Note (Move (label_of_plan p) points) ∷ xs) (sym later-is))
               ∙ sym (append_assoc (notes s.sofar) (Note (Move (label_of_plan p) points) ∷ []) (drop (taken + 1) items))
               ∙ ap (λ xs. xs ++ drop (taken + 1) items) (sym (map-append (λ r. Note r) s.sofar (Move (label_of_plan p) points ∷ [])));
+          left = ap (behind_moves asked (drop (at + 1) before)) (later-is ∙ sym (ap (drop 1) m.is)) ∙ left-next (Some points) takes;
           moved = λ ys.
               ap (moves (others asked before)) (behind q ys refl) ∙ s.moved (q ∷ ys) ∙ ap (λ xs. s.sofar ++ moves xs (q ∷ ys)) left
               ∙ ap (λ rs. s.sofar ++ (rs ++ moves (others asked (drop (at + 1) before)) ys)) (told-moves p q m.differ)
@@ -235,10 +247,12 @@ module _ (machine : Machine) (now : ℕ) (asked : Option SheetId) (before : List
 
   pub none-next : (after : List Plan) (at taken : ℕ) (s : MovedSoFar machine now asked before after items at taken) (p : Plan) → slice_get before at ≡ Some p → IsFormed p
       → (rest : List Item) → rest ≡ drop taken items → points_for asked p rest ≡ None → MovedSoFar machine now asked before after items (at + 1) taken
-  none-next after at taken s p there formed rest is-rest none = elim (for-none p (drop taken items) rest is-rest none) [
-    | inl asks ↦ asked-next after at taken s p there asks
-    | inr other ↦ stays-next after at taken s p there other.0 formed other.1
-  ]
+  none-next after at taken s p there formed rest is-rest none =
+      let none' : points_for asked p (drop taken items) ≡ None = ap (points_for asked p) (sym is-rest) ∙ none in
+      elim (for-none p (drop taken items) rest is-rest none) [
+        | inl asks ↦ asked-next after at taken s p there none' asks
+        | inr other ↦ stays-next after at taken s p there other.0 none' formed other.1
+      ]
 
   -- ---- all are
   module _ (after : List Plan) (at taken : ℕ) (s : MovedSoFar machine now asked before after items at taken) (past : length before ≤ at) where
@@ -266,4 +280,10 @@ module _ (machine : Machine) (now : ℕ) (asked : Option SheetId) (before : List
           nothing (y ∷ ys) alike = absurd alike
 
     pub takes-moves : TakesMoves machine now asked before after items taken
-    takes-moves = record { within = s.within; sheets = s.sheets; told = all-told; only = all-only }
+    takes-moves = record {
+      within = s.within;
+      sheets = s.sheets;
+      told = all-told;
+      left = ap (λ ps. behind_moves asked ps (drop taken items)) (sym none-left) ∙ s.left;
+      only = all-only;
+    }

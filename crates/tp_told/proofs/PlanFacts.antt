@@ -92,7 +92,7 @@ module _ (kept : ℕ) (points : List ℕ) where
       ∙ ap (λ xs. xs ++ drop (length f.points) q.points) first
       ∙ ap (λ xs. f.points ++ xs) (ap (λ n. drop n q.points) long ∙ rest)
 
-kept-length : (kept : ℕ) (front : Option Plan) → IsKept kept front → length (acts_in front) ≡ kept
+pub kept-length : (kept : ℕ) (front : Option Plan) → IsKept kept front → length (acts_in front) ≡ kept
 kept-length kept None none = sym none
 kept-length kept (Some f) is = is.acts
 

@@ -1,8 +1,9 @@
 -- Reasons for which items don't tell what is due, from what is wrong with a schedule or a tree.
 use Rattle.std.proofs.Common.{◌≡◌, ℕ, ℤ, ◌≤◌, List, [], ◌∷◌, ◌++◌, inl, inr, Option, Some, None, get_or, length, refl, sym, ap, subst, ◌∙◌, arith}
 use Rattle.std.specs.Bool.{MatchBool}
-use Rattle.std.specs.Prelude.{IfOk, IfSome, Result, Ok, Err, option_map}
+use Rattle.std.specs.Prelude.{IfOk, IfSome, IsFalse, Result, Ok, Err}
 use Rattle.tp_bounds.specs.declared.tree.BoundTree.{BoundTree}
+use Rattle.tp_log.specs.Gathering.{is_tree}
 use Rattle.tp_log.specs.declared.item.Item.{Item}
 use Rattle.tp_log.specs.declared.item.Item.TheVariants.{Tree as TreeItem}
 use Rattle.tp_machine.specs.declared.machine.Machine.{Machine}
@@ -21,11 +22,11 @@ use Rattle.tp_trees.specs.Flaws.{IsFlawOf, tree_flaw}
 use Rattle.tp_trees.specs.declared.claim.Claim.{Claim}
 use Rattle.tp_trees.specs.declared.claim.TreeFlaw.{TreeFlaw}
 use Rattle.tp_trees.specs.declared.claim.TreeFlaw.TheVariants.{Memory, RoomRow, Uncovered, NoSuchHop, Weak, NotDead}
-use Rattle.tp_told.specs.Breaches.{AreOfFault, HasFault}
+use Rattle.tp_told.specs.Breaches.{AreOfFault, HasFault, HasPlainFault, IsPlainFault}
 use Rattle.tp_told.specs.Failing.{failure_of, is_stop}
 use Rattle.tp_told.specs.Moving.{TakesMoves}
-use Rattle.tp_told.specs.Reasons.{DoClaim, IfStop, IsAskedReason, IsBreach, IsOff, IsOffAnswer, IsOffSettling, IsSettlingReason, IsTimesReason, IsTreeReason, TellSchedule, TellsFault, reason_in, reason_of}
-use Rattle.tp_told.specs.Telling.{HasStopped, ToldValue}
+use Rattle.tp_told.specs.Reasons.{DoClaim, IfStop, IsAskedReason, IsBreach, IsDueInAnswer, IsDueInSettling, IsOff, IsOffAnswer, IsOffSettling, IsSettlingReason, IsTimesReason, IsTreeReason, TellSchedule, TellsFault, reason_in, reason_of}
+use Rattle.tp_told.specs.Telling.{HasStopped, ToldValue, begins_with_tree}
 use Rattle.tp_told.specs.declared.stop.Failure.{Failure}
 use Rattle.tp_told.specs.declared.stop.Failure.TheVariants as failure
 use Rattle.tp_told.specs.declared.stop.Reason.{Reason}
@@ -48,63 +49,71 @@ same-stop P failure.Memory (failure.Stop stop) e h = absurd cc
 same-stop P (failure.Stop stop) failure.Memory e h = tt
 same-stop P (failure.Stop stop) (failure.Stop other) e h = some-reason P stop.reason other.reason e h
 
-pub kept-reason : (P : Reason → Type 0) (f : Failure) (o : Option Stop) (p : ToldValue) (halt : Halt) (p' : ToldValue) → MatchBool (is_stop f) (HasStopped p halt p') ((halt ≡ NoMemory) × (p' ≡ p)) → halt ≡ Stopped
-    → MatchBool (is_stop f) (option_map (λ (s : Stop). s.reason) o ≡ reason_in f) (Unit {0}) → IfStop P f → IfSome o (λ s. P s.reason)
-kept-reason P failure.Memory o p halt p' match' is kept h = let e = match'.0 in absurd cc
-kept-reason P (failure.Stop stop) None p halt p' match' is kept h = absurd cc
-kept-reason P (failure.Stop stop) (Some s) p halt p' match' is kept h = some-reason P stop.reason s.reason kept h
+pub kept-reason : (P : Reason → Type 0) (f : Failure) (s : Stop) (p : ToldValue) (halt : Halt) (p' : ToldValue) → MatchBool (is_stop f) (HasStopped p halt p') ((halt ≡ NoMemory) × (p' ≡ p)) → halt ≡ Stopped
+    → MatchBool (is_stop f) (Some s.reason ≡ reason_in f) (Unit {0}) → IfStop P f → P s.reason
+kept-reason P failure.Memory s p halt p' match' is kept h = let e = match'.0 in absurd cc
+kept-reason P (failure.Stop stop) s p halt p' match' is kept h = some-reason P stop.reason s.reason kept h
 
--- ---- plain reasons, and broken rules
+-- another item is due
+pub due-stop : (Q : Reason → Type 0) (f : Failure) → reason_in f ≡ Some IsDue → Q IsDue → IfStop Q f
+due-stop Q failure.Memory e h = tt
+due-stop Q (failure.Stop stop) e h = some-reason Q IsDue stop.reason e h
 
-module _ (P : ℤ → ℤ → Type 0) where
-  pub settling-breach : (machine : Machine) (plans : List Plan) (now : ℕ) (items : List Item) → ((a b : ℤ) → P a b → IsOffSettling machine plans now items a b) → (r : Reason) → IsBreach P r → IsSettlingReason machine plans now items r
-  settling-breach machine plans now items to IsDue h = h
-  settling-breach machine plans now items to (Illegal first second) h = to first second h
-  settling-breach machine plans now items to (NotLeast given least) h = absurd h
-  settling-breach machine plans now items to (Tree flaw) h = h
+-- ---- another item is due, or a rule is broken
 
-  pub asked-breach : (machine : Machine) (plans : List Plan) (ask : Ask) (items : List Item) → ((a b : ℤ) → P a b → IsOffAnswer machine plans ask items a b) → (r : Reason) → IsBreach P r → IsAskedReason machine plans ask items r
-  asked-breach machine plans ask items to IsDue h = h
-  asked-breach machine plans ask items to (Illegal first second) h = to first second h
-  asked-breach machine plans ask items to (NotLeast given least) h = absurd h
-  asked-breach machine plans ask items to (Tree flaw) h = absurd h
+module _ (Due : Type 0) (P : ℤ → ℤ → Type 0) where
+  pub settling-breach : (machine : Machine) (plans : List Plan) (now : ℕ) (items : List Item) → (Due → IsDueInSettling machine plans now items)
+      → ((a b : ℤ) → P a b → IsOffSettling machine plans now items a b) → (r : Reason) → IsBreach Due P r → IsSettlingReason machine plans now items r
+  settling-breach machine plans now items from to IsDue h = from h
+  settling-breach machine plans now items from to (Illegal first second) h = to first second h
+  settling-breach machine plans now items from to (NotLeast given least) h = absurd h
+  settling-breach machine plans now items from to (Tree flaw) h = absurd h
 
-  pub breach-by : (Q : ℤ → ℤ → Type 0) → ((a b : ℤ) → P a b → Q a b) → (r : Reason) → IsBreach P r → IsBreach Q r
-  breach-by Q to IsDue h = h
-  breach-by Q to (Illegal first second) h = to first second h
-  breach-by Q to (NotLeast given least) h = h
-  breach-by Q to (Tree flaw) h = h
+  pub asked-breach : (machine : Machine) (plans : List Plan) (ask : Ask) (items : List Item) → (Due → IsDueInAnswer machine plans ask items)
+      → ((a b : ℤ) → P a b → IsOffAnswer machine plans ask items a b) → (r : Reason) → IsBreach Due P r → IsAskedReason machine plans ask items r
+  asked-breach machine plans ask items from to IsDue h = from h
+  asked-breach machine plans ask items from to (Illegal first second) h = to first second h
+  asked-breach machine plans ask items from to (NotLeast given least) h = absurd h
+  asked-breach machine plans ask items from to (Tree flaw) h = absurd h
 
-  times-breach : (IsOne : Fault → Type 0) (machine : Machine) (now : ℕ) (exempt : Option SheetId) (plans' : List Plan) → ((a b : ℤ) → P a b → HasFault IsOne machine now a b)
-      → (r : Reason) → IsBreach P r → IsTimesReason IsOne machine now exempt plans' r
-  times-breach IsOne machine now exempt plans' to IsDue h = h
-  times-breach IsOne machine now exempt plans' to (Illegal first second) h = to first second h
-  times-breach IsOne machine now exempt plans' to (NotLeast given least) h = absurd h
-  times-breach IsOne machine now exempt plans' to (Tree flaw) h = h
+  pub breach-by : (Due' : Type 0) (Q : ℤ → ℤ → Type 0) → (Due → Due') → ((a b : ℤ) → P a b → Q a b) → (r : Reason) → IsBreach Due P r → IsBreach Due' Q r
+  breach-by Due' Q from to IsDue h = from h
+  breach-by Due' Q from to (Illegal first second) h = to first second h
+  breach-by Due' Q from to (NotLeast given least) h = absurd h
+  breach-by Due' Q from to (Tree flaw) h = absurd h
 
-pub wrong-stop : (P : ℤ → ℤ → Type 0) (Q : Reason → Type 0) (w : Wrong) (f : Failure) → reason_in f ≡ Some (reason_of w) → ((r : Reason) → IsBreach P r → Q r) → IsOff P w → IfStop Q f
-wrong-stop P Q w failure.Memory e to h = tt
-wrong-stop P Q w (failure.Stop stop) e to h = some-reason Q (reason_of w) stop.reason e (to (reason_of w) h)
+  times-breach : (IsOne : Fault → Type 0) (machine : Machine) (now : ℕ) (exempt : Option SheetId) (plans' : List Plan) → (Due → HasPlainFault IsOne machine plans')
+      → ((a b : ℤ) → P a b → HasFault IsOne machine now plans' a b) → (r : Reason) → IsBreach Due P r → IsTimesReason IsOne machine now exempt plans' r
+  times-breach IsOne machine now exempt plans' from to IsDue h = from h
+  times-breach IsOne machine now exempt plans' from to (Illegal first second) h = to first second h
+  times-breach IsOne machine now exempt plans' from to (NotLeast given least) h = absurd h
+  times-breach IsOne machine now exempt plans' from to (Tree flaw) h = absurd h
 
-module _ (P Q : ℤ → ℤ → Type 0) (to : (a b : ℤ) → P a b → Q a b) where
-  pub off-by : (w : Wrong) → IsOff P w → IsOff Q w
-  off-by w h = breach-by P Q to (reason_of w) h
+  pub wrong-stop : (Q : Reason → Type 0) (w : Wrong) (f : Failure) → reason_in f ≡ Some (reason_of w) → ((r : Reason) → IsBreach Due P r → Q r) → IsOff Due P w → IfStop Q f
+  wrong-stop Q w failure.Memory e to h = tt
+  wrong-stop Q w (failure.Stop stop) e to h = some-reason Q (reason_of w) stop.reason e (to (reason_of w) h)
 
-  pub off-some : (o : Option Wrong) → IfSome o (IsOff P) → IfSome o (IsOff Q)
+module _ (Due Due' : Type 0) (P Q : ℤ → ℤ → Type 0) (from : Due → Due') (to : (a b : ℤ) → P a b → Q a b) where
+  pub off-by : (w : Wrong) → IsOff Due P w → IsOff Due' Q w
+  off-by w h = breach-by Due P Due' Q from to (reason_of w) h
+
+  pub off-some : (o : Option Wrong) → IfSome o (IsOff Due P) → IfSome o (IsOff Due' Q)
   off-some None h = tt
   off-some (Some w) h = off-by w h
 
-  pub off-ok : (E : Type 0) (r : Result (Option Wrong) E) → IfOk r (λ found. IfSome found (IsOff P)) → IfOk r (λ found. IfSome found (IsOff Q))
+  pub off-ok : (E : Type 0) (r : Result (Option Wrong) E) → IfOk r (λ found. IfSome found (IsOff Due P)) → IfOk r (λ found. IfSome found (IsOff Due' Q))
   off-ok E (Ok o) h = off-some o h
   off-ok E (Err e) h = tt
 
 -- ---- schedules
 
 module _ (machine : Machine) (now : ℕ) (exempt : Option SheetId) (plans' : List Plan) (IsOne : Fault → Type 0) (early : (e : AnEarly) → IsOne (Early e) → IsEarly machine now (is_exempt exempt) plans' e) where
-  of-fault : (fault : Fault) → IsOne fault → (r : Reason) → IsBreach (AreOfFault machine now fault) r → IsTimesReason IsOne machine now exempt plans' r
-  of-fault fault is r told = times-breach (AreOfFault machine now fault) IsOne machine now exempt plans' (λ a b numbers. record { fault = fault; is = is; told = numbers }) r told
+  of-fault : (fault : Fault) → IsOne fault → (r : Reason) → IsBreach (IsPlainFault machine plans' fault) (AreOfFault machine now plans' fault) r → IsTimesReason IsOne machine now exempt plans' r
+  of-fault fault is r told =
+      times-breach (IsPlainFault machine plans' fault) (AreOfFault machine now plans' fault) IsOne machine now exempt plans'
+      (λ plain. record { fault = fault; is = is; plain = plain }) (λ a b numbers. record { fault = fault; is = is; told = numbers }) r told
 
-  fault-times : (fault : Fault) (r : Reason) → IsOne fault → TellsFault machine now fault r → IsTimesReason IsOne machine now exempt plans' r
+  fault-times : (fault : Fault) (r : Reason) → IsOne fault → TellsFault machine now plans' fault r → IsTimesReason IsOne machine now exempt plans' r
   fault-times Asked r h told = of-fault Asked h r told
   fault-times (Unlike u) r h told = of-fault (Unlike u) h r told
   fault-times (Clash x) r h told = of-fault (Clash x) h r told
@@ -113,11 +122,11 @@ module _ (machine : Machine) (now : ℕ) (exempt : Option SheetId) (plans' : Lis
   fault-times (Order x) r h told = of-fault (Order x) h r told
   fault-times (Early e) r h told = subst (IsTimesReason IsOne machine now exempt plans') (sym told) (record { early = e; is = early e h; given_is = refl; least_is = refl })
 
-pub settling-times : (machine : Machine) (now : ℕ) (plans plans' : List Plan) (fault : Fault) (r : Reason) → IsSettlingFault machine now plans plans' fault → TellsFault machine now fault r
+pub settling-times : (machine : Machine) (now : ℕ) (plans plans' : List Plan) (fault : Fault) (r : Reason) → IsSettlingFault machine now plans plans' fault → TellsFault machine now plans' fault r
     → IsTimesReason (IsSettlingFault machine now plans plans') machine now None plans' r
 settling-times machine now plans plans' = fault-times machine now None plans' (IsSettlingFault machine now plans plans') (λ e h. h)
 
-pub asked-times : (machine : Machine) (plans : List Plan) (ask : Ask) (plans' : List Plan) (fault : Fault) (r : Reason) → IsAnswerFault machine plans ask plans' fault → TellsFault machine ask.now fault r
+pub asked-times : (machine : Machine) (plans : List Plan) (ask : Ask) (plans' : List Plan) (fault : Fault) (r : Reason) → IsAnswerFault machine plans ask plans' fault → TellsFault machine ask.now plans' fault r
     → IsTimesReason (IsAnswerFault machine plans ask plans') machine ask.now (exempt_of ask) plans' r
 asked-times machine plans ask plans' = fault-times machine ask.now (exempt_of ask) plans' (IsAnswerFault machine plans ask plans') early where
   none : (e : AnEarly) (o : Option Plan) → IsAskedIn machine plans ask o (Early e) → ⊥
@@ -130,14 +139,14 @@ asked-times machine plans ask plans' = fault-times machine ask.now (exempt_of as
 
 pub settled-reason : (machine : Machine) (plans : List Plan) (now : ℕ) (items : List Item) (plans' : List Plan) (taken : ℕ) → TakesMoves machine now None plans plans' items taken
     → (r : Reason) → IsTimesReason (IsSettlingFault machine now plans plans') machine now None plans' r → IsSettlingReason machine plans now items r
-settled-reason machine plans now items plans' taken takes IsDue h = h
+settled-reason machine plans now items plans' taken takes IsDue h = inr (plans', (taken, (takes, h)))
 settled-reason machine plans now items plans' taken takes (Illegal first second) h = inr (plans', (taken, (takes, h)))
 settled-reason machine plans now items plans' taken takes (NotLeast given least) h = (plans', (taken, (takes, h)))
-settled-reason machine plans now items plans' taken takes (Tree flaw) h = h
+settled-reason machine plans now items plans' taken takes (Tree flaw) h = absurd h
 
 pub asked-reason : (machine : Machine) (plans : List Plan) (ask : Ask) (items : List Item) (plans' : List Plan) → TellSchedule machine plans ask items plans'
     → (r : Reason) → IsTimesReason (IsAnswerFault machine plans ask plans') machine ask.now (exempt_of ask) plans' r → IsAskedReason machine plans ask items r
-asked-reason machine plans ask items plans' tells IsDue h = h
+asked-reason machine plans ask items plans' tells IsDue h = inr (inr (inl (record { plans' = plans'; told = tells; fault = h })))
 asked-reason machine plans ask items plans' tells (Illegal first second) h = inr (inr (record { plans' = plans'; told = tells; fault = h }))
 asked-reason machine plans ask items plans' tells (NotLeast given least) h = (plans', (tells, h))
 asked-reason machine plans ask items plans' tells (Tree flaw) h = absurd h
@@ -159,13 +168,14 @@ module _ (machine : Machine) (plans : List Plan) (ask : Ask) (claim : Claim) whe
 
   pub first-reason : (items : List Item) (item : Item) → 1 ≤ length items → item ≡ get_or items 0 item → (r : Reason) → IsTreeReason machine plans ask claim (item ∷ []) r → IsTreeReason machine plans ask claim items r
   first-reason [] item some is r h = absurd (omega (arith, some))
-  first-reason (x ∷ items) item some is IsDue h = h
+  first-reason (x ∷ items) item some is IsDue h = ap is_tree (sym is) ∙ h
   first-reason (x ∷ items) item some is (Illegal first second) h = h
   first-reason (x ∷ items) item some is (NotLeast given least) h = h
   first-reason (x ∷ items) item some is (Tree flaw) (tree, (later, (e, flawed))) = (tree, (items, (ap (λ y. y ∷ items) (sym is ∙ first-of item (TreeItem tree) [] later e), flawed)))
 
-  pub tree-reason : (items before behind : List Item) → DoClaim machine plans ask items claim → items ≡ before ++ behind → (r : Reason) → IsTreeReason machine plans ask claim behind r → IsAskedReason machine plans ask items r
-  tree-reason items before behind claimed parts IsDue h = h
-  tree-reason items before behind claimed parts (Illegal first second) h = absurd h
-  tree-reason items before behind claimed parts (NotLeast given least) h = absurd h
-  tree-reason items before behind claimed parts (Tree flaw) h = record { claim = claim; claimed = claimed; before = before; behind = behind; parts = parts; flawed = h }
+  pub tree-reason : (items before behind : List Item) → DoClaim machine plans ask items claim → items ≡ before ++ behind → (IsFalse (begins_with_tree behind) → IsDueInAnswer machine plans ask items)
+      → (r : Reason) → IsTreeReason machine plans ask claim behind r → IsAskedReason machine plans ask items r
+  tree-reason items before behind claimed parts from IsDue h = from h
+  tree-reason items before behind claimed parts from (Illegal first second) h = absurd h
+  tree-reason items before behind claimed parts from (NotLeast given least) h = absurd h
+  tree-reason items before behind claimed parts from (Tree flaw) h = record { claim = claim; claimed = claimed; before = before; behind = behind; parts = parts; flawed = h }

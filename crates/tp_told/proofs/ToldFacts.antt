@@ -16,7 +16,6 @@ use Rattle.tp_told.specs.declared.stop.Failure.TheVariants.{Memory as OfMemory, 
 use Rattle.tp_told.specs.Answering.{DoTellSettled, TakesAnswer, TakesSettled}
 use Rattle.tp_told.specs.Reasons.{IsReason}
 use Rattle.tp_told.specs.Stopping.{StopsAt}
-use Rattle.std.specs.Prelude.{IfSome}
 use Rattle.tp_told.specs.Telling.{HasStopped, TakesOn, Tells, TellsDue, TellsSettled, ToldValue, ahead, behind_asides, is_aside}
 
 pub behind-twice : (items : List Item) → behind_asides (behind_asides items) ≡ behind_asides items
@@ -86,16 +85,16 @@ module _ (machine : Machine) (plans : List Plan) (p : ToldValue) (next : ℕ) (i
     left : drop taken (drop next p.items) ≡ drop (next + taken) p.items
     left = drop-drop next taken p.items
 
-  pub stops-asked : (ask : Ask) (halt : Halt) (p' : ToldValue) → (TellsDue machine plans (drop next p.items) (asking ask) → ⊥) → IfSome p'.stop (λ stop. IsReason machine plans (drop next p.items) (asking ask) stop.reason) → HasStopped p halt p' → StopsAt p machine plans (asking ask) p'
+  pub stops-asked : (ask : Ask) (halt : Halt) (p' : ToldValue) → (TellsDue machine plans (drop next p.items) (asking ask) → ⊥) → IsReason machine plans (drop next p.items) (asking ask) p'.stop.reason → HasStopped p halt p' → StopsAt p machine plans (asking ask) p'
   stops-asked ask halt p' denied why stopped = record {
-    why = subst (λ items. IfSome p'.stop (λ stop. IsReason machine plans items (asking ask) stop.reason)) is why;
+    why = subst (λ items. IsReason machine plans items (asking ask) p'.stop.reason) is why;
     denied = λ named due. denied (due.0, (due.1.0, (due.1.1.0, there ask due.0 due.1.0 due.1.1.0 due.1.1.1)));
     same = stopped.same;
   }
 
-  pub stops-settled : (now : ℕ) (halt : Halt) (p' : ToldValue) → (DoTellSettled machine plans now (drop next p.items) → ⊥) → IfSome p'.stop (λ stop. IsReason machine plans (drop next p.items) (settling now) stop.reason) → HasStopped p halt p' → StopsAt p machine plans (settling now) p'
+  pub stops-settled : (now : ℕ) (halt : Halt) (p' : ToldValue) → (DoTellSettled machine plans now (drop next p.items) → ⊥) → IsReason machine plans (drop next p.items) (settling now) p'.stop.reason → HasStopped p halt p' → StopsAt p machine plans (settling now) p'
   stops-settled now halt p' denied why stopped = record {
-    why = subst (λ items. IfSome p'.stop (λ stop. IsReason machine plans items (settling now) stop.reason)) is why;
+    why = subst (λ items. IsReason machine plans items (settling now) p'.stop.reason) is why;
     denied = λ named due. denied (named, (due.0, (due.1.0, settled-there now due.0 due.1.0 due.1.1)));
     same = stopped.same;
   }

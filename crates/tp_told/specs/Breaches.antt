@@ -1,11 +1,17 @@
 -- Which two numbers a rule compares, where it is broken by what the items tell.
-use Rattle.std.specs.Prelude.{◌≡◌, ◌≢◌, ℕ, ◌+◌, ◌<◌, ◌⊎◌, ℤ, pos, ◌+ℤ◌, List, [], ◌∷◌, drop, length, slice_index, Option, Some, None, Contains}
+use Rattle.std.specs.Prelude.{◌≡◌, ◌≢◌, ℕ, ◌+◌, ◌<◌, ◌⊎◌, ℤ, pos, ◌+ℤ◌, List, [], ◌∷◌, drop, length, slice_get, slice_index, Option, Some, None, Contains}
 use Rattle.std.specs.Int.{saturate_signed, w64}
 use Rattle.tp_log.specs.declared.item.Item.{Item}
+use Rattle.tp_machine.specs.Using.{action_at, begin_of}
 use Rattle.tp_machine.specs.declared.machine.Machine.{Machine}
+use Rattle.tp_machine.specs.declared.parts.ActId.{ActId}
+use Rattle.tp_machine.specs.declared.parts.HoldRule.{HoldRule}
+use Rattle.tp_machine.specs.declared.parts.ResId.{ResId}
 use Rattle.tp_schedule.specs.Answers.{acts_in}
-use Rattle.tp_schedule.specs.Plans.{end_of_plan, plan_of, with_points}
+use Rattle.tp_schedule.specs.Holding.{holds_of_act}
+use Rattle.tp_schedule.specs.Plans.{end_of_plan, plan_of, point, with_points}
 use Rattle.tp_schedule.specs.declared.parts.Ask.{Ask}
+use Rattle.tp_schedule.specs.declared.parts.Hold.{Hold}
 use Rattle.tp_schedule.specs.declared.parts.Plan.{Plan}
 use Rattle.tp_schedule.specs.declared.parts.SheetId.{SheetId}
 use Rattle.tp_schedule.specs.declared.records.Record.{Record}
@@ -18,9 +24,10 @@ use Rattle.tp_deciding.specs.declared.bounds.PlanPoint.{PlanPoint}
 use Rattle.tp_deciding.specs.declared.clash.Clash.{Clash as AClash}
 use Rattle.tp_deciding.specs.declared.clash.Clash.TheVariants.{NotTimed, Overlap, OutOfLine}
 use Rattle.tp_deciding.specs.declared.misfit.Misfit.{Misfit}
+use Rattle.tp_deciding.specs.declared.parting.Parting.{Parting}
 use Rattle.tp_answers.specs.Alike.{IsMovedAmong}
 use Rattle.tp_answers.specs.declared.finding.Fault.{Fault}
-use Rattle.tp_answers.specs.declared.finding.Fault.TheVariants.{Unlike, Clash, Floor, Horizon, Order}
+use Rattle.tp_answers.specs.declared.finding.Fault.TheVariants.{Asked, Unlike, Clash, Floor, Horizon, Order}
 use Rattle.tp_answers.specs.declared.unlike.Unlike.{Unlike as Why}
 use Rattle.tp_answers.specs.declared.unlike.Unlike.TheVariants.{Changed, Moved}
 use Rattle.tp_told.specs.Moving.{points_for}
@@ -38,20 +45,61 @@ AreOfClash (NotTimed sheet) first second = ⊥
 AreOfClash (Overlap earlier later end gap begin) first second = (first ≡ saturate_signed w64 (end +ℤ pos gap)) × (second ≡ begin)
 AreOfClash (OutOfLine earlier later end later_end) first second = (first ≡ pos end) × (second ≡ pos later_end)
 
--- a point and its bound, now + lead or now + window. Of orders that part nothing is said here
-abbrev pub AreOfFault : Machine → ℕ → Fault → ℤ → ℤ → Type 0
-AreOfFault machine now (Unlike u) first second = AreOfMove u first second
-AreOfFault machine now (Clash c) first second = AreOfClash c first second
-AreOfFault machine now (Floor x) first second = (first ≡ pos x.tick) × (second ≡ pos (now + machine.lead))
-AreOfFault machine now (Horizon x) first second = (first ≡ pos x.tick) × (second ≡ pos (now + machine.window))
-AreOfFault machine now (Order parting) first second = Unit {0}
-AreOfFault machine now fault first second = ⊥
+-- the action of this number of the plan holds the resource from this tick on
+pub record BeginsIn (machine : Machine) (plan : Plan) (number : ℕ) (resource : ResId) (begin : ℤ) : Type 0 where
+  pub at : ℕ
+  pub number_is : number ≡ at + 1
+  pub act : ActId
+  pub runs : slice_get plan.acts at ≡ Some act
+  pub rule : HoldRule
+  pub holds : Contains (holds_of_act (action_at machine act.0)) rule
+  pub on : rule.resource ≡ resource
+  pub is : begin ≡ begin_of rule (point plan at) (point plan number)
 
--- some fault is one of these, and they are of it
-pub record HasFault (IsOne : Fault → Type 0) (machine : Machine) (now : ℕ) (first second : ℤ) : Type 0 where
+-- the action that the hold names, of the copy's plan, does
+pub record BeginsAt (machine : Machine) (plans : List Plan) (resource : ResId) (hold : Hold) (begin : ℤ) : Type 0 where
+  pub plan : Plan
+  pub planned : plan_of hold.sheet plans ≡ Some plan
+  pub begins : BeginsIn machine plan hold.act resource begin
+
+abbrev pub Begins : Machine → List Plan → ResId → Option Hold → ℤ → Type 0
+Begins machine plans resource None begin = ⊥
+Begins machine plans resource (Some hold) begin = BeginsAt machine plans resource hold begin
+
+-- where the two holds begin that stand in another order than before: the one that stood at a place of the order, and the one that
+-- stands there now
+abbrev pub AreOfOrder : Machine → List Plan → Parting → ℤ → ℤ → Type 0
+AreOfOrder machine plans' parting first second =
+    Begins machine plans' parting.resource parting.stood first × Begins machine plans' parting.resource parting.stands second
+
+-- a point and its bound, now + lead or now + window
+abbrev pub AreOfFault : Machine → ℕ → List Plan → Fault → ℤ → ℤ → Type 0
+AreOfFault machine now plans' (Unlike u) first second = AreOfMove u first second
+AreOfFault machine now plans' (Clash c) first second = AreOfClash c first second
+AreOfFault machine now plans' (Floor x) first second = (first ≡ pos x.tick) × (second ≡ pos (now + machine.lead))
+AreOfFault machine now plans' (Horizon x) first second = (first ≡ pos x.tick) × (second ≡ pos (now + machine.window))
+AreOfFault machine now plans' (Order parting) first second = AreOfOrder machine plans' parting first second
+AreOfFault machine now plans' fault first second = ⊥
+
+-- a fault of which no two numbers tell: the plan is no answer, another plan is changed, or one is no timed plan; or of two holds that
+-- stand in another order one is not among those of the schedule
+abbrev pub IsPlainFault : Machine → List Plan → Fault → Type 0
+IsPlainFault machine plans' Asked = Unit {0}
+IsPlainFault machine plans' (Unlike Changed) = Unit {0}
+IsPlainFault machine plans' (Clash (NotTimed sheet)) = Unit {0}
+IsPlainFault machine plans' (Order parting) = (first second : ℤ) → AreOfOrder machine plans' parting first second → ⊥
+IsPlainFault machine plans' fault = ⊥
+
+pub record HasPlainFault (IsOne : Fault → Type 0) (machine : Machine) (plans' : List Plan) : Type 0 where
   pub fault : Fault
   pub is : IsOne fault
-  pub told : AreOfFault machine now fault first second
+  pub plain : IsPlainFault machine plans' fault
+
+-- some fault is one of these, and they are of it
+pub record HasFault (IsOne : Fault → Type 0) (machine : Machine) (now : ℕ) (plans' : List Plan) (first second : ℤ) : Type 0 where
+  pub fault : Fault
+  pub is : IsOne fault
+  pub told : AreOfFault machine now plans' fault first second
 
 -- ---- of a plan by itself
 
@@ -66,13 +114,13 @@ pub record IsOffDuration (machine : Machine) (p : Plan) (first second : ℤ) : T
 pub record IsLow (machine : Machine) (now : ℕ) (exempt : Option SheetId) (plans : List Plan) (first second : ℤ) : Type 0 where
   pub point : PlanPoint
   pub is : IsBelowFloor machine now (is_exempt exempt) plans point
-  pub told : AreOfFault machine now (Floor point) first second
+  pub told : AreOfFault machine now plans (Floor point) first second
 
 -- a point that is past now + window
 pub record IsLate (machine : Machine) (now : ℕ) (plans : List Plan) (first second : ℤ) : Type 0 where
   pub point : PlanPoint
   pub is : IsPastHorizon machine now plans point
-  pub told : AreOfFault machine now (Horizon point) first second
+  pub told : AreOfFault machine now plans (Horizon point) first second
 
 abbrev pub IsOutOfBounds : Machine → ℕ → Option SheetId → List Plan → ℤ → ℤ → Type 0
 IsOutOfBounds machine now exempt plans first second = IsLow machine now exempt plans first second ⊎ IsLate machine now plans first second

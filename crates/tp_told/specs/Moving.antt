@@ -1,5 +1,5 @@
 -- The moves of other plans, as they are looked at.
-use Rattle.std.specs.Prelude.{◌≡◌, ℕ, ◌==◌, ◌&&◌, ◌≤◌, Bool, not, List, [], ◌∷◌, ◌++◌, drop, length, map, Option, Some, None, All, IsFalse, if◌then◌else◌}
+use Rattle.std.specs.Prelude.{◌≡◌, ℕ, ◌==◌, ◌&&◌, ◌≤◌, Bool, not, List, [], ◌∷◌, ◌++◌, drop, length, map, Option, Some, None, All, IsFalse, IsTrue, if◌then◌else◌}
 use Rattle.std.specs.Str.{bytes_eq}
 use Rattle.tp_log.specs.declared.item.Item.{Item}
 use Rattle.tp_log.specs.declared.item.Item.TheVariants.{Note}
@@ -36,6 +36,19 @@ moved_points p (item ∷ items) = moved_by p item
 abbrev pub points_for : Option SheetId → Plan → List Item → Option (List ℕ)
 points_for asked p items = if is_exempt asked p then None else moved_points p items
 
+-- the items behind the moves of these plans: of each in turn the first item is taken if it moves that plan
+abbrev pub behind_move : Option (List ℕ) → List Item → List Item
+behind_move None items = items
+behind_move (Some points) items = drop 1 items
+
+abbrev pub behind_moves : Option SheetId → List Plan → List Item → List Item
+behind_moves asked [] items = items
+behind_moves asked (p ∷ plans) items = behind_moves asked plans (behind_move (points_for asked p items) items)
+
+-- one more move stands there
+abbrev pub IsMoveOver : Option SheetId → List Plan → List Item → Type 0
+IsMoveOver asked plans items = IsTrue (begins_with_move (behind_moves asked plans items))
+
 -- a plan by itself: timed, and within floors and horizon
 pub record IsKeptPlan (machine : Machine) (now : ℕ) (exempt : Option SheetId) (p : Plan) : Type 0 where
   pub timed : IsTimedPlan machine p
@@ -54,6 +67,7 @@ pub record TakesMoves (machine : Machine) (now : ℕ) (asked : Option SheetId) (
   pub within : taken ≤ length items
   pub sheets : map (λ p. p.sheet) after ≡ map (λ p. p.sheet) before
   pub told : items ≡ notes (moves (others asked before) (others asked after)) ++ drop taken items
+  pub left : drop taken items ≡ behind_moves asked before items
   pub only : AreNamed before → (qs : List Plan) (rest : List Item) → TellsMoves machine now (others asked before) qs items rest → (qs ≡ others asked after) × (rest ≡ drop taken items)
 
 -- some moves are told of plans whose jobs have different names

@@ -1,8 +1,8 @@
 -- The plan that a record tells of an asked copy.
-use Rattle.std.specs.Prelude.{◌≡◌, ℕ, List, ◌++◌, map, drop, length, ◌+◌, ◌<◌, ◌≤◌, slice_index, Option, Some, None, All}
+use Rattle.std.specs.Prelude.{◌≡◌, ◌≢◌, ℕ, ◌⊎◌, List, ◌++◌, map, drop, length, ◌+◌, ◌<◌, ◌≤◌, slice_index, Option, Some, None, All}
 use Rattle.tp_machine.specs.declared.machine.Machine.{Machine}
 use Rattle.tp_machine.specs.declared.parts.ActId.{ActId}
-use Rattle.tp_schedule.specs.Answers.{acts_in, kept_of}
+use Rattle.tp_schedule.specs.Answers.{AnswersAsk, acts_in, kept_of}
 use Rattle.tp_schedule.specs.Plans.{IsFormed, IsTimedPlan, end_of_plan}
 use Rattle.tp_schedule.specs.declared.parts.Ask.{Ask}
 use Rattle.tp_schedule.specs.declared.parts.Kind.TheVariants.{Whole}
@@ -36,6 +36,10 @@ pub record DoFit (front : Option Plan) (points : List ℕ) (names : List (List �
   pub one_more : length points ≡ length names + 1
   pub joined : IsJoined front points
 
+-- no new actions, or not one point more than new actions
+abbrev pub AreMismatched : List ℕ → List (List ℕ) → Type 0
+AreMismatched points names = (length names ≡ 0) ⊎ (length points ≢ length names + 1)
+
 -- the plan of the asked copy with these actions, and these new points
 abbrev pub plan_with : Ask → Option Plan → List ActId → List ℕ → Plan
 plan_with ask front acts points = record {
@@ -55,7 +59,17 @@ pub record IsToldPlan (machine : Machine) (plans : List Plan) (ask : Ask) (told 
   pub good : IsGoodPlan machine plans ask p
   pub is : told_of_plan machine (kept_of ask) p ≡ told
 
--- it tells no such plan that is a timed one
+-- the record tells this plan, which answers the ask whatever its points are
+pub record IsInForm (machine : Machine) (plans : List Plan) (ask : Ask) (told : Record) (p : Plan) : Type 0 where
+  pub formed : IsFormed p
+  pub answers : AnswersAsk machine plans ask p
+  pub is : told_of_plan machine (kept_of ask) p ≡ told
+
+-- it tells none
+abbrev pub TellsNoForm : Machine → List Plan → Ask → Record → Type 0
+TellsNoForm machine plans ask told = (p : Plan) → IsInForm machine plans ask told p → ⊥
+
+-- it tells no plan that answers the ask, keeps its front, and is a timed one
 abbrev pub TellsNoPlan : Machine → List Plan → Ask → Record → Type 0
 TellsNoPlan machine plans ask told = (q : Plan) → IsTimedPlan machine q → IsToldPlan machine plans ask told q → ⊥
 

@@ -1,6 +1,6 @@
 -- Why items don't tell what is due: a rule that is broken, a point of the new schedule that could stand earlier, or a tree
 -- that has a flaw.
-use Rattle.std.specs.Prelude.{◌≡◌, ℕ, ◌⊎◌, ℤ, List, ◌∷◌, ◌++◌, Option, Some, None}
+use Rattle.std.specs.Prelude.{◌≡◌, ℕ, ◌⊎◌, ℤ, List, ◌∷◌, ◌++◌, Option, Some, None, IsFalse}
 use Rattle.tp_bounds.specs.declared.tree.BoundTree.{BoundTree}
 use Rattle.tp_log.specs.declared.item.Item.{Item}
 use Rattle.tp_log.specs.declared.item.Item.TheVariants.{Note, Tree as TreeItem}
@@ -12,12 +12,12 @@ use Rattle.tp_schedule.specs.declared.parts.Ask.{Ask}
 use Rattle.tp_schedule.specs.declared.parts.Plan.{Plan}
 use Rattle.tp_schedule.specs.declared.parts.SheetId.{SheetId}
 use Rattle.tp_schedule.specs.declared.records.Record.{Record}
-use Rattle.tp_schedule.specs.declared.records.Record.TheVariants.{Never as TellsNever}
+use Rattle.tp_schedule.specs.declared.records.Record.TheVariants.{Budget, Never as TellsNever}
 use Rattle.tp_turn.specs.Answering.{label_of_asked}
 use Rattle.tp_turn.specs.Labels.{goal_name}
 use Rattle.tp_deciding.specs.Early.{IsEarly, is_exempt}
 use Rattle.tp_deciding.specs.declared.early.Early.{Early as AnEarly}
-use Rattle.tp_answers.specs.Faults.{IsAnswerFault, IsSettlingFault, exempt_of}
+use Rattle.tp_answers.specs.Faults.{IsAnswerFault, IsRight, IsSettlingFault, exempt_of}
 use Rattle.tp_answers.specs.declared.finding.Fault.{Fault}
 use Rattle.tp_answers.specs.declared.finding.Fault.TheVariants.{Early}
 use Rattle.tp_trees.specs.Claims.{limit_of, live_part}
@@ -25,9 +25,10 @@ use Rattle.tp_trees.specs.Flaws.{tree_flaw}
 use Rattle.tp_trees.specs.declared.claim.Claim.{Claim}
 use Rattle.tp_trees.specs.declared.claim.Claim.TheVariants.{Earliest, Never}
 use Rattle.tp_trees.specs.declared.claim.TreeFlaw.{TreeFlaw}
-use Rattle.tp_told.specs.Breaches.{AreOfFault, HasFault, HasOffMove, IsOffByItself, TellsUnfit}
-use Rattle.tp_told.specs.Moving.{TakesMoves}
-use Rattle.tp_told.specs.Planning.{IsOnlyPlan}
+use Rattle.tp_told.specs.Breaches.{AreOfFault, HasFault, HasOffMove, HasPlainFault, IsOffByItself, IsPlainFault, TellsUnfit}
+use Rattle.tp_told.specs.Moving.{IsMoveOver, TakesMoves, behind_moves}
+use Rattle.tp_told.specs.Planning.{IsInForm, IsOnlyPlan}
+use Rattle.tp_told.specs.Telling.{begins_with_tree}
 use Rattle.tp_told.specs.declared.stop.Failure.{Failure}
 use Rattle.tp_told.specs.declared.stop.Failure.TheVariants as failure
 use Rattle.tp_told.specs.declared.stop.Reason.{Reason}
@@ -40,15 +41,15 @@ abbrev pub IfStop : (Reason → Type 0) → Failure → Type 0
 IfStop P failure.Memory = Unit {0}
 IfStop P (failure.Stop stop) = P stop.reason
 
--- another item is due
-abbrev pub IsPlain : Reason → Type 0
-IsPlain IsDue = Unit {0}
-IsPlain _ = ⊥
+-- another item is due, which is told where this holds
+abbrev pub IsPlain : Type 0 → Reason → Type 0
+IsPlain Due IsDue = Due
+IsPlain Due _ = ⊥
 
--- another item is due, or a rule is broken that compares two such numbers
-abbrev pub IsBreach : (ℤ → ℤ → Type 0) → Reason → Type 0
-IsBreach P (Illegal first second) = P first second
-IsBreach P reason = IsPlain reason
+-- or a rule is broken that compares two such numbers
+abbrev pub IsBreach : Type 0 → (ℤ → ℤ → Type 0) → Reason → Type 0
+IsBreach Due P (Illegal first second) = P first second
+IsBreach Due P reason = IsPlain Due reason
 
 -- the same of a record that is wrong by itself
 abbrev pub reason_of : Wrong → Reason
@@ -59,8 +60,8 @@ abbrev pub reason_in : Failure → Option Reason
 reason_in failure.Memory = None
 reason_in (failure.Stop stop) = Some stop.reason
 
-abbrev pub IsOff : (ℤ → ℤ → Type 0) → Wrong → Type 0
-IsOff P wrong = IsBreach P (reason_of wrong)
+abbrev pub IsOff : Type 0 → (ℤ → ℤ → Type 0) → Wrong → Type 0
+IsOff Due P wrong = IsBreach Due P (reason_of wrong)
 
 -- ---- of a new schedule
 
@@ -73,24 +74,30 @@ pub record CouldBeEarlier (machine : Machine) (now : ℕ) (exempt : Option Sheet
 
 abbrev pub IsTimesReason : (Fault → Type 0) → Machine → ℕ → Option SheetId → List Plan → Reason → Type 0
 IsTimesReason IsOne machine now exempt plans' (NotLeast given least) = CouldBeEarlier machine now exempt plans' given least
-IsTimesReason IsOne machine now exempt plans' reason = IsBreach (HasFault IsOne machine now) reason
+IsTimesReason IsOne machine now exempt plans' reason = IsBreach (HasPlainFault IsOne machine plans') (HasFault IsOne machine now plans') reason
 
 -- what a reason tells of a fault
-abbrev pub TellsFault : Machine → ℕ → Fault → Reason → Type 0
-TellsFault machine now (Early early) reason = reason ≡ NotLeast early.given early.earlier
-TellsFault machine now fault reason = IsBreach (AreOfFault machine now fault) reason
+abbrev pub TellsFault : Machine → ℕ → List Plan → Fault → Reason → Type 0
+TellsFault machine now plans' (Early early) reason = reason ≡ NotLeast early.given early.earlier
+TellsFault machine now plans' fault reason = IsBreach (IsPlainFault machine plans' fault) (AreOfFault machine now plans' fault) reason
 
 -- a move breaks a rule by itself, or the schedule that the moves tell breaks one
 abbrev pub IsOffSettling : Machine → List Plan → ℕ → List Item → ℤ → ℤ → Type 0
 IsOffSettling machine plans now items first second =
     HasOffMove machine now None plans items first second
-    ⊎ ((plans' : List Plan) × ((taken : ℕ) × (TakesMoves machine now None plans plans' items taken × HasFault (IsSettlingFault machine now plans plans') machine now first second)))
+    ⊎ ((plans' : List Plan) × ((taken : ℕ) × (TakesMoves machine now None plans plans' items taken × HasFault (IsSettlingFault machine now plans plans') machine now plans' first second)))
+
+-- a move is told that is none of those that are due, or no two numbers tell what is wrong with the schedule that they tell
+abbrev pub IsDueInSettling : Machine → List Plan → ℕ → List Item → Type 0
+IsDueInSettling machine plans now items =
+    IsMoveOver None plans items
+    ⊎ ((plans' : List Plan) × ((taken : ℕ) × (TakesMoves machine now None plans plans' items taken × HasPlainFault (IsSettlingFault machine now plans plans') machine plans')))
 
 -- or a point of that could stand earlier
 abbrev pub IsSettlingReason : Machine → List Plan → ℕ → List Item → Reason → Type 0
 IsSettlingReason machine plans now items (NotLeast given least) =
     (plans' : List Plan) × ((taken : ℕ) × (TakesMoves machine now None plans plans' items taken × CouldBeEarlier machine now None plans' given least))
-IsSettlingReason machine plans now items reason = IsBreach (IsOffSettling machine plans now items) reason
+IsSettlingReason machine plans now items reason = IsBreach (IsDueInSettling machine plans now items) (IsOffSettling machine plans now items) reason
 
 -- ---- of an answer
 
@@ -133,7 +140,7 @@ pub record HasOffMoveBehind (machine : Machine) (plans : List Plan) (ask : Ask) 
 pub record HasOffSchedule (machine : Machine) (plans : List Plan) (ask : Ask) (items : List Item) (first second : ℤ) : Type 0 where
   pub plans' : List Plan
   pub told : TellSchedule machine plans ask items plans'
-  pub fault : HasFault (IsAnswerFault machine plans ask plans') machine ask.now first second
+  pub fault : HasFault (IsAnswerFault machine plans ask plans') machine ask.now plans' first second
 
 -- a rule is broken by one of these, or the first item tells what doesn't fit the copy's front
 abbrev pub IsOffAnswer : Machine → List Plan → Ask → List Item → ℤ → ℤ → Type 0
@@ -146,11 +153,11 @@ abbrev pub DoClaim : Machine → List Plan → Ask → List Item → Claim → T
 DoClaim machine plans ask items (Earliest end) = (plan : Plan) × (BeginsWithPlan machine plans ask items plan × (end ≡ end_of_plan plan))
 DoClaim machine plans ask items Never = (later : List Item) × (items ≡ Note (TellsNever (label_of_asked ask) (goal_name machine ask.goal)) ∷ later)
 
--- the first item is a tree with the flaw, for the claim on the schedule before
+-- the first item is a tree with the flaw, for the claim on the schedule before, or it is no tree
 abbrev pub IsTreeReason : Machine → List Plan → Ask → Claim → List Item → Reason → Type 0
 IsTreeReason machine plans ask claim items (Tree flaw) =
     (tree : BoundTree) × ((later : List Item) × ((items ≡ TreeItem tree ∷ later) × (tree_flaw machine (live_part machine ask plans) ask (limit_of machine ask claim) tree ≡ Some flaw)))
-IsTreeReason machine plans ask claim items reason = IsPlain reason
+IsTreeReason machine plans ask claim items reason = IsPlain (IsFalse (begins_with_tree items)) reason
 
 -- a tree behind the first item, its moves among them, is one with the flaw for what is claimed
 pub record HasFlawedTree (machine : Machine) (plans : List Plan) (ask : Ask) (items : List Item) (flaw : TreeFlaw) : Type 0 where
@@ -161,11 +168,55 @@ pub record HasFlawedTree (machine : Machine) (plans : List Plan) (ask : Ask) (it
   pub parts : items ≡ before ++ behind
   pub flawed : IsTreeReason machine plans ask claim behind (Tree flaw)
 
+-- ---- another item than the one that is due
+
+-- the record tells an answer to the ask: a plan, whatever its times, that there is none, or that the budget was spent
+abbrev pub TellsAnAnswer : Machine → List Plan → Ask → Record → Type 0
+TellsAnAnswer machine plans ask told =
+    ((p : Plan) × IsInForm machine plans ask told p)
+    ⊎ ((told ≡ TellsNever (label_of_asked ask) (goal_name machine ask.goal)) ⊎ ((bound : ℕ) × (told ≡ Budget (label_of_asked ask) (goal_name machine ask.goal) bound)))
+
+-- the first item, if there is one, tells none
+abbrev pub BeginsWithNoAnswer : Machine → List Plan → Ask → List Item → Type 0
+BeginsWithNoAnswer machine plans ask items = (told : Record) (later : List Item) → items ≡ Note told ∷ later → TellsAnAnswer machine plans ask told → ⊥
+
+-- behind its plan and the moves of other plans stands one more move
+pub record HasMoveOver (machine : Machine) (plans : List Plan) (ask : Ask) (items : List Item) : Type 0 where
+  pub plan : Plan
+  pub told : BeginsWithPlan machine plans ask items plan
+  pub over : IsMoveOver (Some ask.sheet) plans told.later
+
+-- no two numbers tell what is wrong with the schedule that they tell
+pub record HasPlainSchedule (machine : Machine) (plans : List Plan) (ask : Ask) (items : List Item) : Type 0 where
+  pub plans' : List Plan
+  pub told : TellSchedule machine plans ask items plans'
+  pub fault : HasPlainFault (IsAnswerFault machine plans ask plans') machine plans'
+
+-- that schedule is right, and no tree stands behind them
+pub record LacksTree (machine : Machine) (plans : List Plan) (ask : Ask) (items : List Item) : Type 0 where
+  pub plans' : List Plan
+  pub told : TellSchedule machine plans ask items plans'
+  pub right : IsRight machine plans ask plans'
+  pub none : IsFalse (begins_with_tree (behind_moves (Some ask.sheet) plans told.first.later))
+
+-- the first item tells a none, and no tree stands behind it
+pub record LacksTreeOfNone (machine : Machine) (plans : List Plan) (ask : Ask) (items : List Item) : Type 0 where
+  pub later : List Item
+  pub is : items ≡ Note (TellsNever (label_of_asked ask) (goal_name machine ask.goal)) ∷ later
+  pub none : IsFalse (begins_with_tree later)
+
+abbrev pub IsDueInAnswer : Machine → List Plan → Ask → List Item → Type 0
+IsDueInAnswer machine plans ask items =
+    (BeginsWithNoAnswer machine plans ask items ⊎ LacksTreeOfNone machine plans ask items)
+    ⊎ (HasMoveOver machine plans ask items ⊎ (HasPlainSchedule machine plans ask items ⊎ LacksTree machine plans ask items))
+
+-- ---- reasons
+
 abbrev pub IsAskedReason : Machine → List Plan → Ask → List Item → Reason → Type 0
 IsAskedReason machine plans ask items (NotLeast given least) =
     (plans' : List Plan) × (TellSchedule machine plans ask items plans' × CouldBeEarlier machine ask.now (exempt_of ask) plans' given least)
 IsAskedReason machine plans ask items (Tree flaw) = HasFlawedTree machine plans ask items flaw
-IsAskedReason machine plans ask items reason = IsBreach (IsOffAnswer machine plans ask items) reason
+IsAskedReason machine plans ask items reason = IsBreach (IsDueInAnswer machine plans ask items) (IsOffAnswer machine plans ask items) reason
 
 -- why the items don't tell what is due
 abbrev pub IsReason : Machine → List Plan → List Item → Due → Reason → Type 0

@@ -1,6 +1,7 @@
 -- How the items of an event tell the answers to asks, and how times are settled.
-use Rattle.std.specs.Prelude.{◌≡◌, ℕ, ◌≤◌, Bool, true, false, List, [], ◌∷◌, ◌++◌, map, drop, Option, Some, IsFalse, if◌then◌else◌}
+use Rattle.std.specs.Prelude.{◌≡◌, ℕ, ◌≤◌, Bool, true, false, List, [], ◌∷◌, ◌++◌, map, drop, Some, IsFalse, if◌then◌else◌}
 use Rattle.tp_bounds.specs.declared.tree.BoundTree.{BoundTree}
+use Rattle.tp_log.specs.Gathering.{is_tree}
 use Rattle.tp_log.specs.declared.item.Item.{Item}
 use Rattle.tp_log.specs.declared.item.Item.TheVariants.{Event, Note, Tree}
 use Rattle.tp_machine.specs.declared.machine.Machine.{Machine}
@@ -27,7 +28,7 @@ pub record ToldValue : Type 0 where
   pub items : List Item
   pub at : ℕ
   pub stops : ℕ
-  pub stop : Option Stop
+  pub stop : Stop
 
 -- the items that are to come
 abbrev pub ahead : ToldValue → List Item
@@ -40,6 +41,10 @@ is_other (Move sheet points) = false
 is_other (TellsNever sheet goal) = false
 is_other (Budget sheet goal bound) = false
 is_other _ = true
+
+abbrev pub is_plan : Record → Bool
+is_plan (TellsPlan sheet place points acts) = true
+is_plan _ = false
 
 abbrev pub is_aside : Item → Bool
 is_aside (Event event) = false
@@ -61,6 +66,10 @@ is_move _ = false
 abbrev pub begins_with_move : List Item → Bool
 begins_with_move [] = false
 begins_with_move (item ∷ items) = is_move item
+
+abbrev pub begins_with_tree : List Item → Bool
+begins_with_tree [] = false
+begins_with_tree (item ∷ items) = is_tree item
 
 -- what a right answer leaves: an alternative with least times, or the schedule as it was
 abbrev pub IsSaid : Machine → List Plan → Ask → Reply → List Plan → Type 0

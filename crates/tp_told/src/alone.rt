@@ -44,7 +44,7 @@ fn find_out_of_bounds(
         KeepsFloors machine.now now (is_exempt exempt) schedule.now.plans
         → KeepsHorizon machine.now now schedule.now.plans → ⊥) }
     ensures why { IfSome result
-        (IsOff (IsOutOfBounds machine.now now exempt schedule.now.plans)) }
+        (IsOff ⊥ (IsOutOfBounds machine.now now exempt schedule.now.plans)) }
 {
     match find_below_floor(machine, now, exempt, schedule) {
         Some(low) => {
@@ -76,7 +76,7 @@ pub(crate) fn find_in_plan(
     ensures breaks { IfOk result (λ found. IfSome found
         (λ reason. IsKeptPlan machine.now now exempt plan.now → ⊥)) }
     ensures why { IfOk result (λ found. IfSome found
-        (IsOff (IsOffByItself machine.now now exempt plan.now))) }
+        (IsOff ⊥ (IsOffByItself machine.now now exempt plan.now))) }
 {
     match find_misfit(machine, plan) {
         Some(misfit) => return Ok(illegal(misfit.lasts, i64::from(misfit.limit))),
@@ -93,7 +93,7 @@ pub(crate) fn find_unkept(alloc: Global, plan: &Plan, other: &Plan) -> Result<Op
     requires same { unmoved other.now ≡ unmoved plan.now }
     ensures breaks { IfOk result (λ found. IfSome found
         (λ reason. KeepsPoints plan.now other.now → ⊥)) }
-    ensures why { IfOk result (λ found. IfSome found (IsOff (IsUnkept plan.now other.now))) }
+    ensures why { IfOk result (λ found. IfSome found (IsOff ⊥ (IsUnkept plan.now other.now))) }
 {
     let before = alone(alloc, plan)?;
     let after = alone(alloc, other)?;

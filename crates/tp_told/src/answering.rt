@@ -14,9 +14,10 @@ ghost use Rattle.tp_answers.specs.Faults.{IsAnswerFault, IsRight, exempt_of};
 ghost use Rattle.tp_told.specs.Answering.{DoTellPlan, TakesAnswer};
 ghost use Rattle.tp_told.specs.Breaches.{TellsUnfit};
 ghost use Rattle.tp_told.specs.Failing.{Denies, is_stop};
-ghost use Rattle.tp_told.specs.Planning.{IsOnlyPlan, TellsNoPlan};
-ghost use Rattle.tp_told.specs.Reasons.{IfStop, IsAskedReason, IsOff, IsPlain, IsTimesReason, reason_in, reason_of};
-ghost use Rattle.tp_told.specs.Telling.{TellsDue, behind_asides, is_aside, is_other};
+ghost use Rattle.tp_told.specs.Planning.{IsOnlyPlan, TellsNoForm, TellsNoPlan};
+ghost use Rattle.tp_told.specs.Reasons.{IfStop, IsAskedReason, IsOff, IsTimesReason, reason_in, reason_of};
+ghost use Rattle.tp_told.specs.declared.stop.Reason.TheVariants.{Due as IsDue};
+ghost use Rattle.tp_told.specs.Telling.{TellsDue, behind_asides, is_aside, is_other, is_plan};
 
 use crate::alone::find_in_plan;
 use crate::faults::Read;
@@ -36,7 +37,7 @@ use tp_trees::Claim;
 /// Another item is due in place of the first one.
 fn due() -> Failure
     ensures stops { IsTrue (is_stop result) }
-    ensures why { IfStop IsPlain result }
+    ensures reason { reason_in result ≡ Some IsDue }
 {
     Failure::Stop(Stop {
         item: 0,
@@ -220,7 +221,8 @@ fn read_told(machine: &Machine, before: &Schedule, ask: &Ask, told: &Record) -> 
         (IsOnlyPlan machine.now before.now.plans ask.entry.now told.now)
         (λ reason. TellsNoPlan machine.now before.now.plans ask.entry.now told.now) }
     ensures why { IfErr result
-        (IsOff (TellsUnfit before.now.plans ask.entry.now told.now)) }
+        (IsOff (TellsNoForm machine.now before.now.plans ask.entry.now told.now)
+        (TellsUnfit before.now.plans ask.entry.now told.now)) }
 {
     match told {
         Record::Plan {
@@ -267,6 +269,7 @@ fn take_plan(
     schedule: &mut Schedule,
 ) -> Result<usize, Failure>
     requires can { CanAsk machine.now schedule.old.plans ask.now }
+    requires plan { IsTrue (is_plan told.now) }
     requires first { IsFalse (is_other told.now) }
     ensures told { IfOk result (λ taken. TakesAnswer machine.now schedule.old.plans ask.entry.now
         (Note told.now ∷ later.now) Planned schedule.new.plans (taken + 1)) }

@@ -1,17 +1,19 @@
 //! Which item is wrong by a fault of the schedule that the items tell, and why.
-ghost use Rattle.std.specs.Prelude.{◌≡◌, ◌≤◌, length};
+ghost use Rattle.std.specs.Prelude.{◌≡◌, ◌≤◌, ◌==◌, ℤ, length, find, MatchOption};
+ghost use Rattle.tp_machine.specs.Using.{action_at, begin_of};
+ghost use Rattle.tp_schedule.specs.Holding.{holds_of_act};
 ghost use Rattle.tp_schedule.specs.Plans.{IsFormed};
-ghost use Rattle.tp_answers.specs.declared.finding.Fault.TheVariants.{Order};
-ghost use Rattle.tp_told.specs.Breaches.{AreOfClash, AreOfFault};
-ghost use Rattle.tp_told.specs.Reasons.{IsBreach, TellsFault};
+ghost use Rattle.tp_answers.specs.declared.finding.Fault.TheVariants.{Clash as OfClash, Order};
+ghost use Rattle.tp_told.specs.Breaches.{Begins, BeginsAt, BeginsIn};
+ghost use Rattle.tp_told.specs.Reasons.{TellsFault};
 ghost use Rattle.tp_told.specs.declared.stop.Reason.TheVariants.{Due as IsDue, Illegal};
 
 use crate::stop::{Reason, Stop};
-use tp_answers::{Fault, Unlike};
+use tp_answers::{Fault, Unlike, plan_of};
 use tp_base::Tick;
 use tp_deciding::{Clash, Parting};
 use tp_log::Item;
-use tp_machine::{Holds, Machine, ResId, span};
+use tp_machine::{ActId, HoldRule, Machine, ResId, span};
 use tp_schedule::{Hold, Plan, Record, Schedule, SheetId};
 use tp_telling::label;
 
@@ -35,29 +37,82 @@ fn move_of(moves: &[Item], plan: &Plan) -> Option<usize> {
     })
 }
 
-/// At which tick a hold begins.
-fn begin_by(plan: &Plan, holds: &Holds, act: u32, resource: ResId) -> Option<i64>
-    requires formed { IsFormed plan.now }
-    requires some { 1 ≤ act }
-    requires within { act ≤ length plan.now.acts }
+/// The hold on the resource, if there is one.
+fn hold_on(holds: &[HoldRule], resource: ResId) -> Option<HoldRule>
+    ensures { result ≡ find (λ rule. rule.resource.0 == resource.0) holds.now }
 {
-    'holds: for at in 0..holds.len() {
-        let rule = holds.get(at);
-        if rule.resource == resource {
-            return Some(span(rule, plan.points.get(act - 1), plan.points.get(act)).0);
-        }
-    }
-    None
+    holds
+        .iter()
+        .copied()
+        .find(|rule| rule.resource.0 == resource.0)
 }
 
-fn begin_of(machine: &Machine, schedule: &Schedule, hold: Hold, resource: ResId) -> Option<i64> {
-    let plan = schedule.plan_at(schedule.find(hold.sheet)?);
-    if hold.act == 0 || hold.act > plan.acts.len() {
-        return None;
+fn holds_of(machine: &Machine, act: ActId) -> &[HoldRule]
+    ensures { result.now ≡ holds_of_act (action_at machine.now act.0) }
+{
+    match machine.actions.as_slice().get(usize::from(act.0)) {
+        Some(action) => action.holds.as_slice(),
+        None => &[],
     }
-    let id = plan.acts.get(hold.act - 1);
-    match machine.actions.as_slice().get(usize::from(id.0)) {
-        Some(action) => begin_by(plan, &action.holds, hold.act, resource),
+}
+
+/// At which tick a hold begins, of an action that runs from start to end.
+fn begin_between(rule: &HoldRule, start: Tick, end: Tick) -> i64
+    ensures { result ≡ begin_of rule.now start end }
+{
+    let (begin, _) = span(rule, start, end);
+    begin
+}
+
+/// At which tick the action of this number holds the resource, if it does.
+fn begin_by(machine: &Machine, plan: &Plan, number: u32, resource: ResId) -> Option<i64>
+    requires formed { IsFormed plan.now }
+    requires some { 1 ≤ number }
+    requires within { number ≤ length plan.now.acts }
+    ensures { MatchOption result ((begin : ℤ) → BeginsIn machine.now plan.now number resource begin
+        → ⊥) (BeginsIn machine.now plan.now number resource) }
+{
+    let holds = holds_of(machine, plan.acts.get(number - 1));
+    match hold_on(holds, resource) {
+        Some(rule) => {
+            let start = plan.points.get(number - 1);
+            let end = plan.points.get(number);
+            Some(begin_between(&rule, start, end))
+        }
+        None => None,
+    }
+}
+
+/// At which tick the action that the hold names holds the resource, if it does.
+fn begin_of(machine: &Machine, schedule: &Schedule, hold: Hold, resource: ResId) -> Option<i64>
+    ensures { MatchOption result ((begin : ℤ)
+        → BeginsAt machine.now schedule.now.plans resource hold begin → ⊥)
+        (BeginsAt machine.now schedule.now.plans resource hold) }
+{
+    match plan_of(schedule, hold.sheet) {
+        Some(plan) => {
+            if hold.act == 0 || hold.act > plan.acts.len() {
+                return None;
+            }
+            begin_by(machine, plan, hold.act, resource)
+        }
+        None => None,
+    }
+}
+
+/// The same where there may be no hold.
+fn begin_in(
+    machine: &Machine,
+    schedule: &Schedule,
+    hold: Option<Hold>,
+    resource: ResId,
+) -> Option<i64>
+    ensures { MatchOption result ((begin : ℤ)
+        → Begins machine.now schedule.now.plans resource hold begin → ⊥)
+        (Begins machine.now schedule.now.plans resource hold) }
+{
+    match hold {
+        Some(hold) => begin_of(machine, schedule, hold, resource),
         None => None,
     }
 }
@@ -87,23 +142,27 @@ impl Read<'_> {
         }
     }
 
+    /// The number of the item that tells where the later of two plans stands.
+    fn item_of_parting(&self, parting: &Parting) -> usize {
+        match (parting.stood, parting.stands) {
+            (Some(stood), Some(stands)) => self.later_of(stood.sheet, stands.sheet),
+            _ => self.unmoved,
+        }
+    }
+
     /// The begins of two holds that stand in another order than before.
     fn parting(&self, machine: &Machine, parting: &Parting) -> Stop
-        ensures { IsBreach (AreOfFault machine.now self.entry.now.now (Order parting.now))
-            result.reason }
+        ensures { TellsFault machine.now self.entry.now.now self.entry.now.after.now.plans
+            (Order parting.now) result.reason }
     {
-        match (parting.stood, parting.stands) {
-            (Some(stood), Some(stands)) => {
-                let first = begin_of(machine, self.after, stood, parting.resource);
-                let second = begin_of(machine, self.after, stands, parting.resource);
-                match (first, second) {
-                    (Some(first), Some(second)) => {
-                        self.stop_at(self.later_of(stood.sheet, stands.sheet), first, second)
-                    }
-                    _ => self.due(self.unmoved),
-                }
-            }
-            _ => self.due(self.unmoved),
+        let first = begin_in(machine, self.after, parting.stood, parting.resource);
+        let second = begin_in(machine, self.after, parting.stands, parting.resource);
+        match first {
+            Some(first) => match second {
+                Some(second) => self.stop_at(self.item_of_parting(parting), first, second),
+                None => self.due(self.unmoved),
+            },
+            None => self.due(self.unmoved),
         }
     }
 
@@ -116,8 +175,9 @@ impl Read<'_> {
         }
     }
 
-    fn clash(&self, clash: &Clash) -> Stop
-        ensures { IsBreach (AreOfClash clash.now) result.reason }
+    fn clash(&self, machine: &Machine, clash: &Clash) -> Stop
+        ensures { TellsFault machine.now self.entry.now.now self.entry.now.after.now.plans
+            (OfClash clash.now) result.reason }
     {
         match clash {
             Clash::NotTimed { sheet } => self.due(self.item_of(*sheet)),
@@ -147,7 +207,8 @@ impl Read<'_> {
 
     /// Which item is wrong by the fault, and why.
     pub(crate) fn stop_of(&self, machine: &Machine, fault: &Fault) -> Stop
-        ensures { TellsFault machine.now self.entry.now.now fault.now result.reason }
+        ensures { TellsFault machine.now self.entry.now.now self.entry.now.after.now.plans fault.now
+            result.reason }
     {
         match fault {
             Fault::Asked | Fault::Unlike(Unlike::Changed) => self.due(self.unmoved),
@@ -159,7 +220,7 @@ impl Read<'_> {
                     ..
                 },
             ) => self.stop_at(self.item_of(*sheet), i64::from(*stands), i64::from(*stood)),
-            Fault::Clash(clash) => self.clash(clash),
+            Fault::Clash(clash) => self.clash(machine, clash),
             Fault::Floor(low) => self.stop_at(
                 self.item_of(low.sheet),
                 i64::from(low.tick),

@@ -3,7 +3,7 @@ ghost use Rattle.std.specs.Prelude.{◌≡◌, ◌≤◌, IfErr, IfOk, IfSome, I
 ghost use Rattle.tp_schedule.specs.Plans.{IsFormed, with_points};
 ghost use Rattle.tp_answers.specs.Alike.{KeepsPoints};
 ghost use Rattle.tp_told.specs.Failing.{Denies};
-ghost use Rattle.tp_told.specs.Moving.{DoTellMoves, IsKeptPlan, TakesMoves, moved_points, other_points, points_for};
+ghost use Rattle.tp_told.specs.Moving.{DoTellMoves, IsKeptPlan, IsMoveOver, TakesMoves, moved_points, other_points, points_for};
 ghost use Rattle.tp_told.specs.Breaches.{HasOffMove, IsOffMove};
 ghost use Rattle.tp_told.specs.Reasons.{IfStop, IsBreach, IsOff};
 ghost use Rattle.tp_told.specs.Telling.{begins_with_move};
@@ -88,7 +88,7 @@ fn find_in_move(
         (λ reason. IsKeptPlan machine.now now None (with_points points.now plan.now)
         → KeepsPoints plan.now (with_points points.now plan.now) → ⊥)) }
     ensures why { IfOk result (λ found. IfSome found
-        (IsOff (IsOffMove machine.now now plan.now (with_points points.now plan.now)))) }
+        (IsOff ⊥ (IsOffMove machine.now now plan.now (with_points points.now plan.now)))) }
 {
     let moved = with_points(plan, points);
     match find_unkept(alloc, plan, &moved)? {
@@ -111,7 +111,7 @@ fn take_moves(
         before.now.plans after.new.plans items.now) }
     ensures refused { IfErr result (Denies (DoTellMoves machine.now moving.now.moment
         moving.now.asked before.now.plans items.now)) }
-    ensures why { IfErr result (IfStop (IsBreach (HasOffMove machine.now moving.now.moment
+    ensures why { IfErr result (IfStop (IsBreach ⊥ (HasOffMove machine.now moving.now.moment
         moving.now.asked before.now.plans items.now))) }
 {
     before.ordered();
@@ -155,8 +155,10 @@ pub(crate) fn take_all_moves(
     ensures over { IfOk result (λ taken. IsFalse (begins_with_move (drop taken items.now))) }
     ensures refused { IfErr result (Denies (DoTellMoves machine.now moving.now.moment
         moving.now.asked before.now.plans items.now)) }
-    ensures why { IfErr result (IfStop (IsBreach (HasOffMove machine.now moving.now.moment
-        moving.now.asked before.now.plans items.now))) }
+    ensures why { IfErr result (IfStop (IsBreach
+        (IsMoveOver moving.now.asked before.now.plans items.now)
+        (HasOffMove machine.now moving.now.moment moving.now.asked before.now.plans
+        items.now))) }
 {
     match take_moves(alloc, machine, moving, items, before, after) {
         Err(failure) => Err(failure),

@@ -8,7 +8,7 @@ ghost use Rattle.tp_telling.specs.Telling.{IsKnown};
 ghost use Rattle.tp_turn.specs.Answering.{label_of_asked};
 ghost use Rattle.tp_turn.specs.Labels.{end_location, location_name};
 ghost use Rattle.tp_told.specs.Breaches.{IsUnfit, IsUnjoined};
-ghost use Rattle.tp_told.specs.Planning.{DoFit, IsJoined, IsOnlyPlan, TellsNoPlan, plan_with, points_behind};
+ghost use Rattle.tp_told.specs.Planning.{AreMismatched, DoFit, IsJoined, IsOnlyPlan, TellsNoForm, TellsNoPlan, plan_with, points_behind};
 ghost use Rattle.tp_told.specs.Reasons.{IsOff};
 
 use crate::naming::add_named;
@@ -40,7 +40,7 @@ fn find_apart(front: Option<&Plan>, points: &[Tick]) -> Option<Wrong>
     ensures joined { MatchOption result (IsJoined (option_copied front.entry) points.now)
         (λ reason. IsJoined (option_copied front.entry) points.now → ⊥) }
     ensures why { IfSome result
-        (IsOff (IsUnjoined (option_copied front.entry) points.now)) }
+        (IsOff ⊥ (IsUnjoined (option_copied front.entry) points.now)) }
 {
     match front {
         Some(front) => {
@@ -65,7 +65,8 @@ fn find_unfit(front: Option<&Plan>, points: &[Tick], names: &[Name]) -> Option<W
     ensures fit { MatchOption result (DoFit (option_copied front.entry) points.now names.now)
         (λ reason. DoFit (option_copied front.entry) points.now names.now → ⊥) }
     ensures why { IfSome result
-        (IsOff (IsUnfit (option_copied front.entry) points.now names.now)) }
+        (IsOff (AreMismatched points.now names.now)
+        (IsUnfit (option_copied front.entry) points.now names.now)) }
 {
     let kept = kept_acts(front);
     let count = u64::from(kept.len()) + names.len() as u64;
@@ -133,8 +134,9 @@ pub(crate) fn read_plan(
         (TellsPlan (label_of_asked ask.entry.now) place.now points.now names.now))
         (λ reason. TellsNoPlan machine.now before.now.plans ask.entry.now
         (TellsPlan (label_of_asked ask.entry.now) place.now points.now names.now)) }
-    ensures why { IfErr result (IsOff (IsUnfit (plan_of ask.entry.now.sheet before.now.plans)
-        points.now names.now)) }
+    ensures why { IfErr result (IsOff (TellsNoForm machine.now before.now.plans ask.entry.now
+        (TellsPlan (label_of_asked ask.entry.now) place.now points.now names.now))
+        (IsUnfit (plan_of ask.entry.now.sheet before.now.plans) points.now names.now)) }
 {
     machine_law(machine);
     let front = plan_of(before, ask.sheet);

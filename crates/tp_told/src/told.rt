@@ -1,11 +1,11 @@
 //! The planner.
-ghost use Rattle.std.specs.Prelude.{◌≡◌, ◌≤◌, None, drop, length};
+ghost use Rattle.std.specs.Prelude.{◌≡◌, ◌≤◌, drop, length};
 ghost use Rattle.tp_schedule.specs.Planning.{HasRisen};
 
 use crate::answering::{behind, take_answer};
 use crate::asides::next_from;
 use crate::settling::take_settled;
-use crate::stop::{Failure, Stop};
+use crate::stop::{Failure, Reason, Stop};
 use std::alloc::Global;
 use std::marker::Model;
 use tp_base::Tick;
@@ -21,7 +21,8 @@ pub struct Told {
     items: Vec<Item>,
     at: usize,
     stops: u64,
-    stop: Option<Stop>,
+    /// Nothing is known of it before the planner stops.
+    stop: Stop,
 }
 
 impl Model for Told {
@@ -49,7 +50,7 @@ fn count_stop(stops: u64) -> u64
 }
 
 impl Told {
-    ghost use Rattle.std.specs.Prelude.{MatchBool, option_map};
+    ghost use Rattle.std.specs.Prelude.{MatchBool, Some};
     ghost use Rattle.tp_schedule.specs.declared.parts.Halt.TheVariants.{Memory as NoMemory};
     ghost use Rattle.tp_told.specs.Failing.{is_stop};
     ghost use Rattle.tp_told.specs.Reasons.{reason_in};
@@ -59,14 +60,16 @@ impl Told {
     pub fn new(alloc: Global, items: Vec<Item>) -> Told
         ensures items { result.items ≡ items.items }
         ensures at { result.at ≡ 0 }
-        ensures stop { result.stop ≡ None }
     {
         Told {
             alloc,
             items,
             at: 0,
             stops: 0,
-            stop: None,
+            stop: Stop {
+                item: 0,
+                reason: Reason::Due,
+            },
         }
     }
 
@@ -95,8 +98,8 @@ impl Told {
         next_from(self.items.as_slice(), self.at)
     }
 
-    /// Why it stopped last.
-    pub fn stop(&self) -> Option<Stop>
+    /// Why it stopped last, if it did.
+    pub fn stop(&self) -> Stop
         ensures { result ≡ self.now.stop }
     {
         self.stop
@@ -114,13 +117,13 @@ impl Told {
         ensures halts { MatchBool (is_stop failure) (HasStopped self.old result self.new)
             ((result ≡ NoMemory) × (self.new ≡ self.old)) }
         ensures reason { MatchBool (is_stop failure)
-            (option_map (λ stop. stop.reason) self.new.stop ≡ reason_in failure) (Unit {0}) }
+            (Some self.new.stop.reason ≡ reason_in failure) (Unit {0}) }
     {
         match behind(failure, next) {
             Failure::Memory => Halt::Memory,
             Failure::Stop(stop) => {
                 self.stops = count_stop(self.stops);
-                self.stop = Some(stop);
+                self.stop = stop;
                 Halt::Stopped
             }
         }
@@ -128,7 +131,7 @@ impl Told {
 }
 
 impl Planner for Told {
-    ghost use Rattle.std.specs.Prelude.{true, List, IfOk, IfErr, OnOk, OnErr, Err};
+    ghost use Rattle.std.specs.Prelude.{List, IfOk, IfErr, OnOk, OnErr, Err};
     ghost use Rattle.tp_log.specs.declared.item.Item.{Item};
     ghost use Rattle.tp_schedule.specs.Planning.{CanAsk, CanSettle, IsAnswer, IsSettled, StopsOnlyWhere};
     ghost use Rattle.tp_schedule.specs.Planning.Deed.{replied, settled};
@@ -138,7 +141,7 @@ impl Planner for Told {
     ghost use Rattle.tp_told.specs.Stopping.{StopsAt};
     ghost use Rattle.tp_told.specs.Telling.{TakesOn};
 
-    ghost serves = { λ p machine. true };
+    ghost serves = { λ p machine. Unit {0} };
 
     ghost Lasting = { List Item };
 

@@ -31,5 +31,5 @@ returns-clause-why c =
     let machine = c.args.machine.now in
     let p = c.args.plan.now in
     let Off : List Plan → ℤ → ℤ → Type 0 = IsOutOfBounds machine c.args.now c.args.exempt in
-    off-some (Off (p ∷ [])) (IsOffByItself machine c.args.now c.args.exempt p) (λ a b. inr) c.find_out_of_bounds.result
-    (subst (λ ps. IfSome c.find_out_of_bounds.result (IsOff (Off ps))) c.in_ok-alone.ensures c.find_out_of_bounds.ensures.why)
+    off-some ⊥ ⊥ (Off (p ∷ [])) (IsOffByItself machine c.args.now c.args.exempt p) (λ none. none) (λ a b. inr) c.find_out_of_bounds.result
+    (subst (λ ps. IfSome c.find_out_of_bounds.result (IsOff ⊥ (Off ps))) c.in_ok-alone.ensures c.find_out_of_bounds.ensures.why)

@@ -9,16 +9,17 @@ use Rattle.tp_trees.specs.declared.claim.Claim.TheVariants.{Earliest}
 use Rattle.tp_answers.specs.Faults.{IsRight}
 use Rattle.tp_told.specs.Answering.{DoTellPlan}
 use Rattle.tp_told.specs.Breaches.{HasOffMove}
-use Rattle.tp_told.specs.Moving.{DoTellMoves}
+use Rattle.tp_told.specs.Moving.{DoTellMoves, IsMoveOver}
 use Rattle.tp_told.specs.Showing.{BeginsWithTree}
 use Rattle.tp_told.proofs.MoveSteps.{rest-is}
 use Rattle.tp_told.proofs.PlaceFacts.{few-left, placed, right-too, tells-moves-too, tree-too}
 use Rattle.tp_told.proofs.TreeFacts.{denies-from, denies-like}
-use Rattle.std.specs.Prelude.{Some}
+use Rattle.std.specs.Prelude.{IsFalse, Some}
 use Rattle.std.proofs.Common.{ℤ, inl, inr, refl, ◌++◌}
 use Rattle.std.proofs.lemmas.List.{take-append-drop}
 use Rattle.tp_answers.specs.Faults.{IsAnswerFault, exempt_of}
-use Rattle.tp_told.specs.Reasons.{IsAskedReason, IsBreach, IsTimesReason, IsTreeReason}
+use Rattle.tp_told.specs.Reasons.{BeginsWithPlan, IsAskedReason, IsBreach, IsDueInAnswer, IsTimesReason, IsTreeReason}
+use Rattle.tp_told.specs.Telling.{begins_with_tree}
 use Rattle.tp_told.proofs.ReasonFacts.{asked-breach, asked-reason, same-stop, stop-from, tree-reason}
 use Rattle.tp_told.proofs.answering.place_plan.Goals as goal
 
@@ -83,14 +84,15 @@ returns-in-Err-clause-why c = λ told only. (
     let m = c.args.machine.now in
     let plans = c.args.schedule.now.plans in
     let ask = c.args.ask.now in
-    let items = Note told ∷ c.args.later.now in
-    let P : ℤ → ℤ → Type 0 = HasOffMove m ask.now (Some ask.sheet) plans c.args.later.now in
+    let later = c.args.later.now in
+    let items = Note told ∷ later in
+    let P : ℤ → ℤ → Type 0 = HasOffMove m ask.now (Some ask.sheet) plans later in
+    let Due = IsMoveOver (Some ask.sheet) plans later in
+    let begins : BeginsWithPlan m plans ask items c.args.plan = record { told = told; later = later; is = refl; only = only } in
     same-stop (IsAskedReason m plans ask items) c.in-Err.failure c.behind.result c.behind.ensures.reason
-    (stop-from (IsBreach P) (IsAskedReason m plans ask items) c.in-Err.failure (asked-breach P m plans ask items (λ a b off. inr (inl (record {
-      plan = c.args.plan;
-      told = record { told = told; later = c.args.later.now; is = refl; only = only };
-      off = off;
-    })))) c.in-Err.ensures.why))
+    (stop-from (IsBreach Due P) (IsAskedReason m plans ask items) c.in-Err.failure (asked-breach Due P m plans ask items
+    (λ over. inr (inl (record { plan = c.args.plan; told = begins; over = over })))
+    (λ a b off. inr (inl (record { plan = c.args.plan; told = begins; off = off })))) c.in-Err.ensures.why))
 
 pub returns-in-Err-check_answer-clause-why : goal.returns-in-Err-check_answer-clause-why
 returns-in-Err-check_answer-clause-why c = λ told only. (
@@ -120,7 +122,15 @@ returns-in-Err-take_tree-clause-why c = λ told only. (
     let taken = c.in-Ok-take_all_moves.taken in
     let end : end_of_plan plan ≡ c.get.result = ap (slice_index c.args.plan.points) (sym c.len.ensures.len) ∙ get_or_from_slice_get plan.points c.len.result c.get.result 0 c.get.ensures in
     let behind = take (length later - taken) (drop taken later) in
+    let begins : BeginsWithPlan m plans ask items plan = record { told = told; later = later; is = refl; only = only } in
+    let moved = c.in-Ok-take_all_moves.ensures.moved in
+    let lacks : IsFalse (begins_with_tree behind) → IsDueInAnswer m plans ask items = λ none. inr (inr (inr (record {
+      plans' = c.put_plan.new.schedule.plans;
+      told = record { plan = plan; first = begins; mid = c.take_all_moves.new.after.plans; taken = taken; moved = moved; placed = c.in-Ok-put_plan.ensures };
+      right = c.in-Ok-check_answer.ensures.right;
+      none = subst (λ xs. IsFalse (begins_with_tree xs)) (rest-is later taken ∙ moved.left) none;
+    }))) in
     let parts : items ≡ (Note told ∷ take taken later) ++ behind = (λ k. Note told ∷ (sym (take-append-drop taken later) ∙ ap (λ xs. take taken later ++ xs) (sym (rest-is later taken))) k) in
     same-stop (IsAskedReason m plans ask items) c.in-Err-take_tree.failure c.behind-in-Err-take_tree.result c.behind-in-Err-take_tree.ensures.reason
     (stop-from (IsTreeReason m plans ask (Earliest c.get.result) behind) (IsAskedReason m plans ask items) c.in-Err-take_tree.failure
-    (tree-reason m plans ask (Earliest c.get.result) items (Note told ∷ take taken later) behind (plan, (record { told = told; later = later; is = refl; only = only }, sym end)) parts) c.in-Err-take_tree.ensures.why))
+    (tree-reason m plans ask (Earliest c.get.result) items (Note told ∷ take taken later) behind (plan, (begins, sym end)) parts lacks) c.in-Err-take_tree.ensures.why))

@@ -5,6 +5,8 @@ use Rattle.tp_told.specs.Answering.{DoTellPlan}
 use Rattle.tp_told.specs.Breaches.{IsOffByItself, TellsUnfit}
 use Rattle.tp_told.specs.Reasons.{IsAskedReason}
 use Rattle.tp_told.proofs.ReasonFacts.{asked-breach, wrong-stop}
+use Rattle.tp_told.specs.Planning.{TellsNoForm}
+use Rattle.tp_told.proofs.DueFacts.{no-answer, no-plan}
 use Rattle.tp_told.proofs.TreeFacts.{denies-any}
 use Rattle.tp_told.specs.Moving.{IsKeptPlan}
 use Rattle.tp_told.proofs.PlaceFacts.{breaks-none, no-plan-told}
@@ -30,8 +32,9 @@ returns-in-Err-clause-why c =
     let told = c.args.told.now in
     let items = Note told ∷ c.args.later.now in
     let P : ℤ → ℤ → Type 0 = TellsUnfit plans ask told in
-    wrong-stop P (IsAskedReason m plans ask items) c.in-Err.wrong c.wrong_plan.result c.wrong_plan.ensures.reason
-    (asked-breach P m plans ask items (λ a b unfit. inl (inl (record { told = told; later = c.args.later.now; is = refl; unfit = unfit })))) c.in-Err.ensures.why
+    let Due = TellsNoForm m plans ask told in
+    wrong-stop Due P (IsAskedReason m plans ask items) c.in-Err.wrong c.wrong_plan.result c.wrong_plan.ensures.reason
+    (asked-breach Due P m plans ask items (λ none. inl (inl (no-answer m plans ask told c.args.later.now (no-plan m plans ask told c.requires.plan none)))) (λ a b unfit. inl (inl (record { told = told; later = c.args.later.now; is = refl; unfit = unfit })))) c.in-Err.ensures.why
 
 pub returns-in-Ok-Some-clause-why : goal.returns-in-Ok-Some-clause-why
 returns-in-Ok-Some-clause-why c =
@@ -42,8 +45,8 @@ returns-in-Ok-Some-clause-why c =
     let later = c.args.later.now in
     let items = Note told ∷ later in
     let P : ℤ → ℤ → Type 0 = IsOffByItself m ask.now c.exempt_of.result c.in-Ok.plan in
-    wrong-stop P (IsAskedReason m plans ask items) c.in-Ok-Some.wrong c.wrong_plan-in-Ok-Some.result c.wrong_plan-in-Ok-Some.ensures.reason
-    (asked-breach P m plans ask items (λ a b off. inl (inr (record {
+    wrong-stop ⊥ P (IsAskedReason m plans ask items) c.in-Ok-Some.wrong c.wrong_plan-in-Ok-Some.result c.wrong_plan-in-Ok-Some.ensures.reason
+    (asked-breach ⊥ P m plans ask items (λ none. absurd none) (λ a b off. inl (inr (record {
       plan = c.in-Ok.plan;
       told = record { told = told; later = later; is = refl; only = c.in-Ok.ensures.told };
       off = subst (λ e. IsOffByItself m ask.now e c.in-Ok.plan a b) c.exempt_of.ensures off;

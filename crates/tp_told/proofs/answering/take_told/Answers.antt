@@ -1,5 +1,5 @@
 -- A plan is told by its record, and a none by its tree.
-use Rattle.std.proofs.Common.{◌≡◌, [], ◌∷◌, ◌∙◌, refl, subst, sym}
+use Rattle.std.proofs.Common.{◌≡◌, [], ◌∷◌, ◌∙◌, inl, inr, refl, subst, sym}
 use Rattle.tp_log.specs.declared.item.Item.TheVariants.{Note}
 use Rattle.tp_schedule.specs.Planning.Due.{asking}
 use Rattle.tp_schedule.specs.declared.parts.Reply.TheVariants.{Never, Spent}
@@ -52,4 +52,5 @@ returns-in-Err-take_tree-clause-why c =
     let never : told ≡ TellsNever (label_of_asked ask) (goal_name m ask.goal) = c.in-Never.is ∙ (λ k. TellsNever (about.0 k) (about.1 k)) in
     same-stop (IsAskedReason m plans ask items) c.in-Err-take_tree.failure c.behind.result c.behind.ensures.reason
     (stop-from (IsTreeReason m plans ask NeverClaim later) (IsAskedReason m plans ask items) c.in-Err-take_tree.failure
-    (tree-reason m plans ask NeverClaim items (Note told ∷ []) later (later, (λ k. Note (never k) ∷ later)) refl) c.in-Err-take_tree.ensures.why)
+    (tree-reason m plans ask NeverClaim items (Note told ∷ []) later (later, (λ k. Note (never k) ∷ later)) refl
+    (λ none. inl (inr (record { later = later; is = λ k. Note (never k) ∷ later; none = none })))) c.in-Err-take_tree.ensures.why)

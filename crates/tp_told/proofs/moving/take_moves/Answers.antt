@@ -39,7 +39,7 @@ returns-in-Ok-Some-clause-why c =
     let p = c.plan_at-plan.result.now in
     let points = c.in-Some.points in
     let P : ℤ → ℤ → Type 0 = HasOffMove m now asked before items in
-    subst (IsBreach P) (sym c.reason_of.ensures) (off-by (IsOffMove m now p (with_points points p)) P (λ a b off. record {
+    subst (IsBreach ⊥ P) (sym c.reason_of.ensures) (off-by ⊥ ⊥ (IsOffMove m now p (with_points points p)) P (λ none. none) (λ a b off. record {
       plan = p;
       planned = contains-get before c.plans.at p c.plan_at-plan.ensures.plan;
       place = c.plans.taken;
@@ -71,8 +71,9 @@ plans-preserved c =
     elim c.match-points_for.branch [
       | in-Some+in-Ok-None w ↦ (
           let some = for-some m now asked before items p (drop taken items) rest (rest-is items taken) w.in-Some.points (sym w.in-Some.ensures) in
+          let takes = subst (λ xs. points_for asked p xs ≡ Some w.in-Some.points) (rest-is items taken) (sym w.in-Some.ensures) in
           let step = moves-next m now asked before items c.plans.after.plans c.plans.at taken c.plans.invariant p c.plan_at-plan.ensures.plan some.0 w.in-Some.points some.1 c.ordered.ensures.ordered.in_order
-          w.set_points.new.self.plans w.ordered-in-Some.ensures.ordered.in_order w.set_points.ensures.plans in
+          takes w.set_points.new.self.plans w.ordered-in-Some.ensures.ordered.in_order w.set_points.ensures.plans in
           subst (So c.match-points_for.after.plans) (sym w.taken-is) (subst (λ after. So after (taken + 1)) (sym (ap (λ (t : Timetable). t.plans) w.after-is)) step))
       | in-None w ↦ (
           let step = none-next m now asked before items c.plans.after.plans c.plans.at taken c.plans.invariant p c.plan_at-plan.ensures.plan c.plan_at-plan.ensures.formed rest (rest-is items taken) (sym w.in-None.ensures) in

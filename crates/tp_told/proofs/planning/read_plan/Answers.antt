@@ -8,9 +8,10 @@ use Rattle.tp_schedule.specs.declared.records.Record.TheVariants.{Plan as TellsP
 use Rattle.tp_telling.specs.Telling.{IsKnown}
 use Rattle.tp_turn.specs.Answering.{label_of_asked}
 use Rattle.tp_turn.specs.Labels.{end_location, location_name}
-use Rattle.tp_told.specs.Planning.{DoFit, IsToldPlan, plan_with}
+use Rattle.tp_told.specs.Planning.{AreMismatched, DoFit, IsToldPlan, TellsNoForm, plan_with}
 use Rattle.tp_told.specs.Breaches.{IsUnfit}
-use Rattle.tp_told.specs.Reasons.{IsOff}
+use Rattle.tp_told.proofs.FormFacts.{elsewhere, mismatched, no-answer-read, unnamed}
+use Rattle.tp_told.proofs.ReasonFacts.{off-by}
 use Rattle.tp_told.proofs.PlanFacts.{fits, is-made, made-formed, made-told, made-known, read-from, told-of}
 use Rattle.tp_told.proofs.planning.read_plan.Goals as goal
 
@@ -25,7 +26,48 @@ returns-in-Some-clause-told c = λ q timed t. (
     c.in-Some.ensures.fit (subst (λ o. DoFit o c.args.points.now c.args.names.now) (sym front) (fits machine plans ask c.requires.asked formed c.args.place.now c.args.points.now c.args.names.now q of)))
 
 pub returns-in-Some-clause-why : goal.returns-in-Some-clause-why
-returns-in-Some-clause-why c = subst (λ o. IsOff (IsUnfit o c.args.points.now c.args.names.now) c.in-Some.reason) c.plan_of-front.ensures.plan c.in-Some.ensures.why
+returns-in-Some-clause-why c =
+    let plans = c.args.before.now.plans in
+    let ask = c.args.ask.now in
+    let points = c.args.points.now in
+    let names = c.args.names.now in
+    let none = mismatched c.args.machine.now plans ask c.requires.asked c.args.place.now points names in
+    off-by (AreMismatched points names) (TellsNoForm c.args.machine.now plans ask (TellsPlan (label_of_asked ask) c.args.place.now points names))
+    (IsUnfit (option_copied c.plan_of-front.result) points names) (IsUnfit (plan_of ask.sheet plans) points names) none
+    (λ a b unfit. subst (λ o. IsUnfit o points names a b) c.plan_of-front.ensures.plan unfit) c.in-Some.reason c.in-Some.ensures.why
+
+pub returns-then-not-named-clause-why : goal.returns-then-not-named-clause-why
+returns-then-not-named-clause-why c =
+    unnamed c.args.machine.now c.args.before.now.plans c.args.ask.now c.requires.asked c.args.place.now c.args.points.now c.args.names.now c.if-not-named.ensures
+
+pub returns-then-not-answers-clause-why : goal.returns-then-not-answers-clause-why
+returns-then-not-answers-clause-why c =
+    let machine = c.args.machine.now in
+    let plans = c.args.before.now.plans in
+    let ask = c.args.ask.now in
+    let named = c.if-not-named.ensures in
+    let made : c.make_plan-plan.result ≡ plan_with ask (plan_of ask.sheet plans) (acts_in (plan_of ask.sheet plans) ++ named.0) c.args.points.now =
+    c.make_plan-plan.ensures ∙ ap (λ acts. plan_with ask (option_copied c.plan_of-front.result) acts c.args.points.now) (named.1 ∙ ap (λ acts. acts ++ named.0) c.kept_acts-acts.ensures)
+    ∙ ap (λ o. plan_with ask o (acts_in o ++ named.0) c.args.points.now) c.plan_of-front.ensures.plan in
+    no-answer-read machine plans ask c.requires.asked c.args.place.now c.args.points.now c.args.names.now c.machine_law.ensures named.0 named.2 (λ answers. (
+    let yes = c.answers_ask-answers.ensures.1 (subst (AnswersAsk machine plans ask) (sym made) answers) in
+    let no = c.if-not-answers.true in
+    absurd cc))
+
+pub returns-then-not-ends-clause-why : goal.returns-then-not-ends-clause-why
+returns-then-not-ends-clause-why c =
+    let machine = c.args.machine.now in
+    let plans = c.args.before.now.plans in
+    let ask = c.args.ask.now in
+    let named = c.if-not-named.ensures in
+    let made : c.make_plan-plan.result ≡ plan_with ask (plan_of ask.sheet plans) (acts_in (plan_of ask.sheet plans) ++ named.0) c.args.points.now =
+    c.make_plan-plan.ensures ∙ ap (λ acts. plan_with ask (option_copied c.plan_of-front.result) acts c.args.points.now) (named.1 ∙ ap (λ acts. acts ++ named.0) c.kept_acts-acts.ensures)
+    ∙ ap (λ o. plan_with ask o (acts_in o ++ named.0) c.args.points.now) c.plan_of-front.ensures.plan in
+    elsewhere machine plans ask c.requires.asked c.args.place.now c.args.points.now c.args.names.now c.machine_law.ensures named.0 named.2 (λ at. (
+    let ends : c.end_name.result ≡ c.args.place.now = c.end_name.ensures ∙ ap (λ p. location_name machine (end_location machine p)) made ∙ at in
+    let yes = c.is_same_name-ends.ensures.1 ends in
+    let no = c.if-not-ends.true in
+    absurd cc))
 
 pub returns-then-not-named-clause-told : goal.returns-then-not-named-clause-told
 returns-then-not-named-clause-told c = λ q timed t. (

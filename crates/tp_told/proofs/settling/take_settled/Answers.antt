@@ -4,7 +4,7 @@ use Rattle.tp_schedule.specs.Planning.{IsSettled}
 use Rattle.tp_answers.specs.Faults.{IsSettlingFault}
 use Rattle.tp_told.specs.Answering.{DoTellSettled}
 use Rattle.tp_told.specs.Breaches.{HasOffMove}
-use Rattle.tp_told.specs.Moving.{DoTellMoves}
+use Rattle.tp_told.specs.Moving.{DoTellMoves, IsMoveOver}
 use Rattle.tp_told.proofs.SettleFacts.{settled-moves, settled-taken, settled-too}
 use Rattle.tp_told.specs.Reasons.{IsBreach, IsSettlingReason, IsTimesReason}
 use Rattle.tp_told.proofs.ReasonFacts.{settled-reason, settling-breach, stop-from}
@@ -33,7 +33,8 @@ returns-in-Err-clause-why c =
     let m = c.args.machine.now in
     let plans = c.args.schedule.now.plans in
     let P : ℤ → ℤ → Type 0 = HasOffMove m c.args.now None plans c.args.items.now in
-    stop-from (IsBreach P) (IsSettlingReason m plans c.args.now c.args.items.now) c.in-Err.failure (settling-breach P m plans c.args.now c.args.items.now (λ a b. inl)) c.in-Err.ensures.why
+    let Due = IsMoveOver None plans c.args.items.now in
+    stop-from (IsBreach Due P) (IsSettlingReason m plans c.args.now c.args.items.now) c.in-Err.failure (settling-breach Due P m plans c.args.now c.args.items.now inl (λ a b. inl)) c.in-Err.ensures.why
 
 pub returns-in-Err-check_settled-clause-why : goal.returns-in-Err-check_settled-clause-why
 returns-in-Err-check_settled-clause-why c =

@@ -7,7 +7,6 @@ use Rattle.tp_told.proofs.MoveSteps.{rest-is}
 use Rattle.tp_schedule.specs.Planning.Due.{asking}
 use Rattle.tp_told.specs.Answering.{TakesAnswer}
 use Rattle.tp_told.specs.Telling.{TellsDue}
-use Rattle.std.specs.Prelude.{IfSome}
 use Rattle.tp_told.specs.Reasons.{IsAskedReason}
 use Rattle.tp_told.specs.declared.stop.Reason.{Reason}
 use Rattle.tp_told.proofs.ReasonFacts.{kept-reason}
@@ -47,4 +46,4 @@ returns-in-Err-clause-stopped c = λ e. (
     let R : List Item → Reason → Type 0 = λ xs r. IsAskedReason m plans ask xs r in
     let why = kept-reason (R (take (length c.deref.result.now - next) (drop next c.deref.result.now))) c.in-Err.failure c.halt.new.self.stop c.args.self.now c.halt.result c.halt.new.self c.halt.ensures.halts halts c.halt.ensures.reason c.in-Err.ensures.why in
     let stopped : HasStopped c.args.self.now c.halt.result c.halt.new.self = both.1 in
-    stops-asked m plans c.args.self.now next c.next-next.ensures.items c.next-next.ensures.further ask c.halt.result c.halt.new.self (subst (λ xs. P xs → ⊥) path both.0) (subst (λ xs. IfSome c.halt.new.self.stop (λ stop. R xs stop.reason)) path why) stopped)
+    stops-asked m plans c.args.self.now next c.next-next.ensures.items c.next-next.ensures.further ask c.halt.result c.halt.new.self (subst (λ xs. P xs → ⊥) path both.0) (subst (λ xs. R xs c.halt.new.self.stop.reason) path why) stopped)
