@@ -1,10 +1,7 @@
 -- Lines of a log that are cut where an event begins are those of its first items, and a log's items are cut so in one way alone.
-use Rattle.std.proofs.Common.{◌≡◌, ℕ, ◌+◌, ◌≤◌, Bool, true, false, IsTrue, List, [], ◌∷◌, ◌++◌, All, map, refl, sym, ap, subst, ◌∙◌, append_assoc, arith, length}
+use Rattle.std.proofs.Common.{◌≡◌, ◌+◌, ◌≤◌, true, false, List, [], ◌∷◌, ◌++◌, All, refl, sym, ap, subst, ◌∙◌, arith, length}
 use Rattle.std.specs.Prelude.{IsFalse}
-use Rattle.std.proofs.lemmas.List.{append-nil}
-use Rattle.std.proofs.lemmas.List.Concat.{flat_map-append}
 use Rattle.std.proofs.lemmas.List.Elements.{All-cons, All-head, All-nil, All-tail}
-use Rattle.tp_bounds.specs.declared.tree.BoundTree.{BoundTree}
 use Rattle.tp_bounds.specs.declared.tree.Node.{Node as ANode}
 use Rattle.tp_bounds.specs.declared.tree.TreeRow.{TreeRow}
 use Rattle.tp_log.specs.Gathering.{item_lines, log_lines}
@@ -14,7 +11,7 @@ use Rattle.tp_log.specs.declared.item.Item.{Item}
 use Rattle.tp_log.specs.declared.item.Item.TheVariants.{Event, Note, Tree}
 use Rattle.tp_log.specs.declared.log_line.LogLine.{LogLine}
 use Rattle.tp_log.specs.declared.log_line.LogLine.TheVariants as line
-use Rattle.tp_log.proofs.Items.{node_lines, row_lines, same_items, tree_of}
+use Rattle.tp_log.proofs.Items.{node_lines, row_lines, same_items}
 use Rattle.tp_entries.specs.Gathered.{ArePlain}
 use Rattle.tp_log_check.specs.Lawful.{EndEvent}
 

@@ -1,13 +1,11 @@
--- A flaw tells why the turn of the event that is under way stops.
-use Rattle.std.proofs.Common.{◌≡◌, List, inl, inr, Option, Some, None, sym, subst, ◌∙◌}
+-- A flaw tells why the turn of the event that is under way is off or stops.
+use Rattle.std.proofs.Common.{◌≡◌, List, Option, Some, None, sym, subst}
 use Rattle.std.specs.Prelude.{IfSome}
 use Rattle.tp_entries.specs.declared.pending.Pending.{Pending}
 use Rattle.tp_log.specs.declared.item.Item.{Item}
-use Rattle.tp_told.specs.declared.stop.Reason.{Reason}
-use Rattle.tp_told.specs.declared.stop.Reason.TheVariants as reason
 use Rattle.tp_told.specs.declared.stop.Stop.{Stop}
 use Rattle.tp_log_check.specs.Checking.{CheckerValue, underway}
-use Rattle.tp_log_check.specs.Causes.{AreItemsOf, HasCause, HasReasonUnder, IsDueOrStops, reason_told}
+use Rattle.tp_log_check.specs.Causes.{AreItemsOf, HasCause, HasReasonUnder, IsDueOrStops, flaw_at}
 use Rattle.tp_log_check.specs.declared.flaw.Flaw.{Flaw}
 use Rattle.tp_log_check.specs.declared.flaw.Flaw.TheVariants.{Memory, Text, Due, Illegal, NotLeast, Tree}
 
@@ -16,14 +14,13 @@ some-from P Q None to h = tt
 some-from P Q (Some a) to h = to a h
 
 module _ (c : CheckerValue) (p : Pending) (is : c.under ≡ Some (underway p)) (items : List Item) (are : AreItemsOf (underway p) items) (stop : Stop) where
-  reason-under : (r : Reason) → Some r ≡ Some stop.reason → (r ≡ reason.Due → ⊥) → IsDueOrStops c.machine c.state p.event items stop → HasReasonUnder c.machine c.state c.under r
-  reason-under r e other (inl due) = absurd (other (let same : r ≡ stop.reason = cc in same ∙ due))
-  reason-under r e other (inr stops) = subst (λ u. HasReasonUnder c.machine c.state u r) (sym is) (record { items = items; are = are; stop = stop; stops = stops; is = cc })
+  reason-under : (flaw : Flaw) → flaw ≡ flaw_at p.line items stop → IsDueOrStops c.machine c.state p.event items stop → HasReasonUnder c.machine c.state c.under flaw
+  reason-under flaw told why = subst (λ u. HasReasonUnder c.machine c.state u flaw) (sym is) (record { items = items; are = are; stop = stop; why = why; told = told })
 
-  pub caused : (flaw : Flaw) → reason_told flaw ≡ Some stop.reason → IsDueOrStops c.machine c.state p.event items stop → HasCause c flaw
-  caused Memory e h = tt
-  caused (Text line) e h = tt
-  caused (Due line) e h = tt
-  caused (Illegal line first second) e h = reason-under (reason.Illegal first second) e (λ no. cc) h
-  caused (NotLeast line given least) e h = reason-under (reason.NotLeast given least) e (λ no. cc) h
-  caused (Tree line flaw) e h = reason-under (reason.Tree flaw) e (λ no. cc) h
+  pub caused : (flaw : Flaw) → flaw ≡ flaw_at p.line items stop → IsDueOrStops c.machine c.state p.event items stop → HasCause c flaw
+  caused Memory told why = tt
+  caused (Text line) told why = tt
+  caused (Due line) told why = reason-under (Due line) told why
+  caused (Illegal line first second) told why = reason-under (Illegal line first second) told why
+  caused (NotLeast line given least) told why = reason-under (NotLeast line given least) told why
+  caused (Tree line flaw) told why = reason-under (Tree line flaw) told why

@@ -24,7 +24,9 @@ use Rattle.tp_log.proofs.BoundLines.{one_log_line}
 use Rattle.tp_log.proofs.GatherFacts.{closed-lines, closed_log}
 use Rattle.tp_log.proofs.Items.{in_order, log_known, node_lines, row_lines}
 use Rattle.tp_machine.specs.declared.machine.Machine.{Machine}
+use Rattle.tp_told.specs.declared.stop.Stop.{Stop}
 use Rattle.tp_turn.specs.States.{SessionState}
+use Rattle.tp_log_check.specs.Causes.{flaw_at}
 use Rattle.tp_log_check.specs.Checking.{CheckerValue, HasRead, HasTaken, Underway, items_of, underway}
 use Rattle.tp_log_check.specs.FlawLines.{IsOffOr, LiesAt, LiesBehind, LiesInLast}
 use Rattle.tp_log_check.specs.declared.flaw.Flaw.{Flaw}
@@ -142,6 +144,13 @@ module _ (machine : Machine) (state : SessionState) (events lines : ℕ) (counts
       let here = lies (subst (λ n. n < 2 ^ 64) all fits) in
       in-last p pending told h found (subst (λ n. LiesBehind n (length told + 1) found) (same.line ∙ first) (subst (λ n. LiesBehind r.line n found) (sym all) here))
 
+  -- and the flaw is told on the line of the item
+  pub told-ended : (p q r : Pending) (told : List LogLine) → HasTaken (value (Some (underway p))) told → entries.items_of q ≡ closed (entries.items_of p) p.tree → q.line ≡ p.line → IsSame q r
+      → length told + 1 < 2 ^ 64 → (found : Flaw) (stop : Stop) → (r.line + 1 + heights r.items.items < 2 ^ 64 → found ≡ flaw_at r.line r.items.items stop) → found ≡ flaw_at p.line q.items.items stop
+  told-ended p q r told h ended first same fits found stop is =
+      let all : length told + 1 ≡ r.line + 1 + heights r.items.items = counted-ended p q told ended h ∙ (λ k. sym (same.line ∙ first) k + 1 + heights (sym same.items k)) in
+      is (subst (λ n. n < 2 ^ 64) all fits) ∙ (λ k. flaw_at ((same.line ∙ first) k) (same.items k) stop)
+
   -- and one of those items that it has so far
   pub found-so-far : (p r : Pending) → IsPending p → (told : List LogLine) → HasTaken (value (Some (underway p))) told → IsSame p r
       → length told + 1 < 2 ^ 64 → (found : Flaw) → (r.line + 1 + heights r.items.items < 2 ^ 64 → LiesBehind r.line (r.line + 1 + heights r.items.items) found) → LiesInLast told found
@@ -151,6 +160,12 @@ module _ (machine : Machine) (state : SessionState) (events lines : ℕ) (counts
       let up : r.line + 1 + heights r.items.items ≤ length told + 1 = omega (arith, bound, all) in
       let here = lies (omega (arith, up, fits)) in
       in-last p pending told h found (subst (λ n. LiesBehind n (length told + 1) found) same.line (lies-up r.line (r.line + 1 + heights r.items.items) (length told + 1) found up here))
+
+  pub fits-so-far : (p r : Pending) (told : List LogLine) → HasTaken (value (Some (underway p))) told → IsSame p r → length told + 1 < 2 ^ 64 → r.line + 1 + heights r.items.items < 2 ^ 64
+  fits-so-far p r told h same fits =
+      let bound = counted-items p told h in
+      let all : r.line + 1 + heights r.items.items ≡ p.line + 1 + heights p.items.items = λ k. same.line k + 1 + heights (same.items k) in
+      omega (arith, bound, all, fits)
 
   -- the lines that were taken are those of a log so far
   pub are-lines : (pending : Option Pending) → IfSome pending IsPending → (told : List LogLine) → HasTaken (value (option_map underway pending)) told → All IsLogLine told × AreInOrder told

@@ -1,10 +1,9 @@
 -- Where a turn over the planner that is told an event's items takes them all, they stand as those of its records and trees: each tree is in its
 -- place.
-use Rattle.std.proofs.Common.{◌≡◌, ◌≢◌, ◌⊎◌, inl, inr, ℕ, ◌+◌, Bool, true, false, cond, List, [], ◌∷◌, ◌++◌, length, map, refl, sym, ap, subst, ◌∙◌, All, AllPairs, Option, Some, None, arith, append_assoc}
+use Rattle.std.proofs.Common.{◌≡◌, Bool, true, false, cond, List, [], ◌∷◌, ◌++◌, length, refl, sym, ap, ◌∙◌, All, Option, Some, None, arith}
 use Rattle.std.specs.Prelude.{IsFalse, if◌then◌else◌}
 use Rattle.std.proofs.lemmas.List.{length-append}
 use Rattle.std.proofs.lemmas.List.Elements.{All-cons, All-head, All-nil, All-tail}
-use Rattle.tp_bounds.specs.declared.tree.BoundTree.{BoundTree}
 use Rattle.tp_entries.specs.Gathered.{ArePlain}
 use Rattle.tp_log.specs.Logs.{is_echo}
 use Rattle.tp_log.specs.declared.item.Item.{Item}

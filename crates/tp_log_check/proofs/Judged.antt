@@ -1,11 +1,11 @@
 -- What a turn over the planner that is told an event's items says of them: where another record is due, or the planner stops, no turn of right
 -- answers tells them.
-use Rattle.std.proofs.Common.{◌≡◌, ◌↔◌, ℕ, Bool, true, false, List, [], ◌∷◌, ◌++◌, Option, Some, None, map, take, drop, refl, sym, ap, subst, ◌∙◌}
+use Rattle.std.proofs.Common.{◌≡◌, ◌↔◌, ℕ, Bool, false, List, [], ◌∷◌, ◌++◌, Option, Some, None, map, take, drop, refl, sym, ap, subst, ◌∙◌}
 use Rattle.std.specs.Prelude.{IsNone, MatchOption}
 use Rattle.tp_bounds.specs.declared.tree.BoundTree.{BoundTree}
 use Rattle.tp_log.specs.declared.item.Item.{Item}
-use Rattle.tp_log.specs.declared.item.Item.TheVariants.{Event, Note, Tree}
-use Rattle.tp_log_runs.specs.Following.{IsThrough, LawfulTurnsAccepted, NeverStops, TurnsTell, told_steps}
+use Rattle.tp_log.specs.declared.item.Item.TheVariants.{Event, Tree}
+use Rattle.tp_log_runs.specs.Following.{LawfulTurnsAccepted, NeverStops, TurnsTell, told_steps}
 use Rattle.tp_machine.specs.declared.machine.Machine.{Machine}
 use Rattle.tp_runs.specs.Proved.{records_in}
 use Rattle.tp_runs.specs.Runs.{is_of_plan, items_with, trees_behind}

@@ -10,3 +10,4 @@ pub mod PlacedTurns
 pub mod FlawPlaces
 pub mod HeightFacts
 pub mod FlawCauses
+pub mod PartingFacts

@@ -1,5 +1,5 @@
 -- A turn over the planner that is told an event's items, and takes them all: they stand as those of its records and trees.
-use Rattle.std.proofs.Common.{◌≡◌, ◌≢◌, ℕ, ◌+◌, Bool, true, false, List, [], ◌∷◌, ◌++◌, refl, sym, ap, subst, ◌∙◌, drop, zero, suc, AllPairs, Option, Some, None, append_assoc}
+use Rattle.std.proofs.Common.{◌≡◌, ℕ, Bool, true, false, List, [], ◌∷◌, ◌++◌, refl, sym, ap, subst, ◌∙◌, drop, zero, suc, Option, Some, None, append_assoc}
 use Rattle.std.specs.Bool.{MatchBool}
 use Rattle.std.specs.Prelude.{IsFalse}
 use Rattle.std.proofs.lemmas.List.Elements.{All-tail}
@@ -24,9 +24,7 @@ use Rattle.tp_outages.proofs.Starts.{starts}
 use Rattle.tp_outages.specs.Through.{KeepsThrough}
 use Rattle.tp_runs.specs.Proved.{records_in}
 use Rattle.tp_runs.specs.Runs.{items_with}
-use Rattle.tp_schedule.specs.Planning.{IsAnswer}
 use Rattle.tp_schedule.specs.Planning.Deed.{replied, settled}
-use Rattle.tp_schedule.specs.declared.parts.Ask.{Ask}
 use Rattle.tp_schedule.specs.declared.parts.Plan.{Plan}
 use Rattle.tp_schedule.specs.declared.parts.Reply.{Reply}
 use Rattle.tp_schedule.specs.declared.records.Cause.{Cause}
@@ -42,9 +40,9 @@ use Rattle.tp_turn.specs.Keeping.{live_part}
 use Rattle.tp_turn.specs.Labels.{label}
 use Rattle.tp_turn.specs.Logs.{spent_on_trust}
 use Rattle.tp_turn.specs.Laws.{IsNoClock}
-use Rattle.tp_turn.specs.Loops.{after_answers, after_one, after_reply, next_ask}
+use Rattle.tp_turn.specs.Loops.{after_answers, after_one, after_reply}
 use Rattle.tp_turn.specs.Outages.{outage}
-use Rattle.tp_turn.specs.Planners.{AnswersInTurn, GoesOut, IsRight, RunsLoop}
+use Rattle.tp_turn.specs.Planners.{AnswersInTurn, GoesOut, IsRight}
 use Rattle.tp_turn.specs.Ready.{CanTakeEvents}
 use Rattle.tp_turn.specs.Refusals.{clock_refusal, refusal}
 use Rattle.tp_turn.specs.States.{SessionState}

@@ -1,17 +1,14 @@
 -- Where an event's items leave no turn open, no lawful log begins with the lines that were read.
-use Rattle.std.proofs.Common.{◌≡◌, ℕ, true, List, [], ◌∷◌, ◌++◌, All, map, take, drop, refl, sym, ap, subst, ◌∙◌, append_assoc, Bool, false}
+use Rattle.std.proofs.Common.{◌≡◌, true, List, [], ◌∷◌, ◌++◌, All, map, take, drop, refl, sym, ap, subst, ◌∙◌, append_assoc, Bool, false}
 use Rattle.std.specs.Prelude.{IsFalse}
-use Rattle.std.proofs.lemmas.List.Concat.{flat_map-append}
-use Rattle.std.proofs.lemmas.List.Elements.{All-append, All-cons, All-head, All-nil, All-tail}
+use Rattle.std.proofs.lemmas.List.Elements.{All-cons, All-head, All-nil, All-tail}
 use Rattle.tp_bounds.specs.declared.tree.BoundTree.{BoundTree}
-use Rattle.tp_log.specs.Gathering.{item_lines, log_lines}
+use Rattle.tp_log.specs.Gathering.{log_lines}
 use Rattle.tp_log.specs.Logs.{IsLog, is_echo}
 use Rattle.tp_log.specs.declared.item.Item.{Item}
 use Rattle.tp_log.specs.declared.item.Item.TheVariants.{Event, Note, Tree}
 use Rattle.tp_log.specs.declared.log_line.LogLine.{LogLine}
 use Rattle.tp_machine.specs.declared.machine.Machine.{Machine}
-use Rattle.tp_schedule.specs.Planning.{Deed}
-use Rattle.tp_schedule.specs.declared.parts.Plan.{Plan}
 use Rattle.tp_schedule.specs.declared.records.Record.{Record}
 use Rattle.tp_script.specs.declared.event.Event.{Event as AnEvent}
 use Rattle.tp_turn.specs.Logs.{Entry, Run, right_answers, spent_on_trust}
@@ -24,8 +21,8 @@ use Rattle.tp_runs.proofs.ThroughTurns.{through-turn}
 use Rattle.tp_log_runs.specs.Accepting.{bound_claims}
 use Rattle.tp_log_check.specs.Checking.{LeadOn, Section, items_of, section_items}
 use Rattle.tp_entries.specs.Gathered.{ArePlain}
-use Rattle.tp_log_check.specs.Lawful.{EndEvent, HasNoTurn, HasTurn, IsLawfulLog, LeadsTo}
-use Rattle.tp_log_check.proofs.Cutting.{BeginEvent, BeginsWith, begins-with, same-cut}
+use Rattle.tp_log_check.specs.Lawful.{EndEvent, HasNoTurn, IsLawfulLog}
+use Rattle.tp_log_check.proofs.Cutting.{BeginEvent, begins-with, same-cut}
 
 -- no event is among the items of records and trees
 plain-trees : (trees : List BoundTree) (items : List Item) → ArePlain items → ArePlain (map (λ t. Tree t) trees ++ items)

@@ -1,23 +1,87 @@
--- Why a flaw is told of the event that is under way.
-use Rattle.std.specs.Prelude.{◌≡◌, ◌⊎◌, List, ◌∷◌, Option, Some, None}
+-- Why a flaw is told of the event that is under way, and on which line.
+use Rattle.std.specs.Prelude.{◌≡◌, ℕ, ◌+◌, min, nat_lt, ◌⊎◌, List, [], ◌∷◌, length, take, drop, Option, Some, None, if◌then◌else◌}
+use Rattle.tp_bounds.specs.declared.tree.BoundTree.{BoundTree}
+use Rattle.tp_entries.specs.Heights.{heights}
 use Rattle.tp_log.specs.Gathering.{closed}
 use Rattle.tp_log.specs.declared.item.Item.{Item}
-use Rattle.tp_log.specs.declared.item.Item.TheVariants.{Event}
+use Rattle.tp_log.specs.declared.item.Item.TheVariants.{Event, Tree as TreeItem}
 use Rattle.tp_log_runs.specs.Following.{told_steps}
 use Rattle.tp_machine.specs.declared.machine.Machine.{Machine}
+use Rattle.tp_runs.specs.Proved.{records_in}
 use Rattle.tp_schedule.specs.declared.records.Record.{Record}
 use Rattle.tp_script.specs.declared.event.Event.{Event as AnEvent}
 use Rattle.tp_told.specs.Telling.{ToldValue}
 use Rattle.tp_told.specs.declared.stop.Reason.{Reason}
 use Rattle.tp_told.specs.declared.stop.Reason.TheVariants as reason
 use Rattle.tp_told.specs.declared.stop.Stop.{Stop}
+use Rattle.tp_trees.specs.declared.claim.TreeFlaw.{TreeFlaw}
+use Rattle.tp_trees.specs.declared.claim.TreeFlaw.TheVariants as tree
 use Rattle.tp_turn.specs.States.{SessionState}
+use Rattle.tp_turning.specs.Events.{LiveTurn}
 use Rattle.tp_turning.specs.Stops.{LiveStop}
 use Rattle.tp_log_check.specs.Checking.{CheckerValue, Underway}
+use Rattle.tp_log_check.specs.Partings.{IsOffAt, PartsAt, items_before}
 use Rattle.tp_log_check.specs.declared.flaw.Flaw.{Flaw}
 use Rattle.tp_log_check.specs.declared.flaw.Flaw.TheVariants.{Memory, Text, Due, Illegal, NotLeast, Tree}
 
--- where the items tell the answers, the turn of the event stops, and this is why: it holds of the step at which the turn stops
+-- ---- the line
+
+-- how far behind its first line a tree has the flaw: at the row or the node, or behind its last line
+abbrev pub tree_line : BoundTree → TreeFlaw → ℕ
+tree_line t tree.Memory = 0
+tree_line t (tree.RoomRow row) = if nat_lt row (length t.rows) then row else (length t.rows + length t.nodes)
+tree_line t (tree.Uncovered node) = length t.rows + min node (length t.nodes)
+tree_line t (tree.NoSuchHop node hop) = length t.rows + min node (length t.nodes)
+tree_line t (tree.Weak node reach cap) = length t.rows + min node (length t.nodes)
+tree_line t (tree.NotDead node) = length t.rows + min node (length t.nodes)
+
+abbrev pub lines_into : List Item → TreeFlaw → ℕ
+lines_into [] flaw = 0
+lines_into (TreeItem t ∷ items) flaw = tree_line t flaw
+lines_into _ flaw = 0
+
+abbrev pub lines_to : List Item → Reason → ℕ
+lines_to items (reason.Tree flaw) = lines_into items flaw
+lines_to items _ = 0
+
+-- the flaw on this line, or that of a tree on the other one
+abbrev pub flaw_on : ℕ → ℕ → Reason → Flaw
+flaw_on line place reason.Due = Due line
+flaw_on line place (reason.Illegal first second) = Illegal line first second
+flaw_on line place (reason.NotLeast given least) = NotLeast line given least
+flaw_on line place (reason.Tree flaw) = Tree place flaw
+
+abbrev pub flaw_by : ℕ → List Item → Reason → Flaw
+flaw_by line items reason = flaw_on line (line + lines_to items reason) reason
+
+-- the flaw, on the line of the item, where the event stands on this line and these items behind it
+abbrev pub flaw_at : ℕ → List Item → Stop → Flaw
+flaw_at line items stop = flaw_by (line + 1 + heights (take stop.item items)) (drop stop.item items) stop.reason
+
+-- ---- the event's turn
+
+-- it is done where the items tell the answers, and this item is the first that is off
+pub record EndsOff (machine : Machine) (s : SessionState) (event : AnEvent) (items : List Item) (item : ℕ) : Type 0 where
+  pub planner : ToldValue
+  pub items_are : planner.items ≡ items
+  pub begins : planner.at ≡ 0
+  pub notes : List Record
+  pub after : SessionState
+  pub last : ToldValue
+  pub turn : LiveTurn (told_steps machine) machine event s planner notes after last
+  pub off : IsOffAt notes items last.at item
+
+-- it stops, and this item is off, which stands before those that tell no answer
+pub record StopsOff (machine : Machine) (s : SessionState) (event : AnEvent) (items : List Item) (item : ℕ) : Type 0 where
+  pub planner : ToldValue
+  pub items_are : planner.items ≡ items
+  pub begins : planner.at ≡ 0
+  pub notes : List Record
+  pub last : ToldValue
+  pub stops : LiveStop (told_steps machine) machine event s planner notes last
+  pub off : PartsAt notes (items_before last) item
+
+-- it stops behind items that tell its records, and this is why: it holds of the step at which the turn stops
 pub record StopsFor (machine : Machine) (s : SessionState) (event : AnEvent) (items : List Item) (stop : Stop) : Type 0 where
   pub planner : ToldValue
   pub items_are : planner.items ≡ items
@@ -25,40 +89,37 @@ pub record StopsFor (machine : Machine) (s : SessionState) (event : AnEvent) (it
   pub notes : List Record
   pub last : ToldValue
   pub stops : LiveStop (told_steps machine) machine event s planner notes last
-  pub kept : last.stop ≡ Some stop
+  pub so_far : notes ≡ records_in (items_before last)
+  pub kept : last.stop ≡ stop
 
--- another item is due, or the turn stops for this
+-- another item is due than this one
+abbrev pub IsDueFor : Machine → SessionState → AnEvent → List Item → ℕ → Type 0
+IsDueFor machine s event items item = EndsOff machine s event items item ⊎ StopsOff machine s event items item
+
+-- or the turn stops for this
 abbrev pub IsDueOrStops : Machine → SessionState → AnEvent → List Item → Stop → Type 0
-IsDueOrStops machine s event items stop = (stop.reason ≡ reason.Due) ⊎ StopsFor machine s event items stop
+IsDueOrStops machine s event items stop = ((stop.reason ≡ reason.Due) × IsDueFor machine s event items stop.item) ⊎ StopsFor machine s event items stop
 
--- what a flaw tells of a reason
-abbrev pub reason_told : Flaw → Option Reason
-reason_told Memory = None
-reason_told (Text line) = None
-reason_told (Due line) = Some reason.Due
-reason_told (Illegal line first second) = Some (reason.Illegal first second)
-reason_told (NotLeast line given least) = Some (reason.NotLeast given least)
-reason_told (Tree line flaw) = Some (reason.Tree flaw)
+-- ---- flaws
 
 -- the items that are told of the event, with the tree to which lines came last, or without it
 abbrev pub AreItemsOf : Underway → List Item → Type 0
 AreItemsOf u items = (items ≡ u.items) ⊎ (Event u.event ∷ items ≡ closed (Event u.event ∷ u.items) u.tree)
 
--- for this reason its turn stops
-pub record HasReason (machine : Machine) (s : SessionState) (u : Underway) (reason : Reason) : Type 0 where
+-- for this its turn stops or is off, and the flaw tells it on the line of the item
+pub record HasReason (machine : Machine) (s : SessionState) (u : Underway) (flaw : Flaw) : Type 0 where
   pub items : List Item
   pub are : AreItemsOf u items
   pub stop : Stop
-  pub stops : StopsFor machine s u.event items stop
-  pub is : reason ≡ stop.reason
+  pub why : IsDueOrStops machine s u.event items stop
+  pub told : flaw ≡ flaw_at u.line items stop
 
-abbrev pub HasReasonUnder : Machine → SessionState → Option Underway → Reason → Type 0
-HasReasonUnder machine s None reason = ⊥
-HasReasonUnder machine s (Some u) reason = HasReason machine s u reason
+abbrev pub HasReasonUnder : Machine → SessionState → Option Underway → Flaw → Type 0
+HasReasonUnder machine s None flaw = ⊥
+HasReasonUnder machine s (Some u) flaw = HasReason machine s u flaw
 
--- two numbers, a point or a tree are told only where the turn of the event that is under way stops for them
+-- a flaw other than that a line is off the grammar is told only for such a reason of the event that is under way
 abbrev pub HasCause : CheckerValue → Flaw → Type 0
-HasCause c (Illegal line first second) = HasReasonUnder c.machine c.state c.under (reason.Illegal first second)
-HasCause c (NotLeast line given least) = HasReasonUnder c.machine c.state c.under (reason.NotLeast given least)
-HasCause c (Tree line flaw) = HasReasonUnder c.machine c.state c.under (reason.Tree flaw)
-HasCause c _ = Unit {0}
+HasCause c Memory = Unit {0}
+HasCause c (Text line) = Unit {0}
+HasCause c flaw = HasReasonUnder c.machine c.state c.under flaw

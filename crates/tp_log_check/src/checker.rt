@@ -7,7 +7,7 @@ ghost use Rattle.tp_entries.specs.Heights.{heights};
 ghost use Rattle.tp_log.specs.LogLines.{IsLogLine, is_event, log_line_text};
 ghost use Rattle.tp_log.specs.declared.log_line.LogLine.{LogLine};
 ghost use Rattle.tp_log.specs.declared.log_line.LogLine.TheVariants.{Event as EventLine};
-ghost use Rattle.tp_log_check.specs.Causes.{HasCause, reason_told};
+ghost use Rattle.tp_log_check.specs.Causes.{HasCause, flaw_at};
 ghost use Rattle.tp_log_check.specs.FlawLines.{IsOffOr, LiesAt, LiesBehind, LiesInLast};
 ghost use Rattle.tp_log_check.specs.declared.flaw.Flaw.{Flaw};
 ghost use Rattle.tp_log_check.specs.declared.flaw.Flaw.TheVariants.{Memory as WantsMemory};
@@ -44,8 +44,10 @@ pub struct LogChecker {
 /// What is wrong with what is told of the event before a line that is off the grammar.
 fn flaw_before(pending: &Pending, found: Option<Stop>) -> Option<Flaw>
     ensures known { IfSome result (λ flaw. flaw ≢ WantsMemory) }
-    ensures reason { IfSome result (λ flaw. (stop : Stop) × (found ≡ Some stop)
-        × (reason_told flaw ≡ Some stop.reason)) }
+    ensures is { IfSome result (λ flaw.
+        pending.now.line + 1 + heights pending.now.items.items < 2 ^ 64
+        → (stop : Stop) × (found ≡ Some stop)
+        × (flaw ≡ flaw_at pending.now.line pending.now.items.items stop)) }
     ensures lies { IfSome result (λ flaw.
         pending.now.line + 1 + heights pending.now.items.items < 2 ^ 64
         → LiesBehind pending.now.line
@@ -125,7 +127,8 @@ impl LogChecker {
             → IsLawfulLog self.old.machine (told ++ more) → ⊥) }
         ensures lies { IfErr result (λ flaw. flaw ≢ WantsMemory → (told : List LogLine)
             → HasTaken self.old told → length told + 1 < 2 ^ 64 → LiesInLast told flaw) }
-        ensures why { IfErr result (λ flaw. flaw ≢ WantsMemory → HasCause self.old flaw) }
+        ensures why { IfErr result (λ flaw. flaw ≢ WantsMemory → (told : List LogLine)
+            → HasTaken self.old told → length told + 1 < 2 ^ 64 → HasCause self.old flaw) }
         ensures ended { OnOk result (self.new.under ≡ None) }
         ensures machine { self.new.machine ≡ self.old.machine }
         ensures events { self.new.events ≡ self.old.events }
@@ -169,7 +172,8 @@ impl LogChecker {
             → IsLawfulLog self.old.machine (told ++ EventLine event ∷ more) → ⊥) }
         ensures lies { IfErr result (λ flaw. flaw ≢ WantsMemory → (told : List LogLine)
             → HasTaken self.old told → line ≡ length told + 1 → LiesInLast told flaw) }
-        ensures why { IfErr result (λ flaw. flaw ≢ WantsMemory → HasCause self.old flaw) }
+        ensures why { IfErr result (λ flaw. flaw ≢ WantsMemory → (told : List LogLine)
+            → HasTaken self.old told → line ≡ length told + 1 → HasCause self.old flaw) }
         ensures begun { OnOk result (IsSome self.new.under) }
         ensures machine { self.new.machine ≡ self.old.machine }
         ensures events { OnOk result (self.new.events ≡ self.old.events + 1) }
@@ -194,7 +198,8 @@ impl LogChecker {
     fn end_off(&mut self, line: u64) -> Flaw
         ensures lies { result ≢ WantsMemory → (told : List LogLine) → HasTaken self.old told
             → length told + 1 < 2 ^ 64 → IsOffOr told line result }
-        ensures why { result ≢ WantsMemory → HasCause self.old result }
+        ensures why { result ≢ WantsMemory → (told : List LogLine) → HasTaken self.old told
+            → length told + 1 < 2 ^ 64 → HasCause self.old result }
         ensures memory { result ≡ WantsMemory → self.new ≡ self.old }
         ensures machine { self.new.machine ≡ self.old.machine }
         ensures kept { result ≢ WantsMemory → self.new.flaw ≡ Some result }
@@ -272,7 +277,8 @@ impl LogChecker {
             → HasTaken self.old before → (self.old.under ≡ None → before ≡ [])
             → line ≡ length before + 1 → All IsLogLine before → AreInOrder before
             → LiesAt before (log_line_text told) flaw) }
-        ensures why { IfErr result (λ flaw. flaw ≢ WantsMemory → HasCause self.old flaw) }
+        ensures why { IfErr result (λ flaw. flaw ≢ WantsMemory → (before : List LogLine)
+            → HasTaken self.old before → line ≡ length before + 1 → HasCause self.old flaw) }
         ensures begun { OnOk result (IsSome self.new.under) }
         ensures machine { self.new.machine ≡ self.old.machine }
         ensures events { OnOk result (self.new.events ≡ self.old.events + events_in told) }

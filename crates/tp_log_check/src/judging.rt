@@ -1,10 +1,11 @@
 //! Whether what is told of an event is what its turn tells.
 
-ghost use Rattle.std.specs.Prelude.{◌≡◌, ◌↔◌, ◌+◌, ◌≤◌, ◌⊎◌, ℕ, [], Some, IfOk, IfSome, IsNone, MatchOption, drop, length};
+ghost use Rattle.std.specs.Prelude.{◌≡◌, ◌↔◌, ◌+◌, ◌≤◌, ◌⊎◌, ℕ, [], IfOk, IfSome, IsNone, MatchOption, drop, length};
 ghost use Rattle.tp_entries.specs.Gathered.{ArePlain};
 ghost use Rattle.tp_log_check.specs.Causes.{IsDueOrStops};
 ghost use Rattle.tp_log_check.specs.Judging.{entry, trees_in};
 ghost use Rattle.tp_log_check.specs.Lawful.{AreInPlaces, HasNoTurn, LeadsTo};
+ghost use Rattle.tp_log_check.specs.Partings.{IsOffAt, PartsAt, items_before};
 ghost use Rattle.tp_log_runs.specs.Accepting.{IsAccepted};
 ghost use Rattle.tp_runs.specs.Proved.{records_in};
 ghost use Rattle.tp_turn.specs.LiveStates.{seen};
@@ -37,26 +38,37 @@ fn judge_done(notes: &[Record], items: &[Item], at: usize) -> Option<Stop>
     requires { at ≤ length items.now }
     ensures right { IsNone result
         ↔ ((notes.now ≡ records_in items.now) × (trees_in (drop at items.now) ≡ [])) }
-    ensures due { IfSome result (λ stop. stop.reason ≡ Reason.Due) }
+    ensures due { IfSome result (λ stop. (stop.reason ≡ Reason.Due)
+        × IsOffAt notes.now items.now at stop.item) }
 {
-    match (find_parting(notes, items), find_tree(items, at)) {
-        (None, None) => None,
-        (Some(item), None) | (None, Some(item)) => Some(due(item)),
-        (Some(one), Some(other)) => Some(due(one.min(other))),
+    match find_parting(notes, items) {
+        None => match find_tree(items, at) {
+            None => None,
+            Some(tree) => Some(due(tree)),
+        },
+        Some(item) => match find_tree(items, at) {
+            None => Some(due(item)),
+            Some(tree) => {
+                if tree < item {
+                    Some(due(tree))
+                } else {
+                    Some(due(item))
+                }
+            }
+        },
     }
 }
 
 /// What is wrong where the turn stopped: a record before that is not the one that is due, or what the planner stopped for.
 fn judge_stopped(notes: &[Record], told: &Told) -> Stop
-    ensures { (result.reason ≡ Reason.Due) ⊎ (told.now.stop ≡ Some result) }
+    ensures { ((result.reason ≡ Reason.Due)
+        × PartsAt notes.now (items_before told.now) result.item)
+        ⊎ ((told.now.stop ≡ result) × (notes.now ≡ records_in (items_before told.now))) }
 {
     let next = told.next();
     match find_parting(notes, &told.items()[..next]) {
         Some(item) => due(item),
-        None => match told.stop() {
-            Some(stop) => stop,
-            None => due(next),
-        },
+        None => told.stop(),
     }
 }
 

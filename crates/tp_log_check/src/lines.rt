@@ -1,9 +1,9 @@
 //! The lines on which items stand.
 
-ghost use Rattle.std.specs.Prelude.{◌≡◌, ◌≢◌, ◌+◌, ◌<◌, ◌≤◌, ◌^◌, Some};
+ghost use Rattle.std.specs.Prelude.{◌≡◌, ◌≢◌, ◌+◌, ◌<◌, ◌≤◌, ◌^◌};
 ghost use Rattle.tp_log.specs.declared.item.Item.TheVariants.{Tree as TreeItem};
 ghost use Rattle.tp_entries.specs.Heights.{height, heights};
-ghost use Rattle.tp_log_check.specs.Causes.{reason_told};
+ghost use Rattle.tp_log_check.specs.Causes.{flaw_at, flaw_on, lines_into, lines_to, tree_line};
 ghost use Rattle.tp_log_check.specs.FlawLines.{LiesBehind};
 ghost use Rattle.tp_log_check.specs.declared.flaw.Flaw.TheVariants.{Memory as WantsMemory};
 
@@ -37,7 +37,8 @@ fn line_behind(items: &[Item], line: u64) -> u64
 
 /// How far behind its first line a tree has a flaw: the row or the node, or the line behind the tree.
 fn flawed_line(tree: &BoundTree, flaw: TreeFlaw) -> u64
-    ensures { result ≤ height (TreeItem tree.now) }
+    ensures within { result ≤ height (TreeItem tree.now) }
+    ensures is { height (TreeItem tree.now) < 2 ^ 64 → result ≡ tree_line tree.now flaw }
 {
     let rows = tree.rows.len();
     let nodes = tree.nodes.len();
@@ -59,7 +60,8 @@ fn flawed_line(tree: &BoundTree, flaw: TreeFlaw) -> u64
 
 /// How far behind the first of these items a tree has the flaw, where that one is the tree.
 fn lines_into(items: &[Item], flaw: TreeFlaw) -> u64
-    ensures { result ≤ heights items.now }
+    ensures within { result ≤ heights items.now }
+    ensures is { heights items.now < 2 ^ 64 → result ≡ lines_into items.now flaw }
 {
     match items {
         [Item::Tree(tree), ..] => flawed_line(tree, flaw),
@@ -71,20 +73,27 @@ fn lines_into(items: &[Item], flaw: TreeFlaw) -> u64
 fn further(line: u64, count: u64) -> u64
     ensures from { line ≤ result }
     ensures up_to { result ≤ line + count }
+    ensures is { line + count < 2 ^ 64 → result ≡ line + count }
 {
     line.saturating_add(count)
 }
 
-/// What is wrong with the items behind the event on this line. It is never want of memory.
-pub(crate) fn flaw_of(items: &[Item], line: u64, stop: Stop) -> Flaw
-    ensures known { result ≢ WantsMemory }
-    ensures reason { reason_told result ≡ Some stop.reason }
-    ensures lies { line + 1 + heights items.now < 2 ^ 64
-        → LiesBehind line (line + 1 + heights items.now) result }
+/// The same for what is wrong with the first item.
+fn lines_to(items: &[Item], reason: Reason) -> u64
+    ensures within { result ≤ heights items.now }
+    ensures is { heights items.now < 2 ^ 64 → result ≡ lines_to items.now reason }
 {
-    let at = stop.item.min(items.len());
-    let line = line_behind(&items[..at], line);
-    match stop.reason {
+    match reason {
+        Reason::Tree(flaw) => lines_into(items, flaw),
+        _ => 0,
+    }
+}
+
+/// What is wrong on this line, or with a tree on the other one.
+fn flaw_on(line: u64, place: u64, reason: Reason) -> Flaw
+    ensures { result ≡ flaw_on line place reason }
+{
+    match reason {
         Reason::Due => Flaw::Due { line },
         Reason::Illegal { first, second } => Flaw::Illegal {
             line,
@@ -92,9 +101,20 @@ pub(crate) fn flaw_of(items: &[Item], line: u64, stop: Stop) -> Flaw
             second,
         },
         Reason::NotLeast { given, least } => Flaw::NotLeast { line, given, least },
-        Reason::Tree(flaw) => Flaw::Tree {
-            line: further(line, lines_into(&items[at..], flaw)),
-            flaw,
-        },
+        Reason::Tree(flaw) => Flaw::Tree { line: place, flaw },
     }
+}
+
+/// What is wrong with the items behind the event on this line. It is never want of memory.
+pub(crate) fn flaw_of(items: &[Item], line: u64, stop: Stop) -> Flaw
+    ensures known { result ≢ WantsMemory }
+    ensures is { line + 1 + heights items.now < 2 ^ 64
+        → result ≡ flaw_at line items.now stop }
+    ensures lies { line + 1 + heights items.now < 2 ^ 64
+        → LiesBehind line (line + 1 + heights items.now) result }
+{
+    let at = stop.item.min(items.len());
+    let line = line_behind(&items[..at], line);
+    let into = lines_to(&items[at..], stop.reason);
+    flaw_on(line, further(line, into), stop.reason)
 }

@@ -1,10 +1,10 @@
 //! Where records part from those of items.
 
-ghost use Rattle.std.specs.Prelude.{◌≡◌, ◌↔◌, ◌≤◌, ◌∷◌, [], List, IfSome, IsNone, MatchOption, drop, length};
+ghost use Rattle.std.specs.Prelude.{◌≡◌, ◌↔◌, ◌≤◌, ◌∷◌, ◌++◌, [], List, IfSome, IsNone, MatchOption, drop, length};
 ghost use Rattle.tp_log.specs.Gathering.{is_tree};
-ghost use Rattle.tp_log.specs.declared.item.Item.{Item};
 ghost use Rattle.tp_schedule.specs.declared.records.Record.{Record};
 ghost use Rattle.tp_log_check.specs.Judging.{trees_in};
+ghost use Rattle.tp_log_check.specs.Partings.{IsFirstTree, PartsAt};
 ghost use Rattle.tp_runs.specs.Proved.{records_in};
 
 use tp_entries::same_record;
@@ -30,10 +30,9 @@ fn behind_record<'a>(due: &'a [Record], told: &Record) -> Option<&'a [Record]>
 
 /// What is due behind the item, if its record is due.
 fn behind<'a>(due: &'a [Record], item: &Item) -> Option<&'a [Record]>
-    ensures { MatchOption result ((rest : List Item)
-        → due.now ≡ records_in (item.now ∷ rest) → ⊥)
-        (λ left. (rest : List Item) → (due.now ≡ records_in (item.now ∷ rest))
-        ↔ (left.now ≡ records_in rest)) }
+    ensures { MatchOption result ((left : List Record)
+        → due.now ≡ records_in (item.now ∷ []) ++ left → ⊥)
+        (λ left. due.now ≡ records_in (item.now ∷ []) ++ left.now) }
 {
     match item {
         Item::Note(told) => behind_record(due, told),
@@ -45,7 +44,7 @@ fn behind<'a>(due: &'a [Record], item: &Item) -> Option<&'a [Record]>
 /// them. None exactly where the items tell these records.
 pub(crate) fn find_parting(notes: &[Record], items: &[Item]) -> Option<usize>
     ensures same { IsNone result ↔ (notes.now ≡ records_in items.now) }
-    ensures within { IfSome result (λ at. at ≤ length items.now) }
+    ensures parts { IfSome result (PartsAt notes.now items.now) }
 {
     let mut due = notes;
     let mut rest = items;
@@ -73,7 +72,7 @@ fn is_tree(item: &Item) -> bool
 pub(crate) fn find_tree(items: &[Item], from: usize) -> Option<usize>
     requires { from ≤ length items.now }
     ensures none { IsNone result ↔ (trees_in (drop from items.now) ≡ []) }
-    ensures within { IfSome result (λ at. at ≤ length items.now) }
+    ensures first { IfSome result (IsFirstTree from items.now) }
 {
     let mut rest = &items[from..];
     'trees: while let [item, others @ ..] = rest {

@@ -1,5 +1,5 @@
 -- A turn whose notes are the records of the items, and which leaves no tree, accepts them.
-use Rattle.std.proofs.Common.{inl, inr, refl, rules, ◌≡◌, [], ◌++◌, drop, sym, ap, ◌∙◌}
+use Rattle.std.proofs.Common.{inl, inr, refl, rules, ◌≡◌, [], ◌++◌, drop, sym, ap, subst, ◌∙◌}
 use Rattle.tp_runs.specs.Proved.{records_in}
 use Rattle.tp_told.specs.Telling.{ahead}
 use Rattle.tp_turn.specs.LiveStates.{seen}
@@ -8,6 +8,7 @@ use Rattle.tp_log_check.specs.Judging.{trees_in}
 use Rattle.tp_told.specs.declared.stop.Reason.TheVariants as reason
 use Rattle.tp_told.specs.declared.stop.Stop.{Stop}
 use Rattle.tp_log_check.specs.Causes.{IsDueOrStops}
+use Rattle.tp_log_check.specs.Partings.{IsOffAt, PartsAt, items_before}
 use Rattle.tp_log_check.proofs.FlawCauses.{some-from}
 use Rattle.tp_log_check.proofs.Judged.{judged-done, judged-stopped}
 use Rattle.tp_log_check.proofs.PlacedTurns.{judged-places}
@@ -69,12 +70,54 @@ returns-in-Err-Stopped-clause-only c =
 
 pub returns-in-Ok-clause-why : goal.returns-in-Ok-clause-why
 returns-in-Ok-clause-why c =
-    some-from (λ (stop : Stop). stop.reason ≡ reason.Due) (IsDueOrStops c.args.machine.now (seen c.args.state.now) c.args.event.now c.args.told.now.items) c.judge_done.result (λ stop due. inl due) c.judge_done.ensures.due
+    let noted = c.in-Ok.ensures.turn in
+    let told = c.args.told.now in
+    let told' = c.take_event.new.planner in
+    let same_items : told'.items ≡ told.items = c.in-Ok.ensures.lasts in
+    let seen_items : c.items.result.now ≡ told.items = c.items.ensures ∙ same_items in
+    let all : c.as_slice.result.now ≡ noted.0 = c.as_slice.ensures.value ∙ noted.1 ∙ ap (λ notes. notes ++ noted.0) c.new-notes.ensures.items in
+    some-from (λ (stop : Stop). (stop.reason ≡ reason.Due) × IsOffAt c.as_slice.result.now c.items.result.now c.at.result stop.item)
+    (IsDueOrStops c.args.machine.now (seen c.args.state.now) c.args.event.now told.items) c.judge_done.result (λ stop due. inl (
+      due.0,
+      inl (record {
+        planner = told;
+        items_are = refl;
+        begins = c.requires.begins;
+        notes = noted.0;
+        after = seen c.take_event.new.state;
+        last = told';
+        turn = noted.2;
+        off = subst (λ notes. IsOffAt notes told.items told'.at stop.item) all
+            (subst (λ items. IsOffAt c.as_slice.result.now items told'.at stop.item) seen_items (subst (λ at. IsOffAt c.as_slice.result.now c.items.result.now at stop.item) c.at.ensures.at due.1));
+      }),
+    )) c.judge_done.ensures.due
 
 pub returns-in-Err-Stopped-clause-why : goal.returns-in-Err-Stopped-clause-why
 returns-in-Err-Stopped-clause-why c =
     let stops = c.in-Err-Stopped.ensures.stopped (search rules) in
+    let last = c.take_event.new.planner in
+    let all : c.as_slice-in-Err-Stopped.result.now ≡ stops.0 = c.as_slice-in-Err-Stopped.ensures.value ∙ stops.1 ∙ ap (λ notes. notes ++ stops.0) c.new-notes.ensures.items in
     elim c.judge_stopped.ensures [
-      | inl due ↦ inl due
-      | inr kept ↦ inr (record { planner = c.args.told.now; items_are = refl; begins = c.requires.begins; notes = stops.0; last = c.take_event.new.planner; stops = stops.2; kept = kept })
+      | inl due ↦ inl (
+        due.0,
+        inr (record {
+          planner = c.args.told.now;
+          items_are = refl;
+          begins = c.requires.begins;
+          notes = stops.0;
+          last = last;
+          stops = stops.2;
+          off = subst (λ notes. PartsAt notes (items_before last) c.judge_stopped.result.item) all due.1;
+        }),
+      )
+      | inr kept ↦ inr (record {
+        planner = c.args.told.now;
+        items_are = refl;
+        begins = c.requires.begins;
+        notes = stops.0;
+        last = last;
+        stops = stops.2;
+        so_far = sym all ∙ kept.1;
+        kept = kept.0;
+      })
     ]

@@ -1,9 +1,9 @@
-use Rattle.std.proofs.Common.{◌≡◌, ◌≤◌, length, drop}
-use Rattle.tp_log_check.specs.Judging.{trees_in}
+use Rattle.std.proofs.Common.{length}
+use Rattle.tp_log_check.proofs.PartingFacts.{LookedThrough}
 use Rattle.tp_log_check.proofs.parting.find_tree.Given as goal
 
 abbrev pub invariant-trees : goal.invariant-trees
-invariant-trees l = (trees_in l.rest ≡ trees_in (drop l.from l.items)) × (length l.rest ≤ length l.items)
+invariant-trees l = LookedThrough l.from l.items l.rest
 
 abbrev pub decreases-trees : goal.decreases-trees
 decreases-trees l = length l.rest

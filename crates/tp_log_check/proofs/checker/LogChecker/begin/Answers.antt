@@ -7,3 +7,6 @@ returns-in-Err-clause-refused c other told more h lawful = c.in-Err.ensures.refu
 
 pub returns-in-Err-clause-lies : goal.returns-in-Err-clause-lies
 returns-in-Err-clause-lies c other told h numbered = c.in-Err.ensures.lies other told h (subst (λ n. n < 2 ^ 64) numbered c.ranges.line.fits)
+
+pub returns-in-Err-clause-why : goal.returns-in-Err-clause-why
+returns-in-Err-clause-why c other told h numbered = c.in-Err.ensures.why other told h (subst (λ n. n < 2 ^ 64) numbered c.ranges.line.fits)

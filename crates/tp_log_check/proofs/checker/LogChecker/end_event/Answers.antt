@@ -3,7 +3,7 @@ use Rattle.std.specs.Prelude.{IfSome, option_map}
 use Rattle.tp_entries.specs.Gathered.{IsPending}
 use Rattle.tp_turn.specs.LiveStates.{seen}
 use Rattle.tp_log.specs.declared.item.Item.TheVariants.{Event}
-use Rattle.tp_log_check.specs.Causes.{HasCause, IsDueOrStops}
+use Rattle.tp_log_check.specs.Causes.{HasCause, IsDueOrStops, flaw_at}
 use Rattle.tp_log_check.proofs.FlawCauses.{caused}
 use Rattle.tp_log_check.specs.Checking.{CheckerValue, HasTaken, underway}
 use Rattle.tp_entries.specs.Heights.{heights}
@@ -11,7 +11,7 @@ use Rattle.tp_log_check.specs.FlawLines.{LiesBehind}
 use Rattle.tp_log_check.specs.Lawful.{IsLawfulLog}
 use Rattle.tp_entries.proofs.PendingFacts.{plain_closed}
 use Rattle.tp_log_check.proofs.Denying.{taken-none}
-use Rattle.tp_log_check.proofs.FlawPlaces.{found-ended}
+use Rattle.tp_log_check.proofs.FlawPlaces.{found-ended, told-ended}
 use Rattle.tp_log_check.proofs.Sections.{is-none, keeps-stock, taken-more, went-on}
 use Rattle.tp_log_check.proofs.checker.LogChecker.end_event.Goals as goal
 
@@ -66,14 +66,21 @@ returns-in-Ok-Some-clause-lies c other told h fits =
     (subst (λ is. c.look.new.pending.line + 1 + heights is < 2 ^ 64 → LiesBehind c.look.new.pending.line (c.look.new.pending.line + 1 + heights is) c.flaw_of-flaw.result) c.deref.ensures.value c.flaw_of-flaw.ensures.lies)
 
 pub returns-in-Ok-Some-clause-why : goal.returns-in-Ok-Some-clause-why
-returns-in-Ok-Some-clause-why c other =
+returns-in-Ok-Some-clause-why c other told h fits =
     let is = sym c.take.ensures.value ∙ c.in-Some.is in
     let p = c.in-Some.pending in
     let q = c.end.new.self in
+    let r = c.look.new.pending in
+    let flaw = c.flaw_of-flaw.result in
+    let stop = c.in-Ok-Some.stop in
     let inside = c.self.inside in
     let value : CheckerValue = record { machine = inside.machine; state = seen inside.state; under = option_map underway inside.pending; events = inside.events; lines = inside.lines; counts = inside.counts; flaw = inside.flaw } in
     let event : q.event ≡ p.event = c.end.ensures.event in
     let why = rw c.in-Ok-Some.field-0-is at c.in-Ok-Some.ensures.why in
-    subst (λ v. HasCause v c.flaw_of-flaw.result) c.self.view_is
-    (caused value p (ap (option_map underway) is) q.items.items (inr ((λ k. Event (sym event k) ∷ q.items.items) ∙ c.in-Ok.ensures.items)) c.in-Ok-Some.stop c.flaw_of-flaw.result c.flaw_of-flaw.ensures.reason
-    (subst (λ e. IsDueOrStops inside.machine (seen inside.state) e q.items.items c.in-Ok-Some.stop) event why))
+    let seen_h = subst (λ v. HasTaken v told) (sym c.self.view_is) h in
+    let with_p = subst (λ o. HasTaken (record { machine = inside.machine; state = seen inside.state; under = option_map underway o; events = inside.events; lines = inside.lines; counts = inside.counts; flaw = inside.flaw }) told) is seen_h in
+    let there = told-ended inside.machine (seen inside.state) inside.events inside.lines inside.counts inside.flaw p q r told with_p c.in-Ok.ensures.items c.end.ensures.line c.look.ensures.same fits flaw stop
+    (subst (λ is. r.line + 1 + heights is < 2 ^ 64 → flaw ≡ flaw_at r.line is stop) c.deref.ensures.value c.flaw_of-flaw.ensures.is) in
+    subst (λ v. HasCause v flaw) c.self.view_is
+    (caused value p (ap (option_map underway) is) q.items.items (inr ((λ k. Event (sym event k) ∷ q.items.items) ∙ c.in-Ok.ensures.items)) stop flaw there
+    (subst (λ e. IsDueOrStops inside.machine (seen inside.state) e q.items.items stop) event why))

@@ -2,10 +2,10 @@ use Rattle.std.proofs.Common.{inl, refl, ap, sym, subst, ◌∙◌}
 use Rattle.std.specs.Prelude.{IfSome, option_map}
 use Rattle.tp_entries.specs.Gathered.{IsPending}
 use Rattle.tp_turn.specs.LiveStates.{seen}
-use Rattle.tp_log_check.specs.Causes.{HasCause, IsDueOrStops}
+use Rattle.tp_log_check.specs.Causes.{HasCause, IsDueOrStops, flaw_at}
 use Rattle.tp_log_check.proofs.FlawCauses.{caused}
 use Rattle.tp_log_check.specs.Checking.{CheckerValue, HasTaken, underway}
-use Rattle.tp_log_check.proofs.FlawPlaces.{found-so-far, off-last}
+use Rattle.tp_log_check.proofs.FlawPlaces.{fits-so-far, found-so-far, off-last}
 use Rattle.tp_log_check.proofs.Sections.{keeps-stock}
 use Rattle.tp_log_check.proofs.checker.LogChecker.end_off.Goals as goal
 
@@ -23,12 +23,18 @@ returns-in-Some-flaw_before-clause-lies c other told h fits =
     off-last told c.args.line c.in-Some-flaw_before.flaw (found-so-far inside.machine (seen inside.state) inside.events inside.lines inside.counts inside.flaw p c.look_off.new.pending pending told with_p c.look_off.ensures.same fits c.in-Some-flaw_before.flaw c.in-Some-flaw_before.ensures.lies)
 
 pub returns-in-Some-flaw_before-clause-why : goal.returns-in-Some-flaw_before-clause-why
-returns-in-Some-flaw_before-clause-why c other =
+returns-in-Some-flaw_before-clause-why c other told h fits =
     let is = sym c.take.ensures.value ∙ c.in-Some.is in
     let p = c.in-Some.pending in
+    let r = c.look_off.new.pending in
+    let flaw = c.in-Some-flaw_before.flaw in
     let inside = c.self.inside in
     let value : CheckerValue = record { machine = inside.machine; state = seen inside.state; under = option_map underway inside.pending; events = inside.events; lines = inside.lines; counts = inside.counts; flaw = inside.flaw } in
-    let (stop, found, reason) = c.in-Some-flaw_before.ensures.reason in
+    let seen_h = subst (λ v. HasTaken v told) (sym c.self.view_is) h in
+    let with_p = subst (λ o. HasTaken (record { machine = inside.machine; state = seen inside.state; under = option_map underway o; events = inside.events; lines = inside.lines; counts = inside.counts; flaw = inside.flaw }) told) is seen_h in
+    let same = c.look_off.ensures.same in
+    let few = fits-so-far inside.machine (seen inside.state) inside.events inside.lines inside.counts inside.flaw p r told with_p same fits in
+    let (stop, found, there) = c.in-Some-flaw_before.ensures.is few in
     let why = subst (λ o. IfSome o (IsDueOrStops inside.machine (seen inside.state) p.event p.items.items)) found c.in-Ok.ensures.why in
-    subst (λ v. HasCause v c.in-Some-flaw_before.flaw) c.self.view_is
-    (caused value p (ap (option_map underway) is) p.items.items (inl refl) stop c.in-Some-flaw_before.flaw reason why)
+    subst (λ v. HasCause v flaw) c.self.view_is
+    (caused value p (ap (option_map underway) is) p.items.items (inl refl) stop flaw (there ∙ (λ k. flaw_at (same.line k) (same.items k) stop)) why)

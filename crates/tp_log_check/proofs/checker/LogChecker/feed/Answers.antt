@@ -102,3 +102,15 @@ returns-in-Some-clause-why c other before h =
     let none = h.flawless in
     let no : Some c.in-Some.flaw ≡ None = sym some ∙ sym is ∙ none in
     cc
+
+pub returns-in-Err-Syntax-clause-why : goal.returns-in-Err-Syntax-clause-why
+returns-in-Err-Syntax-clause-why c other before h =
+    let inside = c.self.inside in
+    let there = before-lines inside.machine (seen inside.state) inside.events inside.lines inside.counts inside.flaw inside.pending c.self.invariant.0.under c.args.self.now before c.self.view_is h in
+    c.end_off.ensures.why other before h.taken (subst (λ n. n < 2 ^ 64) there.0 c.self.invariant.1.numbered)
+
+pub returns-in-Err-clause-why : goal.returns-in-Err-clause-why
+returns-in-Err-clause-why c other before h =
+    let inside = c.self.inside in
+    let there = before-lines inside.machine (seen inside.state) inside.events inside.lines inside.counts inside.flaw inside.pending c.self.invariant.0.under c.args.self.now before c.self.view_is h in
+    c.in-Err.ensures.why other before h.taken there.0

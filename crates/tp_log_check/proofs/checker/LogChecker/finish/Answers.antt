@@ -49,5 +49,7 @@ returns-clause-lies c = elim c.match-end_event.branch [
 pub returns-clause-why : goal.returns-clause-why
 returns-clause-why c = elim c.match-end_event.branch [
   | in-Ok w ↦ subst (λ r. IfErr r (λ flaw. flaw ≢ WantsMemory → (told : List LogLine) → HasRead c.args.self.now told → HasCause c.args.self.now flaw)) (sym w.result-is) tt
-  | in-Err w ↦ subst (λ r. IfErr r (λ flaw. flaw ≢ WantsMemory → (told : List LogLine) → HasRead c.args.self.now told → HasCause c.args.self.now flaw)) (sym w.result-is) (λ other told h. w.in-Err.ensures.why other)
+  | in-Err w ↦ subst (λ r. IfErr r (λ flaw. flaw ≢ WantsMemory → (told : List LogLine) → HasRead c.args.self.now told → HasCause c.args.self.now flaw)) (sym w.result-is) (λ other told h.
+      let lines : c.self.inside.lines ≡ length told = ap (λ v. v.lines) c.self.view_is ∙ h.fed in
+      w.in-Err.ensures.why other told h.taken (subst (λ n. n + 1 < 2 ^ 64) lines c.self.invariant.1.numbered))
 ]

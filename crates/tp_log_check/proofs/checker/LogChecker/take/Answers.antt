@@ -41,9 +41,9 @@ returns-in-Ok-false-clause-lies c other before h none numbered known order =
     (c.end_off.ensures.lies other before (subst (λ v. HasTaken v before) (sym same) h) (subst (λ n. n < 2 ^ 64) numbered c.ranges.line.fits))
 
 pub returns-in-Ok-false-clause-why : goal.returns-in-Ok-false-clause-why
-returns-in-Ok-false-clause-why c other =
+returns-in-Ok-false-clause-why c other before h numbered =
     let same : c.add.new.self ≡ c.args.self.now = rw c.in-Ok-false.field-0-test at c.in-Ok-false.ensures.taken in
-    subst (λ v. HasCause v c.end_off.result) same (c.end_off.ensures.why other)
+    subst (λ v. HasCause v c.end_off.result) same (c.end_off.ensures.why other before (subst (λ v. HasTaken v before) (sym same) h) (subst (λ n. n < 2 ^ 64) numbered c.ranges.line.fits))
 
 plus-zero : (n : ℕ) → n + 0 ≡ n
 plus-zero n = omega arith
