@@ -1,5 +1,5 @@
 -- The end of a log of which all lines were taken.
-use Rattle.std.proofs.Common.{◌≡◌, ◌≢◌, ℕ, ◌+◌, List, [], ◌++◌, Option, length, refl, sym, ap, subst, ◌∙◌, arith}
+use Rattle.std.proofs.Common.{◌≡◌, ◌≢◌, ℕ, ◌+◌, inr, List, [], ◌++◌, Option, length, refl, sym, ap, subst, ◌∙◌, arith}
 use Rattle.std.specs.List.{flat_map}
 use Rattle.std.proofs.lemmas.List.{append-nil}
 use Rattle.tp_entries.specs.declared.counts.Counts.{Counts}
@@ -45,7 +45,7 @@ module _ (machine : Machine) (c : CheckerValue) (text : List ℕ) (is : c.machin
     whole = ap ends_whole whole-text ∙ ends-text h.told;
     sizes = sizes;
     taken = (c, is, h);
-    stops = (record { line = []; more = []; next = refl; bytes = (let b = sizes.bytes in omega (arith, b)); events = (let e = sizes.events in omega (arith, e)) }, real, record { told = h.told; lines = h.lines; lies = at-last h.told [] flaw lies });
+    stops = (record { line = []; more = []; next = refl; first = inr (refl, refl); bytes = (let b = sizes.bytes in omega (arith, b)); events = (let e = sizes.events in omega (arith, e)) }, real, record { told = h.told; lines = h.lines; lies = at-last h.told [] flaw lies });
   }
 
   pub refused-end : (left left' : Option (List ℕ)) (cause : Cause) → IsReadFrom left text left' → EndsFor c cause → StopsFrom machine left left' cause

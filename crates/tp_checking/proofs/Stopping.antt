@@ -36,23 +36,24 @@ one-more line events few past = go (begins_event line) refl past
     go false e past = absurd (omega (arith, few, past))
 
 -- why a line is refused, by what stands before it
-why-refused : (machine : Machine) (at : LogState) (done rest line more : List ℕ) (cause : Cause) → HasTakenText machine at done → rest ≡ line ++ more → RefusesLine at line cause → StopsAt done rest cause
-why-refused machine at done rest line more Memory h next w = absurd w
-why-refused machine at done rest line more Source h next w = absurd w
-why-refused machine at done rest line more (Line n) h next w = absurd w
-why-refused machine at done rest line more Log h next (inl past) =
+why-refused : (machine : Machine) (at : LogState) (done rest line more : List ℕ) (cause : Cause) → HasTakenText machine at done → rest ≡ line ++ more → lines_of rest ≡ line ∷ lines_of more → RefusesLine at line cause
+    → StopsAt done rest cause
+why-refused machine at done rest line more Memory h next first w = absurd w
+why-refused machine at done rest line more Source h next first w = absurd w
+why-refused machine at done rest line more (Line n) h next first w = absurd w
+why-refused machine at done rest line more Log h next first (inl past) =
     let whole = ap length next in
     let bytes = h.bytes in
     inl (omega (arith, past, whole, bytes, length-append line more))
-why-refused machine at done rest line more Log h next (inr past) =
+why-refused machine at done rest line more Log h next first (inr past) =
     let last = one-more line at.checker.events h.few_events past in
     inr (sym h.events ∙ last.0, ap begins_event next ∙ begins-more line more last.1)
-why-refused machine at done rest line more (Flaw f) h next w =
+why-refused machine at done rest line more (Flaw f) h next first w =
     let bytes = h.bytes in
     let events = h.events in
     let few_bytes = w.0.bytes in
     let few_events = w.0.events in
-    (record { line = line; more = more; next = next; bytes = omega (arith, bytes, few_bytes); events = omega (arith, events, few_events) }, w.1, record { told = h.by.told; lines = h.by.lines; lies = (w.2 h.by.told h.by.read).0 })
+    (record { line = line; more = more; next = next; first = inl first; bytes = omega (arith, bytes, few_bytes); events = omega (arith, events, few_events) }, w.1, record { told = h.by.told; lines = h.by.lines; lies = (w.2 h.by.told h.by.read).0 })
 
 -- and a flaw for what it tells
 why-caused : (machine : Machine) (at : LogState) (done line : List ℕ) (cause : Cause) → HasTakenText machine at done → RefusesLine at line cause → IsCaused at.checker cause
@@ -106,7 +107,7 @@ module _ (s s' : LogState) (text : List ℕ) (start : IsAtStart s) (rest : List 
       go [] answered k = absurd (let short = k.1 in omega (arith, short))
       go (b ∷ told) (cause, found, refused) k =
           let before = done-so-far k.0 in
-          (cause, found, stops-for cause before (why-refused s.checker.machine at.state takes.done rest h.line h.more cause before h.next refused) (why-caused s.checker.machine at.state takes.done h.line cause before refused))
+          (cause, found, stops-for cause before (why-refused s.checker.machine at.state takes.done rest h.line h.more cause before h.next h.first refused) (why-caused s.checker.machine at.state takes.done h.line cause before refused))
   stopped (stop.Line n) h =
       let count = takes.counted in
       stops-for (Line n) (done-so-far (silent h.2)) (h.0, (let n_is = h.1 in omega (arith, n_is, count))) tt

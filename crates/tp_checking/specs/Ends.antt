@@ -1,5 +1,5 @@
 -- How far a log was looked at, and what is known then.
-use Rattle.std.specs.Prelude.{◌≡◌, ◌≢◌, ◌⊎◌, ℕ, ◌+◌, ◌<◌, ◌≤◌, true, List, [], ◌++◌, length, map, Option}
+use Rattle.std.specs.Prelude.{◌≡◌, ◌≢◌, ◌⊎◌, ℕ, ◌+◌, ◌<◌, ◌≤◌, true, List, [], ◌∷◌, ◌++◌, length, map, Option}
 use Rattle.std.specs.List.{All}
 use Rattle.tp_entries.specs.declared.counts.Counts.{Counts}
 use Rattle.tp_log.specs.LogLines.{IsLogLine, log_line_text}
@@ -41,11 +41,16 @@ pub record IsAcceptedText (machine : Machine) (text : List ℕ) (counts : Counts
   pub accepted : IsAcceptedLog machine told counts
   pub is_text : text ≡ log_text (items_of accepted.sections)
 
+-- the line is the first of the rest, or nothing is left
+abbrev pub IsNext : List ℕ → List ℕ → List ℕ → Type 0
+IsNext rest line more = (lines_of rest ≡ line ∷ lines_of more) ⊎ ((rest ≡ []) × (line ≡ []))
+
 -- the log keeps its sizes up to the line that is refused, or to its end
 pub record IsRefusedAt (done rest : List ℕ) : Type 0 where
   pub line : List ℕ
   pub more : List ℕ
   pub next : rest ≡ line ++ more
+  pub first : IsNext rest line more
   pub bytes : length done + length line ≤ most_bytes
   pub events : event_lines done + events_in line ≤ most_events
 
