@@ -76,7 +76,7 @@ module _ (machine : Machine) (nodes : ℕ) (bounds : Bool) where
   seen_stop (Line n) rest at s taken' has h = h
   seen_stop Lines rest at s taken' has h = h
   seen_stop Sink rest at s taken' has h =
-      record { line = h.line; more = h.more; next = h.next; told = h.told; answered = (one_line at.state s h.line h.told has h.answered).answers; cut = h.cut }
+      record { line = h.line; more = h.more; next = h.next; first = h.first; told = h.told; answered = (one_line at.state s h.line h.told has h.answered).answers; cut = h.cut }
 
   module _ (whole live : SessionState) (behind : IsWhole machine whole live) where
     pub scripts_from : (script : List ℕ) (taken taken' : Option (List ℕ)) (s : Standing) → TakesAll (AnswersLine Tells) 4096 1000000 (place_of (at_state live) 0 taken) script s taken'
