@@ -1,5 +1,5 @@
 -- Reasons for which items don't tell what is due, from what is wrong with a schedule or a tree.
-use Rattle.std.proofs.Common.{◌≡◌, ℕ, ℤ, ◌≤◌, List, [], ◌∷◌, ◌++◌, inl, inr, Option, Some, None, get_or, length, refl, sym, ap, subst, ◌∙◌, arith}
+use Rattle.std.proofs.Common.{◌≡◌, ℕ, ◌-◌, ℤ, ◌≤◌, List, [], ◌∷◌, ◌++◌, inl, inr, Option, Some, None, get_or, length, refl, sym, ap, subst, ◌∙◌, arith}
 use Rattle.std.specs.Bool.{MatchBool}
 use Rattle.std.specs.Prelude.{IfOk, IfSome, IsFalse, Result, Ok, Err}
 use Rattle.tp_bounds.specs.declared.tree.BoundTree.{BoundTree}
@@ -25,7 +25,7 @@ use Rattle.tp_trees.specs.declared.claim.TreeFlaw.TheVariants.{Memory, RoomRow, 
 use Rattle.tp_told.specs.Breaches.{AreOfFault, HasFault, HasPlainFault, IsPlainFault}
 use Rattle.tp_told.specs.Failing.{failure_of, is_stop}
 use Rattle.tp_told.specs.Moving.{TakesMoves}
-use Rattle.tp_told.specs.Reasons.{DoClaim, IfStop, IsAskedReason, IsBreach, IsDueInAnswer, IsDueInSettling, IsOff, IsOffAnswer, IsOffSettling, IsSettlingReason, IsTimesReason, IsTreeReason, TellSchedule, TellsFault, reason_in, reason_of}
+use Rattle.tp_told.specs.Reasons.{DoClaim, IfStop, IsAskedReason, IsBreach, IsDueInAnswer, IsDueInSettling, IsFrom, IsOff, IsOffAnswer, IsOffSettling, IsSettlingReason, IsTimesReason, IsTreeReason, TellSchedule, TellsFault, reason_in, reason_of}
 use Rattle.tp_told.specs.Telling.{HasStopped, ToldValue, begins_with_tree}
 use Rattle.tp_told.specs.declared.stop.Failure.{Failure}
 use Rattle.tp_told.specs.declared.stop.Failure.TheVariants as failure
@@ -36,45 +36,48 @@ use Rattle.tp_told.specs.declared.stop.Wrong.{Wrong}
 
 -- ---- failures
 
-pub stop-from : (P Q : Reason → Type 0) (f : Failure) → ((r : Reason) → P r → Q r) → IfStop P f → IfStop Q f
+pub stop-from : (P Q : ℕ → Reason → Type 0) (f : Failure) → ((n : ℕ) (r : Reason) → P n r → Q n r) → IfStop P f → IfStop Q f
 stop-from P Q failure.Memory to h = tt
-stop-from P Q (failure.Stop stop) to h = to stop.reason h
+stop-from P Q (failure.Stop found) to h = to found.left found.reason h
 
 some-reason : (P : Reason → Type 0) (a b : Reason) → Some b ≡ Some a → P a → P b
 some-reason P a b e h = let same : a ≡ b = cc in subst P same h
 
-pub same-stop : (P : Reason → Type 0) (f g : Failure) → reason_in g ≡ reason_in f → IfStop P f → IfStop P g
+-- told for the same reason, wherever
+pub same-stop : (P : Reason → Type 0) (f g : Failure) → reason_in g ≡ reason_in f → IfStop (λ n. P) f → IfStop (λ n. P) g
 same-stop P failure.Memory failure.Memory e h = tt
-same-stop P failure.Memory (failure.Stop stop) e h = absurd cc
-same-stop P (failure.Stop stop) failure.Memory e h = tt
-same-stop P (failure.Stop stop) (failure.Stop other) e h = some-reason P stop.reason other.reason e h
+same-stop P failure.Memory (failure.Stop found) e h = absurd cc
+same-stop P (failure.Stop found) failure.Memory e h = tt
+same-stop P (failure.Stop found) (failure.Stop other) e h = some-reason P found.reason other.reason e h
 
-pub kept-reason : (P : Reason → Type 0) (f : Failure) (s : Stop) (p : ToldValue) (halt : Halt) (p' : ToldValue) → MatchBool (is_stop f) (HasStopped p halt p') ((halt ≡ NoMemory) × (p' ≡ p)) → halt ≡ Stopped
-    → MatchBool (is_stop f) (Some s.reason ≡ reason_in f) (Unit {0}) → IfStop P f → P s.reason
-kept-reason P failure.Memory s p halt p' match' is kept h = let e = match'.0 in absurd cc
-kept-reason P (failure.Stop stop) s p halt p' match' is kept h = some-reason P stop.reason s.reason kept h
+-- told of these items
+pub from-stop : (here : ℕ) (P : Reason → Type 0) (f g : Failure) → is_stop g ≡ is_stop f → IfStop (IsFrom here (λ r. Some r ≡ reason_in f)) g → IfStop (λ n. P) f → IfStop (IsFrom here P) g
+from-stop here P failure.Memory failure.Memory e from h = tt
+from-stop here P failure.Memory (failure.Stop found) e from h = absurd cc
+from-stop here P (failure.Stop found) failure.Memory e from h = absurd cc
+from-stop here P (failure.Stop found) (failure.Stop other) e from h = (from.0, some-reason P found.reason other.reason from.1 h)
 
--- another item is due
-pub due-stop : (Q : Reason → Type 0) (f : Failure) → reason_in f ≡ Some IsDue → Q IsDue → IfStop Q f
-due-stop Q failure.Memory e h = tt
-due-stop Q (failure.Stop stop) e h = some-reason Q IsDue stop.reason e h
+pub kept-reason : (P : ℕ → Reason → Type 0) (f : Failure) (s : Stop) (p : ToldValue) (halt : Halt) (p' : ToldValue) (long : ℕ) → MatchBool (is_stop f) (HasStopped p halt p') ((halt ≡ NoMemory) × (p' ≡ p)) → halt ≡ Stopped
+    → IfStop (λ n r. (s.item ≡ long - n) × (s.reason ≡ r)) f → IfStop P f → (n : ℕ) × (s.item ≡ long - n) × P n s.reason
+kept-reason P failure.Memory s p halt p' long match' is kept h = let e = match'.0 in absurd cc
+kept-reason P (failure.Stop found) s p halt p' long match' is kept h = (found.left, kept.0, subst (P found.left) (sym kept.1) h)
 
 -- ---- another item is due, or a rule is broken
 
 module _ (Due : Type 0) (P : ℤ → ℤ → Type 0) where
-  pub settling-breach : (machine : Machine) (plans : List Plan) (now : ℕ) (items : List Item) → (Due → IsDueInSettling machine plans now items)
-      → ((a b : ℤ) → P a b → IsOffSettling machine plans now items a b) → (r : Reason) → IsBreach Due P r → IsSettlingReason machine plans now items r
-  settling-breach machine plans now items from to IsDue h = from h
-  settling-breach machine plans now items from to (Illegal first second) h = to first second h
-  settling-breach machine plans now items from to (NotLeast given least) h = absurd h
-  settling-breach machine plans now items from to (Tree flaw) h = absurd h
+  pub settling-breach : (machine : Machine) (plans : List Plan) (now : ℕ) (items : List Item) (n : ℕ) → (Due → IsDueInSettling machine plans now items n)
+      → ((a b : ℤ) → P a b → IsOffSettling machine plans now items n a b) → (r : Reason) → IsBreach Due P r → IsSettlingReason machine plans now items n r
+  settling-breach machine plans now items n from to IsDue h = from h
+  settling-breach machine plans now items n from to (Illegal first second) h = to first second h
+  settling-breach machine plans now items n from to (NotLeast given least) h = absurd h
+  settling-breach machine plans now items n from to (Tree flaw) h = absurd h
 
-  pub asked-breach : (machine : Machine) (plans : List Plan) (ask : Ask) (items : List Item) → (Due → IsDueInAnswer machine plans ask items)
-      → ((a b : ℤ) → P a b → IsOffAnswer machine plans ask items a b) → (r : Reason) → IsBreach Due P r → IsAskedReason machine plans ask items r
-  asked-breach machine plans ask items from to IsDue h = from h
-  asked-breach machine plans ask items from to (Illegal first second) h = to first second h
-  asked-breach machine plans ask items from to (NotLeast given least) h = absurd h
-  asked-breach machine plans ask items from to (Tree flaw) h = absurd h
+  pub asked-breach : (machine : Machine) (plans : List Plan) (ask : Ask) (items : List Item) (n : ℕ) → (Due → IsDueInAnswer machine plans ask items n)
+      → ((a b : ℤ) → P a b → IsOffAnswer machine plans ask items n a b) → (r : Reason) → IsBreach Due P r → IsAskedReason machine plans ask items n r
+  asked-breach machine plans ask items n from to IsDue h = from h
+  asked-breach machine plans ask items n from to (Illegal first second) h = to first second h
+  asked-breach machine plans ask items n from to (NotLeast given least) h = absurd h
+  asked-breach machine plans ask items n from to (Tree flaw) h = absurd h
 
   pub breach-by : (Due' : Type 0) (Q : ℤ → ℤ → Type 0) → (Due → Due') → ((a b : ℤ) → P a b → Q a b) → (r : Reason) → IsBreach Due P r → IsBreach Due' Q r
   breach-by Due' Q from to IsDue h = from h
@@ -89,9 +92,9 @@ module _ (Due : Type 0) (P : ℤ → ℤ → Type 0) where
   times-breach IsOne machine now exempt plans' from to (NotLeast given least) h = absurd h
   times-breach IsOne machine now exempt plans' from to (Tree flaw) h = absurd h
 
-  pub wrong-stop : (Q : Reason → Type 0) (w : Wrong) (f : Failure) → reason_in f ≡ Some (reason_of w) → ((r : Reason) → IsBreach Due P r → Q r) → IsOff Due P w → IfStop Q f
-  wrong-stop Q w failure.Memory e to h = tt
-  wrong-stop Q w (failure.Stop stop) e to h = some-reason Q (reason_of w) stop.reason e (to (reason_of w) h)
+  pub wrong-stop : (Q : ℕ → Reason → Type 0) (w : Wrong) (here : ℕ) (f : Failure) → IfStop (IsFrom here (λ r. r ≡ reason_of w)) f → ((r : Reason) → IsBreach Due P r → Q here r) → IsOff Due P w → IfStop Q f
+  wrong-stop Q w here failure.Memory from to h = tt
+  wrong-stop Q w here (failure.Stop found) from to h = subst (λ n. Q n found.reason) (sym from.0) (subst (Q here) (sym from.1) (to (reason_of w) h))
 
 module _ (Due Due' : Type 0) (P Q : ℤ → ℤ → Type 0) (from : Due → Due') (to : (a b : ℤ) → P a b → Q a b) where
   pub off-by : (w : Wrong) → IsOff Due P w → IsOff Due' Q w
@@ -138,24 +141,24 @@ asked-times machine plans ask plans' = fault-times machine ask.now (exempt_of as
   early e (inl h) = absurd (none e _ h)
 
 pub settled-reason : (machine : Machine) (plans : List Plan) (now : ℕ) (items : List Item) (plans' : List Plan) (taken : ℕ) → TakesMoves machine now None plans plans' items taken
-    → (r : Reason) → IsTimesReason (IsSettlingFault machine now plans plans') machine now None plans' r → IsSettlingReason machine plans now items r
-settled-reason machine plans now items plans' taken takes IsDue h = inr (plans', (taken, (takes, h)))
-settled-reason machine plans now items plans' taken takes (Illegal first second) h = inr (plans', (taken, (takes, h)))
-settled-reason machine plans now items plans' taken takes (NotLeast given least) h = (plans', (taken, (takes, h)))
-settled-reason machine plans now items plans' taken takes (Tree flaw) h = absurd h
+    → (n : ℕ) (r : Reason) → IsTimesReason (IsSettlingFault machine now plans plans') machine now None plans' r → IsSettlingReason machine plans now items n r
+settled-reason machine plans now items plans' taken takes n IsDue h = inr (plans', (taken, (takes, h)))
+settled-reason machine plans now items plans' taken takes n (Illegal first second) h = inr (plans', (taken, (takes, h)))
+settled-reason machine plans now items plans' taken takes n (NotLeast given least) h = (plans', (taken, (takes, h)))
+settled-reason machine plans now items plans' taken takes n (Tree flaw) h = absurd h
 
 pub asked-reason : (machine : Machine) (plans : List Plan) (ask : Ask) (items : List Item) (plans' : List Plan) → TellSchedule machine plans ask items plans'
-    → (r : Reason) → IsTimesReason (IsAnswerFault machine plans ask plans') machine ask.now (exempt_of ask) plans' r → IsAskedReason machine plans ask items r
-asked-reason machine plans ask items plans' tells IsDue h = inr (inr (inl (record { plans' = plans'; told = tells; fault = h })))
-asked-reason machine plans ask items plans' tells (Illegal first second) h = inr (inr (record { plans' = plans'; told = tells; fault = h }))
-asked-reason machine plans ask items plans' tells (NotLeast given least) h = (plans', (tells, h))
-asked-reason machine plans ask items plans' tells (Tree flaw) h = absurd h
+    → (n : ℕ) (r : Reason) → IsTimesReason (IsAnswerFault machine plans ask plans') machine ask.now (exempt_of ask) plans' r → IsAskedReason machine plans ask items n r
+asked-reason machine plans ask items plans' tells n IsDue h = inr (inr (inl (record { plans' = plans'; told = tells; fault = h })))
+asked-reason machine plans ask items plans' tells n (Illegal first second) h = inr (inr (record { plans' = plans'; told = tells; fault = h }))
+asked-reason machine plans ask items plans' tells n (NotLeast given least) h = (plans', (tells, h))
+asked-reason machine plans ask items plans' tells n (Tree flaw) h = absurd h
 
 -- ---- trees
 
 module _ (machine : Machine) (plans : List Plan) (ask : Ask) (claim : Claim) where
   pub flaw-reason : (item : Item) (tree : BoundTree) (flaw : TreeFlaw) → item ≡ TreeItem tree → IsFlawOf (tree_flaw machine (live_part machine ask plans) ask (limit_of machine ask claim) tree) flaw
-      → IfStop (IsTreeReason machine plans ask claim (item ∷ [])) (failure_of flaw)
+      → IfStop (λ n. IsTreeReason machine plans ask claim (item ∷ [])) (failure_of flaw)
   flaw-reason item tree Memory is h = tt
   flaw-reason item tree (RoomRow row) is h = (tree, ([], (ap (λ x. x ∷ []) is, h)))
   flaw-reason item tree (Uncovered node) is h = (tree, ([], (ap (λ x. x ∷ []) is, h)))
@@ -173,9 +176,9 @@ module _ (machine : Machine) (plans : List Plan) (ask : Ask) (claim : Claim) whe
   first-reason (x ∷ items) item some is (NotLeast given least) h = h
   first-reason (x ∷ items) item some is (Tree flaw) (tree, (later, (e, flawed))) = (tree, (items, (ap (λ y. y ∷ items) (sym is ∙ first-of item (TreeItem tree) [] later e), flawed)))
 
-  pub tree-reason : (items before behind : List Item) → DoClaim machine plans ask items claim → items ≡ before ++ behind → (IsFalse (begins_with_tree behind) → IsDueInAnswer machine plans ask items)
-      → (r : Reason) → IsTreeReason machine plans ask claim behind r → IsAskedReason machine plans ask items r
-  tree-reason items before behind claimed parts from IsDue h = from h
-  tree-reason items before behind claimed parts from (Illegal first second) h = absurd h
-  tree-reason items before behind claimed parts from (NotLeast given least) h = absurd h
-  tree-reason items before behind claimed parts from (Tree flaw) h = record { claim = claim; claimed = claimed; before = before; behind = behind; parts = parts; flawed = h }
+  pub tree-reason : (items before behind : List Item) → DoClaim machine plans ask items claim → items ≡ before ++ behind → (n : ℕ) → n ≡ length behind
+      → (IsFalse (begins_with_tree behind) → IsDueInAnswer machine plans ask items n) → (r : Reason) → IsTreeReason machine plans ask claim behind r → IsAskedReason machine plans ask items n r
+  tree-reason items before behind claimed parts n is from IsDue h = from h
+  tree-reason items before behind claimed parts n is from (Illegal first second) h = absurd h
+  tree-reason items before behind claimed parts n is from (NotLeast given least) h = absurd h
+  tree-reason items before behind claimed parts n is from (Tree flaw) h = record { claim = claim; claimed = claimed; before = before; behind = behind; parts = parts; from = is; flawed = h }

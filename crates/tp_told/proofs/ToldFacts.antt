@@ -1,5 +1,5 @@
 -- What is taken from the first item that is no aside on is taken of the items to come.
-use Rattle.std.proofs.Common.{◌≡◌, ℕ, zero, suc, ◌+◌, ◌≤◌, Bool, true, false, cond, List, [], ◌∷◌, drop, get_or, length, refl, sym, ap, subst, ◌∙◌, arith}
+use Rattle.std.proofs.Common.{◌≡◌, ℕ, zero, suc, ◌+◌, ◌-◌, ◌≤◌, Bool, true, false, cond, List, [], ◌∷◌, drop, get_or, length, refl, sym, ap, subst, ◌∙◌, arith}
 use Rattle.tp_log.specs.declared.item.Item.{Item}
 use Rattle.tp_machine.specs.declared.machine.Machine.{Machine}
 use Rattle.tp_schedule.specs.Planning.Deed.{replied, settled}
@@ -85,16 +85,22 @@ module _ (machine : Machine) (plans : List Plan) (p : ToldValue) (next : ℕ) (i
     left : drop taken (drop next p.items) ≡ drop (next + taken) p.items
     left = drop-drop next taken p.items
 
-  pub stops-asked : (ask : Ask) (halt : Halt) (p' : ToldValue) → (TellsDue machine plans (drop next p.items) (asking ask) → ⊥) → IsReason machine plans (drop next p.items) (asking ask) p'.stop.reason → HasStopped p halt p' → StopsAt p machine plans (asking ask) p'
+  pub stops-asked : (ask : Ask) (halt : Halt) (p' : ToldValue) → (TellsDue machine plans (drop next p.items) (asking ask) → ⊥) → (n : ℕ) × (p'.stop.item ≡ length p.items - n) × IsReason machine plans (drop next p.items) (asking ask) n p'.stop.reason → HasStopped p halt p'
+      → StopsAt p machine plans (asking ask) p'
   stops-asked ask halt p' denied why stopped = record {
-    why = subst (λ items. IsReason machine plans items (asking ask) p'.stop.reason) is why;
+    left = why.0;
+    item = why.1;
+    why = subst (λ items. IsReason machine plans items (asking ask) why.0 p'.stop.reason) is why.2;
     denied = λ named due. denied (due.0, (due.1.0, (due.1.1.0, there ask due.0 due.1.0 due.1.1.0 due.1.1.1)));
     same = stopped.same;
   }
 
-  pub stops-settled : (now : ℕ) (halt : Halt) (p' : ToldValue) → (DoTellSettled machine plans now (drop next p.items) → ⊥) → IsReason machine plans (drop next p.items) (settling now) p'.stop.reason → HasStopped p halt p' → StopsAt p machine plans (settling now) p'
+  pub stops-settled : (now : ℕ) (halt : Halt) (p' : ToldValue) → (DoTellSettled machine plans now (drop next p.items) → ⊥) → (n : ℕ) × (p'.stop.item ≡ length p.items - n) × IsReason machine plans (drop next p.items) (settling now) n p'.stop.reason → HasStopped p halt p'
+      → StopsAt p machine plans (settling now) p'
   stops-settled now halt p' denied why stopped = record {
-    why = subst (λ items. IsReason machine plans items (settling now) p'.stop.reason) is why;
+    left = why.0;
+    item = why.1;
+    why = subst (λ items. IsReason machine plans items (settling now) why.0 p'.stop.reason) is why.2;
     denied = λ named due. denied (named, (due.0, (due.1.0, settled-there now due.0 due.1.0 due.1.1)));
     same = stopped.same;
   }

@@ -143,13 +143,14 @@ pub record IsUnkept (p q : Plan) (first second : ℤ) : Type 0 where
 abbrev pub IsOffMove : Machine → ℕ → Plan → Plan → ℤ → ℤ → Type 0
 IsOffMove machine now p q first second = IsUnkept p q first second ⊎ IsOffByItself machine now None q first second
 
--- one of the items moves a plan of the schedule so
-pub record HasOffMove (machine : Machine) (now : ℕ) (asked : Option SheetId) (plans : List Plan) (items : List Item) (first second : ℤ) : Type 0 where
+-- one of the items, from which on there are so many, moves a plan of the schedule so
+pub record HasOffMove (machine : Machine) (now : ℕ) (asked : Option SheetId) (plans : List Plan) (items : List Item) (left : ℕ) (first second : ℤ) : Type 0 where
   pub plan : Plan
   pub planned : Contains plans plan
   pub place : ℕ
   pub points : List ℕ
   pub told : points_for asked plan (drop place items) ≡ Some points
+  pub from : left ≡ length (drop place items)
   pub off : IsOffMove machine now plan (with_points points plan) first second
 
 -- ---- of a record of a plan

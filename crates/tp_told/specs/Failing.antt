@@ -13,7 +13,7 @@ Denies P (Stop stop) = P → ⊥
 -- what is wrong with a tree, as a failure
 abbrev pub failure_of : TreeFlaw → Failure
 failure_of NoMemory = Memory
-failure_of flaw = Stop (record { item = 0; reason = Tree flaw })
+failure_of flaw = Stop (record { left = 0; reason = Tree flaw })
 
 abbrev pub is_stop : Failure → Bool
 is_stop Memory = false

@@ -45,9 +45,9 @@ abbrev pub behind_moves : Option SheetId → List Plan → List Item → List It
 behind_moves asked [] items = items
 behind_moves asked (p ∷ plans) items = behind_moves asked plans (behind_move (points_for asked p items) items)
 
--- one more move stands there
-abbrev pub IsMoveOver : Option SheetId → List Plan → List Item → Type 0
-IsMoveOver asked plans items = IsTrue (begins_with_move (behind_moves asked plans items))
+-- one more move stands there, of so many items
+abbrev pub IsMoveOver : Option SheetId → List Plan → List Item → ℕ → Type 0
+IsMoveOver asked plans items left = (left ≡ length (behind_moves asked plans items)) × IsTrue (begins_with_move (behind_moves asked plans items))
 
 -- a plan by itself: timed, and within floors and horizon
 pub record IsKeptPlan (machine : Machine) (now : ℕ) (exempt : Option SheetId) (p : Plan) : Type 0 where

@@ -1,6 +1,6 @@
 -- Why items don't tell what is due: a rule that is broken, a point of the new schedule that could stand earlier, or a tree
 -- that has a flaw.
-use Rattle.std.specs.Prelude.{◌≡◌, ℕ, ◌⊎◌, ℤ, List, ◌∷◌, ◌++◌, Option, Some, None, IsFalse}
+use Rattle.std.specs.Prelude.{◌≡◌, ℕ, ◌⊎◌, ℤ, List, ◌∷◌, ◌++◌, length, Option, Some, None, IsFalse}
 use Rattle.tp_bounds.specs.declared.tree.BoundTree.{BoundTree}
 use Rattle.tp_log.specs.declared.item.Item.{Item}
 use Rattle.tp_log.specs.declared.item.Item.TheVariants.{Note, Tree as TreeItem}
@@ -36,10 +36,14 @@ use Rattle.tp_told.specs.declared.stop.Wrong.{Wrong}
 use Rattle.tp_told.specs.declared.stop.Wrong.TheVariants as wrong
 use Rattle.tp_told.specs.declared.stop.Reason.TheVariants.{Due as IsDue, Illegal, NotLeast, Tree}
 
--- what holds of the reason of a failure, if that is no want of memory
-abbrev pub IfStop : (Reason → Type 0) → Failure → Type 0
+-- what holds of the reason of a failure, and of how many items there are from the wrong one on, if that is no want of memory
+abbrev pub IfStop : (ℕ → Reason → Type 0) → Failure → Type 0
 IfStop P failure.Memory = Unit {0}
-IfStop P (failure.Stop stop) = P stop.reason
+IfStop P (failure.Stop found) = P found.left found.reason
+
+-- it is told where there are so many items yet
+abbrev pub IsFrom : ℕ → (Reason → Type 0) → ℕ → Reason → Type 0
+IsFrom here P left reason = (left ≡ here) × P reason
 
 -- another item is due, which is told where this holds
 abbrev pub IsPlain : Type 0 → Reason → Type 0
@@ -58,7 +62,7 @@ reason_of (wrong.Illegal first second) = Illegal first second
 
 abbrev pub reason_in : Failure → Option Reason
 reason_in failure.Memory = None
-reason_in (failure.Stop stop) = Some stop.reason
+reason_in (failure.Stop found) = Some found.reason
 
 abbrev pub IsOff : Type 0 → (ℤ → ℤ → Type 0) → Wrong → Type 0
 IsOff Due P wrong = IsBreach Due P (reason_of wrong)
@@ -82,22 +86,22 @@ TellsFault machine now plans' (Early early) reason = reason ≡ NotLeast early.g
 TellsFault machine now plans' fault reason = IsBreach (IsPlainFault machine plans' fault) (AreOfFault machine now plans' fault) reason
 
 -- a move breaks a rule by itself, or the schedule that the moves tell breaks one
-abbrev pub IsOffSettling : Machine → List Plan → ℕ → List Item → ℤ → ℤ → Type 0
-IsOffSettling machine plans now items first second =
-    HasOffMove machine now None plans items first second
+abbrev pub IsOffSettling : Machine → List Plan → ℕ → List Item → ℕ → ℤ → ℤ → Type 0
+IsOffSettling machine plans now items left first second =
+    HasOffMove machine now None plans items left first second
     ⊎ ((plans' : List Plan) × ((taken : ℕ) × (TakesMoves machine now None plans plans' items taken × HasFault (IsSettlingFault machine now plans plans') machine now plans' first second)))
 
 -- a move is told that is none of those that are due, or no two numbers tell what is wrong with the schedule that they tell
-abbrev pub IsDueInSettling : Machine → List Plan → ℕ → List Item → Type 0
-IsDueInSettling machine plans now items =
-    IsMoveOver None plans items
+abbrev pub IsDueInSettling : Machine → List Plan → ℕ → List Item → ℕ → Type 0
+IsDueInSettling machine plans now items left =
+    IsMoveOver None plans items left
     ⊎ ((plans' : List Plan) × ((taken : ℕ) × (TakesMoves machine now None plans plans' items taken × HasPlainFault (IsSettlingFault machine now plans plans') machine plans')))
 
 -- or a point of that could stand earlier
-abbrev pub IsSettlingReason : Machine → List Plan → ℕ → List Item → Reason → Type 0
-IsSettlingReason machine plans now items (NotLeast given least) =
+abbrev pub IsSettlingReason : Machine → List Plan → ℕ → List Item → ℕ → Reason → Type 0
+IsSettlingReason machine plans now items left (NotLeast given least) =
     (plans' : List Plan) × ((taken : ℕ) × (TakesMoves machine now None plans plans' items taken × CouldBeEarlier machine now None plans' given least))
-IsSettlingReason machine plans now items reason = IsBreach (IsDueInSettling machine plans now items) (IsOffSettling machine plans now items) reason
+IsSettlingReason machine plans now items left reason = IsBreach (IsDueInSettling machine plans now items left) (IsOffSettling machine plans now items left) reason
 
 -- ---- of an answer
 
@@ -131,10 +135,10 @@ pub record HasOffPlan (machine : Machine) (plans : List Plan) (ask : Ask) (items
   pub off : IsOffByItself machine ask.now (exempt_of ask) plan first second
 
 -- a move behind the first item does
-pub record HasOffMoveBehind (machine : Machine) (plans : List Plan) (ask : Ask) (items : List Item) (first second : ℤ) : Type 0 where
+pub record HasOffMoveBehind (machine : Machine) (plans : List Plan) (ask : Ask) (items : List Item) (left : ℕ) (first second : ℤ) : Type 0 where
   pub plan : Plan
   pub told : BeginsWithPlan machine plans ask items plan
-  pub off : HasOffMove machine ask.now (Some ask.sheet) plans told.later first second
+  pub off : HasOffMove machine ask.now (Some ask.sheet) plans told.later left first second
 
 -- the schedule that all of them tell does
 pub record HasOffSchedule (machine : Machine) (plans : List Plan) (ask : Ask) (items : List Item) (first second : ℤ) : Type 0 where
@@ -143,10 +147,10 @@ pub record HasOffSchedule (machine : Machine) (plans : List Plan) (ask : Ask) (i
   pub fault : HasFault (IsAnswerFault machine plans ask plans') machine ask.now plans' first second
 
 -- a rule is broken by one of these, or the first item tells what doesn't fit the copy's front
-abbrev pub IsOffAnswer : Machine → List Plan → Ask → List Item → ℤ → ℤ → Type 0
-IsOffAnswer machine plans ask items first second =
-    (HasUnfitPlan plans ask items first second ⊎ HasOffPlan machine plans ask items first second)
-    ⊎ (HasOffMoveBehind machine plans ask items first second ⊎ HasOffSchedule machine plans ask items first second)
+abbrev pub IsOffAnswer : Machine → List Plan → Ask → List Item → ℕ → ℤ → ℤ → Type 0
+IsOffAnswer machine plans ask items left first second =
+    ((left ≡ length items) × (HasUnfitPlan plans ask items first second ⊎ HasOffPlan machine plans ask items first second))
+    ⊎ (HasOffMoveBehind machine plans ask items left first second ⊎ HasOffSchedule machine plans ask items first second)
 
 -- what the first item claims: no end before the plan's, or none at all
 abbrev pub DoClaim : Machine → List Plan → Ask → List Item → Claim → Type 0
@@ -160,12 +164,13 @@ IsTreeReason machine plans ask claim items (Tree flaw) =
 IsTreeReason machine plans ask claim items reason = IsPlain (IsFalse (begins_with_tree items)) reason
 
 -- a tree behind the first item, its moves among them, is one with the flaw for what is claimed
-pub record HasFlawedTree (machine : Machine) (plans : List Plan) (ask : Ask) (items : List Item) (flaw : TreeFlaw) : Type 0 where
+pub record HasFlawedTree (machine : Machine) (plans : List Plan) (ask : Ask) (items : List Item) (left : ℕ) (flaw : TreeFlaw) : Type 0 where
   pub claim : Claim
   pub claimed : DoClaim machine plans ask items claim
   pub before : List Item
   pub behind : List Item
   pub parts : items ≡ before ++ behind
+  pub from : left ≡ length behind
   pub flawed : IsTreeReason machine plans ask claim behind (Tree flaw)
 
 -- ---- another item than the one that is due
@@ -181,10 +186,10 @@ abbrev pub BeginsWithNoAnswer : Machine → List Plan → Ask → List Item → 
 BeginsWithNoAnswer machine plans ask items = (told : Record) (later : List Item) → items ≡ Note told ∷ later → TellsAnAnswer machine plans ask told → ⊥
 
 -- behind its plan and the moves of other plans stands one more move
-pub record HasMoveOver (machine : Machine) (plans : List Plan) (ask : Ask) (items : List Item) : Type 0 where
+pub record HasMoveOver (machine : Machine) (plans : List Plan) (ask : Ask) (items : List Item) (left : ℕ) : Type 0 where
   pub plan : Plan
   pub told : BeginsWithPlan machine plans ask items plan
-  pub over : IsMoveOver (Some ask.sheet) plans told.later
+  pub over : IsMoveOver (Some ask.sheet) plans told.later left
 
 -- no two numbers tell what is wrong with the schedule that they tell
 pub record HasPlainSchedule (machine : Machine) (plans : List Plan) (ask : Ask) (items : List Item) : Type 0 where
@@ -193,32 +198,34 @@ pub record HasPlainSchedule (machine : Machine) (plans : List Plan) (ask : Ask) 
   pub fault : HasPlainFault (IsAnswerFault machine plans ask plans') machine plans'
 
 -- that schedule is right, and no tree stands behind them
-pub record LacksTree (machine : Machine) (plans : List Plan) (ask : Ask) (items : List Item) : Type 0 where
+pub record LacksTree (machine : Machine) (plans : List Plan) (ask : Ask) (items : List Item) (left : ℕ) : Type 0 where
   pub plans' : List Plan
   pub told : TellSchedule machine plans ask items plans'
   pub right : IsRight machine plans ask plans'
   pub none : IsFalse (begins_with_tree (behind_moves (Some ask.sheet) plans told.first.later))
+  pub from : left ≡ length (behind_moves (Some ask.sheet) plans told.first.later)
 
 -- the first item tells a none, and no tree stands behind it
-pub record LacksTreeOfNone (machine : Machine) (plans : List Plan) (ask : Ask) (items : List Item) : Type 0 where
+pub record LacksTreeOfNone (machine : Machine) (plans : List Plan) (ask : Ask) (items : List Item) (left : ℕ) : Type 0 where
   pub later : List Item
   pub is : items ≡ Note (TellsNever (label_of_asked ask) (goal_name machine ask.goal)) ∷ later
   pub none : IsFalse (begins_with_tree later)
+  pub from : left ≡ length later
 
-abbrev pub IsDueInAnswer : Machine → List Plan → Ask → List Item → Type 0
-IsDueInAnswer machine plans ask items =
-    (BeginsWithNoAnswer machine plans ask items ⊎ LacksTreeOfNone machine plans ask items)
-    ⊎ (HasMoveOver machine plans ask items ⊎ (HasPlainSchedule machine plans ask items ⊎ LacksTree machine plans ask items))
+abbrev pub IsDueInAnswer : Machine → List Plan → Ask → List Item → ℕ → Type 0
+IsDueInAnswer machine plans ask items left =
+    (((left ≡ length items) × BeginsWithNoAnswer machine plans ask items) ⊎ LacksTreeOfNone machine plans ask items left)
+    ⊎ (HasMoveOver machine plans ask items left ⊎ (HasPlainSchedule machine plans ask items ⊎ LacksTree machine plans ask items left))
 
 -- ---- reasons
 
-abbrev pub IsAskedReason : Machine → List Plan → Ask → List Item → Reason → Type 0
-IsAskedReason machine plans ask items (NotLeast given least) =
+abbrev pub IsAskedReason : Machine → List Plan → Ask → List Item → ℕ → Reason → Type 0
+IsAskedReason machine plans ask items left (NotLeast given least) =
     (plans' : List Plan) × (TellSchedule machine plans ask items plans' × CouldBeEarlier machine ask.now (exempt_of ask) plans' given least)
-IsAskedReason machine plans ask items (Tree flaw) = HasFlawedTree machine plans ask items flaw
-IsAskedReason machine plans ask items reason = IsBreach (IsDueInAnswer machine plans ask items) (IsOffAnswer machine plans ask items) reason
+IsAskedReason machine plans ask items left (Tree flaw) = HasFlawedTree machine plans ask items left flaw
+IsAskedReason machine plans ask items left reason = IsBreach (IsDueInAnswer machine plans ask items left) (IsOffAnswer machine plans ask items left) reason
 
--- why the items don't tell what is due
-abbrev pub IsReason : Machine → List Plan → List Item → Due → Reason → Type 0
-IsReason machine plans items (asking ask) reason = IsAskedReason machine plans ask items reason
-IsReason machine plans items (settling now) reason = IsSettlingReason machine plans now items reason
+-- why the items don't tell what is due, and how many there are from the wrong one on. Of what is wrong with a schedule no item is claimed
+abbrev pub IsReason : Machine → List Plan → List Item → Due → ℕ → Reason → Type 0
+IsReason machine plans items (asking ask) left reason = IsAskedReason machine plans ask items left reason
+IsReason machine plans items (settling now) left reason = IsSettlingReason machine plans now items left reason

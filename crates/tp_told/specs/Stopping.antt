@@ -1,5 +1,5 @@
 -- Where the planner stops, and why.
-use Rattle.std.specs.Prelude.{◌≡◌, List}
+use Rattle.std.specs.Prelude.{◌≡◌, ℕ, ◌-◌, List, length}
 use Rattle.tp_machine.specs.declared.machine.Machine.{Machine}
 use Rattle.tp_schedule.specs.Planning.{Due}
 use Rattle.tp_schedule.specs.Plans.{AreNamed}
@@ -10,5 +10,7 @@ use Rattle.tp_told.specs.Telling.{TellsDue, ToldValue, ahead, behind_asides}
 -- where it stops the items to come don't tell what is due, for the reason that is kept, and none are taken
 pub record StopsAt (p : ToldValue) (machine : Machine) (plans : List Plan) (due : Due) (p' : ToldValue) : Type 0 where
   pub denied : AreNamed plans → TellsDue machine plans (ahead p) due → ⊥
-  pub why : IsReason machine plans (behind_asides (ahead p)) due p'.stop.reason
+  pub left : ℕ
+  pub item : p'.stop.item ≡ length p.items - left
+  pub why : IsReason machine plans (behind_asides (ahead p)) due left p'.stop.reason
   pub same : p' ≡ record p { stops = p'.stops; stop = p'.stop }

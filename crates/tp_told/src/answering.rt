@@ -15,7 +15,7 @@ ghost use Rattle.tp_told.specs.Answering.{DoTellPlan, TakesAnswer};
 ghost use Rattle.tp_told.specs.Breaches.{TellsUnfit};
 ghost use Rattle.tp_told.specs.Failing.{Denies, is_stop};
 ghost use Rattle.tp_told.specs.Planning.{IsOnlyPlan, TellsNoForm, TellsNoPlan};
-ghost use Rattle.tp_told.specs.Reasons.{IfStop, IsAskedReason, IsOff, IsTimesReason, reason_in, reason_of};
+ghost use Rattle.tp_told.specs.Reasons.{IfStop, IsAskedReason, IsFrom, IsOff, IsTimesReason, reason_in, reason_of};
 ghost use Rattle.tp_told.specs.declared.stop.Reason.TheVariants.{Due as IsDue};
 ghost use Rattle.tp_told.specs.Telling.{TellsDue, behind_asides, is_aside, is_other, is_plan};
 
@@ -23,7 +23,7 @@ use crate::alone::find_in_plan;
 use crate::faults::Read;
 use crate::moving::{Moving, take_all_moves};
 use crate::planning::read_plan;
-use crate::stop::{Failure, Reason, Stop, Wrong, reason_of};
+use crate::stop::{Failure, Found, Reason, Wrong, reason_of};
 use crate::trees::take_tree;
 use std::alloc::Global;
 use tp_answers::{find_fault, plan_of};
@@ -34,27 +34,27 @@ use tp_schedule::{Ask, Plan, Record, Reply, Schedule, SheetId, SheetName};
 use tp_telling::{goal_name, label};
 use tp_trees::Claim;
 
-/// Another item is due in place of the first one.
-fn due() -> Failure
+/// Another item is due in place of the first of so many.
+fn due(left: usize) -> Failure
     ensures stops { IsTrue (is_stop result) }
-    ensures reason { reason_in result ≡ Some IsDue }
+    ensures from { IfStop (IsFrom left (λ reason. reason ≡ IsDue)) result }
 {
-    Failure::Stop(Stop {
-        item: 0,
+    Failure::Stop(Found {
+        left,
         reason: Reason::Due,
     })
 }
 
-/// The same failure, of items that stand so much further behind.
-pub(crate) fn behind(failure: Failure, count: usize) -> Failure
+/// The same failure, with so many more items behind.
+pub(crate) fn ahead_of(failure: Failure, count: usize) -> Failure
     ensures stops { is_stop result ≡ is_stop failure }
     ensures reason { reason_in result ≡ reason_in failure }
 {
     match failure {
         Failure::Memory => Failure::Memory,
-        Failure::Stop(stop) => Failure::Stop(Stop {
-            item: stop.item.saturating_add(count),
-            reason: stop.reason,
+        Failure::Stop(found) => Failure::Stop(Found {
+            left: found.left.saturating_add(count),
+            reason: found.reason,
         }),
     }
 }
@@ -118,7 +118,7 @@ fn check_answer(
         (IsRight machine.now before.now.plans ask.entry.now after.now.plans) }
     ensures refused { IfErr result
         (Denies (IsRight machine.now before.now.plans ask.entry.now after.now.plans)) }
-    ensures why { IfErr result (IfStop (IsTimesReason
+    ensures why { IfErr result (IfStop (λ left. IsTimesReason
         (IsAnswerFault machine.now before.now.plans ask.entry.now after.now.plans)
         machine.now ask.entry.now.now (exempt_of ask.entry.now) after.now.plans)) }
 {
@@ -127,8 +127,7 @@ fn check_answer(
         Ok(Some(fault)) => {
             let read = Read {
                 moves,
-                first: 1,
-                unmoved: 0,
+                unmoved: moves.len().saturating_add(1),
                 after,
                 now: ask.now,
             };
@@ -177,7 +176,7 @@ fn place_plan(
     };
     let taken = match take_all_moves(alloc, machine, &moving, later, schedule, &mut after) {
         Ok(taken) => taken,
-        Err(failure) => return Err(behind(failure, 1)),
+        Err(failure) => return Err(failure),
     };
     match put_plan(&mut after, plan) {
         Ok(()) => {}
@@ -185,11 +184,11 @@ fn place_plan(
     }
     match check_answer(alloc, machine, ask, schedule, &after, &later[..taken]) {
         Ok(()) => {}
-        Err(failure) => return Err(failure),
+        Err(failure) => return Err(ahead_of(failure, later.len() - taken)),
     }
     match take_tree(alloc, machine, schedule, ask, claim, &later[taken..]) {
         Ok(()) => {}
-        Err(failure) => return Err(behind(failure, taken.saturating_add(1))),
+        Err(failure) => return Err(failure),
     }
     *schedule = after;
     Ok(taken + 1)
@@ -248,13 +247,13 @@ fn read_told(machine: &Machine, before: &Schedule, ask: &Ask, told: &Record) -> 
     }
 }
 
-/// The record of a plan is wrong.
-fn wrong_plan(wrong: Wrong) -> Failure
+/// The record of a plan is wrong, the first of so many items.
+fn wrong_plan(wrong: Wrong, left: usize) -> Failure
     ensures stops { IsTrue (is_stop result) }
-    ensures reason { reason_in result ≡ Some (reason_of wrong) }
+    ensures from { IfStop (IsFrom left (λ reason. reason ≡ reason_of wrong)) result }
 {
-    Failure::Stop(Stop {
-        item: 0,
+    Failure::Stop(Found {
+        left,
         reason: reason_of(wrong),
     })
 }
@@ -281,11 +280,11 @@ fn take_plan(
 {
     let plan = match read_told(machine, schedule, ask, told) {
         Ok(plan) => plan,
-        Err(wrong) => return Err(wrong_plan(wrong)),
+        Err(wrong) => return Err(wrong_plan(wrong, later.len() + 1)),
     };
     match find_in_plan(alloc, machine, ask.now, exempt_of(ask), &plan) {
         Err(_) => return Err(Failure::Memory),
-        Ok(Some(wrong)) => return Err(wrong_plan(wrong)),
+        Ok(Some(wrong)) => return Err(wrong_plan(wrong, later.len() + 1)),
         Ok(None) => {}
     }
     match place_plan(alloc, machine, ask, plan, later, schedule) {
@@ -324,21 +323,21 @@ fn take_told(
         Record::Never { sheet, goal } => {
             let about = is_about(machine, ask, sheet, goal);
             if !about {
-                return Err(due());
+                return Err(due(later.len() + 1));
             }
             match take_tree(alloc, machine, schedule, ask, Claim::Never, later) {
                 Ok(()) => Ok((Reply::Never, 2)),
-                Err(failure) => Err(behind(failure, 1)),
+                Err(failure) => Err(failure),
             }
         }
         Record::Budget { sheet, goal, bound } => {
             let about = is_about(machine, ask, sheet, goal);
             if !about {
-                return Err(due());
+                return Err(due(later.len() + 1));
             }
             Ok((Reply::Spent { bound: *bound }, 1))
         }
-        _ => Err(due()),
+        _ => Err(due(later.len() + 1)),
     }
 }
 
@@ -365,7 +364,7 @@ fn take_item(
             Ok(taken) => Ok(taken),
             Err(failure) => Err(failure),
         },
-        _ => Err(due()),
+        _ => Err(due(later.len() + 1)),
     }
 }
 
@@ -393,6 +392,6 @@ pub(crate) fn take_answer(
             Ok(taken) => Ok(taken),
             Err(failure) => Err(failure),
         },
-        [] => Err(due()),
+        [] => Err(due(0)),
     }
 }

@@ -8,7 +8,7 @@ ghost use Rattle.tp_told.specs.Breaches.{Begins, BeginsAt, BeginsIn};
 ghost use Rattle.tp_told.specs.Reasons.{TellsFault};
 ghost use Rattle.tp_told.specs.declared.stop.Reason.TheVariants.{Due as IsDue, Illegal};
 
-use crate::stop::{Reason, Stop};
+use crate::stop::{Found, Reason};
 use tp_answers::{Fault, Unlike, plan_of};
 use tp_base::Tick;
 use tp_deciding::{Clash, Parting};
@@ -17,12 +17,11 @@ use tp_machine::{ActId, HoldRule, Machine, ResId, span};
 use tp_schedule::{Hold, Plan, Record, Schedule, SheetId};
 use tp_telling::label;
 
-/// What the items tell: a schedule, by the moves among these items; plans that none of them moves stand by the item of this
-/// number.
+/// What the items tell: a schedule, by these moves; plans that none of them moves stand by the item from which on there are so
+/// many items, up to the last move.
 #[derive(Clone, Copy)]
 pub(crate) struct Read<'a> {
     pub(crate) moves: &'a [Item],
-    pub(crate) first: usize,
     pub(crate) unmoved: usize,
     pub(crate) after: &'a Schedule,
     pub(crate) now: Tick,
@@ -118,11 +117,11 @@ fn begin_in(
 }
 
 impl Read<'_> {
-    /// The number of the item that tells where the copy's plan stands.
-    fn item_of(&self, sheet: SheetId) -> usize {
+    /// How many items there are from the one on that tells where the copy's plan stands, up to the last move.
+    fn left_from(&self, sheet: SheetId) -> usize {
         match self.after.find(sheet) {
             Some(at) => match move_of(self.moves, self.after.plan_at(at)) {
-                Some(place) => self.first.saturating_add(place),
+                Some(place) => self.moves.len().saturating_sub(place),
                 None => self.unmoved,
             },
             None => self.unmoved,
@@ -130,20 +129,20 @@ impl Read<'_> {
     }
 
     fn later_of(&self, one: SheetId, other: SheetId) -> usize {
-        self.item_of(one).max(self.item_of(other))
+        self.left_from(one).min(self.left_from(other))
     }
 
-    fn stop_at(&self, item: usize, first: i64, second: i64) -> Stop
+    fn stop_at(&self, left: usize, first: i64, second: i64) -> Found
         ensures { result.reason ≡ Illegal first second }
     {
-        Stop {
-            item,
+        Found {
+            left,
             reason: Reason::Illegal { first, second },
         }
     }
 
-    /// The number of the item that tells where the later of two plans stands.
-    fn item_of_parting(&self, parting: &Parting) -> usize {
+    /// The same of the later item of those of two plans.
+    fn left_from_parting(&self, parting: &Parting) -> usize {
         match (parting.stood, parting.stands) {
             (Some(stood), Some(stands)) => self.later_of(stood.sheet, stands.sheet),
             _ => self.unmoved,
@@ -151,7 +150,7 @@ impl Read<'_> {
     }
 
     /// The begins of two holds that stand in another order than before.
-    fn parting(&self, machine: &Machine, parting: &Parting) -> Stop
+    fn parting(&self, machine: &Machine, parting: &Parting) -> Found
         ensures { TellsFault machine.now self.entry.now.now self.entry.now.after.now.plans
             (Order parting.now) result.reason }
     {
@@ -159,28 +158,28 @@ impl Read<'_> {
         let second = begin_in(machine, self.after, parting.stands, parting.resource);
         match first {
             Some(first) => match second {
-                Some(second) => self.stop_at(self.item_of_parting(parting), first, second),
+                Some(second) => self.stop_at(self.left_from_parting(parting), first, second),
                 None => self.due(self.unmoved),
             },
             None => self.due(self.unmoved),
         }
     }
 
-    fn due(&self, item: usize) -> Stop
+    fn due(&self, left: usize) -> Found
         ensures { result.reason ≡ IsDue }
     {
-        Stop {
-            item,
+        Found {
+            left,
             reason: Reason::Due,
         }
     }
 
-    fn clash(&self, machine: &Machine, clash: &Clash) -> Stop
+    fn clash(&self, machine: &Machine, clash: &Clash) -> Found
         ensures { TellsFault machine.now self.entry.now.now self.entry.now.after.now.plans
             (OfClash clash.now) result.reason }
     {
         match clash {
-            Clash::NotTimed { sheet } => self.due(self.item_of(*sheet)),
+            Clash::NotTimed { sheet } => self.due(self.left_from(*sheet)),
             Clash::Overlap {
                 earlier,
                 later,
@@ -205,8 +204,8 @@ impl Read<'_> {
         }
     }
 
-    /// Which item is wrong by the fault, and why.
-    pub(crate) fn stop_of(&self, machine: &Machine, fault: &Fault) -> Stop
+    /// What is wrong by the fault, and from which item on.
+    pub(crate) fn stop_of(&self, machine: &Machine, fault: &Fault) -> Found
         ensures { TellsFault machine.now self.entry.now.now self.entry.now.after.now.plans fault.now
             result.reason }
     {
@@ -219,21 +218,25 @@ impl Read<'_> {
                     stands,
                     ..
                 },
-            ) => self.stop_at(self.item_of(*sheet), i64::from(*stands), i64::from(*stood)),
+            ) => self.stop_at(
+                self.left_from(*sheet),
+                i64::from(*stands),
+                i64::from(*stood),
+            ),
             Fault::Clash(clash) => self.clash(machine, clash),
             Fault::Floor(low) => self.stop_at(
-                self.item_of(low.sheet),
+                self.left_from(low.sheet),
                 i64::from(low.tick),
                 i64::from(self.now) + i64::from(machine.lead),
             ),
             Fault::Horizon(late) => self.stop_at(
-                self.item_of(late.sheet),
+                self.left_from(late.sheet),
                 i64::from(late.tick),
                 i64::from(self.now) + i64::from(machine.window),
             ),
             Fault::Order(parting) => self.parting(machine, parting),
-            Fault::Early(early) => Stop {
-                item: self.item_of(early.sheet),
+            Fault::Early(early) => Found {
+                left: self.left_from(early.sheet),
                 reason: Reason::NotLeast {
                     given: early.given,
                     least: early.earlier,

@@ -11,7 +11,7 @@ ghost use Rattle.tp_told.specs.Telling.{begins_with_move};
 use crate::alone::{find_in_plan, find_unkept};
 use crate::asides::begins_with_move;
 use crate::points::points_of;
-use crate::stop::{Failure, Reason, Stop, Wrong, reason_of};
+use crate::stop::{Failure, Found, Reason, Wrong, reason_of};
 use std::alloc::Global;
 use tp_base::{Memory, Tick};
 use tp_deciding::is_exempt;
@@ -111,8 +111,8 @@ fn take_moves(
         before.now.plans after.new.plans items.now) }
     ensures refused { IfErr result (Denies (DoTellMoves machine.now moving.now.moment
         moving.now.asked before.now.plans items.now)) }
-    ensures why { IfErr result (IfStop (IsBreach ⊥ (HasOffMove machine.now moving.now.moment
-        moving.now.asked before.now.plans items.now))) }
+    ensures why { IfErr result (IfStop (λ left. IsBreach ⊥ (HasOffMove machine.now
+        moving.now.moment moving.now.asked before.now.plans items.now left))) }
 {
     before.ordered();
     let mut taken = 0;
@@ -123,8 +123,8 @@ fn take_moves(
                 match find_in_move(alloc, machine, moving.moment, plan, &points) {
                     Err(_) => return Err(Failure::Memory),
                     Ok(Some(wrong)) => {
-                        return Err(Failure::Stop(Stop {
-                            item: taken,
+                        return Err(Failure::Stop(Found {
+                            left: items.len() - taken,
                             reason: reason_of(wrong),
                         }));
                     }
@@ -155,17 +155,17 @@ pub(crate) fn take_all_moves(
     ensures over { IfOk result (λ taken. IsFalse (begins_with_move (drop taken items.now))) }
     ensures refused { IfErr result (Denies (DoTellMoves machine.now moving.now.moment
         moving.now.asked before.now.plans items.now)) }
-    ensures why { IfErr result (IfStop (IsBreach
-        (IsMoveOver moving.now.asked before.now.plans items.now)
+    ensures why { IfErr result (IfStop (λ left. IsBreach
+        (IsMoveOver moving.now.asked before.now.plans items.now left)
         (HasOffMove machine.now moving.now.moment moving.now.asked before.now.plans
-        items.now))) }
+        items.now left))) }
 {
     match take_moves(alloc, machine, moving, items, before, after) {
         Err(failure) => Err(failure),
         Ok(taken) => {
             if begins_with_move(&items[taken..]) {
-                Err(Failure::Stop(Stop {
-                    item: taken,
+                Err(Failure::Stop(Found {
+                    left: items.len() - taken,
                     reason: Reason::Due,
                 }))
             } else {

@@ -8,6 +8,7 @@ ghost use Rattle.tp_told.specs.Failing.{Denies};
 ghost use Rattle.tp_told.specs.Reasons.{IfStop, IsSettlingReason, IsTimesReason};
 ghost use Rattle.tp_told.specs.Telling.{behind_asides};
 
+use crate::answering::ahead_of;
 use crate::faults::Read;
 use crate::moving::{Moving, take_all_moves};
 use crate::stop::Failure;
@@ -32,7 +33,7 @@ fn check_settled(
     ensures settled { OnOk result (IsSettled machine.now now before.now.plans after.now.plans) }
     ensures refused { IfErr result
         (Denies (IsSettled machine.now now before.now.plans after.now.plans)) }
-    ensures why { IfErr result (IfStop (IsTimesReason (IsSettlingFault machine.now now
+    ensures why { IfErr result (IfStop (λ left. IsTimesReason (IsSettlingFault machine.now now
         before.now.plans after.now.plans) machine.now now None after.now.plans)) }
 {
     match find_unsettled(alloc, machine, now, before, after) {
@@ -40,8 +41,7 @@ fn check_settled(
         Ok(Some(fault)) => {
             let read = Read {
                 moves,
-                first: 0,
-                unmoved: moves.len(),
+                unmoved: 0,
                 after,
                 now,
             };
@@ -83,7 +83,7 @@ pub(crate) fn take_settled(
     };
     match check_settled(alloc, machine, now, schedule, &after, &items[..taken]) {
         Ok(()) => {}
-        Err(failure) => return Err(failure),
+        Err(failure) => return Err(ahead_of(failure, items.len() - taken)),
     }
     *schedule = after;
     Ok(taken)

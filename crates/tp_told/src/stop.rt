@@ -42,11 +42,18 @@ pub struct Stop {
     pub reason: Reason,
 }
 
+/// What is wrong, and how many items there are from the wrong one on.
+#[derive(Clone, Copy)]
+pub(crate) struct Found {
+    pub(crate) left: usize,
+    pub(crate) reason: Reason,
+}
+
 /// Why there is no answer.
 #[derive(Clone, Copy)]
 pub(crate) enum Failure {
     Memory,
-    Stop(Stop),
+    Stop(Found),
 }
 
 impl From<tp_base::Memory> for Failure {

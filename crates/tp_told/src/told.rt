@@ -2,7 +2,7 @@
 ghost use Rattle.std.specs.Prelude.{◌≡◌, ◌≤◌, drop, length};
 ghost use Rattle.tp_schedule.specs.Planning.{HasRisen};
 
-use crate::answering::{behind, take_answer};
+use crate::answering::take_answer;
 use crate::asides::next_from;
 use crate::settling::take_settled;
 use crate::stop::{Failure, Reason, Stop};
@@ -50,10 +50,10 @@ fn count_stop(stops: u64) -> u64
 }
 
 impl Told {
-    ghost use Rattle.std.specs.Prelude.{MatchBool, Some};
+    ghost use Rattle.std.specs.Prelude.{◌-◌, MatchBool};
     ghost use Rattle.tp_schedule.specs.declared.parts.Halt.TheVariants.{Memory as NoMemory};
     ghost use Rattle.tp_told.specs.Failing.{is_stop};
-    ghost use Rattle.tp_told.specs.Reasons.{reason_in};
+    ghost use Rattle.tp_told.specs.Reasons.{IfStop};
     ghost use Rattle.tp_told.specs.Telling.{HasStopped, ahead, behind_asides};
 
     /// A planner for the records and trees behind an event, as the log has them. It takes no memory.
@@ -112,18 +112,22 @@ impl Told {
         self.items
     }
 
-    /// Keeps why there is no answer from the item of this number on, if that isn't want of memory.
-    fn halt(&mut self, failure: Failure, next: usize) -> Halt
+    /// Keeps why there is no answer, if that isn't want of memory.
+    fn halt(&mut self, failure: Failure) -> Halt
         ensures halts { MatchBool (is_stop failure) (HasStopped self.old result self.new)
             ((result ≡ NoMemory) × (self.new ≡ self.old)) }
-        ensures reason { MatchBool (is_stop failure)
-            (Some self.new.stop.reason ≡ reason_in failure) (Unit {0}) }
+        ensures kept { IfStop (λ left reason.
+            (self.new.stop.item ≡ length self.old.items - left)
+            × (self.new.stop.reason ≡ reason)) failure }
     {
-        match behind(failure, next) {
+        match failure {
             Failure::Memory => Halt::Memory,
-            Failure::Stop(stop) => {
+            Failure::Stop(found) => {
                 self.stops = count_stop(self.stops);
-                self.stop = stop;
+                self.stop = Stop {
+                    item: self.items.len().saturating_sub(found.left),
+                    reason: found.reason,
+                };
                 Halt::Stopped
             }
         }
@@ -178,7 +182,7 @@ impl Planner for Told {
                 self.at = next + taken;
                 Ok(reply)
             }
-            Err(failure) => Err(self.halt(failure, next)),
+            Err(failure) => Err(self.halt(failure)),
         }
     }
 
@@ -205,7 +209,7 @@ impl Planner for Told {
                 self.at = next + taken;
                 Ok(())
             }
-            Err(failure) => Err(self.halt(failure, next)),
+            Err(failure) => Err(self.halt(failure)),
         }
     }
 }

@@ -1,13 +1,13 @@
 //! The tree that shows an answer.
-ghost use Rattle.std.specs.Prelude.{◌≡◌, [], ◌∷◌, IfErr, OnOk};
+ghost use Rattle.std.specs.Prelude.{◌≡◌, [], ◌∷◌, length, Some, IfErr, OnOk};
 ghost use Rattle.tp_schedule.specs.Answers.{IsAsked};
 ghost use Rattle.tp_schedule.specs.Legality.{IsLegal};
 ghost use Rattle.tp_trees.specs.Claims.{IsTold};
-ghost use Rattle.tp_told.specs.Failing.{Denies, failure_of};
-ghost use Rattle.tp_told.specs.Reasons.{IfStop, IsTreeReason};
+ghost use Rattle.tp_told.specs.Failing.{Denies, failure_of, is_stop};
+ghost use Rattle.tp_told.specs.Reasons.{IfStop, IsFrom, IsTreeReason, reason_in};
 ghost use Rattle.tp_told.specs.Showing.{BeginsWithTree, IsTreeItem};
 
-use crate::stop::{Failure, Reason, Stop};
+use crate::stop::{Failure, Found, Reason};
 use std::alloc::Global;
 use tp_bound_check::check_bound;
 use tp_log::Item;
@@ -21,9 +21,23 @@ fn failure_of(flaw: TreeFlaw) -> Failure
 {
     match flaw {
         TreeFlaw::Memory => Failure::Memory,
-        _ => Failure::Stop(Stop {
-            item: 0,
+        _ => Failure::Stop(Found {
+            left: 0,
             reason: Reason::Tree(flaw),
+        }),
+    }
+}
+
+/// The same failure, of the first of so many items.
+fn from(failure: Failure, left: usize) -> Failure
+    ensures stops { is_stop result ≡ is_stop failure }
+    ensures from { IfStop (IsFrom left (λ reason. Some reason ≡ reason_in failure)) result }
+{
+    match failure {
+        Failure::Memory => Failure::Memory,
+        Failure::Stop(found) => Failure::Stop(Found {
+            left,
+            reason: found.reason,
         }),
     }
 }
@@ -44,7 +58,7 @@ fn check_item(
         → IsTold machine.now before.now.plans ask.entry.now claim) }
     ensures refused { IfErr result (Denies (IsTreeItem machine.now before.now.plans ask.entry.now
         claim item.now)) }
-    ensures why { IfErr result (IfStop (IsTreeReason machine.now before.now.plans
+    ensures why { IfErr result (IfStop (λ left. IsTreeReason machine.now before.now.plans
         ask.entry.now claim (item.now ∷ []))) }
 {
     flawless_trees_are_bound();
@@ -53,8 +67,8 @@ fn check_item(
             Ok(()) => Ok(()),
             Err(flaw) => Err(failure_of(flaw)),
         },
-        _ => Err(Failure::Stop(Stop {
-            item: 0,
+        _ => Err(Failure::Stop(Found {
+            left: 0,
             reason: Reason::Due,
         })),
     }
@@ -76,16 +90,16 @@ pub(crate) fn take_tree(
         → IsTold machine.now before.now.plans ask.entry.now claim) }
     ensures refused { IfErr result (Denies (BeginsWithTree machine.now before.now.plans
         ask.entry.now claim items.now)) }
-    ensures why { IfErr result (IfStop (IsTreeReason machine.now before.now.plans
-        ask.entry.now claim items.now)) }
+    ensures why { IfErr result (IfStop (IsFrom (length items.now) (IsTreeReason machine.now
+        before.now.plans ask.entry.now claim items.now))) }
 {
     match items {
         [item, ..] => match check_item(alloc, machine, before, ask, claim, item) {
             Ok(()) => Ok(()),
-            Err(failure) => Err(failure),
+            Err(failure) => Err(from(failure, items.len())),
         },
-        [] => Err(Failure::Stop(Stop {
-            item: 0,
+        [] => Err(Failure::Stop(Found {
+            left: 0,
             reason: Reason::Due,
         })),
     }

@@ -9,7 +9,7 @@ use Rattle.tp_trees.specs.declared.claim.Claim.TheVariants.{Earliest}
 use Rattle.tp_answers.specs.Faults.{IsRight}
 use Rattle.tp_told.specs.Answering.{DoTellPlan}
 use Rattle.tp_told.specs.Breaches.{HasOffMove}
-use Rattle.tp_told.specs.Moving.{DoTellMoves, IsMoveOver}
+use Rattle.tp_told.specs.Moving.{DoTellMoves, IsMoveOver, behind_moves}
 use Rattle.tp_told.specs.Showing.{BeginsWithTree}
 use Rattle.tp_told.proofs.MoveSteps.{rest-is}
 use Rattle.tp_told.proofs.PlaceFacts.{few-left, placed, right-too, tells-moves-too, tree-too}
@@ -18,7 +18,7 @@ use Rattle.std.specs.Prelude.{IsFalse, Some}
 use Rattle.std.proofs.Common.{ℤ, inl, inr, refl, ◌++◌}
 use Rattle.std.proofs.lemmas.List.{take-append-drop}
 use Rattle.tp_answers.specs.Faults.{IsAnswerFault, exempt_of}
-use Rattle.tp_told.specs.Reasons.{BeginsWithPlan, IsAskedReason, IsBreach, IsDueInAnswer, IsTimesReason, IsTreeReason}
+use Rattle.tp_told.specs.Reasons.{BeginsWithPlan, IsAskedReason, IsBreach, IsDueInAnswer, IsFrom, IsTimesReason, IsTreeReason}
 use Rattle.tp_told.specs.Telling.{begins_with_tree}
 use Rattle.tp_told.proofs.ReasonFacts.{asked-breach, asked-reason, same-stop, stop-from, tree-reason}
 use Rattle.tp_told.proofs.answering.place_plan.Goals as goal
@@ -29,8 +29,7 @@ returns-in-Err-clause-refused c = λ told only first. (
     let plans = c.args.schedule.now.plans in
     let ask = c.args.ask.now in
     let P = DoTellPlan m plans ask (Note told ∷ c.args.later.now) in
-    denies-like P c.in-Err.failure c.behind.result c.behind.ensures.stops
-    (denies-from (DoTellMoves m ask.now (Some ask.sheet) plans c.args.later.now) P c.in-Err.failure (tells-moves-too m plans ask c.requires.can told c.args.later.now first c.args.plan only) c.in-Err.ensures.refused))
+    denies-from (DoTellMoves m ask.now (Some ask.sheet) plans c.args.later.now) P c.in-Err.failure (tells-moves-too m plans ask c.requires.can told c.args.later.now first c.args.plan only) c.in-Err.ensures.refused)
 
 pub put_plan-requires-clause-few : goal.put_plan-requires-clause-few
 put_plan-requires-clause-few c = λ none. (
@@ -44,9 +43,11 @@ returns-in-Err-check_answer-clause-refused c = λ told only first. (
     let plans = c.args.schedule.now.plans in
     let ask = c.args.ask.now in
     let after = c.put_plan.new.schedule.plans in
-    denies-from (IsRight m plans ask after) (DoTellPlan m plans ask (Note told ∷ c.args.later.now)) c.in-Err-check_answer.failure
+    let P = DoTellPlan m plans ask (Note told ∷ c.args.later.now) in
+    denies-like P c.in-Err-check_answer.failure c.ahead_of.result c.ahead_of.ensures.stops
+    (denies-from (IsRight m plans ask after) P c.in-Err-check_answer.failure
     (right-too m plans ask c.requires.can told c.args.later.now first c.args.plan only c.take_all_moves.new.after.plans c.in-Ok-take_all_moves.taken c.in-Ok-take_all_moves.ensures.moved after c.in-Ok-put_plan.ensures)
-    c.in-Err-check_answer.ensures.refused)
+    c.in-Err-check_answer.ensures.refused))
 
 pub returns-in-Err-take_tree-clause-refused : goal.returns-in-Err-take_tree-clause-refused
 returns-in-Err-take_tree-clause-refused c = λ told only first. (
@@ -60,9 +61,8 @@ returns-in-Err-take_tree-clause-refused c = λ told only first. (
     let T : ℕ → List Item → Type 0 = λ e items. BeginsWithTree m plans ask (Earliest e) items in
     let P = DoTellPlan m plans ask (Note told ∷ later) in
     let too = tree-too m plans ask c.requires.can told later first plan only c.take_all_moves.new.after.plans taken c.in-Ok-take_all_moves.ensures.moved c.put_plan.new.schedule.plans c.in-Ok-put_plan.ensures in
-    denies-like P c.in-Err-take_tree.failure c.behind-in-Err-take_tree.result c.behind-in-Err-take_tree.ensures.stops
-    (denies-from (T c.get.result (take (length later - taken) (drop taken later))) P c.in-Err-take_tree.failure
-    (λ it. subst (T c.get.result) (sym (rest-is later taken)) (subst (λ e. T e (drop taken later)) end (too it))) c.in-Err-take_tree.ensures.refused))
+    denies-from (T c.get.result (take (length later - taken) (drop taken later))) P c.in-Err-take_tree.failure
+    (λ it. subst (T c.get.result) (sym (rest-is later taken)) (subst (λ e. T e (drop taken later)) end (too it))) c.in-Err-take_tree.ensures.refused)
 
 pub returns-clause-told : goal.returns-clause-told
 returns-clause-told c = λ told only first. (
@@ -86,13 +86,12 @@ returns-in-Err-clause-why c = λ told only. (
     let ask = c.args.ask.now in
     let later = c.args.later.now in
     let items = Note told ∷ later in
-    let P : ℤ → ℤ → Type 0 = HasOffMove m ask.now (Some ask.sheet) plans later in
-    let Due = IsMoveOver (Some ask.sheet) plans later in
+    let P : ℕ → ℤ → ℤ → Type 0 = HasOffMove m ask.now (Some ask.sheet) plans later in
     let begins : BeginsWithPlan m plans ask items c.args.plan = record { told = told; later = later; is = refl; only = only } in
-    same-stop (IsAskedReason m plans ask items) c.in-Err.failure c.behind.result c.behind.ensures.reason
-    (stop-from (IsBreach Due P) (IsAskedReason m plans ask items) c.in-Err.failure (asked-breach Due P m plans ask items
+    stop-from (λ n. IsBreach (IsMoveOver (Some ask.sheet) plans later n) (P n)) (IsAskedReason m plans ask items) c.in-Err.failure
+    (λ n. asked-breach (IsMoveOver (Some ask.sheet) plans later n) (P n) m plans ask items n
     (λ over. inr (inl (record { plan = c.args.plan; told = begins; over = over })))
-    (λ a b off. inr (inl (record { plan = c.args.plan; told = begins; off = off })))) c.in-Err.ensures.why))
+    (λ a b off. inr (inl (record { plan = c.args.plan; told = begins; off = off })))) c.in-Err.ensures.why)
 
 pub returns-in-Err-check_answer-clause-why : goal.returns-in-Err-check_answer-clause-why
 returns-in-Err-check_answer-clause-why c = λ told only. (
@@ -101,7 +100,8 @@ returns-in-Err-check_answer-clause-why c = λ told only. (
     let ask = c.args.ask.now in
     let items = Note told ∷ c.args.later.now in
     let after = c.put_plan.new.schedule.plans in
-    stop-from (IsTimesReason (IsAnswerFault m plans ask after) m ask.now (exempt_of ask) after) (IsAskedReason m plans ask items) c.in-Err-check_answer.failure
+    let T = IsTimesReason (IsAnswerFault m plans ask after) m ask.now (exempt_of ask) after in
+    stop-from (λ n. T) (IsAskedReason m plans ask items) c.ahead_of.result
     (asked-reason m plans ask items after (record {
       plan = c.args.plan;
       first = record { told = told; later = c.args.later.now; is = refl; only = only };
@@ -109,7 +109,7 @@ returns-in-Err-check_answer-clause-why c = λ told only. (
       taken = c.in-Ok-take_all_moves.taken;
       moved = c.in-Ok-take_all_moves.ensures.moved;
       placed = c.in-Ok-put_plan.ensures;
-    })) c.in-Err-check_answer.ensures.why)
+    })) (same-stop T c.in-Err-check_answer.failure c.ahead_of.result c.ahead_of.ensures.reason c.in-Err-check_answer.ensures.why))
 
 pub returns-in-Err-take_tree-clause-why : goal.returns-in-Err-take_tree-clause-why
 returns-in-Err-take_tree-clause-why c = λ told only. (
@@ -124,13 +124,14 @@ returns-in-Err-take_tree-clause-why c = λ told only. (
     let behind = take (length later - taken) (drop taken later) in
     let begins : BeginsWithPlan m plans ask items plan = record { told = told; later = later; is = refl; only = only } in
     let moved = c.in-Ok-take_all_moves.ensures.moved in
-    let lacks : IsFalse (begins_with_tree behind) → IsDueInAnswer m plans ask items = λ none. inr (inr (inr (record {
+    let rest : behind ≡ behind_moves (Some ask.sheet) plans later = rest-is later taken ∙ moved.left in
+    let lacks : (n : ℕ) → n ≡ length behind → IsFalse (begins_with_tree behind) → IsDueInAnswer m plans ask items n = λ n from none. inr (inr (inr (record {
       plans' = c.put_plan.new.schedule.plans;
       told = record { plan = plan; first = begins; mid = c.take_all_moves.new.after.plans; taken = taken; moved = moved; placed = c.in-Ok-put_plan.ensures };
       right = c.in-Ok-check_answer.ensures.right;
-      none = subst (λ xs. IsFalse (begins_with_tree xs)) (rest-is later taken ∙ moved.left) none;
+      none = subst (λ xs. IsFalse (begins_with_tree xs)) rest none;
+      from = from ∙ ap length rest;
     }))) in
     let parts : items ≡ (Note told ∷ take taken later) ++ behind = (λ k. Note told ∷ (sym (take-append-drop taken later) ∙ ap (λ xs. take taken later ++ xs) (sym (rest-is later taken))) k) in
-    same-stop (IsAskedReason m plans ask items) c.in-Err-take_tree.failure c.behind-in-Err-take_tree.result c.behind-in-Err-take_tree.ensures.reason
-    (stop-from (IsTreeReason m plans ask (Earliest c.get.result) behind) (IsAskedReason m plans ask items) c.in-Err-take_tree.failure
-    (tree-reason m plans ask (Earliest c.get.result) items (Note told ∷ take taken later) behind (plan, (begins, sym end)) parts lacks) c.in-Err-take_tree.ensures.why))
+    stop-from (IsFrom (length behind) (IsTreeReason m plans ask (Earliest c.get.result) behind)) (IsAskedReason m plans ask items) c.in-Err-take_tree.failure
+    (λ n r h. tree-reason m plans ask (Earliest c.get.result) items (Note told ∷ take taken later) behind (plan, (begins, sym end)) parts n h.0 (lacks n h.0) r h.1) c.in-Err-take_tree.ensures.why)

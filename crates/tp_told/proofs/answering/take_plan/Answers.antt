@@ -1,5 +1,5 @@
 -- A record that tells no plan, or one that breaks a rule by itself, tells no right answer.
-use Rattle.std.proofs.Common.{ℤ, ◌∷◌, inl, inr, refl, subst}
+use Rattle.std.proofs.Common.{ℤ, ◌∷◌, inl, inr, length, refl, rules, subst}
 use Rattle.tp_log.specs.declared.item.Item.TheVariants.{Note}
 use Rattle.tp_told.specs.Answering.{DoTellPlan}
 use Rattle.tp_told.specs.Breaches.{IsOffByItself, TellsUnfit}
@@ -33,8 +33,8 @@ returns-in-Err-clause-why c =
     let items = Note told ∷ c.args.later.now in
     let P : ℤ → ℤ → Type 0 = TellsUnfit plans ask told in
     let Due = TellsNoForm m plans ask told in
-    wrong-stop Due P (IsAskedReason m plans ask items) c.in-Err.wrong c.wrong_plan.result c.wrong_plan.ensures.reason
-    (asked-breach Due P m plans ask items (λ none. inl (inl (no-answer m plans ask told c.args.later.now (no-plan m plans ask told c.requires.plan none)))) (λ a b unfit. inl (inl (record { told = told; later = c.args.later.now; is = refl; unfit = unfit })))) c.in-Err.ensures.why
+    wrong-stop Due P (IsAskedReason m plans ask items) c.in-Err.wrong (length items) c.wrong_plan.result (search rules)
+    (asked-breach Due P m plans ask items (length items) (λ none. inl (inl (refl, no-answer m plans ask told c.args.later.now (no-plan m plans ask told c.requires.plan none)))) (λ a b unfit. inl (refl, inl (record { told = told; later = c.args.later.now; is = refl; unfit = unfit })))) c.in-Err.ensures.why
 
 pub returns-in-Ok-Some-clause-why : goal.returns-in-Ok-Some-clause-why
 returns-in-Ok-Some-clause-why c =
@@ -45,12 +45,15 @@ returns-in-Ok-Some-clause-why c =
     let later = c.args.later.now in
     let items = Note told ∷ later in
     let P : ℤ → ℤ → Type 0 = IsOffByItself m ask.now c.exempt_of.result c.in-Ok.plan in
-    wrong-stop ⊥ P (IsAskedReason m plans ask items) c.in-Ok-Some.wrong c.wrong_plan-in-Ok-Some.result c.wrong_plan-in-Ok-Some.ensures.reason
-    (asked-breach ⊥ P m plans ask items (λ none. absurd none) (λ a b off. inl (inr (record {
-      plan = c.in-Ok.plan;
-      told = record { told = told; later = later; is = refl; only = c.in-Ok.ensures.told };
-      off = subst (λ e. IsOffByItself m ask.now e c.in-Ok.plan a b) c.exempt_of.ensures off;
-    })))) (rw c.in-Ok-Some.field-0-is at c.in-Ok-Some.ensures.why)
+    wrong-stop ⊥ P (IsAskedReason m plans ask items) c.in-Ok-Some.wrong (length items) c.wrong_plan-in-Ok-Some.result (search rules)
+    (asked-breach ⊥ P m plans ask items (length items) (λ none. absurd none) (λ a b off. inl (
+      refl,
+      inr (record {
+        plan = c.in-Ok.plan;
+        told = record { told = told; later = later; is = refl; only = c.in-Ok.ensures.told };
+        off = subst (λ e. IsOffByItself m ask.now e c.in-Ok.plan a b) c.exempt_of.ensures off;
+      }),
+    ))) (rw c.in-Ok-Some.field-0-is at c.in-Ok-Some.ensures.why)
 
 pub returns-in-Err-place_plan-clause-why : goal.returns-in-Err-place_plan-clause-why
 returns-in-Err-place_plan-clause-why c = c.in-Err-place_plan.ensures.why c.args.told.now c.in-Ok.ensures.told

@@ -1,6 +1,7 @@
 -- The plans are gone through one by one, each with the item that moves it, if one does.
 use Rattle.std.proofs.Common.{◌≡◌, ℕ, ℤ, Some, ◌+◌, ◌-◌, List, drop, length, take, arith, ap, subst, sym}
 use Rattle.std.specs.Prelude.{IsSomeAnd}
+use Rattle.std.proofs.lemmas.List.{length-drop}
 use Rattle.tp_schedule.specs.Timetables.{Timetable}
 use Rattle.tp_schedule.specs.declared.parts.Plan.{Plan}
 use Rattle.tp_schedule.specs.Plans.{with_points}
@@ -38,13 +39,15 @@ returns-in-Ok-Some-clause-why c =
     let items = c.args.items.now in
     let p = c.plan_at-plan.result.now in
     let points = c.in-Some.points in
-    let P : ℤ → ℤ → Type 0 = HasOffMove m now asked before items in
+    let left = length items - c.plans.taken in
+    let P : ℤ → ℤ → Type 0 = HasOffMove m now asked before items left in
     subst (IsBreach ⊥ P) (sym c.reason_of.ensures) (off-by ⊥ ⊥ (IsOffMove m now p (with_points points p)) P (λ none. none) (λ a b off. record {
       plan = p;
       planned = contains-get before c.plans.at p c.plan_at-plan.ensures.plan;
       place = c.plans.taken;
       points = points;
       told = subst (λ xs. points_for asked p xs ≡ Some points) (rest-is items c.plans.taken) (sym c.in-Some.ensures);
+      from = sym (length-drop c.plans.taken items);
       off = off;
     }) c.in-Ok-Some.wrong (rw c.in-Ok-Some.field-0-is at c.in-Ok-Some.ensures.why))
 

@@ -28,4 +28,4 @@ returns-in-Err-clause-why c =
     let plans = c.args.before.now.plans in
     let ask = c.args.ask.now in
     let is : c.args.item.now ≡ TreeItem c.in-Tree.tree = let e = c.in-Tree.is in cc in
-    subst (IfStop (IsTreeReason m plans ask c.args.claim (c.args.item.now ∷ []))) (sym c.failure_of.ensures) (flaw-reason m plans ask c.args.claim c.args.item.now c.in-Tree.tree c.in-Err.flaw is c.in-Err.ensures.flaw)
+    subst (IfStop (λ n. IsTreeReason m plans ask c.args.claim (c.args.item.now ∷ []))) (sym c.failure_of.ensures) (flaw-reason m plans ask c.args.claim c.args.item.now c.in-Tree.tree c.in-Err.flaw is c.in-Err.ensures.flaw)

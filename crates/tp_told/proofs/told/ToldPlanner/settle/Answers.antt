@@ -1,5 +1,5 @@
 -- What is taken from the first item that is no aside on is taken of the items to come.
-use Rattle.std.proofs.Common.{◌≡◌, ◌+◌, ◌-◌, ◌∙◌, List, drop, length, take, ap, subst, sym}
+use Rattle.std.proofs.Common.{◌≡◌, ℕ, ◌+◌, ◌-◌, ◌∙◌, List, drop, length, take, ap, subst, sym}
 use Rattle.tp_log.specs.declared.item.Item.{Item}
 use Rattle.tp_told.specs.Answering.{DoTellSettled, TakesSettled}
 use Rattle.tp_schedule.specs.declared.parts.Halt.TheVariants.{Stopped}
@@ -39,7 +39,7 @@ returns-in-Err-clause-stopped c = λ e. (
     let P : List Item → Type 0 = λ xs. DoTellSettled m plans c.args.now xs in
     let halts : c.halt.result ≡ Stopped = cc in
     let both = halted (P (take (length c.deref.result.now - next) (drop next c.deref.result.now))) c.in-Err.failure c.args.self.now c.halt.result c.halt.new.self c.halt.ensures.halts halts c.in-Err.ensures.refused in
-    let R : List Item → Reason → Type 0 = λ xs r. IsSettlingReason m plans c.args.now xs r in
-    let why = kept-reason (R (take (length c.deref.result.now - next) (drop next c.deref.result.now))) c.in-Err.failure c.halt.new.self.stop c.args.self.now c.halt.result c.halt.new.self c.halt.ensures.halts halts c.halt.ensures.reason c.in-Err.ensures.why in
+    let R : List Item → ℕ → Reason → Type 0 = λ xs n r. IsSettlingReason m plans c.args.now xs n r in
+    let why = kept-reason (R (take (length c.deref.result.now - next) (drop next c.deref.result.now))) c.in-Err.failure c.halt.new.self.stop c.args.self.now c.halt.result c.halt.new.self (length c.args.self.now.items) c.halt.ensures.halts halts c.halt.ensures.kept c.in-Err.ensures.why in
     let stopped : HasStopped c.args.self.now c.halt.result c.halt.new.self = both.1 in
-    stops-settled m plans c.args.self.now next c.next-next.ensures.items c.next-next.ensures.further c.args.now c.halt.result c.halt.new.self (subst (λ xs. P xs → ⊥) path both.0) (subst (λ xs. R xs c.halt.new.self.stop.reason) path why) stopped)
+    stops-settled m plans c.args.self.now next c.next-next.ensures.items c.next-next.ensures.further c.args.now c.halt.result c.halt.new.self (subst (λ xs. P xs → ⊥) path both.0) (why.0, why.1, subst (λ xs. R xs why.0 c.halt.new.self.stop.reason) path why.2) stopped)
