@@ -1,3 +1,4 @@
+//! Chains of many points, on each network.
 ghost use Rattle.std.specs.Prelude.{◌≡◌, ℕ, ◌+◌, ◌<◌, ◌≤◌, [], length};
 ghost use Rattle.tp_base.specs.Net.{empty_net};
 

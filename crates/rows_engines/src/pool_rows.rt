@@ -1,3 +1,4 @@
+//! The pool of lists and its queue by bound.
 use std::alloc::Global;
 use std::test::Fail;
 use tp_base::Full;

@@ -1,3 +1,4 @@
+//! Orders of holds: numbers put in, looked up and taken back.
 use std::test::Fail;
 use tp_base::{Full, Undo};
 use tp_machine::ResId;

@@ -1,3 +1,4 @@
+//! The trail, which is full at its capacity.
 use std::test::Fail;
 use tp_base::{Full, Trail, proofs_refute};
 

@@ -1,3 +1,5 @@
+//! Points and edges of a network, and what a refusal shows.
+
 /// The number of a point, counted from 0 in the order in which points were added.
 #[derive(Clone, Copy, PartialEq, Eq, Debug)]
 pub struct PointId(pub u32);

@@ -1,3 +1,4 @@
+//! What a network knows of an edge that is asked for.
 use crate::edges::PointId;
 
 /// What is kept of a refusal, beside its edges.

@@ -1,3 +1,4 @@
+//! Networks of difference constraints, as a trait.
 ghost use Rattle.std.specs.Prelude.{◌≡◌, ℕ, ◌+◌, ◌<◌, ◌≤◌, ◌≤ℤ◌, pos, negsuc, ◌↔◌, [], length, slice_index, All, OnOk, OnErr, IfOk, IsErr};
 ghost use Rattle.tp_base.specs.Grows.{IsKnown};
 ghost use Rattle.tp_base.specs.Net.{Net, HasLeast, HasNoSolution, IsEarliest, IsLeast, IsSolution, empty_net, with_bounds_at, with_edge, with_edges, with_low, with_point};

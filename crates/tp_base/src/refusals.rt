@@ -1,3 +1,5 @@
+//! Errors that say nothing but what they are: a full place, and a time that is too late.
+
 /// The stated number is there already, so there is no place for one more.
 #[derive(Clone, Copy, PartialEq, Eq, Debug)]
 pub struct Full;

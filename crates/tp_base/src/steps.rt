@@ -1,3 +1,4 @@
+//! One step of a relaxation: an edge raises the time of its end.
 ghost use Rattle.std.specs.Prelude.{◌≡◌, ◌<◌, length, slice_index, Ok, true, false, OnOk, IfErr};
 ghost use Rattle.std.specs.List.{Contains};
 ghost use Rattle.tp_base.specs.Net.{Keeps};

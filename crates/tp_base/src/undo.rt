@@ -1,3 +1,4 @@
+//! What can go back to a mark, as a trait.
 ghost use Rattle.std.specs.Prelude.{◌≡◌, ℕ, ◌+◌, ◌<◌, ◌≤◌, List, [], ◌∷◌, ◌++◌, length, take, slice_get, Some};
 
 /// The number of a mark in force, counted from the oldest.

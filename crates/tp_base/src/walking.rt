@@ -1,3 +1,4 @@
+//! The way back along causes, from a point to where its time comes from.
 ghost use Rattle.std.specs.Prelude.{◌≡◌, ℕ, ◌<◌, ◌≤◌, length, IfSome, IfNone, vec_capacity};
 ghost use Rattle.tp_base.specs.Refute.{AreCauses, IsCauseChain, IsCauseCircle};
 

@@ -1,3 +1,4 @@
+//! The check of a bound tree: its rows first, then its nodes.
 ghost use Rattle.std.specs.Prelude.{◌≡◌, IfOk, IfErr, OnOk, None, List};
 ghost use Rattle.tp_schedule.specs.Answers.{IsAsked};
 ghost use Rattle.tp_schedule.specs.Legality.{IsLegal};

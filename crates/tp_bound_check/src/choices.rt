@@ -1,3 +1,4 @@
+//! The choices of a branch, in place.
 ghost use Rattle.std.specs.Prelude.{◌≡◌, ◌+◌, ◌<◌, ◌≤◌, ◌-◌, [], ◌∷◌, ◌++◌, length, slice_get, Some, set, IfOk, map, take, reverse};
 ghost use Rattle.tp_bound_check.specs.Branches.{IsRaw, choice_by, newest_in, with_one};
 ghost use Rattle.tp_constraints.specs.Suffixes.{place_first};

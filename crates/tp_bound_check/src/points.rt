@@ -1,3 +1,4 @@
+//! Points, places and gaps, as a hop speaks of them.
 ghost use Rattle.std.specs.Prelude.{◌≡◌};
 ghost use Rattle.tp_constraints.specs.Numbers.{is_same_spot};
 ghost use Rattle.tp_schedule.specs.Spots.Spot.{kept, own};

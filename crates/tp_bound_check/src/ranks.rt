@@ -1,3 +1,4 @@
+//! How many holds of its resource stand before each hold.
 ghost use Rattle.std.specs.Prelude.{◌≡◌, ◌≢◌, ℕ, ◌<◌, get_or};
 ghost use Rattle.tp_bound_check.specs.Ranks as specs;
 

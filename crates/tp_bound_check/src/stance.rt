@@ -1,3 +1,4 @@
+//! Where an own hold stands among the kept ones.
 use crate::points::Slot;
 
 /// An own hold among the kept ones of its resource: so many are before it, and those from `hi` on

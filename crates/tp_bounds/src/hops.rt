@@ -1,3 +1,4 @@
+//! The hops of a closed node: steps from point to point, each for one constraint.
 ghost use Rattle.std.specs.Prelude.{◌≡◌, ◌<◌, [], ◌∷◌, ◌++◌, length, slice_get, Some, OnOk, OnErr};
 
 use std::alloc::Global;

@@ -1,3 +1,4 @@
+//! Bound trees as values: a row for each room, and nodes.
 use crate::hops::{Hops, TreePoint};
 use crate::lists::{Nodes, TreeRows};
 use tp_base::Name;

@@ -1,3 +1,4 @@
+//! The trays whose lines are passed over.
 ghost use Rattle.std.specs.Prelude.{◌≡◌, ◌<◌, ◌||◌, ◌==◌, false};
 ghost use Rattle.tp_machine.specs.declared.parts.LocId.{LocId};
 ghost use Rattle.tp_jobs.specs.Trying.{is_blocked};

@@ -1,3 +1,4 @@
+//! The lines: the jobs that came, and the copies that wait.
 ghost use Rattle.std.specs.Prelude.{◌≡◌, ◌≢◌, ◌+◌, ◌<◌, ◌^◌, length, slice_get, option_map, Some, None, IsSome, IsSomeAnd, IfSome, IfOk, IfErr, OnOk, OnErr};
 ghost use Rattle.tp_jobs.specs.Backlogs.{mark_broken, next_copy};
 ghost use Rattle.tp_jobs.specs.Refusing.{job_fault, refusal_in, tray_named};

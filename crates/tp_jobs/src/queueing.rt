@@ -1,3 +1,4 @@
+//! Looking for copies among those that wait.
 ghost use Rattle.std.specs.Prelude.{◌≡◌, ◌<◌, ◌≤◌, length, slice_get, remove, find, option_map, Some, All, AllPairs, IsSome};
 ghost use Rattle.std.specs.List.{position_or_len};
 ghost use Rattle.tp_schedule.specs.Plans.{is_before};

@@ -1,3 +1,4 @@
+//! Why a text is no log.
 ghost use Rattle.std.specs.Prelude.{◌≡◌};
 ghost use Rattle.tp_log.specs.declared.fault.LogFault.TheVariants.{Memory};
 

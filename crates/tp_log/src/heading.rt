@@ -1,3 +1,4 @@
+//! The words that records begin with.
 ghost use Rattle.std.specs.Prelude.{◌≡◌};
 ghost use Rattle.tp_log.specs.Headings.{heading_text, heading_of};
 

@@ -1,3 +1,4 @@
+//! One item of a log: an event, a record or a bound tree.
 use tp_bounds::BoundTree;
 use tp_schedule::Record;
 use tp_script::Event;

@@ -1,3 +1,4 @@
+//! Why a job was refused, as one word.
 ghost use Rattle.std.specs.Prelude.{◌≡◌};
 ghost use Rattle.tp_log.specs.Headings.{reason_text, reason_of};
 

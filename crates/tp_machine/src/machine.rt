@@ -1,3 +1,4 @@
+//! Machines.
 ghost use Rattle.std.specs.Prelude.{IsTrue};
 ghost use Rattle.tp_machine.specs.Rules.{are_named, are_numbers, are_counts, are_trays, are_purges, are_feeders, are_resources, are_amounts, do_actions_differ, are_ways, have_durations, have_few_holds, have_holds};
 

@@ -1,3 +1,4 @@
+//! The mode of a hold, and the gap between two holds of one resource.
 ghost use Rattle.std.specs.Prelude.{◌≡◌, ◌≤◌, slice_get};
 ghost use Rattle.tp_machine.specs.Modes.{mode_of, gap_of, gap_at, gap_between};
 

@@ -1,3 +1,4 @@
+//! An action and its holds, taken from a table that keeps the rules.
 ghost use Rattle.std.specs.Prelude.{◌≡◌, ◌≤◌, ◌≤ℤ◌, pos, negsuc, true, IsTrue, IfOk, length, map, option_map, codes};
 ghost use Rattle.std.specs.List.{list_all};
 ghost use Rattle.toml.specs.Data.{get};

@@ -1,3 +1,4 @@
+//! The rules of gaps and stocks.
 ghost use Rattle.std.specs.Prelude.{◌≡◌, ◌||◌, not, is_some, pos, option_map, string_bytes};
 ghost use Rattle.std.specs.List.{list_all};
 ghost use Rattle.std.specs.BTreeMap.{keys, values};

@@ -1,3 +1,4 @@
+//! Numbers and names, taken from a table that keeps the rules.
 ghost use Rattle.std.specs.Prelude.{◌≡◌, ◌≤◌, ◌<◌, ◌++◌, ◌∷◌, [], false, OnOk, IsTrue, IfOk, length, map, option_map, string_bytes, pos};
 ghost use Rattle.std.specs.List.{list_all};
 ghost use Rattle.toml.specs.Data.{get_member};

@@ -1,3 +1,4 @@
+//! The rules of the holds of an action.
 ghost use Rattle.std.specs.Prelude.{◌≡◌, pos, map, option_map, string_bytes, codes};
 ghost use Rattle.std.specs.List.{list_all};
 ghost use Rattle.std.specs.BTreeMap.{keys};

@@ -1,3 +1,4 @@
+//! Looking into a table of TOML: its values, and whether they are of a kind.
 ghost use Rattle.std.specs.Prelude.{◌≡◌, ℤ, map, option_map, string_bytes, length, nat_le};
 ghost use Rattle.std.specs.List.{list_all, list_any};
 ghost use Rattle.std.specs.Str.{bytes_eq};

@@ -1,3 +1,4 @@
+//! The machine of a table that keeps the rules.
 ghost use Rattle.std.specs.Prelude.{IsTrue, IfOk, ◌≡◌, map, codes};
 ghost use Rattle.toml.specs.View.{table_view};
 ghost use Rattle.tp_machine.specs.Rules.{do_names_rise};

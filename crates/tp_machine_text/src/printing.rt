@@ -1,3 +1,4 @@
+//! A machine as a machine text.
 ghost use Rattle.std.specs.Prelude.{◌≡◌, IfOk, IsUtf8, string_bytes};
 ghost use Rattle.tp_machine_text.specs.Texts.{IsMachineText};
 

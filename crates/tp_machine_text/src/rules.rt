@@ -1,3 +1,4 @@
+//! The rules in their order, and the first broken one.
 ghost use Rattle.std.specs.Prelude.{◌≡◌};
 ghost use Rattle.toml.specs.View.{table_view};
 ghost use Rattle.tp_machine_text.specs.Broken.{first_broken};

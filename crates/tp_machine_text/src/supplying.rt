@@ -1,3 +1,4 @@
+//! Feeders, stocks and gaps, taken from a table that keeps the rules.
 ghost use Rattle.std.specs.Prelude.{◌≡◌, ◌≤◌, pos, true, IsTrue, IfOk, length, map, option_map};
 ghost use Rattle.std.specs.List.{list_all};
 ghost use Rattle.toml.specs.Data.{get_member};

@@ -1,3 +1,4 @@
+//! The table of a machine.
 ghost use Rattle.std.specs.Prelude.{◌≡◌, ◌<◌, ◌≤◌, true, IfOk, OnOk, length, map, codes, pos};
 ghost use Rattle.std.specs.List.{list_all};
 ghost use Rattle.toml.specs.Data.{string, integer, boolean, array, table as table_data};

@@ -1,3 +1,4 @@
+//! Machine texts, read: a machine, or the first rule that is broken.
 ghost use Rattle.std.specs.Prelude.{◌≡◌, ℕ, Some, None, IfOk, IfErr};
 ghost use Rattle.toml.specs.View.{table_view};
 ghost use Rattle.tp_machine_text.specs.Broken.{first_broken};

@@ -1,3 +1,4 @@
+//! Boards: a schedule as a network with timelines, and the choices for one sheet.
 use crate::causes::Causes;
 use crate::parts::{Begin, BoardMark, Held, MadeFor, Step};
 use std::marker::Model;

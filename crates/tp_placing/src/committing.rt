@@ -1,3 +1,4 @@
+//! The plan on a board, written into the schedule.
 ghost use Rattle.std.specs.Prelude.{◌≡◌, ◌+◌, ◌<◌, ◌≤◌, IsSome, IsSomeAnd, None};
 ghost use Rattle.tp_schedule.specs.Answers.{IsAlternative, IsLeast, follows_front};
 ghost use Rattle.tp_schedule.specs.Plans.{end_of_plan, plan_of};

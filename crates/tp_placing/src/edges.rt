@@ -1,3 +1,4 @@
+//! The edges between two holds, and between ends in a line.
 ghost use Rattle.std.specs.Prelude.{◌≡◌, ◌+◌, ◌<◌, ◌+ℤ◌, ◌-ℤ◌, pos, min};
 ghost use Rattle.tp_machine.specs.Machines.{IsOffset};
 ghost use Rattle.tp_machine.specs.Modes.{gap_between};

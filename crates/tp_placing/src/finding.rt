@@ -1,3 +1,4 @@
+//! Which point of the network a point of a plan is.
 ghost use Rattle.std.specs.Prelude.{◌≡◌, ◌^◌, ◌<◌, ◌≤◌, length, position, slice_get, Some, IfSome, IsSomeAnd};
 ghost use Rattle.tp_schedule.specs.Plans.{plan_of};
 ghost use Rattle.tp_schedule.specs.Spots.Spot.{kept};

@@ -1,3 +1,4 @@
+//! The laws of boards. The calls do nothing: their contracts are the laws.
 ghost use Rattle.tp_placing.specs.Laws.{AsideKeepsEndReasons, AsideKeepsReasons, AsideKeepsReasonsUpTo, MarkKeeps, TablesAreNumbered, UndoKeeps};
 
 use tp_base::Network;

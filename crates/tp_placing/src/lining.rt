@@ -1,3 +1,4 @@
+//! The two plans next to an ask in its line.
 ghost use Rattle.std.specs.Prelude.{◌≡◌, ◌+◌, ◌^◌, ◌<◌, ◌≤◌, ◌++◌, length, vec_len, vec_capacity};
 ghost use Rattle.tp_schedule.specs.Plans.{is_before};
 ghost use Rattle.tp_constraints.specs.Gaps.{is_in_line};

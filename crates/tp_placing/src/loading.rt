@@ -1,3 +1,4 @@
+//! A schedule and an ask, laid out on a board.
 ghost use Rattle.std.specs.Prelude.{◌≡◌, ◌+◌, ◌<◌, ◌^◌, [], filter, Some};
 ghost use Rattle.tp_schedule.specs.Choices.{start_floor};
 ghost use Rattle.tp_schedule.specs.Living.{is_live};

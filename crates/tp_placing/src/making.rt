@@ -1,3 +1,4 @@
+//! A new board, with capacity for all that a machine can bring.
 ghost use Rattle.std.specs.Prelude.{◌≡◌, ◌≤◌, [], None, IfOk};
 ghost use Rattle.tp_placing.specs.Boards.{past_of};
 ghost use Rattle.tp_placing.specs.Inside.{most_points, most_edges};

@@ -1,3 +1,4 @@
+//! The holds next to a place of an order.
 ghost use Rattle.std.specs.Prelude.{◌≡◌, ◌+◌, ◌^◌, ◌<◌, ◌≤◌, All, length, slice_get, vec_capacity};
 ghost use Rattle.tp_timelines.specs.Orders.{order_on};
 ghost use Rattle.tp_placing.specs.Causes.{causes_around, step_causes};

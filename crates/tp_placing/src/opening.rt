@@ -1,3 +1,4 @@
+//! The steps of a choice list on a board: a goal, an action, a place for a hold, the stop.
 ghost use Rattle.std.specs.Prelude.{◌≡◌, ℕ, ◌<◌, length, IsSomeAnd, IsFalse, OnOk, OnErr, Some, None};
 ghost use Rattle.tp_machine.specs.declared.machine.Machine.{Machine};
 ghost use Rattle.tp_constraints.specs.Suffixes.{IsInFlight, with_action, with_goal, with_place, with_stop};

@@ -1,3 +1,4 @@
+//! What a board was made for, and what it changed.
 use tp_base::{PointId, Tick};
 use tp_machine::{ActId, HoldRule};
 

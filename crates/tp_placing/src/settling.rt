@@ -1,3 +1,4 @@
+//! The least times of a schedule without an ask.
 ghost use Rattle.std.specs.Prelude.{◌≡◌, [], None};
 ghost use Rattle.tp_schedule.specs.Planning.{CanSettle, IsSettled};
 ghost use Rattle.tp_placing.specs.Boards.{past_of};

@@ -1,3 +1,4 @@
+//! Boards go back to a mark.
 use crate::board::Board;
 use crate::parts::BoardMark;
 use tp_base::{Mark, Network, Undo};

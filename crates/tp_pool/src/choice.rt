@@ -1,3 +1,4 @@
+//! One choice, as the pool stores it.
 use tp_base::Tick;
 use tp_machine::{ActId, State};
 

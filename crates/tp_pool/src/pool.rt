@@ -1,3 +1,4 @@
+//! Choice lists that share their tails.
 ghost use Rattle.std.specs.Prelude.{◌≡◌, ◌+◌, ◌<◌, ◌^◌, ◌≤◌, ◌↔◌, [], ◌∷◌, ◌++◌, length, Some, IfOk, IsErr, OnOk, OnErr};
 ghost use Rattle.tp_pool.specs.Entries.{choices_of, bound_of, choices_before, choice_made, IsParentOf};
 ghost use Rattle.tp_pool.specs.Nodes.{entries_of, AreNodes};

@@ -1,3 +1,4 @@
+//! The rooms, found state by state from the start states on.
 ghost use Rattle.std.specs.Prelude.{◌≡◌, ℕ, ◌+◌, ◌*◌, ◌<◌, ◌≤◌, [], Some, None, IsTrue, IfSome, length, vec_capacity};
 ghost use Rattle.tp_machine.specs.Using.{action_at};
 ghost use Rattle.tp_schedule.specs.Routes.{IsStart, is_act_allowed};

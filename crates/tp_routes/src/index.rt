@@ -1,3 +1,4 @@
+//! The actions by the location that they start from.
 ghost use Rattle.std.specs.Prelude.{◌≡◌, ◌<◌, ◌≤◌, None, length, replicate, slice_get, IfOk, IfSome};
 ghost use Rattle.tp_routes.specs.Index.{AreIndexed, IsIndexOf};
 

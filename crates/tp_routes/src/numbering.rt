@@ -1,3 +1,4 @@
+//! A number for each state of a sheet.
 ghost use Rattle.std.specs.Prelude.{◌≡◌, ◌<◌, ◌≤◌, ◌*◌, ◌+◌};
 ghost use Rattle.tp_routes.specs.Numbers.{number_of, state_at, side_bit, done_bit};
 

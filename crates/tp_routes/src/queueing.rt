@@ -1,3 +1,4 @@
+//! The states that wait to be gone on from, by their rooms.
 ghost use Rattle.std.specs.Prelude.{◌≡◌, ℕ, ◌+◌, ◌<◌, ◌≤◌, length, false, IsTrue, vec_capacity};
 ghost use Rattle.tp_routes.specs.Tables.{sum_at};
 ghost use Rattle.tp_routes.specs.Filling.{is_lower, lowered, without_number, Waits, IsQueue};

@@ -1,3 +1,4 @@
+//! The table of rooms: for each state the least time that any way to it takes.
 ghost use Rattle.std.specs.Prelude.{◌≡◌, ◌+◌, ◌*◌, ◌<◌, ◌≤◌, None, length, replicate, vec_capacity, IfOk};
 ghost use Rattle.tp_routes.specs.Index.{IsIndexOf};
 ghost use Rattle.tp_routes.specs.Numbers.{number_of};

@@ -1,3 +1,4 @@
+//! The start states of an ask.
 ghost use Rattle.std.specs.Prelude.{◌≡◌, ℕ, ◌*◌, ◌<◌, ◌≤◌, None, length, replicate, vec_capacity, [], slice_get, Some, ◌↔◌, IsTrue, IsFalse};
 ghost use Rattle.tp_schedule.specs.LocationSets.{has};
 ghost use Rattle.tp_routes.specs.Tables.{IsKnownOrigin};

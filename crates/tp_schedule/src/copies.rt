@@ -1,3 +1,4 @@
+//! The order of copies, and a copy looked up among plans.
 ghost use Rattle.std.specs.Prelude.{◌≡◌, ◌<◌, length, position, unwrap_or, vec_len, vec_capacity, IfSome, IsSome, Some};
 ghost use Rattle.tp_schedule.specs.Plans.{change_plan, is_before, is_same_copy, plan_of};
 

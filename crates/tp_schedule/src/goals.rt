@@ -1,3 +1,4 @@
+//! The goal states of an ask.
 ghost use Rattle.std.specs.Prelude.{◌≡◌, ◌↔◌, Contains, IsTrue};
 ghost use Rattle.tp_schedule.specs.Routes.{IsGoalState, finished, is_wanted};
 

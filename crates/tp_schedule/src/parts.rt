@@ -1,3 +1,4 @@
+//! Copies, goals, plans, asks and outages.
 ghost use Rattle.std.specs.Prelude.{◌≡◌};
 
 use crate::series::{Acts, Points};

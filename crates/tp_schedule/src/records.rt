@@ -1,3 +1,4 @@
+//! What a log tells of an event.
 use tp_base::{Items, Name, Tick};
 
 /// A copy by the name of its job.

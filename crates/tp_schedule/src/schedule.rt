@@ -1,3 +1,4 @@
+//! Schedules: the live plans, in the order of their copies.
 ghost use Rattle.std.specs.Prelude.{◌≡◌, ◌+◌, ◌^◌, ◌<◌, ◌≤◌, ◌↔◌, [], length, filter, set, slice_get, Some, None, IsTrue, IsSome, IsSomeAnd, OnOk, IfOk, position};
 
 use crate::copies::{copy_place, place_of, plan_in, write_plan};

@@ -1,3 +1,4 @@
+//! The actions and the points of a plan, in place: at most 64 and 65.
 ghost use Rattle.std.specs.Prelude.{◌≡◌, ◌<◌, ◌≤◌, [], ◌∷◌, ◌++◌, length, take, slice_get, Some};
 
 use std::marker::Model;

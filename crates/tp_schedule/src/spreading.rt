@@ -1,3 +1,4 @@
+//! Outages that spread: which modes a resource is held in over a stretch of time.
 ghost use Rattle.std.specs.Prelude.{◌≡◌, ℕ, ◌↔◌, IsTrue};
 ghost use Rattle.tp_machine.specs.Using.{action_at};
 ghost use Rattle.tp_schedule.specs.declared.parts.SheetId.{SheetId};

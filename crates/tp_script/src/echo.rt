@@ -1,3 +1,4 @@
+//! An event read back from its echo.
 ghost use Rattle.std.specs.Prelude.{◌+◌, ◌<◌, ◌^◌, length};
 ghost use Rattle.tp_script.specs.Printed.{Echoes};
 

@@ -1,3 +1,4 @@
+//! Events, and the groups of sheets of a job.
 use std::marker::Model;
 use tp_base::{Items, Name};
 use tp_machine::{Face, Want};

@@ -1,3 +1,4 @@
+//! Events as lines.
 ghost use Rattle.std.specs.Prelude.{◌≡◌, ◌++◌, ◌∷◌, OnOk, OnErr, map};
 ghost use Rattle.std.specs.List.{flat_map};
 ghost use Rattle.tp_script.specs.Script.{group_text, event_text};

@@ -1,3 +1,4 @@
+//! Lines as events.
 ghost use Rattle.std.specs.Prelude.{◌≡◌, ◌↔◌, ◌≤◌, ◌+◌, ◌<◌, ◌^◌, ◌++◌, ℕ, IsTrue, IsNone, IsErrOf, IfOk, IfSome, OnOk, length, option_map, Ok, None, Some};
 ghost use Rattle.tp_words.specs.Parts.{shown};
 ghost use Rattle.tp_script.specs.Script.{is_passed, bare, ends_with_byte, words_of_line, Reads};

@@ -1,3 +1,4 @@
+//! The two sides of a hold in the order of its resource.
 ghost use Rattle.std.specs.Prelude.{◌≡◌, ◌⊎◌, true};
 ghost use Rattle.tp_showing.specs.Ranges.{IsFree, NoHop, is_own_hold, leads};
 

@@ -1,3 +1,5 @@
+//! Why a text is no snapshot.
+
 /// Why bytes are no snapshot.
 #[derive(Clone, Copy, PartialEq, Eq, Debug)]
 pub enum SnapFault {

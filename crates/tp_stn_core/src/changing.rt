@@ -1,3 +1,4 @@
+//! The plain network as a network.
 use crate::plain_net::PlainNet;
 use crate::saving::save;
 use crate::solving::solve;

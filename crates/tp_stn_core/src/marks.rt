@@ -1,3 +1,5 @@
+//! The marks of the plain network.
+
 /// How many points and edges there were at a mark, and how many lower bounds had been saved.
 #[derive(Clone, Copy)]
 pub(crate) struct PlainMark {

@@ -1,3 +1,4 @@
+//! The plain network: solved from scratch at each change.
 ghost use Rattle.std.specs.Prelude.{◌≡◌, [], IfOk};
 ghost use Rattle.tp_base.specs.Net.{empty_net};
 

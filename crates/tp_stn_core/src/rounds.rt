@@ -1,3 +1,4 @@
+//! One round over all edges.
 ghost use Rattle.std.specs.Prelude.{◌≡◌, ℕ, ◌<◌, ◌≤◌, length, slice_index, Ok, None, true, false, IsSome, IfSome, OnOk, IfOk, IfErr, vec_capacity};
 ghost use Rattle.std.specs.List.{All, Contains};
 ghost use Rattle.tp_base.specs.Net.{Keeps, IsLeast};

@@ -1,3 +1,4 @@
+//! What a mark saves, and when a mark is due.
 ghost use Rattle.std.specs.Prelude.{◌≡◌, ℕ, ◌<◌, ◌≤◌, length, take, drop, slice_index, IsTrue, vec_capacity};
 ghost use Rattle.tp_stn_core.specs.Saved.{is_due, saved_after, newest_after, restored, relinked};
 

@@ -1,3 +1,4 @@
+//! Rounds over all edges until no time moves.
 ghost use Rattle.std.specs.Prelude.{◌≡◌, ℕ, ◌<◌, ◌≤◌, length, slice_index, None, OnOk, OnErr, IfOk, IfErr, vec_capacity};
 ghost use Rattle.std.specs.List.{All};
 ghost use Rattle.tp_base.specs.Net.{IsLeast, HasNoSolution};

@@ -1,3 +1,4 @@
+//! The plain network goes back to a mark.
 ghost use Rattle.std.specs.Prelude.{◌≡◌, ◌≤◌, length, take, drop, vec_capacity};
 ghost use Rattle.tp_stn_core.specs.Saved.{restored, relinked};
 

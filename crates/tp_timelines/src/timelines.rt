@@ -1,3 +1,4 @@
+//! Timelines: an order of holds for each resource, which goes back to a mark.
 ghost use Rattle.std.specs.Prelude.{◌≡◌, ◌+◌, ◌<◌, ◌≤◌, ◌↔◌, [], ◌∷◌, length, slice_get, slice_set, insert, replicate, Some, IfOk, IsErr, OnOk, OnErr};
 ghost use Rattle.tp_timelines.specs.Orders.{order_on, total, before_in, after_in};
 

@@ -1,3 +1,4 @@
+//! What a bound tree is to show, and what may be wrong with one.
 use tp_base::Tick;
 
 /// What a tree is to show: that no alternative ends before the tick, or that there is none.

@@ -1,3 +1,4 @@
+//! What a move of the clock tells.
 use tp_base::Tick;
 use tp_machine::{ActId, LocId};
 use tp_schedule::SheetId;
