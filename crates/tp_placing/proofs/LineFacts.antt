@@ -1,54 +1,81 @@
 -- The edges along the asked copy's line.
-use Rattle.std.proofs.Common.{◌≡◌, ℕ, suc, ◌+◌, ◌<◌, ◌≤◌, Bool, true, false, cond, List, [], ◌∷◌, ◌++◌, length, map, refl, ap, sym, ◌∙◌, subst, arith, Option, Some, None, All, take, get_or, pos}
+use Rattle.std.proofs.Common.{◌≡◌, ℕ, zero, suc, ◌+◌, ◌-◌, ◌<◌, ◌≤◌, ◌&&◌, Bool, true, false, cond, drop, List, [], ◌∷◌, ◌++◌, length, map, refl, ap, sym, ◌∙◌, subst, arith, Option, Some, None, All, AllPairs, take, get_or, pos}
 use Rattle.std.specs.List.{slice_get}
 use Rattle.std.proofs.lemmas.Int.{ints}
 use Rattle.std.proofs.lemmas.Option.{slice_get_within, slice_get_read, slice_get-get_or}
 use Rattle.std.proofs.lemmas.List.{append_assoc, append-nil, length-append, map-append, take_all, take_more, length-take-le}
-use Rattle.std.proofs.lemmas.List.Elements.{All-append, All-cons, All-nil}
+use Rattle.std.proofs.lemmas.List.Elements.{All-append, All-cons, All-contains, All-nil}
+use Rattle.tp_schedule.proofs.Pairs.{AllPairs-head, AllPairs-tail}
 use Rattle.tp_base.specs.declared.edges.Edge.{Edge}
 use Rattle.tp_base.specs.declared.edges.PointId.{PointId}
+use Rattle.tp_schedule.specs.Plans.{IsEarlier, is_before}
+use Rattle.tp_schedule.proofs.CopyFacts.{before-asym, before-trans}
 use Rattle.tp_schedule.specs.Spots.{Spot}
 use Rattle.tp_schedule.specs.Spots.Spot.{kept, own}
 use Rattle.tp_schedule.specs.declared.parts.Ask.{Ask}
 use Rattle.tp_schedule.specs.declared.parts.Plan.{Plan}
-use Rattle.tp_constraints.specs.Gaps.{gap, end_spot}
+use Rattle.tp_constraints.specs.Gaps.{gap, end_spot, is_in_line}
 use Rattle.tp_constraints.specs.Numbers.{gap_by, points_from, spot_at, table_of}
 use Rattle.tp_placing.specs.Causes.{line_tag}
 use Rattle.tp_placing.specs.Edges.{edge_of, edge_to, end_edges, end_if, first_end, first_of, is_ahead, is_behind, last_end, line_edge, plan_end}
 use Rattle.tp_placing.specs.Standing.{AreFirsts, table_with}
 use Rattle.tp_base.specs.Grows.{IsKnown}
+use Rattle.tp_placing.proofs.LineEnds.{read-at}
+use Rattle.tp_placing.proofs.LoadHolds.{drop-get}
 use Rattle.tp_placing.proofs.NearFacts.{first_plan, gap_from, gap_to, last_plan, near_gaps, plan_if}
 use Rattle.tp_placing.proofs.TableFacts.{begins-at, get-right, length-firsts, length-points, points-get, table-own}
 use Rattle.tp_base.proofs.SliceFacts.{slice_get_left}
 
-first-assoc : (a b c : Option PointId) → first_of (first_of a b) c ≡ first_of a (first_of b c)
-first-assoc None b c = refl
-first-assoc (Some x) b c = refl
+-- a conjunction of which the second part fails
+and-false : (a b : Bool) → b ≡ false → (a && b) ≡ false
+and-false true b e = e
+and-false false b e = refl
 
--- one plan more
-last-push : (wanted : Plan → Bool) (plans : List Plan) (firsts : List PointId) (p : Plan) (f : PointId) → length firsts ≡ length plans
-    → last_end wanted (plans ++ p ∷ []) (firsts ++ f ∷ []) ≡ first_of (end_if (wanted p) (plan_end p f)) (last_end wanted plans firsts)
-last-push wanted [] [] p f h = go (wanted p) where
-  go : (b : Bool) → end_if b (plan_end p f) ≡ first_of (end_if b (plan_end p f)) None
-  go true = refl
-  go false = refl
-last-push wanted [] (g ∷ firsts) p f h = absurd (omega arith)
-last-push wanted (q ∷ plans) [] p f h = absurd (omega arith)
-last-push wanted (q ∷ plans) (g ∷ firsts) p f h =
-    ap (λ o. first_of o (end_if (wanted q) (plan_end q g))) (last-push wanted plans firsts p f (omega arith))
-    ∙ first-assoc (end_if (wanted p) (plan_end p f)) (last_end wanted plans firsts) (end_if (wanted q) (plan_end q g))
+and-right : (a b : Bool) → (a && b) ≡ true → b ≡ true
+and-right true b e = e
+and-right false true e = refl
+and-right false false e = e
 
-first-push : (wanted : Plan → Bool) (plans : List Plan) (firsts : List PointId) (p : Plan) (f : PointId) → length firsts ≡ length plans
-    → first_end wanted (plans ++ p ∷ []) (firsts ++ f ∷ []) ≡ first_of (first_end wanted plans firsts) (end_if (wanted p) (plan_end p f))
-first-push wanted [] [] p f h = go (wanted p) where
-  go : (b : Bool) → first_of (end_if b (plan_end p f)) None ≡ end_if b (plan_end p f)
-  go true = refl
-  go false = refl
-first-push wanted [] (g ∷ firsts) p f h = absurd (omega arith)
-first-push wanted (q ∷ plans) [] p f h = absurd (omega arith)
-first-push wanted (q ∷ plans) (g ∷ firsts) p f h =
-    ap (λ o. first_of (end_if (wanted q) (plan_end q g)) o) (first-push wanted plans firsts p f (omega arith))
-    ∙ sym (first-assoc (end_if (wanted q) (plan_end q g)) (first_end wanted plans firsts) (end_if (wanted p) (plan_end p f)))
+-- among plans in order, where one is ahead of the ask and none behind it is: it is the last one ahead, and none before it is behind
+not-behind : (ask : Ask) (p : Plan) → is_before p.sheet ask.sheet ≡ true → is_behind ask p ≡ false
+not-behind ask p e = and-false (is_in_line ask.goal p) (is_before ask.sheet p.sheet) (before-asym p.sheet ask.sheet e)
+
+pub last-ahead : (ask : Ask) (plans : List Plan) (firsts : List PointId) (k : ℕ) (p : Plan) (d : PointId) → length firsts ≡ length plans → k < length plans → p ≡ get_or plans k p → is_ahead ask p ≡ true
+    → last_end (is_ahead ask) (drop (suc k) plans) (drop (suc k) firsts) ≡ None → last_end (is_ahead ask) plans firsts ≡ Some (plan_end p (get_or firsts k d))
+last-ahead ask [] firsts k p d h within is ahead none = absurd (omega arith)
+last-ahead ask (q ∷ plans) [] k p d h within is ahead none = absurd (omega arith)
+last-ahead ask (q ∷ plans) (f ∷ firsts) zero p d h within is ahead none =
+    let wanted : is_ahead ask q ≡ true = subst (λ r. is_ahead ask r ≡ true) is ahead in
+    (λ i. first_of (none i) (end_if (wanted i) (plan_end q f))) ∙ ap (λ r. Some (plan_end r f)) (sym is)
+last-ahead ask (q ∷ plans) (f ∷ firsts) (suc k) p d h within is ahead none =
+    ap (λ o. first_of o (end_if (is_ahead ask q) (plan_end q f))) (last-ahead ask plans firsts k p d (omega arith) (omega arith) is ahead none)
+
+pub first-behind : (ask : Ask) (plans : List Plan) (firsts : List PointId) (k : ℕ) (p : Plan) → AllPairs IsEarlier plans → length firsts ≡ length plans → k < length plans → p ≡ get_or plans k p → is_ahead ask p ≡ true
+    → first_end (is_behind ask) plans firsts ≡ first_end (is_behind ask) (drop (suc k) plans) (drop (suc k) firsts)
+first-behind ask [] firsts k p in_order h within is ahead = absurd (omega arith)
+first-behind ask (q ∷ plans) [] k p in_order h within is ahead = absurd (omega arith)
+first-behind ask (q ∷ plans) (f ∷ firsts) zero p in_order h within is ahead =
+    let before : is_before q.sheet ask.sheet ≡ true = subst (λ (r : Plan). is_before r.sheet ask.sheet ≡ true) is (and-right (is_in_line ask.goal p) (is_before p.sheet ask.sheet) ahead) in
+    let none = not-behind ask q before in
+    λ i. first_of (end_if (none i) (plan_end q f)) (first_end (is_behind ask) plans firsts)
+first-behind ask (q ∷ plans) (f ∷ firsts) (suc k) p in_order h within is ahead =
+    let here : k < length plans = omega arith in
+    let earlier : is_before q.sheet p.sheet ≡ true = All-contains (IsEarlier q) plans p (AllPairs-head IsEarlier q plans in_order) (k, here, sym is) in
+    let before = before-trans q.sheet p.sheet ask.sheet earlier (and-right (is_in_line ask.goal p) (is_before p.sheet ask.sheet) ahead) in
+    let none = not-behind ask q before in
+    (λ i. first_of (end_if (none i) (plan_end q f)) (first_end (is_behind ask) plans firsts))
+    ∙ first-behind ask plans firsts k p (AllPairs-tail IsEarlier q plans in_order) (omega arith) here is ahead
+
+-- one plan more at the front of those that were looked at
+module _ (plans : List Plan) (firsts : List PointId) (left : ℕ) (p : Plan) (d : PointId) (same : length firsts ≡ length plans) (some : 0 < left) (within : left ≤ length plans) (read : p ≡ get_or plans (left - 1) p) where
+  next : left - 1 + 1 ≡ left
+  next = omega arith
+
+  pub plans-back : drop (left - 1) plans ≡ p ∷ drop left plans
+  plans-back = drop-get plans (left - 1) p (read-at plans (left - 1) p (omega arith) read) ∙ ap (λ k. p ∷ drop k plans) next
+
+  pub firsts-back : drop (left - 1) firsts ≡ get_or firsts (left - 1) d ∷ drop left firsts
+  firsts-back = drop-get firsts (left - 1) (get_or firsts (left - 1) d) (slice_get-get_or firsts (left - 1) d (omega arith)) ∙ ap (λ k. get_or firsts (left - 1) d ∷ drop k firsts) next
 
 -- there are at most two edges, with the tag of lines
 pub length-edges : (ask : Ask) (plans : List Plan) (firsts : List PointId) (end : PointId) → length (end_edges ask plans firsts end) ≤ 2
@@ -132,23 +159,6 @@ from-can : (table : List Spot) (end : PointId) (o : Option PointId) (p : Option 
 from-can table end None p at within = All-nil (IsKnown (length table))
 from-can table end (Some x) None at within = absurd at
 from-can table end (Some x) (Some p) at within = one-can (length table) end x within (slice_get_within table x.0 (end_spot p) at)
-
--- one plan more of a list, where it has been read
-module _ (plans : List Plan) (firsts : List PointId) (i : ℕ) (p : Plan) (d : PointId) (same : length firsts ≡ length plans) (within : i < length plans) (read : p ≡ get_or plans i p) where
-  plans-next : take (i + 1) plans ≡ take i plans ++ p ∷ []
-  plans-next = take_more plans i p within ∙ ap (λ q. take i plans ++ q ∷ []) (sym read)
-
-  firsts-next : take (i + 1) firsts ≡ take i firsts ++ get_or firsts i d ∷ []
-  firsts-next = take_more firsts i d (omega arith)
-
-  lengths : length (take i firsts) ≡ length (take i plans)
-  lengths = let l = length-take-le i plans (omega arith) in let k = length-take-le i firsts (omega arith) in omega arith
-
-  pub last-next : (wanted : Plan → Bool) → last_end wanted (take (i + 1) plans) (take (i + 1) firsts) ≡ first_of (end_if (wanted p) (plan_end p (get_or firsts i d))) (last_end wanted (take i plans) (take i firsts))
-  last-next wanted = (λ j. last_end wanted (plans-next j) (firsts-next j)) ∙ last-push wanted (take i plans) (take i firsts) p (get_or firsts i d) lengths
-
-  pub first-next : (wanted : Plan → Bool) → first_end wanted (take (i + 1) plans) (take (i + 1) firsts) ≡ first_of (first_end wanted (take i plans) (take i firsts)) (end_if (wanted p) (plan_end p (get_or firsts i d)))
-  first-next wanted = (λ j. first_end wanted (plans-next j) (firsts-next j)) ∙ first-push wanted (take i plans) (take i firsts) p (get_or firsts i d) lengths
 
 -- the last point of a plan that was read fits
 pub end-fits : (plans : List Plan) (firsts : List PointId) (i : ℕ) (p : Plan) (d : PointId) → AreFirsts 0 plans firsts → i < length plans → p ≡ get_or plans i p → (get_or firsts i d).0 + length p.acts < length (table_of plans)

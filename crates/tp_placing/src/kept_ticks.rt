@@ -27,10 +27,13 @@ pub(crate) fn count_near(firsts: &[PointId], guess: usize, point: PointId) -> us
     ensures before { AllWithin (λ f. f.0 ≤ point.0) firsts.now 0 result }
     ensures behind { AllWithin (λ f. point.0 < f.0) firsts.now result (length firsts.now) }
 {
-    if guess == 0 || guess >= firsts.len() {
+    if guess == 0 || guess > firsts.len() || point.0 < firsts[guess - 1].0 {
         return count_to(firsts, point);
     }
-    if firsts[guess - 1].0 <= point.0 && point.0 < firsts[guess].0 {
+    if guess == firsts.len() {
+        return guess;
+    }
+    if point.0 < firsts[guess].0 {
         guess
     } else {
         count_to(firsts, point)

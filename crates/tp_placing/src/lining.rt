@@ -1,6 +1,6 @@
 //! The two plans next to an ask in its line.
-ghost use Rattle.std.specs.Prelude.{◌≡◌, ◌+◌, ◌^◌, ◌<◌, ◌≤◌, ◌++◌, length, vec_len, vec_capacity};
-ghost use Rattle.tp_schedule.specs.Plans.{is_before};
+ghost use Rattle.std.specs.Prelude.{◌≡◌, ◌+◌, ◌^◌, ◌<◌, ◌≤◌, ◌++◌, AllPairs, length, vec_len, vec_capacity};
+ghost use Rattle.tp_schedule.specs.Plans.{IsEarlier, is_before};
 ghost use Rattle.tp_constraints.specs.Gaps.{is_in_line};
 ghost use Rattle.tp_constraints.specs.Numbers.{table_of};
 ghost use Rattle.tp_placing.specs.Edges.{edge_to, end_edges, end_if, first_end, first_of, is_ahead, is_behind, last_end};
@@ -60,20 +60,26 @@ fn first_of(one: Option<PointId>, other: Option<PointId>) -> Option<PointId>
 }
 
 /// The last points of the plans next to the asked copy in its line: of the last one ahead of it, and of the first one behind.
+/// Looks at the plans from the last one to that which is ahead.
 fn ends_beside(plans: &[Plan], firsts: &[PointId], ask: &Ask) -> (Option<PointId>, Option<PointId>)
+    requires in_order { AllPairs IsEarlier plans.now }
     requires firsts { AreFirsts 0 plans.now firsts.now }
     requires few { length (table_of plans.now) < 2 ^ 32 }
     ensures ahead { result.0 ≡ last_end (is_ahead ask.entry.now) plans.now firsts.now }
     ensures behind { result.1 ≡ first_end (is_behind ask.entry.now) plans.now firsts.now }
 {
-    let mut ahead = None;
+    let mut left = plans.len();
     let mut behind = None;
-    for (at, plan) in plans.iter().enumerate() {
-        let end = PointId(firsts[at].0 + plan.acts.len());
-        ahead = first_of(end_if(is_ahead(ask, plan), end), ahead);
-        behind = first_of(behind, end_if(is_behind(ask, plan), end));
+    'back: while left > 0 {
+        left -= 1;
+        let plan = &plans[left];
+        let end = PointId(firsts[left].0 + plan.acts.len());
+        if is_ahead(ask, plan) {
+            return (Some(end), behind);
+        }
+        behind = first_of(end_if(is_behind(ask, plan), end), behind);
     }
-    (ahead, behind)
+    (None, behind)
 }
 
 /// Adds that the asked copy's end comes after this end, if there is one.
@@ -97,6 +103,7 @@ pub(crate) fn line_edges(
     ask: &Ask,
     end: PointId,
 )
+    requires in_order { AllPairs IsEarlier plans.now }
     requires firsts { AreFirsts 0 plans.now firsts.now }
     requires few { length (table_of plans.now) < 2 ^ 32 }
     requires room { 2 ≤ vec_capacity edges.old }

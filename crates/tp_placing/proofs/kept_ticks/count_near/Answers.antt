@@ -7,14 +7,20 @@ use Rattle.tp_placing.proofs.kept_ticks.count_near.Goals as goal
 abbrev nothing : PointId
 nothing = record { 0 = 0 }
 
-pub returns-then-point-firsts-clause-before : goal.returns-then-point-firsts-clause-before
-returns-then-point-firsts-clause-before c = λ k d from below.
+pub returns-then-point-firsts-2-clause-before : goal.returns-then-point-firsts-2-clause-before
+returns-then-point-firsts-2-clause-before c = λ k d from below.
     let rise = c.requires k (c.args.guess - 1) d (omega arith) (omega arith) in
     let same = ap (λ (f : PointId). f.0) (get_or_default c.args.firsts.now (c.args.guess - 1) d nothing (omega arith)) in
     omega arith
 
-pub returns-then-point-firsts-clause-behind : goal.returns-then-point-firsts-clause-behind
-returns-then-point-firsts-clause-behind c = λ k d from below.
+pub returns-then-point-firsts-2-clause-behind : goal.returns-then-point-firsts-2-clause-behind
+returns-then-point-firsts-2-clause-behind c = λ k d from below.
     let rise = c.requires c.args.guess k d from below in
     let same = ap (λ (f : PointId). f.0) (get_or_default c.args.firsts.now c.args.guess d nothing (omega arith)) in
+    omega arith
+
+pub returns-then-guess-firsts-2-clause-before : goal.returns-then-guess-firsts-2-clause-before
+returns-then-guess-firsts-2-clause-before c = λ k d from below.
+    let rise = c.requires k (c.args.guess - 1) d (omega arith) (omega arith) in
+    let same = ap (λ (f : PointId). f.0) (get_or_default c.args.firsts.now (c.args.guess - 1) d nothing (omega arith)) in
     omega arith

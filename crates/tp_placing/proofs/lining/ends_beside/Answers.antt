@@ -1,53 +1,83 @@
-use Rattle.std.proofs.Common.{rules, arith, ap, sym, ◌∙◌, subst, ◌≡◌, ◌+◌, ◌<◌, ◌^◌, length, take, get_or}
-use Rattle.std.proofs.lemmas.List.{take_all}
+use Rattle.std.proofs.Common.{rules, arith, suc, ap, sym, ◌∙◌, subst, ◌≡◌, ◌+◌, ◌-◌, ◌<◌, ◌^◌, drop, length, get_or, None, Some, true, false}
+use Rattle.std.proofs.lemmas.List.{drop_all}
 use Rattle.tp_base.specs.declared.edges.PointId.{PointId}
 use Rattle.tp_placing.specs.Edges.{end_if, first_end, first_of, is_ahead, is_behind, last_end, plan_end}
-use Rattle.tp_placing.proofs.LineFacts.{end-fits, first-next, last-next}
+use Rattle.tp_placing.proofs.LineFacts.{end-fits, first-behind, firsts-back, last-ahead, plans-back}
 use Rattle.tp_placing.proofs.TableFacts.{length-firsts}
 use Rattle.tp_placing.proofs.lining.ends_beside.Goals as goal
 
-pub bounds-firsts-at : goal.bounds-firsts-at
-bounds-firsts-at c =
-    let l = length-firsts 0 c.args.plans.now c.args.firsts.now c.requires.firsts in
-    let t = c.loop-at-test.true in
+-- what an index reads beyond the end
+abbrev nothing : PointId
+nothing = record { 0 = 0 }
+
+pub back-init : goal.back-init
+back-init c =
+    let same = length-firsts 0 c.args.plans.now c.args.firsts.now c.requires.firsts in
+    let a = drop_all (length c.args.plans.now) c.args.plans.now (omega arith) in
+    let b = drop_all (length c.args.plans.now) c.args.firsts.now (omega arith) in
+    record {
+      ahead = λ i. last_end (is_ahead c.args.ask.now) (a i) (b i);
+      behind = sym (λ i. first_end (is_behind c.args.ask.now) (a i) (b i));
+      within = omega arith;
+    }
+
+pub bounds-firsts-left : goal.bounds-firsts-left
+bounds-firsts-left c =
+    let same = length-firsts 0 c.args.plans.now c.args.firsts.now c.requires.firsts in
+    let test = c.back-test.true in
+    let within = c.back.invariant.within in
     omega arith
 
 pub overflow_add-end : goal.overflow_add-end
 overflow_add-end c =
-    let w = end-fits c.args.plans.now c.args.firsts.now c.loop-at.at c.index-plans-at.result (record { 0 = 0 }) c.requires.firsts c.loop-at-test.true c.index-plans-at.is in
-    let l = c.len.ensures.len in
-    let f = c.requires.few in
-    let b : (get_or c.args.firsts.now c.loop-at.at (record { 0 = 0 })).0 + c.len.result < 2 ^ 32 = omega arith in
+    let test = c.back-test.true in
+    let within = c.back.invariant.within in
+    let fits = end-fits c.args.plans.now c.args.firsts.now (c.back.left - 1) c.index-plans-left.result nothing c.requires.firsts (omega arith) c.index-plans-left.is in
+    let len = c.len.ensures.len in
+    let few = c.requires.few in
+    let b : (get_or c.args.firsts.now (c.back.left - 1) nothing).0 + c.len.result < 2 ^ 32 = omega arith in
     search (rules, b)
 
-pub loop-at-preserved : goal.loop-at-preserved
-loop-at-preserved c =
-    let p = c.index-plans-at.result in
-    let l = length-firsts 0 c.args.plans.now c.args.firsts.now c.requires.firsts in
-    let first = get_or c.args.firsts.now c.loop-at.at (record { 0 = 0 }) in
+pub returns-then-is_ahead-clause-ahead : goal.returns-then-is_ahead-clause-ahead
+returns-then-is_ahead-clause-ahead c =
+    let same = length-firsts 0 c.args.plans.now c.args.firsts.now c.requires.firsts in
+    let test = c.back-test.true in
+    let within = c.back.invariant.within in
+    let p = c.index-plans-left.result in
+    let next : c.back.left ≡ suc (c.back.left - 1) = omega arith in
+    let none = subst (λ k. last_end (is_ahead c.args.ask.now) (drop k c.args.plans.now) (drop k c.args.firsts.now) ≡ None) next c.back.invariant.ahead in
+    let last = last-ahead c.args.ask.now c.args.plans.now c.args.firsts.now (c.back.left - 1) p nothing same (omega arith) c.index-plans-left.is (sym c.is_ahead.ensures ∙ c.if-is_ahead.true) none in
+    (λ i. Some (record { 0 = (get_or c.args.firsts.now (c.back.left - 1) nothing).0 + c.len.ensures.len i })) ∙ sym last
+
+pub returns-then-is_ahead-clause-behind : goal.returns-then-is_ahead-clause-behind
+returns-then-is_ahead-clause-behind c =
+    let same = length-firsts 0 c.args.plans.now c.args.firsts.now c.requires.firsts in
+    let test = c.back-test.true in
+    let within = c.back.invariant.within in
+    let p = c.index-plans-left.result in
+    let next : c.back.left ≡ suc (c.back.left - 1) = omega arith in
+    c.back.invariant.behind ∙ (λ i. first_end (is_behind c.args.ask.now) (drop (next i) c.args.plans.now) (drop (next i) c.args.firsts.now))
+    ∙ sym (first-behind c.args.ask.now c.args.plans.now c.args.firsts.now (c.back.left - 1) p c.requires.in_order same (omega arith) c.index-plans-left.is (sym c.is_ahead.ensures ∙ c.if-is_ahead.true))
+
+pub back-preserved : goal.back-preserved
+back-preserved c =
+    let same = length-firsts 0 c.args.plans.now c.args.firsts.now c.requires.firsts in
+    let test = c.back-test.true in
+    let within = c.back.invariant.within in
+    let p = c.index-plans-left.result in
+    let first = get_or c.args.firsts.now (c.back.left - 1) nothing in
     let end : record { 0 = first.0 + c.len.result } ≡ plan_end p first = λ i. record { 0 = first.0 + c.len.ensures.len i } in
     let ask = c.args.ask.now in
+    let a = plans-back c.args.plans.now c.args.firsts.now c.back.left p nothing same test within c.index-plans-left.is in
+    let b = firsts-back c.args.plans.now c.args.firsts.now c.back.left p nothing same test within c.index-plans-left.is in
+    let not_ahead : is_ahead ask p ≡ false = sym c.is_ahead.ensures ∙ c.if-is_ahead.false in
     record {
       ahead =
-          c.first_of-ahead.ensures ∙ (λ i. first_of (c.end_if.ensures i) (c.loop-at.invariant.ahead i))
-          ∙ (λ i. first_of (end_if (c.is_ahead.ensures i) (end i)) (last_end (is_ahead ask) (take c.loop-at.at c.args.plans.now) (take c.loop-at.at c.args.firsts.now)))
-          ∙ sym (last-next c.args.plans.now c.args.firsts.now c.loop-at.at p (record { 0 = 0 }) l c.loop-at-test.true c.index-plans-at.is (is_ahead ask));
+          (λ i. last_end (is_ahead ask) (a i) (b i))
+          ∙ (λ i. first_of (c.back.invariant.ahead i) (end_if (not_ahead i) (plan_end p first)));
       behind =
-          c.first_of-behind.ensures ∙ (λ i. first_of (c.loop-at.invariant.behind i) (c.end_if-in-loop-at.ensures i))
-          ∙ (λ i. first_of (first_end (is_behind ask) (take c.loop-at.at c.args.plans.now) (take c.loop-at.at c.args.firsts.now)) (end_if (c.is_behind.ensures i) (end i)))
-          ∙ sym (first-next c.args.plans.now c.args.firsts.now c.loop-at.at p (record { 0 = 0 }) l c.loop-at-test.true c.index-plans-at.is (is_behind ask));
+          c.first_of-behind.ensures ∙ (λ i. first_of (c.end_if.ensures i) (c.back.invariant.behind i))
+          ∙ (λ i. first_of (end_if (c.is_behind.ensures i) (end i)) (first_end (is_behind ask) (drop c.back.left c.args.plans.now) (drop c.back.left c.args.firsts.now)))
+          ∙ sym (λ i. first_end (is_behind ask) (a i) (b i));
+      within = omega arith;
     }
-
-pub returns-clause-ahead : goal.returns-clause-ahead
-returns-clause-ahead c =
-    let l = length-firsts 0 c.args.plans.now c.args.firsts.now c.requires.firsts in
-    let a = take_all c.loop-at.at c.args.plans.now c.loop-at-test.false in
-    let b = take_all c.loop-at.at c.args.firsts.now (let f = c.loop-at-test.false in omega arith) in
-    c.loop-at.invariant.ahead ∙ (λ j. last_end (is_ahead c.args.ask.now) (a j) (b j))
-
-pub returns-clause-behind : goal.returns-clause-behind
-returns-clause-behind c =
-    let l = length-firsts 0 c.args.plans.now c.args.firsts.now c.requires.firsts in
-    let a = take_all c.loop-at.at c.args.plans.now c.loop-at-test.false in
-    let b = take_all c.loop-at.at c.args.firsts.now (let f = c.loop-at-test.false in omega arith) in
-    c.loop-at.invariant.behind ∙ (λ j. first_end (is_behind c.args.ask.now) (a j) (b j))
