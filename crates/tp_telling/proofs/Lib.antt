@@ -2,3 +2,4 @@ pub mod ListSteps
 pub mod NameFacts
 pub mod MoveSteps
 pub mod PlaceFacts
+pub mod SpanSteps

@@ -3,6 +3,8 @@
 
 mod naming;
 mod telling;
+mod times;
 
 pub use naming::{action_name, end_name, goal_name, label, location_name};
 pub use telling::{tell_all_moves, tell_full, tell_reply};
+pub use times::Times;

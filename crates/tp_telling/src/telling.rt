@@ -1,25 +1,27 @@
 //! What is told of answers to asks and of points that moved.
 
-ghost use Rattle.std.specs.Prelude.{◌≡◌, ◌<◌, ◌+◌, ◌^◌, ◌++◌, ◌∷◌, [], length, drop, map, All, IfOk, OnOk};
+ghost use Rattle.std.specs.Prelude.{◌≡◌, ◌<◌, ◌+◌, ◌^◌, ◌++◌, ◌∷◌, List, [], length, drop, map, All, IfOk, OnOk};
 ghost use Rattle.tp_schedule.specs.Answers.{kept_from, kept_of};
 ghost use Rattle.tp_schedule.specs.Planning.{IsKnownGoal};
-ghost use Rattle.tp_schedule.specs.Plans.{IsTimedPlan, plan_of, without};
+ghost use Rattle.tp_schedule.specs.Plans.{IsTimedPlan, plan_of, with_points, without};
+ghost use Rattle.tp_schedule.specs.declared.parts.Plan.{Plan};
 ghost use Rattle.tp_schedule.specs.declared.records.Record.TheVariants.{FullUp};
 ghost use Rattle.tp_turn.specs.Answering.{moves, told_of_move, told_of_plan, told_of_planned, told_of_reply};
 ghost use Rattle.tp_turn.specs.Labels.{action_name};
-ghost use Rattle.tp_telling.specs.Telling.{IsKnown};
+ghost use Rattle.tp_telling.specs.Telling.{IsKnown, others, points_of};
 
 use crate::naming::{action_name, end_name, goal_name, label};
+use crate::times::{Times, is_of};
 use std::alloc::Global;
 use tp_base::{Items, Memory, Name, Tick};
 use tp_machine::Machine;
 use tp_schedule::{Acts, Ask, Plan, Points, Record, Reply, Schedule, SheetId, SheetName};
 
 /// Notes what an answer says: the plan, and each other plan that moved; or that there is none; or that the budget was
-/// spent. The schedules are those before and after the answer.
+/// spent. The times are those of the other plans before the answer, and the schedule is that after it.
 pub fn tell_reply(
     machine: &Machine,
-    before: &Schedule,
+    before: &Times,
     ask: &Ask,
     reply: Reply,
     after: &Schedule,
@@ -27,15 +29,17 @@ pub fn tell_reply(
 ) -> Result<(), Memory>
     requires goal { IsKnownGoal machine.now ask.now.goal }
     requires timed { All (IsTimedPlan machine.now) after.now.plans }
-    ensures { OnOk result (notes.new.items ≡ notes.old.items
-        ++ told_of_reply machine.now before.now.plans ask.entry.now reply after.now.plans) }
+    ensures { OnOk result ((plans : List Plan)
+        → before.now ≡ points_of (without ask.entry.now.sheet plans)
+        → notes.new.items ≡ notes.old.items
+        ++ told_of_reply machine.now plans ask.entry.now reply after.now.plans) }
 {
     let alloc = *notes.allocator();
     let sheet = label(ask.name, ask.sheet);
     match reply {
         Reply::Planned => {
             tell_planned(alloc, machine, ask, after, notes)?;
-            tell_moves(alloc, before, after, ask.sheet, notes)
+            tell_moves(alloc, before, after, Some(ask.sheet), notes)
         }
         Reply::Never => {
             let goal = goal_name(machine, ask.goal);
@@ -121,30 +125,36 @@ fn names_from(
     Ok(items)
 }
 
-/// Notes the other plans whose points changed, in the order of copies.
-fn tell_moves(
+/// Notes the plans whose points changed, in the order of copies. The times are those before.
+pub fn tell_all_moves(
     alloc: Global,
-    before: &Schedule,
+    before: &Times,
     after: &Schedule,
-    asked: SheetId,
     notes: &mut Vec<Record>,
 ) -> Result<(), Memory>
-    ensures { OnOk result (notes.new.items ≡ notes.old.items
-        ++ moves (without asked before.now.plans) (without asked after.now.plans)) }
+    ensures { OnOk result ((plans : List Plan) → before.now ≡ points_of plans
+        → notes.new.items ≡ notes.old.items ++ moves plans after.now.plans) }
 {
-    let mut from = 0;
-    let mut to = 0;
-    'moves: while from < before.len() && to < after.len() {
-        let old = before.plan_at(from);
-        let new = after.plan_at(to);
-        if old.sheet == asked {
-            from += 1;
-        } else if new.sheet == asked {
-            to += 1;
-        } else {
-            tell_move(alloc, old, new, notes)?;
-            from += 1;
-            to += 1;
+    tell_moves(alloc, before, after, None, notes)
+}
+
+/// The same, but for the plan of the asked copy, where one is asked.
+fn tell_moves(
+    alloc: Global,
+    before: &Times,
+    after: &Schedule,
+    asked: Option<SheetId>,
+    notes: &mut Vec<Record>,
+) -> Result<(), Memory>
+    ensures { OnOk result ((plans : List Plan) → before.now ≡ points_of plans
+        → notes.new.items ≡ notes.old.items ++ moves plans (others asked after.now.plans)) }
+{
+    let mut place = 0;
+    'moves: for at in 0..after.len() {
+        let plan = after.plan_at(at);
+        if place < before.len() && !is_of(asked, plan) {
+            tell_move(alloc, before.get(place), plan, notes)?;
+            place += 1;
         }
     }
     Ok(())
@@ -153,35 +163,17 @@ fn tell_moves(
 /// Notes the points of a plan where they changed.
 fn tell_move(
     alloc: Global,
-    before: &Plan,
+    before: &[Tick],
     after: &Plan,
     notes: &mut Vec<Record>,
 ) -> Result<(), Memory>
     ensures { OnOk result (notes.new.items ≡ notes.old.items
-        ++ told_of_move before.now after.now) }
+        ++ told_of_move (with_points before.now after.now) after.now) }
 {
-    if before.points.as_slice() != after.points.as_slice() {
+    if before != after.points.as_slice() {
         let sheet = label(after.name, after.sheet);
         let points = points_from(alloc, 0, &after.points)?;
         notes.push(Record::Move { sheet, points })?;
-    }
-    Ok(())
-}
-
-/// Notes the plans whose points changed, in the order of copies.
-pub fn tell_all_moves(
-    alloc: Global,
-    before: &Schedule,
-    after: &Schedule,
-    notes: &mut Vec<Record>,
-) -> Result<(), Memory>
-    ensures { OnOk result (notes.new.items ≡ notes.old.items
-        ++ moves before.now.plans after.now.plans) }
-{
-    let mut at = 0;
-    'all: while at < before.len() && at < after.len() {
-        tell_move(alloc, before.plan_at(at), after.plan_at(at), notes)?;
-        at += 1;
     }
     Ok(())
 }

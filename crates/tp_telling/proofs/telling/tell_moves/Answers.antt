@@ -1,48 +1,34 @@
--- The asked copy is passed over on either side, and the others are told in pairs.
-use Rattle.std.proofs.Common.{◌+◌, ◌++◌, true, false, arith, ap, sym, ◌∙◌}
-use Rattle.tp_turn.specs.Answering.{told_of_move}
-use Rattle.std.proofs.lemmas.List.{append-nil}
-use Rattle.tp_telling.proofs.MoveSteps.{moves_from, skips-before, skips-after, tells-both, none-left', tells-on}
-use Rattle.tp_telling.proofs.PlaceFacts.{same-copy}
+-- The asked copy's plan is passed over, and the others are told of in turn.
+use Rattle.std.proofs.Common.{◌+◌, ◌++◌, drop, length, slice_get, arith, ap, sym, ◌∙◌}
+use Rattle.std.proofs.lemmas.List.{length-map}
+use Rattle.tp_schedule.specs.declared.parts.Plan.{Plan}
+use Rattle.tp_turn.specs.Answering.{moves}
+use Rattle.tp_telling.specs.Telling.{others}
+use Rattle.tp_telling.proofs.MoveSteps.{passes, tells-all, tells-none, tells-one}
 use Rattle.tp_telling.proofs.telling.tell_moves.Goals as goal
-
-pub moves-preserved-then-eq : goal.moves-preserved-then-eq
-moves-preserved-then-eq c = record {
-  rest = ap (λ rest. c.moves.notes.items ++ rest)
-      (sym (skips-before c.args.asked c.args.before.now.plans c.args.after.now.plans c.moves.from c.moves.to c.plan_at-old.result.now c.plan_at-old.ensures.plan
-      (same-copy c.plan_at-old.result.now.sheet c.args.asked true c.if-eq.ensures)))
-      ∙ c.moves.invariant.rest;
-  from = omega (arith, c.moves-test.true);
-  to = c.moves.invariant.to;
-}
-
-pub moves-preserved-then-eq-2 : goal.moves-preserved-then-eq-2
-moves-preserved-then-eq-2 c = record {
-  rest = ap (λ rest. c.moves.notes.items ++ rest)
-      (sym (skips-after c.args.asked c.args.before.now.plans c.args.after.now.plans c.moves.from c.moves.to c.plan_at-new.result.now c.plan_at-new.ensures.plan
-      (same-copy c.plan_at-new.result.now.sheet c.args.asked true c.if-eq-2.ensures)))
-      ∙ c.moves.invariant.rest;
-  from = c.moves.invariant.from;
-  to = omega (arith, c.if-to-len.true);
-}
+use Rattle.tp_telling.proofs.telling.tell_moves.Goals.{then-place-len+then-not-is_of+in_ok-tell_move, else-place-len, else-place-len-via-then-place-len+else-not-is_of, else-place-len-via-else-place-len}
 
 pub moves-preserved : goal.moves-preserved
-moves-preserved c =
-    let p = c.plan_at-old.result.now in
-    let q = c.plan_at-new.result.now in
-    record {
-      rest =
-          ap (λ told. told ++ moves_from c.args.asked c.args.before.now.plans c.args.after.now.plans (c.moves.from + 1) (c.moves.to + 1)) c.in_ok-tell_move.ensures
-          ∙ tells-on c.moves.notes.items (told_of_move p q) (moves_from c.args.asked c.args.before.now.plans c.args.after.now.plans c.moves.from c.moves.to)
-          (moves_from c.args.asked c.args.before.now.plans c.args.after.now.plans (c.moves.from + 1) (c.moves.to + 1)) _ c.moves.invariant.rest
-          (tells-both c.args.asked c.args.before.now.plans c.args.after.now.plans c.moves.from c.moves.to p q c.plan_at-old.ensures.plan c.plan_at-new.ensures.plan
-          (same-copy p.sheet c.args.asked false c.if-eq.ensures) (same-copy q.sheet c.args.asked false c.if-eq-2.ensures));
-      from = omega (arith, c.moves-test.true);
-      to = omega (arith, c.if-to-len.true);
-    }
+moves-preserved c = λ plans was.
+    let after = c.args.after.now.plans in
+    let asked = c.args.asked in
+    let at = c.moves.at in
+    let q = c.plan_at-plan.result.now in
+    let here = c.plan_at-plan.ensures.plan in
+    let rest = c.moves.invariant plans was in
+    elim c.if-place-len.branch [
+      | then-place-len+then-not-is_of+in_ok-tell_move w ↦
+          rw (w.notes-is, w.place-is)
+          (tells-one c.moves.notes.items w.tell_move.new.notes.items plans c.moves.place w.get.result.now asked after at q _
+          (sym (ap (λ parts. slice_get parts c.moves.place) was) ∙ w.get.ensures) here (sym w.if-not-is_of.ensures) w.in_ok-tell_move.ensures rest)
+      | else-place-len w ↦ rw (w.notes-is, w.place-is) (elim w.else-place-len.branch [
+        | else-place-len-via-then-place-len+else-not-is_of w' ↦ ap (λ ps. c.moves.notes.items ++ moves (drop c.moves.place plans) ps) (sym (passes asked after at q here (sym w'.if-not-is_of.ensures))) ∙ rest
+        | else-place-len-via-else-place-len w' ↦
+            tells-none c.moves.notes.items plans (others asked (drop at after)) (others asked (drop (at + 1) after)) c.moves.place _
+            (omega (arith, w'.if-place-len.false, c.len.ensures, ap length was, length-map plans (λ (p : Plan). p.points))) rest
+      ])
+    ]
 
-pub returns-else-to-len : goal.returns-else-to-len
-returns-else-to-len c =
-    sym (append-nil c.moves.notes.items)
-    ∙ ap (λ rest. c.moves.notes.items ++ rest) (sym (none-left' c.args.asked c.args.before.now.plans c.args.after.now.plans c.moves.from c.moves.to (omega (arith, c.if-to-len.false, c.len-in-moves.ensures.len))))
-    ∙ c.moves.invariant.rest
+pub returns : goal.returns
+returns c = λ plans was.
+    tells-all c.moves.notes.items (drop c.moves.place plans) c.args.asked c.args.after.now.plans c.moves.at _ (omega (arith, c.moves-test.false, c.len-at-end.ensures.len)) (c.moves.invariant plans was)
