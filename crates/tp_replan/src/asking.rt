@@ -21,7 +21,7 @@ use tp_machine::{ActId, Machine, Sheet, State, step};
 use tp_schedule::{
     Ask, Empties, Halt, Kind, Origin, Plan, Planner, Record, Reply, Schedule, new_sheet,
 };
-use tp_telling::tell_reply;
+use tp_telling::{Times, tell_reply};
 use tp_turn::LiveState;
 
 /// Where the actions lead the sheet.
@@ -128,7 +128,7 @@ pub(crate) fn ask_planner<P: Planner>(
     ensures still_serves { P.serves planner.new machine.now }
     ensures lasts { P.lasting planner.new ≡ P.lasting planner.old }
 {
-    let Ok(before) = schedule.copy(alloc) else {
+    let Ok(before) = Times::of(alloc, schedule, Some(ask.sheet)) else {
         return Err(Halt::Memory);
     };
     let reply = planner.ask(machine, schedule, ask)?;

@@ -17,7 +17,7 @@ use crate::releasing::release;
 use std::alloc::Global;
 use tp_machine::{Machine, machine_law};
 use tp_schedule::{Ask, Halt, Planner, Record, Reply};
-use tp_telling::tell_all_moves;
+use tp_telling::{Times, tell_all_moves};
 use tp_turn::LiveState;
 
 /// Asks a loose copy, and does what the answer leads to.
@@ -123,7 +123,7 @@ pub(crate) fn settle<P: Planner>(
     ensures lasts { P.lasting planner.new ≡ P.lasting planner.old }
     ensures marked { state.new.lines.kept ≡ state.old.lines.kept }
 {
-    let Ok(before) = state.schedule.copy(alloc) else {
+    let Ok(before) = Times::of(alloc, &state.schedule, None) else {
         return Err(Halt::Memory);
     };
     planner.settle(machine, &mut state.schedule, state.moment)?;
