@@ -20,7 +20,7 @@ use tp_jobs::Blocked;
 use tp_machine::{Machine, machine_law};
 use tp_schedule::{Ask, Goal, Halt, Origin, Planner, Record, Reply, Schedule, SheetId};
 use tp_stock::empty_feeders;
-use tp_telling::{label, tell_full, tell_reply};
+use tp_telling::{Times, label, tell_full, tell_reply};
 use tp_turn::LiveState;
 
 /// The most copies that are live at once.
@@ -70,7 +70,7 @@ fn ask_planner<P: Planner>(
     ensures still_serves { P.serves planner.new machine.now }
     ensures lasts { P.lasting planner.new ≡ P.lasting planner.old }
 {
-    let Ok(before) = schedule.copy(alloc) else {
+    let Ok(before) = Times::of(alloc, schedule, Some(ask.sheet)) else {
         return Err(Halt::Memory);
     };
     let reply = planner.ask(machine, schedule, ask)?;
