@@ -1,7 +1,7 @@
 -- Reasons for which items don't tell what is due, from what is wrong with a schedule or a tree.
-use Rattle.std.proofs.Common.{◌≡◌, ℕ, ◌-◌, ℤ, ◌≤◌, List, [], ◌∷◌, ◌++◌, inl, inr, Option, Some, None, get_or, length, refl, sym, ap, subst, ◌∙◌, arith}
+use Rattle.std.proofs.Common.{◌≡◌, ℕ, ◌-◌, ℤ, ◌≤◌, List, [], ◌∷◌, inl, inr, Option, Some, None, get_or, length, refl, sym, ap, subst, ◌∙◌, arith}
 use Rattle.std.specs.Bool.{MatchBool}
-use Rattle.std.specs.Prelude.{IfOk, IfSome, IsFalse, Result, Ok, Err}
+use Rattle.std.specs.Prelude.{IfOk, IfSome, Result, Ok, Err}
 use Rattle.tp_bounds.specs.declared.tree.BoundTree.{BoundTree}
 use Rattle.tp_log.specs.Gathering.{is_tree}
 use Rattle.tp_log.specs.declared.item.Item.{Item}
@@ -25,8 +25,8 @@ use Rattle.tp_trees.specs.declared.claim.TreeFlaw.TheVariants.{Memory, RoomRow, 
 use Rattle.tp_told.specs.Breaches.{AreOfFault, HasFault, HasPlainFault, IsPlainFault}
 use Rattle.tp_told.specs.Failing.{failure_of, is_stop}
 use Rattle.tp_told.specs.Moving.{TakesMoves}
-use Rattle.tp_told.specs.Reasons.{DoClaim, IfStop, IsAskedReason, IsBreach, IsDueInAnswer, IsDueInSettling, IsFrom, IsOff, IsOffAnswer, IsOffSettling, IsSettlingReason, IsTimesReason, IsTreeReason, TellSchedule, TellsFault, reason_in, reason_of}
-use Rattle.tp_told.specs.Telling.{HasStopped, ToldValue, begins_with_tree}
+use Rattle.tp_told.specs.Reasons.{IfStop, IsAskedReason, IsBreach, IsDueInAnswer, IsDueInSettling, IsFrom, IsOff, IsOffAnswer, IsOffSettling, IsSettlingReason, IsTimesReason, IsTreeDue, IsTreeReason, TellSchedule, TellsFault, reason_in, reason_of}
+use Rattle.tp_told.specs.Telling.{HasStopped, ToldValue}
 use Rattle.tp_told.specs.declared.stop.Failure.{Failure}
 use Rattle.tp_told.specs.declared.stop.Failure.TheVariants as failure
 use Rattle.tp_told.specs.declared.stop.Reason.{Reason}
@@ -57,10 +57,17 @@ from-stop here P failure.Memory (failure.Stop found) e from h = absurd cc
 from-stop here P (failure.Stop found) failure.Memory e from h = absurd cc
 from-stop here P (failure.Stop found) (failure.Stop other) e from h = (from.0, some-reason P found.reason other.reason from.1 h)
 
-pub kept-reason : (P : ℕ → Reason → Type 0) (f : Failure) (s : Stop) (p : ToldValue) (halt : Halt) (p' : ToldValue) (long : ℕ) → MatchBool (is_stop f) (HasStopped p halt p') ((halt ≡ NoMemory) × (p' ≡ p)) → halt ≡ Stopped
-    → IfStop (λ n r. (s.item ≡ long - n) × (s.reason ≡ r)) f → IfStop P f → (n : ℕ) × (s.item ≡ long - n) × P n s.reason
+-- why it stopped is kept, of so many items
+pub record KeepsWhy (P : ℕ → Reason → Type 0) (s : Option Stop) (long : ℕ) : Type 0 where
+  pub left : ℕ
+  pub reason : Reason
+  pub kept : s ≡ Some (record { item = long - left; reason = reason })
+  pub why : P left reason
+
+pub kept-reason : (P : ℕ → Reason → Type 0) (f : Failure) (s : Option Stop) (p : ToldValue) (halt : Halt) (p' : ToldValue) (long : ℕ) → MatchBool (is_stop f) (HasStopped p halt p') ((halt ≡ NoMemory) × (p' ≡ p)) → halt ≡ Stopped
+    → IfStop (λ n r. s ≡ Some (record { item = long - n; reason = r })) f → IfStop P f → KeepsWhy P s long
 kept-reason P failure.Memory s p halt p' long match' is kept h = let e = match'.0 in absurd cc
-kept-reason P (failure.Stop found) s p halt p' long match' is kept h = (found.left, kept.0, subst (P found.left) (sym kept.1) h)
+kept-reason P (failure.Stop found) s p halt p' long match' is kept h = record { left = found.left; reason = found.reason; kept = kept; why = h }
 
 -- ---- another item is due, or a rule is broken
 
@@ -176,9 +183,8 @@ module _ (machine : Machine) (plans : List Plan) (ask : Ask) (claim : Claim) whe
   first-reason (x ∷ items) item some is (NotLeast given least) h = h
   first-reason (x ∷ items) item some is (Tree flaw) (tree, (later, (e, flawed))) = (tree, (items, (ap (λ y. y ∷ items) (sym is ∙ first-of item (TreeItem tree) [] later e), flawed)))
 
-  pub tree-reason : (items before behind : List Item) → DoClaim machine plans ask items claim → items ≡ before ++ behind → (n : ℕ) → n ≡ length behind
-      → (IsFalse (begins_with_tree behind) → IsDueInAnswer machine plans ask items n) → (r : Reason) → IsTreeReason machine plans ask claim behind r → IsAskedReason machine plans ask items n r
-  tree-reason items before behind claimed parts n is from IsDue h = from h
-  tree-reason items before behind claimed parts n is from (Illegal first second) h = absurd h
-  tree-reason items before behind claimed parts n is from (NotLeast given least) h = absurd h
-  tree-reason items before behind claimed parts n is from (Tree flaw) h = record { claim = claim; claimed = claimed; before = before; behind = behind; parts = parts; from = is; flawed = h }
+  pub tree-reason : (items behind : List Item) → IsTreeDue machine plans ask items claim behind → (n : ℕ) → n ≡ length behind → (r : Reason) → IsTreeReason machine plans ask claim behind r → IsAskedReason machine plans ask items n r
+  tree-reason items behind due n is IsDue h = inr (inr (inr (record { claim = claim; behind = behind; due = due; from = is; wrong = h })))
+  tree-reason items behind due n is (Illegal first second) h = absurd h
+  tree-reason items behind due n is (NotLeast given least) h = absurd h
+  tree-reason items behind due n is (Tree flaw) h = record { claim = claim; behind = behind; due = due; from = is; wrong = h }

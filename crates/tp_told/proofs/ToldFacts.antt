@@ -1,5 +1,5 @@
 -- What is taken from the first item that is no aside on is taken of the items to come.
-use Rattle.std.proofs.Common.{◌≡◌, ℕ, zero, suc, ◌+◌, ◌-◌, ◌≤◌, Bool, true, false, cond, List, [], ◌∷◌, drop, get_or, length, refl, sym, ap, subst, ◌∙◌, arith}
+use Rattle.std.proofs.Common.{◌≡◌, ℕ, zero, suc, ◌+◌, ◌≤◌, Bool, true, false, cond, List, [], ◌∷◌, drop, get_or, length, refl, sym, ap, subst, ◌∙◌, arith}
 use Rattle.tp_log.specs.declared.item.Item.{Item}
 use Rattle.tp_machine.specs.declared.machine.Machine.{Machine}
 use Rattle.tp_schedule.specs.Planning.Deed.{replied, settled}
@@ -15,6 +15,7 @@ use Rattle.tp_told.specs.declared.stop.Failure.{Failure}
 use Rattle.tp_told.specs.declared.stop.Failure.TheVariants.{Memory as OfMemory, Stop as OfStop}
 use Rattle.tp_told.specs.Answering.{DoTellSettled, TakesAnswer, TakesSettled}
 use Rattle.tp_told.specs.Reasons.{IsReason}
+use Rattle.tp_told.proofs.ReasonFacts.{KeepsWhy}
 use Rattle.tp_told.specs.Stopping.{StopsAt}
 use Rattle.tp_told.specs.Telling.{HasStopped, TakesOn, Tells, TellsDue, TellsSettled, ToldValue, ahead, behind_asides, is_aside}
 
@@ -85,22 +86,24 @@ module _ (machine : Machine) (plans : List Plan) (p : ToldValue) (next : ℕ) (i
     left : drop taken (drop next p.items) ≡ drop (next + taken) p.items
     left = drop-drop next taken p.items
 
-  pub stops-asked : (ask : Ask) (halt : Halt) (p' : ToldValue) → (TellsDue machine plans (drop next p.items) (asking ask) → ⊥) → (n : ℕ) × (p'.stop.item ≡ length p.items - n) × IsReason machine plans (drop next p.items) (asking ask) n p'.stop.reason → HasStopped p halt p'
+  pub stops-asked : (ask : Ask) (halt : Halt) (p' : ToldValue) → (TellsDue machine plans (drop next p.items) (asking ask) → ⊥) → KeepsWhy (IsReason machine plans (drop next p.items) (asking ask)) p'.stop (length p.items) → HasStopped p halt p'
       → StopsAt p machine plans (asking ask) p'
   stops-asked ask halt p' denied why stopped = record {
-    left = why.0;
-    item = why.1;
-    why = subst (λ items. IsReason machine plans items (asking ask) why.0 p'.stop.reason) is why.2;
+    left = why.left;
+    reason = why.reason;
+    kept = why.kept;
+    why = subst (λ items. IsReason machine plans items (asking ask) why.left why.reason) is why.why;
     denied = λ named due. denied (due.0, (due.1.0, (due.1.1.0, there ask due.0 due.1.0 due.1.1.0 due.1.1.1)));
     same = stopped.same;
   }
 
-  pub stops-settled : (now : ℕ) (halt : Halt) (p' : ToldValue) → (DoTellSettled machine plans now (drop next p.items) → ⊥) → (n : ℕ) × (p'.stop.item ≡ length p.items - n) × IsReason machine plans (drop next p.items) (settling now) n p'.stop.reason → HasStopped p halt p'
+  pub stops-settled : (now : ℕ) (halt : Halt) (p' : ToldValue) → (DoTellSettled machine plans now (drop next p.items) → ⊥) → KeepsWhy (IsReason machine plans (drop next p.items) (settling now)) p'.stop (length p.items) → HasStopped p halt p'
       → StopsAt p machine plans (settling now) p'
   stops-settled now halt p' denied why stopped = record {
-    left = why.0;
-    item = why.1;
-    why = subst (λ items. IsReason machine plans items (settling now) why.0 p'.stop.reason) is why.2;
+    left = why.left;
+    reason = why.reason;
+    kept = why.kept;
+    why = subst (λ items. IsReason machine plans items (settling now) why.left why.reason) is why.why;
     denied = λ named due. denied (named, (due.0, (due.1.0, settled-there now due.0 due.1.0 due.1.1)));
     same = stopped.same;
   }

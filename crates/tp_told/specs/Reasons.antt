@@ -1,6 +1,6 @@
 -- Why items don't tell what is due: a rule that is broken, a point of the new schedule that could stand earlier, or a tree
 -- that has a flaw.
-use Rattle.std.specs.Prelude.{◌≡◌, ℕ, ◌⊎◌, ℤ, List, ◌∷◌, ◌++◌, length, Option, Some, None, IsFalse}
+use Rattle.std.specs.Prelude.{◌≡◌, ℕ, ◌⊎◌, ℤ, List, ◌∷◌, length, Option, Some, None, IsFalse}
 use Rattle.tp_bounds.specs.declared.tree.BoundTree.{BoundTree}
 use Rattle.tp_log.specs.declared.item.Item.{Item}
 use Rattle.tp_log.specs.declared.item.Item.TheVariants.{Note, Tree as TreeItem}
@@ -24,7 +24,6 @@ use Rattle.tp_trees.specs.Claims.{limit_of, live_part}
 use Rattle.tp_trees.specs.Flaws.{tree_flaw}
 use Rattle.tp_trees.specs.declared.claim.Claim.{Claim}
 use Rattle.tp_trees.specs.declared.claim.Claim.TheVariants.{Earliest, Never}
-use Rattle.tp_trees.specs.declared.claim.TreeFlaw.{TreeFlaw}
 use Rattle.tp_told.specs.Breaches.{AreOfFault, HasFault, HasOffMove, HasPlainFault, IsOffByItself, IsPlainFault, TellsUnfit}
 use Rattle.tp_told.specs.Moving.{IsMoveOver, TakesMoves, behind_moves}
 use Rattle.tp_told.specs.Planning.{IsInForm, IsOnlyPlan}
@@ -152,26 +151,32 @@ IsOffAnswer machine plans ask items left first second =
     ((left ≡ length items) × (HasUnfitPlan plans ask items first second ⊎ HasOffPlan machine plans ask items first second))
     ⊎ (HasOffMoveBehind machine plans ask items left first second ⊎ HasOffSchedule machine plans ask items first second)
 
--- what the first item claims: no end before the plan's, or none at all
-abbrev pub DoClaim : Machine → List Plan → Ask → List Item → Claim → Type 0
-DoClaim machine plans ask items (Earliest end) = (plan : Plan) × (BeginsWithPlan machine plans ask items plan × (end ≡ end_of_plan plan))
-DoClaim machine plans ask items Never = (later : List Item) × (items ≡ Note (TellsNever (label_of_asked ask) (goal_name machine ask.goal)) ∷ later)
-
 -- the first item is a tree with the flaw, for the claim on the schedule before, or it is no tree
 abbrev pub IsTreeReason : Machine → List Plan → Ask → Claim → List Item → Reason → Type 0
 IsTreeReason machine plans ask claim items (Tree flaw) =
     (tree : BoundTree) × ((later : List Item) × ((items ≡ TreeItem tree ∷ later) × (tree_flaw machine (live_part machine ask plans) ask (limit_of machine ask claim) tree ≡ Some flaw)))
 IsTreeReason machine plans ask claim items reason = IsPlain (IsFalse (begins_with_tree items)) reason
 
--- a tree behind the first item, its moves among them, is one with the flaw for what is claimed
-pub record HasFlawedTree (machine : Machine) (plans : List Plan) (ask : Ask) (items : List Item) (left : ℕ) (flaw : TreeFlaw) : Type 0 where
+-- a plan and its moves tell a right schedule, and these items stand behind them
+pub record AreBehindPlan (machine : Machine) (plans : List Plan) (ask : Ask) (items : List Item) (end : ℕ) (behind : List Item) : Type 0 where
+  pub plans' : List Plan
+  pub told : TellSchedule machine plans ask items plans'
+  pub right : IsRight machine plans ask plans'
+  pub ends : end ≡ end_of_plan told.plan
+  pub is : behind ≡ behind_moves (Some ask.sheet) plans told.first.later
+
+-- these items stand behind the plan and its moves, or behind the none, and the first of them is to be the tree for the claim
+abbrev pub IsTreeDue : Machine → List Plan → Ask → List Item → Claim → List Item → Type 0
+IsTreeDue machine plans ask items (Earliest end) behind = AreBehindPlan machine plans ask items end behind
+IsTreeDue machine plans ask items Never behind = items ≡ Note (TellsNever (label_of_asked ask) (goal_name machine ask.goal)) ∷ behind
+
+-- the tree that is due there has the flaw, or is missing; so many items there are from it on
+pub record HasWrongTree (machine : Machine) (plans : List Plan) (ask : Ask) (items : List Item) (left : ℕ) (reason : Reason) : Type 0 where
   pub claim : Claim
-  pub claimed : DoClaim machine plans ask items claim
-  pub before : List Item
   pub behind : List Item
-  pub parts : items ≡ before ++ behind
+  pub due : IsTreeDue machine plans ask items claim behind
   pub from : left ≡ length behind
-  pub flawed : IsTreeReason machine plans ask claim behind (Tree flaw)
+  pub wrong : IsTreeReason machine plans ask claim behind reason
 
 -- ---- another item than the one that is due
 
@@ -197,32 +202,17 @@ pub record HasPlainSchedule (machine : Machine) (plans : List Plan) (ask : Ask) 
   pub told : TellSchedule machine plans ask items plans'
   pub fault : HasPlainFault (IsAnswerFault machine plans ask plans') machine plans'
 
--- that schedule is right, and no tree stands behind them
-pub record LacksTree (machine : Machine) (plans : List Plan) (ask : Ask) (items : List Item) (left : ℕ) : Type 0 where
-  pub plans' : List Plan
-  pub told : TellSchedule machine plans ask items plans'
-  pub right : IsRight machine plans ask plans'
-  pub none : IsFalse (begins_with_tree (behind_moves (Some ask.sheet) plans told.first.later))
-  pub from : left ≡ length (behind_moves (Some ask.sheet) plans told.first.later)
-
--- the first item tells a none, and no tree stands behind it
-pub record LacksTreeOfNone (machine : Machine) (plans : List Plan) (ask : Ask) (items : List Item) (left : ℕ) : Type 0 where
-  pub later : List Item
-  pub is : items ≡ Note (TellsNever (label_of_asked ask) (goal_name machine ask.goal)) ∷ later
-  pub none : IsFalse (begins_with_tree later)
-  pub from : left ≡ length later
-
 abbrev pub IsDueInAnswer : Machine → List Plan → Ask → List Item → ℕ → Type 0
 IsDueInAnswer machine plans ask items left =
-    (((left ≡ length items) × BeginsWithNoAnswer machine plans ask items) ⊎ LacksTreeOfNone machine plans ask items left)
-    ⊎ (HasMoveOver machine plans ask items left ⊎ (HasPlainSchedule machine plans ask items ⊎ LacksTree machine plans ask items left))
+    ((left ≡ length items) × BeginsWithNoAnswer machine plans ask items)
+    ⊎ (HasMoveOver machine plans ask items left ⊎ (HasPlainSchedule machine plans ask items ⊎ HasWrongTree machine plans ask items left IsDue))
 
 -- ---- reasons
 
 abbrev pub IsAskedReason : Machine → List Plan → Ask → List Item → ℕ → Reason → Type 0
 IsAskedReason machine plans ask items left (NotLeast given least) =
     (plans' : List Plan) × (TellSchedule machine plans ask items plans' × CouldBeEarlier machine ask.now (exempt_of ask) plans' given least)
-IsAskedReason machine plans ask items left (Tree flaw) = HasFlawedTree machine plans ask items left flaw
+IsAskedReason machine plans ask items left (Tree flaw) = HasWrongTree machine plans ask items left (Tree flaw)
 IsAskedReason machine plans ask items left reason = IsBreach (IsDueInAnswer machine plans ask items left) (IsOffAnswer machine plans ask items left) reason
 
 -- why the items don't tell what is due, and how many there are from the wrong one on. Of what is wrong with a schedule no item is claimed

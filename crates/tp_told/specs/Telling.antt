@@ -1,5 +1,5 @@
 -- How the items of an event tell the answers to asks, and how times are settled.
-use Rattle.std.specs.Prelude.{◌≡◌, ℕ, ◌≤◌, Bool, true, false, List, [], ◌∷◌, ◌++◌, map, drop, Some, IsFalse, if◌then◌else◌}
+use Rattle.std.specs.Prelude.{◌≡◌, ℕ, ◌≤◌, Bool, true, false, List, [], ◌∷◌, ◌++◌, map, drop, Option, Some, IsFalse, if◌then◌else◌}
 use Rattle.tp_bounds.specs.declared.tree.BoundTree.{BoundTree}
 use Rattle.tp_log.specs.Gathering.{is_tree}
 use Rattle.tp_log.specs.declared.item.Item.{Item}
@@ -23,12 +23,12 @@ use Rattle.tp_trees.specs.declared.claim.Claim.TheVariants.{Earliest, Never as N
 use Rattle.tp_answers.specs.Faults.{IsRight}
 use Rattle.tp_told.specs.declared.stop.Stop.{Stop}
 
--- the items of an event, how many of them are taken, how often the planner stopped, and why it stopped last
+-- the items of an event, how many of them are taken, how often the planner stopped, and why it stopped last, if it did
 pub record ToldValue : Type 0 where
   pub items : List Item
   pub at : ℕ
   pub stops : ℕ
-  pub stop : Stop
+  pub stop : Option Stop
 
 -- the items that are to come
 abbrev pub ahead : ToldValue → List Item

@@ -5,7 +5,7 @@ ghost use Rattle.tp_schedule.specs.Planning.{HasRisen};
 use crate::answering::take_answer;
 use crate::asides::next_from;
 use crate::settling::take_settled;
-use crate::stop::{Failure, Reason, Stop};
+use crate::stop::{Failure, Stop};
 use std::alloc::Global;
 use std::marker::Model;
 use tp_base::Tick;
@@ -21,12 +21,11 @@ pub struct Told {
     items: Vec<Item>,
     at: usize,
     stops: u64,
-    /// Nothing is known of it before the planner stops.
-    stop: Stop,
+    stop: Option<Stop>,
 }
 
 impl Model for Told {
-    ghost use Rattle.std.specs.Prelude.{◌≤◌, length};
+    ghost use Rattle.std.specs.Prelude.{◌≡◌, ◌≤◌, MatchOption, length};
     ghost use Rattle.tp_told.specs.Telling.{ToldValue};
 
     ghost Value = { ToldValue };
@@ -38,19 +37,21 @@ impl Model for Told {
       stop = p.stop;
     } };
 
-    ghost invariant = { λ p. p.at ≤ length p.items.items };
+    ghost invariant = { λ p. (p.at ≤ length p.items.items)
+        × MatchOption p.stop (p.stops ≡ 0) (λ stop. 1 ≤ p.stops) };
 }
 
 /// Counts a stop, up to the last count.
 fn count_stop(stops: u64) -> u64
     ensures risen { HasRisen stops result }
     ensures at_least { stops ≤ result }
+    ensures some { 1 ≤ result }
 {
     stops.saturating_add(1)
 }
 
 impl Told {
-    ghost use Rattle.std.specs.Prelude.{◌-◌, MatchBool};
+    ghost use Rattle.std.specs.Prelude.{◌-◌, MatchBool, MatchOption, None, Some};
     ghost use Rattle.tp_schedule.specs.declared.parts.Halt.TheVariants.{Memory as NoMemory};
     ghost use Rattle.tp_told.specs.Failing.{is_stop};
     ghost use Rattle.tp_told.specs.Reasons.{IfStop};
@@ -60,16 +61,15 @@ impl Told {
     pub fn new(alloc: Global, items: Vec<Item>) -> Told
         ensures items { result.items ≡ items.items }
         ensures at { result.at ≡ 0 }
+        ensures stops { result.stops ≡ 0 }
+        ensures stop { result.stop ≡ None }
     {
         Told {
             alloc,
             items,
             at: 0,
             stops: 0,
-            stop: Stop {
-                item: 0,
-                reason: Reason::Due,
-            },
+            stop: None,
         }
     }
 
@@ -99,8 +99,9 @@ impl Told {
     }
 
     /// Why it stopped last, if it did.
-    pub fn stop(&self) -> Stop
-        ensures { result ≡ self.now.stop }
+    pub fn stop(&self) -> Option<Stop>
+        ensures last { result ≡ self.now.stop }
+        ensures counted { MatchOption result (self.now.stops ≡ 0) (λ stop. 1 ≤ self.now.stops) }
     {
         self.stop
     }
@@ -116,18 +117,17 @@ impl Told {
     fn halt(&mut self, failure: Failure) -> Halt
         ensures halts { MatchBool (is_stop failure) (HasStopped self.old result self.new)
             ((result ≡ NoMemory) × (self.new ≡ self.old)) }
-        ensures kept { IfStop (λ left reason.
-            (self.new.stop.item ≡ length self.old.items - left)
-            × (self.new.stop.reason ≡ reason)) failure }
+        ensures kept { IfStop (λ left reason. self.new.stop
+            ≡ Some (record { item = length self.old.items - left; reason = reason })) failure }
     {
         match failure {
             Failure::Memory => Halt::Memory,
             Failure::Stop(found) => {
                 self.stops = count_stop(self.stops);
-                self.stop = Stop {
+                self.stop = Some(Stop {
                     item: self.items.len().saturating_sub(found.left),
                     reason: found.reason,
-                };
+                });
                 Halt::Stopped
             }
         }

@@ -9,17 +9,15 @@ use Rattle.tp_trees.specs.declared.claim.Claim.TheVariants.{Earliest}
 use Rattle.tp_answers.specs.Faults.{IsRight}
 use Rattle.tp_told.specs.Answering.{DoTellPlan}
 use Rattle.tp_told.specs.Breaches.{HasOffMove}
-use Rattle.tp_told.specs.Moving.{DoTellMoves, IsMoveOver, behind_moves}
+use Rattle.tp_told.specs.Moving.{DoTellMoves, IsMoveOver}
 use Rattle.tp_told.specs.Showing.{BeginsWithTree}
 use Rattle.tp_told.proofs.MoveSteps.{rest-is}
 use Rattle.tp_told.proofs.PlaceFacts.{few-left, placed, right-too, tells-moves-too, tree-too}
 use Rattle.tp_told.proofs.TreeFacts.{denies-from, denies-like}
-use Rattle.std.specs.Prelude.{IsFalse, Some}
-use Rattle.std.proofs.Common.{ℤ, inl, inr, refl, ◌++◌}
-use Rattle.std.proofs.lemmas.List.{take-append-drop}
+use Rattle.std.specs.Prelude.{Some}
+use Rattle.std.proofs.Common.{ℤ, inl, inr, refl}
 use Rattle.tp_answers.specs.Faults.{IsAnswerFault, exempt_of}
-use Rattle.tp_told.specs.Reasons.{BeginsWithPlan, IsAskedReason, IsBreach, IsDueInAnswer, IsFrom, IsTimesReason, IsTreeReason}
-use Rattle.tp_told.specs.Telling.{begins_with_tree}
+use Rattle.tp_told.specs.Reasons.{AreBehindPlan, BeginsWithPlan, IsAskedReason, IsBreach, IsFrom, IsTimesReason, IsTreeReason}
 use Rattle.tp_told.proofs.ReasonFacts.{asked-breach, asked-reason, same-stop, stop-from, tree-reason}
 use Rattle.tp_told.proofs.answering.place_plan.Goals as goal
 
@@ -122,16 +120,13 @@ returns-in-Err-take_tree-clause-why c = λ told only. (
     let taken = c.in-Ok-take_all_moves.taken in
     let end : end_of_plan plan ≡ c.get.result = ap (slice_index c.args.plan.points) (sym c.len.ensures.len) ∙ get_or_from_slice_get plan.points c.len.result c.get.result 0 c.get.ensures in
     let behind = take (length later - taken) (drop taken later) in
-    let begins : BeginsWithPlan m plans ask items plan = record { told = told; later = later; is = refl; only = only } in
     let moved = c.in-Ok-take_all_moves.ensures.moved in
-    let rest : behind ≡ behind_moves (Some ask.sheet) plans later = rest-is later taken ∙ moved.left in
-    let lacks : (n : ℕ) → n ≡ length behind → IsFalse (begins_with_tree behind) → IsDueInAnswer m plans ask items n = λ n from none. inr (inr (inr (record {
+    let due : AreBehindPlan m plans ask items c.get.result behind = record {
       plans' = c.put_plan.new.schedule.plans;
-      told = record { plan = plan; first = begins; mid = c.take_all_moves.new.after.plans; taken = taken; moved = moved; placed = c.in-Ok-put_plan.ensures };
+      told = record { plan = plan; first = record { told = told; later = later; is = refl; only = only }; mid = c.take_all_moves.new.after.plans; taken = taken; moved = moved; placed = c.in-Ok-put_plan.ensures };
       right = c.in-Ok-check_answer.ensures.right;
-      none = subst (λ xs. IsFalse (begins_with_tree xs)) rest none;
-      from = from ∙ ap length rest;
-    }))) in
-    let parts : items ≡ (Note told ∷ take taken later) ++ behind = (λ k. Note told ∷ (sym (take-append-drop taken later) ∙ ap (λ xs. take taken later ++ xs) (sym (rest-is later taken))) k) in
+      ends = sym end;
+      is = rest-is later taken ∙ moved.left;
+    } in
     stop-from (IsFrom (length behind) (IsTreeReason m plans ask (Earliest c.get.result) behind)) (IsAskedReason m plans ask items) c.in-Err-take_tree.failure
-    (λ n r h. tree-reason m plans ask (Earliest c.get.result) items (Note told ∷ take taken later) behind (plan, (begins, sym end)) parts n h.0 (lacks n h.0) r h.1) c.in-Err-take_tree.ensures.why)
+    (λ n r h. tree-reason m plans ask (Earliest c.get.result) items behind due n h.0 r h.1) c.in-Err-take_tree.ensures.why)

@@ -34,7 +34,7 @@ returns-in-Err-clause-why c =
     let P : ℤ → ℤ → Type 0 = TellsUnfit plans ask told in
     let Due = TellsNoForm m plans ask told in
     wrong-stop Due P (IsAskedReason m plans ask items) c.in-Err.wrong (length items) c.wrong_plan.result (search rules)
-    (asked-breach Due P m plans ask items (length items) (λ none. inl (inl (refl, no-answer m plans ask told c.args.later.now (no-plan m plans ask told c.requires.plan none)))) (λ a b unfit. inl (refl, inl (record { told = told; later = c.args.later.now; is = refl; unfit = unfit })))) c.in-Err.ensures.why
+    (asked-breach Due P m plans ask items (length items) (λ none. inl (refl, no-answer m plans ask told c.args.later.now (no-plan m plans ask told c.requires.plan none))) (λ a b unfit. inl (refl, inl (record { told = told; later = c.args.later.now; is = refl; unfit = unfit })))) c.in-Err.ensures.why
 
 pub returns-in-Ok-Some-clause-why : goal.returns-in-Ok-Some-clause-why
 returns-in-Ok-Some-clause-why c =

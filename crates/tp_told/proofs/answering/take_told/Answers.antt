@@ -1,16 +1,15 @@
 -- A plan is told by its record, and a none by its tree.
-use Rattle.std.specs.Prelude.{IsFalse}
-use Rattle.std.proofs.Common.{◌≡◌, ℕ, [], ◌∷◌, ◌∙◌, inl, inr, length, refl, subst, sym}
+use Rattle.std.proofs.Common.{◌≡◌, ◌∷◌, ◌∙◌, length, subst, sym}
 use Rattle.tp_log.specs.declared.item.Item.TheVariants.{Note}
 use Rattle.tp_schedule.specs.Planning.Due.{asking}
 use Rattle.tp_schedule.specs.declared.parts.Reply.TheVariants.{Never, Spent}
 use Rattle.tp_told.specs.Answering.{DoTellPlan, TakesAnswer}
-use Rattle.tp_told.specs.Telling.{TellsDue, begins_with_tree}
+use Rattle.tp_told.specs.Telling.{TellsDue}
 use Rattle.tp_schedule.specs.declared.records.Record.TheVariants.{Never as TellsNever}
 use Rattle.tp_trees.specs.declared.claim.Claim.TheVariants.{Never as NeverClaim}
 use Rattle.tp_turn.specs.Answering.{label_of_asked}
 use Rattle.tp_turn.specs.Labels.{goal_name}
-use Rattle.tp_told.specs.Reasons.{IsAskedReason, IsDueInAnswer, IsFrom, IsTreeReason}
+use Rattle.tp_told.specs.Reasons.{IsAskedReason, IsFrom, IsTreeDue, IsTreeReason}
 use Rattle.tp_told.proofs.ReasonFacts.{stop-from, tree-reason}
 use Rattle.tp_told.proofs.PlaceFacts.{first-is}
 use Rattle.tp_told.proofs.ReplyFacts.{head-of, never-taken, plan-due}
@@ -51,7 +50,6 @@ returns-in-Err-take_tree-clause-why c =
     let items = Note told ∷ later in
     let about = c.is_about-about.ensures.0 c.if-not-about.false in
     let never : told ≡ TellsNever (label_of_asked ask) (goal_name m ask.goal) = c.in-Never.is ∙ (λ k. TellsNever (about.0 k) (about.1 k)) in
-    let lacks : (n : ℕ) → n ≡ length later → IsFalse (begins_with_tree later) → IsDueInAnswer m plans ask items n =
-    λ n from none. inl (inr (record { later = later; is = λ k. Note (never k) ∷ later; none = none; from = from })) in
+    let due : IsTreeDue m plans ask items NeverClaim later = λ k. Note (never k) ∷ later in
     stop-from (IsFrom (length later) (IsTreeReason m plans ask NeverClaim later)) (IsAskedReason m plans ask items) c.in-Err-take_tree.failure
-    (λ n r h. tree-reason m plans ask NeverClaim items (Note told ∷ []) later (later, (λ k. Note (never k) ∷ later)) refl n h.0 (lacks n h.0) r h.1) c.in-Err-take_tree.ensures.why
+    (λ n r h. tree-reason m plans ask NeverClaim items later due n h.0 r h.1) c.in-Err-take_tree.ensures.why

@@ -7,7 +7,7 @@ use Rattle.tp_told.specs.Telling.{HasStopped, behind_asides}
 use Rattle.tp_told.proofs.MoveSteps.{rest-is}
 use Rattle.tp_told.specs.Reasons.{IsSettlingReason}
 use Rattle.tp_told.specs.declared.stop.Reason.{Reason}
-use Rattle.tp_told.proofs.ReasonFacts.{kept-reason}
+use Rattle.tp_told.proofs.ReasonFacts.{KeepsWhy, kept-reason}
 use Rattle.tp_told.proofs.ToldFacts.{first, halted, settles-on, stops-settled}
 use Rattle.tp_told.proofs.told.ToldPlanner.settle.Goals as goal
 
@@ -42,4 +42,4 @@ returns-in-Err-clause-stopped c = λ e. (
     let R : List Item → ℕ → Reason → Type 0 = λ xs n r. IsSettlingReason m plans c.args.now xs n r in
     let why = kept-reason (R (take (length c.deref.result.now - next) (drop next c.deref.result.now))) c.in-Err.failure c.halt.new.self.stop c.args.self.now c.halt.result c.halt.new.self (length c.args.self.now.items) c.halt.ensures.halts halts c.halt.ensures.kept c.in-Err.ensures.why in
     let stopped : HasStopped c.args.self.now c.halt.result c.halt.new.self = both.1 in
-    stops-settled m plans c.args.self.now next c.next-next.ensures.items c.next-next.ensures.further c.args.now c.halt.result c.halt.new.self (subst (λ xs. P xs → ⊥) path both.0) (why.0, why.1, subst (λ xs. R xs why.0 c.halt.new.self.stop.reason) path why.2) stopped)
+    stops-settled m plans c.args.self.now next c.next-next.ensures.items c.next-next.ensures.further c.args.now c.halt.result c.halt.new.self (subst (λ xs. P xs → ⊥) path both.0) (subst (λ xs. KeepsWhy (R xs) c.halt.new.self.stop (length c.args.self.now.items)) path why) stopped)
