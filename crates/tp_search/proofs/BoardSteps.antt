@@ -4,7 +4,6 @@ use Rattle.std.specs.Prelude.{slice_get}
 use Rattle.std.proofs.lemmas.List.{length-append}
 use Rattle.std.proofs.Math.Seq.{take-append_seam}
 use Rattle.std.proofs.lemmas.Option.{same_Some}
-use Rattle.tp_base.proofs.SliceFacts.{slice_get_last}
 use Rattle.tp_base.specs.Net.{Net}
 use Rattle.tp_machine.specs.Using.{action_at}
 use Rattle.tp_machine.specs.declared.parts.ActId.{ActId}
@@ -141,6 +140,11 @@ module _ {N C : Type 0} (net : N → Net) (content : N → C) (past : N → List
         placed-first : (cs : List Choice) → cs ≡ record { act = act; places = places } ∷ choices → place_first place cs ≡ record { act = act; places = places ++ place ∷ [] } ∷ choices
         placed-first cs e = ap (place_first place) e
 
+-- the element behind the first ones
+pub slice-at : {X : Type 0} (xs : List X) (x : X) (ys : List X) → slice_get (xs ++ x ∷ ys) (length xs) ≡ Some x
+slice-at [] x ys = refl
+slice-at (y ∷ xs) x ys = slice-at xs x ys
+
 -- with marks
 module _ {N C A : Type 0} (net : N → Net) (content : N → C) (past : N → List C) (aside : N → A) (max_marks : N → ℕ) where
   -- a board after a mark
@@ -181,13 +185,13 @@ module _ {N C A : Type 0} (net : N → Net) (content : N → C) (past : N → Li
     ask = ap (λ (x : BoardAside A). x.ask) e;
   }
 
-  -- a board that is undone to the newest mark, which was made on another board, is as that one
-  pub undone-mark : (b0 b2 b3 : BoardValue N) (machine : Machine) (mark : ℕ) → mark ≡ length (past_of past b0) → past_of past b2 ≡ past_of past b0 ++ content_of content b0 ∷ []
+  -- a board that is undone to a mark, which was made on another board, is as that one
+  pub undone-mark : (b0 b2 b3 : BoardValue N) (machine : Machine) (mark : ℕ) (kept : List (BoardContent C)) → mark ≡ length (past_of past b0) → past_of past b2 ≡ past_of past b0 ++ content_of content b0 ∷ kept
       → IsSameLoad b0 b2 → max_marks b2.net - 1 ≡ max_marks b0.net - 1 → (Stands net content past b0 machine → StandsBack net content past aside b2 machine) → IsUndone b2 b3 mark → IsBack net content past max_marks b0 b3 machine
-  undone-mark b0 b2 b3 machine mark number was load room stands u =
-      let at : slice_get (past_of past b2) mark ≡ Some (content_of content b0) = (λ i. slice_get (was i) (number i)) ∙ slice_get_last (past_of past b0) (content_of content b0) in
+  undone-mark b0 b2 b3 machine mark kept number was load room stands u =
+      let at : slice_get (past_of past b2) mark ≡ Some (content_of content b0) = (λ i. slice_get (was i) (number i)) ∙ slice-at (past_of past b0) (content_of content b0) kept in
       let content_back : content_of content b3 ≡ content_of content b0 = same_Some (content_of content b3) (content_of content b0) (sym u.content_then ∙ at) in
-      let past_back : past_of past b3 ≡ past_of past b0 = u.past_less ∙ (λ i. take (number i) (was i)) ∙ take-append_seam (past_of past b0) (content_of content b0 ∷ []) in
+      let past_back : past_of past b3 ≡ past_of past b0 = u.past_less ∙ (λ i. take (number i) (was i)) ∙ take-append_seam (past_of past b0) (content_of content b0 ∷ kept) in
       record {
         same_content = content_back;
         same_past = past_back;
@@ -196,16 +200,16 @@ module _ {N C A : Type 0} (net : N → Net) (content : N → C) (past : N → Li
         stands = λ s. stands s b3 mark u.content_then u.aside_same u.past_less;
       }
 
-  pub undone-back : UndoKeeps net content past aside → (b0 b2 b3 : BoardValue N) (machine : Machine) (mark : ℕ) → mark ≡ length (past_of past b0) → past_of past b2 ≡ past_of past b0 ++ content_of content b0 ∷ []
+  pub undone-back : UndoKeeps net content past aside → (b0 b2 b3 : BoardValue N) (machine : Machine) (mark : ℕ) (kept : List (BoardContent C)) → mark ≡ length (past_of past b0) → past_of past b2 ≡ past_of past b0 ++ content_of content b0 ∷ kept
       → IsSameLoad b0 b2 → max_marks b2.net - 1 ≡ max_marks b0.net - 1 → (Stands net content past b0 machine → Stands net content past b2 machine) → IsUndone b2 b3 mark → IsBack net content past max_marks b0 b3 machine
-  undone-back undoes b0 b2 b3 machine mark number was load room stands u =
-      undone-mark b0 b2 b3 machine mark number was load room (λ s back k there aside_same less. undoes b2 back machine k there aside_same less (stands s)) u
+  undone-back undoes b0 b2 b3 machine mark kept number was load room stands u =
+      undone-mark b0 b2 b3 machine mark kept number was load room (λ s back k there aside_same less. undoes b2 back machine k there aside_same less (stands s)) u
 
   -- what was done since a mark is taken back
   pub mark-back : MarkKeeps net content past aside → (b0 b1 b2 b3 : BoardValue N) (machine : Machine) (mark : ℕ) → IsMarked b0 b1 mark → IsSinceMark b1 b2 machine → IsUndone b2 b3 mark
       → IsBack net content past max_marks b0 b3 machine
   mark-back keeps b0 b1 b2 b3 machine mark m since =
-      undone-mark b0 b2 b3 machine mark m.number (since.past_same ∙ m.past_more) (load-trans net content past max_marks b0 b1 b2 (load-of b0 b1 m.aside_same) since.load) (since.room ∙ m.room_same)
+      undone-mark b0 b2 b3 machine mark [] m.number (since.past_same ∙ m.past_more) (load-trans net content past max_marks b0 b1 b2 (load-of b0 b1 m.aside_same) since.load) (since.room ∙ m.room_same)
       (λ s. since.back (keeps b0 b1 machine m.content_same m.aside_same m.past_more s))
 
   pub taken-back : MarkKeeps net content past aside → UndoKeeps net content past aside → (b0 b1 b2 b3 : BoardValue N) (machine : Machine) (mark : ℕ) → IsMarked b0 b1 mark → IsSince net content past max_marks b1 b2 machine → IsUndone b2 b3 mark

@@ -35,7 +35,7 @@ use Rattle.tp_search.proofs.WayBounds.{way-bound}
 use Rattle.tp_ways.proofs.WaySteps.{place-way}
 
 -- the list of a way of these choices that is not stopped
-going-of : (goal : State) (choices : List Choice) (x : Suffix) → x.choices ≡ choices → IsFalse x.stopped → list_of goal x ≡ going goal choices
+pub going-of : (goal : State) (choices : List Choice) (x : Suffix) → x.choices ≡ choices → IsFalse x.stopped → list_of goal x ≡ going goal choices
 going-of goal choices x same going' = let stopped : x.stopped ≡ false = going' in λ i. record { goal = goal; choices = same i; stopped = stopped i }
 
 -- a bound is between the start floor and the horizon

@@ -7,13 +7,12 @@ use Rattle.tp_machine.specs.declared.parts.State.{State}
 use Rattle.tp_machine.specs.declared.machine.Machine.{Machine}
 use Rattle.tp_pool.specs.Entries.{choice_made, choices_of}
 use Rattle.tp_pool.specs.declared.choice.Choice.{Choice as Stored}
-use Rattle.tp_schedule.specs.Choices.{ChoiceList, IsOpen, going}
+use Rattle.tp_schedule.specs.Choices.{IsOpen, going}
 use Rattle.tp_schedule.specs.declared.parts.Ask.{Ask}
-use Rattle.tp_schedule.specs.declared.parts.Plan.{Plan}
 use Rattle.tp_placing.specs.Boards.{BoardValue, suffix_of}
 use Rattle.tp_placing.specs.Standing.{choices_of as laid_by}
 use Rattle.tp_search.specs.Following.{HasList}
-use Rattle.tp_search.specs.Holding.{HoldsList, IsAnswerTo, IsOneMore}
+use Rattle.tp_search.specs.Holding.{HoldsList, IsOneMore}
 use Rattle.tp_search.specs.Stored.{child_by, choices_by, list_by}
 use Rattle.tp_search.specs.Stores.{StoreValue}
 use Rattle.tp_search.specs.declared.holding.Held.{Held}
@@ -63,18 +62,3 @@ module _ {N C : Type 0} (net : N → Net) (content : N → C) (past : N → List
 
   pub child-opens : IsOpen machine b.plans ask (list_by machine choices) → IsOpen machine b.plans ask (child_by machine c.goal (laid_by (suffix_of b)).choices c)
   child-opens o = subst (IsOpen machine b.plans ask) (sym child-whole) o
-
--- the answer that was found as a list was opened
-module _ {N C : Type 0} (net : N → Net) (content : N → C) (past : N → List C) (max_marks : N → ℕ) (b : BoardValue N) (machine : Machine) (plans : List Plan) (ask : Ask) (first : State) (list : ChoiceList) (answer : Stored)
-    (laid : HasList net content past b machine ask first list) (is : IsAnswerTo machine plans ask list answer) where
-  list-carried : (laid_by (suffix_of b)).choices ≡ list.choices
-  list-carried = choices-carried net content past max_marks b machine ask first list.goal list.choices (subst (HasList net content past b machine ask first) is.goes_on laid)
-
-  pub answer-laid : HasList net content past b machine ask first (going answer.goal (laid_by (suffix_of b)).choices)
-  answer-laid = subst (HasList net content past b machine ask first) (is.goes_on ∙ (λ i. going (sym is.goal i) (sym list-carried i))) laid
-
-  pub answer-whole : child_by machine answer.goal (laid_by (suffix_of b)).choices answer ≡ child_by machine list.goal list.choices answer
-  answer-whole = λ i. child_by machine (is.goal i) (list-carried i) answer
-
-  pub answer-opens : b.plans ≡ plans → IsOpen machine b.plans ask (child_by machine answer.goal (laid_by (suffix_of b)).choices answer)
-  answer-opens same = subst (IsOpen machine b.plans ask) (sym answer-whole) (subst (λ ps. IsOpen machine ps ask (child_by machine list.goal list.choices answer)) (sym same) is.opens)

@@ -1,7 +1,7 @@
 -- The list that a board holds over another board: what it was laid on, and that it can be taken off.
-use Rattle.std.proofs.Common.{◌≡◌, ℕ, ◌-◌, ◌<◌, List, [], ◌∷◌, ◌++◌, length, take, Option, Some, None, refl, sym, ap, ◌∙◌, arith}
+use Rattle.std.proofs.Common.{◌≡◌, ℕ, ◌-◌, ◌<◌, List, [], ◌∷◌, ◌++◌, length, take, Option, Some, None, refl, sym, ap, subst, ◌∙◌, le_trans, arith}
 use Rattle.std.proofs.Math.Seq.{take-append_seam}
-use Rattle.std.proofs.lemmas.List.{length-append}
+use Rattle.std.proofs.lemmas.List.{append_assoc, length-append}
 use Rattle.std.proofs.lemmas.Option.{same_Some}
 use Rattle.std.specs.List.{slice_get}
 use Rattle.tp_base.specs.Net.{Net}
@@ -15,18 +15,14 @@ use Rattle.tp_placing.specs.Boards.{BoardValue, content_of, past_of}
 use Rattle.tp_placing.specs.Laws.{MarkKeeps, UndoKeeps}
 use Rattle.tp_placing.specs.Standing.{Stands}
 use Rattle.tp_search.specs.Boards.{HasMarks, IsBack, IsReady}
+use Rattle.tp_search.specs.Children.{HasFound}
 use Rattle.tp_search.specs.Following.{HasList, IsSameButSteps}
 use Rattle.tp_search.specs.Holding.{IsLaidSince, IsOver}
 use Rattle.tp_search.specs.Outcomes.{HasAnswer}
 use Rattle.tp_search.specs.declared.holding.Held.{Held}
 use Rattle.tp_search.specs.declared.holding.Root.{Root}
-use Rattle.tp_search.proofs.BoardSteps.{IsMarked, IsUndone, load-of, load-trans, ready-back}
+use Rattle.tp_search.proofs.BoardSteps.{IsMarked, IsUndone, load-of, load-trans, ready-back, slice-at}
 use Rattle.tp_search.proofs.StepBoards.{marked-ready, stands-asked, stands-legal}
-
--- the element behind the first ones
-pub slice-at : {X : Type 0} (xs : List X) (x : X) (ys : List X) → slice_get (xs ++ x ∷ ys) (length xs) ≡ Some x
-slice-at [] x ys = refl
-slice-at (y ∷ xs) x ys = slice-at xs x ys
 
 pub two-behind : {X : Type 0} (xs : List X) (y x : X) → (xs ++ y ∷ []) ++ x ∷ [] ≡ xs ++ y ∷ x ∷ []
 two-behind [] y x = refl
@@ -103,11 +99,12 @@ module _ {N C : Type 0} (net : N → Net) (content : N → C) (past : N → List
     }
 
   -- a complete list that was laid, before whose bound no answer ends
-  pub since-answer : (b b' : BoardValue N) (machine : Machine) (ask : Ask) (base : ℕ) → IsLaidSince net content past max_marks b b' machine ask base None → (first : State) (list : ChoiceList) (bound : ℕ) → HasList net content past b' machine ask first list
+  pub since-answer : (b b' : BoardValue N) (machine : Machine) (ask : Ask) (base : ℕ) (root : Option Root) → IsLaidSince net content past max_marks b b' machine ask base root → (first : State) (list : ChoiceList) (bound : ℕ) → HasList net content past b' machine ask first list
       → IsComplete machine ask list → IsBound machine b.plans ask list bound → NoneBefore machine b.plans ask bound → HasAnswer net content past max_marks b b' machine ask base
-  since-answer b b' machine ask base since first list bound laid complete is-bound none = record {
+  since-answer b b' machine ask base root since first list bound laid complete is-bound none = record {
     number = since.number;
-    past_more = since.past_more ∙ ap (λ kept. past_of past b ++ content_of content b ∷ kept) since.are_kept;
+    kept = since.kept;
+    past_more = since.past_more;
     loaded = since.loaded;
     marks = since.marks;
     first = first;
@@ -117,6 +114,24 @@ module _ {N C : Type 0} (net : N → Net) (content : N → C) (past : N → List
     complete = complete;
     is_bound = is-bound;
     none_before = none;
+  }
+
+  -- a complete list that was found from what was laid on, and ends by a bound before which no answer ends
+  pub since-found : (b b1 b' : BoardValue N) (machine : Machine) (ask : Ask) (base : ℕ) (root : Option Root) (bound : ℕ) → IsLaidSince net content past max_marks b b1 machine ask base root → HasFound net content past max_marks b1 b' machine ask bound
+      → NoneBefore machine b.plans ask bound → HasAnswer net content past max_marks b b' machine ask base
+  since-found b b1 b' machine ask base root bound since found none = record {
+    number = since.number;
+    kept = since.kept ++ found.further.kept;
+    past_more = found.further.past_more ∙ ap (λ p. p ++ found.further.kept) since.past_more ∙ append_assoc (past_of past b) (content_of content b ∷ since.kept) found.further.kept;
+    loaded = load-trans net content past max_marks b b1 b' since.loaded found.further.loaded;
+    marks = found.further.marks ∙ since.marks;
+    first = found.first;
+    list = found.list;
+    bound = found.end;
+    laid = found.laid;
+    complete = found.complete;
+    is_bound = subst (λ ps. IsBound machine ps ask found.list found.end) (found.further.loaded.plans ∙ since.loaded.plans) found.is_bound;
+    none_before = λ plans' a. le_trans found.in_time (none plans' a);
   }
 
 module _ {N C A : Type 0} (net : N → Net) (content : N → C) (past : N → List C) (aside : N → A) (max_marks : N → ℕ) where

@@ -44,3 +44,6 @@ pub mod EngineFacts
 pub mod AgainFacts
 pub mod AgainSteps
 pub mod TrialShows
+pub mod FurtherFacts
+pub mod FoundFacts
+pub mod DiveSteps

@@ -1,4 +1,4 @@
--- The list that was taken, as it is opened on a board: how many choices it has, and that its answer can be laid.
+-- The list that was taken, as it is opened on a board: how many choices it has, and that the board carries it still.
 use Rattle.std.proofs.Common.{◌≡◌, ℕ, false, List, [], ◌∷◌, length, All, Option, Some, None, IsSome, IsSomeAnd, refl, sym, ap, subst, ◌∙◌, arith}
 use Rattle.std.proofs.lemmas.List.Elements.{All-cons, All-head, All-tail}
 use Rattle.std.proofs.lemmas.Bool.{true≢false}

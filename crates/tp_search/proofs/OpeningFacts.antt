@@ -1,6 +1,6 @@
--- The steps of opening a list: a child is looked at, and taken as the answer or stored.
-use Rattle.std.proofs.Common.{◌≡◌, ◌==◌, ◌↔◌, ◌⊎◌, inl, inr, ℕ, Bool, true, false, IsTrue, if◌then◌else◌, List, [], ◌∷◌, ◌++◌, length, take, Option, Some, None, IsSome, refl, sym, ap, subst, ◌∙◌, arith}
-use Rattle.std.proofs.lemmas.Bool.{and_from, and_parts, both_ways, eq-eqb, eqb-false, eqb-true}
+-- The steps of opening a list: a child is looked at and stored.
+use Rattle.std.proofs.Common.{◌≡◌, ◌==◌, ◌↔◌, ◌⊎◌, inl, inr, ℕ, Bool, true, false, IsTrue, if◌then◌else◌, List, [], ◌∷◌, ◌++◌, length, take, Option, Some, None, refl, sym, ap, subst, ◌∙◌, arith}
+use Rattle.std.proofs.lemmas.Bool.{eqb-false, eqb-true}
 use Rattle.std.proofs.lemmas.List.{append-nil, take-append-le}
 use Rattle.std.proofs.lemmas.List.Elements.{All-weaker}
 use Rattle.tp_machine.specs.Using.{action_at}
@@ -12,49 +12,42 @@ use Rattle.tp_schedule.specs.Choices.{Choice, ChoiceList, IsBound, IsChild, IsCo
 use Rattle.tp_schedule.specs.Holding.{holds_of_act}
 use Rattle.tp_schedule.specs.declared.parts.Ask.{Ask}
 use Rattle.tp_schedule.specs.declared.parts.Plan.{Plan}
-use Rattle.tp_search.specs.Opening.{IsAhead, IsAtProgress, IsFresh, IsLooked, IsOpenChild, IsOpening, Progress, is_answer, opening_after, parent_of, store_after}
+use Rattle.tp_search.specs.Opening.{IsAhead, IsAtProgress, IsFresh, IsLooked, IsOpenChild, IsOpening, Progress, parent_of}
 use Rattle.tp_search.specs.Opening.Progress.{nothing, through, up_to}
 use Rattle.tp_search.specs.Stored.{child_by, choices_by, list_by}
 use Rattle.tp_search.specs.Stores.{StoreValue, after_keep, better, entry_of, with_list}
 use Rattle.tp_search.specs.declared.opening.Opening.{Opening}
 use Rattle.tp_search.proofs.ChildFacts.{child-form, child-through, child_by-act, child_by-stop, open-as_many}
-use Rattle.tp_search.proofs.OpeningParts.{IsStep, opening-answered, opening-full, opening-stored}
+use Rattle.tp_search.proofs.OpeningParts.{IsStep, opening-full, opening-stored}
 use Rattle.tp_search.proofs.ProgressFacts.{tried-itself, tried-none}
 use Rattle.tp_search.proofs.StoreFacts.{choices-stay}
 
--- one open child more is looked at
+-- one open child more is looked at, and stored: it is not complete with the parent's bound
 pub opening-step : (machine : Machine) (plans : List Plan) (ask : Ask) (o : Opening) (s : StoreValue) (before after : Progress) (c : Stored) (b : ℕ) (complete : Bool) (child : ChoiceList)
     → child_by machine o.goal (choices_by machine (choices_before s.entries o.parent)) c ≡ child → IsFresh machine ask o s → IsAtProgress machine plans ask o s before → c.goal ≡ o.goal
     → IsStep machine plans ask (parent_of machine s.entries o.goal o.parent) before after child → IsChild machine ask (parent_of machine s.entries o.goal o.parent) child → IsBound machine plans ask child b
-    → (IsTrue complete ↔ IsComplete machine ask child) → IsAtProgress machine plans ask (opening_after c b complete o) (store_after c b complete o s) after
-opening-step machine plans ask o s before after c b complete child is fresh opening goal step is-child is-bound exactly = go (is_answer o b complete) refl where
-  other : is_answer o b complete ≡ false → IsComplete machine ask child → b ≡ o.bound → ⊥
-  other e is-complete same = both_ways (is_answer o b complete) e (and_from complete (b == o.bound) (exactly.1 is-complete) (eq-eqb b o.bound same))
+    → (IsTrue complete ↔ IsComplete machine ask child) → (IsTrue complete → b ≡ o.bound → ⊥) → IsAtProgress machine plans ask o (after_keep o.parent c b complete s) after
+opening-step machine plans ask o s before after c b complete child is fresh opening goal step is-child is-bound exactly answers = keep (length s.entries == s.room) refl where
+  other : IsComplete machine ask child → b ≡ o.bound → ⊥
+  other is-complete = answers (exactly.1 is-complete)
 
-  grown : (new : List Entry) (best : Option ℕ) → IsOpening machine plans ask (parent_of machine s.entries o.goal o.parent) o.bound (choices_before s.entries o.parent) (take o.stored s.entries) after o.answer (s.entries ++ new) s.room s.full best
-      → IsOpening machine plans ask (parent_of machine (s.entries ++ new) o.goal o.parent) o.bound (choices_before (s.entries ++ new) o.parent) (take o.stored (s.entries ++ new)) after o.answer (s.entries ++ new) s.room s.full best
+  grown : (new : List Entry) (best : Option ℕ) → IsOpening machine plans ask (parent_of machine s.entries o.goal o.parent) o.bound (choices_before s.entries o.parent) (take o.stored s.entries) after (s.entries ++ new) s.room s.full best
+      → IsOpening machine plans ask (parent_of machine (s.entries ++ new) o.goal o.parent) o.bound (choices_before (s.entries ++ new) o.parent) (take o.stored (s.entries ++ new)) after (s.entries ++ new) s.room s.full best
   grown new best known =
       let same-base : take o.stored (s.entries ++ new) ≡ take o.stored s.entries = take-append-le o.stored s.entries new fresh.stored in
       let same-choices : choices_before (s.entries ++ new) o.parent ≡ choices_before s.entries o.parent = choices-stay s.entries new o.stored o.parent fresh.parent fresh.stored in
-      subst (λ base. IsOpening machine plans ask (parent_of machine (s.entries ++ new) o.goal o.parent) o.bound (choices_before (s.entries ++ new) o.parent) base after o.answer (s.entries ++ new) s.room s.full best) (sym same-base)
-      (subst (λ old. IsOpening machine plans ask (going o.goal (choices_by machine old)) o.bound old (take o.stored s.entries) after o.answer (s.entries ++ new) s.room s.full best) (sym same-choices) known)
+      subst (λ base. IsOpening machine plans ask (parent_of machine (s.entries ++ new) o.goal o.parent) o.bound (choices_before (s.entries ++ new) o.parent) base after (s.entries ++ new) s.room s.full best) (sym same-base)
+      (subst (λ old. IsOpening machine plans ask (going o.goal (choices_by machine old)) o.bound old (take o.stored s.entries) after (s.entries ++ new) s.room s.full best) (sym same-choices) known)
 
-  keep : is_answer o b complete ≡ false → (full : Bool) → (length s.entries == s.room) ≡ full → IsAtProgress machine plans ask o (if full then record s { full = true } else with_list o.parent c b complete s) after
-  keep e true all =
-      opening-full machine plans ask (parent_of machine s.entries o.goal o.parent) o.bound (choices_before s.entries o.parent) (take o.stored s.entries) before after o.answer s.entries s.room s.full s.best child b opening step is-child is-bound
-      (other e) fresh.none_before (eqb-true (length s.entries) s.room all)
-  keep e false space =
+  keep : (full : Bool) → (length s.entries == s.room) ≡ full → IsAtProgress machine plans ask o (if full then record s { full = true } else with_list o.parent c b complete s) after
+  keep true all =
+      opening-full machine plans ask (parent_of machine s.entries o.goal o.parent) o.bound (choices_before s.entries o.parent) (take o.stored s.entries) before after s.entries s.room s.full s.best child b opening step is-child is-bound
+      other fresh.none_before (eqb-true (length s.entries) s.room all)
+  keep false space =
       let as-child : list_by machine (c ∷ choices_before s.entries o.parent) ≡ child = ap (λ g. child_by machine g (choices_by machine (choices_before s.entries o.parent)) c) goal ∙ is in
       grown (entry_of s.entries o.parent c b ∷ []) (better s.entries complete b (length s.entries) s.best)
-      (opening-stored machine plans ask (parent_of machine s.entries o.goal o.parent) o.bound (choices_before s.entries o.parent) (take o.stored s.entries) before after o.answer s.entries s.room s.full s.best child b opening step is-child is-bound
-      (other e) (eqb-false (length s.entries) s.room space) c as-child goal complete exactly)
-
-  go : (answer : Bool) → is_answer o b complete ≡ answer → IsAtProgress machine plans ask (if answer then record o { answer = Some c } else o) (if answer then s else after_keep o.parent c b complete s) after
-  go true e =
-      let parts = and_parts complete (b == o.bound) e in
-      opening-answered machine plans ask (parent_of machine s.entries o.goal o.parent) o.bound (choices_before s.entries o.parent) (take o.stored s.entries) before after o.answer s.entries s.room s.full s.best child b opening step is-child is-bound
-      c is goal (exactly.0 parts.0) (eqb-true b o.bound parts.1)
-  go false e = keep e (length s.entries == s.room) refl
+      (opening-stored machine plans ask (parent_of machine s.entries o.goal o.parent) o.bound (choices_before s.entries o.parent) (take o.stored s.entries) before after s.entries s.room s.full s.best child b opening step is-child is-bound
+      other (eqb-false (length s.entries) s.room space) c as-child goal complete exactly)
 
 -- a child with these places, as many as its action has holds, is the only one through them
 step-child : (machine : Machine) (plans : List Plan) (ask : Ask) (p : ChoiceList) (act : ActId) (places : List ℕ) → length places ≡ length (holds_of_act (action_at machine act.0))
@@ -95,30 +88,30 @@ pub opening-child : (machine : Machine) (plans : List Plan) (ask : Ask) (o : Ope
     → IsFresh machine ask o s → IsAtProgress machine plans ask o s (up_to act.0 places) → c.act ≡ Some act → c.goal ≡ o.goal → take (length (holds_of_act (action_at machine act.0))) c.places ≡ places
     → IsChild machine ask (parent_of machine s.entries o.goal o.parent) (child_by machine o.goal (choices_by machine (choices_before s.entries o.parent)) c)
     → IsBound machine plans ask (child_by machine o.goal (choices_by machine (choices_before s.entries o.parent)) c) b
-    → (IsTrue complete ↔ IsComplete machine ask (child_by machine o.goal (choices_by machine (choices_before s.entries o.parent)) c))
-    → IsAtProgress machine plans ask (opening_after c b complete o) (store_after c b complete o s) (through act.0 places)
-opening-child machine plans ask o s act places c b complete fresh opening has goal first is-child is-bound exactly =
+    → (IsTrue complete ↔ IsComplete machine ask (child_by machine o.goal (choices_by machine (choices_before s.entries o.parent)) c)) → (IsTrue complete → b ≡ o.bound → ⊥)
+    → IsAtProgress machine plans ask o (after_keep o.parent c b complete s) (through act.0 places)
+opening-child machine plans ask o s act places c b complete fresh opening has goal first is-child is-bound exactly answers =
     let parent = parent_of machine s.entries o.goal o.parent in
     let is = child_by-act machine o.goal parent.choices c act places has first in
     let bounded = subst (λ l. IsBound machine plans ask l b) is is-bound in
     let many = open-as_many machine plans ask o.goal (record { act = act; places = places }) parent.choices (b, bounded.opens) in
     opening-step machine plans ask o s (up_to act.0 places) (through act.0 places) c b complete (going o.goal (record { act = act; places = places } ∷ parent.choices)) is fresh opening goal
     (step-child machine plans ask parent act places many) (subst (IsChild machine ask parent) is is-child) bounded
-    (subst (λ l. IsTrue complete ↔ IsComplete machine ask l) is exactly)
+    (subst (λ l. IsTrue complete ↔ IsComplete machine ask l) is exactly) answers
 
 -- the stopped child is looked at
 pub opening-stop : (machine : Machine) (plans : List Plan) (ask : Ask) (o : Opening) (s : StoreValue) (c : Stored) (b : ℕ) (complete : Bool)
     → IsFresh machine ask o s → IsAtProgress machine plans ask o s nothing → c.act ≡ None → c.goal ≡ o.goal
     → IsChild machine ask (parent_of machine s.entries o.goal o.parent) (child_by machine o.goal (choices_by machine (choices_before s.entries o.parent)) c)
     → IsBound machine plans ask (child_by machine o.goal (choices_by machine (choices_before s.entries o.parent)) c) b
-    → (IsTrue complete ↔ IsComplete machine ask (child_by machine o.goal (choices_by machine (choices_before s.entries o.parent)) c))
-    → IsAtProgress machine plans ask (opening_after c b complete o) (store_after c b complete o s) (up_to 0 [])
-opening-stop machine plans ask o s c b complete fresh opening has goal is-child is-bound exactly =
+    → (IsTrue complete ↔ IsComplete machine ask (child_by machine o.goal (choices_by machine (choices_before s.entries o.parent)) c)) → (IsTrue complete → b ≡ o.bound → ⊥)
+    → IsAtProgress machine plans ask o (after_keep o.parent c b complete s) (up_to 0 [])
+opening-stop machine plans ask o s c b complete fresh opening has goal is-child is-bound exactly answers =
     let parent = parent_of machine s.entries o.goal o.parent in
     let is = child_by-stop machine o.goal parent.choices c has in
     opening-step machine plans ask o s nothing (up_to 0 []) c b complete (stopping o.goal parent.choices) is fresh opening goal
     (step-stop machine plans ask parent) (subst (IsChild machine ask parent) is is-child) (subst (λ l. IsBound machine plans ask l b) is is-bound)
-    (subst (λ l. IsTrue complete ↔ IsComplete machine ask l) is exactly)
+    (subst (λ l. IsTrue complete ↔ IsComplete machine ask l) is exactly) answers
 
 -- the progress goes on over children that are not open
 pub opening-on : (machine : Machine) (plans : List Plan) (ask : Ask) (o : Opening) (s : StoreValue) (p q : Progress) → IsAtProgress machine plans ask o s p → ((list : ChoiceList) → IsLooked p list → IsLooked q list)
@@ -134,29 +127,8 @@ opening-on machine plans ask o s p q opening more only = record {
   ];
   finished = λ list looked answers. elim (only list answers.is_child looked) [
     | inl earlier ↦ opening.finished list earlier answers
-    | inr closed ↦ absurd (closed (o.bound, answers.is_bound.opens))
+    | inr closed ↦ closed (o.bound, answers.is_bound.opens)
   ];
-  right = opening.right;
-  same_goal = opening.same_goal;
-  spent = opening.spent;
-  has_best = opening.has_best;
-} where
-  on : (e : Entry) → IsOpenChild machine plans ask (parent_of machine s.entries o.goal o.parent) o.bound (choices_before s.entries o.parent) p e
-      → IsOpenChild machine plans ask (parent_of machine s.entries o.goal o.parent) o.bound (choices_before s.entries o.parent) q e
-  on e is = record { newest = is.newest; choices = is.choices; goal = is.goal; is_child = is.is_child; looked = more (list_by machine e.choices) is.looked; is_bound = is.is_bound }
-
--- with an answer no more children need be looked at
-pub opening-found : (machine : Machine) (plans : List Plan) (ask : Ask) (o : Opening) (s : StoreValue) (p q : Progress) → IsAtProgress machine plans ask o s p → IsSome o.answer → ((list : ChoiceList) → IsLooked p list → IsLooked q list)
-    → IsAtProgress machine plans ask o s q
-opening-found machine plans ask o s p q opening found more = record {
-  new = opening.new;
-  grown = opening.grown;
-  children = All-weaker _ _ on opening.new opening.children;
-  apart = opening.apart;
-  reached = λ list child looked opens. inl found;
-  finished = λ list looked answers. found;
-  right = opening.right;
-  same_goal = opening.same_goal;
   spent = opening.spent;
   has_best = opening.has_best;
 } where

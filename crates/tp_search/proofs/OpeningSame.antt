@@ -1,16 +1,17 @@
 -- What stays while a list is opened.
-use Rattle.std.proofs.Common.{◌≡◌, ℕ, Bool, true, false, if◌then◌else◌, List, take, Contains, Some, refl, sym, ap, subst, ◌∙◌, arith}
+use Rattle.std.proofs.Common.{◌≡◌, List, take, Contains, refl, sym, ap, subst, ◌∙◌, arith}
 use Rattle.tp_machine.specs.declared.parts.State.{State}
 use Rattle.tp_machine.specs.declared.machine.Machine.{Machine}
 use Rattle.tp_pool.specs.Entries.{Entry, IsParentOf, choices_before}
 use Rattle.tp_pool.specs.declared.choice.Choice.{Choice as Stored}
 use Rattle.tp_schedule.specs.Choices.{ChoiceList, IsChild, going}
 use Rattle.tp_schedule.specs.declared.parts.Ask.{Ask}
-use Rattle.tp_search.specs.Opening.{IsFresh, IsSameOpening, is_answer, opening_after, parent_of, store_after}
+use Rattle.tp_schedule.specs.declared.parts.Plan.{Plan}
+use Rattle.tp_search.specs.Opening.{IsAtProgress, IsFresh, IsSameOpening, Progress, parent_of}
 use Rattle.tp_search.specs.Stored.{choices_by, list_by}
-use Rattle.tp_search.specs.Stores.{HasBounds, StoreValue, after_keep}
+use Rattle.tp_search.specs.Stores.{HasBounds, StoreGrows, StoreValue}
 use Rattle.tp_search.specs.declared.opening.Opening.{Opening}
-use Rattle.tp_search.proofs.StoreFacts.{as-long, choices-grow, grows-by_keep, grows-itself, grows-trans, stored-grow}
+use Rattle.tp_search.proofs.StoreFacts.{as-long, choices-grow, grows-itself, grows-trans, stored-grow}
 
 pub same-itself : (o : Opening) (s : StoreValue) → IsSameOpening o o s s
 same-itself o s = record { goal = refl; parent = refl; bound = refl; stored = refl; grows = grows-itself s }
@@ -24,12 +25,24 @@ same-trans a b c r s t first second = record {
   grows = grows-trans r s t first.grows second.grows;
 }
 
--- a child is taken as the answer, or stored
-pub opening-same : (o : Opening) (s : StoreValue) (c : Stored) (b : ℕ) (complete : Bool) → IsSameOpening o (opening_after c b complete o) s (store_after c b complete o s)
-opening-same o s c b complete = go (is_answer o b complete) where
-  go : (answer : Bool) → IsSameOpening o (if answer then record o { answer = Some c } else o) s (if answer then s else after_keep o.parent c b complete s)
-  go true = record { goal = refl; parent = refl; bound = refl; stored = refl; grows = grows-itself s }
-  go false = record { goal = refl; parent = refl; bound = refl; stored = refl; grows = grows-by_keep o.parent c b complete s }
+-- with another bound at which a dive failed
+pub dived-same : (o o' : Opening) (s s' : StoreValue) → o' ≡ record o { dived = o'.dived } → StoreGrows s s' → IsSameOpening o o' s s'
+dived-same o o' s s' is grows = record {
+  goal = ap (λ (x : Opening). x.goal) is;
+  parent = ap (λ (x : Opening). x.parent) is;
+  bound = ap (λ (x : Opening). x.bound) is;
+  stored = ap (λ (x : Opening). x.stored) is;
+  grows = grows;
+}
+
+-- the same is known of it
+pub progress-same : (machine : Machine) (plans : List Plan) (ask : Ask) (o o' : Opening) (s : StoreValue) (p : Progress) → o'.goal ≡ o.goal → o'.parent ≡ o.parent → o'.bound ≡ o.bound → o'.stored ≡ o.stored
+    → IsAtProgress machine plans ask o s p → IsAtProgress machine plans ask o' s p
+progress-same machine plans ask o o' s p goal parent bound stored at =
+    subst (λ g. IsAtProgress machine plans ask (record { parent = o'.parent; goal = g; bound = o'.bound; stored = o'.stored; dived = o'.dived }) s p) (sym goal)
+    (subst (λ q. IsAtProgress machine plans ask (record { parent = q; goal = o.goal; bound = o'.bound; stored = o'.stored; dived = o'.dived }) s p) (sym parent)
+    (subst (λ b. IsAtProgress machine plans ask (record { parent = o.parent; goal = o.goal; bound = b; stored = o'.stored; dived = o'.dived }) s p) (sym bound)
+    (subst (λ n. IsAtProgress machine plans ask (record { parent = o.parent; goal = o.goal; bound = o.bound; stored = n; dived = o'.dived }) s p) (sym stored) at)))
 
 -- the choices of the list that is being opened
 pub before-same : (machine : Machine) (ask : Ask) (o o' : Opening) (s s' : StoreValue) → IsSameOpening o o' s s' → IsFresh machine ask o s → choices_before s'.entries o'.parent ≡ choices_before s.entries o.parent

@@ -1,5 +1,5 @@
 -- The steps of placing the holds of a choice: the last hold is placed, and a place is tried and taken back.
-use Rattle.std.proofs.Common.{◌≡◌, ◌↔◌, ℕ, suc, ◌+◌, ◌-◌, ◌<◌, ◌≤◌, Bool, IsTrue, IsSomeAnd, List, [], ◌∷◌, ◌++◌, length, take, Some, refl, sym, ap, subst, ◌∙◌, arith, length-take-le}
+use Rattle.std.proofs.Common.{◌≡◌, ◌↔◌, ℕ, suc, ◌+◌, ◌-◌, ◌<◌, ◌≤◌, Bool, IsTrue, IsSomeAnd, List, [], ◌∷◌, ◌++◌, length, take, Option, None, Some, refl, sym, ap, subst, ◌∙◌, arith, length-take-le}
 use Rattle.std.specs.Prelude.{slice_get, slice_set}
 use Rattle.std.proofs.lemmas.List.{length-append, take_more_set}
 use Rattle.tp_base.specs.Net.{Net}
@@ -18,7 +18,6 @@ use Rattle.tp_schedule.specs.Routes.{IsStart}
 use Rattle.tp_schedule.specs.Spots.Spot.{own}
 use Rattle.tp_schedule.specs.declared.parts.Ask.{Ask}
 use Rattle.tp_schedule.specs.declared.parts.Origin.TheVariants.{Feeder as FromFeeder}
-use Rattle.tp_schedule.specs.declared.parts.Plan.{Plan}
 use Rattle.tp_constraints.specs.Suffixes.{with_place}
 use Rattle.tp_constraints.proofs.Lists.{contains-get}
 use Rattle.tp_placing.specs.Boards.{BoardValue, content_of, past_of, suffix_of}
@@ -28,35 +27,35 @@ use Rattle.tp_placing.specs.Standing.{Stands, order_after}
 use Rattle.tp_placing.specs.Walking.{HasNoTimesUpTo, StandsBack}
 use Rattle.tp_placing.specs.Ticks.{HasLeastTick}
 use Rattle.tp_search.specs.Boards.{HasMarks, IsBack, IsLaid}
-use Rattle.tp_search.specs.Opening.{IsAtProgress, IsFresh, IsSameOpening, Progress, opening_after, parent_of, store_after}
+use Rattle.tp_search.specs.Children.{HasFound}
+use Rattle.tp_search.specs.Opening.{IsAtProgress, IsFresh, IsSameOpening, parent_of}
 use Rattle.tp_search.specs.Opening.Progress.{through, up_to}
 use Rattle.tp_search.specs.Stored.{child_by, choices_by}
-use Rattle.tp_search.specs.Stores.{HasBounds, IsInRange, StoreValue}
+use Rattle.tp_search.specs.Stores.{HasBounds, IsInRange, StoreValue, after_keep}
 use Rattle.tp_search.specs.declared.opening.Opening.{Opening}
 use Rattle.tp_search.proofs.BoardSteps.{IsMarked, IsSince, IsSinceMark, IsUndone, back-trans, laid-back, laid-marked, laid-place, load-of, mark-back, since-back, since-mark, suffix-back}
 use Rattle.tp_search.proofs.ChildBoards.{bound-range, can-place, is-child-more, laid-bound, laid-complete, place-within}
 use Rattle.tp_search.proofs.ChildFacts.{child_by-act}
+use Rattle.tp_search.proofs.FurtherFacts.{found-further, further-back, further-marked, further-step, further-trans}
 use Rattle.tp_search.proofs.OpeningFacts.{opening-child}
-use Rattle.tp_search.proofs.OpeningSame.{before-same, opening-same, same-itself, same-trans}
+use Rattle.tp_search.proofs.OpeningSame.{before-same, same-itself, same-trans}
 use Rattle.tp_search.proofs.PlaceFacts.{opening-next, place-late, places-begin, places-end, places-shut}
 
 -- a hold's resource is one of the machine's
 pub resource-known : (machine : Machine) (act : ℕ) (a : Action) (hold : ℕ) (rule : HoldRule) → action_at machine act ≡ Some a → slice_get a.holds hold ≡ Some rule → rule.resource.0 < length machine.resources
 resource-known machine act a hold rule is is_rule = (is_machine machine).known act a is rule (contains-get a.holds hold rule is_rule)
 
+-- an action has at most four holds
+pub holds-four : (machine : Machine) (act : ℕ) → length (holds_of_act (action_at machine act)) ≤ 4
+holds-four machine act = go (action_at machine act) refl where
+  go : (a : Option Action) → action_at machine act ≡ a → length (holds_of_act a) ≤ 4
+  go None is = omega arith
+  go (Some a) is = (is_machine machine).few_holds act a is
+
 -- the list that is being opened stays
 pub parent-same : (machine : Machine) (ask : Ask) (o o' : Opening) (s s' : StoreValue) → IsSameOpening o o' s s' → IsFresh machine ask o s → parent_of machine s'.entries o'.goal o'.parent ≡ going o.goal (choices_by machine (choices_before s.entries o.parent))
 parent-same machine ask o o' s s' same fresh =
     ap {B = ChoiceList} (λ (g : State). going g (choices_by machine (choices_before s'.entries o'.parent))) same.goal ∙ ap {B = ChoiceList} (λ cs. going o.goal (choices_by machine cs)) (before-same machine ask o o' s s' same fresh)
-
--- what the opening and the store are after a child was kept
-module _ (o : Opening) (s : StoreValue) (c : Stored) (tick : ℕ) (complete : Bool) (o' : Opening) (s' : StoreValue) (opening : o' ≡ opening_after c tick complete o) (store : s' ≡ store_after c tick complete o s) where
-  pub kept-at : (machine : Machine) (plans : List Plan) (ask : Ask) (p : Progress) → IsAtProgress machine plans ask (opening_after c tick complete o) (store_after c tick complete o s) p → IsAtProgress machine plans ask o' s' p
-  kept-at machine plans ask p at =
-      subst (λ r. IsAtProgress machine plans ask o' r p) (sym store) (subst (λ q. IsAtProgress machine plans ask q (store_after c tick complete o s) p) (sym opening) at)
-
-  pub kept-same : IsSameOpening o o' s s'
-  kept-same = subst (λ r. IsSameOpening o o' s r) (sym store) (subst (λ q. IsSameOpening o q s (store_after c tick complete o s)) (sym opening) (opening-same o s c tick complete))
 
 -- the first places with the next one
 pub next-places : (places : List ℕ) (hold place : ℕ) → hold < length places → take (hold + 1) (slice_set places hold place) ≡ take hold places ++ place ∷ []
@@ -74,8 +73,8 @@ module _ {N C : Type 0} (net : N → Net) (content : N → C) (past : N → List
   pub all-placed : (act : ActId) (choice : Stored) (places : List ℕ) (complete : Bool) (tick : ℕ) → choice.act ≡ Some act → choice.goal ≡ o.goal → places ≡ take (length (holds_of_act (action_at machine act.0))) choice.places → length (holds_of_act (action_at machine act.0)) ≤ length choice.places
       → (IsTrue complete ↔ ((ask.origin ≡ FromFeeder) × IsStart machine ask first)) → IsLaid net content past max_marks b machine ask o.goal first (record { act = act; places = places } ∷ choices_by machine (choices_before s.entries o.parent))
       → IsFresh machine ask o s → HasBounds machine ask s → IsAtProgress machine b.plans ask o s (up_to act.0 places) → HasLeastTick machine b (own 0) tick
-      → IsInRange s tick × IsAtProgress machine b.plans ask (opening_after choice tick complete o) (store_after choice tick complete o s) (through act.0 places)
-  all-placed act choice places complete tick has goal are many exactly l fresh bounds opening least =
+      → (IsTrue complete → tick ≡ o.bound → ⊥) → IsInRange s tick × IsAtProgress machine b.plans ask o (after_keep o.parent choice tick complete s) (through act.0 places)
+  all-placed act choice places complete tick has goal are many exactly l fresh bounds opening least other =
       let olds = choices_by machine (choices_before s.entries o.parent) in
       let child = going o.goal (record { act = act; places = places } ∷ olds) in
       let count : length places ≡ length (holds_of_act (action_at machine act.0)) = ap length are ∙ length-take-le (length (holds_of_act (action_at machine act.0))) choice.places many in
@@ -87,7 +86,7 @@ module _ {N C : Type 0} (net : N → Net) (content : N → C) (past : N → List
       let width = bounds.1 in (
         (omega (arith, range.0), omega (arith, range.1)),
         opening-child machine b.plans ask o s act places choice tick complete fresh opening has goal (sym are) (is-child-more machine ask o.goal olds choice act places has (sym are))
-            (subst (λ list. IsBound machine b.plans ask list tick) (sym is) bound) (subst (λ list. IsTrue complete ↔ IsComplete machine ask list) (sym is) (λ t. whole.0 (exactly.0 t), λ c. exactly.1 (whole.1 c))),
+            (subst (λ list. IsBound machine b.plans ask list tick) (sym is) bound) (subst (λ list. IsTrue complete ↔ IsComplete machine ask list) (sym is) (λ t. whole.0 (exactly.0 t), λ c. exactly.1 (whole.1 c))) other,
       )
 
 -- a place is tried on a marked board, in the loop over the places
@@ -211,6 +210,12 @@ module _ {N C A : Type 0} (net : N → Net) (content : N → C) (past : N → Li
       same = same;
       progress = subst (λ ps. IsAtProgress machine ps ask o2 s2 (through act.0 (places ++ place ∷ []))) since.load.plans progress;
     }
+
+    -- an answer was found behind it
+    pub found-now : (b3 b4 : BoardValue N) → past_of past b3 ≡ past_of past b2 → IsSameLoad b2 b3 → max_marks b3.net ≡ max_marks b2.net → HasFound net content past max_marks b3 b4 machine ask o1.bound → HasFound net content past max_marks b b4 machine ask o.bound
+    found-now b3 b4 same load room found =
+        let further = further-trans net content past max_marks b b1 b2 (further-back net content past max_marks b b1 machine t.back) (further-marked net content past aside max_marks b1 b2 mark t.marked) in
+        found-further net content past max_marks b b3 b4 machine ask o.bound (further-step net content past max_marks b b2 b3 further same load room) (subst (HasFound net content past max_marks b3 b4 machine ask) t.same.bound found)
 
     module _ (b3 b4 : BoardValue N) (o2 : Opening) (s2 : StoreValue) (r : IsTried b3 o2 s2) where
       -- it is taken back

@@ -214,15 +214,3 @@ next-act act l = (to, from) where
   from : IsLooked (through act []) l → IsLooked (up_to (act + 1) []) l
   from (inl stopped) = inl stopped
   from (inr looked) = inr (from-act act l.choices looked)
-
--- ---- where no more are looked at
-pub looked-under : (act : ℕ) (places : List ℕ) (n : ℕ) (l : ChoiceList) → IsLooked (up_to act (places ++ n ∷ [])) l → IsLooked (through act places) l
-looked-under act places n l looked = from-all act places l (from-first act places n l looked)
-
-pub looked-acts : (act n : ℕ) → act ≤ n → (l : ChoiceList) → IsLooked (up_to act []) l → IsLooked (up_to n []) l
-looked-acts act n most l (inl stopped) = inl stopped
-looked-acts act n most l (inr ahead) = inr (go l.choices ahead) where
-  go : (choices : List Choice) → IsAhead act [] choices → IsAhead n [] choices
-  go [] none = none
-  go (c ∷ choices) (inl lower) = inl (omega arith)
-  go (c ∷ choices) (inr same) = absurd (tried-none c.places same.1)

@@ -15,8 +15,8 @@ use Rattle.tp_search.specs.Boards.{HasMarks}
 use Rattle.tp_search.specs.Following.{HasList, IsWayTo}
 use Rattle.tp_search.specs.Holding.{CarriesGoal, IsLaidSince}
 use Rattle.tp_search.specs.declared.holding.Root.{Root}
-use Rattle.tp_search.proofs.BoardSteps.{IsMarked, IsUndone, load-of, load-trans, suffix-back}
-use Rattle.tp_search.proofs.HoldFacts.{slice-at, two-behind}
+use Rattle.tp_search.proofs.BoardSteps.{IsMarked, IsUndone, load-of, load-trans, slice-at, suffix-back}
+use Rattle.tp_search.proofs.HoldFacts.{two-behind}
 
 module _ {N C A : Type 0} (net : N → Net) (content : N → C) (past : N → List C) (aside : N → A) (max_marks : N → ℕ) where
   module _ (undoes : UndoKeeps net content past aside) (b b' b'' : BoardValue N) (machine : Machine) (ask : Ask) (base : ℕ) (root : Root) (since : IsLaidSince net content past max_marks b b' machine ask base (Some root))

@@ -85,8 +85,6 @@ module _ (machine : Machine) (plans : List Plan) (ask : Ask) (goals : List OpenG
     apart = AllPairs-nil (λ (a b : Entry). list_by machine a.choices ≢ list_by machine b.choices);
     reached = λ l child looked opens. absurd looked;
     finished = λ l looked answers. absurd looked;
-    same_goal = tt;
-    right = tt;
     spent = λ full. absurd (false≢true (sym searching.not_full ∙ full));
     has_best = searching.has_best;
   }

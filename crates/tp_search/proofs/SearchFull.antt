@@ -1,13 +1,10 @@
--- What the opening of the list that was taken tells: its answer is the answer of the search, and where the store is full
--- without one, the budget is spent.
-use Rattle.std.proofs.Common.{◌≡◌, ◌≢◌, inl, inr, ℕ, true, List, [], ◌∷◌, length, Contains, Some, None, IfSome, sym, ap, subst, ◌∙◌, arith}
-use Rattle.std.proofs.lemmas.Bool.{false≢true}
+-- What the opening of the list that was taken tells where the store became full: the budget is spent.
+use Rattle.std.proofs.Common.{◌≡◌, ◌≢◌, inl, inr, ℕ, true, List, [], ◌∷◌, length, Contains, sym, ap, subst, ◌∙◌, arith}
 use Rattle.std.proofs.lemmas.List.{length-map}
 use Rattle.std.proofs.lemmas.List.Elements.{All-contains}
 use Rattle.tp_choices.specs.Searches.{FullSpends, IsFull, IsKnown}
 use Rattle.tp_machine.specs.declared.machine.Machine.{Machine}
 use Rattle.tp_pool.specs.Entries.{Entry}
-use Rattle.tp_pool.specs.declared.choice.Choice.{Choice as Stored}
 use Rattle.tp_schedule.specs.Answers.{IsAsked}
 use Rattle.tp_schedule.specs.Choices.{ChoiceList, IsBound, IsChild, IsComplete, IsOpen, OpensTo}
 use Rattle.tp_schedule.specs.Legality.{IsLegal}
@@ -16,17 +13,17 @@ use Rattle.tp_schedule.specs.declared.parts.Ask.{Ask}
 use Rattle.tp_schedule.specs.declared.parts.Plan.{Plan}
 use Rattle.tp_schedule.proofs.Membership.{Contains-cons_cases, Contains-later, Contains-map_from}
 use Rattle.tp_schedule.proofs.Pairs.{AllPairs-map}
-use Rattle.tp_search.specs.Opening.{Answers, IsAtProgress, IsSameOpening, Progress}
+use Rattle.tp_search.specs.Opening.{IsAtProgress, IsSameOpening}
 use Rattle.tp_search.specs.Opening.Progress.{up_to}
 use Rattle.tp_search.specs.Searching.{IsBestLater, IsNext, IsOpenEntry, IsSearching, next_bound, next_list, opening_of, waiting_in}
-use Rattle.tp_search.specs.Stored.{child_by, list_by, lists_by}
+use Rattle.tp_search.specs.Stored.{list_by, lists_by}
 use Rattle.tp_search.specs.Stores.{StoreValue}
 use Rattle.tp_search.specs.declared.goals.OpenGoal.{OpenGoal}
 use Rattle.tp_search.specs.declared.opening.Opening.{Opening}
 use Rattle.tp_search.specs.declared.taking.Next.{Next}
 use Rattle.tp_search.proofs.SearchEnds.{complete-later, next-below}
 use Rattle.tp_search.proofs.SearchNext.{IsKnownNext, next-known, node-stored, waiting-cases}
-use Rattle.tp_search.proofs.SearchOpened.{IsOpenedToEnd, all-apart, all-entries, from-opened, new-list, next-opening, opened, opened-earlier, stored-cases, stored-on}
+use Rattle.tp_search.proofs.SearchOpened.{IsOpenedToEnd, all-apart, all-entries, from-opened, new-list, opened, opened-earlier, stored-cases, stored-on}
 use Rattle.tp_search.proofs.SearchParents.{child-looked}
 
 -- the opening of the list that was taken, with what was known before it
@@ -38,17 +35,10 @@ module _ (machine : Machine) (plans : List Plan) (ask : Ask) (goals : List OpenG
   known : IsKnownNext machine plans ask goals s bound goals' s' next
   known = next-known machine plans ask goals s bound searching goals' s' next is-next
 
-  module _ (p : Progress) (progress : IsAtProgress machine plans ask o' s'' p) where
-    -- an answer of the opening is a complete child with the bound of the list that was taken
-    pub searching-answered : (c : Stored) → o'.answer ≡ Some c → Answers machine plans ask (next_list machine s next) (next_bound s next) (child_by machine (next_list machine s next).goal (next_list machine s next).choices c)
-    searching-answered c is =
-        let opening = next-opening machine plans ask goals s bound goals' s' next searching known incomplete o' s'' p same progress in
-        subst (λ a. IfSome a (λ d. Answers machine plans ask last (next_bound s next) (child_by machine last.goal last.choices d))) is opening.right
-
-  -- the store became full, and no answer was found
-  module _ (progress : IsAtProgress machine plans ask o' s'' (up_to (length machine.actions) [])) (no-answer : o'.answer ≡ None) (full : s''.full ≡ true) (later : IsBestLater s (next_bound s next)) where
+  -- the store became full
+  module _ (progress : IsAtProgress machine plans ask o' s'' (up_to (length machine.actions) [])) (full : s''.full ≡ true) (later : IsBestLater s (next_bound s next)) where
     at-end : IsOpenedToEnd machine plans ask s next s''
-    at-end = opened machine plans ask goals s bound goals' s' next searching known incomplete o' s'' same progress no-answer
+    at-end = opened machine plans ask goals s bound goals' s' next searching known incomplete o' s'' same progress
 
     -- the last list is one of those that wait
     waits-too : (list : ChoiceList) → Contains (last ∷ waiting_in machine goals s) list → Contains (waiting_in machine goals s) list
@@ -76,7 +66,7 @@ module _ (machine : Machine) (plans : List Plan) (ask : Ask) (goals : List OpenG
     none-answers : (child : ChoiceList) → IsChild machine ask last child → IsComplete machine ask child → IsBound machine plans ask child (next_bound s next) → ⊥
     none-answers child is-child complete is-bound =
         let looked = child-looked machine plans ask last child is-child (next_bound s next, is-bound.opens) in
-        absurd (false≢true (at-end.finished child looked (record { is_child = is-child; complete = complete; is_bound = is-bound })))
+        at-end.finished child looked (record { is_child = is-child; complete = complete; is_bound = is-bound })
 
     none-complete : (list : ChoiceList) → Contains (lists_by machine s''.entries) list → IsComplete machine ask list → IsBound machine plans ask list (next_bound s next) → ⊥
     none-complete list there complete is-bound = elim (stored-cases machine plans ask goals s bound goals' s' next searching known incomplete s'' at-end list there) [

@@ -4,18 +4,12 @@ use Rattle.std.proofs.lemmas.List.{get_or-append-add, get_or-append_right, get_o
 use Rattle.std.proofs.lemmas.List.Elements.{Contains-get_or, at_from_Contains}
 use Rattle.tp_machine.specs.declared.machine.Machine.{Machine}
 use Rattle.tp_pool.specs.Entries.{Entry, entry_at}
-use Rattle.tp_schedule.specs.Choices.{ChoiceList, IsOpen}
-use Rattle.tp_schedule.specs.declared.parts.Ask.{Ask}
-use Rattle.tp_schedule.specs.declared.parts.Plan.{Plan}
+use Rattle.tp_schedule.specs.Choices.{ChoiceList}
 use Rattle.tp_schedule.proofs.Membership.{Contains-map, Contains-map_from}
-use Rattle.tp_search.specs.Following.{IsStoredList}
-use Rattle.tp_search.specs.Outcomes.{CanLay}
-use Rattle.tp_search.specs.Searching.{list_at, next_list, waiting_in}
+use Rattle.tp_search.specs.Searching.{list_at, waiting_in}
 use Rattle.tp_search.specs.Stored.{list_by, lists_by}
 use Rattle.tp_search.specs.Stores.{StoreGrows, StoreValue}
 use Rattle.tp_search.specs.declared.goals.OpenGoal.{OpenGoal}
-use Rattle.tp_search.specs.declared.taking.Next.{Next}
-use Rattle.tp_search.specs.declared.taking.Next.TheVariants.{Goal, Node}
 use Rattle.tp_search.proofs.SearchNext.{goal-waits, node-waits, waiting-cases}
 
 -- what stands for an entry that is not there
@@ -38,19 +32,6 @@ module _ (machine : Machine) (goals : List OpenGoal) (s s' : StoreValue) (new : 
 
   list-stays : (n : ℕ) → n < length s.entries → list_at machine s'.entries n ≡ list_at machine s.entries n
   list-stays n within = ap (λ (e : Entry). list_by machine e.choices) (entry-stays n within)
-
-  -- a list that can be laid is the same, and can be laid still
-  pub list-grown : (plans : List Plan) (ask : Ask) (next : Next) → CanLay machine plans ask s next → next_list machine s' next ≡ next_list machine s next
-  list-grown plans ask (Goal g) can = refl
-  list-grown plans ask (Node n) can = list-stays n can.0
-
-  pub can_lay-grown : (plans : List Plan) (ask : Ask) (next : Next) → CanLay machine plans ask s next → CanLay machine plans ask s' next
-  can_lay-grown plans ask (Goal g) can = can
-  can_lay-grown plans ask (Node n) can = (
-    (let within = can.0 in let many = as-many in omega arith),
-    subst (λ (e : Entry). IsStoredList (list_by machine e.choices).goal e.choices) (sym (entry-stays n can.0)) can.1,
-    subst (IsOpen machine plans ask) (sym (list-stays n can.0)) can.2,
-  )
 
   module _ (grows : StoreGrows s s') (known : (node : ℕ) → Contains s.waits node → node < length s.entries) where
     pub grown-stay : (l : ChoiceList) → Contains (waiting_in machine goals s) l → Contains (waiting_in machine goals s') l

@@ -1,5 +1,5 @@
--- A search goes on: after the list that was taken was opened, with neither an answer nor a full store.
-use Rattle.std.proofs.Common.{◌≡◌, ◌⊎◌, inl, inr, ℕ, ◌<◌, ◌≤◌, false, List, [], ◌∷◌, ◌++◌, length, All, Contains, None, sym, ap, subst, ◌∙◌, arith}
+-- A search goes on: after the list that was taken was opened, and the store is not full.
+use Rattle.std.proofs.Common.{◌≡◌, ◌⊎◌, inl, inr, ℕ, ◌<◌, ◌≤◌, false, List, [], ◌∷◌, ◌++◌, length, All, Contains, sym, ap, subst, ◌∙◌, arith}
 use Rattle.tp_machine.specs.declared.machine.Machine.{Machine}
 use Rattle.tp_pool.specs.Entries.{Entry, bound_of, entry_at}
 use Rattle.tp_schedule.specs.Choices.{ChoiceList, IsChild, IsComplete}
@@ -147,8 +147,8 @@ module _ (machine : Machine) (plans : List Plan) (ask : Ask) (goals : List OpenG
 -- the search goes on, at the bound of the list that was taken
 pub searching-on : (machine : Machine) (plans : List Plan) (ask : Ask) (goals : List OpenGoal) (s : StoreValue) (bound : ℕ) (goals' : List OpenGoal) (s' : StoreValue) (next : Next) (o' : Opening) (s'' : StoreValue)
     → IsSearching machine plans ask goals s bound → IsNext goals s goals' s' next → ¬ IsComplete machine ask (next_list machine s next) → ParentBound → IsSameOpening (opening_of machine s next) o' s' s''
-    → IsAtProgress machine plans ask o' s'' (up_to (length machine.actions) []) → o'.answer ≡ None → s''.full ≡ false → IsSearching machine plans ask goals' s'' (next_bound s next)
-searching-on machine plans ask goals s bound goals' s' next o' s'' searching is not law same progress no-answer not-full =
+    → IsAtProgress machine plans ask o' s'' (up_to (length machine.actions) []) → s''.full ≡ false → IsSearching machine plans ask goals' s'' (next_bound s next)
+searching-on machine plans ask goals s bound goals' s' next o' s'' searching is not law same progress not-full =
     let known = next-known machine plans ask goals s bound searching goals' s' next is in
-    let opening = opened machine plans ask goals s bound goals' s' next searching known not o' s'' same progress no-answer in
+    let opening = opened machine plans ask goals s bound goals' s' next searching known not o' s'' same progress in
     search-on machine plans ask goals s bound goals' s' next searching known not law s'' opening same.grows is.goals_later is.waits_later not-full

@@ -1,5 +1,5 @@
--- The list that was taken was opened to the end without an answer: what was stored, and what was opened.
-use Rattle.std.proofs.Common.{◌≡◌, ◌≢◌, ◌⊎◌, inl, inr, ℕ, ◌≤◌, false, List, [], ◌∷◌, ◌++◌, length, take, All, AllPairs, Contains, None, refl, sym, ap, subst, ◌∙◌, arith}
+-- The list that was taken was opened to the end: what was stored, and what was opened.
+use Rattle.std.proofs.Common.{◌≡◌, ◌≢◌, ◌⊎◌, inl, inr, ℕ, ◌≤◌, false, List, [], ◌∷◌, ◌++◌, length, take, All, AllPairs, Contains, refl, sym, ap, subst, ◌∙◌, arith}
 use Rattle.std.proofs.lemmas.Bool.{false≢true}
 use Rattle.std.proofs.lemmas.List.{map-append, take_all}
 use Rattle.std.proofs.lemmas.List.Elements.{All-append, All-cons, All-contains, Contains-append_cases, Contains-append_left}
@@ -27,16 +27,16 @@ use Rattle.tp_search.proofs.SearchFresh.{next-all_acts, next-fresh, next-going, 
 use Rattle.tp_search.proofs.SearchNext.{IsKnownNext}
 use Rattle.tp_search.proofs.SearchParents.{child-looked, child-some, one-parent}
 
--- the opening of the next list, whose children were all looked at without an answer
+-- the opening of the next list, whose children were all looked at
 abbrev pub IsOpenedToEnd : Machine → List Plan → Ask → StoreValue → Next → StoreValue → Type 0
 IsOpenedToEnd machine plans ask s next s'' =
-    IsOpening machine plans ask (next_list machine s next) (next_bound s next) (choices_before s.entries (next_node next)) s.entries (up_to (length machine.actions) []) None s''.entries s''.room s''.full s''.best
+    IsOpening machine plans ask (next_list machine s next) (next_bound s next) (choices_before s.entries (next_node next)) s.entries (up_to (length machine.actions) []) s''.entries s''.room s''.full s''.best
 
 module _ (machine : Machine) (plans : List Plan) (ask : Ask) (goals : List OpenGoal) (s : StoreValue) (bound : ℕ) (goals' : List OpenGoal) (s' : StoreValue) (next : Next)
     (searching : IsSearching machine plans ask goals s bound) (known : IsKnownNext machine plans ask goals s bound goals' s' next) (not : ¬ IsComplete machine ask (next_list machine s next)) where
   -- an opening, said of the list that was taken and of the entries as they were then
   pub next-opening : (o' : Opening) (s'' : StoreValue) (p : Progress) → IsSameOpening (opening_of machine s next) o' s' s'' → IsAtProgress machine plans ask o' s'' p
-      → IsOpening machine plans ask (next_list machine s next) (next_bound s next) (choices_before s.entries (next_node next)) s.entries p o'.answer s''.entries s''.room s''.full s''.best
+      → IsOpening machine plans ask (next_list machine s next) (next_bound s next) (choices_before s.entries (next_node next)) s.entries p s''.entries s''.room s''.full s''.best
   next-opening o' s'' p same progress =
       let o = opening_of machine s next in
       let list = next_list machine s next in
@@ -46,17 +46,14 @@ module _ (machine : Machine) (plans : List Plan) (ask : Ask) (goals : List OpenG
       let is-list = parent-same machine ask o o' s' s'' same fresh ∙ ap (λ es. parent_of machine es list.goal (next_node next)) entries ∙ sym (next-going machine plans ask goals s bound goals' s' next searching known not) in
       let is-before = before-same machine ask o o' s' s'' same fresh ∙ ap (λ es. choices_before es (next_node next)) entries in
       let is-base = stored-same machine ask o o' s' s'' same fresh ∙ ap (take (length s.entries)) entries ∙ take_all (length s.entries) s.entries (omega arith) in
-      let first = subst (λ l. IsOpening machine plans ask l o'.bound (choices_before s''.entries o'.parent) (take o'.stored s''.entries) p o'.answer s''.entries s''.room s''.full s''.best) is-list progress in
-      let second = subst (λ b. IsOpening machine plans ask list b (choices_before s''.entries o'.parent) (take o'.stored s''.entries) p o'.answer s''.entries s''.room s''.full s''.best) same.bound first in
-      let third = subst (λ cs. IsOpening machine plans ask list (next_bound s next) cs (take o'.stored s''.entries) p o'.answer s''.entries s''.room s''.full s''.best) is-before second in
-      subst (λ es. IsOpening machine plans ask list (next_bound s next) before es p o'.answer s''.entries s''.room s''.full s''.best) is-base third
+      let first = subst (λ l. IsOpening machine plans ask l o'.bound (choices_before s''.entries o'.parent) (take o'.stored s''.entries) p s''.entries s''.room s''.full s''.best) is-list progress in
+      let second = subst (λ b. IsOpening machine plans ask list b (choices_before s''.entries o'.parent) (take o'.stored s''.entries) p s''.entries s''.room s''.full s''.best) same.bound first in
+      let third = subst (λ cs. IsOpening machine plans ask list (next_bound s next) cs (take o'.stored s''.entries) p s''.entries s''.room s''.full s''.best) is-before second in
+      subst (λ es. IsOpening machine plans ask list (next_bound s next) before es p s''.entries s''.room s''.full s''.best) is-base third
 
-  pub opened : (o' : Opening) (s'' : StoreValue) → IsSameOpening (opening_of machine s next) o' s' s'' → IsAtProgress machine plans ask o' s'' (up_to (length machine.actions) []) → o'.answer ≡ None
+  pub opened : (o' : Opening) (s'' : StoreValue) → IsSameOpening (opening_of machine s next) o' s' s'' → IsAtProgress machine plans ask o' s'' (up_to (length machine.actions) [])
       → IsOpenedToEnd machine plans ask s next s''
-  opened o' s'' same progress no-answer =
-      let done = up_to (length machine.actions) [] in
-      let before = choices_before s.entries (next_node next) in
-      subst (λ a. IsOpening machine plans ask (next_list machine s next) (next_bound s next) before s.entries done a s''.entries s''.room s''.full s''.best) no-answer (next-opening o' s'' done same progress)
+  opened o' s'' same progress = next-opening o' s'' (up_to (length machine.actions) []) same progress
 
   -- no list that was opened has a greater bound
   pub opened-earlier : (l : ChoiceList) (end : ℕ) → Contains (next_list machine s next ∷ searching.opened) l → IsBound machine plans ask l end → end ≤ next_bound s next
@@ -78,9 +75,8 @@ module _ (machine : Machine) (plans : List Plan) (ask : Ask) (goals : List OpenG
     -- each open child was stored, unless the store is full
     pub child-stored : s''.full ≡ false → (l : ChoiceList) → IsChild machine ask (next_list machine s next) l → IsOpen machine plans ask l → Contains (lists_by machine opening.new) l
     child-stored not-full l child opens = elim (opening.reached l child (child-looked machine plans ask (next_list machine s next) l child opens) opens) [
-      | inl answered ↦ absurd (false≢true answered)
-      | inr (inl full) ↦ absurd (false≢true (sym not-full ∙ full))
-      | inr (inr there) ↦ there
+      | inl full ↦ absurd (false≢true (sym not-full ∙ full))
+      | inr there ↦ there
     ]
 
     new-entry : (e : Entry) → Contains opening.new e → IsOpenEntry machine plans ask e

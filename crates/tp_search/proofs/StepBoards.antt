@@ -1,5 +1,5 @@
 -- A step of a search on a board with a mark: what stands, and what it leaves.
-use Rattle.std.proofs.Common.{◌≡◌, ℕ, List, [], ◌∷◌, ◌++◌, length, Some, sym, ap, subst, ◌∙◌}
+use Rattle.std.proofs.Common.{◌≡◌, ℕ, List, ◌∷◌, ◌++◌, length, Some, sym, ap, subst, ◌∙◌}
 use Rattle.std.proofs.lemmas.Option.{same_Some}
 use Rattle.tp_base.specs.Net.{Net}
 use Rattle.tp_machine.specs.declared.machine.Machine.{Machine}
@@ -41,7 +41,8 @@ module _ {N C : Type 0} (net : N → Net) (content : N → C) (past : N → List
       → IsOutcome net content past max_marks b b2 machine ask nodes outcome
   outcome-back b b1 b2 machine ask nodes (Found base) back a = record {
     number = a.number ∙ ap length back.same_past;
-    past_more = a.past_more ∙ (λ i. back.same_past i ++ back.same_content i ∷ []);
+    kept = a.kept;
+    past_more = a.past_more ∙ (λ i. back.same_past i ++ back.same_content i ∷ a.kept);
     loaded = load-trans net content past max_marks b b1 b2 back.loaded a.loaded;
     marks = a.marks ∙ back.marks;
     first = a.first;

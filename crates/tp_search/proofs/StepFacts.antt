@@ -1,5 +1,5 @@
 -- A step of a search: what is known of the list that was taken, told of the store without it.
-use Rattle.std.proofs.Common.{◌≡◌, ℕ, true, false, ◌+◌, ◌<◌, ◌≤◌, List, [], ◌∷◌, ◌++◌, length, Some, None, IfSome, Vec, refl, sym, ap, subst, ◌∙◌, arith}
+use Rattle.std.proofs.Common.{◌≡◌, ℕ, true, false, ◌+◌, ◌<◌, ◌≤◌, List, [], ◌∷◌, length, Some, IfSome, Vec, refl, sym, ap, subst, ◌∙◌, arith}
 use Rattle.std.specs.declared.alloc.Global.{Global}
 use Rattle.std.proofs.lemmas.List.{length-append}
 use Rattle.std.proofs.lemmas.List.Elements.{All-contains}
@@ -7,9 +7,8 @@ use Rattle.tp_base.specs.Net.{Net}
 use Rattle.tp_machine.specs.Machines.{IsMachine}
 use Rattle.tp_machine.specs.declared.machine.Machine.{Machine}
 use Rattle.tp_pool.specs.Entries.{IsParentOf, bound_of, choices_before, choices_of, entry_at}
-use Rattle.tp_pool.specs.declared.choice.Choice.{Choice as Stored}
 use Rattle.tp_schedule.specs.Answers.{IsAsked, NoneBefore}
-use Rattle.tp_schedule.specs.Choices.{ChoiceList, IsBound, IsComplete, going}
+use Rattle.tp_schedule.specs.Choices.{IsBound, IsComplete}
 use Rattle.tp_schedule.specs.Planning.{IsKnownGoal}
 use Rattle.tp_schedule.specs.Legality.{IsLegal}
 use Rattle.tp_schedule.specs.Spending.{IsSpent}
@@ -20,13 +19,12 @@ use Rattle.tp_choices.proofs.Leaving.{parent_bound}
 use Rattle.tp_choices.proofs.Searching.{full_spends, search_fronts}
 use Rattle.tp_placing.specs.Boards.{BoardValue}
 use Rattle.tp_search.specs.Following.{HasList}
-use Rattle.tp_search.specs.Holding.{HoldsList, IsAnswerTo, IsOneMore}
-use Rattle.tp_search.specs.Opening.{Answers, IsAtProgress, IsFresh, IsOpenChild, IsOpening, IsSameOpening, parent_of}
+use Rattle.tp_search.specs.Holding.{HoldsList, IsOneMore}
+use Rattle.tp_search.specs.Opening.{IsAtProgress, IsFresh, IsOpenChild, IsOpening, IsSameOpening, parent_of}
 use Rattle.tp_search.specs.Opening.Progress.{nothing, up_to}
 use Rattle.tp_search.specs.Outcomes.{CanLay, CanOpen, IsAllOpened}
 use Rattle.tp_search.specs.Searching.{IsBestLater, IsNext, IsSameSpace, IsSearching, next_bound, next_list, next_node, opening_of, still_to_take}
-use Rattle.tp_search.specs.Stored.{child_by}
-use Rattle.tp_search.specs.Stores.{HasBounds, StoreValue}
+use Rattle.tp_search.specs.Stores.{HasBounds, StoreGrows, StoreValue}
 use Rattle.tp_search.specs.declared.goals.OpenGoal.{OpenGoal}
 use Rattle.tp_search.specs.declared.holding.Held.{Held}
 use Rattle.tp_search.specs.declared.opening.Opening.{Opening}
@@ -34,9 +32,9 @@ use Rattle.tp_search.specs.declared.taking.Next.{Next}
 use Rattle.tp_search.specs.declared.taking.Next.TheVariants.{Goal, Node}
 use Rattle.tp_search.proofs.SearchEnds.{IsBestList, next-incomplete, next-none_before, searching-best}
 use Rattle.tp_search.proofs.SearchFresh.{next-begins, next-fresh, next-going}
-use Rattle.tp_search.proofs.SearchGrown.{can_lay-grown, entry-new, list-grown}
+use Rattle.tp_search.proofs.SearchGrown.{entry-new}
 use Rattle.tp_search.proofs.SearchOpened.{next-opening}
-use Rattle.tp_search.proofs.SearchFull.{searching-answered, searching-full}
+use Rattle.tp_search.proofs.SearchFull.{searching-full}
 use Rattle.tp_search.proofs.SearchNext.{IsKnownNext, next-formed, next-known}
 use Rattle.tp_search.proofs.SearchOn.{searching-on}
 use Rattle.tp_search.proofs.StoreFacts.{as-long}
@@ -120,54 +118,35 @@ module _ (machine : Machine) (plans : List Plan) (ask : Ask) (goals : List OpenG
           ap (λ (t : StoreValue). parent_of machine t.entries (next_list machine s' next).goal (next_node next)) known.same
           ∙ ap (λ l. parent_of machine s.entries l.goal (next_node next)) list-same
 
-    -- it was opened
-    module _ (o : Opening) (s'' : StoreValue) (all : IsAllOpened machine plans ask s' next o s'') where
-      same : IsSameOpening (opening_of machine s next) o s' s''
-      same = subst (λ x. IsSameOpening x o s' s'') opening-same all.same
+    -- no alternative ends before its bound
+    pub step-none_before : IsLegal machine plans → IsAsked machine plans ask → NoneBefore machine plans ask (next_bound s' next)
+    step-none_before legal asked = subst (NoneBefore machine plans ask) (sym bound-same) (next-none_before machine plans ask goals s bound searching goals' s' next is-next search_fronts frontier_bounds legal asked)
 
-      grown-by : IsOpening machine plans ask (next_list machine s next) (next_bound s next) (choices_before s.entries (next_node next)) s.entries (up_to (length machine.actions) []) o.answer s''.entries s''.room s''.full s''.best
+    -- while it was opened, lists were stored
+    pub space-then : (s'' : StoreValue) → StoreGrows s' s'' → (gs gs' : Vec OpenGoal Global) → IsSameSpace gs gs' s s' → IsSameSpace gs gs' s s''
+    space-then s'' grows gs gs' taken = record { room = grows.room ∙ taken.room; width = grows.width ∙ taken.width; space = taken.space }
+
+    -- it was opened
+    module _ (s'' : StoreValue) (all : IsAllOpened machine plans ask s' next s'') where
+      abbrev o : Opening
+      o = opening_of machine s' next
+
+      same : IsSameOpening (opening_of machine s next) o s' s''
+      same = subst (λ x. IsSameOpening x o s' s'') opening-same (record { goal = refl; parent = refl; bound = refl; stored = refl; grows = all.grows })
+
+      grown-by : IsOpening machine plans ask (next_list machine s next) (next_bound s next) (choices_before s.entries (next_node next)) s.entries (up_to (length machine.actions) []) s''.entries s''.room s''.full s''.best
       grown-by = next-opening machine plans ask goals s bound goals' s' next searching known incomplete o s'' (up_to (length machine.actions) []) same all.progress
 
       room-then : s''.room ≡ s.room
-      room-then = same.grows.room ∙ room-same
+      room-then = all.grows.room ∙ room-same
 
-      pub space-then : (gs gs' : Vec OpenGoal Global) → IsSameSpace gs gs' s s' → IsSameSpace gs gs' s s''
-      space-then gs gs' taken = record { room = same.grows.room ∙ taken.room; width = same.grows.width ∙ taken.width; space = taken.space }
+      pub step-full : s''.full ≡ true → IsLegal machine plans → IsAsked machine plans ask → IsSpent machine plans ask s.room (next_bound s' next)
+      step-full full legal asked = subst (IsSpent machine plans ask s.room) (sym bound-same)
+          (searching-full machine plans ask goals s bound searching goals' s' next is-next incomplete o s'' same all.progress full (later-then later) full_spends legal asked)
 
-      pub step-answered : (c : Stored) → o.answer ≡ Some c → Answers machine plans ask (next_list machine s' next) (next_bound s' next) (child_by machine (next_list machine s' next).goal (next_list machine s' next).choices c)
-      step-answered c is =
-          subst (λ b. Answers machine plans ask (next_list machine s' next) b (child_by machine (next_list machine s' next).goal (next_list machine s' next).choices c)) (sym bound-same)
-          (subst (λ l. Answers machine plans ask l (next_bound s next) (child_by machine l.goal l.choices c)) (sym list-same)
-          (searching-answered machine plans ask goals s bound searching goals' s' next is-next incomplete o s'' same (up_to (length machine.actions) []) all.progress c is))
-
-      pub step-none_before : IsLegal machine plans → IsAsked machine plans ask → NoneBefore machine plans ask (next_bound s' next)
-      step-none_before legal asked = subst (NoneBefore machine plans ask) (sym bound-same) (next-none_before machine plans ask goals s bound searching goals' s' next is-next search_fronts frontier_bounds legal asked)
-
-      module _ (no-answer : o.answer ≡ None) where
-        pub step-full : s''.full ≡ true → IsLegal machine plans → IsAsked machine plans ask → IsSpent machine plans ask s.room (next_bound s' next)
-        step-full full legal asked = subst (IsSpent machine plans ask s.room) (sym bound-same)
-            (searching-full machine plans ask goals s bound searching goals' s' next is-next incomplete o s'' same all.progress no-answer full (later-then later) full_spends legal asked)
-
-        pub step-on : s''.full ≡ false → IsSearching machine plans ask goals' s'' (next_bound s' next)
-        step-on not-full = subst (IsSearching machine plans ask goals' s'') (sym bound-same)
-            (searching-on machine plans ask goals s bound goals' s' next o s'' searching is-next incomplete parent_bound same all.progress no-answer not-full)
-
-      -- the answer is a child of the list, said of the store as it is then
-      pub step-answer : (c : Stored) → o.answer ≡ Some c → IsAnswerTo machine plans ask (next_list machine s' next) c
-      step-answer c is = record {
-        goes_on = can-open.goes_on ∙ ap {B = ChoiceList} (λ cs. going (next_list machine s' next).goal cs) (sym (ap (λ (l : ChoiceList). l.choices) can-open.goes_on));
-        goal = subst (λ a. IfSome a (λ (d : Stored). d.goal ≡ o.goal)) is all.progress.same_goal ∙ all.same.goal;
-        opens = (next_bound s' next, (step-answered c is).is_bound.opens);
-      }
-
-      entries-grown : s''.entries ≡ s'.entries ++ grown-by.new
-      entries-grown = grown-by.grown ∙ ap (λ (t : StoreValue). t.entries ++ grown-by.new) (sym known.same)
-
-      pub step-list : next_list machine s'' next ≡ next_list machine s' next
-      step-list = list-grown machine goals' s' s'' grown-by.new entries-grown plans ask next can-lay
-
-      pub step-can_lay : CanLay machine plans ask s'' next
-      step-can_lay = can_lay-grown machine goals' s' s'' grown-by.new entries-grown plans ask next can-lay
+      pub step-on : s''.full ≡ false → IsSearching machine plans ask goals' s'' (next_bound s' next)
+      step-on not-full = subst (IsSearching machine plans ask goals' s'') (sym bound-same)
+          (searching-on machine plans ask goals s bound goals' s' next o s'' searching is-next incomplete parent_bound same all.progress not-full)
 
       -- a board that carries the list holds it: what was stored since are its children
       pub step-holds : {N C : Type 0} (net : N → Net) (content : N → C) (past : N → List C) (b : BoardValue N) (held : Held) → HasList net content past b machine ask held.laid.first (next_list machine s' next) → held.stored ≡ length s'.entries
@@ -188,8 +167,8 @@ module _ (machine : Machine) (plans : List Plan) (ask : Ask) (goals : List OpenG
       step-less within =
           let entries = ap (λ (t : StoreValue). length t.entries) known.same in
           let rooms = room-then in
-          let grows = same.grows.as_many in
-          let longer = as-long s' s'' same.grows in
+          let grows = all.grows.as_many in
+          let longer = as-long s' s'' all.grows in
           taken-less entries rooms grows longer
         where
           one-taken : length goals' + length s'.waits + 1 ≡ length goals + length s.waits

@@ -1,5 +1,5 @@
 -- The steps of opening the stopped list: it is no child, or it is late, or it is looked at with its bound.
-use Rattle.std.proofs.Common.{◌≡◌, ◌≢◌, ◌↔◌, ◌⊎◌, inl, inr, ◌<◌, ℕ, true, false, IsTrue, IsSomeAnd, List, [], ◌∷◌, length, Some, None, refl, sym, ap, subst, ◌∙◌, arith}
+use Rattle.std.proofs.Common.{◌≡◌, ◌≢◌, ◌↔◌, ◌⊎◌, inl, inr, ◌<◌, ◌≤◌, ℕ, true, false, IsTrue, IsSomeAnd, List, [], ◌∷◌, length, Some, None, refl, sym, ap, subst, ◌∙◌, arith}
 use Rattle.std.proofs.lemmas.List.{nil_from_length}
 use Rattle.tp_base.specs.Net.{Net}
 use Rattle.tp_machine.specs.declared.parts.State.{State}
@@ -17,13 +17,17 @@ use Rattle.tp_schedule.specs.declared.parts.Plan.{Plan}
 use Rattle.tp_constraints.specs.Suffixes.{SuffixTimes, with_stop}
 use Rattle.tp_placing.specs.Boards.{BoardValue, suffix_of}
 use Rattle.tp_placing.specs.Calls.{HasNoTimes, IsSameLoad}
+use Rattle.tp_placing.specs.Standing.{Stands}
 use Rattle.tp_placing.specs.Ticks.{HasLeastTick, IsLeastTick, TimesOf}
-use Rattle.tp_search.specs.Boards.{IsLaid}
-use Rattle.tp_search.specs.Opening.{IsAhead, IsAtProgress, IsFresh, IsLooked, opening_after, parent_of, store_after}
+use Rattle.tp_placing.proofs.StandFacts.{and-some}
+use Rattle.tp_search.specs.Boards.{IsFurther, IsLaid}
+use Rattle.tp_search.specs.Children.{HasFound}
+use Rattle.tp_search.specs.Following.{IsWayTo}
+use Rattle.tp_search.specs.Opening.{IsAhead, IsAtProgress, IsFresh, IsLooked, parent_of}
 use Rattle.tp_search.specs.Opening.Progress.{nothing, up_to}
 use Rattle.tp_search.specs.Stored.{child_by, choices_by}
-use Rattle.tp_search.specs.Stores.{HasBounds, IsInRange, StoreValue}
-use Rattle.tp_ways.specs.Ways.{IsPlaced}
+use Rattle.tp_search.specs.Stores.{HasBounds, IsInRange, StoreValue, after_keep}
+use Rattle.tp_ways.specs.Ways.{IsPlaced, IsWay}
 use Rattle.tp_search.specs.declared.opening.Opening.{Opening}
 use Rattle.tp_search.proofs.BoardSteps.{TheWay, the-way}
 use Rattle.tp_search.proofs.ChildBoards.{bound-range}
@@ -118,17 +122,46 @@ module _ {N C : Type 0} (net : N → Net) (content : N → C) (past : N → List
         subst (λ cs. IsBound machine b.plans ask (stopping o.goal cs) tick) w.is.same
         (way-bound machine b.plans ask o.goal first (with_stop w.x) tick way (subst (IsPlaced machine) (sym w.is.same) placed) there')
 
+    stopped-complete : IsComplete machine ask (stopping o.goal olds)
+    stopped-complete = subst (IsCompleteFrom machine ask (stopping o.goal olds)) (sym is) refl
+
+    -- the board carries it
+    pub stop-found : (b0 b' : BoardValue N) (bound tick : ℕ) → IsFurther net content past max_marks b0 b' → IsPlaced machine olds → IsSomeAnd (suffix_of b) (λ x. suffix_of b' ≡ Some (with_stop x)) → Stands net content past b' machine → IsSameLoad b b'
+        → HasLeastTick machine b' (own 0) tick → tick ≤ bound → HasFound net content past max_marks b0 b' machine ask bound
+    stop-found b0 b' bound tick further placed put stands load least in-time =
+        let w = the-way net content past max_marks b machine ask o.goal first olds l in
+        let now : suffix_of b' ≡ Some (with_stop w.x) = subst (λ x. IsSomeAnd x (λ y. suffix_of b' ≡ Some (with_stop y))) w.suffix put in
+        let from = subst (λ q. ask.origin ≡ FromFront q end kept) at is in
+        let way = stop-way machine b.plans ask o.goal first end kept w.x w.is.way from (λ none. some-choices (sym w.is.same ∙ none)) in
+        record {
+          further = further;
+          first = first;
+          list = stopping o.goal olds;
+          end = tick;
+          laid = record {
+            stands = stands;
+            asked = load.ask ∙ l.asked;
+            way = and-some (suffix_of b') (with_stop w.x) (IsWayTo machine b'.plans ask first (stopping o.goal olds)) now (record {
+              way = subst (λ ps. IsWay machine ps ask o.goal first (with_stop w.x)) (sym load.plans) way;
+              placed = subst (IsPlaced machine) (sym w.is.same) placed;
+              same = λ i. stopping o.goal (w.is.same i);
+            });
+          };
+          complete = stopped-complete;
+          is_bound = subst (λ ps. IsBound machine ps ask (stopping o.goal olds) tick) (sym load.plans) (stopped-bound b' tick placed put load least);
+          in_time = in-time;
+        }
+
     -- it is looked at with its bound
     pub stop-looked : (c : Stored) (tick : ℕ) → IsBound machine b.plans ask (stopping o.goal olds) tick → c.act ≡ None → c.goal ≡ o.goal → IsFresh machine ask o s → HasBounds machine ask s
-        → IsAtProgress machine b.plans ask o s nothing → IsInRange s tick × IsAtProgress machine b.plans ask (opening_after c tick true o) (store_after c tick true o s) (up_to 0 [])
-    stop-looked c tick bound has goal fresh bounds opening =
+        → IsAtProgress machine b.plans ask o s nothing → (tick ≡ o.bound → ⊥) → IsInRange s tick × IsAtProgress machine b.plans ask o (after_keep o.parent c tick true s) (up_to 0 [])
+    stop-looked c tick bound has goal fresh bounds opening other =
         let child = stopping o.goal olds in
         let range = bound-range machine b.plans ask child tick bound in
         let by : child_by machine o.goal olds c ≡ child = child_by-stop machine o.goal olds c has in
-        let complete : IsComplete machine ask child = subst (IsCompleteFrom machine ask child) (sym is) refl in
         let base = bounds.0 in
         let width = bounds.1 in (
           (omega (arith, range.0), omega (arith, range.1)),
           opening-stop machine b.plans ask o s c tick true fresh opening has goal (subst (IsChild machine ask (parent_of machine s.entries o.goal o.parent)) (sym by) (stopped can-stop))
-              (subst (λ list. IsBound machine b.plans ask list tick) (sym by) bound) (subst (λ list. IsTrue true ↔ IsComplete machine ask list) (sym by) (λ t. complete, λ t. refl)),
+              (subst (λ list. IsBound machine b.plans ask list tick) (sym by) bound) (subst (λ list. IsTrue true ↔ IsComplete machine ask list) (sym by) (λ t. stopped-complete, λ t. refl)) (λ t same. other same),
         )

@@ -87,6 +87,7 @@ module _ {N C : Type 0} (net : N → Net) (content : N → C) (past : N → List
       let b' = board_in trial in
       record {
         number = a.number;
+        kept = a.kept;
         past_more = a.past_more;
         loaded = a.loaded;
         marks = a.marks;
@@ -102,7 +103,7 @@ module _ {N C : Type 0} (net : N → Net) (content : N → C) (past : N → List
   -- where it is undone to its mark, the board is as before
   pub trial-back : {A : Type 0} → (aside : N → A) → UndoKeeps net content past aside → (b' : BoardValue N) → IsTrial net content past max_marks b machine trial
       → IsUndone net content past aside max_marks (board_in trial) b' trial.base.0 → IsBack net content past max_marks b b' machine
-  trial-back aside undoes b' t u = undone-back net content past aside max_marks undoes b (board_in trial) b' machine trial.base.0 t.number t.past_more t.loaded t.marks (λ _. t.stands) u
+  trial-back aside undoes b' t u = undone-back net content past aside max_marks undoes b (board_in trial) b' machine trial.base.0 t.kept t.number t.past_more t.loaded t.marks (λ _. t.stands) u
 
 -- a board that is back where it was at rest is at rest
 pub at-rest : {N C : Type 0} (net : N → Net) (content : N → C) (past : N → List C) (max_marks : N → ℕ) (b b' : BoardValue N) (machine : Machine) → IsAtRest net content past b machine

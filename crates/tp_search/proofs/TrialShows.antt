@@ -1,5 +1,5 @@
 -- A trial that is taken off its board and laid on it again is as before.
-use Rattle.std.proofs.Common.{◌≡◌, ℕ, ◌+◌, ◌<◌, ◌≤◌, List, [], ◌∷◌, ◌++◌, length, map, refl, sym, ap, subst, ◌∙◌, arith, Option, Some, None, IsSomeAnd}
+use Rattle.std.proofs.Common.{◌≡◌, ℕ, ◌+◌, ◌<◌, ◌≤◌, List, [], ◌∷◌, length, map, refl, sym, subst, ◌∙◌, arith, Option, Some, None, IsSomeAnd}
 use Rattle.std.proofs.lemmas.List.Folds.{fold-map}
 use Rattle.std.proofs.lemmas.Option.{same_Some}
 use Rattle.tp_base.specs.Net.{Net}
@@ -13,7 +13,7 @@ use Rattle.tp_schedule.specs.Spots.{Ticks}
 use Rattle.tp_schedule.specs.Spots.Spot.{own}
 use Rattle.tp_schedule.specs.declared.parts.Ask.{Ask}
 use Rattle.tp_constraints.specs.Suffixes.{Suffix, SuffixTimes}
-use Rattle.tp_placing.specs.Boards.{BoardValue, after_change, content_of, past_of, suffix_of}
+use Rattle.tp_placing.specs.Boards.{BoardValue, after_change, suffix_of}
 use Rattle.tp_placing.specs.Ticks.{HasLeastTick, IsLeastTick, TimesOf}
 use Rattle.tp_placing.specs.Writing.{CanCommit}
 use Rattle.tp_placing.specs.declared.parts.Step.{Step}
@@ -80,7 +80,8 @@ module _ {N C : Type 0} (net : N → Net) (content : N → C) (past : N → List
     pub again-trial : IsTrial net content past max_marks b machine trial'
     again-trial = record {
       number = since.number;
-      past_more = since.past_more ∙ ap (λ kept. past_of past b ++ content_of content b ∷ kept) since.are_kept;
+      kept = since.kept;
+      past_more = since.past_more;
       loaded = since.loaded;
       marks = since.marks;
       stands = since.stands;

@@ -1,5 +1,5 @@
 -- What a board carries while a list is opened, and that it is left as it was.
-use Rattle.std.specs.Prelude.{◌≡◌, ℕ, ◌+◌, ◌-◌, ◌≤◌, List, [], length, None, Some, IsFalse, IsSomeAnd}
+use Rattle.std.specs.Prelude.{◌≡◌, ℕ, ◌+◌, ◌-◌, ◌≤◌, List, [], ◌++◌, length, None, Some, IsFalse, IsSomeAnd}
 use Rattle.tp_base.specs.Net.{Net}
 use Rattle.tp_machine.specs.declared.parts.State.{State}
 use Rattle.tp_machine.specs.declared.machine.Machine.{Machine}
@@ -7,7 +7,7 @@ use Rattle.tp_schedule.specs.Choices.{Choice}
 use Rattle.tp_schedule.specs.declared.parts.Ask.{Ask}
 use Rattle.tp_schedule.specs.declared.parts.Plan.{Plan}
 use Rattle.tp_constraints.specs.Suffixes.{Suffix}
-use Rattle.tp_placing.specs.Boards.{BoardValue, content_of, past_of, suffix_of}
+use Rattle.tp_placing.specs.Boards.{BoardContent, BoardValue, content_of, past_of, suffix_of}
 use Rattle.tp_placing.specs.Calls.{IsSameLoad}
 use Rattle.tp_placing.specs.Standing.{Stands}
 use Rattle.tp_ways.specs.Ways.{IsWay}
@@ -42,6 +42,14 @@ module _ {N C : Type 0} (net : N → Net) (content : N → C) (past : N → List
     pub loaded : IsSameLoad b b'
     pub marks : max_marks b'.net - 1 ≡ max_marks b.net - 1
     pub stands : Stands net content past b machine → Stands net content past b' machine
+
+  -- the second board is further than the first one: the same is loaded, and the same marks are in force, perhaps with more
+  -- behind them
+  pub record IsFurther (b b' : BoardValue N) : Type 0 where
+    pub kept : List (BoardContent C)
+    pub past_more : past_of past b' ≡ past_of past b ++ kept
+    pub loaded : IsSameLoad b b'
+    pub marks : max_marks b'.net - 1 ≡ max_marks b.net - 1
 
 -- the board stands on the machine, with no goal open and no mark in force
 pub record IsAtRest {N C : Type 0} (net : N → Net) (content : N → C) (past : N → List C) (b : BoardValue N) (machine : Machine) : Type 0 where

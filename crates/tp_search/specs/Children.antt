@@ -5,12 +5,14 @@ use Rattle.tp_machine.specs.Using.{action_at}
 use Rattle.tp_machine.specs.declared.parts.State.{State}
 use Rattle.tp_machine.specs.declared.machine.Machine.{Machine}
 use Rattle.tp_pool.specs.Entries.{choices_before}
+use Rattle.tp_schedule.specs.Choices.{ChoiceList, IsBound, IsComplete}
 use Rattle.tp_schedule.specs.Holding.{holds_of_act}
 use Rattle.tp_schedule.specs.Routes.{IsStart}
 use Rattle.tp_schedule.specs.declared.parts.Ask.{Ask}
 use Rattle.tp_schedule.specs.declared.parts.Origin.TheVariants.{Feeder}
 use Rattle.tp_placing.specs.Boards.{BoardValue}
-use Rattle.tp_search.specs.Boards.{IsLaid}
+use Rattle.tp_search.specs.Boards.{IsFurther, IsLaid}
+use Rattle.tp_search.specs.Following.{HasList}
 use Rattle.tp_search.specs.Opening.{IsFresh}
 use Rattle.tp_search.specs.Stored.{choices_by}
 use Rattle.tp_search.specs.Stores.{HasBounds, StoreValue}
@@ -29,6 +31,17 @@ pub record IsNewChild (machine : Machine) (ask : Ask) (end : State) (c : Child) 
   pub complete : IsTrue c.complete ↔ ((ask.origin ≡ Feeder) × IsStart machine ask c.first)
 
 module _ {N C : Type 0} (net : N → Net) (content : N → C) (past : N → List C) (max_marks : N → ℕ) where
+  -- the second board is further, and carries a complete list that ends by the bound
+  pub record HasFound (b b' : BoardValue N) (machine : Machine) (ask : Ask) (bound : ℕ) : Type 0 where
+    pub further : IsFurther net content past max_marks b b'
+    pub first : State
+    pub list : ChoiceList
+    pub end : ℕ
+    pub laid : HasList net content past b' machine ask first list
+    pub complete : IsComplete machine ask list
+    pub is_bound : IsBound machine b'.plans ask list end
+    pub in_time : end ≤ bound
+
   -- the board carries the list that is opened, from this first state on, and no list that was stored before is its child
   pub record CarriesOpened (b : BoardValue N) (machine : Machine) (ask : Ask) (o : Opening) (s : StoreValue) (first : State) : Type 0 where
     pub laid : IsLaid net content past max_marks b machine ask o.goal first (choices_by machine (choices_before s.entries o.parent))

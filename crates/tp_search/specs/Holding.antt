@@ -5,7 +5,7 @@ use Rattle.tp_machine.specs.declared.parts.State.{State}
 use Rattle.tp_machine.specs.declared.machine.Machine.{Machine}
 use Rattle.tp_pool.specs.Entries.{choices_of}
 use Rattle.tp_pool.specs.declared.choice.Choice.{Choice as Stored}
-use Rattle.tp_schedule.specs.Choices.{ChoiceList, IsOpen, going}
+use Rattle.tp_schedule.specs.Choices.{going}
 use Rattle.tp_schedule.specs.declared.parts.Ask.{Ask}
 use Rattle.tp_schedule.specs.declared.parts.Plan.{Plan}
 use Rattle.tp_placing.specs.Boards.{BoardContent, BoardValue, content_of, past_of, suffix_after}
@@ -13,7 +13,7 @@ use Rattle.tp_placing.specs.Calls.{IsSameLoad}
 use Rattle.tp_placing.specs.Standing.{Stands}
 use Rattle.tp_search.specs.Boards.{HasMarks, IsBack}
 use Rattle.tp_search.specs.Following.{HasList, IsWayTo}
-use Rattle.tp_search.specs.Stored.{child_by, choices_by}
+use Rattle.tp_search.specs.Stored.{choices_by}
 use Rattle.tp_search.specs.Stores.{StoreValue}
 use Rattle.tp_search.specs.declared.holding.Held.{Held}
 use Rattle.tp_search.specs.declared.holding.Root.{Root}
@@ -40,12 +40,6 @@ CarriesGoal machine plans ask goal x = IsSomeAnd (suffix_after x.steps) (IsWayTo
 abbrev pub AreKept : {C : Type 0} → Machine → List Plan → Ask → ℕ → Option Root → List (BoardContent C) → Type 0
 AreKept machine plans ask base None kept = kept ≡ []
 AreKept {C} machine plans ask base (Some root) kept = (x : BoardContent C) × (kept ≡ x ∷ []) × (root.mark.0 ≡ base + 1) × CarriesGoal machine plans ask root.goal x
-
--- the answer is a choice of an open child of the list, which goes on
-pub record IsAnswerTo (machine : Machine) (plans : List Plan) (ask : Ask) (list : ChoiceList) (answer : Stored) : Type 0 where
-  pub goes_on : list ≡ going list.goal list.choices
-  pub goal : answer.goal ≡ list.goal
-  pub opens : IsOpen machine plans ask (child_by machine list.goal list.choices answer)
 
 module _ {N C : Type 0} (net : N → Net) (content : N → C) (past : N → List C) (max_marks : N → ℕ) where
   -- a mark more at the goal is set only where one is spare

@@ -13,4 +13,5 @@ pub mod Workspaces
 pub mod Engines
 pub mod Problems
 pub mod Children
+pub mod Diving
 pub mod Again

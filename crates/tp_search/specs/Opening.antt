@@ -1,5 +1,5 @@
 -- Opening a list: which of its children were looked at, and what is known of them.
-use Rattle.std.specs.Prelude.{◌≡◌, ◌≢◌, ℕ, ◌<◌, ◌≤◌, ◌⊎◌, List, [], ◌∷◌, ◌++◌, Bool, length, take, All, AllPairs, Contains, Option, Some, IsSome, IfSome, IsTrue, ◌&&◌, ◌==◌, if◌then◌else◌}
+use Rattle.std.specs.Prelude.{◌≡◌, ◌≢◌, ℕ, ◌<◌, ◌≤◌, ◌⊎◌, List, [], ◌∷◌, ◌++◌, Bool, length, take, All, AllPairs, Contains, Option, IsTrue}
 use Rattle.tp_machine.specs.declared.machine.Machine.{Machine}
 use Rattle.tp_machine.specs.declared.parts.State.{State}
 use Rattle.tp_pool.specs.Entries.{Entry, IsParentOf, choices_before}
@@ -8,8 +8,8 @@ use Rattle.tp_schedule.specs.Choices.{Choice, ChoiceList, IsBound, IsChild, IsCo
 use Rattle.tp_schedule.specs.declared.parts.Ask.{Ask}
 use Rattle.tp_schedule.specs.declared.parts.Plan.{Plan}
 use Rattle.tp_search.specs.declared.opening.Opening.{Opening}
-use Rattle.tp_search.specs.Stored.{HasBest, child_by, choices_by, list_by, lists_by}
-use Rattle.tp_search.specs.Stores.{StoreGrows, StoreValue, after_keep}
+use Rattle.tp_search.specs.Stored.{HasBest, choices_by, list_by, lists_by}
+use Rattle.tp_search.specs.Stores.{StoreGrows, StoreValue}
 
 -- places are tried from the last to the first: the first places differ, and where they do those of the first list are greater
 abbrev pub AreTriedBefore : List ℕ → List ℕ → Type 0
@@ -63,18 +63,15 @@ module _ (machine : Machine) (plans : List Plan) (ask : Ask) (parent : ChoiceLis
     pub is_open : IsOpen machine plans ask child
     pub not_stored : Contains (lists_by machine entries) child → ⊥
 
-  -- the children that were looked at, where they are open: stored behind the entries that there were, each once, unless an
-  -- answer was found or the store is full. A complete one with the parent's bound is an answer, and the best one that is
-  -- stored is known
-  pub record IsOpening (before : List Stored) (base : List Entry) (progress : Progress) (answer : Option Stored) (entries : List Entry) (room : ℕ) (full : Bool) (best : Option ℕ) : Type 0 where
+  -- the children that were looked at, where they are open: stored behind the entries that there were, each once, unless the
+  -- store is full. None of them is complete with the parent's bound, and the best complete list that is stored is known
+  pub record IsOpening (before : List Stored) (base : List Entry) (progress : Progress) (entries : List Entry) (room : ℕ) (full : Bool) (best : Option ℕ) : Type 0 where
     pub new : List Entry
     pub grown : entries ≡ base ++ new
     pub children : All (IsOpenChild before progress) new
     pub apart : AllPairs (λ a b. list_by machine a.choices ≢ list_by machine b.choices) new
-    pub reached : (child : ChoiceList) → IsChild machine ask parent child → IsLooked progress child → IsOpen machine plans ask child → IsSome answer ⊎ (IsTrue full ⊎ Contains (lists_by machine new) child)
-    pub finished : (child : ChoiceList) → IsLooked progress child → Answers child → IsSome answer
-    pub right : IfSome answer (λ c. Answers (child_by machine parent.goal parent.choices c))
-    pub same_goal : IfSome answer (λ c. c.goal ≡ parent.goal)
+    pub reached : (child : ChoiceList) → IsChild machine ask parent child → IsLooked progress child → IsOpen machine plans ask child → IsTrue full ⊎ Contains (lists_by machine new) child
+    pub finished : (child : ChoiceList) → IsLooked progress child → ¬ Answers child
     pub spent : IsTrue full → IsMissing entries room
     pub has_best : HasBest machine ask entries best
 
@@ -85,7 +82,7 @@ parent_of machine entries goal parent = going goal (choices_by machine (choices_
 -- the opening of a list has come so far
 abbrev pub IsAtProgress : Machine → List Plan → Ask → Opening → StoreValue → Progress → Type 0
 IsAtProgress machine plans ask o s progress =
-    IsOpening machine plans ask (parent_of machine s.entries o.goal o.parent) o.bound (choices_before s.entries o.parent) (take o.stored s.entries) progress o.answer s.entries s.room s.full s.best
+    IsOpening machine plans ask (parent_of machine s.entries o.goal o.parent) o.bound (choices_before s.entries o.parent) (take o.stored s.entries) progress s.entries s.room s.full s.best
 
 -- the same list is being opened, and what was stored stays
 pub record IsSameOpening (o o' : Opening) (s s' : StoreValue) : Type 0 where
@@ -94,16 +91,6 @@ pub record IsSameOpening (o o' : Opening) (s s' : StoreValue) : Type 0 where
   pub bound : o'.bound ≡ o.bound
   pub stored : o'.stored ≡ o.stored
   pub grows : StoreGrows s s'
-
--- a complete child with the parent's bound is the answer, and any other one is stored
-abbrev pub is_answer : Opening → ℕ → Bool → Bool
-is_answer o bound complete = complete && (bound == o.bound)
-
-abbrev pub opening_after : Stored → ℕ → Bool → Opening → Opening
-opening_after choice bound complete o = if is_answer o bound complete then record o { answer = Some choice } else o
-
-abbrev pub store_after : Stored → ℕ → Bool → Opening → StoreValue → StoreValue
-store_after choice bound complete o s = if is_answer o bound complete then s else after_keep o.parent choice bound complete s
 
 -- the parent was stored, if it is not a goal's list, and no list that was stored before is a child of it
 pub record IsFresh (machine : Machine) (ask : Ask) (o : Opening) (s : StoreValue) : Type 0 where

@@ -4,22 +4,19 @@ use Rattle.tp_base.specs.Net.{Net}
 use Rattle.tp_machine.specs.declared.parts.State.{State}
 use Rattle.tp_machine.specs.declared.machine.Machine.{Machine}
 use Rattle.tp_pool.specs.Entries.{choices_of}
-use Rattle.tp_pool.specs.declared.choice.Choice.{Choice as Stored}
 use Rattle.tp_schedule.specs.Answers.{IsAlternative, NoneBefore}
 use Rattle.tp_schedule.specs.Choices.{ChoiceList, IsBound, IsComplete, IsOpen}
 use Rattle.tp_schedule.specs.Spending.{FewListsOpen, IsSpent}
 use Rattle.tp_schedule.specs.declared.parts.Ask.{Ask}
 use Rattle.tp_schedule.specs.declared.parts.Plan.{Plan}
-use Rattle.tp_placing.specs.Boards.{BoardValue, content_of, past_of}
+use Rattle.tp_placing.specs.Boards.{BoardContent, BoardValue, content_of, past_of}
 use Rattle.tp_placing.specs.Calls.{IsSameLoad}
 use Rattle.tp_search.specs.Boards.{IsBack}
 use Rattle.tp_search.specs.Following.{HasList, IsStoredList}
-use Rattle.tp_search.specs.Opening.{IsAtProgress, IsFresh, IsSameOpening, parent_of}
+use Rattle.tp_search.specs.Opening.{IsAtProgress, IsFresh, parent_of}
 use Rattle.tp_search.specs.Opening.Progress.{nothing, up_to}
 use Rattle.tp_search.specs.Searching.{list_at, list_of_goal, next_list, next_node, opening_of}
-use Rattle.tp_search.specs.Stored.{child_by}
-use Rattle.tp_search.specs.Stores.{HasBounds, StoreValue}
-use Rattle.tp_search.specs.declared.opening.Opening.{Opening}
+use Rattle.tp_search.specs.Stores.{HasBounds, StoreGrows, StoreValue}
 use Rattle.tp_search.specs.declared.searching.Outcome.{Outcome}
 use Rattle.tp_search.specs.declared.searching.Outcome.TheVariants.{Found, Never, Spent}
 use Rattle.tp_search.specs.declared.taking.Next.{Next}
@@ -40,20 +37,16 @@ module _ (machine : Machine) (plans : List Plan) (ask : Ask) where
     pub begins : IsAtProgress machine plans ask (opening_of machine s next) s nothing
 
   -- all its children were looked at
-  pub record IsAllOpened (s : StoreValue) (next : Next) (opening : Opening) (s' : StoreValue) : Type 0 where
-    pub same : IsSameOpening (opening_of machine s next) opening s s'
-    pub progress : IsAtProgress machine plans ask opening s' (up_to (length machine.actions) [])
+  pub record IsAllOpened (s : StoreValue) (next : Next) (s' : StoreValue) : Type 0 where
+    pub grows : StoreGrows s s'
+    pub progress : IsAtProgress machine plans ask (opening_of machine s next) s' (up_to (length machine.actions) [])
 
 module _ {N C : Type 0} (net : N → Net) (content : N → C) (past : N → List C) (max_marks : N → ℕ) where
-  -- the board carries this child of the list that was taken
-  abbrev pub HasChild : BoardValue N → Machine → Ask → StoreValue → Next → Stored → Type 0
-  HasChild b machine ask s next c =
-      (first : State) × HasList net content past b machine ask first (child_by machine (next_list machine s next).goal (next_list machine s next).choices c)
-
   -- the board carries a complete list, and no alternative ends before the list's bound. All this was laid since a mark
   pub record HasAnswer (b b' : BoardValue N) (machine : Machine) (ask : Ask) (base : ℕ) : Type 0 where
     pub number : base ≡ length (past_of past b)
-    pub past_more : past_of past b' ≡ past_of past b ++ content_of content b ∷ []
+    pub kept : List (BoardContent C)
+    pub past_more : past_of past b' ≡ past_of past b ++ content_of content b ∷ kept
     pub loaded : IsSameLoad b b'
     pub marks : max_marks b'.net - 1 ≡ max_marks b.net - 1
     pub first : State

@@ -94,7 +94,7 @@ IsBestLater s bound = IfSome s.best (λ best. bound < bound_of s.entries best)
 
 -- how the opening of the list that was taken begins
 abbrev pub opening_of : Machine → StoreValue → Next → Opening
-opening_of machine s next = record { parent = next_node next; goal = (next_list machine s next).goal; bound = next_bound s next; stored = length s.entries; answer = None }
+opening_of machine s next = record { parent = next_node next; goal = (next_list machine s next).goal; bound = next_bound s next; stored = length s.entries; dived = None }
 
 -- how many lists can still be taken: those that wait, and those that can still be stored
 abbrev pub still_to_take : List OpenGoal → StoreValue → ℕ

@@ -1,5 +1,5 @@
 -- What a trial is: its board carries an earliest plan, laid since a mark. And what holds where there is no plan.
-use Rattle.std.specs.Prelude.{◌≡◌, ℕ, ◌-◌, List, [], ◌∷◌, ◌++◌, length, Some, IsSomeAnd}
+use Rattle.std.specs.Prelude.{◌≡◌, ℕ, ◌-◌, List, ◌∷◌, ◌++◌, length, Some, IsSomeAnd}
 use Rattle.std.specs.Borrow.{GName}
 use Rattle.tp_base.specs.Net.{Net}
 use Rattle.tp_machine.specs.declared.machine.Machine.{Machine}
@@ -9,7 +9,7 @@ use Rattle.tp_schedule.specs.Spending.{FewListsOpen, IsSpent}
 use Rattle.tp_schedule.specs.Spots.Spot.{own}
 use Rattle.tp_schedule.specs.declared.parts.Ask.{Ask}
 use Rattle.tp_schedule.specs.declared.parts.Plan.{Plan}
-use Rattle.tp_placing.specs.Boards.{BoardValue, content_of, past_of, suffix_of}
+use Rattle.tp_placing.specs.Boards.{BoardContent, BoardValue, content_of, past_of, suffix_of}
 use Rattle.tp_placing.specs.Calls.{IsSameLoad}
 use Rattle.tp_placing.specs.Standing.{Stands}
 use Rattle.tp_placing.specs.Ticks.{HasLeastTick}
@@ -51,10 +51,11 @@ pub record IsSameTrial {N : Type 0} (trial trial' : Trial N) : Type 0 where
 
 module _ {N C : Type 0} (net : N → Net) (content : N → C) (past : N → List C) (max_marks : N → ℕ) where
   -- the trial's board carries a plan of its ask that can be committed and ends as the trial tells, and no alternative ends
-  -- before. It was laid since the trial's mark, the newest, which was made on the first board, a board without choices
+  -- before. It was laid since the trial's mark, which was made on the first board, a board without choices
   pub record IsTrial (b : BoardValue N) (machine : Machine) (trial : Trial N) : Type 0 where
     pub number : trial.base.0 ≡ length (past_of past b)
-    pub past_more : past_of past (board_in trial) ≡ past_of past b ++ content_of content b ∷ []
+    pub kept : List (BoardContent C)
+    pub past_more : past_of past (board_in trial) ≡ past_of past b ++ content_of content b ∷ kept
     pub loaded : IsSameLoad b (board_in trial)
     pub marks : max_marks (board_in trial).net - 1 ≡ max_marks b.net - 1
     pub stands : Stands net content past (board_in trial) machine

@@ -1,15 +1,19 @@
 //! The children of a list on a board, each of which is tried, and kept where it is open.
-ghost use Rattle.std.specs.Prelude.{◌≡◌, ◌+◌, ◌-◌, ◌<◌, ◌↔◌, [], ◌∷◌, length, take, IsTrue};
-ghost use Rattle.tp_pool.specs.Entries.{IsParentOf, choices_before};
+ghost use Rattle.std.specs.Prelude.{◌≡◌, suc, ◌+◌, ◌-◌, ◌<◌, ◌↔◌, [], ◌∷◌, length, take, IsFalse, IsTrue};
+ghost use Rattle.tp_machine.specs.Using.{action_at};
+ghost use Rattle.tp_pool.specs.Entries.{choices_before};
 ghost use Rattle.tp_schedule.specs.Answers.{kept_of};
+ghost use Rattle.tp_schedule.specs.Holding.{holds_of_act};
 ghost use Rattle.tp_search.specs.Boards.{HasMarks, IsBack, IsLaid};
-ghost use Rattle.tp_search.specs.Children.{CarriesOpened, IsNewChild};
-ghost use Rattle.tp_search.specs.Opening.{IsAtProgress, IsFresh, IsSameOpening, opening_after, store_after};
+ghost use Rattle.tp_search.specs.Children.{CarriesOpened, HasFound, IsNewChild};
+ghost use Rattle.tp_search.specs.Diving.{CanDive};
+ghost use Rattle.tp_search.specs.Opening.{IsAtProgress, IsFresh, IsSameOpening};
 ghost use Rattle.tp_search.specs.Opening.Progress.{nothing, through, up_to};
 ghost use Rattle.tp_search.specs.Problems.{IsPosed};
-ghost use Rattle.tp_search.specs.Stored.{choices_by};
-ghost use Rattle.tp_search.specs.Stores.{HasBounds, IsInRange};
+ghost use Rattle.tp_search.specs.Stored.{choice_with, choices_by};
+ghost use Rattle.tp_search.specs.Stores.{HasBounds};
 
+use crate::diving::dive;
 use crate::following::Laid;
 use crate::opening::Opening;
 use crate::problem::Problem;
@@ -21,32 +25,105 @@ use tp_placing::{Board, Refused, marks_keep_boards};
 use tp_pool::Choice;
 use tp_schedule::{Origin, is_start};
 
-/// A child that is tried: its newest action, the stored choice with the places so far, the state that it begins in, and
-/// whether it is complete there.
+/// A child that is tried: its newest action, the stored choice with the places so far, the state that it begins in, how many
+/// choices it has, and whether it is complete there.
 #[derive(Clone, Copy)]
 struct Child {
     act: ActId,
     choice: Choice,
     first: State,
+    count: u32,
     complete: bool,
 }
 
-/// Takes a complete child with the parent's bound as the answer, and stores any other one.
-fn keep_child(store: &mut Store, opening: &mut Opening, choice: Choice, bound: Tick, complete: bool)
-    requires parent { IsParentOf (length store.old.entries) opening.old.parent }
-    requires range { IsInRange store.old bound }
-    ensures opening { opening.new ≡ opening_after choice bound complete opening.old }
-    ensures store { store.new ≡ store_after choice bound complete opening.old store.old }
+/// Dives from a child with the parent's bound, where the parent is stored and no dive failed at this bound. Answers whether
+/// the board carries an answer then.
+fn dive_from<N: Network>(
+    opening: &mut Opening,
+    board: &mut Board<N>,
+    problem: Problem,
+    bound: Tick,
+    child: Laid,
+) -> bool
+    requires posed { IsPosed problem }
+    requires carries { CanDive N.net N.content N.past N.max_marks board.old problem.machine.now
+        problem.ask.now child }
+    requires marks { HasMarks N.net N.content N.past N.max_marks 1 board.old }
+    ensures found { IsTrue result
+        → HasFound N.net N.content N.past N.max_marks board.old board.new
+        problem.entry.machine.now problem.entry.ask.now opening.old.bound }
+    ensures back { IsFalse result → IsBack N.net N.content N.past N.max_marks board.old board.new
+        problem.entry.machine.now }
+    ensures same { opening.new ≡ record opening.old { dived = opening.new.dived } }
 {
-    if complete && bound == opening.bound {
-        opening.answer = Some(choice);
-    } else {
-        store.keep(opening.parent, choice, bound, complete, opening.stored);
+    if opening.parent.is_none() || bound != opening.bound || opening.dived == Some(bound) {
+        return false;
     }
+    if dive(board, problem, bound, child) {
+        return true;
+    }
+    opening.dived = Some(bound);
+    false
 }
 
-/// Places the holds of the child's newest action, from this one on, in all ways, and keeps each child that is left. Each hold
-/// is tried from the end of its order to the front, until no place before is left or an answer is found.
+/// Looks at a child that has all its places: it is an answer where it is complete with the parent's bound, or a dive from it
+/// comes to an answer, or else it is stored. Answers whether the board carries an answer then.
+fn end_child<N: Network>(
+    store: &mut Store,
+    opening: &mut Opening,
+    board: &mut Board<N>,
+    problem: Problem,
+    child: Child,
+) -> bool
+    requires posed { IsPosed problem }
+    requires child { IsNewChild problem.machine.now problem.ask.now opening.old.goal child
+        (length (holds_of_act (action_at problem.machine.now child.act.0))) }
+    requires laid { IsLaid N.net N.content N.past N.max_marks board.old problem.machine.now
+        problem.ask.now opening.old.goal child.first
+        (choice_with problem.machine.now child.act child.choice.places ∷ choices_by
+        problem.machine.now (choices_before store.old.entries opening.old.parent)) }
+    requires count { child.count ≡ suc (length (choices_by problem.machine.now
+        (choices_before store.old.entries opening.old.parent))) }
+    requires marks { HasMarks N.net N.content N.past N.max_marks 1 board.old }
+    requires fresh { IsFresh problem.machine.now problem.ask.now opening.old store.old }
+    requires bounds { HasBounds problem.machine.now problem.ask.now store.old }
+    requires progress { IsAtProgress problem.machine.now board.old.plans problem.ask.now opening.old
+        store.old (up_to child.act.0
+        (choice_with problem.machine.now child.act child.choice.places).places) }
+    ensures found { IsTrue result
+        → HasFound N.net N.content N.past N.max_marks board.old board.new
+        problem.entry.machine.now problem.entry.ask.now opening.old.bound }
+    ensures progress { IsFalse result → IsAtProgress problem.entry.machine.now board.old.plans
+        problem.entry.ask.now opening.new store.new (through child.act.0
+        (choice_with problem.entry.machine.now child.act child.choice.places).places) }
+    ensures back { IsFalse result → IsBack N.net N.content N.past N.max_marks board.old board.new
+        problem.entry.machine.now }
+    ensures same { IsSameOpening opening.old opening.new store.old store.new }
+{
+    let bound = board.end_bound();
+    if child.complete && bound == opening.bound {
+        return true;
+    }
+    let laid = Laid {
+        first: child.first,
+        count: child.count,
+    };
+    if dive_from(opening, board, problem, bound, laid) {
+        return true;
+    }
+    store.keep(
+        opening.parent,
+        child.choice,
+        bound,
+        child.complete,
+        opening.stored,
+    );
+    false
+}
+
+/// Places the holds of the child's newest action, from this one on, in all ways, and keeps each child that is left, until one is
+/// an answer or leads to one, which the board carries then. Each hold is tried from the end of its order to the front, until no
+/// place before is left. Answers whether the board carries an answer.
 fn place_rest<N: Network>(
     store: &mut Store,
     opening: &mut Opening,
@@ -54,84 +131,92 @@ fn place_rest<N: Network>(
     problem: Problem,
     child: Child,
     hold: u32,
-)
+) -> bool
+    requires posed { IsPosed problem }
     requires child { IsNewChild problem.machine.now problem.ask.now opening.old.goal child hold }
     requires laid { IsLaid N.net N.content N.past N.max_marks board.old problem.machine.now
         problem.ask.now opening.old.goal child.first
         (record { act = child.act; places = take hold child.choice.places } ∷ choices_by
         problem.machine.now (choices_before store.old.entries opening.old.parent)) }
+    requires count { child.count ≡ suc (length (choices_by problem.machine.now
+        (choices_before store.old.entries opening.old.parent))) }
     requires marks { HasMarks N.net N.content N.past N.max_marks (5 - hold) board.old }
     requires fresh { IsFresh problem.machine.now problem.ask.now opening.old store.old }
     requires bounds { HasBounds problem.machine.now problem.ask.now store.old }
     requires progress { IsAtProgress problem.machine.now board.old.plans problem.ask.now opening.old
         store.old (up_to child.act.0 (take hold child.choice.places)) }
-    ensures progress { IsAtProgress problem.entry.machine.now board.old.plans problem.entry.ask.now
-        opening.new store.new (through child.act.0 (take hold child.choice.places)) }
+    ensures found { IsTrue result
+        → HasFound N.net N.content N.past N.max_marks board.old board.new
+        problem.entry.machine.now problem.entry.ask.now opening.old.bound }
+    ensures progress { IsFalse result → IsAtProgress problem.entry.machine.now board.old.plans
+        problem.entry.ask.now opening.new store.new
+        (through child.act.0 (take hold child.choice.places)) }
     ensures same { IsSameOpening opening.old opening.new store.old store.new }
-    ensures back { IsBack N.net N.content N.past N.max_marks board.old board.new
+    ensures back { IsFalse result → IsBack N.net N.content N.past N.max_marks board.old board.new
         problem.entry.machine.now }
 {
     let holds = &problem.machine.actions.get(child.act.0 as u32).holds;
     if hold == holds.len() {
-        keep_child(
-            store,
-            opening,
-            child.choice,
-            board.end_bound(),
-            child.complete,
-        );
-        return;
+        return end_child(store, opening, board, problem, child);
     }
     marks_keep_boards::<N>();
     let resource = holds.get(hold).resource;
     let last = board.places(resource);
     for place in (0..=last).rev() {
-        if opening.answer.is_some() {
-            return;
-        }
         let mark = board.mark();
         let mut placed = child;
         placed.choice.places[hold as usize] = place;
         match board.try_place(problem.machine, hold, place) {
-            Ok(()) => place_rest(store, opening, board, problem, placed, hold + 1),
+            Ok(()) => {
+                if place_rest(store, opening, board, problem, placed, hold + 1) {
+                    return true;
+                }
+            }
             Err(Refused::Here) => {}
             Err(Refused::UpToHere) => {
                 board.undo_to(mark);
-                return;
+                return false;
             }
         }
         board.undo_to(mark);
     }
+    false
 }
 
-/// Keeps the children that have this action more, before the state in which the list begins.
+/// Keeps the children that have this action more, before the state in which the list begins, until one leads to an answer.
 fn open_act<N: Network>(
     store: &mut Store,
     opening: &mut Opening,
     board: &mut Board<N>,
     problem: Problem,
-    first: State,
+    laid: Laid,
     act: ActId,
-)
+) -> bool
     requires known { act.0 < length problem.machine.now.actions }
     requires posed { IsPosed problem }
     requires opened { CarriesOpened N.net N.content N.past N.max_marks board.old problem.machine.now
-        problem.ask.now opening.old store.old first }
+        problem.ask.now opening.old store.old laid.first }
+    requires count { laid.count
+        ≡ length (choices_by problem.machine.now
+        (choices_before store.old.entries opening.old.parent)) }
     requires marks { HasMarks N.net N.content N.past N.max_marks 6 board.old }
     requires fewer { kept_of problem.ask.now
         + length (choices_by problem.machine.now
         (choices_before store.old.entries opening.old.parent)) < 64 }
     requires progress { IsAtProgress problem.machine.now board.old.plans problem.ask.now opening.old
         store.old (up_to act.0 []) }
-    ensures progress { IsAtProgress problem.entry.machine.now board.old.plans problem.entry.ask.now
-        opening.new store.new (up_to (act.0 + 1) []) }
+    ensures found { IsTrue result
+        → HasFound N.net N.content N.past N.max_marks board.old board.new
+        problem.entry.machine.now problem.entry.ask.now opening.old.bound }
+    ensures progress { IsFalse result → IsAtProgress problem.entry.machine.now board.old.plans
+        problem.entry.ask.now opening.new store.new (up_to (act.0 + 1) []) }
     ensures same { IsSameOpening opening.old opening.new store.old store.new }
-    ensures back { IsBack N.net N.content N.past N.max_marks board.old board.new
+    ensures back { IsFalse result → IsBack N.net N.content N.past N.max_marks board.old board.new
         problem.entry.machine.now }
 {
     marks_keep_boards::<N>();
-    let Some(before) = state_before(problem, first, act) else {
-        return;
+    let Some(before) = state_before(problem, laid.first, act) else {
+        return false;
     };
     let mark = board.mark();
     match board.open_action(problem.machine, act, before.room) {
@@ -147,13 +232,17 @@ fn open_act<N: Network>(
                 act,
                 choice,
                 first: before.state,
+                count: laid.count + 1,
                 complete,
             };
-            place_rest(store, opening, board, problem, child, 0);
+            if place_rest(store, opening, board, problem, child, 0) {
+                return true;
+            }
         }
         Err(Late) => {}
     }
     board.undo_to(mark);
+    false
 }
 
 /// Whether the front of a copy in flight has come to this state.
@@ -163,14 +252,14 @@ fn is_at(front: State, first: State) -> bool
     front == first
 }
 
-/// Keeps the stopped list, where a copy in flight has come to its front's state.
+/// Keeps the stopped list, where a copy in flight has come to its front's state, unless it is the answer.
 fn open_stop<N: Network>(
     store: &mut Store,
     opening: &mut Opening,
     board: &mut Board<N>,
     problem: Problem,
     laid: Laid,
-)
+) -> bool
     requires count { laid.count
         ≡ length (choices_by problem.machine.now
         (choices_before store.old.entries opening.old.parent)) }
@@ -179,19 +268,22 @@ fn open_stop<N: Network>(
     requires marks { HasMarks N.net N.content N.past N.max_marks 1 board.old }
     requires progress { IsAtProgress problem.machine.now board.old.plans problem.ask.now opening.old
         store.old nothing }
-    ensures progress { IsAtProgress problem.entry.machine.now board.old.plans problem.entry.ask.now
-        opening.new store.new (up_to 0 []) }
+    ensures found { IsTrue result
+        → HasFound N.net N.content N.past N.max_marks board.old board.new
+        problem.entry.machine.now problem.entry.ask.now opening.old.bound }
+    ensures progress { IsFalse result → IsAtProgress problem.entry.machine.now board.old.plans
+        problem.entry.ask.now opening.new store.new (up_to 0 []) }
     ensures same { IsSameOpening opening.old opening.new store.old store.new }
-    ensures back { IsBack N.net N.content N.past N.max_marks board.old board.new
+    ensures back { IsFalse result → IsBack N.net N.content N.past N.max_marks board.old board.new
         problem.entry.machine.now }
 {
     marks_keep_boards::<N>();
     let Laid { first, count } = laid;
     let Origin::Front { state, .. } = problem.ask.origin else {
-        return;
+        return false;
     };
     if count == 0 || !is_at(state, first) {
-        return;
+        return false;
     }
     let mark = board.mark();
     match board.stop() {
@@ -201,21 +293,27 @@ fn open_stop<N: Network>(
                 goal: opening.goal,
                 places: [0; 4],
             };
-            keep_child(store, opening, choice, board.end_bound(), true);
+            let bound = board.end_bound();
+            if bound == opening.bound {
+                return true;
+            }
+            store.keep(opening.parent, choice, bound, true, opening.stored);
         }
         Err(Late) => {}
     }
     board.undo_to(mark);
+    false
 }
 
-/// Keeps all open children of the list that the board carries, unless one of them is an answer.
+/// Keeps all open children of the list that the board carries, until one of them is an answer or leads to one, which the board
+/// carries then. Answers whether it does.
 pub(crate) fn open_list<N: Network>(
     store: &mut Store,
     opening: &mut Opening,
     board: &mut Board<N>,
     problem: Problem,
     laid: Laid,
-)
+) -> bool
     requires count { laid.count
         ≡ length (choices_by problem.machine.now
         (choices_before store.old.entries opening.old.parent)) }
@@ -225,21 +323,26 @@ pub(crate) fn open_list<N: Network>(
     requires marks { HasMarks N.net N.content N.past N.max_marks 6 board.old }
     requires progress { IsAtProgress problem.machine.now board.old.plans problem.ask.now opening.old
         store.old nothing }
-    ensures progress { IsAtProgress problem.entry.machine.now board.old.plans problem.entry.ask.now
-        opening.new store.new (up_to (length problem.entry.machine.now.actions) []) }
+    ensures found { IsTrue result
+        → HasFound N.net N.content N.past N.max_marks board.old board.new
+        problem.entry.machine.now problem.entry.ask.now opening.old.bound }
+    ensures progress { IsFalse result → IsAtProgress problem.entry.machine.now board.old.plans
+        problem.entry.ask.now opening.new store.new
+        (up_to (length problem.entry.machine.now.actions) []) }
     ensures same { IsSameOpening opening.old opening.new store.old store.new }
-    ensures back { IsBack N.net N.content N.past N.max_marks board.old board.new
+    ensures back { IsFalse result → IsBack N.net N.content N.past N.max_marks board.old board.new
         problem.entry.machine.now }
 {
-    let Laid { first, count } = laid;
-    open_stop(store, opening, board, problem, laid);
-    if problem.ask.origin.kept() + count == 64 {
-        return;
+    if open_stop(store, opening, board, problem, laid) {
+        return true;
+    }
+    if problem.ask.origin.kept() + laid.count == 64 {
+        return false;
     }
     for at in 0..problem.machine.actions.len() {
-        if opening.answer.is_some() {
-            return;
+        if open_act(store, opening, board, problem, laid, ActId(at as u16)) {
+            return true;
         }
-        open_act(store, opening, board, problem, first, ActId(at as u16));
     }
+    false
 }

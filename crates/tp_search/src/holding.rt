@@ -7,8 +7,8 @@ ghost use Rattle.tp_schedule.specs.Choices.{IsOpen, going};
 ghost use Rattle.tp_schedule.specs.declared.parts.Ask.{Ask};
 ghost use Rattle.tp_search.specs.Boards.{HasMarks, IsBack, IsReady};
 ghost use Rattle.tp_search.specs.Following.{HasList, IsSameButSteps, IsStoredList};
-ghost use Rattle.tp_search.specs.Holding.{HoldsList, IsAnswerTo, IsLaidSince, IsOver};
-ghost use Rattle.tp_search.specs.Outcomes.{CanLay, HasChild};
+ghost use Rattle.tp_search.specs.Holding.{HoldsList, IsLaidSince, IsOver};
+ghost use Rattle.tp_search.specs.Outcomes.{CanLay};
 ghost use Rattle.tp_search.specs.Problems.{IsPosed};
 ghost use Rattle.tp_search.specs.Searching.{list_at, next_list, next_node};
 ghost use Rattle.tp_search.specs.Stored.{list_by};
@@ -20,7 +20,6 @@ use crate::taking::Next;
 use tp_base::{Mark, Network, Undo};
 use tp_machine::State;
 use tp_placing::{Board, marks_keep_boards};
-use tp_pool::Choice;
 
 /// A mark at which a board carries the list of a goal without choices.
 #[derive(Clone, Copy)]
@@ -327,73 +326,4 @@ pub(crate) fn lay_next<N: Network>(
         }
         _ => lay_anew(store, board, problem, next, held),
     }
-}
-
-/// Leaves the held list on the board since one mark alone.
-fn lay_alone<N: Network>(
-    store: &Store,
-    board: &mut Board<N>,
-    problem: Problem,
-    next: &Next,
-    held: Held,
-) -> Held
-    requires posed { IsPosed problem }
-    requires over { (b : BoardValue N)
-        × IsReady N.net N.content N.past N.max_marks b problem.machine.now problem.ask.now
-        × HasMarks N.net N.content N.past N.max_marks 1 b
-        × IsOver N.net N.content N.past N.max_marks b board.old problem.machine.now
-        problem.ask.now (Some held) }
-    requires laid { HasList N.net N.content N.past board.old problem.machine.now problem.ask.now
-        held.laid.first (next_list problem.machine.now store.now next.now) }
-    requires can { CanLay problem.machine.now board.old.plans problem.ask.now store.now next.now }
-    ensures laid { HasList N.net N.content N.past board.new problem.entry.machine.now
-        problem.entry.ask.now result.laid.first
-        (next_list problem.entry.machine.now store.now next.entry.now) }
-    ensures since { (b : BoardValue N)
-        → IsReady N.net N.content N.past N.max_marks b problem.entry.machine.now
-        problem.entry.ask.now
-        → IsOver N.net N.content N.past N.max_marks b board.old problem.entry.machine.now
-        problem.entry.ask.now (Some held)
-        → IsLaidSince N.net N.content N.past N.max_marks b board.new problem.entry.machine.now
-        problem.entry.ask.now result.base.0 None }
-{
-    match held.root {
-        None => held,
-        Some(_) => lay_anew(store, board, problem, next, Some(held)),
-    }
-}
-
-/// Lays the answer that was found as the held list was opened, since one mark alone. Answers the mark.
-pub(crate) fn lay_answer<N: Network>(
-    store: &Store,
-    board: &mut Board<N>,
-    problem: Problem,
-    next: &Next,
-    held: Held,
-    answer: &Choice,
-) -> Mark
-    requires posed { IsPosed problem }
-    requires over { (b : BoardValue N)
-        × IsReady N.net N.content N.past N.max_marks b problem.machine.now problem.ask.now
-        × HasMarks N.net N.content N.past N.max_marks 1 b
-        × IsOver N.net N.content N.past N.max_marks b board.old problem.machine.now
-        problem.ask.now (Some held) }
-    requires laid { HasList N.net N.content N.past board.old problem.machine.now problem.ask.now
-        held.laid.first (next_list problem.machine.now store.now next.now) }
-    requires can { CanLay problem.machine.now board.old.plans problem.ask.now store.now next.now }
-    requires answers { IsAnswerTo problem.machine.now board.old.plans problem.ask.now
-        (next_list problem.machine.now store.now next.now) answer.now }
-    ensures child { HasChild N.net N.content N.past N.max_marks board.new problem.entry.machine.now
-        problem.entry.ask.now store.now next.entry.now answer.entry.now }
-    ensures since { (b : BoardValue N)
-        → IsReady N.net N.content N.past N.max_marks b problem.entry.machine.now
-        problem.entry.ask.now
-        → IsOver N.net N.content N.past N.max_marks b board.old problem.entry.machine.now
-        problem.entry.ask.now (Some held)
-        → IsLaidSince N.net N.content N.past N.max_marks b board.new problem.entry.machine.now
-        problem.entry.ask.now result.0 None }
-{
-    let alone = lay_alone(store, board, problem, next, held);
-    lay(board, problem, alone.laid.first, answer);
-    alone.base
 }

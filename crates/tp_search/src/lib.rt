@@ -4,6 +4,7 @@
 mod again;
 mod answering;
 mod children;
+mod diving;
 mod engine;
 mod following;
 mod goals;

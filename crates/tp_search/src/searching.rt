@@ -1,20 +1,22 @@
 //! A best-first search: lists are opened by rising bound, until a complete one has the least bound of all that wait.
-ghost use Rattle.std.specs.Prelude.{ℕ, ◌≡◌, ◌<◌, ◌≤◌, length, vec_capacity, None, Some, IfNone, IfSome};
+ghost use Rattle.std.specs.Prelude.{ℕ, ◌≡◌, ◌<◌, ◌≤◌, length, vec_capacity, None, Some, IfNone, IfSome, IsFalse, IsTrue};
 ghost use Rattle.tp_machine.specs.declared.machine.Machine.{Machine};
 ghost use Rattle.tp_pool.specs.Entries.{bound_of, choices_before};
 ghost use Rattle.tp_placing.specs.Boards.{BoardValue};
 ghost use Rattle.tp_schedule.specs.Planning.{IsKnownGoal};
 ghost use Rattle.tp_search.specs.Boards.{HasMarks, IsBack, IsReady};
+ghost use Rattle.tp_search.specs.Children.{HasFound};
 ghost use Rattle.tp_search.specs.Following.{HasList};
 ghost use Rattle.tp_search.specs.Holding.{HoldsList, IsOver};
 ghost use Rattle.tp_search.specs.Outcomes.{CanOpen, IsAllOpened, IsOutcome};
 ghost use Rattle.tp_search.specs.Problems.{IsPosed};
 ghost use Rattle.tp_search.specs.Searching.{IsBestLater, IsSameSpace, IsSearching, next_bound, next_list, next_node, opening_of, still_to_take};
+ghost use Rattle.tp_search.specs.Stores.{StoreGrows};
 
 use crate::children::open_list;
 use crate::following::{Laid, follow};
 use crate::goals::OpenGoal;
-use crate::holding::{Held, lay_answer, lay_next, mark_anew, take_off};
+use crate::holding::{Held, lay_next, mark_anew, take_off};
 use crate::opening::Opening;
 use crate::problem::Problem;
 use crate::store::Store;
@@ -57,12 +59,13 @@ fn best_by(store: &Store, bound: Tick) -> Option<u32>
     }
 }
 
-/// How the opening of the list that was taken begins.
-fn opening_of(store: &Store, next: &Next) -> Opening
+/// How the opening of the list that was taken begins, after the last dive failed at this bound, if one did.
+fn opening_of(store: &Store, next: &Next, dived: Option<Tick>) -> Opening
     requires { IfSome (next_node next.now)
         (λ node. (node < length store.now.entries)
         × (1 ≤ length (choices_before store.now.entries (Some node)))) }
-    ensures { (machine : Machine) → result ≡ opening_of machine store.now next.now }
+    ensures { (machine : Machine)
+        → result ≡ record (opening_of machine store.now next.now) { dived = dived } }
 {
     match *next {
         Next::Goal(goal) => Opening {
@@ -70,49 +73,59 @@ fn opening_of(store: &Store, next: &Next) -> Opening
             goal: goal.state,
             bound: goal.bound,
             stored: store.len(),
-            answer: None,
+            dived,
         },
         Next::Node(node) => Opening {
             parent: Some(node),
             goal: store.choice_at(node, store.depth(node)).goal,
             bound: store.bound(node),
             stored: store.len(),
-            answer: None,
+            dived,
         },
     }
 }
 
-/// Opens the list that was taken, which the board carries: stores its open children. The board is as before.
+/// Opens the list that was taken, which the board carries: stores its open children, and the board is as before, unless an
+/// answer is found on the way, which the board carries then. Answers whether it does. The last bound at which a dive failed is
+/// noted.
 fn open_next<N: Network>(
     store: &mut Store,
     board: &mut Board<N>,
     problem: Problem,
     next: &Next,
     laid: Laid,
-) -> Opening
+    dived: &mut Option<Tick>,
+) -> bool
     requires posed { IsPosed problem }
     requires laid { HasList N.net N.content N.past board.old problem.machine.now problem.ask.now
         laid.first (next_list problem.machine.now store.old next.now) }
     requires count { laid.count ≡ length (choices_before store.old.entries (next_node next.now)) }
     requires marks { HasMarks N.net N.content N.past N.max_marks 6 board.old }
     requires can { CanOpen problem.machine.now board.old.plans problem.ask.now store.old next.now }
-    ensures opened { IsAllOpened problem.entry.machine.now board.old.plans problem.entry.ask.now
-        store.old next.entry.now result store.new }
-    ensures back { IsBack N.net N.content N.past N.max_marks board.old board.new
+    ensures found { IsTrue result
+        → HasFound N.net N.content N.past N.max_marks board.old board.new
+        problem.entry.machine.now problem.entry.ask.now (next_bound store.old next.entry.now) }
+    ensures opened { IsFalse result → IsAllOpened problem.entry.machine.now board.old.plans
+        problem.entry.ask.now store.old next.entry.now store.new }
+    ensures back { IsFalse result → IsBack N.net N.content N.past N.max_marks board.old board.new
         problem.entry.machine.now }
+    ensures grows { StoreGrows store.old store.new }
 {
-    let mut opening = opening_of(store, next);
-    open_list(store, &mut opening, board, problem, laid);
-    opening
+    let mut opening = opening_of(store, next, *dived);
+    let found = open_list(store, &mut opening, board, problem, laid);
+    *dived = opening.dived;
+    found
 }
 
-/// Takes a list and opens it. Answers how the search ends, if it does so; if it goes on, the board holds the list.
+/// Takes a list and opens it. Answers how the search ends, if it does so; if it goes on, the board holds the list. The last
+/// bound at which a dive failed is noted.
 fn step<N: Network>(
     goals: &mut Vec<OpenGoal>,
     store: &mut Store,
     board: &mut Board<N>,
     problem: Problem,
     held: &mut Option<Held>,
+    dived: &mut Option<Tick>,
 ) -> Option<Outcome>
     requires posed { IsPosed problem }
     requires goal { IsKnownGoal problem.machine.now problem.ask.now.goal }
@@ -164,10 +177,8 @@ fn step<N: Network>(
         return Some(Outcome::Found { base });
     }
     let reached = lay_next(store, board, problem, &next, *held);
-    let opening = open_next(store, board, problem, &next, reached.laid);
-    if let Some(answer) = opening.answer {
-        let base = lay_answer(store, board, problem, &next, reached, &answer);
-        return Some(Outcome::Found { base });
+    if open_next(store, board, problem, &next, reached.laid, dived) {
+        return Some(Outcome::Found { base: reached.base });
     }
     if store.is_full() {
         board.undo_to(reached.base);
@@ -197,8 +208,9 @@ pub(crate) fn search<N: Network>(
     ensures same { IsSameSpace goals.old goals.new store.old store.new }
 {
     let mut held = None;
+    let mut dived = None;
     'steps: loop {
-        if let Some(outcome) = step(goals, store, board, problem, &mut held) {
+        if let Some(outcome) = step(goals, store, board, problem, &mut held, &mut dived) {
             return outcome;
         }
     }

@@ -29,6 +29,7 @@ pub(crate) fn room_of(problem: Problem, state: State) -> Option<u32>
 
 /// The one state from which the action leads to this one, with its room. None where the action is not allowed, leads here
 /// from no state, or leads here from a state that has no room.
+#[inline(always)]
 pub(crate) fn state_before(problem: Problem, state: State, act: ActId) -> Option<Before>
     requires posed { IsPosed problem }
     requires known { act.0 < length problem.machine.now.actions }

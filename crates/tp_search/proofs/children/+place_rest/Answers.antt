@@ -1,4 +1,4 @@
-use Rattle.std.proofs.Common.{◌≡◌, suc, length-set, ◌∙◌, ap, subst, sym, ◌+◌, ◌-◌, ◌<◌, ◌∷◌, ◌++◌, [], length, set, take, length-take-le, arith, IsSomeAnd}
+use Rattle.std.proofs.Common.{◌≡◌, suc, length-set, ◌∙◌, ap, subst, sym, ◌+◌, ◌-◌, ◌<◌, ◌∷◌, length, set, take, length-take-le, arith, IsSomeAnd}
 use Rattle.std.specs.Prelude.{slice_get}
 use Rattle.tp_machine.specs.Using.{action_at}
 use Rattle.tp_schedule.specs.Holding.{holds_of_act}
@@ -11,34 +11,39 @@ use Rattle.tp_search.specs.Opening.Progress.{through, up_to}
 use Rattle.tp_search.specs.Stored.{choices_by}
 use Rattle.tp_pool.specs.Entries.{choices_before}
 use Rattle.tp_search.proofs.BoardSteps.{back-itself, mark-known, since-step}
-use Rattle.tp_search.proofs.OpeningFacts.{opening-found}
-use Rattle.tp_search.proofs.ProgressFacts.{looked-under}
-use Rattle.tp_search.proofs.OpeningSame.{bounds-same, fresh-same, same-itself}
-use Rattle.tp_search.proofs.PlaceSteps.{all-placed, back-now, begin-now, refused-since, shut-now, end-now, kept-at, kept-same, marked-stands, may-place, next-now, next-places, placed-laid, placed-marks, placed-progress, resource-known, same-now, tried-late, tried-placed, trying, IsTried, IsTrying, tried-as}
+use Rattle.tp_search.proofs.OpeningSame.{before-same, bounds-same, fresh-same, same-itself, same-trans}
+use Rattle.tp_search.proofs.PlaceSteps.{back-now, begin-now, found-now, holds-four, refused-since, shut-now, end-now, marked-stands, may-place, next-now, next-places, placed-laid, placed-marks, placed-progress, resource-known, same-now, tried-late, tried-placed, trying, IsTried, IsTrying, tried-as}
 use Rattle.tp_search.proofs.children.+place_rest.Goals as goal
-use Rattle.tp_search.proofs.children.+place_rest.Goals.{After-mark-mark, After-undo_to-in-loop-place, in-Ok, in-Err-Here}
+use Rattle.tp_search.proofs.children.+place_rest.Goals.{After-mark-mark, After-undo_to-in-loop-place, Then-hold-len, in-Ok+else-place_rest, in-Err-Here}
 
-pub keep_child-requires-clause-range : goal.keep_child-requires-clause-range
-keep_child-requires-clause-range g t c =
-    let held = ap length (ap holds_of_act c.get.ensures) in
-    let all : c.args.hold ≡ length (holds_of_act (action_at c.args.problem.machine.now c.args.child.act.0)) = omega arith in
-    let r = c.requires in
-    let end = all-placed g.N.Network.net g.N.Undo.content g.N.Undo.past g.N.Undo.max_marks c.args.problem.machine.now c.args.problem.ask.now c.args.child.first c.args.opening.now c.args.store.now c.args.board.now
-    c.args.child.act c.args.child.choice (take c.args.hold c.args.child.choice.places) c.args.child.complete c.end_bound.result r.child.act r.child.goal (ap (λ n. take n c.args.child.choice.places) all) (omega arith) r.child.complete r.laid r.fresh r.bounds r.progress (c.end_bound.ensures c.args.problem.machine.now r.laid.stands) in
-    end.0
+-- where each hold has its place
+all-placed : (g : _) (t : _) (c : Then-hold-len g t) → c.args.hold ≡ length (holds_of_act (action_at c.args.problem.machine.now c.args.child.act.0))
+all-placed g t c = (let held = ap length (ap holds_of_act c.get.ensures) in omega arith)
+
+pub end_child-requires-clause-child : goal.end_child-requires-clause-child
+end_child-requires-clause-child g t c = subst (IsNewChild c.args.problem.machine.now c.args.problem.ask.now c.args.opening.now.goal c.args.child) (all-placed g t (goal.at.end_child-requires-clause-child g t c).Then-hold-len) c.requires.child
+
+pub end_child-requires-clause-laid : goal.end_child-requires-clause-laid
+end_child-requires-clause-laid g t c =
+    subst (λ n. IsLaid g.N.Network.net g.N.Undo.content g.N.Undo.past g.N.Undo.max_marks c.args.board.now c.args.problem.machine.now c.args.problem.ask.now c.args.opening.now.goal c.args.child.first (record { act = c.args.child.act; places = take n c.args.child.choice.places } ∷ choices_by c.args.problem.machine.now (choices_before c.args.store.now.entries c.args.opening.now.parent)))
+    (all-placed g t (goal.at.end_child-requires-clause-laid g t c).Then-hold-len) c.requires.laid
+
+pub end_child-requires-clause-marks : goal.end_child-requires-clause-marks
+end_child-requires-clause-marks g t c =
+    let all = all-placed g t (goal.at.end_child-requires-clause-marks g t c).Then-hold-len in
+    let four = holds-four c.args.problem.machine.now c.args.child.act.0 in
+    let marks = c.requires.marks in
+    omega arith
+
+pub end_child-requires-clause-progress : goal.end_child-requires-clause-progress
+end_child-requires-clause-progress g t c =
+    subst (λ n. IsAtProgress c.args.problem.machine.now c.args.board.now.plans c.args.problem.ask.now c.args.opening.now c.args.store.now (up_to c.args.child.act.0 (take n c.args.child.choice.places)))
+    (all-placed g t (goal.at.end_child-requires-clause-progress g t c).Then-hold-len) c.requires.progress
 
 pub returns-then-hold-len-clause-progress : goal.returns-then-hold-len-clause-progress
-returns-then-hold-len-clause-progress g t c =
-    let held = ap length (ap holds_of_act c.get.ensures) in
-    let all : c.args.hold ≡ length (holds_of_act (action_at c.args.problem.machine.now c.args.child.act.0)) = omega arith in
-    let r = c.requires in
-    let end = all-placed g.N.Network.net g.N.Undo.content g.N.Undo.past g.N.Undo.max_marks c.args.problem.machine.now c.args.problem.ask.now c.args.child.first c.args.opening.now c.args.store.now c.args.board.now
-    c.args.child.act c.args.child.choice (take c.args.hold c.args.child.choice.places) c.args.child.complete c.end_bound.result r.child.act r.child.goal (ap (λ n. take n c.args.child.choice.places) all) (omega arith) r.child.complete r.laid r.fresh r.bounds r.progress (c.end_bound.ensures c.args.problem.machine.now r.laid.stands) in
-    kept-at c.args.opening.now c.args.store.now c.args.child.choice c.end_bound.result c.args.child.complete c.keep_child.new.opening c.keep_child.new.store c.keep_child.ensures.opening c.keep_child.ensures.store
-    c.args.problem.machine.now c.args.board.now.plans c.args.problem.ask.now (through c.args.child.act.0 (take c.args.hold c.args.child.choice.places)) end.1
-
-pub returns-then-hold-len-clause-same : goal.returns-then-hold-len-clause-same
-returns-then-hold-len-clause-same g t c = kept-same c.args.opening.now c.args.store.now c.args.child.choice c.end_bound.result c.args.child.complete c.keep_child.new.opening c.keep_child.new.store c.keep_child.ensures.opening c.keep_child.ensures.store
+returns-then-hold-len-clause-progress g t c none =
+    subst (λ n. IsAtProgress c.args.problem.machine.now c.args.board.now.plans c.args.problem.ask.now c.end_child.new.opening c.end_child.new.store (through c.args.child.act.0 (take n c.args.child.choice.places)))
+    (sym (all-placed g t (goal.at.returns-then-hold-len-clause-progress g t c).Then-hold-len)) (c.end_child.ensures.progress none)
 
 pub places-last-requires : goal.places-last-requires
 places-last-requires g t c =
@@ -109,7 +114,7 @@ place_rest-requires g t c κs within =
     let r = c.requires in
     let bounds = bounds-same c.args.problem.machine.now c.args.problem.ask.now c.args.opening.now c.loop-place.opening c.args.store.now c.loop-place.store same r.bounds in
     let fresh = fresh-same c.args.problem.machine.now c.args.problem.ask.now c.args.opening.now c.loop-place.opening c.args.store.now c.loop-place.store same r.fresh in
-    let child : IsNewChild c.args.problem.machine.now c.args.problem.ask.now c.loop-place.opening.goal (record { act = c.args.child.act; choice = record c.args.child.choice { places = set c.args.child.choice.places c.args.hold c.loop-place.place }; first = c.args.child.first; complete = c.args.child.complete }) (c.args.hold + 1) = record {
+    let child : IsNewChild c.args.problem.machine.now c.args.problem.ask.now c.loop-place.opening.goal (record { act = c.args.child.act; choice = record c.args.child.choice { places = set c.args.child.choice.places c.args.hold c.loop-place.place }; first = c.args.child.first; count = c.args.child.count; complete = c.args.child.complete }) (c.args.hold + 1) = record {
       act = r.child.act;
       four = length-set c.args.child.choice.places c.args.hold c.loop-place.place ∙ r.child.four;
       known = r.child.known;
@@ -117,7 +122,8 @@ place_rest-requires g t c κs within =
       goal = r.child.goal ∙ sym same.goal;
       complete = r.child.complete;
     } in
-    (omega arith, (within, (child, (laid, (marks, (fresh, (bounds, progress)))))))
+    let count = r.count ∙ ap (λ cs. suc (length (choices_by c.args.problem.machine.now cs))) (sym (before-same c.args.problem.machine.now c.args.problem.ask.now c.args.opening.now c.loop-place.opening c.args.store.now c.loop-place.store same r.fresh)) in
+    (omega arith, (within, (r.posed, (child, (laid, (count, (marks, (fresh, (bounds, progress)))))))))
 
 pub undo_to-requires-in-loop-place : goal.undo_to-requires-in-loop-place
 undo_to-requires-in-loop-place g t c =
@@ -128,12 +134,12 @@ undo_to-requires-in-loop-place g t c =
     let next = next-places c.args.child.choice.places c.args.hold c.loop-place.place some in
     let after : IsTried g.N.Network.net g.N.Undo.content g.N.Undo.past g.N.Undo.aside g.N.Undo.max_marks c.args.problem.machine.now c.args.problem.ask.now c.args.child.first c.args.child.act c.args.opening.now c.loop-place.opening c.args.store.now c.loop-place.store c.args.board.now c.loop-place.board c.mark-mark.new.self c.mark-mark.result.0
     (take c.args.hold c.args.child.choice.places) c.loop-place.place c.get-2.result.now c.match-try_place.board c.match-try_place.opening c.match-try_place.store = elim c.match-try_place.branch [
-      | in-Ok w ↦ tried-as g.N.Network.net g.N.Undo.content g.N.Undo.past g.N.Undo.aside g.N.Undo.max_marks c.args.problem.machine.now c.args.problem.ask.now c.args.child.first c.args.child.act c.args.opening.now c.loop-place.opening c.args.store.now c.loop-place.store c.args.board.now c.loop-place.board c.mark-mark.new.self c.mark-mark.result.0
+      | in-Ok+else-place_rest w ↦ tried-as g.N.Network.net g.N.Undo.content g.N.Undo.past g.N.Undo.aside g.N.Undo.max_marks c.args.problem.machine.now c.args.problem.ask.now c.args.child.first c.args.child.act c.args.opening.now c.loop-place.opening c.args.store.now c.loop-place.store c.args.board.now c.loop-place.board c.mark-mark.new.self c.mark-mark.result.0
           (take c.args.hold c.args.child.choice.places) c.loop-place.place c.get-2.result.now w.place_rest.new.board c.match-try_place.board w.place_rest.new.opening c.match-try_place.opening w.place_rest.new.store c.match-try_place.store w.board-is w.opening-is w.store-is
           (tried-placed g.N.Network.net g.N.Undo.content g.N.Undo.past g.N.Undo.aside g.N.Undo.max_marks c.args.problem.machine.now c.args.problem.ask.now c.args.child.first c.args.child.act c.args.opening.now c.loop-place.opening c.args.store.now c.loop-place.store c.args.board.now c.loop-place.board c.mark-mark.new.self c.mark-mark.result.0
           (take c.args.hold c.args.child.choice.places) c.loop-place.place c.get-2.result.now tried c.try_place.new.self w.place_rest.new.board w.place_rest.new.opening w.place_rest.new.store
-          (since-step g.N.Network.net g.N.Undo.content g.N.Undo.past g.N.Undo.max_marks c.mark-mark.new.self c.try_place.new.self c.args.problem.machine.now p.past p.loaded p.marks (λ s. w.in-Ok.ensures.stands)) w.place_rest.ensures.same w.place_rest.ensures.back
-          (subst (λ ps. IsAtProgress c.args.problem.machine.now c.try_place.new.self.plans c.args.problem.ask.now w.place_rest.new.opening w.place_rest.new.store (through c.args.child.act.0 ps)) next w.place_rest.ensures.progress))
+          (since-step g.N.Network.net g.N.Undo.content g.N.Undo.past g.N.Undo.max_marks c.mark-mark.new.self c.try_place.new.self c.args.problem.machine.now p.past p.loaded p.marks (λ s. w.in-Ok.ensures.stands)) w.place_rest.ensures.same (w.place_rest.ensures.back w.if-place_rest.false)
+          (subst (λ ps. IsAtProgress c.args.problem.machine.now c.try_place.new.self.plans c.args.problem.ask.now w.place_rest.new.opening w.place_rest.new.store (through c.args.child.act.0 ps)) next (w.place_rest.ensures.progress w.if-place_rest.false)))
       | in-Err-Here w ↦ tried-as g.N.Network.net g.N.Undo.content g.N.Undo.past g.N.Undo.aside g.N.Undo.max_marks c.args.problem.machine.now c.args.problem.ask.now c.args.child.first c.args.child.act c.args.opening.now c.loop-place.opening c.args.store.now c.loop-place.store c.args.board.now c.loop-place.board c.mark-mark.new.self c.mark-mark.result.0
           (take c.args.hold c.args.child.choice.places) c.loop-place.place c.get-2.result.now c.try_place.new.self c.match-try_place.board c.loop-place.opening c.match-try_place.opening c.loop-place.store c.match-try_place.store w.board-is w.opening-is w.store-is
           (tried-late g.N.Network.net g.N.Undo.content g.N.Undo.past g.N.Undo.aside g.N.Undo.max_marks c.args.problem.machine.now c.args.problem.ask.now c.args.child.first c.args.child.act c.args.opening.now c.loop-place.opening c.args.store.now c.loop-place.store c.args.board.now c.loop-place.board c.mark-mark.new.self c.mark-mark.result.0
@@ -152,12 +158,12 @@ tried-here g t c tried =
     let some : c.args.hold < length c.args.child.choice.places = omega arith in
     let next = next-places c.args.child.choice.places c.args.hold c.loop-place.place some in
     elim c.match-try_place.branch [
-      | in-Ok w ↦ tried-as g.N.Network.net g.N.Undo.content g.N.Undo.past g.N.Undo.aside g.N.Undo.max_marks c.args.problem.machine.now c.args.problem.ask.now c.args.child.first c.args.child.act c.args.opening.now c.loop-place.opening c.args.store.now c.loop-place.store c.args.board.now c.loop-place.board c.mark-mark.new.self c.mark-mark.result.0
+      | in-Ok+else-place_rest w ↦ tried-as g.N.Network.net g.N.Undo.content g.N.Undo.past g.N.Undo.aside g.N.Undo.max_marks c.args.problem.machine.now c.args.problem.ask.now c.args.child.first c.args.child.act c.args.opening.now c.loop-place.opening c.args.store.now c.loop-place.store c.args.board.now c.loop-place.board c.mark-mark.new.self c.mark-mark.result.0
           (take c.args.hold c.args.child.choice.places) c.loop-place.place c.get-2.result.now w.place_rest.new.board c.match-try_place.board w.place_rest.new.opening c.match-try_place.opening w.place_rest.new.store c.match-try_place.store w.board-is w.opening-is w.store-is
           (tried-placed g.N.Network.net g.N.Undo.content g.N.Undo.past g.N.Undo.aside g.N.Undo.max_marks c.args.problem.machine.now c.args.problem.ask.now c.args.child.first c.args.child.act c.args.opening.now c.loop-place.opening c.args.store.now c.loop-place.store c.args.board.now c.loop-place.board c.mark-mark.new.self c.mark-mark.result.0
           (take c.args.hold c.args.child.choice.places) c.loop-place.place c.get-2.result.now tried c.try_place.new.self w.place_rest.new.board w.place_rest.new.opening w.place_rest.new.store
-          (since-step g.N.Network.net g.N.Undo.content g.N.Undo.past g.N.Undo.max_marks c.mark-mark.new.self c.try_place.new.self c.args.problem.machine.now p.past p.loaded p.marks (λ s. w.in-Ok.ensures.stands)) w.place_rest.ensures.same w.place_rest.ensures.back
-          (subst (λ ps. IsAtProgress c.args.problem.machine.now c.try_place.new.self.plans c.args.problem.ask.now w.place_rest.new.opening w.place_rest.new.store (through c.args.child.act.0 ps)) next w.place_rest.ensures.progress))
+          (since-step g.N.Network.net g.N.Undo.content g.N.Undo.past g.N.Undo.max_marks c.mark-mark.new.self c.try_place.new.self c.args.problem.machine.now p.past p.loaded p.marks (λ s. w.in-Ok.ensures.stands)) w.place_rest.ensures.same (w.place_rest.ensures.back w.if-place_rest.false)
+          (subst (λ ps. IsAtProgress c.args.problem.machine.now c.try_place.new.self.plans c.args.problem.ask.now w.place_rest.new.opening w.place_rest.new.store (through c.args.child.act.0 ps)) next (w.place_rest.ensures.progress w.if-place_rest.false)))
       | in-Err-Here w ↦ tried-as g.N.Network.net g.N.Undo.content g.N.Undo.past g.N.Undo.aside g.N.Undo.max_marks c.args.problem.machine.now c.args.problem.ask.now c.args.child.first c.args.child.act c.args.opening.now c.loop-place.opening c.args.store.now c.loop-place.store c.args.board.now c.loop-place.board c.mark-mark.new.self c.mark-mark.result.0
           (take c.args.hold c.args.child.choice.places) c.loop-place.place c.get-2.result.now c.try_place.new.self c.match-try_place.board c.loop-place.opening c.match-try_place.opening c.loop-place.store c.match-try_place.store w.board-is w.opening-is w.store-is
           (tried-late g.N.Network.net g.N.Undo.content g.N.Undo.past g.N.Undo.aside g.N.Undo.max_marks c.args.problem.machine.now c.args.problem.ask.now c.args.child.first c.args.child.act c.args.opening.now c.loop-place.opening c.args.store.now c.loop-place.store c.args.board.now c.loop-place.board c.mark-mark.new.self c.mark-mark.result.0
@@ -186,7 +192,7 @@ loop-place-preserved g t c =
     }
 
 pub returns-after-try_place-clause-progress : goal.returns-after-try_place-clause-progress
-returns-after-try_place-clause-progress g t c =
+returns-after-try_place-clause-progress g t c none =
     let known = ap length (ap holds_of_act c.get.ensures) in
     let count : length (take c.args.hold c.args.child.choice.places) ≡ c.args.hold = length-take-le c.args.hold c.args.child.choice.places (omega arith) in
     let tried = trying-here g t (goal.at.returns-after-try_place-clause-progress g t c).After-mark-mark in
@@ -203,7 +209,7 @@ returns-after-try_place-clause-same g t c =
     (take c.args.hold c.args.child.choice.places) c.loop-place.place c.get-2.result.now tried c.match-try_place.board c.undo_to-in-loop-place.new.self c.match-try_place.opening c.match-try_place.store after
 
 pub returns-after-try_place-clause-back : goal.returns-after-try_place-clause-back
-returns-after-try_place-clause-back g t c =
+returns-after-try_place-clause-back g t c none =
     let known = ap length (ap holds_of_act c.get.ensures) in
     let tried = trying-here g t (goal.at.returns-after-try_place-clause-back g t c).After-mark-mark in
     let after = tried-here g t (goal.at.returns-after-try_place-clause-back g t c).After-undo_to-in-loop-place tried in
@@ -213,7 +219,7 @@ returns-after-try_place-clause-back g t c =
     (record { content_then = u.content; past_less = u.past; aside_same = u.aside; room_same = u.room })
 
 pub returns-in-Err-UpToHere-clause-progress : goal.returns-in-Err-UpToHere-clause-progress
-returns-in-Err-UpToHere-clause-progress g t c =
+returns-in-Err-UpToHere-clause-progress g t c none =
     let known = ap length (ap holds_of_act c.get.ensures) in
     let count : length (take c.args.hold c.args.child.choice.places) ≡ c.args.hold = length-take-le c.args.hold c.args.child.choice.places (omega arith) in
     let tried = trying-here g t (goal.at.returns-in-Err-UpToHere-clause-progress g t c).After-mark-mark in
@@ -221,7 +227,7 @@ returns-in-Err-UpToHere-clause-progress g t c =
     (take c.args.hold c.args.child.choice.places) c.loop-place.place c.get-2.result.now tried (omega arith) (c.in-Err-UpToHere.ensures.late_before c.in-Err-UpToHere.field-0-is)
 
 pub returns-in-Err-UpToHere-clause-back : goal.returns-in-Err-UpToHere-clause-back
-returns-in-Err-UpToHere-clause-back g t c =
+returns-in-Err-UpToHere-clause-back g t c none =
     let tried = trying-here g t (goal.at.returns-in-Err-UpToHere-clause-back g t c).After-mark-mark in
     let p = c.try_place.ensures in
     let u = c.undo_to.ensures in
@@ -233,11 +239,13 @@ returns-in-Err-UpToHere-clause-back g t c =
     (take c.args.hold c.args.child.choice.places) c.loop-place.place c.get-2.result.now tried c.try_place.new.self c.undo_to.new.self c.loop-place.opening c.loop-place.store after
     (record { content_then = u.content; past_less = u.past; aside_same = u.aside; room_same = u.room })
 
--- an answer ends it
-pub returns-then-is_some-clause-progress : goal.returns-then-is_some-clause-progress
-returns-then-is_some-clause-progress g t c =
-    let v = c.loop-place.invariant in
-    let places = take c.args.hold c.args.child.choice.places in
-    opening-found c.args.problem.machine.now c.args.board.now.plans c.args.problem.ask.now c.loop-place.opening c.loop-place.store (up_to c.args.child.act.0 (places ++ c.loop-place.place ∷ [])) (through c.args.child.act.0 places)
-    (subst (λ ps. IsAtProgress c.args.problem.machine.now ps c.args.problem.ask.now c.loop-place.opening c.loop-place.store (up_to c.args.child.act.0 (places ++ c.loop-place.place ∷ []))) v.back.loaded.plans v.progress)
-    (sym c.is_some.ensures ∙ c.if-is_some.true) (looked-under c.args.child.act.0 places c.loop-place.place)
+-- an answer behind the place ends it
+pub returns-then-place_rest-clause-found : goal.returns-then-place_rest-clause-found
+returns-then-place_rest-clause-found g t c is =
+    let tried = trying-here g t (goal.at.returns-then-place_rest-clause-found g t c).After-mark-mark in
+    let p = c.try_place.ensures in
+    found-now g.N.Network.net g.N.Undo.content g.N.Undo.past g.N.Undo.aside g.N.Undo.max_marks c.args.problem.machine.now c.args.problem.ask.now c.args.child.first c.args.child.act c.args.opening.now c.loop-place.opening c.args.store.now c.loop-place.store c.args.board.now c.loop-place.board c.mark-mark.new.self c.mark-mark.result.0
+    (take c.args.hold c.args.child.choice.places) c.loop-place.place c.get-2.result.now tried c.try_place.new.self c.place_rest.new.board p.past p.loaded p.marks (c.place_rest.ensures.found c.if-place_rest.true)
+
+pub returns-then-place_rest-clause-same : goal.returns-then-place_rest-clause-same
+returns-then-place_rest-clause-same g t c = same-trans c.args.opening.now c.loop-place.opening c.place_rest.new.opening c.args.store.now c.loop-place.store c.place_rest.new.store c.loop-place.invariant.same c.place_rest.ensures.same

@@ -1,4 +1,4 @@
-use Rattle.std.proofs.Common.{◌≡◌, ◌≤◌, List, None, sym, ap, subst, ◌∙◌}
+use Rattle.std.proofs.Common.{◌≡◌, ◌≤◌, List, false, None, sym, ap, subst, ◌∙◌}
 use Rattle.tp_machine.proofs.MachineFacts.{is_machine}
 use Rattle.tp_choices.proofs.FewLists.{ended_has_few}
 use Rattle.tp_choices.proofs.Frontier.{frontier_ends}
@@ -9,21 +9,19 @@ use Rattle.tp_schedule.specs.Answers.{IsAlternative, NoneBefore}
 use Rattle.tp_schedule.specs.Choices.{IsBound, IsOpen}
 use Rattle.tp_schedule.specs.Spending.{FewListsOpen, IsSpent}
 use Rattle.tp_schedule.specs.declared.parts.Plan.{Plan}
-use Rattle.tp_machine.specs.declared.parts.State.{State}
 use Rattle.tp_search.specs.Boards.{IsReady}
 use Rattle.tp_search.specs.Following.{HasList}
-use Rattle.tp_search.specs.Holding.{IsAnswerTo, IsLaidSince, IsOver}
-use Rattle.tp_search.specs.Outcomes.{CanLay, CanOpen, IsAllOpened}
+use Rattle.tp_search.specs.Holding.{IsLaidSince, IsOver}
+use Rattle.tp_search.specs.Outcomes.{CanOpen, IsAllOpened}
 use Rattle.tp_search.specs.Searching.{IsBestLater, list_at, next_bound, next_list}
-use Rattle.tp_search.specs.Stored.{child_by}
 use Rattle.tp_search.specs.Stores.{StoreValue}
 use Rattle.tp_search.proofs.HoldChildren.{holds-taken}
-use Rattle.tp_search.proofs.HoldFacts.{marks-some, over-can_ask, over-legal, over-plans, since-answer, since-back, since-known, since-marks, since-more, since-undone}
+use Rattle.tp_search.proofs.HoldFacts.{marks-some, over-can_ask, over-legal, over-plans, since-answer, since-back, since-found, since-known, since-marks, since-more, since-undone}
 use Rattle.tp_search.proofs.OpenSteps.{list-back}
 use Rattle.tp_search.proofs.SearchEnds.{IsBestList, searching-few, searching-never}
-use Rattle.tp_search.proofs.StepFacts.{best-list, can-open, known, next-there, space-then, step-answer, step-answered, step-can_lay, step-full, step-holds, step-less, step-list, step-none_before, step-on}
+use Rattle.tp_search.proofs.StepFacts.{best-list, can-open, known, next-there, space-then, step-full, step-holds, step-less, step-none_before, step-on}
 use Rattle.tp_search.proofs.searching.step.Goals as goal
-use Rattle.tp_search.proofs.searching.step.Goals.{After-open_next-opening, In-Some-best_by, In_default-best_by}
+use Rattle.tp_search.proofs.searching.step.Goals.{After-open_next, In-Some-best_by, In_default-best_by}
 
 -- a complete list that is stored is no later than the one that was taken
 best : (g : _) (c : In-Some-best_by g) → IsBestList c.args.problem.machine.now c.args.board.now.plans c.args.problem.ask.now c.take_next.new.store c.in-Some-best_by.best
@@ -37,20 +35,20 @@ later : (g : _) (c : In_default-best_by g) → IsBestLater c.take_next.new.store
 later g c = subst (IsBestLater c.take_next.new.store) c.bound_of-bound.ensures (c.best_by.ensures.later c.in_default-best_by.is)
 
 -- the plans are the same once it is laid
-plans-laid : (g : _) (c : After-open_next-opening g) → c.lay_next-reached.new.board.plans ≡ c.args.board.now.plans
+plans-laid : (g : _) (c : After-open_next g) → c.lay_next-reached.new.board.plans ≡ c.args.board.now.plans
 plans-laid g c = (c.lay_next-reached.ensures.since c.requires.over.0 c.requires.over.1 c.requires.over.3).loaded.plans ∙ sym (over-plans g.N.Network.net g.N.Undo.content g.N.Undo.past g.N.Undo.max_marks c.requires.over.0 c.args.board.now c.args.problem.machine.now c.args.problem.ask.now c.args.held.now c.requires.over.3)
 
 -- the list was opened
-opened : (g : _) (c : After-open_next-opening g) → IsAllOpened c.args.problem.machine.now c.args.board.now.plans c.args.problem.ask.now c.take_next.new.store c.in-Some.next c.open_next-opening.result c.open_next-opening.new.store
-opened g c = subst (λ ps. IsAllOpened c.args.problem.machine.now ps c.args.problem.ask.now c.take_next.new.store c.in-Some.next c.open_next-opening.result c.open_next-opening.new.store) (plans-laid g c) c.open_next-opening.ensures.opened
+opened : (g : _) (c : After-open_next g) → c.open_next.result ≡ false → IsAllOpened c.args.problem.machine.now c.args.board.now.plans c.args.problem.ask.now c.take_next.new.store c.in-Some.next c.open_next.new.store
+opened g c none = subst (λ ps. IsAllOpened c.args.problem.machine.now ps c.args.problem.ask.now c.take_next.new.store c.in-Some.next c.open_next.new.store) (plans-laid g c) (c.open_next.ensures.opened none)
 
 -- all that the board carries was laid since the mark
-since : (g : _) (c : After-open_next-opening g) (b : BoardValue g.row.N.Denot) → IsReady g.N.Network.net g.N.Undo.content g.N.Undo.past g.N.Undo.max_marks b c.args.problem.machine.now c.args.problem.ask.now → IsOver g.N.Network.net g.N.Undo.content g.N.Undo.past g.N.Undo.max_marks b c.args.board.now c.args.problem.machine.now c.args.problem.ask.now c.args.held.now → IsLaidSince g.N.Network.net g.N.Undo.content g.N.Undo.past g.N.Undo.max_marks b c.open_next-opening.new.board c.args.problem.machine.now c.args.problem.ask.now c.lay_next-reached.result.base.0 c.lay_next-reached.result.root
-since g c b ready over = since-back g.N.Network.net g.N.Undo.content g.N.Undo.past g.N.Undo.max_marks b c.lay_next-reached.new.board c.args.problem.machine.now c.args.problem.ask.now c.lay_next-reached.result.base.0 c.lay_next-reached.result.root (c.lay_next-reached.ensures.since b ready over) c.open_next-opening.new.board c.open_next-opening.ensures.back
+since : (g : _) (c : After-open_next g) → c.open_next.result ≡ false → (b : BoardValue g.row.N.Denot) → IsReady g.N.Network.net g.N.Undo.content g.N.Undo.past g.N.Undo.max_marks b c.args.problem.machine.now c.args.problem.ask.now → IsOver g.N.Network.net g.N.Undo.content g.N.Undo.past g.N.Undo.max_marks b c.args.board.now c.args.problem.machine.now c.args.problem.ask.now c.args.held.now → IsLaidSince g.N.Network.net g.N.Undo.content g.N.Undo.past g.N.Undo.max_marks b c.open_next.new.board c.args.problem.machine.now c.args.problem.ask.now c.lay_next-reached.result.base.0 c.lay_next-reached.result.root
+since g c none b ready over = since-back g.N.Network.net g.N.Undo.content g.N.Undo.past g.N.Undo.max_marks b c.lay_next-reached.new.board c.args.problem.machine.now c.args.problem.ask.now c.lay_next-reached.result.base.0 c.lay_next-reached.result.root (c.lay_next-reached.ensures.since b ready over) c.open_next.new.board (c.open_next.ensures.back none)
 
 -- it carries the list still
-carried : (g : _) (c : After-open_next-opening g) → HasList g.N.Network.net g.N.Undo.content g.N.Undo.past c.open_next-opening.new.board c.args.problem.machine.now c.args.problem.ask.now c.lay_next-reached.result.laid.first (next_list c.args.problem.machine.now c.take_next.new.store c.in-Some.next)
-carried g c = list-back g.N.Network.net g.N.Undo.content g.N.Undo.past g.N.Undo.max_marks c.lay_next-reached.new.board c.open_next-opening.new.board c.args.problem.machine.now c.args.problem.ask.now c.lay_next-reached.result.laid.first (next_list c.args.problem.machine.now c.take_next.new.store c.in-Some.next) c.open_next-opening.ensures.back c.lay_next-reached.ensures.laid
+carried : (g : _) (c : After-open_next g) → c.open_next.result ≡ false → HasList g.N.Network.net g.N.Undo.content g.N.Undo.past c.open_next.new.board c.args.problem.machine.now c.args.problem.ask.now c.lay_next-reached.result.laid.first (next_list c.args.problem.machine.now c.take_next.new.store c.in-Some.next)
+carried g c none = list-back g.N.Network.net g.N.Undo.content g.N.Undo.past g.N.Undo.max_marks c.lay_next-reached.new.board c.open_next.new.board c.args.problem.machine.now c.args.problem.ask.now c.lay_next-reached.result.laid.first (next_list c.args.problem.machine.now c.take_next.new.store c.in-Some.next) (c.open_next.ensures.back none) c.lay_next-reached.ensures.laid
 
 pub take_off-requires : goal.take_off-requires
 take_off-requires g c = record { over = (c.requires.over.0, c.args.problem.machine.now, c.args.problem.ask.now, c.requires.over.3) }
@@ -89,7 +87,7 @@ returns-in-Some-best_by-clause-ends g c b ready over =
     let same = over-plans g.N.Network.net g.N.Undo.content g.N.Undo.past g.N.Undo.max_marks b c.args.board.now c.args.problem.machine.now c.args.problem.ask.now c.args.held.now over in
     let whole = list_at c.args.problem.machine.now c.take_next.new.store.entries c.in-Some-best_by.best in
     let bound = bound_of c.take_next.new.store.entries c.in-Some-best_by.best in
-    since-answer g.N.Network.net g.N.Undo.content g.N.Undo.past g.N.Undo.max_marks b c.follow.new.board c.args.problem.machine.now c.args.problem.ask.now c.mark_anew-base.result.0
+    since-answer g.N.Network.net g.N.Undo.content g.N.Undo.past g.N.Undo.max_marks b c.follow.new.board c.args.problem.machine.now c.args.problem.ask.now c.mark_anew-base.result.0 None
     (since-more g.N.Network.net g.N.Undo.content g.N.Undo.past g.N.Undo.max_marks b c.mark_anew-base.new.board c.args.problem.machine.now c.args.problem.ask.now c.mark_anew-base.result.0 None (c.mark_anew-base.ensures.since b c.args.problem.machine.now c.args.problem.ask.now ready over) c.follow.new.board c.follow.ensures.same c.follow.ensures.laid.stands)
     c.follow.result whole bound c.follow.ensures.laid list.complete (subst (λ ps. IsBound c.args.problem.machine.now ps c.args.problem.ask.now whole bound) same list.is_bound) (subst (λ ps. NoneBefore c.args.problem.machine.now ps c.args.problem.ask.now bound) same list.none_before)
 
@@ -106,99 +104,73 @@ lay_next-reached-requires-clause-can g c =
     let k = goal.at.lay_next-reached-requires-clause-can g c in
     (can-open c.args.problem.machine.now c.args.board.now.plans c.args.problem.ask.now c.args.goals.now.items c.args.store.now c.requires.searching.0 c.requires.searching.1 c.take_next.new.goals.items c.take_next.new.store c.in-Some.next c.in-Some.ensures.next (is_machine c.args.problem.machine.now) c.requires.goal (later g k.In_default-best_by)).can_lay
 
-pub open_next-opening-requires-clause-marks : goal.open_next-opening-requires-clause-marks
-open_next-opening-requires-clause-marks g c = since-marks g.N.Network.net g.N.Undo.content g.N.Undo.past g.N.Undo.max_marks c.requires.over.0 c.lay_next-reached.new.board c.args.problem.machine.now c.args.problem.ask.now c.lay_next-reached.result.base.0 c.lay_next-reached.result.root (c.lay_next-reached.ensures.since c.requires.over.0 c.requires.over.1 c.requires.over.3) c.requires.over.2
+pub open_next-requires-clause-marks : goal.open_next-requires-clause-marks
+open_next-requires-clause-marks g c = since-marks g.N.Network.net g.N.Undo.content g.N.Undo.past g.N.Undo.max_marks c.requires.over.0 c.lay_next-reached.new.board c.args.problem.machine.now c.args.problem.ask.now c.lay_next-reached.result.base.0 c.lay_next-reached.result.root (c.lay_next-reached.ensures.since c.requires.over.0 c.requires.over.1 c.requires.over.3) c.requires.over.2
 
-pub open_next-opening-requires-clause-can : goal.open_next-opening-requires-clause-can
-open_next-opening-requires-clause-can g c =
-    let k = goal.at.open_next-opening-requires-clause-can g c in
+pub open_next-requires-clause-can : goal.open_next-requires-clause-can
+open_next-requires-clause-can g c =
+    let k = goal.at.open_next-requires-clause-can g c in
     let same = (c.lay_next-reached.ensures.since c.requires.over.0 c.requires.over.1 c.requires.over.3).loaded.plans ∙ sym (over-plans g.N.Network.net g.N.Undo.content g.N.Undo.past g.N.Undo.max_marks c.requires.over.0 c.args.board.now c.args.problem.machine.now c.args.problem.ask.now c.args.held.now c.requires.over.3) in
     subst (λ ps. CanOpen c.args.problem.machine.now ps c.args.problem.ask.now c.take_next.new.store c.in-Some.next) (sym same) (can-open c.args.problem.machine.now c.args.board.now.plans c.args.problem.ask.now c.args.goals.now.items c.args.store.now c.requires.searching.0 c.requires.searching.1 c.take_next.new.goals.items c.take_next.new.store c.in-Some.next c.in-Some.ensures.next (is_machine c.args.problem.machine.now) c.requires.goal (later g k.In_default-best_by))
 
-pub lay_answer-base-requires-clause-over : goal.lay_answer-base-requires-clause-over
-lay_answer-base-requires-clause-over g c = (c.requires.over.0, c.requires.over.1, marks-some g.N.Network.net g.N.Undo.content g.N.Undo.past g.N.Undo.max_marks c.requires.over.0 c.requires.over.2, since g (goal.at.lay_answer-base-requires-clause-over g c).After-open_next-opening c.requires.over.0 c.requires.over.1 c.requires.over.3)
-
-pub lay_answer-base-requires-clause-laid : goal.lay_answer-base-requires-clause-laid
-lay_answer-base-requires-clause-laid g c =
-    let k = goal.at.lay_answer-base-requires-clause-laid g c in
-    subst (HasList g.N.Network.net g.N.Undo.content g.N.Undo.past c.open_next-opening.new.board c.args.problem.machine.now c.args.problem.ask.now c.lay_next-reached.result.laid.first) (sym (step-list c.args.problem.machine.now c.args.board.now.plans c.args.problem.ask.now c.args.goals.now.items c.args.store.now c.requires.searching.0 c.requires.searching.1 c.take_next.new.goals.items c.take_next.new.store c.in-Some.next c.in-Some.ensures.next (is_machine c.args.problem.machine.now) c.requires.goal (later g k.In_default-best_by) c.open_next-opening.result c.open_next-opening.new.store (opened g k.After-open_next-opening))) (carried g k.After-open_next-opening)
-
-pub lay_answer-base-requires-clause-can : goal.lay_answer-base-requires-clause-can
-lay_answer-base-requires-clause-can g c =
-    let k = goal.at.lay_answer-base-requires-clause-can g c in
-    let same = c.open_next-opening.ensures.back.loaded.plans ∙ plans-laid g k.After-open_next-opening in
-    subst (λ ps. CanLay c.args.problem.machine.now ps c.args.problem.ask.now c.open_next-opening.new.store c.in-Some.next) (sym same) (step-can_lay c.args.problem.machine.now c.args.board.now.plans c.args.problem.ask.now c.args.goals.now.items c.args.store.now c.requires.searching.0 c.requires.searching.1 c.take_next.new.goals.items c.take_next.new.store c.in-Some.next c.in-Some.ensures.next (is_machine c.args.problem.machine.now) c.requires.goal (later g k.In_default-best_by) c.open_next-opening.result c.open_next-opening.new.store (opened g k.After-open_next-opening))
-
-pub lay_answer-base-requires-clause-answers : goal.lay_answer-base-requires-clause-answers
-lay_answer-base-requires-clause-answers g c =
-    let k = goal.at.lay_answer-base-requires-clause-answers g c in
-    let same = c.open_next-opening.ensures.back.loaded.plans ∙ plans-laid g k.After-open_next-opening in
-    subst (λ ps. IsAnswerTo c.args.problem.machine.now ps c.args.problem.ask.now (next_list c.args.problem.machine.now c.open_next-opening.new.store c.in-Some.next) c.in-Some-answer.answer) (sym same)
-    (subst (λ l. IsAnswerTo c.args.problem.machine.now c.args.board.now.plans c.args.problem.ask.now l c.in-Some-answer.answer) (sym (step-list c.args.problem.machine.now c.args.board.now.plans c.args.problem.ask.now c.args.goals.now.items c.args.store.now c.requires.searching.0 c.requires.searching.1 c.take_next.new.goals.items c.take_next.new.store c.in-Some.next c.in-Some.ensures.next (is_machine c.args.problem.machine.now) c.requires.goal (later g k.In_default-best_by) c.open_next-opening.result c.open_next-opening.new.store (opened g k.After-open_next-opening))) (step-answer c.args.problem.machine.now c.args.board.now.plans c.args.problem.ask.now c.args.goals.now.items c.args.store.now c.requires.searching.0 c.requires.searching.1 c.take_next.new.goals.items c.take_next.new.store c.in-Some.next c.in-Some.ensures.next (is_machine c.args.problem.machine.now) c.requires.goal (later g k.In_default-best_by) c.open_next-opening.result c.open_next-opening.new.store (opened g k.After-open_next-opening) c.in-Some-answer.answer c.in-Some-answer.is))
-
-pub returns-in-Some-answer-clause-ends : goal.returns-in-Some-answer-clause-ends
-returns-in-Some-answer-clause-ends g c b ready over =
-    let k = goal.at.returns-in-Some-answer-clause-ends g c in
-    let answer = c.in-Some-answer.answer in
-    let answers = step-answered c.args.problem.machine.now c.args.board.now.plans c.args.problem.ask.now c.args.goals.now.items c.args.store.now c.requires.searching.0 c.requires.searching.1 c.take_next.new.goals.items c.take_next.new.store c.in-Some.next c.in-Some.ensures.next (is_machine c.args.problem.machine.now) c.requires.goal (later g k.In_default-best_by) c.open_next-opening.result c.open_next-opening.new.store (opened g k.After-open_next-opening) answer c.in-Some-answer.is in
-    let none = step-none_before c.args.problem.machine.now c.args.board.now.plans c.args.problem.ask.now c.args.goals.now.items c.args.store.now c.requires.searching.0 c.requires.searching.1 c.take_next.new.goals.items c.take_next.new.store c.in-Some.next c.in-Some.ensures.next (is_machine c.args.problem.machine.now) c.requires.goal (later g k.In_default-best_by) c.open_next-opening.result c.open_next-opening.new.store (opened g k.After-open_next-opening) (over-legal g.N.Network.net g.N.Undo.content g.N.Undo.past g.N.Undo.max_marks c.requires.over.0 c.args.board.now c.args.problem.machine.now c.args.problem.ask.now c.args.held.now c.requires.over.1 c.requires.over.3)
+pub returns-then-open_next-clause-ends : goal.returns-then-open_next-clause-ends
+returns-then-open_next-clause-ends g c b ready over =
+    let k = goal.at.returns-then-open_next-clause-ends g c in
+    let none = step-none_before c.args.problem.machine.now c.args.board.now.plans c.args.problem.ask.now c.args.goals.now.items c.args.store.now c.requires.searching.0 c.requires.searching.1 c.take_next.new.goals.items c.take_next.new.store c.in-Some.next c.in-Some.ensures.next (is_machine c.args.problem.machine.now) c.requires.goal (later g k.In_default-best_by) (over-legal g.N.Network.net g.N.Undo.content g.N.Undo.past g.N.Undo.max_marks c.requires.over.0 c.args.board.now c.args.problem.machine.now c.args.problem.ask.now c.args.held.now c.requires.over.1 c.requires.over.3)
     (over-can_ask g.N.Network.net g.N.Undo.content g.N.Undo.past g.N.Undo.max_marks c.requires.over.0 c.args.board.now c.args.problem.machine.now c.args.problem.ask.now c.args.held.now c.requires.over.1 c.requires.over.3) in
-    let list = next_list c.args.problem.machine.now c.take_next.new.store c.in-Some.next in
-    let child = subst (λ l. (first : State) × HasList g.N.Network.net g.N.Undo.content g.N.Undo.past c.lay_answer-base.new.board c.args.problem.machine.now c.args.problem.ask.now first (child_by c.args.problem.machine.now l.goal l.choices answer)) (step-list c.args.problem.machine.now c.args.board.now.plans c.args.problem.ask.now c.args.goals.now.items c.args.store.now c.requires.searching.0 c.requires.searching.1 c.take_next.new.goals.items c.take_next.new.store c.in-Some.next c.in-Some.ensures.next (is_machine c.args.problem.machine.now) c.requires.goal (later g k.In_default-best_by) c.open_next-opening.result c.open_next-opening.new.store (opened g k.After-open_next-opening)) c.lay_answer-base.ensures.child in
-    let whole = child_by c.args.problem.machine.now list.goal list.choices answer in
     let bound = next_bound c.take_next.new.store c.in-Some.next in
     let same = over-plans g.N.Network.net g.N.Undo.content g.N.Undo.past g.N.Undo.max_marks b c.args.board.now c.args.problem.machine.now c.args.problem.ask.now c.args.held.now over in
-    since-answer g.N.Network.net g.N.Undo.content g.N.Undo.past g.N.Undo.max_marks b c.lay_answer-base.new.board c.args.problem.machine.now c.args.problem.ask.now c.lay_answer-base.result.0 (c.lay_answer-base.ensures.since b ready (since g k.After-open_next-opening b ready over))
-    child.0 whole bound child.1 answers.complete (subst (λ ps. IsBound c.args.problem.machine.now ps c.args.problem.ask.now whole bound) same answers.is_bound) (subst (λ ps. NoneBefore c.args.problem.machine.now ps c.args.problem.ask.now bound) same none)
+    since-found g.N.Network.net g.N.Undo.content g.N.Undo.past g.N.Undo.max_marks b c.lay_next-reached.new.board c.open_next.new.board c.args.problem.machine.now c.args.problem.ask.now c.lay_next-reached.result.base.0 c.lay_next-reached.result.root bound (c.lay_next-reached.ensures.since b ready over)
+    (c.open_next.ensures.found c.if-open_next.true) (subst (λ ps. NoneBefore c.args.problem.machine.now ps c.args.problem.ask.now bound) same none)
 
-pub returns-in-Some-answer-clause-same : goal.returns-in-Some-answer-clause-same
-returns-in-Some-answer-clause-same g c =
-    let k = goal.at.returns-in-Some-answer-clause-same g c in
-    space-then c.args.problem.machine.now c.args.board.now.plans c.args.problem.ask.now c.args.goals.now.items c.args.store.now c.requires.searching.0 c.requires.searching.1 c.take_next.new.goals.items c.take_next.new.store c.in-Some.next c.in-Some.ensures.next (is_machine c.args.problem.machine.now) c.requires.goal (later g k.In_default-best_by) c.open_next-opening.result c.open_next-opening.new.store (opened g k.After-open_next-opening) c.args.goals.now c.take_next.new.goals c.take_next.ensures.same
+pub returns-then-open_next-clause-same : goal.returns-then-open_next-clause-same
+returns-then-open_next-clause-same g c =
+    let k = goal.at.returns-then-open_next-clause-same g c in
+    space-then c.args.problem.machine.now c.args.board.now.plans c.args.problem.ask.now c.args.goals.now.items c.args.store.now c.requires.searching.0 c.requires.searching.1 c.take_next.new.goals.items c.take_next.new.store c.in-Some.next c.in-Some.ensures.next (is_machine c.args.problem.machine.now) c.requires.goal (later g k.In_default-best_by) c.open_next.new.store c.open_next.ensures.grows c.args.goals.now c.take_next.new.goals c.take_next.ensures.same
 
 pub undo_to-requires : goal.undo_to-requires
 undo_to-requires g c =
     let k = goal.at.undo_to-requires g c in
-    since-known g.N.Network.net g.N.Undo.content g.N.Undo.past g.N.Undo.max_marks c.requires.over.0 c.open_next-opening.new.board c.args.problem.machine.now c.args.problem.ask.now c.lay_next-reached.result.base.0 c.lay_next-reached.result.root (since g k.After-open_next-opening c.requires.over.0 c.requires.over.1 c.requires.over.3)
+    since-known g.N.Network.net g.N.Undo.content g.N.Undo.past g.N.Undo.max_marks c.requires.over.0 c.open_next.new.board c.args.problem.machine.now c.args.problem.ask.now c.lay_next-reached.result.base.0 c.lay_next-reached.result.root (since g k.After-open_next c.if-open_next.false c.requires.over.0 c.requires.over.1 c.requires.over.3)
 
 pub returns-then-is_full-clause-ends : goal.returns-then-is_full-clause-ends
 returns-then-is_full-clause-ends g c b ready over =
     let k = goal.at.returns-then-is_full-clause-ends g c in
-    let spent = step-full c.args.problem.machine.now c.args.board.now.plans c.args.problem.ask.now c.args.goals.now.items c.args.store.now c.requires.searching.0 c.requires.searching.1 c.take_next.new.goals.items c.take_next.new.store c.in-Some.next c.in-Some.ensures.next (is_machine c.args.problem.machine.now) c.requires.goal (later g k.In_default-best_by) c.open_next-opening.result c.open_next-opening.new.store (opened g k.After-open_next-opening) c.in_default-answer.is (sym c.is_full.ensures.full ∙ c.if-is_full.true) (over-legal g.N.Network.net g.N.Undo.content g.N.Undo.past g.N.Undo.max_marks c.requires.over.0 c.args.board.now c.args.problem.machine.now c.args.problem.ask.now c.args.held.now c.requires.over.1 c.requires.over.3)
+    let spent = step-full c.args.problem.machine.now c.args.board.now.plans c.args.problem.ask.now c.args.goals.now.items c.args.store.now c.requires.searching.0 c.requires.searching.1 c.take_next.new.goals.items c.take_next.new.store c.in-Some.next c.in-Some.ensures.next (is_machine c.args.problem.machine.now) c.requires.goal (later g k.In_default-best_by) c.open_next.new.store (opened g k.After-open_next c.if-open_next.false) (sym c.is_full.ensures.full ∙ c.if-is_full.true) (over-legal g.N.Network.net g.N.Undo.content g.N.Undo.past g.N.Undo.max_marks c.requires.over.0 c.args.board.now c.args.problem.machine.now c.args.problem.ask.now c.args.held.now c.requires.over.1 c.requires.over.3)
     (over-can_ask g.N.Network.net g.N.Undo.content g.N.Undo.past g.N.Undo.max_marks c.requires.over.0 c.args.board.now c.args.problem.machine.now c.args.problem.ask.now c.args.held.now c.requires.over.1 c.requires.over.3) in
     let at = subst (IsSpent c.args.problem.machine.now c.args.board.now.plans c.args.problem.ask.now c.args.store.now.room) (sym c.bound_of-bound.ensures) spent in
     let u = c.undo_to.ensures in (
       subst (λ ps. IsSpent c.args.problem.machine.now ps c.args.problem.ask.now c.args.store.now.room c.bound_of-bound.result) (over-plans g.N.Network.net g.N.Undo.content g.N.Undo.past g.N.Undo.max_marks b c.args.board.now c.args.problem.machine.now c.args.problem.ask.now c.args.held.now over) at,
-      since-undone g.N.Network.net g.N.Undo.content g.N.Undo.past g.N.Undo.aside g.N.Undo.max_marks c.marks_keep_boards.ensures.back b c.open_next-opening.new.board c.undo_to.new.self c.args.problem.machine.now c.args.problem.ask.now c.lay_next-reached.result.base.0 c.lay_next-reached.result.root (since g k.After-open_next-opening b ready over) (record { content_then = u.content; past_less = u.past; aside_same = u.aside; room_same = u.room }),
+      since-undone g.N.Network.net g.N.Undo.content g.N.Undo.past g.N.Undo.aside g.N.Undo.max_marks c.marks_keep_boards.ensures.back b c.open_next.new.board c.undo_to.new.self c.args.problem.machine.now c.args.problem.ask.now c.lay_next-reached.result.base.0 c.lay_next-reached.result.root (since g k.After-open_next c.if-open_next.false b ready over) (record { content_then = u.content; past_less = u.past; aside_same = u.aside; room_same = u.room }),
     )
 
 pub returns-then-is_full-clause-same : goal.returns-then-is_full-clause-same
 returns-then-is_full-clause-same g c =
     let k = goal.at.returns-then-is_full-clause-same g c in
-    space-then c.args.problem.machine.now c.args.board.now.plans c.args.problem.ask.now c.args.goals.now.items c.args.store.now c.requires.searching.0 c.requires.searching.1 c.take_next.new.goals.items c.take_next.new.store c.in-Some.next c.in-Some.ensures.next (is_machine c.args.problem.machine.now) c.requires.goal (later g k.In_default-best_by) c.open_next-opening.result c.open_next-opening.new.store (opened g k.After-open_next-opening) c.args.goals.now c.take_next.new.goals c.take_next.ensures.same
+    space-then c.args.problem.machine.now c.args.board.now.plans c.args.problem.ask.now c.args.goals.now.items c.args.store.now c.requires.searching.0 c.requires.searching.1 c.take_next.new.goals.items c.take_next.new.store c.in-Some.next c.in-Some.ensures.next (is_machine c.args.problem.machine.now) c.requires.goal (later g k.In_default-best_by) c.open_next.new.store c.open_next.ensures.grows c.args.goals.now c.take_next.new.goals c.take_next.ensures.same
 
 pub returns-clause-goes_on : goal.returns-clause-goes_on
 returns-clause-goes_on g c none =
     let k = goal.at.returns-clause-goes_on g c in (
       next_bound c.take_next.new.store c.in-Some.next,
-      step-on c.args.problem.machine.now c.args.board.now.plans c.args.problem.ask.now c.args.goals.now.items c.args.store.now c.requires.searching.0 c.requires.searching.1 c.take_next.new.goals.items c.take_next.new.store c.in-Some.next c.in-Some.ensures.next (is_machine c.args.problem.machine.now) c.requires.goal (later g k.In_default-best_by) c.open_next-opening.result c.open_next-opening.new.store (opened g k.After-open_next-opening) c.in_default-answer.is (sym c.is_full.ensures.full ∙ c.if-is_full.false),
+      step-on c.args.problem.machine.now c.args.board.now.plans c.args.problem.ask.now c.args.goals.now.items c.args.store.now c.requires.searching.0 c.requires.searching.1 c.take_next.new.goals.items c.take_next.new.store c.in-Some.next c.in-Some.ensures.next (is_machine c.args.problem.machine.now) c.requires.goal (later g k.In_default-best_by) c.open_next.new.store (opened g k.After-open_next c.if-open_next.false) (sym c.is_full.ensures.full ∙ c.if-is_full.false),
     )
 
 pub returns-clause-over : goal.returns-clause-over
-returns-clause-over g c b ready over none = since g (goal.at.returns-clause-over g c).After-open_next-opening b ready over
+returns-clause-over g c b ready over none = since g (goal.at.returns-clause-over g c).After-open_next c.if-open_next.false b ready over
 
 pub returns-clause-holds : goal.returns-clause-holds
 returns-clause-holds g c none =
     let k = goal.at.returns-clause-holds g c in
-    step-holds c.args.problem.machine.now c.args.board.now.plans c.args.problem.ask.now c.args.goals.now.items c.args.store.now c.requires.searching.0 c.requires.searching.1 c.take_next.new.goals.items c.take_next.new.store c.in-Some.next c.in-Some.ensures.next (is_machine c.args.problem.machine.now) c.requires.goal (later g k.In_default-best_by) c.open_next-opening.result c.open_next-opening.new.store (opened g k.After-open_next-opening) g.N.Network.net g.N.Undo.content g.N.Undo.past c.open_next-opening.new.board c.lay_next-reached.result
-    (carried g k.After-open_next-opening) c.lay_next-reached.ensures.stored
+    step-holds c.args.problem.machine.now c.args.board.now.plans c.args.problem.ask.now c.args.goals.now.items c.args.store.now c.requires.searching.0 c.requires.searching.1 c.take_next.new.goals.items c.take_next.new.store c.in-Some.next c.in-Some.ensures.next (is_machine c.args.problem.machine.now) c.requires.goal (later g k.In_default-best_by) c.open_next.new.store (opened g k.After-open_next c.if-open_next.false) g.N.Network.net g.N.Undo.content g.N.Undo.past c.open_next.new.board c.lay_next-reached.result
+    (carried g k.After-open_next c.if-open_next.false) c.lay_next-reached.ensures.stored
 
 pub returns-clause-less : goal.returns-clause-less
 returns-clause-less g c none =
     let k = goal.at.returns-clause-less g c in
-    step-less c.args.problem.machine.now c.args.board.now.plans c.args.problem.ask.now c.args.goals.now.items c.args.store.now c.requires.searching.0 c.requires.searching.1 c.take_next.new.goals.items c.take_next.new.store c.in-Some.next c.in-Some.ensures.next (is_machine c.args.problem.machine.now) c.requires.goal (later g k.In_default-best_by) c.open_next-opening.result c.open_next-opening.new.store (opened g k.After-open_next-opening) c.is_full.ensures.within
+    step-less c.args.problem.machine.now c.args.board.now.plans c.args.problem.ask.now c.args.goals.now.items c.args.store.now c.requires.searching.0 c.requires.searching.1 c.take_next.new.goals.items c.take_next.new.store c.in-Some.next c.in-Some.ensures.next (is_machine c.args.problem.machine.now) c.requires.goal (later g k.In_default-best_by) c.open_next.new.store (opened g k.After-open_next c.if-open_next.false) c.is_full.ensures.within
 
 pub returns-clause-same : goal.returns-clause-same
 returns-clause-same g c =
     let k = goal.at.returns-clause-same g c in
-    space-then c.args.problem.machine.now c.args.board.now.plans c.args.problem.ask.now c.args.goals.now.items c.args.store.now c.requires.searching.0 c.requires.searching.1 c.take_next.new.goals.items c.take_next.new.store c.in-Some.next c.in-Some.ensures.next (is_machine c.args.problem.machine.now) c.requires.goal (later g k.In_default-best_by) c.open_next-opening.result c.open_next-opening.new.store (opened g k.After-open_next-opening) c.args.goals.now c.take_next.new.goals c.take_next.ensures.same
+    space-then c.args.problem.machine.now c.args.board.now.plans c.args.problem.ask.now c.args.goals.now.items c.args.store.now c.requires.searching.0 c.requires.searching.1 c.take_next.new.goals.items c.take_next.new.store c.in-Some.next c.in-Some.ensures.next (is_machine c.args.problem.machine.now) c.requires.goal (later g k.In_default-best_by) c.open_next.new.store c.open_next.ensures.grows c.args.goals.now c.take_next.new.goals c.take_next.ensures.same

@@ -1,0 +1,15 @@
+use Rattle.std.proofs.Common.{◌-◌, length}
+use Rattle.tp_machine.specs.Using.{action_at}
+use Rattle.tp_schedule.specs.Holding.{holds_of_act}
+use Rattle.tp_search.specs.Boards.{IsBack}
+use Rattle.tp_search.proofs.diving.+place_within.Given as goal
+
+-- how many holds are left
+abbrev pub decreases-place_within : goal.decreases-place_within
+decreases-place_within g l = length (holds_of_act (action_at l.problem.machine.now l.act.0)) - l.hold
+
+-- the board is back
+abbrev pub invariant-loop-place : goal.invariant-loop-place
+invariant-loop-place g l = record {
+  back : IsBack g.N.Network.net g.N.Undo.content g.N.Undo.past g.N.Undo.max_marks l.fn.board l.board l.problem.machine.now;
+}

@@ -1,0 +1,181 @@
+//! A dive: from a list on a board to a complete one by one choice more at a time, the first that keeps a bound.
+ghost use Rattle.std.specs.Prelude.{◌≡◌, ◌+◌, ◌-◌, ◌<◌, ◌≤◌, length, IfSome, IsFalse, IsTrue, None};
+ghost use Rattle.tp_schedule.specs.Answers.{kept_of};
+ghost use Rattle.tp_search.specs.Boards.{HasMarks, IsBack};
+ghost use Rattle.tp_search.specs.Children.{HasFound};
+ghost use Rattle.tp_search.specs.Diving.{CanDive, IsDeeper, IsPlacing};
+ghost use Rattle.tp_search.specs.Problems.{IsPosed};
+ghost use Rattle.tp_search.specs.declared.following.Laid.{Laid};
+
+use crate::following::Laid;
+use crate::problem::Problem;
+use crate::states::state_before;
+use tp_base::{Late, Network, Tick, Undo};
+use tp_machine::ActId;
+use tp_placing::{Board, Refused, marks_keep_boards};
+use tp_schedule::{Origin, is_start};
+
+/// Places the holds of the newest action, from this one on, in the first way that keeps the bound: each hold is tried from the
+/// end of its order to the front. Where no way does, the board is as before.
+fn place_within<N: Network>(
+    board: &mut Board<N>,
+    problem: Problem,
+    act: ActId,
+    bound: Tick,
+    hold: u32,
+) -> bool
+    requires placing { (list : Laid)
+        × IsPlacing N.net N.content N.past N.max_marks board.old problem.machine.now
+        problem.ask.now act hold list }
+    requires known { act.0 < length problem.machine.now.actions }
+    requires marks { HasMarks N.net N.content N.past N.max_marks (5 - hold) board.old }
+    ensures deeper { IsTrue result → (list : Laid)
+        → IsPlacing N.net N.content N.past N.max_marks board.old problem.entry.machine.now
+        problem.entry.ask.now act hold list
+        → IsDeeper N.net N.content N.past N.max_marks board.old board.new
+        problem.entry.machine.now problem.entry.ask.now bound list }
+    ensures back { IsFalse result → IsBack N.net N.content N.past N.max_marks board.old board.new
+        problem.entry.machine.now }
+{
+    if board.end_bound() > bound {
+        return false;
+    }
+    let holds = &problem.machine.actions.get(act.0 as u32).holds;
+    if hold == holds.len() {
+        return true;
+    }
+    marks_keep_boards::<N>();
+    let resource = holds.get(hold).resource;
+    let last = board.places(resource);
+    for place in (0..=last).rev() {
+        let mark = board.mark();
+        match board.try_place(problem.machine, hold, place) {
+            Ok(()) => {
+                if place_within(board, problem, act, bound, hold + 1) {
+                    return true;
+                }
+            }
+            Err(Refused::Here) => {}
+            Err(Refused::UpToHere) => {
+                board.undo_to(mark);
+                return false;
+            }
+        }
+        board.undo_to(mark);
+    }
+    false
+}
+
+/// Whether the list may have one choice more, and the board has the marks to try it.
+fn can_go_on<N: Network>(board: &Board<N>, problem: Problem, list: Laid) -> bool
+    requires most { kept_of problem.ask.now + list.count ≤ 64 }
+    ensures fewer { IsTrue result → kept_of problem.entry.ask.now + list.count < 64 }
+    ensures marks { IsTrue result → HasMarks N.net N.content N.past N.max_marks 6 board.now }
+{
+    problem.ask.origin.kept() + list.count < 64 && board.spare_marks() >= 6
+}
+
+/// The board's list with this action more, its holds placed in the first way that keeps the bound. Where there is none, the
+/// board is as before.
+fn step_by<N: Network>(
+    board: &mut Board<N>,
+    problem: Problem,
+    bound: Tick,
+    list: Laid,
+    act: ActId,
+) -> Option<Laid>
+    requires posed { IsPosed problem }
+    requires known { act.0 < length problem.machine.now.actions }
+    requires carries { CanDive N.net N.content N.past N.max_marks board.old problem.machine.now
+        problem.ask.now list }
+    requires fewer { kept_of problem.ask.now + list.count < 64 }
+    requires marks { HasMarks N.net N.content N.past N.max_marks 6 board.old }
+    ensures deeper { IfSome result
+        (IsDeeper N.net N.content N.past N.max_marks board.old board.new
+        problem.entry.machine.now problem.entry.ask.now bound) }
+    ensures count { IfSome result (λ next. next.count ≡ list.count + 1) }
+    ensures back { result ≡ None → IsBack N.net N.content N.past N.max_marks board.old board.new
+        problem.entry.machine.now }
+{
+    marks_keep_boards::<N>();
+    let Some(before) = state_before(problem, list.first, act) else {
+        return None;
+    };
+    let mark = board.mark();
+    match board.open_action(problem.machine, act, before.room) {
+        Ok(()) => {
+            if place_within(board, problem, act, bound, 0) {
+                return Some(Laid {
+                    first: before.state,
+                    count: list.count + 1,
+                });
+            }
+        }
+        Err(Late) => {}
+    }
+    board.undo_to(mark);
+    None
+}
+
+/// The board's list with one choice more, the first that keeps the bound, actions in their order. Where there is none, the
+/// board is as before.
+fn step_down<N: Network>(
+    board: &mut Board<N>,
+    problem: Problem,
+    bound: Tick,
+    list: Laid,
+) -> Option<Laid>
+    requires posed { IsPosed problem }
+    requires carries { CanDive N.net N.content N.past N.max_marks board.old problem.machine.now
+        problem.ask.now list }
+    ensures deeper { IfSome result
+        (IsDeeper N.net N.content N.past N.max_marks board.old board.new
+        problem.entry.machine.now problem.entry.ask.now bound) }
+    ensures count { IfSome result (λ next. next.count ≡ list.count + 1) }
+    ensures back { result ≡ None → IsBack N.net N.content N.past N.max_marks board.old board.new
+        problem.entry.machine.now }
+{
+    if !can_go_on(board, problem, list) {
+        return None;
+    }
+    for at in 0..problem.machine.actions.len() {
+        if let Some(next) = step_by(board, problem, bound, list, ActId(at as u16)) {
+            return Some(next);
+        }
+    }
+    None
+}
+
+/// Goes on from the board's list of a new copy, by the first choice that keeps the bound at each step, until the list is
+/// complete: the board carries it then. Where it comes to no such list, the board is as before. There may be one all the same.
+pub(crate) fn dive<N: Network>(
+    board: &mut Board<N>,
+    problem: Problem,
+    bound: Tick,
+    list: Laid,
+) -> bool
+    requires posed { IsPosed problem }
+    requires carries { CanDive N.net N.content N.past N.max_marks board.old problem.machine.now
+        problem.ask.now list }
+    requires marks { HasMarks N.net N.content N.past N.max_marks 1 board.old }
+    ensures found { IsTrue result
+        → HasFound N.net N.content N.past N.max_marks board.old board.new
+        problem.entry.machine.now problem.entry.ask.now bound }
+    ensures back { IsFalse result → IsBack N.net N.content N.past N.max_marks board.old board.new
+        problem.entry.machine.now }
+{
+    let Origin::Feeder = problem.ask.origin else {
+        return false;
+    };
+    marks_keep_boards::<N>();
+    let mark = board.mark();
+    let mut reached = list;
+    'down: while let Some(next) = step_down(board, problem, bound, reached) {
+        if is_start(problem.machine, problem.ask, next.first) {
+            return true;
+        }
+        reached = next;
+    }
+    board.undo_to(mark);
+    false
+}
