@@ -54,6 +54,13 @@ impl Pool {
         self.nodes.len() as u32
     }
 
+    /// How many lists more can be stored.
+    pub fn spare(&self) -> u32
+        ensures { length self.now.entries + result ≡ self.now.room }
+    {
+        self.room - self.len()
+    }
+
     /// Adds a list: its parent's with one choice more, or a list of this one choice. Takes constant time.
     pub fn add(&mut self, parent: Option<u32>, choice: Choice, bound: Tick) -> Result<u32, Full>
         requires parent { IsParentOf (length self.old.entries) parent }

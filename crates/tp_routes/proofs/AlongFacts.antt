@@ -7,7 +7,8 @@ use Rattle.tp_machine.specs.declared.parts.Sheet.{Sheet}
 use Rattle.tp_machine.specs.declared.parts.State.{State}
 use Rattle.tp_machine.specs.declared.machine.Machine.{Machine}
 use Rattle.tp_schedule.specs.declared.parts.Ask.{Ask}
-use Rattle.tp_routes.specs.Index.{NoneFrom, IsNextFrom, AreIndexed, number_at}
+use Rattle.tp_routes.specs.Index.{NoneAt, IsNextAt, AreIndexed, number_at}
+use Rattle.tp_routes.specs.declared.index.End.TheVariants.{From}
 use Rattle.tp_routes.specs.Numbers.{state_at}
 use Rattle.tp_routes.specs.Tables.{sum_at}
 use Rattle.tp_routes.specs.Filling.{Waits, IsStepIn, IsSpreadTo, IsFilling, Lowers, left_to_fill}
@@ -16,12 +17,12 @@ no_step : (a : Action) (sheet : Sheet) (s : State) → a.from.0 ≢ s.loc.0 → 
 no_step a sheet s differs = (let other : eqb s.loc.0 a.from.0 ≡ false = ne_eqb s.loc.0 a.from.0 (λ e. differs (sym e)) in rw other refl)
 
 -- an action that starts elsewhere has no step
-elsewhere : (machine : Machine) (ask : Ask) (sums : List (Option ℕ)) (s : State) (sum act low high : ℕ) → NoneFrom machine.actions s.loc.0 low high → low ≤ act → act < high → IsStepIn machine ask sums s sum act
+elsewhere : (machine : Machine) (ask : Ask) (sums : List (Option ℕ)) (s : State) (sum act low high : ℕ) → NoneAt From machine.actions s.loc.0 low high → low ≤ act → act < high → IsStepIn machine ask sums s sum act
 elsewhere machine ask sums s sum act low high none from to a s' at allow steps =
     let both : None ≡ Some s' = sym (no_step a ask.want s (none act a from to at)) ∙ steps in
     absurd cc
 
-pub spread-skip : (machine : Machine) (ask : Ask) (sums : List (Option ℕ)) (waiting : List ℕ) (busy low high : ℕ) → NoneFrom machine.actions (busy / 8) low high
+pub spread-skip : (machine : Machine) (ask : Ask) (sums : List (Option ℕ)) (waiting : List ℕ) (busy low high : ℕ) → NoneAt From machine.actions (busy / 8) low high
     → IsSpreadTo machine ask sums waiting busy low → IsSpreadTo machine ask sums waiting busy high
 spread-skip machine ask sums waiting busy low high none spread n v known is = go (spread n v known is)
   where
@@ -32,7 +33,7 @@ spread-skip machine ask sums waiting busy low high none spread n v known is = go
           let e = eqb-true n busy here in
           elim (cases_Bool (ltb act low)) [
             | inl below ↦ steps act (λ f. ltb-true act low below)
-            | inr above ↦ elsewhere machine ask sums (state_at n) v act low high (subst (λ (k : ℕ). NoneFrom machine.actions (k / 8) low high) (sym e) none) (ltb-false act low above) (limit e)
+            | inr above ↦ elsewhere machine ask sums (state_at n) v act low high (subst (λ (k : ℕ). NoneAt From machine.actions (k / 8) low high) (sym e) none) (ltb-false act low above) (limit e)
           ]
     ]
 
@@ -48,7 +49,7 @@ ahead count (Some n) = suc (count - n)
 -- the steps of the busy state are in the table up to the cursor
 pub record IsAlong (machine : Machine) (ask : Ask) (sums : List (Option ℕ)) (waiting : List ℕ) (busy : ℕ) (cursor : Option ℕ) : Type 0 where
   pub low : ℕ
-  pub next : IsNextFrom machine.actions (busy / 8) low cursor
+  pub next : IsNextAt From machine.actions (busy / 8) low cursor
   pub spread : IsSpreadTo machine ask sums waiting busy low
 
 -- how far the steps of the busy state are in the table
@@ -63,13 +64,13 @@ pub record SpreadSoFar (machine : Machine) (ask : Ask) (before : List (Option �
 -- at the cursor all actions before it are done
 pub along-here : (machine : Machine) (ask : Ask) (sums : List (Option ℕ)) (waiting : List ℕ) (busy n : ℕ) (cursor : Option ℕ) → cursor ≡ Some n → IsAlong machine ask sums waiting busy cursor
     → IsSpreadTo machine ask sums waiting busy n × (n < length machine.actions) × ((a : Action) → slice_get machine.actions n ≡ Some a → a.from.0 ≡ busy / 8)
-along-here machine ask sums waiting busy n cursor is along = go (subst (IsNextFrom machine.actions (busy / 8) along.low) is along.next)
+along-here machine ask sums waiting busy n cursor is along = go (subst (IsNextAt From machine.actions (busy / 8) along.low) is along.next)
   where
-    go : IsNextFrom machine.actions (busy / 8) along.low (Some n) → IsSpreadTo machine ask sums waiting busy n × (n < length machine.actions) × ((a : Action) → slice_get machine.actions n ≡ Some a → a.from.0 ≡ busy / 8)
+    go : IsNextAt From machine.actions (busy / 8) along.low (Some n) → IsSpreadTo machine ask sums waiting busy n × (n < length machine.actions) × ((a : Action) → slice_get machine.actions n ≡ Some a → a.from.0 ≡ busy / 8)
     go (low, within, from, none) = (spread-skip machine ask sums waiting busy along.low n none along.spread, within, from)
 
 pub along-end : (machine : Machine) (ask : Ask) (sums : List (Option ℕ)) (waiting : List ℕ) (busy : ℕ) (cursor : Option ℕ) → cursor ≡ None → IsAlong machine ask sums waiting busy cursor → IsSpreadTo machine ask sums waiting busy (length machine.actions)
-along-end machine ask sums waiting busy cursor is along = spread-skip machine ask sums waiting busy along.low (length machine.actions) (subst (IsNextFrom machine.actions (busy / 8) along.low) is along.next) along.spread
+along-end machine ask sums waiting busy cursor is along = spread-skip machine ask sums waiting busy along.low (length machine.actions) (subst (IsNextAt From machine.actions (busy / 8) along.low) is along.next) along.spread
 
 some_action : (xs : List Action) (k : ℕ) → k < length xs → (a : Action) × (slice_get xs k ≡ Some a)
 some_action [] k below = absurd (omega arith)
@@ -77,12 +78,12 @@ some_action (x ∷ xs) zero below = (x, refl)
 some_action (x ∷ xs) (suc k) below = some_action xs k (omega arith)
 
 -- the next action from the same place
-pub next-there : (machine : Machine) (firsts nexts : List (Option ℕ)) (place n : ℕ) → AreIndexed machine.actions firsts nexts 0 → n < length machine.actions → ((a : Action) → slice_get machine.actions n ≡ Some a → a.from.0 ≡ place)
-    → IsNextFrom machine.actions place (n + 1) (number_at nexts n)
+pub next-there : (machine : Machine) (firsts nexts : List (Option ℕ)) (place n : ℕ) → AreIndexed From machine.actions firsts nexts 0 → n < length machine.actions → ((a : Action) → slice_get machine.actions n ≡ Some a → a.from.0 ≡ place)
+    → IsNextAt From machine.actions place (n + 1) (number_at nexts n)
 next-there machine firsts nexts place n index within from =
     let a = some_action machine.actions n within in
-    subst (λ p. IsNextFrom machine.actions p (n + 1) (number_at nexts n)) (from a.0 a.1) (index.next n a.0 (omega arith) a.1)
+    subst (λ p. IsNextAt From machine.actions p (n + 1) (number_at nexts n)) (from a.0 a.1) (index.next n a.0 (omega arith) a.1)
 
-pub ahead-smaller : (actions : List Action) (place n : ℕ) (o : Option ℕ) → n < length actions → IsNextFrom actions place (n + 1) o → ahead (length actions) o < suc (length actions - n)
+pub ahead-smaller : (actions : List Action) (place n : ℕ) (o : Option ℕ) → n < length actions → IsNextAt From actions place (n + 1) o → ahead (length actions) o < suc (length actions - n)
 ahead-smaller actions place n None within next = omega arith
 ahead-smaller actions place n (Some m) within next = (let above = next.0 in omega arith)

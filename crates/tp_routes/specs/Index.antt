@@ -1,27 +1,45 @@
--- The actions by the location that they start from.
+-- The actions by a location at one of their ends.
 use Rattle.std.specs.Prelude.{◌≡◌, ◌≢◌, ℕ, ◌+◌, ◌<◌, ◌≤◌, List, length, slice_get, slice_index_or, Option, Some, None}
 use Rattle.tp_machine.specs.declared.parts.Action.{Action}
 use Rattle.tp_machine.specs.declared.machine.Machine.{Machine}
+use Rattle.tp_routes.specs.declared.index.End.{End}
+use Rattle.tp_routes.specs.declared.index.End.TheVariants.{From, To}
 
--- no action from the place stands from the one number up to the other
-abbrev pub NoneFrom : List Action → ℕ → ℕ → ℕ → Type 0
-NoneFrom actions place low high = (k : ℕ) (a : Action) → low ≤ k → k < high → slice_get actions k ≡ Some a → a.from.0 ≢ place
+-- the location that an action starts from, or the one that it leads to
+abbrev pub place_at : End → Action → ℕ
+place_at From a = a.from.0
+place_at To a = a.to.0
 
--- the first action from the place, from this number on, if there is one
-abbrev pub IsNextFrom : List Action → ℕ → ℕ → Option ℕ → Type 0
-IsNextFrom actions place low None = NoneFrom actions place low (length actions)
-IsNextFrom actions place low (Some n) = (low ≤ n) × (n < length actions) × ((a : Action) → slice_get actions n ≡ Some a → a.from.0 ≡ place) × NoneFrom actions place low n
+-- no action that is at the place stands from the one number up to the other
+abbrev pub NoneAt : End → List Action → ℕ → ℕ → ℕ → Type 0
+NoneAt end actions place low high = (k : ℕ) (a : Action) → low ≤ k → k < high → slice_get actions k ≡ Some a → place_at end a ≢ place
+
+-- the first action at the place, from this number on, if there is one
+abbrev pub IsNextAt : End → List Action → ℕ → ℕ → Option ℕ → Type 0
+IsNextAt end actions place low None = NoneAt end actions place low (length actions)
+IsNextAt end actions place low (Some n) = (low ≤ n) × (n < length actions) × ((a : Action) → slice_get actions n ≡ Some a → place_at end a ≡ place) × NoneAt end actions place low n
 
 abbrev pub number_at : List (Option ℕ) → ℕ → Option ℕ
 number_at numbers k = slice_index_or numbers k None
 
--- from this number on: the first action from each place, and behind each action the next from its place
-pub record AreIndexed (actions : List Action) (firsts nexts : List (Option ℕ)) (low : ℕ) : Type 0 where
-  pub first : (place : ℕ) → place < length firsts → IsNextFrom actions place low (number_at firsts place)
-  pub next : (k : ℕ) (a : Action) → low ≤ k → slice_get actions k ≡ Some a → IsNextFrom actions a.from.0 (k + 1) (number_at nexts k)
+-- from this number on: the first action at each place, and behind each action the next one at its place
+pub record AreIndexed (end : End) (actions : List Action) (firsts nexts : List (Option ℕ)) (low : ℕ) : Type 0 where
+  pub first : (place : ℕ) → place < length firsts → IsNextAt end actions place low (number_at firsts place)
+  pub next : (k : ℕ) (a : Action) → low ≤ k → slice_get actions k ≡ Some a → IsNextAt end actions (place_at end a) (k + 1) (number_at nexts k)
 
 -- the index of all actions of a machine
-pub record IsIndexOf (machine : Machine) (firsts nexts : List (Option ℕ)) : Type 0 where
+pub record IsIndexOf (end : End) (machine : Machine) (firsts nexts : List (Option ℕ)) : Type 0 where
   pub places : length firsts ≡ length machine.locations
   pub room : length machine.actions ≤ length nexts
-  pub indexed : AreIndexed machine.actions firsts nexts 0
+  pub indexed : AreIndexed end machine.actions firsts nexts 0
+
+-- no action that leads to the place stands from the one number up to the other; the first one from this number on, if there is
+-- one; and the index of all actions by where they lead
+abbrev pub NoneTo : List Action → ℕ → ℕ → ℕ → Type 0
+NoneTo actions place low high = NoneAt To actions place low high
+
+abbrev pub IsNextTo : List Action → ℕ → ℕ → Option ℕ → Type 0
+IsNextTo actions place low next = IsNextAt To actions place low next
+
+abbrev pub IsLeadIndex : Machine → List (Option ℕ) → List (Option ℕ) → Type 0
+IsLeadIndex machine firsts nexts = IsIndexOf To machine firsts nexts

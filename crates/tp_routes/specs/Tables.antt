@@ -8,12 +8,15 @@ use Rattle.tp_schedule.specs.declared.parts.Origin.{Origin}
 use Rattle.tp_schedule.specs.declared.parts.Origin.TheVariants.{Feeder as FromFeeder, Front as FromFront}
 use Rattle.tp_routes.specs.Numbers.{number_of}
 
--- what clauses see of rooms: the numbers of the machine that they were made for, and a sum for each state, if it has one
+-- what clauses see of rooms: the numbers of the machine that they were made for, a sum for each state, if it has one, and the
+-- index of the actions by where they lead
 pub record RoomTable : Type 0 where
   pub locations : ℕ
   pub resources : ℕ
   pub window : ℕ
   pub sums : List (Option ℕ)
+  pub firsts : List (Option ℕ)
+  pub nexts : List (Option ℕ)
 
 -- the table was made for a machine with these numbers
 pub record IsMadeFor (table : RoomTable) (machine : Machine) : Type 0 where

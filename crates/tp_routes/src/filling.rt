@@ -3,6 +3,7 @@ ghost use Rattle.std.specs.Prelude.{◌≡◌, ℕ, ◌+◌, ◌*◌, ◌<◌, �
 ghost use Rattle.tp_machine.specs.Using.{action_at};
 ghost use Rattle.tp_schedule.specs.Routes.{IsStart, is_act_allowed};
 ghost use Rattle.tp_routes.specs.Index.{IsIndexOf};
+ghost use Rattle.tp_routes.specs.declared.index.End.TheVariants.{From};
 ghost use Rattle.tp_routes.specs.Numbers.{number_of, state_at};
 ghost use Rattle.tp_routes.specs.Tables.{sum_at, IsKnownOrigin};
 ghost use Rattle.tp_routes.specs.Filling.{IsFilling, IsSpreadTo, IsStepIn, IsSum, HasAtMost, Lowers, filled, left_to_fill};
@@ -91,7 +92,7 @@ fn spread(
     waiting: &mut Vec<u32>,
     from: Reached,
 )
-    requires index { IsIndexOf machine.now index.now.firsts.items index.now.nexts.items }
+    requires index { IsIndexOf From machine.now index.now.firsts.items index.now.nexts.items }
     requires filling { IsFilling machine.now ask.now sums.old waiting.old.items }
     requires spread { IsSpreadTo machine.now ask.now sums.old waiting.old.items from.number 0 }
     requires known { from.number < length sums.old }
@@ -122,7 +123,7 @@ pub(crate) fn settle(
     sums: &mut [Option<u32>],
     waiting: &mut Vec<u32>,
 )
-    requires index { IsIndexOf machine.now index.now.firsts.items index.now.nexts.items }
+    requires index { IsIndexOf From machine.now index.now.firsts.items index.now.nexts.items }
     requires filling { IsFilling machine.now ask.now sums.old waiting.old.items }
     requires spread { (busy : ℕ) → IsSpreadTo machine.now ask.now sums.old
         waiting.old.items busy

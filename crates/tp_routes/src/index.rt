@@ -1,6 +1,6 @@
-//! The actions by the location that they start from.
+//! The actions by the location that they start from, or by the one that they lead to.
 ghost use Rattle.std.specs.Prelude.{◌≡◌, ◌<◌, ◌≤◌, None, length, replicate, slice_get, IfOk, IfSome};
-ghost use Rattle.tp_routes.specs.Index.{AreIndexed, IsIndexOf};
+ghost use Rattle.tp_routes.specs.Index.{AreIndexed, IsIndexOf, place_at};
 
 use std::alloc::{AllocError, Global};
 use tp_machine::Machine;
@@ -8,12 +8,19 @@ use tp_machine::Machine;
 /// A machine has at most so many actions.
 const MOST_ACTIONS: usize = 512;
 
-/// The actions of a machine by the location that they start from.
+/// An end of an action: where it starts, or where it leads.
+#[derive(Clone, Copy)]
+pub(crate) enum End {
+    From,
+    To,
+}
+
+/// The actions of a machine by the location at one of their ends.
 #[derive(Drop)]
 pub(crate) struct ActionIndex {
-    /// The first action from each location.
+    /// The first action at each location.
     pub(crate) firsts: Vec<Option<u16>>,
-    /// Behind each action the next one from the same location.
+    /// Behind each action the next one at the same location.
     pub(crate) nexts: Vec<Option<u16>>,
 }
 
@@ -29,31 +36,31 @@ impl ActionIndex {
         })
     }
 
-    /// Indexes the actions of the machine, in place of what was there.
-    pub(crate) fn fill(&mut self, machine: &Machine)
+    /// Indexes the actions of the machine by this end, in place of what was there.
+    pub(crate) fn fill(&mut self, machine: &Machine, end: End)
         requires places { length self.old.firsts.items ≡ length machine.now.locations }
         requires room { length self.old.nexts.items ≡ 512 }
-        ensures index { IsIndexOf machine.now self.new.firsts.items self.new.nexts.items }
+        ensures index { IsIndexOf end machine.now self.new.firsts.items self.new.nexts.items }
         ensures room { length self.new.nexts.items ≡ 512 }
     {
-        index_actions(machine, &mut self.firsts, &mut self.nexts);
+        index_actions(machine, end, &mut self.firsts, &mut self.nexts);
     }
 }
 
-/// Finds the first action from each location, and behind each action the next one from the same
+/// Finds the first action at each location, and behind each action the next one at the same
 /// location: one pass over the actions, the last one first.
-fn index_actions(machine: &Machine, firsts: &mut [Option<u16>], nexts: &mut [Option<u16>])
+fn index_actions(machine: &Machine, end: End, firsts: &mut [Option<u16>], nexts: &mut [Option<u16>])
     requires places { length firsts.old ≡ length machine.now.locations }
     requires room { length machine.now.actions ≤ length nexts.old }
-    ensures { AreIndexed machine.now.actions firsts.new nexts.new 0 }
+    ensures { AreIndexed end machine.now.actions firsts.new nexts.new 0 }
 {
     clear(firsts);
     let mut at = machine.actions.len();
     'actions: while at > 0 {
         at -= 1;
-        let from = place_from(machine, at);
-        nexts[at as usize] = firsts[from];
-        firsts[from] = Some(at as u16);
+        let place = place_of(machine, end, at);
+        nexts[at as usize] = firsts[place];
+        firsts[place] = Some(at as u16);
     }
 }
 
@@ -63,12 +70,16 @@ fn clear(numbers: &mut [Option<u16>])
     numbers.fill(None);
 }
 
-/// The location that an action starts from.
-fn place_from(machine: &Machine, at: u32) -> usize
+/// The location at this end of an action.
+fn place_of(machine: &Machine, end: End, at: u32) -> usize
     requires { at < length machine.now.actions }
     ensures place { IfSome (slice_get machine.now.actions at)
-        (λ action. result ≡ action.from.0) }
+        (λ action. result ≡ place_at end action) }
     ensures within { result < length machine.now.locations }
 {
-    usize::from(machine.actions.get(at).from.0)
+    let action = machine.actions.get(at);
+    match end {
+        End::From => usize::from(action.from.0),
+        End::To => usize::from(action.to.0),
+    }
 }

@@ -1,17 +1,18 @@
 //! The table of rooms: for each state the least time that any way to it takes.
-ghost use Rattle.std.specs.Prelude.{◌≡◌, ◌+◌, ◌*◌, ◌<◌, ◌≤◌, None, length, replicate, vec_capacity, IfOk};
-ghost use Rattle.tp_routes.specs.Index.{IsIndexOf};
+ghost use Rattle.std.specs.Prelude.{◌≡◌, ◌+◌, ◌*◌, ◌<◌, ◌≤◌, None, length, option_map, replicate, vec_capacity, IfOk};
+ghost use Rattle.tp_routes.specs.Index.{IsIndexOf, IsLeadIndex, number_at};
+ghost use Rattle.tp_routes.specs.declared.index.End.TheVariants.{From};
 ghost use Rattle.tp_routes.specs.Numbers.{number_of};
 ghost use Rattle.tp_routes.specs.Tables.{sum_at, IsMadeFor, AreRooms, IsKnownOrigin};
 
 use crate::filling::settle;
-use crate::index::ActionIndex;
+use crate::index::{ActionIndex, End};
 use crate::numbering::number_of;
 use crate::starting::start;
 use std::alloc::Global;
 use std::marker::Model;
 use tp_base::{Memory, Tick};
-use tp_machine::{Machine, State};
+use tp_machine::{ActId, LocId, Machine, State};
 use tp_schedule::Ask;
 
 /// For each state of a sheet the least time that any way from a start state takes: its room, in
@@ -24,6 +25,7 @@ pub struct Rooms {
     sums: Vec<Option<u32>>,
     waiting: Vec<u32>,
     index: ActionIndex,
+    leads: ActionIndex,
 }
 
 // Clauses see the table, and the numbers of the machine that it was made for.
@@ -38,12 +40,16 @@ impl Model for Rooms {
       resources = r.resources;
       window = r.window;
       sums = r.sums.items;
+      firsts = r.leads.firsts.items;
+      nexts = r.leads.nexts.items;
     } };
 
     ghost invariant = { λ r. (length r.sums.items ≡ 8 * r.locations)
         × (8 * r.locations ≤ vec_capacity r.waiting)
         × (length r.index.firsts.items ≡ r.locations)
-        × (length r.index.nexts.items ≡ 512) };
+        × (length r.index.nexts.items ≡ 512)
+        × (length r.leads.firsts.items ≡ r.locations)
+        × (length r.leads.nexts.items ≡ 512) };
 }
 
 impl Rooms {
@@ -63,18 +69,22 @@ impl Rooms {
             sums: vec![in alloc; None; states]?,
             waiting: Vec::with_capacity(alloc, states)?,
             index: ActionIndex::new(alloc, locations)?,
+            leads: ActionIndex::new(alloc, locations)?,
         })
     }
 
     /// Finds the room of every state for the ask, by rising sums. It takes one pass over the actions,
-    /// and looks again only at the actions from the location of each state that it settles.
+    /// and looks again only at the actions from the location of each state that it settles. It also
+    /// indexes the actions by where they lead.
     pub fn fill(&mut self, machine: &Machine, ask: &Ask)
         requires made { IsMadeFor self.old machine.now }
         requires origin { IsKnownOrigin machine.now ask.now.origin }
         ensures rooms { AreRooms machine.now ask.entry.now self.new.sums }
+        ensures leads { IsLeadIndex machine.now self.new.firsts self.new.nexts }
         ensures made { IsMadeFor self.new machine.now }
     {
-        self.index.fill(machine);
+        self.index.fill(machine, End::From);
+        self.leads.fill(machine, End::To);
         fill_table(machine, ask, &self.index, &mut self.sums, &mut self.waiting);
     }
 
@@ -85,6 +95,22 @@ impl Rooms {
     {
         self.sums[number_of(state) as usize]
     }
+
+    /// The first action that leads to the location, if there is one.
+    pub fn first_to(&self, place: LocId) -> Option<ActId>
+        requires { place.0 < self.now.locations }
+        ensures { option_map (λ act. act.0) result ≡ number_at self.now.firsts place.0 }
+    {
+        self.leads.firsts[usize::from(place.0)].map(ActId)
+    }
+
+    /// Behind an action the next one that leads to the same location, if there is one.
+    pub fn next_to(&self, act: ActId) -> Option<ActId>
+        requires { act.0 < length self.now.nexts }
+        ensures { option_map (λ next. next.0) result ≡ number_at self.now.nexts act.0 }
+    {
+        self.leads.nexts[usize::from(act.0)].map(ActId)
+    }
 }
 
 fn fill_table(
@@ -94,7 +120,7 @@ fn fill_table(
     sums: &mut [Option<u32>],
     waiting: &mut Vec<u32>,
 )
-    requires index { IsIndexOf machine.now index.now.firsts.items index.now.nexts.items }
+    requires index { IsIndexOf From machine.now index.now.firsts.items index.now.nexts.items }
     requires states { length sums.old ≡ 8 * length machine.now.locations }
     requires room { length sums.old ≤ vec_capacity waiting.old }
     requires origin { IsKnownOrigin machine.now ask.now.origin }

@@ -34,6 +34,7 @@ pub mod SearchFull
 pub mod StepFacts
 pub mod StepBoards
 pub mod HoldFacts
+pub mod LeadFacts
 pub mod RootFacts
 pub mod HoldChildren
 pub mod AskedFacts

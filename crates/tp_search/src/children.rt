@@ -339,10 +339,12 @@ pub(crate) fn open_list<N: Network>(
     if problem.ask.origin.kept() + laid.count == 64 {
         return false;
     }
-    for at in 0..problem.machine.actions.len() {
-        if open_act(store, opening, board, problem, laid, ActId(at as u16)) {
+    let mut next = problem.rooms.first_to(laid.first.loc);
+    'acts: while let Some(act) = next {
+        if open_act(store, opening, board, problem, laid, act) {
             return true;
         }
+        next = problem.rooms.next_to(act);
     }
     false
 }

@@ -138,10 +138,12 @@ fn step_down<N: Network>(
     if !can_go_on(board, problem, list) {
         return None;
     }
-    for at in 0..problem.machine.actions.len() {
-        if let Some(next) = step_by(board, problem, bound, list, ActId(at as u16)) {
-            return Some(next);
+    let mut next = problem.rooms.first_to(list.first.loc);
+    'acts: while let Some(act) = next {
+        if let Some(deeper) = step_by(board, problem, bound, list, act) {
+            return Some(deeper);
         }
+        next = problem.rooms.next_to(act);
     }
     None
 }

@@ -3,7 +3,7 @@ use tp_base::Tick;
 use tp_machine::State;
 
 /// The list that is being opened: its node, if it is stored, its goal state and its bound; how many lists were stored
-/// before; and the last bound at which a dive failed, if one did.
+/// before; and the bound at which no dive is tried, if there is one.
 #[derive(Clone, Copy)]
 pub(crate) struct Opening {
     pub(crate) parent: Option<u32>,

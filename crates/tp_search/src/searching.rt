@@ -25,6 +25,9 @@ use tp_base::{Mark, Network, Tick, Undo};
 use tp_machine::machine_law;
 use tp_placing::{Board, marks_keep_boards};
 
+/// A search dives only where so many lists more can be stored: a small budget is spent as by one that opens each list whole.
+const DIVE_SPARE: u32 = 1_000;
+
 /// How a search ended. With `Found` the board carries an earliest plan since the mark `base`: it is to be committed, or undone
 /// to that mark. With `Spent` no plan ends before the bound, in ticks.
 pub(crate) enum Outcome {
@@ -85,6 +88,18 @@ fn opening_of(store: &Store, next: &Next, dived: Option<Tick>) -> Opening
     }
 }
 
+/// The bound at which no dive is tried: the last one at which a dive failed, or that of the list that was taken, where few lists
+/// more can be stored.
+fn barred(store: &Store, next: &Next, dived: Option<Tick>) -> Option<Tick>
+    requires { IfSome (next_node next.now) (λ node. node < length store.now.entries) }
+{
+    if store.spare() < DIVE_SPARE {
+        Some(bound_of(store, next))
+    } else {
+        dived
+    }
+}
+
 /// Opens the list that was taken, which the board carries: stores its open children, and the board is as before, unless an
 /// answer is found on the way, which the board carries then. Answers whether it does. The last bound at which a dive failed is
 /// noted.
@@ -111,7 +126,7 @@ fn open_next<N: Network>(
         problem.entry.machine.now }
     ensures grows { StoreGrows store.old store.new }
 {
-    let mut opening = opening_of(store, next, *dived);
+    let mut opening = opening_of(store, next, barred(store, next, *dived));
     let found = open_list(store, &mut opening, board, problem, laid);
     *dived = opening.dived;
     found

@@ -1,5 +1,5 @@
 //! The lists that a search stores, and those of them that wait to be opened.
-ghost use Rattle.std.specs.Prelude.{◌≡◌, ◌<◌, ◌≤◌, ◌↔◌, [], length, None, IfOk, IfSome, IsTrue, Some};
+ghost use Rattle.std.specs.Prelude.{◌≡◌, ◌+◌, ◌<◌, ◌≤◌, ◌↔◌, [], length, None, IfOk, IfSome, IsTrue, Some};
 ghost use Rattle.tp_pool.specs.Entries.{IsParentOf, bound_of, choice_made, choices_of};
 ghost use Rattle.tp_search.specs.Stores.{HasSooner, IsInRange, IsTaken, after_keep, better, empty_store, is_sooner};
 
@@ -54,6 +54,13 @@ impl Store {
         ensures { result ≡ length self.now.entries }
     {
         self.pool.len()
+    }
+
+    /// How many lists more can be stored.
+    pub(crate) fn spare(&self) -> u32
+        ensures { length self.now.entries + result ≡ self.now.room }
+    {
+        self.pool.spare()
     }
 
     /// How many choices the node's list has.

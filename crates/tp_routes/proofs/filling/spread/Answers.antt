@@ -3,7 +3,8 @@ use Rattle.std.proofs.Common.{◌+◌, ◌/◌, ◌<◌, length, arith, subst, s
 use Rattle.tp_routes.proofs.SpreadFacts.{Lowers-refl, Lowers-then}
 use Rattle.tp_routes.proofs.AlongFacts.{along-here, along-end, next-there, ahead-smaller}
 use Rattle.tp_routes.proofs.SpreadFacts.{none_there}
-use Rattle.tp_routes.specs.Index.{IsNextFrom, number_at}
+use Rattle.tp_routes.specs.Index.{IsNextAt, number_at}
+use Rattle.tp_routes.specs.declared.index.End.TheVariants.{From}
 use Rattle.tp_routes.proofs.filling.spread.Goals as goal
 
 pub actions-init : goal.actions-init
@@ -11,7 +12,7 @@ actions-init c =
     let place : c.args.from.number / 8 < length c.args.index.now.firsts.items = (let small = c.requires.filling.states in let known = c.requires.known in omega (arith, c.requires.index.places)) in
     record {
       filling = c.requires.filling;
-      along = record { low = 0; next = subst (IsNextFrom c.args.machine.now.actions (c.args.from.number / 8) 0) (ap (λ fs. number_at fs (c.args.from.number / 8)) (sym c.as_slice-firsts.ensures.value)) (c.requires.index.indexed.first (c.args.from.number / 8) place); spread = c.requires.spread };
+      along = record { low = 0; next = subst (IsNextAt From c.args.machine.now.actions (c.args.from.number / 8) 0) (ap (λ fs. number_at fs (c.args.from.number / 8)) (sym c.as_slice-firsts.ensures.value)) (c.requires.index.indexed.first (c.args.from.number / 8) place); spread = c.requires.spread };
       stands = c.requires.busy;
       lowers = Lowers-refl c.args.sums.now;
       room = c.requires.room;
@@ -36,7 +37,7 @@ actions-preserved c =
     let here = along-here c.args.machine.now c.args.ask.now c.actions.sums c.actions.waiting.items c.args.from.number c.in-Some.at c.actions.cursor c.in-Some.is before.along in
     record {
       filling = c.step_on.ensures.filling;
-      along = record { low = c.in-Some.at + 1; next = subst (IsNextFrom c.args.machine.now.actions (c.args.from.number / 8) (c.in-Some.at + 1)) (ap (λ ns. number_at ns c.in-Some.at) (sym c.as_slice-nexts.ensures.value)) (next-there c.args.machine.now c.args.index.now.firsts.items c.args.index.now.nexts.items (c.args.from.number / 8) c.in-Some.at c.requires.index.indexed here.1 here.2); spread = c.step_on.ensures.spread };
+      along = record { low = c.in-Some.at + 1; next = subst (IsNextAt From c.args.machine.now.actions (c.args.from.number / 8) (c.in-Some.at + 1)) (ap (λ ns. number_at ns c.in-Some.at) (sym c.as_slice-nexts.ensures.value)) (next-there c.args.machine.now c.args.index.now.firsts.items c.args.index.now.nexts.items (c.args.from.number / 8) c.in-Some.at c.requires.index.indexed here.1 here.2); spread = c.step_on.ensures.spread };
       stands = c.step_on.ensures.busy;
       lowers = Lowers-then c.args.sums.now c.actions.sums c.step_on.new.sums before.lowers c.step_on.ensures.lowers;
       room = c.step_on.ensures.room;

@@ -1,8 +1,13 @@
 use Rattle.tp_search.specs.Boards.{IsBack}
+use Rattle.tp_search.proofs.LeadFacts.{IsChain, ahead}
 use Rattle.tp_search.proofs.diving.step_down.Given as goal
 
 -- the board is back
-abbrev pub invariant-loop-at : goal.invariant-loop-at
-invariant-loop-at g l = record {
+abbrev pub invariant-acts : goal.invariant-acts
+invariant-acts g l = record {
+  chain : IsChain l.problem.machine.now l.list.first.loc.0 l.next;
   back : IsBack g.N.Network.net g.N.Undo.content g.N.Undo.past g.N.Undo.max_marks l.fn.board l.board l.problem.machine.now;
 }
+
+abbrev pub decreases-acts : goal.decreases-acts
+decreases-acts g l = ahead l.problem.machine.now l.next

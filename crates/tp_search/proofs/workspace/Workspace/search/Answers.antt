@@ -16,6 +16,7 @@ pub find_goals-requires-clause-posed : goal.find_goals-requires-clause-posed
 find_goals-requires-clause-posed g c = record {
   table = c.fill.ensures.made;
   rooms = c.fill.ensures.rooms;
+  leads = c.fill.ensures.leads;
   origin = asked-known c.args.machine.now c.requires.loaded.0 c.args.ask.now c.requires.loaded.1.can_ask.asked;
 }
 
@@ -26,6 +27,7 @@ pub search-requires-clause-posed : goal.search-requires-clause-posed
 search-requires-clause-posed g c = record {
   table = c.fill.ensures.made;
   rooms = c.fill.ensures.rooms;
+  leads = c.fill.ensures.leads;
   origin = asked-known c.args.machine.now c.requires.loaded.0 c.args.ask.now c.requires.loaded.1.can_ask.asked;
 }
 
