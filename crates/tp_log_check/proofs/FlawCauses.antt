@@ -1,6 +1,6 @@
 -- A flaw tells why the turn of the event that is under way is off or stops.
 use Rattle.std.proofs.Common.{◌≡◌, List, Option, Some, None, sym, subst}
-use Rattle.std.specs.Prelude.{IfSome}
+use Rattle.std.specs.Prelude.{IfSome, IsSome, MatchOption}
 use Rattle.tp_entries.specs.declared.pending.Pending.{Pending}
 use Rattle.tp_log.specs.declared.item.Item.{Item}
 use Rattle.tp_told.specs.declared.stop.Stop.{Stop}
@@ -12,6 +12,11 @@ use Rattle.tp_log_check.specs.declared.flaw.Flaw.TheVariants.{Memory, Text, Due,
 pub some-from : {A : Type 0} (P Q : A → Type 0) (o : Option A) → ((a : A) → P a → Q a) → IfSome o P → IfSome o Q
 some-from P Q None to h = tt
 some-from P Q (Some a) to h = to a h
+
+-- where something is found
+pub found-some : {A : Type 0} (P : Type 0) (Q : A → Type 0) (o : Option A) → IsSome o → ((a : A) → Q a) → MatchOption o P Q
+found-some P Q None some to = absurd cc
+found-some P Q (Some a) some to = to a
 
 module _ (c : CheckerValue) (p : Pending) (is : c.under ≡ Some (underway p)) (items : List Item) (are : AreItemsOf (underway p) items) (stop : Stop) where
   reason-under : (flaw : Flaw) → flaw ≡ flaw_at p.line items stop → IsDueOrStops c.machine c.state p.event items stop → HasReasonUnder c.machine c.state c.under flaw

@@ -90,7 +90,7 @@ pub record StopsFor (machine : Machine) (s : SessionState) (event : AnEvent) (it
   pub last : ToldValue
   pub stops : LiveStop (told_steps machine) machine event s planner notes last
   pub so_far : notes ≡ records_in (items_before last)
-  pub kept : last.stop ≡ stop
+  pub kept : last.stop ≡ Some stop
 
 -- another item is due than this one
 abbrev pub IsDueFor : Machine → SessionState → AnEvent → List Item → ℕ → Type 0

@@ -1,6 +1,6 @@
 //! Whether what is told of an event is what its turn tells.
 
-ghost use Rattle.std.specs.Prelude.{◌≡◌, ◌↔◌, ◌+◌, ◌≤◌, ◌⊎◌, ℕ, [], IfOk, IfSome, IsNone, MatchOption, drop, length};
+ghost use Rattle.std.specs.Prelude.{◌≡◌, ◌↔◌, ◌+◌, ◌≤◌, ◌⊎◌, ℕ, [], IfOk, IfSome, IsNone, IsSome, MatchOption, Some, drop, length};
 ghost use Rattle.tp_entries.specs.Gathered.{ArePlain};
 ghost use Rattle.tp_log_check.specs.Causes.{IsDueOrStops};
 ghost use Rattle.tp_log_check.specs.Judging.{entry, trees_in};
@@ -60,14 +60,15 @@ fn judge_done(notes: &[Record], items: &[Item], at: usize) -> Option<Stop>
 }
 
 /// What is wrong where the turn stopped: a record before that is not the one that is due, or what the planner stopped for.
-fn judge_stopped(notes: &[Record], told: &Told) -> Stop
-    ensures { ((result.reason ≡ Reason.Due)
-        × PartsAt notes.now (items_before told.now) result.item)
-        ⊎ ((told.now.stop ≡ result) × (notes.now ≡ records_in (items_before told.now))) }
+fn judge_stopped(notes: &[Record], told: &Told) -> Option<Stop>
+    ensures some { 1 ≤ told.now.stops → IsSome result }
+    ensures why { IfSome result (λ stop. ((stop.reason ≡ Reason.Due)
+        × PartsAt notes.now (items_before told.now) stop.item)
+        ⊎ ((told.now.stop ≡ Some stop) × (notes.now ≡ records_in (items_before told.now)))) }
 {
     let next = told.next();
     match find_parting(notes, &told.items()[..next]) {
-        Some(item) => due(item),
+        Some(item) => Some(due(item)),
         None => told.stop(),
     }
 }
@@ -110,7 +111,7 @@ pub(crate) fn judge(
     let mut notes = Vec::new(alloc);
     match take_event(alloc, machine, state, told, event, &mut notes) {
         Ok(()) => Ok(judge_done(notes.as_slice(), told.items(), told.at())),
-        Err(Halt::Stopped) => Ok(Some(judge_stopped(notes.as_slice(), told))),
+        Err(Halt::Stopped) => Ok(judge_stopped(notes.as_slice(), told)),
         Err(Halt::Memory) => Err(Memory),
     }
 }

@@ -1,5 +1,5 @@
 -- A turn whose notes are the records of the items, and which leaves no tree, accepts them.
-use Rattle.std.proofs.Common.{inl, inr, refl, rules, ◌≡◌, [], ◌++◌, drop, sym, ap, subst, ◌∙◌}
+use Rattle.std.proofs.Common.{inl, inr, refl, rules, ◌≡◌, ◌⊎◌, [], ◌++◌, Some, drop, sym, ap, subst, ◌∙◌}
 use Rattle.tp_runs.specs.Proved.{records_in}
 use Rattle.tp_told.specs.Telling.{ahead}
 use Rattle.tp_turn.specs.LiveStates.{seen}
@@ -9,7 +9,7 @@ use Rattle.tp_told.specs.declared.stop.Reason.TheVariants as reason
 use Rattle.tp_told.specs.declared.stop.Stop.{Stop}
 use Rattle.tp_log_check.specs.Causes.{IsDueOrStops}
 use Rattle.tp_log_check.specs.Partings.{IsOffAt, PartsAt, items_before}
-use Rattle.tp_log_check.proofs.FlawCauses.{some-from}
+use Rattle.tp_log_check.proofs.FlawCauses.{found-some, some-from}
 use Rattle.tp_log_check.proofs.Judged.{judged-done, judged-stopped}
 use Rattle.tp_log_check.proofs.PlacedTurns.{judged-places}
 use Rattle.tp_log_check.proofs.TakenTrees.{accepted-as, takes-trees}
@@ -66,7 +66,7 @@ returns-in-Ok-clause-places c none plain =
 pub returns-in-Err-Stopped-clause-only : goal.returns-in-Err-Stopped-clause-only
 returns-in-Err-Stopped-clause-only c =
     let stops = c.in-Err-Stopped.ensures.stopped (search rules) in
-    judged-stopped c.args.machine.now (c.lawful_turns_are_accepted.ensures c.args.machine.now) last_copy (seen c.args.state.now) c.requires.can c.args.event.now c.args.told.now c.requires.begins stops.0 c.take_event.new.planner stops.2
+    found-some _ _ c.judge_stopped.result (search rules) (λ stop. judged-stopped c.args.machine.now (c.lawful_turns_are_accepted.ensures c.args.machine.now) last_copy (seen c.args.state.now) c.requires.can c.args.event.now c.args.told.now c.requires.begins stops.0 c.take_event.new.planner stops.2)
 
 pub returns-in-Ok-clause-why : goal.returns-in-Ok-clause-why
 returns-in-Ok-clause-why c =
@@ -95,23 +95,26 @@ returns-in-Ok-clause-why c =
 pub returns-in-Err-Stopped-clause-why : goal.returns-in-Err-Stopped-clause-why
 returns-in-Err-Stopped-clause-why c =
     let stops = c.in-Err-Stopped.ensures.stopped (search rules) in
+    let told = c.args.told.now in
     let last = c.take_event.new.planner in
     let all : c.as_slice-in-Err-Stopped.result.now ≡ stops.0 = c.as_slice-in-Err-Stopped.ensures.value ∙ stops.1 ∙ ap (λ notes. notes ++ stops.0) c.new-notes.ensures.items in
-    elim c.judge_stopped.ensures [
+    some-from (λ (stop : Stop). ((stop.reason ≡ reason.Due) × PartsAt c.as_slice-in-Err-Stopped.result.now (items_before last) stop.item)
+    ⊎ ((last.stop ≡ Some stop) × (c.as_slice-in-Err-Stopped.result.now ≡ records_in (items_before last))))
+    (IsDueOrStops c.args.machine.now (seen c.args.state.now) c.args.event.now told.items) c.judge_stopped.result (λ stop why. elim why [
       | inl due ↦ inl (
         due.0,
         inr (record {
-          planner = c.args.told.now;
+          planner = told;
           items_are = refl;
           begins = c.requires.begins;
           notes = stops.0;
           last = last;
           stops = stops.2;
-          off = subst (λ notes. PartsAt notes (items_before last) c.judge_stopped.result.item) all due.1;
+          off = subst (λ notes. PartsAt notes (items_before last) stop.item) all due.1;
         }),
       )
       | inr kept ↦ inr (record {
-        planner = c.args.told.now;
+        planner = told;
         items_are = refl;
         begins = c.requires.begins;
         notes = stops.0;
@@ -120,4 +123,4 @@ returns-in-Err-Stopped-clause-why c =
         so_far = sym all ∙ kept.1;
         kept = kept.0;
       })
-    ]
+    ]) c.judge_stopped.ensures.why
