@@ -55,12 +55,11 @@ fn told_of(alloc: Global, machine: &Machine, schedule: &Schedule) -> Result<Told
 /// What prints the second sheet, the points of its plan, and what is told.
 type Row = (u16, (Tick, Tick, Tick, Tick), Told);
 
-fn overlap(act: u32, end: i64, begin: i64) -> Told {
+fn overlap(act: u32, free: i64, begin: i64) -> Told {
     Told::Clash(Clash::Overlap {
         earlier: Hold { sheet: SECOND, act },
         later: Hold { sheet: FIRST, act },
-        end,
-        gap: 0,
+        free,
         begin,
     })
 }

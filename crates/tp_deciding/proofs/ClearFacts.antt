@@ -22,7 +22,7 @@ use Rattle.tp_schedule.proofs.Pairs.{AllPairs-cons, AllPairs-either, AllPairs-he
 use Rattle.tp_schedule.proofs.SlotOrder.{IsPermutation-by_begin, apart_behind}
 use Rattle.tp_constraints.proofs.Lists.{contains-get}
 use Rattle.tp_deciding.specs.Clashes.{AreHoldsApart, DoOverlap}
-use Rattle.tp_deciding.specs.Holds.{AreClear, AreNeighbours, IsAhead, held_plans, overlaps, slot_of}
+use Rattle.tp_deciding.specs.Holds.{AreClear, AreNeighbours, IsAhead, free_at, held_plans, overlaps, slot_of}
 use Rattle.tp_deciding.specs.declared.held.Held.{Held}
 use Rattle.tp_deciding.proofs.HeldFacts.{AreTwo, IsHeldAt, at-plans, is_on, row-plans, two-plans}
 use Rattle.tp_deciding.proofs.ListFacts.{get-is}
@@ -40,24 +40,24 @@ pair-at R (a ∷ xs) (suc k) x y pairs e f = pair-at R xs k x y (AllPairs-tail R
 
 -- what the test of two holds says
 pub overlap-says : (machine : Machine) (x y : Held) → overlaps machine x y ≡ true
-    → (x.rule.resource.0 ≡ y.rule.resource.0) × (y.begin <ℤ (x.finish +ℤ pos (gap_between (gap_at machine x.rule.resource.0) x.rule y.rule)))
+    → (x.rule.resource.0 ≡ y.rule.resource.0) × (y.begin <ℤ (free_at machine x y))
 overlap-says machine x y e =
-    let both = and_parts (x.rule.resource.0 == y.rule.resource.0) (int_lt y.begin (x.finish +ℤ pos (gap_between (gap_at machine x.rule.resource.0) x.rule y.rule))) e in
-    (eqb-true x.rule.resource.0 y.rule.resource.0 both.0, late y.begin (x.finish +ℤ pos (gap_between (gap_at machine x.rule.resource.0) x.rule y.rule)) both.1) where
+    let both = and_parts (x.rule.resource.0 == y.rule.resource.0) (int_lt y.begin (free_at machine x y)) e in
+    (eqb-true x.rule.resource.0 y.rule.resource.0 both.0, late y.begin (free_at machine x y) both.1) where
       late : (a b : ℤ) → int_lt a b ≡ true → a <ℤ b
       late a b f = grind (arith, ints)
 
 clear-says : (machine : Machine) (x y : Held) → overlaps machine x y ≡ false → x.rule.resource.0 ≡ y.rule.resource.0
-    → (x.finish +ℤ pos (gap_between (gap_at machine x.rule.resource.0) x.rule y.rule)) ≤ℤ y.begin
-clear-says machine x y e same = go (x.rule.resource.0 == y.rule.resource.0) refl (int_lt y.begin (x.finish +ℤ pos (gap_between (gap_at machine x.rule.resource.0) x.rule y.rule))) refl e where
+    → (free_at machine x y) ≤ℤ y.begin
+clear-says machine x y e same = go (x.rule.resource.0 == y.rule.resource.0) refl (int_lt y.begin (free_at machine x y)) refl e where
   late : (a b : ℤ) → int_lt a b ≡ false → b ≤ℤ a
   late a b f = grind (arith, ints)
 
-  go : (p : Bool) → (x.rule.resource.0 == y.rule.resource.0) ≡ p → (q : Bool) → int_lt y.begin (x.finish +ℤ pos (gap_between (gap_at machine x.rule.resource.0) x.rule y.rule)) ≡ q → (p && q) ≡ false
-      → (x.finish +ℤ pos (gap_between (gap_at machine x.rule.resource.0) x.rule y.rule)) ≤ℤ y.begin
+  go : (p : Bool) → (x.rule.resource.0 == y.rule.resource.0) ≡ p → (q : Bool) → int_lt y.begin (free_at machine x y) ≡ q → (p && q) ≡ false
+      → (free_at machine x y) ≤ℤ y.begin
   go false f q g h = absurd (grind (arith, nat_tests))
   go true f true g h = absurd cc
-  go true f false g h = late y.begin (x.finish +ℤ pos (gap_between (gap_at machine x.rule.resource.0) x.rule y.rule)) g
+  go true f false g h = late y.begin (free_at machine x y) g
 
 module _ (machine : Machine) (t : Ticks) where
   -- of one resource, the first hold stands apart before the second, or whichever is earlier before the other
@@ -147,7 +147,7 @@ module _ (machine : Machine) (plans : List Plan) (order : InOrder plans) (timed 
 
   -- neighbours that overlap
   pub overlap-of : (x y : Held) → AreNeighbours hs x y → overlaps machine x y ≡ true
-      → DoOverlap machine plans x.hold y.hold x.finish (gap_between (gap_at machine x.rule.resource.0) x.rule y.rule) y.begin
+      → DoOverlap machine plans x.hold y.hold (free_at machine x y) y.begin
   overlap-of x y near e =
       let says = overlap-says machine x y e in
       let in-x = contains-get hs near.place x near.one in
@@ -163,8 +163,7 @@ module _ (machine : Machine) (plans : List Plan) (order : InOrder plans) (timed 
         differ = λ hold. pair-at AreTwo hs near.place x y held-two near.one near.other says.0 hold;
         earlier_is = refl;
         later_is = refl;
-        end_is = sym at-x.1;
-        gap_is = refl;
+        free_is = λ i. sym at-x.1 i +ℤ pos (gap_between (gap_at machine x.rule.resource.0) x.rule y.rule);
         begin_is = sym at-y.0;
         first = begins x y at-x at-y says.0 (pair-at IsAhead hs near.place x y ahead near.one near.other);
         clash = says.1;
@@ -174,8 +173,8 @@ module _ (machine : Machine) (plans : List Plan) (order : InOrder plans) (timed 
         begins x y at-x at-y one (inr le) = let a = at-x.0 in let b = at-y.0 in rw (← a, ← b) le.1
 
 -- holds that overlap are no legal schedule
-pub overlap-illegal : (machine : Machine) (plans : List Plan) (earlier later : Hold) (end : ℤ) (gap : ℕ) (begin : ℤ) → DoOverlap machine plans earlier later end gap begin → IsLegal machine plans → ⊥
-overlap-illegal machine plans earlier later end gap begin o legal =
+pub overlap-illegal : (machine : Machine) (plans : List Plan) (earlier later : Hold) (free begin : ℤ) → DoOverlap machine plans earlier later free begin → IsLegal machine plans → ⊥
+overlap-illegal machine plans earlier later free begin o legal =
     let t = ticks_of plans in
     let there = slots machine o.resource plans in
     let order = slot_order machine plans o.resource in
@@ -190,11 +189,9 @@ overlap-illegal machine plans earlier later end gap begin o legal =
     ] where
       before : IsApart (gap_at machine o.resource) (ticks_of plans) o.one o.other → ⊥
       before a =
-          let e = o.end_is in
-          let g = o.gap_is in
           let b = o.begin_is in
           let c = o.clash in
-          let a' : (end +ℤ pos gap) ≤ℤ begin = subst (λ z. z ≤ℤ begin) (λ i. e i +ℤ pos (g i)) (subst (λ z. (end_at (ticks_of plans) o.one +ℤ pos (gap_between (gap_at machine o.resource) o.one.rule o.other.rule)) ≤ℤ z) b a) in
+          let a' : free ≤ℤ begin = subst (λ z. z ≤ℤ begin) o.free_is (subst (λ z. (end_at (ticks_of plans) o.one +ℤ pos (gap_between (gap_at machine o.resource) o.one.rule o.other.rule)) ≤ℤ z) b a) in
           omega (arith, ints)
 
       behind : IsSoundSlot (ticks_of plans) o.other → IsApart (gap_at machine o.resource) (ticks_of plans) o.other o.one → ⊥

@@ -6,7 +6,7 @@ use Rattle.std.proofs.lemmas.Int.{ints}
 use Rattle.std.proofs.lemmas.List.Elements.{All-contains, All-contains_itself, All-head, All-tail, Contains-get_or}
 use Rattle.std.proofs.lemmas.List.Kept.{AllPairs-filter}
 use Rattle.std.proofs.lemmas.List.Sorted.{All-permutation, Contains-permutation, IsPermutation-sym}
-use Rattle.tp_machine.specs.Modes.{gap_at, gap_between}
+use Rattle.tp_machine.specs.Modes.{gap_at}
 use Rattle.tp_machine.specs.declared.machine.Machine.{Machine}
 use Rattle.tp_machine.proofs.MachineFacts.{is_machine}
 use Rattle.tp_schedule.specs.Answers.{IsLeast, KeepsHorizon}
@@ -33,7 +33,7 @@ use Rattle.tp_constraints.proofs.PointTable.{table_law}
 use Rattle.tp_constraints.proofs.Supporting.{itself, retimed-keeps, supported-least, unmarked-later}
 use Rattle.tp_choices.specs.Retimings.{IgnoresPoints}
 use Rattle.tp_deciding.specs.Early.{AreMarked, AreTightSteps, IsEarly, IsTightStep, IsUnmarkedAt, IsUnmarkedIn, chain_steps, is_exempt, is_low, low_marks, pair_steps, plans_steps}
-use Rattle.tp_deciding.specs.Holds.{AreClear, IsAhead, held_plans, overlaps, slot_of}
+use Rattle.tp_deciding.specs.Holds.{AreClear, IsAhead, free_at, held_plans, overlaps, slot_of}
 use Rattle.tp_deciding.specs.Lines.{line_pairs}
 use Rattle.tp_deciding.specs.Marks.{IsMarked, IsReached, IsSpread, IsStepWithin}
 use Rattle.tp_deciding.specs.Marks.IsReached.{at_first, by_step}
@@ -58,7 +58,7 @@ module _ (machine : Machine) (plans : List Plan) (legal : IsLegal machine plans)
     go : (b : Bool) → overlaps machine x y ≡ b → b ≡ false
     go false e = refl
     go true e =
-        absurd (overlap-illegal machine plans x.hold y.hold x.finish (gap_between (gap_at machine x.rule.resource.0) x.rule y.rule) y.begin
+        absurd (overlap-illegal machine plans x.hold y.hold (free_at machine x y) y.begin
         (overlap-of machine plans legal.in_order legal.timed hs same ahead x y (record { place = k; one = one; other = other }) e) legal)
 
   formed : All IsFormed plans

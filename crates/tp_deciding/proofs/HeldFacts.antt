@@ -24,7 +24,7 @@ use Rattle.tp_schedule.specs.declared.parts.SheetId.{SheetId}
 use Rattle.tp_schedule.proofs.CopyFacts.{InOrder, before-not_same, same_copy-refl}
 use Rattle.tp_schedule.proofs.HeldCount.{Agrees, Differ, IsTimedBy}
 use Rattle.tp_schedule.proofs.Pairs.{AllPairs-append, AllPairs-head, AllPairs-map, AllPairs-nil, AllPairs-tail}
-use Rattle.tp_deciding.specs.Holds.{IsAhead, held_acts, held_by, held_plan, held_plans, slot_of}
+use Rattle.tp_deciding.specs.Holds.{IsAhead, finish_of, held_acts, held_by, held_plan, held_plans, slot_of}
 use Rattle.tp_deciding.specs.declared.held.Held.{Held}
 use Rattle.tp_deciding.specs.declared.held.Run.{Run}
 
@@ -87,7 +87,7 @@ row-plans machine resource number (p ∷ plans) formed =
 
 -- ---- times
 abbrev pub IsHeldAt : Ticks → Held → Type 0
-IsHeldAt t h = (h.begin ≡ begin_at t (slot_of h)) × (h.finish ≡ end_at t (slot_of h))
+IsHeldAt t h = (h.begin ≡ begin_at t (slot_of h)) × (finish_of h ≡ end_at t (slot_of h))
 
 at-acts : (machine : Machine) (t : Ticks) (sheet : SheetId) (at number : ℕ) (acts : List ActId) (points : List ℕ) → length points ≡ length acts + 1 → Agrees t sheet at points
     → All (IsHeldAt t) (held_acts machine sheet at number acts points)

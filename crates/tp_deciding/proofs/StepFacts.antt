@@ -27,7 +27,7 @@ use Rattle.tp_schedule.proofs.Pairs.{AllPairs-head, AllPairs-tail}
 use Rattle.tp_constraints.specs.Gaps.{Gap, acts_gaps, all_chains, anchor_spot, chain_gaps, duration_gaps, end_spot, gap, is_same_line, line_gap, line_gaps, plan_gaps, range_gaps, slot_gap}
 use Rattle.tp_constraints.specs.Supports.{IsTight}
 use Rattle.tp_deciding.specs.Early.{AreTightSteps, IsStepOf, IsTightStep, act_steps, acts_steps, anchor_point, chain_steps, hold_steps, pair_steps, plans_steps, step_to, touches}
-use Rattle.tp_deciding.specs.Holds.{IsAhead, slot_of}
+use Rattle.tp_deciding.specs.Holds.{IsAhead, finish_of, free_at, slot_of}
 use Rattle.tp_deciding.specs.Lines.{end_of, line_of, line_pairs, next_in, pair_with}
 use Rattle.tp_deciding.specs.declared.held.Held.{Held}
 use Rattle.tp_deciding.specs.declared.lines.End.{End}
@@ -183,7 +183,7 @@ module _ (table : List Spot) (t : Ticks) where
     spot-tick AtEnd from to = refl
 
     -- the gap between two holds has no room exactly where they touch
-    touch-tight : (g : ℕ) (x y : Held) → IsHeldAt t x → IsHeldAt t y → x.finish +ℤ pos (gap_between g x.rule y.rule) ≡ y.begin → IsTight t (slot_gap g (slot_of x) (slot_of y))
+    touch-tight : (g : ℕ) (x y : Held) → IsHeldAt t x → IsHeldAt t y → finish_of x +ℤ pos (gap_between g x.rule y.rule) ≡ y.begin → IsTight t (slot_gap g (slot_of x) (slot_of y))
     touch-tight g x y at-x at-y e =
         let a = spot-tick x.rule.end (kept x.hold.sheet x.at) (kept x.hold.sheet x.hold.act) in
         let b = spot-tick y.rule.begin (kept y.hold.sheet y.at) (kept y.hold.sheet y.hold.act) in
@@ -191,7 +191,7 @@ module _ (table : List Spot) (t : Ticks) where
         let h = at-y.0 in
         omega (arith, ints, a, b, f, h, e)
 
-    tight-touch : (g : ℕ) (x y : Held) → IsHeldAt t x → IsHeldAt t y → IsTight t (slot_gap g (slot_of x) (slot_of y)) → x.finish +ℤ pos (gap_between g x.rule y.rule) ≡ y.begin
+    tight-touch : (g : ℕ) (x y : Held) → IsHeldAt t x → IsHeldAt t y → IsTight t (slot_gap g (slot_of x) (slot_of y)) → finish_of x +ℤ pos (gap_between g x.rule y.rule) ≡ y.begin
     tight-touch g x y at-x at-y e =
         let a = spot-tick x.rule.end (kept x.hold.sheet x.at) (kept x.hold.sheet x.hold.act) in
         let b = spot-tick y.rule.begin (kept y.hold.sheet y.at) (kept y.hold.sheet y.hold.act) in
@@ -202,15 +202,15 @@ module _ (table : List Spot) (t : Ticks) where
     same-int : (a b : ℤ) → int_eq a b ≡ true → a ≡ b
     same-int a b e = (signed_Decides a b).0 e
 
-    touch-says : (x y : Held) → touches machine x y ≡ true → (x.rule.resource.0 ≡ y.rule.resource.0) × (x.finish +ℤ pos (gap_between (gap_at machine x.rule.resource.0) x.rule y.rule) ≡ y.begin)
+    touch-says : (x y : Held) → touches machine x y ≡ true → (x.rule.resource.0 ≡ y.rule.resource.0) × (free_at machine x y ≡ y.begin)
     touch-says x y e =
-        let two = and_parts (x.rule.resource.0 == y.rule.resource.0) (int_eq (x.finish +ℤ pos (gap_between (gap_at machine x.rule.resource.0) x.rule y.rule)) y.begin) e in
-        (eqb-true x.rule.resource.0 y.rule.resource.0 two.0, same-int (x.finish +ℤ pos (gap_between (gap_at machine x.rule.resource.0) x.rule y.rule)) y.begin two.1)
+        let two = and_parts (x.rule.resource.0 == y.rule.resource.0) (int_eq (free_at machine x y) y.begin) e in
+        (eqb-true x.rule.resource.0 y.rule.resource.0 two.0, same-int (free_at machine x y) y.begin two.1)
 
-    touch-from : (x y : Held) → x.rule.resource.0 ≡ y.rule.resource.0 → x.finish +ℤ pos (gap_between (gap_at machine x.rule.resource.0) x.rule y.rule) ≡ y.begin → touches machine x y ≡ true
+    touch-from : (x y : Held) → x.rule.resource.0 ≡ y.rule.resource.0 → free_at machine x y ≡ y.begin → touches machine x y ≡ true
     touch-from x y same e =
-        and_from (x.rule.resource.0 == y.rule.resource.0) (int_eq (x.finish +ℤ pos (gap_between (gap_at machine x.rule.resource.0) x.rule y.rule)) y.begin)
-        (grind (arith, nat_tests)) (itself (x.finish +ℤ pos (gap_between (gap_at machine x.rule.resource.0) x.rule y.rule)) y.begin e) where
+        and_from (x.rule.resource.0 == y.rule.resource.0) (int_eq (free_at machine x y) y.begin)
+        (grind (arith, nat_tests)) (itself (free_at machine x y) y.begin e) where
           itself : (a b : ℤ) → a ≡ b → int_eq a b ≡ true
           itself a b f = (signed_Decides a b).1 f
 
@@ -289,8 +289,8 @@ module _ (table : List Spot) (t : Ticks) where
           let a : x.rule.resource.0 ≡ r = eqb-true x.rule.resource.0 r on-x in
           let b : y.rule.resource.0 ≡ r = eqb-true y.rule.resource.0 r on-y in
           let step = step_to (anchor_point x.rule.end x) (anchor_point y.rule.begin y) in
-          let meets : x.finish +ℤ pos (gap_between (gap_at machine r) x.rule y.rule) ≡ y.begin = tight-touch (gap_at machine r) x y at-x at-y (subst (IsTight t) (sym same) tight) in
-          let touch : touches machine x y ≡ true = touch-from x y (a ∙ sym b) (subst (λ n. x.finish +ℤ pos (gap_between (gap_at machine n) x.rule y.rule) ≡ y.begin) (sym a) meets) in (
+          let meets : finish_of x +ℤ pos (gap_between (gap_at machine r) x.rule y.rule) ≡ y.begin = tight-touch (gap_at machine r) x y at-x at-y (subst (IsTight t) (sym same) tight) in
+          let touch : touches machine x y ≡ true = touch-from x y (a ∙ sym b) (subst (λ n. finish_of x +ℤ pos (gap_between (gap_at machine n) x.rule y.rule) ≡ y.begin) (sym a) meets) in (
             step,
             Contains-append_left (hold_steps machine x y) (chain_steps machine (y ∷ hs)) step (subst (λ c. Contains (cond c (step ∷ []) []) step) (sym touch) (Contains-here step [])),
             subst (λ z. IsStepOf table z step) same (anchored x.rule.end x numbered-x, anchored y.rule.begin y numbered-y),

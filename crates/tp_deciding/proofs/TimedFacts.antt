@@ -1,5 +1,5 @@
 -- What is decided of a plan makes it a timed plan, and each timed plan has it.
-use Rattle.std.proofs.Common.{◌≡◌, ℕ, ◌+◌, ◌<◌, ◌≤◌, length, refl, sym, subst, arith, Option, Some, None, IsSomeAnd, Any}
+use Rattle.std.proofs.Common.{◌≡◌, ℕ, ◌+◌, ◌<◌, ◌≤◌, length, refl, arith, Option, Some, None, IsSomeAnd, Any}
 use Rattle.tp_machine.specs.Using.{action_at}
 use Rattle.tp_machine.specs.declared.machine.Machine.{Machine}
 use Rattle.tp_machine.specs.declared.parts.ActId.{ActId}
@@ -39,10 +39,3 @@ timed-from machine p formed few (k, f, within, at, led) lasts = go (walk machine
 
 pub timed-formed : (machine : Machine) (p : Plan) → IsTimedPlan machine p → IsFormed p
 timed-formed machine p timed = record { some = timed.some; one_more = timed.one_more; released = timed.released }
-
-pub timed-led : (machine : Machine) (p : Plan) → IsTimedPlan machine p → Any (LeadsFrom machine p) machine.feeders
-timed-led machine p timed = go timed.starts where
-  go : Any (λ f. (f.media ≡ p.want.media) × (timed.start ≡ fresh f.loc)) machine.feeders → Any (LeadsFrom machine p) machine.feeders
-  go (k, f, within, at, is) =
-      let e : walk machine p.want p.acts (fresh f.loc) ≡ Some timed.end = subst (λ s. walk machine p.want p.acts s ≡ Some timed.end) is.1 timed.leads in
-      (k, f, within, at, record { media = is.0; arrives = subst (λ o. IsSomeAnd o (EndsIn machine p p.kind)) (sym e) timed.ends })

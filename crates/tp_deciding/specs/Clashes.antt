@@ -18,9 +18,9 @@ pub record IsNotTimed (machine : Machine) (plans : List Plan) (sheet : SheetId) 
   pub of : plan.sheet ≡ sheet
   pub not_timed : ¬ IsTimedPlan machine plan
 
--- two holds of a resource, of which one begins no later than the other, and ends, with the gap between them, after the other
--- has begun
-pub record DoOverlap (machine : Machine) (plans : List Plan) (earlier later : Hold) (end : ℤ) (gap : ℕ) (begin : ℤ) : Type 0 where
+-- two holds of a resource, of which one begins no later than the other; it is over, with the gap between them, at a tick at which the
+-- other has begun
+pub record DoOverlap (machine : Machine) (plans : List Plan) (earlier later : Hold) (free begin : ℤ) : Type 0 where
   pub resource : ℕ
   pub one : Slot
   pub other : Slot
@@ -29,11 +29,10 @@ pub record DoOverlap (machine : Machine) (plans : List Plan) (earlier later : Ho
   pub differ : earlier ≢ later
   pub earlier_is : hold_in one ≡ earlier
   pub later_is : hold_in other ≡ later
-  pub end_is : end_at (ticks_of plans) one ≡ end
-  pub gap_is : gap_between (gap_at machine resource) one.rule other.rule ≡ gap
+  pub free_is : end_at (ticks_of plans) one +ℤ pos (gap_between (gap_at machine resource) one.rule other.rule) ≡ free
   pub begin_is : begin_at (ticks_of plans) other ≡ begin
   pub first : begin_at (ticks_of plans) one ≤ℤ begin_at (ticks_of plans) other
-  pub clash : begin <ℤ (end +ℤ pos gap)
+  pub clash : begin <ℤ free
 
 -- the copies have whole plans to one tray, of which the one that is later in the order of copies does not end later
 pub record AreOutOfLine (plans : List Plan) (earlier later : SheetId) (end later_end : ℕ) : Type 0 where
@@ -53,7 +52,7 @@ pub record AreOutOfLine (plans : List Plan) (earlier later : SheetId) (end later
 
 abbrev pub IsClash : Machine → List Plan → Clash → Type 0
 IsClash machine plans (NotTimed sheet) = IsNotTimed machine plans sheet
-IsClash machine plans (Overlap earlier later end gap begin) = DoOverlap machine plans earlier later end gap begin
+IsClash machine plans (Overlap earlier later free begin) = DoOverlap machine plans earlier later free begin
 IsClash machine plans (OutOfLine earlier later end later_end) = AreOutOfLine plans earlier later end later_end
 
 -- on each resource whichever hold is earlier stands apart before the other

@@ -16,6 +16,7 @@ use Rattle.tp_schedule.specs.declared.parts.Plan.{Plan}
 use Rattle.tp_schedule.specs.declared.parts.SheetId.{SheetId}
 use Rattle.tp_constraints.specs.Gaps.{Gap, low_of}
 use Rattle.tp_constraints.specs.Supports.{IsTight}
+use Rattle.tp_deciding.specs.Holds.{free_at}
 use Rattle.tp_deciding.specs.declared.early.Early.{Early}
 use Rattle.tp_deciding.specs.declared.held.Held.{Held}
 use Rattle.tp_deciding.specs.declared.lines.End.{End}
@@ -86,7 +87,7 @@ anchor_point AtEnd h = h.to
 -- both are of one resource, and the second begins as soon as the first and the gap between them have ended
 abbrev pub touches : Machine → Held → Held → Bool
 touches machine x y =
-    (x.rule.resource.0 == y.rule.resource.0) && int_eq (x.finish +ℤ pos (gap_between (gap_at machine x.rule.resource.0) x.rule y.rule)) y.begin
+    (x.rule.resource.0 == y.rule.resource.0) && int_eq (free_at machine x y) y.begin
 
 abbrev pub hold_steps : Machine → Held → Held → List Step
 hold_steps machine x y =

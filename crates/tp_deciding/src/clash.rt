@@ -1,17 +1,16 @@
 //! Whether a schedule is legal, and where not, what clashes.
 ghost use Rattle.std.specs.Prelude.{◌≡◌, ◌↔◌, All, AllPairs, IfOk, IfSome, IsNone, IsTrue, MatchOption, find};
 ghost use Rattle.tp_schedule.specs.Legality.{IsLegal};
-ghost use Rattle.tp_machine.specs.Modes.{gap_at, gap_between};
 ghost use Rattle.tp_schedule.specs.Plans.{IsEarlier, IsTimedPlan};
 ghost use Rattle.tp_deciding.specs.Clashes.{AreHoldsApart, IsClash, IsNotTimed, is_late};
-ghost use Rattle.tp_deciding.specs.Holds.{AreClear, AreNeighbours, overlaps};
+ghost use Rattle.tp_deciding.specs.Holds.{AreClear, AreNeighbours, free_at, overlaps};
 
-use crate::held::{Held, sorted_holds};
+use crate::held::{Held, free_at, sorted_holds};
 use crate::lines::{End, line_pairs};
 use crate::timed::is_timed_plan;
 use std::alloc::Global;
 use tp_base::{Memory, Tick};
-use tp_machine::{Machine, gap_at, gap_between};
+use tp_machine::Machine;
 use tp_schedule::{Hold, Schedule, SheetId};
 
 /// What two points of a schedule, or one plan of it, break.
@@ -21,13 +20,12 @@ pub enum Clash {
     NotTimed {
         sheet: SheetId,
     },
-    /// Two holds of one resource: the earlier one ends at `end`, and the later one begins at `begin`, before `gap` ticks more
-    /// are over. The gap is 0 where the modes are the same.
+    /// Two holds of one resource: the earlier one is over at `free`, with the gap behind it where the modes differ, and the
+    /// later one begins at `begin`, before that.
     Overlap {
         earlier: Hold,
         later: Hold,
-        end: i64,
-        gap: u32,
+        free: i64,
         begin: i64,
     },
     /// Two copies of a tray's line: the later one in the order of copies does not end after the earlier one.
@@ -53,19 +51,10 @@ fn find_untimed(machine: &Machine, schedule: &Schedule) -> Option<SheetId>
     None
 }
 
-/// How many ticks have to lie between the two holds, if they are of one resource.
-fn gap_of(machine: &Machine, one: &Held, other: &Held) -> u32
-    ensures { result ≡ gap_between (gap_at machine.now one.now.rule.resource.0) one.now.rule
-        other.now.rule }
-{
-    gap_between(gap_at(machine, one.rule.resource), &one.rule, &other.rule)
-}
-
 fn do_overlap(machine: &Machine, one: &Held, other: &Held) -> bool
     ensures { result ≡ overlaps machine.now one.now other.now }
 {
-    let gap = gap_of(machine, one, other);
-    let late = i128::from(other.begin) < i128::from(one.finish) + i128::from(gap);
+    let late = other.begin < free_at(machine, one, other);
     one.rule.resource == other.rule.resource && late
 }
 
@@ -95,15 +84,13 @@ fn find_late(pairs: &[(End, End)]) -> Option<(End, End)>
 }
 
 fn overlap_of(machine: &Machine, one: &Held, other: &Held) -> Clash
-    ensures { result ≡ Clash.Overlap one.now.hold other.now.hold one.now.finish
-        (gap_between (gap_at machine.now one.now.rule.resource.0) one.now.rule other.now.rule)
-        other.now.begin }
+    ensures { result ≡ Clash.Overlap one.now.hold other.now.hold
+        (free_at machine.now one.now other.now) other.now.begin }
 {
     Clash::Overlap {
         earlier: one.hold,
         later: other.hold,
-        end: one.finish,
-        gap: gap_of(machine, one, other),
+        free: free_at(machine, one, other),
         begin: other.begin,
     }
 }

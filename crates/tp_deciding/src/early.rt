@@ -13,12 +13,12 @@ ghost use Rattle.tp_deciding.specs.Early.{AreMarked, AreTightSteps, IsEarly, IsU
 ghost use Rattle.tp_deciding.specs.Lines.{point_count};
 ghost use Rattle.tp_deciding.specs.Marks.{IsMarked};
 
-use crate::held::{Held, sorted_holds};
+use crate::held::{Held, free_at, sorted_holds};
 use crate::lines::{End, line_pairs};
 use crate::marks::{Step, spread};
 use std::alloc::Global;
 use tp_base::{Memory, Tick};
-use tp_machine::{ActId, Action, Anchor, Machine, gap_at, gap_between, machine_law};
+use tp_machine::{ActId, Action, Anchor, Machine, machine_law};
 use tp_schedule::{Kind, Plan, Schedule, SheetId};
 
 /// Point `at` of the copy's plan stands at `given`, and could stand at `earlier`.
@@ -258,9 +258,7 @@ fn anchor_point(anchor: Anchor, held: &Held) -> usize
 fn do_touch(machine: &Machine, one: &Held, other: &Held) -> bool
     ensures { result ≡ touches machine.now one.now other.now }
 {
-    let gap = gap_between(gap_at(machine, one.rule.resource), &one.rule, &other.rule);
-    let end = i128::from(one.finish) + i128::from(gap);
-    one.rule.resource == other.rule.resource && end == i128::from(other.begin)
+    one.rule.resource == other.rule.resource && free_at(machine, one, other) == other.begin
 }
 
 fn add_hold(

@@ -1,6 +1,5 @@
 -- Which two numbers a rule compares, where it is broken by what the items tell.
 use Rattle.std.specs.Prelude.{◌≡◌, ◌≢◌, ℕ, ◌+◌, ◌<◌, ◌⊎◌, ℤ, pos, ◌+ℤ◌, List, [], ◌∷◌, drop, length, slice_get, slice_index, Option, Some, None, Contains}
-use Rattle.std.specs.Int.{saturate_signed, w64}
 use Rattle.tp_log.specs.declared.item.Item.{Item}
 use Rattle.tp_machine.specs.Using.{action_at, begin_of}
 use Rattle.tp_machine.specs.declared.machine.Machine.{Machine}
@@ -39,10 +38,10 @@ abbrev pub AreOfMove : Why → ℤ → ℤ → Type 0
 AreOfMove Changed first second = ⊥
 AreOfMove (Moved sheet at stood stands) first second = (first ≡ pos stands) × (second ≡ pos stood)
 
--- where a hold and the gap behind it have ended, as far as 64 bits tell it, and where the next one begins; or two ends along a line
+-- where a hold and the gap behind it are over, and where the next one begins; or two ends along a line
 abbrev pub AreOfClash : AClash → ℤ → ℤ → Type 0
 AreOfClash (NotTimed sheet) first second = ⊥
-AreOfClash (Overlap earlier later end gap begin) first second = (first ≡ saturate_signed w64 (end +ℤ pos gap)) × (second ≡ begin)
+AreOfClash (Overlap earlier later free begin) first second = (first ≡ free) × (second ≡ begin)
 AreOfClash (OutOfLine earlier later end later_end) first second = (first ≡ pos end) × (second ≡ pos later_end)
 
 -- the action of this number of the plan holds the resource from this tick on

@@ -183,14 +183,9 @@ impl Read<'_> {
             Clash::Overlap {
                 earlier,
                 later,
-                end,
-                gap,
+                free,
                 begin,
-            } => self.stop_at(
-                self.later_of(earlier.sheet, later.sheet),
-                end.saturating_add(i64::from(*gap)),
-                *begin,
-            ),
+            } => self.stop_at(self.later_of(earlier.sheet, later.sheet), *free, *begin),
             Clash::OutOfLine {
                 earlier,
                 later,

@@ -1,7 +1,6 @@
 use Rattle.std.proofs.Common.{sym, subst}
-use Rattle.tp_machine.specs.Modes.{gap_at, gap_between}
 use Rattle.tp_deciding.specs.Clashes.{IsClash}
-use Rattle.tp_deciding.specs.Holds.{AreClear, AreNeighbours}
+use Rattle.tp_deciding.specs.Holds.{AreClear, AreNeighbours, free_at}
 use Rattle.tp_deciding.proofs.ClearFacts.{clear-apart, overlap-illegal, overlap-of}
 use Rattle.tp_deciding.proofs.clash.find_between.Goals as goal
 
@@ -18,7 +17,7 @@ returns-in-Some-clause-legal c =
     let y = c.in-Some.pair.1 in
     let near = subst (λ hs. AreNeighbours hs x y) c.as_slice.ensures.value c.in-Some.ensures.0 in
     let o = overlap-of machine plans c.requires.in_order c.requires.timed c.in_ok-holds.holds.items c.in_ok-holds.ensures.moved c.in_ok-holds.ensures.sorted x y near c.in-Some.ensures.1 in
-    (λ e. absurd cc, λ legal. absurd (overlap-illegal machine plans x.hold y.hold x.finish (gap_between (gap_at machine x.rule.resource.0) x.rule y.rule) y.begin o legal))
+    (λ e. absurd cc, λ legal. absurd (overlap-illegal machine plans x.hold y.hold (free_at machine x y) y.begin o legal))
 
 pub returns-in-Some-clause-clash : goal.returns-in-Some-clause-clash
 returns-in-Some-clause-clash c =
