@@ -53,11 +53,11 @@ impl Planner for Both {
 
     ghost stops = { λ b. 0 };
 
-    ghost spent = { λ b. IsSpentOf b.kept.work.nodes };
-
-    ghost steps = { λ b machine plans deed plans' b'. Unit {0} };
-
-    ghost stop_steps = { λ b machine plans due b'. ⊥ };
+    ghost rules = { record {
+      spent = λ b. IsSpentOf b.kept.work.nodes;
+      steps = λ b machine plans deed plans' b'. Unit {0};
+      stop_steps = λ b machine plans due b'. ⊥;
+    } };
 
     fn ask(
         &mut self,

@@ -79,11 +79,11 @@ impl Planner for Watched {
 
     ghost stops = { λ w. 0 };
 
-    ghost spent = { λ w. IsSpentOf w.engine.work.nodes };
-
-    ghost steps = { λ w machine plans deed plans' w'. Unit {0} };
-
-    ghost stop_steps = { λ w machine plans due w'. ⊥ };
+    ghost rules = { record {
+      spent = λ w. IsSpentOf w.engine.work.nodes;
+      steps = λ w machine plans deed plans' w'. Unit {0};
+      stop_steps = λ w machine plans due w'. ⊥;
+    } };
 
     fn ask(
         &mut self,

@@ -31,7 +31,7 @@ pub trait Trees {
 pub fn turns_keep_order<P: Planner>()
     ensures empty { (machine : Machine) → KeepsOrder machine [] empty_state }
     ensures turn { (machine : Machine)
-        → TurnsKeepOrder (right_steps P.spent P.steps P.stop_steps machine) machine }
+        → TurnsKeepOrder (right_steps P.rules machine) machine }
 {}
 
 /// The last schedule of every lawful log is legal, past included.

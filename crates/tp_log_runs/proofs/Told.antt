@@ -2,7 +2,7 @@
 use Rattle.std.proofs.Common.{◌≡◌, ℕ, true, List, refl, sym, subst, ◌∙◌, IsTrue}
 use Rattle.tp_bounds.specs.declared.tree.BoundTree.{BoundTree}
 use Rattle.tp_machine.specs.declared.machine.Machine.{Machine}
-use Rattle.tp_schedule.specs.Planning.{Deed, Due, IsAnswer}
+use Rattle.tp_schedule.specs.Planning.{IsAnswer, PlannerRules}
 use Rattle.tp_schedule.specs.Planning.Deed.{replied, settled}
 use Rattle.tp_schedule.specs.declared.parts.Ask.{Ask}
 use Rattle.tp_schedule.specs.declared.parts.Plan.{Plan}
@@ -30,10 +30,9 @@ trusted spent machine plans ask Planned plans' is = is
 trusted spent machine plans ask Never plans' is = is
 trusted spent machine plans ask (Spent bound) plans' is = (is.0, tt)
 
-module _ {P : Type 0} (spent : P → Machine → List Plan → Ask → ℕ → Type 0) (steps : P → Machine → List Plan → Deed → List Plan → P → Type 0)
-    (stops : P → Machine → List Plan → Due → P → Type 0) (machine : Machine) (trees : P → List BoundTree) (takes : TakesItsTrees spent steps stops machine trees) where
+module _ {P : Type 0} (rules : PlannerRules P) (machine : Machine) (trees : P → List BoundTree) (takes : TakesItsTrees rules machine trees) where
   abbrev live_steps : PlannerSteps P
-  live_steps = right_steps spent steps stops machine
+  live_steps = right_steps rules machine
 
   abbrev whole_steps : PlannerSteps (List BoundTree)
   whole_steps = right_answers bound_claims true spent_on_trust machine
@@ -44,7 +43,7 @@ module _ {P : Type 0} (spent : P → Machine → List Plan → Ask → ℕ → T
   follows : Follows live_steps whole_steps machine Together (λ p. spent_on_trust) (λ p. spent_on_trust)
   follows = record {
     passes_on = λ p plans ask bound can said. tt;
-    right = λ p p' plans live ask reply can does. trusted (spent p) machine _ ask reply live does.0;
+    right = λ p p' plans live ask reply can does. trusted (rules.spent p) machine _ ask reply live does.0;
     asked = λ p p' q' plans live ask reply can does same w. (
       trees p,
       (w.answer, subst (λ q. TakesTrees bound_claims machine true (trees p) plans (replied ask reply) w.whole q) same (takes-on machine plans ask can reply live (trees p) (trees p') w (takes p p' _ live (replied ask reply) does.1))),
@@ -94,6 +93,5 @@ module _ {P : Type 0} (spent : P → Machine → List Plan → Ask → ℕ → T
     by-event (On name) turn = quiet (On name) refl refl turn
     by-event (Refill name count) turn = quiet (Refill name count) refl refl turn
 
-pub turns-accepted : {P : Type 0} (spent : P → Machine → List Plan → Ask → ℕ → Type 0) (steps : P → Machine → List Plan → Deed → List Plan → P → Type 0)
-    (stops : P → Machine → List Plan → Due → P → Type 0) (machine : Machine) → TurnsAccepted spent steps stops machine
-turns-accepted spent steps stops machine trees takes event whole s s' records p p' w turn = by-event spent steps stops machine trees takes whole s s' records p p' w event turn
+pub turns-accepted : {P : Type 0} (rules : PlannerRules P) (machine : Machine) → TurnsAccepted rules machine
+turns-accepted rules machine trees takes event whole s s' records p p' w turn = by-event rules machine trees takes whole s s' records p p' w event turn

@@ -2,7 +2,7 @@
 use Rattle.std.specs.Prelude.{◌≡◌, ℕ, true, List, [], ◌∷◌, ◌++◌, map}
 use Rattle.tp_bounds.specs.declared.tree.BoundTree.{BoundTree}
 use Rattle.tp_machine.specs.declared.machine.Machine.{Machine}
-use Rattle.tp_schedule.specs.Planning.{Deed, Due}
+use Rattle.tp_schedule.specs.Planning.{Deed, Due, PlannerRules}
 use Rattle.tp_schedule.specs.declared.parts.Ask.{Ask}
 use Rattle.tp_schedule.specs.declared.parts.Plan.{Plan}
 use Rattle.tp_schedule.specs.declared.records.Record.{Record}
@@ -35,17 +35,16 @@ abbrev pub HasAcceptedTurn : Machine → Event → SessionState → List BoundTr
 HasAcceptedTurn machine event whole trees records s' rest =
     (whole' : SessionState) × AcceptedTurn machine event whole trees records whole' rest × IsWhole machine whole' s'
 
-module _ {P : Type 0} (spent : P → Machine → List Plan → Ask → ℕ → Type 0) (steps : P → Machine → List Plan → Deed → List Plan → P → Type 0)
-    (stops : P → Machine → List Plan → Due → P → Type 0) (machine : Machine) where
+module _ {P : Type 0} (rules : PlannerRules P) (machine : Machine) where
   -- each answer of the planner takes the next of the trees that are to come, which proves it
   abbrev pub TakesItsTrees : (P → List BoundTree) → Type 0
-  TakesItsTrees trees = (p p' : P) (plans plans' : List Plan) (deed : Deed) → steps p machine plans deed plans' p'
+  TakesItsTrees trees = (p p' : P) (plans plans' : List Plan) (deed : Deed) → rules.steps p machine plans deed plans' p'
       → TakesTrees bound_claims machine true (trees p) plans deed plans' (trees p')
 
   -- its turns on a live state are accepted on every whole state behind it
   abbrev pub TurnsAccepted : Type 0
   TurnsAccepted = (trees : P → List BoundTree) → TakesItsTrees trees → (event : Event) (whole s s' : SessionState) (records : List Record) (p p' : P)
-      → IsWhole machine whole s → LiveTurn (right_steps spent steps stops machine) machine event s p records s' p'
+      → IsWhole machine whole s → LiveTurn (right_steps rules machine) machine event s p records s' p'
       → HasAcceptedTurn machine event whole (trees p) records s' (trees p')
 
 module _ (machine : Machine) where

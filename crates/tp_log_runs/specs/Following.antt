@@ -3,6 +3,7 @@ use Rattle.std.specs.Prelude.{◌≡◌, ℕ, false, List, [], ◌∷◌}
 use Rattle.tp_bounds.specs.declared.tree.BoundTree.{BoundTree}
 use Rattle.tp_log.specs.declared.item.Item.{Item}
 use Rattle.tp_machine.specs.declared.machine.Machine.{Machine}
+use Rattle.tp_schedule.specs.Planning.{PlannerRules}
 use Rattle.tp_schedule.specs.declared.records.Record.{Record}
 use Rattle.tp_script.specs.declared.event.Event.{Event}
 use Rattle.tp_told.specs.Stopping.{StopsAt}
@@ -19,8 +20,15 @@ use Rattle.tp_runs.specs.Wholes.{IsWhole}
 use Rattle.tp_log_runs.specs.Accepting.{AcceptedTurn}
 
 -- the planner that is told its answers
+abbrev pub told_rules : PlannerRules ToldValue
+told_rules = record {
+  spent = λ p. spent_on_trust;
+  steps = λ p machine plans deed plans' p'. TakesOn p machine plans deed plans' p';
+  stop_steps = λ p machine plans due p'. StopsAt p machine plans due p';
+}
+
 abbrev pub told_steps : Machine → PlannerSteps ToldValue
-told_steps machine = right_steps (λ p. spent_on_trust) (λ p machine plans deed plans' p'. TakesOn p machine plans deed plans' p') (λ p machine plans due p'. StopsAt p machine plans due p') machine
+told_steps machine = right_steps told_rules machine
 
 -- all that is told by items is taken: only asides may be left of them
 abbrev pub IsThrough : ToldValue → Type 0

@@ -9,7 +9,7 @@ use tp_schedule::Planner;
 /// A turn on the live part of a state, over a planner whose answers take the next of the trees that are to come, is one of right answers on
 /// every whole state behind it, proved by these trees in turn. What a spent budget says is taken on trust.
 pub fn told_turns_are_whole<P: Planner>()
-    ensures { (machine : Machine) → TurnsAccepted P.spent P.steps P.stop_steps machine }
+    ensures { (machine : Machine) → TurnsAccepted P.rules machine }
 {}
 
 /// A turn of right answers on a whole state, its budgets on trust, is one on its live part, with the same records and trees.

@@ -12,10 +12,10 @@ use tp_schedule::Planner;
 /// copy that waits or has a whole plan to the tray, and that copy is its newest.
 pub fn outages_keep_state<P: Planner>()
     ensures through { (machine : Machine)
-        → OutagesKeep (right_steps P.spent P.steps P.stop_steps machine) machine
+        → OutagesKeep (right_steps P.rules machine) machine
         (KeepsThrough machine) }
     ensures order { (machine : Machine) (totals : List ℕ)
-        → OutagesKeep (right_steps P.spent P.steps P.stop_steps machine) machine
+        → OutagesKeep (right_steps P.rules machine) machine
         (KeepsOrder machine totals) }
 {}
 
@@ -23,5 +23,5 @@ pub fn outages_keep_state<P: Planner>()
 /// at most one new copy waits.
 pub fn outages_keep_live<P: Planner>()
     ensures { (machine : Machine)
-        → OutagesKeepLive (right_steps P.spent P.steps P.stop_steps machine) machine }
+        → OutagesKeepLive (right_steps P.rules machine) machine }
 {}

@@ -116,12 +116,12 @@ pub(crate) fn ask_planner<P: Planner>(
     requires served { P.serves planner.old machine.now }
     requires can_ask { CanAsk machine.now schedule.old.plans ask.now }
     ensures answers { IfOk result (λ reply.
-        (right_steps P.spent P.steps P.stop_steps machine.now).does planner.old
+        (right_steps P.rules machine.now).does planner.old
         schedule.old.plans (replied ask.entry.now reply) schedule.new.plans planner.new) }
     ensures told { IfOk result (λ reply. notes.new.items ≡ notes.old.items
         ++ told_of_reply machine.now schedule.old.plans ask.entry.now reply schedule.new.plans) }
     ensures stopped { result ≡ Err Halt.Stopped → Stays notes.old.items notes.new.items
-        (P.stop_steps planner.old machine.now schedule.old.plans (asking ask.entry.now)
+        (P.rules.stop_steps planner.old machine.now schedule.old.plans (asking ask.entry.now)
         planner.new) }
     ensures stops_only { IfErr result (StopsOnlyWhere (P.stops planner.old) (P.stops planner.new)) }
     ensures counted { P.stops planner.old ≤ P.stops planner.new }

@@ -37,11 +37,11 @@ pub fn go_out<P: Planner>(
     requires there { event.module.0 < length machine.now.modules }
     requires can { KeepsLive machine.now last_copy (seen state.old) }
     ensures out { OnOk result
-        (NotesOut (right_steps P.spent P.steps P.stop_steps machine.now) machine.now event
+        (NotesOut (right_steps P.rules machine.now) machine.now event
         (seen state.old) planner.old notes.old.items
         (seen state.new) planner.new notes.new.items) }
     ensures stopped { result ≡ Err Halt.Stopped
-        → NotesStoppedOut (right_steps P.spent P.steps P.stop_steps machine.now) machine.now event
+        → NotesStoppedOut (right_steps P.rules machine.now) machine.now event
         (seen state.old) planner.old notes.old.items planner.new notes.new.items }
     ensures kept { OnOk result ((copies : ℕ) → KeepsLive machine.now copies (seen state.old)
         → CanTakeEvents machine.now (copies + 1) (seen state.new)) }
@@ -124,12 +124,12 @@ pub fn handle_out<P: Planner>(
     requires can { KeepsLive machine.now last_copy
         (state_seen now schedule.old.plans lines.old outs.old) }
     ensures out { OnOk result
-        (NotesOut (right_steps P.spent P.steps P.stop_steps machine.now) machine.now
+        (NotesOut (right_steps P.rules machine.now) machine.now
         (record { «module» = id; jammed = jammed })
         (state_seen now schedule.old.plans lines.old outs.old) planner.old notes.old.items
         (state_seen now schedule.new.plans lines.new outs.new) planner.new notes.new.items) }
     ensures stopped { result ≡ Err Halt.Stopped
-        → NotesStoppedOut (right_steps P.spent P.steps P.stop_steps machine.now) machine.now
+        → NotesStoppedOut (right_steps P.rules machine.now) machine.now
         (record { «module» = id; jammed = jammed })
         (state_seen now schedule.old.plans lines.old outs.old) planner.old notes.old.items
         planner.new notes.new.items }

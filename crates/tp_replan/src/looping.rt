@@ -35,11 +35,11 @@ fn answer_loose<P: Planner>(
     requires can { CanLoop machine.now (seen state.old) }
     requires is_due { next_ask machine.now (seen state.old) ≡ Some ask.now }
     ensures answered { OnOk result
-        (IsAnswered (right_steps P.spent P.steps P.stop_steps machine.now) machine.now
+        (IsAnswered (right_steps P.rules machine.now) machine.now
         (seen state.old) planner.old notes.old.items
         (seen state.new) planner.new notes.new.items) }
     ensures stopped { result ≡ Err Halt.Stopped → Stays notes.old.items notes.new.items
-        (P.stop_steps planner.old machine.now state.old.schedule.plans (asking ask.entry.now)
+        (P.rules.stop_steps planner.old machine.now state.old.schedule.plans (asking ask.entry.now)
         planner.new) }
     ensures stops_only { IfErr result (StopsOnlyWhere (P.stops planner.old) (P.stops planner.new)) }
     ensures counted { P.stops planner.old ≤ P.stops planner.new }
@@ -77,12 +77,12 @@ pub(crate) fn run_loop<P: Planner>(
     requires served { P.serves planner.old machine.now }
     requires can { CanLoop machine.now (seen state.old) }
     ensures in_loop { OnOk result
-        (IsInLoop (right_steps P.spent P.steps P.stop_steps machine.now) machine.now
+        (IsInLoop (right_steps P.rules machine.now) machine.now
         (seen state.old) planner.old notes.old.items
         (seen state.new) planner.new notes.new.items) }
     ensures none { OnOk result (next_ask machine.now (seen state.new) ≡ None) }
     ensures stopped { result ≡ Err Halt.Stopped
-        → NotesStop (right_steps P.spent P.steps P.stop_steps machine.now) machine.now
+        → NotesStop (right_steps P.rules machine.now) machine.now
         (seen state.old) planner.old notes.old.items planner.new notes.new.items }
     ensures stops_only { IfErr result (StopsOnlyWhere (P.stops planner.old) (P.stops planner.new)) }
     ensures counted { P.stops planner.old ≤ P.stops planner.new }
@@ -107,7 +107,7 @@ pub(crate) fn settle<P: Planner>(
     requires served { P.serves planner.old machine.now }
     requires can { CanSettle machine.now state.old.moment state.old.schedule.plans }
     ensures settled { OnOk result
-        ((right_steps P.spent P.steps P.stop_steps machine.now).does planner.old
+        ((right_steps P.rules machine.now).does planner.old
         state.old.schedule.plans (settled state.old.moment)
         state.new.schedule.plans planner.new) }
     ensures state { OnOk result (seen state.new
@@ -115,7 +115,7 @@ pub(crate) fn settle<P: Planner>(
     ensures told { OnOk result (notes.new.items
         ≡ notes.old.items ++ moves state.old.schedule.plans state.new.schedule.plans) }
     ensures stopped { result ≡ Err Halt.Stopped → Stays notes.old.items notes.new.items
-        (P.stop_steps planner.old machine.now state.old.schedule.plans
+        (P.rules.stop_steps planner.old machine.now state.old.schedule.plans
         (settling state.old.moment) planner.new) }
     ensures stops_only { IfErr result (StopsOnlyWhere (P.stops planner.old) (P.stops planner.new)) }
     ensures counted { P.stops planner.old ≤ P.stops planner.new }

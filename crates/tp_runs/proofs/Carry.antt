@@ -8,9 +8,8 @@ use Rattle.tp_bounds.specs.declared.tree.BoundTree.{BoundTree}
 use Rattle.tp_machine.specs.declared.machine.Machine.{Machine}
 use Rattle.tp_jobs.specs.Backlogs.{tray_of}
 use Rattle.tp_jobs.specs.declared.parts.WaitingCopy.{WaitingCopy}
-use Rattle.tp_schedule.specs.Planning.{Deed, Due}
+use Rattle.tp_schedule.specs.Planning.{Deed, PlannerRules}
 use Rattle.tp_schedule.specs.Planning.Deed.{replied, settled}
-use Rattle.tp_schedule.specs.declared.parts.Ask.{Ask}
 use Rattle.tp_schedule.specs.declared.parts.Reply.TheVariants.{Planned, Never, Spent}
 use Rattle.tp_turn.specs.Logs.{TakesTrees, right_answers}
 use Rattle.tp_schedule.specs.declared.parts.Plan.{Plan}
@@ -136,24 +135,23 @@ module _ {P Q : Type 0} (one : PlannerSteps P) (other : PlannerSteps Q) (Fit : P
   live-turn (On name) s s' records p p' fit h = turn (On name) s s' records p p' fit h
   live-turn (Refill name count) s s' records p p' fit h = turn (Refill name count) s s' records p p' fit h
 
-module _ {P : Type 0} (spent : P → Machine → List Plan → Ask → ℕ → Type 0) (steps : P → Machine → List Plan → Deed → List Plan → P → Type 0)
-    (stops : P → Machine → List Plan → Due → P → Type 0) (machine : Machine) where
+module _ {P : Type 0} (rules : PlannerRules P) (machine : Machine) where
   -- a planner that answers rightly, with its own number of nodes and its own trees, gives right answers
-  pub right_turns : RightTurns spent steps stops machine
+  pub right_turns : RightTurns rules machine
   right_turns nodes bounds trees keeps shows event s s' records p p' empty h =
-      let (same, back) = turn (right_steps spent steps stops machine) (right_answers tree_claims (bounds p) (spent_by (nodes p)) machine) (λ x. (nodes x ≡ nodes p) × (bounds x ≡ bounds p))
+      let (same, back) = turn (right_steps rules machine) (right_answers tree_claims (bounds p) (spent_by (nodes p)) machine) (λ x. (nodes x ≡ nodes p) × (bounds x ≡ bounds p))
       (λ x q. trees p' ≡ trees x ++ q) machine carry event s s' records p p' (refl, refl) h in
       let (q, told, all) = back [] (sym (append-nil (trees p'))) in
       let is : q ≡ trees p' = sym (all ∙ ap (λ ts. ts ++ q) empty) in
       (subst (λ q. Turn (right_answers tree_claims (bounds p) (spent_by (nodes p)) machine) machine event s q records s' []) is told, same.0)
     where
-      right : (x : P) (plans plans' : List Plan) (deed : Deed) → nodes x ≡ nodes p → IsRight (spent x) machine plans deed plans' → IsRight (spent_by (nodes p)) machine plans deed plans'
+      right : (x : P) (plans plans' : List Plan) (deed : Deed) → nodes x ≡ nodes p → IsRight (rules.spent x) machine plans deed plans' → IsRight (spent_by (nodes p)) machine plans deed plans'
       right x plans plans' (replied ask Planned) e k = k
       right x plans plans' (replied ask Never) e k = k
       right x plans plans' (replied ask (Spent bound)) e k = (k.0, subst (λ n. spent_by n machine plans ask bound) e (keeps.counted x plans ask bound k.1))
       right x plans plans' (settled now) e k = k
 
-      carry : DeedsCarry (right_steps spent steps stops machine) (right_answers tree_claims (bounds p) (spent_by (nodes p)) machine) (λ x. (nodes x ≡ nodes p) × (bounds x ≡ bounds p)) (λ x q. trees p' ≡ trees x ++ q)
+      carry : DeedsCarry (right_steps rules machine) (right_answers tree_claims (bounds p) (spent_by (nodes p)) machine) (λ x. (nodes x ≡ nodes p) × (bounds x ≡ bounds p)) (λ x q. trees p' ≡ trees x ++ q)
       carry x x' plans plans' deed of_turn (e, b) (r, step) = (
         (keeps.same x x' plans plans' deed step ∙ e, shows.same x x' plans plans' deed step ∙ b),
         λ q' all. (let (now, takes, grows) = shows.shown x x' plans plans' deed step q' in
@@ -161,16 +159,16 @@ module _ {P : Type 0} (spent : P → Machine → List Plan → Ask → ℕ → T
       )
 
   -- each tree of a turn is a bound tree of its ask, so that it has lines
-  pub trees-have_lines : TreesHaveLines spent steps stops machine
+  pub trees-have_lines : TreesHaveLines rules machine
   trees-have_lines bounds trees shows event s s' records p p' empty h =
-      let (same, back) = live-turn (right_steps spent steps stops machine) anyone (λ x. Unit {0}) (λ x q. (trees p' ≡ trees x ++ q) × All IsPrintable q) machine carry event s s' records p p' tt h in
+      let (same, back) = live-turn (right_steps rules machine) anyone (λ x. Unit {0}) (λ x q. (trees p' ≡ trees x ++ q) × All IsPrintable q) machine carry event s s' records p p' tt h in
       let (q, told, (all, lines)) = back [] (sym (append-nil (trees p')), All-nil IsPrintable) in
       subst (All IsPrintable) (sym (all ∙ ap (λ ts. ts ++ q) empty)) lines
     where
       anyone : PlannerSteps (List BoundTree)
       anyone = record { does = λ trees plans deed plans' trees'. Unit {0}; stops = λ trees plans what trees'. ⊥ }
 
-      carry : DeedsCarry (right_steps spent steps stops machine) anyone (λ x. Unit {0}) (λ x q. (trees p' ≡ trees x ++ q) × All IsPrintable q)
+      carry : DeedsCarry (right_steps rules machine) anyone (λ x. Unit {0}) (λ x q. (trees p' ≡ trees x ++ q) × All IsPrintable q)
       carry x x' plans plans' deed of_turn fit (r, step) = (
         tt,
         λ q' good. (let (now, takes, grows) = shows.shown x x' plans plans' deed step q' in

@@ -2,9 +2,7 @@
 use Rattle.std.proofs.Common.{◌≡◌, ℕ, Bool, List, [], refl, sym, subst, IsTrue}
 use Rattle.tp_bounds.specs.declared.tree.BoundTree.{BoundTree}
 use Rattle.tp_machine.specs.declared.machine.Machine.{Machine}
-use Rattle.tp_schedule.specs.Planning.{Deed, Due}
-use Rattle.tp_schedule.specs.declared.parts.Ask.{Ask}
-use Rattle.tp_schedule.specs.declared.parts.Plan.{Plan}
+use Rattle.tp_schedule.specs.Planning.{PlannerRules}
 use Rattle.tp_schedule.specs.declared.records.Record.{Record}
 use Rattle.tp_script.specs.declared.event.Event.{Event}
 use Rattle.tp_script.specs.declared.event.Event.TheVariants.{Bad, Job as NewJob, Clock, Jam, Off, On, Refill}
@@ -21,30 +19,29 @@ use Rattle.tp_runs.specs.Wholes.{HasWholeTurn, IsWhole, TurnsOnWhole}
 use Rattle.tp_runs.proofs.Carry.{right_turns}
 use Rattle.tp_runs.proofs.ThroughTurns.{through-turn}
 
-module _ {P : Type 0} (spent : P → Machine → List Plan → Ask → ℕ → Type 0) (steps : P → Machine → List Plan → Deed → List Plan → P → Type 0)
-    (stops : P → Machine → List Plan → Due → P → Type 0) (machine : Machine) where
+module _ {P : Type 0} (rules : PlannerRules P) (machine : Machine) where
   abbrev right : PlannerSteps P
-  right = right_steps spent steps stops machine
+  right = right_steps rules machine
 
   -- a turn on the whole state is one of right answers, and keeps what it kept
-  on-whole : (nodes : P → ℕ) (bounds : P → Bool) (trees : P → List BoundTree) → KeepsNodes spent steps stops machine nodes → ShowsTrees spent steps stops machine bounds trees → (event : Event) (whole whole' s s' : SessionState) (records : List Record) (p p' : P)
+  on-whole : (nodes : P → ℕ) (bounds : P → Bool) (trees : P → List BoundTree) → KeepsNodes rules machine nodes → ShowsTrees rules machine bounds trees → (event : Event) (whole whole' s s' : SessionState) (records : List Record) (p p' : P)
       → IsWhole machine whole s → trees p ≡ [] → Turn right machine event whole p records whole' p' → live_part machine whole' ≡ s'
       → HasWholeTurn machine (nodes p) (bounds p) event whole records (trees p') s' × (nodes p' ≡ nodes p)
   on-whole nodes bounds trees keeps shows event whole whole' s s' records p p' w empty turn live =
-      let (told, same) = right_turns spent steps stops machine nodes bounds trees keeps shows event whole whole' records p p' empty turn in (
+      let (told, same) = right_turns rules machine nodes bounds trees keeps shows event whole whole' records p p' empty turn in (
         (
           whole',
           told,
           record {
-            through = through-turn right machine spent (λ p plans deed plans' p' does. does.0) event whole p records whole' p' tt turn w.through;
+            through = through-turn right machine rules.spent (λ p plans deed plans' p' does. does.0) event whole p records whole' p' tt turn w.through;
             live = live;
           },
         ),
         same,
       )
 
-  module _ (nodes : P → ℕ) (bounds : P → Bool) (trees : P → List BoundTree) (alone : AnswersAlone right machine nodes) (settles : SettlesRightly right machine) (keeps : KeepsNodes spent steps stops machine nodes)
-      (shows : ShowsTrees spent steps stops machine bounds trees)
+  module _ (nodes : P → ℕ) (bounds : P → Bool) (trees : P → List BoundTree) (alone : AnswersAlone right machine nodes) (settles : SettlesRightly right machine) (keeps : KeepsNodes rules machine nodes)
+      (shows : ShowsTrees rules machine bounds trees)
       (whole s s' : SessionState) (records : List Record) (p p' : P) (w : IsWhole machine whole s) (empty : trees p ≡ []) where
     quiet : (event : Event) → IsNoOutage event → IsNoClock event → Turn right machine event s p records s' p' → HasWholeTurn machine (nodes p) (bounds p) event whole records (trees p') s' × (nodes p' ≡ nodes p)
     quiet event no_outage no_clock turn =
@@ -70,5 +67,5 @@ module _ {P : Type 0} (spent : P → Machine → List Plan → Ask → ℕ → T
     by-event (On name) turn = quiet (On name) refl refl turn
     by-event (Refill name count) turn = quiet (Refill name count) refl refl turn
 
-  pub turns-on_whole : TurnsOnWhole spent steps stops machine
+  pub turns-on_whole : TurnsOnWhole rules machine
   turns-on_whole nodes bounds trees alone settles keeps shows event whole s s' records p p' w empty turn = by-event nodes bounds trees alone settles keeps shows whole s s' records p p' w empty event turn

@@ -3,7 +3,7 @@ use Rattle.std.specs.Prelude.{◌≡◌, ℕ, Bool, true, false, ◌||◌, List,
 use Rattle.tp_bounds.specs.Trees.{IsPrintable}
 use Rattle.tp_bounds.specs.declared.tree.BoundTree.{BoundTree}
 use Rattle.tp_machine.specs.declared.machine.Machine.{Machine}
-use Rattle.tp_schedule.specs.Planning.{Deed, Due}
+use Rattle.tp_schedule.specs.Planning.{Deed, Due, PlannerRules}
 use Rattle.tp_schedule.specs.Planning.Deed.{replied, settled}
 use Rattle.tp_schedule.specs.declared.parts.Ask.{Ask}
 use Rattle.tp_schedule.specs.declared.parts.Origin.{Origin}
@@ -34,27 +34,26 @@ abbrev pub DeedsCarry : {P Q : Type 0} → PlannerSteps P → PlannerSteps Q →
 DeedsCarry {P} {Q} one other Fit Together = (p p' : P) (plans plans' : List Plan) (deed : Deed) → IsOfTurn deed → Fit p → one.does p plans deed plans' p'
     → Fit p' × ((q' : Q) → Together p' q' → (q : Q) × other.does q plans deed plans' q' × Together p q)
 
-module _ {P : Type 0} (spent : P → Machine → List Plan → Ask → ℕ → Type 0) (steps : P → Machine → List Plan → Deed → List Plan → P → Type 0)
-    (stops : P → Machine → List Plan → Due → P → Type 0) (machine : Machine) where
+module _ {P : Type 0} (rules : PlannerRules P) (machine : Machine) where
   -- the planner stores so many lists of choices, and no deed changes their number
   pub record KeepsNodes (nodes : P → ℕ) : Type 0 where
-    pub counted : (p : P) (plans : List Plan) (ask : Ask) (bound : ℕ) → spent p machine plans ask bound → spent_by (nodes p) machine plans ask bound
-    pub same : (p p' : P) (plans plans' : List Plan) (deed : Deed) → steps p machine plans deed plans' p' → nodes p' ≡ nodes p
+    pub counted : (p : P) (plans : List Plan) (ask : Ask) (bound : ℕ) → rules.spent p machine plans ask bound → spent_by (nodes p) machine plans ask bound
+    pub same : (p p' : P) (plans plans' : List Plan) (deed : Deed) → rules.steps p machine plans deed plans' p' → nodes p' ≡ nodes p
 
   -- the planner shows bounds or doesn't, and its list of trees grows at the end by those that its deed takes
   pub record ShowsTrees (bounds : P → Bool) (trees : P → List BoundTree) : Type 0 where
-    pub shown : (p p' : P) (plans plans' : List Plan) (deed : Deed) → steps p machine plans deed plans' p' → (later : List BoundTree)
+    pub shown : (p p' : P) (plans plans' : List Plan) (deed : Deed) → rules.steps p machine plans deed plans' p' → (later : List BoundTree)
         → (now : List BoundTree) × TakesTrees tree_claims machine (bounds p) now plans deed plans' later × (trees p' ++ later ≡ trees p ++ now)
-    pub same : (p p' : P) (plans plans' : List Plan) (deed : Deed) → steps p machine plans deed plans' p' → bounds p' ≡ bounds p
+    pub same : (p p' : P) (plans plans' : List Plan) (deed : Deed) → rules.steps p machine plans deed plans' p' → bounds p' ≡ bounds p
 
   -- its turns are turns of right answers with that number, and with the trees of its list, where that was empty
   abbrev pub RightTurns : Type 0
   RightTurns = (nodes : P → ℕ) (bounds : P → Bool) (trees : P → List BoundTree) → KeepsNodes nodes → ShowsTrees bounds trees
       → (event : Event) (s s' : SessionState) (records : List Record) (p p' : P) → trees p ≡ []
-      → Turn (right_steps spent steps stops machine) machine event s p records s' p' → TurnOf machine (nodes p) (bounds p) event s records (trees p') s' × (nodes p' ≡ nodes p)
+      → Turn (right_steps rules machine) machine event s p records s' p' → TurnOf machine (nodes p) (bounds p) event s records (trees p') s' × (nodes p' ≡ nodes p)
 
   -- each tree of a turn on a live state has lines
   abbrev pub TreesHaveLines : Type 0
   TreesHaveLines = (bounds : P → Bool) (trees : P → List BoundTree) → ShowsTrees bounds trees
       → (event : Event) (s s' : SessionState) (records : List Record) (p p' : P) → trees p ≡ []
-      → LiveTurn (right_steps spent steps stops machine) machine event s p records s' p' → All IsPrintable (trees p')
+      → LiveTurn (right_steps rules machine) machine event s p records s' p' → All IsPrintable (trees p')

@@ -3,7 +3,7 @@ use Rattle.std.specs.Prelude.{◌≡◌, ℕ, Bool, List, []}
 use Rattle.std.specs.List.{All, filter_map}
 use Rattle.tp_bounds.specs.declared.tree.BoundTree.{BoundTree}
 use Rattle.tp_machine.specs.declared.machine.Machine.{Machine}
-use Rattle.tp_schedule.specs.Planning.{Deed, Due}
+use Rattle.tp_schedule.specs.Planning.{Deed, Due, PlannerRules}
 use Rattle.tp_schedule.specs.declared.parts.Ask.{Ask}
 use Rattle.tp_schedule.specs.declared.parts.Plan.{Plan}
 use Rattle.tp_schedule.specs.declared.records.Record.{Record}
@@ -60,11 +60,10 @@ LinesAreLawful machine nodes bounds = (lines : List (List ℕ)) (text : List ℕ
 
 -- a planner that looks at schedules through its deeds alone, and whose number of nodes never changes, takes turns on the
 -- live part that are turns of right answers on every whole state behind it, with its trees
-module _ {P : Type 0} (spent : P → Machine → List Plan → Ask → ℕ → Type 0) (steps : P → Machine → List Plan → Deed → List Plan → P → Type 0)
-    (stops : P → Machine → List Plan → Due → P → Type 0) (machine : Machine) where
+module _ {P : Type 0} (rules : PlannerRules P) (machine : Machine) where
   abbrev pub TurnsOnWhole : Type 0
-  TurnsOnWhole = (nodes : P → ℕ) (bounds : P → Bool) (trees : P → List BoundTree) → AnswersAlone (right_steps spent steps stops machine) machine nodes
-      → SettlesRightly (right_steps spent steps stops machine) machine → KeepsNodes spent steps stops machine nodes → ShowsTrees spent steps stops machine bounds trees
+  TurnsOnWhole = (nodes : P → ℕ) (bounds : P → Bool) (trees : P → List BoundTree) → AnswersAlone (right_steps rules machine) machine nodes
+      → SettlesRightly (right_steps rules machine) machine → KeepsNodes rules machine nodes → ShowsTrees rules machine bounds trees
       → (event : Event) (whole s s' : SessionState) (records : List Record) (p p' : P) → IsWhole machine whole s → trees p ≡ []
-      → LiveTurn (right_steps spent steps stops machine) machine event s p records s' p'
+      → LiveTurn (right_steps rules machine) machine event s p records s' p'
       → HasWholeTurn machine (nodes p) (bounds p) event whole records (trees p') s' × (nodes p' ≡ nodes p)

@@ -16,27 +16,27 @@ use tp_schedule::Planner;
 /// The turns of a planner that answers rightly, and whose number of nodes never changes, are turns of right answers with
 /// that budget, and with bounds its trees prove them.
 pub fn right_planners_turn_rightly<P: Planner>()
-    ensures { (machine : Machine) → RightTurns P.spent P.steps P.stop_steps machine }
+    ensures { (machine : Machine) → RightTurns P.rules machine }
 {}
 
 /// A turn on the live part of a state is one of right answers on every whole state behind it, and what it leaves is the live
 /// part of the whole state that follows.
 pub fn live_turns_are_whole<P: Planner>()
-    ensures { (machine : Machine) → TurnsOnWhole P.spent P.steps P.stop_steps machine }
+    ensures { (machine : Machine) → TurnsOnWhole P.rules machine }
 {}
 
 /// Each record of a turn has a line, whatever the state and the event: a plan that is told has an action and one point more
 /// than actions, and a move has at least two points.
 pub fn turns_have_lines<P: Planner>()
     ensures whole { (machine : Machine)
-        → TurnsHaveLines (right_steps P.spent P.steps P.stop_steps machine) machine }
+        → TurnsHaveLines (right_steps P.rules machine) machine }
     ensures live { (machine : Machine)
-        → LiveTurnsHaveLines (right_steps P.spent P.steps P.stop_steps machine) machine }
+        → LiveTurnsHaveLines (right_steps P.rules machine) machine }
 {}
 
 /// Each tree that a planner shows in a turn on a live state has a line, and none of its loops is without hops.
 pub fn shown_trees_have_lines<P: Planner>()
-    ensures { (machine : Machine) → TreesHaveLines P.spent P.steps P.stop_steps machine }
+    ensures { (machine : Machine) → TreesHaveLines P.rules machine }
 {}
 
 /// Where events are answered from a live state on, each by a turn on every whole state behind it, they are answered by a run from

@@ -85,6 +85,13 @@ pub data Deed : Type 0 where
   replied : Ask → Reply → Deed
   settled : ℕ → Deed
 
+-- what the calls of a planner say beyond their answers: what a Spent says of machine, schedule, ask and bound; how a call that
+-- did this, with the schedules before and after it, leads on to the next planner; and how it stops where this is due on the schedule
+pub record PlannerRules (P : Type 0) : Type 1 where
+  pub spent : P → Machine → List Plan → Ask → ℕ → Type 0
+  pub steps : P → Machine → List Plan → Deed → List Plan → P → Type 0
+  pub stop_steps : P → Machine → List Plan → Due → P → Type 0
+
 -- where a count stays for good
 abbrev pub last_count : ℕ
 last_count = 18446744073709551615

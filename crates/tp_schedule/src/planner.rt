@@ -3,7 +3,7 @@ ghost use Rattle.std.specs.Prelude.{◌≡◌, ◌≤◌, ℕ, List, IfOk, OnOk,
 ghost use Rattle.tp_machine.specs.declared.machine.Machine.{Machine};
 ghost use Rattle.tp_schedule.specs.declared.parts.Ask.{Ask};
 ghost use Rattle.tp_schedule.specs.declared.parts.Plan.{Plan};
-ghost use Rattle.tp_schedule.specs.Planning.{CanAsk, CanSettle, Deed, Due, IsAnswer, IsSettled, StopsOnlyWhere};
+ghost use Rattle.tp_schedule.specs.Planning.{CanAsk, CanSettle, Deed, Due, IsAnswer, IsSettled, PlannerRules, StopsOnlyWhere};
 ghost use Rattle.tp_schedule.specs.Planning.Deed.{replied, settled};
 ghost use Rattle.tp_schedule.specs.Planning.Due.{asking, settling};
 
@@ -22,23 +22,19 @@ pub trait Planner {
     ghost lasting: { Self → Lasting };
     // how often it stopped
     ghost stops: { Self → ℕ };
-    // what a Spent says of machine, schedule, ask and bound
-    ghost spent: { Self → Machine → List Plan → Ask → ℕ → Type 0 };
-    // how a call that did this, with the schedules before and after it, leads on to the next planner
-    ghost steps: { Self → Machine → List Plan → Deed → List Plan → Self → Type 0 };
-    // how it stops where this is due on the schedule
-    ghost stop_steps: { Self → Machine → List Plan → Due → Self → Type 0 };
+    // what a Spent says, how a call leads on to the next planner, and how it stops
+    ghost rules: { PlannerRules Self };
 
     fn ask(&mut self, machine: &Machine, schedule: &mut Schedule, ask: &Ask) -> Result<Reply, Halt>
         requires served { serves self.old machine.now }
         requires can_ask { CanAsk machine.now schedule.old.plans ask.now }
         ensures answer { IfOk result (λ reply.
-            IsAnswer (spent self.old) machine.now schedule.old.plans ask.entry.now reply
+            IsAnswer (rules.spent self.old) machine.now schedule.old.plans ask.entry.now reply
             schedule.new.plans) }
         ensures step { IfOk result (λ reply.
-            steps self.old machine.now schedule.old.plans (replied ask.entry.now reply)
+            rules.steps self.old machine.now schedule.old.plans (replied ask.entry.now reply)
             schedule.new.plans self.new) }
-        ensures stopped { result ≡ Err Halt.Stopped → stop_steps self.old machine.now
+        ensures stopped { result ≡ Err Halt.Stopped → rules.stop_steps self.old machine.now
             schedule.old.plans (asking ask.entry.now) self.new }
         ensures stops_only { IfErr result (StopsOnlyWhere (stops self.old) (stops self.new)) }
         ensures counted { stops self.old ≤ stops self.new }
@@ -50,9 +46,10 @@ pub trait Planner {
         requires can_settle { CanSettle machine.now now schedule.old.plans }
         ensures settles { OnOk result (IsSettled machine.now now schedule.old.plans
             schedule.new.plans) }
-        ensures step { OnOk result (steps self.old machine.now schedule.old.plans (settled now)
+        ensures step { OnOk result (
+            rules.steps self.old machine.now schedule.old.plans (settled now)
             schedule.new.plans self.new) }
-        ensures stopped { result ≡ Err Halt.Stopped → stop_steps self.old machine.now
+        ensures stopped { result ≡ Err Halt.Stopped → rules.stop_steps self.old machine.now
             schedule.old.plans (settling now) self.new }
         ensures stops_only { IfErr result (StopsOnlyWhere (stops self.old) (stops self.new)) }
         ensures counted { stops self.old ≤ stops self.new }

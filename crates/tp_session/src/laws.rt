@@ -18,16 +18,12 @@ use tp_sound::{empty_state_is_sound, kept_states_stand_soundly};
 /// number of nodes.
 pub fn engines_answer_alone<N: Network>()
     ensures alone { (machine : Machine) → AnswersAlone
-        (right_steps ⟦<Engine<N> as Planner>⟧.spent ⟦<Engine<N> as Planner>⟧.steps
-        ⟦<Engine<N> as Planner>⟧.stop_steps machine) machine (λ e. e.work.nodes) }
+        (right_steps ⟦<Engine<N> as Planner>⟧.rules machine) machine (λ e. e.work.nodes) }
     ensures settles { (machine : Machine) → SettlesRightly
-        (right_steps ⟦<Engine<N> as Planner>⟧.spent ⟦<Engine<N> as Planner>⟧.steps
-        ⟦<Engine<N> as Planner>⟧.stop_steps machine) machine }
-    ensures nodes { (machine : Machine) → KeepsNodes ⟦<Engine<N> as Planner>⟧.spent
-        ⟦<Engine<N> as Planner>⟧.steps ⟦<Engine<N> as Planner>⟧.stop_steps machine
+        (right_steps ⟦<Engine<N> as Planner>⟧.rules machine) machine }
+    ensures nodes { (machine : Machine) → KeepsNodes ⟦<Engine<N> as Planner>⟧.rules machine
         (λ e. e.work.nodes) }
-    ensures shows { (machine : Machine) → ShowsTrees ⟦<Engine<N> as Planner>⟧.spent
-        ⟦<Engine<N> as Planner>⟧.steps ⟦<Engine<N> as Planner>⟧.stop_steps machine
+    ensures shows { (machine : Machine) → ShowsTrees ⟦<Engine<N> as Planner>⟧.rules machine
         (λ e. e.bounds) (λ e. e.trees) }
 {}
 

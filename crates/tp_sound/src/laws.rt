@@ -19,7 +19,7 @@ pub fn empty_state_is_sound()
 /// The turn of any event keeps modules, plans, waiting copies and stock as they may be saved, whatever planner gives right answers.
 pub fn turns_keep_sound<P: Planner>()
     ensures { (machine : Machine) → KeepsSoundInTurns
-        (right_steps P.spent P.steps P.stop_steps machine) machine }
+        (right_steps P.rules machine) machine }
 {}
 
 /// A live state that can be saved stands where it is sound to go on from, and what is told of that is the state itself.

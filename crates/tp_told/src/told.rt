@@ -153,11 +153,11 @@ impl Planner for Told {
 
     ghost stops = { λ p. p.stops };
 
-    ghost spent = { λ p. spent_on_trust };
-
-    ghost steps = { λ p machine plans deed plans' p'. TakesOn p machine plans deed plans' p' };
-
-    ghost stop_steps = { λ p machine plans due p'. StopsAt p machine plans due p' };
+    ghost rules = { record {
+      spent = λ p. spent_on_trust;
+      steps = λ p machine plans deed plans' p'. TakesOn p machine plans deed plans' p';
+      stop_steps = λ p machine plans due p'. StopsAt p machine plans due p';
+    } };
 
     /// Takes the answer that the items tell. It stops where they tell none that is right.
     fn ask(&mut self, machine: &Machine, schedule: &mut Schedule, ask: &Ask) -> Result<Reply, Halt>

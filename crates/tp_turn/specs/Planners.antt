@@ -1,7 +1,7 @@
 -- The loop and the settling, over any planner. A planner is known by a relation: how its deeds lead it on, and how it stops.
 use Rattle.std.specs.Prelude.{◌≡◌, ℕ, Bool, List, [], ◌∷◌, ◌++◌, Some, None}
 use Rattle.tp_machine.specs.declared.machine.Machine.{Machine}
-use Rattle.tp_schedule.specs.Planning.{Deed, Due, IsAnswer, IsSettled}
+use Rattle.tp_schedule.specs.Planning.{Deed, Due, IsAnswer, IsSettled, PlannerRules}
 use Rattle.tp_schedule.specs.Planning.Deed.{replied, settled}
 use Rattle.tp_schedule.specs.declared.parts.Ask.{Ask}
 use Rattle.tp_schedule.specs.declared.parts.Plan.{Plan}
@@ -23,12 +23,10 @@ IsRight spent machine plans (replied ask reply) plans' = IsAnswer spent machine 
 IsRight spent machine plans (settled now) plans' = IsSettled machine now plans plans'
 
 -- a planner whose deeds are right by its own relation for a spent budget, and which keeps its own steps
-abbrev pub right_steps : {P : Type 0} → (P → Machine → List Plan → Ask → ℕ → Type 0)
-    → (P → Machine → List Plan → Deed → List Plan → P → Type 0)
-    → (P → Machine → List Plan → Due → P → Type 0) → Machine → PlannerSteps P
-right_steps spent steps stop_steps machine = record {
-  does = λ p plans deed plans' p'. IsRight (spent p) machine plans deed plans' × steps p machine plans deed plans' p';
-  stops = λ p plans what p'. stop_steps p machine plans what p';
+abbrev pub right_steps : {P : Type 0} → PlannerRules P → Machine → PlannerSteps P
+right_steps rules machine = record {
+  does = λ p plans deed plans' p'. IsRight (rules.spent p) machine plans deed plans' × rules.steps p machine plans deed plans' p';
+  stops = λ p plans what p'. rules.stop_steps p machine plans what p';
 }
 
 module _ {P : Type 0} (planner_steps : PlannerSteps P) (machine : Machine) where

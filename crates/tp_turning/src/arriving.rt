@@ -35,11 +35,11 @@ pub(crate) fn take_job<P: Planner>(
     requires stocked { KeepsStock machine.now last_copy (seen state.old) }
     requires groups { length order.now.groups.now < 2 ^ 32 }
     ensures turn { OnOk result (
-        NotesEvent (right_steps P.spent P.steps P.stop_steps machine.now) machine.now
+        NotesEvent (right_steps P.rules machine.now) machine.now
         (NewJob order.now.name order.now.tray order.now.media order.now.groups.now)
         (seen state.old) planner.old notes.old.items (seen state.new) planner.new notes.new.items) }
     ensures stopped { result ≡ Err Stopped →
-        NotesEventStop (right_steps P.spent P.steps P.stop_steps machine.now) machine.now
+        NotesEventStop (right_steps P.rules machine.now) machine.now
         (NewJob order.now.name order.now.tray order.now.media order.now.groups.now)
         (seen state.old) planner.old notes.old.items planner.new notes.new.items }
     ensures kept { OnOk result ((copies : ℕ) → CanTakeEvents machine.now copies (seen state.old)

@@ -58,12 +58,12 @@ fn ask_planner<P: Planner>(
     requires served { P.serves planner.old machine.now }
     requires can_ask { CanAsk machine.now schedule.old.plans ask.now }
     ensures answers { IfOk result (λ reply.
-        (right_steps P.spent P.steps P.stop_steps machine.now).does planner.old schedule.old.plans
+        (right_steps P.rules machine.now).does planner.old schedule.old.plans
         (replied ask.entry.now reply) schedule.new.plans planner.new) }
     ensures told { IfOk result (λ reply. notes.new.items ≡ notes.old.items
         ++ told_of_reply machine.now schedule.old.plans ask.entry.now reply schedule.new.plans) }
     ensures stopped { result ≡ Err Stopped → (notes.new.items ≡ notes.old.items)
-        × P.stop_steps planner.old machine.now schedule.old.plans
+        × P.rules.stop_steps planner.old machine.now schedule.old.plans
         (asking ask.entry.now) planner.new }
     ensures stops_only { IfErr result (StopsOnlyWhere (P.stops planner.old) (P.stops planner.new)) }
     ensures counted { P.stops planner.old ≤ P.stops planner.new }
@@ -106,11 +106,11 @@ fn try_copy<P: Planner>(
     requires job { copy.job < length state.old.lines.jobs }
     requires bounded { IsBounded state.old.refills.0 }
     ensures tried { IfOk result (λ planned.
-        NotesTurn (right_steps P.spent P.steps P.stop_steps machine.now) machine.now copy
+        NotesTurn (right_steps P.rules machine.now) machine.now copy
         (seen state.old) planner.old notes.old.items planned
         (seen state.new) planner.new notes.new.items) }
     ensures stopped { result ≡ Err Stopped →
-        StopsAtCopy (right_steps P.spent P.steps P.stop_steps machine.now) machine.now copy
+        StopsAtCopy (right_steps P.rules machine.now) machine.now copy
         (seen state.old) planner.old notes.old.items planner.new notes.new.items }
     ensures stops_only { IfErr result (StopsOnlyWhere (P.stops planner.old) (P.stops planner.new)) }
     ensures counted { P.stops planner.old ≤ P.stops planner.new }
@@ -151,10 +151,10 @@ pub(crate) fn ask_waiting<P: Planner>(
     requires can { KeepsLive machine.now (last_copy + 1) (seen state.old) }
     requires bounded { IsBounded state.old.refills.0 }
     ensures asks { OnOk result (
-        NotesAsks (right_steps P.spent P.steps P.stop_steps machine.now) machine.now
+        NotesAsks (right_steps P.rules machine.now) machine.now
         (seen state.old) planner.old notes.old.items (seen state.new) planner.new notes.new.items) }
     ensures stopped { result ≡ Err Stopped →
-        NotesStop (right_steps P.spent P.steps P.stop_steps machine.now) machine.now
+        NotesStop (right_steps P.rules machine.now) machine.now
         (seen state.old) planner.old notes.old.items planner.new notes.new.items }
     ensures kept { OnOk result ((copies : ℕ) → CanTakeEvents machine.now copies (seen state.old)
         → CanTakeEvents machine.now copies (seen state.new)) }

@@ -18,5 +18,5 @@ pub fn empty_state_can_begin()
 /// right answers.
 pub fn turns_keep_stock<P: Planner>()
     ensures { (machine : Machine) → KeepsStockInTurns
-        (right_steps P.spent P.steps P.stop_steps machine) machine }
+        (right_steps P.rules machine) machine }
 {}

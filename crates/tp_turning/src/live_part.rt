@@ -27,18 +27,18 @@ pub fn live_answers_hold()
 /// alone.
 pub fn live_asks_hold<P: Planner>()
     ensures { (machine : Machine)
-        → LiveAsksHold (right_steps P.spent P.steps P.stop_steps machine) machine }
+        → LiveAsksHold (right_steps P.rules machine) machine }
 {}
 
 /// A turn on the live part is one on the whole state: of a job, of a module that comes back, of a line off the grammar, of a
 /// module that goes out, and of the clock, which leaves only what is still live before the copies that wait are asked.
 pub fn live_turns_hold<P: Planner>()
     ensures turns { (machine : Machine)
-        → LiveTurnsHold (right_steps P.spent P.steps P.stop_steps machine) machine }
+        → LiveTurnsHold (right_steps P.rules machine) machine }
     ensures outages { (machine : Machine)
-        → LiveOutagesHold (right_steps P.spent P.steps P.stop_steps machine) machine }
+        → LiveOutagesHold (right_steps P.rules machine) machine }
     ensures clock { (machine : Machine)
-        → LiveClockHolds (right_steps P.spent P.steps P.stop_steps machine) machine }
+        → LiveClockHolds (right_steps P.rules machine) machine }
 {}
 
 /// A right answer on the whole schedule is one on its live part. So are settled times.
@@ -51,7 +51,7 @@ pub fn whole_answers_hold()
 /// And back: a turn on the whole state is one on its live part, with the same records, and the live part of what it leaves.
 pub fn whole_turns_hold<P: Planner>()
     ensures turns { (machine : Machine)
-        → WholeTurnsHold (right_steps P.spent P.steps P.stop_steps machine) machine P.spent }
+        → WholeTurnsHold (right_steps P.rules machine) machine P.rules.spent }
     ensures clock { (machine : Machine)
-        → WholeClockHolds (right_steps P.spent P.steps P.stop_steps machine) machine P.spent }
+        → WholeClockHolds (right_steps P.rules machine) machine P.rules.spent }
 {}

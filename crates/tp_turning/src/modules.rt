@@ -38,10 +38,10 @@ pub(crate) fn take_out<P: Planner>(
     requires stocked { KeepsStock machine.now last_copy (seen state.old) }
     requires goes_out { IsTrue (is_outage event.now) }
     ensures turn { OnOk result (
-        NotesEvent (right_steps P.spent P.steps P.stop_steps machine.now) machine.now event.now
+        NotesEvent (right_steps P.rules machine.now) machine.now event.now
         (seen state.old) planner.old notes.old.items (seen state.new) planner.new notes.new.items) }
     ensures stopped { result ≡ Err Stopped →
-        NotesEventStop (right_steps P.spent P.steps P.stop_steps machine.now) machine.now event.now
+        NotesEventStop (right_steps P.rules machine.now) machine.now event.now
         (seen state.old) planner.old notes.old.items planner.new notes.new.items }
     ensures kept { OnOk result ((copies : ℕ) → CanTakeEvents machine.now copies (seen state.old)
         → CanTakeEvents machine.now (copies + 1) (seen state.new)) }
@@ -80,10 +80,10 @@ pub(crate) fn take_back<P: Planner>(
     requires stocked { KeepsStock machine.now last_copy (seen state.old) }
     requires comes_back { IsTrue (comes_back event.now) }
     ensures turn { OnOk result (
-        NotesEvent (right_steps P.spent P.steps P.stop_steps machine.now) machine.now event.now
+        NotesEvent (right_steps P.rules machine.now) machine.now event.now
         (seen state.old) planner.old notes.old.items (seen state.new) planner.new notes.new.items) }
     ensures stopped { result ≡ Err Stopped →
-        NotesEventStop (right_steps P.spent P.steps P.stop_steps machine.now) machine.now event.now
+        NotesEventStop (right_steps P.rules machine.now) machine.now event.now
         (seen state.old) planner.old notes.old.items planner.new notes.new.items }
     ensures kept { OnOk result ((copies : ℕ) → CanTakeEvents machine.now copies (seen state.old)
         → CanTakeEvents machine.now (copies + 1) (seen state.new)) }

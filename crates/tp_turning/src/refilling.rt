@@ -65,11 +65,11 @@ pub(crate) fn take_refill<P: Planner>(
     requires can { CanTakeEvents machine.now last_copy (seen state.old) }
     requires stocked { KeepsStock machine.now last_copy (seen state.old) }
     ensures turn { OnOk result (
-        NotesEvent (right_steps P.spent P.steps P.stop_steps machine.now) machine.now
+        NotesEvent (right_steps P.rules machine.now) machine.now
         (Refill order.now.feeder order.now.count)
         (seen state.old) planner.old notes.old.items (seen state.new) planner.new notes.new.items) }
     ensures stopped { result ≡ Err Stopped →
-        NotesEventStop (right_steps P.spent P.steps P.stop_steps machine.now) machine.now
+        NotesEventStop (right_steps P.rules machine.now) machine.now
         (Refill order.now.feeder order.now.count)
         (seen state.old) planner.old notes.old.items planner.new notes.new.items }
     ensures kept { OnOk result ((copies : ℕ) → CanTakeEvents machine.now copies (seen state.old)

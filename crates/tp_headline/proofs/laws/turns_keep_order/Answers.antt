@@ -7,4 +7,4 @@ pub returns-clause-empty : goal.returns-clause-empty
 returns-clause-empty g c machine = order-empty machine
 
 pub returns-clause-turn : goal.returns-clause-turn
-returns-clause-turn g c machine = order-turn (right_steps g.P.Planner.spent g.P.Planner.steps g.P.Planner.stop_steps machine) machine (λ p. g.P.Planner.spent p) (λ p plans deed plans' p' does. does.0)
+returns-clause-turn g c machine = order-turn (right_steps g.P.Planner.rules machine) machine (λ p. g.P.Planner.rules.spent p) (λ p plans deed plans' p' does. does.0)

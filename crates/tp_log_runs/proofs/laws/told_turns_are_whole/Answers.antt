@@ -2,4 +2,4 @@ use Rattle.tp_log_runs.proofs.Told.{turns-accepted}
 use Rattle.tp_log_runs.proofs.laws.told_turns_are_whole.Goals as goal
 
 pub returns : goal.returns
-returns g c = turns-accepted g.P.Planner.spent g.P.Planner.steps g.P.Planner.stop_steps
+returns g c = turns-accepted g.P.Planner.rules

@@ -1,19 +1,14 @@
 -- The outage, then the loop, then the settling.
 use Rattle.std.proofs.Common.{rules, ◌≡◌, ◌++◌, refl, sym, ap, ◌∙◌, append_assoc, subst}
-use Rattle.std.specs.Prelude.{List}
-use Rattle.tp_schedule.specs.declared.parts.Plan.{Plan}
 use Rattle.tp_outages.proofs.OutagesLive.{live-goes}
 use Rattle.tp_turn.specs.LiveStates.{seen}
 use Rattle.tp_turn.specs.Outages.{outage}
-use Rattle.tp_turn.specs.Planners.{GoesOut, RunsLoop, StopsInLoop, right_steps}
-use Rattle.tp_turn.specs.States.{SessionState}
-use Rattle.tp_replan.specs.Answered.{NotesOut}
+use Rattle.tp_turn.specs.Planners.{RunsLoop, StopsInLoop, right_steps}
 use Rattle.tp_replan.specs.Looping.{CanLoop}
 use Rattle.tp_replan.proofs.Beginning.{begins-loop}
 use Rattle.tp_replan.proofs.InLoop.{ends}
 use Rattle.tp_replan.proofs.OutStarts.{can-begin}
 use Rattle.tp_replan.proofs.StillOnWay.{loop-outage}
-use Rattle.tp_replan.proofs.handling.go_out.Given.{Over}
 use Rattle.tp_replan.proofs.handling.go_out.Goals as goal
 
 pub take_out-requires-clause-can : goal.take_out-requires-clause-can
@@ -32,7 +27,7 @@ pub returns-in_err-run_loop-clause-stopped : goal.returns-in_err-run_loop-clause
 returns-in_err-run_loop-clause-stopped g c = λ e.
     let m = c.args.machine.now in
     let first = outage m c.args.event.module.0 c.args.event.jammed (seen c.args.state.now) in
-    let steps = right_steps g.P.Planner.spent g.P.Planner.steps g.P.Planner.stop_steps m in
+    let steps = right_steps g.P.Planner.rules m in
     let leads = c.in-Ok.ensures.leads in
     let all = c.in_err-run_loop.ensures.stopped (search rules) in (
       first.records ++ all.0,
@@ -46,10 +41,10 @@ returns-clause-out g c =
     let first = outage m c.args.event.module.0 c.args.event.jammed (seen c.args.state.now) in
     let mid = seen c.take_out.new.state in
     let t = seen c.settle.new.state in
-    let steps = right_steps g.P.Planner.spent g.P.Planner.steps g.P.Planner.stop_steps m in
+    let steps = right_steps g.P.Planner.rules m in
     let leads = c.in-Ok.ensures.leads in
     let settled = c.in_ok-settle.ensures in
-    let all = ends steps m g.P.Planner.spent (λ p plans deed plans' p' does. does.0) mid c.args.planner.now c.take_out.new.notes.items
+    let all = ends steps m g.P.Planner.rules.spent (λ p plans deed plans' p' does. does.0) mid c.args.planner.now c.take_out.new.notes.items
     (seen c.run_loop.new.state) c.run_loop.new.planner c.run_loop.new.notes.items c.settle.new.state.schedule.plans c.settle.new.planner
     c.in_ok-run_loop.ensures.in_loop c.in_ok-run_loop.ensures.none settled.settled in (
       first.records ++ all.0,
@@ -65,7 +60,7 @@ returns-clause-out g c =
 pub returns-clause-kept : goal.returns-clause-kept
 returns-clause-kept g c = λ copies kept.
     let m = c.args.machine.now in
-    let steps = right_steps g.P.Planner.spent g.P.Planner.steps g.P.Planner.stop_steps m in
+    let steps = right_steps g.P.Planner.rules m in
     let out = returns-clause-out g c in
-    live-goes steps m g.P.Planner.spent (λ p plans deed plans' p' does. does.0) copies (seen c.args.state.now)
+    live-goes steps m g.P.Planner.rules.spent (λ p plans deed plans' p' does. does.0) copies (seen c.args.state.now)
     c.args.event.module.0 c.args.event.jammed c.args.planner.now out.0 (seen c.settle.new.state) c.settle.new.planner out.2 kept

@@ -14,7 +14,7 @@ use Rattle.tp_turn.proofs.StockTurns.{refills-goes}
 pub returns-clause-out : goal.returns-clause-out
 returns-clause-out g c =
     let m = c.args.machine.now in
-    let steps = right_steps g.P.Planner.spent g.P.Planner.steps g.P.Planner.stop_steps m in
+    let steps = right_steps g.P.Planner.rules m in
     let event : Outage = record { «module» = c.args.id; jammed = c.args.jammed } in
     let s = seen c.in-Ok.state in
     let l = c.go_out-result.new.state in
@@ -38,7 +38,7 @@ returns-clause-out g c =
 pub returns-clause-kept : goal.returns-clause-kept
 returns-clause-kept g c =
     let m = c.args.machine.now in
-    let steps = right_steps g.P.Planner.spent g.P.Planner.steps g.P.Planner.stop_steps m in
+    let steps = right_steps g.P.Planner.rules m in
     let event : Outage = record { «module» = c.args.id; jammed = c.args.jammed } in
     let s = seen c.in-Ok.state in
     let l = c.go_out-result.new.state in

@@ -1,5 +1,5 @@
 -- The ask that is due can be put, and what follows it is told and done.
-use Rattle.std.proofs.Common.{◌≡◌, [], Some, IsSomeAnd, sym, subst}
+use Rattle.std.proofs.Common.{◌≡◌, [], IsSomeAnd, sym, subst}
 use Rattle.tp_schedule.specs.Plans.{IsTimedPlan, plan_of}
 use Rattle.tp_schedule.specs.Planning.{IsAnswer}
 use Rattle.tp_schedule.specs.declared.parts.Plan.{Plan}
@@ -26,7 +26,7 @@ release-requires-clause-planned g c =
     let ask = c.args.ask.now in
     let plans' = c.ask_planner.new.schedule.plans in
     planned-timed m plans ask plans'
-    (subst (λ r. IsAnswer (g.P.Planner.spent c.args.planner.now) m plans ask r plans') c.in-Planned.is c.in_ok-ask_planner.ensures.answers.0).0.alternative
+    (subst (λ r. IsAnswer (g.P.Planner.rules.spent c.args.planner.now) m plans ask r plans') c.in-Planned.is c.in_ok-ask_planner.ensures.answers.0).0.alternative
 
 pub release-requires-clause-job : goal.release-requires-clause-job
 release-requires-clause-job g c =
@@ -37,7 +37,7 @@ not_planned-requires g c =
     let m = c.args.machine.now in
     let s = seen c.args.state.now in
     let ask = c.args.ask.now in
-    let same = sym (refused-stays (g.P.Planner.spent c.args.planner.now) m s.plans ask c.in_ok-ask_planner.field-0
+    let same = sym (refused-stays (g.P.Planner.rules.spent c.args.planner.now) m s.plans ask c.in_ok-ask_planner.field-0
     c.ask_planner.new.schedule.plans c.in_ok-ask_planner.ensures.answers.0 c.in-Never.is) in
     record {
       planned = subst (λ ps. IsSomeAnd (plan_of ask.sheet ps) (IsTimedPlan m)) same (asked-timed m s ask c.requires.can c.requires.is_due);
@@ -55,7 +55,7 @@ returns-in-Ok-clause-answered g c =
     let ask = c.args.ask.now in
     let plans = c.ask_planner.new.schedule.plans in
     let notes = c.ask_planner.new.notes.items in
-    answered-with (right_steps g.P.Planner.spent g.P.Planner.steps g.P.Planner.stop_steps m) m s c.args.planner.now
+    answered-with (right_steps g.P.Planner.rules m) m s c.args.planner.now
     c.args.notes.now.items ask c.in_ok-ask_planner.field-0 plans c.ask_planner.new.planner notes c.release.new.notes.items t
     c.requires.is_due c.in_ok-ask_planner.ensures.answers c.in_ok-ask_planner.ensures.told
     (subst (λ r. Leads (after_reply m ask r plans s) notes c.release.new.notes.items t) (sym c.in-Planned.is)
@@ -70,12 +70,12 @@ returns-in-Ok-not_planned g c =
     let plans = c.ask_planner.new.schedule.plans in
     let notes = c.ask_planner.new.notes.items in
     let last = c.not_planned.new.notes.items in
-    let same = refused-stays (g.P.Planner.spent c.args.planner.now) m s.plans ask c.in_ok-ask_planner.field-0 plans
+    let same = refused-stays (g.P.Planner.rules.spent c.args.planner.now) m s.plans ask c.in_ok-ask_planner.field-0 plans
     c.in_ok-ask_planner.ensures.answers.0 c.in-Never.is in
     let leads = subst (λ (ps : List Plan). Leads (not_planned m ask ask.goal (record s { plans = ps })) notes last t) same c.in-Ok-not_planned.ensures.leads in
     record {
       answered =
-          answered-with (right_steps g.P.Planner.spent g.P.Planner.steps g.P.Planner.stop_steps m) m s c.args.planner.now
+          answered-with (right_steps g.P.Planner.rules m) m s c.args.planner.now
           c.args.notes.now.items ask c.in_ok-ask_planner.field-0 plans c.ask_planner.new.planner notes last t
           c.requires.is_due c.in_ok-ask_planner.ensures.answers c.in_ok-ask_planner.ensures.told
           (refused-leads m s ask c.in_ok-ask_planner.field-0 plans notes last t c.in-Never.is leads);

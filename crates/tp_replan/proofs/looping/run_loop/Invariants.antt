@@ -8,7 +8,7 @@ use Rattle.tp_replan.proofs.looping.run_loop.Given as goal
 
 abbrev pub invariant-loose : goal.invariant-loose
 invariant-loose g l = record {
-  under_way : IsInLoop (right_steps g.P.Planner.spent g.P.Planner.steps g.P.Planner.stop_steps l.machine) l.machine
+  under_way : IsInLoop (right_steps g.P.Planner.rules l.machine) l.machine
       (seen l.fn.state) l.fn.planner l.fn.notes.items (seen l.state) l.planner l.notes.items;
   few : copies_left (seen l.state) ≤ copies_left (seen l.fn.state);
   counted : g.P.Planner.stops l.fn.planner ≤ g.P.Planner.stops l.planner;

@@ -2,4 +2,4 @@ use Rattle.tp_runs.proofs.OnWhole.{turns-on_whole}
 use Rattle.tp_runs.proofs.laws.live_turns_are_whole.Goals as goal
 
 pub returns : goal.returns
-returns g c = turns-on_whole g.P.Planner.spent g.P.Planner.steps g.P.Planner.stop_steps
+returns g c = turns-on_whole g.P.Planner.rules

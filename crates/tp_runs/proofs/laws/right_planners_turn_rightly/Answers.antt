@@ -2,4 +2,4 @@ use Rattle.tp_runs.proofs.Carry.{right_turns}
 use Rattle.tp_runs.proofs.laws.right_planners_turn_rightly.Goals as goal
 
 pub returns : goal.returns
-returns g c = right_turns g.P.Planner.spent g.P.Planner.steps g.P.Planner.stop_steps
+returns g c = right_turns g.P.Planner.rules

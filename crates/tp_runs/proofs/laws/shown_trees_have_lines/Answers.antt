@@ -2,4 +2,4 @@ use Rattle.tp_runs.proofs.Carry.{trees-have_lines}
 use Rattle.tp_runs.proofs.laws.shown_trees_have_lines.Goals as goal
 
 pub returns : goal.returns
-returns g c = trees-have_lines g.P.Planner.spent g.P.Planner.steps g.P.Planner.stop_steps
+returns g c = trees-have_lines g.P.Planner.rules

@@ -9,4 +9,4 @@ pub returns-clause-records : goal.returns-clause-records
 returns-clause-records g c = told-after_one_more
 
 pub returns-clause-in_turn : goal.returns-clause-in_turn
-returns-clause-in_turn g c machine = in_turn-one_more (right_steps g.P.Planner.spent g.P.Planner.steps g.P.Planner.stop_steps machine) machine
+returns-clause-in_turn g c machine = in_turn-one_more (right_steps g.P.Planner.rules machine) machine

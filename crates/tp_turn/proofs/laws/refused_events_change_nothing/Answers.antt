@@ -4,7 +4,7 @@ use Rattle.tp_turn.specs.Planners.{right_steps}
 use Rattle.tp_turn.proofs.laws.refused_events_change_nothing.Goals as goal
 
 pub returns-clause-told : goal.returns-clause-told
-returns-clause-told g c machine = told-refused (right_steps g.P.Planner.spent g.P.Planner.steps g.P.Planner.stop_steps machine) machine
+returns-clause-told g c machine = told-refused (right_steps g.P.Planner.rules machine) machine
 
 pub returns-clause-nothing : goal.returns-clause-nothing
-returns-clause-nothing g c machine = turn-refused (right_steps g.P.Planner.spent g.P.Planner.steps g.P.Planner.stop_steps machine) machine
+returns-clause-nothing g c machine = turn-refused (right_steps g.P.Planner.rules machine) machine

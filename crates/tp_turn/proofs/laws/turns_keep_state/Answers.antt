@@ -8,7 +8,7 @@ pub returns-clause-empty : goal.returns-clause-empty
 returns-clause-empty g c machine = (kept-empty machine, least-empty machine)
 
 pub returns-clause-state : goal.returns-clause-state
-returns-clause-state g c machine = kept-turn (right_steps g.P.Planner.spent g.P.Planner.steps g.P.Planner.stop_steps machine) machine (λ p. g.P.Planner.spent p) (λ p plans deed plans' p' does. does.0)
+returns-clause-state g c machine = kept-turn (right_steps g.P.Planner.rules machine) machine (λ p. g.P.Planner.rules.spent p) (λ p plans deed plans' p' does. does.0)
 
 pub returns-clause-least : goal.returns-clause-least
-returns-clause-least g c machine = least-turn (right_steps g.P.Planner.spent g.P.Planner.steps g.P.Planner.stop_steps machine) machine (λ p. g.P.Planner.spent p) (λ p plans deed plans' p' does. does.0)
+returns-clause-least g c machine = least-turn (right_steps g.P.Planner.rules machine) machine (λ p. g.P.Planner.rules.spent p) (λ p plans deed plans' p' does. does.0)

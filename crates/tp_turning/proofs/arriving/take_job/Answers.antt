@@ -25,7 +25,7 @@ returns-in-Err-clause-turn g c =
     let s = seen c.args.state.now in
     let o = c.args.order.now in
     on_ok_weaker c.tell_job_refused.result
-    (λ told. refused-event (right_steps g.P.Planner.spent g.P.Planner.steps g.P.Planner.stop_steps c.args.machine.now) c.args.machine.now (NewJob o.name o.tray o.media o.groups.now)
+    (λ told. refused-event (right_steps g.P.Planner.rules c.args.machine.now) c.args.machine.now (NewJob o.name o.tray o.media o.groups.now)
     s c.args.planner.now c.args.notes.now.items c.tell_job_refused.new.notes.items (job_cause c.in-Err.fault)
     (λ cause. refused-by c.args.machine.now s.jobs (length s.waiting) o.name o.tray o.media o.groups.now c.in-Err.fault cause c.in-Err.ensures.refused)
     told _ (ap (λ (l : Backlog). record s { jobs = l.jobs; waiting = l.waiting }) c.in-Err.ensures.kept))

@@ -13,7 +13,7 @@ use Rattle.tp_stock.specs.declared.refills.Refills.{Refills}
 
 pub asks-init : goal.asks-init
 asks-init g c = record {
-  under_way = begins (right_steps g.P.Planner.spent g.P.Planner.steps g.P.Planner.stop_steps c.args.machine.now) c.args.machine.now (seen c.args.state.now)
+  under_way = begins (right_steps g.P.Planner.rules c.args.machine.now) c.args.machine.now (seen c.args.state.now)
       c.args.planner.now c.args.notes.now.items c.none-blocked.result c.none-blocked.ensures c.requires.can;
   counted = omega arith;
   serves = c.requires.served;
@@ -28,28 +28,28 @@ add-requires g c =
 
 -- the turn of a copy that is not planned
 refused : (g : Over) (c : After-add g)
-    → IsStep (right_steps g.P.Planner.spent g.P.Planner.steps g.P.Planner.stop_steps c.args.machine.now) c.args.machine.now (seen c.args.state.now)
+    → IsStep (right_steps g.P.Planner.rules c.args.machine.now) c.args.machine.now (seen c.args.state.now)
     c.args.planner.now c.args.notes.now.items (seen c.asks.state) c.asks.planner c.asks.notes.items c.asks.last c.asks.blocked
-    c.asks.invariant.under_way c.in-Some.copy (sym c.in-Some.ensures.next) (g.P.Planner.spent c.asks.planner) (λ plans deed plans' p' does. does.0)
+    c.asks.invariant.under_way c.in-Some.copy (sym c.in-Some.ensures.next) (g.P.Planner.rules.spent c.asks.planner) (λ plans deed plans' p' does. does.0)
     c.in-Some.copy (seen c.try_copy.new.state) c.try_copy.new.planner c.try_copy.new.notes.items c.add.new.self
 refused g c =
-    step (right_steps g.P.Planner.spent g.P.Planner.steps g.P.Planner.stop_steps c.args.machine.now) c.args.machine.now (seen c.args.state.now)
+    step (right_steps g.P.Planner.rules c.args.machine.now) c.args.machine.now (seen c.args.state.now)
     c.args.planner.now c.args.notes.now.items (seen c.asks.state) c.asks.planner c.asks.notes.items c.asks.last c.asks.blocked
-    c.asks.invariant.under_way c.in-Some.copy (sym c.in-Some.ensures.next) (g.P.Planner.spent c.asks.planner) (λ plans deed plans' p' does. does.0)
+    c.asks.invariant.under_way c.in-Some.copy (sym c.in-Some.ensures.next) (g.P.Planner.rules.spent c.asks.planner) (λ plans deed plans' p' does. does.0)
     (seen c.try_copy.new.state) c.try_copy.new.planner c.try_copy.new.notes.items c.in_ok-planned.planned c.add.new.self c.in_ok-planned.ensures.tried
     (closed-refused c.in_ok-planned.planned (tray_of c.asks.state.lines.jobs c.in-Some.copy) c.tray_of-tray.result c.asks.blocked c.add.new.self c.if-not-planned.true
     (tray-is (slice_get c.asks.state.lines.jobs c.in-Some.copy.job) c.tray_of-tray.result c.tray_of-tray.ensures) c.add.ensures)
 
 -- the turn of a copy that is planned
 planned : (g : Over) (c : Else-not-planned g)
-    → IsStep (right_steps g.P.Planner.spent g.P.Planner.steps g.P.Planner.stop_steps c.args.machine.now) c.args.machine.now (seen c.args.state.now)
+    → IsStep (right_steps g.P.Planner.rules c.args.machine.now) c.args.machine.now (seen c.args.state.now)
     c.args.planner.now c.args.notes.now.items (seen c.asks.state) c.asks.planner c.asks.notes.items c.asks.last c.asks.blocked
-    c.asks.invariant.under_way c.in-Some.copy (sym c.in-Some.ensures.next) (g.P.Planner.spent c.asks.planner) (λ plans deed plans' p' does. does.0)
+    c.asks.invariant.under_way c.in-Some.copy (sym c.in-Some.ensures.next) (g.P.Planner.rules.spent c.asks.planner) (λ plans deed plans' p' does. does.0)
     c.in-Some.copy (seen c.try_copy.new.state) c.try_copy.new.planner c.try_copy.new.notes.items c.asks.blocked
 planned g c =
-    step (right_steps g.P.Planner.spent g.P.Planner.steps g.P.Planner.stop_steps c.args.machine.now) c.args.machine.now (seen c.args.state.now)
+    step (right_steps g.P.Planner.rules c.args.machine.now) c.args.machine.now (seen c.args.state.now)
     c.args.planner.now c.args.notes.now.items (seen c.asks.state) c.asks.planner c.asks.notes.items c.asks.last c.asks.blocked
-    c.asks.invariant.under_way c.in-Some.copy (sym c.in-Some.ensures.next) (g.P.Planner.spent c.asks.planner) (λ plans deed plans' p' does. does.0)
+    c.asks.invariant.under_way c.in-Some.copy (sym c.in-Some.ensures.next) (g.P.Planner.rules.spent c.asks.planner) (λ plans deed plans' p' does. does.0)
     (seen c.try_copy.new.state) c.try_copy.new.planner c.try_copy.new.notes.items c.in_ok-planned.planned c.asks.blocked c.in_ok-planned.ensures.tried
     (closed-planned c.in_ok-planned.planned (tray_of c.asks.state.lines.jobs c.in-Some.copy) c.asks.blocked c.if-not-planned.false)
 
@@ -81,15 +81,15 @@ asks-smaller g c = (planned g c).fewer
 
 pub returns-clause-asks : goal.returns-clause-asks
 returns-clause-asks g c =
-    ended (right_steps g.P.Planner.spent g.P.Planner.steps g.P.Planner.stop_steps c.args.machine.now) c.args.machine.now (seen c.args.state.now)
+    ended (right_steps g.P.Planner.rules c.args.machine.now) c.args.machine.now (seen c.args.state.now)
     c.args.planner.now c.args.notes.now.items (seen c.asks.state) c.asks.planner c.asks.notes.items c.asks.last c.asks.blocked
     c.asks.invariant.under_way (sym c.in_default.ensures.next)
 
 pub returns-in_err-planned-clause-stopped : goal.returns-in_err-planned-clause-stopped
 returns-in_err-planned-clause-stopped g c e =
-    stopped (right_steps g.P.Planner.spent g.P.Planner.steps g.P.Planner.stop_steps c.args.machine.now) c.args.machine.now (seen c.args.state.now)
+    stopped (right_steps g.P.Planner.rules c.args.machine.now) c.args.machine.now (seen c.args.state.now)
     c.args.planner.now c.args.notes.now.items (seen c.asks.state) c.asks.planner c.asks.notes.items c.asks.last c.asks.blocked
-    c.asks.invariant.under_way c.in-Some.copy (sym c.in-Some.ensures.next) (g.P.Planner.spent c.asks.planner) (λ plans deed plans' p' does. does.0)
+    c.asks.invariant.under_way c.in-Some.copy (sym c.in-Some.ensures.next) (g.P.Planner.rules.spent c.asks.planner) (λ plans deed plans' p' does. does.0)
     c.try_copy.new.planner c.try_copy.new.notes.items (c.in_err-planned.ensures.stopped (search rules))
 
 pub try_copy-requires-clause-bounded : goal.try_copy-requires-clause-bounded

@@ -7,7 +7,7 @@ use Rattle.tp_turning.proofs.asking.ask_waiting.Given as goal
 
 abbrev pub invariant-asks : goal.invariant-asks
 invariant-asks g l = record {
-  under_way : IsUnderWay (right_steps g.P.Planner.spent g.P.Planner.steps g.P.Planner.stop_steps l.machine) l.machine
+  under_way : IsUnderWay (right_steps g.P.Planner.rules l.machine) l.machine
       (seen l.fn.state) l.fn.planner l.fn.notes.items (seen l.state) l.planner l.notes.items l.last l.blocked;
   counted : g.P.Planner.stops l.fn.planner ≤ g.P.Planner.stops l.planner;
   serves : g.P.Planner.serves l.planner l.machine;

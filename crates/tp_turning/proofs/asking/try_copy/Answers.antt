@@ -1,5 +1,5 @@
 -- The copy is told full, or it is asked, and waits no more where it is planned.
-use Rattle.std.proofs.Common.{◌≡◌, ◌∙◌, ◌+◌, inl, inr, true, false, refl, sym, ap, arith}
+use Rattle.std.proofs.Common.{◌≡◌, ◌∙◌, ◌+◌, inl, inr, true, false, refl, sym, ap}
 use Rattle.tp_turn.specs.LiveStates.{seen}
 use Rattle.tp_turn.specs.Planners.{right_steps}
 use Rattle.tp_turn.specs.Ready.{last_copy}
@@ -10,7 +10,7 @@ use Rattle.tp_turning.proofs.asking.try_copy.Goals as goal
 pub returns-then-is_full-clause-tried : goal.returns-then-is_full-clause-tried
 returns-then-is_full-clause-tried g c =
     let s = seen c.args.state.now in
-    full-turn (right_steps g.P.Planner.spent g.P.Planner.steps g.P.Planner.stop_steps c.args.machine.now) c.args.machine.now s c.args.planner.now c.args.copy c.args.notes.now.items _
+    full-turn (right_steps g.P.Planner.rules c.args.machine.now) c.args.machine.now s c.args.planner.now c.args.copy c.args.notes.now.items _
     c.name_of.result c.label-sheet.result c.requires.waits c.name_of.ensures c.label-sheet.ensures
     (sym c.is_full.ensures ∙ c.if-is_full.true) c.in-Ok.ensures
 
@@ -23,7 +23,7 @@ ask_planner-requires-clause-can_ask g c =
 pub returns-in-Planned-clause-tried : goal.returns-in-Planned-clause-tried
 returns-in-Planned-clause-tried g c =
     let s = seen c.args.state.now in
-    asked-turn (right_steps g.P.Planner.spent g.P.Planner.steps g.P.Planner.stop_steps c.args.machine.now) c.args.machine.now s c.args.planner.now c.args.copy c.args.notes.now.items c.ask_planner.new.notes.items
+    asked-turn (right_steps g.P.Planner.rules c.args.machine.now) c.args.machine.now s c.args.planner.now c.args.copy c.args.notes.now.items c.ask_planner.new.notes.items
     c.make_ask-ask.result c.in_ok-ask_planner.field-0 true _ c.ask_planner.new.planner c.requires.waits c.make_ask-ask.ensures
     (sym c.is_full.ensures ∙ c.if-is_full.false)
     c.in_ok-ask_planner.ensures.answers c.in_ok-ask_planner.ensures.told
@@ -39,13 +39,13 @@ returns-in-Never g c =
     ] in
     record {
       tried =
-          asked-turn (right_steps g.P.Planner.spent g.P.Planner.steps g.P.Planner.stop_steps c.args.machine.now) c.args.machine.now s c.args.planner.now c.args.copy c.args.notes.now.items c.ask_planner.new.notes.items
+          asked-turn (right_steps g.P.Planner.rules c.args.machine.now) c.args.machine.now s c.args.planner.now c.args.copy c.args.notes.now.items c.ask_planner.new.notes.items
           c.make_ask-ask.result c.in_ok-ask_planner.field-0 false _ c.ask_planner.new.planner c.requires.waits c.make_ask-ask.ensures
           (sym c.is_full.ensures ∙ c.if-is_full.false)
           c.in_ok-ask_planner.ensures.answers c.in_ok-ask_planner.ensures.told
           (sym refused)
           (λ w same. after-refused s c.in_ok-ask_planner.field-0 c.ask_planner.new.schedule.plans refused
-          (refused-stays (g.P.Planner.spent c.args.planner.now) c.args.machine.now s.plans c.make_ask-ask.result
+          (refused-stays (g.P.Planner.rules.spent c.args.planner.now) c.args.machine.now s.plans c.make_ask-ask.result
           c.in_ok-ask_planner.field-0 c.ask_planner.new.schedule.plans c.in_ok-ask_planner.ensures.answers.0 refused) w);
       stopped = λ e. absurd (cc);
       stops_only = tt;

@@ -7,9 +7,7 @@ use Rattle.tp_turning.specs.Telling.{IsKnownTell}
 use Rattle.tp_turning.proofs.ClockFacts.{known-tells, moved-event, moved-seen, moved-stop, refills-moved}
 use Rattle.tp_turning.proofs.KeptEvents.{events-moved}
 use Rattle.tp_turning.proofs.clocking.move_clock.Goals as goal
-use Rattle.tp_stock.specs.Stock.{IsBounded, taken_at}
-use Rattle.tp_stock.proofs.StockFacts.{by-same-counts}
-use Rattle.tp_schedule.specs.Living.{is_live}
+use Rattle.tp_stock.specs.Stock.{IsBounded}
 use Rattle.tp_turn.specs.Clock.{clock_move, record_of}
 use Rattle.tp_turn.specs.Keeping.{live_refills}
 use Rattle.tp_turn.proofs.StockKept.{few-plans, stock-moved, within-bounded}
@@ -53,7 +51,7 @@ returns-clause-turn g c =
     let s = seen c.args.state.now in
     let is = moved-seen m c.args.to s (sym c.in-Ok.ensures.refused) _ _ _ c.in-Ok.ensures.plans c.forget_lost.ensures (refills-moved c.args.machine.now c.args.to (seen c.args.state.now) (sym c.in-Ok.ensures.refused) _ _ _ c.count_taken-taken.ensures c.forget-state.ensures c.in-Ok.ensures.plans) in
     on_ok_weaker c.ask_waiting.result
-    (λ noted. moved-event (right_steps g.P.Planner.spent g.P.Planner.steps g.P.Planner.stop_steps m) m c.args.to s c.args.planner.now c.args.notes.now.items _ c.ask_waiting.new.notes.items _ (sym c.in-Ok.ensures.refused) (c.in-Ok-tell_moved_clock.ensures ∙ ap (λ ts. c.args.notes.now.items ++ map (record_of m s.jobs) ts) (c.as_slice.ensures.value ∙ c.in-Ok.ensures.told)) is (seen c.ask_waiting.new.state) c.ask_waiting.new.planner noted)
+    (λ noted. moved-event (right_steps g.P.Planner.rules m) m c.args.to s c.args.planner.now c.args.notes.now.items _ c.ask_waiting.new.notes.items _ (sym c.in-Ok.ensures.refused) (c.in-Ok-tell_moved_clock.ensures ∙ ap (λ ts. c.args.notes.now.items ++ map (record_of m s.jobs) ts) (c.as_slice.ensures.value ∙ c.in-Ok.ensures.told)) is (seen c.ask_waiting.new.state) c.ask_waiting.new.planner noted)
     c.ask_waiting.ensures.asks
 
 pub returns-clause-stopped : goal.returns-clause-stopped
@@ -61,4 +59,4 @@ returns-clause-stopped g c e =
     let m = c.args.machine.now in
     let s = seen c.args.state.now in
     let is = moved-seen m c.args.to s (sym c.in-Ok.ensures.refused) _ _ _ c.in-Ok.ensures.plans c.forget_lost.ensures (refills-moved c.args.machine.now c.args.to (seen c.args.state.now) (sym c.in-Ok.ensures.refused) _ _ _ c.count_taken-taken.ensures c.forget-state.ensures c.in-Ok.ensures.plans) in
-    moved-stop (right_steps g.P.Planner.spent g.P.Planner.steps g.P.Planner.stop_steps m) m c.args.to s c.args.planner.now c.args.notes.now.items _ c.ask_waiting.new.notes.items _ (sym c.in-Ok.ensures.refused) (c.in-Ok-tell_moved_clock.ensures ∙ ap (λ ts. c.args.notes.now.items ++ map (record_of m s.jobs) ts) (c.as_slice.ensures.value ∙ c.in-Ok.ensures.told)) is c.ask_waiting.new.planner (c.ask_waiting.ensures.stopped e)
+    moved-stop (right_steps g.P.Planner.rules m) m c.args.to s c.args.planner.now c.args.notes.now.items _ c.ask_waiting.new.notes.items _ (sym c.in-Ok.ensures.refused) (c.in-Ok-tell_moved_clock.ensures ∙ ap (λ ts. c.args.notes.now.items ++ map (record_of m s.jobs) ts) (c.as_slice.ensures.value ∙ c.in-Ok.ensures.told)) is c.ask_waiting.new.planner (c.ask_waiting.ensures.stopped e)

@@ -3,4 +3,4 @@ use Rattle.tp_turning.proofs.LiveAlone.{live-asks_hold}
 use Rattle.tp_turning.proofs.live_part.live_asks_hold.Goals as goal
 
 pub returns : goal.returns
-returns g c machine = live-asks_hold (right_steps g.P.Planner.spent g.P.Planner.steps g.P.Planner.stop_steps machine) machine
+returns g c machine = live-asks_hold (right_steps g.P.Planner.rules machine) machine

@@ -29,18 +29,18 @@ pub returns-clause-turn : goal.returns-clause-turn
 returns-clause-turn g c =
     let s = seen c.args.state.now in
     on_ok_weaker c.ask_waiting.result
-    (λ noted. back-event (right_steps g.P.Planner.spent g.P.Planner.steps g.P.Planner.stop_steps c.args.machine.now) c.args.machine.now s c.args.planner.now c.args.notes.now.items c.ask_waiting.new.notes.items
+    (λ noted. back-event (right_steps g.P.Planner.rules c.args.machine.now) c.args.machine.now s c.args.planner.now c.args.notes.now.items c.ask_waiting.new.notes.items
     c.args.event.now c.requires.comes_back (sym c.in-Ok.ensures.refused) c.in-Ok.id.0 c.in-Ok.ensures.found (seen c.ask_waiting.new.state) c.ask_waiting.new.planner
-    (subst (λ outs. NotesAsks (right_steps g.P.Planner.spent g.P.Planner.steps g.P.Planner.stop_steps c.args.machine.now) c.args.machine.now (record s { outs = outs })
+    (subst (λ outs. NotesAsks (right_steps g.P.Planner.rules c.args.machine.now) c.args.machine.now (record s { outs = outs })
     c.args.planner.now c.args.notes.now.items (seen c.ask_waiting.new.state) c.ask_waiting.new.planner c.ask_waiting.new.notes.items) c.put_on-state.ensures noted))
     c.ask_waiting.ensures.asks
 
 pub returns-clause-stopped : goal.returns-clause-stopped
 returns-clause-stopped g c e =
     let s = seen c.args.state.now in
-    back-stop (right_steps g.P.Planner.spent g.P.Planner.steps g.P.Planner.stop_steps c.args.machine.now) c.args.machine.now s c.args.planner.now c.args.notes.now.items c.ask_waiting.new.notes.items
+    back-stop (right_steps g.P.Planner.rules c.args.machine.now) c.args.machine.now s c.args.planner.now c.args.notes.now.items c.ask_waiting.new.notes.items
     c.args.event.now c.requires.comes_back (sym c.in-Ok.ensures.refused) c.in-Ok.id.0 c.in-Ok.ensures.found c.ask_waiting.new.planner
-    (subst (λ outs. NotesStop (right_steps g.P.Planner.spent g.P.Planner.steps g.P.Planner.stop_steps c.args.machine.now) c.args.machine.now (record s { outs = outs })
+    (subst (λ outs. NotesStop (right_steps g.P.Planner.rules c.args.machine.now) c.args.machine.now (record s { outs = outs })
     c.args.planner.now c.args.notes.now.items c.ask_waiting.new.planner c.ask_waiting.new.notes.items) c.put_on-state.ensures (c.ask_waiting.ensures.stopped e))
 
 pub ask_waiting-requires-clause-bounded : goal.ask_waiting-requires-clause-bounded

@@ -22,7 +22,7 @@ returns-clause-turn g c =
     let s = seen c.args.state.now in
     let out = c.in_ok-go_out.ensures.out in
     on_ok_weaker c.ask_waiting.result
-    (λ noted. out-event (right_steps g.P.Planner.spent g.P.Planner.steps g.P.Planner.stop_steps c.args.machine.now) c.args.machine.now s c.args.planner.now c.args.notes.now.items c.ask_waiting.new.notes.items
+    (λ noted. out-event (right_steps g.P.Planner.rules c.args.machine.now) c.args.machine.now s c.args.planner.now c.args.notes.now.items c.ask_waiting.new.notes.items
     c.in-Ok.id.0 c.is_jam.result c.args.event.now c.requires.goes_out c.is_jam.ensures (sym c.in-Ok.ensures.refused) c.in-Ok.ensures.found
     out.0 c.go_out.new.notes.items (seen c.go_out.new.state) c.go_out.new.planner out.1 out.2
     (seen c.ask_waiting.new.state) c.ask_waiting.new.planner noted)
@@ -32,7 +32,7 @@ pub returns-clause-stopped : goal.returns-clause-stopped
 returns-clause-stopped g c e =
     let s = seen c.args.state.now in
     let out = c.in_ok-go_out.ensures.out in
-    out-stop (right_steps g.P.Planner.spent g.P.Planner.steps g.P.Planner.stop_steps c.args.machine.now) c.args.machine.now s c.args.planner.now c.args.notes.now.items c.ask_waiting.new.notes.items
+    out-stop (right_steps g.P.Planner.rules c.args.machine.now) c.args.machine.now s c.args.planner.now c.args.notes.now.items c.ask_waiting.new.notes.items
     c.in-Ok.id.0 c.is_jam.result c.args.event.now c.requires.goes_out c.is_jam.ensures (sym c.in-Ok.ensures.refused) c.in-Ok.ensures.found
     out.0 c.go_out.new.notes.items (seen c.go_out.new.state) c.go_out.new.planner out.1 out.2
     c.ask_waiting.new.planner (c.ask_waiting.ensures.stopped e)
@@ -40,5 +40,5 @@ returns-clause-stopped g c e =
 pub ask_waiting-requires-clause-bounded : goal.ask_waiting-requires-clause-bounded
 ask_waiting-requires-clause-bounded g c =
     let out = c.in_ok-go_out.ensures.out in
-    let same = refills-goes (right_steps g.P.Planner.spent g.P.Planner.steps g.P.Planner.stop_steps c.args.machine.now) c.args.machine.now (seen c.args.state.now) c.in-Ok.id.0 c.is_jam.result c.args.planner.now out.0 (seen c.go_out.new.state) c.go_out.new.planner out.2 in
+    let same = refills-goes (right_steps g.P.Planner.rules c.args.machine.now) c.args.machine.now (seen c.args.state.now) c.in-Ok.id.0 c.is_jam.result c.args.planner.now out.0 (seen c.go_out.new.state) c.go_out.new.planner out.2 in
     subst IsBounded (sym same) (within-bounded last_copy c.args.state.now.refills.0 (omega arith) c.requires.stocked.within)

@@ -10,9 +10,6 @@ use Rattle.tp_turn.proofs.StockKept.{few-plans, stock-refill, within-bounded}
 use Rattle.tp_turn.specs.LiveStates.{seen}
 use Rattle.tp_turn.specs.Planners.{right_steps}
 use Rattle.tp_turn.specs.Ready.{last_copy}
-use Rattle.tp_turn.specs.States.{SessionState}
-use Rattle.tp_turning.specs.Phases.{NotesAsks}
-use Rattle.tp_turning.specs.Stops.{NotesStop}
 use Rattle.tp_turning.proofs.EventFacts.{accepted-event, stopped-event}
 use Rattle.tp_turning.proofs.RefillFacts.{found-feeder}
 use Rattle.tp_turning.proofs.refilling.take_refill.Goals as goal
@@ -47,7 +44,7 @@ returns-clause-turn g c =
     let f = found-feeder (feeder_named m c.args.order.now.feeder) c.in-Ok.loc c.in-Ok.ensures.found in
     let same : c.add-state.result.0 ≡ more_at f.0.loc.0 c.args.order.now.count s.refills = c.add-state.ensures ∙ sym (ap (λ loc. more_at loc.0 c.args.order.now.count s.refills) f.2) in
     on_ok_weaker c.ask_waiting.result
-    (λ noted. accepted-event (right_steps g.P.Planner.spent g.P.Planner.steps g.P.Planner.stop_steps m) m (Refill c.args.order.now.feeder c.args.order.now.count) s c.args.planner.now c.args.notes.now.items c.ask_waiting.new.notes.items
+    (λ noted. accepted-event (right_steps g.P.Planner.rules m) m (Refill c.args.order.now.feeder c.args.order.now.count) s c.args.planner.now c.args.notes.now.items c.ask_waiting.new.notes.items
     (sym c.in-Ok.ensures.refused) (record s { refills = c.add-state.result.0 }) (seen c.ask_waiting.new.state) c.ask_waiting.new.planner (f.0, f.1, refl, ap (λ (r : List ℤ). record s { refills = r }) same, refl) noted)
     c.ask_waiting.ensures.asks
 
@@ -57,7 +54,7 @@ returns-clause-stopped g c e =
     let s = seen c.args.state.now in
     let f = found-feeder (feeder_named m c.args.order.now.feeder) c.in-Ok.loc c.in-Ok.ensures.found in
     let same : c.add-state.result.0 ≡ more_at f.0.loc.0 c.args.order.now.count s.refills = c.add-state.ensures ∙ sym (ap (λ loc. more_at loc.0 c.args.order.now.count s.refills) f.2) in
-    stopped-event (right_steps g.P.Planner.spent g.P.Planner.steps g.P.Planner.stop_steps m) m (Refill c.args.order.now.feeder c.args.order.now.count) s c.args.planner.now c.args.notes.now.items c.ask_waiting.new.notes.items
+    stopped-event (right_steps g.P.Planner.rules m) m (Refill c.args.order.now.feeder c.args.order.now.count) s c.args.planner.now c.args.notes.now.items c.ask_waiting.new.notes.items
     (sym c.in-Ok.ensures.refused) (record s { refills = c.add-state.result.0 }) c.ask_waiting.new.planner (f.0, f.1, refl, ap (λ (r : List ℤ). record s { refills = r }) same, refl) (c.ask_waiting.ensures.stopped e)
 
 pub check_refill-requires : goal.check_refill-requires
