@@ -49,8 +49,14 @@ pub struct Node {
 }
 
 /// Room rows, and nodes that stand parent first.
-#[derive(Drop)]
 pub struct BoundTree {
     pub rows: TreeRows,
     pub nodes: Nodes,
+}
+
+// What becomes of its parts is proved here, once for all who let go of one.
+impl Drop for BoundTree {
+    fn drop(self) {
+        let BoundTree { rows: _, nodes: _ } = self;
+    }
 }

@@ -38,7 +38,6 @@ fn has_lines(tree: &BoundTree) -> bool
 }
 
 /// An event with its records and trees so far, and the tree to which lines may still come.
-#[derive(Drop)]
 pub struct Pending {
     alloc: Global,
     /// The number of its line.
@@ -48,6 +47,20 @@ pub struct Pending {
     pub items: Vec<Item>,
     tree: BoundTree,
     next: Next,
+}
+
+// What becomes of its parts is proved here, once for all who let go of one.
+impl Drop for Pending {
+    fn drop(self) {
+        let Pending {
+            alloc: _,
+            line: _,
+            event: _,
+            items: _,
+            tree: _,
+            next: _,
+        } = self;
+    }
 }
 
 impl Pending {

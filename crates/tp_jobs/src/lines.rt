@@ -31,7 +31,6 @@ const MOST_WAITING: u64 = 4096;
 ///
 /// `mark` remembers the lines as they are and `undo` goes back to them: what is kept of a mark is how
 /// many jobs there were, the copies that waited, and the jobs that broke since.
-#[derive(Drop)]
 pub struct Lines {
     names: IndexSet<Name>,
     jobs: Vec<Job>,
@@ -39,6 +38,20 @@ pub struct Lines {
     kept_jobs: usize,
     kept_waiting: Vec<WaitingCopy>,
     broken: Vec<u32>,
+}
+
+// What becomes of its parts is proved here, once for all who let go of one.
+impl Drop for Lines {
+    fn drop(self) {
+        let Lines {
+            names: _,
+            jobs: _,
+            waiting: _,
+            kept_jobs: _,
+            kept_waiting: _,
+            broken: _,
+        } = self;
+    }
 }
 
 // Clauses see the jobs in the order of arrival, the copies that wait in the order of copies, and both

@@ -29,7 +29,6 @@ use tp_turning::empty_state_can_begin;
 
 /// Looks at a log with bounds line by line. It keeps the live part of the state after the events that were looked at, and what is told of
 /// the last event so far. What a budget says is taken on trust.
-#[derive(Drop)]
 pub struct LogChecker {
     alloc: Global,
     machine: Machine,
@@ -39,6 +38,22 @@ pub struct LogChecker {
     lines: u64,
     counts: Counts,
     flaw: Option<Flaw>,
+}
+
+// What becomes of its parts is proved here, once for all who let go of one.
+impl Drop for LogChecker {
+    fn drop(self) {
+        let LogChecker {
+            alloc: _,
+            machine: _,
+            state: _,
+            pending: _,
+            events: _,
+            lines: _,
+            counts: _,
+            flaw: _,
+        } = self;
+    }
 }
 
 /// What is wrong with what is told of the event before a line that is off the grammar.

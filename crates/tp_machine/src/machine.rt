@@ -12,7 +12,6 @@ use tp_base::{Items, Tick};
 /// from now on a sheet may take to its end. `budget` is how many choice lists a search may store.
 /// Feeders and resources stand in the byte order of their names, all else in the order of the
 /// text. Every value keeps the rules of a machine text.
-#[derive(Drop)]
 pub struct Machine {
     pub lead: Tick,
     pub window: Tick,
@@ -38,4 +37,22 @@ pub struct Machine {
     pub ghost durations: { IsTrue (have_durations actions) },
     pub ghost few_holds: { IsTrue (have_few_holds actions) },
     pub ghost holds: { IsTrue (have_holds resources actions) },
+}
+
+// What becomes of its parts is proved here, once for all who let go of one.
+impl Drop for Machine {
+    fn drop(self) {
+        let Machine {
+            lead: _,
+            window: _,
+            budget: _,
+            locations: _,
+            modules: _,
+            trays: _,
+            purges: _,
+            feeders: _,
+            resources: _,
+            actions: _,
+        } = self;
+    }
 }

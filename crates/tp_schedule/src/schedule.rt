@@ -13,9 +13,15 @@ use tp_base::{Memory, Tick};
 use tp_machine::{Machine, ResId};
 
 /// The plans of copies, in the order of copies, past ones included.
-#[derive(Drop)]
 pub struct Schedule {
     plans: Vec<Plan>,
+}
+
+// What becomes of its parts is proved here, once for all who let go of one.
+impl Drop for Schedule {
+    fn drop(self) {
+        let Schedule { plans: _ } = self;
+    }
 }
 
 // Clauses see the plans, and for how many more there is memory.
