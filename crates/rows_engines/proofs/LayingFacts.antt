@@ -3,6 +3,7 @@ use Rattle.std.proofs.Common.{◌≡◌, ℕ, ◌+◌, ◌<◌, ◌≤◌, Bool,
 use Rattle.std.specs.List.{slice_get}
 use Rattle.std.proofs.lemmas.List.Elements.{All-head}
 use Rattle.std.proofs.lemmas.List.Sums.{count_by-le-length, length-filter}
+use Rattle.tp_base.specs.Readings.{Reading}
 use Rattle.tp_base.proofs.MarkFacts.{last_mark}
 use Rattle.tp_base.specs.Net.{Net}
 use Rattle.tp_machine.specs.Using.{action_at}
@@ -31,7 +32,7 @@ use Rattle.tp_schedule.proofs.LegalFacts.{IsLegal-without}
 use Rattle.tp_schedule.proofs.Membership.{Contains-cons_cases}
 use Rattle.tp_schedule.proofs.Pairs.{AllPairs-head}
 use Rattle.tp_constraints.specs.Suffixes.{Suffix, list_of, with_action, with_place}
-use Rattle.tp_placing.specs.Boards.{BoardAside, BoardContent, BoardValue, aside_of, content_of, past_of, suffix_after, suffix_of}
+use Rattle.tp_placing.specs.Boards.{BoardUntouched, BoardContent, BoardValue, untouched_of, content_of, past_of, suffix_after, suffix_of}
 use Rattle.tp_placing.specs.Calls.{CanGoOn, CanPlace, IsSameLoad}
 use Rattle.tp_placing.specs.Laws.{MarkKeeps, UndoKeeps}
 use Rattle.tp_placing.specs.Standing.{Stands, order_after}
@@ -104,10 +105,10 @@ leads-more machine plans ask act room place count state before x after step lead
       many = let many = leads.many in omega arith;
     })
 
-module _ {N C : Type 0} (net : N → Net) (content : N → C) (past : N → List C) where
-  pub laid-more : (b b' : BoardValue N) (machine : Machine) (ask : Ask) (act : ActId) (room place count : ℕ) (state before : State) → IsLaid net content past b machine ask state count
-      → Stands net content past b' machine → IsSameLoad b b' → IsStepTo machine ask act room state before → IsSomeAnd (suffix_of b) (IsPut machine b.plans act room place (suffix_of b'))
-      → IsLaid net content past b' machine ask before (count + 1)
+module _ {N : Type 0} (reading : Reading N) where
+  pub laid-more : (b b' : BoardValue N) (machine : Machine) (ask : Ask) (act : ActId) (room place count : ℕ) (state before : State) → IsLaid reading b machine ask state count
+      → Stands reading b' machine → IsSameLoad b b' → IsStepTo machine ask act room state before → IsSomeAnd (suffix_of b) (IsPut machine b.plans act room place (suffix_of b'))
+      → IsLaid reading b' machine ask before (count + 1)
   laid-more b b' machine ask act room place count state before laid stands same step put =
       let x = some-and (suffix_of b) (IsPut machine b.plans act room place (suffix_of b')) put in
       let leads : LeadsFrom machine b.plans ask state count x.0 = subst (λ o. IsSomeAnd o (LeadsFrom machine b.plans ask state count)) x.1 laid.leads in
@@ -118,36 +119,12 @@ module _ {N C : Type 0} (net : N → Net) (content : N → C) (past : N → List
       }
 
   -- of fewer than 64 choices with the kept actions
-  pub can_lay : (b : BoardValue N) (machine : Machine) (ask : Ask) (state : State) (count : ℕ) → IsLaid net content past b machine ask state count → kept_of ask + count < 64
+  pub can_lay : (b : BoardValue N) (machine : Machine) (ask : Ask) (state : State) (count : ℕ) → IsLaid reading b machine ask state count → kept_of ask + count < 64
       → IsSomeAnd b.ask (λ asked. IsSomeAnd (suffix_of b) (CanGoOn asked))
   can_lay b machine ask state count laid few =
       let x = some-and (suffix_of b) (LeadsFrom machine b.plans ask state count) laid.leads in
       let many = x.2.many in
       and-some b.ask ask (λ asked. IsSomeAnd (suffix_of b) (CanGoOn asked)) laid.asked (and-some (suffix_of b) x.0 (CanGoOn ask) x.1 (record { going = x.2.going; fewer = omega arith }))
-
-  -- a way from a start
-  pub can_commit : (b : BoardValue N) (machine : Machine) (ask : Ask) (first : State) (count : ℕ) → IsLaid net content past b machine ask first count → ask.origin ≡ FromFeeder → 0 < count → count ≤ 50 → IsStart machine ask first
-      → IsSomeAnd b.ask (λ asked. IsSomeAnd (suffix_of b) (CanCommit machine b.plans asked))
-  can_commit b machine ask first count laid new some few starts =
-      let x = some-and (suffix_of b) (LeadsFrom machine b.plans ask first count) laid.leads in
-      let leads = x.2 in
-      let kept : kept_of ask ≡ 0 = ap kept_from new in
-      let many = leads.many in
-      and-some b.ask ask (λ asked. IsSomeAnd (suffix_of b) (CanCommit machine b.plans asked)) laid.asked (and-some (suffix_of b) x.0 (CanCommit machine b.plans ask) x.1 (record {
-        goal = leads.goal;
-        first = first;
-        rooms = leads.rooms;
-        starts = starts;
-        is_list = record {
-          goal = leads.is_goal;
-          allowed = leads.allowed;
-          at_most = omega arith;
-          places = leads.places;
-          can_stop = λ stopped. absurd (let going = leads.going in cc);
-        };
-        complete = subst (IsCompleteFrom machine ask (list_of leads.goal x.0)) (sym new) (first, leads.walks, starts);
-        some = omega arith;
-      }))
 
 -- a new copy may be asked for where there is one live plan or none
 pub one-only : (plans : List Plan) → length plans ≤ 1 → (p q : Plan) → Contains plans p → Contains plans q → p ≡ q
@@ -232,31 +209,31 @@ can_settle-first machine now plans none plans' p q plan_on two at put is empty =
   ]
 
 -- a way that is taken back to a mark
-module _ {N C A : Type 0} (net : N → Net) (content : N → C) (past : N → List C) (aside : N → A) where
-  laid-kept : (b b' : BoardValue N) (machine : Machine) (ask : Ask) (first : State) (count : ℕ) → content_of content b' ≡ content_of content b → b'.plans ≡ b.plans → b'.ask ≡ b.ask → Stands net content past b' machine
-      → IsLaid net content past b machine ask first count → IsLaid net content past b' machine ask first count
+module _ {N A : Type 0} (reading : Reading N) (untouched : N → A) where
+  laid-kept : (b b' : BoardValue N) (machine : Machine) (ask : Ask) (first : State) (count : ℕ) → content_of reading b' ≡ content_of reading b → b'.plans ≡ b.plans → b'.ask ≡ b.ask → Stands reading b' machine
+      → IsLaid reading b machine ask first count → IsLaid reading b' machine ask first count
   laid-kept b b' machine ask first count same plans asked stands laid =
-      let steps : b'.steps ≡ b.steps = ap (λ (c : BoardContent C). c.steps) same in
+      let steps : b'.steps ≡ b.steps = ap (λ (c : BoardContent). c.steps) same in
       record {
         stands = stands;
         asked = asked ∙ laid.asked;
         leads = subst (λ ss. IsSomeAnd (suffix_after ss) (LeadsFrom machine b'.plans ask first count)) (sym steps) (subst (λ ps. IsSomeAnd (suffix_after b.steps) (LeadsFrom machine ps ask first count)) (sym plans) laid.leads);
       }
 
-  pub laid-marked : MarkKeeps net content past aside → (b b' : BoardValue N) (machine : Machine) (ask : Ask) (first : State) (count : ℕ) → content_of content b' ≡ content_of content b → aside_of aside b' ≡ aside_of aside b
-      → past_of past b' ≡ past_of past b ++ content_of content b ∷ [] → IsLaid net content past b machine ask first count → IsLaid net content past b' machine ask first count
+  pub laid-marked : MarkKeeps reading untouched → (b b' : BoardValue N) (machine : Machine) (ask : Ask) (first : State) (count : ℕ) → content_of reading b' ≡ content_of reading b → untouched_of untouched b' ≡ untouched_of untouched b
+      → past_of reading b' ≡ past_of reading b ++ content_of reading b ∷ [] → IsLaid reading b machine ask first count → IsLaid reading b' machine ask first count
   laid-marked keeps b b' machine ask first count same rest marked laid =
-      laid-kept b b' machine ask first count same (ap (λ (a : BoardAside A). a.plans) rest) (ap (λ (a : BoardAside A). a.ask) rest) (keeps b b' machine same rest marked laid.stands) laid
+      laid-kept b b' machine ask first count same (ap (λ (a : BoardUntouched A). a.plans) rest) (ap (λ (a : BoardUntouched A). a.ask) rest) (keeps b b' machine same rest marked laid.stands) laid
 
   -- from b a mark is set, then choices are laid, then the board is taken back to the mark
-  pub laid-back : UndoKeeps net content past aside → (b marked laid-on back : BoardValue N) (machine : Machine) (ask : Ask) (first : State) (count k : ℕ) → IsLaid net content past b machine ask first count
-      → aside_of aside marked ≡ aside_of aside b → past_of past marked ≡ past_of past b ++ content_of content b ∷ [] → k ≡ length (past_of past b)
-      → past_of past laid-on ≡ past_of past marked → IsSameLoad marked laid-on → Stands net content past laid-on machine
-      → slice_get (past_of past laid-on) k ≡ Some (content_of content back) → aside_of aside back ≡ aside_of aside laid-on → past_of past back ≡ take k (past_of past laid-on)
-      → IsLaid net content past back machine ask first count
+  pub laid-back : UndoKeeps reading untouched → (b marked laid-on back : BoardValue N) (machine : Machine) (ask : Ask) (first : State) (count k : ℕ) → IsLaid reading b machine ask first count
+      → untouched_of untouched marked ≡ untouched_of untouched b → past_of reading marked ≡ past_of reading b ++ content_of reading b ∷ [] → k ≡ length (past_of reading b)
+      → past_of reading laid-on ≡ past_of reading marked → IsSameLoad marked laid-on → Stands reading laid-on machine
+      → slice_get (past_of reading laid-on) k ≡ Some (content_of reading back) → untouched_of untouched back ≡ untouched_of untouched laid-on → past_of reading back ≡ take k (past_of reading laid-on)
+      → IsLaid reading back machine ask first count
   laid-back keeps b marked laid-on back machine ask first count k laid rest set number still same stands got rest' cut =
-      let is : content_of content back ≡ content_of content b = last_mark (past_of past b) (past_of past laid-on) (content_of content b) (content_of content back) k (still ∙ set) number got in
+      let is : content_of reading back ≡ content_of reading b = last_mark (past_of reading b) (past_of reading laid-on) (content_of reading b) (content_of reading back) k (still ∙ set) number got in
       laid-kept b back machine ask first count is
-      (ap (λ (a : BoardAside A). a.plans) rest' ∙ same.plans ∙ ap (λ (a : BoardAside A). a.plans) rest)
-      (ap (λ (a : BoardAside A). a.ask) rest' ∙ same.ask ∙ ap (λ (a : BoardAside A). a.ask) rest)
+      (ap (λ (a : BoardUntouched A). a.plans) rest' ∙ same.plans ∙ ap (λ (a : BoardUntouched A). a.plans) rest)
+      (ap (λ (a : BoardUntouched A). a.ask) rest' ∙ same.ask ∙ ap (λ (a : BoardUntouched A). a.ask) rest)
       (keeps laid-on back machine k got rest' cut stands) laid

@@ -1,5 +1,6 @@
 -- A trial that is abandoned leaves its board ready.
 use Rattle.std.proofs.Common.{ℕ, List, ap, sym, subst, ◌∙◌, arith}
+use Rattle.tp_base.specs.Readings.{Reading}
 use Rattle.tp_base.specs.Net.{Net}
 use Rattle.tp_machine.specs.declared.machine.Machine.{Machine}
 use Rattle.tp_schedule.specs.declared.parts.Ask.{Ask}
@@ -9,14 +10,14 @@ use Rattle.tp_placing.specs.Writing.{IsLoadedFrom}
 use Rattle.tp_search.specs.Boards.{IsBack}
 use Rattle.rows_engines.specs.Trying.{IsReady}
 
-module _ {N C : Type 0} (net : N → Net) (content : N → C) (past : N → List C) (max_marks : N → ℕ) where
-  pub ready-back : (b b' : BoardValue N) (machine : Machine) (plans : List Plan) (ask : Ask) → IsBack net content past max_marks b b' machine
-      → IsReady net content past max_marks b machine plans ask → IsReady net content past max_marks b' machine plans ask
+module _ {N : Type 0} (reading : Reading N) where
+  pub ready-back : (b b' : BoardValue N) (machine : Machine) (plans : List Plan) (ask : Ask) → IsBack reading b b' machine
+      → IsReady reading b machine plans ask → IsReady reading b' machine plans ask
   ready-back b b' machine plans ask back ready = record {
     loaded = subst (IsLoadedFrom machine plans ask) (sym back.loaded.plans) ready.loaded;
     stands = back.stands ready.stands;
     asked = back.loaded.ask ∙ ready.asked;
-    closed = ap (λ (x : BoardContent C). x.steps) back.same_content ∙ ready.closed;
+    closed = ap (λ (x : BoardContent). x.steps) back.same_content ∙ ready.closed;
     unmarked = back.same_past ∙ ready.unmarked;
     marks = omega (arith, back.marks, ready.marks);
   }

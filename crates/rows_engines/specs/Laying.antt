@@ -1,5 +1,6 @@
 -- Ways that are laid on a board, the last choice first.
 use Rattle.std.specs.Prelude.{◌≡◌, ℕ, ◌≤◌, List, [], ◌∷◌, length, Option, Some, IsSomeAnd, IsTrue, IsFalse}
+use Rattle.tp_base.specs.Readings.{Reading}
 use Rattle.tp_base.specs.Net.{Net}
 use Rattle.tp_machine.specs.Using.{action_at}
 use Rattle.tp_machine.specs.declared.parts.ActId.{ActId}
@@ -28,8 +29,8 @@ pub record LeadsFrom (machine : Machine) (plans : List Plan) (ask : Ask) (first 
   pub many : length x.choices ≡ count
 
 -- the board stands on the machine and the ask, and its choices are such a way
-pub record IsLaid {N C : Type 0} (net : N → Net) (content : N → C) (past : N → List C) (b : BoardValue N) (machine : Machine) (ask : Ask) (first : State) (count : ℕ) : Type 0 where
-  pub stands : Stands net content past b machine
+pub record IsLaid {N : Type 0} (reading : Reading N) (b : BoardValue N) (machine : Machine) (ask : Ask) (first : State) (count : ℕ) : Type 0 where
+  pub stands : Stands reading b machine
   pub asked : b.ask ≡ Some ask
   pub leads : IsSomeAnd (suffix_of b) (LeadsFrom machine b.plans ask first count)
 

@@ -1,5 +1,6 @@
 -- A board that was loaded for an ask, before the first search.
 use Rattle.std.specs.Prelude.{◌≡◌, ℕ, ◌≤◌, List, [], Some}
+use Rattle.tp_base.specs.Readings.{Reading}
 use Rattle.tp_base.specs.Net.{Net}
 use Rattle.tp_machine.specs.declared.machine.Machine.{Machine}
 use Rattle.tp_schedule.specs.declared.parts.Ask.{Ask}
@@ -9,10 +10,10 @@ use Rattle.tp_placing.specs.Standing.{Stands}
 use Rattle.tp_placing.specs.Writing.{IsLoadedFrom}
 
 -- the board was loaded for the ask on these plans, no goal is open and no mark in force, and a search has its marks
-pub record IsReady {N C : Type 0} (net : N → Net) (content : N → C) (past : N → List C) (max_marks : N → ℕ) (b : BoardValue N) (machine : Machine) (plans : List Plan) (ask : Ask) : Type 0 where
+pub record IsReady {N : Type 0} (reading : Reading N) (b : BoardValue N) (machine : Machine) (plans : List Plan) (ask : Ask) : Type 0 where
   pub loaded : IsLoadedFrom machine plans ask b.plans
-  pub stands : Stands net content past b machine
+  pub stands : Stands reading b machine
   pub asked : b.ask ≡ Some ask
   pub closed : b.steps ≡ []
-  pub unmarked : past_of past b ≡ []
-  pub marks : 8 ≤ max_marks b.net
+  pub unmarked : past_of reading b ≡ []
+  pub marks : 8 ≤ reading.max_marks b.net

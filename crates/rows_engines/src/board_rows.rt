@@ -22,10 +22,10 @@ fn load_for<N: Network>(
     goal: Goal,
 ) -> Result<(), Fail>
     requires made { IsMadeFor board.old.made_for machine.now }
-    requires marks { N.max_marks board.old.net ≡ 330 }
+    requires marks { N.reading.max_marks board.old.net ≡ 330 }
     requires goal { (ask : Ask) → IsOpenGoal machine.now [] ask goal }
     ensures made { OnOk result (IsMadeFor board.new.made_for machine.now) }
-    ensures new { OnOk result (IsForNew N.net N.content N.past N.max_marks board.new machine.now) }
+    ensures new { OnOk result (IsForNew N.reading board.new machine.now) }
     ensures closed { OnOk result (board.new.steps ≡ []) }
 {
     let (name, media) = (name_of(b"j1")?, name_of(b"plain")?);
@@ -38,9 +38,9 @@ fn load_for<N: Network>(
 /// Loads an empty schedule, to be asked for a new copy to the first tray.
 fn load<N: Network>(alloc: Global, board: &mut Board<N>, machine: &Machine) -> Result<(), Fail>
     requires made { IsMadeFor board.old.made_for machine.now }
-    requires marks { N.max_marks board.old.net ≡ 330 }
+    requires marks { N.reading.max_marks board.old.net ≡ 330 }
     ensures made { OnOk result (IsMadeFor board.new.made_for machine.now) }
-    ensures new { OnOk result (IsForNew N.net N.content N.past N.max_marks board.new machine.now) }
+    ensures new { OnOk result (IsForNew N.reading board.new machine.now) }
     ensures closed { OnOk result (board.new.steps ≡ []) }
 {
     let goal = goal_of(machine)?;
@@ -49,9 +49,9 @@ fn load<N: Network>(alloc: Global, board: &mut Board<N>, machine: &Machine) -> R
 
 /// Opens the goal, and tells the bound of the end.
 fn open<N: Network>(board: &mut Board<N>, machine: &Machine, room: u32) -> Result<Tick, Fail>
-    requires new { IsForNew N.net N.content N.past N.max_marks board.old machine.now }
+    requires new { IsForNew N.reading board.old machine.now }
     requires closed { board.old.steps ≡ [] }
-    ensures new { OnOk result (IsForNew N.net N.content N.past N.max_marks board.new machine.now) }
+    ensures new { OnOk result (IsForNew N.reading board.new machine.now) }
     ensures open { OnOk result (IsOpen 2 board.new) }
 {
     match board.open_goal(room) {
@@ -69,10 +69,10 @@ fn choose<N: Network>(
     room: u32,
     others: u32,
 ) -> Result<(Tick, Tick, u32), Fail>
-    requires new { IsForNew N.net N.content N.past N.max_marks board.old machine.now }
+    requires new { IsForNew N.reading board.old machine.now }
     requires open { IsOpen (others + 2) board.old }
     requires few { others ≤ 50 }
-    ensures new { OnOk result (IsForNew N.net N.content N.past N.max_marks board.new machine.now) }
+    ensures new { OnOk result (IsForNew N.reading board.new machine.now) }
     ensures open { OnOk result (IsOpen (others + 3) board.new) }
 {
     if u32::from(act.0) >= machine.actions.len() {
@@ -107,9 +107,9 @@ fn bound_of<N: Network>(
     way: &[(ActId, u32)],
 ) -> Result<Tick, Fail>
     requires made { IsMadeFor board.old.made_for machine.now }
-    requires marks { N.max_marks board.old.net ≡ 330 }
+    requires marks { N.reading.max_marks board.old.net ≡ 330 }
     requires few { length way.now ≤ 50 }
-    ensures new { OnOk result (IsForNew N.net N.content N.past N.max_marks board.new machine.now) }
+    ensures new { OnOk result (IsForNew N.reading board.new machine.now) }
 {
     load(alloc, board, machine)?;
     let mut bound = open(board, machine, 11)?;
@@ -129,9 +129,9 @@ pub(crate) fn bounds<N: Network>(
     machine: &Machine,
 ) -> Result<(), Fail>
     requires made { IsMadeFor board.old.made_for machine.now }
-    requires marks { N.max_marks board.old.net ≡ 330 }
+    requires marks { N.reading.max_marks board.old.net ≡ 330 }
     ensures made { OnOk result (IsMadeFor board.new.made_for machine.now) }
-    ensures marks { OnOk result (N.max_marks board.new.net ≡ 330) }
+    ensures marks { OnOk result (N.reading.max_marks board.new.net ≡ 330) }
 {
     let first = bound_of(alloc, board, machine, &[(OUT, 8), (PRINT2, 2), (FEED, 0)])?;
     assert_eq!(rt; first, 14);

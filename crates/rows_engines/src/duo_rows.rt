@@ -31,7 +31,7 @@ fn look_at_searches<N: Network>(
     machine: &Machine,
 ) -> Result<(), Fail>
     requires made { IsMadeFor board.old.made_for machine.now }
-    requires marks { 8 ≤ N.max_marks board.old.net }
+    requires marks { 8 ≤ N.reading.max_marks board.old.net }
     ensures { OnOk result (IsMadeFor board.new.made_for machine.now) }
 {
     earliest_in_turn(rt, alloc, board, machine)?;
@@ -68,7 +68,7 @@ fn look_at_all<N: Network>(
     machine: &Machine,
 ) -> Result<(), Fail>
     requires made { IsMadeFor board.old.made_for machine.now }
-    requires marks { N.max_marks board.old.net ≡ 330 }
+    requires marks { N.reading.max_marks board.old.net ≡ 330 }
     requires table { IsTableFor rooms.old machine.now }
 {
     new_copies(rt, rooms, machine)?;
@@ -87,7 +87,7 @@ fn look_with_rooms<N: Network>(
     machine: &Machine,
 ) -> Result<(), Fail>
     requires made { IsMadeFor board.old.made_for machine.now }
-    requires marks { N.max_marks board.old.net ≡ 330 }
+    requires marks { N.reading.max_marks board.old.net ≡ 330 }
 {
     let mut rooms = rooms_for(alloc, machine)?;
     let looked = look_at_all(rt, alloc, board, &mut rooms, machine);

@@ -141,11 +141,11 @@ fn tried_end<N: Network>(
 ) -> Result<Tick, Fail>
     requires work { IsFor work.old machine.now }
     requires ready { (plans : List Plan)
-        × IsReady N.net N.content N.past N.max_marks board.old machine.now plans ask.now }
+        × IsReady N.reading board.old machine.now plans ask.now }
     ensures work { work.new ≡ work.old }
     ensures ready { (plans : List Plan)
-        → IsReady N.net N.content N.past N.max_marks board.old machine.now plans ask.entry.now
-        → OnOk result (IsReady N.net N.content N.past N.max_marks board.new machine.now plans
+        → IsReady N.reading board.old machine.now plans ask.entry.now
+        → OnOk result (IsReady N.reading board.new machine.now plans
         ask.entry.now) }
 {
     match plan(board, work, machine, ask) {
@@ -167,7 +167,7 @@ fn commit_plan<N: Network>(
     ask: &Ask,
 ) -> Result<(), Fail>
     requires work { IsFor work.old machine.now }
-    requires ready { IsReady N.net N.content N.past N.max_marks board.old machine.now
+    requires ready { IsReady N.reading board.old machine.now
         schedule.old.plans ask.now }
     requires spare { 0 < schedule.old.spare }
 {
@@ -190,7 +190,7 @@ fn tried_twice<N: Network>(
 ) -> Result<(Tick, [Tick; 4]), Fail>
     requires work { IsFor work.old machine.now }
     requires made { IsMadeFor board.old.made_for machine.now }
-    requires marks { 8 ≤ N.max_marks board.old.net }
+    requires marks { 8 ≤ N.reading.max_marks board.old.net }
     requires can_ask { CanAsk machine.now schedule.old.plans ask.now }
     requires spare { 0 < schedule.old.spare }
 {
@@ -209,7 +209,7 @@ fn first_on<N: Network>(
 ) -> Result<(Tick, [Tick; 4]), Fail>
     requires work { IsFor work.old machine.now }
     requires made { IsMadeFor board.old.made_for machine.now }
-    requires marks { 8 ≤ N.max_marks board.old.net }
+    requires marks { 8 ≤ N.reading.max_marks board.old.net }
     requires empty { schedule.old.plans ≡ [] }
 {
     let ask = first_tray_ask(machine, 1, MONO)?;
@@ -226,7 +226,7 @@ fn first_tried<N: Network>(
     machine: &Machine,
 ) -> Result<(Tick, [Tick; 4]), Fail>
     requires made { IsMadeFor board.old.made_for machine.now }
-    requires marks { 8 ≤ N.max_marks board.old.net }
+    requires marks { 8 ≤ N.reading.max_marks board.old.net }
 {
     let mut work = work_for(alloc, machine, 1000)?;
     let mut schedule = Schedule::new(alloc);

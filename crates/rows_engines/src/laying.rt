@@ -70,7 +70,7 @@ pub(crate) fn begin<N: Network>(
     ensures table { OnOk result (IsTableFor rooms.new machine.now) }
     ensures rooms { OnOk result (AreRooms machine.now ask.entry.now rooms.new.sums) }
     ensures laid { IfOk result
-        (λ goal. IsLaid N.net N.content N.past board.new machine.now ask.entry.now goal 0) }
+        (λ goal. IsLaid N.reading board.new machine.now ask.entry.now goal 0) }
     ensures loaded { OnOk result
         (IsLoadedFrom machine.now schedule.now.plans ask.entry.now board.new.plans) }
 {
@@ -120,16 +120,16 @@ fn put<N: Network>(
     room: u32,
     place: u32,
 ) -> Result<(), Fail>
-    requires stands { Stands N.net N.content N.past board.old machine.now }
+    requires stands { Stands N.reading board.old machine.now }
     requires known { act.0 < length machine.now.actions }
     requires ready { IsSomeAnd board.old.ask
         (λ ask. IsSomeAnd (suffix_of board.old) (CanGoOn ask)) }
     ensures put { OnOk result
         (IsSomeAnd (suffix_of board.old)
         (IsPut machine.now board.old.plans act room place (suffix_of board.new))) }
-    ensures stands { Stands N.net N.content N.past board.new machine.now }
+    ensures stands { Stands N.reading board.new machine.now }
     ensures same { IsSameLoad board.old board.new }
-    ensures past { past_of N.past board.new ≡ past_of N.past board.old }
+    ensures past { past_of N.reading board.new ≡ past_of N.reading board.old }
 {
     let holds = &machine.actions.get(act.0 as u32).holds;
     if holds.len() != 1 {
@@ -169,13 +169,13 @@ fn lay_next<N: Network>(
     requires table { IsTableFor rooms.now machine.now }
     requires rooms { AreRooms machine.now ask.now rooms.now.sums }
     requires kept { kept_of ask.now ≤ 10 }
-    requires laid { IsLaid N.net N.content N.past board.old machine.now ask.now way.first way.many }
+    requires laid { IsLaid N.reading board.old machine.now ask.now way.first way.many }
     requires few { way.many ≤ 50 }
     ensures laid { IfOk result
-        (λ before. IsLaid N.net N.content N.past board.new machine.now ask.entry.now before
+        (λ before. IsLaid N.reading board.new machine.now ask.entry.now before
         (way.many + 1)) }
     ensures same { IsSameLoad board.old board.new }
-    ensures past { past_of N.past board.new ≡ past_of N.past board.old }
+    ensures past { past_of N.reading board.new ≡ past_of N.reading board.old }
 {
     let (act, room, place) = choice;
     if u32::from(act.0) >= machine.actions.len() {
@@ -198,10 +198,10 @@ pub(crate) fn bound_with<N: Network>(
     requires table { IsTableFor rooms.now machine.now }
     requires rooms { AreRooms machine.now ask.now rooms.now.sums }
     requires kept { kept_of ask.now ≤ 10 }
-    requires laid { IsLaid N.net N.content N.past board.old machine.now ask.now way.first way.many }
+    requires laid { IsLaid N.reading board.old machine.now ask.now way.first way.many }
     requires few { way.many ≤ 50 }
     ensures { OnOk result
-        (IsLaid N.net N.content N.past board.new machine.now ask.entry.now way.first way.many) }
+        (IsLaid N.reading board.new machine.now ask.entry.now way.first way.many) }
 {
     marks_keep_boards::<N>();
     if board.spare_marks() == 0 {
@@ -225,8 +225,8 @@ pub(crate) fn bounds_where_late<N: Network>(
     room: u32,
 ) -> Result<([Tick; 3], u32), Fail>
     requires kept { kept_of ask.now ≤ 10 }
-    requires laid { IsLaid N.net N.content N.past board.old machine.now ask.now state 0 }
-    ensures stands { OnOk result (Stands N.net N.content N.past board.new machine.now) }
+    requires laid { IsLaid N.reading board.old machine.now ask.now state 0 }
+    ensures stands { OnOk result (Stands N.reading board.new machine.now) }
     ensures told { OnOk result (IsTold N.refutes board.new) }
 {
     if u32::from(act.0) >= machine.actions.len() {
@@ -263,7 +263,7 @@ pub(crate) fn tried_at<N: Network>(
     choice: (ActId, u32, u32),
 ) -> Result<Option<Refused>, Fail>
     requires kept { kept_of ask.now ≤ 10 }
-    requires laid { IsLaid N.net N.content N.past board.old machine.now ask.now state 0 }
+    requires laid { IsLaid N.reading board.old machine.now ask.now state 0 }
     ensures { IsSameLoad board.old board.new }
 {
     let (act, room, place) = choice;
@@ -300,10 +300,10 @@ pub(crate) fn lay<N: Network>(
     requires table { IsTableFor rooms.now machine.now }
     requires rooms { AreRooms machine.now ask.now rooms.now.sums }
     requires kept { kept_of ask.now ≤ 10 }
-    requires laid { IsLaid N.net N.content N.past board.old machine.now ask.now goal 0 }
+    requires laid { IsLaid N.reading board.old machine.now ask.now goal 0 }
     requires few { length way.now ≤ 50 }
     ensures laid { IfOk result
-        (λ first. IsLaid N.net N.content N.past board.new machine.now ask.entry.now first
+        (λ first. IsLaid N.reading board.new machine.now ask.entry.now first
         (length way.now)) }
     ensures same { OnOk result (IsSameLoad board.old board.new) }
 {

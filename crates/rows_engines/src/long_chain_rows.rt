@@ -2,6 +2,7 @@
 ghost use Rattle.std.specs.Prelude.{◌≡◌, ℕ, ◌+◌, ◌<◌, ◌≤◌, [], length};
 ghost use Rattle.tp_base.specs.Net.{empty_net};
 
+use crate::probing::{go_back, set_mark};
 use std::process::Abort;
 use std::test::Fail;
 use tp_base::{Edge, Mark, Network, PointId, Undo};
@@ -18,15 +19,15 @@ const CAP: u32 = 1_000_000;
 
 /// Each point one tick after the one before.
 fn lay_chain<N: Network>(rt: &impl Abort, net: &mut N)
-    requires points { (N.net net.old).lows ≡ [] }
-    requires edges { (N.net net.old).edges ≡ [] }
-    requires max_points { N.max_points net.old ≡ 16642 }
-    requires max_edges { 16642 ≤ N.max_edges net.old }
-    ensures points { length (N.net net.new).lows ≡ 16642 }
-    ensures edges { length (N.net net.new).edges ≤ 16642 }
-    ensures past { N.past net.new ≡ N.past net.old }
-    ensures max_edges { N.max_edges net.new ≡ N.max_edges net.old }
-    ensures max_marks { N.max_marks net.new ≡ N.max_marks net.old }
+    requires points { (N.reading.net net.old).lows ≡ [] }
+    requires edges { (N.reading.net net.old).edges ≡ [] }
+    requires max_points { N.reading.max_points net.old ≡ 16642 }
+    requires max_edges { 16642 ≤ N.reading.max_edges net.old }
+    ensures points { length (N.reading.net net.new).lows ≡ 16642 }
+    ensures edges { length (N.reading.net net.new).edges ≤ 16642 }
+    ensures past { N.reading.past net.new ≡ N.reading.past net.old }
+    ensures max_edges { N.reading.max_edges net.new ≡ N.reading.max_edges net.old }
+    ensures max_marks { N.reading.max_marks net.new ≡ N.reading.max_marks net.old }
 {
     'chain: for number in 0..POINTS {
         assert_eq!(rt; net.point(0, CAP), Ok(PointId(number)));
@@ -44,11 +45,11 @@ fn lay_chain<N: Network>(rt: &impl Abort, net: &mut N)
 
 /// A hundred edges from the first point to the last, each a tick longer.
 fn lengthen<N: Network>(rt: &impl Abort, net: &mut N)
-    requires points { length (N.net net.old).lows ≡ 16642 }
-    requires edges { length (N.net net.old).edges ≤ 16642 }
-    requires room { 16742 ≤ N.max_edges net.old }
-    ensures past { N.past net.new ≡ N.past net.old }
-    ensures max_marks { N.max_marks net.new ≡ N.max_marks net.old }
+    requires points { length (N.reading.net net.old).lows ≡ 16642 }
+    requires edges { length (N.reading.net net.old).edges ≤ 16642 }
+    requires room { 16742 ≤ N.reading.max_edges net.old }
+    ensures past { N.reading.past net.new ≡ N.reading.past net.old }
+    ensures max_marks { N.reading.max_marks net.new ≡ N.reading.max_marks net.old }
 {
     'edges: for more in 0..100_u32 {
         let edge = Edge {
@@ -63,13 +64,13 @@ fn lengthen<N: Network>(rt: &impl Abort, net: &mut N)
 
 /// As many marks as there can be, with a lower bound that is saved for each.
 fn mark_all<N: Network>(rt: &impl Abort, net: &mut N)
-    requires points { length (N.net net.old).lows ≡ 16642 }
-    requires past { N.past net.old ≡ [] }
-    requires marks { N.max_marks net.old ≡ 330 }
-    ensures past { length (N.past net.new) ≡ 330 }
+    requires points { length (N.reading.net net.old).lows ≡ 16642 }
+    requires past { N.reading.past net.old ≡ [] }
+    requires marks { N.reading.max_marks net.old ≡ 330 }
+    ensures past { length (N.reading.past net.new) ≡ 330 }
 {
     'marks: for number in 0..MARKS {
-        assert_eq!(rt; net.mark(), Mark(number));
+        assert_eq!(rt; set_mark(net), Mark(number));
         let point = PointId(number);
         let time = net.earliest(point);
         assert_eq!(rt; net.raise(point, time), Ok(()));
@@ -78,16 +79,16 @@ fn mark_all<N: Network>(rt: &impl Abort, net: &mut N)
 
 /// A chain of as many points as there can be and as many edges; a mark, a hundred changes and a way back; then all marks.
 fn go_along<N: Network>(rt: &impl Abort, net: &mut N)
-    requires empty { N.net net.old ≡ empty_net }
-    requires past { N.past net.old ≡ [] }
-    requires points { N.max_points net.old ≡ 16642 }
-    requires edges { 16742 ≤ N.max_edges net.old }
-    requires marks { N.max_marks net.old ≡ 330 }
+    requires empty { N.reading.net net.old ≡ empty_net }
+    requires past { N.reading.past net.old ≡ [] }
+    requires points { N.reading.max_points net.old ≡ 16642 }
+    requires edges { 16742 ≤ N.reading.max_edges net.old }
+    requires marks { N.reading.max_marks net.old ≡ 330 }
 {
     lay_chain(rt, net);
-    let mark = net.mark();
+    let mark = set_mark(net);
     lengthen(rt, net);
-    net.undo_to(mark);
+    go_back(net, mark);
     assert_eq!(rt; net.earliest(PointId(POINTS - 1)), 16_641);
     mark_all(rt, net);
     assert_eq!(rt; net.spare_marks(), 0);

@@ -3,7 +3,7 @@ ghost use Rattle.std.specs.Prelude.{◌≡◌, ℕ, ◌+◌, ◌<◌, ◌≤◌,
 ghost use Rattle.tp_base.specs.Net.{empty_net};
 ghost use Rattle.rows_engines.specs.Rows.{edge_of, three_points};
 
-use crate::probing::could_take;
+use crate::probing::{could_take, go_back, set_mark};
 use std::alloc::Global;
 use std::process::Abort;
 use std::test::Fail;
@@ -30,13 +30,13 @@ fn edge(from: PointId, to: PointId, weight: i64) -> Edge
 
 /// Points A, B and C, an edge from A to B and one from B to C.
 fn lay_out<N: Network>(rt: &impl Abort, net: &mut N)
-    requires empty { N.net net.old ≡ empty_net }
-    requires points { N.max_points net.old ≡ 3 }
-    requires edges { 2 ≤ N.max_edges net.old }
-    ensures net { N.net net.new ≡ three_points }
-    ensures past { N.past net.new ≡ N.past net.old }
-    ensures marks { N.max_marks net.new ≡ N.max_marks net.old }
-    ensures edges { N.max_edges net.new ≡ N.max_edges net.old }
+    requires empty { N.reading.net net.old ≡ empty_net }
+    requires points { N.reading.max_points net.old ≡ 3 }
+    requires edges { 2 ≤ N.reading.max_edges net.old }
+    ensures net { N.reading.net net.new ≡ three_points }
+    ensures past { N.reading.past net.new ≡ N.reading.past net.old }
+    ensures marks { N.reading.max_marks net.new ≡ N.reading.max_marks net.old }
+    ensures edges { N.reading.max_edges net.new ≡ N.reading.max_edges net.old }
 {
     assert_eq!(rt; net.point(0, 20), Ok(A));
     assert_eq!(rt; net.point(3, 20), Ok(B));
@@ -48,21 +48,21 @@ fn lay_out<N: Network>(rt: &impl Abort, net: &mut N)
 
 /// What a mark keeps stands again after it was gone back to.
 fn goes_back<N: Network>(rt: &impl Abort, net: &mut N)
-    requires net { N.net net.old ≡ three_points }
-    requires past { N.past net.old ≡ [] }
-    requires marks { 0 < N.max_marks net.old }
-    requires edges { 3 ≤ N.max_edges net.old }
-    ensures net { N.net net.new ≡ three_points }
-    ensures past { N.past net.new ≡ [] }
-    ensures marks { N.max_marks net.new ≡ N.max_marks net.old }
-    ensures edges { N.max_edges net.new ≡ N.max_edges net.old }
+    requires net { N.reading.net net.old ≡ three_points }
+    requires past { N.reading.past net.old ≡ [] }
+    requires marks { 0 < N.reading.max_marks net.old }
+    requires edges { 3 ≤ N.reading.max_edges net.old }
+    ensures net { N.reading.net net.new ≡ three_points }
+    ensures past { N.reading.past net.new ≡ [] }
+    ensures marks { N.reading.max_marks net.new ≡ N.reading.max_marks net.old }
+    ensures edges { N.reading.max_edges net.new ≡ N.reading.max_edges net.old }
 {
-    let mark = net.mark();
+    let mark = set_mark(net);
     assert_eq!(rt; net.require(edge(A, C, 9)), Ok(()));
     assert_eq!(rt; net.earliest(C), 9);
     assert_eq!(rt; net.raise(B, 8), Ok(()));
     assert_eq!(rt; net.earliest(C), 10);
-    net.undo_to(mark);
+    go_back(net, mark);
     assert_eq!(rt; net.earliest(B), 5);
     assert_eq!(rt; net.earliest(C), 7);
 }
@@ -77,10 +77,10 @@ fn weigh(edges: &[Edge]) -> i64 {
 
 /// An edge that leaves C too little time is refused, with the chain that shows it.
 fn shows_a_chain<N: Network>(rt: &impl Abort, net: &mut N)
-    requires net { N.net net.old ≡ three_points }
-    requires edges { 3 ≤ N.max_edges net.old }
-    ensures net { N.net net.new ≡ N.net net.old }
-    ensures edges { N.max_edges net.new ≡ N.max_edges net.old }
+    requires net { N.reading.net net.old ≡ three_points }
+    requires edges { 3 ≤ N.reading.max_edges net.old }
+    ensures net { N.reading.net net.new ≡ N.reading.net net.old }
+    ensures edges { N.reading.max_edges net.new ≡ N.reading.max_edges net.old }
 {
     assert_eq!(rt; net.require(edge(B, C, 16)), Err(Late));
     assert_eq!(rt; net.earliest(C), 7);
@@ -95,8 +95,8 @@ fn shows_a_chain<N: Network>(rt: &impl Abort, net: &mut N)
 
 /// An edge that closes a walk with a positive sum is refused, with what shows it.
 fn shows_a_closed_walk<N: Network>(rt: &impl Abort, net: &mut N)
-    requires net { N.net net.old ≡ three_points }
-    requires edges { 3 ≤ N.max_edges net.old }
+    requires net { N.reading.net net.old ≡ three_points }
+    requires edges { 3 ≤ N.reading.max_edges net.old }
 {
     assert_eq!(rt; net.require(edge(C, B, -1)), Err(Late));
     assert_eq!(rt; net.earliest(C), 7);
@@ -108,11 +108,11 @@ fn shows_a_closed_walk<N: Network>(rt: &impl Abort, net: &mut N)
 
 /// All rows of one network.
 fn look_at_net<N: Network>(rt: &impl Abort, net: &mut N)
-    requires empty { N.net net.old ≡ empty_net }
-    requires past { N.past net.old ≡ [] }
-    requires points { N.max_points net.old ≡ 3 }
-    requires edges { N.max_edges net.old ≡ 5 }
-    requires marks { N.max_marks net.old ≡ 1 }
+    requires empty { N.reading.net net.old ≡ empty_net }
+    requires past { N.reading.past net.old ≡ [] }
+    requires points { N.reading.max_points net.old ≡ 3 }
+    requires edges { N.reading.max_edges net.old ≡ 5 }
+    requires marks { N.reading.max_marks net.old ≡ 1 }
 {
     lay_out(rt, net);
     goes_back(rt, net);

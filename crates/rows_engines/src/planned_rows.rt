@@ -162,7 +162,7 @@ fn begun_behind<N: Network>(
     ensures rooms { IfOk result (λ begun. AreRooms machine.now begun.0 rooms.new.sums) }
     ensures kept { IfOk result (λ begun. kept_of begun.0 ≤ 10) }
     ensures laid { IfOk result
-        (λ begun. IsLaid N.net N.content N.past board.new machine.now begun.0 begun.1
+        (λ begun. IsLaid N.reading board.new machine.now begun.0 begun.1
         (length way.now)) }
 {
     let ask = new_ask(machine, 2)?;
@@ -189,7 +189,7 @@ pub(crate) fn second_begun<N: Network>(
     ensures rooms { IfOk result (λ begun. AreRooms machine.now begun.0 rooms.new.sums) }
     ensures kept { IfOk result (λ begun. kept_of begun.0 ≤ 10) }
     ensures laid { IfOk result
-        (λ begun. IsLaid N.net N.content N.past board.new machine.now begun.0 begun.1
+        (λ begun. IsLaid N.reading board.new machine.now begun.0 begun.1
         (length way.now)) }
 {
     let schedule = one_planned(alloc, board, rooms, machine)?;

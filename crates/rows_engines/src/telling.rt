@@ -23,7 +23,7 @@ fn edge_names<N: Network>(
     board: &Board<N>,
     edges: &[Edge],
 ) -> Result<Vec<(Why, Spot)>, Fail>
-    requires stands { (m : Machine) × Stands N.net N.content N.past board.now m }
+    requires stands { (m : Machine) × Stands N.reading board.now m }
     requires causes { HaveCauses board.now edges.now }
     ensures { IfOk result (λ names. map Some names.items ≡ map (edge_name board.now) edges.now) }
 {
@@ -40,7 +40,7 @@ fn edge_names<N: Network>(
 
 /// The names of the last refusal's reason.
 pub(crate) fn reason_of<N: Network>(alloc: Global, board: &Board<N>) -> Result<Reason, Fail>
-    requires stands { (m : Machine) × Stands N.net N.content N.past board.now m }
+    requires stands { (m : Machine) × Stands N.reading board.now m }
     requires told { IsTold N.refutes board.now }
     ensures { IfOk result
         (λ reason. AreNames N.refutes board.now reason.first reason.edges.items) }
@@ -63,7 +63,7 @@ pub(crate) fn reason_by<N: Network>(
     board: &mut Board<N>,
     last: Tick,
 ) -> Result<Reason, Fail>
-    requires stands { (m : Machine) × Stands N.net N.content N.past board.old m }
+    requires stands { (m : Machine) × Stands N.reading board.old m }
     requires open { IsSome (suffix_of board.old) }
     ensures { IfOk result
         (λ reason. AreNames N.refutes board.new reason.first reason.edges.items) }

@@ -4,4 +4,4 @@ use Rattle.std.specs.Prelude.{ℕ, List}
 -- its items, and how many there can be
 pub record Trailed (T : Type 0) : Type 0 where
   pub items : List T
-  pub room : ℕ
+  pub capacity : ℕ

@@ -10,156 +10,147 @@ use crate::undo::Undo;
 /// Points in time with a lower and an upper bound each, in ticks, and edges between them. It keeps a solution: each
 /// change that would leave none is refused.
 pub trait Network: Undo {
+    ghost use Rattle.tp_base.specs.Readings.{IsKeptByMarks, IsSameSize, Reading};
     ghost use Rattle.tp_base.specs.Refute.{Refutes};
 
-    /// The points and edges.
-    ghost net: { Self → Net };
+    /// Its points and edges, now and at its marks, and for how many there is room.
+    ghost reading: { Reading Self };
 
     /// What is kept of the last refusal shows that this net has no solution.
     ghost refutes: { Self → Net → Type 0 };
 
-    /// How many points there can be.
-    ghost max_points: { Self → ℕ };
-
-    /// How many edges there can be.
-    ghost max_edges: { Self → ℕ };
-
     /// Leaves no point, no edge and no mark in force.
     fn clear(&mut self)
-        ensures net { net self.new ≡ empty_net }
-        ensures past { Self.past self.new ≡ [] }
-        ensures marks { Self.max_marks self.new ≡ Self.max_marks self.old }
-        ensures points { max_points self.new ≡ max_points self.old }
-        ensures edges { max_edges self.new ≡ max_edges self.old };
+        ensures net { reading.net self.new ≡ empty_net }
+        ensures past { reading.past self.new ≡ [] }
+        ensures same_size { IsSameSize reading self.old self.new };
 
     /// Adds a point, which gets the next number.
     fn point(&mut self, low: u32, cap: u32) -> Result<PointId, Full>
         requires { low ≤ cap }
-        ensures full { IsErr result ↔ (length (net self.old).lows ≡ max_points self.old) }
-        ensures number { IfOk result (λ p. p.0 ≡ length (net self.old).lows) }
-        ensures added { OnOk result (net self.new ≡ with_point (net self.old) low cap) }
-        ensures solved { OnOk result (HasLeast (net self.new)) }
-        ensures kept { OnErr result (Self.content self.new ≡ Self.content self.old) }
-        ensures past { Self.past self.new ≡ Self.past self.old }
-        ensures marks { Self.max_marks self.new ≡ Self.max_marks self.old }
-        ensures points { max_points self.new ≡ max_points self.old }
-        ensures edges { max_edges self.new ≡ max_edges self.old };
+        ensures full { IsErr result ↔ (length (reading.net self.old).lows
+            ≡ reading.max_points self.old) }
+        ensures number { IfOk result (λ p. p.0 ≡ length (reading.net self.old).lows) }
+        ensures added { OnOk result (reading.net self.new
+            ≡ with_point (reading.net self.old) low cap) }
+        ensures solved { OnOk result (HasLeast (reading.net self.new)) }
+        ensures kept { OnErr result (reading.net self.new ≡ reading.net self.old) }
+        ensures past { reading.past self.new ≡ reading.past self.old }
+        ensures same_size { IsSameSize reading self.old self.new };
 
     fn spare_edges(&self) -> u32
-        ensures { result + length (net self.now).edges ≡ max_edges self.now };
+        ensures { result + length (reading.net self.now).edges ≡ reading.max_edges self.now };
 
     /// Adds an edge, or leaves the content where no solution would be left.
     fn require(&mut self, edge: Edge) -> Result<(), Late>
-        requires from { edge.from.0 < length (net self.old).lows }
-        requires to { edge.to.0 < length (net self.old).lows }
-        requires spare { length (net self.old).edges < max_edges self.old }
+        requires from { edge.from.0 < length (reading.net self.old).lows }
+        requires to { edge.to.0 < length (reading.net self.old).lows }
+        requires spare { length (reading.net self.old).edges < reading.max_edges self.old }
         requires least { negsuc 999999 ≤ℤ edge.weight }
         requires most { edge.weight ≤ℤ pos 1000000 }
-        ensures added { OnOk result (net self.new ≡ with_edge (net self.old) edge) }
-        ensures solved { OnOk result (HasLeast (net self.new)) }
-        ensures late { OnErr result (HasNoSolution (with_edge (net self.old) edge)) }
-        ensures kept { OnErr result (Self.content self.new ≡ Self.content self.old) }
-        ensures refused { OnErr result (refutes self.new (with_edge (net self.old) edge)) }
-        ensures past { Self.past self.new ≡ Self.past self.old }
-        ensures marks { Self.max_marks self.new ≡ Self.max_marks self.old }
-        ensures points { max_points self.new ≡ max_points self.old }
-        ensures edges { max_edges self.new ≡ max_edges self.old };
+        ensures added { OnOk result (reading.net self.new ≡ with_edge (reading.net self.old) edge) }
+        ensures solved { OnOk result (HasLeast (reading.net self.new)) }
+        ensures late { OnErr result (HasNoSolution (with_edge (reading.net self.old) edge)) }
+        ensures kept { OnErr result (reading.net self.new ≡ reading.net self.old) }
+        ensures refused { OnErr result (refutes self.new (with_edge (reading.net self.old) edge)) }
+        ensures past { reading.past self.new ≡ reading.past self.old }
+        ensures same_size { IsSameSize reading self.old self.new };
 
     /// Adds edges, all of them, or leaves the content where no solution would be left.
     fn require_all(&mut self, edges: &[Edge]) -> Result<(), Late>
-        requires known { All (IsKnown (length (net self.old).lows)) edges.now }
-        requires spare { length (net self.old).edges + length edges.now ≤ max_edges self.old }
-        ensures added { OnOk result (net self.new ≡ with_edges (net self.old) edges.now) }
-        ensures solved { OnOk result (HasLeast (net self.new)) }
-        ensures late { OnErr result (HasNoSolution (with_edges (net self.old) edges.now)) }
-        ensures kept { OnErr result (Self.content self.new ≡ Self.content self.old) }
-        ensures refused { OnErr result (refutes self.new (with_edges (net self.old) edges.now)) }
-        ensures past { Self.past self.new ≡ Self.past self.old }
-        ensures marks { Self.max_marks self.new ≡ Self.max_marks self.old }
-        ensures points { max_points self.new ≡ max_points self.old }
-        ensures edges { max_edges self.new ≡ max_edges self.old };
+        requires known { All (IsKnown (length (reading.net self.old).lows)) edges.now }
+        requires spare { length (reading.net self.old).edges + length edges.now
+            ≤ reading.max_edges self.old }
+        ensures added { OnOk result (reading.net self.new
+            ≡ with_edges (reading.net self.old) edges.now) }
+        ensures solved { OnOk result (HasLeast (reading.net self.new)) }
+        ensures late { OnErr result (HasNoSolution (with_edges (reading.net self.old) edges.now)) }
+        ensures kept { OnErr result (reading.net self.new ≡ reading.net self.old) }
+        ensures refused { OnErr result (refutes self.new
+            (with_edges (reading.net self.old) edges.now)) }
+        ensures past { reading.past self.new ≡ reading.past self.old }
+        ensures same_size { IsSameSize reading self.old self.new };
 
     /// Adds a point, which gets the next number, and edges, all of it, or leaves the content where no solution would be left.
     fn extend(&mut self, low: u32, cap: u32, edges: &[Edge]) -> Result<(), Late>
-        requires room { length (net self.old).lows < max_points self.old }
-        requires known { All (IsKnown (length (net self.old).lows + 1)) edges.now }
-        requires spare { length (net self.old).edges + length edges.now ≤ max_edges self.old }
+        requires capacity { length (reading.net self.old).lows < reading.max_points self.old }
+        requires known { All (IsKnown (length (reading.net self.old).lows + 1)) edges.now }
+        requires spare { length (reading.net self.old).edges + length edges.now
+            ≤ reading.max_edges self.old }
         ensures added { OnOk result
-            (net self.new ≡ with_edges (with_point (net self.old) low cap) edges.now) }
-        ensures solved { OnOk result (HasLeast (net self.new)) }
+            (reading.net self.new
+            ≡ with_edges (with_point (reading.net self.old) low cap) edges.now) }
+        ensures solved { OnOk result (HasLeast (reading.net self.new)) }
         ensures late { OnErr result
-            (HasNoSolution (with_edges (with_point (net self.old) low cap) edges.now)) }
-        ensures kept { OnErr result (Self.content self.new ≡ Self.content self.old) }
+            (HasNoSolution (with_edges (with_point (reading.net self.old) low cap) edges.now)) }
+        ensures kept { OnErr result (reading.net self.new ≡ reading.net self.old) }
         ensures refused { OnErr result
-            (refutes self.new (with_edges (with_point (net self.old) low cap) edges.now)) }
-        ensures past { Self.past self.new ≡ Self.past self.old }
-        ensures marks { Self.max_marks self.new ≡ Self.max_marks self.old }
-        ensures points { max_points self.new ≡ max_points self.old }
-        ensures edges { max_edges self.new ≡ max_edges self.old };
+            (refutes self.new (with_edges (with_point (reading.net self.old) low cap) edges.now)) }
+        ensures past { reading.past self.new ≡ reading.past self.old }
+        ensures same_size { IsSameSize reading self.old self.new };
 
     /// Adds edges that leave a solution. The times are worked out once for all of them, so that many edges cost little.
     fn load(&mut self, edges: &[Edge])
-        requires known { All (IsKnown (length (net self.old).lows)) edges.now }
-        requires spare { length (net self.old).edges + length edges.now ≤ max_edges self.old }
+        requires known { All (IsKnown (length (reading.net self.old).lows)) edges.now }
+        requires spare { length (reading.net self.old).edges + length edges.now
+            ≤ reading.max_edges self.old }
         requires solution { (x : ℕ → ℕ) × IsSolution
-            (with_edges (net self.old) edges.now) x }
-        ensures added { net self.new ≡ with_edges (net self.old) edges.now }
-        ensures solved { HasLeast (net self.new) }
-        ensures past { Self.past self.new ≡ Self.past self.old }
-        ensures marks { Self.max_marks self.new ≡ Self.max_marks self.old }
-        ensures points { max_points self.new ≡ max_points self.old }
-        ensures edges { max_edges self.new ≡ max_edges self.old };
+            (with_edges (reading.net self.old) edges.now) x }
+        ensures added { reading.net self.new ≡ with_edges (reading.net self.old) edges.now }
+        ensures solved { HasLeast (reading.net self.new) }
+        ensures past { reading.past self.new ≡ reading.past self.old }
+        ensures same_size { IsSameSize reading self.old self.new };
 
     /// Raises the lower bound of a point, or leaves the content where no solution would be left.
     fn raise(&mut self, point: PointId, low: u32) -> Result<(), Late>
-        requires known { point.0 < length (net self.old).lows }
-        requires more { slice_index (net self.old).lows point.0 ≤ low }
-        ensures raised { OnOk result (net self.new ≡ with_low (net self.old) point.0 low) }
-        ensures solved { OnOk result (HasLeast (net self.new)) }
-        ensures late { OnErr result (HasNoSolution (with_low (net self.old) point.0 low)) }
-        ensures kept { OnErr result (Self.content self.new ≡ Self.content self.old) }
-        ensures refused { OnErr result (refutes self.new (with_low (net self.old) point.0 low)) }
-        ensures past { Self.past self.new ≡ Self.past self.old }
-        ensures marks { Self.max_marks self.new ≡ Self.max_marks self.old }
-        ensures points { max_points self.new ≡ max_points self.old }
-        ensures edges { max_edges self.new ≡ max_edges self.old };
+        requires known { point.0 < length (reading.net self.old).lows }
+        requires more { slice_index (reading.net self.old).lows point.0 ≤ low }
+        ensures raised { OnOk result (reading.net self.new
+            ≡ with_low (reading.net self.old) point.0 low) }
+        ensures solved { OnOk result (HasLeast (reading.net self.new)) }
+        ensures late { OnErr result (HasNoSolution (with_low (reading.net self.old) point.0 low)) }
+        ensures kept { OnErr result (reading.net self.new ≡ reading.net self.old) }
+        ensures refused { OnErr result (refutes self.new
+            (with_low (reading.net self.old) point.0 low)) }
+        ensures past { reading.past self.new ≡ reading.past self.old }
+        ensures same_size { IsSameSize reading self.old self.new };
 
     /// Moves the bounds of a point round its time: the lower one up, and the upper one either way. So the least solution stays,
     /// and nothing is worked out. No mark may be in force.
     fn set_bounds(&mut self, point: PointId, low: u32, cap: u32)
-        requires known { point.0 < length (net self.old).lows }
-        requires unmarked { Self.past self.old ≡ [] }
-        requires more { slice_index (net self.old).lows point.0 ≤ low }
-        requires around { (t : ℕ) → IsEarliest (net self.old) point.0 t → (low ≤ t) × (t ≤ cap) }
-        ensures moved { net self.new ≡ with_bounds_at (net self.old) point.0 low cap }
-        ensures same_least { (x : ℕ → ℕ) → IsLeast (net self.old) x → IsLeast (net self.new) x }
-        ensures past { Self.past self.new ≡ [] }
-        ensures marks { Self.max_marks self.new ≡ Self.max_marks self.old }
-        ensures points { max_points self.new ≡ max_points self.old }
-        ensures edges { max_edges self.new ≡ max_edges self.old };
+        requires known { point.0 < length (reading.net self.old).lows }
+        requires unmarked { reading.past self.old ≡ [] }
+        requires more { slice_index (reading.net self.old).lows point.0 ≤ low }
+        requires around { (t : ℕ) → IsEarliest (reading.net self.old) point.0 t
+            → (low ≤ t) × (t ≤ cap) }
+        ensures moved { reading.net self.new
+            ≡ with_bounds_at (reading.net self.old) point.0 low cap }
+        ensures same_least { (x : ℕ → ℕ) → IsLeast (reading.net self.old) x
+            → IsLeast (reading.net self.new) x }
+        ensures past { reading.past self.new ≡ [] }
+        ensures same_size { IsSameSize reading self.old self.new };
 
     /// The point's time in the least solution.
     fn earliest(&self, point: PointId) -> u32
-        requires { point.0 < length (net self.now).lows }
-        ensures { IsEarliest (net self.now) point.0 result };
+        requires { point.0 < length (reading.net self.now).lows }
+        ensures { IsEarliest (reading.net self.now) point.0 result };
 
     /// Why the last change was refused. `mark` and `undo_to` leave it as it is.
     fn proof(&self) -> Proof<'_>
         requires { (late : Net) × refutes self.now late }
         ensures { (late : Net) → refutes self.now late → Refutes late result };
 
-    /// What a mark keeps is the net.
-    ghost net_by_content: { (a b : Self) → Self.content a ≡ Self.content b
-        → net a ≡ net b };
+    /// What its marks keep is what is read.
+    ghost kept_by_marks: { IsKeptByMarks reading Self.content Self.past Self.max_marks };
 
     /// What marks leave alone has what is kept of the last refusal,
-    ghost refutes_by_aside: { (a b : Self) (late : Net) → Self.aside a ≡ Self.aside b
-        → refutes a late → refutes b late };
+    ghost refutes_by_untouched: { (a b : Self) (late : Net)
+        → Self.untouched a ≡ Self.untouched b → refutes a late → refutes b late };
 
     /// and the numbers that the network was made for.
-    ghost points_by_aside: { (a b : Self) → Self.aside a ≡ Self.aside b
-        → max_points a ≡ max_points b };
+    ghost points_by_untouched: { (a b : Self) → Self.untouched a ≡ Self.untouched b
+        → reading.max_points a ≡ reading.max_points b };
 
-    ghost edges_by_aside: { (a b : Self) → Self.aside a ≡ Self.aside b
-        → max_edges a ≡ max_edges b };
+    ghost edges_by_untouched: { (a b : Self) → Self.untouched a ≡ Self.untouched b
+        → reading.max_edges a ≡ reading.max_edges b };
 }

@@ -10,7 +10,7 @@ use std::marker::Model;
 #[derive(Drop)]
 pub struct Trail<T: Copy> {
     items: Vec<T>,
-    room: u32,
+    capacity: u32,
 }
 
 // Clauses see the list and its room.
@@ -20,29 +20,29 @@ impl<T: Copy> Model for Trail<T> {
 
     ghost Value = { Trailed T };
 
-    ghost view = { λ s. record { items = s.items.items; room = s.room } };
+    ghost view = { λ s. record { items = s.items.items; capacity = s.capacity } };
 
-    ghost invariant = { λ s. (length s.items.items ≤ s.room) × (s.room ≤ vec_capacity s.items)
-        × (s.room < 2 ^ 32) };
+    ghost invariant = { λ s. (length s.items.items ≤ s.capacity) × (s.capacity ≤ vec_capacity s.items)
+        × (s.capacity < 2 ^ 32) };
 }
 
 impl<T: Copy> Trail<T> {
     /// Takes all the memory that the trail will ever hold.
-    pub fn new(alloc: Global, room: u32) -> Result<Trail<T>, Memory>
+    pub fn new(alloc: Global, capacity: u32) -> Result<Trail<T>, Memory>
         ensures items { IfOk result (λ t. t.items ≡ []) }
-        ensures room { IfOk result (λ t. t.room ≡ room) }
+        ensures capacity { IfOk result (λ t. t.capacity ≡ capacity) }
     {
-        let items = Vec::with_capacity(alloc, room as usize)?;
-        Ok(Trail { items, room })
+        let items = Vec::with_capacity(alloc, capacity as usize)?;
+        Ok(Trail { items, capacity })
     }
 
     pub fn push(&mut self, item: T) -> Result<(), Full>
-        ensures full { IsErr result ↔ (length self.old.items ≡ self.old.room) }
+        ensures full { IsErr result ↔ (length self.old.items ≡ self.old.capacity) }
         ensures ok { OnOk result (self.new
-            ≡ record { items = self.old.items ++ item ∷ []; room = self.old.room }) }
+            ≡ record { items = self.old.items ++ item ∷ []; capacity = self.old.capacity }) }
         ensures stays { OnErr result (self.new ≡ self.old) }
     {
-        if self.items.len() == self.room as usize {
+        if self.items.len() == self.capacity as usize {
             return Err(Full);
         }
         self.items.push_reserved(item);
@@ -51,7 +51,7 @@ impl<T: Copy> Trail<T> {
 
     pub fn len(&self) -> u32
         ensures len { result ≡ length self.now.items }
-        ensures within { result ≤ self.now.room }
+        ensures within { result ≤ self.now.capacity }
     {
         self.items.len() as u32
     }
@@ -66,14 +66,14 @@ impl<T: Copy> Trail<T> {
     /// Leaves the first `len` items.
     pub fn cut_to(&mut self, len: u32)
         requires { len ≤ length self.old.items }
-        ensures { self.new ≡ record { items = take len self.old.items; room = self.old.room } }
+        ensures { self.new ≡ record { items = take len self.old.items; capacity = self.old.capacity } }
     {
         self.items.truncate(len as usize);
     }
 
     /// Turns the order of the items round.
     pub fn reverse(&mut self)
-        ensures { self.new ≡ record { items = reverse self.old.items; room = self.old.room } }
+        ensures { self.new ≡ record { items = reverse self.old.items; capacity = self.old.capacity } }
     {
         self.items.reverse();
     }

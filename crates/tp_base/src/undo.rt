@@ -11,11 +11,11 @@ pub trait Undo {
     ghost Content: { Type 0 };
 
     /// What marks leave alone, as sizes that never change.
-    ghost Aside: { Type 0 };
+    ghost Untouched: { Type 0 };
 
     ghost content: { Self → Content };
 
-    ghost aside: { Self → Aside };
+    ghost untouched: { Self → Untouched };
 
     /// The content at each mark in force, the oldest first.
     ghost past: { Self → List Content };
@@ -31,13 +31,13 @@ pub trait Undo {
         ensures number { result.0 ≡ length (past self.old) }
         ensures past { past self.new ≡ past self.old ++ content self.old ∷ [] }
         ensures content { content self.new ≡ content self.old }
-        ensures aside { aside self.new ≡ aside self.old }
-        ensures room { max_marks self.new ≡ max_marks self.old };
+        ensures untouched { untouched self.new ≡ untouched self.old }
+        ensures capacity { max_marks self.new ≡ max_marks self.old };
 
     fn undo_to(&mut self, mark: Mark)
         requires { mark.0 < length (past self.old) }
         ensures content { slice_get (past self.old) mark.0 ≡ Some (content self.new) }
         ensures past { past self.new ≡ take mark.0 (past self.old) }
-        ensures aside { aside self.new ≡ aside self.old }
-        ensures room { max_marks self.new ≡ max_marks self.old };
+        ensures untouched { untouched self.new ≡ untouched self.old }
+        ensures capacity { max_marks self.new ≡ max_marks self.old };
 }

@@ -15,8 +15,8 @@ pub fn trace_causes(
 ) -> Option<PointId>
     requires known { from.0 < length causes.now }
     requires causes { AreCauses causes.now }
-    requires path_room { length causes.now ≤ vec_capacity path.old }
-    requires places_room { length causes.now ≤ vec_capacity places.old }
+    requires path_capacity { length causes.now ≤ vec_capacity path.old }
+    requires places_capacity { length causes.now ≤ vec_capacity places.old }
     ensures chain { IfSome result
         (λ first. IsCauseChain causes.now first.0 path.new.items from.0) }
     ensures circle { IfNone result (IsCauseCircle causes.now path.new.items) }

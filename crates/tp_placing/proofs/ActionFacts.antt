@@ -5,6 +5,7 @@ use Rattle.std.proofs.lemmas.Int.{ints}
 use Rattle.std.proofs.lemmas.Option.{slice_get_within}
 use Rattle.std.proofs.lemmas.List.{length-append, length-map, append-nil}
 use Rattle.std.proofs.lemmas.List.Elements.{All-cons, All-nil}
+use Rattle.tp_base.specs.Readings.{Reading}
 use Rattle.tp_base.specs.declared.edges.Edge.{Edge}
 use Rattle.tp_base.specs.declared.edges.PointId.{PointId}
 use Rattle.tp_base.specs.Net.{Net, HasLeast, HasNoSolution, with_point, with_edges}
@@ -66,12 +67,12 @@ pub record OpensHere {N : Type 0} (net : N → Net) (b : BoardValue N) (m : Mach
   pub hand : IsAtHand (length (table_of b.plans)) (Some x) newest
   pub some : 0 < length b.steps
 
-pub opens-here : {N C : Type 0} (net : N → Net) (content : N → C) (past : N → List C) (b : BoardValue N) (m : Machine) (ask : Ask) (newest : Step) → StandsOn net content past b m ask
-    → IsSomeAnd b.ask (λ a. IsSomeAnd (suffix_after b.steps) (CanGoOn a)) → slice_get b.steps (length b.steps - 1) ≡ Some newest → OpensHere net b m ask newest
-opens-here net content past b m ask newest s ready last =
+pub opens-here : {N : Type 0} (reading : Reading N) (b : BoardValue N) (m : Machine) (ask : Ask) (newest : Step) → StandsOn reading b m ask
+    → IsSomeAnd b.ask (λ a. IsSomeAnd (suffix_after b.steps) (CanGoOn a)) → slice_get b.steps (length b.steps - 1) ≡ Some newest → OpensHere reading.net b m ask newest
+opens-here reading b m ask newest s ready last =
     let at_ask : IsSomeAnd (suffix_after b.steps) (CanGoOn ask) = subst (λ o. IsSomeAnd o (λ a. IsSomeAnd (suffix_after b.steps) (CanGoOn a))) s.asked ready in
     let y = some-and (suffix_after b.steps) (CanGoOn ask) at_ask in
-    let at = at-suffix net content past b m ask y.0 s y.1 in
+    let at = at-suffix reading b m ask y.0 s y.1 in
     record { x = y.0; suffix = y.1; can = y.2; at = at; hand = at.at_hand newest last; some = some-steps b.steps y.0 y.1 }
 
 module _ {N : Type 0} (net : N → Net) (b : BoardValue N) (m : Machine) (ask : Ask) (newest : Step) (o : OpensHere net b m ask newest) (act : ActId) (a : Action) (is_action : action_at m act.0 ≡ Some a)

@@ -1,6 +1,7 @@
 -- What a board that follows the schedule has become.
 use Rattle.std.proofs.Common.{◌≡◌, ◌∙◌, ℕ, suc, ◌+◌, false, List, [], ◌∷◌, ◌++◌, arith, drop, length, subst, sym, take, Some}
 use Rattle.std.proofs.lemmas.List.{drop_all, take_all}
+use Rattle.tp_base.specs.Readings.{Reading}
 use Rattle.tp_base.specs.Net.{Net}
 use Rattle.tp_base.specs.declared.edges.PointId.{PointId}
 use Rattle.tp_machine.specs.declared.machine.Machine.{Machine}
@@ -27,13 +28,13 @@ pub record IsStill (machine : Machine) (now : ℕ) (plans : List Plan) (n : Net)
   pub loaded : IsLoaded machine now plans n lines held firsts causes
   pub last_point : last ≡ point_count plans
 
-pub still : {N C : Type 0} (net : N → Net) (content : N → C) (past : N → List C) (b : BoardValue N) (machine : Machine) (now : ℕ) → Stands net content past b machine → b.steps ≡ [] → ((before : Ask) → b.ask ≡ Some before → before.now ≡ now)
-    → IsStill machine now b.plans (net b.net) b.orders.orders b.held b.firsts b.last.0 b.causes
-still net content past b machine now (ask, s) closed moment =
+pub still : {N : Type 0} (reading : Reading N) (b : BoardValue N) (machine : Machine) (now : ℕ) → Stands reading b machine → b.steps ≡ [] → ((before : Ask) → b.ask ≡ Some before → before.now ≡ now)
+    → IsStill machine now b.plans (reading.net b.net) b.orders.orders b.held b.firsts b.last.0 b.causes
+still reading b machine now (ask, s) closed moment =
     let same = moment ask s.asked in
     record {
       loadable = subst (λ t. IsLoadable machine t (λ _. false) b.plans) same s.loadable;
-      loaded = subst (λ t. IsLoaded machine t b.plans (net b.net) b.orders.orders b.held b.firsts b.causes) same (loaded-again net content past b machine ask s closed);
+      loaded = subst (λ t. IsLoaded machine t b.plans (reading.net b.net) b.orders.orders b.held b.firsts b.causes) same (loaded-again reading b machine ask s closed);
       last_point = s.last ∙ length-table-of b.plans;
     }
 
@@ -54,7 +55,7 @@ one-behind machine now old new n lines held firsts last causes was can first mor
     record { plans = old; newest = x.0; are = x.1; can = subst (CanLoad machine now) x.1 can; loadable = was.loadable; loaded = was.loaded; last_point = was.last_point }
 
 -- without marks there are none, whatever holds and steps there are
-pub no-past : {C : Type 0} (held held' : List Held) (steps steps' : List Step) (cs : List C) (os : List (List (List ℕ))) (ms : List BoardMark) → side_by_side held steps cs os ms ≡ [] → side_by_side held' steps' cs os ms ≡ []
+pub no-past : (held held' : List Held) (steps steps' : List Step) (cs : List Net) (os : List (List (List ℕ))) (ms : List BoardMark) → side_by_side held steps cs os ms ≡ [] → side_by_side held' steps' cs os ms ≡ []
 no-past held held' steps steps' [] os ms none = none
 no-past held held' steps steps' (c ∷ cs) [] ms none = none
 no-past held held' steps steps' (c ∷ cs) (o ∷ os) [] none = none

@@ -18,6 +18,8 @@ pub mod NearNet
 pub mod LineFacts
 pub mod GoalFacts
 pub mod ReadFacts
+pub mod ReadingFacts
+pub mod AddingFacts
 pub mod MarkFacts
 pub mod WriteTimes
 pub mod WritePlans
@@ -63,3 +65,7 @@ pub mod AddedParts
 pub mod AddedNet
 pub mod FollowFacts
 pub mod BehindFacts
+pub mod NewestFacts
+pub mod NextHold
+pub mod CandidateFacts
+pub mod CandidateTried

@@ -1,6 +1,7 @@
 -- A board on which no goal is open is loaded, whatever is asked of it next.
 use Rattle.std.proofs.Common.{◌≡◌, ◌∙◌, ℕ, ◌+◌, ◌<◌, ◌≤◌, false, List, [], length, All, get_or, ap, sym, subst, arith}
 use Rattle.std.proofs.lemmas.List.Elements.{All-contains}
+use Rattle.tp_base.specs.Readings.{Reading}
 use Rattle.tp_base.specs.Net.{Net}
 use Rattle.tp_base.specs.declared.edges.Edge.{Edge}
 use Rattle.tp_machine.specs.declared.machine.Machine.{Machine}
@@ -44,17 +45,17 @@ hops-again machine now plans ask other causes n is hops k d within =
           (λ j same. no-own machine now plans n is (get_or n.edges k d).to.0 ends.1 j same) one.is_hop;
     }
 
-pub loaded-again : {N C : Type 0} (net : N → Net) (content : N → C) (past : N → List C) (b : BoardValue N) (machine : Machine) (ask : Ask) → StandsOn net content past b machine ask → b.steps ≡ []
-    → IsLoaded machine ask.now b.plans (net b.net) b.orders.orders b.held b.firsts b.causes
-loaded-again net content past b machine ask stands closed =
-    let at = subst (λ s. IsAt machine b.plans ask s (net b.net) b.orders.orders b.held) closed stands.now in
-    let caused = subst (λ s. AreCaused machine b.plans ask b.causes s (net b.net)) closed stands.caused in
+pub loaded-again : {N : Type 0} (reading : Reading N) (b : BoardValue N) (machine : Machine) (ask : Ask) → StandsOn reading b machine ask → b.steps ≡ []
+    → IsLoaded machine ask.now b.plans (reading.net b.net) b.orders.orders b.held b.firsts b.causes
+loaded-again reading b machine ask stands closed =
+    let at = subst (λ s. IsAt machine b.plans ask s (reading.net b.net) b.orders.orders b.held) closed stands.now in
+    let caused = subst (λ s. AreCaused machine b.plans ask b.causes s (reading.net b.net)) closed stands.caused in
     let edges = at.few_edges in
     let holds = at.few_holds in
     record {
       net = at.net;
       solved = at.solved;
-      hops = λ other. hops-again machine ask.now b.plans ask other b.causes (net b.net) at.net caused.hops;
+      hops = λ other. hops-again machine ask.now b.plans ask other b.causes (reading.net b.net) at.net caused.hops;
       safe = caused.safe;
       plain = stands.plain;
       orders = at.orders;

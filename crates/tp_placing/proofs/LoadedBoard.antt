@@ -1,5 +1,6 @@
 -- A board whose parts are loaded stands on the ask.
 use Rattle.std.proofs.Common.{◌≡◌, ℕ, ◌+◌, ◌≤◌, List, [], length, filter, refl, ap, sym, ◌∙◌, subst, arith, Some, Contains}
+use Rattle.tp_base.specs.Readings.{Reading}
 use Rattle.tp_base.specs.Net.{Net}
 use Rattle.tp_machine.specs.declared.machine.Machine.{Machine}
 use Rattle.tp_machine.proofs.MachineFacts.{is_machine}
@@ -32,12 +33,12 @@ at-first machine plans ask n lines held firsts causes few l = record {
   small = l.small;
 }
 
-pub stands-loaded : {N C : Type 0} (net : N → Net) (content : N → C) (past : N → List C) (b : BoardValue N) (machine : Machine) (plans : List Plan) (ask : Ask) → CanAsk machine plans ask
+pub stands-loaded : {N : Type 0} (reading : Reading N) (b : BoardValue N) (machine : Machine) (plans : List Plan) (ask : Ask) → CanAsk machine plans ask
     → IsMadeFor b.made_for machine → b.ask ≡ Some ask → b.floor ≡ start_floor machine ask.now ask.origin → b.horizon ≡ ask.now + machine.window
-    → b.plans ≡ filter (is_live machine ask.now) plans → b.steps ≡ [] → b.last.0 ≡ point_count b.plans → past_of past b ≡ []
-    → IsLoaded machine ask.now b.plans (net b.net) b.orders.orders b.held b.firsts b.causes
-    → StandsOn net content past b machine ask
-stands-loaded net content past b machine plans ask can made asked floor horizon live closed last none loaded =
+    → b.plans ≡ filter (is_live machine ask.now) plans → b.steps ≡ [] → b.last.0 ≡ point_count b.plans → past_of reading b ≡ []
+    → IsLoaded machine ask.now b.plans (reading.net b.net) b.orders.orders b.held b.firsts b.causes
+    → StandsOn reading b machine ask
+stands-loaded reading b machine plans ask can made asked floor horizon live closed last none loaded =
     let few = live-few machine plans ask can ask.origin can.asked in
     let kept = few.2 in
     let length-live = few.0 in
@@ -57,9 +58,9 @@ stands-loaded net content past b machine plans ask can made asked floor horizon 
       firsts = loaded.at_firsts;
       few_points = omega arith;
       few_plans = can-load.few;
-      now = subst (λ s. IsAt machine b.plans ask s (net b.net) b.orders.orders b.held) (sym closed) (at-first machine b.plans ask (net b.net) b.orders.orders b.held b.firsts b.causes kept loaded);
+      now = subst (λ s. IsAt machine b.plans ask s (reading.net b.net) b.orders.orders b.held) (sym closed) (at-first machine b.plans ask (reading.net b.net) b.orders.orders b.held b.firsts b.causes kept loaded);
       before = λ x inside n same. (let gone = subst (λ cs. Contains cs x) none inside in absurd (omega (arith, gone.1)));
       plain = loaded.plain;
-      caused = subst (λ s. AreCaused machine b.plans ask b.causes s (net b.net)) (sym closed) (record { hops = loaded.hops ask; safe = loaded.safe });
+      caused = subst (λ s. AreCaused machine b.plans ask b.causes s (reading.net b.net)) (sym closed) (record { hops = loaded.hops ask; safe = loaded.safe });
       caused_before = λ x inside n same. (let gone = subst (λ cs. Contains cs x) none inside in absurd (omega (arith, gone.1)));
     }

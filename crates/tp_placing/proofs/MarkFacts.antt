@@ -1,6 +1,7 @@
 -- A board stands after a mark, and back at one.
 use Rattle.std.proofs.Common.{◌≡◌, ℕ, suc, List, length, ◌+◌, ◌<◌, ◌≤◌, false, refl, ap, sym, ◌∙◌, subst, inl, inr, All, Contains, Some}
 use Rattle.std.specs.List.{slice_get}
+use Rattle.tp_base.specs.Readings.{Reading}
 use Rattle.tp_base.proofs.SliceFacts.{slice_get_end, slice_get_take}
 use Rattle.tp_base.specs.declared.edges.PointId.{PointId}
 use Rattle.tp_base.specs.Net.{Net}
@@ -14,38 +15,38 @@ use Rattle.tp_constraints.specs.Nets.{IsBoardNet}
 use Rattle.tp_constraints.specs.Numbers.{table_of}
 use Rattle.tp_constraints.specs.Suffixes.{Suffix, with_place}
 use Rattle.tp_constraints.proofs.Lists.{contains-get, get-contains}
-use Rattle.tp_placing.specs.Boards.{BoardValue, BoardContent, BoardAside, content_of, aside_of, past_of}
+use Rattle.tp_placing.specs.Boards.{BoardValue, BoardContent, BoardUntouched, content_of, untouched_of, past_of}
 use Rattle.tp_placing.specs.Causes.{ArePlain, IsNamedHop, limit_tag}
-use Rattle.tp_placing.specs.Laws.{AsideKeepsEndReasons, AsideKeepsReasons, AsideKeepsReasonsUpTo, MarkKeeps, UndoKeeps}
+use Rattle.tp_placing.specs.Laws.{UntouchedKeepsEndReasons, UntouchedKeepsReasons, UntouchedKeepsReasonsUpTo, MarkKeeps, UndoKeeps}
 use Rattle.tp_placing.specs.Reasons.{HasEndReason, HasReason, IsEndReason, IsReason, IsShown, with_limit}
 use Rattle.tp_placing.specs.Standing.{AreCaused, AreFirsts, IsAt, IsMadeFor, StandsOn, table_with}
 use Rattle.tp_placing.specs.Walking.{HasReasonUpTo, IsPartReason}
 use Rattle.tp_placing.specs.declared.causes.Cause.TheVariants.{Limit}
 use Rattle.tp_placing.proofs.StandFacts.{and-some, some-and}
 
-module _ {N C A : Type 0} (net : N → Net) (content : N → C) (past : N → List C) (aside : N → A) (net_by : (a b : N) → content a ≡ content b → net a ≡ net b) where
-  -- a content at which the board stands
-  abbrev StandsIn : BoardValue N → Machine → Ask → BoardContent C → Type 0
-  StandsIn b m ask x = (n : N) → content n ≡ x.net → IsAt m b.plans ask x.steps (net n) x.orders x.held × AreCaused m b.plans ask b.causes x.steps (net n)
+module _ {N A : Type 0} (reading : Reading N) (untouched : N → A) where
+  -- a net at which the board stands
+  abbrev StandsIn : BoardValue N → Machine → Ask → BoardContent → Type 0
+  StandsIn b m ask x = (n : N) → reading.net n ≡ x.net → IsAt m b.plans ask x.steps (reading.net n) x.orders x.held × AreCaused m b.plans ask b.causes x.steps (reading.net n)
 
-  now-in : (b : BoardValue N) (m : Machine) (ask : Ask) → StandsOn net content past b m ask → StandsIn b m ask (content_of content b)
-  now-in b m ask s n e = subst (λ k. IsAt m b.plans ask b.steps k b.orders.orders b.held × AreCaused m b.plans ask b.causes b.steps k) (sym (net_by n b.net e)) (s.now, s.caused)
+  now-in : (b : BoardValue N) (m : Machine) (ask : Ask) → StandsOn reading b m ask → StandsIn b m ask (content_of reading b)
+  now-in b m ask s n e = subst (λ k. IsAt m b.plans ask b.steps k b.orders.orders b.held × AreCaused m b.plans ask b.causes b.steps k) (sym e) (s.now, s.caused)
 
-  before-in : (b : BoardValue N) (m : Machine) (ask : Ask) → StandsOn net content past b m ask → (x : BoardContent C) → Contains (past_of past b) x → StandsIn b m ask x
+  before-in : (b : BoardValue N) (m : Machine) (ask : Ask) → StandsOn reading b m ask → (x : BoardContent) → Contains (past_of reading b) x → StandsIn b m ask x
   before-in b m ask s x c n e = (s.before x c n e, s.caused_before x c n e)
 
-  -- with the same aside, and the present content and each of the past such as the first board stands in
-  stands-in : (a b : BoardValue N) (m : Machine) (ask : Ask) → aside_of aside b ≡ aside_of aside a → StandsOn net content past a m ask → StandsIn a m ask (content_of content b)
-      → ((x : BoardContent C) → Contains (past_of past b) x → StandsIn a m ask x) → StandsOn net content past b m ask
+  -- with the same untouched, and the present net and each of the past such as the first board stands in
+  stands-in : (a b : BoardValue N) (m : Machine) (ask : Ask) → untouched_of untouched b ≡ untouched_of untouched a → StandsOn reading a m ask → StandsIn a m ask (content_of reading b)
+      → ((x : BoardContent) → Contains (past_of reading b) x → StandsIn a m ask x) → StandsOn reading b m ask
   stands-in a b m ask e s here before =
-      let plans : a.plans ≡ b.plans = sym (ap (λ (x : BoardAside A). x.plans) e) in
-      let firsts : a.firsts ≡ b.firsts = sym (ap (λ (x : BoardAside A). x.firsts) e) in
-      let last : a.last ≡ b.last = sym (ap (λ (x : BoardAside A). x.last) e) in
-      let floor = ap (λ (x : BoardAside A). x.floor) e in
-      let horizon = ap (λ (x : BoardAside A). x.horizon) e in
-      let asked = ap (λ (x : BoardAside A). x.ask) e in
-      let causes : a.causes ≡ b.causes = sym (ap (λ (x : BoardAside A). x.causes) e) in
-      let made : a.made_for ≡ b.made_for = sym (ap (λ (x : BoardAside A). x.made_for) e) in
+      let plans : a.plans ≡ b.plans = sym (ap (λ (x : BoardUntouched A). x.plans) e) in
+      let firsts : a.firsts ≡ b.firsts = sym (ap (λ (x : BoardUntouched A). x.firsts) e) in
+      let last : a.last ≡ b.last = sym (ap (λ (x : BoardUntouched A). x.last) e) in
+      let floor = ap (λ (x : BoardUntouched A). x.floor) e in
+      let horizon = ap (λ (x : BoardUntouched A). x.horizon) e in
+      let asked = ap (λ (x : BoardUntouched A). x.ask) e in
+      let causes : a.causes ≡ b.causes = sym (ap (λ (x : BoardUntouched A). x.causes) e) in
+      let made : a.made_for ≡ b.made_for = sym (ap (λ (x : BoardUntouched A). x.made_for) e) in
       record {
         made = subst (λ d. IsMadeFor d m) made s.made;
         asked = asked ∙ s.asked;
@@ -58,51 +59,51 @@ module _ {N C A : Type 0} (net : N → Net) (content : N → C) (past : N → Li
         firsts = subst (AreFirsts 0 b.plans) firsts (subst (λ ps. AreFirsts 0 ps a.firsts) plans s.firsts);
         few_points = subst (λ (p : PointId). p.0 + 65 ≤ 16641 + kept_of ask) last s.few_points;
         few_plans = subst (λ (ps : List Plan). length ps ≤ 256) plans s.few_plans;
-        now = subst (λ ps. IsAt m ps ask b.steps (net b.net) b.orders.orders b.held) plans (here b.net refl).0;
-        before = λ x c n f. subst (λ ps. IsAt m ps ask x.steps (net n) x.orders x.held) plans (before x c n f).0;
+        now = subst (λ ps. IsAt m ps ask b.steps (reading.net b.net) b.orders.orders b.held) plans (here b.net refl).0;
+        before = λ x c n f. subst (λ ps. IsAt m ps ask x.steps (reading.net n) x.orders x.held) plans (before x c n f).0;
         plain = subst ArePlain causes s.plain;
-        caused = subst (λ cs. AreCaused m b.plans ask cs b.steps (net b.net)) causes (subst (λ ps. AreCaused m ps ask a.causes b.steps (net b.net)) plans (here b.net refl).1);
-        caused_before = λ x c n f. subst (λ cs. AreCaused m b.plans ask cs x.steps (net n)) causes (subst (λ ps. AreCaused m ps ask a.causes x.steps (net n)) plans (before x c n f).1);
+        caused = subst (λ cs. AreCaused m b.plans ask cs b.steps (reading.net b.net)) causes (subst (λ ps. AreCaused m ps ask a.causes b.steps (reading.net b.net)) plans (here b.net refl).1);
+        caused_before = λ x c n f. subst (λ cs. AreCaused m b.plans ask cs x.steps (reading.net n)) causes (subst (λ ps. AreCaused m ps ask a.causes x.steps (reading.net n)) plans (before x c n f).1);
       }
 
-  pub mark_keeps : MarkKeeps net content past aside
+  pub mark_keeps : MarkKeeps reading untouched
   mark_keeps a b m same e more s =
-      let now : StandsIn a m s.0 (content_of content a) = now-in a m s.0 s.1 in (
+      let now : StandsIn a m s.0 (content_of reading a) = now-in a m s.0 s.1 in (
         s.0,
         stands-in a b m s.0 e s.1 (subst (StandsIn a m s.0) (sym same) now) (λ x c.
-            let g = get-contains (past_of past b) x c in
+            let g = get-contains (past_of reading b) x c in
             let at = ap (λ xs. slice_get xs g.0) (sym more) ∙ g.1 in
-            elim (slice_get_end (past_of past a) (content_of content a) g.0 x at) [
-              | inl old ↦ before-in a m s.0 s.1 x (contains-get (past_of past a) g.0 x old)
+            elim (slice_get_end (past_of reading a) (content_of reading a) g.0 x at) [
+              | inl old ↦ before-in a m s.0 s.1 x (contains-get (past_of reading a) g.0 x old)
               | inr new ↦ subst (StandsIn a m s.0) new.1 now
             ]),
       )
 
-  pub undo_keeps : UndoKeeps net content past aside
+  pub undo_keeps : UndoKeeps reading untouched
   undo_keeps a b m k there e fewer s = (
     s.0,
-    stands-in a b m s.0 e s.1 (before-in a m s.0 s.1 (content_of content b) (contains-get (past_of past a) k (content_of content b) there)) (λ x c.
-        let g = get-contains (past_of past b) x c in
+    stands-in a b m s.0 e s.1 (before-in a m s.0 s.1 (content_of reading b) (contains-get (past_of reading a) k (content_of reading b) there)) (λ x c.
+        let g = get-contains (past_of reading b) x c in
         let at = ap (λ xs. slice_get xs g.0) (sym fewer) ∙ g.1 in
-        before-in a m s.0 s.1 x (contains-get (past_of past a) g.0 x (slice_get_take k (past_of past a) g.0 x at).1)),
+        before-in a m s.0 s.1 x (contains-get (past_of reading a) g.0 x (slice_get_take k (past_of reading a) g.0 x at).1)),
   )
 
--- a board with the same aside shows the same of the last refusal
-module _ {N A : Type 0} (aside : N → A) (refutes : N → Net → Type 0) (refutes_by : (a b : N) (late : Net) → aside a ≡ aside b → refutes a late → refutes b late) (a b : BoardValue N) (e : aside_of aside b ≡ aside_of aside a) where
+-- a board with the same untouched shows the same of the last refusal
+module _ {N A : Type 0} (untouched : N → A) (refutes : N → Net → Type 0) (refutes_by : (a b : N) (late : Net) → untouched a ≡ untouched b → refutes a late → refutes b late) (a b : BoardValue N) (e : untouched_of untouched b ≡ untouched_of untouched a) where
   plans-kept : a.plans ≡ b.plans
-  plans-kept = sym (ap (λ (x : BoardAside A). x.plans) e)
+  plans-kept = sym (ap (λ (x : BoardUntouched A). x.plans) e)
 
   asked-kept : b.ask ≡ a.ask
-  asked-kept = ap (λ (x : BoardAside A). x.ask) e
+  asked-kept = ap (λ (x : BoardUntouched A). x.ask) e
 
   causes-kept : a.causes ≡ b.causes
-  causes-kept = sym (ap (λ (x : BoardAside A). x.causes) e)
+  causes-kept = sym (ap (λ (x : BoardUntouched A). x.causes) e)
 
   limit-kept : b.limit ≡ a.limit
-  limit-kept = ap (λ (x : BoardAside A). x.limit) e
+  limit-kept = ap (λ (x : BoardUntouched A). x.limit) e
 
   shown-kept : (net : Net) → IsShown refutes a.net net → IsShown refutes b.net net
-  shown-kept net s = record { late = s.late; shown = refutes_by a.net b.net s.late (sym (ap (λ (x : BoardAside A). x.net) e)) s.shown; part = s.part }
+  shown-kept net s = record { late = s.late; shown = refutes_by a.net b.net s.late (sym (ap (λ (x : BoardUntouched A). x.net) e)) s.shown; part = s.part }
 
   net-kept : (m : Machine) (ask : Ask) (x : Suffix) (net : Net) → IsBoardNet m a.plans ask x (table_with a.plans (suc (length x.choices))) net → IsBoardNet m b.plans ask x (table_with b.plans (suc (length x.choices))) net
   net-kept m ask x net = subst (λ ps. IsBoardNet m ps ask x (table_with ps (suc (length x.choices))) net) plans-kept
@@ -136,7 +137,7 @@ module _ {N A : Type 0} (aside : N → A) (refutes : N → Net → Type 0) (refu
         part = r.part;
         hops = hops-kept m s.0 (with_place earlier x) r.late r.hops;
         no_limit = limit-kept ∙ r.no_limit;
-        shown = refutes_by a.net b.net r.late (sym (ap (λ (y : BoardAside A). y.net) e)) r.shown;
+        shown = refutes_by a.net b.net r.late (sym (ap (λ (y : BoardUntouched A). y.net) e)) r.shown;
       })
 
   end-reason-kept : (m : Machine) (x : Suffix) (last : ℕ) → HasEndReason refutes m a x last → HasEndReason refutes m b x last
@@ -155,11 +156,11 @@ module _ {N A : Type 0} (aside : N → A) (refutes : N → Net → Type 0) (refu
         shown = shown-kept (with_limit r.net r.end last) r.shown;
       })
 
-pub keep_reasons : {N A : Type 0} (aside : N → A) (refutes : N → Net → Type 0) → ((a b : N) (late : Net) → aside a ≡ aside b → refutes a late → refutes b late) → AsideKeepsReasons aside refutes
-keep_reasons aside refutes refutes_by a b m x e = reason-kept aside refutes refutes_by a b e m x
+pub keep_reasons : {N A : Type 0} (untouched : N → A) (refutes : N → Net → Type 0) → ((a b : N) (late : Net) → untouched a ≡ untouched b → refutes a late → refutes b late) → UntouchedKeepsReasons untouched refutes
+keep_reasons untouched refutes refutes_by a b m x e = reason-kept untouched refutes refutes_by a b e m x
 
-pub keep_reasons_up_to : {N A : Type 0} (aside : N → A) (refutes : N → Net → Type 0) → ((a b : N) (late : Net) → aside a ≡ aside b → refutes a late → refutes b late) → AsideKeepsReasonsUpTo aside refutes
-keep_reasons_up_to aside refutes refutes_by a b m place x e = reasons-kept aside refutes refutes_by a b e m place x
+pub keep_reasons_up_to : {N A : Type 0} (untouched : N → A) (refutes : N → Net → Type 0) → ((a b : N) (late : Net) → untouched a ≡ untouched b → refutes a late → refutes b late) → UntouchedKeepsReasonsUpTo untouched refutes
+keep_reasons_up_to untouched refutes refutes_by a b m place x e = reasons-kept untouched refutes refutes_by a b e m place x
 
-pub keep_end_reasons : {N A : Type 0} (aside : N → A) (refutes : N → Net → Type 0) → ((a b : N) (late : Net) → aside a ≡ aside b → refutes a late → refutes b late) → AsideKeepsEndReasons aside refutes
-keep_end_reasons aside refutes refutes_by a b m x last e = end-reason-kept aside refutes refutes_by a b e m x last
+pub keep_end_reasons : {N A : Type 0} (untouched : N → A) (refutes : N → Net → Type 0) → ((a b : N) (late : Net) → untouched a ≡ untouched b → refutes a late → refutes b late) → UntouchedKeepsEndReasons untouched refutes
+keep_end_reasons untouched refutes refutes_by a b m x last e = end-reason-kept untouched refutes refutes_by a b e m x last

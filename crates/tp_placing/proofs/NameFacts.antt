@@ -5,6 +5,7 @@ use Rattle.std.specs.List.{AllWithin}
 use Rattle.std.specs.List.Sorted.{IsNonDecreasingBy}
 use Rattle.std.proofs.lemmas.List.Elements.{All-contains}
 use Rattle.std.proofs.lemmas.Option.{slice_get_read}
+use Rattle.tp_base.specs.Readings.{Reading}
 use Rattle.tp_base.specs.Net.{Net}
 use Rattle.tp_base.specs.declared.edges.PointId.{PointId}
 use Rattle.tp_machine.specs.declared.machine.Machine.{Machine}
@@ -66,7 +67,7 @@ pub kept-grip : (plans : List Plan) (point : ℕ) (p : Plan) (f : PointId) (name
 kept-grip plans point p f name k is =
     ap (grip_name plans) k.spot ∙ ap (option_map (λ q. KeptGrip (name_of_plan q) (point - f.0 + 1))) k.planned ∙ ap (λ n. Some (KeptGrip n (point - f.0 + 1))) (sym is)
 
-module _ {N C : Type 0} (net : N → Net) (content : N → C) (past : N → List C) (b : BoardValue N) (stands : (m : Machine) × Stands net content past b m) where
+module _ {N : Type 0} (reading : Reading N) (b : BoardValue N) (stands : (m : Machine) × Stands reading b m) where
   timed : All (IsTimedPlan stands.0) b.plans
   timed = stands.1.1.loadable.legal.timed
 

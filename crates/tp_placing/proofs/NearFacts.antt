@@ -12,7 +12,7 @@ use Rattle.tp_schedule.specs.declared.parts.Goal.{Goal}
 use Rattle.tp_schedule.specs.declared.parts.Goal.TheVariants.{Purge, Tray}
 use Rattle.tp_schedule.specs.declared.parts.Plan.{Plan}
 use Rattle.tp_schedule.proofs.CopyFacts.{before-asym}
-use Rattle.tp_schedule.proofs.Membership.{Contains-cons_cases, Contains-here, Contains-later}
+use Rattle.tp_schedule.proofs.Membership.{Contains-cons_cases, Contains-here, Contains-later, flat_map-to}
 use Rattle.tp_constraints.specs.Gaps.{Gap, KeepsGap, KeepsGaps, end_spot, gap, is_in_line}
 use Rattle.tp_constraints.specs.Suffixes.{end_gap, end_gaps}
 use Rattle.tp_constraints.proofs.DurationGaps.{flat-from_each}
@@ -170,17 +170,10 @@ module _ (ask : Ask) (t : Ticks) where
           All-cons (KeepsGap t) (after p) [] (omega (arith, ints)) (All-nil (KeepsGap t))
       go true false false x y z = All-nil (KeepsGap t)
 
-flat-of : {X Y : Type 0} (f : X → List Y) (xs : List X) (x : X) (y : Y) → Contains xs x → Contains (f x) y → Contains (flat_map f xs) y
-flat-of f [] x y in' here = absurd (omega (arith, in'.1))
-flat-of f (z ∷ xs) x y in' here = elim (Contains-cons_cases z xs x in') [
-  | inl is ↦ Contains-append_left (f z) (flat_map f xs) y (subst (λ k. Contains (f k) y) (sym is) here)
-  | inr later ↦ Contains-append_right (f z) (flat_map f xs) y (flat-of f xs x y later here)
-]
-
 -- they are some of the gaps of the line
 module _ (ask : Ask) (plans : List Plan) where
   ahead-in : (p : Plan) → Contains plans p → is_ahead ask p ≡ true → Contains (end_gaps ask plans) (gap (end_spot p) (own 0) (pos 1))
-  ahead-in p in' is = flat-of (end_gap ask) plans p (gap (end_spot p) (own 0) (pos 1)) in' (go (is_in_line ask.goal p) (is_before p.sheet ask.sheet) (is_before ask.sheet p.sheet) (parts _ _ is).0 (parts _ _ is).1) where
+  ahead-in p in' is = flat_map-to (end_gap ask) plans p (gap (end_spot p) (own 0) (pos 1)) in' (go (is_in_line ask.goal p) (is_before p.sheet ask.sheet) (is_before ask.sheet p.sheet) (parts _ _ is).0 (parts _ _ is).1) where
     go : (a b c : Bool) → a ≡ true → b ≡ true
         → Contains (cond a (cond b (gap (end_spot p) (own 0) (pos 1) ∷ []) (cond c (gap (own 0) (end_spot p) (pos 1) ∷ []) [])) []) (gap (end_spot p) (own 0) (pos 1))
     go true true c x y = Contains-here (gap (end_spot p) (own 0) (pos 1)) []
@@ -190,7 +183,7 @@ module _ (ask : Ask) (plans : List Plan) where
   behind-in : (p : Plan) → Contains plans p → is_behind ask p ≡ true → Contains (end_gaps ask plans) (gap (own 0) (end_spot p) (pos 1))
   behind-in p in' is =
       let not = before-asym ask.sheet p.sheet (parts _ _ is).1 in
-      flat-of (end_gap ask) plans p (gap (own 0) (end_spot p) (pos 1)) in' (go (is_in_line ask.goal p) (is_before p.sheet ask.sheet) (is_before ask.sheet p.sheet) (parts _ _ is).0 not (parts _ _ is).1) where
+      flat_map-to (end_gap ask) plans p (gap (own 0) (end_spot p) (pos 1)) in' (go (is_in_line ask.goal p) (is_before p.sheet ask.sheet) (is_before ask.sheet p.sheet) (parts _ _ is).0 not (parts _ _ is).1) where
         go : (a b c : Bool) → a ≡ true → b ≡ false → c ≡ true
             → Contains (cond a (cond b (gap (end_spot p) (own 0) (pos 1) ∷ []) (cond c (gap (own 0) (end_spot p) (pos 1) ∷ []) [])) []) (gap (own 0) (end_spot p) (pos 1))
         go true false true x y z = Contains-here (gap (own 0) (end_spot p) (pos 1)) []

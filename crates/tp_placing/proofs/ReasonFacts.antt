@@ -4,6 +4,7 @@ use Rattle.std.specs.Prelude.{slice_get}
 use Rattle.std.proofs.lemmas.Int.{ints}
 use Rattle.std.proofs.lemmas.List.{length-append, length-map, get_or_at, get_or_append_left}
 use Rattle.std.proofs.lemmas.List.Elements.{All-head}
+use Rattle.tp_base.specs.Readings.{Reading}
 use Rattle.tp_base.specs.declared.edges.PointId.{PointId}
 use Rattle.tp_base.specs.Net.{Net, IsSolution, HasNoSolution, Keeps}
 use Rattle.tp_machine.specs.declared.machine.Machine.{Machine}
@@ -72,63 +73,63 @@ some-is None h = absurd cc
 some-is (Some x) h = (x, refl)
 
 -- what is known of a board where an end is refused
-pub record RefusesHere {N C : Type 0} (net : N → Net) (content : N → C) (past : N → List C) (b : BoardValue N) (last : ℕ) : Type 0 where
+pub record RefusesHere {N : Type 0} (reading : Reading N) (b : BoardValue N) (last : ℕ) : Type 0 where
   pub machine : Machine
   pub ask : Ask
   pub x : Suffix
   pub suffix : suffix_after b.steps ≡ Some x
-  pub stands : StandsOn net content past b machine ask
-  pub at : IsAtWith machine b.plans ask (Some x) b.steps (net b.net) b.orders.orders b.held
+  pub stands : StandsOn reading b machine ask
+  pub at : IsAtWith machine b.plans ask (Some x) b.steps (reading.net b.net) b.orders.orders b.held
   pub bound : ℕ
   pub least : IsLeastTick (SuffixTimes machine b.plans ask x) (own 0) bound
   pub below : last < bound
   pub there : slice_get (table_with b.plans (suc (length x.choices))) b.last.0 ≡ Some (own 0)
 
-pub refuses-here : {N C : Type 0} (net : N → Net) (content : N → C) (past : N → List C) (b : BoardValue N) (last : ℕ)
-    → (m : Machine) × (bound : ℕ) × Stands net content past b m × HasLeastTick m b (own 0) bound × (last < bound) → IsSome (suffix_after b.steps) → RefusesHere net content past b last
-refuses-here net content past b last (m, bound, s, least, below) is_open =
+pub refuses-here : {N : Type 0} (reading : Reading N) (b : BoardValue N) (last : ℕ)
+    → (m : Machine) × (bound : ℕ) × Stands reading b m × HasLeastTick m b (own 0) bound × (last < bound) → IsSome (suffix_after b.steps) → RefusesHere reading b last
+refuses-here reading b last (m, bound, s, least, below) is_open =
     let x = some-is (suffix_after b.steps) is_open in
     let y = some-and b.ask (λ ask. IsLeastTick (TimesOf m b.plans ask (suffix_after b.steps)) (own 0) bound) least in
-    let stands = stands-ask net content past b m y.0 s y.1 in
+    let stands = stands-ask reading b m y.0 s y.1 in
     record {
       machine = m;
       ask = y.0;
       x = x.0;
       suffix = x.1;
       stands = stands;
-      at = at-suffix net content past b m y.0 x.0 stands x.1;
+      at = at-suffix reading b m y.0 x.0 stands x.1;
       bound = bound;
       least = subst (λ o. IsLeastTick (TimesOf m b.plans y.0 o) (own 0) bound) x.1 y.2;
       below = below;
       there = end-point b.plans (Some x.0) refl b.last.0 stands.last;
     }
 
-module _ {N C : Type 0} (net : N → Net) (content : N → C) (past : N → List C) (b : BoardValue N) (last : ℕ) (h : RefusesHere net content past b last) where
-  pub end-known : b.last.0 < length (net b.net).lows
-  end-known = known-point h.machine b.plans h.ask (Some h.x) b.steps (net b.net) b.orders.orders b.held h.at b.last.0 (own 0) h.there
+module _ {N : Type 0} (reading : Reading N) (b : BoardValue N) (last : ℕ) (h : RefusesHere reading b last) where
+  pub end-known : b.last.0 < length (reading.net b.net).lows
+  end-known = known-point h.machine b.plans h.ask (Some h.x) b.steps (reading.net b.net) b.orders.orders b.held h.at b.last.0 (own 0) h.there
 
-  pub point-room : (room : ℕ) → 16642 ≤ room → length (net b.net).lows < room
+  pub point-room : (room : ℕ) → 16642 ≤ room → length (reading.net b.net).lows < room
   point-room room big =
-      let l = length-lows h.machine b.plans h.ask h.x b.steps (net b.net) b.orders.orders b.held h.at in
+      let l = length-lows h.machine b.plans h.ask h.x b.steps (reading.net b.net) b.orders.orders b.held h.at in
       let p = h.stands.few_points in
       let e = h.stands.last in
       let few = h.at.few_steps.1 in
       omega arith
 
-  pub end-late : BoardSolutions → HasNoSolution (with_limit (net b.net) b.last last)
-  end-late law = limit-late h.machine b.plans h.ask h.x b.steps (net b.net) b.orders.orders b.held h.at law b.last h.there h.bound last h.least h.below
+  pub end-late : BoardSolutions → HasNoSolution (with_limit (reading.net b.net) b.last last)
+  end-late law = limit-late h.machine b.plans h.ask h.x b.steps (reading.net b.net) b.orders.orders b.held h.at law b.last h.there h.bound last h.least h.below
 
 -- what the refusal of an end shows, where the board stands on a machine
-module _ {N C : Type 0} (net : N → Net) (content : N → C) (past : N → List C) (b : BoardValue N) (m : Machine) (ask : Ask) (s : StandsOn net content past b m ask) (x : Suffix) (suffix : suffix_after b.steps ≡ Some x) (last : ℕ) where
-  pub end-reason : (refutes : N → Net → Type 0) (n : N) (point : PointId) → point ≡ record { 0 = length (net b.net).lows } → refutes n (with_limit (net b.net) b.last last)
+module _ {N : Type 0} (reading : Reading N) (b : BoardValue N) (m : Machine) (ask : Ask) (s : StandsOn reading b m ask) (x : Suffix) (suffix : suffix_after b.steps ≡ Some x) (last : ℕ) where
+  pub end-reason : (refutes : N → Net → Type 0) (n : N) (point : PointId) → point ≡ record { 0 = length (reading.net b.net).lows } → refutes n (with_limit (reading.net b.net) b.last last)
       → IsEndReason refutes (record b { net = n; causes = b.causes; limit = Some point }) m ask x last
   end-reason refutes n point is shown = record {
-    net = net b.net;
-    is_net = (at-suffix net content past b m ask x s suffix).net;
-    hops = subst (λ y. All (IsNamedHop m b.plans ask y b.causes) (net b.net).edges) (ap choices_of suffix) s.caused.hops;
+    net = reading.net b.net;
+    is_net = (at-suffix reading b m ask x s suffix).net;
+    hops = subst (λ y. All (IsNamedHop m b.plans ask y b.causes) (reading.net b.net).edges) (ap choices_of suffix) s.caused.hops;
     end = b.last;
     is_end = end-point b.plans (Some x) refl b.last.0 s.last;
     limit = ap Some is;
     limit_cause = s.plain.limit;
-    shown = record { late = with_limit (net b.net) b.last last; shown = shown; part = whole-is-part (with_limit (net b.net) b.last last) };
+    shown = record { late = with_limit (reading.net b.net) b.last last; shown = shown; part = whole-is-part (with_limit (reading.net b.net) b.last last) };
   }

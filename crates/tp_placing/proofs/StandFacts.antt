@@ -2,6 +2,7 @@
 use Rattle.std.proofs.Common.{◌≡◌, ℕ, suc, ◌+◌, ◌<◌, ◌≤◌, List, [], ◌∷◌, length, refl, ap, sym, ◌∙◌, subst, arith, Option, Some, None, IsSomeAnd, Contains}
 use Rattle.std.proofs.lemmas.List.{length-map}
 use Rattle.std.proofs.lemmas.Option.{same_Some}
+use Rattle.tp_base.specs.Readings.{Reading}
 use Rattle.tp_base.specs.Net.{Net}
 use Rattle.tp_machine.specs.declared.machine.Machine.{Machine}
 use Rattle.tp_schedule.specs.declared.parts.Ask.{Ask}
@@ -47,19 +48,19 @@ pub edge-room : (steps : List Step) (edges room : ℕ) → length steps ≤ most
 edge-room [] edges room few e h = omega arith
 edge-room (s ∷ steps) edges room few e h = omega arith
 
-module _ {N C : Type 0} (net : N → Net) (content : N → C) (past : N → List C) where
+module _ {N : Type 0} (reading : Reading N) where
   -- at a suffix, the board is at it, with what the last step keeps at hand
-  pub at-suffix : (b : BoardValue N) (m : Machine) (ask : Ask) (x : Suffix) → StandsOn net content past b m ask → suffix_after b.steps ≡ Some x → IsAtWith m b.plans ask (Some x) b.steps (net b.net) b.orders.orders b.held
-  at-suffix b m ask x s e = subst (λ y. IsAtWith m b.plans ask y b.steps (net b.net) b.orders.orders b.held) e s.now
+  pub at-suffix : (b : BoardValue N) (m : Machine) (ask : Ask) (x : Suffix) → StandsOn reading b m ask → suffix_after b.steps ≡ Some x → IsAtWith m b.plans ask (Some x) b.steps (reading.net b.net) b.orders.orders b.held
+  at-suffix b m ask x s e = subst (λ y. IsAtWith m b.plans ask y b.steps (reading.net b.net) b.orders.orders b.held) e s.now
 
   abbrev pub grown : BoardValue N → N → Orders → List Held → List Step → List Cause → BoardValue N
   grown b n orders held steps causes = record b { net = n; orders = orders; held = held; steps = steps; causes = causes; limit = None }
 
   -- the board stands after a change that leaves what stood at its marks
-  pub stands-after : (b : BoardValue N) (n : N) (orders : Orders) (held : List Held) (steps : List Step) (causes : List Cause) (m : Machine) (ask : Ask) (x : Suffix) → StandsOn net content past b m ask
-      → past_of past (grown b n orders held steps causes) ≡ past_of past b → suffix_after steps ≡ Some x
-      → IsAtWith m b.plans ask (Some x) steps (net n) orders.orders held → Keeps (length b.steps) b.causes causes → AreCaused m b.plans ask causes steps (net n)
-      → StandsOn net content past (grown b n orders held steps causes) m ask
+  pub stands-after : (b : BoardValue N) (n : N) (orders : Orders) (held : List Held) (steps : List Step) (causes : List Cause) (m : Machine) (ask : Ask) (x : Suffix) → StandsOn reading b m ask
+      → past_of reading (grown b n orders held steps causes) ≡ past_of reading b → suffix_after steps ≡ Some x
+      → IsAtWith m b.plans ask (Some x) steps (reading.net n) orders.orders held → Keeps (length b.steps) b.causes causes → AreCaused m b.plans ask causes steps (reading.net n)
+      → StandsOn reading (grown b n orders held steps causes) m ask
   stands-after b n orders held steps causes m ask x s same e at keeps caused = record {
     made = s.made;
     asked = s.asked;
@@ -72,19 +73,19 @@ module _ {N C : Type 0} (net : N → Net) (content : N → C) (past : N → List
     firsts = s.firsts;
     few_points = s.few_points;
     few_plans = s.few_plans;
-    now = subst (λ y. IsAtWith m b.plans ask y steps (net n) orders.orders held) (sym e) at;
+    now = subst (λ y. IsAtWith m b.plans ask y steps (reading.net n) orders.orders held) (sym e) at;
     before = λ y c. s.before y (subst (λ xs. Contains xs y) same c);
     plain = plain-kept (length b.steps) b.causes causes keeps s.plain;
     caused = caused;
     caused_before = λ y c k f. (
         let there = subst (λ xs. Contains xs y) same c in
-        caused-kept m b.plans ask (length b.steps) b.causes causes y.steps (net k) keeps (short-past b.held b.steps (past b.net) b.orders.past b.marks y there) (s.caused_before y there k f));
+        caused-kept m b.plans ask (length b.steps) b.causes causes y.steps (reading.net k) keeps (short-past b.held b.steps (reading.past b.net) b.orders.past b.marks y there) (s.caused_before y there k f));
   }
 
-  -- and after a refusal, which leaves the network's content
-  pub stands-still : (net_by : (a b : N) → content a ≡ content b → net a ≡ net b) (b : BoardValue N) (n : N) (causes : List Cause) (limit : Option PointId) (m : Machine) (ask : Ask) → StandsOn net content past b m ask
-      → content n ≡ content b.net → past n ≡ past b.net → Keeps (length b.steps) b.causes causes → StandsOn net content past (record b { net = n; causes = causes; limit = limit }) m ask
-  stands-still net_by b n causes limit m ask s same before keeps = record {
+  -- and after a refusal, which leaves the network's net
+  pub stands-still : (b : BoardValue N) (n : N) (causes : List Cause) (limit : Option PointId) (m : Machine) (ask : Ask) → StandsOn reading b m ask
+      → reading.net n ≡ reading.net b.net → reading.past n ≡ reading.past b.net → Keeps (length b.steps) b.causes causes → StandsOn reading (record b { net = n; causes = causes; limit = limit }) m ask
+  stands-still b n causes limit m ask s same before keeps = record {
     made = s.made;
     asked = s.asked;
     floor = s.floor;
@@ -96,15 +97,15 @@ module _ {N C : Type 0} (net : N → Net) (content : N → C) (past : N → List
     firsts = s.firsts;
     few_points = s.few_points;
     few_plans = s.few_plans;
-    now = subst (λ k. IsAt m b.plans ask b.steps k b.orders.orders b.held) (sym (net_by n b.net same)) s.now;
+    now = subst (λ k. IsAt m b.plans ask b.steps k b.orders.orders b.held) (sym same) s.now;
     before = λ y c. s.before y (subst (λ cs. Contains (side_by_side b.held b.steps cs b.orders.past b.marks) y) before c);
     plain = plain-kept (length b.steps) b.causes causes keeps s.plain;
-    caused = caused-kept m b.plans ask (length b.steps) b.causes causes b.steps (net n) keeps (omega arith) (subst (AreCaused m b.plans ask b.causes b.steps) (sym (net_by n b.net same)) s.caused);
+    caused = caused-kept m b.plans ask (length b.steps) b.causes causes b.steps (reading.net n) keeps (omega arith) (subst (AreCaused m b.plans ask b.causes b.steps) (sym same) s.caused);
     caused_before = λ y c k f. (
         let there = subst (λ cs. Contains (side_by_side b.held b.steps cs b.orders.past b.marks) y) before c in
-        caused-kept m b.plans ask (length b.steps) b.causes causes y.steps (net k) keeps (short-past b.held b.steps (past b.net) b.orders.past b.marks y there) (s.caused_before y there k f));
+        caused-kept m b.plans ask (length b.steps) b.causes causes y.steps (reading.net k) keeps (short-past b.held b.steps (reading.past b.net) b.orders.past b.marks y there) (s.caused_before y there k f));
   }
 
   -- the ask that the board stands on is the one that it keeps
-  pub stands-ask : (b : BoardValue N) (m : Machine) (ask : Ask) → (other : Ask) × StandsOn net content past b m other → b.ask ≡ Some ask → StandsOn net content past b m ask
-  stands-ask b m ask s e = subst (StandsOn net content past b m) (same_Some s.0 ask (sym s.1.asked ∙ e)) s.1
+  pub stands-ask : (b : BoardValue N) (m : Machine) (ask : Ask) → (other : Ask) × StandsOn reading b m other → b.ask ≡ Some ask → StandsOn reading b m ask
+  stands-ask b m ask s e = subst (StandsOn reading b m) (same_Some s.0 ask (sym s.1.asked ∙ e)) s.1

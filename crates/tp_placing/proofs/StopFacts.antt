@@ -2,6 +2,7 @@
 use Rattle.std.proofs.Common.{rules, suc, pos, ◌≡◌, ℕ, ◌+◌, ◌<◌, List, [], ◌∷◌, ◌++◌, length, map, refl, ap, sym, ◌∙◌, subst, arith, Some, None, All, IsFalse, IsSomeAnd, true, false, ◌-◌}
 use Rattle.std.proofs.lemmas.List.{length-append}
 use Rattle.std.proofs.lemmas.List.Elements.{All-nil, All-cons}
+use Rattle.tp_base.specs.Readings.{Reading}
 use Rattle.tp_base.specs.declared.edges.Edge.{Edge}
 use Rattle.tp_base.specs.Net.{Net, HasLeast, HasNoSolution, with_edge}
 use Rattle.tp_machine.specs.declared.machine.Machine.{Machine}
@@ -97,10 +98,10 @@ kept-count : (origin : Origin) (state : State) (tick count : ℕ) → origin ≡
 kept-count FromFeeder state tick count e = absurd cc
 kept-count (FromFront s t n) state tick count e = (cc, tt)
 
-pub stops-here : {N C : Type 0} (net : N → Net) (content : N → C) (past : N → List C) (b : BoardValue N) (m : Machine) (ask : Ask) (newest : Step) (state : State) (tick count : ℕ) (end : PointId)
-    → StandsOn net content past b m ask → IsSomeAnd (suffix_after b.steps) (λ x. IsFalse x.stopped) → slice_get b.steps (length b.steps - 1) ≡ Some newest → ask.origin ≡ FromFront state tick count
-    → slice_get (table_of b.plans) end.0 ≡ Some (kept ask.sheet count) → StopsHere net b m ask newest end
-stops-here net content past b m ask newest state tick count end s going last origin at =
+pub stops-here : {N : Type 0} (reading : Reading N) (b : BoardValue N) (m : Machine) (ask : Ask) (newest : Step) (state : State) (tick count : ℕ) (end : PointId)
+    → StandsOn reading b m ask → IsSomeAnd (suffix_after b.steps) (λ x. IsFalse x.stopped) → slice_get b.steps (length b.steps - 1) ≡ Some newest → ask.origin ≡ FromFront state tick count
+    → slice_get (table_of b.plans) end.0 ≡ Some (kept ask.sheet count) → StopsHere reading.net b m ask newest end
+stops-here reading b m ask newest state tick count end s going last origin at =
     let x = some-and (suffix_after b.steps) (λ x. IsFalse x.stopped) going in
     let k = kept-count ask.origin state tick count origin in
     record {
@@ -108,8 +109,8 @@ stops-here net content past b m ask newest state tick count end s going last ori
       suffix = x.1;
       going = x.2;
       flying = k.1;
-      at = at-suffix net content past b m ask x.0 s x.1;
-      hand = (at-suffix net content past b m ask x.0 s x.1).at_hand newest last;
+      at = at-suffix reading b m ask x.0 s x.1;
+      hand = (at-suffix reading b m ask x.0 s x.1).at_hand newest last;
       some = some-steps b.steps x.0 x.1;
       end_is = at ∙ ap (λ n. Some (kept ask.sheet n)) (sym k.0);
     }

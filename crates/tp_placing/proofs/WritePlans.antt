@@ -15,12 +15,6 @@ use Rattle.tp_schedule.specs.declared.parts.Plan.{Plan}
 use Rattle.tp_schedule.specs.declared.parts.SheetId.{SheetId}
 use Rattle.tp_placing.specs.Writing.{is_loaded, retimed_in}
 
-pub same-lists : (xs ys : List ℕ) (r : Bool) → r ≡ not (pointwise nat_eq xs ys) → r ≡ false → xs ≡ ys
-same-lists xs ys r e f = go (pointwise nat_eq xs ys) refl (sym e ∙ f) where
-  go : (b : Bool) → pointwise nat_eq xs ys ≡ b → not b ≡ false → xs ≡ ys
-  go true same h = (slice_eq-Decides Decides-eqb xs ys (pointwise nat_eq xs ys) refl).0 same
-  go false same h = absurd cc
-
 -- a plan that has the points already
 pub change-same : (copy : SheetId) (points : List ℕ) (plans : List Plan) (p : Plan) → plan_of copy plans ≡ Some p → points ≡ p.points → plans ≡ change_plan copy (with_points points) plans
 change-same copy points [] p is same = refl

@@ -2,6 +2,7 @@
 use Rattle.std.proofs.Common.{◌≡◌, suc, ◌+◌, ◌-◌, List, length, ap, ◌∙◌, Some, IsSomeAnd, All}
 use Rattle.std.specs.List.{slice_get}
 use Rattle.std.proofs.lemmas.List.Elements.{All-contains}
+use Rattle.tp_base.specs.Readings.{Reading}
 use Rattle.tp_base.specs.Net.{Net}
 use Rattle.tp_machine.specs.declared.machine.Machine.{Machine}
 use Rattle.tp_schedule.specs.Answers.{IsAsked, IsAskedFrom, kept_acts, kept_from, kept_of, acts_in}
@@ -28,14 +29,14 @@ pub record IsReady {N : Type 0} (net : N → Net) (b : BoardValue N) (machine : 
   pub first : newest.first.0 ≡ length (table_of b.plans) + length x.choices
   pub lows : length (net b.net).lows ≡ length (table_of b.plans) + suc (length x.choices)
 
-module _ {N C : Type 0} (net : N → Net) (content : N → C) (past : N → List C) where
-  pub ready : (b : BoardValue N) (m : Machine) (ask : Ask) (newest : Step) → StandsOn net content past b m ask → IsSomeAnd (suffix_after b.steps) (CanCommit m b.plans ask) → slice_get b.steps (length b.steps - 1) ≡ Some newest
-      → IsReady net b m ask newest
+module _ {N : Type 0} (reading : Reading N) where
+  pub ready : (b : BoardValue N) (m : Machine) (ask : Ask) (newest : Step) → StandsOn reading b m ask → IsSomeAnd (suffix_after b.steps) (CanCommit m b.plans ask) → slice_get b.steps (length b.steps - 1) ≡ Some newest
+      → IsReady reading.net b m ask newest
   ready b m ask newest s complete last =
       let y = some-and (suffix_after b.steps) (CanCommit m b.plans ask) complete in
-      let at = at-suffix net content past b m ask y.0 s y.1 in
+      let at = at-suffix reading b m ask y.0 s y.1 in
       let hand : IsAtHand (length (table_of b.plans)) (Some y.0) newest = at.at_hand newest last in
-      record { x = y.0; suffix = y.1; complete = y.2; at = at; first = hand.1; lows = length-lows m b.plans ask y.0 b.steps (net b.net) b.orders.orders b.held at }
+      record { x = y.0; suffix = y.1; complete = y.2; at = at; first = hand.1; lows = length-lows m b.plans ask y.0 b.steps (reading.net b.net) b.orders.orders b.held at }
 
 -- the least ticks of all its points
 pub ready-ticks : (m : Machine) (plans : List Plan) (ask : Ask) (x : Suffix) (steps : List Step) (n : Net) (lines : _) (holds : _) (at : IsAtWith m plans ask (Some x) steps n lines holds) → AreLeastTicks n (board_table plans (Some x)) (ticks_by (board_table plans (Some x)) at.solved.0)

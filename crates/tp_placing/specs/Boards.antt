@@ -1,5 +1,7 @@
 -- What a board holds: live plans and an ask, and the steps that were taken since they were loaded.
 use Rattle.std.specs.Prelude.{ℕ, List, [], ◌∷◌, take, fold, Option, Some, None}
+use Rattle.tp_base.specs.Net.{Net}
+use Rattle.tp_base.specs.Readings.{Reading}
 use Rattle.tp_timelines.specs.Orders.{Orders, Sizes, sizes_of}
 use Rattle.tp_schedule.specs.declared.parts.Ask.{Ask}
 use Rattle.tp_schedule.specs.declared.parts.Plan.{Plan}
@@ -50,14 +52,14 @@ abbrev pub suffix_of : {N : Type 0} → BoardValue N → Option Suffix
 suffix_of b = suffix_after b.steps
 
 -- what a mark keeps
-pub record BoardContent (C : Type 0) : Type 0 where
-  pub net : C
+pub record BoardContent : Type 0 where
+  pub net : Net
   pub orders : List (List ℕ)
   pub held : List Held
   pub steps : List Step
 
 -- what marks leave alone
-pub record BoardAside (A : Type 0) : Type 0 where
+pub record BoardUntouched (A : Type 0) : Type 0 where
   pub net : A
   pub sizes : Sizes
   pub plans : List Plan
@@ -70,12 +72,12 @@ pub record BoardAside (A : Type 0) : Type 0 where
   pub causes : List Cause
   pub limit : Option PointId
 
-abbrev pub content_of : {N C : Type 0} → (N → C) → BoardValue N → BoardContent C
-content_of content b = record { net = content b.net; orders = b.orders.orders; held = b.held; steps = b.steps }
+abbrev pub content_of : {N : Type 0} → Reading N → BoardValue N → BoardContent
+content_of reading b = record { net = reading.net b.net; orders = b.orders.orders; held = b.held; steps = b.steps }
 
-abbrev pub aside_of : {N A : Type 0} → (N → A) → BoardValue N → BoardAside A
-aside_of aside b = record {
-  net = aside b.net;
+abbrev pub untouched_of : {N A : Type 0} → (N → A) → BoardValue N → BoardUntouched A
+untouched_of untouched b = record {
+  net = untouched b.net;
   sizes = sizes_of b.orders;
   plans = b.plans;
   firsts = b.firsts;
@@ -89,11 +91,11 @@ aside_of aside b = record {
 }
 
 -- the contents at the marks: what the network and the orders were, and the first so many holds and steps
-abbrev pub side_by_side : {C : Type 0} → List Held → List Step → List C → List (List (List ℕ)) → List BoardMark → List (BoardContent C)
+abbrev pub side_by_side : List Held → List Step → List Net → List (List (List ℕ)) → List BoardMark → List BoardContent
 side_by_side held steps [] orders marks = []
 side_by_side held steps (c ∷ cs) [] marks = []
 side_by_side held steps (c ∷ cs) (o ∷ orders) [] = []
 side_by_side held steps (c ∷ cs) (o ∷ orders) (m ∷ marks) = record { net = c; orders = o; held = take m.held held; steps = take m.steps steps } ∷ side_by_side held steps cs orders marks
 
-abbrev pub past_of : {N C : Type 0} → (N → List C) → BoardValue N → List (BoardContent C)
-past_of past b = side_by_side b.held b.steps (past b.net) b.orders.past b.marks
+abbrev pub past_of : {N : Type 0} → Reading N → BoardValue N → List BoardContent
+past_of reading b = side_by_side b.held b.steps (reading.past b.net) b.orders.past b.marks

@@ -59,18 +59,18 @@ pub record AreMarks (marks : List BoardMark) (steps held : ℕ) : Type 0 where
 pub record IsMarked (pasts max_marks : ℕ) (lines : Orders) (marks : Vec BoardMark Global) (steps held : ℕ) : Type 0 where
   pub spare : pasts < max_marks
   pub line_marks : length lines.past ≡ pasts
-  pub line_room : max_marks ≤ lines.max_marks
+  pub line_capacity : max_marks ≤ lines.max_marks
   pub board_marks : length marks.items ≡ pasts
   pub mark_space : max_marks ≤ vec_capacity marks
   pub at_marks : AreMarks marks.items steps held
 
 -- room for all points, edges, holds, steps and plans that there can be
-pub record HasRoom (max_points max_edges edge_room : ℕ) (lines : Orders) (held : Vec Held Global) (begins : Vec Begin Global) (plans : Vec Plan Global) (firsts : Vec PointId Global) (steps : Vec Step Global) (made : Vec Edge Global) (made_for : MadeFor) : Type 0 where
+pub record HasCapacity (max_points max_edges edge_capacity : ℕ) (lines : Orders) (held : Vec Held Global) (begins : Vec Begin Global) (plans : Vec Plan Global) (firsts : Vec PointId Global) (steps : Vec Step Global) (made : Vec Edge Global) (made_for : MadeFor) : Type 0 where
   pub points : most_points ≤ max_points
   pub edges : most_edges ≤ max_edges
-  pub all_edges : edge_room ≡ max_edges
+  pub all_edges : edge_capacity ≡ max_edges
   pub resources : length lines.orders ≡ made_for.resources
-  pub holds : most_holds ≤ lines.hold_room
+  pub holds : most_holds ≤ lines.hold_capacity
   pub held_few : length held.items ≤ most_holds
   pub held_space : most_holds ≤ vec_capacity held
   pub begin_space : most_holds ≤ vec_capacity begins
@@ -80,7 +80,7 @@ pub record HasRoom (max_points max_edges edge_room : ℕ) (lines : Orders) (held
   pub first_space : most_plans ≤ vec_capacity firsts
   pub edge_space : most_edges ≤ vec_capacity made
 
-pub record IsBoard (pasts max_marks max_points max_edges edge_room : ℕ) (lines : Orders) (held : Vec Held Global) (begins : Vec Begin Global) (plans : Vec Plan Global) (firsts : Vec PointId Global) (steps : Vec Step Global)
+pub record IsBoard (pasts max_marks max_points max_edges edge_capacity : ℕ) (lines : Orders) (held : Vec Held Global) (begins : Vec Begin Global) (plans : Vec Plan Global) (firsts : Vec PointId Global) (steps : Vec Step Global)
     (marks : Vec BoardMark Global) (made : Vec Edge Global) (made_for : MadeFor) : Type 0 where
   pub marked : IsMarked pasts max_marks lines marks (length steps.items) (length held.items)
-  pub room : HasRoom max_points max_edges edge_room lines held begins plans firsts steps made made_for
+  pub capacity : HasCapacity max_points max_edges edge_capacity lines held begins plans firsts steps made made_for

@@ -13,3 +13,4 @@ pub mod Loaded
 pub mod Reasons
 pub mod Walking
 pub mod Growing
+pub mod Candidates

@@ -1,5 +1,6 @@
 -- What holds of a loaded board: its network and its orders are those of the live plans with the suffix so far.
 use Rattle.std.specs.Prelude.{◌≡◌, ℕ, zero, suc, ◌+◌, ◌-◌, ◌*◌, ◌<◌, ◌≤◌, Bool, false, List, [], ◌∷◌, ◌++◌, length, slice_get, Option, Some, None, All, Contains, if◌then◌else◌}
+use Rattle.tp_base.specs.Readings.{Reading}
 use Rattle.tp_base.specs.Net.{Net, HasLeast}
 use Rattle.tp_machine.specs.Machines.{IsOffset}
 use Rattle.tp_machine.specs.declared.parts.ActId.{ActId}
@@ -138,7 +139,7 @@ pub record AreCaused (machine : Machine) (plans : List Plan) (ask : Ask) (causes
   pub safe : All (IsSafe (length steps)) n.edges
 
 -- the board stands on a machine and an ask: it was loaded with them, and is right for the steps so far and at each mark
-pub record StandsOn {N C : Type 0} (net : N → Net) (content : N → C) (past : N → List C) (b : BoardValue N) (machine : Machine) (ask : Ask) : Type 0 where
+pub record StandsOn {N : Type 0} (reading : Reading N) (b : BoardValue N) (machine : Machine) (ask : Ask) : Type 0 where
   pub made : IsMadeFor b.made_for machine
   pub asked : b.ask ≡ Some ask
   pub floor : b.floor ≡ start_floor machine ask.now ask.origin
@@ -150,11 +151,11 @@ pub record StandsOn {N C : Type 0} (net : N → Net) (content : N → C) (past :
   pub firsts : AreFirsts 0 b.plans b.firsts
   pub few_points : b.last.0 + 65 ≤ 16641 + kept_of ask
   pub few_plans : length b.plans ≤ 256
-  pub now : IsAt machine b.plans ask b.steps (net b.net) b.orders.orders b.held
-  pub before : (x : BoardContent C) → Contains (past_of past b) x → (n : N) → content n ≡ x.net → IsAt machine b.plans ask x.steps (net n) x.orders x.held
+  pub now : IsAt machine b.plans ask b.steps (reading.net b.net) b.orders.orders b.held
+  pub before : (x : BoardContent) → Contains (past_of reading b) x → (n : N) → reading.net n ≡ x.net → IsAt machine b.plans ask x.steps (reading.net n) x.orders x.held
   pub plain : ArePlain b.causes
-  pub caused : AreCaused machine b.plans ask b.causes b.steps (net b.net)
-  pub caused_before : (x : BoardContent C) → Contains (past_of past b) x → (n : N) → content n ≡ x.net → AreCaused machine b.plans ask b.causes x.steps (net n)
+  pub caused : AreCaused machine b.plans ask b.causes b.steps (reading.net b.net)
+  pub caused_before : (x : BoardContent) → Contains (past_of reading b) x → (n : N) → reading.net n ≡ x.net → AreCaused machine b.plans ask b.causes x.steps (reading.net n)
 
-abbrev pub Stands : {N C : Type 0} → (N → Net) → (N → C) → (N → List C) → BoardValue N → Machine → Type 0
-Stands net content past b machine = (ask : Ask) × StandsOn net content past b machine ask
+abbrev pub Stands : {N : Type 0} → Reading N → BoardValue N → Machine → Type 0
+Stands reading b machine = (ask : Ask) × StandsOn reading b machine ask

@@ -1,5 +1,6 @@
 -- Where a hold that is tried at a place has no times, what shows it, and what stands until it is taken back.
 use Rattle.std.specs.Prelude.{◌≡◌, ℕ, suc, ◌≤◌, List, length, take, slice_get, Some, None, All, IsSomeAnd}
+use Rattle.tp_base.specs.Readings.{Reading}
 use Rattle.tp_base.specs.Net.{Net, with_edges}
 use Rattle.tp_base.specs.declared.edges.Edge.{Edge}
 use Rattle.tp_machine.specs.declared.machine.Machine.{Machine}
@@ -7,7 +8,7 @@ use Rattle.tp_schedule.specs.Spots.{Ticks}
 use Rattle.tp_schedule.specs.declared.parts.Ask.{Ask}
 use Rattle.tp_constraints.specs.Nets.{IsBoardNet}
 use Rattle.tp_constraints.specs.Suffixes.{Suffix, SuffixTimes, with_place}
-use Rattle.tp_placing.specs.Boards.{BoardValue, aside_of, content_of, past_of}
+use Rattle.tp_placing.specs.Boards.{BoardValue, untouched_of, content_of, past_of}
 use Rattle.tp_placing.specs.Causes.{IsNamedHop}
 use Rattle.tp_placing.specs.Reasons.{IsPart}
 use Rattle.tp_placing.specs.Standing.{Stands, table_with}
@@ -19,9 +20,9 @@ pub record IsRefused {N : Type 0} (refutes : N → Net → Type 0) (n : N) (net 
   pub shown : refutes n (with_edges net (take count es))
 
 -- taken back to a mark, the board stands on the machine
-abbrev pub StandsBack : {N C A : Type 0} → (N → Net) → (N → C) → (N → List C) → (N → A) → BoardValue N → Machine → Type 0
-StandsBack {N} net content past aside b machine =
-    (back : BoardValue N) (k : ℕ) → slice_get (past_of past b) k ≡ Some (content_of content back) → aside_of aside back ≡ aside_of aside b → past_of past back ≡ take k (past_of past b) → Stands net content past back machine
+abbrev pub StandsBack : {N A : Type 0} → Reading N → (N → A) → BoardValue N → Machine → Type 0
+StandsBack {N} reading untouched b machine =
+    (back : BoardValue N) (k : ℕ) → slice_get (past_of reading b) k ≡ Some (content_of reading back) → untouched_of untouched back ≡ untouched_of untouched b → past_of reading back ≡ take k (past_of reading b) → Stands reading back machine
 
 -- the next hold has no times at a place, nor at any before
 abbrev pub HasNoTimesUpTo : {N : Type 0} → Machine → BoardValue N → ℕ → Suffix → Type 0

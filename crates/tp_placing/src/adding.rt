@@ -1,12 +1,16 @@
 //! A plan more on a loaded board: it is added behind the others, as loading would add it.
-ghost use Rattle.std.specs.Prelude.{◌≡◌, ℕ, ◌+◌, ◌*◌, ◌<◌, ◌≤◌, ◌^◌, ◌++◌, [], length, slice_get, true, Option, Some, vec_len, vec_capacity};
+ghost use Rattle.std.specs.Prelude.{◌≡◌, ℕ, ◌+◌, ◌*◌, ◌<◌, ◌≤◌, ◌^◌, ◌++◌, [], length, slice_get, true, All, Option, Some, vec_len, vec_capacity};
+ghost use Rattle.tp_base.specs.Grows.{IsKnown};
+ghost use Rattle.tp_base.specs.Net.{HasLeast, IsSolution, with_edges};
+ghost use Rattle.tp_base.specs.Readings.{IsSameSize};
 ghost use Rattle.tp_base.specs.declared.edges.PointId.{PointId as PointValue};
 ghost use Rattle.tp_schedule.specs.declared.parts.Plan.{Plan as PlanValue};
 ghost use Rattle.tp_placing.specs.Boards.{past_of};
 ghost use Rattle.tp_placing.specs.Causes.{most_causes};
-ghost use Rattle.tp_placing.specs.Growing.{IsBehind, IsLineEnd, own_edges};
+ghost use Rattle.tp_placing.specs.Growing.{IsBehind, IsLineEnd, KeepEdges, own_edges};
 ghost use Rattle.tp_placing.specs.Loaded.{IsLoaded};
-ghost use Rattle.tp_placing.specs.Loading.{point_count};
+ghost use Rattle.tp_placing.specs.LoadedHolds.{ticks_in};
+ghost use Rattle.tp_placing.specs.Loading.{HasPoints, firsts_from, point_count};
 ghost use Rattle.tp_placing.specs.Standing.{IsMadeFor, loaded_edges, loaded_holds};
 
 use crate::board::Board;
@@ -57,15 +61,39 @@ fn add_own_edges(
     }
 }
 
+/// Takes edges into a network, where the plans' own ticks keep them. Answers whether they do.
+fn load_if_kept<N: Network>(net: &mut N, plans: &[Plan], firsts: &[PointId], edges: &[Edge]) -> bool
+    requires formed { All HasPoints plans.now }
+    requires firsts { firsts.now ≡ firsts_from 0 plans.now }
+    requires known { All (IsKnown (length (ticks_in plans.now))) edges.now }
+    requires in_net { All (IsKnown (length (N.reading.net net.old).lows)) edges.now }
+    requires spare { length (N.reading.net net.old).edges + length edges.now
+        ≤ N.reading.max_edges net.old }
+    requires solution { KeepEdges plans.now edges.now → (x : ℕ → ℕ) × IsSolution
+        (with_edges (N.reading.net net.old) edges.now) x }
+    ensures kept { result ≡ true → KeepEdges plans.now edges.now }
+    ensures added { result ≡ true
+        → N.reading.net net.new ≡ with_edges (N.reading.net net.old) edges.now }
+    ensures solved { result ≡ true → HasLeast (N.reading.net net.new) }
+    ensures past { N.reading.past net.new ≡ N.reading.past net.old }
+    ensures same_size { IsSameSize N.reading net.old net.new }
+{
+    if !are_kept(plans, firsts, edges) {
+        return false;
+    }
+    net.load(edges);
+    true
+}
+
 impl<N: Network> Board<N> {
     /// Whether there is room for the edges, holds and causes of one plan more.
-    fn has_room(&self) -> bool
+    fn has_capacity(&self) -> bool
         ensures edges { result ≡ true
-            → length (N.net self.now.net).edges + 641 ≤ loaded_edges }
+            → length (N.reading.net self.now.net).edges + 641 ≤ loaded_edges }
         ensures holds { result ≡ true → length self.now.held + 256 ≤ loaded_holds }
         ensures causes { result ≡ true → length self.now.causes + 512 ≤ most_causes }
     {
-        if self.edge_room - self.net.spare_edges() > EDGES {
+        if self.edge_capacity - self.net.spare_edges() > EDGES {
             return false;
         }
         if self.held.len() > HOLDS {
@@ -78,20 +106,20 @@ impl<N: Network> Board<N> {
     /// them then: it is not where there is no room, or where an edge of the plan is not kept.
     pub(crate) fn add_last(&mut self, machine: &Machine, now: Tick) -> bool
         requires made { IsMadeFor self.old.made_for machine.now }
-        requires behind { IsBehind machine.now now self.old.plans (N.net self.old.net)
+        requires behind { IsBehind machine.now now self.old.plans (N.reading.net self.old.net)
             self.old.orders.orders self.old.held self.old.firsts self.old.last.0
             self.old.causes }
         ensures made { self.new.made_for ≡ self.old.made_for }
         ensures plans { self.new.plans ≡ self.old.plans }
         ensures loaded { result ≡ true → IsLoaded machine.now now self.new.plans
-            (N.net self.new.net) self.new.orders.orders self.new.held self.new.firsts
+            (N.reading.net self.new.net) self.new.orders.orders self.new.held self.new.firsts
             self.new.causes }
         ensures last { result ≡ true → self.new.last.0 ≡ point_count self.new.plans }
         ensures steps { self.new.steps ≡ self.old.steps }
-        ensures past { past_of N.past self.old ≡ [] → past_of N.past self.new ≡ [] }
-        ensures marks { N.max_marks self.new.net ≡ N.max_marks self.old.net }
+        ensures past { past_of N.reading self.old ≡ [] → past_of N.reading self.new ≡ [] }
+        ensures marks { N.reading.max_marks self.new.net ≡ N.reading.max_marks self.old.net }
     {
-        if !self.has_room() {
+        if !self.has_capacity() {
             return false;
         }
         let at = self.firsts.len();
@@ -127,11 +155,7 @@ impl<N: Network> Board<N> {
             machine,
             held,
         );
-        if !are_kept(&self.plans, &self.firsts, &self.edges) {
-            return false;
-        }
-        self.net.load(&self.edges);
         self.last = PointId(self.last.0 + plan.acts.len() + 1);
-        true
+        load_if_kept(&mut self.net, &self.plans, &self.firsts, &self.edges)
     }
 }

@@ -31,9 +31,10 @@ fn acts_so_far(plans: &[Plan], copy: SheetId) -> Acts
 /// The least times of their starts.
 fn starts_so_far<N: Network>(net: &N, plans: &[Plan], firsts: &[PointId], copy: SheetId) -> Points
     requires firsts { AreFirsts 0 plans.now firsts.now }
-    requires known { length (table_of plans.now) ≤ length (N.net net.now).lows }
+    requires known { length (table_of plans.now) ≤ length (N.reading.net net.now).lows }
     requires fits { length (table_of plans.now) < 2 ^ 32 }
-    ensures times { (t : Ticks) → AreLeastTicks (N.net net.now) (table_of plans.now) t → result
+    ensures times { (t : Ticks)
+        → AreLeastTicks (N.reading.net net.now) (table_of plans.now) t → result
         ≡ ticks_from (λ i. t (kept copy i)) 0 (length (kept_acts copy plans.now)) }
     ensures count { length result ≡ length (kept_acts copy plans.now) }
 {
@@ -61,9 +62,9 @@ fn add_opened(acts: &mut Acts, steps: &[Step], most: u32)
 /// Adds the least times of a point and of so many before it, from that point back.
 fn add_back<N: Network>(points: &mut Points, net: &N, first: PointId, count: u32)
     requires few { length points.old + count < 65 }
-    requires known { first.0 < length (N.net net.now).lows }
+    requires known { first.0 < length (N.reading.net net.now).lows }
     requires within { count ≤ first.0 }
-    ensures times { (sol : ℕ → ℕ) → IsLeast (N.net net.now) sol
+    ensures times { (sol : ℕ → ℕ) → IsLeast (N.reading.net net.now) sol
         → points.new ≡ points.old
         ++ ticks_from (back_from sol first.0) 0 (suc count) }
     ensures count { length points.new ≡ length points.old + suc count }
@@ -95,9 +96,9 @@ pub(crate) fn plan_by_steps<N: Network>(
     requires some { 0 < own.count }
     requires opened { IsSomeAnd (suffix_after steps.now) (λ x. length x.choices ≡ own.count) }
     requires start { own.start.0 ≡ length (table_of plans.now) + own.count }
-    requires known { own.start.0 < length (N.net net.now).lows }
+    requires known { own.start.0 < length (N.reading.net net.now).lows }
     ensures plan { (t : Ticks) (x : Suffix) → suffix_after steps.now ≡ Some x
-        → AreLeastTicks (N.net net.now) (board_table plans.now (Some x)) t → result
+        → AreLeastTicks (N.reading.net net.now) (board_table plans.now (Some x)) t → result
         ≡ timed_by (settled_ticks ask.entry.now (total_of ask.entry.now x.choices) t)
         (asked_plan plans.now ask.entry.now x.choices) }
     ensures formed { IsFormed result }

@@ -7,7 +7,6 @@ use tp_schedule::{Ask, Plan};
 use tp_timelines::Timelines;
 
 /// A schedule as a network with an order of holds for each resource.
-#[derive(Drop)]
 pub struct Board<N: Network> {
     pub(crate) net: N,
     pub(crate) lines: Timelines,
@@ -28,13 +27,38 @@ pub struct Board<N: Network> {
     pub(crate) marks: Vec<BoardMark>,
     pub(crate) made_for: MadeFor,
     /// How many edges the network takes in all.
-    pub(crate) edge_room: u32,
+    pub(crate) edge_capacity: u32,
     /// Where the edges of one step are made, and those of a schedule.
     pub(crate) edges: Vec<Edge>,
     /// Why the edges of the network stand, by their tags.
     pub(crate) causes: Causes,
     /// The point of the end that was refused last, where that was the last change that was asked for.
     pub(crate) limit: Option<PointId>,
+}
+
+// What becomes of its parts is proved here, once for all who let go of one.
+impl<N: Network + Drop> Drop for Board<N> {
+    fn drop(self) {
+        let Board {
+            net: _,
+            lines: _,
+            held: _,
+            begins: _,
+            plans: _,
+            firsts: _,
+            last: _,
+            floor: _,
+            horizon: _,
+            ask: _,
+            steps: _,
+            marks: _,
+            made_for: _,
+            edge_capacity: _,
+            edges: _,
+            causes: _,
+            limit: _,
+        } = self;
+    }
 }
 
 // Clauses see what is loaded, the steps since, and the network.
@@ -48,7 +72,7 @@ impl<N: Network> Model for Board<N> {
     ghost view = { λ b. board_of b.net b.lines b.held.items b.plans.items b.firsts.items b.last
         b.floor b.horizon b.ask b.steps.items b.marks.items b.made_for b.causes b.limit };
 
-    ghost invariant = { λ b. IsBoard (length (N.past b.net)) (N.max_marks b.net)
-        (N.max_points b.net) (N.max_edges b.net) b.edge_room b.lines b.held b.begins b.plans
-        b.firsts b.steps b.marks b.edges b.made_for };
+    ghost invariant = { λ b. IsBoard (length (N.reading.past b.net)) (N.reading.max_marks b.net)
+        (N.reading.max_points b.net) (N.reading.max_edges b.net) b.edge_capacity b.lines b.held
+        b.begins b.plans b.firsts b.steps b.marks b.edges b.made_for };
 }

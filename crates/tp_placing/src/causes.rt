@@ -1,5 +1,6 @@
 //! Why the edges of the network stand. An edge's tag is the place of its cause in a table.
 ghost use Rattle.std.specs.Prelude.{◌≡◌, ◌+◌, ◌*◌, ◌<◌, ◌≤◌, ◌++◌, ◌∷◌, [], length, take, slice_get, slice_set, Some};
+ghost use Rattle.tp_placing.specs.Inside.{most_steps};
 ghost use Rattle.tp_placing.specs.Causes.{ArePlain, cause_between, most_causes, step_causes};
 
 use crate::parts::Held;
@@ -42,7 +43,7 @@ const CAUSES: usize = 66_665;
 
 /// The tag of the first of the two causes that a step may have, after so many steps.
 pub(crate) fn step_tag(steps: usize) -> u32
-    requires { steps ≤ 330 }
+    requires { steps ≤ most_steps }
     ensures { result ≡ 5 + 2 * steps }
 {
     5 + 2 * steps as u32
@@ -68,6 +69,7 @@ pub(crate) struct Causes {
 impl Model for Causes {
     ghost use Rattle.std.specs.Prelude.{List};
     ghost use Rattle.tp_placing.specs.declared.causes.Cause.{Cause};
+    ghost use Rattle.tp_placing.specs.Inside.{most_steps};
     ghost use Rattle.tp_placing.specs.Causes.{IsCauseTable};
 
     ghost Value = { List Cause };
@@ -108,7 +110,7 @@ impl Causes {
 
     /// Adds a cause of the loaded orders, and answers its tag.
     pub(crate) fn push(&mut self, cause: Cause) -> u32
-        requires room { length self.old < most_causes }
+        requires capacity { length self.old < most_causes }
         ensures tag { result ≡ length self.old }
         ensures added { self.new ≡ self.old ++ cause ∷ [] }
     {

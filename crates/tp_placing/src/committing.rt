@@ -19,7 +19,7 @@ impl<N: Network> Board<N> {
     /// Writes the asked copy's plan and the times of all loaded plans into the schedule that the board was loaded from. Takes
     /// one spare plan for a new copy, and no memory.
     pub fn commit(&self, machine: &Machine, schedule: &mut Schedule)
-        requires stands { Stands N.net N.content N.past self.now machine.now }
+        requires stands { Stands N.reading self.now machine.now }
         requires loaded { IsSomeAnd self.now.ask
             (λ ask. IsLoadedFrom machine.now schedule.old.plans ask self.now.plans) }
         requires complete { IsSomeAnd self.now.ask

@@ -18,7 +18,8 @@ use tp_schedule::{Plan, Schedule};
 
 /// Whether both plans have the same actions at the same points.
 fn is_same_way(one: &Plan, other: &Plan) -> bool
-    ensures { result ≡ true → (one.now.acts ≡ other.now.acts) × (one.now.points ≡ other.now.points) }
+    ensures { result ≡ true → (one.now.acts ≡ other.now.acts)
+        × (one.now.points ≡ other.now.points) }
 {
     if one.acts.as_slice() != other.acts.as_slice() {
         return false;
@@ -73,9 +74,7 @@ fn meet(plans: &mut Vec<Plan>, place: usize, plan: &Plan) -> bool
     if place < plans.len() {
         return is_same_plan(&plans[place], plan);
     }
-    let Ok(()) = plans.push(plan.copy()) else {
-        unreachable!()
-    };
+    plans.push_reserved(plan.copy());
     true
 }
 

@@ -41,7 +41,7 @@ struct Place {
 
 /// Adds why a hold stands between its neighbours, and answers the tag of the first of the two causes.
 fn push_causes(causes: &mut Causes, near: &Neighbours, new: &Held) -> u32
-    requires room { length causes.old + 2 ≤ most_causes }
+    requires capacity { length causes.old + 2 ≤ most_causes }
     ensures tag { result ≡ length causes.old }
     ensures added { causes.new ≡ causes.old ++ causes_for near.now.before new.now near.now.behind }
 {
@@ -60,7 +60,7 @@ fn push_causes(causes: &mut Causes, near: &Neighbours, new: &Held) -> u32
 
 /// Adds the edges from the hold before to a new hold, and from it to the one behind, on a resource with this gap.
 fn push_edges(edges: &mut Vec<Edge>, near: &Neighbours, new: &Held, gap: u32, tag: u32)
-    requires room { vec_len edges.old + 2 ≤ vec_capacity edges.old }
+    requires capacity { vec_len edges.old + 2 ≤ vec_capacity edges.old }
     requires fits { tag + 1 < 2 ^ 32 }
     ensures added { edges.new.items ≡ edges.old.items
         ++ edges_around gap near.now.before new.now near.now.behind tag }
@@ -86,20 +86,22 @@ fn put_hold(
     requires known { hold.now.rule.resource.0 < length lines.old.orders }
     requires within { place.at ≤ length (order_on lines.old.orders hold.now.rule.resource.0) }
     requires ids { AreIds held.now (order_on lines.old.orders hold.now.rule.resource.0) }
-    requires holds { total lines.old.orders < lines.old.hold_room }
+    requires holds { total lines.old.orders < lines.old.hold_capacity }
     requires causes { length causes.old + 2 ≤ most_causes }
     requires edges { vec_len edges.old + 2 ≤ vec_capacity edges.old }
     ensures lines { lines.new.orders ≡ slice_set lines.old.orders hold.now.rule.resource.0
         (insert (order_on lines.old.orders hold.now.rule.resource.0) place.at place.number) }
     ensures edges { edges.new.items ≡ edges.old.items ++ edges_around place.gap
-        (held_before held.now (order_on lines.old.orders hold.now.rule.resource.0) place.at) hold.now
+        (held_before held.now (order_on lines.old.orders hold.now.rule.resource.0) place.at)
+        hold.now
         (held_behind held.now (order_on lines.old.orders hold.now.rule.resource.0) place.at)
         (length causes.old) }
     ensures causes { causes.new ≡ causes.old ++ causes_for
-        (held_before held.now (order_on lines.old.orders hold.now.rule.resource.0) place.at) hold.now
+        (held_before held.now (order_on lines.old.orders hold.now.rule.resource.0) place.at)
+        hold.now
         (held_behind held.now (order_on lines.old.orders hold.now.rule.resource.0) place.at) }
     ensures past { lines.new.past ≡ lines.old.past }
-    ensures room { lines.new.hold_room ≡ lines.old.hold_room }
+    ensures hold_capacity { lines.new.hold_capacity ≡ lines.old.hold_capacity }
     ensures marks { lines.new.max_marks ≡ lines.old.max_marks }
     ensures capacity { vec_capacity edges.old ≤ vec_capacity edges.new }
 {
@@ -166,7 +168,7 @@ pub(crate) fn put_holds(
     requires from { from ≤ length look.held.now }
     requires few { length look.held.now < 2 ^ 32 }
     requires holds { total lines.old.orders + (length look.held.now - from)
-        ≤ lines.old.hold_room }
+        ≤ lines.old.hold_capacity }
     requires base { step_causes ≤ length causes.old }
     requires causes { length causes.old + 2 * (length look.held.now - from) ≤ most_causes }
     requires edges { vec_len edges.old + 2 * (length look.held.now - from)
@@ -183,7 +185,7 @@ pub(crate) fn put_holds(
         ≡ total lines.old.orders + (length look.entry.held.now - from) }
     ensures resources { length lines.new.orders ≡ length lines.old.orders }
     ensures past { lines.new.past ≡ lines.old.past }
-    ensures room { lines.new.hold_room ≡ lines.old.hold_room }
+    ensures hold_capacity { lines.new.hold_capacity ≡ lines.old.hold_capacity }
     ensures marks { lines.new.max_marks ≡ lines.old.max_marks }
     ensures few { vec_len edges.new
         ≤ vec_len edges.old + 2 * (length look.entry.held.now - from) }

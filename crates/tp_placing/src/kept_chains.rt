@@ -52,7 +52,7 @@ pub(crate) fn add_chains(
 )
     requires space { vec_len edges.old + length (chains_edges machine.now (length causes.old)
         (holds_on held.now lines.now.orders) resources) ≤ vec_capacity edges.old }
-    requires room { length causes.old
+    requires capacity { length causes.old
         + length (chains_causes (holds_on held.now lines.now.orders) resources) ≤ most_causes }
     requires known { resources ≤ length lines.now.orders }
     requires few { resources ≤ 256 }

@@ -63,7 +63,7 @@ fn add_edges(
         + length (all_edges machine.now plans.now lines.now.orders held.now)
         ≤ vec_capacity edges.old }
     requires causes { length causes.old ≡ step_causes }
-    requires room { step_causes
+    requires capacity { step_causes
         + length (chains_causes (holds_on held.now lines.now.orders) (length machine.now.resources))
         ≤ most_causes }
     requires fits { point_count plans.now < 2 ^ 32 }
@@ -90,13 +90,13 @@ impl<N: Network> Board<N> {
             (filter (is_live machine.now now) schedule.now.plans) }
         ensures made { self.new.made_for ≡ self.old.made_for }
         ensures plans { self.new.plans ≡ filter (is_live machine.now now) schedule.now.plans }
-        ensures loaded { IsLoaded machine.now now self.new.plans (N.net self.new.net)
+        ensures loaded { IsLoaded machine.now now self.new.plans (N.reading.net self.new.net)
             self.new.orders.orders self.new.held self.new.firsts self.new.causes }
         ensures last { self.new.last.0 ≡ point_count self.new.plans }
         ensures asked { self.new.ask ≡ None }
         ensures closed { self.new.steps ≡ [] }
-        ensures past { past_of N.past self.new ≡ [] }
-        ensures marks { N.max_marks self.new.net ≡ N.max_marks self.old.net }
+        ensures past { past_of N.reading self.new ≡ [] }
+        ensures marks { N.reading.max_marks self.new.net ≡ N.reading.max_marks self.old.net }
     {
         keep_live(&mut self.plans, machine, schedule, now);
         self.net.clear();

@@ -1,5 +1,6 @@
 //! The points of a schedule that is loaded, with their bounds.
 ghost use Rattle.std.specs.Prelude.{◌≡◌, ◌+◌, ◌<◌, ◌≤◌, ◌^◌, ◌++◌, Bool, false, length, All, vec_len, vec_capacity};
+ghost use Rattle.tp_base.specs.Readings.{IsSameSize};
 ghost use Rattle.tp_base.specs.Net.{HasLeast};
 ghost use Rattle.tp_schedule.specs.Plans.{IsFormed, is_fixed};
 ghost use Rattle.tp_constraints.specs.Gaps.{cap_of, is_unreleased, low_of};
@@ -49,18 +50,16 @@ fn highest(plan: &Plan, at: u32, horizon: Tick) -> Tick
 /// Adds the points of a plan.
 pub(crate) fn add_plan<N: Network>(net: &mut N, plan: &Plan, floor: Tick, horizon: Tick)
     requires bounds { HasBounds floor horizon plan.now }
-    requires room { length (N.net net.old).lows + (length plan.now.acts + 1)
-        ≤ N.max_points net.old }
+    requires capacity { length (N.reading.net net.old).lows + (length plan.now.acts + 1)
+        ≤ N.reading.max_points net.old }
     requires fits { floor + 1 < 2 ^ 32 }
-    requires least { HasLeast (N.net net.old) }
-    ensures added { N.net net.new ≡ with_bounds (lows_of floor plan.now)
+    requires least { HasLeast (N.reading.net net.old) }
+    ensures added { N.reading.net net.new ≡ with_bounds (lows_of floor plan.now)
         (caps_of horizon plan.now)
-        (N.net net.old) }
-    ensures solved { HasLeast (N.net net.new) }
-    ensures past { N.past net.new ≡ N.past net.old }
-    ensures marks { N.max_marks net.new ≡ N.max_marks net.old }
-    ensures points { N.max_points net.new ≡ N.max_points net.old }
-    ensures edges { N.max_edges net.new ≡ N.max_edges net.old }
+        (N.reading.net net.old) }
+    ensures solved { HasLeast (N.reading.net net.new) }
+    ensures past { N.reading.past net.new ≡ N.reading.past net.old }
+    ensures same_size { IsSameSize N.reading net.old net.new }
 {
     for at in 0..plan.acts.len() + 1 {
         let low = lowest(plan, at, floor);
@@ -81,20 +80,20 @@ pub(crate) fn add_points<N: Network>(
     horizon: Tick,
 ) -> u32
     requires bounds { All (HasBounds floor horizon) plans.now }
-    requires room { length (N.net net.old).lows + point_count plans.now ≤ N.max_points net.old }
+    requires capacity { length (N.reading.net net.old).lows + point_count plans.now
+        ≤ N.reading.max_points net.old }
     requires space { vec_len firsts.old + length plans.now ≤ vec_capacity firsts.old }
     requires few { point_count plans.now < 2 ^ 32 }
     requires fits { floor + 1 < 2 ^ 32 }
-    requires least { HasLeast (N.net net.old) }
+    requires least { HasLeast (N.reading.net net.old) }
     ensures count { result ≡ point_count plans.now }
-    ensures added { N.net net.new ≡ with_plans floor horizon plans.now (N.net net.old) }
+    ensures added { N.reading.net net.new
+        ≡ with_plans floor horizon plans.now (N.reading.net net.old) }
     ensures firsts { firsts.new.items ≡ firsts.old.items ++ firsts_from 0 plans.now }
     ensures space { vec_capacity firsts.old ≤ vec_capacity firsts.new }
-    ensures solved { HasLeast (N.net net.new) }
-    ensures past { N.past net.new ≡ N.past net.old }
-    ensures marks { N.max_marks net.new ≡ N.max_marks net.old }
-    ensures points { N.max_points net.new ≡ N.max_points net.old }
-    ensures edges { N.max_edges net.new ≡ N.max_edges net.old }
+    ensures solved { HasLeast (N.reading.net net.new) }
+    ensures past { N.reading.past net.new ≡ N.reading.past net.old }
+    ensures same_size { IsSameSize N.reading net.old net.new }
 {
     let mut first = 0;
     for plan in plans {

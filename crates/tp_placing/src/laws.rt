@@ -1,16 +1,16 @@
 //! The laws of boards. The calls do nothing: their contracts are the laws.
-ghost use Rattle.tp_placing.specs.Laws.{AsideKeepsEndReasons, AsideKeepsReasons, AsideKeepsReasonsUpTo, MarkKeeps, TablesAreNumbered, UndoKeeps};
+ghost use Rattle.tp_placing.specs.Laws.{UntouchedKeepsEndReasons, UntouchedKeepsReasons, UntouchedKeepsReasonsUpTo, MarkKeeps, TablesAreNumbered, UndoKeeps};
 
 use tp_base::Network;
 
 /// A board that stands on a machine and an ask stands on them after a mark, and when it is taken back to one, and what the
 /// last refusal shows stays with it. The call does nothing.
 pub fn marks_keep_boards<N: Network>()
-    ensures mark { MarkKeeps N.net N.content N.past N.aside }
-    ensures back { UndoKeeps N.net N.content N.past N.aside }
-    ensures reasons { AsideKeepsReasons N.aside N.refutes }
-    ensures reasons_up_to { AsideKeepsReasonsUpTo N.aside N.refutes }
-    ensures end_reasons { AsideKeepsEndReasons N.aside N.refutes }
+    ensures mark { MarkKeeps N.reading N.untouched }
+    ensures back { UndoKeeps N.reading N.untouched }
+    ensures reasons { UntouchedKeepsReasons N.untouched N.refutes }
+    ensures reasons_up_to { UntouchedKeepsReasonsUpTo N.untouched N.refutes }
+    ensures end_reasons { UntouchedKeepsEndReasons N.untouched N.refutes }
 {}
 
 /// The points of the plans and the own ones have the numbers by which they are named. The call does nothing.

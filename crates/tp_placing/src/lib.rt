@@ -4,6 +4,7 @@
 mod adding;
 mod asked;
 mod board;
+mod candidates;
 mod causes;
 mod committing;
 mod edges;

@@ -106,7 +106,7 @@ pub(crate) fn line_edges(
     requires in_order { AllPairs IsEarlier plans.now }
     requires firsts { AreFirsts 0 plans.now firsts.now }
     requires few { length (table_of plans.now) < 2 ^ 32 }
-    requires room { 2 ≤ vec_capacity edges.old }
+    requires capacity { 2 ≤ vec_capacity edges.old }
     ensures edges { edges.new.items ≡ end_edges ask.entry.now plans.now firsts.now end }
     ensures capacity { vec_capacity edges.old ≤ vec_capacity edges.new }
 {

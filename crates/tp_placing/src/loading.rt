@@ -33,9 +33,9 @@ impl<N: Network> Board<N> {
             ≡ filter (is_live machine.now ask.entry.now.now) schedule.now.plans }
         ensures asked { self.new.ask ≡ Some ask.entry.now }
         ensures closed { self.new.steps ≡ [] }
-        ensures stands { Stands N.net N.content N.past self.new machine.now }
-        ensures past { past_of N.past self.new ≡ [] }
-        ensures marks { N.max_marks self.new.net ≡ N.max_marks self.old.net }
+        ensures stands { Stands N.reading self.new machine.now }
+        ensures past { past_of N.reading self.new ≡ [] }
+        ensures marks { N.reading.max_marks self.new.net ≡ N.reading.max_marks self.old.net }
     {
         self.load_live(machine, schedule, ask.now);
         self.floor = start_floor(machine, ask);

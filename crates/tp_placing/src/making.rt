@@ -1,7 +1,7 @@
 //! A new board, with capacity for all that a machine can bring.
 ghost use Rattle.std.specs.Prelude.{◌≡◌, ◌≤◌, [], None, IfOk};
 ghost use Rattle.tp_placing.specs.Boards.{past_of};
-ghost use Rattle.tp_placing.specs.Inside.{most_points, most_edges};
+ghost use Rattle.tp_placing.specs.Inside.{most_edges, most_points, most_steps};
 ghost use Rattle.tp_placing.specs.Standing.{IsMadeFor};
 
 use crate::board::Board;
@@ -27,18 +27,18 @@ impl<N: Network + Drop> Board<N> {
     /// 100,000 edges and 330 marks. The board is for machines with the same numbers of locations and resources and the same
     /// window.
     pub fn new(alloc: Global, machine: &Machine, mut net: N) -> Result<Board<N>, Memory>
-        requires points { most_points ≤ N.max_points net }
-        requires edges { most_edges ≤ N.max_edges net }
-        requires marks { 330 ≤ N.max_marks net }
+        requires points { most_points ≤ N.reading.max_points net }
+        requires edges { most_edges ≤ N.reading.max_edges net }
+        requires marks { most_steps ≤ N.reading.max_marks net }
         ensures made { IfOk result (λ b. IsMadeFor b.made_for machine.now) }
         ensures empty { IfOk result (λ b. b.ask ≡ None) }
         ensures steps { IfOk result (λ b. b.steps ≡ []) }
-        ensures past { IfOk result (λ b. past_of N.past b ≡ []) }
-        ensures kept { IfOk result (λ b. N.max_marks b.net ≡ N.max_marks net) }
+        ensures past { IfOk result (λ b. past_of N.reading b ≡ []) }
+        ensures kept { IfOk result (λ b. N.reading.max_marks b.net ≡ N.reading.max_marks net) }
     {
         net.clear();
         let marks = net.spare_marks();
-        let edge_room = net.spare_edges();
+        let edge_capacity = net.spare_edges();
         let made_for = MadeFor {
             locations: machine.locations.len(),
             resources: machine.resources.len(),
@@ -58,7 +58,7 @@ impl<N: Network + Drop> Board<N> {
             steps: Vec::with_capacity(alloc, STEPS)?,
             marks: Vec::with_capacity(alloc, marks as usize)?,
             made_for,
-            edge_room,
+            edge_capacity,
             edges: Vec::with_capacity(alloc, EDGES)?,
             causes: Causes::new(alloc)?,
             limit: None,

@@ -24,7 +24,7 @@ fn sheet_name(plan: &Plan) -> SheetName
 impl<N: Network> Board<N> {
     /// The plan of a point below the own ones, by its place, and the point's number there.
     fn kept_point(&self, point: PointId) -> (SheetName, u32)
-        requires stands { (m : Machine) × Stands N.net N.content N.past self.now m }
+        requires stands { (m : Machine) × Stands N.reading self.now m }
         requires kept { point.0 < self.now.last.0 }
         ensures spot { spot_name self.now.plans (numbered self.now.plans point.0)
             ≡ Some (Spot.Kept result.0 result.1) }
@@ -39,7 +39,7 @@ impl<N: Network> Board<N> {
 
     /// The action that starts at a point.
     fn grip_of(&self, point: PointId) -> Grip
-        requires stands { (m : Machine) × Stands N.net N.content N.past self.now m }
+        requires stands { (m : Machine) × Stands N.reading self.now m }
         ensures { grip_name self.now.plans (numbered self.now.plans point.0) ≡ Some result }
     {
         if point.0 < self.last.0 {
@@ -52,7 +52,7 @@ impl<N: Network> Board<N> {
 
     /// A point of the network, or of what `reason` tells, by its name.
     pub fn spot_of(&self, point: PointId) -> Spot
-        requires stands { (m : Machine) × Stands N.net N.content N.past self.now m }
+        requires stands { (m : Machine) × Stands N.reading self.now m }
         ensures { named_point self.now.plans self.now.limit point ≡ Some result }
     {
         if let Some(limit) = self.limit
@@ -71,7 +71,7 @@ impl<N: Network> Board<N> {
     /// Why an edge of the network, or of what `reason` tells, stands. Nothing is told of other edges: the edge's tag is to be
     /// that of a cause that the board keeps.
     pub fn why_of(&self, edge: Edge) -> Why
-        requires stands { (m : Machine) × Stands N.net N.content N.past self.now m }
+        requires stands { (m : Machine) × Stands N.reading self.now m }
         requires told { edge.tag < length self.now.causes }
         ensures { why_name self.now.plans
             (kind_of self.now.plans (slice_get self.now.causes edge.tag)) ≡ Some result }

@@ -65,7 +65,7 @@ pub(crate) fn neighbour_edges(
     gap: u32,
     tag: u32,
 )
-    requires room { 2 ≤ vec_capacity edges.old }
+    requires capacity { 2 ≤ vec_capacity edges.old }
     requires fits { tag + 1 < 2 ^ 32 }
     ensures edges { edges.new.items
         ≡ edges_around gap neighbours.now.before new.now neighbours.now.behind tag }
@@ -73,14 +73,10 @@ pub(crate) fn neighbour_edges(
 {
     edges.clear();
     if let Some(before) = &neighbours.before {
-        let Ok(()) = edges.push(following(gap, before, new, tag)) else {
-            unreachable!()
-        };
+        edges.push_reserved(following(gap, before, new, tag));
     }
     if let Some(behind) = &neighbours.behind {
-        let Ok(()) = edges.push(following(gap, new, behind, tag + 1)) else {
-            unreachable!()
-        };
+        edges.push_reserved(following(gap, new, behind, tag + 1));
     }
 }
 

@@ -8,42 +8,43 @@ ghost use Rattle.tp_placing.specs.Reasons.{HasReason};
 ghost use Rattle.tp_placing.specs.Standing.{Stands};
 
 use crate::board::Board;
-use crate::causes::{STOP, step_tag};
+use crate::candidates::insert_hold;
+use crate::causes::STOP;
 use crate::edges::{edge_between, lasting, lowest};
 use crate::finding::point_of;
 use crate::lining::line_edges;
-use crate::neighbours::{neighbour_edges, neighbours_of, note_neighbours};
-use crate::parts::{Change, Held, Step};
+use crate::neighbours::{neighbour_edges, note_neighbours};
+use crate::parts::{Change, Step};
 use tp_base::{Late, Network, PointId};
 use tp_constraints::{gaps_are_hops, solutions_are_ticks, steps_add_edges};
-use tp_machine::{ActId, Machine, gap_at};
+use tp_machine::{ActId, Machine};
 use tp_schedule::Origin;
 
 impl<N: Network> Board<N> {
     /// Sets the first point to the front's end, so that the list is complete, or answers Late where no times are left.
     pub fn stop(&mut self) -> Result<(), Late>
-        requires stands { (m : Machine) × Stands N.net N.content N.past self.old m }
+        requires stands { (m : Machine) × Stands N.reading self.old m }
         requires going { IsSomeAnd (suffix_of self.old) (λ x. IsFalse x.stopped) }
         requires flying { IsSomeAnd self.old.ask (λ ask. IsInFlight ask.origin) }
         ensures suffix { OnOk result
             (IsSomeAnd (suffix_of self.old) (λ x. suffix_of self.new ≡ Some (with_stop x))) }
         ensures times { OnOk result
-            ((m : Machine) → Stands N.net N.content N.past self.old m
+            ((m : Machine) → Stands N.reading self.old m
             → IsSomeAnd (suffix_of self.new) (HasTimes m self.new)) }
         ensures late { OnErr result
-            ((m : Machine) → Stands N.net N.content N.past self.old m
+            ((m : Machine) → Stands N.reading self.old m
             → IsSomeAnd (suffix_of self.old) (λ x. HasNoTimes m self.old (with_stop x))) }
         ensures shown { OnErr result
-            ((m : Machine) → Stands N.net N.content N.past self.old m
+            ((m : Machine) → Stands N.reading self.old m
             → IsSomeAnd (suffix_of self.old) (λ x. HasReason N.refutes m self.new
             (with_stop x))) }
         ensures same { OnErr result
-            (content_of N.content self.new ≡ content_of N.content self.old) }
-        ensures stands { (m : Machine) → Stands N.net N.content N.past self.old m
-            → Stands N.net N.content N.past self.new m }
-        ensures past { past_of N.past self.new ≡ past_of N.past self.old }
+            (content_of N.reading self.new ≡ content_of N.reading self.old) }
+        ensures stands { (m : Machine) → Stands N.reading self.old m
+            → Stands N.reading self.new m }
+        ensures past { past_of N.reading self.new ≡ past_of N.reading self.old }
         ensures loaded { IsSameLoad self.old self.new }
-        ensures marks { N.max_marks self.new.net ≡ N.max_marks self.old.net }
+        ensures marks { N.reading.max_marks self.new.net ≡ N.reading.max_marks self.old.net }
     {
         gaps_are_hops();
         solutions_are_ticks();
@@ -64,16 +65,14 @@ impl<N: Network> Board<N> {
             newest: newest.newest,
             first: newest.first,
         };
-        let Ok(()) = self.steps.push(step) else {
-            unreachable!()
-        };
+        self.steps.push_reserved(step);
         Ok(())
     }
 
     /// Places the next hold of the newest action at a place of its resource's order, or answers Late where no times are
     /// left.
     pub fn place(&mut self, machine: &Machine, hold: u32, place: u32) -> Result<(), Late>
-        requires stands { Stands N.net N.content N.past self.old machine.now }
+        requires stands { Stands N.reading self.old machine.now }
         requires next { IsSomeAnd (suffix_of self.old)
             (λ x. CanPlace machine.now self.old.plans x hold place) }
         ensures suffix { OnOk result
@@ -88,58 +87,44 @@ impl<N: Network> Board<N> {
             (IsSomeAnd (suffix_of self.old)
             (λ x. HasReason N.refutes machine.now self.new (with_place place x))) }
         ensures same { OnErr result
-            (content_of N.content self.new ≡ content_of N.content self.old) }
-        ensures stands { Stands N.net N.content N.past self.new machine.now }
-        ensures past { past_of N.past self.new ≡ past_of N.past self.old }
+            (content_of N.reading self.new ≡ content_of N.reading self.old) }
+        ensures stands { Stands N.reading self.new machine.now }
+        ensures past { past_of N.reading self.new ≡ past_of N.reading self.old }
         ensures loaded { IsSameLoad self.old self.new }
-        ensures marks { N.max_marks self.new.net ≡ N.max_marks self.old.net }
+        ensures marks { N.reading.max_marks self.new.net ≡ N.reading.max_marks self.old.net }
     {
         gaps_are_hops();
         solutions_are_ticks();
         steps_add_edges();
+        let next = self.next_hold(machine, hold, place);
         self.limit = None;
-        let newest = self.steps[self.steps.len() - 1];
-        let Some(act) = newest.newest else {
-            unreachable!()
-        };
-        let holds = &machine.actions.get(act.0 as u32).holds;
-        let _within = holds.len();
-        let new = Held {
-            rule: *holds.get(hold),
-            start: newest.first,
-            end: PointId(newest.first.0 - 1),
-        };
-        let neighbours = neighbours_of(&self.lines, &self.held, new.rule.resource, place);
-        let tag = step_tag(self.steps.len());
-        note_neighbours(&mut self.causes, &neighbours, &new, tag);
-        let gap = gap_at(machine, new.rule.resource);
-        neighbour_edges(&mut self.edges, &neighbours, &new, gap, tag);
+        note_neighbours(&mut self.causes, &next.neighbours, &next.hold, next.tag);
+        neighbour_edges(
+            &mut self.edges,
+            &next.neighbours,
+            &next.hold,
+            next.gap,
+            next.tag,
+        );
         match self.net.require_all(&self.edges) {
             Ok(()) => {}
             Err(Late) => return Err(Late),
         }
-        let id = self.held.len() as u32;
-        let Ok(()) = self.lines.insert(new.rule.resource, place, id) else {
-            unreachable!()
-        };
-        let Ok(()) = self.held.push(new) else {
-            unreachable!()
-        };
-        let step = Step {
-            change: Change::Place { place },
-            newest: newest.newest,
-            first: newest.first,
-        };
-        let Ok(()) = self.steps.push(step) else {
-            unreachable!()
-        };
+        insert_hold(
+            &mut self.lines,
+            &mut self.held,
+            &mut self.steps,
+            next.newest,
+            next.hold,
+            place,
+        );
         Ok(())
     }
 
     /// Opens an action before the others, to start with so much room after the start floor, or answers Late where no times
     /// are left.
     pub fn open_action(&mut self, machine: &Machine, act: ActId, room: u32) -> Result<(), Late>
-        requires stands { Stands N.net N.content N.past self.old machine.now }
+        requires stands { Stands N.reading self.old machine.now }
         requires known { act.0 < length machine.now.actions }
         requires ready { IsSomeAnd self.old.ask
             (λ ask. IsSomeAnd (suffix_of self.old) (CanGoOn ask)) }
@@ -155,11 +140,11 @@ impl<N: Network> Board<N> {
             (IsSomeAnd (suffix_of self.old)
             (λ x. HasReason N.refutes machine.now self.new (with_action act room x))) }
         ensures same { OnErr result
-            (content_of N.content self.new ≡ content_of N.content self.old) }
-        ensures stands { Stands N.net N.content N.past self.new machine.now }
-        ensures past { past_of N.past self.new ≡ past_of N.past self.old }
+            (content_of N.reading self.new ≡ content_of N.reading self.old) }
+        ensures stands { Stands N.reading self.new machine.now }
+        ensures past { past_of N.reading self.new ≡ past_of N.reading self.old }
         ensures loaded { IsSameLoad self.old self.new }
-        ensures marks { N.max_marks self.new.net ≡ N.max_marks self.old.net }
+        ensures marks { N.reading.max_marks self.new.net ≡ N.reading.max_marks self.old.net }
     {
         gaps_are_hops();
         solutions_are_ticks();
@@ -178,33 +163,31 @@ impl<N: Network> Board<N> {
             newest: Some(act),
             first: start,
         };
-        let Ok(()) = self.steps.push(step) else {
-            unreachable!()
-        };
+        self.steps.push_reserved(step);
         Ok(())
     }
 
     /// Opens a goal that wants so much room after the start floor, or answers Late where no times are left.
     pub fn open_goal(&mut self, room: u32) -> Result<(), Late>
-        requires stands { (m : Machine) × Stands N.net N.content N.past self.old m }
+        requires stands { (m : Machine) × Stands N.reading self.old m }
         requires closed { suffix_of self.old ≡ None }
         ensures suffix { OnOk result (suffix_of self.new ≡ Some (with_goal room)) }
         ensures times { OnOk result
-            ((m : Machine) → Stands N.net N.content N.past self.old m
+            ((m : Machine) → Stands N.reading self.old m
             → HasTimes m self.new (with_goal room)) }
         ensures late { OnErr result
-            ((m : Machine) → Stands N.net N.content N.past self.old m
+            ((m : Machine) → Stands N.reading self.old m
             → HasNoTimes m self.old (with_goal room)) }
         ensures shown { OnErr result
-            ((m : Machine) → Stands N.net N.content N.past self.old m
+            ((m : Machine) → Stands N.reading self.old m
             → HasReason N.refutes m self.new (with_goal room)) }
         ensures same { OnErr result
-            (content_of N.content self.new ≡ content_of N.content self.old) }
-        ensures stands { (m : Machine) → Stands N.net N.content N.past self.old m
-            → Stands N.net N.content N.past self.new m }
-        ensures past { past_of N.past self.new ≡ past_of N.past self.old }
+            (content_of N.reading self.new ≡ content_of N.reading self.old) }
+        ensures stands { (m : Machine) → Stands N.reading self.old m
+            → Stands N.reading self.new m }
+        ensures past { past_of N.reading self.new ≡ past_of N.reading self.old }
         ensures loaded { IsSameLoad self.old self.new }
-        ensures marks { N.max_marks self.new.net ≡ N.max_marks self.old.net }
+        ensures marks { N.reading.max_marks self.new.net ≡ N.reading.max_marks self.old.net }
     {
         gaps_are_hops();
         solutions_are_ticks();
@@ -221,9 +204,7 @@ impl<N: Network> Board<N> {
             newest: None,
             first: self.last,
         };
-        let Ok(()) = self.steps.push(step) else {
-            unreachable!()
-        };
+        self.steps.push_reserved(step);
         Ok(())
     }
 }

@@ -40,9 +40,9 @@ impl<N: Network> Board<N> {
 
     /// The least tick at which the asked copy can end with the choices so far, in constant time.
     pub fn end_bound(&self) -> Tick
-        requires stands { (m : Machine) × Stands N.net N.content N.past self.now m }
+        requires stands { (m : Machine) × Stands N.reading self.now m }
         requires open { IsSome (suffix_of self.now) }
-        ensures { (m : Machine) → Stands N.net N.content N.past self.now m
+        ensures { (m : Machine) → Stands N.reading self.now m
             → HasLeastTick m self.now (own 0) result }
     {
         self.net.earliest(self.last)
@@ -50,9 +50,9 @@ impl<N: Network> Board<N> {
 
     /// The least tick of a point of a loaded plan.
     pub fn time_of(&self, sheet: SheetId, point: u32) -> Tick
-        requires stands { (m : Machine) × Stands N.net N.content N.past self.now m }
+        requires stands { (m : Machine) × Stands N.reading self.now m }
         requires there { IsSomeAnd (plan_of sheet self.now.plans) (λ p. point ≤ length p.acts) }
-        ensures { (m : Machine) → Stands N.net N.content N.past self.now m
+        ensures { (m : Machine) → Stands N.reading self.now m
             → HasLeastTick m self.now (kept sheet point) result }
     {
         let number = point_of(&self.plans, &self.firsts, sheet, point);
@@ -62,7 +62,7 @@ impl<N: Network> Board<N> {
     /// The length of a resource's order with the holds placed so far, in constant time.
     pub fn places(&self, resource: ResId) -> u32
         requires known { resource.0 < self.now.made_for.resources }
-        ensures { (m : Machine) → Stands N.net N.content N.past self.now m → result
+        ensures { (m : Machine) → Stands N.reading self.now m → result
             ≡ length (order_after m self.now.plans (suffix_of self.now) resource.0) }
     {
         self.lines.len(resource)

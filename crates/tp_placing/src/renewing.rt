@@ -32,19 +32,19 @@ impl<N: Network> Board<N> {
         requires made { IsMadeFor self.old.made_for machine.now }
         requires can { CanLoad machine.now now
             (filter (is_live machine.now now) schedule.now.plans) }
-        requires stands { Stands N.net N.content N.past self.old machine.now }
+        requires stands { Stands N.reading self.old machine.now }
         requires closed { self.old.steps ≡ [] }
-        requires unmarked { past_of N.past self.old ≡ [] }
+        requires unmarked { past_of N.reading self.old ≡ [] }
         ensures made { self.new.made_for ≡ self.old.made_for }
         ensures plans { result ≡ true → self.new.plans
             ≡ filter (is_live machine.now now) schedule.now.plans }
         ensures loaded { result ≡ true → IsLoaded machine.now now self.new.plans
-            (N.net self.new.net) self.new.orders.orders self.new.held self.new.firsts
+            (N.reading.net self.new.net) self.new.orders.orders self.new.held self.new.firsts
             self.new.causes }
         ensures last { result ≡ true → self.new.last.0 ≡ point_count self.new.plans }
         ensures closed { self.new.steps ≡ [] }
-        ensures past { past_of N.past self.new ≡ [] }
-        ensures marks { N.max_marks self.new.net ≡ N.max_marks self.old.net }
+        ensures past { past_of N.reading self.new ≡ [] }
+        ensures marks { N.reading.max_marks self.new.net ≡ N.reading.max_marks self.old.net }
     {
         if !is_of_moment(self.ask, now) {
             return false;
@@ -69,17 +69,17 @@ impl<N: Network> Board<N> {
     pub fn renew(&mut self, machine: &Machine, schedule: &Schedule, ask: &Ask)
         requires made { IsMadeFor self.old.made_for machine.now }
         requires can_ask { CanAsk machine.now schedule.now.plans ask.now }
-        requires stands { Stands N.net N.content N.past self.old machine.now }
+        requires stands { Stands N.reading self.old machine.now }
         requires closed { self.old.steps ≡ [] }
-        requires unmarked { past_of N.past self.old ≡ [] }
+        requires unmarked { past_of N.reading self.old ≡ [] }
         ensures made { self.new.made_for ≡ self.old.made_for }
         ensures plans { self.new.plans
             ≡ filter (is_live machine.now ask.entry.now.now) schedule.now.plans }
         ensures asked { self.new.ask ≡ Some ask.entry.now }
         ensures closed { self.new.steps ≡ [] }
-        ensures stands { Stands N.net N.content N.past self.new machine.now }
-        ensures past { past_of N.past self.new ≡ [] }
-        ensures marks { N.max_marks self.new.net ≡ N.max_marks self.old.net }
+        ensures stands { Stands N.reading self.new machine.now }
+        ensures past { past_of N.reading self.new ≡ [] }
+        ensures marks { N.reading.max_marks self.new.net ≡ N.reading.max_marks self.old.net }
     {
         if self.follow(machine, schedule, ask.now) {
             self.floor = start_floor(machine, ask);

@@ -21,8 +21,8 @@ impl<N: Network> Board<N> {
         ensures made { self.new.made_for ≡ self.old.made_for }
         ensures asked { self.new.ask ≡ None }
         ensures closed { self.new.steps ≡ [] }
-        ensures past { past_of N.past self.new ≡ [] }
-        ensures marks { N.max_marks self.new.net ≡ N.max_marks self.old.net }
+        ensures past { past_of N.reading self.new ≡ [] }
+        ensures marks { N.reading.max_marks self.new.net ≡ N.reading.max_marks self.old.net }
     {
         self.load_live(machine, schedule, now);
         write_times(&self.net, &self.plans, &self.firsts, schedule);

@@ -5,19 +5,19 @@ use tp_base::{Mark, Network, Undo};
 
 impl<N: Network> Undo for Board<N> {
     ghost use Rattle.std.specs.Prelude.{ℕ, List, ◌-◌};
-    ghost use Rattle.tp_placing.specs.Boards.{BoardContent, BoardAside, content_of, aside_of, past_of};
+    ghost use Rattle.tp_placing.specs.Boards.{BoardContent, BoardUntouched, content_of, untouched_of, past_of};
 
-    ghost Content = { BoardContent N.Content };
+    ghost Content = { BoardContent };
 
-    ghost Aside = { BoardAside N.Aside };
+    ghost Untouched = { BoardUntouched N.Untouched };
 
-    ghost content = { content_of N.content };
+    ghost content = { content_of N.reading };
 
-    ghost aside = { aside_of N.aside };
+    ghost untouched = { untouched_of N.untouched };
 
-    ghost past = { past_of N.past };
+    ghost past = { past_of N.reading };
 
-    ghost max_marks = { λ b. N.max_marks b.net - 1 };
+    ghost max_marks = { λ b. N.reading.max_marks b.net - 1 };
 
     fn spare_marks(&self) -> u32 {
         self.net.spare_marks() - 1
@@ -30,9 +30,7 @@ impl<N: Network> Undo for Board<N> {
             steps: self.steps.len() as u32,
             held: self.held.len() as u32,
         };
-        let Ok(()) = self.marks.push(counts) else {
-            unreachable!()
-        };
+        self.marks.push_reserved(counts);
         mark
     }
 

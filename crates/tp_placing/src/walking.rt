@@ -1,6 +1,7 @@
 //! Places of a hold, tried from the end of its order to the front.
 ghost use Rattle.std.specs.Prelude.{◌≡◌, ◌+◌, ◌^◌, ◌<◌, ◌≤◌, All, length, IsSomeAnd, OnOk, OnErr, IfErr, Some};
 ghost use Rattle.tp_base.specs.Grows.{IsKnown};
+ghost use Rattle.tp_base.specs.Readings.{IsSameSize};
 ghost use Rattle.tp_base.specs.Net.{HasLeast, HasNoSolution, with_edges};
 ghost use Rattle.tp_constraints.specs.Suffixes.{with_place};
 ghost use Rattle.tp_placing.specs.Boards.{past_of, suffix_of};
@@ -12,15 +13,15 @@ ghost use Rattle.tp_placing.specs.Walking.{HasNoTimesUpTo, HasReasonUpTo, IsRefu
 ghost use Rattle.tp_placing.specs.declared.walking.Refused.TheVariants.{UpToHere};
 
 use crate::board::Board;
-use crate::causes::step_tag;
+use crate::candidates::insert_hold;
 use crate::edges::following;
-use crate::neighbours::{Neighbours, neighbours_of, note_neighbours};
-use crate::parts::{Change, Held, Step};
-use tp_base::{Late, Network, PointId};
+use crate::neighbours::{Neighbours, note_neighbours};
+use crate::parts::Held;
+use tp_base::{Late, Network};
 use tp_constraints::{
     gaps_are_hops, solutions_are_ticks, steps_add_edges, walks_add_edges, walks_are_hops,
 };
-use tp_machine::{Machine, gap_at};
+use tp_machine::Machine;
 
 /// Where a hold has no times: at the place where it was tried, or there and at each place before.
 #[derive(Clone, Copy, PartialEq, Eq, Debug)]
@@ -37,21 +38,19 @@ fn require_until<N: Network>(
     behind: &Option<Held>,
     tag: u32,
 ) -> Result<(), Late>
-    requires can { All (IsKnown (length (N.net net.old).lows))
+    requires can { All (IsKnown (length (N.reading.net net.old).lows))
         (edge_until gap new.now behind.now tag) }
-    requires spare { length (N.net net.old).edges < N.max_edges net.old }
-    requires least { HasLeast (N.net net.old) }
-    ensures added { OnOk result (N.net net.new
-        ≡ with_edges (N.net net.old) (edge_until gap new.now behind.now tag)) }
-    ensures solved { OnOk result (HasLeast (N.net net.new)) }
+    requires spare { length (N.reading.net net.old).edges < N.reading.max_edges net.old }
+    requires least { HasLeast (N.reading.net net.old) }
+    ensures added { OnOk result (N.reading.net net.new
+        ≡ with_edges (N.reading.net net.old) (edge_until gap new.now behind.now tag)) }
+    ensures solved { OnOk result (HasLeast (N.reading.net net.new)) }
     ensures late { OnErr result (HasNoSolution
-        (with_edges (N.net net.old) (edge_until gap new.now behind.now tag))) }
+        (with_edges (N.reading.net net.old) (edge_until gap new.now behind.now tag))) }
     ensures refused { OnErr result (N.refutes net.new
-        (with_edges (N.net net.old) (edge_until gap new.now behind.now tag))) }
-    ensures past { N.past net.new ≡ N.past net.old }
-    ensures marks { N.max_marks net.new ≡ N.max_marks net.old }
-    ensures points { N.max_points net.new ≡ N.max_points net.old }
-    ensures edges { N.max_edges net.new ≡ N.max_edges net.old }
+        (with_edges (N.reading.net net.old) (edge_until gap new.now behind.now tag))) }
+    ensures past { N.reading.past net.new ≡ N.reading.past net.old }
+    ensures same_size { IsSameSize N.reading net.old net.new }
 {
     match behind {
         Some(behind) => match net.require(following(gap, new, behind, tag)) {
@@ -70,21 +69,19 @@ fn require_after<N: Network>(
     new: &Held,
     tag: u32,
 ) -> Result<(), Late>
-    requires can { All (IsKnown (length (N.net net.old).lows))
+    requires can { All (IsKnown (length (N.reading.net net.old).lows))
         (edge_after gap before.now new.now tag) }
-    requires spare { length (N.net net.old).edges < N.max_edges net.old }
-    requires least { HasLeast (N.net net.old) }
-    ensures added { OnOk result (N.net net.new
-        ≡ with_edges (N.net net.old) (edge_after gap before.now new.now tag)) }
-    ensures solved { OnOk result (HasLeast (N.net net.new)) }
+    requires spare { length (N.reading.net net.old).edges < N.reading.max_edges net.old }
+    requires least { HasLeast (N.reading.net net.old) }
+    ensures added { OnOk result (N.reading.net net.new
+        ≡ with_edges (N.reading.net net.old) (edge_after gap before.now new.now tag)) }
+    ensures solved { OnOk result (HasLeast (N.reading.net net.new)) }
     ensures late { OnErr result (HasNoSolution
-        (with_edges (N.net net.old) (edge_after gap before.now new.now tag))) }
+        (with_edges (N.reading.net net.old) (edge_after gap before.now new.now tag))) }
     ensures refused { OnErr result (N.refutes net.new
-        (with_edges (N.net net.old) (edge_after gap before.now new.now tag))) }
-    ensures past { N.past net.new ≡ N.past net.old }
-    ensures marks { N.max_marks net.new ≡ N.max_marks net.old }
-    ensures points { N.max_points net.new ≡ N.max_points net.old }
-    ensures edges { N.max_edges net.new ≡ N.max_edges net.old }
+        (with_edges (N.reading.net net.old) (edge_after gap before.now new.now tag))) }
+    ensures past { N.reading.past net.new ≡ N.reading.past net.old }
+    ensures same_size { IsSameSize N.reading net.old net.new }
 {
     match before {
         Some(before) => match net.require(following(gap, before, new, tag)) {
@@ -104,28 +101,26 @@ fn require_around<N: Network>(
     gap: u32,
     tag: u32,
 ) -> Result<(), Refused>
-    requires can { All (IsKnown (length (N.net net.old).lows))
+    requires can { All (IsKnown (length (N.reading.net net.old).lows))
         (edges_back gap neighbours.now.before new.now neighbours.now.behind tag) }
-    requires spare { length (N.net net.old).edges + 2 ≤ N.max_edges net.old }
-    requires least { HasLeast (N.net net.old) }
+    requires spare { length (N.reading.net net.old).edges + 2 ≤ N.reading.max_edges net.old }
+    requires least { HasLeast (N.reading.net net.old) }
     requires fits { tag + 1 < 2 ^ 32 }
-    ensures added { OnOk result (N.net net.new ≡ with_edges (N.net net.old)
+    ensures added { OnOk result (N.reading.net net.new ≡ with_edges (N.reading.net net.old)
         (edges_back gap neighbours.now.before new.now neighbours.now.behind tag)) }
-    ensures solved { OnOk result (HasLeast (N.net net.new)) }
-    ensures late { OnErr result (HasNoSolution (with_edges (N.net net.old)
+    ensures solved { OnOk result (HasLeast (N.reading.net net.new)) }
+    ensures late { OnErr result (HasNoSolution (with_edges (N.reading.net net.old)
         (edges_back gap neighbours.now.before new.now neighbours.now.behind tag))) }
-    ensures refused { OnErr result (IsRefused N.refutes net.new (N.net net.old)
+    ensures refused { OnErr result (IsRefused N.refutes net.new (N.reading.net net.old)
         (edges_back gap neighbours.now.before new.now neighbours.now.behind tag)) }
     ensures late_behind { IfErr result (λ e. e ≡ UpToHere
-        → HasNoSolution (with_edges (N.net net.old)
+        → HasNoSolution (with_edges (N.reading.net net.old)
         (edge_until gap new.now neighbours.now.behind (tag + 1)))) }
     ensures refused_behind { IfErr result (λ e. e ≡ UpToHere
-        → N.refutes net.new (with_edges (N.net net.old)
+        → N.refutes net.new (with_edges (N.reading.net net.old)
         (edge_until gap new.now neighbours.now.behind (tag + 1)))) }
-    ensures past { N.past net.new ≡ N.past net.old }
-    ensures marks { N.max_marks net.new ≡ N.max_marks net.old }
-    ensures points { N.max_points net.new ≡ N.max_points net.old }
-    ensures edges { N.max_edges net.new ≡ N.max_edges net.old }
+    ensures past { N.reading.past net.new ≡ N.reading.past net.old }
+    ensures same_size { IsSameSize N.reading net.old net.new }
 {
     match require_until(net, gap, new, &neighbours.behind, tag + 1) {
         Ok(()) => match require_after(net, gap, &neighbours.before, new, tag) {
@@ -140,7 +135,7 @@ impl<N: Network> Board<N> {
     /// Places the next hold of the newest action as `place` does, where the caller takes a refused place back to a mark. Who
     /// tries the places from the end of the order can stop at the first `UpToHere`.
     pub fn try_place(&mut self, machine: &Machine, hold: u32, place: u32) -> Result<(), Refused>
-        requires stands { Stands N.net N.content N.past self.old machine.now }
+        requires stands { Stands N.reading self.old machine.now }
         requires next { IsSomeAnd (suffix_of self.old)
             (λ x. CanPlace machine.now self.old.plans x hold place) }
         // The list is the one with the place, and it has times.
@@ -148,7 +143,7 @@ impl<N: Network> Board<N> {
             (λ x. suffix_of self.new ≡ Some (with_place place x))) }
         ensures times { OnOk result (IsSomeAnd (suffix_of self.new)
             (HasTimes machine.now self.new)) }
-        ensures stands { OnOk result (Stands N.net N.content N.past self.new machine.now) }
+        ensures stands { OnOk result (Stands N.reading self.new machine.now) }
         // There are no times with it, and a reason shows that; the same for each place before.
         ensures late { OnErr result (IsSomeAnd (suffix_of self.old)
             (λ x. HasNoTimes machine.now self.old (with_place place x))) }
@@ -160,51 +155,37 @@ impl<N: Network> Board<N> {
             → IsSomeAnd (suffix_of self.old)
             (HasReasonUpTo N.refutes machine.now self.new place)) }
         ensures back { OnErr result
-            (StandsBack N.net N.content N.past N.aside self.new machine.now) }
-        ensures past { past_of N.past self.new ≡ past_of N.past self.old }
+            (StandsBack N.reading N.untouched self.new machine.now) }
+        ensures past { past_of N.reading self.new ≡ past_of N.reading self.old }
         ensures loaded { IsSameLoad self.old self.new }
-        ensures marks { N.max_marks self.new.net ≡ N.max_marks self.old.net }
+        ensures marks { N.reading.max_marks self.new.net ≡ N.reading.max_marks self.old.net }
     {
         gaps_are_hops();
         solutions_are_ticks();
         steps_add_edges();
         walks_add_edges();
         walks_are_hops();
+        let next = self.next_hold(machine, hold, place);
         self.limit = None;
-        let newest = self.steps[self.steps.len() - 1];
-        let Some(act) = newest.newest else {
-            unreachable!()
-        };
-        let holds = &machine.actions.get(act.0 as u32).holds;
-        let _within = holds.len();
-        let new = Held {
-            rule: *holds.get(hold),
-            start: newest.first,
-            end: PointId(newest.first.0 - 1),
-        };
-        let neighbours = neighbours_of(&self.lines, &self.held, new.rule.resource, place);
-        let tag = step_tag(self.steps.len());
-        note_neighbours(&mut self.causes, &neighbours, &new, tag);
-        let gap = gap_at(machine, new.rule.resource);
-        match require_around(&mut self.net, &neighbours, &new, gap, tag) {
+        note_neighbours(&mut self.causes, &next.neighbours, &next.hold, next.tag);
+        match require_around(
+            &mut self.net,
+            &next.neighbours,
+            &next.hold,
+            next.gap,
+            next.tag,
+        ) {
             Ok(()) => {}
             Err(refused) => return Err(refused),
         }
-        let id = self.held.len() as u32;
-        let Ok(()) = self.lines.insert(new.rule.resource, place, id) else {
-            unreachable!()
-        };
-        let Ok(()) = self.held.push(new) else {
-            unreachable!()
-        };
-        let step = Step {
-            change: Change::Place { place },
-            newest: newest.newest,
-            first: newest.first,
-        };
-        let Ok(()) = self.steps.push(step) else {
-            unreachable!()
-        };
+        insert_hold(
+            &mut self.lines,
+            &mut self.held,
+            &mut self.steps,
+            next.newest,
+            next.hold,
+            place,
+        );
         Ok(())
     }
 }

@@ -14,9 +14,9 @@ use tp_schedule::{Plan, Points, Schedule};
 /// The least times of so many points from one on.
 pub(crate) fn times_from<N: Network>(net: &N, first: PointId, count: u32) -> Points
     requires few { count ≤ 65 }
-    requires known { first.0 + count ≤ length (N.net net.now).lows }
+    requires known { first.0 + count ≤ length (N.reading.net net.now).lows }
     requires fits { first.0 + count < 2 ^ 32 }
-    ensures times { (sol : ℕ → ℕ) → IsLeast (N.net net.now) sol → result
+    ensures times { (sol : ℕ → ℕ) → IsLeast (N.reading.net net.now) sol → result
         ≡ ticks_from sol first.0 count }
     ensures count { length result ≡ count }
 {
@@ -29,9 +29,9 @@ pub(crate) fn times_from<N: Network>(net: &N, first: PointId, count: u32) -> Poi
 
 /// Whether the points from one on have these least times.
 fn have_times<N: Network>(net: &N, first: PointId, times: &[Tick]) -> bool
-    requires known { first.0 + length times.now ≤ length (N.net net.now).lows }
+    requires known { first.0 + length times.now ≤ length (N.reading.net net.now).lows }
     requires fits { first.0 + length times.now < 2 ^ 32 }
-    ensures { result ≡ true → (sol : ℕ → ℕ) → IsLeast (N.net net.now) sol
+    ensures { result ≡ true → (sol : ℕ → ℕ) → IsLeast (N.reading.net net.now) sol
         → times.now ≡ ticks_from sol first.0 (length times.now) }
 {
     for (at, time) in times.iter().enumerate() {
@@ -46,9 +46,9 @@ fn have_times<N: Network>(net: &N, first: PointId, times: &[Tick]) -> bool
 fn write_points<N: Network>(net: &N, plan: &Plan, first: PointId, schedule: &mut Schedule)
     requires formed { IsFormed plan.now }
     requires planned { plan_of plan.now.sheet schedule.old.plans ≡ Some plan.now }
-    requires known { first.0 + length plan.now.acts < length (N.net net.now).lows }
+    requires known { first.0 + length plan.now.acts < length (N.reading.net net.now).lows }
     requires fits { first.0 + length plan.now.acts + 1 < 2 ^ 32 }
-    ensures plans { (sol : ℕ → ℕ) → IsLeast (N.net net.now) sol → schedule.new.plans
+    ensures plans { (sol : ℕ → ℕ) → IsLeast (N.reading.net net.now) sol → schedule.new.plans
         ≡ change_plan plan.now.sheet
         (with_points (ticks_from sol first.0 (suc (length plan.now.acts)))) schedule.old.plans }
     ensures spare { schedule.new.spare ≡ schedule.old.spare }
@@ -67,14 +67,14 @@ pub(crate) fn write_times<N: Network>(
     schedule: &mut Schedule,
 )
     requires firsts { AreFirsts 0 plans.now firsts.now }
-    requires known { length (table_of plans.now) ≤ length (N.net net.now).lows }
+    requires known { length (table_of plans.now) ≤ length (N.reading.net net.now).lows }
     requires fits { length (table_of plans.now) < 2 ^ 32 }
     requires formed { All IsFormed plans.now }
     requires in_order { AllPairs IsEarlier plans.now }
     requires schedule { AllPairs IsEarlier schedule.old.plans }
     requires planned { All (λ p. plan_of p.sheet schedule.old.plans ≡ Some p) plans.now }
-    requires solved { HasLeast (N.net net.now) }
-    ensures times { (t : Ticks) → AreLeastTicks (N.net net.now) (table_of plans.now) t
+    requires solved { HasLeast (N.reading.net net.now) }
+    ensures times { (t : Ticks) → AreLeastTicks (N.reading.net net.now) (table_of plans.now) t
         → schedule.new.plans ≡ map (retimed_in plans.now t) schedule.old.plans }
     ensures spare { schedule.new.spare ≡ schedule.old.spare }
 {
@@ -86,7 +86,7 @@ pub(crate) fn write_times<N: Network>(
 /// Puts the plan into the schedule, in place of its copy's plan where there is one.
 pub(crate) fn write_plan(schedule: &mut Schedule, plan: Plan)
     requires formed { IsFormed plan }
-    requires room { plan_of plan.sheet schedule.old.plans ≡ None → 0 < schedule.old.spare }
+    requires capacity { plan_of plan.sheet schedule.old.plans ≡ None → 0 < schedule.old.spare }
     ensures plans { schedule.new.plans ≡ put_plan plan (without plan.sheet schedule.old.plans) }
     ensures in_order { AllPairs IsEarlier schedule.new.plans }
     ensures new_copy { plan_of plan.sheet schedule.old.plans ≡ None → schedule.new.spare + 1

@@ -9,7 +9,7 @@ pub record Entry : Type 0 where
 
 -- an entry for each node, and how many nodes there can be
 pub record Entries : Type 0 where
-  pub room : ℕ
+  pub capacity : ℕ
   pub entries : List Entry
 
 abbrev pub entry_at : List Entry → ℕ → Entry

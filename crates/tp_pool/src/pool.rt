@@ -13,7 +13,7 @@ use tp_base::{Full, Memory, Tick};
 #[derive(Drop)]
 pub struct Pool {
     nodes: Vec<Node>,
-    room: u32,
+    capacity: u32,
 }
 
 // Clauses see an entry for each node, with all choices of its list, and how many nodes there can be.
@@ -31,17 +31,17 @@ impl Model for Pool {
 impl Pool {
     /// Takes all the memory that the pool will ever hold.
     pub fn new(alloc: Global, nodes: u32) -> Result<Pool, Memory>
-        ensures { IfOk result (λ pool. pool ≡ record { room = nodes; entries = [] }) }
+        ensures { IfOk result (λ pool. pool ≡ record { capacity = nodes; entries = [] }) }
     {
         Ok(Pool {
             nodes: Vec::with_capacity(alloc, nodes as usize)?,
-            room: nodes,
+            capacity: nodes,
         })
     }
 
     /// Leaves no node.
     pub fn clear(&mut self)
-        ensures { self.new ≡ record { room = self.old.room; entries = [] } }
+        ensures { self.new ≡ record { capacity = self.old.capacity; entries = [] } }
     {
         self.nodes.clear();
     }
@@ -49,25 +49,25 @@ impl Pool {
     /// How many nodes there are. The next one has this number.
     pub fn len(&self) -> u32
         ensures len { result ≡ length self.now.entries }
-        ensures within { result ≤ self.now.room }
+        ensures within { result ≤ self.now.capacity }
     {
         self.nodes.len() as u32
     }
 
     /// How many lists more can be stored.
     pub fn spare(&self) -> u32
-        ensures { length self.now.entries + result ≡ self.now.room }
+        ensures { length self.now.entries + result ≡ self.now.capacity }
     {
-        self.room - self.len()
+        self.capacity - self.len()
     }
 
     /// Adds a list: its parent's with one choice more, or a list of this one choice. Takes constant time.
     pub fn add(&mut self, parent: Option<u32>, choice: Choice, bound: Tick) -> Result<u32, Full>
         requires parent { IsParentOf (length self.old.entries) parent }
-        ensures full { IsErr result ↔ (length self.old.entries ≡ self.old.room) }
+        ensures full { IsErr result ↔ (length self.old.entries ≡ self.old.capacity) }
         ensures ok { OnOk result (self.new
             ≡ record {
-              room = self.old.room;
+              capacity = self.old.capacity;
               entries = self.old.entries
                   ++ record {
                     choices = choice ∷ choices_before self.old.entries parent;
@@ -78,18 +78,16 @@ impl Pool {
         ensures stays { OnErr result (self.new ≡ self.old) }
     {
         let node = self.nodes.len();
-        if node == self.room as usize {
+        if node == self.capacity as usize {
             return Err(Full);
         }
-        let Ok(()) = self.nodes.push(Node {
+        let depth = depth_behind(&self.nodes, parent);
+        self.nodes.push_reserved(Node {
             parent,
-            depth: depth_behind(&self.nodes, parent),
+            depth,
             choice,
             bound,
-        })
-        else {
-            unreachable!()
-        };
+        });
         Ok(node as u32)
     }
 

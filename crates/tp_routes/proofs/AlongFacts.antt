@@ -7,8 +7,9 @@ use Rattle.tp_machine.specs.declared.parts.Sheet.{Sheet}
 use Rattle.tp_machine.specs.declared.parts.State.{State}
 use Rattle.tp_machine.specs.declared.machine.Machine.{Machine}
 use Rattle.tp_schedule.specs.declared.parts.Ask.{Ask}
-use Rattle.tp_routes.specs.Index.{NoneAt, IsNextAt, AreIndexed, number_at}
-use Rattle.tp_routes.specs.declared.index.End.TheVariants.{From}
+use Rattle.tp_routes.specs.Index.{NoneAt, IsNextAt, IsNextTo, AreIndexed, number_at, place_at}
+use Rattle.tp_routes.specs.declared.index.End.{End}
+use Rattle.tp_routes.specs.declared.index.End.TheVariants.{From, To}
 use Rattle.tp_routes.specs.Numbers.{state_at}
 use Rattle.tp_routes.specs.Tables.{sum_at}
 use Rattle.tp_routes.specs.Filling.{Waits, IsStepIn, IsSpreadTo, IsFilling, Lowers, left_to_fill}
@@ -77,13 +78,21 @@ some_action [] k below = absurd (omega arith)
 some_action (x ∷ xs) zero below = (x, refl)
 some_action (x ∷ xs) (suc k) below = some_action xs k (omega arith)
 
--- the next action from the same place
-pub next-there : (machine : Machine) (firsts nexts : List (Option ℕ)) (place n : ℕ) → AreIndexed From machine.actions firsts nexts 0 → n < length machine.actions → ((a : Action) → slice_get machine.actions n ≡ Some a → a.from.0 ≡ place)
-    → IsNextAt From machine.actions place (n + 1) (number_at nexts n)
-next-there machine firsts nexts place n index within from =
-    let a = some_action machine.actions n within in
-    subst (λ p. IsNextAt From machine.actions p (n + 1) (number_at nexts n)) (from a.0 a.1) (index.next n a.0 (omega arith) a.1)
+-- the next action at the same place
+pub next-there : (end : End) (actions : List Action) (firsts nexts : List (Option ℕ)) (place n : ℕ) → AreIndexed end actions firsts nexts 0 → n < length actions → ((a : Action) → slice_get actions n ≡ Some a → place_at end a ≡ place)
+    → IsNextAt end actions place (n + 1) (number_at nexts n)
+next-there end actions firsts nexts place n index within at =
+    let a = some_action actions n within in
+    subst (λ p. IsNextAt end actions p (n + 1) (number_at nexts n)) (at a.0 a.1) (index.next n a.0 (omega arith) a.1)
 
-pub ahead-smaller : (actions : List Action) (place n : ℕ) (o : Option ℕ) → n < length actions → IsNextAt From actions place (n + 1) o → ahead (length actions) o < suc (length actions - n)
-ahead-smaller actions place n None within next = omega arith
-ahead-smaller actions place n (Some m) within next = (let above = next.0 in omega arith)
+pub ahead-smaller : (end : End) (actions : List Action) (place n : ℕ) (o : Option ℕ) → n < length actions → IsNextAt end actions place (n + 1) o → ahead (length actions) o < suc (length actions - n)
+ahead-smaller end actions place n None within next = omega arith
+ahead-smaller end actions place n (Some m) within next = (let above = next.0 in omega arith)
+
+-- the same of those that lead to a place
+pub next-to : (actions : List Action) (firsts nexts : List (Option ℕ)) (place n : ℕ) → AreIndexed To actions firsts nexts 0 → n < length actions → ((a : Action) → slice_get actions n ≡ Some a → a.to.0 ≡ place)
+    → IsNextTo actions place (n + 1) (number_at nexts n)
+next-to = next-there To
+
+pub fewer-ahead : (actions : List Action) (place n : ℕ) (o : Option ℕ) → n < length actions → IsNextTo actions place (n + 1) o → ahead (length actions) o < suc (length actions - n)
+fewer-ahead = ahead-smaller To

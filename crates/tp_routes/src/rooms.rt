@@ -17,7 +17,6 @@ use tp_schedule::Ask;
 
 /// For each state of a sheet the least time that any way from a start state takes: its room, in
 /// ticks. One table by state, which `fill` makes anew for an ask.
-#[derive(Drop)]
 pub struct Rooms {
     locations: u32,
     resources: u32,
@@ -26,6 +25,21 @@ pub struct Rooms {
     waiting: Vec<u32>,
     index: ActionIndex,
     leads: ActionIndex,
+}
+
+// What becomes of its parts is proved here, once for all who let go of one.
+impl Drop for Rooms {
+    fn drop(self) {
+        let Rooms {
+            locations: _,
+            resources: _,
+            window: _,
+            sums: _,
+            waiting: _,
+            index: _,
+            leads: _,
+        } = self;
+    }
 }
 
 // Clauses see the table, and the numbers of the machine that it was made for.

@@ -1,5 +1,6 @@
 -- The steps of opening an action: no action leads to the list, or it is late, or its holds are placed.
 use Rattle.std.proofs.Common.{◌≡◌, ◌⊎◌, inl, inr, false, ◌+◌, ◌<◌, ◌≤◌, ℕ, IsSomeAnd, List, [], ◌∷◌, length, refl, sym, ap, subst, arith}
+use Rattle.tp_base.specs.Readings.{Reading}
 use Rattle.tp_base.specs.Net.{Net}
 use Rattle.tp_machine.specs.declared.parts.ActId.{ActId}
 use Rattle.tp_machine.specs.declared.parts.State.{State}
@@ -30,15 +31,15 @@ use Rattle.tp_search.proofs.StopSteps.{none-ahead}
 use Rattle.tp_ways.proofs.WayChildren.{child-closed, child-full, child-late}
 use Rattle.tp_ways.proofs.WaySteps.{action-way}
 
-module _ {N C : Type 0} (net : N → Net) (content : N → C) (past : N → List C) (max_marks : N → ℕ) (b : BoardValue N) (machine : Machine) (ask : Ask) (first : State) (act : ActId) (o : Opening) (s : StoreValue)
-    (l : IsLaid net content past max_marks b machine ask o.goal first (choices_by machine (choices_before s.entries o.parent))) where
+module _ {N : Type 0} (reading : Reading N) (b : BoardValue N) (machine : Machine) (ask : Ask) (first : State) (act : ActId) (o : Opening) (s : StoreValue)
+    (l : IsLaid reading b machine ask o.goal first (choices_by machine (choices_before s.entries o.parent))) where
   abbrev olds : List Choice
   olds = choices_by machine (choices_before s.entries o.parent)
 
   -- where the action leads here from no state with room, no child has it
   pub act-shut : HasNoneBefore machine ask act first → IsAtProgress machine b.plans ask o s (up_to act.0 []) → IsAtProgress machine b.plans ask o s (through act.0 [])
   act-shut none opening =
-      let w = the-way net content past max_marks b machine ask o.goal first olds l in
+      let w = the-way reading b machine ask o.goal first olds l in
       opening-shut machine b.plans ask o s o.goal olds act [] refl (λ rest opens. child-closed machine b.plans ask o.goal first w.x act rest w.is.way none
       (subst (λ cs. IsOpen machine b.plans ask (going o.goal (record { act = act; places = rest } ∷ cs))) (sym w.is.same) opens)) opening
 
@@ -46,7 +47,7 @@ module _ {N C : Type 0} (net : N → Net) (content : N → C) (past : N → List
   pub act-late : (before : State) (room : ℕ) → IsPlaced machine olds → IsBefore machine ask act first (record { state = before; room = room }) → kept_of ask + length olds < 64
       → IsSomeAnd (suffix_of b) (λ x. HasNoTimes machine b (with_action act room x)) → IsAtProgress machine b.plans ask o s (up_to act.0 []) → IsAtProgress machine b.plans ask o s (through act.0 [])
   act-late before room placed r fewer late opening =
-      let w = the-way net content past max_marks b machine ask o.goal first olds l in
+      let w = the-way reading b machine ask o.goal first olds l in
       let none : HasNoTimes machine b (with_action act room w.x) = subst (λ x. IsSomeAnd x (λ y. HasNoTimes machine b (with_action act room y))) w.suffix late in
       let none' = subst (λ k. IsSomeAnd k (λ y. (t : Ticks) → ¬ SuffixTimes machine b.plans y (with_action act room w.x) t)) l.asked none in
       let many = ap length w.is.same in
@@ -56,10 +57,10 @@ module _ {N C : Type 0} (net : N → Net) (content : N → C) (past : N → List
       (subst (λ cs. IsOpen machine b.plans ask (going o.goal (record { act = act; places = rest } ∷ cs))) (sym w.is.same) opens)) opening
 
 -- after an action was tried on a marked board
-module _ {N C : Type 0} (net : N → Net) (content : N → C) (past : N → List C) (max_marks : N → ℕ) (machine : Machine) (ask : Ask) (act : ActId) (o : Opening) (s : StoreValue) (b : BoardValue N) where
+module _ {N : Type 0} (reading : Reading N) (machine : Machine) (ask : Ask) (act : ActId) (o : Opening) (s : StoreValue) (b : BoardValue N) where
   -- the children with it were looked at
   pub record IsActed (b' : BoardValue N) (o' : Opening) (s' : StoreValue) : Type 0 where
-    pub since : IsSince net content past max_marks b b' machine
+    pub since : IsSince reading b b' machine
     pub same : IsSameOpening o o' s s'
     pub progress : IsAtProgress machine b.plans ask o' s' (through act.0 [])
 
@@ -67,14 +68,14 @@ module _ {N C : Type 0} (net : N → Net) (content : N → C) (past : N → List
   acted-as b1 b2 o1 o2 s1 s2 board opening store r = subst (λ x. IsActed x o2 s2) (sym board) (subst (λ x. IsActed b1 x s2) (sym opening) (subst (λ x. IsActed b1 o1 x) (sym store) r))
 
   -- as it is late
-  pub acted-late : (b1 : BoardValue N) → IsSince net content past max_marks b b1 machine → IsAtProgress machine b.plans ask o s (through act.0 []) → IsActed b1 o s
+  pub acted-late : (b1 : BoardValue N) → IsSince reading b b1 machine → IsAtProgress machine b.plans ask o s (through act.0 []) → IsActed b1 o s
   acted-late b1 since progress = record { since = since; same = same-itself o s; progress = progress }
 
   -- or its holds were placed
-  pub acted-placed : (b1 b2 : BoardValue N) (o1 : Opening) (s1 : StoreValue) → IsSince net content past max_marks b b1 machine → IsSameOpening o o1 s s1 → IsBack net content past max_marks b1 b2 machine
+  pub acted-placed : (b1 b2 : BoardValue N) (o1 : Opening) (s1 : StoreValue) → IsSince reading b b1 machine → IsSameOpening o o1 s s1 → IsBack reading b1 b2 machine
       → IsAtProgress machine b1.plans ask o1 s1 (through act.0 []) → IsActed b2 o1 s1
   acted-placed b1 b2 o1 s1 since same back progress = record {
-    since = since-back net content past max_marks b b1 b2 machine since back;
+    since = since-back reading b b1 b2 machine since back;
     same = same;
     progress = subst (λ ps. IsAtProgress machine ps ask o1 s1 (through act.0 [])) since.load.plans progress;
   }
@@ -95,8 +96,8 @@ opening-full_list machine plans ask o s goal olds n parent full opening = openin
   only l child looked = closed l (child-form (subst (λ p. IsChild machine ask p l) parent child))
 
 -- the choices that a board carries are at most so many
-pub laid-at_most : {N C : Type 0} (net : N → Net) (content : N → C) (past : N → List C) (max_marks : N → ℕ) (b : BoardValue N) (machine : Machine) (ask : Ask) (goal first : State) (choices : List Choice)
-    → IsLaid net content past max_marks b machine ask goal first choices → kept_of ask + length choices ≤ 64
-laid-at_most net content past max_marks b machine ask goal first choices l =
-    let w = the-way net content past max_marks b machine ask goal first choices l in
+pub laid-at_most : {N : Type 0} (reading : Reading N) (b : BoardValue N) (machine : Machine) (ask : Ask) (goal first : State) (choices : List Choice)
+    → IsLaid reading b machine ask goal first choices → kept_of ask + length choices ≤ 64
+laid-at_most reading b machine ask goal first choices l =
+    let w = the-way reading b machine ask goal first choices l in
     omega (arith, ap length w.is.same, w.is.way.at_most)

@@ -2,6 +2,7 @@
 use Rattle.std.proofs.Common.{◌≡◌, ℕ, ◌+◌, Bool, true, false, List, [], ◌∷◌, length, refl, sym, ap, ◌∙◌, subst, arith, Option, Some, None, IsSomeAnd}
 use Rattle.std.specs.Prelude.{slice_get}
 use Rattle.std.proofs.lemmas.List.{length-append}
+use Rattle.tp_base.specs.Readings.{Reading}
 use Rattle.tp_base.specs.Net.{Net}
 use Rattle.tp_machine.specs.Using.{action_at}
 use Rattle.tp_machine.specs.declared.parts.State.{State}
@@ -50,7 +51,7 @@ pub has-holds : (o : Option Suffix) (count : ℕ) → Holds count ≡ reached_in
 has-holds None count is = absurd cc
 has-holds (Some x) count is = holds-by x.choices x.rooms x.stopped count is
 
-module _ {N C : Type 0} (net : N → Net) (content : N → C) (past : N → List C) (machine : Machine) (b : BoardValue N) (change : Change) (reached : Reached) (can : CanMake net content past b machine change reached) where
+module _ {N : Type 0} (reading : Reading N) (machine : Machine) (b : BoardValue N) (change : Change) (reached : Reached) (can : CanMake reading b machine change reached) where
   -- what the board can carry
   carried : (x : Suffix) → after_again (suffix_of b) change ≡ Some x → (ask : Ask) × (b.ask ≡ Some ask) × CanCarry machine b.plans ask x
   carried x is = some-and b.ask _ (subst (λ o. IsSomeAnd b.ask (λ ask. CanCarryIf machine b.plans ask o)) is can.can)
@@ -59,18 +60,17 @@ module _ {N C : Type 0} (net : N → Net) (content : N → C) (past : N → List
   pub in-time : (x : Suffix) → after_again (suffix_of b) change ≡ Some x → HasNoTimes machine b x → ⊥
   in-time x is none = let c = carried x is in refused-late machine b c.0 x c.1 none c.2.ticks c.2.are_times
 
-  module _ (max_marks : N → ℕ) where
-    -- a step was taken
-    pub made-step : (b' : BoardValue N) (x : Suffix) (reached' : Reached) → after_again (suffix_of b) change ≡ Some x → suffix_of b' ≡ Some x → reached' ≡ reached_by x.choices → Stands net content past b' machine
-        → past_of past b' ≡ past_of past b → IsSameLoad b b' → max_marks b'.net ≡ max_marks b.net → IsMade net content past max_marks b b' machine change reached'
-    made-step b' x reached' is now so stands same_past loaded marks = record {
-      stands = stands;
-      suffix = now ∙ sym is;
-      reached_so = so ∙ ap reached_in (sym now);
-      same = record { same_past = same_past; loaded = loaded; marks = marks };
-    }
+  -- a step was taken
+  pub made-step : (b' : BoardValue N) (x : Suffix) (reached' : Reached) → after_again (suffix_of b) change ≡ Some x → suffix_of b' ≡ Some x → reached' ≡ reached_by x.choices → Stands reading b' machine
+      → past_of reading b' ≡ past_of reading b → IsSameLoad b b' → reading.max_marks b'.net ≡ reading.max_marks b.net → IsMade reading b b' machine change reached'
+  made-step b' x reached' is now so stands same_past loaded marks = record {
+    stands = stands;
+    suffix = now ∙ sym is;
+    reached_so = so ∙ ap reached_in (sym now);
+    same = record { same_past = same_past; loaded = loaded; marks = marks };
+  }
 
-module _ {N C : Type 0} (net : N → Net) (content : N → C) (past : N → List C) (machine : Machine) (b : BoardValue N) (place hold : ℕ) (can : CanMake net content past b machine (Place place) (Holds hold)) where
+module _ {N : Type 0} (reading : Reading N) (machine : Machine) (b : BoardValue N) (place hold : ℕ) (can : CanMake reading b machine (Place place) (Holds hold)) where
   pub holds : HasHolds (suffix_of b) hold
   holds = has-holds (suffix_of b) hold can.reached_so
 
@@ -85,11 +85,11 @@ module _ {N C : Type 0} (net : N → Net) (content : N → C) (past : N → List
   place-put b' put = subst (λ o. IsSomeAnd o (λ x. suffix_of b' ≡ Some (with_place place x))) holds.is put
 
   pub place-refused : IsSomeAnd (suffix_of b) (λ x. HasNoTimes machine b (with_place place x)) → ⊥
-  place-refused none = in-time net content past machine b (Place place) (Holds hold) can (with_place place here) place-makes (subst (λ o. IsSomeAnd o (λ x. HasNoTimes machine b (with_place place x))) holds.is none)
+  place-refused none = in-time reading machine b (Place place) (Holds hold) can (with_place place here) place-makes (subst (λ o. IsSomeAnd o (λ x. HasNoTimes machine b (with_place place x))) holds.is none)
 
   pub place-can : IsSomeAnd (suffix_of b) (λ x. CanPlace machine b.plans x hold place)
   place-can =
-      let c = carried net content past machine b (Place place) (Holds hold) can (with_place place here) place-makes in
+      let c = carried reading machine b (Place place) (Holds hold) can (with_place place here) place-makes in
       let next = hold-next machine b.plans c.0 place holds.choice holds.choices holds.rooms holds.stopped c.2 in
       and-some (suffix_of b) here _ holds.is (record {
         choice = holds.choice;

@@ -1,5 +1,6 @@
 -- An answer that a search found can be committed, and what holds on the loaded plans holds on the whole schedule.
 use Rattle.std.proofs.Common.{◌≡◌, ℕ, ◌<◌, List, length, filter, Some, IsSomeAnd, sym, subst, ◌∙◌, arith}
+use Rattle.tp_base.specs.Readings.{Reading}
 use Rattle.tp_base.specs.Net.{Net}
 use Rattle.tp_machine.specs.Machines.{IsMachine}
 use Rattle.tp_machine.specs.declared.machine.Machine.{Machine}
@@ -36,7 +37,7 @@ known-goal machine plans ask can = go ask.goal can.open_goal where
   go Purge open-goal = tt
   go (Tray t) open-goal = open-goal.0
 
-module _ {N C : Type 0} (net : N → Net) (content : N → C) (past : N → List C) (max_marks : N → ℕ) (b b' : BoardValue N) (machine : Machine) (ask : Ask) (base : ℕ) (a : HasAnswer net content past max_marks b b' machine ask base) where
+module _ {N : Type 0} (reading : Reading N) (b b' : BoardValue N) (machine : Machine) (ask : Ask) (base : ℕ) (a : HasAnswer reading b b' machine ask base) where
   carried : (x : Suffix) × (suffix_of b' ≡ Some x) × IsWayTo machine b'.plans ask a.first a.list x
   carried = some-and (suffix_of b') (IsWayTo machine b'.plans ask a.first a.list) a.laid.way
 

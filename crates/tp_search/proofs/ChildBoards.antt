@@ -1,6 +1,7 @@
 -- The children of a list that a board carries: their bounds, and which of them have no times.
 use Rattle.std.proofs.Common.{◌≡◌, ℕ, ◌+◌, ◌<◌, ◌≤◌, false, List, [], ◌∷◌, ◌++◌, length, take, refl, ap, sym, subst, arith, Some, IsSomeAnd, IsFalse, ◌↔◌}
 use Rattle.std.specs.Prelude.{slice_get}
+use Rattle.tp_base.specs.Readings.{Reading}
 use Rattle.tp_base.specs.Net.{Net}
 use Rattle.tp_machine.specs.Using.{action_at}
 use Rattle.tp_machine.specs.declared.parts.ActId.{ActId}
@@ -48,29 +49,29 @@ bound-range machine plans ask list bound b =
     let ends = o.ends in
     (omega arith, omega arith)
 
-module _ {N C : Type 0} (net : N → Net) (content : N → C) (past : N → List C) (max_marks : N → ℕ) (b : BoardValue N) (machine : Machine) (ask : Ask) (goal first : State) where
+module _ {N : Type 0} (reading : Reading N) (b : BoardValue N) (machine : Machine) (ask : Ask) (goal first : State) where
   -- the least end on the board is the bound of the list that it carries
-  pub laid-bound : (choices : List Choice) (tick : ℕ) → IsLaid net content past max_marks b machine ask goal first choices → IsPlaced machine choices → HasLeastTick machine b (own 0) tick → IsBound machine b.plans ask (going goal choices) tick
+  pub laid-bound : (choices : List Choice) (tick : ℕ) → IsLaid reading b machine ask goal first choices → IsPlaced machine choices → HasLeastTick machine b (own 0) tick → IsBound machine b.plans ask (going goal choices) tick
   laid-bound choices tick l placed least =
-      let w = the-way net content past max_marks b machine ask goal first choices l in
+      let w = the-way reading b machine ask goal first choices l in
       let here : IsLeastTick (TimesOf machine b.plans ask (suffix_of b)) (own 0) tick = subst (λ o. IsSomeAnd o (λ k. IsLeastTick (TimesOf machine b.plans k (suffix_of b)) (own 0) tick)) l.asked least in
       let there = subst (λ o. IsLeastTick (TimesOf machine b.plans ask o) (own 0) tick) w.suffix here in
       subst (λ list. IsBound machine b.plans ask list tick) (going-of goal choices w.x w.is.same w.is.going)
       (way-bound machine b.plans ask goal first w.x tick w.is.way (subst (IsPlaced machine) (sym w.is.same) placed) there)
 
   -- it is complete for a new copy that begins at a start state
-  pub laid-complete : (choices : List Choice) → IsLaid net content past max_marks b machine ask goal first choices → ((ask.origin ≡ FromFeeder) × IsStart machine ask first) ↔ IsComplete machine ask (going goal choices)
+  pub laid-complete : (choices : List Choice) → IsLaid reading b machine ask goal first choices → ((ask.origin ≡ FromFeeder) × IsStart machine ask first) ↔ IsComplete machine ask (going goal choices)
   laid-complete choices l =
-      let w = the-way net content past max_marks b machine ask goal first choices l in
+      let w = the-way reading b machine ask goal first choices l in
       let list = going-of goal choices w.x w.is.same w.is.going in (
         λ (new, starts). subst (IsComplete machine ask) list (start-complete machine b.plans ask goal first w.x new w.is.way starts),
         λ complete. (go w ask.origin refl (subst (IsComplete machine ask) (sym list) complete)),
       ) where
-        go : (w : TheWay net content past max_marks b machine ask goal first choices) (origin : Origin) → ask.origin ≡ origin → IsComplete machine ask (list_of goal w.x) → (ask.origin ≡ FromFeeder) × IsStart machine ask first
+        go : (w : TheWay reading b machine ask goal first choices) (origin : Origin) → ask.origin ≡ origin → IsComplete machine ask (list_of goal w.x) → (ask.origin ≡ FromFeeder) × IsStart machine ask first
         go w FromFeeder is complete = (is, complete-start machine b.plans ask goal first w.x w.is.way complete)
         go w (FromFront state end count) is complete = absurd (going-incomplete machine ask goal state end count w.x is w.is.going complete)
 
-  module _ (choices : List Choice) (act : ActId) (places : List ℕ) (l : IsLaid net content past max_marks b machine ask goal first (record { act = act; places = places } ∷ choices)) where
+  module _ (choices : List Choice) (act : ActId) (places : List ℕ) (l : IsLaid reading b machine ask goal first (record { act = act; places = places } ∷ choices)) where
     abbrev newest : Choice
     newest = record { act = act; places = places }
 
@@ -78,21 +79,21 @@ module _ {N C : Type 0} (net : N → Net) (content : N → C) (past : N → List
     pub can-place : (hold place : ℕ) (rule : HoldRule) → hold ≡ length places → slice_get (holds_of_act (action_at machine act.0)) hold ≡ Some rule → place ≤ length (order_after machine b.plans (suffix_of b) rule.resource.0)
         → IsSomeAnd (suffix_of b) (λ x. CanPlace machine b.plans x hold place)
     can-place hold place rule is is_rule within =
-        let w = the-way net content past max_marks b machine ask goal first (newest ∷ choices) l in
+        let w = the-way reading b machine ask goal first (newest ∷ choices) l in
         let inside : place ≤ length (order_in machine b.plans w.x rule.resource.0) = subst (λ o. place ≤ length (order_after machine b.plans o rule.resource.0)) w.suffix within in
         subst (λ o. IsSomeAnd o (λ x. CanPlace machine b.plans x hold place)) (sym w.suffix)
         (record { choice = newest; choices = choices; newest = w.is.same; next = is; rule = rule; is_rule = is_rule; within = inside })
 
     pub place-within : (place : ℕ) (rule : HoldRule) → place ≤ length (order_after machine b.plans (suffix_of b) rule.resource.0) → IsSomeAnd (suffix_of b) (λ x. place ≤ length (order_in machine b.plans x rule.resource.0))
     place-within place rule within =
-        let w = the-way net content past max_marks b machine ask goal first (newest ∷ choices) l in
+        let w = the-way reading b machine ask goal first (newest ∷ choices) l in
         subst (λ o. IsSomeAnd o (λ x. place ≤ length (order_in machine b.plans x rule.resource.0))) (sym w.suffix) (subst (λ o. place ≤ length (order_after machine b.plans o rule.resource.0)) w.suffix within)
 
     -- a place that is late opens with no further places
     pub place-shut : (place : ℕ) (rule : HoldRule) → slice_get (holds_of_act (action_at machine act.0)) (length places) ≡ Some rule → place ≤ length (order_after machine b.plans (suffix_of b) rule.resource.0)
         → IsSomeAnd (suffix_of b) (λ x. HasNoTimes machine b (with_place place x)) → (rest : List ℕ) → IsOpen machine b.plans ask (going goal (record { act = act; places = (places ++ place ∷ []) ++ rest } ∷ choices)) → ⊥
     place-shut place rule is_rule within late rest open' =
-        let w = the-way net content past max_marks b machine ask goal first (newest ∷ choices) l in
+        let w = the-way reading b machine ask goal first (newest ∷ choices) l in
         let inside : place ≤ length (order_in machine b.plans w.x rule.resource.0) = subst (λ o. place ≤ length (order_after machine b.plans o rule.resource.0)) w.suffix within in
         let none : HasNoTimes machine b (with_place place w.x) = subst (λ o. IsSomeAnd o (λ x. HasNoTimes machine b (with_place place x))) w.suffix late in
         let none' = subst (λ o. IsSomeAnd o (λ k. (t : Ticks) → ¬ SuffixTimes machine b.plans k (with_place place w.x) t)) l.asked none in
@@ -104,7 +105,7 @@ module _ {N C : Type 0} (net : N → Net) (content : N → C) (past : N → List
     pub beyond-shut : (place : ℕ) (rule : HoldRule) (rest : List ℕ) → slice_get (holds_of_act (action_at machine act.0)) (length places) ≡ Some rule → length (order_after machine b.plans (suffix_of b) rule.resource.0) < place
         → IsOpen machine b.plans ask (going goal (record { act = act; places = places ++ place ∷ rest } ∷ choices)) → ⊥
     beyond-shut place rule rest is_rule beyond open' =
-        let w = the-way net content past max_marks b machine ask goal first (newest ∷ choices) l in
+        let w = the-way reading b machine ask goal first (newest ∷ choices) l in
         let beyond' : length (order_in machine b.plans w.x rule.resource.0) < place = subst (λ o. length (order_after machine b.plans o rule.resource.0) < place) w.suffix beyond in
         let within = place-beyond machine b.plans ask goal w.x (record { act = act; places = places ++ place ∷ rest }) choices places place rest rule open' w.is.same refl is_rule in
         omega arith

@@ -2,6 +2,7 @@
 use Rattle.std.proofs.Common.{◌≡◌, ℕ, suc, ◌+◌, ◌-◌, ◌<◌, ◌≤◌, IsSomeAnd, List, [], ◌∷◌, ◌++◌, length, Some, refl, sym, ap, ◌∙◌, arith}
 use Rattle.std.specs.Prelude.{slice_get}
 use Rattle.std.proofs.lemmas.List.{length-append}
+use Rattle.tp_base.specs.Readings.{Reading}
 use Rattle.tp_base.specs.Net.{Net}
 use Rattle.tp_machine.specs.Using.{action_at}
 use Rattle.tp_machine.specs.declared.parts.ActId.{ActId}
@@ -25,35 +26,35 @@ use Rattle.tp_search.proofs.ChildBoards.{can-place, place-within}
 use Rattle.tp_search.proofs.FurtherFacts.{further-back, further-marked, further-trans}
 
 -- a mark is set on a board that is back
-module _ {N C A : Type 0} (net : N → Net) (content : N → C) (past : N → List C) (aside : N → A) (max_marks : N → ℕ) (machine : Machine) (ask : Ask) (b b1 b2 : BoardValue N) (mark : ℕ)
-    (keeps : MarkKeeps net content past aside) (back : IsBack net content past max_marks b b1 machine) (m : IsMarked net content past aside max_marks b1 b2 mark) where
-  pub try-further : IsFurther net content past max_marks b b2
-  try-further = further-trans net content past max_marks b b1 b2 (further-back net content past max_marks b b1 machine back) (further-marked net content past aside max_marks b1 b2 mark m)
+module _ {N A : Type 0} (reading : Reading N) (untouched : N → A) (machine : Machine) (ask : Ask) (b b1 b2 : BoardValue N) (mark : ℕ)
+    (keeps : MarkKeeps reading untouched) (back : IsBack reading b b1 machine) (m : IsMarked reading untouched b1 b2 mark) where
+  pub try-further : IsFurther reading b b2
+  try-further = further-trans reading b b1 b2 (further-back reading b b1 machine back) (further-marked reading untouched b1 b2 mark m)
 
-  pub try-marks : (count : ℕ) (b3 : BoardValue N) → HasMarks net content past max_marks (suc count) b → past_of past b3 ≡ past_of past b2 → max_marks b3.net ≡ max_marks b2.net → HasMarks net content past max_marks count b3
+  pub try-marks : (count : ℕ) (b3 : BoardValue N) → HasMarks reading (suc count) b → past_of reading b3 ≡ past_of reading b2 → reading.max_marks b3.net ≡ reading.max_marks b2.net → HasMarks reading count b3
   try-marks count b3 marks past_same room =
-      let one = ap length (past_same ∙ m.past_more) ∙ length-append (past_of past b1) (content_of content b1 ∷ []) in
+      let one = ap length (past_same ∙ m.past_more) ∙ length-append (past_of reading b1) (content_of reading b1 ∷ []) in
       let old = ap length back.same_past in
       let rooms = ap (λ n. n - 1) room ∙ m.room_same ∙ back.marks in
       omega (arith, marks)
 
   plans-now : b2.plans ≡ b.plans
-  plans-now = (load-of net content past aside max_marks b1 b2 m.aside_same).plans ∙ back.loaded.plans
+  plans-now = (load-of reading untouched b1 b2 m.untouched_same).plans ∙ back.loaded.plans
 
   -- the next hold is tried at a place
-  module _ (act : ActId) (hold : ℕ) (list : Laid) (p : IsPlacing net content past max_marks b machine ask act hold list) where
-    try-laid : IsLaid net content past max_marks b2 machine ask p.goal list.first (record { act = act; places = p.places } ∷ p.choices)
+  module _ (act : ActId) (hold : ℕ) (list : Laid) (p : IsPlacing reading b machine ask act hold list) where
+    try-laid : IsLaid reading b2 machine ask p.goal list.first (record { act = act; places = p.places } ∷ p.choices)
     try-laid =
-        laid-marked net content past aside max_marks keeps b1 b2 mark machine ask p.goal list.first (record { act = act; places = p.places } ∷ p.choices) m
-        (laid-back net content past max_marks b b1 machine ask p.goal list.first (record { act = act; places = p.places } ∷ p.choices) back p.laid)
+        laid-marked reading untouched keeps b1 b2 mark machine ask p.goal list.first (record { act = act; places = p.places } ∷ p.choices) m
+        (laid-back reading b b1 machine ask p.goal list.first (record { act = act; places = p.places } ∷ p.choices) back p.laid)
 
-    pub try-stands : Stands net content past b2 machine
+    pub try-stands : Stands reading b2 machine
     try-stands = try-laid.stands
 
     module _ (rule : HoldRule) (place : ℕ) (is_rule : slice_get (holds_of_act (action_at machine act.0)) hold ≡ Some rule) (within : place ≤ length (order_after machine b.plans (suffix_of b) rule.resource.0)) where
       within-now : place ≤ length (order_after machine b2.plans (suffix_of b2) rule.resource.0)
       within-now =
-          let suffix : suffix_of b2 ≡ suffix_of b = suffix-back net content past max_marks b1 b2 m.content_same ∙ suffix-back net content past max_marks b b1 back.same_content in
+          let suffix : suffix_of b2 ≡ suffix_of b = suffix-back reading b1 b2 m.content_same ∙ suffix-back reading b b1 back.same_content in
           let order : order_after machine b2.plans (suffix_of b2) rule.resource.0 ≡ order_after machine b.plans (suffix_of b) rule.resource.0 = λ i. order_after machine (plans-now i) (suffix i) rule.resource.0 in
           omega (arith, ap length order, within)
 
@@ -61,17 +62,17 @@ module _ {N C A : Type 0} (net : N → Net) (content : N → C) (past : N → Li
       rule-next = ap (slice_get (holds_of_act (action_at machine act.0))) (sym p.next) ∙ is_rule
 
       pub try-can : IsSomeAnd (suffix_of b2) (λ x. CanPlace machine b2.plans x hold place)
-      try-can = can-place net content past max_marks b2 machine ask p.goal list.first p.choices act p.places try-laid hold place rule p.next is_rule within-now
+      try-can = can-place reading b2 machine ask p.goal list.first p.choices act p.places try-laid hold place rule p.next is_rule within-now
 
       -- and has its place there
-      pub try-placed : hold < length (holds_of_act (action_at machine act.0)) → (b3 : BoardValue N) → IsSomeAnd (suffix_of b2) (λ x. suffix_of b3 ≡ Some (with_place place x)) → Stands net content past b3 machine → IsSameLoad b2 b3
-          → IsPlacing net content past max_marks b3 machine ask act (hold + 1) list
+      pub try-placed : hold < length (holds_of_act (action_at machine act.0)) → (b3 : BoardValue N) → IsSomeAnd (suffix_of b2) (λ x. suffix_of b3 ≡ Some (with_place place x)) → Stands reading b3 machine → IsSameLoad b2 b3
+          → IsPlacing reading b3 machine ask act (hold + 1) list
       try-placed some b3 put stands load = record {
         goal = p.goal;
         choices = p.choices;
         places = p.places ++ place ∷ [];
-        laid = laid-place net content past max_marks b2 b3 machine ask p.goal list.first p.choices act p.places place rule try-laid put stands load rule-next
-            (place-within net content past max_marks b2 machine ask p.goal list.first p.choices act p.places try-laid place rule within-now);
+        laid = laid-place reading b2 b3 machine ask p.goal list.first p.choices act p.places place rule try-laid put stands load rule-next
+            (place-within reading b2 machine ask p.goal list.first p.choices act p.places try-laid place rule within-now);
         placed = p.placed;
         next = omega (arith, p.next, length-append p.places (place ∷ []));
         within = omega (arith, some);
@@ -79,27 +80,27 @@ module _ {N C A : Type 0} (net : N → Net) (content : N → C) (past : N → Li
       }
 
   -- an action is opened
-  module _ (list : Laid) (d : CanDive net content past max_marks b machine ask list) where
-    pub carries-now : CanDive net content past max_marks b2 machine ask list
+  module _ (list : Laid) (d : CanDive reading b machine ask list) where
+    pub carries-now : CanDive reading b2 machine ask list
     carries-now = record {
       goal = d.goal;
       choices = d.choices;
-      laid = laid-marked net content past aside max_marks keeps b1 b2 mark machine ask d.goal list.first d.choices m (laid-back net content past max_marks b b1 machine ask d.goal list.first d.choices back d.laid);
+      laid = laid-marked reading untouched keeps b1 b2 mark machine ask d.goal list.first d.choices m (laid-back reading b b1 machine ask d.goal list.first d.choices back d.laid);
       placed = d.placed;
       count = d.count;
     }
 
-    pub carries-stands : Stands net content past b2 machine
+    pub carries-stands : Stands reading b2 machine
     carries-stands = carries-now.laid.stands
 
     pub try-opened : kept_of ask + list.count < 64 → (act : ActId) (before : State) (room : ℕ) (b3 : BoardValue N) → IsBefore machine ask act list.first (record { state = before; room = room }) → IsSomeAnd (suffix_of b2) (λ x. suffix_of b3 ≡ Some (with_action act room x))
-        → Stands net content past b3 machine → IsSameLoad b2 b3 → IsPlacing net content past max_marks b3 machine ask act 0 (record { first = before; count = list.count + 1 })
+        → Stands reading b3 machine → IsSameLoad b2 b3 → IsPlacing reading b3 machine ask act 0 (record { first = before; count = list.count + 1 })
     unfolding carries-now
     try-opened fewer act before room b3 r opened stands load = record {
       goal = d.goal;
       choices = d.choices;
       places = [];
-      laid = laid-action net content past max_marks b2 b3 machine ask d.goal list.first before d.choices act room carries-now.laid d.placed opened stands load r (omega (arith, fewer, d.count));
+      laid = laid-action reading b2 b3 machine ask d.goal list.first before d.choices act room carries-now.laid d.placed opened stands load r (omega (arith, fewer, d.count));
       placed = d.placed;
       next = refl;
       within = omega arith;

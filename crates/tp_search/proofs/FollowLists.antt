@@ -6,6 +6,7 @@ use Rattle.std.proofs.lemmas.List.{drop_more}
 use Rattle.std.proofs.lemmas.List.Elements.{All-drop, All-head, All-nil}
 use Rattle.std.proofs.lemmas.Option.{get_or_from_slice_get, same_Some}
 use Rattle.std.proofs.Math.Seq.{drop-length}
+use Rattle.tp_base.specs.Readings.{Reading}
 use Rattle.tp_base.proofs.SliceFacts.{All-at}
 use Rattle.tp_base.specs.Net.{Net}
 use Rattle.tp_machine.specs.declared.parts.ActId.{ActId}
@@ -105,9 +106,9 @@ module _ (machine : Machine) (plans : List Plan) (ask : Ask) (goal : State) (cs 
     going-oldest : list_from machine goal (oldest at) ≡ going goal (choices_by machine (oldest at))
     going-oldest = going-list machine plans ask goal (oldest at) (all-behind (λ d. IsSome d.act) (length cs - at) cs (omega arith) stored.acts)
 
-    module _ {N C : Type 0} (net : N → Net) (content : N → C) (past : N → List C) (b : BoardValue N) (first : State) (laid : HasList net content past b machine ask first (list_from machine goal (oldest at))) where
-      going-laid : HasList net content past b machine ask first (going goal (choices_by machine (oldest at)))
-      going-laid = subst (HasList net content past b machine ask first) going-oldest laid
+    module _ {N : Type 0} (reading : Reading N) (b : BoardValue N) (first : State) (laid : HasList reading b machine ask first (list_from machine goal (oldest at))) where
+      going-laid : HasList reading b machine ask first (going goal (choices_by machine (oldest at)))
+      going-laid = subst (HasList reading b machine ask first) going-oldest laid
 
       carried-choices : (choices_of (suffix_of b)).choices ≡ choices_by machine (oldest at)
       carried-choices =
@@ -115,8 +116,8 @@ module _ (machine : Machine) (plans : List Plan) (ask : Ask) (goal : State) (cs 
           ap (λ s. (choices_of s).choices) x.1 ∙ ap (λ (l : ChoiceList). l.choices) x.2.same
 
       -- the board carries the older choices, and is ready for the next one
-      pub next-laid : HasList net content past b machine ask first (going c.goal (choices_of (suffix_of b)).choices)
-      next-laid = subst (λ l. HasList net content past b machine ask first l) (λ i. going (sym (same-goal (length cs - (at + 1)) c is) i) (sym carried-choices i)) going-laid
+      pub next-laid : HasList reading b machine ask first (going c.goal (choices_of (suffix_of b)).choices)
+      next-laid = subst (λ l. HasList reading b machine ask first l) (λ i. going (sym (same-goal (length cs - (at + 1)) c is) i) (sym carried-choices i)) going-laid
 
       next-list : list_from machine goal (oldest (at + 1)) ≡ child_by machine c.goal (choices_of (suffix_of b)).choices c
       next-list = ap (list_from machine goal) next-oldest ∙ (λ i. child_by machine (sym (same-goal (length cs - (at + 1)) c is) i) (sym carried-choices i) c)
@@ -124,6 +125,6 @@ module _ (machine : Machine) (plans : List Plan) (ask : Ask) (goal : State) (cs 
       pub next-open : b.plans ≡ plans → IsOpen machine b.plans ask (child_by machine c.goal (choices_of (suffix_of b)).choices c)
       next-open same = subst (λ ps. IsOpen machine ps ask (child_by machine c.goal (choices_of (suffix_of b)).choices c)) (sym same) (subst (IsOpen machine plans ask) next-list (oldest-open (length cs - (at + 1))))
 
-      pub more-carried : (e : BoardValue N) (first' : State) → HasList net content past e machine ask first' (child_by machine c.goal (choices_of (suffix_of b)).choices c)
-          → HasList net content past e machine ask first' (list_from machine goal (oldest (at + 1)))
-      more-carried e first' more = subst (HasList net content past e machine ask first') (sym next-list) more
+      pub more-carried : (e : BoardValue N) (first' : State) → HasList reading e machine ask first' (child_by machine c.goal (choices_of (suffix_of b)).choices c)
+          → HasList reading e machine ask first' (list_from machine goal (oldest (at + 1)))
+      more-carried e first' more = subst (HasList reading e machine ask first') (sym next-list) more

@@ -2,6 +2,7 @@
 use Rattle.std.proofs.Common.{◌≡◌, ℕ, ◌<◌, false, List, [], ◌∷◌, length, take, refl, sym, ap, ◌∙◌, arith, subst, Option, Some, None, IsSomeAnd, IsTrue}
 use Rattle.std.specs.Prelude.{option_map, unwrap_or}
 use Rattle.std.proofs.lemmas.Option.{slice_get_within}
+use Rattle.tp_base.specs.Readings.{Reading}
 use Rattle.tp_base.specs.Net.{Net}
 use Rattle.tp_machine.specs.Using.{action_at, is_allowed}
 use Rattle.tp_machine.specs.declared.parts.ActId.{ActId}
@@ -43,8 +44,8 @@ act_within machine plans ask goal c choices o = go (action_at machine c.act.0) r
   go None is allowed = absurd cc
   go (Some a) is allowed = slice_get_within machine.actions c.act.0 a is
 
-module _ {N C : Type 0} (net : N → Net) (content : N → C) (past : N → List C) (machine : Machine) (b : BoardValue N) (ask : Ask) (goal first : State) (choices : List Choice)
-    (laid : HasList net content past b machine ask first (going goal choices)) where
+module _ {N : Type 0} (reading : Reading N) (machine : Machine) (b : BoardValue N) (ask : Ask) (goal first : State) (choices : List Choice)
+    (laid : HasList reading b machine ask first (going goal choices)) where
   found : (x : Suffix) × (suffix_of b ≡ Some x) × IsWayTo machine b.plans ask first (going goal choices) x
   found = some-and (suffix_of b) _ laid.way
 
@@ -67,7 +68,7 @@ module _ {N C : Type 0} (net : N → Net) (content : N → C) (past : N → List
 
   -- the stop
   module _ (o : IsOpen machine b.plans ask (stopping goal choices)) where
-    pub stop-laid : (e : BoardValue N) → Stands net content past e machine → IsSomeAnd (suffix_of b) (λ x. suffix_of e ≡ Some (with_stop x)) → IsSameLoad b e → HasList net content past e machine ask first (stopping goal choices)
+    pub stop-laid : (e : BoardValue N) → Stands reading e machine → IsSomeAnd (suffix_of b) (λ x. suffix_of e ≡ Some (with_stop x)) → IsSameLoad b e → HasList reading e machine ask first (stopping goal choices)
     stop-laid e stands so load =
         let now : suffix_of e ≡ Some (with_stop carried) = subst (λ s. IsSomeAnd s (λ x. suffix_of e ≡ Some (with_stop x))) suffix-is so in
         let way : IsWayTo machine b.plans ask first (stopping goal choices) (with_stop carried) = record {
@@ -121,9 +122,9 @@ module _ {N C : Type 0} (net : N → Net) (content : N → C) (past : N → List
         waits-more = and-some m.ask ask _ (load.ask ∙ laid.asked) (and-some (suffix_of m) (with_action act before.room carried) _ opened
             (subst (λ plans. AwaitsPlaces machine plans ask act places (with_action act before.room carried)) (sym load.plans) awaits))
 
-        pub more-laid : (e : BoardValue N) → Stands net content past e machine
+        pub more-laid : (e : BoardValue N) → Stands reading e machine
             → IsSomeAnd (suffix_of m) (λ x. suffix_of e ≡ Some (with_places (take (length (holds_of_act (action_at machine act.0))) places) x)) → IsSameLoad m e
-            → HasList net content past e machine ask before.state (going goal (choice_with machine act places ∷ choices))
+            → HasList reading e machine ask before.state (going goal (choice_with machine act places ∷ choices))
         more-laid e stands placed load' =
             let all = take (length (holds_of_act (action_at machine act.0))) places in
             let end : Suffix = record { choices = record { act = act; places = all } ∷ choices; rooms = before.room ∷ found.0.rooms; stopped = false } in

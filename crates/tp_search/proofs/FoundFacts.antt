@@ -1,5 +1,6 @@
 -- A complete list that a board carries, and that ends by a bound, was found.
 use Rattle.std.proofs.Common.{◌≡◌, ℕ, ◌≤◌, List, sym, subst}
+use Rattle.tp_base.specs.Readings.{Reading}
 use Rattle.tp_base.specs.Net.{Net}
 use Rattle.tp_machine.specs.declared.parts.State.{State}
 use Rattle.tp_machine.specs.declared.machine.Machine.{Machine}
@@ -18,12 +19,12 @@ use Rattle.tp_ways.specs.Ways.{IsPlaced}
 use Rattle.tp_search.proofs.BoardSteps.{the-way}
 use Rattle.tp_search.proofs.ChildBoards.{going-of, laid-bound, laid-complete}
 
-module _ {N C : Type 0} (net : N → Net) (content : N → C) (past : N → List C) (max_marks : N → ℕ) where
+module _ {N : Type 0} (reading : Reading N) where
   -- a board carries the list of its choices
-  pub laid-list : (b : BoardValue N) (machine : Machine) (ask : Ask) (goal first : State) (choices : List Choice) → IsLaid net content past max_marks b machine ask goal first choices → IsPlaced machine choices
-      → HasList net content past b machine ask first (going goal choices)
+  pub laid-list : (b : BoardValue N) (machine : Machine) (ask : Ask) (goal first : State) (choices : List Choice) → IsLaid reading b machine ask goal first choices → IsPlaced machine choices
+      → HasList reading b machine ask first (going goal choices)
   laid-list b machine ask goal first choices l placed =
-      let w = the-way net content past max_marks b machine ask goal first choices l in
+      let w = the-way reading b machine ask goal first choices l in
       record {
         stands = l.stands;
         asked = l.asked;
@@ -32,15 +33,15 @@ module _ {N C : Type 0} (net : N → Net) (content : N → C) (past : N → List
       }
 
   -- that of a new copy is complete where it begins at a start state
-  pub found-laid : (b b' : BoardValue N) (machine : Machine) (ask : Ask) (goal first : State) (choices : List Choice) (bound tick : ℕ) → IsFurther net content past max_marks b b' → IsLaid net content past max_marks b' machine ask goal first choices → IsPlaced machine choices
-      → ask.origin ≡ FromFeeder → IsStart machine ask first → HasLeastTick machine b' (own 0) tick → tick ≤ bound → HasFound net content past max_marks b b' machine ask bound
+  pub found-laid : (b b' : BoardValue N) (machine : Machine) (ask : Ask) (goal first : State) (choices : List Choice) (bound tick : ℕ) → IsFurther reading b b' → IsLaid reading b' machine ask goal first choices → IsPlaced machine choices
+      → ask.origin ≡ FromFeeder → IsStart machine ask first → HasLeastTick machine b' (own 0) tick → tick ≤ bound → HasFound reading b b' machine ask bound
   found-laid b b' machine ask goal first choices bound tick further l placed new starts least in-time = record {
     further = further;
     first = first;
     list = going goal choices;
     end = tick;
     laid = laid-list b' machine ask goal first choices l placed;
-    complete = (laid-complete net content past max_marks b' machine ask goal first choices l).0 (new, starts);
-    is_bound = laid-bound net content past max_marks b' machine ask goal first choices tick l placed least;
+    complete = (laid-complete reading b' machine ask goal first choices l).0 (new, starts);
+    is_bound = laid-bound reading b' machine ask goal first choices tick l placed least;
     in_time = in-time;
   }

@@ -2,6 +2,7 @@
 use Rattle.std.proofs.Common.{◌≡◌, ℕ, ◌-◌, ◌<◌, ◌≤◌, List, ◌∷◌, length, IfSome, Option, Some, None, sym, ap, subst, ◌∙◌, arith}
 use Rattle.std.proofs.lemmas.Option.{same_Some}
 use Rattle.std.specs.List.{slice_get}
+use Rattle.tp_base.specs.Readings.{Reading}
 use Rattle.tp_base.specs.Net.{Net}
 use Rattle.tp_machine.specs.declared.parts.State.{State}
 use Rattle.tp_machine.specs.declared.machine.Machine.{Machine}
@@ -19,10 +20,10 @@ use Rattle.tp_search.specs.declared.holding.Held.{Held}
 use Rattle.tp_search.proofs.OpenSteps.{choices-carried}
 
 -- which lists wait does not matter for a held list
-pub holds-taken : {N C : Type 0} (net : N → Net) (content : N → C) (past : N → List C) (b : BoardValue N) (machine : Machine) (ask : Ask) (s s' : StoreValue) (held : Option Held) → s'.entries ≡ s.entries → IfSome held (HoldsList net content past b machine ask s)
-    → IfSome held (HoldsList net content past b machine ask s')
-holds-taken net content past b machine ask s s' None same holds = tt
-holds-taken net content past b machine ask s s' (Some held) same holds = record {
+pub holds-taken : {N : Type 0} (reading : Reading N) (b : BoardValue N) (machine : Machine) (ask : Ask) (s s' : StoreValue) (held : Option Held) → s'.entries ≡ s.entries → IfSome held (HoldsList reading b machine ask s)
+    → IfSome held (HoldsList reading b machine ask s')
+holds-taken reading b machine ask s s' None same holds = tt
+holds-taken reading b machine ask s s' (Some held) same holds = record {
   goal = holds.goal;
   before = holds.before;
   laid = holds.laid;
@@ -41,8 +42,8 @@ pub child-some : {goal : State} {before choices : List Stored} → IsOneMore goa
 child-some {goal} {before} {choices} more = omega (arith, ap length more.same)
 
 -- a child of the list that a board carries
-module _ {N C : Type 0} (net : N → Net) (content : N → C) (past : N → List C) (max_marks : N → ℕ) (b : BoardValue N) (machine : Machine) (ask : Ask) (first goal : State) (before choices : List Stored)
-    (laid : HasList net content past b machine ask first (going goal (choices_by machine before))) (more : IsOneMore goal before choices) (c : Stored) (made : choice_made choices (length choices) ≡ Some c) where
+module _ {N : Type 0} (reading : Reading N) (b : BoardValue N) (machine : Machine) (ask : Ask) (first goal : State) (before choices : List Stored)
+    (laid : HasList reading b machine ask first (going goal (choices_by machine before))) (more : IsOneMore goal before choices) (c : Stored) (made : choice_made choices (length choices) ≡ Some c) where
   newest-is : c ≡ more.newest
   newest-is = last-made choices c more.newest before more.same made
 
@@ -50,11 +51,11 @@ module _ {N C : Type 0} (net : N → Net) (content : N → C) (past : N → List
   goal-is = ap (λ (d : Stored). d.goal) newest-is ∙ more.same_goal
 
   carried : (laid_by (suffix_of b)).choices ≡ choices_by machine before
-  carried = choices-carried net content past max_marks b machine ask first goal (choices_by machine before) laid
+  carried = choices-carried reading b machine ask first goal (choices_by machine before) laid
 
   -- its newest choice can be laid
-  pub child-laid : HasList net content past b machine ask first (going c.goal (laid_by (suffix_of b)).choices)
-  child-laid = subst (HasList net content past b machine ask first) (λ i. going (sym goal-is i) (sym carried i)) laid
+  pub child-laid : HasList reading b machine ask first (going c.goal (laid_by (suffix_of b)).choices)
+  child-laid = subst (HasList reading b machine ask first) (λ i. going (sym goal-is i) (sym carried i)) laid
 
   -- which makes the child
   pub child-whole : child_by machine c.goal (laid_by (suffix_of b)).choices c ≡ list_by machine choices

@@ -1,6 +1,7 @@
 -- The actions that lead to a state stand in a chain. Those between them lead elsewhere, so that no child has them.
 use Rattle.std.proofs.Common.{◌≡◌, ◌≢◌, ◌⊎◌, inl, inr, true, ltb, ◌∷◌, slice_get, ℕ, zero, suc, ◌+◌, ◌-◌, ◌<◌, ◌≤◌, List, [], length, Option, Some, None, option_map, refl, sym, ap, subst, ◌∙◌, arith}
 use Rattle.std.proofs.lemmas.Bool.{cases_Bool, ltb-true, ltb-false}
+use Rattle.tp_base.specs.Readings.{Reading}
 use Rattle.tp_base.specs.Net.{Net}
 use Rattle.tp_machine.specs.Using.{action_at}
 use Rattle.tp_machine.specs.declared.parts.ActId.{ActId}
@@ -13,6 +14,7 @@ use Rattle.tp_schedule.specs.Choices.{Choice}
 use Rattle.tp_schedule.specs.Routes.{HasNoRoom, IsRoom, step_by}
 use Rattle.tp_schedule.specs.declared.parts.Ask.{Ask}
 use Rattle.tp_schedule.specs.declared.parts.Plan.{Plan}
+use Rattle.tp_routes.proofs.AlongFacts.{next-to}
 use Rattle.tp_routes.proofs.RoomFacts.{leads_to}
 use Rattle.tp_routes.specs.Tables.{IsKnownOrigin}
 use Rattle.tp_constraints.specs.Suffixes.{HaveRooms}
@@ -37,13 +39,13 @@ elsewhere machine ask act first other before steps allowed = go (action_at machi
   go None at leads = (let both : None ≡ Some first = rw at at leads in absurd cc)
   go (Some a) at leads = absurd (other a at (sym (ap (λ (l : LocId). l.0) (leads_to a ask.want before first (rw at at leads)))))
 
-module _ {N C : Type 0} (net : N → Net) (content : N → C) (past : N → List C) (max_marks : N → ℕ) (b : BoardValue N) (machine : Machine) (ask : Ask) (first : State) (o : Opening) (s : StoreValue)
-    (l : IsLaid net content past max_marks b machine ask o.goal first (choices_by machine (choices_before s.entries o.parent))) where
+module _ {N : Type 0} (reading : Reading N) (b : BoardValue N) (machine : Machine) (ask : Ask) (first : State) (o : Opening) (s : StoreValue)
+    (l : IsLaid reading b machine ask o.goal first (choices_by machine (choices_before s.entries o.parent))) where
   -- one action that leads elsewhere
   over-one : (act : ℕ) → ((a : Action) → action_at machine act ≡ Some a → a.to.0 ≢ first.loc.0) → IsAtProgress machine b.plans ask o s (up_to act []) → IsAtProgress machine b.plans ask o s (up_to (act + 1) [])
   over-one act other opening =
       opening-next_act machine b.plans ask o s act
-      (act-shut net content past max_marks b machine ask first (record { 0 = act }) o s l (elsewhere machine ask (record { 0 = act }) first other) opening)
+      (act-shut reading b machine ask first (record { 0 = act }) o s l (elsewhere machine ask (record { 0 = act }) first other) opening)
 
   over-so_many : (count low : ℕ) → NoneTo machine.actions first.loc.0 low (low + count) → IsAtProgress machine b.plans ask o s (up_to low []) → IsAtProgress machine b.plans ask o s (up_to (low + count) [])
   over-so_many zero low none opening = (let e : low ≡ low + 0 = omega arith in subst (λ n. IsAtProgress machine b.plans ask o s (up_to n [])) e opening)
@@ -76,11 +78,6 @@ pub record IsChain (machine : Machine) (place : ℕ) (next : Option ActId) : Typ
   pub low : ℕ
   pub leads : IsNextTo machine.actions place low (number next)
 
--- how many actions there are from the next one on, at the most
-abbrev pub ahead : Machine → Option ActId → ℕ
-ahead machine None = 0
-ahead machine (Some act) = suc (length machine.actions - act.0)
-
 first-room : (machine : Machine) (ask : Ask) (goal s : State) (choices : List Choice) (rooms : List ℕ) → HaveRooms machine ask goal s choices rooms → (room : ℕ) × IsRoom machine ask s room
 first-room machine ask goal s [] [] h = absurd h
 first-room machine ask goal s [] (room ∷ rooms) h = (room, h.1)
@@ -94,17 +91,12 @@ within-locations machine ask s room origin r = elim (cases_Bool (ltb s.loc.0 (le
 ]
 
 -- the list on a board begins at a location of the machine
-pub laid-known : {N C : Type 0} (net : N → Net) (content : N → C) (past : N → List C) (max_marks : N → ℕ) (b : BoardValue N) (machine : Machine) (ask : Ask) (goal first : State) (choices : List Choice)
-    → IsLaid net content past max_marks b machine ask goal first choices → IsKnownOrigin machine ask.origin → first.loc.0 < length machine.locations
-laid-known net content past max_marks b machine ask goal first choices l origin =
-    let w = the-way net content past max_marks b machine ask goal first choices l in
+pub laid-known : {N : Type 0} (reading : Reading N) (b : BoardValue N) (machine : Machine) (ask : Ask) (goal first : State) (choices : List Choice)
+    → IsLaid reading b machine ask goal first choices → IsKnownOrigin machine ask.origin → first.loc.0 < length machine.locations
+laid-known reading b machine ask goal first choices l origin =
+    let w = the-way reading b machine ask goal first choices l in
     let r = first-room machine ask goal first w.x.choices w.x.rooms w.is.way.rooms in
     within-locations machine ask first r.0 origin r.1
-
-some_action : (xs : List Action) (k : ℕ) → k < length xs → (a : Action) × (slice_get xs k ≡ Some a)
-some_action [] k below = absurd (omega arith)
-some_action (x ∷ xs) zero below = (x, refl)
-some_action (x ∷ xs) (suc k) below = some_action xs k (omega arith)
 
 module _ (machine : Machine) (firsts nexts : List (Option ℕ)) (place : ℕ) (index : IsLeadIndex machine firsts nexts) where
   -- where the chain begins
@@ -114,14 +106,8 @@ module _ (machine : Machine) (firsts nexts : List (Option ℕ)) (place : ℕ) (i
   -- and how it goes on
   pub leads-next : (act : ActId) (next : Option ActId) → act.0 < length machine.actions → ((a : Action) → slice_get machine.actions act.0 ≡ Some a → a.to.0 ≡ place) → number next ≡ number_at nexts act.0
       → IsNextTo machine.actions place (act.0 + 1) (number next)
-  leads-next act next within to is =
-      let a = some_action machine.actions act.0 within in
-      subst (IsNextTo machine.actions place (act.0 + 1)) (sym is) (subst (λ p. IsNextTo machine.actions p (act.0 + 1) (number_at nexts act.0)) (to a.0 a.1) (index.indexed.next act.0 a.0 (omega arith) a.1))
+  leads-next act next within to is = subst (IsNextTo machine.actions place (act.0 + 1)) (sym is) (next-to machine.actions firsts nexts place act.0 index.indexed within to)
 
 -- the next action of the chain
 pub led-here : (machine : Machine) (place low : ℕ) (next : Option ActId) (act : ActId) → next ≡ Some act → IsNextTo machine.actions place low (number next) → IsNextTo machine.actions place low (Some act.0)
 led-here machine place low next act is leads = subst (λ n. IsNextTo machine.actions place low (number n)) is leads
-
-pub ahead-smaller : (machine : Machine) (place : ℕ) (act : ActId) (next : Option ActId) → act.0 < length machine.actions → IsNextTo machine.actions place (act.0 + 1) (number next) → ahead machine next < suc (length machine.actions - act.0)
-ahead-smaller machine place act None within leads = omega arith
-ahead-smaller machine place act (Some other) within leads = (let above = leads.0 in omega arith)

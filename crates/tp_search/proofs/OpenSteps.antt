@@ -2,6 +2,7 @@
 use Rattle.std.proofs.Common.{◌≡◌, ℕ, false, List, [], ◌∷◌, length, All, Option, Some, None, IsSome, IsSomeAnd, refl, sym, ap, subst, ◌∙◌, arith}
 use Rattle.std.proofs.lemmas.List.Elements.{All-cons, All-head, All-tail}
 use Rattle.std.proofs.lemmas.Bool.{true≢false}
+use Rattle.tp_base.specs.Readings.{Reading}
 use Rattle.tp_base.specs.Net.{Net}
 use Rattle.tp_machine.specs.declared.parts.ActId.{ActId}
 use Rattle.tp_machine.specs.declared.parts.State.{State}
@@ -44,18 +45,18 @@ pub next-many : (machine : Machine) (plans : List Plan) (ask : Ask) (s : StoreVa
 next-many machine plans ask s (Goal g) can = refl
 next-many machine plans ask s (Node n) can = many-going machine (list_by machine (stored_at s.entries n)).goal (stored_at s.entries n) can.can_lay.1 (ap (λ (l : ChoiceList). l.stopped) can.goes_on)
 
-module _ {N C : Type 0} (net : N → Net) (content : N → C) (past : N → List C) (max_marks : N → ℕ) where
+module _ {N : Type 0} (reading : Reading N) where
   -- a board that is back carries the list that it carried
-  pub list-back : (b b' : BoardValue N) (machine : Machine) (ask : Ask) (first : State) (list : ChoiceList) → IsBack net content past max_marks b b' machine → HasList net content past b machine ask first list → HasList net content past b' machine ask first list
+  pub list-back : (b b' : BoardValue N) (machine : Machine) (ask : Ask) (first : State) (list : ChoiceList) → IsBack reading b b' machine → HasList reading b machine ask first list → HasList reading b' machine ask first list
   list-back b b' machine ask first list back laid = record {
     stands = back.stands laid.stands;
     asked = back.loaded.ask ∙ laid.asked;
-    way = subst (λ o. IsSomeAnd o (IsWayTo machine b'.plans ask first list)) (sym (suffix-back net content past max_marks b b' back.same_content))
+    way = subst (λ o. IsSomeAnd o (IsWayTo machine b'.plans ask first list)) (sym (suffix-back reading b b' back.same_content))
         (subst (λ ps. IsSomeAnd (suffix_of b) (IsWayTo machine ps ask first list)) (sym back.loaded.plans) laid.way);
   }
 
   -- and its choices are the list's
-  pub choices-carried : (b : BoardValue N) (machine : Machine) (ask : Ask) (first goal : State) (choices : List Choice) → HasList net content past b machine ask first (going goal choices) → (choices_of (suffix_of b)).choices ≡ choices
+  pub choices-carried : (b : BoardValue N) (machine : Machine) (ask : Ask) (first goal : State) (choices : List Choice) → HasList reading b machine ask first (going goal choices) → (choices_of (suffix_of b)).choices ≡ choices
   choices-carried b machine ask first goal choices laid =
       let x = some-and (suffix_of b) (IsWayTo machine b.plans ask first (going goal choices)) laid.way in
       ap (λ o. (choices_of o).choices) x.1 ∙ ap (λ (l : ChoiceList). l.choices) x.2.same

@@ -27,27 +27,27 @@ pub opening-step : (machine : Machine) (plans : List Plan) (ask : Ask) (o : Open
     → child_by machine o.goal (choices_by machine (choices_before s.entries o.parent)) c ≡ child → IsFresh machine ask o s → IsAtProgress machine plans ask o s before → c.goal ≡ o.goal
     → IsStep machine plans ask (parent_of machine s.entries o.goal o.parent) before after child → IsChild machine ask (parent_of machine s.entries o.goal o.parent) child → IsBound machine plans ask child b
     → (IsTrue complete ↔ IsComplete machine ask child) → (IsTrue complete → b ≡ o.bound → ⊥) → IsAtProgress machine plans ask o (after_keep o.parent c b complete s) after
-opening-step machine plans ask o s before after c b complete child is fresh opening goal step is-child is-bound exactly answers = keep (length s.entries == s.room) refl where
+opening-step machine plans ask o s before after c b complete child is fresh opening goal step is-child is-bound exactly answers = keep (length s.entries == s.capacity) refl where
   other : IsComplete machine ask child → b ≡ o.bound → ⊥
   other is-complete = answers (exactly.1 is-complete)
 
-  grown : (new : List Entry) (best : Option ℕ) → IsOpening machine plans ask (parent_of machine s.entries o.goal o.parent) o.bound (choices_before s.entries o.parent) (take o.stored s.entries) after (s.entries ++ new) s.room s.full best
-      → IsOpening machine plans ask (parent_of machine (s.entries ++ new) o.goal o.parent) o.bound (choices_before (s.entries ++ new) o.parent) (take o.stored (s.entries ++ new)) after (s.entries ++ new) s.room s.full best
+  grown : (new : List Entry) (best : Option ℕ) → IsOpening machine plans ask (parent_of machine s.entries o.goal o.parent) o.bound (choices_before s.entries o.parent) (take o.stored s.entries) after (s.entries ++ new) s.capacity s.full best
+      → IsOpening machine plans ask (parent_of machine (s.entries ++ new) o.goal o.parent) o.bound (choices_before (s.entries ++ new) o.parent) (take o.stored (s.entries ++ new)) after (s.entries ++ new) s.capacity s.full best
   grown new best known =
       let same-base : take o.stored (s.entries ++ new) ≡ take o.stored s.entries = take-append-le o.stored s.entries new fresh.stored in
       let same-choices : choices_before (s.entries ++ new) o.parent ≡ choices_before s.entries o.parent = choices-stay s.entries new o.stored o.parent fresh.parent fresh.stored in
-      subst (λ base. IsOpening machine plans ask (parent_of machine (s.entries ++ new) o.goal o.parent) o.bound (choices_before (s.entries ++ new) o.parent) base after (s.entries ++ new) s.room s.full best) (sym same-base)
-      (subst (λ old. IsOpening machine plans ask (going o.goal (choices_by machine old)) o.bound old (take o.stored s.entries) after (s.entries ++ new) s.room s.full best) (sym same-choices) known)
+      subst (λ base. IsOpening machine plans ask (parent_of machine (s.entries ++ new) o.goal o.parent) o.bound (choices_before (s.entries ++ new) o.parent) base after (s.entries ++ new) s.capacity s.full best) (sym same-base)
+      (subst (λ old. IsOpening machine plans ask (going o.goal (choices_by machine old)) o.bound old (take o.stored s.entries) after (s.entries ++ new) s.capacity s.full best) (sym same-choices) known)
 
-  keep : (full : Bool) → (length s.entries == s.room) ≡ full → IsAtProgress machine plans ask o (if full then record s { full = true } else with_list o.parent c b complete s) after
+  keep : (full : Bool) → (length s.entries == s.capacity) ≡ full → IsAtProgress machine plans ask o (if full then record s { full = true } else with_list o.parent c b complete s) after
   keep true all =
-      opening-full machine plans ask (parent_of machine s.entries o.goal o.parent) o.bound (choices_before s.entries o.parent) (take o.stored s.entries) before after s.entries s.room s.full s.best child b opening step is-child is-bound
-      other fresh.none_before (eqb-true (length s.entries) s.room all)
+      opening-full machine plans ask (parent_of machine s.entries o.goal o.parent) o.bound (choices_before s.entries o.parent) (take o.stored s.entries) before after s.entries s.capacity s.full s.best child b opening step is-child is-bound
+      other fresh.none_before (eqb-true (length s.entries) s.capacity all)
   keep false space =
       let as-child : list_by machine (c ∷ choices_before s.entries o.parent) ≡ child = ap (λ g. child_by machine g (choices_by machine (choices_before s.entries o.parent)) c) goal ∙ is in
       grown (entry_of s.entries o.parent c b ∷ []) (better s.entries complete b (length s.entries) s.best)
-      (opening-stored machine plans ask (parent_of machine s.entries o.goal o.parent) o.bound (choices_before s.entries o.parent) (take o.stored s.entries) before after s.entries s.room s.full s.best child b opening step is-child is-bound
-      other (eqb-false (length s.entries) s.room space) c as-child goal complete exactly)
+      (opening-stored machine plans ask (parent_of machine s.entries o.goal o.parent) o.bound (choices_before s.entries o.parent) (take o.stored s.entries) before after s.entries s.capacity s.full s.best child b opening step is-child is-bound
+      other (eqb-false (length s.entries) s.capacity space) c as-child goal complete exactly)
 
 -- a child with these places, as many as its action has holds, is the only one through them
 step-child : (machine : Machine) (plans : List Plan) (ask : Ask) (p : ChoiceList) (act : ActId) (places : List ℕ) → length places ≡ length (holds_of_act (action_at machine act.0))

@@ -26,8 +26,8 @@ same-trans a b c r s t first second = record {
 }
 
 -- with another bound at which a dive failed
-pub dived-same : (o o' : Opening) (s s' : StoreValue) → o' ≡ record o { dived = o'.dived } → StoreGrows s s' → IsSameOpening o o' s s'
-dived-same o o' s s' is grows = record {
+pub barred-same : (o o' : Opening) (s s' : StoreValue) → o' ≡ record o { barred = o'.barred } → StoreGrows s s' → IsSameOpening o o' s s'
+barred-same o o' s s' is grows = record {
   goal = ap (λ (x : Opening). x.goal) is;
   parent = ap (λ (x : Opening). x.parent) is;
   bound = ap (λ (x : Opening). x.bound) is;
@@ -39,10 +39,10 @@ dived-same o o' s s' is grows = record {
 pub progress-same : (machine : Machine) (plans : List Plan) (ask : Ask) (o o' : Opening) (s : StoreValue) (p : Progress) → o'.goal ≡ o.goal → o'.parent ≡ o.parent → o'.bound ≡ o.bound → o'.stored ≡ o.stored
     → IsAtProgress machine plans ask o s p → IsAtProgress machine plans ask o' s p
 progress-same machine plans ask o o' s p goal parent bound stored at =
-    subst (λ g. IsAtProgress machine plans ask (record { parent = o'.parent; goal = g; bound = o'.bound; stored = o'.stored; dived = o'.dived }) s p) (sym goal)
-    (subst (λ q. IsAtProgress machine plans ask (record { parent = q; goal = o.goal; bound = o'.bound; stored = o'.stored; dived = o'.dived }) s p) (sym parent)
-    (subst (λ b. IsAtProgress machine plans ask (record { parent = o.parent; goal = o.goal; bound = b; stored = o'.stored; dived = o'.dived }) s p) (sym bound)
-    (subst (λ n. IsAtProgress machine plans ask (record { parent = o.parent; goal = o.goal; bound = o.bound; stored = n; dived = o'.dived }) s p) (sym stored) at)))
+    subst (λ g. IsAtProgress machine plans ask (record { parent = o'.parent; goal = g; bound = o'.bound; stored = o'.stored; barred = o'.barred }) s p) (sym goal)
+    (subst (λ q. IsAtProgress machine plans ask (record { parent = q; goal = o.goal; bound = o'.bound; stored = o'.stored; barred = o'.barred }) s p) (sym parent)
+    (subst (λ b. IsAtProgress machine plans ask (record { parent = o.parent; goal = o.goal; bound = b; stored = o'.stored; barred = o'.barred }) s p) (sym bound)
+    (subst (λ n. IsAtProgress machine plans ask (record { parent = o.parent; goal = o.goal; bound = o.bound; stored = n; barred = o'.barred }) s p) (sym stored) at)))
 
 -- the choices of the list that is being opened
 pub before-same : (machine : Machine) (ask : Ask) (o o' : Opening) (s s' : StoreValue) → IsSameOpening o o' s s' → IsFresh machine ask o s → choices_before s'.entries o'.parent ≡ choices_before s.entries o.parent

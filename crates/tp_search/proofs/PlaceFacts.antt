@@ -2,6 +2,7 @@
 use Rattle.std.proofs.Common.{◌≡◌, ◌⊎◌, inl, inr, ℕ, suc, ◌+◌, ◌<◌, ◌≤◌, IsTrue, IsSomeAnd, List, [], ◌∷◌, ◌++◌, length, Some, sym, ap, subst, ◌∙◌, arith}
 use Rattle.std.specs.Prelude.{slice_get}
 use Rattle.std.proofs.lemmas.List.{append_assoc}
+use Rattle.tp_base.specs.Readings.{Reading}
 use Rattle.tp_base.specs.Net.{Net}
 use Rattle.tp_machine.specs.Using.{action_at}
 use Rattle.tp_machine.specs.declared.parts.ActId.{ActId}
@@ -138,21 +139,21 @@ pub opening-next_act : (machine : Machine) (plans : List Plan) (ask : Ask) (o : 
 opening-next_act machine plans ask o s act opening =
     opening-on machine plans ask o s (through act []) (up_to (act + 1) []) opening (λ l looked. (next-act act l).1 looked) (λ l child looked. inl ((next-act act l).0 looked))
 
-module _ {N C : Type 0} (net : N → Net) (content : N → C) (past : N → List C) (max_marks : N → ℕ) (b : BoardValue N) (machine : Machine) (ask : Ask) (goal first : State) (olds : List Choice) (act : ActId) (places : List ℕ)
-    (l : IsLaid net content past max_marks b machine ask goal first (record { act = act; places = places } ∷ olds)) (rule : HoldRule) (is_rule : slice_get (holds_of_act (action_at machine act.0)) (length places) ≡ Some rule) (o : Opening) (s : StoreValue)
+module _ {N : Type 0} (reading : Reading N) (b : BoardValue N) (machine : Machine) (ask : Ask) (goal first : State) (olds : List Choice) (act : ActId) (places : List ℕ)
+    (l : IsLaid reading b machine ask goal first (record { act = act; places = places } ∷ olds)) (rule : HoldRule) (is_rule : slice_get (holds_of_act (action_at machine act.0)) (length places) ≡ Some rule) (o : Opening) (s : StoreValue)
     (parent : parent_of machine s.entries o.goal o.parent ≡ going goal olds) where
   -- a place that is late was looked at
   pub place-late : (place : ℕ) → place ≤ length (order_after machine b.plans (suffix_of b) rule.resource.0) → IsSomeAnd (suffix_of b) (λ x. HasNoTimes machine b (with_place place x))
       → IsAtProgress machine b.plans ask o s (up_to act.0 (places ++ place ∷ [])) → IsAtProgress machine b.plans ask o s (through act.0 (places ++ place ∷ []))
   place-late place within late opening =
-      opening-shut machine b.plans ask o s goal olds act (places ++ place ∷ []) parent (λ rest opens. place-shut net content past max_marks b machine ask goal first olds act places l place rule is_rule within late rest opens) opening
+      opening-shut machine b.plans ask o s goal olds act (places ++ place ∷ []) parent (λ rest opens. place-shut reading b machine ask goal first olds act places l place rule is_rule within late rest opens) opening
 
   -- nothing lies beyond the order
   pub places-begin : (n : ℕ) → length (order_after machine b.plans (suffix_of b) rule.resource.0) < n
       → IsAtProgress machine b.plans ask o s (up_to act.0 places) → IsAtProgress machine b.plans ask o s (through act.0 (places ++ n ∷ []))
   places-begin n beyond opening =
       opening-beyond machine b.plans ask o s goal olds act places n parent
-      (λ k rest later opens. beyond-shut net content past max_marks b machine ask goal first olds act places l k rule rest is_rule (omega (arith, beyond, later)) opens) opening
+      (λ k rest later opens. beyond-shut reading b machine ask goal first olds act places l k rule rest is_rule (omega (arith, beyond, later)) opens) opening
 
   -- a place that is late with all before it
   late-at : (place earlier : ℕ) → earlier ≤ place → IsSomeAnd (suffix_of b) (HasNoTimesUpTo machine b place) → IsSomeAnd (suffix_of b) (λ x. HasNoTimes machine b (with_place earlier x))
@@ -166,7 +167,7 @@ module _ {N C : Type 0} (net : N → Net) (content : N → C) (past : N → List
   places-shut place within late opening =
       opening-first machine b.plans ask o s goal olds act places place parent
       (λ k rest le opens.
-      place-shut net content past max_marks b machine ask goal first olds act places l k rule is_rule (omega (arith, within, le)) (late-at place k le late) rest
+      place-shut reading b machine ask goal first olds act places l k rule is_rule (omega (arith, within, le)) (late-at place k le late) rest
       (subst (λ ps. IsOpen machine b.plans ask (going goal (record { act = act; places = ps } ∷ olds))) (sym (append_assoc places (k ∷ []) rest)) opens))
       opening
 
@@ -174,4 +175,4 @@ module _ {N C : Type 0} (net : N → Net) (content : N → C) (past : N → List
   pub places-end : length places < length (holds_of_act (action_at machine act.0))
       → IsAtProgress machine b.plans ask o s (through act.0 (places ++ 0 ∷ [])) → IsAtProgress machine b.plans ask o s (through act.0 places)
   places-end few opening =
-      opening-all machine b.plans ask o s goal olds act places parent (λ opens. few-shut net content past max_marks b machine ask goal first olds act places l few opens) opening
+      opening-all machine b.plans ask o s goal olds act places parent (λ opens. few-shut reading b machine ask goal first olds act places l few opens) opening

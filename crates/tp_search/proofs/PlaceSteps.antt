@@ -2,6 +2,7 @@
 use Rattle.std.proofs.Common.{◌≡◌, ◌↔◌, ℕ, suc, ◌+◌, ◌-◌, ◌<◌, ◌≤◌, Bool, IsTrue, IsSomeAnd, List, [], ◌∷◌, ◌++◌, length, take, Option, None, Some, refl, sym, ap, subst, ◌∙◌, arith, length-take-le}
 use Rattle.std.specs.Prelude.{slice_get, slice_set}
 use Rattle.std.proofs.lemmas.List.{length-append, take_more_set}
+use Rattle.tp_base.specs.Readings.{Reading}
 use Rattle.tp_base.specs.Net.{Net}
 use Rattle.tp_machine.specs.Using.{action_at}
 use Rattle.tp_machine.specs.declared.parts.Action.{Action}
@@ -61,25 +62,25 @@ parent-same machine ask o o' s s' same fresh =
 pub next-places : (places : List ℕ) (hold place : ℕ) → hold < length places → take (hold + 1) (slice_set places hold place) ≡ take hold places ++ place ∷ []
 next-places places hold place within = take_more_set places hold place within
 
-module _ {N C : Type 0} (net : N → Net) (content : N → C) (past : N → List C) (max_marks : N → ℕ) (machine : Machine) (ask : Ask) (first : State) (o : Opening) (s : StoreValue) (b : BoardValue N) where
+module _ {N : Type 0} (reading : Reading N) (machine : Machine) (ask : Ask) (first : State) (o : Opening) (s : StoreValue) (b : BoardValue N) where
   -- what a board carries for the list that is being opened, by what the opening and the store were before
-  pub laid-same : (o' : Opening) (s' : StoreValue) (with : List Choice → List Choice) → IsSameOpening o o' s s' → IsFresh machine ask o s → IsLaid net content past max_marks b machine ask o.goal first (with (choices_by machine (choices_before s.entries o.parent)))
-      → IsLaid net content past max_marks b machine ask o'.goal first (with (choices_by machine (choices_before s'.entries o'.parent)))
+  pub laid-same : (o' : Opening) (s' : StoreValue) (with : List Choice → List Choice) → IsSameOpening o o' s s' → IsFresh machine ask o s → IsLaid reading b machine ask o.goal first (with (choices_by machine (choices_before s.entries o.parent)))
+      → IsLaid reading b machine ask o'.goal first (with (choices_by machine (choices_before s'.entries o'.parent)))
   laid-same o' s' with same fresh l =
-      subst (λ g. IsLaid net content past max_marks b machine ask g first (with (choices_by machine (choices_before s'.entries o'.parent)))) (sym same.goal)
-      (subst (λ cs. IsLaid net content past max_marks b machine ask o.goal first (with (choices_by machine cs))) (sym (before-same machine ask o o' s s' same fresh)) l)
+      subst (λ g. IsLaid reading b machine ask g first (with (choices_by machine (choices_before s'.entries o'.parent)))) (sym same.goal)
+      (subst (λ cs. IsLaid reading b machine ask o.goal first (with (choices_by machine cs))) (sym (before-same machine ask o o' s s' same fresh)) l)
 
   -- where all holds are placed, the child is looked at with its bound
   pub all-placed : (act : ActId) (choice : Stored) (places : List ℕ) (complete : Bool) (tick : ℕ) → choice.act ≡ Some act → choice.goal ≡ o.goal → places ≡ take (length (holds_of_act (action_at machine act.0))) choice.places → length (holds_of_act (action_at machine act.0)) ≤ length choice.places
-      → (IsTrue complete ↔ ((ask.origin ≡ FromFeeder) × IsStart machine ask first)) → IsLaid net content past max_marks b machine ask o.goal first (record { act = act; places = places } ∷ choices_by machine (choices_before s.entries o.parent))
+      → (IsTrue complete ↔ ((ask.origin ≡ FromFeeder) × IsStart machine ask first)) → IsLaid reading b machine ask o.goal first (record { act = act; places = places } ∷ choices_by machine (choices_before s.entries o.parent))
       → IsFresh machine ask o s → HasBounds machine ask s → IsAtProgress machine b.plans ask o s (up_to act.0 places) → HasLeastTick machine b (own 0) tick
       → (IsTrue complete → tick ≡ o.bound → ⊥) → IsInRange s tick × IsAtProgress machine b.plans ask o (after_keep o.parent choice tick complete s) (through act.0 places)
   all-placed act choice places complete tick has goal are many exactly l fresh bounds opening least other =
       let olds = choices_by machine (choices_before s.entries o.parent) in
       let child = going o.goal (record { act = act; places = places } ∷ olds) in
       let count : length places ≡ length (holds_of_act (action_at machine act.0)) = ap length are ∙ length-take-le (length (holds_of_act (action_at machine act.0))) choice.places many in
-      let bound = laid-bound net content past max_marks b machine ask o.goal first (record { act = act; places = places } ∷ olds) tick l count least in
-      let whole = laid-complete net content past max_marks b machine ask o.goal first (record { act = act; places = places } ∷ olds) l in
+      let bound = laid-bound reading b machine ask o.goal first (record { act = act; places = places } ∷ olds) tick l count least in
+      let whole = laid-complete reading b machine ask o.goal first (record { act = act; places = places } ∷ olds) l in
       let range = bound-range machine b.plans ask child tick bound in
       let is : child_by machine o.goal olds choice ≡ child = child_by-act machine o.goal olds choice act places has (sym are) in
       let base = bounds.0 in
@@ -90,24 +91,24 @@ module _ {N C : Type 0} (net : N → Net) (content : N → C) (past : N → List
       )
 
 -- a place is tried on a marked board, in the loop over the places
-module _ {N C A : Type 0} (net : N → Net) (content : N → C) (past : N → List C) (aside : N → A) (max_marks : N → ℕ) (machine : Machine) (ask : Ask) (first : State) (act : ActId) (o o1 : Opening) (s s1 : StoreValue) (b b1 b2 : BoardValue N) (mark : ℕ)
+module _ {N A : Type 0} (reading : Reading N) (untouched : N → A) (machine : Machine) (ask : Ask) (first : State) (act : ActId) (o o1 : Opening) (s s1 : StoreValue) (b b1 b2 : BoardValue N) (mark : ℕ)
     (places : List ℕ) (place : ℕ) (rule : HoldRule) where
   -- what holds before
   pub record IsTrying : Type 0 where
-    pub keeps : MarkKeeps net content past aside
-    pub undoes : UndoKeeps net content past aside
-    pub laid : IsLaid net content past max_marks b machine ask o.goal first (record { act = act; places = places } ∷ choices_by machine (choices_before s.entries o.parent))
+    pub keeps : MarkKeeps reading untouched
+    pub undoes : UndoKeeps reading untouched
+    pub laid : IsLaid reading b machine ask o.goal first (record { act = act; places = places } ∷ choices_by machine (choices_before s.entries o.parent))
     pub fresh : IsFresh machine ask o s
     pub is_rule : slice_get (holds_of_act (action_at machine act.0)) (length places) ≡ Some rule
     pub within : place ≤ length (order_after machine b.plans (suffix_of b) rule.resource.0)
     pub same : IsSameOpening o o1 s s1
-    pub back : IsBack net content past max_marks b b1 machine
+    pub back : IsBack reading b b1 machine
     pub progress : IsAtProgress machine b1.plans ask o1 s1 (up_to act.0 (places ++ place ∷ []))
-    pub marked : IsMarked net content past aside max_marks b1 b2 mark
+    pub marked : IsMarked reading untouched b1 b2 mark
 
   -- what holds after: the children under the place were looked at
   pub record IsTried (b3 : BoardValue N) (o2 : Opening) (s2 : StoreValue) : Type 0 where
-    pub since : IsSinceMark net content past aside max_marks b2 b3 machine
+    pub since : IsSinceMark reading untouched b2 b3 machine
     pub same : IsSameOpening o1 o2 s1 s2
     pub progress : IsAtProgress machine b2.plans ask o2 s2 (through act.0 (places ++ place ∷ []))
 
@@ -115,10 +116,10 @@ module _ {N C A : Type 0} (net : N → Net) (content : N → C) (past : N → Li
   tried-as b3 b4 o2 o3 s2 s3 board opening store r = subst (λ x. IsTried x o3 s3) (sym board) (subst (λ x. IsTried b3 x s3) (sym opening) (subst (λ x. IsTried b3 o2 x) (sym store) r))
 
   -- by what the calls before say
-  pub trying : (a : Action) (hold last : ℕ) → MarkKeeps net content past aside → UndoKeeps net content past aside
-      → IsLaid net content past max_marks b machine ask o.goal first (record { act = act; places = places } ∷ choices_by machine (choices_before s.entries o.parent)) → IsFresh machine ask o s
-      → action_at machine act.0 ≡ Some a → slice_get a.holds hold ≡ Some rule → length places ≡ hold → ((m : Machine) → Stands net content past b m → last ≡ length (order_after m b.plans (suffix_of b) rule.resource.0)) → place ≤ last
-      → IsSameOpening o o1 s s1 → IsBack net content past max_marks b b1 machine → IsAtProgress machine b1.plans ask o1 s1 (up_to act.0 (places ++ place ∷ [])) → IsMarked net content past aside max_marks b1 b2 mark → IsTrying
+  pub trying : (a : Action) (hold last : ℕ) → MarkKeeps reading untouched → UndoKeeps reading untouched
+      → IsLaid reading b machine ask o.goal first (record { act = act; places = places } ∷ choices_by machine (choices_before s.entries o.parent)) → IsFresh machine ask o s
+      → action_at machine act.0 ≡ Some a → slice_get a.holds hold ≡ Some rule → length places ≡ hold → ((m : Machine) → Stands reading b m → last ≡ length (order_after m b.plans (suffix_of b) rule.resource.0)) → place ≤ last
+      → IsSameOpening o o1 s s1 → IsBack reading b b1 machine → IsAtProgress machine b1.plans ask o1 s1 (up_to act.0 (places ++ place ∷ [])) → IsMarked reading untouched b1 b2 mark → IsTrying
   trying a hold last keeps undoes laid fresh is_act is_rule count counted test same back progress marked = record {
     keeps = keeps;
     undoes = undoes;
@@ -133,22 +134,22 @@ module _ {N C A : Type 0} (net : N → Net) (content : N → C) (past : N → Li
   }
 
   module _ (t : IsTrying) where
-    pub marked-laid : IsLaid net content past max_marks b2 machine ask o.goal first (record { act = act; places = places } ∷ choices_by machine (choices_before s.entries o.parent))
+    pub marked-laid : IsLaid reading b2 machine ask o.goal first (record { act = act; places = places } ∷ choices_by machine (choices_before s.entries o.parent))
     marked-laid =
         let olds = choices_by machine (choices_before s.entries o.parent) in
-        laid-marked net content past aside max_marks t.keeps b1 b2 mark machine ask o.goal first (record { act = act; places = places } ∷ olds) t.marked
-        (laid-back net content past max_marks b b1 machine ask o.goal first (record { act = act; places = places } ∷ olds) t.back t.laid)
+        laid-marked reading untouched t.keeps b1 b2 mark machine ask o.goal first (record { act = act; places = places } ∷ olds) t.marked
+        (laid-back reading b b1 machine ask o.goal first (record { act = act; places = places } ∷ olds) t.back t.laid)
 
-    pub marked-stands : Stands net content past b2 machine
+    pub marked-stands : Stands reading b2 machine
     marked-stands = marked-laid.stands
 
     plans-now : b2.plans ≡ b1.plans
-    plans-now = (load-of net content past aside max_marks b1 b2 t.marked.aside_same).plans
+    plans-now = (load-of reading untouched b1 b2 t.marked.untouched_same).plans
 
     order-now : order_after machine b2.plans (suffix_of b2) rule.resource.0 ≡ order_after machine b.plans (suffix_of b) rule.resource.0
     order-now =
         let plans : b2.plans ≡ b.plans = plans-now ∙ t.back.loaded.plans in
-        let suffix : suffix_of b2 ≡ suffix_of b = suffix-back net content past max_marks b1 b2 t.marked.content_same ∙ suffix-back net content past max_marks b b1 t.back.same_content in
+        let suffix : suffix_of b2 ≡ suffix_of b = suffix-back reading b1 b2 t.marked.content_same ∙ suffix-back reading b b1 t.back.same_content in
         λ i. order_after machine (plans i) (suffix i) rule.resource.0
 
     within-now : place ≤ length (order_after machine b2.plans (suffix_of b2) rule.resource.0)
@@ -158,37 +159,37 @@ module _ {N C A : Type 0} (net : N → Net) (content : N → C) (past : N → Li
     progress-now = subst (λ ps. IsAtProgress machine ps ask o1 s1 (up_to act.0 (places ++ place ∷ []))) (sym plans-now) t.progress
 
     pub may-place : IsSomeAnd (suffix_of b2) (λ x. CanPlace machine b2.plans x (length places) place)
-    may-place = can-place net content past max_marks b2 machine ask o.goal first (choices_by machine (choices_before s.entries o.parent)) act places marked-laid (length places) place rule refl t.is_rule within-now
+    may-place = can-place reading b2 machine ask o.goal first (choices_by machine (choices_before s.entries o.parent)) act places marked-laid (length places) place rule refl t.is_rule within-now
 
     -- the board with the place carries it
-    pub placed-laid : (b3 : BoardValue N) → IsSomeAnd (suffix_of b2) (λ x. suffix_of b3 ≡ Some (with_place place x)) → Stands net content past b3 machine → IsSameLoad b2 b3
-        → IsLaid net content past max_marks b3 machine ask o1.goal first (record { act = act; places = places ++ place ∷ [] } ∷ choices_by machine (choices_before s1.entries o1.parent))
+    pub placed-laid : (b3 : BoardValue N) → IsSomeAnd (suffix_of b2) (λ x. suffix_of b3 ≡ Some (with_place place x)) → Stands reading b3 machine → IsSameLoad b2 b3
+        → IsLaid reading b3 machine ask o1.goal first (record { act = act; places = places ++ place ∷ [] } ∷ choices_by machine (choices_before s1.entries o1.parent))
     placed-laid b3 put stands load =
         let olds = choices_by machine (choices_before s.entries o.parent) in
-        laid-same net content past max_marks machine ask first o s b3 o1 s1 (λ cs. record { act = act; places = places ++ place ∷ [] } ∷ cs) t.same t.fresh
-        (laid-place net content past max_marks b2 b3 machine ask o.goal first olds act places place rule marked-laid put stands load t.is_rule
-        (place-within net content past max_marks b2 machine ask o.goal first olds act places marked-laid place rule within-now))
+        laid-same reading machine ask first o s b3 o1 s1 (λ cs. record { act = act; places = places ++ place ∷ [] } ∷ cs) t.same t.fresh
+        (laid-place reading b2 b3 machine ask o.goal first olds act places place rule marked-laid put stands load t.is_rule
+        (place-within reading b2 machine ask o.goal first olds act places marked-laid place rule within-now))
 
     pub placed-progress : (b3 : BoardValue N) → IsSameLoad b2 b3 → IsAtProgress machine b3.plans ask o1 s1 (up_to act.0 (places ++ place ∷ []))
     placed-progress b3 load = subst (λ ps. IsAtProgress machine ps ask o1 s1 (up_to act.0 (places ++ place ∷ []))) (sym load.plans) progress-now
 
-    pub placed-marks : (count : ℕ) (b3 : BoardValue N) → HasMarks net content past max_marks (suc count) b → past_of past b3 ≡ past_of past b2 → max_marks b3.net ≡ max_marks b2.net → HasMarks net content past max_marks count b3
+    pub placed-marks : (count : ℕ) (b3 : BoardValue N) → HasMarks reading (suc count) b → past_of reading b3 ≡ past_of reading b2 → reading.max_marks b3.net ≡ reading.max_marks b2.net → HasMarks reading count b3
     placed-marks count b3 marks past_same room =
-        let one = ap length (past_same ∙ t.marked.past_more) ∙ length-append (past_of past b1) (content_of content b1 ∷ []) in
+        let one = ap length (past_same ∙ t.marked.past_more) ∙ length-append (past_of reading b1) (content_of reading b1 ∷ []) in
         let old = ap length t.back.same_past in
         let rooms = ap (λ n. n - 1) room ∙ t.marked.room_same ∙ t.back.marks in
         omega (arith, marks)
 
     -- a place that was refused
-    pub refused-since : (b3 : BoardValue N) → past_of past b3 ≡ past_of past b2 → IsSameLoad b2 b3 → max_marks b3.net ≡ max_marks b2.net → StandsBack net content past aside b3 machine → IsSinceMark net content past aside max_marks b2 b3 machine
+    pub refused-since : (b3 : BoardValue N) → past_of reading b3 ≡ past_of reading b2 → IsSameLoad b2 b3 → reading.max_marks b3.net ≡ reading.max_marks b2.net → StandsBack reading untouched b3 machine → IsSinceMark reading untouched b2 b3 machine
     refused-since b3 same load room back = record { past_same = same; load = load; room = ap (λ n. n - 1) room; back = λ s. back }
 
     -- the place is late
-    pub tried-late : (b3 : BoardValue N) → IsSinceMark net content past aside max_marks b2 b3 machine → IsSomeAnd (suffix_of b2) (λ x. HasNoTimes machine b2 (with_place place x)) → IsTried b3 o1 s1
+    pub tried-late : (b3 : BoardValue N) → IsSinceMark reading untouched b2 b3 machine → IsSomeAnd (suffix_of b2) (λ x. HasNoTimes machine b2 (with_place place x)) → IsTried b3 o1 s1
     tried-late b3 since late = record {
       since = since;
       same = same-itself o1 s1;
-      progress = place-late net content past max_marks b2 machine ask o.goal first (choices_by machine (choices_before s.entries o.parent)) act places marked-laid rule t.is_rule o1 s1
+      progress = place-late reading b2 machine ask o.goal first (choices_by machine (choices_before s.entries o.parent)) act places marked-laid rule t.is_rule o1 s1
           (parent-same machine ask o o1 s s1 t.same t.fresh) place within-now late progress-now;
     }
 
@@ -199,28 +200,28 @@ module _ {N C A : Type 0} (net : N → Net) (content : N → C) (past : N → Li
         let parent = parent-same machine ask o o1 s s1 t.same t.fresh in
         let olds = choices_by machine (choices_before s.entries o.parent) in
         subst (λ ps. IsAtProgress machine ps ask o1 s1 (through act.0 places)) plans
-        (places-end net content past max_marks b2 machine ask o.goal first olds act places marked-laid rule t.is_rule o1 s1 parent few
-        (places-shut net content past max_marks b2 machine ask o.goal first olds act places marked-laid rule t.is_rule o1 s1 parent place within-now late progress-now))
+        (places-end reading b2 machine ask o.goal first olds act places marked-laid rule t.is_rule o1 s1 parent few
+        (places-shut reading b2 machine ask o.goal first olds act places marked-laid rule t.is_rule o1 s1 parent place within-now late progress-now))
 
     -- the holds behind it were placed
-    pub tried-placed : (b3 b4 : BoardValue N) (o2 : Opening) (s2 : StoreValue) → IsSince net content past max_marks b2 b3 machine → IsSameOpening o1 o2 s1 s2 → IsBack net content past max_marks b3 b4 machine
+    pub tried-placed : (b3 b4 : BoardValue N) (o2 : Opening) (s2 : StoreValue) → IsSince reading b2 b3 machine → IsSameOpening o1 o2 s1 s2 → IsBack reading b3 b4 machine
         → IsAtProgress machine b3.plans ask o2 s2 (through act.0 (places ++ place ∷ [])) → IsTried b4 o2 s2
     tried-placed b3 b4 o2 s2 since same back progress = record {
-      since = since-mark net content past aside max_marks t.undoes b2 b4 machine (since-back net content past max_marks b2 b3 b4 machine since back);
+      since = since-mark reading untouched t.undoes b2 b4 machine (since-back reading b2 b3 b4 machine since back);
       same = same;
       progress = subst (λ ps. IsAtProgress machine ps ask o2 s2 (through act.0 (places ++ place ∷ []))) since.load.plans progress;
     }
 
     -- an answer was found behind it
-    pub found-now : (b3 b4 : BoardValue N) → past_of past b3 ≡ past_of past b2 → IsSameLoad b2 b3 → max_marks b3.net ≡ max_marks b2.net → HasFound net content past max_marks b3 b4 machine ask o1.bound → HasFound net content past max_marks b b4 machine ask o.bound
+    pub found-now : (b3 b4 : BoardValue N) → past_of reading b3 ≡ past_of reading b2 → IsSameLoad b2 b3 → reading.max_marks b3.net ≡ reading.max_marks b2.net → HasFound reading b3 b4 machine ask o1.bound → HasFound reading b b4 machine ask o.bound
     found-now b3 b4 same load room found =
-        let further = further-trans net content past max_marks b b1 b2 (further-back net content past max_marks b b1 machine t.back) (further-marked net content past aside max_marks b1 b2 mark t.marked) in
-        found-further net content past max_marks b b3 b4 machine ask o.bound (further-step net content past max_marks b b2 b3 further same load room) (subst (HasFound net content past max_marks b3 b4 machine ask) t.same.bound found)
+        let further = further-trans reading b b1 b2 (further-back reading b b1 machine t.back) (further-marked reading untouched b1 b2 mark t.marked) in
+        found-further reading b b3 b4 machine ask o.bound (further-step reading b b2 b3 further same load room) (subst (HasFound reading b3 b4 machine ask) t.same.bound found)
 
     module _ (b3 b4 : BoardValue N) (o2 : Opening) (s2 : StoreValue) (r : IsTried b3 o2 s2) where
       -- it is taken back
-      pub back-now : IsUndone net content past aside max_marks b3 b4 mark → IsBack net content past max_marks b b4 machine
-      back-now undone = back-trans net content past max_marks b b1 b4 machine t.back (mark-back net content past aside max_marks t.keeps b1 b2 b3 b4 machine mark t.marked r.since undone)
+      pub back-now : IsUndone reading untouched b3 b4 mark → IsBack reading b b4 machine
+      back-now undone = back-trans reading b b1 b4 machine t.back (mark-back reading untouched t.keeps b1 b2 b3 b4 machine mark t.marked r.since undone)
 
       pub same-now : IsSameOpening o o2 s s2
       same-now = same-trans o o1 o2 s s1 s2 t.same r.same
@@ -231,7 +232,7 @@ module _ {N C A : Type 0} (net : N → Net) (content : N → C) (past : N → Li
           subst (λ ps. IsAtProgress machine ps ask o2 s2 (through act.0 (places ++ place ∷ []))) plans r.progress
 
       -- the place before is next
-      pub next-now : (before : ℕ) → place ≡ suc before → IsBack net content past max_marks b b4 machine → IsAtProgress machine b4.plans ask o2 s2 (up_to act.0 (places ++ before ∷ []))
+      pub next-now : (before : ℕ) → place ≡ suc before → IsBack reading b b4 machine → IsAtProgress machine b4.plans ask o2 s2 (up_to act.0 (places ++ before ∷ []))
       next-now before is back =
           subst (λ ps. IsAtProgress machine ps ask o2 s2 (up_to act.0 (places ++ before ∷ []))) (sym back.loaded.plans)
           (opening-next machine b.plans ask o2 s2 act.0 places before (subst (λ n. IsAtProgress machine b.plans ask o2 s2 (through act.0 (places ++ n ∷ []))) is at-place))
@@ -239,16 +240,16 @@ module _ {N C A : Type 0} (net : N → Net) (content : N → C) (past : N → Li
       -- or there is none
       pub end-now : place ≡ 0 → length places < length (holds_of_act (action_at machine act.0)) → IsAtProgress machine b.plans ask o2 s2 (through act.0 places)
       end-now is few =
-          places-end net content past max_marks b machine ask o.goal first (choices_by machine (choices_before s.entries o.parent)) act places t.laid rule t.is_rule o2 s2
+          places-end reading b machine ask o.goal first (choices_by machine (choices_before s.entries o.parent)) act places t.laid rule t.is_rule o2 s2
           (parent-same machine ask o o2 s s2 same-now t.fresh) few (subst (λ n. IsAtProgress machine b.plans ask o2 s2 (through act.0 (places ++ n ∷ []))) is at-place)
 
 -- the last place is the first that is tried
-pub begin-now : {N C : Type 0} (net : N → Net) (content : N → C) (past : N → List C) (max_marks : N → ℕ) (machine : Machine) (ask : Ask) (first : State) (act : ActId) (o : Opening) (s : StoreValue) (b : BoardValue N) (places : List ℕ) (rule : HoldRule)
-    → IsLaid net content past max_marks b machine ask o.goal first (record { act = act; places = places } ∷ choices_by machine (choices_before s.entries o.parent)) → IsFresh machine ask o s
-    → slice_get (holds_of_act (action_at machine act.0)) (length places) ≡ Some rule → (last : ℕ) → ((m : Machine) → Stands net content past b m → last ≡ length (order_after m b.plans (suffix_of b) rule.resource.0))
+pub begin-now : {N : Type 0} (reading : Reading N) (machine : Machine) (ask : Ask) (first : State) (act : ActId) (o : Opening) (s : StoreValue) (b : BoardValue N) (places : List ℕ) (rule : HoldRule)
+    → IsLaid reading b machine ask o.goal first (record { act = act; places = places } ∷ choices_by machine (choices_before s.entries o.parent)) → IsFresh machine ask o s
+    → slice_get (holds_of_act (action_at machine act.0)) (length places) ≡ Some rule → (last : ℕ) → ((m : Machine) → Stands reading b m → last ≡ length (order_after m b.plans (suffix_of b) rule.resource.0))
     → IsAtProgress machine b.plans ask o s (up_to act.0 places) → IsAtProgress machine b.plans ask o s (up_to act.0 (places ++ last ∷ []))
-begin-now net content past max_marks machine ask first act o s b places rule laid fresh is_rule last counted progress =
+begin-now reading machine ask first act o s b places rule laid fresh is_rule last counted progress =
     let c = counted machine laid.stands in
     opening-next machine b.plans ask o s act.0 places last
-    (places-begin net content past max_marks b machine ask o.goal first (choices_by machine (choices_before s.entries o.parent)) act places laid rule is_rule o s
+    (places-begin reading b machine ask o.goal first (choices_by machine (choices_before s.entries o.parent)) act places laid rule is_rule o s
     (parent-same machine ask o o s s (same-itself o s) fresh) (suc last) (omega (arith, c)) progress)

@@ -42,7 +42,7 @@ module _ (machine : Machine) (plans : List Plan) (ask : Ask) (goals : List OpenG
       ends machine plans ask legal asked (subst (IsFrontier machine plans ask) none front)
 
   -- nor are there more open lists with choices than nodes
-  pub searching-few : EndedHasFew → length s.entries ≤ s.room → goals ≡ [] → s.waits ≡ [] → FewListsOpen machine plans ask s.room
+  pub searching-few : EndedHasFew → length s.entries ≤ s.capacity → goals ≡ [] → s.waits ≡ [] → FewListsOpen machine plans ask s.capacity
   searching-few ended within no-goals no-nodes lists differ each =
       let none : waiting_in machine goals s ≡ [] = ap (λ gs. map list_of_goal gs ++ map (list_at machine s.entries) s.waits) no-goals ∙ ap (map (list_at machine s.entries)) no-nodes in
       let few =

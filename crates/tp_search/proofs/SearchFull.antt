@@ -103,9 +103,9 @@ module _ (machine : Machine) (plans : List Plan) (ask : Ask) (goals : List OpenG
         }
 
     -- so the budget is spent
-    pub searching-full : FullSpends → IsLegal machine plans → IsAsked machine plans ask → IsSpent machine plans ask s.room (next_bound s next)
+    pub searching-full : FullSpends → IsLegal machine plans → IsAsked machine plans ask → IsSpent machine plans ask s.capacity (next_bound s next)
     searching-full spends legal asked =
-        let many : length (lists_by machine s''.entries) ≡ s''.room = length-map s''.entries (λ (e : Entry). list_by machine e.choices) ∙ (at-end.spent full).all in
-        let room = many ∙ same.grows.room ∙ ap (λ (t : StoreValue). t.room) known.same in
+        let many : length (lists_by machine s''.entries) ≡ s''.capacity = length-map s''.entries (λ (e : Entry). list_by machine e.choices) ∙ (at-end.spent full).all in
+        let room = many ∙ same.grows.capacity ∙ ap (λ (t : StoreValue). t.capacity) known.same in
         subst (λ n. IsSpent machine plans ask n (next_bound s next)) room
         (spends machine plans ask (waiting_in machine goals s) searching.opened (lists_by machine s''.entries) last (next_bound s next) legal asked is-full)

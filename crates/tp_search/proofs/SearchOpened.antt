@@ -30,13 +30,13 @@ use Rattle.tp_search.proofs.SearchParents.{child-looked, child-some, one-parent}
 -- the opening of the next list, whose children were all looked at
 abbrev pub IsOpenedToEnd : Machine → List Plan → Ask → StoreValue → Next → StoreValue → Type 0
 IsOpenedToEnd machine plans ask s next s'' =
-    IsOpening machine plans ask (next_list machine s next) (next_bound s next) (choices_before s.entries (next_node next)) s.entries (up_to (length machine.actions) []) s''.entries s''.room s''.full s''.best
+    IsOpening machine plans ask (next_list machine s next) (next_bound s next) (choices_before s.entries (next_node next)) s.entries (up_to (length machine.actions) []) s''.entries s''.capacity s''.full s''.best
 
 module _ (machine : Machine) (plans : List Plan) (ask : Ask) (goals : List OpenGoal) (s : StoreValue) (bound : ℕ) (goals' : List OpenGoal) (s' : StoreValue) (next : Next)
     (searching : IsSearching machine plans ask goals s bound) (known : IsKnownNext machine plans ask goals s bound goals' s' next) (not : ¬ IsComplete machine ask (next_list machine s next)) where
   -- an opening, said of the list that was taken and of the entries as they were then
   pub next-opening : (o' : Opening) (s'' : StoreValue) (p : Progress) → IsSameOpening (opening_of machine s next) o' s' s'' → IsAtProgress machine plans ask o' s'' p
-      → IsOpening machine plans ask (next_list machine s next) (next_bound s next) (choices_before s.entries (next_node next)) s.entries p s''.entries s''.room s''.full s''.best
+      → IsOpening machine plans ask (next_list machine s next) (next_bound s next) (choices_before s.entries (next_node next)) s.entries p s''.entries s''.capacity s''.full s''.best
   next-opening o' s'' p same progress =
       let o = opening_of machine s next in
       let list = next_list machine s next in
@@ -46,10 +46,10 @@ module _ (machine : Machine) (plans : List Plan) (ask : Ask) (goals : List OpenG
       let is-list = parent-same machine ask o o' s' s'' same fresh ∙ ap (λ es. parent_of machine es list.goal (next_node next)) entries ∙ sym (next-going machine plans ask goals s bound goals' s' next searching known not) in
       let is-before = before-same machine ask o o' s' s'' same fresh ∙ ap (λ es. choices_before es (next_node next)) entries in
       let is-base = stored-same machine ask o o' s' s'' same fresh ∙ ap (take (length s.entries)) entries ∙ take_all (length s.entries) s.entries (omega arith) in
-      let first = subst (λ l. IsOpening machine plans ask l o'.bound (choices_before s''.entries o'.parent) (take o'.stored s''.entries) p s''.entries s''.room s''.full s''.best) is-list progress in
-      let second = subst (λ b. IsOpening machine plans ask list b (choices_before s''.entries o'.parent) (take o'.stored s''.entries) p s''.entries s''.room s''.full s''.best) same.bound first in
-      let third = subst (λ cs. IsOpening machine plans ask list (next_bound s next) cs (take o'.stored s''.entries) p s''.entries s''.room s''.full s''.best) is-before second in
-      subst (λ es. IsOpening machine plans ask list (next_bound s next) before es p s''.entries s''.room s''.full s''.best) is-base third
+      let first = subst (λ l. IsOpening machine plans ask l o'.bound (choices_before s''.entries o'.parent) (take o'.stored s''.entries) p s''.entries s''.capacity s''.full s''.best) is-list progress in
+      let second = subst (λ b. IsOpening machine plans ask list b (choices_before s''.entries o'.parent) (take o'.stored s''.entries) p s''.entries s''.capacity s''.full s''.best) same.bound first in
+      let third = subst (λ cs. IsOpening machine plans ask list (next_bound s next) cs (take o'.stored s''.entries) p s''.entries s''.capacity s''.full s''.best) is-before second in
+      subst (λ es. IsOpening machine plans ask list (next_bound s next) before es p s''.entries s''.capacity s''.full s''.best) is-base third
 
   pub opened : (o' : Opening) (s'' : StoreValue) → IsSameOpening (opening_of machine s next) o' s' s'' → IsAtProgress machine plans ask o' s'' (up_to (length machine.actions) [])
       → IsOpenedToEnd machine plans ask s next s''

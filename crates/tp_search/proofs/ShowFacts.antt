@@ -2,6 +2,7 @@
 use Rattle.std.proofs.Common.{◌≡◌, ℕ, ◌+◌, ◌≤◌, Bool, true, false, not, ◌||◌, List, length, Contains, refl, sym, ap, subst, ◌∙◌, arith, None}
 use Rattle.std.specs.Prelude.{pos, ◌-ℤ◌}
 use Rattle.std.proofs.lemmas.Int.{ints}
+use Rattle.tp_base.specs.Readings.{Reading}
 use Rattle.tp_base.specs.Net.{Net}
 use Rattle.tp_bounds.specs.declared.tree.BoundTree.{BoundTree}
 use Rattle.tp_machine.specs.declared.machine.Machine.{Machine}
@@ -74,17 +75,17 @@ never-early machine live ask last none e = none e.answer e.alternative
 pub earlier-none : (machine : Machine) (live : List Plan) (ask : Ask) (end last : ℕ) → end ≡ last + 1 → NoneBefore machine live ask end → ¬ EndsBy machine live ask last
 earlier-none machine live ask end last one none e = let le = none e.answer e.alternative in let by = e.by in omega (arith, one, le, by)
 
-module _ {N C : Type 0} (net : N → Net) (content : N → C) (past : N → List C) (max_marks : N → ℕ) where
+module _ {N : Type 0} (reading : Reading N) where
   -- a board that a tree was shown on is as before
-  pub back-shown : (b b' : BoardValue N) (machine : Machine) → Shown.IsBack net content past max_marks b b' machine → IsBack net content past max_marks b b' machine
+  pub back-shown : (b b' : BoardValue N) (machine : Machine) → Shown.IsBack reading b b' machine → IsBack reading b b' machine
   back-shown b b' machine back = record { same_content = back.content_same; same_past = back.since.past_same; loaded = back.since.load; marks = back.since.room; stands = back.since.stands }
 
   -- the board that is ready stands on its ask
-  pub ready-on : (b : BoardValue N) (machine : Machine) (ask : Ask) → IsReady net content past max_marks b machine ask → StandsOn net content past b machine ask
-  ready-on b machine ask ready = let same : ready.stands.0 ≡ ask = let one = ready.stands.1.asked in let two = ready.asked in cc in subst (StandsOn net content past b machine) same ready.stands.1
+  pub ready-on : (b : BoardValue N) (machine : Machine) (ask : Ask) → IsReady reading b machine ask → StandsOn reading b machine ask
+  ready-on b machine ask ready = let same : ready.stands.0 ≡ ask = let one = ready.stands.1.asked in let two = ready.asked in cc in subst (StandsOn reading b machine) same ready.stands.1
 
   -- an asked copy keeps at most 64 actions
-  pub kept-few : (b : BoardValue N) (machine : Machine) (ask : Ask) → IsReady net content past max_marks b machine ask → kept_of ask ≤ 64
+  pub kept-few : (b : BoardValue N) (machine : Machine) (ask : Ask) → IsReady reading b machine ask → kept_of ask ≤ 64
   kept-few b machine ask ready =
       let on = ready-on b machine ask ready in
       let few : AreFewSteps (kept_of ask) None (length b.steps) = subst (λ o. AreFewSteps (kept_of ask) o (length b.steps)) ready.closed on.now.few_steps in

@@ -1,6 +1,7 @@
 -- A step of a search on a board with a mark: what stands, and what it leaves.
 use Rattle.std.proofs.Common.{◌≡◌, ℕ, List, ◌∷◌, ◌++◌, length, Some, sym, ap, subst, ◌∙◌}
 use Rattle.std.proofs.lemmas.Option.{same_Some}
+use Rattle.tp_base.specs.Readings.{Reading}
 use Rattle.tp_base.specs.Net.{Net}
 use Rattle.tp_machine.specs.declared.machine.Machine.{Machine}
 use Rattle.tp_schedule.specs.Answers.{IsAlternative, IsAsked, NoneBefore}
@@ -18,32 +19,32 @@ use Rattle.tp_search.specs.declared.searching.Outcome.{Outcome}
 use Rattle.tp_search.specs.declared.searching.Outcome.TheVariants.{Found, Never, Spent}
 use Rattle.tp_search.proofs.BoardSteps.{IsMarked, back-trans, load-of, load-trans, suffix-back}
 
-module _ {N C : Type 0} (net : N → Net) (content : N → C) (past : N → List C) where
+module _ {N : Type 0} (reading : Reading N) where
   -- the plans are legal, and the ask can be put on them
-  pub stands-legal : (b : BoardValue N) (machine : Machine) → Stands net content past b machine → IsLegal machine b.plans
+  pub stands-legal : (b : BoardValue N) (machine : Machine) → Stands reading b machine → IsLegal machine b.plans
   stands-legal b machine stands = stands.1.loadable.legal
 
-  pub stands-asked : (b : BoardValue N) (machine : Machine) (ask : Ask) → Stands net content past b machine → b.ask ≡ Some ask → IsAsked machine b.plans ask
+  pub stands-asked : (b : BoardValue N) (machine : Machine) (ask : Ask) → Stands reading b machine → b.ask ≡ Some ask → IsAsked machine b.plans ask
   stands-asked b machine ask stands asked = subst (IsAsked machine b.plans) (same_Some stands.0 ask (sym stands.1.asked ∙ asked)) stands.1.origin
 
-module _ {N C A : Type 0} (net : N → Net) (content : N → C) (past : N → List C) (aside : N → A) (max_marks : N → ℕ) where
+module _ {N A : Type 0} (reading : Reading N) (untouched : N → A) where
   -- a mark leaves a board ready
-  pub marked-ready : MarkKeeps net content past aside → (b b' : BoardValue N) (machine : Machine) (ask : Ask) (mark : ℕ) → IsMarked net content past aside max_marks b b' mark → IsReady net content past max_marks b machine ask → IsReady net content past max_marks b' machine ask
+  pub marked-ready : MarkKeeps reading untouched → (b b' : BoardValue N) (machine : Machine) (ask : Ask) (mark : ℕ) → IsMarked reading untouched b b' mark → IsReady reading b machine ask → IsReady reading b' machine ask
   marked-ready keeps b b' machine ask mark m r = record {
-    stands = keeps b b' machine m.content_same m.aside_same m.past_more r.stands;
-    asked = (load-of net content past aside max_marks b b' m.aside_same).ask ∙ r.asked;
-    closed = suffix-back net content past max_marks b b' m.content_same ∙ r.closed;
+    stands = keeps b b' machine m.content_same m.untouched_same m.past_more r.stands;
+    asked = (load-of reading untouched b b' m.untouched_same).ask ∙ r.asked;
+    closed = suffix-back reading b b' m.content_same ∙ r.closed;
   }
 
-module _ {N C : Type 0} (net : N → Net) (content : N → C) (past : N → List C) (max_marks : N → ℕ) where
+module _ {N : Type 0} (reading : Reading N) where
   -- what a search comes to from a board that is back, it comes to from the board before
-  pub outcome-back : (b b1 b2 : BoardValue N) (machine : Machine) (ask : Ask) (nodes : ℕ) (outcome : Outcome) → IsBack net content past max_marks b b1 machine → IsOutcome net content past max_marks b1 b2 machine ask nodes outcome
-      → IsOutcome net content past max_marks b b2 machine ask nodes outcome
+  pub outcome-back : (b b1 b2 : BoardValue N) (machine : Machine) (ask : Ask) (nodes : ℕ) (outcome : Outcome) → IsBack reading b b1 machine → IsOutcome reading b1 b2 machine ask nodes outcome
+      → IsOutcome reading b b2 machine ask nodes outcome
   outcome-back b b1 b2 machine ask nodes (Found base) back a = record {
     number = a.number ∙ ap length back.same_past;
     kept = a.kept;
     past_more = a.past_more ∙ (λ i. back.same_past i ++ back.same_content i ∷ a.kept);
-    loaded = load-trans net content past max_marks b b1 b2 back.loaded a.loaded;
+    loaded = load-trans reading b b1 b2 back.loaded a.loaded;
     marks = a.marks ∙ back.marks;
     first = a.first;
     list = a.list;
@@ -55,10 +56,10 @@ module _ {N C : Type 0} (net : N → Net) (content : N → C) (past : N → List
   }
   outcome-back b b1 b2 machine ask nodes Never back a = (
     subst (λ ps. (plans' : List Plan) → ¬ IsAlternative machine ps ask plans') back.loaded.plans a.0,
-    back-trans net content past max_marks b b1 b2 machine back a.1,
+    back-trans reading b b1 b2 machine back a.1,
     subst (λ ps. FewListsOpen machine ps ask nodes) back.loaded.plans a.2,
   )
   outcome-back b b1 b2 machine ask nodes (Spent bound) back a = (
     subst (λ ps. IsSpent machine ps ask nodes bound) back.loaded.plans a.0,
-    back-trans net content past max_marks b b1 b2 machine back a.1,
+    back-trans reading b b1 b2 machine back a.1,
   )

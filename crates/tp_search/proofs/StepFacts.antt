@@ -3,6 +3,7 @@ use Rattle.std.proofs.Common.{◌≡◌, ℕ, true, false, ◌+◌, ◌<◌, ◌
 use Rattle.std.specs.declared.alloc.Global.{Global}
 use Rattle.std.proofs.lemmas.List.{length-append}
 use Rattle.std.proofs.lemmas.List.Elements.{All-contains}
+use Rattle.tp_base.specs.Readings.{Reading}
 use Rattle.tp_base.specs.Net.{Net}
 use Rattle.tp_machine.specs.Machines.{IsMachine}
 use Rattle.tp_machine.specs.declared.machine.Machine.{Machine}
@@ -41,7 +42,7 @@ use Rattle.tp_search.proofs.StoreFacts.{as-long}
 
 pub space-trans : (gs gs' gs'' : Vec OpenGoal Global) (s s' s'' : StoreValue) → IsSameSpace gs gs' s s' → IsSameSpace gs' gs'' s' s'' → IsSameSpace gs gs'' s s''
 space-trans gs gs' gs'' s s' s'' first second = record {
-  room = second.room ∙ first.room;
+  capacity = second.capacity ∙ first.capacity;
   width = second.width ∙ first.width;
   space = (let a = first.space in let b = second.space in omega arith);
 }
@@ -79,8 +80,8 @@ module _ (machine : Machine) (plans : List Plan) (ask : Ask) (goals : List OpenG
     go (Goal g) parent = tt
     go (Node n) parent = parent
 
-  pub room-same : s'.room ≡ s.room
-  room-same = ap (λ (t : StoreValue). t.room) known.same
+  pub room-same : s'.capacity ≡ s.capacity
+  room-same = ap (λ (t : StoreValue). t.capacity) known.same
 
   later-then : IsBestLater s' (next_bound s' next) → IsBestLater s (next_bound s next)
   later-then later = subst (IsBestLater s) bound-same (subst (λ t. IsBestLater t (next_bound s' next)) known.same later)
@@ -124,7 +125,7 @@ module _ (machine : Machine) (plans : List Plan) (ask : Ask) (goals : List OpenG
 
     -- while it was opened, lists were stored
     pub space-then : (s'' : StoreValue) → StoreGrows s' s'' → (gs gs' : Vec OpenGoal Global) → IsSameSpace gs gs' s s' → IsSameSpace gs gs' s s''
-    space-then s'' grows gs gs' taken = record { room = grows.room ∙ taken.room; width = grows.width ∙ taken.width; space = taken.space }
+    space-then s'' grows gs gs' taken = record { capacity = grows.capacity ∙ taken.capacity; width = grows.width ∙ taken.width; space = taken.space }
 
     -- it was opened
     module _ (s'' : StoreValue) (all : IsAllOpened machine plans ask s' next s'') where
@@ -134,14 +135,14 @@ module _ (machine : Machine) (plans : List Plan) (ask : Ask) (goals : List OpenG
       same : IsSameOpening (opening_of machine s next) o s' s''
       same = subst (λ x. IsSameOpening x o s' s'') opening-same (record { goal = refl; parent = refl; bound = refl; stored = refl; grows = all.grows })
 
-      grown-by : IsOpening machine plans ask (next_list machine s next) (next_bound s next) (choices_before s.entries (next_node next)) s.entries (up_to (length machine.actions) []) s''.entries s''.room s''.full s''.best
+      grown-by : IsOpening machine plans ask (next_list machine s next) (next_bound s next) (choices_before s.entries (next_node next)) s.entries (up_to (length machine.actions) []) s''.entries s''.capacity s''.full s''.best
       grown-by = next-opening machine plans ask goals s bound goals' s' next searching known incomplete o s'' (up_to (length machine.actions) []) same all.progress
 
-      room-then : s''.room ≡ s.room
-      room-then = all.grows.room ∙ room-same
+      room-then : s''.capacity ≡ s.capacity
+      room-then = all.grows.capacity ∙ room-same
 
-      pub step-full : s''.full ≡ true → IsLegal machine plans → IsAsked machine plans ask → IsSpent machine plans ask s.room (next_bound s' next)
-      step-full full legal asked = subst (IsSpent machine plans ask s.room) (sym bound-same)
+      pub step-full : s''.full ≡ true → IsLegal machine plans → IsAsked machine plans ask → IsSpent machine plans ask s.capacity (next_bound s' next)
+      step-full full legal asked = subst (IsSpent machine plans ask s.capacity) (sym bound-same)
           (searching-full machine plans ask goals s bound searching goals' s' next is-next incomplete o s'' same all.progress full (later-then later) full_spends legal asked)
 
       pub step-on : s''.full ≡ false → IsSearching machine plans ask goals' s'' (next_bound s' next)
@@ -149,12 +150,12 @@ module _ (machine : Machine) (plans : List Plan) (ask : Ask) (goals : List OpenG
           (searching-on machine plans ask goals s bound goals' s' next o s'' searching is-next incomplete parent_bound same all.progress not-full)
 
       -- a board that carries the list holds it: what was stored since are its children
-      pub step-holds : {N C : Type 0} (net : N → Net) (content : N → C) (past : N → List C) (b : BoardValue N) (held : Held) → HasList net content past b machine ask held.laid.first (next_list machine s' next) → held.stored ≡ length s'.entries
-          → HoldsList net content past b machine ask s'' held
-      step-holds net content past b held laid stored = record {
+      pub step-holds : {N : Type 0} (reading : Reading N) (b : BoardValue N) (held : Held) → HasList reading b machine ask held.laid.first (next_list machine s' next) → held.stored ≡ length s'.entries
+          → HoldsList reading b machine ask s'' held
+      step-holds reading b held laid stored = record {
         goal = (next_list machine s next).goal;
         before = choices_before s.entries (next_node next);
-        laid = subst (HasList net content past b machine ask held.laid.first) (list-same ∙ next-going machine plans ask goals s bound goals' s' next searching known incomplete) laid;
+        laid = subst (HasList reading b machine ask held.laid.first) (list-same ∙ next-going machine plans ask goals s bound goals' s' next searching known incomplete) laid;
         children = λ node from within. child node (subst (λ n. n ≤ node) (stored ∙ ap (λ (t : StoreValue). length t.entries) known.same) from) within;
       } where
         child : (node : ℕ) → length s.entries ≤ node → node < length s''.entries → IsOneMore (next_list machine s next).goal (choices_before s.entries (next_node next)) (choices_of s''.entries node)
@@ -163,7 +164,7 @@ module _ (machine : Machine) (plans : List Plan) (ask : Ask) (goals : List OpenG
             (entry-new machine goals s s'' grown-by.new grown-by.grown node from within) in
             record { newest = e.newest; same = e.choices; same_goal = e.goal }
 
-      pub step-less : length s''.entries ≤ s''.room → still_to_take goals' s'' < still_to_take goals s
+      pub step-less : length s''.entries ≤ s''.capacity → still_to_take goals' s'' < still_to_take goals s
       step-less within =
           let entries = ap (λ (t : StoreValue). length t.entries) known.same in
           let rooms = room-then in
@@ -177,5 +178,5 @@ module _ (machine : Machine) (plans : List Plan) (ask : Ask) (goals : List OpenG
             go (Goal g) is = (let out = is.out.0 in let there = ap length out.there in let rest = ap length out.rest in let l = length-append out.before (g ∷ out.after) in let r = length-append out.before out.after in let w = ap (λ (t : StoreValue). length t.waits) is.out.1 in omega arith)
             go (Node n) is = (let f = is.out.1.fewer in let l = ap length is.out.0 in omega arith)
 
-          taken-less : length s'.entries ≡ length s.entries → s''.room ≡ s.room → length s''.waits + length s'.entries ≡ length s'.waits + length s''.entries → length s'.entries ≤ length s''.entries → still_to_take goals' s'' < still_to_take goals s
+          taken-less : length s'.entries ≡ length s.entries → s''.capacity ≡ s.capacity → length s''.waits + length s'.entries ≡ length s'.waits + length s''.entries → length s'.entries ≤ length s''.entries → still_to_take goals' s'' < still_to_take goals s
           taken-less entries rooms grows longer = (let less = one-taken in omega arith)

@@ -1,6 +1,7 @@
 -- The steps of opening the stopped list: it is no child, or it is late, or it is looked at with its bound.
 use Rattle.std.proofs.Common.{◌≡◌, ◌≢◌, ◌↔◌, ◌⊎◌, inl, inr, ◌<◌, ◌≤◌, ℕ, true, false, IsTrue, IsSomeAnd, List, [], ◌∷◌, length, Some, None, refl, sym, ap, subst, ◌∙◌, arith}
 use Rattle.std.proofs.lemmas.List.{nil_from_length}
+use Rattle.tp_base.specs.Readings.{Reading}
 use Rattle.tp_base.specs.Net.{Net}
 use Rattle.tp_machine.specs.declared.parts.State.{State}
 use Rattle.tp_machine.specs.declared.machine.Machine.{Machine}
@@ -75,23 +76,23 @@ module _ (machine : Machine) (plans : List Plan) (ask : Ask) (o : Opening) (s : 
   empty-going state end kept is none opening =
       opening-going machine plans ask o s (λ can opens. (subst (CanStop machine ask (parent_of machine s.entries o.goal o.parent)) is can).0 (nil_from_length _ none)) opening
 
-module _ {N C : Type 0} (net : N → Net) (content : N → C) (past : N → List C) (max_marks : N → ℕ) (machine : Machine) (ask : Ask) (first : State) (o : Opening) (s : StoreValue) (state : State) (end kept : ℕ)
-    (is : ask.origin ≡ FromFront state end kept) (b : BoardValue N) (l : IsLaid net content past max_marks b machine ask o.goal first (choices_by machine (choices_before s.entries o.parent))) where
+module _ {N : Type 0} (reading : Reading N) (machine : Machine) (ask : Ask) (first : State) (o : Opening) (s : StoreValue) (state : State) (end kept : ℕ)
+    (is : ask.origin ≡ FromFront state end kept) (b : BoardValue N) (l : IsLaid reading b machine ask o.goal first (choices_by machine (choices_before s.entries o.parent))) where
   abbrev olds : List Choice
   olds = choices_by machine (choices_before s.entries o.parent)
 
   -- nor one that does not come to the front's state
   pub other-going : state ≢ first → IsAtProgress machine b.plans ask o s nothing → IsAtProgress machine b.plans ask o s (up_to 0 [])
   other-going other opening =
-      let w = the-way net content past max_marks b machine ask o.goal first olds l in
+      let w = the-way reading b machine ask o.goal first olds l in
       opening-going machine b.plans ask o s (λ can opens. other (leads w (subst (CanStop machine ask (parent_of machine s.entries o.goal o.parent)) is can).1)) opening where
-        leads : (w : TheWay net content past max_marks b machine ask o.goal first olds) → walk machine ask.want (acts_of olds) state ≡ Some o.goal → state ≡ first
+        leads : (w : TheWay reading b machine ask o.goal first olds) → walk machine ask.want (acts_of olds) state ≡ Some o.goal → state ≡ first
         leads w walks = first-only machine b.plans ask o.goal first w.x state w.is.way (subst (λ cs. walk machine ask.want (acts_of cs) state ≡ Some o.goal) (sym w.is.same) walks)
 
   -- nor one that is late
   pub late-going : IsSomeAnd (suffix_of b) (λ x. HasNoTimes machine b (with_stop x)) → IsAtProgress machine b.plans ask o s nothing → IsAtProgress machine b.plans ask o s (up_to 0 [])
   late-going late opening =
-      let w = the-way net content past max_marks b machine ask o.goal first olds l in
+      let w = the-way reading b machine ask o.goal first olds l in
       let none : HasNoTimes machine b (with_stop w.x) = subst (λ x. IsSomeAnd x (λ y. HasNoTimes machine b (with_stop y))) w.suffix late in
       let none' = subst (λ k. IsSomeAnd k (λ y. (t : Ticks) → ¬ SuffixTimes machine b.plans y (with_stop w.x) t)) l.asked none in
       opening-going machine b.plans ask o s (λ can opens. stop-late machine b.plans ask o.goal first w.x w.is.way none'
@@ -103,7 +104,7 @@ module _ {N C : Type 0} (net : N → Net) (content : N → C) (past : N → List
 
     can-stop : CanStop machine ask (parent_of machine s.entries o.goal o.parent) ask.origin
     can-stop =
-        let w = the-way net content past max_marks b machine ask o.goal first olds l in
+        let w = the-way reading b machine ask o.goal first olds l in
         let walks = subst (λ cs. walk machine ask.want (acts_of cs) first ≡ Some o.goal) w.is.same (way-walk machine b.plans ask o.goal first w.x w.is.way) in
         subst (CanStop machine ask (parent_of machine s.entries o.goal o.parent)) (sym is) (some-choices, subst (λ q. walk machine ask.want (acts_of olds) q ≡ Some o.goal) (sym at) walks)
 
@@ -111,7 +112,7 @@ module _ {N C : Type 0} (net : N → Net) (content : N → C) (past : N → List
     pub stopped-bound : (b' : BoardValue N) (tick : ℕ) → IsPlaced machine olds → IsSomeAnd (suffix_of b) (λ x. suffix_of b' ≡ Some (with_stop x)) → IsSameLoad b b' → HasLeastTick machine b' (own 0) tick
         → IsBound machine b.plans ask (stopping o.goal olds) tick
     stopped-bound b' tick placed put load least =
-        let w = the-way net content past max_marks b machine ask o.goal first olds l in
+        let w = the-way reading b machine ask o.goal first olds l in
         let now : suffix_of b' ≡ Some (with_stop w.x) = subst (λ x. IsSomeAnd x (λ y. suffix_of b' ≡ Some (with_stop y))) w.suffix put in
         let here : IsLeastTick (TimesOf machine b'.plans ask (suffix_of b')) (own 0) tick =
         subst (λ k. IsSomeAnd k (λ y. IsLeastTick (TimesOf machine b'.plans y (suffix_of b')) (own 0) tick)) (load.ask ∙ l.asked) least in
@@ -126,10 +127,10 @@ module _ {N C : Type 0} (net : N → Net) (content : N → C) (past : N → List
     stopped-complete = subst (IsCompleteFrom machine ask (stopping o.goal olds)) (sym is) refl
 
     -- the board carries it
-    pub stop-found : (b0 b' : BoardValue N) (bound tick : ℕ) → IsFurther net content past max_marks b0 b' → IsPlaced machine olds → IsSomeAnd (suffix_of b) (λ x. suffix_of b' ≡ Some (with_stop x)) → Stands net content past b' machine → IsSameLoad b b'
-        → HasLeastTick machine b' (own 0) tick → tick ≤ bound → HasFound net content past max_marks b0 b' machine ask bound
+    pub stop-found : (b0 b' : BoardValue N) (bound tick : ℕ) → IsFurther reading b0 b' → IsPlaced machine olds → IsSomeAnd (suffix_of b) (λ x. suffix_of b' ≡ Some (with_stop x)) → Stands reading b' machine → IsSameLoad b b'
+        → HasLeastTick machine b' (own 0) tick → tick ≤ bound → HasFound reading b0 b' machine ask bound
     stop-found b0 b' bound tick further placed put stands load least in-time =
-        let w = the-way net content past max_marks b machine ask o.goal first olds l in
+        let w = the-way reading b machine ask o.goal first olds l in
         let now : suffix_of b' ≡ Some (with_stop w.x) = subst (λ x. IsSomeAnd x (λ y. suffix_of b' ≡ Some (with_stop y))) w.suffix put in
         let from = subst (λ q. ask.origin ≡ FromFront q end kept) at is in
         let way = stop-way machine b.plans ask o.goal first end kept w.x w.is.way from (λ none. some-choices (sym w.is.same ∙ none)) in

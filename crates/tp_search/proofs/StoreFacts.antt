@@ -17,7 +17,7 @@ pub grows-itself : (s : StoreValue) → StoreGrows s s
 grows-itself s = record {
   new = [];
   entries = sym (append-nil s.entries);
-  room = refl;
+  capacity = refl;
   base = refl;
   width = refl;
   stay = λ node waits. waits;
@@ -36,7 +36,7 @@ grows-trans a b c first second =
     record {
       new = first.new ++ second.new;
       entries = second.entries ∙ ap (λ es. es ++ second.new) first.entries ∙ append_assoc a.entries first.new second.new;
-      room = second.room ∙ first.room;
+      capacity = second.capacity ∙ first.capacity;
       base = second.base ∙ first.base;
       width = second.width ∙ first.width;
       stay = λ node waits. second.stay node (first.stay node waits);
@@ -60,7 +60,7 @@ grows-by_list parent choice bound complete s =
     record {
       new = entry_of s.entries parent choice bound ∷ [];
       entries = refl;
-      room = refl;
+      capacity = refl;
       base = refl;
       width = refl;
       stay = λ node waits. Contains-append_left s.waits (length s.entries ∷ []) node waits;
@@ -74,12 +74,12 @@ grows-by_list parent choice bound complete s =
 
 -- a store that keeps a list grows
 pub grows-by_keep : (parent : Option ℕ) (choice : Stored) (bound : ℕ) (complete : Bool) (s : StoreValue) → StoreGrows s (after_keep parent choice bound complete s)
-grows-by_keep parent choice bound complete s = go (length s.entries == s.room) where
+grows-by_keep parent choice bound complete s = go (length s.entries == s.capacity) where
   go : (full : Bool) → StoreGrows s (if full then record s { full = true } else with_list parent choice bound complete s)
   go true = record {
     new = [];
     entries = sym (append-nil s.entries);
-    room = refl;
+    capacity = refl;
     base = refl;
     width = refl;
     stay = λ node waits. waits;

@@ -1,6 +1,7 @@
 -- What a search found is a trial: its end is that of the earliest plans, and what is committed is one of them.
 use Rattle.std.proofs.Common.{◌≡◌, ℕ, ◌-◌, ◌<◌, ◌≤◌, List, ap, length, filter, sym, subst, ◌∙◌, Some, IsSomeAnd, arith}
 use Rattle.std.proofs.lemmas.List.{length-map}
+use Rattle.tp_base.specs.Readings.{Reading}
 use Rattle.tp_base.specs.Net.{Net}
 use Rattle.tp_machine.specs.Machines.{IsMachine}
 use Rattle.tp_machine.specs.declared.machine.Machine.{Machine}
@@ -79,10 +80,10 @@ module _ (machine : Machine) (plans : List Plan) (ask : Ask) (can : CanAsk machi
         earliest-to machine plans ask bound (none_before-whole machine plans ask can live is bound none) (answered plans ask further.choices opens.ticks) a.0 (a.1 ∙ opens.ends),
       )
 
-module _ {N C : Type 0} (net : N → Net) (content : N → C) (past : N → List C) (max_marks : N → ℕ) (b : BoardValue N) (machine : Machine) (trial : Trial N) where
+module _ {N : Type 0} (reading : Reading N) (b : BoardValue N) (machine : Machine) (trial : Trial N) where
   -- what a search found is a trial to the least end of its board
-  pub answer-trial : (ask : Ask) → IsReady net content past max_marks b machine ask → IsMachine machine → IsKnownGoal machine ask.goal → HasAnswer net content past max_marks b (board_in trial) machine ask trial.base.0 → HasLeastTick machine (board_in trial) (own 0) trial.end
-      → IsTrial net content past max_marks b machine trial
+  pub answer-trial : (ask : Ask) → IsReady reading b machine ask → IsMachine machine → IsKnownGoal machine ask.goal → HasAnswer reading b (board_in trial) machine ask trial.base.0 → HasLeastTick machine (board_in trial) (own 0) trial.end
+      → IsTrial reading b machine trial
   answer-trial ask ready is-machine known a least =
       let b' = board_in trial in
       record {
@@ -95,20 +96,20 @@ module _ {N C : Type 0} (net : N → Net) (content : N → C) (past : N → List
         ask = ask;
         asked = a.laid.asked;
         ready = ready;
-        complete = subst (λ o. IsSomeAnd o (λ k. IsSomeAnd (suffix_of b') (CanCommit machine b'.plans k))) a.laid.asked (answer-commits net content past max_marks b b' machine ask trial.base.0 a is-machine known);
+        complete = subst (λ o. IsSomeAnd o (λ k. IsSomeAnd (suffix_of b') (CanCommit machine b'.plans k))) a.laid.asked (answer-commits reading b b' machine ask trial.base.0 a is-machine known);
         ends = least;
-        none_before = subst (λ ps. NoneBefore machine ps ask trial.end) (sym a.loaded.plans) (subst (NoneBefore machine b.plans ask) (sym (answer-ends net content past max_marks b b' machine ask trial.base.0 a trial.end least)) a.none_before);
+        none_before = subst (λ ps. NoneBefore machine ps ask trial.end) (sym a.loaded.plans) (subst (NoneBefore machine b.plans ask) (sym (answer-ends reading b b' machine ask trial.base.0 a trial.end least)) a.none_before);
       }
 
   -- where it is undone to its mark, the board is as before
-  pub trial-back : {A : Type 0} → (aside : N → A) → UndoKeeps net content past aside → (b' : BoardValue N) → IsTrial net content past max_marks b machine trial
-      → IsUndone net content past aside max_marks (board_in trial) b' trial.base.0 → IsBack net content past max_marks b b' machine
-  trial-back aside undoes b' t u = undone-back net content past aside max_marks undoes b (board_in trial) b' machine trial.base.0 t.kept t.number t.past_more t.loaded t.marks (λ _. t.stands) u
+  pub trial-back : {A : Type 0} → (untouched : N → A) → UndoKeeps reading untouched → (b' : BoardValue N) → IsTrial reading b machine trial
+      → IsUndone reading untouched (board_in trial) b' trial.base.0 → IsBack reading b b' machine
+  trial-back untouched undoes b' t u = undone-back reading untouched undoes b (board_in trial) b' machine trial.base.0 t.kept t.number t.past_more t.loaded t.marks (λ _. t.stands) u
 
 -- a board that is back where it was at rest is at rest
-pub at-rest : {N C : Type 0} (net : N → Net) (content : N → C) (past : N → List C) (max_marks : N → ℕ) (b b' : BoardValue N) (machine : Machine) → IsAtRest net content past b machine
-    → IsBack net content past max_marks b b' machine → IsAtRest net content past b' machine
-at-rest net content past max_marks b b' machine rests back = record {
+pub at-rest : {N : Type 0} (reading : Reading N) (b b' : BoardValue N) (machine : Machine) → IsAtRest reading b machine
+    → IsBack reading b b' machine → IsAtRest reading b' machine
+at-rest reading b b' machine rests back = record {
   stands = back.stands rests.stands;
   closed = ap (λ x. x.steps) back.same_content ∙ rests.closed;
   unmarked = back.same_past ∙ rests.unmarked;

@@ -2,6 +2,7 @@
 use Rattle.std.proofs.Common.{◌≡◌, ℕ, ◌+◌, ◌<◌, ◌≤◌, List, [], ◌∷◌, length, map, refl, sym, subst, ◌∙◌, arith, Option, Some, None, IsSomeAnd}
 use Rattle.std.proofs.lemmas.List.Folds.{fold-map}
 use Rattle.std.proofs.lemmas.Option.{same_Some}
+use Rattle.tp_base.specs.Readings.{Reading}
 use Rattle.tp_base.specs.Net.{Net}
 use Rattle.tp_machine.specs.Machines.{IsMachine}
 use Rattle.tp_machine.specs.Using.{action_at}
@@ -12,13 +13,14 @@ use Rattle.tp_schedule.specs.Choices.{Choice, ChoicesLast}
 use Rattle.tp_schedule.specs.Spots.{Ticks}
 use Rattle.tp_schedule.specs.Spots.Spot.{own}
 use Rattle.tp_schedule.specs.declared.parts.Ask.{Ask}
+use Rattle.tp_schedule.specs.declared.parts.Plan.{Plan}
 use Rattle.tp_constraints.specs.Suffixes.{Suffix, SuffixTimes}
 use Rattle.tp_placing.specs.Boards.{BoardValue, after_change, suffix_of}
 use Rattle.tp_placing.specs.Ticks.{HasLeastTick, IsLeastTick, TimesOf}
 use Rattle.tp_placing.specs.Writing.{CanCommit}
 use Rattle.tp_placing.specs.declared.parts.Step.{Step}
 use Rattle.tp_placing.proofs.StandFacts.{some-and}
-use Rattle.tp_search.specs.Again.{suffix_by}
+use Rattle.tp_search.specs.Again.{CanLayAgain, suffix_by}
 use Rattle.tp_search.specs.Boards.{IsReady}
 use Rattle.tp_search.specs.Holding.{IsLaidSince}
 use Rattle.tp_search.specs.Trials.{IsTrial, board_in}
@@ -38,7 +40,7 @@ choices-end machine t [] is some lasts = absurd (omega (arith, some))
 choices-end machine t (c ∷ []) is some lasts = act-ends machine c.act.0 (t (own 1)) (t (own 0)) (action_at machine c.act.0) refl is lasts.0
 choices-end machine t (c ∷ d ∷ choices) is some lasts = choices-end machine t (d ∷ choices) is (omega arith) lasts.1
 
-module _ {N C : Type 0} (net : N → Net) (content : N → C) (past : N → List C) (max_marks : N → ℕ) (b : BoardValue N) (machine : Machine) (trial : Trial N) (t : IsTrial net content past max_marks b machine trial) where
+module _ {N : Type 0} (reading : Reading N) (b : BoardValue N) (machine : Machine) (trial : Trial N) (t : IsTrial reading b machine trial) where
   abbrev here : BoardValue N
   here = board_in trial
 
@@ -47,8 +49,8 @@ module _ {N C : Type 0} (net : N → Net) (content : N → C) (past : N → List
     same-ask = same_Some t.ask ask (sym t.asked ∙ asked)
 
     -- the board without the choices is ready
-    pub base-ready : IsReady net content past max_marks b machine ask
-    base-ready = subst (IsReady net content past max_marks b machine) same-ask t.ready
+    pub base-ready : IsReady reading b machine ask
+    base-ready = subst (IsReady reading b machine) same-ask t.ready
 
     -- what it carries can be committed, and has times that end as the trial tells
     pub trial-suffix : (x : Suffix) × (suffix_of here ≡ Some x) × CanCommit machine here.plans ask x
@@ -59,6 +61,13 @@ module _ {N C : Type 0} (net : N → Net) (content : N → C) (past : N → List
         let least = subst (λ o. IsSomeAnd o (λ a. IsLeastTick (TimesOf machine here.plans a (suffix_of here)) (own 0) trial.end)) asked t.ends in
         subst (λ o. IsLeastTick (TimesOf machine here.plans ask o) (own 0) trial.end) trial-suffix.1 least
 
+    -- so it can be laid again, on a board with the same plans
+    pub can-lay : (plans : List Plan) → plans ≡ here.plans → (o : Option Suffix) → o ≡ suffix_of here → IsSomeAnd o (CanLayAgain machine plans ask)
+    can-lay plans same o is =
+        subst (λ y. IsSomeAnd y (CanLayAgain machine plans ask)) (sym (is ∙ trial-suffix.1))
+        (subst (λ ps. CanLayAgain machine ps ask trial-suffix.0) (sym same)
+        (record { commit = trial-suffix.2; ticks = trial-times.ticks; are_times = trial-times.are_times }))
+
     -- it ends behind the first tick, and none ends before
     pub end-some : IsMachine machine → 1 ≤ trial.end
     end-some is = subst (λ n. 1 ≤ n) trial-times.there (choices-end machine trial-times.ticks trial-suffix.0.choices is trial-suffix.2.some trial-times.are_times.lasts)
@@ -67,7 +76,7 @@ module _ {N C : Type 0} (net : N → Net) (content : N → C) (past : N → List
     end-first = subst (λ a. NoneBefore machine here.plans a trial.end) same-ask t.none_before
 
   -- laid again it is a trial
-  module _ (trial' : Trial N) (since : IsLaidSince net content past max_marks b (board_in trial') machine t.ask trial'.base.0 None) (carries : suffix_of (board_in trial') ≡ suffix_of here) (ends : trial'.end ≡ trial.end) where
+  module _ (trial' : Trial N) (since : IsLaidSince reading b (board_in trial') machine t.ask trial'.base.0 None) (carries : suffix_of (board_in trial') ≡ suffix_of here) (ends : trial'.end ≡ trial.end) where
     abbrev then : BoardValue N
     then = board_in trial'
 
@@ -77,7 +86,7 @@ module _ {N C : Type 0} (net : N → Net) (content : N → C) (past : N → List
     ask-same : then.ask ≡ here.ask
     ask-same = since.loaded.ask ∙ sym t.loaded.ask
 
-    pub again-trial : IsTrial net content past max_marks b machine trial'
+    pub again-trial : IsTrial reading b machine trial'
     again-trial = record {
       number = since.number;
       kept = since.kept;

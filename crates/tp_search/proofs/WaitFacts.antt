@@ -193,7 +193,7 @@ module _ (pool : Entries) (queue : BucketQueue) (best : Option ℕ) (full : Bool
     }
 
 -- a list more is stored, and waits
-module _ (pool pool' : Entries) (queue queue' : BucketQueue) (best best' : Option ℕ) (e : Entry) (is : IsStore pool queue best) (added : pool' ≡ record { room = pool.room; entries = pool.entries ++ e ∷ [] })
+module _ (pool pool' : Entries) (queue queue' : BucketQueue) (best best' : Option ℕ) (e : Entry) (is : IsStore pool queue best) (added : pool' ≡ record { capacity = pool.capacity; entries = pool.entries ++ e ∷ [] })
     (moved : IsPermutation (record { node = length pool.entries; bound = e.bound } ∷ queue.queued) queue'.queued) where
   abbrev new : Queued
   new = record { node = length pool.entries; bound = e.bound }
@@ -225,13 +225,13 @@ module _ (pool pool' : Entries) (queue queue' : BucketQueue) (best best' : Optio
   pub more-waits : waits_in (length pool'.entries) queue'.queued ≡ waits_in (length pool.entries) queue.queued ++ length pool.entries ∷ []
   more-waits = ap (λ count. waits_in count queue'.queued) longer ∙ waits-more (length pool.entries) e.bound queue.queued queue'.queued is.known moved
 
-  pub more-kept : length pool.entries ≢ pool.room → queue'.nodes ≡ queue.nodes → IfSome best' (λ node. node ≤ length pool.entries) → IsStore pool' queue' best'
+  pub more-kept : length pool.entries ≢ pool.capacity → queue'.nodes ≡ queue.nodes → IfSome best' (λ node. node ≤ length pool.entries) → IsStore pool' queue' best'
   more-kept space nodes known = record {
     known = more-known;
     bounds = more-bounds;
     best_known = best-known best' known;
-    within = (let within = is.within in let room = ap (λ (v : Entries). v.room) added in omega (arith, longer));
-    places = nodes ∙ is.places ∙ sym (ap (λ (v : Entries). v.room) added);
+    within = (let within = is.within in let room = ap (λ (v : Entries). v.capacity) added in omega (arith, longer));
+    places = nodes ∙ is.places ∙ sym (ap (λ (v : Entries). v.capacity) added);
   }
     where
       best-known : (b : Option ℕ) → IfSome b (λ node. node ≤ length pool.entries) → IfSome b (λ node. node < length pool'.entries)
@@ -250,7 +250,7 @@ module _ (pool pool' : Entries) (queue queue' : BucketQueue) (best best' : Optio
 
 -- and is seen behind the others
 pub more-view : (pool pool' : Entries) (queue queue' : BucketQueue) (best best' : Option ℕ) (full : Bool) (s : StoreValue) (parent : Option ℕ) (choice : Stored) (bound : ℕ) (complete : Bool)
-    → store_of pool queue best full ≡ s → pool' ≡ record { room = pool.room; entries = pool.entries ++ entry_of pool.entries parent choice bound ∷ [] } → length pool.entries ≢ pool.room
+    → store_of pool queue best full ≡ s → pool' ≡ record { capacity = pool.capacity; entries = pool.entries ++ entry_of pool.entries parent choice bound ∷ [] } → length pool.entries ≢ pool.capacity
     → waits_in (length pool'.entries) queue'.queued ≡ waits_in (length pool.entries) queue.queued ++ length pool.entries ∷ [] → queue'.base ≡ queue.base → queue'.width ≡ queue.width
     → best' ≡ better pool.entries complete bound (length pool.entries) best
     → store_of pool' queue' best' full ≡ after_keep parent choice bound complete s
@@ -261,13 +261,13 @@ more-view pool pool' queue queue' best best' full s parent choice bound complete
     before = store_of pool queue best full
 
     kept : after_keep parent choice bound complete (store_of pool queue best full) ≡ with_list parent choice bound complete (store_of pool queue best full)
-    kept = (let e = ne_eqb (length pool.entries) pool.room space in rw e refl)
+    kept = (let e = ne_eqb (length pool.entries) pool.capacity space in rw e refl)
 
     entries : pool'.entries ≡ pool.entries ++ entry_of pool.entries parent choice bound ∷ []
     entries = ap (λ (v : Entries). v.entries) added
 
-    room : pool'.room ≡ pool.room
-    room = ap (λ (v : Entries). v.room) added
+    room : pool'.capacity ≡ pool.capacity
+    room = ap (λ (v : Entries). v.capacity) added
 
     fields : store_of pool' queue' best' full ≡ with_list parent choice bound complete (store_of pool queue best full)
     fields = rw (waits, entries, room, base, width, better') refl

@@ -1,5 +1,6 @@
 -- Laying again what a board carried: its changes one after another, without the stop, which comes last.
 use Rattle.std.specs.Prelude.{◌≡◌, ℕ, suc, ◌+◌, ◌≤◌, Bool, true, false, List, [], ◌∷◌, length, fold, Option, Some, None, IsFalse, IsSomeAnd}
+use Rattle.tp_base.specs.Readings.{Reading}
 use Rattle.tp_base.specs.Net.{Net}
 use Rattle.tp_machine.specs.declared.machine.Machine.{Machine}
 use Rattle.tp_schedule.specs.Answers.{kept_of}
@@ -65,17 +66,17 @@ pub record CanLayAgain (machine : Machine) (plans : List Plan) (ask : Ask) (x : 
   pub ticks : Ticks
   pub are_times : SuffixTimes machine plans ask x ticks
 
-module _ {N C : Type 0} (net : N → Net) (content : N → C) (past : N → List C) where
+module _ {N : Type 0} (reading : Reading N) where
   -- the board is laid so far, and can carry what the change makes of it
   pub record CanMake (b : BoardValue N) (machine : Machine) (change : Change) (reached : Reached) : Type 0 where
-    pub stands : Stands net content past b machine
+    pub stands : Stands reading b machine
     pub reached_so : reached ≡ reached_in (suffix_of b)
     pub can : IsSomeAnd b.ask (λ ask. CanCarryIf machine b.plans ask (after_again (suffix_of b) change))
 
-module _ {N C : Type 0} (net : N → Net) (content : N → C) (past : N → List C) (max_marks : N → ℕ) where
+module _ {N : Type 0} (reading : Reading N) where
   -- the change was made
   pub record IsMade (b b' : BoardValue N) (machine : Machine) (change : Change) (reached : Reached) : Type 0 where
-    pub stands : Stands net content past b' machine
+    pub stands : Stands reading b' machine
     pub suffix : suffix_of b' ≡ after_again (suffix_of b) change
     pub reached_so : reached ≡ reached_in (suffix_of b')
-    pub same : IsSameButSteps past max_marks b b'
+    pub same : IsSameButSteps reading b b'

@@ -1,5 +1,6 @@
 -- What a board carries while a list is opened, and that it is left as it was.
 use Rattle.std.specs.Prelude.{◌≡◌, ℕ, ◌+◌, ◌-◌, ◌≤◌, List, [], ◌++◌, length, None, Some, IsFalse, IsSomeAnd}
+use Rattle.tp_base.specs.Readings.{Reading}
 use Rattle.tp_base.specs.Net.{Net}
 use Rattle.tp_machine.specs.declared.parts.State.{State}
 use Rattle.tp_machine.specs.declared.machine.Machine.{Machine}
@@ -18,41 +19,41 @@ pub record IsWayOf (machine : Machine) (plans : List Plan) (ask : Ask) (goal fir
   pub same : x.choices ≡ choices
   pub going : IsFalse x.stopped
 
-module _ {N C : Type 0} (net : N → Net) (content : N → C) (past : N → List C) (max_marks : N → ℕ) where
+module _ {N : Type 0} (reading : Reading N) where
   -- the board stands on the machine and the ask, and carries such a way
   pub record IsLaid (b : BoardValue N) (machine : Machine) (ask : Ask) (goal first : State) (choices : List Choice) : Type 0 where
-    pub stands : Stands net content past b machine
+    pub stands : Stands reading b machine
     pub asked : b.ask ≡ Some ask
     pub way : IsSomeAnd (suffix_of b) (IsWayOf machine b.plans ask goal first choices)
 
   -- the board stands on the machine, is loaded for the ask, and has no goal open
   pub record IsReady (b : BoardValue N) (machine : Machine) (ask : Ask) : Type 0 where
-    pub stands : Stands net content past b machine
+    pub stands : Stands reading b machine
     pub asked : b.ask ≡ Some ask
     pub closed : suffix_of b ≡ None
 
   -- so many marks of the board are spare, one of the network being its own
   abbrev pub HasMarks : ℕ → BoardValue N → Type 0
-  HasMarks count b = length (past_of past b) + count ≤ max_marks b.net - 1
+  HasMarks count b = length (past_of reading b) + count ≤ reading.max_marks b.net - 1
 
   -- the board is as it was, but for what marks leave alone, and stands on the machine if it did
   pub record IsBack (b b' : BoardValue N) (machine : Machine) : Type 0 where
-    pub same_content : content_of content b' ≡ content_of content b
-    pub same_past : past_of past b' ≡ past_of past b
+    pub same_content : content_of reading b' ≡ content_of reading b
+    pub same_past : past_of reading b' ≡ past_of reading b
     pub loaded : IsSameLoad b b'
-    pub marks : max_marks b'.net - 1 ≡ max_marks b.net - 1
-    pub stands : Stands net content past b machine → Stands net content past b' machine
+    pub marks : reading.max_marks b'.net - 1 ≡ reading.max_marks b.net - 1
+    pub stands : Stands reading b machine → Stands reading b' machine
 
   -- the second board is further than the first one: the same is loaded, and the same marks are in force, perhaps with more
   -- behind them
   pub record IsFurther (b b' : BoardValue N) : Type 0 where
-    pub kept : List (BoardContent C)
-    pub past_more : past_of past b' ≡ past_of past b ++ kept
+    pub kept : List BoardContent
+    pub past_more : past_of reading b' ≡ past_of reading b ++ kept
     pub loaded : IsSameLoad b b'
-    pub marks : max_marks b'.net - 1 ≡ max_marks b.net - 1
+    pub marks : reading.max_marks b'.net - 1 ≡ reading.max_marks b.net - 1
 
 -- the board stands on the machine, with no goal open and no mark in force
-pub record IsAtRest {N C : Type 0} (net : N → Net) (content : N → C) (past : N → List C) (b : BoardValue N) (machine : Machine) : Type 0 where
-  pub stands : Stands net content past b machine
+pub record IsAtRest {N : Type 0} (reading : Reading N) (b : BoardValue N) (machine : Machine) : Type 0 where
+  pub stands : Stands reading b machine
   pub closed : b.steps ≡ []
-  pub unmarked : past_of past b ≡ []
+  pub unmarked : past_of reading b ≡ []

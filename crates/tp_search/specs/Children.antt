@@ -1,5 +1,6 @@
 -- Opening a list on a board: what the board carries, and the child that is tried.
 use Rattle.std.specs.Prelude.{◌≡◌, ℕ, ◌<◌, ◌≤◌, ◌↔◌, List, length, Some, IsTrue}
+use Rattle.tp_base.specs.Readings.{Reading}
 use Rattle.tp_base.specs.Net.{Net}
 use Rattle.tp_machine.specs.Using.{action_at}
 use Rattle.tp_machine.specs.declared.parts.State.{State}
@@ -30,21 +31,21 @@ pub record IsNewChild (machine : Machine) (ask : Ask) (end : State) (c : Child) 
   pub goal : c.choice.goal ≡ end
   pub complete : IsTrue c.complete ↔ ((ask.origin ≡ Feeder) × IsStart machine ask c.first)
 
-module _ {N C : Type 0} (net : N → Net) (content : N → C) (past : N → List C) (max_marks : N → ℕ) where
+module _ {N : Type 0} (reading : Reading N) where
   -- the second board is further, and carries a complete list that ends by the bound
   pub record HasFound (b b' : BoardValue N) (machine : Machine) (ask : Ask) (bound : ℕ) : Type 0 where
-    pub further : IsFurther net content past max_marks b b'
+    pub further : IsFurther reading b b'
     pub first : State
     pub list : ChoiceList
     pub end : ℕ
-    pub laid : HasList net content past b' machine ask first list
+    pub laid : HasList reading b' machine ask first list
     pub complete : IsComplete machine ask list
     pub is_bound : IsBound machine b'.plans ask list end
     pub in_time : end ≤ bound
 
   -- the board carries the list that is opened, from this first state on, and no list that was stored before is its child
   pub record CarriesOpened (b : BoardValue N) (machine : Machine) (ask : Ask) (o : Opening) (s : StoreValue) (first : State) : Type 0 where
-    pub laid : IsLaid net content past max_marks b machine ask o.goal first (choices_by machine (choices_before s.entries o.parent))
+    pub laid : IsLaid reading b machine ask o.goal first (choices_by machine (choices_before s.entries o.parent))
     pub placed : IsPlaced machine (choices_by machine (choices_before s.entries o.parent))
     pub fresh : IsFresh machine ask o s
     pub bounds : HasBounds machine ask s

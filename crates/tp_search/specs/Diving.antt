@@ -1,5 +1,6 @@
 -- A dive: from a list on a board to a complete one, by one choice more at each step.
 use Rattle.std.specs.Prelude.{◌≡◌, ℕ, suc, ◌≤◌, List, ◌∷◌, length}
+use Rattle.tp_base.specs.Readings.{Reading}
 use Rattle.tp_base.specs.Net.{Net}
 use Rattle.tp_machine.specs.Using.{action_at}
 use Rattle.tp_machine.specs.declared.parts.ActId.{ActId}
@@ -19,12 +20,12 @@ use Rattle.tp_ways.specs.Ways.{IsPlaced}
 abbrev pub EndsBy : {N : Type 0} → Machine → BoardValue N → ℕ → Type 0
 EndsBy machine b bound = (tick : ℕ) × HasLeastTick machine b (own 0) tick × (tick ≤ bound)
 
-module _ {N C : Type 0} (net : N → Net) (content : N → C) (past : N → List C) (max_marks : N → ℕ) where
+module _ {N : Type 0} (reading : Reading N) where
   -- the board carries a list of placed choices, which begins in this state and has so many of them
   pub record CanDive (b : BoardValue N) (machine : Machine) (ask : Ask) (list : Laid) : Type 0 where
     pub goal : State
     pub choices : List Choice
-    pub laid : IsLaid net content past max_marks b machine ask goal list.first choices
+    pub laid : IsLaid reading b machine ask goal list.first choices
     pub placed : IsPlaced machine choices
     pub count : list.count ≡ length choices
 
@@ -33,7 +34,7 @@ module _ {N C : Type 0} (net : N → Net) (content : N → C) (past : N → List
     pub goal : State
     pub choices : List Choice
     pub places : List ℕ
-    pub laid : IsLaid net content past max_marks b machine ask goal list.first (record { act = act; places = places } ∷ choices)
+    pub laid : IsLaid reading b machine ask goal list.first (record { act = act; places = places } ∷ choices)
     pub placed : IsPlaced machine choices
     pub next : hold ≡ length places
     pub within : hold ≤ length (holds_of_act (action_at machine act.0))
@@ -41,6 +42,6 @@ module _ {N C : Type 0} (net : N → Net) (content : N → C) (past : N → List
 
   -- the second board is further, and carries a list of placed choices that ends by the bound
   pub record IsDeeper (b b' : BoardValue N) (machine : Machine) (ask : Ask) (bound : ℕ) (list : Laid) : Type 0 where
-    pub further : IsFurther net content past max_marks b b'
+    pub further : IsFurther reading b b'
     pub carries : CanDive b' machine ask list
     pub in_time : EndsBy machine b' bound

@@ -1,6 +1,7 @@
 -- A workspace and a board that answer asks together.
 use Rattle.std.specs.Prelude.{◌≡◌, ℕ, ◌≤◌, ◌==◌, ◌&&◌, Bool, true, IsTrue, List, [], ◌∷◌, ◌++◌, length, Option, Some, None, IsSomeAnd}
 use Rattle.std.specs.Bool.{MatchBool}
+use Rattle.tp_base.specs.Readings.{Reading}
 use Rattle.tp_base.specs.Net.{Net}
 use Rattle.tp_bounds.specs.declared.tree.BoundTree.{BoundTree}
 use Rattle.tp_machine.specs.declared.machine.Machine.{Machine}
@@ -14,6 +15,7 @@ use Rattle.tp_schedule.specs.declared.parts.Reply.{Reply}
 use Rattle.tp_schedule.specs.declared.parts.Reply.TheVariants.{Never, Planned, Spent}
 use Rattle.tp_trees.specs.Short.{IsShortTreeFor}
 use Rattle.tp_trees.specs.declared.claim.Claim.TheVariants.{Earliest, Never as NeverClaim}
+use Rattle.tp_placing.specs.Inside.{most_steps}
 use Rattle.tp_placing.specs.Boards.{BoardValue}
 use Rattle.tp_placing.specs.declared.parts.MadeFor.{MadeFor}
 use Rattle.tp_search.specs.Boards.{IsAtRest}
@@ -35,16 +37,16 @@ numbers_of w = record { locations = w.locations; resources = w.resources; window
 -- both were made for the same numbers, and the board has the marks that a search sets and a tree is made with
 pub record IsEngine {N : Type 0} (max_marks : N → ℕ) (work : WorkspaceValue) (board : BoardValue N) : Type 0 where
   pub made : board.made_for ≡ numbers_of work
-  pub marks : 330 ≤ max_marks board.net
+  pub marks : most_steps ≤ max_marks board.net
 
 -- whether the machine has the numbers that it was made for
 abbrev pub is_engine_for : {N : Type 0} → EngineValue N → Machine → Bool
 is_engine_for e machine = e.work.locations == length machine.locations && e.work.resources == length machine.resources && e.work.window == machine.window
 
 -- it was made for a machine with these numbers, and a board that is kept is at rest on that machine
-pub record Serves {N C : Type 0} (net : N → Net) (content : N → C) (past : N → List C) (e : EngineValue N) (machine : Machine) : Type 0 where
+pub record Serves {N : Type 0} (reading : Reading N) (e : EngineValue N) (machine : Machine) : Type 0 where
   pub made : IsTrue (is_engine_for e machine)
-  pub rests : e.kept ≡ true → IsAtRest net content past e.board machine
+  pub rests : e.kept ≡ true → IsAtRest reading e.board machine
 
 -- where the deed is the answer that there is no plan, no more different lists with choices are open than nodes
 abbrev pub HasFewLists : ℕ → Machine → List Plan → Deed → Type 0

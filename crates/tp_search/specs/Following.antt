@@ -1,5 +1,6 @@
 -- Laying a stored list on a board: what its choices are, and what the board carries then.
 use Rattle.std.specs.Prelude.{◌≡◌, ℕ, ◌<◌, List, [], ◌∷◌, length, drop, All, Some, IsSome, IsSomeAnd, IsFalse}
+use Rattle.tp_base.specs.Readings.{Reading}
 use Rattle.tp_base.specs.Net.{Net}
 use Rattle.tp_machine.specs.declared.parts.ActId.{ActId}
 use Rattle.tp_machine.specs.declared.parts.State.{State}
@@ -54,16 +55,15 @@ pub record IsWayTo (machine : Machine) (plans : List Plan) (ask : Ask) (first : 
   pub placed : IsPlaced machine x.choices
   pub same : list_of list.goal x ≡ list
 
-module _ {N C : Type 0} (net : N → Net) (content : N → C) (past : N → List C) where
+module _ {N : Type 0} (reading : Reading N) where
   -- the board stands on the machine and the ask, and carries such a way
   pub record HasList (b : BoardValue N) (machine : Machine) (ask : Ask) (first : State) (list : ChoiceList) : Type 0 where
-    pub stands : Stands net content past b machine
+    pub stands : Stands reading b machine
     pub asked : b.ask ≡ Some ask
     pub way : IsSomeAnd (suffix_of b) (IsWayTo machine b.plans ask first list)
 
-module _ {N C : Type 0} (past : N → List C) (max_marks : N → ℕ) where
   -- the same is loaded, and the same marks are in force
   pub record IsSameButSteps (b b' : BoardValue N) : Type 0 where
-    pub same_past : past_of past b' ≡ past_of past b
+    pub same_past : past_of reading b' ≡ past_of reading b
     pub loaded : IsSameLoad b b'
-    pub marks : max_marks b'.net ≡ max_marks b.net
+    pub marks : reading.max_marks b'.net ≡ reading.max_marks b.net

@@ -82,7 +82,7 @@ parent_of machine entries goal parent = going goal (choices_by machine (choices_
 -- the opening of a list has come so far
 abbrev pub IsAtProgress : Machine → List Plan → Ask → Opening → StoreValue → Progress → Type 0
 IsAtProgress machine plans ask o s progress =
-    IsOpening machine plans ask (parent_of machine s.entries o.goal o.parent) o.bound (choices_before s.entries o.parent) (take o.stored s.entries) progress s.entries s.room s.full s.best
+    IsOpening machine plans ask (parent_of machine s.entries o.goal o.parent) o.bound (choices_before s.entries o.parent) (take o.stored s.entries) progress s.entries s.capacity s.full s.best
 
 -- the same list is being opened, and what was stored stays
 pub record IsSameOpening (o o' : Opening) (s s' : StoreValue) : Type 0 where

@@ -1,5 +1,6 @@
 -- What a list that is taken leads to, and what a search comes to.
 use Rattle.std.specs.Prelude.{◌≡◌, ℕ, ◌-◌, ◌<◌, ◌++◌, [], ◌∷◌, length, List}
+use Rattle.tp_base.specs.Readings.{Reading}
 use Rattle.tp_base.specs.Net.{Net}
 use Rattle.tp_machine.specs.declared.parts.State.{State}
 use Rattle.tp_machine.specs.declared.machine.Machine.{Machine}
@@ -41,18 +42,18 @@ module _ (machine : Machine) (plans : List Plan) (ask : Ask) where
     pub grows : StoreGrows s s'
     pub progress : IsAtProgress machine plans ask (opening_of machine s next) s' (up_to (length machine.actions) [])
 
-module _ {N C : Type 0} (net : N → Net) (content : N → C) (past : N → List C) (max_marks : N → ℕ) where
+module _ {N : Type 0} (reading : Reading N) where
   -- the board carries a complete list, and no alternative ends before the list's bound. All this was laid since a mark
   pub record HasAnswer (b b' : BoardValue N) (machine : Machine) (ask : Ask) (base : ℕ) : Type 0 where
-    pub number : base ≡ length (past_of past b)
-    pub kept : List (BoardContent C)
-    pub past_more : past_of past b' ≡ past_of past b ++ content_of content b ∷ kept
+    pub number : base ≡ length (past_of reading b)
+    pub kept : List BoardContent
+    pub past_more : past_of reading b' ≡ past_of reading b ++ content_of reading b ∷ kept
     pub loaded : IsSameLoad b b'
-    pub marks : max_marks b'.net - 1 ≡ max_marks b.net - 1
+    pub marks : reading.max_marks b'.net - 1 ≡ reading.max_marks b.net - 1
     pub first : State
     pub list : ChoiceList
     pub bound : ℕ
-    pub laid : HasList net content past b' machine ask first list
+    pub laid : HasList reading b' machine ask first list
     pub complete : IsComplete machine ask list
     pub is_bound : IsBound machine b.plans ask list bound
     pub none_before : NoneBefore machine b.plans ask bound
@@ -61,5 +62,5 @@ module _ {N C : Type 0} (net : N → Net) (content : N → C) (past : N → List
   abbrev pub IsOutcome : BoardValue N → BoardValue N → Machine → Ask → ℕ → Outcome → Type 0
   IsOutcome b b' machine ask nodes (Found base) = HasAnswer b b' machine ask base.0
   IsOutcome b b' machine ask nodes Never =
-      ((plans' : List Plan) → ¬ IsAlternative machine b.plans ask plans') × IsBack net content past max_marks b b' machine × FewListsOpen machine b.plans ask nodes
-  IsOutcome b b' machine ask nodes (Spent bound) = IsSpent machine b.plans ask nodes bound × IsBack net content past max_marks b b' machine
+      ((plans' : List Plan) → ¬ IsAlternative machine b.plans ask plans') × IsBack reading b b' machine × FewListsOpen machine b.plans ask nodes
+  IsOutcome b b' machine ask nodes (Spent bound) = IsSpent machine b.plans ask nodes bound × IsBack reading b b' machine

@@ -94,14 +94,14 @@ IsBestLater s bound = IfSome s.best (λ best. bound < bound_of s.entries best)
 
 -- how the opening of the list that was taken begins
 abbrev pub opening_of : Machine → StoreValue → Next → Opening
-opening_of machine s next = record { parent = next_node next; goal = (next_list machine s next).goal; bound = next_bound s next; stored = length s.entries; dived = None }
+opening_of machine s next = record { parent = next_node next; goal = (next_list machine s next).goal; bound = next_bound s next; stored = length s.entries; barred = None }
 
 -- how many lists can still be taken: those that wait, and those that can still be stored
 abbrev pub still_to_take : List OpenGoal → StoreValue → ℕ
-still_to_take goals s = length goals + length s.waits + (s.room - length s.entries)
+still_to_take goals s = length goals + length s.waits + (s.capacity - length s.entries)
 
 -- the store and the goals have the same room as before
 pub record IsSameSpace (goals goals' : Vec OpenGoal Global) (s s' : StoreValue) : Type 0 where
-  pub room : s'.room ≡ s.room
+  pub capacity : s'.capacity ≡ s.capacity
   pub width : s'.width ≡ s.width
   pub space : vec_capacity goals ≤ vec_capacity goals'

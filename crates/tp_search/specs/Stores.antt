@@ -12,7 +12,7 @@ use Rattle.tp_pool.specs.declared.choice.Choice.{Choice as Stored}
 -- best complete list, and whether an entry was refused
 pub record StoreValue : Type 0 where
   pub entries : List Entry
-  pub room : ℕ
+  pub capacity : ℕ
   pub waits : List ℕ
   pub base : ℕ
   pub width : ℕ
@@ -20,7 +20,7 @@ pub record StoreValue : Type 0 where
   pub full : Bool
 
 abbrev pub empty_store : ℕ → ℕ → ℕ → StoreValue
-empty_store room base width = record { entries = []; room = room; waits = []; base = base; width = width; best = None; full = false }
+empty_store capacity base width = record { entries = []; capacity = capacity; waits = []; base = base; width = width; best = None; full = false }
 
 -- the bound is one of those that there can be
 abbrev pub IsInRange : StoreValue → ℕ → Type 0
@@ -31,15 +31,15 @@ abbrev pub waits_in : ℕ → List Queued → List ℕ
 waits_in count queued = filter (λ node. list_any (nat_eq node) (nodes_of queued)) (range_with_len 0 count)
 
 abbrev pub store_of : Entries → BucketQueue → Option ℕ → Bool → StoreValue
-store_of pool queue best full = record { entries = pool.entries; room = pool.room; waits = waits_in (length pool.entries) queue.queued; base = queue.base; width = queue.width; best = best; full = full }
+store_of pool queue best full = record { entries = pool.entries; capacity = pool.capacity; waits = waits_in (length pool.entries) queue.queued; base = queue.base; width = queue.width; best = best; full = full }
 
 -- what a store keeps true of its fields: a node in the queue is that of an entry, with its bound
 pub record IsStore (pool : Entries) (queue : BucketQueue) (best : Option ℕ) : Type 0 where
   pub known : All (λ q. q.node < length pool.entries) queue.queued
   pub bounds : All (λ q. q.bound ≡ bound_of pool.entries q.node) queue.queued
   pub best_known : IfSome best (λ node. node < length pool.entries)
-  pub within : length pool.entries ≤ pool.room
-  pub places : queue.nodes ≡ pool.room
+  pub within : length pool.entries ≤ pool.capacity
+  pub places : queue.nodes ≡ pool.capacity
 
 -- the best of the complete lists that are stored, with one more of this bound and number
 abbrev pub is_sooner : List Entry → ℕ → Option ℕ → Bool
@@ -57,7 +57,7 @@ entry_of entries parent choice bound = record { choices = choice ∷ choices_bef
 abbrev pub with_list : Option ℕ → Stored → ℕ → Bool → StoreValue → StoreValue
 with_list parent choice bound complete s = record {
   entries = s.entries ++ entry_of s.entries parent choice bound ∷ [];
-  room = s.room;
+  capacity = s.capacity;
   waits = s.waits ++ length s.entries ∷ [];
   base = s.base;
   width = s.width;
@@ -66,7 +66,7 @@ with_list parent choice bound complete s = record {
 }
 
 abbrev pub after_keep : Option ℕ → Stored → ℕ → Bool → StoreValue → StoreValue
-after_keep parent choice bound complete s = if length s.entries == s.room then record s { full = true } else with_list parent choice bound complete s
+after_keep parent choice bound complete s = if length s.entries == s.capacity then record s { full = true } else with_list parent choice bound complete s
 
 -- a node of least bound is taken out of those that wait
 pub record IsTaken (s : StoreValue) (node : ℕ) (s' : StoreValue) : Type 0 where
@@ -86,7 +86,7 @@ HasSooner s bound = (node : ℕ) × Contains s.waits node × (bound_of s.entries
 pub record StoreGrows (s s' : StoreValue) : Type 0 where
   pub new : List Entry
   pub entries : s'.entries ≡ s.entries ++ new
-  pub room : s'.room ≡ s.room
+  pub capacity : s'.capacity ≡ s.capacity
   pub base : s'.base ≡ s.base
   pub width : s'.width ≡ s.width
   pub stay : (node : ℕ) → Contains s.waits node → Contains s'.waits node

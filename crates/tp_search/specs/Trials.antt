@@ -1,6 +1,7 @@
 -- What a trial is: its board carries an earliest plan, laid since a mark. And what holds where there is no plan.
 use Rattle.std.specs.Prelude.{◌≡◌, ℕ, ◌-◌, List, ◌∷◌, ◌++◌, length, Some, IsSomeAnd}
 use Rattle.std.specs.Borrow.{GName}
+use Rattle.tp_base.specs.Readings.{Reading}
 use Rattle.tp_base.specs.Net.{Net}
 use Rattle.tp_machine.specs.declared.machine.Machine.{Machine}
 use Rattle.tp_schedule.specs.Answers.{IsAlternative, IsEarliest, NoneBefore}
@@ -49,19 +50,19 @@ pub record IsSameTrial {N : Type 0} (trial trial' : Trial N) : Type 0 where
   pub loaded : IsSameLoad (board_in trial) (board_in trial')
   pub carries : suffix_of (board_in trial') ≡ suffix_of (board_in trial)
 
-module _ {N C : Type 0} (net : N → Net) (content : N → C) (past : N → List C) (max_marks : N → ℕ) where
+module _ {N : Type 0} (reading : Reading N) where
   -- the trial's board carries a plan of its ask that can be committed and ends as the trial tells, and no alternative ends
   -- before. It was laid since the trial's mark, which was made on the first board, a board without choices
   pub record IsTrial (b : BoardValue N) (machine : Machine) (trial : Trial N) : Type 0 where
-    pub number : trial.base.0 ≡ length (past_of past b)
-    pub kept : List (BoardContent C)
-    pub past_more : past_of past (board_in trial) ≡ past_of past b ++ content_of content b ∷ kept
+    pub number : trial.base.0 ≡ length (past_of reading b)
+    pub kept : List BoardContent
+    pub past_more : past_of reading (board_in trial) ≡ past_of reading b ++ content_of reading b ∷ kept
     pub loaded : IsSameLoad b (board_in trial)
-    pub marks : max_marks (board_in trial).net - 1 ≡ max_marks b.net - 1
-    pub stands : Stands net content past (board_in trial) machine
+    pub marks : reading.max_marks (board_in trial).net - 1 ≡ reading.max_marks b.net - 1
+    pub stands : Stands reading (board_in trial) machine
     pub ask : Ask
     pub asked : (board_in trial).ask ≡ Some ask
-    pub ready : IsReady net content past max_marks b machine ask
+    pub ready : IsReady reading b machine ask
     pub complete : IsSomeAnd (suffix_of (board_in trial)) (CanCommit machine (board_in trial).plans ask)
     pub ends : HasLeastTick machine (board_in trial) (own 0) trial.end
     pub none_before : NoneBefore machine (board_in trial).plans ask trial.end

@@ -35,10 +35,10 @@ impl Reached {
 /// Opens a goal again, unless one is open.
 fn goal_again<N: Network>(board: &mut Board<N>, room: u32, reached: Reached) -> Reached
     requires can { (machine : Machine)
-        × CanMake N.net N.content N.past board.old machine (Goal room) reached }
+        × CanMake N.reading board.old machine (Goal room) reached }
     ensures { (machine : Machine)
-        → CanMake N.net N.content N.past board.old machine (Goal room) reached
-        → IsMade N.net N.content N.past N.max_marks board.old board.new machine
+        → CanMake N.reading board.old machine (Goal room) reached
+        → IsMade N.reading board.old board.new machine
         (Goal room) result }
 {
     if reached.has_goal() {
@@ -58,8 +58,8 @@ fn action_again<N: Network>(
     room: u32,
     reached: Reached,
 ) -> Reached
-    requires can { CanMake N.net N.content N.past board.old machine.now (Action act room) reached }
-    ensures { IsMade N.net N.content N.past N.max_marks board.old board.new machine.entry.now
+    requires can { CanMake N.reading board.old machine.now (Action act room) reached }
+    ensures { IsMade N.reading board.old board.new machine.entry.now
         (Action act room) result }
 {
     if !reached.has_goal() {
@@ -78,8 +78,8 @@ fn place_again<N: Network>(
     place: u32,
     reached: Reached,
 ) -> Reached
-    requires can { CanMake N.net N.content N.past board.old machine.now (Place place) reached }
-    ensures { IsMade N.net N.content N.past N.max_marks board.old board.new machine.entry.now
+    requires can { CanMake N.reading board.old machine.now (Place place) reached }
+    ensures { IsMade N.reading board.old board.new machine.entry.now
         (Place place) result }
 {
     match reached {
@@ -99,8 +99,8 @@ fn change_again<N: Network>(
     change: Change,
     reached: Reached,
 ) -> Reached
-    requires can { CanMake N.net N.content N.past board.old machine.now change reached }
-    ensures { IsMade N.net N.content N.past N.max_marks board.old board.new machine.entry.now change
+    requires can { CanMake N.reading board.old machine.now change reached }
+    ensures { IsMade N.reading board.old board.new machine.entry.now change
         result }
 {
     match change {
@@ -113,11 +113,11 @@ fn change_again<N: Network>(
 
 /// Makes all changes again but the stop, on a board without choices.
 fn changes_again<N: Network>(board: &mut Board<N>, machine: &Machine, ask: &Ask, changes: &[Change])
-    requires ready { IsReady N.net N.content N.past N.max_marks board.old machine.now ask.now }
+    requires ready { IsReady N.reading board.old machine.now ask.now }
     requires can { CanCarryIf machine.now board.old.plans ask.now (again_by changes.now) }
-    ensures stands { Stands N.net N.content N.past board.new machine.entry.now }
+    ensures stands { Stands N.reading board.new machine.entry.now }
     ensures suffix { suffix_of board.new ≡ again_by changes.now }
-    ensures same { IsSameButSteps N.past N.max_marks board.old board.new }
+    ensures same { IsSameButSteps N.reading board.old board.new }
 {
     let mut reached = Reached::Nothing;
     'changes: for at in 0..changes.len() {
@@ -132,12 +132,12 @@ pub(crate) fn lay_again<N: Network>(
     ask: &Ask,
     changes: &[Change],
 )
-    requires ready { IsReady N.net N.content N.past N.max_marks board.old machine.now ask.now }
+    requires ready { IsReady N.reading board.old machine.now ask.now }
     requires can { IsSomeAnd (suffix_by changes.now)
         (CanLayAgain machine.now board.old.plans ask.now) }
-    ensures stands { Stands N.net N.content N.past board.new machine.entry.now }
+    ensures stands { Stands N.reading board.new machine.entry.now }
     ensures suffix { suffix_of board.new ≡ suffix_by changes.now }
-    ensures same { IsSameButSteps N.past N.max_marks board.old board.new }
+    ensures same { IsSameButSteps N.reading board.old board.new }
 {
     changes_again(board, machine, ask, changes);
     match ask.origin {

@@ -5,6 +5,7 @@ ghost use Rattle.tp_schedule.specs.Plans.{plan_of};
 ghost use Rattle.tp_schedule.specs.Spending.{FewListsOpen};
 ghost use Rattle.tp_schedule.specs.declared.parts.Reply.TheVariants.{Never, Planned};
 ghost use Rattle.tp_schedule.specs.declared.parts.Plan.{Plan};
+ghost use Rattle.tp_placing.specs.Inside.{most_steps};
 ghost use Rattle.tp_placing.specs.Standing.{IsMadeFor};
 ghost use Rattle.tp_placing.specs.Writing.{IsLoadedFrom};
 ghost use Rattle.tp_search.specs.Boards.{IsAtRest};
@@ -34,7 +35,7 @@ pub fn answer<N: Network>(
 ) -> Reply
     requires work { IsFor work.old machine.now }
     requires board { IsMadeFor board.old.made_for machine.now }
-    requires marks { 8 ≤ N.max_marks board.old.net }
+    requires marks { 8 ≤ N.reading.max_marks board.old.net }
     requires can { CanAsk machine.now schedule.old.plans ask.now }
     requires spare { plan_of ask.now.sheet schedule.old.plans ≡ None → 0 < schedule.old.spare }
     ensures answer { IsAnswer
@@ -51,8 +52,8 @@ pub fn answer<N: Network>(
     ensures stays { result ≢ Planned → schedule.new ≡ schedule.old }
     ensures work { work.new ≡ work.old }
     ensures board { board.new.made_for ≡ board.old.made_for }
-    ensures marks { N.max_marks board.new.net ≡ N.max_marks board.old.net }
-    ensures rests { IsAtRest N.net N.content N.past board.new machine.now }
+    ensures marks { N.reading.max_marks board.new.net ≡ N.reading.max_marks board.old.net }
+    ensures rests { IsAtRest N.reading board.new machine.now }
 {
     board.load(machine, schedule, ask);
     answer_loaded(work, board, machine, schedule, ask)
@@ -67,10 +68,10 @@ pub(crate) fn answer_loaded<N: Network>(
     ask: &Ask,
 ) -> Reply
     requires work { IsFor work.old machine.now }
-    requires marks { 8 ≤ N.max_marks board.old.net }
+    requires marks { 8 ≤ N.reading.max_marks board.old.net }
     requires loaded { IsLoadedFrom machine.now schedule.old.plans ask.now board.old.plans }
     requires asked { board.old.ask ≡ Some ask.now }
-    requires rests { IsAtRest N.net N.content N.past board.old machine.now }
+    requires rests { IsAtRest N.reading board.old machine.now }
     requires spare { plan_of ask.now.sheet schedule.old.plans ≡ None → 0 < schedule.old.spare }
     ensures answer { IsAnswer
         (IsSpentOf work.old.nodes) machine.now schedule.old.plans ask.entry.now result
@@ -86,8 +87,8 @@ pub(crate) fn answer_loaded<N: Network>(
     ensures stays { result ≢ Planned → schedule.new ≡ schedule.old }
     ensures work { work.new ≡ work.old }
     ensures board { board.new.made_for ≡ board.old.made_for }
-    ensures marks { N.max_marks board.new.net ≡ N.max_marks board.old.net }
-    ensures rests { IsAtRest N.net N.content N.past board.new machine.now }
+    ensures marks { N.reading.max_marks board.new.net ≡ N.reading.max_marks board.old.net }
+    ensures rests { IsAtRest N.reading board.new machine.now }
 {
     match plan(board, work, machine, ask) {
         Ok(trial) => {
@@ -107,11 +108,11 @@ pub(crate) fn earliest_end<N: Network>(
     ask: &Ask,
 ) -> Result<Tick, NoPlan>
     requires work { IsFor work.old machine.now }
-    requires marks { 8 ≤ N.max_marks board.old.net }
+    requires marks { 8 ≤ N.reading.max_marks board.old.net }
     requires loaded { (plans : List Plan)
         × IsLoadedFrom machine.now plans ask.now board.old.plans }
     requires asked { board.old.ask ≡ Some ask.now }
-    requires rests { IsAtRest N.net N.content N.past board.old machine.now }
+    requires rests { IsAtRest N.reading board.old machine.now }
     ensures end { (plans : List Plan)
         → IsLoadedFrom machine.now plans ask.entry.now board.old.plans
         → IfOk result (EndsEarliest machine.now plans ask.entry.now) }
@@ -120,8 +121,8 @@ pub(crate) fn earliest_end<N: Network>(
         → IfErr result (IsNoPlan machine.now plans ask.entry.now work.old.nodes) }
     ensures work { work.new ≡ work.old }
     ensures board { board.new.made_for ≡ board.old.made_for }
-    ensures marks { N.max_marks board.new.net ≡ N.max_marks board.old.net }
-    ensures rests { IsAtRest N.net N.content N.past board.new machine.now }
+    ensures marks { N.reading.max_marks board.new.net ≡ N.reading.max_marks board.old.net }
+    ensures rests { IsAtRest N.reading board.new machine.now }
 {
     match plan(board, work, machine, ask) {
         Ok(trial) => {
@@ -151,10 +152,10 @@ pub(crate) fn answer_with_tree<N: Network>(
     ask: &Ask,
 ) -> Result<Shown, Memory>
     requires work { IsFor work.old machine.now }
-    requires marks { 330 ≤ N.max_marks board.old.net }
+    requires marks { most_steps ≤ N.reading.max_marks board.old.net }
     requires loaded { IsLoadedFrom machine.now schedule.old.plans ask.now board.old.plans }
     requires asked { board.old.ask ≡ Some ask.now }
-    requires rests { IsAtRest N.net N.content N.past board.old machine.now }
+    requires rests { IsAtRest N.reading board.old machine.now }
     requires spare { plan_of ask.now.sheet schedule.old.plans ≡ None → 0 < schedule.old.spare }
     ensures answer { IfOk result (λ shown. IsAnswer
         (IsSpentOf work.old.nodes) machine.now schedule.old.plans ask.entry.now shown.reply
@@ -166,8 +167,8 @@ pub(crate) fn answer_with_tree<N: Network>(
     ensures stays { OnErr result (schedule.new ≡ schedule.old) }
     ensures work { work.new ≡ work.old }
     ensures board { board.new.made_for ≡ board.old.made_for }
-    ensures marks { N.max_marks board.new.net ≡ N.max_marks board.old.net }
-    ensures rests { IsAtRest N.net N.content N.past board.new machine.now }
+    ensures marks { N.reading.max_marks board.new.net ≡ N.reading.max_marks board.old.net }
+    ensures rests { IsAtRest N.reading board.new machine.now }
 {
     match plan(board, work, machine, ask) {
         Ok(mut trial) => match trial.show(alloc, work, machine) {

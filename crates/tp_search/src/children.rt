@@ -46,23 +46,23 @@ fn dive_from<N: Network>(
     child: Laid,
 ) -> bool
     requires posed { IsPosed problem }
-    requires carries { CanDive N.net N.content N.past N.max_marks board.old problem.machine.now
+    requires carries { CanDive N.reading board.old problem.machine.now
         problem.ask.now child }
-    requires marks { HasMarks N.net N.content N.past N.max_marks 1 board.old }
+    requires marks { HasMarks N.reading 1 board.old }
     ensures found { IsTrue result
-        → HasFound N.net N.content N.past N.max_marks board.old board.new
+        → HasFound N.reading board.old board.new
         problem.entry.machine.now problem.entry.ask.now opening.old.bound }
-    ensures back { IsFalse result → IsBack N.net N.content N.past N.max_marks board.old board.new
+    ensures back { IsFalse result → IsBack N.reading board.old board.new
         problem.entry.machine.now }
-    ensures same { opening.new ≡ record opening.old { dived = opening.new.dived } }
+    ensures same { opening.new ≡ record opening.old { barred = opening.new.barred } }
 {
-    if opening.parent.is_none() || bound != opening.bound || opening.dived == Some(bound) {
+    if opening.parent.is_none() || bound != opening.bound || opening.barred == Some(bound) {
         return false;
     }
     if dive(board, problem, bound, child) {
         return true;
     }
-    opening.dived = Some(bound);
+    opening.barred = Some(bound);
     false
 }
 
@@ -78,25 +78,25 @@ fn end_child<N: Network>(
     requires posed { IsPosed problem }
     requires child { IsNewChild problem.machine.now problem.ask.now opening.old.goal child
         (length (holds_of_act (action_at problem.machine.now child.act.0))) }
-    requires laid { IsLaid N.net N.content N.past N.max_marks board.old problem.machine.now
+    requires laid { IsLaid N.reading board.old problem.machine.now
         problem.ask.now opening.old.goal child.first
         (choice_with problem.machine.now child.act child.choice.places ∷ choices_by
         problem.machine.now (choices_before store.old.entries opening.old.parent)) }
     requires count { child.count ≡ suc (length (choices_by problem.machine.now
         (choices_before store.old.entries opening.old.parent))) }
-    requires marks { HasMarks N.net N.content N.past N.max_marks 1 board.old }
+    requires marks { HasMarks N.reading 1 board.old }
     requires fresh { IsFresh problem.machine.now problem.ask.now opening.old store.old }
     requires bounds { HasBounds problem.machine.now problem.ask.now store.old }
     requires progress { IsAtProgress problem.machine.now board.old.plans problem.ask.now opening.old
         store.old (up_to child.act.0
         (choice_with problem.machine.now child.act child.choice.places).places) }
     ensures found { IsTrue result
-        → HasFound N.net N.content N.past N.max_marks board.old board.new
+        → HasFound N.reading board.old board.new
         problem.entry.machine.now problem.entry.ask.now opening.old.bound }
     ensures progress { IsFalse result → IsAtProgress problem.entry.machine.now board.old.plans
         problem.entry.ask.now opening.new store.new (through child.act.0
         (choice_with problem.entry.machine.now child.act child.choice.places).places) }
-    ensures back { IsFalse result → IsBack N.net N.content N.past N.max_marks board.old board.new
+    ensures back { IsFalse result → IsBack N.reading board.old board.new
         problem.entry.machine.now }
     ensures same { IsSameOpening opening.old opening.new store.old store.new }
 {
@@ -134,25 +134,25 @@ fn place_rest<N: Network>(
 ) -> bool
     requires posed { IsPosed problem }
     requires child { IsNewChild problem.machine.now problem.ask.now opening.old.goal child hold }
-    requires laid { IsLaid N.net N.content N.past N.max_marks board.old problem.machine.now
+    requires laid { IsLaid N.reading board.old problem.machine.now
         problem.ask.now opening.old.goal child.first
         (record { act = child.act; places = take hold child.choice.places } ∷ choices_by
         problem.machine.now (choices_before store.old.entries opening.old.parent)) }
     requires count { child.count ≡ suc (length (choices_by problem.machine.now
         (choices_before store.old.entries opening.old.parent))) }
-    requires marks { HasMarks N.net N.content N.past N.max_marks (5 - hold) board.old }
+    requires marks { HasMarks N.reading (5 - hold) board.old }
     requires fresh { IsFresh problem.machine.now problem.ask.now opening.old store.old }
     requires bounds { HasBounds problem.machine.now problem.ask.now store.old }
     requires progress { IsAtProgress problem.machine.now board.old.plans problem.ask.now opening.old
         store.old (up_to child.act.0 (take hold child.choice.places)) }
     ensures found { IsTrue result
-        → HasFound N.net N.content N.past N.max_marks board.old board.new
+        → HasFound N.reading board.old board.new
         problem.entry.machine.now problem.entry.ask.now opening.old.bound }
     ensures progress { IsFalse result → IsAtProgress problem.entry.machine.now board.old.plans
         problem.entry.ask.now opening.new store.new
         (through child.act.0 (take hold child.choice.places)) }
     ensures same { IsSameOpening opening.old opening.new store.old store.new }
-    ensures back { IsFalse result → IsBack N.net N.content N.past N.max_marks board.old board.new
+    ensures back { IsFalse result → IsBack N.reading board.old board.new
         problem.entry.machine.now }
 {
     let holds = &problem.machine.actions.get(child.act.0 as u32).holds;
@@ -194,24 +194,24 @@ fn open_act<N: Network>(
 ) -> bool
     requires known { act.0 < length problem.machine.now.actions }
     requires posed { IsPosed problem }
-    requires opened { CarriesOpened N.net N.content N.past N.max_marks board.old problem.machine.now
+    requires opened { CarriesOpened N.reading board.old problem.machine.now
         problem.ask.now opening.old store.old laid.first }
     requires count { laid.count
         ≡ length (choices_by problem.machine.now
         (choices_before store.old.entries opening.old.parent)) }
-    requires marks { HasMarks N.net N.content N.past N.max_marks 6 board.old }
+    requires marks { HasMarks N.reading 6 board.old }
     requires fewer { kept_of problem.ask.now
         + length (choices_by problem.machine.now
         (choices_before store.old.entries opening.old.parent)) < 64 }
     requires progress { IsAtProgress problem.machine.now board.old.plans problem.ask.now opening.old
         store.old (up_to act.0 []) }
     ensures found { IsTrue result
-        → HasFound N.net N.content N.past N.max_marks board.old board.new
+        → HasFound N.reading board.old board.new
         problem.entry.machine.now problem.entry.ask.now opening.old.bound }
     ensures progress { IsFalse result → IsAtProgress problem.entry.machine.now board.old.plans
         problem.entry.ask.now opening.new store.new (up_to (act.0 + 1) []) }
     ensures same { IsSameOpening opening.old opening.new store.old store.new }
-    ensures back { IsFalse result → IsBack N.net N.content N.past N.max_marks board.old board.new
+    ensures back { IsFalse result → IsBack N.reading board.old board.new
         problem.entry.machine.now }
 {
     marks_keep_boards::<N>();
@@ -263,18 +263,18 @@ fn open_stop<N: Network>(
     requires count { laid.count
         ≡ length (choices_by problem.machine.now
         (choices_before store.old.entries opening.old.parent)) }
-    requires opened { CarriesOpened N.net N.content N.past N.max_marks board.old problem.machine.now
+    requires opened { CarriesOpened N.reading board.old problem.machine.now
         problem.ask.now opening.old store.old laid.first }
-    requires marks { HasMarks N.net N.content N.past N.max_marks 1 board.old }
+    requires marks { HasMarks N.reading 1 board.old }
     requires progress { IsAtProgress problem.machine.now board.old.plans problem.ask.now opening.old
         store.old nothing }
     ensures found { IsTrue result
-        → HasFound N.net N.content N.past N.max_marks board.old board.new
+        → HasFound N.reading board.old board.new
         problem.entry.machine.now problem.entry.ask.now opening.old.bound }
     ensures progress { IsFalse result → IsAtProgress problem.entry.machine.now board.old.plans
         problem.entry.ask.now opening.new store.new (up_to 0 []) }
     ensures same { IsSameOpening opening.old opening.new store.old store.new }
-    ensures back { IsFalse result → IsBack N.net N.content N.past N.max_marks board.old board.new
+    ensures back { IsFalse result → IsBack N.reading board.old board.new
         problem.entry.machine.now }
 {
     marks_keep_boards::<N>();
@@ -318,19 +318,19 @@ pub(crate) fn open_list<N: Network>(
         ≡ length (choices_by problem.machine.now
         (choices_before store.old.entries opening.old.parent)) }
     requires posed { IsPosed problem }
-    requires opened { CarriesOpened N.net N.content N.past N.max_marks board.old problem.machine.now
+    requires opened { CarriesOpened N.reading board.old problem.machine.now
         problem.ask.now opening.old store.old laid.first }
-    requires marks { HasMarks N.net N.content N.past N.max_marks 6 board.old }
+    requires marks { HasMarks N.reading 6 board.old }
     requires progress { IsAtProgress problem.machine.now board.old.plans problem.ask.now opening.old
         store.old nothing }
     ensures found { IsTrue result
-        → HasFound N.net N.content N.past N.max_marks board.old board.new
+        → HasFound N.reading board.old board.new
         problem.entry.machine.now problem.entry.ask.now opening.old.bound }
     ensures progress { IsFalse result → IsAtProgress problem.entry.machine.now board.old.plans
         problem.entry.ask.now opening.new store.new
         (up_to (length problem.entry.machine.now.actions) []) }
     ensures same { IsSameOpening opening.old opening.new store.old store.new }
-    ensures back { IsFalse result → IsBack N.net N.content N.past N.max_marks board.old board.new
+    ensures back { IsFalse result → IsBack N.reading board.old board.new
         problem.entry.machine.now }
 {
     if open_stop(store, opening, board, problem, laid) {

@@ -25,16 +25,16 @@ fn place_within<N: Network>(
     hold: u32,
 ) -> bool
     requires placing { (list : Laid)
-        × IsPlacing N.net N.content N.past N.max_marks board.old problem.machine.now
+        × IsPlacing N.reading board.old problem.machine.now
         problem.ask.now act hold list }
     requires known { act.0 < length problem.machine.now.actions }
-    requires marks { HasMarks N.net N.content N.past N.max_marks (5 - hold) board.old }
+    requires marks { HasMarks N.reading (5 - hold) board.old }
     ensures deeper { IsTrue result → (list : Laid)
-        → IsPlacing N.net N.content N.past N.max_marks board.old problem.entry.machine.now
+        → IsPlacing N.reading board.old problem.entry.machine.now
         problem.entry.ask.now act hold list
-        → IsDeeper N.net N.content N.past N.max_marks board.old board.new
+        → IsDeeper N.reading board.old board.new
         problem.entry.machine.now problem.entry.ask.now bound list }
-    ensures back { IsFalse result → IsBack N.net N.content N.past N.max_marks board.old board.new
+    ensures back { IsFalse result → IsBack N.reading board.old board.new
         problem.entry.machine.now }
 {
     if board.end_bound() > bound {
@@ -70,7 +70,7 @@ fn place_within<N: Network>(
 fn can_go_on<N: Network>(board: &Board<N>, problem: Problem, list: Laid) -> bool
     requires most { kept_of problem.ask.now + list.count ≤ 64 }
     ensures fewer { IsTrue result → kept_of problem.entry.ask.now + list.count < 64 }
-    ensures marks { IsTrue result → HasMarks N.net N.content N.past N.max_marks 6 board.now }
+    ensures marks { IsTrue result → HasMarks N.reading 6 board.now }
 {
     problem.ask.origin.kept() + list.count < 64 && board.spare_marks() >= 6
 }
@@ -86,15 +86,15 @@ fn step_by<N: Network>(
 ) -> Option<Laid>
     requires posed { IsPosed problem }
     requires known { act.0 < length problem.machine.now.actions }
-    requires carries { CanDive N.net N.content N.past N.max_marks board.old problem.machine.now
+    requires carries { CanDive N.reading board.old problem.machine.now
         problem.ask.now list }
     requires fewer { kept_of problem.ask.now + list.count < 64 }
-    requires marks { HasMarks N.net N.content N.past N.max_marks 6 board.old }
+    requires marks { HasMarks N.reading 6 board.old }
     ensures deeper { IfSome result
-        (IsDeeper N.net N.content N.past N.max_marks board.old board.new
+        (IsDeeper N.reading board.old board.new
         problem.entry.machine.now problem.entry.ask.now bound) }
     ensures count { IfSome result (λ next. next.count ≡ list.count + 1) }
-    ensures back { result ≡ None → IsBack N.net N.content N.past N.max_marks board.old board.new
+    ensures back { result ≡ None → IsBack N.reading board.old board.new
         problem.entry.machine.now }
 {
     marks_keep_boards::<N>();
@@ -126,13 +126,13 @@ fn step_down<N: Network>(
     list: Laid,
 ) -> Option<Laid>
     requires posed { IsPosed problem }
-    requires carries { CanDive N.net N.content N.past N.max_marks board.old problem.machine.now
+    requires carries { CanDive N.reading board.old problem.machine.now
         problem.ask.now list }
     ensures deeper { IfSome result
-        (IsDeeper N.net N.content N.past N.max_marks board.old board.new
+        (IsDeeper N.reading board.old board.new
         problem.entry.machine.now problem.entry.ask.now bound) }
     ensures count { IfSome result (λ next. next.count ≡ list.count + 1) }
-    ensures back { result ≡ None → IsBack N.net N.content N.past N.max_marks board.old board.new
+    ensures back { result ≡ None → IsBack N.reading board.old board.new
         problem.entry.machine.now }
 {
     if !can_go_on(board, problem, list) {
@@ -157,13 +157,13 @@ pub(crate) fn dive<N: Network>(
     list: Laid,
 ) -> bool
     requires posed { IsPosed problem }
-    requires carries { CanDive N.net N.content N.past N.max_marks board.old problem.machine.now
+    requires carries { CanDive N.reading board.old problem.machine.now
         problem.ask.now list }
-    requires marks { HasMarks N.net N.content N.past N.max_marks 1 board.old }
+    requires marks { HasMarks N.reading 1 board.old }
     ensures found { IsTrue result
-        → HasFound N.net N.content N.past N.max_marks board.old board.new
+        → HasFound N.reading board.old board.new
         problem.entry.machine.now problem.entry.ask.now bound }
-    ensures back { IsFalse result → IsBack N.net N.content N.past N.max_marks board.old board.new
+    ensures back { IsFalse result → IsBack N.reading board.old board.new
         problem.entry.machine.now }
 {
     let Origin::Feeder = problem.ask.origin else {

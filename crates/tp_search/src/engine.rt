@@ -3,7 +3,7 @@ ghost use Rattle.std.specs.Prelude.{◌≡◌, ◌<◌, ◌≤◌, ◌⊎◌, �
 ghost use Rattle.tp_schedule.specs.Planning.{CanAsk, CanSettle, HasTimeFrom, IsAnswer, IsSettled};
 ghost use Rattle.tp_schedule.specs.Planning.Deed.{replied};
 ghost use Rattle.tp_schedule.specs.declared.parts.Origin.TheVariants.{Feeder};
-ghost use Rattle.tp_placing.specs.Inside.{most_edges, most_points};
+ghost use Rattle.tp_placing.specs.Inside.{most_edges, most_points, most_steps};
 ghost use Rattle.tp_placing.specs.Writing.{IsLoadedFrom};
 ghost use Rattle.tp_search.specs.Boards.{IsAtRest};
 ghost use Rattle.tp_search.specs.Engines.{AddsTree, EngineLasts, HasFewLists, IsSameEngine, KeepsTrees, Serves, StepsOn, list_of};
@@ -24,7 +24,6 @@ use tp_schedule::{Ask, Halt, Origin, Planner, Reply, Schedule};
 /// A planner for machines with the same numbers of locations and resources and the same window as the one that it was made
 /// for. It stores as many lists of choices as it has nodes: the budget of an ask. With bounds it keeps a tree for each answer that
 /// is a plan or a none, in their order. Its board is kept from ask to ask where it was left at rest, and follows the schedule.
-#[derive(Drop)]
 pub struct Engine<N: Network> {
     alloc: Global,
     work: Workspace,
@@ -32,6 +31,20 @@ pub struct Engine<N: Network> {
     kept: bool,
     bounds: bool,
     trees: Vec<BoundTree>,
+}
+
+// What becomes of its parts is proved here, once for all who let go of one.
+impl<N: Network + Drop> Drop for Engine<N> {
+    fn drop(self) {
+        let Engine {
+            alloc: _,
+            work: _,
+            board: _,
+            kept: _,
+            bounds: _,
+            trees: _,
+        } = self;
+    }
 }
 
 impl<N: Network> Model for Engine<N> {
@@ -47,7 +60,7 @@ impl<N: Network> Model for Engine<N> {
       trees = e.trees.items;
     } };
 
-    ghost invariant = { λ e. IsEngine N.max_marks e.work e.board };
+    ghost invariant = { λ e. IsEngine N.reading.max_marks e.work e.board };
 }
 
 impl<N: Network + Drop> Engine<N> {
@@ -60,14 +73,15 @@ impl<N: Network + Drop> Engine<N> {
         nodes: u32,
         bounds: bool,
     ) -> Result<Engine<N>, Memory>
-        requires points { most_points ≤ N.max_points net }
-        requires edges { most_edges ≤ N.max_edges net }
-        requires marks { 330 ≤ N.max_marks net }
+        requires points { most_points ≤ N.reading.max_points net }
+        requires edges { most_edges ≤ N.reading.max_edges net }
+        requires marks { most_steps ≤ N.reading.max_marks net }
         ensures serves { IfOk result (λ e.
-            Serves N.net N.content N.past e machine.now) }
+            Serves N.reading e machine.now) }
         ensures nodes { IfOk result (λ e. e.work.nodes ≡ nodes) }
         ensures bounds { IfOk result (λ e. (e.bounds ≡ bounds) × (e.trees ≡ [])) }
-        ensures kept { IfOk result (λ e. N.max_marks e.board.net ≡ N.max_marks net) }
+        ensures kept { IfOk result (λ e.
+            N.reading.max_marks e.board.net ≡ N.reading.max_marks net) }
     {
         Ok(Engine {
             alloc,
@@ -104,14 +118,14 @@ impl<N: Network> Engine<N> {
 
     /// Loads the board for an ask: it follows the schedule where it is kept. It is kept from then on.
     fn ready(&mut self, machine: &Machine, schedule: &Schedule, ask: &Ask)
-        requires served { Serves N.net N.content N.past self.old machine.now }
+        requires served { Serves N.reading self.old machine.now }
         requires can_ask { CanAsk machine.now schedule.now.plans ask.now }
         ensures loaded { IsLoadedFrom machine.now schedule.now.plans ask.entry.now
             self.new.board.plans }
         ensures asked { self.new.board.ask ≡ Some ask.entry.now }
-        ensures rests { IsAtRest N.net N.content N.past self.new.board machine.now }
-        ensures served { Serves N.net N.content N.past self.new machine.now }
-        ensures same { IsSameEngine N.max_marks self.old self.new }
+        ensures rests { IsAtRest N.reading self.new.board machine.now }
+        ensures served { Serves N.reading self.new machine.now }
+        ensures same { IsSameEngine N.reading.max_marks self.old self.new }
         ensures trees { self.new.trees ≡ self.old.trees }
     {
         let kept = self.kept;
@@ -131,13 +145,13 @@ impl<N: Network> Engine<N> {
         schedule: &Schedule,
         ask: &Ask,
     ) -> Result<Tick, NoPlan>
-        requires served { Serves N.net N.content N.past self.old machine.now }
+        requires served { Serves N.reading self.old machine.now }
         requires can_ask { CanAsk machine.now schedule.now.plans ask.now }
         ensures end { IfOk result (EndsEarliest machine.now schedule.now.plans ask.entry.now) }
         ensures none { IfErr result
             (IsNoPlan machine.now schedule.now.plans ask.entry.now self.old.work.nodes) }
-        ensures still_serves { Serves N.net N.content N.past self.new machine.now }
-        ensures same { IsSameEngine N.max_marks self.old self.new }
+        ensures still_serves { Serves N.reading self.new machine.now }
+        ensures same { IsSameEngine N.reading.max_marks self.old self.new }
         ensures trees { self.new.trees ≡ self.old.trees }
     {
         self.ready(machine, schedule, ask);
@@ -151,11 +165,11 @@ impl<N: Network> Engine<N> {
         schedule: &mut Schedule,
         ask: &Ask,
     ) -> Result<Reply, Halt>
-        requires served { Serves N.net N.content N.past self.old machine.now }
+        requires served { Serves N.reading self.old machine.now }
         requires loaded { IsLoadedFrom machine.now schedule.old.plans ask.now
             self.old.board.plans }
         requires asked { self.old.board.ask ≡ Some ask.now }
-        requires rests { IsAtRest N.net N.content N.past self.old.board machine.now }
+        requires rests { IsAtRest N.reading self.old.board machine.now }
         requires spare { ask.now.origin ≡ Feeder → 0 < schedule.old.spare }
         ensures answer { IfOk result
             (λ reply. IsAnswer (IsSpentOf self.old.work.nodes) machine.now schedule.old.plans
@@ -166,8 +180,8 @@ impl<N: Network> Engine<N> {
         ensures trees { IfOk result
             (λ reply. AddsTree machine.now schedule.old.plans ask.entry.now reply
             schedule.new.plans self.old.trees self.new.trees) }
-        ensures still_serves { Serves N.net N.content N.past self.new machine.now }
-        ensures same { IsSameEngine N.max_marks self.old self.new }
+        ensures still_serves { Serves N.reading self.new machine.now }
+        ensures same { IsSameEngine N.reading.max_marks self.old self.new }
         ensures memory { IfErr result (λ halt. halt ≡ Halt.Memory) }
         ensures stays { OnErr result (schedule.new.plans ≡ schedule.old.plans) }
     {
@@ -217,7 +231,7 @@ fn make_spare(schedule: &mut Schedule, ask: &Ask) -> Result<(), Memory>
 }
 
 impl<N: Network> Planner for Engine<N> {
-    ghost serves = { λ e machine. Serves N.net N.content N.past e machine };
+    ghost serves = { λ e machine. Serves N.reading e machine };
 
     ghost Lasting = { EngineLasts };
 
@@ -225,16 +239,16 @@ impl<N: Network> Planner for Engine<N> {
 
     ghost stops = { λ e. 0 };
 
-    ghost spent = { λ e. IsSpentOf e.work.nodes };
-
-    ghost steps = { λ e machine plans deed plans' e'.
-        StepsOn N.max_marks e machine plans deed plans' e' };
-
-    ghost stop_steps = { λ e machine plans due e'. ⊥ };
+    ghost rules = { record {
+      spent = λ e. IsSpentOf e.work.nodes;
+      steps = λ e machine plans deed plans' e'.
+          StepsOn N.reading.max_marks e machine plans deed plans' e';
+      stop_steps = λ e machine plans due e'. ⊥;
+    } };
 
     /// Wants memory for the spare plan of a new copy, and with bounds for trees, and never stops.
     fn ask(&mut self, machine: &Machine, schedule: &mut Schedule, ask: &Ask) -> Result<Reply, Halt>
-        requires served { Serves N.net N.content N.past self.old machine.now }
+        requires served { Serves N.reading self.old machine.now }
         requires can_ask { CanAsk machine.now schedule.old.plans ask.now }
         ensures answer { IfOk result
             (λ reply. IsAnswer (IsSpentOf self.old.work.nodes) machine.now schedule.old.plans
@@ -242,8 +256,8 @@ impl<N: Network> Planner for Engine<N> {
         ensures few { IfOk result
             (λ reply. HasFewLists self.old.work.nodes machine.now schedule.old.plans
             (replied ask.entry.now reply)) }
-        ensures still_serves { Serves N.net N.content N.past self.new machine.now }
-        ensures same { IsSameEngine N.max_marks self.old self.new }
+        ensures still_serves { Serves N.reading self.new machine.now }
+        ensures same { IsSameEngine N.reading.max_marks self.old self.new }
         ensures memory { IfErr result (λ halt. halt ≡ Halt.Memory) }
         ensures trees { IfOk result
             (λ reply. KeepsTrees self.old.bounds machine.now schedule.old.plans
@@ -266,12 +280,12 @@ impl<N: Network> Planner for Engine<N> {
 
     /// Takes no memory, and never stops.
     fn settle(&mut self, machine: &Machine, schedule: &mut Schedule, now: Tick) -> Result<(), Halt>
-        requires served { Serves N.net N.content N.past self.old machine.now }
+        requires served { Serves N.reading self.old machine.now }
         requires can_settle { CanSettle machine.now now schedule.old.plans }
         ensures settles { IsSettled machine.now now schedule.old.plans schedule.new.plans }
         ensures spare { schedule.new.spare ≡ schedule.old.spare }
-        ensures still_serves { Serves N.net N.content N.past self.new machine.now }
-        ensures same { IsSameEngine N.max_marks self.old self.new }
+        ensures still_serves { Serves N.reading self.new machine.now }
+        ensures same { IsSameEngine N.reading.max_marks self.old self.new }
         ensures trees { self.new.trees ≡ self.old.trees }
         ensures done { IsOk result }
     {

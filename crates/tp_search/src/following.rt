@@ -28,18 +28,18 @@ pub(crate) struct Laid {
 
 /// Places each hold of the newest choice, which has no place yet.
 fn place_all<N: Network>(board: &mut Board<N>, machine: &Machine, act: ActId, places: &[u32; 4])
-    requires stands { Stands N.net N.content N.past board.old machine.now }
+    requires stands { Stands N.reading board.old machine.now }
     requires known { act.0 < length machine.now.actions }
     requires waits { IsSomeAnd board.old.ask
         (λ ask. IsSomeAnd (suffix_of board.old)
         (AwaitsPlaces machine.now board.old.plans ask act places.now)) }
-    ensures stands { Stands N.net N.content N.past board.new machine.now }
+    ensures stands { Stands N.reading board.new machine.now }
     ensures suffix { IsSomeAnd (suffix_of board.old)
         (λ x. suffix_of board.new
         ≡ Some (with_places
         (take (length (holds_of_act (action_at machine.now act.0))) places.now)
         x)) }
-    ensures same { IsSameButSteps N.past N.max_marks board.old board.new }
+    ensures same { IsSameButSteps N.reading board.old board.new }
 {
     let holds = &machine.actions.get(act.0 as u32).holds;
     'holds: for hold in 0..holds.len() {
@@ -58,16 +58,16 @@ pub(crate) fn lay<N: Network>(
     choice: &Choice,
 ) -> State
     requires posed { IsPosed problem }
-    requires laid { HasList N.net N.content N.past board.old problem.machine.now problem.ask.now
+    requires laid { HasList N.reading board.old problem.machine.now problem.ask.now
         first (going choice.now.goal (choices_of (suffix_of board.old)).choices) }
     requires opens { IsOpen problem.machine.now board.old.plans problem.ask.now
         (child_by problem.machine.now choice.now.goal
         (choices_of (suffix_of board.old)).choices choice.now) }
-    ensures laid { HasList N.net N.content N.past board.new problem.entry.machine.now
+    ensures laid { HasList N.reading board.new problem.entry.machine.now
         problem.entry.ask.now result
         (child_by problem.entry.machine.now choice.now.goal
         (choices_of (suffix_of board.old)).choices choice.now) }
-    ensures same { IsSameButSteps N.past N.max_marks board.old board.new }
+    ensures same { IsSameButSteps N.reading board.old board.new }
 {
     let Some(act) = choice.act else {
         match board.stop() {
@@ -89,12 +89,12 @@ pub(crate) fn lay<N: Network>(
 /// Lays the list of a goal without choices, which is open, on a board that has no choices.
 pub(crate) fn follow_goal<N: Network>(board: &mut Board<N>, problem: Problem, goal: State)
     requires posed { IsPosed problem }
-    requires ready { IsReady N.net N.content N.past N.max_marks board.old problem.machine.now
+    requires ready { IsReady N.reading board.old problem.machine.now
         problem.ask.now }
     requires opens { IsOpen problem.machine.now board.old.plans problem.ask.now (going goal []) }
-    ensures laid { HasList N.net N.content N.past board.new problem.entry.machine.now
+    ensures laid { HasList N.reading board.new problem.entry.machine.now
         problem.entry.ask.now goal (going goal []) }
-    ensures same { IsSameButSteps N.past N.max_marks board.old board.new }
+    ensures same { IsSameButSteps N.reading board.old board.new }
 {
     let Some(room) = room_of(problem, goal) else {
         unreachable!()
@@ -130,12 +130,12 @@ pub(crate) fn lay_choices<N: Network>(
     requires opens { IsOpen problem.machine.now board.old.plans problem.ask.now
         (list_by problem.machine.now (stored_at store.now.entries node)) }
     requires goal { goal ≡ (list_by problem.machine.now (stored_at store.now.entries node)).goal }
-    requires laid { HasList N.net N.content N.past board.old problem.machine.now problem.ask.now
+    requires laid { HasList N.reading board.old problem.machine.now problem.ask.now
         goal (going goal []) }
-    ensures laid { HasList N.net N.content N.past board.new problem.entry.machine.now
+    ensures laid { HasList N.reading board.new problem.entry.machine.now
         problem.entry.ask.now result
         (list_by problem.entry.machine.now (stored_at store.now.entries node)) }
-    ensures same { IsSameButSteps N.past N.max_marks board.old board.new }
+    ensures same { IsSameButSteps N.reading board.old board.new }
 {
     let mut first = goal;
     'depths: for at in 0..store.depth(node) {
@@ -153,17 +153,17 @@ pub(crate) fn follow<N: Network>(
     node: u32,
 ) -> State
     requires posed { IsPosed problem }
-    requires ready { IsReady N.net N.content N.past N.max_marks board.old problem.machine.now
+    requires ready { IsReady N.reading board.old problem.machine.now
         problem.ask.now }
     requires there { node < length store.now.entries }
     requires stored { let choices = stored_at store.now.entries node in IsStoredList
         (list_by problem.machine.now choices).goal choices }
     requires opens { IsOpen problem.machine.now board.old.plans problem.ask.now
         (list_by problem.machine.now (stored_at store.now.entries node)) }
-    ensures laid { HasList N.net N.content N.past board.new problem.entry.machine.now
+    ensures laid { HasList N.reading board.new problem.entry.machine.now
         problem.entry.ask.now result
         (list_by problem.entry.machine.now (stored_at store.now.entries node)) }
-    ensures same { IsSameButSteps N.past N.max_marks board.old board.new }
+    ensures same { IsSameButSteps N.reading board.old board.new }
 {
     let goal = goal_of(store, node);
     follow_goal(board, problem, goal);

@@ -25,9 +25,9 @@ fn try_goal<N: Network>(board: &mut Board<N>, problem: Problem, number: u32) -> 
     requires posed { IsPosed problem }
     requires known { number < 8 * length problem.machine.now.locations }
     requires kept { kept_of problem.ask.now ≤ 64 }
-    requires ready { IsReady N.net N.content N.past N.max_marks board.old problem.machine.now
+    requires ready { IsReady N.reading board.old problem.machine.now
         problem.ask.now }
-    requires marks { HasMarks N.net N.content N.past N.max_marks 1 board.old }
+    requires marks { HasMarks N.reading 1 board.old }
     ensures state { IfSome result (λ g. g.state ≡ state_at number) }
     ensures bound { IfSome result
         (λ g. IsBound problem.entry.machine.now board.old.plans problem.entry.ask.now
@@ -35,7 +35,7 @@ fn try_goal<N: Network>(board: &mut Board<N>, problem: Problem, number: u32) -> 
     ensures none { IfNone result
         (¬ IsOpen problem.entry.machine.now board.old.plans problem.entry.ask.now
         (going (state_at number) [])) }
-    ensures back { IsBack N.net N.content N.past N.max_marks board.old board.new
+    ensures back { IsBack N.reading board.old board.new
         problem.entry.machine.now }
 {
     marks_keep_boards::<N>();
@@ -62,13 +62,13 @@ pub(crate) fn find_goals<N: Network>(
 )
     requires posed { IsPosed problem }
     requires kept { kept_of problem.ask.now ≤ 64 }
-    requires ready { IsReady N.net N.content N.past N.max_marks board.old problem.machine.now
+    requires ready { IsReady N.reading board.old problem.machine.now
         problem.ask.now }
-    requires marks { HasMarks N.net N.content N.past N.max_marks 1 board.old }
+    requires marks { HasMarks N.reading 1 board.old }
     requires space { 8 * length problem.machine.now.locations ≤ vec_capacity goals.old }
     ensures goals { AreOpenGoals problem.entry.machine.now board.old.plans problem.entry.ask.now
         goals.new.items }
-    ensures back { IsBack N.net N.content N.past N.max_marks board.old board.new
+    ensures back { IsBack N.reading board.old board.new
         problem.entry.machine.now }
     ensures space { vec_capacity goals.old ≤ vec_capacity goals.new }
 {

@@ -41,10 +41,10 @@ pub(crate) struct Held {
 /// Takes the held list off the board, if there is one.
 pub(crate) fn take_off<N: Network>(board: &mut Board<N>, held: Option<Held>)
     requires over { (b : BoardValue N) × (machine : Machine) × (ask : Ask)
-        × IsOver N.net N.content N.past N.max_marks b board.old machine ask held }
+        × IsOver N.reading b board.old machine ask held }
     ensures back { (b : BoardValue N) (machine : Machine) (ask : Ask)
-        → IsOver N.net N.content N.past N.max_marks b board.old machine ask held
-        → IsBack N.net N.content N.past N.max_marks b board.new machine }
+        → IsOver N.reading b board.old machine ask held
+        → IsBack N.reading b board.new machine }
 {
     marks_keep_boards::<N>();
     let Some(list) = held else {
@@ -56,16 +56,16 @@ pub(crate) fn take_off<N: Network>(board: &mut Board<N>, held: Option<Held>)
 /// Takes the held list off the board, if there is one, and sets a mark.
 pub(crate) fn mark_anew<N: Network>(board: &mut Board<N>, held: Option<Held>) -> Mark
     requires over { (b : BoardValue N) × (machine : Machine) × (ask : Ask)
-        × HasMarks N.net N.content N.past N.max_marks 1 b
-        × IsOver N.net N.content N.past N.max_marks b board.old machine ask held }
+        × HasMarks N.reading 1 b
+        × IsOver N.reading b board.old machine ask held }
     ensures ready { (b : BoardValue N) (machine : Machine) (ask : Ask)
-        → IsReady N.net N.content N.past N.max_marks b machine ask
-        → IsOver N.net N.content N.past N.max_marks b board.old machine ask held
-        → IsReady N.net N.content N.past N.max_marks board.new machine ask }
+        → IsReady N.reading b machine ask
+        → IsOver N.reading b board.old machine ask held
+        → IsReady N.reading board.new machine ask }
     ensures since { (b : BoardValue N) (machine : Machine) (ask : Ask)
-        → IsReady N.net N.content N.past N.max_marks b machine ask
-        → IsOver N.net N.content N.past N.max_marks b board.old machine ask held
-        → IsLaidSince N.net N.content N.past N.max_marks b board.new machine ask
+        → IsReady N.reading b machine ask
+        → IsOver N.reading b board.old machine ask held
+        → IsLaidSince N.reading b board.new machine ask
         result.0 None }
 {
     marks_keep_boards::<N>();
@@ -76,15 +76,15 @@ pub(crate) fn mark_anew<N: Network>(board: &mut Board<N>, held: Option<Held>) ->
 /// Lays the list that was taken on a board without choices.
 fn lay_list<N: Network>(store: &Store, board: &mut Board<N>, problem: Problem, next: &Next) -> Laid
     requires posed { IsPosed problem }
-    requires ready { IsReady N.net N.content N.past N.max_marks board.old problem.machine.now
+    requires ready { IsReady N.reading board.old problem.machine.now
         problem.ask.now }
     requires can { CanLay problem.machine.now board.old.plans problem.ask.now store.now next.now }
-    ensures laid { HasList N.net N.content N.past board.new problem.entry.machine.now
+    ensures laid { HasList N.reading board.new problem.entry.machine.now
         problem.entry.ask.now result.first
         (next_list problem.entry.machine.now store.now next.entry.now) }
     ensures count { result.count
         ≡ length (choices_before store.now.entries (next_node next.entry.now)) }
-    ensures same { IsSameButSteps N.past N.max_marks board.old board.new }
+    ensures same { IsSameButSteps N.reading board.old board.new }
 {
     match *next {
         Next::Goal(goal) => {
@@ -114,12 +114,12 @@ fn lay_anew<N: Network>(
 ) -> Held
     requires posed { IsPosed problem }
     requires over { (b : BoardValue N)
-        × IsReady N.net N.content N.past N.max_marks b problem.machine.now problem.ask.now
-        × HasMarks N.net N.content N.past N.max_marks 1 b
-        × IsOver N.net N.content N.past N.max_marks b board.old problem.machine.now
+        × IsReady N.reading b problem.machine.now problem.ask.now
+        × HasMarks N.reading 1 b
+        × IsOver N.reading b board.old problem.machine.now
         problem.ask.now held }
     requires can { CanLay problem.machine.now board.old.plans problem.ask.now store.now next.now }
-    ensures laid { HasList N.net N.content N.past board.new problem.entry.machine.now
+    ensures laid { HasList N.reading board.new problem.entry.machine.now
         problem.entry.ask.now result.laid.first
         (next_list problem.entry.machine.now store.now next.entry.now) }
     ensures count { result.laid.count
@@ -127,11 +127,11 @@ fn lay_anew<N: Network>(
     ensures root { result.root ≡ None }
     ensures stored { result.stored ≡ length store.now.entries }
     ensures since { (b : BoardValue N)
-        → IsReady N.net N.content N.past N.max_marks b problem.entry.machine.now
+        → IsReady N.reading b problem.entry.machine.now
         problem.entry.ask.now
-        → IsOver N.net N.content N.past N.max_marks b board.old problem.entry.machine.now
+        → IsOver N.reading b board.old problem.entry.machine.now
         problem.entry.ask.now held
-        → IsLaidSince N.net N.content N.past N.max_marks b board.new problem.entry.machine.now
+        → IsLaidSince N.reading b board.new problem.entry.machine.now
         problem.entry.ask.now result.base.0 result.root }
 {
     let base = mark_anew(board, held);
@@ -153,20 +153,20 @@ fn lay_child<N: Network>(
     held: Held,
 ) -> Held
     requires posed { IsPosed problem }
-    requires holds { HoldsList N.net N.content N.past board.old problem.machine.now problem.ask.now
+    requires holds { HoldsList N.reading board.old problem.machine.now problem.ask.now
         store.now held }
     requires child { held.stored ≤ node }
     requires there { node < length store.now.entries }
     requires opens { IsOpen problem.machine.now board.old.plans problem.ask.now
         (list_at problem.machine.now store.now.entries node) }
-    ensures laid { HasList N.net N.content N.past board.new problem.entry.machine.now
+    ensures laid { HasList N.reading board.new problem.entry.machine.now
         problem.entry.ask.now result.laid.first
         (list_at problem.entry.machine.now store.now.entries node) }
     ensures count { result.laid.count ≡ length (choices_of store.now.entries node) }
     ensures stored { result.stored ≡ length store.now.entries }
     ensures base { result.base ≡ held.base }
     ensures root { result.root ≡ held.root }
-    ensures same { IsSameButSteps N.past N.max_marks board.old board.new }
+    ensures same { IsSameButSteps N.reading board.old board.new }
 {
     let depth = store.depth(node);
     let choice = store.choice_at(node, depth);
@@ -198,19 +198,19 @@ fn goal_mark(root: Option<Root>, goal: State) -> Option<Mark>
 fn back_to_goal<N: Network>(board: &mut Board<N>, problem: Problem, goal: State, held: Held) -> Mark
     requires posed { IsPosed problem }
     requires over { (b : BoardValue N)
-        × IsReady N.net N.content N.past N.max_marks b problem.machine.now problem.ask.now
-        × HasMarks N.net N.content N.past N.max_marks 1 b
-        × IsOver N.net N.content N.past N.max_marks b board.old problem.machine.now
+        × IsReady N.reading b problem.machine.now problem.ask.now
+        × HasMarks N.reading 1 b
+        × IsOver N.reading b board.old problem.machine.now
         problem.ask.now (Some held) }
     requires opens { IsOpen problem.machine.now board.old.plans problem.ask.now (going goal []) }
-    ensures laid { HasList N.net N.content N.past board.new problem.entry.machine.now
+    ensures laid { HasList N.reading board.new problem.entry.machine.now
         problem.entry.ask.now goal (going goal []) }
     ensures since { (b : BoardValue N)
-        → IsReady N.net N.content N.past N.max_marks b problem.entry.machine.now
+        → IsReady N.reading b problem.entry.machine.now
         problem.entry.ask.now
-        → IsOver N.net N.content N.past N.max_marks b board.old problem.entry.machine.now
+        → IsOver N.reading b board.old problem.entry.machine.now
         problem.entry.ask.now (Some held)
-        → IsLaidSince N.net N.content N.past N.max_marks b board.new problem.entry.machine.now
+        → IsLaidSince N.reading b board.new problem.entry.machine.now
         problem.entry.ask.now result.0 None }
 {
     marks_keep_boards::<N>();
@@ -233,28 +233,28 @@ fn lay_over_goal<N: Network>(
 ) -> Held
     requires posed { IsPosed problem }
     requires over { (b : BoardValue N)
-        × IsReady N.net N.content N.past N.max_marks b problem.machine.now problem.ask.now
-        × IsOver N.net N.content N.past N.max_marks b board.old problem.machine.now
+        × IsReady N.reading b problem.machine.now problem.ask.now
+        × IsOver N.reading b board.old problem.machine.now
         problem.ask.now (Some held) }
     requires room { (b : BoardValue N)
-        → IsOver N.net N.content N.past N.max_marks b board.old problem.machine.now
-        problem.ask.now (Some held) → HasMarks N.net N.content N.past N.max_marks 8 b }
+        → IsOver N.reading b board.old problem.machine.now
+        problem.ask.now (Some held) → HasMarks N.reading 8 b }
     requires there { node < length store.now.entries }
     requires stored { let choices = choices_of store.now.entries node in IsStoredList
         (list_by problem.machine.now choices).goal choices }
     requires opens { IsOpen problem.machine.now board.old.plans problem.ask.now
         (list_at problem.machine.now store.now.entries node) }
-    ensures laid { HasList N.net N.content N.past board.new problem.entry.machine.now
+    ensures laid { HasList N.reading board.new problem.entry.machine.now
         problem.entry.ask.now result.laid.first
         (list_at problem.entry.machine.now store.now.entries node) }
     ensures count { result.laid.count ≡ length (choices_of store.now.entries node) }
     ensures stored { result.stored ≡ length store.now.entries }
     ensures since { (b : BoardValue N)
-        → IsReady N.net N.content N.past N.max_marks b problem.entry.machine.now
+        → IsReady N.reading b problem.entry.machine.now
         problem.entry.ask.now
-        → IsOver N.net N.content N.past N.max_marks b board.old problem.entry.machine.now
+        → IsOver N.reading b board.old problem.entry.machine.now
         problem.entry.ask.now (Some held)
-        → IsLaidSince N.net N.content N.past N.max_marks b board.new problem.entry.machine.now
+        → IsLaidSince N.reading b board.new problem.entry.machine.now
         problem.entry.ask.now result.base.0 result.root }
 {
     marks_keep_boards::<N>();
@@ -276,8 +276,8 @@ fn lay_over_goal<N: Network>(
 /// Whether there is a mark for the goal beside those that an opening sets.
 fn can_keep_goal<N: Network>(board: &Board<N>, held: Held) -> bool
     ensures { IsTrue result → (b : BoardValue N) (machine : Machine) (ask : Ask)
-        → IsOver N.net N.content N.past N.max_marks b board.now machine ask (Some held)
-        → HasMarks N.net N.content N.past N.max_marks 8 b }
+        → IsOver N.reading b board.now machine ask (Some held)
+        → HasMarks N.reading 8 b }
 {
     held.root.is_some() || board.spare_marks() >= 7
 }
@@ -293,25 +293,25 @@ pub(crate) fn lay_next<N: Network>(
 ) -> Held
     requires posed { IsPosed problem }
     requires over { (b : BoardValue N)
-        × IsReady N.net N.content N.past N.max_marks b problem.machine.now problem.ask.now
-        × HasMarks N.net N.content N.past N.max_marks 1 b
-        × IsOver N.net N.content N.past N.max_marks b board.old problem.machine.now
+        × IsReady N.reading b problem.machine.now problem.ask.now
+        × HasMarks N.reading 1 b
+        × IsOver N.reading b board.old problem.machine.now
         problem.ask.now held }
-    requires holds { IfSome held (HoldsList N.net N.content N.past board.old problem.machine.now
+    requires holds { IfSome held (HoldsList N.reading board.old problem.machine.now
         problem.ask.now store.now) }
     requires can { CanLay problem.machine.now board.old.plans problem.ask.now store.now next.now }
-    ensures laid { HasList N.net N.content N.past board.new problem.entry.machine.now
+    ensures laid { HasList N.reading board.new problem.entry.machine.now
         problem.entry.ask.now result.laid.first
         (next_list problem.entry.machine.now store.now next.entry.now) }
     ensures count { result.laid.count
         ≡ length (choices_before store.now.entries (next_node next.entry.now)) }
     ensures stored { result.stored ≡ length store.now.entries }
     ensures since { (b : BoardValue N)
-        → IsReady N.net N.content N.past N.max_marks b problem.entry.machine.now
+        → IsReady N.reading b problem.entry.machine.now
         problem.entry.ask.now
-        → IsOver N.net N.content N.past N.max_marks b board.old problem.entry.machine.now
+        → IsOver N.reading b board.old problem.entry.machine.now
         problem.entry.ask.now held
-        → IsLaidSince N.net N.content N.past N.max_marks b board.new problem.entry.machine.now
+        → IsLaidSince N.reading b board.new problem.entry.machine.now
         problem.entry.ask.now result.base.0 result.root }
 {
     let Some(parent) = held else {

@@ -10,5 +10,5 @@ pub(crate) struct Opening {
     pub(crate) goal: State,
     pub(crate) bound: Tick,
     pub(crate) stored: u32,
-    pub(crate) dived: Option<Tick>,
+    pub(crate) barred: Option<Tick>,
 }

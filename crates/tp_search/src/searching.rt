@@ -63,12 +63,12 @@ fn best_by(store: &Store, bound: Tick) -> Option<u32>
 }
 
 /// How the opening of the list that was taken begins, after the last dive failed at this bound, if one did.
-fn opening_of(store: &Store, next: &Next, dived: Option<Tick>) -> Opening
+fn opening_of(store: &Store, next: &Next, barred: Option<Tick>) -> Opening
     requires { IfSome (next_node next.now)
         (λ node. (node < length store.now.entries)
         × (1 ≤ length (choices_before store.now.entries (Some node)))) }
     ensures { (machine : Machine)
-        → result ≡ record (opening_of machine store.now next.now) { dived = dived } }
+        → result ≡ record (opening_of machine store.now next.now) { barred = barred } }
 {
     match *next {
         Next::Goal(goal) => Opening {
@@ -76,27 +76,27 @@ fn opening_of(store: &Store, next: &Next, dived: Option<Tick>) -> Opening
             goal: goal.state,
             bound: goal.bound,
             stored: store.len(),
-            dived,
+            barred,
         },
         Next::Node(node) => Opening {
             parent: Some(node),
             goal: store.choice_at(node, store.depth(node)).goal,
             bound: store.bound(node),
             stored: store.len(),
-            dived,
+            barred,
         },
     }
 }
 
 /// The bound at which no dive is tried: the last one at which a dive failed, or that of the list that was taken, where few lists
 /// more can be stored.
-fn barred(store: &Store, next: &Next, dived: Option<Tick>) -> Option<Tick>
+fn bar_for(store: &Store, next: &Next, barred: Option<Tick>) -> Option<Tick>
     requires { IfSome (next_node next.now) (λ node. node < length store.now.entries) }
 {
     if store.spare() < DIVE_SPARE {
         Some(bound_of(store, next))
     } else {
-        dived
+        barred
     }
 }
 
@@ -109,26 +109,26 @@ fn open_next<N: Network>(
     problem: Problem,
     next: &Next,
     laid: Laid,
-    dived: &mut Option<Tick>,
+    barred: &mut Option<Tick>,
 ) -> bool
     requires posed { IsPosed problem }
-    requires laid { HasList N.net N.content N.past board.old problem.machine.now problem.ask.now
+    requires laid { HasList N.reading board.old problem.machine.now problem.ask.now
         laid.first (next_list problem.machine.now store.old next.now) }
     requires count { laid.count ≡ length (choices_before store.old.entries (next_node next.now)) }
-    requires marks { HasMarks N.net N.content N.past N.max_marks 6 board.old }
+    requires marks { HasMarks N.reading 6 board.old }
     requires can { CanOpen problem.machine.now board.old.plans problem.ask.now store.old next.now }
     ensures found { IsTrue result
-        → HasFound N.net N.content N.past N.max_marks board.old board.new
+        → HasFound N.reading board.old board.new
         problem.entry.machine.now problem.entry.ask.now (next_bound store.old next.entry.now) }
     ensures opened { IsFalse result → IsAllOpened problem.entry.machine.now board.old.plans
         problem.entry.ask.now store.old next.entry.now store.new }
-    ensures back { IsFalse result → IsBack N.net N.content N.past N.max_marks board.old board.new
+    ensures back { IsFalse result → IsBack N.reading board.old board.new
         problem.entry.machine.now }
     ensures grows { StoreGrows store.old store.new }
 {
-    let mut opening = opening_of(store, next, barred(store, next, *dived));
+    let mut opening = opening_of(store, next, bar_for(store, next, *barred));
     let found = open_list(store, &mut opening, board, problem, laid);
-    *dived = opening.dived;
+    *barred = opening.barred;
     found
 }
 
@@ -140,40 +140,40 @@ fn step<N: Network>(
     board: &mut Board<N>,
     problem: Problem,
     held: &mut Option<Held>,
-    dived: &mut Option<Tick>,
+    barred: &mut Option<Tick>,
 ) -> Option<Outcome>
     requires posed { IsPosed problem }
     requires goal { IsKnownGoal problem.machine.now problem.ask.now.goal }
     requires over { (b : BoardValue N)
-        × IsReady N.net N.content N.past N.max_marks b problem.machine.now problem.ask.now
-        × HasMarks N.net N.content N.past N.max_marks 7 b
-        × IsOver N.net N.content N.past N.max_marks b board.old problem.machine.now
+        × IsReady N.reading b problem.machine.now problem.ask.now
+        × HasMarks N.reading 7 b
+        × IsOver N.reading b board.old problem.machine.now
         problem.ask.now held.old }
-    requires holds { IfSome held.old (HoldsList N.net N.content N.past board.old
+    requires holds { IfSome held.old (HoldsList N.reading board.old
         problem.machine.now problem.ask.now store.old) }
     requires searching { (bound : ℕ)
         × IsSearching problem.machine.now board.old.plans problem.ask.now goals.old.items store.old
         bound }
     ensures ends { (b : BoardValue N)
-        → IsReady N.net N.content N.past N.max_marks b problem.entry.machine.now
+        → IsReady N.reading b problem.entry.machine.now
         problem.entry.ask.now
-        → IsOver N.net N.content N.past N.max_marks b board.old problem.entry.machine.now
+        → IsOver N.reading b board.old problem.entry.machine.now
         problem.entry.ask.now held.old
         → IfSome result
-        (IsOutcome N.net N.content N.past N.max_marks b board.new problem.entry.machine.now
-        problem.entry.ask.now store.old.room) }
+        (IsOutcome N.reading b board.new problem.entry.machine.now
+        problem.entry.ask.now store.old.capacity) }
     ensures goes_on { result ≡ None → (bound : ℕ)
         × IsSearching problem.entry.machine.now board.old.plans problem.entry.ask.now
         goals.new.items store.new bound }
     ensures over { (b : BoardValue N)
-        → IsReady N.net N.content N.past N.max_marks b problem.entry.machine.now
+        → IsReady N.reading b problem.entry.machine.now
         problem.entry.ask.now
-        → IsOver N.net N.content N.past N.max_marks b board.old problem.entry.machine.now
+        → IsOver N.reading b board.old problem.entry.machine.now
         problem.entry.ask.now held.old
         → result ≡ None
-        → IsOver N.net N.content N.past N.max_marks b board.new problem.entry.machine.now
+        → IsOver N.reading b board.new problem.entry.machine.now
         problem.entry.ask.now held.new }
-    ensures holds { result ≡ None → IfSome held.new (HoldsList N.net N.content N.past board.new
+    ensures holds { result ≡ None → IfSome held.new (HoldsList N.reading board.new
         problem.entry.machine.now problem.entry.ask.now store.new) }
     ensures less { result ≡ None → still_to_take goals.new.items store.new
         < still_to_take goals.old.items store.old }
@@ -192,7 +192,7 @@ fn step<N: Network>(
         return Some(Outcome::Found { base });
     }
     let reached = lay_next(store, board, problem, &next, *held);
-    if open_next(store, board, problem, &next, reached.laid, dived) {
+    if open_next(store, board, problem, &next, reached.laid, barred) {
         return Some(Outcome::Found { base: reached.base });
     }
     if store.is_full() {
@@ -212,20 +212,20 @@ pub(crate) fn search<N: Network>(
 ) -> Outcome
     requires posed { IsPosed problem }
     requires goal { IsKnownGoal problem.machine.now problem.ask.now.goal }
-    requires ready { IsReady N.net N.content N.past N.max_marks board.old problem.machine.now
+    requires ready { IsReady N.reading board.old problem.machine.now
         problem.ask.now }
-    requires marks { HasMarks N.net N.content N.past N.max_marks 7 board.old }
+    requires marks { HasMarks N.reading 7 board.old }
     requires searching { (bound : ℕ)
         × IsSearching problem.machine.now board.old.plans problem.ask.now goals.old.items store.old
         bound }
-    ensures outcome { IsOutcome N.net N.content N.past N.max_marks board.old board.new
-        problem.entry.machine.now problem.entry.ask.now store.old.room result }
+    ensures outcome { IsOutcome N.reading board.old board.new
+        problem.entry.machine.now problem.entry.ask.now store.old.capacity result }
     ensures same { IsSameSpace goals.old goals.new store.old store.new }
 {
     let mut held = None;
-    let mut dived = None;
+    let mut barred = None;
     'steps: loop {
-        if let Some(outcome) = step(goals, store, board, problem, &mut held, &mut dived) {
+        if let Some(outcome) = step(goals, store, board, problem, &mut held, &mut barred) {
             return outcome;
         }
     }

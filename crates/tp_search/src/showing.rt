@@ -30,12 +30,12 @@ pub fn show_never<N: Network>(
     requires loaded { (plans : List Plan)
         × (IsLoadedFrom machine.now plans ask.now board.old.plans
         × ((other : List Plan) → ¬ IsAlternative machine.now plans ask.now other)) }
-    requires ready { IsReady N.net N.content N.past N.max_marks board.old machine.now ask.now }
-    requires marks { HasMarks N.net N.content N.past N.max_marks 326 board.old }
+    requires ready { IsReady N.reading board.old machine.now ask.now }
+    requires marks { HasMarks N.reading 326 board.old }
     ensures tree { (plans : List Plan)
         → IsLoadedFrom machine.now plans ask.entry.now board.old.plans
         → IfOk result (IsShortTreeFor machine.now plans ask.entry.now Never) }
-    ensures back { IsBack N.net N.content N.past N.max_marks board.old board.new machine.now }
+    ensures back { IsBack N.reading board.old board.new machine.now }
     ensures work { work.new ≡ work.old }
 {
     let horizon = ask.now + machine.window;
@@ -62,12 +62,12 @@ pub(crate) fn show_earliest<N: Network>(
     requires none { NoneBefore machine.now board.old.plans ask.now end }
     requires some { 1 ≤ end }
     requires within { end ≤ ask.now.now + machine.now.window }
-    requires ready { IsReady N.net N.content N.past N.max_marks board.old machine.now ask.now }
-    requires marks { HasMarks N.net N.content N.past N.max_marks 326 board.old }
+    requires ready { IsReady N.reading board.old machine.now ask.now }
+    requires marks { HasMarks N.reading 326 board.old }
     ensures tree { (plans : List Plan)
         → IsLoadedFrom machine.now plans ask.entry.now board.old.plans
         → IfOk result (IsShortTreeFor machine.now plans ask.entry.now (Earliest end)) }
-    ensures back { IsBack N.net N.content N.past N.max_marks board.old board.new machine.now }
+    ensures back { IsBack N.reading board.old board.new machine.now }
     ensures work { work.new ≡ work.old }
 {
     match work.show(alloc, board, machine, ask, end - 1) {

@@ -42,7 +42,7 @@ impl Store {
 
     /// Leaves no list, for bounds from this base on.
     pub(crate) fn clear(&mut self, base: Tick)
-        ensures { self.new ≡ empty_store self.old.room base self.old.width }
+        ensures { self.new ≡ empty_store self.old.capacity base self.old.width }
     {
         self.pool.clear();
         self.queue.clear(base);
@@ -58,7 +58,7 @@ impl Store {
 
     /// How many lists more can be stored.
     pub(crate) fn spare(&self) -> u32
-        ensures { length self.now.entries + result ≡ self.now.room }
+        ensures { length self.now.entries + result ≡ self.now.capacity }
     {
         self.pool.spare()
     }
@@ -100,7 +100,7 @@ impl Store {
     /// Whether there was no room for a list.
     pub(crate) fn is_full(&self) -> bool
         ensures full { result ≡ self.now.full }
-        ensures within { length self.now.entries ≤ self.now.room }
+        ensures within { length self.now.entries ≤ self.now.capacity }
     {
         self.full
     }
@@ -166,7 +166,7 @@ impl Store {
         ensures none { result ≡ None ↔ (self.old.waits ≡ []) }
         ensures stays { result ≡ None → self.new ≡ self.old }
         ensures taken { IfSome result (λ node. IsTaken self.old node self.new) }
-        ensures within { length self.old.entries ≤ self.old.room }
+        ensures within { length self.old.entries ≤ self.old.capacity }
     {
         let node = self.queue.take()?;
         Some(node)

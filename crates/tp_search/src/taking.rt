@@ -31,7 +31,7 @@ fn first_goal(goals: &[OpenGoal]) -> Option<usize>
 pub(crate) fn take_next(goals: &mut Vec<OpenGoal>, store: &mut Store) -> Option<Next>
     ensures none { result ≡ None ↔ ((goals.old.items ≡ []) × (store.old.waits ≡ [])) }
     ensures stays { result ≡ None → store.new ≡ store.old }
-    ensures within { result ≡ None → length store.old.entries ≤ store.old.room }
+    ensures within { result ≡ None → length store.old.entries ≤ store.old.capacity }
     ensures next { IfSome result (IsNext goals.old.items store.old goals.new.items store.new) }
     ensures same { IsSameSpace goals.old goals.new store.old store.new }
 {

@@ -52,16 +52,16 @@ pub fn plan<'b, N: Network>(
     requires work { IsFor work.old machine.now }
     requires loaded { (plans : List Plan)
         × IsLoadedFrom machine.now plans ask.now board.old.plans }
-    requires stands { Stands N.net N.content N.past board.old machine.now }
+    requires stands { Stands N.reading board.old machine.now }
     requires asked { board.old.ask ≡ Some ask.now }
     requires closed { board.old.steps ≡ [] }
-    requires unmarked { past_of N.past board.old ≡ [] }
-    requires marks { 8 ≤ N.max_marks board.old.net }
+    requires unmarked { past_of N.reading board.old ≡ [] }
+    requires marks { 8 ≤ N.reading.max_marks board.old.net }
     ensures* rests { sem 𝓛
         (RestsIfErr (the_row N.row N.Network.own N.Undo) board.entry borrow_in result
-        (λ new. IsBack N.net N.content N.past N.max_marks board.old new machine.now)) }
+        (λ new. IsBack N.reading board.old new machine.now)) }
     ensures same_reference { IfOk result (λ trial. borrow_in trial ≡ board.entry.ghost_name) }
-    ensures trial { IfOk result (IsTrial N.net N.content N.past N.max_marks board.old machine.now) }
+    ensures trial { IfOk result (IsTrial N.reading board.old machine.now) }
     ensures end { (plans : List Plan) → IsLoadedFrom machine.now plans ask.entry.now
         board.old.plans
         → IfOk result (λ trial. EndsEarliest machine.now plans ask.entry.now (end_in trial)) }
@@ -98,16 +98,16 @@ impl<N: Network> Trial<'_, N> {
     ) -> Result<BoundTree, Memory>
         requires work { IsFor work.old machine.now }
         requires trial { (b : BoardValue N)
-            × (IsTrial N.net N.content N.past N.max_marks b machine.now self.old
-            × HasMarks N.net N.content N.past N.max_marks 326 b) }
+            × (IsTrial N.reading b machine.now self.old
+            × HasMarks N.reading 326 b) }
         requires loaded { IsSomeAnd (board_in self.old).ask (λ ask. (plans : List Plan)
             × IsLoadedFrom machine.now plans ask (board_in self.old).plans) }
         ensures tree { IsSomeAnd (board_in self.old).ask (λ ask. (plans : List Plan)
             → IsLoadedFrom machine.now plans ask (board_in self.old).plans
             → IfOk result (IsShortTreeFor machine.now plans ask (Earliest (end_in self.old)))) }
         ensures trial { (b : BoardValue N)
-            → IsTrial N.net N.content N.past N.max_marks b machine.now self.old
-            → IsTrial N.net N.content N.past N.max_marks b machine.now self.new }
+            → IsTrial N.reading b machine.now self.old
+            → IsTrial N.reading b machine.now self.new }
         ensures same_reference { borrow_in self.new ≡ borrow_in self.old }
         ensures same { IsSameTrial self.old self.new }
         ensures work { work.new ≡ work.old }
@@ -132,7 +132,7 @@ impl<N: Network> Trial<'_, N> {
     /// the schedule as it was: whoever asks next renews it.
     pub fn commit(self, machine: &Machine, schedule: &mut Schedule)
         requires trial { (b : BoardValue N)
-            × IsTrial N.net N.content N.past N.max_marks b machine.now self }
+            × IsTrial N.reading b machine.now self }
         requires loaded { IsSomeAnd (board_in self).ask
             (λ ask. IsLoadedFrom machine.now schedule.old.plans ask (board_in self).plans) }
         requires spare { IsSomeAnd (board_in self).ask
@@ -149,8 +149,8 @@ impl<N: Network> Trial<'_, N> {
             (λ ask. IsSome (plan_of ask.sheet schedule.old.plans) → schedule.new.spare
             ≡ schedule.old.spare) }
         ensures back { (b : BoardValue N) (m : MachineValue)
-            → IsTrial N.net N.content N.past N.max_marks b m self.entry
-            → IsBack N.net N.content N.past N.max_marks b self.exit.0.now m }
+            → IsTrial N.reading b m self.entry
+            → IsBack N.reading b self.exit.0.now m }
     {
         marks_keep_boards::<N>();
         let Trial {
@@ -165,10 +165,10 @@ impl<N: Network> Trial<'_, N> {
     /// Takes the plan off the board, which is then as before `plan`.
     pub fn abandon(self)
         requires trial { (b : BoardValue N) × (machine : Machine)
-            × IsTrial N.net N.content N.past N.max_marks b machine self }
+            × IsTrial N.reading b machine self }
         ensures back { (b : BoardValue N) (machine : Machine)
-            → IsTrial N.net N.content N.past N.max_marks b machine self.entry
-            → IsBack N.net N.content N.past N.max_marks b self.exit.0.now machine }
+            → IsTrial N.reading b machine self.entry
+            → IsBack N.reading b self.exit.0.now machine }
     {
         marks_keep_boards::<N>();
         let Trial {

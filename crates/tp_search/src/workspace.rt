@@ -28,11 +28,21 @@ use tp_showing::{NotShown, show_limit};
 
 /// All that a search takes memory for. It is for machines with the same numbers of locations and resources and the same
 /// window as the one that it was made for, and stores as many lists as it has nodes: the budget of an ask.
-#[derive(Drop)]
 pub struct Workspace {
     rooms: Rooms,
     store: Store,
     goals: Vec<OpenGoal>,
+}
+
+// What becomes of its parts is proved here, once for all who let go of one.
+impl Drop for Workspace {
+    fn drop(self) {
+        let Workspace {
+            rooms: _,
+            store: _,
+            goals: _,
+        } = self;
+    }
 }
 
 impl Model for Workspace {
@@ -44,7 +54,7 @@ impl Model for Workspace {
       locations = w.rooms.locations;
       resources = w.rooms.resources;
       window = w.rooms.window;
-      nodes = w.store.room;
+      nodes = w.store.capacity;
     } };
 
     ghost invariant = { λ w. IsWorkspace w.rooms w.store w.goals };
@@ -75,12 +85,12 @@ impl Workspace {
         requires made { IsFor self.old machine.now }
         requires loaded { (plans : List Plan)
             × IsLoadedFrom machine.now plans ask.now board.old.plans }
-        requires stands { Stands N.net N.content N.past board.old machine.now }
+        requires stands { Stands N.reading board.old machine.now }
         requires asked { board.old.ask ≡ Some ask.now }
         requires closed { board.old.steps ≡ [] }
-        requires unmarked { past_of N.past board.old ≡ [] }
-        requires marks { 8 ≤ N.max_marks board.old.net }
-        ensures outcome { IsOutcome N.net N.content N.past N.max_marks board.old board.new
+        requires unmarked { past_of N.reading board.old ≡ [] }
+        requires marks { 8 ≤ N.reading.max_marks board.old.net }
+        ensures outcome { IsOutcome N.reading board.old board.new
             machine.now ask.entry.now self.old.nodes result }
         ensures same { self.new ≡ self.old }
     {
@@ -108,14 +118,14 @@ impl Workspace {
         requires made { IsFor self.old machine.now }
         requires loaded { (plans : List Plan)
             × IsLoadedFrom machine.now plans ask.now board.old.plans }
-        requires ready { IsReady N.net N.content N.past N.max_marks board.old machine.now ask.now }
+        requires ready { IsReady N.reading board.old machine.now ask.now }
         requires limit { IsLimit machine.now ask.now (pos limit) }
-        requires marks { HasMarks N.net N.content N.past N.max_marks 326 board.old }
+        requires marks { HasMarks N.reading 326 board.old }
         ensures tree { IfOk result (IsBoundTree machine.now board.old.plans ask.entry.now
             (pos limit)) }
         ensures short { IfOk result HasFewHops }
         ensures early { IfErr result (IsEarlyEnd machine.now board.old.plans ask.entry.now limit) }
-        ensures back { IsBack N.net N.content N.past N.max_marks board.old board.new machine.now }
+        ensures back { IsBack N.reading board.old board.new machine.now }
         ensures same { self.new ≡ self.old }
     {
         self.rooms.fill(machine, ask);

@@ -1,5 +1,6 @@
 -- What a session is seen as, and what one event does to it.
 use Rattle.std.specs.Prelude.{◌≡◌, ℕ, ◌+◌, ◌≤◌, Bool, true, List, [], Option, length, unwrap_or}
+use Rattle.tp_base.specs.Readings.{Reading}
 use Rattle.tp_base.specs.Net.{Net}
 use Rattle.tp_machine.specs.declared.machine.Machine.{Machine}
 use Rattle.tp_script.specs.declared.event.Event.{Event}
@@ -33,8 +34,8 @@ pub record SessionValue (N : Type 0) : Type 0 where
 
 -- what holds between events: the engine serves the machine, with the budget and the bounds, it has no trees, and any event can be
 -- taken. It may have gone on from a standing, whose copies have numbers and whose feeders refills of their own
-pub record IsSession {N C : Type 0} (net : N → Net) (content : N → C) (past : N → List C) (standing : Standing) (engine : EngineValue N) (answered : ℕ) : Type 0 where
-  pub serves : Serves net content past engine standing.machine
+pub record IsSession {N : Type 0} (reading : Reading N) (standing : Standing) (engine : EngineValue N) (answered : ℕ) : Type 0 where
+  pub serves : Serves reading engine standing.machine
   pub nodes : engine.work.nodes ≡ standing.budget
   pub bounds : engine.bounds ≡ standing.bounds
   pub no_trees : engine.trees ≡ []

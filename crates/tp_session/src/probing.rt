@@ -135,12 +135,12 @@ pub(crate) fn try_ask<N: Network>(
     schedule: &Schedule,
     ask: &Ask,
 ) -> Probe
-    requires served { Serves N.net N.content N.past engine.old machine.now }
+    requires served { Serves N.reading engine.old machine.now }
     requires can_ask { CanAsk machine.now schedule.now.plans ask.now }
     ensures gives { AskGives engine.old.work.nodes machine.now schedule.now.plans
         ask.entry.now result }
-    ensures still_serves { Serves N.net N.content N.past engine.new machine.now }
-    ensures same { IsSameEngine N.max_marks engine.old engine.new }
+    ensures still_serves { Serves N.reading engine.new machine.now }
+    ensures same { IsSameEngine N.reading.max_marks engine.old engine.new }
     ensures trees { engine.new.trees ≡ engine.old.trees }
 {
     match engine.probe(machine, schedule, ask) {

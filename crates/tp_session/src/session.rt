@@ -1,7 +1,7 @@
 //! A session keeps the live part of its state alone.
 
 ghost use Rattle.std.specs.Prelude.{◌≡◌, ◌+◌, ◌<◌, ◌≤◌, ◌++◌, ℕ, List, [], length, OnOk, OnErr, IfOk, IsOk};
-ghost use Rattle.tp_placing.specs.Inside.{most_edges, most_points};
+ghost use Rattle.tp_placing.specs.Inside.{most_edges, most_points, most_steps};
 ghost use Rattle.tp_script.specs.Printed.{IsEchoed};
 ghost use Rattle.tp_teller.specs.Tellers.{most_events};
 ghost use Rattle.tp_turn.specs.LiveStates.{seen};
@@ -38,7 +38,6 @@ pub type Session = SessionOver<LiveNet>;
 
 /// Takes events in turn, and appends the text of each: its echo and its records. It keeps what is live of all that it
 /// planned, the jobs with their lines, the modules that are out, and what was refilled. Any network serves.
-#[derive(Drop)]
 pub struct SessionOver<N: Network> {
     alloc: Global,
     machine: Machine,
@@ -48,6 +47,22 @@ pub struct SessionOver<N: Network> {
     state: LiveState,
     answered: u32,
     text: Vec<u8>,
+}
+
+// What becomes of its parts is proved here, once for all who let go of one.
+impl<N: Network + Drop> Drop for SessionOver<N> {
+    fn drop(self) {
+        let SessionOver {
+            alloc: _,
+            machine: _,
+            budget: _,
+            bounds: _,
+            engine: _,
+            state: _,
+            answered: _,
+            text: _,
+        } = self;
+    }
 }
 
 impl<N: Network> Model for SessionOver<N> {
@@ -68,7 +83,7 @@ impl<N: Network> Model for SessionOver<N> {
       text = s.text.items;
     } };
 
-    ghost invariant = { λ s. IsSession N.net N.content N.past
+    ghost invariant = { λ s. IsSession N.reading
         (record { machine = s.machine; budget = s.budget; bounds = s.bounds; state = seen s.state })
         s.engine s.answered };
 }
@@ -99,9 +114,9 @@ impl<N: Network + Drop> SessionOver<N> {
         net: N,
         settings: Settings,
     ) -> Result<SessionOver<N>, Memory>
-        requires points { most_points ≤ N.max_points net }
-        requires edges { most_edges ≤ N.max_edges net }
-        requires marks { 330 ≤ N.max_marks net }
+        requires points { most_points ≤ N.reading.max_points net }
+        requires edges { most_edges ≤ N.reading.max_edges net }
+        requires marks { most_steps ≤ N.reading.max_marks net }
         ensures standing { IfOk result
             (λ s. s.standing ≡ start_of machine settings.budget settings.bounds) }
         ensures fresh { IfOk result (λ s. (s.answered ≡ 0) × (s.text ≡ [])) }

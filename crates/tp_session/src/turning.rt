@@ -30,7 +30,7 @@ pub(crate) fn take_turn<N: Network>(
     event: &Event,
     text: &mut Vec<u8>,
 ) -> Result<(), Memory>
-    requires serves { Serves N.net N.content N.past engine.old machine.now }
+    requires serves { Serves N.reading engine.old machine.now }
     requires can { CanTakeEvents machine.now last_copy (seen state.old) }
     requires stocked { KeepsStock machine.now last_copy (seen state.old) }
     requires echoed { IsEchoed event.now }
@@ -49,7 +49,7 @@ pub(crate) fn take_turn<N: Network>(
     ensures marked { state.new.lines.kept ≡ state.old.lines.kept }
     ensures nodes { engine.new.work.nodes ≡ engine.old.work.nodes }
     ensures bounds { engine.new.bounds ≡ engine.old.bounds }
-    ensures serves { Serves N.net N.content N.past engine.new machine.now }
+    ensures serves { Serves N.reading engine.new machine.now }
 {
     engines_answer_alone::<N>();
     live_turns_are_whole::<Engine<N>>();

@@ -3,6 +3,7 @@ use Rattle.std.proofs.Common.{◌≡◌, ℕ, suc, ◌<◌, ◌≤◌, false, Li
 use Rattle.std.specs.Prelude.{ℤ, pos}
 use Rattle.std.proofs.lemmas.List.{length-append, length-map}
 use Rattle.std.proofs.lemmas.List.Elements.{All-append, All-cons, All-nil}
+use Rattle.tp_base.specs.Readings.{Reading}
 use Rattle.tp_base.specs.declared.edges.Edge.{Edge}
 use Rattle.tp_base.specs.Net.{Net}
 use Rattle.tp_bounds.specs.declared.tree.Close.{Close}
@@ -42,8 +43,8 @@ few-kept : (kept steps : ℕ) (o : Option Suffix) → AreFewSteps kept o steps �
 few-kept kept steps None h = h.1
 few-kept kept steps (Some x) h = let m = h.1 in omega (arith, m)
 
-module _ {N C : Type 0} (net : N → Net) (content : N → C) (past : N → List C) (refutes : N → Net → Type 0) (machine : Machine) (b : BoardValue N) (stands : Stands net content past b machine) (named : AreNamed b.plans) where
-  on : StandsOn net content past b machine stands.0
+module _ {N : Type 0} (reading : Reading N) (refutes : N → Net → Type 0) (machine : Machine) (b : BoardValue N) (stands : Stands reading b machine) (named : AreNamed b.plans) where
+  on : StandsOn reading b machine stands.0
   on = stands.1
 
   -- the points of a network are few
@@ -136,9 +137,9 @@ module _ {N C : Type 0} (net : N → Net) (content : N → C) (past : N → List
 
   times-of : (x : Suffix) → suffix_of b ≡ Some x → HasTicks stands.0 x
   times-of x carried =
-      let n : IsNetOf machine b.plans stands.0 (Some x) (net b.net) = subst (λ o. IsNetOf machine b.plans stands.0 o (net b.net)) carried on.now.net in
+      let n : IsNetOf machine b.plans stands.0 (Some x) (reading.net b.net) = subst (λ o. IsNetOf machine b.plans stands.0 o (reading.net b.net)) carried on.now.net in
       let least = on.now.solved in
-      record { ticks = ticks_by (table_with b.plans (suc (length x.choices))) least.0; times = (board_solutions machine b.plans stands.0 x (table_with b.plans (suc (length x.choices))) (net b.net) n least.0).0 least.1.solution }
+      record { ticks = ticks_by (table_with b.plans (suc (length x.choices))) least.0; times = (board_solutions machine b.plans stands.0 x (table_with b.plans (suc (length x.choices))) (reading.net b.net) n least.0).0 least.1.solution }
 
   same-ask : (ask : Ask) → b.ask ≡ Some ask → stands.0 ≡ ask
   same-ask ask asked = let e : Some stands.0 ≡ Some ask = sym on.asked ∙ asked in ask-is stands.0 ask e where

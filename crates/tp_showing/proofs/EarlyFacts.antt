@@ -6,6 +6,7 @@ use Rattle.std.specs.Str.{bytes_eq}
 use Rattle.std.proofs.lemmas.Bool.{and_parts, not-true}
 use Rattle.std.proofs.lemmas.List.Folds.{Any-from_list_any}
 use Rattle.std.proofs.lemmas.Slice.Eq.{bytes_eq-Decides}
+use Rattle.tp_base.specs.Readings.{Reading}
 use Rattle.tp_base.specs.Net.{Net}
 use Rattle.tp_machine.specs.Using.{action_at}
 use Rattle.tp_machine.specs.declared.parts.ActId.{ActId}
@@ -78,10 +79,10 @@ branch-placed machine orders (Some act) places (c ∷ choices) is none have =
     let all : slice_get (holds_of_act (action_at machine c.act.0)) (length c.places) ≡ None = (λ i. slice_get (holds_of_act (action_at machine (is.0 i).0)) (is.1 i)) ∙ none in
     within-most _ (holds_of_act (action_at machine c.act.0)) c.places have.0 all
 
-module _ {N C : Type 0} (net : N → Net) (content : N → C) (past : N → List C) (max_marks : N → ℕ) (machine : Machine) (ask : Ask) (b : BoardValue N) where
+module _ {N : Type 0} (reading : Reading N) (machine : Machine) (ask : Ask) (b : BoardValue N) where
   -- the board stands on the ask that it was loaded for
-  pub stands-on : IsSet net content past max_marks machine ask b → StandsOn net content past b machine ask
-  stands-on set = let same : set.stands.0 ≡ ask = let one = set.stands.1.asked in let two = set.asked in cc in subst (StandsOn net content past b machine) same set.stands.1
+  pub stands-on : IsSet reading machine ask b → StandsOn reading b machine ask
+  stands-on set = let same : set.stands.0 ≡ ask = let one = set.stands.1.asked in let two = set.asked in cc in subst (StandsOn reading b machine) same set.stands.1
 
   -- a least end by the limit
   pub least-by : (x : Suffix) (tick limit : ℕ) → b.ask ≡ Some ask → suffix_of b ≡ Some x → HasLeastTick machine b (own 0) tick → tick ≤ limit → HasEndBy machine b.plans ask x limit
@@ -91,7 +92,7 @@ module _ {N C : Type 0} (net : N → Net) (content : N → C) (past : N → List
       let at = two.there in
       record { ticks = two.ticks; are_times = two.are_times; by = omega (arith, at, le) }
 
-  module _ (set : IsSet net content past max_marks machine ask b) (r : Branch) (x : Suffix) (c : Carries net content past max_marks machine ask b r x) (none : hold_of machine r ≡ None) where
+  module _ (set : IsSet reading machine ask b) (r : Branch) (x : Suffix) (c : Carries reading machine ask b r x) (none : hold_of machine r ≡ None) where
     pub has-places : IsPlaced machine x.choices
     has-places = branch-placed machine _ r.newest r.places x.choices c.newest none c.way.places
 

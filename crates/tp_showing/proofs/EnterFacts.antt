@@ -4,6 +4,7 @@ use Rattle.std.specs.Prelude.{pos, slice_get, nat_lt, IfSome, MatchOption}
 use Rattle.std.specs.Result.{IfOk, OnOk}
 use Rattle.std.proofs.lemmas.Bool.{and_parts}
 use Rattle.std.proofs.lemmas.Bool.Decides.{nat_tests}
+use Rattle.tp_base.specs.Readings.{Reading}
 use Rattle.tp_base.specs.Net.{Net}
 use Rattle.tp_bounds.specs.declared.tree.Head.{Head}
 use Rattle.tp_bounds.specs.declared.tree.Head.TheVariants.{At as AtHead, Stop as StopHead}
@@ -71,11 +72,11 @@ place-shows machine plans ask sums limit old new r x rule place name named withi
     subst (λ ds. Adds machine plans ask rows (pos limit) ds old new (more rows ++ places_from machine plans ask rows (branch_by r x) rule (place + 1))) (sym (places-due machine plans ask rows (branch_by r x) rule place within))
     (subst (λ ds. Adds machine plans ask rows (pos limit) (d ∷ []) old new (more rows ++ ds)) next adds)
 
-module _ {N C : Type 0} (net : N → Net) (content : N → C) (past : N → List C) (max_marks : N → ℕ) (machine : Machine) (plans : List Plan) (ask : Ask) (sums : List (Option ℕ)) (limit : ℕ) (old new : List Node) where
-  pub carries-same : (b b' : BoardValue N) (r : Branch) (x : Suffix) → content_of content b' ≡ content_of content b → b'.plans ≡ b.plans → Carries net content past max_marks machine ask b r x
-      → Carries net content past max_marks machine ask b' r x
+module _ {N : Type 0} (reading : Reading N) (machine : Machine) (plans : List Plan) (ask : Ask) (sums : List (Option ℕ)) (limit : ℕ) (old new : List Node) where
+  pub carries-same : (b b' : BoardValue N) (r : Branch) (x : Suffix) → content_of reading b' ≡ content_of reading b → b'.plans ≡ b.plans → Carries reading machine ask b r x
+      → Carries reading machine ask b' r x
   carries-same b b' r x same loaded c = record {
-    carried = suffix-same net content past max_marks (λ _ _. ⊥) machine ask b b' same ∙ c.carried;
+    carried = suffix-same reading (λ _ _. ⊥) machine ask b b' same ∙ c.carried;
     going = c.going;
     count = c.count;
     newest = c.newest;
@@ -88,13 +89,13 @@ module _ {N C : Type 0} (net : N → Net) (content : N → C) (past : N → List
   }
 
   -- a node that is put is a way that is gone
-  pub enter-by : (o : Option Branch) (b b' : BoardValue N) (parent child : Branch) (y : Suffix) (head : Head) (ds behind : List TreeRow → List Due) → Carries net content past max_marks machine ask b child y → content_of content b' ≡ content_of content b → b'.plans ≡ b.plans → below child < below parent
+  pub enter-by : (o : Option Branch) (b b' : BoardValue N) (parent child : Branch) (y : Suffix) (head : Head) (ds behind : List TreeRow → List Due) → Carries reading machine ask b child y → content_of reading b' ≡ content_of reading b → b'.plans ≡ b.plans → below child < below parent
       → ((more : List TreeRow → List Due) → PutsNode machine plans ask limit old new (branch_by child y) head more → Shows machine plans ask sums limit old new ds (λ rows. more rows ++ behind rows))
       → MatchOption o (PutsNode machine plans ask limit old new (branch_by child y) head (λ _. [])) (λ r. (r ≡ child) × PutsNode machine plans ask limit old new (branch_by child y) head (λ rows. kids_of machine plans ask rows (branch_by child y)))
-      → IfSome o (λ _. IsOpen machine ask child) → IfSome o (λ _. HasEndBy machine plans ask y limit) → IsEntered net content past max_marks machine plans ask sums limit old new b' parent ds behind o
+      → IfSome o (λ _. IsOpen machine ask child) → IfSome o (λ _. HasEndBy machine plans ask y limit) → IsEntered reading machine plans ask sums limit old new b' parent ds behind o
   enter-by None b b' parent child y head ds behind c same loaded smaller shows put may early = shows (λ _. []) put
   enter-by (Some r) b b' parent child y head ds behind c same loaded smaller shows put may early =
-      subst (GoesOn net content past max_marks machine plans ask sums limit old new b' parent ds behind) (sym put.0) (record {
+      subst (GoesOn reading machine plans ask sums limit old new b' parent ds behind) (sym put.0) (record {
         suffix = y;
         carries = carries-same b b' child y same loaded c;
         smaller = smaller;

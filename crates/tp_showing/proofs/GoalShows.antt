@@ -2,6 +2,7 @@
 use Rattle.std.proofs.Common.{◌≡◌, ℕ, ◌<◌, ◌≤◌, true, List, [], ◌∷◌, ◌++◌, length, refl, sym, ◌∙◌, ap, subst, arith, Option, Some, None}
 use Rattle.std.specs.Prelude.{pos, IfSome, MatchOption}
 use Rattle.std.proofs.lemmas.List.{append-nil}
+use Rattle.tp_base.specs.Readings.{Reading}
 use Rattle.tp_base.specs.Net.{Net}
 use Rattle.tp_bounds.specs.declared.tree.Close.TheVariants.{Dead}
 use Rattle.tp_bounds.specs.declared.tree.Head.TheVariants.{Goal as GoalHead}
@@ -52,21 +53,21 @@ module _ (machine : Machine) (plans : List Plan) (ask : Ask) (sums : List (Optio
       adds-node machine plans ask rows (pos limit) (goal s) n old new []
       (node-look machine plans ask rows (pos limit) (goal s) n (branch_by (goal_below s) (with_goal 0)) [] (goal-stands rows 0 (ap or_zero none)) refl (ap (dead_look true) none)) put (omega arith)
 
-module _ {N C : Type 0} (net : N → Net) (content : N → C) (past : N → List C) (max_marks : N → ℕ) (machine : Machine) (plans : List Plan) (ask : Ask) (sums : List (Option ℕ)) (limit : ℕ) (old new : List Node) where
+module _ {N : Type 0} (reading : Reading N) (machine : Machine) (plans : List Plan) (ask : Ask) (sums : List (Option ℕ)) (limit : ℕ) (old new : List Node) where
   pub carries-goal : (b : BoardValue N) (s : State) (room : ℕ) → s.loc.0 < length machine.locations → IsGoalState machine ask.want ask.goal s → IsRoom machine ask s room → kept_of ask ≤ 64 → suffix_of b ≡ Some (with_goal room)
-      → Carries net content past max_marks machine ask b (goal_below s) (with_goal room)
+      → Carries reading machine ask b (goal_below s) (with_goal room)
   carries-goal b s room known is_goal is_room kept carried =
       record { carried = carried; going = refl; count = refl; newest = refl; known = known; goal = s; way = goal-way machine b.plans ask s room is_goal is_room kept; few = omega (arith, kept); few_places = omega arith; deep = omega arith }
 
-  pub goal-by : (o : Option Branch) (b b' : BoardValue N) (s : State) (room : ℕ) → s.loc.0 < length machine.locations → sum_at sums (number_of s) ≡ Some room → Carries net content past max_marks machine ask b (goal_below s) (with_goal room) → content_of content b' ≡ content_of content b → b'.plans ≡ b.plans
+  pub goal-by : (o : Option Branch) (b b' : BoardValue N) (s : State) (room : ℕ) → s.loc.0 < length machine.locations → sum_at sums (number_of s) ≡ Some room → Carries reading machine ask b (goal_below s) (with_goal room) → content_of reading b' ≡ content_of reading b → b'.plans ≡ b.plans
       → MatchOption o (PutsNode machine plans ask limit old new (branch_by (goal_below s) (with_goal room)) (GoalHead (named machine s)) (λ _. []))
       (λ r. (r ≡ goal_below s) × PutsNode machine plans ask limit old new (branch_by (goal_below s) (with_goal room)) (GoalHead (named machine s)) (λ rows. kids_of machine plans ask rows (branch_by (goal_below s) (with_goal room))))
-      → IfSome o (λ _. IsOpen machine ask (goal_below s)) → IfSome o (λ _. HasEndBy machine plans ask (with_goal room) limit) → IsGoalEntered net content past max_marks machine plans ask sums limit old new b' s o
+      → IfSome o (λ _. IsOpen machine ask (goal_below s)) → IfSome o (λ _. HasEndBy machine plans ask (with_goal room) limit) → IsGoalEntered reading machine plans ask sums limit old new b' s o
   goal-by None b b' s room known at c same loaded put may early = goal-shows machine plans ask sums limit old new s known room at (λ _. []) put
   goal-by (Some r) b b' s room known at c same loaded put may early =
-      subst (GoalGoesOn net content past max_marks machine plans ask sums limit old new b' s) (sym put.0) (record {
+      subst (GoalGoesOn reading machine plans ask sums limit old new b' s) (sym put.0) (record {
         suffix = with_goal room;
-        carries = carries-same net content past max_marks machine plans ask sums limit old new b b' (goal_below s) (with_goal room) same loaded c;
+        carries = carries-same reading machine plans ask sums limit old new b b' (goal_below s) (with_goal room) same loaded c;
         is_open = may;
         early = early;
         shows = goal-shows machine plans ask sums limit old new s known room at (λ rows. kids_of machine plans ask rows (branch_by (goal_below s) (with_goal room))) put.1;

@@ -4,6 +4,7 @@ use Rattle.std.specs.Prelude.{map, pos, slice_get}
 use Rattle.std.specs.Result.{OnOk}
 use Rattle.std.proofs.lemmas.List.{append-nil, drop_all, length-append}
 use Rattle.std.proofs.lemmas.List.Elements.{All-nil}
+use Rattle.tp_base.specs.Readings.{Reading}
 use Rattle.tp_base.specs.Net.{Net}
 use Rattle.tp_bounds.specs.declared.tree.Node.{Node}
 use Rattle.tp_bounds.specs.declared.tree.TreeRow.{TreeRow}
@@ -27,25 +28,25 @@ use Rattle.tp_showing.proofs.MarkSteps.{IsMarked, load-of}
 use Rattle.tp_showing.proofs.ReasonFacts.{on-map}
 use Rattle.tp_showing.proofs.WalkFacts.{shows-trans}
 
-module _ {N C A : Type 0} (net : N → Net) (content : N → C) (past : N → List C) (aside : N → A) (max_marks : N → ℕ) (machine : Machine) (ask : Ask) where
+module _ {N A : Type 0} (reading : Reading N) (untouched : N → A) (machine : Machine) (ask : Ask) where
   -- the board is marked, with no goal open
   pub record IsAtGoal (b b' : BoardValue N) : Type 0 where
-    pub set : IsSet net content past max_marks machine ask b'
+    pub set : IsSet reading machine ask b'
     pub plans : b'.plans ≡ b.plans
     pub closed : suffix_of b' ≡ None
-    pub spare : length (past_of past b') + 325 ≤ max_marks b'.net - 1
+    pub spare : length (past_of reading b') + 325 ≤ reading.max_marks b'.net - 1
 
-  pub at-goal : MarkKeeps net content past aside → (b b' : BoardValue N) (mark : ℕ) → IsMarked net content past aside max_marks b b' mark → IsSet net content past max_marks machine ask b → suffix_of b ≡ None → HasMarks net content past max_marks 326 b
+  pub at-goal : MarkKeeps reading untouched → (b b' : BoardValue N) (mark : ℕ) → IsMarked reading untouched b b' mark → IsSet reading machine ask b → suffix_of b ≡ None → HasMarks reading 326 b
       → IsAtGoal b b'
   at-goal keeps b b' mark m set closed marks =
-      let load = load-of net content past aside max_marks b b' m.aside_same in
+      let load = load-of reading untouched b b' m.untouched_same in
       let more = ap length m.past_more in
-      let one = length-append (past_of past b) (content_of content b ∷ []) in
+      let one = length-append (past_of reading b) (content_of reading b ∷ []) in
       let room = m.room_same in
       record {
-        set = record { stands = keeps b b' machine m.content_same m.aside_same m.past_more set.stands; asked = load.ask ∙ set.asked; goal = set.goal };
+        set = record { stands = keeps b b' machine m.content_same m.untouched_same m.past_more set.stands; asked = load.ask ∙ set.asked; goal = set.goal };
         plans = load.plans;
-        closed = suffix-same net content past max_marks (λ _ _. ⊥) machine ask b b' m.content_same ∙ closed;
+        closed = suffix-same reading (λ _ _. ⊥) machine ask b b' m.content_same ∙ closed;
         spare = omega (arith, more, one, room, marks);
       }
 
@@ -53,18 +54,18 @@ module _ {N C A : Type 0} (net : N → Net) (content : N → C) (past : N → Li
     abbrev pub HasGoal : List Node → List Node → Type 0
     HasGoal one two = Shows machine b.plans ask sums limit one two (λ _. goal s ∷ []) (λ _. [])
 
-    entered-here : (one two : List Node) (o : Option Branch) → IsAtGoal b b1 → IsGoalEntered net content past max_marks machine b1.plans ask sums limit one two b2 s o → IsGoalEntered net content past max_marks machine b.plans ask sums limit one two b2 s o
-    entered-here one two o at entered = subst (λ ps. IsGoalEntered net content past max_marks machine ps ask sums limit one two b2 s o) at.plans entered
+    entered-here : (one two : List Node) (o : Option Branch) → IsAtGoal b b1 → IsGoalEntered reading machine b1.plans ask sums limit one two b2 s o → IsGoalEntered reading machine b.plans ask sums limit one two b2 s o
+    entered-here one two o at entered = subst (λ ps. IsGoalEntered reading machine ps ask sums limit one two b2 s o) at.plans entered
 
-    pub goal-none : (one two : List Node) (o : Option Branch) → IsAtGoal b b1 → o ≡ None → IsGoalEntered net content past max_marks machine b1.plans ask sums limit one two b2 s o → HasGoal one two
-    goal-none one two o at none entered = subst (IsGoalEntered net content past max_marks machine b.plans ask sums limit one two b2 s) none (entered-here one two o at entered)
+    pub goal-none : (one two : List Node) (o : Option Branch) → IsAtGoal b b1 → o ≡ None → IsGoalEntered reading machine b1.plans ask sums limit one two b2 s o → HasGoal one two
+    goal-none one two o at none entered = subst (IsGoalEntered reading machine b.plans ask sums limit one two b2 s) none (entered-here one two o at entered)
 
-    pub goal-goes : (one two : List Node) (o : Option Branch) (child : Branch) → IsAtGoal b b1 → o ≡ Some child → IsGoalEntered net content past max_marks machine b1.plans ask sums limit one two b2 s o
-        → GoalGoesOn net content past max_marks machine b.plans ask sums limit one two b2 s child
-    goal-goes one two o child at some entered = subst (IsGoalEntered net content past max_marks machine b.plans ask sums limit one two b2 s) some (entered-here one two o at entered)
+    pub goal-goes : (one two : List Node) (o : Option Branch) (child : Branch) → IsAtGoal b b1 → o ≡ Some child → IsGoalEntered reading machine b1.plans ask sums limit one two b2 s o
+        → GoalGoesOn reading machine b.plans ask sums limit one two b2 s child
+    goal-goes one two o child at some entered = subst (IsGoalEntered reading machine b.plans ask sums limit one two b2 s) some (entered-here one two o at entered)
 
-    pub goal-some : {X E : Type 0} (one two three : List Node) (o : Option Branch) (child : Branch) (result : Result X E) → IsAtGoal b b1 → IsSince net content past max_marks b1 b2 machine → o ≡ Some child
-        → IsGoalEntered net content past max_marks machine b1.plans ask sums limit one two b2 s o
+    pub goal-some : {X E : Type 0} (one two three : List Node) (o : Option Branch) (child : Branch) (result : Result X E) → IsAtGoal b b1 → IsSince reading b1 b2 machine → o ≡ Some child
+        → IsGoalEntered reading machine b1.plans ask sums limit one two b2 s o
         → OnOk result ((y : Suffix) → suffix_of b2 ≡ Some y → Shows machine b2.plans ask sums limit two three (λ rows. kids_of machine b2.plans ask rows (branch_by child y)) (λ _. [])) → OnOk result (HasGoal one three)
     goal-some one two three o child result at since some entered shown =
         let Sub = λ (ps : List Plan). (y : Suffix) → suffix_of b2 ≡ Some y → Shows machine ps ask sums limit two three (λ rows. kids_of machine ps ask rows (branch_by child y)) (λ _. []) in

@@ -2,6 +2,7 @@
 use Rattle.std.proofs.Common.{◌≡◌, ℕ, suc, ◌+◌, ◌≤◌, Bool, true, false, cond, ◌==◌, List, [], ◌∷◌, ◌++◌, length, refl, sym, ◌∙◌, ap, subst, arith, add-one, Result, Ok, Err, Option, Some, None}
 use Rattle.std.specs.Prelude.{ℤ, pos, slice_get, IfSome}
 use Rattle.std.specs.Result.{IfOk, OnOk}
+use Rattle.tp_base.specs.Readings.{Reading}
 use Rattle.tp_base.specs.Net.{Net}
 use Rattle.tp_bounds.specs.declared.tree.Close.{Close}
 use Rattle.tp_bounds.specs.declared.tree.Head.TheVariants.{At as AtHead}
@@ -76,21 +77,21 @@ range-shows machine plans ask sums limit old new r x rule lo hi name close named
     subst (λ ds. Adds machine plans ask rows (pos limit) ds old new (places_from machine plans ask rows br rule (hi + 1))) (sym (places-due machine plans ask rows br rule lo here))
     (subst (λ ds. Adds machine plans ask rows (pos limit) (d ∷ []) old new ds) next adds)
 
-module _ {N C A : Type 0} (net : N → Net) (content : N → C) (past : N → List C) (aside : N → A) (max_marks : N → ℕ) (machine : Machine) (ask : Ask) where
+module _ {N A : Type 0} (reading : Reading N) (untouched : N → A) (machine : Machine) (ask : Ask) where
   -- the board is marked where it carries a branch
   pub record IsAtMark (b b' : BoardValue N) (r : Branch) (x : Suffix) : Type 0 where
-    pub set : IsSet net content past max_marks machine ask b'
+    pub set : IsSet reading machine ask b'
     pub plans : b'.plans ≡ b.plans
-    pub carries : Carries net content past max_marks machine ask b' r x
+    pub carries : Carries reading machine ask b' r x
 
-  pub at-mark : MarkKeeps net content past aside → (b b' : BoardValue N) (r : Branch) (x : Suffix) (mark : ℕ) → IsMarked net content past aside max_marks b b' mark → IsSet net content past max_marks machine ask b
-      → Carries net content past max_marks machine ask b r x → IsAtMark b b' r x
+  pub at-mark : MarkKeeps reading untouched → (b b' : BoardValue N) (r : Branch) (x : Suffix) (mark : ℕ) → IsMarked reading untouched b b' mark → IsSet reading machine ask b
+      → Carries reading machine ask b r x → IsAtMark b b' r x
   at-mark keeps b b' r x mark m set c =
-      let load = load-of net content past aside max_marks b b' m.aside_same in
+      let load = load-of reading untouched b b' m.untouched_same in
       record {
-        set = record { stands = keeps b b' machine m.content_same m.aside_same m.past_more set.stands; asked = load.ask ∙ set.asked; goal = set.goal };
+        set = record { stands = keeps b b' machine m.content_same m.untouched_same m.past_more set.stands; asked = load.ask ∙ set.asked; goal = set.goal };
         plans = load.plans;
-        carries = carries-same net content past max_marks machine b.plans ask [] 0 [] [] b b' r x m.content_same load.plans c;
+        carries = carries-same reading machine b.plans ask [] 0 [] [] b b' r x m.content_same load.plans c;
       }
 
 -- a range is one from its first place on

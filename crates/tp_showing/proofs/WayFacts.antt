@@ -3,6 +3,7 @@ use Rattle.std.proofs.Common.{◌≡◌, ℕ, zero, suc, ◌+◌, ◌-◌, ◌<�
 use Rattle.std.specs.Prelude.{pos, nat_le, nat_lt}
 use Rattle.std.proofs.lemmas.Bool.Decides.{nat_tests}
 use Rattle.std.proofs.lemmas.List.{append-nil}
+use Rattle.tp_base.specs.Readings.{Reading}
 use Rattle.tp_base.specs.Net.{Net}
 use Rattle.tp_bounds.specs.declared.tree.Node.{Node}
 use Rattle.tp_bounds.specs.declared.tree.TreeRow.{TreeRow}
@@ -69,10 +70,10 @@ ways-fewer machine plans ask x k within = go (nat_lt (kept_of ask + length x.cho
   go true e w = (is-lt e, omega (arith, w))
   go false e w = absurd (omega (arith, w))
 
-module _ {N C : Type 0} (net : N → Net) (content : N → C) (past : N → List C) (max_marks : N → ℕ) (machine : Machine) (plans : List Plan) (ask : Ask) (sums : List (Option ℕ)) (limit : ℕ) (old new : List Node) (b : BoardValue N) (r : Branch) where
+module _ {N : Type 0} (reading : Reading N) (machine : Machine) (plans : List Plan) (ask : Ask) (sums : List (Option ℕ)) (limit : ℕ) (old new : List Node) (b : BoardValue N) (r : Branch) where
   -- a way that is gone with more behind it
-  pub entered-behind : (o : Option Branch) (ds behind more : List TreeRow → List Due) → IsEntered net content past max_marks machine plans ask sums limit old new b r ds behind o
-      → IsEntered net content past max_marks machine plans ask sums limit old new b r (λ rows. ds rows ++ more rows) (λ rows. behind rows ++ more rows) o
+  pub entered-behind : (o : Option Branch) (ds behind more : List TreeRow → List Due) → IsEntered reading machine plans ask sums limit old new b r ds behind o
+      → IsEntered reading machine plans ask sums limit old new b r (λ rows. ds rows ++ more rows) (λ rows. behind rows ++ more rows) o
   entered-behind None ds behind more shows = λ rows has. adds-behind machine plans ask rows (pos limit) (ds rows) (behind rows) (more rows) old new (shows rows has)
   entered-behind (Some child) ds behind more g = record {
     suffix = g.suffix;
@@ -86,8 +87,8 @@ module _ {N C : Type 0} (net : N → Net) (content : N → C) (past : N → List
   }
 
   -- the same dues by other names
-  pub entered-as : (o : Option Branch) (ds ds' behind behind' : List TreeRow → List Due) → ((rows : List TreeRow) → ds rows ≡ ds' rows) → ((rows : List TreeRow) → behind rows ≡ behind' rows) → IsEntered net content past max_marks machine plans ask sums limit old new b r ds behind o
-      → IsEntered net content past max_marks machine plans ask sums limit old new b r ds' behind' o
+  pub entered-as : (o : Option Branch) (ds ds' behind behind' : List TreeRow → List Due) → ((rows : List TreeRow) → ds rows ≡ ds' rows) → ((rows : List TreeRow) → behind rows ≡ behind' rows) → IsEntered reading machine plans ask sums limit old new b r ds behind o
+      → IsEntered reading machine plans ask sums limit old new b r ds' behind' o
   entered-as None ds ds' behind behind' e f shows = λ rows has. subst (λ us. Adds machine plans ask rows (pos limit) us old new (behind' rows)) (e rows) (subst (λ us. Adds machine plans ask rows (pos limit) (ds rows) old new us) (f rows) (shows rows has))
   entered-as (Some child) ds ds' behind behind' e f g = record {
     suffix = g.suffix;
@@ -100,22 +101,22 @@ module _ {N C : Type 0} (net : N → Net) (content : N → C) (past : N → List
   }
 
   -- an action is gone, or the stop, or a place
-  pub act-gone : (o : Option Branch) (x : Suffix) (way k : ℕ) → way ≡ suc k → way < ways_of machine plans ask x None → IsEntered net content past max_marks machine plans ask sums limit old new b r (λ rows. action_due machine plans ask rows (branch_by r x) (record { 0 = k })) (λ _. []) o
-      → IsEntered net content past max_marks machine plans ask sums limit old new b r (λ rows. left_of machine plans ask rows (branch_by r x) None way) (λ rows. left_of machine plans ask rows (branch_by r x) None (suc way)) o
+  pub act-gone : (o : Option Branch) (x : Suffix) (way k : ℕ) → way ≡ suc k → way < ways_of machine plans ask x None → IsEntered reading machine plans ask sums limit old new b r (λ rows. action_due machine plans ask rows (branch_by r x) (record { 0 = k })) (λ _. []) o
+      → IsEntered reading machine plans ask sums limit old new b r (λ rows. left_of machine plans ask rows (branch_by r x) None way) (λ rows. left_of machine plans ask rows (branch_by r x) None (suc way)) o
   act-gone o x way k e within entered =
       let w = ways-fewer machine plans ask x k (subst (λ n. n < ways_of machine plans ask x None) e within) in
       let left = λ (n : ℕ) (rows : List TreeRow). left_of machine plans ask rows (branch_by r x) None n in
       let act = λ (rows : List TreeRow). action_due machine plans ask rows (branch_by r x) (record { 0 = k }) in
-      subst (λ n. IsEntered net content past max_marks machine plans ask sums limit old new b r (left n) (left (suc n)) o) (sym e)
+      subst (λ n. IsEntered reading machine plans ask sums limit old new b r (left n) (left (suc n)) o) (sym e)
       (entered-as o (λ rows. act rows ++ left (suc (suc k)) rows) (left (suc k)) (left (suc (suc k))) (left (suc (suc k))) (λ rows. sym (act-left machine plans ask rows (branch_by r x) k w.0 w.1)) (λ rows. refl)
       (entered-behind o act (λ _. []) (left (suc (suc k))) entered))
 
   pub place-gone : (o : Option Branch) (x : Suffix) (way : ℕ) (rule : HoldRule) (h : Option HoldRule) → h ≡ Some rule
-      → IsEntered net content past max_marks machine plans ask sums limit old new b r (λ rows. places_from machine plans ask rows (branch_by r x) rule way) (λ rows. places_from machine plans ask rows (branch_by r x) rule (way + 1)) o
-      → IsEntered net content past max_marks machine plans ask sums limit old new b r (λ rows. left_of machine plans ask rows (branch_by r x) h way) (λ rows. left_of machine plans ask rows (branch_by r x) h (suc way)) o
+      → IsEntered reading machine plans ask sums limit old new b r (λ rows. places_from machine plans ask rows (branch_by r x) rule way) (λ rows. places_from machine plans ask rows (branch_by r x) rule (way + 1)) o
+      → IsEntered reading machine plans ask sums limit old new b r (λ rows. left_of machine plans ask rows (branch_by r x) h way) (λ rows. left_of machine plans ask rows (branch_by r x) h (suc way)) o
   place-gone o x way rule h e entered =
       let from = λ (n : ℕ) (rows : List TreeRow). places_from machine plans ask rows (branch_by r x) rule n in
-      subst (λ k. IsEntered net content past max_marks machine plans ask sums limit old new b r (λ rows. left_of machine plans ask rows (branch_by r x) k way) (λ rows. left_of machine plans ask rows (branch_by r x) k (suc way)) o) (sym e)
+      subst (λ k. IsEntered reading machine plans ask sums limit old new b r (λ rows. left_of machine plans ask rows (branch_by r x) k way) (λ rows. left_of machine plans ask rows (branch_by r x) k (suc way)) o) (sym e)
       (entered-as o (from way) (from way) (from (way + 1)) (from (suc way)) (λ rows. refl) (λ rows. ap (λ n. from n rows) (add-one way)) entered)
 
 pub stop-gone : (machine : Machine) (plans : List Plan) (ask : Ask) (sums : List (Option ℕ)) (limit : ℕ) (old new : List Node) (r : Branch) (x : Suffix) (way : ℕ) → way ≡ 0 → Shows machine plans ask sums limit old new (λ rows. stop_due machine plans ask rows (branch_by r x)) (λ _. [])

@@ -1,5 +1,6 @@
 -- A tree that is made on a board: the nodes so far and what is still due behind them, and what the board carries.
 use Rattle.std.specs.Prelude.{◌≡◌, ℕ, zero, suc, ◌+◌, ◌*◌, ◌-◌, ◌<◌, ◌≤◌, nat_lt, List, [], ◌∷◌, ◌++◌, length, slice_get, All, Option, Some, None, ℤ, pos, IsFalse, MatchOption, false, if◌then◌else◌}
+use Rattle.tp_base.specs.Readings.{Reading}
 use Rattle.tp_base.specs.Net.{Net}
 use Rattle.tp_bounds.specs.declared.tree.Head.{Head}
 use Rattle.tp_bounds.specs.declared.tree.Node.{Node}
@@ -103,7 +104,7 @@ module _ (machine : Machine) (plans : List Plan) (ask : Ask) (rows : List TreeRo
   kids_of b = or_no_dues (children machine plans ask rows (record { branch = b; span = None }))
 
 -- ---- boards
-module _ {N C : Type 0} (net : N → Net) (content : N → C) (past : N → List C) (max_marks : N → ℕ) where
+module _ {N : Type 0} (reading : Reading N) where
   -- the board carries a branch that goes on, a way to a goal
   pub record Carries (machine : Machine) (ask : Ask) (b : BoardValue N) (r : Branch) (x : Suffix) : Type 0 where
     pub carried : suffix_of b ≡ Some x
@@ -119,25 +120,25 @@ module _ {N C : Type 0} (net : N → Net) (content : N → C) (past : N → List
 
   -- a board for the ask, whose tray is one of the machine's
   pub record IsSet (machine : Machine) (ask : Ask) (b : BoardValue N) : Type 0 where
-    pub stands : Stands net content past b machine
+    pub stands : Stands reading b machine
     pub asked : b.ask ≡ Some ask
     pub goal : IsKnownGoal machine ask.goal
 
   -- the same marks are in force, and the same is loaded
   pub record IsSince (b b' : BoardValue N) (machine : Machine) : Type 0 where
-    pub past_same : past_of past b' ≡ past_of past b
+    pub past_same : past_of reading b' ≡ past_of reading b
     pub load : IsSameLoad b b'
-    pub room : max_marks b'.net - 1 ≡ max_marks b.net - 1
-    pub stands : Stands net content past b machine → Stands net content past b' machine
+    pub room : reading.max_marks b'.net - 1 ≡ reading.max_marks b.net - 1
+    pub stands : Stands reading b machine → Stands reading b' machine
 
   -- and the board carries what it carried
   pub record IsBack (b b' : BoardValue N) (machine : Machine) : Type 0 where
-    pub content_same : content_of content b' ≡ content_of content b
+    pub content_same : content_of reading b' ≡ content_of reading b
     pub since : IsSince b b' machine
 
   -- so many marks of the board are spare, one of the network being its own
   abbrev pub HasMarks : ℕ → BoardValue N → Type 0
-  HasMarks count b = length (past_of past b) + count ≤ max_marks b.net - 1
+  HasMarks count b = length (past_of reading b) + count ≤ reading.max_marks b.net - 1
 
 -- the branch may be split: it is not complete
 abbrev pub IsOpen : Machine → Ask → Branch → Type 0
@@ -154,10 +155,10 @@ IsEarlyEnd machine plans ask limit Early = EndsBy machine plans ask limit
 
 -- a way was gone: its node leaves what is due behind it, or the board carries a branch that is split, below which the walk is
 -- to go on
-module _ {N C : Type 0} (net : N → Net) (content : N → C) (past : N → List C) (max_marks : N → ℕ) (machine : Machine) (plans : List Plan) (ask : Ask) (sums : List (Option ℕ)) (limit : ℕ) (old new : List Node) (b : BoardValue N) (parent : Branch) where
+module _ {N : Type 0} (reading : Reading N) (machine : Machine) (plans : List Plan) (ask : Ask) (sums : List (Option ℕ)) (limit : ℕ) (old new : List Node) (b : BoardValue N) (parent : Branch) where
   pub record GoesOn (ds behind : List TreeRow → List Due) (child : Branch) : Type 0 where
     pub suffix : Suffix
-    pub carries : Carries net content past max_marks machine ask b child suffix
+    pub carries : Carries reading machine ask b child suffix
     pub smaller : below child < below parent
     pub is_open : IsOpen machine ask child
     pub early : HasEndBy machine plans ask suffix limit
@@ -167,10 +168,10 @@ module _ {N C : Type 0} (net : N → Net) (content : N → C) (past : N → List
   IsEntered ds behind o = MatchOption o (Shows machine plans ask sums limit old new ds behind) (GoesOn ds behind)
 
 -- a goal was opened: its node leaves nothing due, or the board carries its branch, which is split
-module _ {N C : Type 0} (net : N → Net) (content : N → C) (past : N → List C) (max_marks : N → ℕ) (machine : Machine) (plans : List Plan) (ask : Ask) (sums : List (Option ℕ)) (limit : ℕ) (old new : List Node) (b : BoardValue N) (s : State) where
+module _ {N : Type 0} (reading : Reading N) (machine : Machine) (plans : List Plan) (ask : Ask) (sums : List (Option ℕ)) (limit : ℕ) (old new : List Node) (b : BoardValue N) (s : State) where
   pub record GoalGoesOn (child : Branch) : Type 0 where
     pub suffix : Suffix
-    pub carries : Carries net content past max_marks machine ask b child suffix
+    pub carries : Carries reading machine ask b child suffix
     pub is_open : IsOpen machine ask child
     pub early : HasEndBy machine plans ask suffix limit
     pub shows : Shows machine plans ask sums limit old new (λ _. goal s ∷ []) (λ rows. kids_of machine plans ask rows (branch_by child suffix))

@@ -22,7 +22,7 @@ fn chain_of<N: Network>(
     first: PointId,
     edges: &[Edge],
 ) -> Result<Close, Memory>
-    requires stands { Stands N.net N.content N.past board.now machine.now }
+    requires stands { Stands N.reading board.now machine.now }
     requires tellable { All (IsTellable machine.now board.now.plans board.now.causes
         board.now.limit) edges.now }
     requires few { length edges.now < 4294967294 }
@@ -44,7 +44,7 @@ fn loop_of<N: Network>(
     machine: &Machine,
     edges: &[Edge],
 ) -> Result<Close, Memory>
-    requires stands { Stands N.net N.content N.past board.now machine.now }
+    requires stands { Stands N.reading board.now machine.now }
     requires tellable { All (IsTellable machine.now board.now.plans board.now.causes
         board.now.limit) edges.now }
     requires few { length edges.now < 4294967294 }
@@ -69,7 +69,7 @@ fn cut_of<N: Network>(
     edges: &[Edge],
     at: usize,
 ) -> Result<Close, Memory>
-    requires stands { Stands N.net N.content N.past board.now machine.now }
+    requires stands { Stands N.reading board.now machine.now }
     requires tellable { All (IsTellable machine.now board.now.plans board.now.causes
         board.now.limit) edges.now }
     requires few { length edges.now < 4294967294 }
@@ -94,7 +94,7 @@ fn circle_of<N: Network>(
     machine: &Machine,
     edges: &[Edge],
 ) -> Result<Close, Memory>
-    requires stands { Stands N.net N.content N.past board.now machine.now }
+    requires stands { Stands N.reading board.now machine.now }
     requires tellable { All (IsTellable machine.now board.now.plans board.now.causes
         board.now.limit) edges.now }
     requires few { length edges.now < 4294967294 }
@@ -115,7 +115,7 @@ pub(crate) fn close_of<N: Network>(
     board: &Board<N>,
     machine: &Machine,
 ) -> Result<Close, Memory>
-    requires stands { Stands N.net N.content N.past board.now machine.now }
+    requires stands { Stands N.reading board.now machine.now }
     requires reason { IsTellableReason N.refutes machine.now board.now }
     ensures { IfOk result (IsToldReason N.refutes machine.now board.now) }
 {
@@ -131,7 +131,7 @@ pub(crate) fn close_late<N: Network>(
     board: &Board<N>,
     machine: &Machine,
 ) -> Result<Close, Memory>
-    requires stands { Stands N.net N.content N.past board.now machine.now }
+    requires stands { Stands N.reading board.now machine.now }
     requires named { AreNamed board.now.plans }
     requires refused { (x : Suffix) × IsRefused N.refutes machine.now board.now x }
     ensures { IfOk result (ClosesRefused N.refutes machine.now board.now) }
@@ -146,7 +146,7 @@ pub(crate) fn close_end<N: Network>(
     machine: &Machine,
     last: Tick,
 ) -> Result<Close, Memory>
-    requires stands { Stands N.net N.content N.past board.now machine.now }
+    requires stands { Stands N.reading board.now machine.now }
     requires named { AreNamed board.now.plans }
     requires refused { (x : Suffix) × IsEndRefused N.refutes machine.now board.now x last }
     ensures { IfOk result (ClosesEnd N.refutes machine.now board.now last) }
@@ -161,7 +161,7 @@ pub(crate) fn close_stop<N: Network>(
     board: &Board<N>,
     machine: &Machine,
 ) -> Result<Close, Memory>
-    requires stands { Stands N.net N.content N.past board.now machine.now }
+    requires stands { Stands N.reading board.now machine.now }
     requires named { AreNamed board.now.plans }
     requires refused { (x : Suffix) × IsStopRefused N.refutes machine.now board.now x }
     ensures { IfOk result (ClosesStop N.refutes machine.now board.now) }

@@ -26,17 +26,17 @@ pub(crate) fn enter_place<N: Network>(
     rule: HoldRule,
     place: u32,
 ) -> Result<Option<Branch>, NotShown>
-    requires set { IsSet N.net N.content N.past N.max_marks scene.machine.now scene.ask.now
+    requires set { IsSet N.reading scene.machine.now scene.ask.now
         board.old }
     requires named { AreNamed board.old.plans }
     requires limit { IsLimit scene.machine.now scene.ask.now (pos scene.limit) }
-    requires carries { (x : Suffix) × Carries N.net N.content N.past N.max_marks scene.machine.now
+    requires carries { (x : Suffix) × Carries N.reading scene.machine.now
         scene.ask.now board.old branch x }
     requires next { hold_of scene.machine.now branch ≡ Some rule }
     requires within { (x : Suffix) → suffix_of board.old ≡ Some x
         → place ≤ length (order_in scene.machine.now board.old.plans x rule.resource.0) }
     ensures entered { IfOk result (λ o. (x : Suffix) → suffix_of board.old ≡ Some x
-        → IsEntered N.net N.content N.past N.max_marks scene.entry.machine.now board.old.plans
+        → IsEntered N.reading scene.entry.machine.now board.old.plans
         scene.entry.ask.now scene.entry.rooms.now.sums scene.entry.limit nodes.old nodes.new
         board.new branch
         (λ rows. places_from scene.entry.machine.now board.old.plans scene.entry.ask.now rows
@@ -45,7 +45,7 @@ pub(crate) fn enter_place<N: Network>(
         (branch_by branch x) rule (place + 1)) o) }
     ensures early { IfErr result (IsEarlyEnd scene.entry.machine.now board.old.plans
         scene.entry.ask.now scene.entry.limit) }
-    ensures since { IsSince N.net N.content N.past N.max_marks board.old board.new
+    ensures since { IsSince N.reading board.old board.new
         scene.entry.machine.now }
 {
     machine_law(scene.machine);
@@ -97,11 +97,11 @@ pub(crate) fn enter_stop<N: Network>(
     scene: Scene,
     branch: Branch,
 ) -> Result<(), NotShown>
-    requires set { IsSet N.net N.content N.past N.max_marks scene.machine.now scene.ask.now
+    requires set { IsSet N.reading scene.machine.now scene.ask.now
         board.old }
     requires named { AreNamed board.old.plans }
     requires limit { IsLimit scene.machine.now scene.ask.now (pos scene.limit) }
-    requires carries { (x : Suffix) × Carries N.net N.content N.past N.max_marks scene.machine.now
+    requires carries { (x : Suffix) × Carries N.reading scene.machine.now
         scene.ask.now board.old branch x }
     requires placed { hold_of scene.machine.now branch ≡ None }
     requires ends { IsEarly scene.machine.now scene.ask.now scene.limit board.old }
@@ -112,7 +112,7 @@ pub(crate) fn enter_stop<N: Network>(
         (branch_by branch x)) (λ _. [])) }
     ensures early { IfErr result (IsEarlyEnd scene.entry.machine.now board.old.plans
         scene.entry.ask.now scene.entry.limit) }
-    ensures since { IsSince N.net N.content N.past N.max_marks board.old board.new
+    ensures since { IsSince N.reading board.old board.new
         scene.entry.machine.now }
 {
     if !is_stop_due(scene.ask, branch) {

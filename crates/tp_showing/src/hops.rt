@@ -21,7 +21,7 @@ fn hold_by(grip: Grip) -> TreeHold
 
 /// A point of the network by its name in a tree. The limit of a claimed end stands for the end.
 pub(crate) fn point_by<N: Network>(board: &Board<N>, point: PointId) -> TreePoint
-    requires stands { (m : Machine) × Stands N.net N.content N.past board.now m }
+    requires stands { (m : Machine) × Stands N.reading board.now m }
     ensures { IsNameOf board.now.plans board.now.limit point result }
 {
     match board.spot_of(point) {
@@ -56,7 +56,7 @@ fn hop_why(machine: &Machine, why: Why, to: TreePoint) -> Option<Hop>
 
 /// What a tree tells of an edge, or None of a stop and a limit.
 pub(crate) fn hop_by<N: Network>(board: &Board<N>, machine: &Machine, edge: Edge) -> Option<Hop>
-    requires stands { Stands N.net N.content N.past board.now machine.now }
+    requires stands { Stands N.reading board.now machine.now }
     requires tellable { IsTellable machine.now board.now.plans board.now.causes board.now.limit
         edge }
     ensures { result ≡ tell machine.now board.now.plans board.now.causes edge }
@@ -73,7 +73,7 @@ pub(crate) fn put_hops<N: Network>(
     machine: &Machine,
     edges: &[Edge],
 ) -> Result<(), Memory>
-    requires stands { Stands N.net N.content N.past board.now machine.now }
+    requires stands { Stands N.reading board.now machine.now }
     requires tellable { All (IsTellable machine.now board.now.plans board.now.causes
         board.now.limit) edges.now }
     requires room { length hops.old + length edges.now < 4294967294 }
@@ -95,7 +95,7 @@ pub(crate) fn first_untold<N: Network>(
     machine: &Machine,
     edges: &[Edge],
 ) -> Option<usize>
-    requires stands { Stands N.net N.content N.past board.now machine.now }
+    requires stands { Stands N.reading board.now machine.now }
     requires tellable { All (IsTellable machine.now board.now.plans board.now.causes
         board.now.limit) edges.now }
     ensures some { IfSome result (IsFirstUntold (tell machine.now board.now.plans board.now.causes)

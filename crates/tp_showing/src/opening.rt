@@ -46,27 +46,27 @@ pub(crate) fn enter_act<N: Network>(
     branch: Branch,
     act: ActId,
 ) -> Result<Option<Branch>, NotShown>
-    requires set { IsSet N.net N.content N.past N.max_marks scene.machine.now scene.ask.now
+    requires set { IsSet N.reading scene.machine.now scene.ask.now
         board.old }
     requires named { AreNamed board.old.plans }
     requires limit { IsLimit scene.machine.now scene.ask.now (pos scene.limit) }
     requires made { IsMadeFor scene.rooms.now scene.machine.now }
     requires rooms { AreRooms scene.machine.now scene.ask.now scene.rooms.now.sums }
-    requires carries { (x : Suffix) × Carries N.net N.content N.past N.max_marks scene.machine.now
+    requires carries { (x : Suffix) × Carries N.reading scene.machine.now
         scene.ask.now board.old branch x }
     requires placed { hold_of scene.machine.now branch ≡ None }
     requires known { act.0 < length scene.machine.now.actions }
     requires fewer { (x : Suffix) → suffix_of board.old ≡ Some x
         → kept_of scene.ask.now + length x.choices < 64 }
     ensures entered { IfOk result (λ o. (x : Suffix) → suffix_of board.old ≡ Some x
-        → IsEntered N.net N.content N.past N.max_marks scene.entry.machine.now board.old.plans
+        → IsEntered N.reading scene.entry.machine.now board.old.plans
         scene.entry.ask.now scene.entry.rooms.now.sums scene.entry.limit nodes.old nodes.new
         board.new branch
         (λ rows. action_due scene.entry.machine.now board.old.plans scene.entry.ask.now rows
         (branch_by branch x) act) (λ _. []) o) }
     ensures early { IfErr result (IsEarlyEnd scene.entry.machine.now board.old.plans
         scene.entry.ask.now scene.entry.limit) }
-    ensures since { IsSince N.net N.content N.past N.max_marks board.old board.new
+    ensures since { IsSince N.reading board.old board.new
         scene.entry.machine.now }
 {
     let Some(state) = step_back(scene, branch.first, act) else {
@@ -101,7 +101,7 @@ pub(crate) fn enter_goal<N: Network>(
     scene: Scene,
     goal: State,
 ) -> Result<Option<Branch>, NotShown>
-    requires set { IsSet N.net N.content N.past N.max_marks scene.machine.now scene.ask.now
+    requires set { IsSet N.reading scene.machine.now scene.ask.now
         board.old }
     requires named { AreNamed board.old.plans }
     requires limit { IsLimit scene.machine.now scene.ask.now (pos scene.limit) }
@@ -111,12 +111,12 @@ pub(crate) fn enter_goal<N: Network>(
     requires known { goal.loc.0 < length scene.machine.now.locations }
     requires is_goal { IsGoalState scene.machine.now scene.ask.now.want scene.ask.now.goal goal }
     requires kept { kept_of scene.ask.now ≤ 64 }
-    ensures entered { IfOk result (IsGoalEntered N.net N.content N.past N.max_marks
+    ensures entered { IfOk result (IsGoalEntered N.reading
         scene.entry.machine.now board.old.plans scene.entry.ask.now scene.entry.rooms.now.sums
         scene.entry.limit nodes.old nodes.new board.new goal) }
     ensures early { IfErr result (IsEarlyEnd scene.entry.machine.now board.old.plans
         scene.entry.ask.now scene.entry.limit) }
-    ensures since { IsSince N.net N.content N.past N.max_marks board.old board.new
+    ensures since { IsSince N.reading board.old board.new
         scene.entry.machine.now }
 {
     let head = Head::Goal {

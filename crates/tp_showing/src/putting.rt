@@ -46,7 +46,7 @@ pub(crate) fn put_late<N: Network>(
     depth: u32,
     head: Head,
 ) -> Result<(), Memory>
-    requires set { IsSet N.net N.content N.past N.max_marks scene.machine.now scene.ask.now
+    requires set { IsSet N.reading scene.machine.now scene.ask.now
         board.now }
     requires named { AreNamed board.now.plans }
     requires limit { IsLimit scene.machine.now scene.ask.now (pos scene.limit) }
@@ -70,7 +70,7 @@ pub(crate) fn put_stop<N: Network>(
     depth: u32,
     head: Head,
 ) -> Result<(), Memory>
-    requires set { IsSet N.net N.content N.past N.max_marks scene.machine.now scene.ask.now
+    requires set { IsSet N.reading scene.machine.now scene.ask.now
         board.now }
     requires named { AreNamed board.now.plans }
     requires limit { IsLimit scene.machine.now scene.ask.now (pos scene.limit) }
@@ -96,7 +96,7 @@ fn put_end<N: Network>(
     depth: u32,
     head: Head,
 ) -> Result<(), Memory>
-    requires set { IsSet N.net N.content N.past N.max_marks scene.machine.now scene.ask.now
+    requires set { IsSet N.reading scene.machine.now scene.ask.now
         board.now }
     requires named { AreNamed board.now.plans }
     requires limit { IsLimit scene.machine.now scene.ask.now (pos scene.limit) }
@@ -172,13 +172,13 @@ pub(crate) fn put_carried<N: Network>(
     child: Branch,
     head: Head,
 ) -> Result<Option<Branch>, NotShown>
-    requires set { IsSet N.net N.content N.past N.max_marks scene.machine.now scene.ask.now
+    requires set { IsSet N.reading scene.machine.now scene.ask.now
         board.old }
     requires named { AreNamed board.old.plans }
     requires limit { IsLimit scene.machine.now scene.ask.now (pos scene.limit) }
-    requires carries { (x : Suffix) × Carries N.net N.content N.past N.max_marks scene.machine.now
+    requires carries { (x : Suffix) × Carries N.reading scene.machine.now
         scene.ask.now board.old child x }
-    ensures put { IfOk result (λ o. (x : Suffix) → Carries N.net N.content N.past N.max_marks
+    ensures put { IfOk result (λ o. (x : Suffix) → Carries N.reading
         scene.entry.machine.now scene.entry.ask.now board.old child x
         → MatchOption o (PutsNode scene.entry.machine.now board.old.plans scene.entry.ask.now
         scene.entry.limit nodes.old nodes.new (branch_by child x) head (λ _. []))
@@ -194,9 +194,9 @@ pub(crate) fn put_carried<N: Network>(
         scene.entry.ask.now scene.entry.limit board.old)) }
     ensures early { IfErr result (IsEarlyEnd scene.entry.machine.now board.old.plans
         scene.entry.ask.now scene.entry.limit) }
-    ensures since { IsSince N.net N.content N.past N.max_marks board.old board.new
+    ensures since { IsSince N.reading board.old board.new
         scene.entry.machine.now }
-    ensures same { content_of N.content board.new ≡ content_of N.content board.old }
+    ensures same { content_of N.reading board.new ≡ content_of N.reading board.old }
 {
     if board.end_bound() > scene.limit {
         board.refuse_end(scene.limit);

@@ -33,7 +33,7 @@ fn show_goal<N: Network>(
     scene: Scene,
     state: State,
 ) -> Result<(), NotShown>
-    requires set { IsSet N.net N.content N.past N.max_marks scene.machine.now scene.ask.now
+    requires set { IsSet N.reading scene.machine.now scene.ask.now
         board.old }
     requires named { AreNamed board.old.plans }
     requires limit { IsLimit scene.machine.now scene.ask.now (pos scene.limit) }
@@ -43,13 +43,13 @@ fn show_goal<N: Network>(
     requires known { state.loc.0 < length scene.machine.now.locations }
     requires is_goal { IsGoalState scene.machine.now scene.ask.now.want scene.ask.now.goal state }
     requires kept { kept_of scene.ask.now ≤ 64 }
-    requires marks { HasMarks N.net N.content N.past N.max_marks 326 board.old }
+    requires marks { HasMarks N.reading 326 board.old }
     ensures shown { OnOk result (Shows scene.entry.machine.now board.old.plans scene.entry.ask.now
         scene.entry.rooms.now.sums scene.entry.limit nodes.old nodes.new (λ _. goal state ∷ [])
         (λ _. [])) }
     ensures early { IfErr result (IsEarlyEnd scene.entry.machine.now board.old.plans
         scene.entry.ask.now scene.entry.limit) }
-    ensures back { IsBack N.net N.content N.past N.max_marks board.old board.new
+    ensures back { IsBack N.reading board.old board.new
         scene.entry.machine.now }
 {
     marks_keep_boards::<N>();
@@ -70,7 +70,7 @@ fn show_goals<N: Network>(
     scene: Scene,
     states: &[State],
 ) -> Result<(), NotShown>
-    requires set { IsSet N.net N.content N.past N.max_marks scene.machine.now scene.ask.now
+    requires set { IsSet N.reading scene.machine.now scene.ask.now
         board.old }
     requires named { AreNamed board.old.plans }
     requires limit { IsLimit scene.machine.now scene.ask.now (pos scene.limit) }
@@ -82,13 +82,13 @@ fn show_goals<N: Network>(
     requires are_goals { All (IsGoalState scene.machine.now scene.ask.now.want
         scene.ask.now.goal) states.now }
     requires kept { kept_of scene.ask.now ≤ 64 }
-    requires marks { HasMarks N.net N.content N.past N.max_marks 326 board.old }
+    requires marks { HasMarks N.reading 326 board.old }
     ensures shown { OnOk result (Shows scene.entry.machine.now board.old.plans scene.entry.ask.now
         scene.entry.rooms.now.sums scene.entry.limit nodes.old nodes.new
         (λ _. map (λ s. goal s) states.entry.now) (λ _. [])) }
     ensures early { IfErr result (IsEarlyEnd scene.entry.machine.now board.old.plans
         scene.entry.ask.now scene.entry.limit) }
-    ensures back { IsBack N.net N.content N.past N.max_marks board.old board.new
+    ensures back { IsBack N.reading board.old board.new
         scene.entry.machine.now }
 {
     'states: for at in 0..states.len() {
@@ -112,7 +112,7 @@ pub fn show_limit<N: Network>(
     ask: &Ask,
     limit: Tick,
 ) -> Result<BoundTree, NotShown>
-    requires set { IsSet N.net N.content N.past N.max_marks machine.now ask.now board.old }
+    requires set { IsSet N.reading machine.now ask.now board.old }
     requires named { AreNamed board.old.plans }
     requires limit { IsLimit machine.now ask.now (pos limit) }
     requires made { IsMadeFor rooms.now machine.now }
@@ -120,13 +120,13 @@ pub fn show_limit<N: Network>(
     requires origin { IsKnownOrigin machine.now ask.now.origin }
     requires closed { suffix_of board.old ≡ None }
     requires kept { kept_of ask.now ≤ 64 }
-    requires marks { HasMarks N.net N.content N.past N.max_marks 326 board.old }
+    requires marks { HasMarks N.reading 326 board.old }
     ensures tree { IfOk result (IsBoundTree machine.entry.now board.old.plans ask.entry.now
         (pos limit)) }
     ensures short { IfOk result HasFewHops }
     ensures early { IfErr result (IsEarlyEnd machine.entry.now board.old.plans ask.entry.now
         limit) }
-    ensures back { IsBack N.net N.content N.past N.max_marks board.old board.new
+    ensures back { IsBack N.reading board.old board.new
         machine.entry.now }
 {
     let scene = Scene {

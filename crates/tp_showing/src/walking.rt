@@ -24,17 +24,17 @@ pub(crate) fn show_below<N: Network>(
     scene: Scene,
     branch: Branch,
 ) -> Result<(), NotShown>
-    requires set { IsSet N.net N.content N.past N.max_marks scene.machine.now scene.ask.now
+    requires set { IsSet N.reading scene.machine.now scene.ask.now
         board.old }
     requires named { AreNamed board.old.plans }
     requires limit { IsLimit scene.machine.now scene.ask.now (pos scene.limit) }
     requires made { IsMadeFor scene.rooms.now scene.machine.now }
     requires rooms { AreRooms scene.machine.now scene.ask.now scene.rooms.now.sums }
-    requires carries { (x : Suffix) × Carries N.net N.content N.past N.max_marks scene.machine.now
+    requires carries { (x : Suffix) × Carries N.reading scene.machine.now
         scene.ask.now board.old branch x }
     requires open { IsOpen scene.machine.now scene.ask.now branch }
     requires ends { IsEarly scene.machine.now scene.ask.now scene.limit board.old }
-    requires marks { HasMarks N.net N.content N.past N.max_marks (below branch + 1) board.old }
+    requires marks { HasMarks N.reading (below branch + 1) board.old }
     ensures shown { OnOk result ((x : Suffix) → suffix_of board.old ≡ Some x
         → Shows scene.entry.machine.now board.old.plans scene.entry.ask.now
         scene.entry.rooms.now.sums scene.entry.limit nodes.old nodes.new
@@ -42,7 +42,7 @@ pub(crate) fn show_below<N: Network>(
         (branch_by branch x)) (λ _. [])) }
     ensures early { IfErr result (IsEarlyEnd scene.entry.machine.now board.old.plans
         scene.entry.ask.now scene.entry.limit) }
-    ensures back { IsBack N.net N.content N.past N.max_marks board.old board.new
+    ensures back { IsBack N.reading board.old board.new
         scene.entry.machine.now }
 {
     marks_keep_boards::<N>();

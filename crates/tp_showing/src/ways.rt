@@ -18,9 +18,9 @@ use tp_placing::Board;
 
 /// How many ways go on from a branch: the places of its next hold, or the stop and all actions.
 pub(crate) fn ways<N: Network>(board: &Board<N>, scene: Scene, branch: Branch) -> u64
-    requires set { IsSet N.net N.content N.past N.max_marks scene.machine.now scene.ask.now
+    requires set { IsSet N.reading scene.machine.now scene.ask.now
         board.now }
-    requires carries { (x : Suffix) × Carries N.net N.content N.past N.max_marks scene.machine.now
+    requires carries { (x : Suffix) × Carries N.reading scene.machine.now
         scene.ask.now board.now branch x }
     ensures count { (x : Suffix) → suffix_of board.now ≡ Some x → result
         ≡ ways_of scene.entry.machine.now board.now.plans scene.entry.ask.now x
@@ -49,20 +49,20 @@ fn enter_child<N: Network>(
     branch: Branch,
     way: u32,
 ) -> Result<Option<Branch>, NotShown>
-    requires set { IsSet N.net N.content N.past N.max_marks scene.machine.now scene.ask.now
+    requires set { IsSet N.reading scene.machine.now scene.ask.now
         board.old }
     requires named { AreNamed board.old.plans }
     requires limit { IsLimit scene.machine.now scene.ask.now (pos scene.limit) }
     requires made { IsMadeFor scene.rooms.now scene.machine.now }
     requires rooms { AreRooms scene.machine.now scene.ask.now scene.rooms.now.sums }
-    requires carries { (x : Suffix) × Carries N.net N.content N.past N.max_marks scene.machine.now
+    requires carries { (x : Suffix) × Carries N.reading scene.machine.now
         scene.ask.now board.old branch x }
     requires placed { hold_of scene.machine.now branch ≡ None }
     requires ends { IsEarly scene.machine.now scene.ask.now scene.limit board.old }
     requires within { (x : Suffix) → suffix_of board.old ≡ Some x
         → way < ways_of scene.machine.now board.old.plans scene.ask.now x None }
     ensures entered { IfOk result (λ o. (x : Suffix) → suffix_of board.old ≡ Some x
-        → IsEntered N.net N.content N.past N.max_marks scene.entry.machine.now board.old.plans
+        → IsEntered N.reading scene.entry.machine.now board.old.plans
         scene.entry.ask.now scene.entry.rooms.now.sums scene.entry.limit nodes.old nodes.new
         board.new branch
         (λ rows. left_of scene.entry.machine.now board.old.plans scene.entry.ask.now rows
@@ -71,7 +71,7 @@ fn enter_child<N: Network>(
         (branch_by branch x) None (suc way)) o) }
     ensures early { IfErr result (IsEarlyEnd scene.entry.machine.now board.old.plans
         scene.entry.ask.now scene.entry.limit) }
-    ensures since { IsSince N.net N.content N.past N.max_marks board.old board.new
+    ensures since { IsSince N.reading board.old board.new
         scene.entry.machine.now }
 {
     machine_law(scene.machine);
@@ -92,20 +92,20 @@ pub(crate) fn enter<N: Network>(
     branch: Branch,
     way: u32,
 ) -> Result<Option<Branch>, NotShown>
-    requires set { IsSet N.net N.content N.past N.max_marks scene.machine.now scene.ask.now
+    requires set { IsSet N.reading scene.machine.now scene.ask.now
         board.old }
     requires named { AreNamed board.old.plans }
     requires limit { IsLimit scene.machine.now scene.ask.now (pos scene.limit) }
     requires made { IsMadeFor scene.rooms.now scene.machine.now }
     requires rooms { AreRooms scene.machine.now scene.ask.now scene.rooms.now.sums }
-    requires carries { (x : Suffix) × Carries N.net N.content N.past N.max_marks scene.machine.now
+    requires carries { (x : Suffix) × Carries N.reading scene.machine.now
         scene.ask.now board.old branch x }
     requires ends { IsEarly scene.machine.now scene.ask.now scene.limit board.old }
     requires within { (x : Suffix) → suffix_of board.old ≡ Some x
         → way < ways_of scene.machine.now board.old.plans scene.ask.now x
         (hold_of scene.machine.now branch) }
     ensures entered { IfOk result (λ o. (x : Suffix) → suffix_of board.old ≡ Some x
-        → IsEntered N.net N.content N.past N.max_marks scene.entry.machine.now board.old.plans
+        → IsEntered N.reading scene.entry.machine.now board.old.plans
         scene.entry.ask.now scene.entry.rooms.now.sums scene.entry.limit nodes.old nodes.new
         board.new branch
         (λ rows. left_of scene.entry.machine.now board.old.plans scene.entry.ask.now rows
@@ -114,7 +114,7 @@ pub(crate) fn enter<N: Network>(
         (branch_by branch x) (hold_of scene.entry.machine.now branch) (suc way)) o) }
     ensures early { IfErr result (IsEarlyEnd scene.entry.machine.now board.old.plans
         scene.entry.ask.now scene.entry.limit) }
-    ensures since { IsSince N.net N.content N.past N.max_marks board.old board.new
+    ensures since { IsSince N.reading board.old board.new
         scene.entry.machine.now }
 {
     match branch.next_hold(scene.machine) {

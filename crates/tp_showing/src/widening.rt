@@ -22,17 +22,17 @@ fn late_end<N: Network>(
     scene: Scene,
     child: Branch,
 ) -> Result<Option<Close>, Memory>
-    requires set { IsSet N.net N.content N.past N.max_marks scene.machine.now scene.ask.now
+    requires set { IsSet N.reading scene.machine.now scene.ask.now
         board.old }
     requires named { AreNamed board.old.plans }
     requires limit { IsLimit scene.machine.now scene.ask.now (pos scene.limit) }
-    requires carries { (x : Suffix) × Carries N.net N.content N.past N.max_marks scene.machine.now
+    requires carries { (x : Suffix) × Carries N.reading scene.machine.now
         scene.ask.now board.old child x }
     ensures closes { IfOk result (λ o. IfSome o (λ close. (x : Suffix)
         → suffix_of board.old ≡ Some x → Closes scene.entry.machine.now board.old.plans
         scene.entry.ask.now
         (pos scene.entry.limit) x close)) }
-    ensures since { IsSince N.net N.content N.past N.max_marks board.old board.new
+    ensures since { IsSince N.reading board.old board.new
         scene.entry.machine.now }
 {
     let _child = child;
@@ -55,11 +55,11 @@ fn refuse_place<N: Network>(
     places: Places,
     place: u32,
 ) -> Result<Option<Close>, Memory>
-    requires set { IsSet N.net N.content N.past N.max_marks scene.machine.now scene.ask.now
+    requires set { IsSet N.reading scene.machine.now scene.ask.now
         board.old }
     requires named { AreNamed board.old.plans }
     requires limit { IsLimit scene.machine.now scene.ask.now (pos scene.limit) }
-    requires carries { (x : Suffix) × Carries N.net N.content N.past N.max_marks scene.machine.now
+    requires carries { (x : Suffix) × Carries N.reading scene.machine.now
         scene.ask.now board.old branch x }
     requires next { hold_of scene.machine.now branch ≡ Some places.rule }
     requires within { (x : Suffix) → suffix_of board.old ≡ Some x
@@ -68,7 +68,7 @@ fn refuse_place<N: Network>(
         → suffix_of board.old ≡ Some x → Closes scene.entry.machine.now board.old.plans
         scene.entry.ask.now
         (pos scene.entry.limit) (with_place place x) close)) }
-    ensures since { IsSince N.net N.content N.past N.max_marks board.old board.new
+    ensures since { IsSince N.reading board.old board.new
         scene.entry.machine.now }
 {
     let child = Branch {
@@ -95,21 +95,21 @@ fn close_place<N: Network>(
     places: Places,
     place: u32,
 ) -> Result<Option<Close>, Memory>
-    requires set { IsSet N.net N.content N.past N.max_marks scene.machine.now scene.ask.now
+    requires set { IsSet N.reading scene.machine.now scene.ask.now
         board.old }
     requires named { AreNamed board.old.plans }
     requires limit { IsLimit scene.machine.now scene.ask.now (pos scene.limit) }
-    requires carries { (x : Suffix) × Carries N.net N.content N.past N.max_marks scene.machine.now
+    requires carries { (x : Suffix) × Carries N.reading scene.machine.now
         scene.ask.now board.old branch x }
     requires next { hold_of scene.machine.now branch ≡ Some places.rule }
     requires within { (x : Suffix) → suffix_of board.old ≡ Some x
         → place ≤ length (order_in scene.machine.now board.old.plans x places.rule.resource.0) }
-    requires marks { HasMarks N.net N.content N.past N.max_marks 1 board.old }
+    requires marks { HasMarks N.reading 1 board.old }
     ensures closes { IfOk result (λ o. IfSome o (λ close. (x : Suffix)
         → suffix_of board.old ≡ Some x → Closes scene.entry.machine.now board.old.plans
         scene.entry.ask.now
         (pos scene.entry.limit) (with_place place x) close)) }
-    ensures back { IsBack N.net N.content N.past N.max_marks board.old board.new
+    ensures back { IsBack N.reading board.old board.new
         scene.entry.machine.now }
 {
     marks_keep_boards::<N>();
@@ -127,23 +127,23 @@ fn range_at<N: Network>(
     places: Places,
     place: u32,
 ) -> Result<Option<Range>, Memory>
-    requires set { IsSet N.net N.content N.past N.max_marks scene.machine.now scene.ask.now
+    requires set { IsSet N.reading scene.machine.now scene.ask.now
         board.old }
     requires named { AreNamed board.old.plans }
     requires limit { IsLimit scene.machine.now scene.ask.now (pos scene.limit) }
-    requires carries { (x : Suffix) × Carries N.net N.content N.past N.max_marks scene.machine.now
+    requires carries { (x : Suffix) × Carries N.reading scene.machine.now
         scene.ask.now board.old branch x }
     requires next { hold_of scene.machine.now branch ≡ Some places.rule }
     requires last { (x : Suffix) → suffix_of board.old ≡ Some x → places.last
         ≡ length (order_in scene.machine.now board.old.plans x places.rule.resource.0) }
     requires begins { places.lo ≤ place }
     requires ends { place ≤ places.last }
-    requires marks { HasMarks N.net N.content N.past N.max_marks 1 board.old }
+    requires marks { HasMarks N.reading 1 board.old }
     ensures range { IfOk result (λ o. IfSome o (λ range. (x : Suffix)
         → suffix_of board.old ≡ Some x → IsRange scene.entry.machine.now board.old.plans
         scene.entry.ask.now
         (pos scene.entry.limit) x places.rule places.lo place places.last range)) }
-    ensures back { IsBack N.net N.content N.past N.max_marks board.old board.new
+    ensures back { IsBack N.reading board.old board.new
         scene.entry.machine.now }
 {
     match close_place(board, scene, branch, places, place) {
@@ -161,22 +161,22 @@ fn widest<N: Network>(
     branch: Branch,
     places: Places,
 ) -> Result<Option<Range>, Memory>
-    requires set { IsSet N.net N.content N.past N.max_marks scene.machine.now scene.ask.now
+    requires set { IsSet N.reading scene.machine.now scene.ask.now
         board.old }
     requires named { AreNamed board.old.plans }
     requires limit { IsLimit scene.machine.now scene.ask.now (pos scene.limit) }
-    requires carries { (x : Suffix) × Carries N.net N.content N.past N.max_marks scene.machine.now
+    requires carries { (x : Suffix) × Carries N.reading scene.machine.now
         scene.ask.now board.old branch x }
     requires next { hold_of scene.machine.now branch ≡ Some places.rule }
     requires last { (x : Suffix) → suffix_of board.old ≡ Some x → places.last
         ≡ length (order_in scene.machine.now board.old.plans x places.rule.resource.0) }
     requires some { places.lo ≤ places.last }
-    requires marks { HasMarks N.net N.content N.past N.max_marks 1 board.old }
+    requires marks { HasMarks N.reading 1 board.old }
     ensures range { IfOk result (λ o. IfSome o (λ range. (x : Suffix)
         → suffix_of board.old ≡ Some x → IsRange scene.entry.machine.now board.old.plans
         scene.entry.ask.now
         (pos scene.entry.limit) x places.rule places.lo places.lo places.last range)) }
-    ensures back { IsBack N.net N.content N.past N.max_marks board.old board.new
+    ensures back { IsBack N.reading board.old board.new
         scene.entry.machine.now }
 {
     let first = match range_at(board, scene, branch, places, places.lo) {
@@ -207,18 +207,18 @@ pub(crate) fn close_from<N: Network>(
     way: u64,
     count: u64,
 ) -> Result<u64, NotShown>
-    requires set { IsSet N.net N.content N.past N.max_marks scene.machine.now scene.ask.now
+    requires set { IsSet N.reading scene.machine.now scene.ask.now
         board.old }
     requires named { AreNamed board.old.plans }
     requires limit { IsLimit scene.machine.now scene.ask.now (pos scene.limit) }
-    requires carries { (x : Suffix) × Carries N.net N.content N.past N.max_marks scene.machine.now
+    requires carries { (x : Suffix) × Carries N.reading scene.machine.now
         scene.ask.now board.old branch x }
     requires count { (x : Suffix) → suffix_of board.old ≡ Some x → count
         ≡ ways_of scene.machine.now board.old.plans scene.ask.now x
         (hold_of scene.machine.now branch) }
     requires most { count ≤ 4294967296 }
     requires some { way < count }
-    requires marks { HasMarks N.net N.content N.past N.max_marks 1 board.old }
+    requires marks { HasMarks N.reading 1 board.old }
     ensures shown { IfOk result (λ next. (x : Suffix) → suffix_of board.old ≡ Some x
         → Shows scene.entry.machine.now board.old.plans scene.entry.ask.now
         scene.entry.rooms.now.sums scene.entry.limit nodes.old nodes.new
@@ -229,7 +229,7 @@ pub(crate) fn close_from<N: Network>(
     ensures onward { IfOk result (λ next. (way ≤ next) × (next ≤ count)) }
     ensures early { IfErr result (IsEarlyEnd scene.entry.machine.now board.old.plans
         scene.entry.ask.now scene.entry.limit) }
-    ensures back { IsBack N.net N.content N.past N.max_marks board.old board.new
+    ensures back { IsBack N.reading board.old board.new
         scene.entry.machine.now }
 {
     let Some(rule) = branch.next_hold(scene.machine) else {

@@ -11,11 +11,11 @@ use Rattle.tp_stn_core.specs.declared.saving.SavedLow.{SavedLow}
 use Rattle.tp_stn_core.specs.Saved.{relinked, newest_of, is_due, saved_after, newest_after}
 use Rattle.tp_stn_core.specs.Marks.{AreStacked, AreSaved}
 use Rattle.tp_stn_core.proofs.SavedFacts.{newest_names, newest-push_same, newest-push_other, length-relinked, relinked_newest}
-use Rattle.tp_stn_core.proofs.LinkFacts.{Due, due, room_due, slice_get_kept}
+use Rattle.tp_stn_core.proofs.LinkFacts.{Due, due, capacity_due, slice_get_kept}
 
 -- one more saved lower bound, where it is due
-module _ (marks : List PlainMark) (saved : List SavedLow) (newest : List ℕ) (points edges room : ℕ) (p : PointId) (low : ℕ)
-    (s : AreStacked marks points edges (length saved) room) (a : AreSaved marks saved newest points) (h : p.0 < points) where
+module _ (marks : List PlainMark) (saved : List SavedLow) (newest : List ℕ) (points edges capacity : ℕ) (p : PointId) (low : ℕ)
+    (s : AreStacked marks points edges (length saved) capacity) (a : AreSaved marks saved newest points) (h : p.0 < points) where
   abbrev entry : SavedLow
   entry = record { point = p; low = low; older = slice_index newest p.0 }
 
@@ -77,9 +77,9 @@ saved_pointed marks saved newest points a = record {
 }
 
 -- back to a mark
-pub saved_undone : (marks : List PlainMark) (saved : List SavedLow) (newest : List ℕ) (points edges room k : ℕ) (m : PlainMark) → slice_get marks k ≡ Some m → AreStacked marks points edges (length saved) room → AreSaved marks saved newest points
+pub saved_undone : (marks : List PlainMark) (saved : List SavedLow) (newest : List ℕ) (points edges capacity k : ℕ) (m : PlainMark) → slice_get marks k ≡ Some m → AreStacked marks points edges (length saved) capacity → AreSaved marks saved newest points
     → AreSaved (take k marks) (take m.saved saved) (relinked (drop m.saved saved) (take m.points newest)) m.points
-saved_undone marks saved newest points edges room k m at s a =
+saved_undone marks saved newest points edges capacity k m at s a =
     let below = s.points_below k m at in
     let len : length (take m.points newest) ≡ m.points = (let l = a.len in length-take-le m.points newest (omega arith)) in
     let whole : take m.saved saved ++ drop m.saved saved ≡ saved = take-append-drop m.saved saved in
@@ -107,31 +107,31 @@ saved_undone marks saved newest points edges room k m at s a =
     }
 
 -- a lower bound rises: it is saved where that is due
-module _ (marks : List PlainMark) (saved : List SavedLow) (newest : List ℕ) (points edges room : ℕ) (p : PointId) (low : ℕ)
-    (s : AreStacked marks points edges (length saved) room) (a : AreSaved marks saved newest points) (h : p.0 < points) (fits : points ≤ room) where
+module _ (marks : List PlainMark) (saved : List SavedLow) (newest : List ℕ) (points edges capacity : ℕ) (p : PointId) (low : ℕ)
+    (s : AreStacked marks points edges (length saved) capacity) (a : AreSaved marks saved newest points) (h : p.0 < points) (fits : points ≤ capacity) where
   raised_by : (b : Bool) → is_due marks (slice_index newest p.0) ≡ b
-      → AreSaved marks (cond b (saved ++ entry marks saved newest points edges room p low s a h ∷ []) saved) (cond b (set newest p.0 (length saved + 1)) newest) points
-  raised_by true e = saved_pushed marks saved newest points edges room p low s a h (due marks (slice_index newest p.0) e)
+      → AreSaved marks (cond b (saved ++ entry marks saved newest points edges capacity p low s a h ∷ []) saved) (cond b (set newest p.0 (length saved + 1)) newest) points
+  raised_by true e = saved_pushed marks saved newest points edges capacity p low s a h (due marks (slice_index newest p.0) e)
   raised_by false e = a
 
   pub saved_raised : AreSaved marks (saved_after marks saved newest p low) (newest_after marks saved newest p) points
   saved_raised = raised_by (is_due marks (slice_index newest p.0)) refl
 
-  pub has_room : is_due marks (slice_index newest p.0) ≡ true → length saved < length marks * room
-  has_room e =
+  pub has_capacity : is_due marks (slice_index newest p.0) ≡ true → length saved < length marks * capacity
+  has_capacity e =
       let d = due marks (slice_index newest p.0) e in
-      room_due marks saved newest points edges room s a fits d.place d.mark d.last d.get p.0 h d.since
+      capacity_due marks saved newest points edges capacity s a fits d.place d.mark d.last d.get p.0 h d.since
 
-  length_by : (b : Bool) → is_due marks (slice_index newest p.0) ≡ b → length saved ≤ length marks * room
-      → (length saved ≤ length (cond b (saved ++ entry marks saved newest points edges room p low s a h ∷ []) saved)) × (length (cond b (saved ++ entry marks saved newest points edges room p low s a h ∷ []) saved) ≤ length marks * room)
+  length_by : (b : Bool) → is_due marks (slice_index newest p.0) ≡ b → length saved ≤ length marks * capacity
+      → (length saved ≤ length (cond b (saved ++ entry marks saved newest points edges capacity p low s a h ∷ []) saved)) × (length (cond b (saved ++ entry marks saved newest points edges capacity p low s a h ∷ []) saved) ≤ length marks * capacity)
   length_by true e m =
-      let l = length-append saved (entry marks saved newest points edges room p low s a h ∷ []) in
-      let r = has_room e in
+      let l = length-append saved (entry marks saved newest points edges capacity p low s a h ∷ []) in
+      let r = has_capacity e in
       (omega arith, omega arith)
   length_by false e m = (omega arith, m)
 
   -- and there is room for it
-  pub length_raised : length saved ≤ length marks * room → (length saved ≤ length (saved_after marks saved newest p low)) × (length (saved_after marks saved newest p low) ≤ length marks * room)
+  pub length_raised : length saved ≤ length marks * capacity → (length saved ≤ length (saved_after marks saved newest p low)) × (length (saved_after marks saved newest p low) ≤ length marks * capacity)
   length_raised m = length_by (is_due marks (slice_index newest p.0)) refl m
 
 pub same_saved : (ms ms' : List PlainMark) (ss ss' : List SavedLow) (ns ns' : List ℕ) (n n' : ℕ) → ms' ≡ ms → ss' ≡ ss → ns' ≡ ns → n' ≡ n → AreSaved ms ss ns n → AreSaved ms' ss' ns' n'

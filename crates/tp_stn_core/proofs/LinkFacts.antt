@@ -43,8 +43,8 @@ not_due_at newest None m e h = absurd (none-some m e)
 not_due_at newest (Some n) m e h = let a = leb-false newest n.saved h in let b = ap (λ (x : PlainMark). x.saved) (same_Some n m e) in omega arith
 
 -- where nothing is due, each mark stands before what was saved last
-pub not_due : (marks : List PlainMark) (points edges saved room newest k : ℕ) (m : PlainMark) → AreStacked marks points edges saved room → is_due marks newest ≡ false → slice_get marks k ≡ Some m → m.saved < newest
-not_due marks points edges saved room newest k m s h at =
+pub not_due : (marks : List PlainMark) (points edges saved capacity newest k : ℕ) (m : PlainMark) → AreStacked marks points edges saved capacity → is_due marks newest ≡ false → slice_get marks k ≡ Some m → m.saved < newest
+not_due marks points edges saved capacity newest k m s h at =
     let w = slice_get_within marks k m at in
     let f = found marks (length marks - 1) (omega arith) in
     let top : f.0.saved < newest = not_due_at newest (slice_get marks (length marks - 1)) f.0 f.1 h in
@@ -56,8 +56,8 @@ not_due marks points edges saved room newest k m s h at =
     ]
 
 -- ---- how many there are
-module _ (marks : List PlainMark) (saved : List SavedLow) (newest : List ℕ) (points edges room : ℕ)
-    (s : AreStacked marks points edges (length saved) room) (a : AreSaved marks saved newest points) (fits : points ≤ room) where
+module _ (marks : List PlainMark) (saved : List SavedLow) (newest : List ℕ) (points edges capacity : ℕ)
+    (s : AreStacked marks points edges (length saved) capacity) (a : AreSaved marks saved newest points) (fits : points ≤ capacity) where
   -- the marks before or at a place stand at most where the newest does
   below_last : (k j : ℕ) (m n : PlainMark) → k + 1 ≡ length marks → slice_get marks k ≡ Some m → slice_get marks j ≡ Some n → n.saved ≤ m.saved
   below_last k j m n last at bt =
@@ -94,25 +94,25 @@ module _ (marks : List PlainMark) (saved : List SavedLow) (newest : List ℕ) (p
         let c = p.3 in
         omega arith
 
-    since_below : (i : ℕ) → i < length since → slice_index since i < room
+    since_below : (i : ℕ) → i < length since → slice_index since i < capacity
     since_below i h = let x = since_at i h in let b = a.known (m.saved + i) x.0 x.1 in let e = x.2 in omega arith
 
     -- where a point's lower bound is due, there is room for it
-    pub room_due : (p : ℕ) → p < points → slice_index newest p ≤ m.saved → length saved < length marks * room
-    room_due p h due =
+    pub capacity_due : (p : ℕ) → p < points → slice_index newest p ≤ m.saved → length saved < length marks * capacity
+    capacity_due p h due =
         let l = length-map (drop m.saved saved) (λ (e : SavedLow). e.point.0) in
         let d = length-drop m.saved saved in
         let below = s.saved_below k m at in
-        let in_room = s.in_room k m at in
+        let in_capacity = s.in_capacity k m at in
         let n = length-append since (p ∷ []) in
         let fresh : (i : ℕ) → i < length since → slice_index since i ≢ p = λ i g e. (
         let x = since_at i g in
         let late = newest_late saved p (m.saved + i) x.0 x.1 (x.2 ∙ e) in
         let is = a.newest_is p h in
         omega arith) in
-        let short : length (since ++ p ∷ []) ≤ room = apart-short (since ++ p ∷ []) room (apart-push since p since_apart fresh) (λ i g. elim (cases_lt i (length since)) [
+        let short : length (since ++ p ∷ []) ≤ capacity = apart-short (since ++ p ∷ []) capacity (apart-push since p since_apart fresh) (λ i g. elim (cases_lt i (length since)) [
           | inl q ↦ (let b = since_below i q in let e = get_or_append_left since (p ∷ []) 0 i q in omega arith)
           | inr q ↦ (let e = get_or_at since p [] 0 i (omega arith) in omega arith)
         ]) in
-        let all : length marks * room ≡ (k + 1) * room = ap (λ i. i * room) (sym last) in
+        let all : length marks * capacity ≡ (k + 1) * capacity = ap (λ i. i * capacity) (sym last) in
         omega arith

@@ -17,8 +17,8 @@ use Rattle.tp_stn_core.proofs.LinkFacts.{not_due}
 pub same_net : (l l' c c' : List ℕ) (e e' : List Edge) → l ≡ l' → c ≡ c' → e ≡ e' → ◌≡◌ {A = Net} (record { lows = l; caps = c; edges = e }) (record { lows = l'; caps = c'; edges = e' })
 same_net l l' c c' e e' p q r = cc
 
-module _ (marks : List PlainMark) (saved : List SavedLow) (lows caps : List ℕ) (edges : List Edge) (room : ℕ)
-    (s : AreStacked marks (length lows) (length edges) (length saved) room) where
+module _ (marks : List PlainMark) (saved : List SavedLow) (lows caps : List ℕ) (edges : List Edge) (capacity : ℕ)
+    (s : AreStacked marks (length lows) (length edges) (length saved) capacity) where
   pub past_edge : (more : List Edge) → past_of marks saved lows caps (edges ++ more) ≡ past_of marks saved lows caps edges
   past_edge more = map_same (net_at saved lows caps (edges ++ more)) (net_at saved lows caps edges) marks (λ k m g.
       same_net _ _ _ _ _ _ refl refl (take-append-le m.edges edges more (s.edges_below k m g)))
@@ -63,7 +63,7 @@ module _ (marks : List PlainMark) (saved : List SavedLow) (lows caps : List ℕ)
     past_raised_by true e = map_same (net_at (saved ++ entry ∷ []) (set lows p.0 x) caps edges) (net_at saved lows caps edges) marks (λ k m g.
         same_net _ _ _ _ _ _ (raised_due m (s.saved_below k m g)) refl refl)
     past_raised_by false e = map_same (net_at saved (set lows p.0 x) caps edges) (net_at saved lows caps edges) marks (λ k m g.
-        same_net _ _ _ _ _ _ (raised_not_due m (not_due marks (length lows) (length edges) (length saved) room (slice_index newest p.0) k m s e g)) refl refl)
+        same_net _ _ _ _ _ _ (raised_not_due m (not_due marks (length lows) (length edges) (length saved) capacity (slice_index newest p.0) k m s e g)) refl refl)
 
     pub past_raised : past_of marks (saved_after marks saved newest p low) (set lows p.0 x) caps edges ≡ past_of marks saved lows caps edges
     past_raised = past_raised_by (is_due marks (slice_index newest p.0)) refl

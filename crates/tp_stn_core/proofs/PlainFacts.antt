@@ -8,10 +8,10 @@ use Rattle.tp_stn_core.specs.declared.marks.PlainMark.{PlainMark}
 use Rattle.tp_stn_core.specs.declared.saving.SavedLow.{SavedLow}
 use Rattle.tp_stn_core.specs.declared.plain_net.PlainNet.TheInside.{Inside}
 use Rattle.tp_stn_core.specs.Marks.{net_at}
-use Rattle.tp_stn_core.specs.Plain.{net_in, HasRoom, IsPlain}
+use Rattle.tp_stn_core.specs.Plain.{net_in, HasCapacity, IsPlain}
 
-pub plain_empty : (a : Inside) → a.lows.items ≡ [] → a.caps.items ≡ [] → a.edges.items ≡ [] → a.times.items ≡ [] → a.saved.items ≡ [] → a.newest.items ≡ [] → a.marks.items ≡ [] → HasRoom a → IsPlain a
-plain_empty a l c e t s n m room =
+pub plain_empty : (a : Inside) → a.lows.items ≡ [] → a.caps.items ≡ [] → a.edges.items ≡ [] → a.times.items ≡ [] → a.saved.items ≡ [] → a.newest.items ≡ [] → a.marks.items ≡ [] → HasCapacity a → IsPlain a
+plain_empty a l c e t s n m capacity =
     let ll = ap length l in
     let lc = ap length c in
     let le = ap length e in
@@ -31,12 +31,12 @@ plain_empty a l c e t s n m room =
       edges = omega arith;
       marks = omega arith;
       saved = omega arith;
-      room = room;
+      capacity = capacity;
       stacked = record {
         points_below = λ k x h. absurd (no k x h);
         edges_below = λ k x h. absurd (no k x h);
         saved_below = λ k x h. absurd (no k x h);
-        in_room = λ k x h. absurd (no k x h);
+        in_capacity = λ k x h. absurd (no k x h);
         points_rise = λ j k x y h g f. absurd (no j x g);
         edges_rise = λ j k x y h g f. absurd (no j x g);
         saved_rise = λ j k x y h g f. absurd (no j x g);

@@ -24,10 +24,10 @@ pub record Undone (marks : List PlainMark) (saved : List SavedLow) (lows caps : 
   pub points_in : mark.points ≤ length lows
   pub edges_in : mark.edges ≤ length edges
 
-pub undone : (marks : List PlainMark) (saved : List SavedLow) (lows caps : List ℕ) (edges : List Edge) (room k : ℕ) (m : PlainMark) (lows' caps' : List ℕ) (edges' : List Edge) (saved' : List SavedLow) → slice_get marks k ≡ Some m
+pub undone : (marks : List PlainMark) (saved : List SavedLow) (lows caps : List ℕ) (edges : List Edge) (capacity k : ℕ) (m : PlainMark) (lows' caps' : List ℕ) (edges' : List Edge) (saved' : List SavedLow) → slice_get marks k ≡ Some m
     → lows' ≡ restored (drop m.saved saved) (take m.points lows) → caps' ≡ take m.points caps → edges' ≡ take m.edges edges → saved' ≡ take m.saved saved
-    → AreStacked marks (length lows) (length edges) (length saved) room → All IsSound (past_of marks saved lows caps edges) → Undone marks saved lows caps edges m lows' caps' edges' saved'
-undone marks saved lows caps edges room k m lows' caps' edges' saved' at l c e s st all =
+    → AreStacked marks (length lows) (length edges) (length saved) capacity → All IsSound (past_of marks saved lows caps edges) → Undone marks saved lows caps edges m lows' caps' edges' saved'
+undone marks saved lows caps edges capacity k m lows' caps' edges' saved' at l c e s st all =
     let net = same_net lows' (restored (drop m.saved saved) (take m.points lows)) caps' (take m.points caps) edges' (take m.edges edges) l c e in
     record {
       net = net;

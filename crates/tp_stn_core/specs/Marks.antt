@@ -14,11 +14,11 @@ abbrev pub past_of : List PlainMark → List SavedLow → List ℕ → List ℕ 
 past_of marks saved lows caps edges = map (net_at saved lows caps edges) marks
 
 -- each mark stands on a part of what there is, and on no less than the marks before it
-pub record AreStacked (marks : List PlainMark) (points edges saved room : ℕ) : Type 0 where
+pub record AreStacked (marks : List PlainMark) (points edges saved capacity : ℕ) : Type 0 where
   pub points_below : (k : ℕ) (m : PlainMark) → slice_get marks k ≡ Some m → m.points ≤ points
   pub edges_below : (k : ℕ) (m : PlainMark) → slice_get marks k ≡ Some m → m.edges ≤ edges
   pub saved_below : (k : ℕ) (m : PlainMark) → slice_get marks k ≡ Some m → m.saved ≤ saved
-  pub in_room : (k : ℕ) (m : PlainMark) → slice_get marks k ≡ Some m → m.saved ≤ k * room
+  pub in_capacity : (k : ℕ) (m : PlainMark) → slice_get marks k ≡ Some m → m.saved ≤ k * capacity
   pub points_rise : (j k : ℕ) (m n : PlainMark) → j < k → slice_get marks j ≡ Some m → slice_get marks k ≡ Some n → m.points ≤ n.points
   pub edges_rise : (j k : ℕ) (m n : PlainMark) → j < k → slice_get marks j ≡ Some m → slice_get marks k ≡ Some n → m.edges ≤ n.edges
   pub saved_rise : (j k : ℕ) (m n : PlainMark) → j < k → slice_get marks j ≡ Some m → slice_get marks k ≡ Some n → m.saved ≤ n.saved

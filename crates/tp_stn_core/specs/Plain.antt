@@ -6,7 +6,7 @@ use Rattle.tp_stn_core.specs.declared.plain_net.PlainNet.TheInside.{Inside}
 use Rattle.tp_stn_core.specs.Marks.{past_of, AreStacked, AreSaved}
 use Rattle.tp_stn_core.specs.PlainState.{PlainState}
 use Rattle.tp_stn_core.specs.Sound.{IsSound}
-use Rattle.tp_stn_core.specs.Working.{HasWorkingRoom}
+use Rattle.tp_stn_core.specs.Working.{HasWorkingCapacity}
 
 abbrev pub net_in : Inside → Net
 net_in a = record { lows = a.lows.items; caps = a.caps.items; edges = a.edges.items }
@@ -26,12 +26,12 @@ state_of a = record {
 }
 
 -- room for all that the network was made for
-pub record HasRoom (a : Inside) : Type 0 where
+pub record HasCapacity (a : Inside) : Type 0 where
   pub lows : a.max_points ≤ vec_capacity a.lows
   pub caps : a.max_points ≤ vec_capacity a.caps
   pub edges : a.max_edges ≤ vec_capacity a.edges
   pub times : a.max_points ≤ vec_capacity a.times
-  pub working : HasWorkingRoom a.max_points a.working
+  pub working : HasWorkingCapacity a.max_points a.working
   pub path : a.max_points ≤ vec_capacity a.path
   pub saved : a.max_points * a.max_marks ≤ vec_capacity a.saved
   pub newest : a.max_points ≤ vec_capacity a.newest
@@ -42,7 +42,7 @@ pub record IsPlain (a : Inside) : Type 0 where
   pub edges : length a.edges.items ≤ a.max_edges
   pub marks : length a.marks.items ≤ a.max_marks
   pub saved : length a.saved.items ≤ length a.marks.items * a.max_points
-  pub room : HasRoom a
+  pub capacity : HasCapacity a
   pub stacked : AreStacked a.marks.items (length a.lows.items) (length a.edges.items) (length a.saved.items) a.max_points
   pub links : AreSaved a.marks.items a.saved.items a.newest.items (length a.lows.items)
   pub sound : IsSound (net_in a)

@@ -1,8 +1,9 @@
 -- What a plain network is seen as.
-use Rattle.std.specs.Prelude.{ℕ, List, ◌≡◌}
+use Rattle.std.specs.Prelude.{ℕ, List, ◌≡◌, refl}
 use Rattle.std.proofs.Common.{subst}
 use Rattle.tp_base.specs.declared.edges.Edge.{Edge}
 use Rattle.tp_base.specs.Net.{Net}
+use Rattle.tp_base.specs.Readings.{IsKeptByMarks, Reading}
 use Rattle.tp_base.specs.declared.kept.Kept.{Kept}
 use Rattle.tp_base.specs.Kept.{KeptRefutes}
 
@@ -16,16 +17,37 @@ pub record PlainState : Type 0 where
   pub kept : Kept
   pub path : List Edge
 
+-- its net, and those at its marks
+abbrev pub plain_reading : Reading PlainState
+plain_reading = record {
+  net = λ n. n.net;
+  past = λ n. n.past;
+  max_marks = λ n. n.max_marks;
+  max_points = λ n. n.max_points;
+  max_edges = λ n. n.max_edges;
+}
+
+pub kept_by_marks : IsKeptByMarks plain_reading (λ n. n.net) (λ n. n.past) (λ n. n.max_marks)
+kept_by_marks = record {
+  capacity = λ n. refl;
+  count = λ n. refl;
+  same = λ n n' e. e;
+  same_past = λ n n' e. e;
+  marked = λ n n' e. e;
+  back = λ n n' k e. e;
+  fewer = λ n n' k e. e;
+}
+
 -- what marks leave alone
-pub record PlainAside : Type 0 where
+pub record PlainUntouched : Type 0 where
   pub points : ℕ
   pub edges : ℕ
   pub kept : Kept
   pub path : List Edge
 
-abbrev pub aside_of : PlainState → PlainAside
-aside_of n = record { points = n.max_points; edges = n.max_edges; kept = n.kept; path = n.path }
+abbrev pub untouched_of : PlainState → PlainUntouched
+untouched_of n = record { points = n.max_points; edges = n.max_edges; kept = n.kept; path = n.path }
 
 -- what is kept of a refusal is left alone with the rest
-pub refutes_by : (a b : PlainState) (late : Net) → aside_of a ≡ aside_of b → KeptRefutes late a.kept a.path → KeptRefutes late b.kept b.path
-refutes_by a b late e h = subst (λ (x : PlainAside). KeptRefutes late x.kept x.path) e h
+pub refutes_by : (a b : PlainState) (late : Net) → untouched_of a ≡ untouched_of b → KeptRefutes late a.kept a.path → KeptRefutes late b.kept b.path
+refutes_by a b late e h = subst (λ (x : PlainUntouched). KeptRefutes late x.kept x.path) e h

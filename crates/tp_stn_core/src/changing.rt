@@ -10,23 +10,19 @@ impl Network for PlainNet {
     ghost use Rattle.std.proofs.Common.{ap};
     ghost use Rattle.tp_base.specs.Net.{Net};
     ghost use Rattle.tp_base.specs.Kept.{KeptRefutes};
-    ghost use Rattle.tp_stn_core.specs.PlainState.{PlainState, PlainAside, refutes_by};
+    ghost use Rattle.tp_stn_core.specs.PlainState.{PlainState, PlainUntouched, kept_by_marks, plain_reading, refutes_by};
 
-    ghost net = { λ n. n.net };
+    ghost reading = { plain_reading };
 
     ghost refutes = { λ n late. KeptRefutes late n.kept n.path };
 
-    ghost max_points = { λ n. n.max_points };
+    ghost kept_by_marks = { kept_by_marks };
 
-    ghost max_edges = { λ n. n.max_edges };
+    ghost refutes_by_untouched = { refutes_by };
 
-    ghost net_by_content = { λ a b e. e };
+    ghost points_by_untouched = { λ a b e. ap (λ (x : PlainUntouched). x.points) e };
 
-    ghost refutes_by_aside = { refutes_by };
-
-    ghost points_by_aside = { λ a b e. ap (λ (x : PlainAside). x.points) e };
-
-    ghost edges_by_aside = { λ a b e. ap (λ (x : PlainAside). x.edges) e };
+    ghost edges_by_untouched = { λ a b e. ap (λ (x : PlainUntouched). x.edges) e };
 
     fn clear(&mut self) {
         self.lows.clear();

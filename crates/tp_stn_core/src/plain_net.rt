@@ -12,7 +12,6 @@ use tp_base::{Edge, Kept, Memory};
 /// A network that works out its least solution from scratch at each change. With n points and m edges a change takes at
 /// most (n + m) steps for each round, and one round for each edge in a row that stands against the order of the edges.
 /// A mark takes constant time, and going back takes a step for each lower bound that was saved since, and one solution.
-#[derive(Drop)]
 pub struct PlainNet {
     pub(crate) max_points: u32,
     pub(crate) max_edges: u32,
@@ -30,6 +29,27 @@ pub struct PlainNet {
     /// For each point where its last saved lower bound stands, counted from 1, or 0.
     pub(crate) newest: Vec<usize>,
     pub(crate) marks: Vec<PlainMark>,
+}
+
+// What becomes of its parts is proved here, once for all who let go of one.
+impl Drop for PlainNet {
+    fn drop(self) {
+        let PlainNet {
+            max_points: _,
+            max_edges: _,
+            max_marks: _,
+            lows: _,
+            caps: _,
+            edges: _,
+            times: _,
+            working: _,
+            kept: _,
+            path: _,
+            saved: _,
+            newest: _,
+            marks: _,
+        } = self;
+    }
 }
 
 // Clauses see the net, the nets at the marks in force, and what the network was made for.
@@ -55,20 +75,20 @@ impl PlainNet {
         ensures edges { IfOk result (λ n. n.max_edges ≡ edges) }
         ensures marks { IfOk result (λ n. n.max_marks ≡ marks) }
     {
-        let room = points as usize;
+        let capacity = points as usize;
         Ok(PlainNet {
             max_points: points,
             max_edges: edges,
             max_marks: marks,
-            lows: Vec::with_capacity(alloc, room)?,
-            caps: Vec::with_capacity(alloc, room)?,
+            lows: Vec::with_capacity(alloc, capacity)?,
+            caps: Vec::with_capacity(alloc, capacity)?,
             edges: Vec::with_capacity(alloc, edges as usize)?,
-            times: Vec::with_capacity(alloc, room)?,
-            working: Working::new(alloc, room)?,
+            times: Vec::with_capacity(alloc, capacity)?,
+            working: Working::new(alloc, capacity)?,
             kept: Kept::Nothing,
-            path: Vec::with_capacity(alloc, room)?,
-            saved: Vec::with_capacity(alloc, room * marks as usize)?,
-            newest: Vec::with_capacity(alloc, room)?,
+            path: Vec::with_capacity(alloc, capacity)?,
+            saved: Vec::with_capacity(alloc, capacity * marks as usize)?,
+            newest: Vec::with_capacity(alloc, capacity)?,
             marks: Vec::with_capacity(alloc, marks as usize)?,
         })
     }

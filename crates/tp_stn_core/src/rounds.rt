@@ -55,8 +55,8 @@ pub(crate) fn settle(
     requires caps { length caps.now ≡ length times.old }
     requires known { All (IsKnown (length times.old)) edges.now }
     requires within { AreWithin caps.now times.old }
-    requires path_room { length times.old ≤ vec_capacity path.old }
-    requires places_room { length times.old ≤ vec_capacity places.old }
+    requires path_capacity { length times.old ≤ vec_capacity path.old }
+    requires places_capacity { length times.old ≤ vec_capacity places.old }
     ensures least { OnOk result (IsLeast (net_of times.old caps.now edges.now)
         (slice_index times.new)) }
     ensures refuted { IfErr result

@@ -33,7 +33,7 @@ pub(crate) fn save(
     low: u32,
 )
     requires known { point.0 < length newest.old }
-    requires room { IsTrue (is_due marks.now (slice_index newest.old point.0))
+    requires capacity { IsTrue (is_due marks.now (slice_index newest.old point.0))
         → length saved.old.items < vec_capacity saved.old }
     ensures saved { saved.new.items ≡ saved_after marks.now saved.old.items newest.old point low }
     ensures newest { newest.new ≡ newest_after marks.now saved.old.items newest.old point }

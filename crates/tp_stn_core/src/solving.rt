@@ -4,7 +4,7 @@ ghost use Rattle.std.specs.List.{All};
 ghost use Rattle.tp_base.specs.Net.{IsLeast, HasNoSolution};
 ghost use Rattle.tp_base.specs.Grows.{IsKnown, AreWithin, cause_of};
 ghost use Rattle.tp_base.specs.Kept.{net_of, KeptRefutes};
-ghost use Rattle.tp_stn_core.specs.Working.{HasWorkingRoom};
+ghost use Rattle.tp_stn_core.specs.Working.{HasWorkingCapacity};
 
 use crate::rounds::settle;
 use std::alloc::{AllocError, Global};
@@ -21,7 +21,7 @@ pub(crate) struct Working {
 
 impl Working {
     pub(crate) fn new(alloc: Global, points: usize) -> Result<Working, AllocError>
-        ensures { IfOk result (λ w. HasWorkingRoom points w) }
+        ensures { IfOk result (λ w. HasWorkingCapacity points w) }
     {
         Ok(Working {
             times: Vec::with_capacity(alloc, points)?,
@@ -39,8 +39,8 @@ fn fill(lows: &[u32], times: &mut Vec<u32>, causes: &mut Vec<Option<Edge>>)
     ensures times { times.new.items ≡ lows.now }
     ensures len { length causes.new.items ≡ length lows.now }
     ensures none { (v : ℕ) → cause_of causes.new.items v ≡ None }
-    ensures times_room { vec_capacity times.old ≤ vec_capacity times.new }
-    ensures causes_room { vec_capacity causes.old ≤ vec_capacity causes.new }
+    ensures times_capacity { vec_capacity times.old ≤ vec_capacity times.new }
+    ensures causes_capacity { vec_capacity causes.old ≤ vec_capacity causes.new }
 {
     times.clear();
     causes.clear();
@@ -62,15 +62,15 @@ pub(crate) fn solve(
     requires caps { length caps.now ≡ length lows.now }
     requires within { AreWithin caps.now lows.now }
     requires known { All (IsKnown (length lows.now)) edges.now }
-    requires room { HasWorkingRoom (length lows.now) working.old }
+    requires capacity { HasWorkingCapacity (length lows.now) working.old }
     ensures least { OnOk result (IsLeast (net_of lows.now caps.now edges.now)
         (slice_index working.new.times.items)) }
     ensures len { OnOk result (length working.new.times.items ≡ length lows.now) }
     ensures none { OnErr result (HasNoSolution (net_of lows.now caps.now edges.now)) }
     ensures refuted { IfErr result
         (λ kept. KeptRefutes (net_of lows.now caps.now edges.now) kept working.new.path.items) }
-    ensures room { (points : ℕ) → HasWorkingRoom points working.old
-        → HasWorkingRoom points working.new }
+    ensures capacity { (points : ℕ) → HasWorkingCapacity points working.old
+        → HasWorkingCapacity points working.new }
 {
     fill(lows, &mut working.times, &mut working.causes);
     settle(

@@ -27,11 +27,11 @@ fn restore(
     ensures saved { saved.new.items ≡ take mark.now.saved saved.old.items }
     ensures newest { newest.new.items ≡ relinked (drop mark.now.saved saved.old.items)
         (take mark.now.points newest.old.items) }
-    ensures lows_room { vec_capacity lows.new ≡ vec_capacity lows.old }
-    ensures caps_room { vec_capacity caps.new ≡ vec_capacity caps.old }
-    ensures edges_room { vec_capacity edges.new ≡ vec_capacity edges.old }
-    ensures saved_room { vec_capacity saved.new ≡ vec_capacity saved.old }
-    ensures newest_room { vec_capacity newest.new ≡ vec_capacity newest.old }
+    ensures lows_capacity { vec_capacity lows.new ≡ vec_capacity lows.old }
+    ensures caps_capacity { vec_capacity caps.new ≡ vec_capacity caps.old }
+    ensures edges_capacity { vec_capacity edges.new ≡ vec_capacity edges.old }
+    ensures saved_capacity { vec_capacity saved.new ≡ vec_capacity saved.old }
+    ensures newest_capacity { vec_capacity newest.new ≡ vec_capacity newest.old }
 {
     lows.truncate(mark.points as usize);
     newest.truncate(mark.points as usize);
@@ -43,15 +43,15 @@ fn restore(
 impl Undo for PlainNet {
     ghost use Rattle.std.specs.Prelude.{ℕ, List, ◌∷◌, ◌++◌};
     ghost use Rattle.tp_base.specs.Net.{Net};
-    ghost use Rattle.tp_stn_core.specs.PlainState.{PlainState, PlainAside, aside_of};
+    ghost use Rattle.tp_stn_core.specs.PlainState.{PlainState, PlainUntouched, untouched_of};
 
     ghost Content = { Net };
 
-    ghost Aside = { PlainAside };
+    ghost Untouched = { PlainUntouched };
 
     ghost content = { λ n. n.net };
 
-    ghost aside = { aside_of };
+    ghost untouched = { untouched_of };
 
     ghost past = { λ n. n.past };
 

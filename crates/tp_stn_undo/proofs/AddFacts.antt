@@ -12,10 +12,10 @@ use Rattle.tp_base.specs.Grows.{IsKnown}
 use Rattle.tp_base.specs.Kept.{net_of, KeptRefutes}
 use Rattle.tp_base.proofs.SliceFacts.{All-at}
 use Rattle.tp_base.proofs.RefuteFacts.{more_edges_refute}
-use Rattle.tp_stn_undo.specs.declared.spots.Spot.{Spot}
+use Rattle.tp_stn_undo.specs.declared.states.PointState.{PointState}
 use Rattle.tp_stn_undo.specs.declared.links.Link.{Link}
-use Rattle.tp_stn_undo.specs.declared.spots.SavedSpot.{SavedSpot}
-use Rattle.tp_stn_undo.specs.Spots.{IsSound, lows_of, edges_of}
+use Rattle.tp_stn_undo.specs.declared.states.SavedState.{SavedState}
+use Rattle.tp_stn_undo.specs.States.{IsSound, lows_of, edges_of}
 use Rattle.tp_stn_undo.specs.Saved.{relinked}
 use Rattle.tp_stn_undo.specs.Flags.{flag, AreKnown}
 use Rattle.tp_stn_undo.specs.Marks.{AreLinks}
@@ -78,9 +78,9 @@ kept_waiting links links' edges t flags flags' a keeps w k e g f =
     All-at P (edges_of links ++ edges) k e all (ap (λ (es : List Edge). slice_get es k) (sym (linked_edges links links' edges a)) ∙ g) f
 
 -- ---- the times
-module _ (edges : List Edge) (caps : List ℕ) (links links' links'' : List Link) (spots spots' spots'' : List Spot) (noted noted' : List SavedSpot) (l : Link) (i : ℕ) (d : Edge)
-    (h : i < length edges) (is : l.edge ≡ get_or edges i d) (a : Adds (take i edges) caps links links' spots spots' noted) (added : links'' ≡ links' ++ l ∷ []) where
-  pub adds_next : LeadsBack links'' spots' spots'' noted noted' → IsSound (record { spots = spots''; caps = caps; links = links'' }) → Adds (take (i + 1) edges) caps links links'' spots spots'' noted'
+module _ (edges : List Edge) (caps : List ℕ) (links links' links'' : List Link) (states states' states'' : List PointState) (noted noted' : List SavedState) (l : Link) (i : ℕ) (d : Edge)
+    (h : i < length edges) (is : l.edge ≡ get_or edges i d) (a : Adds (take i edges) caps links links' states states' noted) (added : links'' ≡ links' ++ l ∷ []) where
+  pub adds_next : LeadsBack links'' states' states'' noted noted' → IsSound (record { states = states''; caps = caps; links = links'' }) → Adds (take (i + 1) edges) caps links links'' states states'' noted'
   adds_next back sound = record {
     linked = linked_next links links' links'' l edges i d h is added a.linked;
     sound = sound;
@@ -91,7 +91,7 @@ module _ (edges : List Edge) (caps : List ℕ) (links links' links'' : List Link
   }
 
   -- what refutes the net with one edge more refutes it with all
-  pub refuted_next : (kept : Kept) (path : List Edge) → KeptRefutes (net_of (lows_of spots') caps (edges_of links' ++ l.edge ∷ [])) kept path → KeptRefutes (net_of (lows_of spots) caps (edges_of links ++ edges)) kept path
+  pub refuted_next : (kept : Kept) (path : List Edge) → KeptRefutes (net_of (lows_of states') caps (edges_of links' ++ l.edge ∷ [])) kept path → KeptRefutes (net_of (lows_of states) caps (edges_of links ++ edges)) kept path
   refuted_next kept path r =
       let rest = drop (i + 1) edges in
       let base = edges_of links in
@@ -103,5 +103,5 @@ module _ (edges : List Edge) (caps : List ℕ) (links links' links'' : List Link
       ∙ ap (λ (es : List Edge). base ++ (take i edges ++ es)) (sym (drop_more edges i d h))
       ∙ ap (λ (es : List Edge). base ++ es) (take-append-drop i edges) in
       subst (λ (ls : List ℕ). KeptRefutes (net_of ls caps (base ++ edges)) kept path) a.lows
-      (subst (λ (es : List Edge). KeptRefutes (net_of (lows_of spots') caps es) kept path) all
-      (more_edges_refute (net_of (lows_of spots') caps (edges_of links' ++ l.edge ∷ [])) kept path rest r))
+      (subst (λ (es : List Edge). KeptRefutes (net_of (lows_of states') caps es) kept path) all
+      (more_edges_refute (net_of (lows_of states') caps (edges_of links' ++ l.edge ∷ [])) kept path rest r))

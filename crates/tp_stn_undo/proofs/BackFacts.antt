@@ -8,7 +8,7 @@ use Rattle.std.proofs.lemmas.Option.{slice_get-map}
 use Rattle.tp_stn_undo.specs.declared.live_net.LiveNet.TheInside.{Inside}
 use Rattle.tp_stn_undo.specs.declared.marks.LiveMark.{LiveMark}
 use Rattle.tp_stn_undo.specs.Saved.{restored, relinked}
-use Rattle.tp_stn_undo.specs.Spots.{Core, IsSound}
+use Rattle.tp_stn_undo.specs.States.{Core, IsSound}
 use Rattle.tp_stn_undo.specs.Marks.{core_at, IsAt, AreStacked}
 use Rattle.tp_stn_undo.specs.Live.{core_in, past_in, IsLive}
 use Rattle.tp_stn_undo.specs.Flags.{Waits as Waiting, AreIdle}
@@ -31,20 +31,20 @@ pub record WentBack (a b : Inside) (k : ℕ) : Type 0 where
   pub waiting_same : b.working.waiting ≡ a.working.waiting
   pub path_same : b.working.path ≡ a.working.path
   pub places_same : b.working.places ≡ a.working.places
-  pub noted : b.working.changes.room ≡ a.working.changes.room
+  pub noted : b.working.changes.capacity ≡ a.working.changes.capacity
   pub most : b.working.changes.most ≡ a.working.changes.most
   pub unchanged : b.working.changes.entries ≡ []
-  pub spots : IsAt a.marks.items k (λ m. b.spots.items ≡ restored (drop m.saved a.working.changes.older) (take m.points a.spots.items))
+  pub states : IsAt a.marks.items k (λ m. b.states.items ≡ restored (drop m.saved a.working.changes.older) (take m.points a.states.items))
   pub caps : IsAt a.marks.items k (λ m. b.caps.items ≡ take m.points a.caps.items)
   pub links : IsAt a.marks.items k (λ m. b.links.items ≡ take m.edges a.links.items)
   pub heads : IsAt a.marks.items k (λ m. b.heads.items ≡ relinked (drop m.edges a.links.items) (take m.points a.heads.items))
   pub saved : IsAt a.marks.items k (λ m. b.working.changes.older ≡ take m.saved a.working.changes.older)
   pub marks : b.marks.items ≡ take k a.marks.items
-  pub spots_room : vec_capacity b.spots ≡ vec_capacity a.spots
-  pub caps_room : vec_capacity b.caps ≡ vec_capacity a.caps
-  pub links_room : vec_capacity b.links ≡ vec_capacity a.links
-  pub heads_room : vec_capacity b.heads ≡ vec_capacity a.heads
-  pub marks_room : vec_capacity b.marks ≡ vec_capacity a.marks
+  pub states_capacity : vec_capacity b.states ≡ vec_capacity a.states
+  pub caps_capacity : vec_capacity b.caps ≡ vec_capacity a.caps
+  pub links_capacity : vec_capacity b.links ≡ vec_capacity a.links
+  pub heads_capacity : vec_capacity b.heads ≡ vec_capacity a.heads
+  pub marks_capacity : vec_capacity b.marks ≡ vec_capacity a.marks
 
 same_stacked : (ms ms' : List LiveMark) (p p' e e' s s' r r' : ℕ) → ms' ≡ ms → p' ≡ p → e' ≡ e → s' ≡ s → r' ≡ r → AreStacked ms p e s r → AreStacked ms' p' e' s' r'
 same_stacked ms ms' p p' e e' s s' r r' em ep ee es er st =
@@ -54,22 +54,22 @@ same_stacked ms ms' p p' e e' s s' r r' em ep ee es er st =
     (subst (λ (x : ℕ). AreStacked ms p e x r') (sym es) (subst (λ (x : ℕ). AreStacked ms p e s x) (sym er) st))))
 
 module _ (a b : Inside) (k : ℕ) (inv : IsLive a) (w : WentBack a b k) where
-  gone : Undone a.marks.items a.working.changes.older a.spots.items a.caps.items a.links.items k b.spots.items b.caps.items b.links.items b.working.changes.older
+  gone : Undone a.marks.items a.working.changes.older a.states.items a.caps.items a.links.items k b.states.items b.caps.items b.links.items b.working.changes.older
   gone =
       let l = w.last in
-      undone a.marks.items a.working.changes.older a.spots.items a.caps.items a.links.items a.working.changes.room k _ _ _ _ (omega arith) w.spots w.caps w.links w.saved inv.stacked inv.past
+      undone a.marks.items a.working.changes.older a.states.items a.caps.items a.links.items a.working.changes.capacity k _ _ _ _ (omega arith) w.states w.caps w.links w.saved inv.stacked inv.past
 
   pub back_past : past_in b ≡ take k (past_in a)
   back_past =
       let u = gone in
       let m = u.mark in
-      same_past _ _ _ _ _ _ _ _ _ _ w.marks (w.saved m u.at) (w.spots m u.at) (w.caps m u.at) (w.links m u.at)
-      ∙ past_undone a.marks.items a.working.changes.older a.spots.items a.caps.items a.links.items a.working.changes.room inv.stacked k m u.at
+      same_past _ _ _ _ _ _ _ _ _ _ w.marks (w.saved m u.at) (w.states m u.at) (w.caps m u.at) (w.links m u.at)
+      ∙ past_undone a.marks.items a.working.changes.older a.states.items a.caps.items a.links.items a.working.changes.capacity inv.stacked k m u.at
 
   pub back_content : slice_get (past_in a) k ≡ Some (core_in b)
   back_content =
       let u = gone in
-      let f = core_at a.working.changes.older a.spots.items a.caps.items a.links.items in
+      let f = core_at a.working.changes.older a.states.items a.caps.items a.links.items in
       slice_get-map f a.marks.items k ∙ ap (option_map f) u.at ∙ ap (λ (n : Core). Some n) (sym u.core)
 
   pub back_live : IsLive b
@@ -83,17 +83,17 @@ module _ (a b : Inside) (k : ℕ) (inv : IsLive a) (w : WentBack a b k) where
       let ep = w.edges_same in
       let mp = w.marks_same in
       let w2 = w.noted in
-      let filled : length b.marks.items * b.working.changes.room ≡ k * a.working.changes.room = ap (λ i. i * b.working.changes.room) nm ∙ ap (λ i. k * i) w2 in
-      let all : b.max_marks * b.working.changes.room ≡ a.max_marks * a.working.changes.room = ap (λ i. i * b.working.changes.room) mp ∙ ap (λ i. a.max_marks * i) w2 in
-      let more : (b.max_marks + 1) * b.working.changes.room ≡ (a.max_marks + 1) * a.working.changes.room = ap (λ i. (i + 1) * b.working.changes.room) mp ∙ ap (λ i. (a.max_marks + 1) * i) w2 in
+      let filled : length b.marks.items * b.working.changes.capacity ≡ k * a.working.changes.capacity = ap (λ i. i * b.working.changes.capacity) nm ∙ ap (λ i. k * i) w2 in
+      let all : b.max_marks * b.working.changes.capacity ≡ a.max_marks * a.working.changes.capacity = ap (λ i. i * b.working.changes.capacity) mp ∙ ap (λ i. a.max_marks * i) w2 in
+      let more : (b.max_marks + 1) * b.working.changes.capacity ≡ (a.max_marks + 1) * a.working.changes.capacity = ap (λ i. (i + 1) * b.working.changes.capacity) mp ∙ ap (λ i. (a.max_marks + 1) * i) w2 in
       let w1 = ap (λ (x : Waiting). length x.flags) w.waiting_same in
       let w3 = ap (λ (x : Vec Edge Global). vec_capacity x) w.path_same in
       let w4 = ap (λ (x : Vec ℕ Global). length x.items) w.places_same in
-      let v1 = inv.room.working.waits in
-      let v2 = inv.room.working.noted in
-      let v3 = inv.room.working.path in
-      let v4 = inv.room.working.places in
-      let in_room = inv.stacked.in_room k m u.at in
+      let v1 = inv.capacity.working.waits in
+      let v2 = inv.capacity.working.noted in
+      let v3 = inv.capacity.working.path in
+      let v4 = inv.capacity.working.places in
+      let in_capacity = inv.stacked.in_capacity k m u.at in
       let l1 = u.points_len in
       let l2 = u.edges_len in
       let l3 = u.saved_len in
@@ -102,14 +102,14 @@ module _ (a b : Inside) (k : ℕ) (inv : IsLive a) (w : WentBack a b k) where
       let i1 = inv.points in
       let i2 = inv.edges in
       let i3 = inv.marks in
-      let r = inv.room in
-      let r1 = w.spots_room in
-      let r2 = w.caps_room in
-      let r3 = w.links_room in
+      let r = inv.capacity in
+      let r1 = w.states_capacity in
+      let r2 = w.caps_capacity in
+      let r3 = w.links_capacity in
       let r4 = w.most in
-      let r5 = w.marks_room in
-      let r7 = w.heads_room in
-      let s1 = r.spots in
+      let r5 = w.marks_capacity in
+      let r7 = w.heads_capacity in
+      let s1 = r.states in
       let s2 = r.caps in
       let s3 = r.links in
       let s4 = r.saved in
@@ -122,8 +122,8 @@ module _ (a b : Inside) (k : ℕ) (inv : IsLive a) (w : WentBack a b k) where
         edges = omega arith;
         marks = omega arith;
         saved = omega arith;
-        room = record {
-          spots = omega arith;
+        capacity = record {
+          states = omega arith;
           caps = omega arith;
           links = omega arith;
           heads = omega arith;
@@ -134,9 +134,9 @@ module _ (a b : Inside) (k : ℕ) (inv : IsLive a) (w : WentBack a b k) where
           narrow = omega arith;
         };
         rest = record { idle = subst (λ (x : Waiting). AreIdle x.flags) (sym w.waiting_same) inv.rest.idle; none = ap (λ (x : Waiting). x.points) w.waiting_same ∙ inv.rest.none; unchanged = w.unchanged; zeros = subst (λ (x : Vec ℕ Global). AreZeros x.items) (sym w.places_same) inv.rest.zeros };
-        stacked = same_stacked _ _ _ _ _ _ _ _ _ _ em l1 l2 l3 w2 (stacked_undone a.marks.items (length a.spots.items) (length a.links.items) (length a.working.changes.older) a.working.changes.room k m u.at inv.stacked);
-        kept = same_saved _ _ _ _ _ _ em (w.saved m u.at) l1 (saved_undone a.marks.items a.working.changes.older (length a.spots.items) k m u.at inv.kept);
-        linked = same_links _ _ _ _ _ _ (w.links m u.at) (w.heads m u.at) l1 (links_undone a.links.items a.heads.items (length a.spots.items) m.edges m.points q2 q1 inv.linked);
+        stacked = same_stacked _ _ _ _ _ _ _ _ _ _ em l1 l2 l3 w2 (stacked_undone a.marks.items (length a.states.items) (length a.links.items) (length a.working.changes.older) a.working.changes.capacity k m u.at inv.stacked);
+        kept = same_saved _ _ _ _ _ _ em (w.saved m u.at) l1 (saved_undone a.marks.items a.working.changes.older (length a.states.items) k m u.at inv.kept);
+        linked = same_links _ _ _ _ _ _ (w.links m u.at) (w.heads m u.at) l1 (links_undone a.links.items a.heads.items (length a.states.items) m.edges m.points q2 q1 inv.linked);
         sound = u.sound;
         past = subst (All IsSound) (sym back_past) (All-take IsSound k _ inv.past);
       }

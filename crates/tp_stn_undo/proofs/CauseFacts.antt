@@ -7,13 +7,13 @@ use Rattle.std.specs.Option.{option_map}
 use Rattle.tp_base.specs.declared.edges.Edge.{Edge}
 use Rattle.tp_base.specs.Grows.{cause_of}
 use Rattle.tp_base.proofs.SliceFacts.{found}
-use Rattle.tp_stn_undo.specs.declared.spots.Spot.{Spot}
+use Rattle.tp_stn_undo.specs.declared.states.PointState.{PointState}
 use Rattle.tp_stn_undo.specs.declared.links.Link.{Link}
-use Rattle.tp_stn_undo.specs.Spots.{edges_of, causes_of, numbered}
+use Rattle.tp_stn_undo.specs.States.{edges_of, causes_of, numbered}
 
 -- some point, for what stands past a list's end
-abbrev pub no_spot : Spot
-no_spot = record { low = 0; time = 0; cause = 0 }
+abbrev pub no_state : PointState
+no_state = record { low = 0; time = 0; cause = 0 }
 
 -- some edge, likewise
 abbrev pub no_link : Link
@@ -30,12 +30,12 @@ pub edge_at : (links : List Link) (n : ℕ) (d : Link) → 0 < n → n ≤ lengt
 edge_at links n d some within =
     numbered_at (edges_of links) n some ∙ slice_get-map (λ (l : Link). l.edge) links (n - 1) ∙ ap (option_map (λ (l : Link). l.edge)) (slice_get_at links (n - 1) d (omega arith))
 
-module _ (links : List Link) (spots : List Spot) (at : ℕ) (known : at < length spots) where
-  pub cause_is : cause_of (causes_of (edges_of links) spots) at ≡ numbered (edges_of links) (get_or spots at no_spot).cause
-  cause_is = get_or-map (λ (s : Spot). numbered (edges_of links) s.cause) spots at no_spot None known
+module _ (links : List Link) (states : List PointState) (at : ℕ) (known : at < length states) where
+  pub cause_is : cause_of (causes_of (edges_of links) states) at ≡ numbered (edges_of links) (get_or states at no_state).cause
+  cause_is = get_or-map (λ (s : PointState). numbered (edges_of links) s.cause) states at no_state None known
 
-  pub cause_none : (get_or spots at no_spot).cause ≡ 0 → cause_of (causes_of (edges_of links) spots) at ≡ None
+  pub cause_none : (get_or states at no_state).cause ≡ 0 → cause_of (causes_of (edges_of links) states) at ≡ None
   cause_none e = cause_is ∙ ap (numbered (edges_of links)) e
 
-  pub cause_some : (d : Link) → 0 < (get_or spots at no_spot).cause → (get_or spots at no_spot).cause ≤ length links → cause_of (causes_of (edges_of links) spots) at ≡ Some (get_or links ((get_or spots at no_spot).cause - 1) d).edge
-  cause_some d some within = cause_is ∙ edge_at links (get_or spots at no_spot).cause d some within
+  pub cause_some : (d : Link) → 0 < (get_or states at no_state).cause → (get_or states at no_state).cause ≤ length links → cause_of (causes_of (edges_of links) states) at ≡ Some (get_or links ((get_or states at no_state).cause - 1) d).edge
+  cause_some d some within = cause_is ∙ edge_at links (get_or states at no_state).cause d some within

@@ -12,7 +12,7 @@ use Rattle.tp_base.specs.Refute.{Leads, IsCaused, AreCauses, IsCauseChain}
 use Rattle.tp_base.proofs.TraceFacts.{Back, Back-push, reverse-cons, IsWayBack, WayBack-push, WayBack-short, WayBack-chain, WayBack-circle}
 use Rattle.tp_base.proofs.LeastFacts.{supported_causes, in_list, chain_gain, late_circle}
 use Rattle.tp_base.proofs.RefuteFacts.{walk_gain, circle_refutes}
-use Rattle.tp_stn_undo.specs.Spots.{Core, IsSound, net_of_core, lows_of, times_of, edges_of, causes_of}
+use Rattle.tp_stn_undo.specs.States.{Core, IsSound, net_of_core, lows_of, times_of, edges_of, causes_of}
 use Rattle.tp_stn_undo.specs.Chains.{IsSupport, NeverRound}
 use Rattle.tp_stn_undo.proofs.RaiseFacts.{lows_len, causes_len}
 
@@ -85,22 +85,22 @@ module _ (causes : List (Option Edge)) where
 -- ---- in a sound network
 module _ (k : Core) (s : IsSound k) where
   abbrev causes : List (Option Edge)
-  causes = causes_of (edges_of k.links) k.spots
+  causes = causes_of (edges_of k.links) k.states
 
-  same_len : length (lows_of k.spots) ≡ length causes
-  same_len = lows_len k.spots ∙ sym (causes_len k.links k.spots)
+  same_len : length (lows_of k.states) ≡ length causes
+  same_len = lows_len k.states ∙ sym (causes_len k.links k.states)
 
   pub sound_causes : AreCauses causes
-  sound_causes = supported_causes (lows_of k.spots) (edges_of k.links) (slice_index (times_of k.spots)) causes s.supported same_len
+  sound_causes = supported_causes (lows_of k.states) (edges_of k.links) (slice_index (times_of k.states)) causes s.supported same_len
 
   pub sound_never_round : NeverRound causes
-  sound_never_round es c = circle_refutes (net_of_core k) es (late_circle (net_of_core k) (slice_index (times_of k.spots)) causes es s.supported same_len c) (slice_index (times_of k.spots)) s.least.solution
+  sound_never_round es c = circle_refutes (net_of_core k) es (late_circle (net_of_core k) (slice_index (times_of k.states)) causes es s.supported same_len c) (slice_index (times_of k.states)) s.least.solution
 
   pub sound_support : (first point : ℕ) (es : List Edge) → IsCauseChain causes first es point → IsSupport (net_of_core k) first es point
   sound_support first point es c =
-      let t = slice_index (times_of k.spots) in
-      let listed = in_list (lows_of k.spots) (edges_of k.links) t causes s.supported same_len es c.caused in
-      let most = chain_gain (lows_of k.spots) (edges_of k.links) t causes s.supported same_len first point es c in
+      let t = slice_index (times_of k.states) in
+      let listed = in_list (lows_of k.states) (edges_of k.links) t causes s.supported same_len es c.caused in
+      let most = chain_gain (lows_of k.states) (edges_of k.links) t causes s.supported same_len first point es c in
       let least = walk_gain (edges_of k.links) t s.least.solution.keeps es first point c.leads listed in
       let n = same_len in
       let known = c.known in

@@ -8,12 +8,12 @@ use Rattle.std.proofs.Math.Seq.{map-set_same}
 use Rattle.tp_base.specs.declared.edges.Edge.{Edge}
 use Rattle.tp_base.specs.Grows.{IsCause, IsSupported, cause_of}
 use Rattle.tp_base.proofs.GrowsFacts.{Changes-set, still_kept}
-use Rattle.tp_stn_undo.specs.declared.spots.Spot.{Spot}
-use Rattle.tp_stn_undo.specs.Spots.{lows_of, times_of, edges_of, causes_of, numbered}
+use Rattle.tp_stn_undo.specs.declared.states.PointState.{PointState}
+use Rattle.tp_stn_undo.specs.States.{lows_of, times_of, edges_of, causes_of, numbered}
 use Rattle.tp_stn_undo.specs.Flags.{flag}
 use Rattle.tp_stn_undo.specs.Spreading.{AreKept}
 use Rattle.tp_stn_undo.specs.Lifting.{Lifts}
-use Rattle.tp_stn_undo.proofs.CauseFacts.{no_spot}
+use Rattle.tp_stn_undo.proofs.CauseFacts.{no_state}
 use Rattle.tp_stn_undo.proofs.RaiseFacts.{times_len, lows_len, causes_len, time_at}
 
 module _ (lows : List ℕ) (edges : List Edge) (p low : ℕ) (known : p < length lows) (more : slice_index lows p ≤ low) where
@@ -71,32 +71,32 @@ module _ (lows : List ℕ) (edges : List Edge) (p low : ℕ) (known : p < length
         ];
       }
 
-module _ (spots : List Spot) (p low : ℕ) (known : p < length spots) (more : slice_index (lows_of spots) p ≤ low) (flags : List Bool) where
-  old : Spot
-  old = get_or spots p no_spot
+module _ (states : List PointState) (p low : ℕ) (known : p < length states) (more : slice_index (lows_of states) p ≤ low) (flags : List Bool) where
+  old : PointState
+  old = get_or states p no_state
 
-  pub lifts_same : low ≤ (get_or spots p no_spot).time → Lifts spots (set spots p (record { low = low; time = (get_or spots p no_spot).time; cause = (get_or spots p no_spot).cause })) p low flags flags
+  pub lifts_same : low ≤ (get_or states p no_state).time → Lifts states (set states p (record { low = low; time = (get_or states p no_state).time; cause = (get_or states p no_state).cause })) p low flags flags
   lifts_same h =
-      let s : Spot = record { low = low; time = (get_or spots p no_spot).time; cause = (get_or spots p no_spot).cause } in
-      let spots' : List Spot = set spots p s in
-      let lows : lows_of spots' ≡ set (lows_of spots) p low = map-set (λ (s : Spot). s.low) spots p s in
-      let times : times_of spots' ≡ times_of spots = map-set_same (λ (s : Spot). s.time) spots p s no_spot refl in
-      let at = time_at spots p known in
-      let nl = lows_len spots in
+      let s : PointState = record { low = low; time = (get_or states p no_state).time; cause = (get_or states p no_state).cause } in
+      let states' : List PointState = set states p s in
+      let lows : lows_of states' ≡ set (lows_of states) p low = map-set (λ (s : PointState). s.low) states p s in
+      let times : times_of states' ≡ times_of states = map-set_same (λ (s : PointState). s.time) states p s no_state refl in
+      let at = time_at states p known in
+      let nl = lows_len states in
       record {
         lows = lows;
-        len = length-set spots p s;
+        len = length-set states p s;
         supported = λ links sup.
-            (let causes : causes_of (edges_of links) spots' ≡ causes_of (edges_of links) spots = map-set_same (λ (s : Spot). numbered (edges_of links) s.cause) spots p s no_spot refl in
-            subst (λ (ls : List ℕ). IsSupported ls (edges_of links) (slice_index (times_of spots')) (cause_of (causes_of (edges_of links) spots'))) (sym lows)
-            (subst (λ (ts : List ℕ). IsSupported (set (lows_of spots) p low) (edges_of links) (slice_index ts) (cause_of (causes_of (edges_of links) spots'))) (sym times)
-            (subst (λ (cs : List (Option Edge)). IsSupported (set (lows_of spots) p low) (edges_of links) (slice_index (times_of spots)) (cause_of cs)) (sym causes)
-            (supported_same (lows_of spots) (edges_of links) p low (omega arith) more (slice_index (times_of spots)) (cause_of (causes_of (edges_of links) spots)) (omega arith) sup))));
+            (let causes : causes_of (edges_of links) states' ≡ causes_of (edges_of links) states = map-set_same (λ (s : PointState). numbered (edges_of links) s.cause) states p s no_state refl in
+            subst (λ (ls : List ℕ). IsSupported ls (edges_of links) (slice_index (times_of states')) (cause_of (causes_of (edges_of links) states'))) (sym lows)
+            (subst (λ (ts : List ℕ). IsSupported (set (lows_of states) p low) (edges_of links) (slice_index ts) (cause_of (causes_of (edges_of links) states'))) (sym times)
+            (subst (λ (cs : List (Option Edge)). IsSupported (set (lows_of states) p low) (edges_of links) (slice_index (times_of states)) (cause_of cs)) (sym causes)
+            (supported_same (lows_of states) (edges_of links) p low (omega arith) more (slice_index (times_of states)) (cause_of (causes_of (edges_of links) states)) (omega arith) sup))));
         numbered = λ links n k d i. (
-            let l = length-set spots p s in
+            let l = length-set states p s in
             elim (cases_eq k p) [
-              | inl e ↦ (let a = ap (λ (s : Spot). s.cause) (get_or-set_same spots p s d known) in let b = ap (λ (i : ℕ). (get_or spots' i d).cause) e in let c = n p no_spot known in omega arith)
-              | inr e ↦ (let a = ap (λ (s : Spot). s.cause) (get_or-set_other spots p k s d e) in let b = n k d (omega arith) in omega arith)
+              | inl e ↦ (let a = ap (λ (s : PointState). s.cause) (get_or-set_same states p s d known) in let b = ap (λ (i : ℕ). (get_or states' i d).cause) e in let c = n p no_state known in omega arith)
+              | inr e ↦ (let a = ap (λ (s : PointState). s.cause) (get_or-set_other states p k s d e) in let b = n k d (omega arith) in omega arith)
             ]);
         kept = λ edges k. subst (λ (ts : List ℕ). AreKept edges (slice_index ts) flags) (sym times) k;
         rises = λ i k. (let e = ap (λ (ts : List ℕ). slice_index ts i) times in omega arith);
@@ -104,43 +104,43 @@ module _ (spots : List Spot) (p low : ℕ) (known : p < length spots) (more : sl
         below = λ y b r i k. (let e = ap (λ (ts : List ℕ). slice_index ts i) times in let c = b i k in omega arith);
       }
 
-  pub lifts_more : p < length flags → (get_or spots p no_spot).time < low → Lifts spots (set spots p (record { low = low; time = low; cause = 0 })) p low flags (set flags p true)
+  pub lifts_more : p < length flags → (get_or states p no_state).time < low → Lifts states (set states p (record { low = low; time = low; cause = 0 })) p low flags (set flags p true)
   lifts_more hf h =
-      let s : Spot = record { low = low; time = low; cause = 0 } in
-      let spots' : List Spot = set spots p s in
-      let lows : lows_of spots' ≡ set (lows_of spots) p low = map-set (λ (s : Spot). s.low) spots p s in
-      let times : times_of spots' ≡ set (times_of spots) p low = map-set (λ (s : Spot). s.time) spots p s in
-      let at = time_at spots p known in
-      let nl = lows_len spots in
-      let nt = times_len spots in
-      let same : get_or (set (times_of spots) p low) p 0 ≡ low = get_or-set_same (times_of spots) p low 0 (omega arith) in
+      let s : PointState = record { low = low; time = low; cause = 0 } in
+      let states' : List PointState = set states p s in
+      let lows : lows_of states' ≡ set (lows_of states) p low = map-set (λ (s : PointState). s.low) states p s in
+      let times : times_of states' ≡ set (times_of states) p low = map-set (λ (s : PointState). s.time) states p s in
+      let at = time_at states p known in
+      let nl = lows_len states in
+      let nt = times_len states in
+      let same : get_or (set (times_of states) p low) p 0 ≡ low = get_or-set_same (times_of states) p low 0 (omega arith) in
       record {
         lows = lows;
-        len = length-set spots p s;
+        len = length-set states p s;
         supported = λ links sup.
-            (let causes : causes_of (edges_of links) spots' ≡ set (causes_of (edges_of links) spots) p None = map-set (λ (s : Spot). numbered (edges_of links) s.cause) spots p s in
-            let ncs = causes_len links spots in
-            subst (λ (ls : List ℕ). IsSupported ls (edges_of links) (slice_index (times_of spots')) (cause_of (causes_of (edges_of links) spots'))) (sym lows)
-            (subst (λ (ts : List ℕ). IsSupported (set (lows_of spots) p low) (edges_of links) (slice_index ts) (cause_of (causes_of (edges_of links) spots'))) (sym times)
-            (subst (λ (cs : List (Option Edge)). IsSupported (set (lows_of spots) p low) (edges_of links) (slice_index (set (times_of spots) p low)) (cause_of cs)) (sym causes)
-            (supported_more (lows_of spots) (edges_of links) p low (omega arith) more (times_of spots) (causes_of (edges_of links) spots) (omega arith) (omega arith) (omega arith) sup))));
+            (let causes : causes_of (edges_of links) states' ≡ set (causes_of (edges_of links) states) p None = map-set (λ (s : PointState). numbered (edges_of links) s.cause) states p s in
+            let ncs = causes_len links states in
+            subst (λ (ls : List ℕ). IsSupported ls (edges_of links) (slice_index (times_of states')) (cause_of (causes_of (edges_of links) states'))) (sym lows)
+            (subst (λ (ts : List ℕ). IsSupported (set (lows_of states) p low) (edges_of links) (slice_index ts) (cause_of (causes_of (edges_of links) states'))) (sym times)
+            (subst (λ (cs : List (Option Edge)). IsSupported (set (lows_of states) p low) (edges_of links) (slice_index (set (times_of states) p low)) (cause_of cs)) (sym causes)
+            (supported_more (lows_of states) (edges_of links) p low (omega arith) more (times_of states) (causes_of (edges_of links) states) (omega arith) (omega arith) (omega arith) sup))));
         numbered = λ links n k d i. (
-            let l = length-set spots p s in
+            let l = length-set states p s in
             elim (cases_eq k p) [
-              | inl e ↦ (let a = ap (λ (s : Spot). s.cause) (get_or-set_same spots p s d known) in let b = ap (λ (i : ℕ). (get_or spots' i d).cause) e in omega arith)
-              | inr e ↦ (let a = ap (λ (s : Spot). s.cause) (get_or-set_other spots p k s d e) in let b = n k d (omega arith) in omega arith)
+              | inl e ↦ (let a = ap (λ (s : PointState). s.cause) (get_or-set_same states p s d known) in let b = ap (λ (i : ℕ). (get_or states' i d).cause) e in omega arith)
+              | inr e ↦ (let a = ap (λ (s : PointState). s.cause) (get_or-set_other states p k s d e) in let b = n k d (omega arith) in omega arith)
             ]);
         kept = λ edges k. subst (λ (ts : List ℕ). AreKept edges (slice_index ts) (set flags p true)) (sym times) (λ i e g f. elim (cases_eq e.from.0 p) [
           | inl q ↦ absurd (true≢false (sym (ap (flag (set flags p true)) q ∙ get_or-set_same flags p true false hf) ∙ f))
-          | inr q ↦ still_kept (slice_index (times_of spots)) (slice_index (set (times_of spots) p low)) p low e (Changes-set (times_of spots) p low 0 (omega arith)) (omega arith) q (k i e g (sym (get_or-set_other flags p e.from.0 true false q) ∙ f))
+          | inr q ↦ still_kept (slice_index (times_of states)) (slice_index (set (times_of states) p low)) p low e (Changes-set (times_of states) p low 0 (omega arith)) (omega arith) q (k i e g (sym (get_or-set_other flags p e.from.0 true false q) ∙ f))
         ]);
         rises = λ i k. (let e = ap (λ (ts : List ℕ). slice_index ts i) times in elim (cases_eq i p) [
-          | inl q ↦ (let a = ap (slice_index (set (times_of spots) p low)) q in let b = ap (slice_index (times_of spots)) q in omega arith)
-          | inr q ↦ (let a = get_or-set_other (times_of spots) p i low 0 q in omega arith)
+          | inl q ↦ (let a = ap (slice_index (set (times_of states) p low)) q in let b = ap (slice_index (times_of states)) q in omega arith)
+          | inr q ↦ (let a = get_or-set_other (times_of states) p i low 0 q in omega arith)
         ]);
         reaches = (let e = ap (λ (ts : List ℕ). slice_index ts p) times in omega arith);
         below = λ y b r i k. (let e = ap (λ (ts : List ℕ). slice_index ts i) times in elim (cases_eq i p) [
-          | inl q ↦ (let a = ap (slice_index (set (times_of spots) p low)) q in let c = ap y q in omega arith)
-          | inr q ↦ (let a = get_or-set_other (times_of spots) p i low 0 q in let c = b i k in omega arith)
+          | inl q ↦ (let a = ap (slice_index (set (times_of states) p low)) q in let c = ap y q in omega arith)
+          | inr q ↦ (let a = get_or-set_other (times_of states) p i low 0 q in let c = b i k in omega arith)
         ]);
       }

@@ -13,8 +13,8 @@ slice_get_kept (suc n) (x ∷ xs) zero h = refl
 slice_get_kept (suc n) (x ∷ xs) (suc k) h = slice_get_kept n xs k (omega arith)
 
 -- the marks before or at a place stand at most where the newest does
-pub below_last : (marks : List LiveMark) (points edges saved room : ℕ) → AreStacked marks points edges saved room → (k j : ℕ) (m n : LiveMark) → k + 1 ≡ length marks → slice_get marks k ≡ Some m → slice_get marks j ≡ Some n → n.saved ≤ m.saved
-below_last marks points edges saved room s k j m n last at bt =
+pub below_last : (marks : List LiveMark) (points edges saved capacity : ℕ) → AreStacked marks points edges saved capacity → (k j : ℕ) (m n : LiveMark) → k + 1 ≡ length marks → slice_get marks k ≡ Some m → slice_get marks j ≡ Some n → n.saved ≤ m.saved
+below_last marks points edges saved capacity s k j m n last at bt =
     let w = slice_get_within marks j n bt in
     elim (cases_lt j k) [
       | inl p ↦ s.saved_rise j k n m p bt at

@@ -8,7 +8,7 @@ use Rattle.tp_base.specs.declared.edges.Edge.{Edge}
 use Rattle.tp_base.specs.Grows.{IsKnown}
 use Rattle.tp_base.proofs.SliceFacts.{slice_get_end, slice_get_take}
 use Rattle.tp_stn_undo.specs.declared.links.Link.{Link}
-use Rattle.tp_stn_undo.specs.Spots.{edges_of}
+use Rattle.tp_stn_undo.specs.States.{edges_of}
 use Rattle.tp_stn_undo.specs.Saved.{by_link, relinked, newest_of}
 use Rattle.tp_stn_undo.specs.Marks.{AreLinks}
 use Rattle.tp_stn_undo.proofs.SavedFacts.{newest_names, newest-push_same, newest-push_other, length-relinked, relinked_newest}

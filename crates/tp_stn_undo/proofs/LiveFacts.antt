@@ -5,31 +5,31 @@ use Rattle.std.proofs.lemmas.List.{length-map, length-replicate, get_or-replicat
 use Rattle.std.proofs.lemmas.Bool.{cases_lt}
 use Rattle.std.specs.List.{slice_get}
 use Rattle.tp_base.specs.Net.{IsLeast}
-use Rattle.tp_stn_undo.specs.declared.spots.Spot.{Spot}
+use Rattle.tp_stn_undo.specs.declared.states.PointState.{PointState}
 use Rattle.tp_stn_undo.specs.declared.links.Link.{Link}
 use Rattle.tp_stn_undo.specs.declared.marks.LiveMark.{LiveMark}
-use Rattle.tp_stn_undo.specs.declared.spots.SavedSpot.{SavedSpot}
+use Rattle.tp_stn_undo.specs.declared.states.SavedState.{SavedState}
 use Rattle.tp_stn_undo.specs.declared.live_net.LiveNet.TheInside.{Inside}
 use Rattle.tp_stn_undo.specs.Marks.{core_at}
-use Rattle.tp_stn_undo.specs.Spots.{times_of, net_of_core}
-use Rattle.tp_stn_undo.specs.Live.{core_in, HasRoom, IsLive}
+use Rattle.tp_stn_undo.specs.States.{times_of, net_of_core}
+use Rattle.tp_stn_undo.specs.Live.{core_in, HasCapacity, IsLive}
 use Rattle.tp_stn_undo.specs.Working.{AtRest}
 
-pub live_empty : (a : Inside) → a.spots.items ≡ [] → a.caps.items ≡ [] → a.links.items ≡ [] → a.heads.items ≡ [] → a.working.changes.older ≡ [] → a.marks.items ≡ [] → HasRoom a → AtRest a.working → IsLive a
-live_empty a l c e h s m room rest =
+pub live_empty : (a : Inside) → a.states.items ≡ [] → a.caps.items ≡ [] → a.links.items ≡ [] → a.heads.items ≡ [] → a.working.changes.older ≡ [] → a.marks.items ≡ [] → HasCapacity a → AtRest a.working → IsLive a
+live_empty a l c e h s m capacity rest =
     let ll = ap length l in
     let lc = ap length c in
     let le = ap length e in
     let lh = ap length h in
     let ls = ap length s in
     let lm = ap length m in
-    let lp = length-map a.marks.items (core_at a.working.changes.older a.spots.items a.caps.items a.links.items) in
-    let lo = length-map a.spots.items (λ (s : Spot). s.low) in
-    let lt = length-map a.spots.items (λ (s : Spot). s.time) in
+    let lp = length-map a.marks.items (core_at a.working.changes.older a.states.items a.caps.items a.links.items) in
+    let lo = length-map a.states.items (λ (s : PointState). s.low) in
+    let lt = length-map a.states.items (λ (s : PointState). s.time) in
     let ld = length-map a.links.items (λ (l : Link). l.edge) in
     let no : (k : ℕ) (x : LiveMark) → slice_get a.marks.items k ≡ Some x → ⊥ = λ k x h. (let w = slice_get_within a.marks.items k x h in omega arith) in
-    let none : (k : ℕ) (x : SavedSpot) → slice_get a.working.changes.older k ≡ Some x → ⊥ = λ k x h. (let w = slice_get_within a.working.changes.older k x h in omega arith) in
-    let least : IsLeast (net_of_core (core_in a)) (slice_index (times_of a.spots.items)) = record {
+    let none : (k : ℕ) (x : SavedState) → slice_get a.working.changes.older k ≡ Some x → ⊥ = λ k x h. (let w = slice_get_within a.working.changes.older k x h in omega arith) in
+    let least : IsLeast (net_of_core (core_in a)) (slice_index (times_of a.states.items)) = record {
       solution = record { above_low = λ i h. absurd (omega arith); below_cap = λ i h. absurd (omega arith); keeps = λ k d h. absurd (omega arith) };
       least = λ y sol i h. absurd (omega arith);
     } in
@@ -38,13 +38,13 @@ live_empty a l c e h s m room rest =
       edges = omega arith;
       marks = omega arith;
       saved = omega arith;
-      room = room;
+      capacity = capacity;
       rest = rest;
       stacked = record {
         points_below = λ k x h. absurd (no k x h);
         edges_below = λ k x h. absurd (no k x h);
         saved_below = λ k x h. absurd (no k x h);
-        in_room = λ k x h. absurd (no k x h);
+        in_capacity = λ k x h. absurd (no k x h);
         points_rise = λ j k x y h g f. absurd (no j x g);
         edges_rise = λ j k x y h g f. absurd (no j x g);
         saved_rise = λ j k x y h g f. absurd (no j x g);

@@ -12,24 +12,24 @@ use Rattle.tp_base.specs.declared.edges.Edge.{Edge}
 use Rattle.tp_base.specs.Net.{Keeps}
 use Rattle.tp_base.specs.Grows.{IsKnown, Grows, Rises, PassesCap, AreWithin, cause_of, slack}
 use Rattle.tp_base.proofs.GrowsFacts.{nat_abs-is, nat_abs-above, Grows-step, Changes-set, Changes-changed, changed, slack-set, still_kept}
-use Rattle.tp_stn_undo.specs.declared.spots.Spot.{Spot}
+use Rattle.tp_stn_undo.specs.declared.states.PointState.{PointState}
 use Rattle.tp_stn_undo.specs.declared.links.Link.{Link}
-use Rattle.tp_stn_undo.specs.Spots.{lows_of, times_of, edges_of, causes_of, numbered}
+use Rattle.tp_stn_undo.specs.States.{lows_of, times_of, edges_of, causes_of, numbered}
 use Rattle.tp_stn_undo.specs.Flags.{flag}
-use Rattle.tp_stn_undo.specs.Spreading.{AreNumbered, AsksFor, AsksMore, SpotsRise, KeptFrom, IsMet}
-use Rattle.tp_stn_undo.proofs.CauseFacts.{no_spot, no_link, numbered_at, edge_at}
+use Rattle.tp_stn_undo.specs.Spreading.{AreNumbered, AsksFor, AsksMore, StatesRise, KeptFrom, IsMet}
+use Rattle.tp_stn_undo.proofs.CauseFacts.{no_state, no_link, numbered_at, edge_at}
 
-pub times_len : (spots : List Spot) → length (times_of spots) ≡ length spots
-times_len spots = length-map spots (λ (s : Spot). s.time)
+pub times_len : (states : List PointState) → length (times_of states) ≡ length states
+times_len states = length-map states (λ (s : PointState). s.time)
 
-pub lows_len : (spots : List Spot) → length (lows_of spots) ≡ length spots
-lows_len spots = length-map spots (λ (s : Spot). s.low)
+pub lows_len : (states : List PointState) → length (lows_of states) ≡ length states
+lows_len states = length-map states (λ (s : PointState). s.low)
 
-pub causes_len : (links : List Link) (spots : List Spot) → length (causes_of (edges_of links) spots) ≡ length spots
-causes_len links spots = length-map spots (λ (s : Spot). numbered (edges_of links) s.cause)
+pub causes_len : (links : List Link) (states : List PointState) → length (causes_of (edges_of links) states) ≡ length states
+causes_len links states = length-map states (λ (s : PointState). numbered (edges_of links) s.cause)
 
-pub time_at : (spots : List Spot) (p : ℕ) → p < length spots → slice_index (times_of spots) p ≡ (get_or spots p no_spot).time
-time_at spots p h = get_or-map (λ (s : Spot). s.time) spots p no_spot 0 h
+pub time_at : (states : List PointState) (p : ℕ) → p < length states → slice_index (times_of states) p ≡ (get_or states p no_state).time
+time_at states p h = get_or-map (λ (s : PointState). s.time) states p no_state 0 h
 
 -- what is asked for, as a time
 abbrev pub height : ℤ → ℕ
@@ -40,7 +40,7 @@ pub record Pulls (from to : ℕ) (weight asked : ℤ) : Type 0 where
   pub reach : pos (height asked) ≡ (pos from +ℤ weight)
   pub more : to < height asked
 
-module _ (links : List Link) (spots : List Spot) (number : ℕ) (some : 0 < number) (within : number ≤ length links) (all : All (IsKnown (length spots)) (edges_of links)) where
+module _ (links : List Link) (states : List PointState) (number : ℕ) (some : 0 < number) (within : number ≤ length links) (all : All (IsKnown (length states)) (edges_of links)) where
   abbrev pub edge : Edge
   edge = (get_or links (number - 1) no_link).edge
 
@@ -48,10 +48,10 @@ module _ (links : List Link) (spots : List Spot) (number : ℕ) (some : 0 < numb
   to = edge.to.0
 
   abbrev times : List ℕ
-  times = times_of spots
+  times = times_of states
 
   abbrev causes : List (Option Edge)
-  causes = causes_of (edges_of links) spots
+  causes = causes_of (edges_of links) states
 
   pub is_edge : slice_get (edges_of links) (number - 1) ≡ Some edge
   is_edge = sym (numbered_at (edges_of links) number some) ∙ edge_at links number no_link some within
@@ -59,36 +59,36 @@ module _ (links : List Link) (spots : List Spot) (number : ℕ) (some : 0 < numb
   pub in_list : Contains (edges_of links) edge
   in_list = (number - 1, slice_get_within (edges_of links) (number - 1) edge is_edge, get_or_from_slice_get (edges_of links) (number - 1) edge edge is_edge)
 
-  pub known : IsKnown (length spots) edge
-  known = All-contains (IsKnown (length spots)) (edges_of links) edge all in_list
+  pub known : IsKnown (length states) edge
+  known = All-contains (IsKnown (length states)) (edges_of links) edge all in_list
 
   -- the point that the edge leads to, with that time
-  abbrev pub raised : ℕ → Spot
-  raised high = record { low = (get_or spots to no_spot).low; time = high; cause = number }
+  abbrev pub raised : ℕ → PointState
+  raised high = record { low = (get_or states to no_state).low; time = high; cause = number }
 
-  abbrev pub after : ℕ → List Spot
-  after high = set spots to (raised high)
+  abbrev pub after : ℕ → List PointState
+  after high = set states to (raised high)
 
   times_after : (high : ℕ) → times_of (after high) ≡ set times to high
-  times_after high = map-set (λ (s : Spot). s.time) spots to (raised high)
+  times_after high = map-set (λ (s : PointState). s.time) states to (raised high)
 
   -- with its own time again
-  pub times_same : times_of (after (get_or spots to no_spot).time) ≡ times
-  times_same = map-set_same (λ (s : Spot). s.time) spots to (raised (get_or spots to no_spot).time) no_spot refl
+  pub times_same : times_of (after (get_or states to no_state).time) ≡ times
+  times_same = map-set_same (λ (s : PointState). s.time) states to (raised (get_or states to no_state).time) no_state refl
 
   causes_after : (high : ℕ) → causes_of (edges_of links) (after high) ≡ set causes to (Some edge)
-  causes_after high = map-set (λ (s : Spot). numbered (edges_of links) s.cause) spots to (raised high) ∙ ap (set causes to) (edge_at links number no_link some within)
+  causes_after high = map-set (λ (s : PointState). numbered (edges_of links) s.cause) states to (raised high) ∙ ap (set causes to) (edge_at links number no_link some within)
 
-  pub lows_after : (high : ℕ) → lows_of (after high) ≡ lows_of spots
-  lows_after high = map-set_same (λ (s : Spot). s.low) spots to (raised high) no_spot refl
+  pub lows_after : (high : ℕ) → lows_of (after high) ≡ lows_of states
+  lows_after high = map-set_same (λ (s : PointState). s.low) states to (raised high) no_state refl
 
-  pub numbered_after : (high : ℕ) → AreNumbered links spots → AreNumbered links (after high)
+  pub numbered_after : (high : ℕ) → AreNumbered links states → AreNumbered links (after high)
   numbered_after high n k d h =
-      let l = length-set spots to (raised high) in
+      let l = length-set states to (raised high) in
       let t = known.to in
       elim (cases_eq k to) [
-        | inl e ↦ (let a = ap (λ (s : Spot). s.cause) (get_or-set_same spots to (raised high) d t) in let b = ap (λ (i : ℕ). (get_or (after high) i d).cause) e in omega arith)
-        | inr e ↦ (let a = ap (λ (s : Spot). s.cause) (get_or-set_other spots to k (raised high) d e) in let b = n k d (omega arith) in omega arith)
+        | inl e ↦ (let a = ap (λ (s : PointState). s.cause) (get_or-set_same states to (raised high) d t) in let b = ap (λ (i : ℕ). (get_or (after high) i d).cause) e in omega arith)
+        | inr e ↦ (let a = ap (λ (s : PointState). s.cause) (get_or-set_other states to k (raised high) d e) in let b = n k d (omega arith) in omega arith)
       ]
 
   -- what the edge asks for is more than the time of its end
@@ -99,23 +99,23 @@ module _ (links : List Link) (spots : List Spot) (number : ℕ) (some : 0 < numb
       let asks = more edge (edge_at links number no_link some within) in
       let least = known.least in
       let most = known.most in
-      let from = time_at spots edge.from.0 known.from in
-      let end = time_at spots to known.to in
+      let from = time_at states edge.from.0 known.from in
+      let end = time_at states to known.to in
       let z : ℤ = to_z w64 (of_z w64 reach) in
       let high : pos (nat_abs z) ≡ (pos (slice_index times edge.from.0) +ℤ edge.weight) = nat_abs-is z (pos (slice_index times edge.from.0) +ℤ edge.weight) (omega (arith, ints)) (omega (arith, ints)) in
       record { is = high ∙ sym sum; reach = high; more = nat_abs-above (slice_index times to) z (omega (arith, ints)) }
 
   module _ (high : ℕ) (reach : pos high ≡ (pos (slice_index times edge.from.0) +ℤ edge.weight)) (more : slice_index times to < high) where
     to_in : to < length times
-    to_in = let t = known.to in let l = times_len spots in omega arith
+    to_in = let t = known.to in let l = times_len states in omega arith
 
     from_in : edge.from.0 < length times
-    from_in = let t = known.from in let l = times_len spots in omega arith
+    from_in = let t = known.from in let l = times_len states in omega arith
 
     to_caused : to < length causes
-    to_caused = let t = known.to in let l = causes_len links spots in omega arith
+    to_caused = let t = known.to in let l = causes_len links states in omega arith
 
-    pub rises : SpotsRise links spots (after high)
+    pub rises : StatesRise links states (after high)
     rises =
         subst (λ (ts : List ℕ). Rises (edges_of links) times causes ts (causes_of (edges_of links) (after high))) (sym (times_after high))
         (subst (λ (cs : List (Option Edge)). Rises (edges_of links) times causes (set times to high) cs) (sym (causes_after high))
@@ -161,8 +161,8 @@ module _ (links : List Link) (spots : List Spot) (number : ℕ) (some : 0 < numb
           | inr p ↦ (let a = get_or-set_same times to high 0 to_in in let b = get_or-set_other times to edge.from.0 high 0 p in omega (arith, ints))
         ]))
 
-    pub less_after : (caps : List ℕ) → length caps ≡ length spots → high ≤ slice_index caps to → slack caps (times_of (after high)) < slack caps times
-    less_after caps n fits = subst (λ (ts : List ℕ). slack caps ts < slack caps times) (sym (times_after high)) (slack-set caps times to high to_in (n ∙ sym (times_len spots)) more fits)
+    pub less_after : (caps : List ℕ) → length caps ≡ length states → high ≤ slice_index caps to → slack caps (times_of (after high)) < slack caps times
+    less_after caps n fits = subst (λ (ts : List ℕ). slack caps ts < slack caps times) (sym (times_after high)) (slack-set caps times to high to_in (n ∙ sym (times_len states)) more fits)
 
   -- where the edge is kept already
   pub met_same : (flags : List Bool) → (pos (slice_index times edge.from.0) +ℤ edge.weight) ≤ℤ pos (slice_index times to) → IsMet (edges_of links) (slice_index times) flags (number - 1)

@@ -6,43 +6,43 @@ use Rattle.std.proofs.lemmas.List.{length-set, set-set, set_comm, get_or-set_sam
 use Rattle.std.proofs.Common.{append_assoc, append-nil, length-append}
 use Rattle.std.specs.List.{slice_get}
 use Rattle.tp_base.proofs.SliceFacts.{take_set, slice_get_left, slice_get_last}
-use Rattle.tp_stn_undo.specs.declared.spots.Spot.{Spot}
-use Rattle.tp_stn_undo.specs.declared.spots.SavedSpot.{SavedSpot}
+use Rattle.tp_stn_undo.specs.declared.states.PointState.{PointState}
+use Rattle.tp_stn_undo.specs.declared.states.SavedState.{SavedState}
 use Rattle.tp_stn_undo.specs.declared.links.Link.{Link}
 use Rattle.tp_stn_undo.specs.Saved.{restored, relinked, by_link, newest_from, newest_of}
 
 -- ---- lower bounds put back
-pub restored-append : (ss rs : List SavedSpot) (lows : List Spot) → restored (ss ++ rs) lows ≡ restored ss (restored rs lows)
+pub restored-append : (ss rs : List SavedState) (lows : List PointState) → restored (ss ++ rs) lows ≡ restored ss (restored rs lows)
 restored-append [] rs lows = refl
-restored-append (s ∷ ss) rs lows = ap (λ ls. set ls s.point.0 s.spot) (restored-append ss rs lows)
+restored-append (s ∷ ss) rs lows = ap (λ ls. set ls s.point.0 s.state) (restored-append ss rs lows)
 
-pub length-restored : (ss : List SavedSpot) (lows : List Spot) → length (restored ss lows) ≡ length lows
+pub length-restored : (ss : List SavedState) (lows : List PointState) → length (restored ss lows) ≡ length lows
 length-restored [] lows = refl
-length-restored (s ∷ ss) lows = length-set (restored ss lows) s.point.0 s.spot ∙ length-restored ss lows
+length-restored (s ∷ ss) lows = length-set (restored ss lows) s.point.0 s.state ∙ length-restored ss lows
 
-pub take-restored : (n : ℕ) (ss : List SavedSpot) (lows : List Spot) → take n (restored ss lows) ≡ restored ss (take n lows)
+pub take-restored : (n : ℕ) (ss : List SavedState) (lows : List PointState) → take n (restored ss lows) ≡ restored ss (take n lows)
 take-restored n [] lows = refl
-take-restored n (s ∷ ss) lows = take_set n (restored ss lows) s.point.0 s.spot ∙ ap (λ ls. set ls s.point.0 s.spot) (take-restored n ss lows)
+take-restored n (s ∷ ss) lows = take_set n (restored ss lows) s.point.0 s.state ∙ ap (λ ls. set ls s.point.0 s.state) (take-restored n ss lows)
 
 -- a point that is written over anyway
-restored_over : (ss : List SavedSpot) (lows : List Spot) (p : ℕ) (x y : Spot) → set (restored ss (set lows p x)) p y ≡ set (restored ss lows) p y
+restored_over : (ss : List SavedState) (lows : List PointState) (p : ℕ) (x y : PointState) → set (restored ss (set lows p x)) p y ≡ set (restored ss lows) p y
 restored_over [] lows p x y = set-set lows p x y
 restored_over (s ∷ ss) lows p x y =
     let a = restored ss (set lows p x) in
     let b = restored ss lows in
     let i : set a p y ≡ set b p y = restored_over ss lows p x y in
     elim (cases_eq s.point.0 p) [
-      | inl e ↦ subst (λ q. set (set a q s.spot) p y ≡ set (set b q s.spot) p y) (sym e) (set-set a p s.spot y ∙ i ∙ sym (set-set b p s.spot y))
-      | inr ne ↦ set_comm a s.point.0 p s.spot y ne ∙ ap (λ ls. set ls s.point.0 s.spot) i ∙ sym (set_comm b s.point.0 p s.spot y ne)
+      | inl e ↦ subst (λ q. set (set a q s.state) p y ≡ set (set b q s.state) p y) (sym e) (set-set a p s.state y ∙ i ∙ sym (set-set b p s.state y))
+      | inr ne ↦ set_comm a s.point.0 p s.state y ne ∙ ap (λ ls. set ls s.point.0 s.state) i ∙ sym (set_comm b s.point.0 p s.state y ne)
     ]
 
 -- a point that is put back: what it was before is the same whatever it is now
-pub restored_ignores : (ss : List SavedSpot) (lows : List Spot) (p : ℕ) (x : Spot) (k : ℕ) (s : SavedSpot) → slice_get ss k ≡ Some s → s.point.0 ≡ p → restored ss (set lows p x) ≡ restored ss lows
+pub restored_ignores : (ss : List SavedState) (lows : List PointState) (p : ℕ) (x : PointState) (k : ℕ) (s : SavedState) → slice_get ss k ≡ Some s → s.point.0 ≡ p → restored ss (set lows p x) ≡ restored ss lows
 restored_ignores [] lows p x k s h e = absurd (none-some s h)
 restored_ignores (r ∷ ss) lows p x zero s h e =
-    let q : r.point.0 ≡ p = ap (λ (t : SavedSpot). t.point.0) (same_Some r s h) ∙ e in
-    subst (λ v. set (restored ss (set lows p x)) v r.spot ≡ set (restored ss lows) v r.spot) (sym q) (restored_over ss lows p x r.spot)
-restored_ignores (r ∷ ss) lows p x (suc k) s h e = ap (λ ls. set ls r.point.0 r.spot) (restored_ignores ss lows p x k s h e)
+    let q : r.point.0 ≡ p = ap (λ (t : SavedState). t.point.0) (same_Some r s h) ∙ e in
+    subst (λ v. set (restored ss (set lows p x)) v r.state ≡ set (restored ss lows) v r.state) (sym q) (restored_over ss lows p x r.state)
+restored_ignores (r ∷ ss) lows p x (suc k) s h e = ap (λ ls. set ls r.point.0 r.state) (restored_ignores ss lows p x k s h e)
 
 -- ---- the place of the last one
 newest-least : {X : Type 0} (by : X → ℕ) (k last : ℕ) (ss : List X) (v : ℕ) → last ≤ k → last ≤ newest_from by k last ss v
@@ -132,7 +132,7 @@ relinked_newest before (s ∷ ss) heads v h linked is =
     ]
 
 -- ---- taking the last one off
-pub restored-pop : (to : ℕ) (xs ys : List SavedSpot) (s : SavedSpot) (lows : List Spot) → ys ≡ xs ++ s ∷ [] → to ≤ length xs → restored (drop to xs) (set lows s.point.0 s.spot) ≡ restored (drop to ys) lows
+pub restored-pop : (to : ℕ) (xs ys : List SavedState) (s : SavedState) (lows : List PointState) → ys ≡ xs ++ s ∷ [] → to ≤ length xs → restored (drop to xs) (set lows s.point.0 s.state) ≡ restored (drop to ys) lows
 restored-pop to xs ys s lows e h = sym (ap (λ zs. restored (drop to zs) lows) e ∙ ap (λ zs. restored zs lows) (drop-append-le to xs (s ∷ []) h) ∙ restored-append (drop to xs) (s ∷ []) lows)
 
 pub relinked-pop : (to : ℕ) (xs ys : List Link) (l : Link) (heads : List ℕ) → ys ≡ xs ++ l ∷ [] → to ≤ length xs → relinked (drop to xs) (set heads l.edge.from.0 l.older) ≡ relinked (drop to ys) heads

@@ -13,9 +13,9 @@ use Rattle.tp_base.specs.Kept.{net_of}
 use Rattle.tp_base.proofs.SliceFacts.{map_same, slice_get_left, All-at}
 use Rattle.tp_base.proofs.LeastFacts.{point_least}
 use Rattle.tp_base.proofs.GrowsFacts.{stamped}
-use Rattle.tp_stn_undo.specs.declared.spots.Spot.{Spot}
+use Rattle.tp_stn_undo.specs.declared.states.PointState.{PointState}
 use Rattle.tp_stn_undo.specs.declared.links.Link.{Link}
-use Rattle.tp_stn_undo.specs.Spots.{Core, IsSound, lows_of, times_of, edges_of, causes_of, numbered}
+use Rattle.tp_stn_undo.specs.States.{Core, IsSound, lows_of, times_of, edges_of, causes_of, numbered}
 use Rattle.tp_stn_undo.specs.Spreading.{AreNumbered, AreKept}
 use Rattle.tp_stn_undo.proofs.RaiseFacts.{times_len, lows_len, causes_len}
 use Rattle.tp_stn_undo.proofs.FollowFacts.{Supported}
@@ -31,17 +31,17 @@ numbered_more : (edges more : List Edge) (n : ℕ) → n ≤ length edges → nu
 numbered_more edges more zero h = refl
 numbered_more edges more (suc k) h = slice_get_left edges more k (omega arith)
 
-causes_more : (links more : List Link) (spots : List Spot) → AreNumbered links spots → causes_of (edges_of (links ++ more)) spots ≡ causes_of (edges_of links) spots
-causes_more links more spots n =
-    map_same (λ (s : Spot). numbered (edges_of (links ++ more)) s.cause) (λ (s : Spot). numbered (edges_of links) s.cause) spots (λ k s g.
-    let h = All-at (λ (s : Spot). s.cause ≤ length links) spots k s n g in
+causes_more : (links more : List Link) (states : List PointState) → AreNumbered links states → causes_of (edges_of (links ++ more)) states ≡ causes_of (edges_of links) states
+causes_more links more states n =
+    map_same (λ (s : PointState). numbered (edges_of (links ++ more)) s.cause) (λ (s : PointState). numbered (edges_of links) s.cause) states (λ k s g.
+    let h = All-at (λ (s : PointState). s.cause ≤ length links) states k s n g in
     let len = links_len links in
     ap (λ (es : List Edge). numbered es s.cause) (edges_more links more) ∙ numbered_more (edges_of links) (edges_of more) s.cause (omega arith))
 
-pub supported_more : (links more : List Link) (spots : List Spot) → AreNumbered links spots → Supported links spots spots → Supported (links ++ more) spots spots
-supported_more links more spots n s =
-    subst (λ (cs : List (Option Edge)). IsSupported (lows_of spots) (edges_of (links ++ more)) (slice_index (times_of spots)) (cause_of cs)) (sym (causes_more links more spots n))
-    (subst (λ (es : List Edge). IsSupported (lows_of spots) es (slice_index (times_of spots)) (cause_of (causes_of (edges_of links) spots))) (sym (edges_more links more))
+pub supported_more : (links more : List Link) (states : List PointState) → AreNumbered links states → Supported links states states → Supported (links ++ more) states states
+supported_more links more states n s =
+    subst (λ (cs : List (Option Edge)). IsSupported (lows_of states) (edges_of (links ++ more)) (slice_index (times_of states)) (cause_of cs)) (sym (causes_more links more states n))
+    (subst (λ (es : List Edge). IsSupported (lows_of states) es (slice_index (times_of states)) (cause_of (causes_of (edges_of links) states))) (sym (edges_more links more))
     (record {
       stamp = s.stamp;
       next = s.next;
@@ -50,14 +50,14 @@ supported_more links more spots n s =
       caused = λ v e h some. (let c = s.caused v e h some in record { in_list = Contains-append_left (edges_of links) (edges_of more) e c.in_list; to = c.to; from = c.from; at_most = c.at_most; tie = c.tie });
     }))
 
-pub numbered_longer : (links more : List Link) (spots : List Spot) → AreNumbered links spots → AreNumbered (links ++ more) spots
-numbered_longer links more spots n k d h = let a = n k d h in let len = length-append links more in omega arith
+pub numbered_longer : (links more : List Link) (states : List PointState) → AreNumbered links states → AreNumbered (links ++ more) states
+numbered_longer links more states n k d h = let a = n k d h in let len = length-append links more in omega arith
 
 pub known_more : (links more : List Link) (count : ℕ) → All (IsKnown count) (edges_of links) → All (IsKnown count) (edges_of more) → All (IsKnown count) (edges_of (links ++ more))
 known_more links more count all k = subst (All (IsKnown count)) (sym (edges_more links more)) (All-append (IsKnown count) (edges_of links) (edges_of more) all k)
 
-pub within_of : (c : Core) → IsSound c → AreWithin c.caps (times_of c.spots)
-within_of c s i h = s.least.solution.below_cap i (let a = times_len c.spots in let b = lows_len c.spots in omega arith)
+pub within_of : (c : Core) → IsSound c → AreWithin c.caps (times_of c.states)
+within_of c s i h = s.least.solution.below_cap i (let a = times_len c.states in let b = lows_len c.states in omega arith)
 
 pub kept_of : (edges : List Edge) (t : ℕ → ℕ) (flags : List Bool) → All (Keeps t) edges → AreKept edges t flags
 kept_of edges t flags all k e g f = All-at (Keeps t) edges k e all g
@@ -77,14 +77,14 @@ solution_less net more y s = record {
 }
 
 -- ---- after a change
-pub sound_risen : (caps : List ℕ) (links : List Link) (spots spots' : List Spot) (start : ℕ → ℕ) → length caps ≡ length spots → length spots' ≡ length spots → All (IsKnown (length spots)) (edges_of links) → AreNumbered links spots'
-    → Supported links spots' spots' → AreWithin caps (times_of spots') → All (Keeps (slice_index (times_of spots'))) (edges_of links)
-    → ((i : ℕ) → i < length spots → slice_index (lows_of spots') i ≤ slice_index (times_of spots') i)
-    → ((y : ℕ → ℕ) → IsSolution (net_of (lows_of spots') caps (edges_of links)) y → (i : ℕ) → i < length spots → slice_index (times_of spots') i ≤ y i)
-    → IsSound (record { spots = spots'; caps = caps; links = links })
-sound_risen caps links spots spots' start nc n known numbered sup within keeps above below =
-    let nl = lows_len spots' in
-    let nt = times_len spots' in
+pub sound_risen : (caps : List ℕ) (links : List Link) (states states' : List PointState) (start : ℕ → ℕ) → length caps ≡ length states → length states' ≡ length states → All (IsKnown (length states)) (edges_of links) → AreNumbered links states'
+    → Supported links states' states' → AreWithin caps (times_of states') → All (Keeps (slice_index (times_of states'))) (edges_of links)
+    → ((i : ℕ) → i < length states → slice_index (lows_of states') i ≤ slice_index (times_of states') i)
+    → ((y : ℕ → ℕ) → IsSolution (net_of (lows_of states') caps (edges_of links)) y → (i : ℕ) → i < length states → slice_index (times_of states') i ≤ y i)
+    → IsSound (record { states = states'; caps = caps; links = links })
+sound_risen caps links states states' start nc n known numbered sup within keeps above below =
+    let nl = lows_len states' in
+    let nt = times_len states' in
     record {
       caps = omega arith;
       known = rw n known;
@@ -101,21 +101,21 @@ sound_risen caps links spots spots' start nc n known numbered sup within keeps a
     }
 
 -- ---- one more point
-module _ (spots : List Spot) (caps : List ℕ) (links : List Link) (low cap : ℕ) (s : IsSound (record { spots = spots; caps = caps; links = links })) (fits : low ≤ cap) where
-  abbrev spot : Spot
-  spot = record { low = low; time = low; cause = 0 }
+module _ (states : List PointState) (caps : List ℕ) (links : List Link) (low cap : ℕ) (s : IsSound (record { states = states; caps = caps; links = links })) (fits : low ≤ cap) where
+  abbrev state : PointState
+  state = record { low = low; time = low; cause = 0 }
 
-  abbrev spots' : List Spot
-  spots' = spots ++ spot ∷ []
+  abbrev states' : List PointState
+  states' = states ++ state ∷ []
 
-  times_push : times_of spots' ≡ times_of spots ++ low ∷ []
-  times_push = map-append (λ (s : Spot). s.time) spots (spot ∷ [])
+  times_push : times_of states' ≡ times_of states ++ low ∷ []
+  times_push = map-append (λ (s : PointState). s.time) states (state ∷ [])
 
-  lows_push : lows_of spots' ≡ lows_of spots ++ low ∷ []
-  lows_push = map-append (λ (s : Spot). s.low) spots (spot ∷ [])
+  lows_push : lows_of states' ≡ lows_of states ++ low ∷ []
+  lows_push = map-append (λ (s : PointState). s.low) states (state ∷ [])
 
-  causes_push : causes_of (edges_of links) spots' ≡ causes_of (edges_of links) spots ++ None ∷ []
-  causes_push = map-append (λ (s : Spot). numbered (edges_of links) s.cause) spots (spot ∷ [])
+  causes_push : causes_of (edges_of links) states' ≡ causes_of (edges_of links) states ++ None ∷ []
+  causes_push = map-append (λ (s : PointState). numbered (edges_of links) s.cause) states (state ∷ [])
 
   supported_push : (lows times : List ℕ) (causes : List (Option Edge)) → length times ≡ length lows → length causes ≡ length lows → IsSupported lows (edges_of links) (slice_index times) (cause_of causes)
       → IsSupported (lows ++ low ∷ []) (edges_of links) (slice_index (times ++ low ∷ [])) (cause_of (causes ++ None ∷ []))
@@ -146,31 +146,31 @@ module _ (spots : List Spot) (caps : List ℕ) (links : List Link) (low cap : �
         ];
       }
 
-  pub least_pushed : IsLeast (net_of (lows_of spots') (caps ++ cap ∷ []) (edges_of links)) (slice_index (times_of spots'))
+  pub least_pushed : IsLeast (net_of (lows_of states') (caps ++ cap ∷ []) (edges_of links)) (slice_index (times_of states'))
   least_pushed =
-      let nl = lows_len spots in
-      let nt = times_len spots in
+      let nl = lows_len states in
+      let nt = times_len states in
       let nc = s.caps in
-      subst (λ (ls : List ℕ). IsLeast (net_of ls (caps ++ cap ∷ []) (edges_of links)) (slice_index (times_of spots'))) (sym lows_push)
-      (subst (λ (ts : List ℕ). IsLeast (net_of (lows_of spots ++ low ∷ []) (caps ++ cap ∷ []) (edges_of links)) (slice_index ts)) (sym times_push)
-      (point_least (lows_of spots) caps (times_of spots) (edges_of links) low cap (omega arith) (omega arith) fits (rw nl s.known) s.least))
+      subst (λ (ls : List ℕ). IsLeast (net_of ls (caps ++ cap ∷ []) (edges_of links)) (slice_index (times_of states'))) (sym lows_push)
+      (subst (λ (ts : List ℕ). IsLeast (net_of (lows_of states ++ low ∷ []) (caps ++ cap ∷ []) (edges_of links)) (slice_index ts)) (sym times_push)
+      (point_least (lows_of states) caps (times_of states) (edges_of links) low cap (omega arith) (omega arith) fits (rw nl s.known) s.least))
 
-  pub sound_pushed : IsSound (record { spots = spots'; caps = caps ++ cap ∷ []; links = links })
+  pub sound_pushed : IsSound (record { states = states'; caps = caps ++ cap ∷ []; links = links })
   sound_pushed =
-      let nl = lows_len spots in
-      let nt = times_len spots in
-      let ncs = causes_len links spots in
+      let nl = lows_len states in
+      let nt = times_len states in
+      let ncs = causes_len links states in
       let nc = s.caps in
-      let l = length-append spots (spot ∷ []) in
+      let l = length-append states (state ∷ []) in
       let lc = length-append caps (cap ∷ []) in
       record {
         caps = omega arith;
         known = λ k d h. (let a = s.known k d h in let f = a.from in let t = a.to in record { from = omega arith; to = omega arith; least = a.least; most = a.most });
-        numbered = All-push (λ (s : Spot). s.cause ≤ length links) spots spot s.numbered (omega arith);
+        numbered = All-push (λ (s : PointState). s.cause ≤ length links) states state s.numbered (omega arith);
         supported =
-            subst (λ (ls : List ℕ). IsSupported ls (edges_of links) (slice_index (times_of spots')) (cause_of (causes_of (edges_of links) spots'))) (sym lows_push)
-            (subst (λ (ts : List ℕ). IsSupported (lows_of spots ++ low ∷ []) (edges_of links) (slice_index ts) (cause_of (causes_of (edges_of links) spots'))) (sym times_push)
-            (subst (λ (cs : List (Option Edge)). IsSupported (lows_of spots ++ low ∷ []) (edges_of links) (slice_index (times_of spots ++ low ∷ [])) (cause_of cs)) (sym causes_push)
-            (supported_push (lows_of spots) (times_of spots) (causes_of (edges_of links) spots) (omega arith) (omega arith) s.supported)));
+            subst (λ (ls : List ℕ). IsSupported ls (edges_of links) (slice_index (times_of states')) (cause_of (causes_of (edges_of links) states'))) (sym lows_push)
+            (subst (λ (ts : List ℕ). IsSupported (lows_of states ++ low ∷ []) (edges_of links) (slice_index ts) (cause_of (causes_of (edges_of links) states'))) (sym times_push)
+            (subst (λ (cs : List (Option Edge)). IsSupported (lows_of states ++ low ∷ []) (edges_of links) (slice_index (times_of states ++ low ∷ [])) (cause_of cs)) (sym causes_push)
+            (supported_push (lows_of states) (times_of states) (causes_of (edges_of links) states) (omega arith) (omega arith) s.supported)));
         least = least_pushed;
       }

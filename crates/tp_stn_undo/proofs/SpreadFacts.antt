@@ -1,6 +1,5 @@
 -- Going through the edges that begin at a point.
 use Rattle.std.proofs.Common.{◌≡◌, ℕ, ◌+◌, ◌-◌, ◌<◌, ◌≤◌, Bool, false, List, length, slice_index, get_or, set, take, Some, sym, refl, ap, ◌∙◌, subst, arith, inl, inr}
-use Rattle.std.specs.Prelude.{Result, Ok, Err, OnOk}
 use Rattle.std.proofs.lemmas.Bool.{cases_eq, cases_lt}
 use Rattle.std.proofs.lemmas.Option.{same_Some, slice_get_within, slice_get-map}
 use Rattle.std.proofs.lemmas.List.{length-map, length-take-le, get_or-set_other}
@@ -10,27 +9,24 @@ use Rattle.tp_base.specs.declared.edges.Edge.{Edge}
 use Rattle.tp_base.specs.Net.{Keeps}
 use Rattle.tp_base.proofs.GrowsFacts.{Rises-trans}
 use Rattle.tp_base.proofs.SliceFacts.{slice_get_take}
-use Rattle.tp_stn_undo.specs.declared.spots.Spot.{Spot}
+use Rattle.tp_stn_undo.specs.declared.states.PointState.{PointState}
 use Rattle.tp_stn_undo.specs.declared.links.Link.{Link}
-use Rattle.tp_stn_undo.specs.declared.spots.SavedSpot.{SavedSpot}
-use Rattle.tp_stn_undo.specs.Spots.{times_of, edges_of, causes_of}
+use Rattle.tp_stn_undo.specs.declared.states.SavedState.{SavedState}
+use Rattle.tp_stn_undo.specs.States.{times_of, edges_of, causes_of}
 use Rattle.tp_stn_undo.specs.Saved.{by_link, newest_of}
 use Rattle.tp_stn_undo.specs.Marks.{AreLinks}
 use Rattle.tp_stn_undo.specs.Flags.{AreIdle, AreKnown}
-use Rattle.tp_stn_undo.specs.Spreading.{SpotsRise, LeadsBack, KeptFrom, IsMet, AreKept, IsFrom, Reached}
+use Rattle.tp_stn_undo.specs.Spreading.{StatesRise, LeadsBack, KeptFrom, IsMet, AreKept, IsFrom, Reached}
 use Rattle.tp_stn_undo.proofs.SavedFacts.{Names, newest_late, newest_names}
 use Rattle.tp_stn_undo.proofs.LinkFacts.{slice_get_kept}
 use Rattle.tp_stn_undo.proofs.CauseFacts.{no_link, slice_get_at}
 use Rattle.tp_stn_undo.proofs.RaiseFacts.{times_len}
 
 -- ---- one after another
-pub Spots-trans : (links : List Link) (a b c : List Spot) → length b ≡ length a → SpotsRise links a b → SpotsRise links b c → SpotsRise links a c
-Spots-trans links a b c n g h = Rises-trans (edges_of links) (times_of a) (times_of b) (times_of c) (causes_of (edges_of links) a) (causes_of (edges_of links) b) (causes_of (edges_of links) c) (times_len b ∙ n ∙ sym (times_len a)) g h
+pub States-trans : (links : List Link) (a b c : List PointState) → length b ≡ length a → StatesRise links a b → StatesRise links b c → StatesRise links a c
+States-trans links a b c n g h = Rises-trans (edges_of links) (times_of a) (times_of b) (times_of c) (causes_of (edges_of links) a) (causes_of (edges_of links) b) (causes_of (edges_of links) c) (times_len b ∙ n ∙ sym (times_len a)) g h
 
-pub LeadsBack-refl : (links : List Link) (spots : List Spot) (noted : List SavedSpot) → LeadsBack links spots spots noted noted
-LeadsBack-refl links spots noted = record { back = refl; known = λ k. k; lows = refl; numbered = λ n. n; len = refl }
-
-pub LeadsBack-trans : (links : List Link) (a b c : List Spot) (x y z : List SavedSpot) → LeadsBack links a b x y → LeadsBack links b c y z → LeadsBack links a c x z
+pub LeadsBack-trans : (links : List Link) (a b c : List PointState) (x y z : List SavedState) → LeadsBack links a b x y → LeadsBack links b c y z → LeadsBack links a c x z
 LeadsBack-trans links a b c x y z g h = record {
   back = h.back ∙ g.back;
   known = λ k. subst (λ (n : ℕ). AreKnown n z) g.len (h.known (subst (λ (n : ℕ). AreKnown n y) (sym g.len) (g.known k)));
@@ -161,7 +157,3 @@ kept_begun links t flags n some is kept k e g f from =
 -- the newest edge begins where it does
 pub reached_newest : (links : List Link) (n : ℕ) → 0 < n → n ≡ length links → Reached links (get_or links (n - 1) no_link).edge.from.0 n
 reached_newest links n some is = inr (record { at = n - 1; link = get_or links (n - 1) no_link; get = slice_get_at links (n - 1) no_link (omega arith); begins = refl; number_is = omega arith })
-
-pub on_ok : {T E P Q : Type 0} (r : Result T E) → (P → Q) → OnOk r P → OnOk r Q
-on_ok (Ok x) f h = f h
-on_ok (Err x) f h = h

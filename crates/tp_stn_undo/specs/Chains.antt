@@ -18,7 +18,7 @@ pub record IsSupport (net : Net) (first : ℕ) (edges : List Edge) (point : ℕ)
 
 -- the causes that lead to the point, from one that has none, are more than the room
 abbrev pub HasMoreCauses : List (Option Edge) → ℕ → ℕ → Type 0
-HasMoreCauses causes point room = (first : ℕ) × (edges : List Edge) × IsCauseChain causes first edges point × (room < length edges)
+HasMoreCauses causes point capacity = (first : ℕ) × (edges : List Edge) × IsCauseChain causes first edges point × (capacity < length edges)
 
 abbrev pub NeverRound : List (Option Edge) → Type 0
 NeverRound causes = (edges : List Edge) → IsCauseCircle causes edges → ⊥

@@ -1,7 +1,7 @@
 -- Points with a flag each, and lists that hold the flagged ones.
 use Rattle.std.specs.Prelude.{◌≡◌, ℕ, ◌+◌, ◌<◌, ◌≤◌, Bool, true, false, List, [], ◌∷◌, length, slice_index_or, if◌then◌else◌, map}
 use Rattle.std.specs.List.{All, Contains}
-use Rattle.tp_stn_undo.specs.declared.spots.SavedSpot.{SavedSpot}
+use Rattle.tp_stn_undo.specs.declared.states.SavedState.{SavedState}
 
 abbrev pub flag : List Bool → ℕ → Bool
 flag flags v = slice_index_or flags v false
@@ -17,8 +17,8 @@ pub record AreHeld (flags : List Bool) (ps : List ℕ) : Type 0 where
   pub short : length ps ≤ flagged flags
   pub known : All (λ p. p < length flags) ps
 
-abbrev pub points_in : List SavedSpot → List ℕ
-points_in entries = map (λ (s : SavedSpot). s.point.0) entries
+abbrev pub points_in : List SavedState → List ℕ
+points_in entries = map (λ (s : SavedState). s.point.0) entries
 
 -- what can be seen of points that wait: which wait, and the list of them
 pub record Waits : Type 0 where
@@ -28,7 +28,7 @@ pub record Waits : Type 0 where
 -- what can be seen of a line: the points in it, and how many there can be
 pub record LineValue : Type 0 where
   pub points : List ℕ
-  pub room : ℕ
+  pub capacity : ℕ
 
 abbrev pub AreBelow : ℕ → List ℕ → Type 0
 AreBelow count ps = All (λ p. p < count) ps
@@ -36,19 +36,19 @@ AreBelow count ps = All (λ p. p < count) ps
 -- what can be seen of the points of a change: what was saved before it, what they were, how many points there can be, and how
 -- many can be saved in all
 pub record Noted : Type 0 where
-  pub older : List SavedSpot
-  pub entries : List SavedSpot
-  pub room : ℕ
+  pub older : List SavedState
+  pub entries : List SavedState
+  pub capacity : ℕ
   pub most : ℕ
 
 -- only what is noted of the change is new
 pub record IsSameSave (old new : Noted) : Type 0 where
   pub older : new.older ≡ old.older
-  pub room : new.room ≡ old.room
+  pub capacity : new.capacity ≡ old.capacity
   pub most : new.most ≡ old.most
 
 abbrev pub AreIdle : List Bool → Type 0
 AreIdle flags = (v : ℕ) → flag flags v ≡ false
 
-abbrev pub AreKnown : ℕ → List SavedSpot → Type 0
-AreKnown count entries = All (λ (s : SavedSpot). s.point.0 < count) entries
+abbrev pub AreKnown : ℕ → List SavedState → Type 0
+AreKnown count entries = All (λ (s : SavedState). s.point.0 < count) entries

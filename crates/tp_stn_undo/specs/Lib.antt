@@ -1,4 +1,4 @@
-pub mod Spots
+pub mod States
 pub mod Saved
 pub mod Marks
 pub mod Stacks

@@ -5,7 +5,7 @@ use Rattle.tp_stn_undo.specs.Flags.{LineValue}
 
 -- those that were taken stand in front
 abbrev pub line_of : Inside → LineValue
-line_of a = record { points = drop a.taken a.points.items; room = vec_capacity a.points }
+line_of a = record { points = drop a.taken a.points.items; capacity = vec_capacity a.points }
 
 pub record IsLine (a : Inside) : Type 0 where
   pub within : a.taken ≤ length a.points.items

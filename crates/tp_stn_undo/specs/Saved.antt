@@ -1,13 +1,13 @@
 -- What points were before they changed, and how it is put back; and which entry of a list is the newest for a point.
 use Rattle.std.specs.Prelude.{ℕ, suc, ◌==◌, if◌then◌else◌, List, [], ◌∷◌, slice_set}
-use Rattle.tp_stn_undo.specs.declared.spots.Spot.{Spot}
+use Rattle.tp_stn_undo.specs.declared.states.PointState.{PointState}
 use Rattle.tp_stn_undo.specs.declared.links.Link.{Link}
-use Rattle.tp_stn_undo.specs.declared.spots.SavedSpot.{SavedSpot}
+use Rattle.tp_stn_undo.specs.declared.states.SavedState.{SavedState}
 
 -- the points with the saved ones put back, the last first
-abbrev pub restored : List SavedSpot → List Spot → List Spot
-restored [] spots = spots
-restored (s ∷ ss) spots = slice_set (restored ss spots) s.point.0 s.spot
+abbrev pub restored : List SavedState → List PointState → List PointState
+restored [] states = states
+restored (s ∷ ss) states = slice_set (restored ss states) s.point.0 s.state
 
 -- for each point the newest edge put back to the one before it, the last first
 abbrev pub relinked : List Link → List ℕ → List ℕ

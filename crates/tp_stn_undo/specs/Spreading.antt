@@ -4,15 +4,15 @@ use Rattle.std.specs.List.{All}
 use Rattle.tp_base.specs.declared.edges.Edge.{Edge}
 use Rattle.tp_base.specs.Net.{Keeps}
 use Rattle.tp_base.specs.Grows.{Rises, slack}
-use Rattle.tp_stn_undo.specs.declared.spots.Spot.{Spot}
+use Rattle.tp_stn_undo.specs.declared.states.PointState.{PointState}
 use Rattle.tp_stn_undo.specs.declared.links.Link.{Link}
-use Rattle.tp_stn_undo.specs.declared.spots.SavedSpot.{SavedSpot}
-use Rattle.tp_stn_undo.specs.Spots.{lows_of, times_of, edges_of, causes_of, numbered}
+use Rattle.tp_stn_undo.specs.declared.states.SavedState.{SavedState}
+use Rattle.tp_stn_undo.specs.States.{lows_of, times_of, edges_of, causes_of, numbered}
 use Rattle.tp_stn_undo.specs.Saved.{restored}
 use Rattle.tp_stn_undo.specs.Flags.{flag, AreKnown, Waits}
 
-abbrev pub AreNumbered : List Link → List Spot → Type 0
-AreNumbered links spots = All (λ (s : Spot). s.cause ≤ length links) spots
+abbrev pub AreNumbered : List Link → List PointState → Type 0
+AreNumbered links states = All (λ (s : PointState). s.cause ≤ length links) states
 
 -- the edge with the number asks for more than the time of its end
 abbrev pub AsksMore : List Edge → ℕ → (ℕ → ℕ) → Type 0
@@ -35,16 +35,16 @@ abbrev pub Reached : List Link → ℕ → ℕ → Type 0
 Reached links point number = (number ≡ 0) ⊎ IsFrom links point number
 
 -- the points have risen along edges
-abbrev pub SpotsRise : List Link → List Spot → List Spot → Type 0
-SpotsRise links spots spots' = Rises (edges_of links) (times_of spots) (causes_of (edges_of links) spots) (times_of spots') (causes_of (edges_of links) spots')
+abbrev pub StatesRise : List Link → List PointState → List PointState → Type 0
+StatesRise links states states' = Rises (edges_of links) (times_of states) (causes_of (edges_of links) states) (times_of states') (causes_of (edges_of links) states')
 
 -- what was noted leads from the later points back to what the earlier ones lead to; and nothing else changed
-pub record LeadsBack (links : List Link) (spots spots' : List Spot) (noted noted' : List SavedSpot) : Type 0 where
-  pub back : restored noted' spots' ≡ restored noted spots
-  pub known : AreKnown (length spots) noted → AreKnown (length spots) noted'
-  pub lows : lows_of spots' ≡ lows_of spots
-  pub numbered : AreNumbered links spots → AreNumbered links spots'
-  pub len : length spots' ≡ length spots
+pub record LeadsBack (links : List Link) (states states' : List PointState) (noted noted' : List SavedState) : Type 0 where
+  pub back : restored noted' states' ≡ restored noted states
+  pub known : AreKnown (length states) noted → AreKnown (length states) noted'
+  pub lows : lows_of states' ≡ lows_of states
+  pub numbered : AreNumbered links states → AreNumbered links states'
+  pub len : length states' ≡ length states
 
 -- all edges are kept but those from points that wait, and those from one point before a place in the list
 abbrev pub KeptFrom : List Edge → (ℕ → ℕ) → List Bool → ℕ → ℕ → Type 0
@@ -58,5 +58,5 @@ abbrev pub AreKept : List Edge → (ℕ → ℕ) → List Bool → Type 0
 AreKept edges t flags = (k : ℕ) (e : Edge) → slice_get edges k ≡ Some e → flag flags e.from.0 ≡ false → Keeps t e
 
 -- what gets less with each point that is taken
-abbrev pub weight : List ℕ → List Spot → Waits → ℕ
-weight caps spots w = slack caps (times_of spots) * (length w.flags + 1) + length w.points
+abbrev pub weight : List ℕ → List PointState → Waits → ℕ
+weight caps states w = slack caps (times_of states) * (length w.flags + 1) + length w.points

@@ -5,9 +5,9 @@ use Rattle.tp_stn_undo.specs.Flags.{AreIdle, IsSameSave}
 use Rattle.tp_stn_undo.specs.Tracing.{AreZeros}
 
 -- room for so many points
-pub record HasWorkingRoom (points : ℕ) (w : Working) : Type 0 where
+pub record HasWorkingCapacity (points : ℕ) (w : Working) : Type 0 where
   pub waits : points ≤ length w.waiting.flags
-  pub noted : points ≤ w.changes.room
+  pub noted : points ≤ w.changes.capacity
   pub path : points ≤ vec_capacity w.path
   pub places : points ≤ length w.places.items
 

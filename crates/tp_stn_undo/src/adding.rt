@@ -3,18 +3,18 @@ ghost use Rattle.std.specs.Prelude.{◌≡◌, ℕ, ◌+◌, ◌<◌, ◌≤◌,
 ghost use Rattle.tp_base.specs.Net.{IsSolution};
 ghost use Rattle.tp_base.specs.Grows.{IsKnown};
 ghost use Rattle.tp_base.specs.Kept.{net_of, KeptRefutes};
-ghost use Rattle.tp_stn_undo.specs.Spots.{Core, IsSound, lows_of, edges_of};
+ghost use Rattle.tp_stn_undo.specs.States.{Core, IsSound, lows_of, edges_of};
 ghost use Rattle.tp_stn_undo.specs.Marks.{AreLinks};
 ghost use Rattle.tp_stn_undo.specs.Flags.{AreIdle, AreBelow};
 ghost use Rattle.tp_stn_undo.specs.Spreading.{LeadsBack};
 ghost use Rattle.tp_stn_undo.specs.Tracing.{AreZeros};
 ghost use Rattle.tp_stn_undo.specs.Working.{KeepsSizes};
-ghost use Rattle.tp_stn_undo.specs.Adding.{CanAdd, Adds, AreLinkedAfter, AllWait, new_spot, newest_link};
+ghost use Rattle.tp_stn_undo.specs.Adding.{CanAdd, Adds, AreLinkedAfter, AllWait, new_state, newest_link};
 
 use crate::linking::{link, unlink};
 use crate::links::Link;
-use crate::spots::Spot;
 use crate::spreading::{Start, settle, spread};
+use crate::states::PointState;
 use crate::waiting::Waiting;
 use crate::working::Working;
 use tp_base::{Edge, Kept};
@@ -23,21 +23,21 @@ use tp_base::{Edge, Kept};
 pub(crate) fn push_point(
     low: u32,
     cap: u32,
-    spots: &mut Vec<Spot>,
+    states: &mut Vec<PointState>,
     caps: &mut Vec<u32>,
     heads: &mut Vec<u32>,
 )
-    requires spots_room { length spots.old.items < vec_capacity spots.old }
-    requires caps_room { length caps.old.items < vec_capacity caps.old }
-    requires heads_room { length heads.old.items < vec_capacity heads.old }
-    ensures spots { spots.new.items ≡ spots.old.items ++ new_spot low ∷ [] }
+    requires states_capacity { length states.old.items < vec_capacity states.old }
+    requires caps_capacity { length caps.old.items < vec_capacity caps.old }
+    requires heads_capacity { length heads.old.items < vec_capacity heads.old }
+    ensures states { states.new.items ≡ states.old.items ++ new_state low ∷ [] }
     ensures caps { caps.new.items ≡ caps.old.items ++ cap ∷ [] }
     ensures heads { heads.new.items ≡ heads.old.items ++ 0 ∷ [] }
-    ensures spots_kept { vec_capacity spots.new ≡ vec_capacity spots.old }
+    ensures states_kept { vec_capacity states.new ≡ vec_capacity states.old }
     ensures caps_kept { vec_capacity caps.new ≡ vec_capacity caps.old }
     ensures heads_kept { vec_capacity heads.new ≡ vec_capacity heads.old }
 {
-    spots.push_reserved(Spot {
+    states.push_reserved(PointState {
         low,
         time: low,
         cause: 0,
@@ -53,30 +53,30 @@ fn add_edge(
     caps: &[u32],
     links: &mut Vec<Link>,
     heads: &mut [u32],
-    spots: &mut [Spot],
+    states: &mut [PointState],
     working: &mut Working,
 ) -> Result<(), Kept>
-    requires ready { CanAdd caps.now links.old.items heads.old spots.old working.old }
-    requires known { IsKnown (length spots.old) edge.now }
-    requires room { length links.old.items < vec_capacity links.old }
+    requires ready { CanAdd caps.now links.old.items heads.old states.old working.old }
+    requires known { IsKnown (length states.old) edge.now }
+    requires capacity { length links.old.items < vec_capacity links.old }
     requires few { length links.old.items + 1 < 2 ^ 32 }
     ensures links { links.new.items ≡ links.old.items ++ newest_link heads.old edge.now ∷ [] }
-    ensures linked { AreLinks links.new.items heads.new (length spots.old) }
-    ensures back { LeadsBack links.new.items spots.old spots.new
+    ensures linked { AreLinks links.new.items heads.new (length states.old) }
+    ensures back { LeadsBack links.new.items states.old states.new
         working.old.changes.entries working.new.changes.entries }
     ensures sound { OnOk result (IsSound
-        (record { spots = spots.new; caps = caps.now; links = links.new.items })) }
+        (record { states = states.new; caps = caps.now; links = links.new.items })) }
     ensures idle { OnOk result (AreIdle working.new.waiting.flags) }
     ensures none { OnOk result (working.new.waiting.points ≡ []) }
     ensures refuted { IfErr result (λ kept. KeptRefutes
-        (net_of (lows_of spots.old) caps.now (edges_of links.old.items ++ edge.now ∷ []))
+        (net_of (lows_of states.old) caps.now (edges_of links.old.items ++ edge.now ∷ []))
         kept working.new.path.items) }
     ensures sizes { KeepsSizes working.old working.new }
     ensures zeros { AreZeros working.new.places.items }
     ensures capacity { vec_capacity links.new ≡ vec_capacity links.old }
 {
     link(edge, links, heads);
-    settle(caps, links, heads, links.len() as u32, spots, working)
+    settle(caps, links, heads, links.len() as u32, states, working)
 }
 
 /// Adds edges, or leaves points and edges as they were where no solution would be left. The edges come one after another:
@@ -86,24 +86,24 @@ pub(crate) fn add_edges(
     caps: &[u32],
     links: &mut Vec<Link>,
     heads: &mut [u32],
-    spots: &mut [Spot],
+    states: &mut [PointState],
     working: &mut Working,
 ) -> Result<(), Kept>
-    requires ready { CanAdd caps.now links.old.items heads.old spots.old working.old }
+    requires ready { CanAdd caps.now links.old.items heads.old states.old working.old }
     requires unchanged { working.old.changes.entries ≡ [] }
-    requires known { All (IsKnown (length spots.old)) edges.now }
-    requires room { length links.old.items + length edges.now ≤ vec_capacity links.old }
+    requires known { All (IsKnown (length states.old)) edges.now }
+    requires capacity { length links.old.items + length edges.now ≤ vec_capacity links.old }
     requires few { length links.old.items + length edges.now < 2 ^ 32 }
     ensures added { OnOk result (Adds edges.now caps.now links.old.items links.new.items
-        spots.old spots.new working.new.changes.entries) }
+        states.old states.new working.new.changes.entries) }
     ensures links { OnErr result (links.new.items ≡ links.old.items) }
-    ensures spots { OnErr result (spots.new ≡ spots.old) }
+    ensures states { OnErr result (states.new ≡ states.old) }
     ensures unchanged { OnErr result (working.new.changes.entries ≡ []) }
-    ensures linked { AreLinks links.new.items heads.new (length spots.old) }
+    ensures linked { AreLinks links.new.items heads.new (length states.old) }
     ensures idle { AreIdle working.new.waiting.flags }
     ensures none { working.new.waiting.points ≡ [] }
     ensures refuted { IfErr result (λ kept. KeptRefutes
-        (net_of (lows_of spots.old) caps.now (edges_of links.old.items ++ edges.now))
+        (net_of (lows_of states.old) caps.now (edges_of links.old.items ++ edges.now))
         kept working.new.path.items) }
     ensures sizes { KeepsSizes working.old working.new }
     ensures zeros { AreZeros working.new.places.items }
@@ -111,12 +111,12 @@ pub(crate) fn add_edges(
 {
     let before = links.len();
     'each: for edge in edges {
-        match add_edge(edge, caps, links, heads, spots, working) {
+        match add_edge(edge, caps, links, heads, states, working) {
             Ok(()) => {}
             Err(kept) => {
                 unlink(links, heads, before);
                 working.waiting.clear();
-                working.changes.put_back(spots);
+                working.changes.put_back(states);
                 return Err(kept);
             }
         }
@@ -128,7 +128,7 @@ pub(crate) fn add_edges(
 fn link_all(edges: &[Edge], links: &mut Vec<Link>, heads: &mut [u32], waiting: &mut Waiting)
     requires linked { AreLinks links.old.items heads.old (length heads.old) }
     requires known { All (IsKnown (length heads.old)) edges.now }
-    requires room { length links.old.items + length edges.now ≤ vec_capacity links.old }
+    requires capacity { length links.old.items + length edges.now ≤ vec_capacity links.old }
     requires few { length links.old.items + length edges.now < 2 ^ 32 }
     requires waits { length heads.old ≤ length waiting.old.flags }
     ensures added { AreLinkedAfter links.old.items links.new.items edges.now }
@@ -151,19 +151,19 @@ pub(crate) fn load_edges(
     caps: &[u32],
     links: &mut Vec<Link>,
     heads: &mut [u32],
-    spots: &mut [Spot],
+    states: &mut [PointState],
     working: &mut Working,
 )
-    requires ready { CanAdd caps.now links.old.items heads.old spots.old working.old }
+    requires ready { CanAdd caps.now links.old.items heads.old states.old working.old }
     requires unchanged { working.old.changes.entries ≡ [] }
-    requires known { All (IsKnown (length spots.old)) edges.now }
-    requires room { length links.old.items + length edges.now ≤ vec_capacity links.old }
+    requires known { All (IsKnown (length states.old)) edges.now }
+    requires capacity { length links.old.items + length edges.now ≤ vec_capacity links.old }
     requires few { length links.old.items + length edges.now < 2 ^ 32 }
     requires solution { (x : ℕ → ℕ) × IsSolution
-        (net_of (lows_of spots.old) caps.now (edges_of links.old.items ++ edges.now)) x }
+        (net_of (lows_of states.old) caps.now (edges_of links.old.items ++ edges.now)) x }
     ensures added { Adds edges.now caps.now links.old.items links.new.items
-        spots.old spots.new working.new.changes.entries }
-    ensures linked { AreLinks links.new.items heads.new (length spots.old) }
+        states.old states.new working.new.changes.entries }
+    ensures linked { AreLinks links.new.items heads.new (length states.old) }
     ensures idle { AreIdle working.new.waiting.flags }
     ensures none { working.new.waiting.points ≡ [] }
     ensures sizes { KeepsSizes working.old working.new }
@@ -178,7 +178,7 @@ pub(crate) fn load_edges(
         watched: edges[0].from,
         first: 0,
     };
-    match spread(caps, links, heads, start, spots, working) {
+    match spread(caps, links, heads, start, states, working) {
         Ok(()) => {}
         Err(_) => unreachable!(),
     }

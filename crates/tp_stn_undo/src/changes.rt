@@ -1,10 +1,10 @@
 //! What points were before they changed: for the marks in force, and before the change that is being made.
 ghost use Rattle.std.specs.Prelude.{◌≡◌, ℕ, ◌+◌, ◌*◌, ◌<◌, ◌≤◌, ◌^◌, List, [], length, take, drop, slice_get, slice_set, Some, IfOk, vec_capacity};
-ghost use Rattle.tp_stn_undo.specs.declared.spots.Spot.{Spot};
+ghost use Rattle.tp_stn_undo.specs.declared.states.PointState.{PointState};
 ghost use Rattle.tp_stn_undo.specs.Saved.{restored};
 ghost use Rattle.tp_stn_undo.specs.Flags.{AreHeld, AreKnown, IsSameSave, points_in};
 
-use crate::spots::{SavedSpot, Spot};
+use crate::states::{PointState, SavedState};
 use std::alloc::{AllocError, Global};
 use std::marker::Model;
 use tp_base::PointId;
@@ -13,7 +13,7 @@ use tp_base::PointId;
 /// being made, each point once.
 #[derive(Drop)]
 pub(crate) struct Changes {
-    entries: Vec<SavedSpot>,
+    entries: Vec<SavedState>,
     /// How many of them stand before those of the change that is being made.
     before: usize,
     /// For each point whether it is among those of the change that is being made.
@@ -35,7 +35,7 @@ impl Model for Changes {
 }
 
 /// Takes the flags of the entries away.
-fn forget_all(entries: &[SavedSpot], noted: &mut [bool])
+fn forget_all(entries: &[SavedState], noted: &mut [bool])
     requires { AreHeld noted.old (points_in entries.now) }
     ensures none { AreHeld noted.new [] }
     ensures len { length noted.new ≡ length noted.old }
@@ -48,26 +48,26 @@ fn forget_all(entries: &[SavedSpot], noted: &mut [bool])
 }
 
 /// Makes the points what the entries say, the last first.
-fn put_all_back(entries: &[SavedSpot], spots: &mut [Spot])
-    requires { AreKnown (length spots.old) entries.now }
-    ensures spots { spots.new ≡ restored entries.now spots.old }
+fn put_all_back(entries: &[SavedState], states: &mut [PointState])
+    requires { AreKnown (length states.old) entries.now }
+    ensures states { states.new ≡ restored entries.now states.old }
 {
     let mut left = entries.len();
     'back: while left > 0 {
         left -= 1;
         let entry = &entries[left];
-        spots[entry.point.0 as usize] = entry.spot;
+        states[entry.point.0 as usize] = entry.state;
     }
 }
 
 /// Leaves the first one of each point from a place on.
-fn leave_firsts(entries: &mut Vec<SavedSpot>, noted: &mut [bool], from: usize)
+fn leave_firsts(entries: &mut Vec<SavedState>, noted: &mut [bool], from: usize)
     requires from { from ≤ length entries.old.items }
     requires known { AreKnown (length noted.old) (drop from entries.old.items) }
     requires none { AreHeld noted.old [] }
     ensures before { take from entries.new.items ≡ take from entries.old.items }
-    ensures back { (spots : List Spot) → restored (drop from entries.new.items) spots
-        ≡ restored (drop from entries.old.items) spots }
+    ensures back { (states : List PointState) → restored (drop from entries.new.items) states
+        ≡ restored (drop from entries.old.items) states }
     ensures known { (count : ℕ) → AreKnown count (drop from entries.old.items)
         → AreKnown count (drop from entries.new.items) }
     ensures held { AreHeld noted.new (points_in (drop from entries.new.items)) }
@@ -88,13 +88,13 @@ fn leave_firsts(entries: &mut Vec<SavedSpot>, noted: &mut [bool], from: usize)
 }
 
 /// Leaves no more from a place on than there can be points.
-fn make_short(entries: &mut Vec<SavedSpot>, noted: &mut [bool], from: usize)
+fn make_short(entries: &mut Vec<SavedState>, noted: &mut [bool], from: usize)
     requires from { from ≤ length entries.old.items }
     requires known { AreKnown (length noted.old) (drop from entries.old.items) }
     requires none { AreHeld noted.old [] }
     ensures before { take from entries.new.items ≡ take from entries.old.items }
-    ensures back { (spots : List Spot) → restored (drop from entries.new.items) spots
-        ≡ restored (drop from entries.old.items) spots }
+    ensures back { (states : List PointState) → restored (drop from entries.new.items) states
+        ≡ restored (drop from entries.old.items) states }
     ensures known { (count : ℕ) → AreKnown count (drop from entries.old.items)
         → AreKnown count (drop from entries.new.items) }
     ensures few { length entries.new.items ≤ from + length noted.old }
@@ -114,27 +114,27 @@ impl Changes {
     pub(crate) fn new(alloc: Global, points: u32, marks: u32) -> Result<Changes, AllocError>
         ensures older { IfOk result (λ c. c.older ≡ []) }
         ensures entries { IfOk result (λ c. c.entries ≡ []) }
-        ensures room { IfOk result (λ c. c.room ≡ points) }
+        ensures capacity { IfOk result (λ c. c.capacity ≡ points) }
         ensures most { IfOk result (λ c. points * (marks + 1) ≤ c.most) }
     {
-        let room = points as usize;
-        let mut noted = Vec::with_capacity(alloc, room)?;
-        let Ok(()) = noted.resize(room, false) else {
+        let capacity = points as usize;
+        let mut noted = Vec::with_capacity(alloc, capacity)?;
+        let Ok(()) = noted.resize(capacity, false) else {
             unreachable!()
         };
         Ok(Changes {
-            entries: Vec::with_capacity(alloc, room * (marks as usize + 1))?,
+            entries: Vec::with_capacity(alloc, capacity * (marks as usize + 1))?,
             before: 0,
             noted,
         })
     }
 
     /// Notes what a point is before it changes for the first time.
-    pub(crate) fn note(&mut self, point: PointId, spot: &Spot)
-        requires { point.0 < self.old.room }
-        ensures back { (spots : List Spot) (x : Spot) → slice_get spots point.0 ≡ Some spot.now
-            → restored self.new.entries (slice_set spots point.0 x)
-            ≡ restored self.old.entries spots }
+    pub(crate) fn note(&mut self, point: PointId, state: &PointState)
+        requires { point.0 < self.old.capacity }
+        ensures back { (states : List PointState) (x : PointState) → slice_get states point.0 ≡ Some state.now
+            → restored self.new.entries (slice_set states point.0 x)
+            ≡ restored self.old.entries states }
         ensures known { (count : ℕ) → point.0 < count → AreKnown count self.old.entries
             → AreKnown count self.new.entries }
         ensures same { IsSameSave self.old self.new }
@@ -142,12 +142,12 @@ impl Changes {
         let at = point.0 as usize;
         if !self.noted[at] {
             self.noted[at] = true;
-            self.entries.push_reserved(SavedSpot {
+            self.entries.push_reserved(SavedState {
                 point,
-                spot: Spot {
-                    low: spot.low,
-                    time: spot.time,
-                    cause: spot.cause,
+                state: PointState {
+                    low: state.low,
+                    time: state.time,
+                    cause: state.cause,
                 },
             });
         }
@@ -164,17 +164,17 @@ impl Changes {
     /// Keeps what was noted, behind what was saved. From this place on no more is left than there can be points.
     pub(crate) fn keep(&mut self, from: usize)
         requires from { from ≤ length self.old.older }
-        requires room { from + 2 * self.old.room ≤ self.old.most }
-        requires known { AreKnown self.old.room self.old.older }
-        requires noted { AreKnown self.old.room self.old.entries }
+        requires capacity { from + 2 * self.old.capacity ≤ self.old.most }
+        requires known { AreKnown self.old.capacity self.old.older }
+        requires noted { AreKnown self.old.capacity self.old.entries }
         ensures before { take from self.new.older ≡ take from self.old.older }
-        ensures back { (spots : List Spot) → restored (drop from self.new.older) spots
-            ≡ restored (drop from self.old.older) (restored self.old.entries spots) }
+        ensures back { (states : List PointState) → restored (drop from self.new.older) states
+            ≡ restored (drop from self.old.older) (restored self.old.entries states) }
         ensures known { (count : ℕ) → AreKnown count self.old.older
             → AreKnown count self.old.entries → AreKnown count self.new.older }
-        ensures few { length self.new.older ≤ from + self.old.room }
+        ensures few { length self.new.older ≤ from + self.old.capacity }
         ensures entries { self.new.entries ≡ [] }
-        ensures room { self.new.room ≡ self.old.room }
+        ensures capacity { self.new.capacity ≡ self.old.capacity }
         ensures most { self.new.most ≡ self.old.most }
     {
         forget_all(&self.entries[self.before..], &mut self.noted);
@@ -186,7 +186,7 @@ impl Changes {
     pub(crate) fn clear(&mut self)
         ensures older { self.new.older ≡ [] }
         ensures entries { self.new.entries ≡ [] }
-        ensures room { self.new.room ≡ self.old.room }
+        ensures capacity { self.new.capacity ≡ self.old.capacity }
         ensures most { self.new.most ≡ self.old.most }
     {
         forget_all(&self.entries[self.before..], &mut self.noted);
@@ -195,29 +195,29 @@ impl Changes {
     }
 
     /// Makes the points what they were before the change, and forgets it.
-    pub(crate) fn put_back(&mut self, spots: &mut [Spot])
-        requires { AreKnown (length spots.old) self.old.entries }
-        ensures spots { spots.new ≡ restored self.old.entries spots.old }
+    pub(crate) fn put_back(&mut self, states: &mut [PointState])
+        requires { AreKnown (length states.old) self.old.entries }
+        ensures states { states.new ≡ restored self.old.entries states.old }
         ensures entries { self.new.entries ≡ [] }
         ensures same { IsSameSave self.old self.new }
     {
-        put_all_back(&self.entries[self.before..], spots);
+        put_all_back(&self.entries[self.before..], states);
         forget_all(&self.entries[self.before..], &mut self.noted);
         self.entries.truncate(self.before);
     }
 
     /// Makes the points what they were when so many were saved, and forgets what was saved since.
-    pub(crate) fn back_to(&mut self, to: usize, spots: &mut [Spot])
+    pub(crate) fn back_to(&mut self, to: usize, states: &mut [PointState])
         requires to { to ≤ length self.old.older }
-        requires known { AreKnown (length spots.old) self.old.older }
+        requires known { AreKnown (length states.old) self.old.older }
         requires rest { self.old.entries ≡ [] }
-        ensures spots { spots.new ≡ restored (drop to self.old.older) spots.old }
+        ensures states { states.new ≡ restored (drop to self.old.older) states.old }
         ensures older { self.new.older ≡ take to self.old.older }
         ensures entries { self.new.entries ≡ [] }
-        ensures room { self.new.room ≡ self.old.room }
+        ensures capacity { self.new.capacity ≡ self.old.capacity }
         ensures most { self.new.most ≡ self.old.most }
     {
-        put_all_back(&self.entries[to..], spots);
+        put_all_back(&self.entries[to..], states);
         self.entries.truncate(to);
         self.before = to;
     }

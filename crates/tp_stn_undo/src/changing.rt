@@ -3,36 +3,31 @@ use crate::adding::{add_edges, load_edges, push_point};
 use crate::lifting::lift;
 use crate::live_net::LiveNet;
 use crate::saving::save_changes;
-use crate::spots::Spot;
 use crate::spreading::{Start, spread};
+use crate::states::PointState;
 use tp_base::{Edge, Full, Kept, Late, Network, PointId, Proof, Tick};
 
 impl Network for LiveNet {
     ghost use Rattle.std.specs.Prelude.{ℕ, List, ◌≡◌};
     ghost use Rattle.std.proofs.Common.{ap};
-    ghost use Rattle.tp_base.specs.Net.{Net};
     ghost use Rattle.tp_base.specs.Kept.{KeptRefutes};
-    ghost use Rattle.tp_stn_undo.specs.LiveState.{LiveState, LiveAside, refutes_by};
+    ghost use Rattle.tp_stn_undo.specs.LiveState.{LiveState, LiveUntouched, kept_by_marks, live_reading, refutes_by};
 
-    ghost net = { λ n. n.net };
+    ghost reading = { live_reading };
 
     ghost refutes = { λ n late. KeptRefutes late n.kept n.path };
 
-    ghost max_points = { λ n. n.max_points };
+    ghost kept_by_marks = { kept_by_marks };
 
-    ghost max_edges = { λ n. n.max_edges };
+    ghost refutes_by_untouched = { refutes_by };
 
-    ghost net_by_content = { λ a b e. e };
+    ghost points_by_untouched = { λ a b e. ap (λ (x : LiveUntouched). x.points) e };
 
-    ghost refutes_by_aside = { refutes_by };
-
-    ghost points_by_aside = { λ a b e. ap (λ (x : LiveAside). x.points) e };
-
-    ghost edges_by_aside = { λ a b e. ap (λ (x : LiveAside). x.edges) e };
+    ghost edges_by_untouched = { λ a b e. ap (λ (x : LiveUntouched). x.edges) e };
 
     fn clear(&mut self) {
         self.back_to(0);
-        self.spots.clear();
+        self.states.clear();
         self.caps.clear();
         self.links.clear();
         self.heads.clear();
@@ -40,11 +35,11 @@ impl Network for LiveNet {
     }
 
     fn point(&mut self, low: Tick, cap: Tick) -> Result<PointId, Full> {
-        if self.spots.len() == self.max_points as usize {
+        if self.states.len() == self.max_points as usize {
             return Err(Full);
         }
-        let number = self.spots.len() as u32;
-        push_point(low, cap, &mut self.spots, &mut self.caps, &mut self.heads);
+        let number = self.states.len() as u32;
+        push_point(low, cap, &mut self.states, &mut self.caps, &mut self.heads);
         Ok(PointId(number))
     }
 
@@ -62,7 +57,7 @@ impl Network for LiveNet {
             &self.caps,
             &mut self.links,
             &mut self.heads,
-            &mut self.spots,
+            &mut self.states,
             &mut self.working,
         ) {
             Ok(()) => {
@@ -77,19 +72,19 @@ impl Network for LiveNet {
     }
 
     fn extend(&mut self, low: Tick, cap: Tick, edges: &[Edge]) -> Result<(), Late> {
-        let count = self.spots.len();
+        let count = self.states.len();
         if low > cap {
             self.working.path.clear();
             self.kept = Kept::Chain(PointId(count as u32));
             return Err(Late);
         }
-        push_point(low, cap, &mut self.spots, &mut self.caps, &mut self.heads);
+        push_point(low, cap, &mut self.states, &mut self.caps, &mut self.heads);
         match add_edges(
             edges,
             &self.caps,
             &mut self.links,
             &mut self.heads,
-            &mut self.spots,
+            &mut self.states,
             &mut self.working,
         ) {
             Ok(()) => {
@@ -97,7 +92,7 @@ impl Network for LiveNet {
                 Ok(())
             }
             Err(kept) => {
-                self.spots.truncate(count);
+                self.states.truncate(count);
                 self.caps.truncate(count);
                 self.heads.truncate(count);
                 self.kept = kept;
@@ -112,7 +107,7 @@ impl Network for LiveNet {
             &self.caps,
             &mut self.links,
             &mut self.heads,
-            &mut self.spots,
+            &mut self.states,
             &mut self.working,
         );
         save_changes(&self.marks, &mut self.working.changes);
@@ -128,7 +123,7 @@ impl Network for LiveNet {
         lift(
             point,
             low,
-            &mut self.spots,
+            &mut self.states,
             &mut self.working.waiting,
             &mut self.working.changes,
         );
@@ -141,7 +136,7 @@ impl Network for LiveNet {
             &self.links,
             &self.heads,
             start,
-            &mut self.spots,
+            &mut self.states,
             &mut self.working,
         ) {
             Ok(()) => {
@@ -150,7 +145,7 @@ impl Network for LiveNet {
             }
             Err(kept) => {
                 self.working.waiting.clear();
-                self.working.changes.put_back(&mut self.spots);
+                self.working.changes.put_back(&mut self.states);
                 self.kept = kept;
                 Err(Late)
             }
@@ -159,17 +154,17 @@ impl Network for LiveNet {
 
     fn set_bounds(&mut self, point: PointId, low: Tick, cap: Tick) {
         let at = point.0 as usize;
-        let spot = self.spots[at];
-        self.spots[at] = Spot {
+        let state = self.states[at];
+        self.states[at] = PointState {
             low,
-            time: spot.time,
-            cause: spot.cause,
+            time: state.time,
+            cause: state.cause,
         };
         self.caps[at] = cap;
     }
 
     fn earliest(&self, point: PointId) -> Tick {
-        self.spots[point.0 as usize].time
+        self.states[point.0 as usize].time
     }
 
     fn proof(&self) -> Proof<'_> {

@@ -1,12 +1,12 @@
 //! Raising a lower bound.
 ghost use Rattle.std.specs.Prelude.{◌≡◌, ℕ, ◌<◌, ◌≤◌, List, length, slice_index, slice_set};
-ghost use Rattle.tp_stn_undo.specs.Spots.{lows_of, times_of};
+ghost use Rattle.tp_stn_undo.specs.States.{lows_of, times_of};
 ghost use Rattle.tp_stn_undo.specs.Saved.{restored};
 ghost use Rattle.tp_stn_undo.specs.Flags.{AreKnown, AreBelow, IsSameSave};
 ghost use Rattle.tp_stn_undo.specs.Lifting.{Lifts};
 
 use crate::changes::Changes;
-use crate::spots::Spot;
+use crate::states::PointState;
 use crate::waiting::Waiting;
 use tp_base::PointId;
 
@@ -14,36 +14,36 @@ use tp_base::PointId;
 pub(crate) fn lift(
     point: PointId,
     low: u32,
-    spots: &mut [Spot],
+    states: &mut [PointState],
     waiting: &mut Waiting,
     changes: &mut Changes,
 )
-    requires known { point.0 < length spots.old }
-    requires more { slice_index (lows_of spots.old) point.0 ≤ low }
-    requires waits { length spots.old ≤ length waiting.old.flags }
-    requires room { length spots.old ≤ changes.old.room }
-    ensures lifts { Lifts spots.old spots.new point.0 low waiting.old.flags waiting.new.flags }
-    ensures back { restored changes.new.entries spots.new
-        ≡ restored changes.old.entries spots.old }
-    ensures known { AreKnown (length spots.old) changes.old.entries
-        → AreKnown (length spots.old) changes.new.entries }
-    ensures waiting { AreBelow (length spots.old) waiting.old.points
-        → AreBelow (length spots.old) waiting.new.points }
+    requires known { point.0 < length states.old }
+    requires more { slice_index (lows_of states.old) point.0 ≤ low }
+    requires waits { length states.old ≤ length waiting.old.flags }
+    requires capacity { length states.old ≤ changes.old.capacity }
+    ensures lifts { Lifts states.old states.new point.0 low waiting.old.flags waiting.new.flags }
+    ensures back { restored changes.new.entries states.new
+        ≡ restored changes.old.entries states.old }
+    ensures known { AreKnown (length states.old) changes.old.entries
+        → AreKnown (length states.old) changes.new.entries }
+    ensures waiting { AreBelow (length states.old) waiting.old.points
+        → AreBelow (length states.old) waiting.new.points }
     ensures waits { length waiting.new.flags ≡ length waiting.old.flags }
     ensures same { IsSameSave changes.old changes.new }
 {
     let at = point.0 as usize;
-    let spot = spots[at];
-    changes.note(point, &spot);
-    if low <= spot.time {
-        spots[at] = Spot {
+    let state = states[at];
+    changes.note(point, &state);
+    if low <= state.time {
+        states[at] = PointState {
             low,
-            time: spot.time,
-            cause: spot.cause,
+            time: state.time,
+            cause: state.cause,
         };
         return;
     }
-    spots[at] = Spot {
+    states[at] = PointState {
         low,
         time: low,
         cause: 0,

@@ -26,7 +26,7 @@ impl Model for Line {
 }
 
 /// Drops the points that were taken where the memory is full. It is full once in so many steps as there can be points.
-fn make_room(points: &mut Vec<u32>, taken: &mut usize)
+fn make_capacity(points: &mut Vec<u32>, taken: &mut usize)
     requires within { taken.old ≤ length points.old.items }
     requires few { length (drop taken.old points.old.items) < vec_capacity points.old }
     ensures rest { drop taken.new points.new.items ≡ drop taken.old points.old.items }
@@ -48,7 +48,7 @@ impl Line {
     pub(crate) fn new(alloc: Global, points: usize) -> Result<Line, AllocError>
         requires { points < 2 ^ 32 }
         ensures none { IfOk result (λ l. l.points ≡ []) }
-        ensures room { IfOk result (λ l. points ≤ l.room) }
+        ensures capacity { IfOk result (λ l. points ≤ l.capacity) }
     {
         Ok(Line {
             points: Vec::with_capacity(alloc, points * 2)?,
@@ -58,11 +58,11 @@ impl Line {
 
     /// Puts a point at the end.
     pub(crate) fn push_back_reserved(&mut self, point: u32)
-        requires { length self.old.points < self.old.room }
+        requires { length self.old.points < self.old.capacity }
         ensures points { self.new.points ≡ self.old.points ++ point ∷ [] }
-        ensures room { self.new.room ≡ self.old.room }
+        ensures capacity { self.new.capacity ≡ self.old.capacity }
     {
-        make_room(&mut self.points, &mut self.taken);
+        make_capacity(&mut self.points, &mut self.taken);
         self.points.push_reserved(point);
     }
 
@@ -71,7 +71,7 @@ impl Line {
         ensures none { IfNone result (self.old.points ≡ []) }
         ensures same { IfNone result (self.new ≡ self.old) }
         ensures points { IfSome result (λ p. self.old.points ≡ p ∷ self.new.points) }
-        ensures room { self.new.room ≡ self.old.room }
+        ensures capacity { self.new.capacity ≡ self.old.capacity }
     {
         if self.taken == self.points.len() {
             return None;

@@ -10,7 +10,7 @@ use tp_base::Edge;
 #[inline(always)]
 pub(crate) fn link(edge: &Edge, links: &mut Vec<Link>, heads: &mut [u32])
     requires known { edge.now.from.0 < length heads.old }
-    requires room { length links.old.items < vec_capacity links.old }
+    requires capacity { length links.old.items < vec_capacity links.old }
     requires few { length links.old.items + 1 < 2 ^ 32 }
     ensures links { links.new.items ≡ links.old.items ++ newest_link heads.old edge.now ∷ [] }
     ensures heads { heads.new ≡ slice_set heads.old edge.now.from.0 (length links.old.items + 1) }

@@ -2,12 +2,12 @@
 ghost use Rattle.std.specs.Prelude.{◌≡◌, ◌-◌, ◌<◌, ◌≤◌, ◌↔◌, [], length, take, slice_get, Some, IfOk, OnErr, IsErr};
 ghost use Rattle.tp_base.specs.Net.{Net, empty_net};
 ghost use Rattle.tp_base.specs.Refute.{IsCauseChain};
-ghost use Rattle.tp_stn_undo.specs.LiveState.{aside_of};
+ghost use Rattle.tp_stn_undo.specs.LiveState.{untouched_of};
 ghost use Rattle.tp_stn_undo.specs.Chains.{IsSupport, HasMoreCauses};
 
 use crate::links::Link;
 use crate::marks::LiveMark;
-use crate::spots::Spot;
+use crate::states::PointState;
 use crate::tracing::write_causes;
 use crate::undoing::restore;
 use crate::working::Working;
@@ -18,12 +18,11 @@ use tp_base::{Edge, Full, Kept, Memory, PointId, Trail};
 /// A network that keeps its least solution by a worklist: a change takes time for the points that rise, and for their edges.
 /// For each point it keeps the edge that it was raised along last, and of these it makes the proof of a refusal. What a change
 /// saves of the points that it changes serves both to take it back where it is refused and to go back to a mark.
-#[derive(Drop)]
 pub struct LiveNet {
     pub(crate) max_points: u32,
     pub(crate) max_edges: u32,
     pub(crate) max_marks: u32,
-    pub(crate) spots: Vec<Spot>,
+    pub(crate) states: Vec<PointState>,
     pub(crate) caps: Vec<u32>,
     pub(crate) links: Vec<Link>,
     /// For each point the number of the newest edge that begins there, counted from 1, or 0.
@@ -31,6 +30,24 @@ pub struct LiveNet {
     pub(crate) working: Working,
     pub(crate) kept: Kept,
     pub(crate) marks: Vec<LiveMark>,
+}
+
+// What becomes of its parts is proved here, once for all who let go of one.
+impl Drop for LiveNet {
+    fn drop(self) {
+        let LiveNet {
+            max_points: _,
+            max_edges: _,
+            max_marks: _,
+            states: _,
+            caps: _,
+            links: _,
+            heads: _,
+            working: _,
+            kept: _,
+            marks: _,
+        } = self;
+    }
 }
 
 // Clauses see the net, the nets at the marks in force, and what the network was made for.
@@ -55,18 +72,18 @@ impl LiveNet {
         ensures edges { IfOk result (λ n. n.max_edges ≡ edges) }
         ensures marks { IfOk result (λ n. n.max_marks ≡ marks) }
     {
-        let room = points as usize;
-        if room * marks as usize > u32::MAX as usize {
+        let capacity = points as usize;
+        if capacity * marks as usize > u32::MAX as usize {
             return Err(Memory);
         }
         Ok(LiveNet {
             max_points: points,
             max_edges: edges,
             max_marks: marks,
-            spots: Vec::with_capacity(alloc, room)?,
-            caps: Vec::with_capacity(alloc, room)?,
+            states: Vec::with_capacity(alloc, capacity)?,
+            caps: Vec::with_capacity(alloc, capacity)?,
             links: Vec::with_capacity(alloc, edges as usize)?,
-            heads: Vec::with_capacity(alloc, room)?,
+            heads: Vec::with_capacity(alloc, capacity)?,
             working: Working::new(alloc, points, marks)?,
             kept: Kept::Nothing,
             marks: Vec::with_capacity(alloc, marks as usize)?,
@@ -82,11 +99,11 @@ impl LiveNet {
             IsSupport self.now.net first.0 into.new.items point.0) }
         ensures causes { IfOk result (λ first.
             IsCauseChain self.now.causes first.0 into.new.items point.0) }
-        ensures full { IsErr result ↔ HasMoreCauses self.now.causes point.0 into.old.room }
+        ensures full { IsErr result ↔ HasMoreCauses self.now.causes point.0 into.old.capacity }
         ensures none { OnErr result (into.new.items ≡ []) }
-        ensures room { into.new.room ≡ into.old.room }
+        ensures capacity { into.new.capacity ≡ into.old.capacity }
     {
-        write_causes(&self.spots, &self.links, point, into)
+        write_causes(&self.states, &self.links, point, into)
     }
 
     /// Goes back to the newest mark.
@@ -94,11 +111,11 @@ impl LiveNet {
         requires { 0 < length self.old.past }
         ensures content { slice_get self.old.past (length self.old.past - 1) ≡ Some self.new.net }
         ensures past { self.new.past ≡ take (length self.old.past - 1) self.old.past }
-        ensures aside { aside_of self.new ≡ aside_of self.old }
-        ensures room { self.new.max_marks ≡ self.old.max_marks }
+        ensures untouched { untouched_of self.new ≡ untouched_of self.old }
+        ensures capacity { self.new.max_marks ≡ self.old.max_marks }
     {
         restore(
-            &mut self.spots,
+            &mut self.states,
             &mut self.caps,
             &mut self.links,
             &mut self.heads,
@@ -113,8 +130,8 @@ impl LiveNet {
         ensures content { (net : Net) → slice_get self.old.past place ≡ Some net
             → net ≡ self.new.net }
         ensures past { self.new.past ≡ take place self.old.past }
-        ensures aside { aside_of self.new ≡ aside_of self.old }
-        ensures room { self.new.max_marks ≡ self.old.max_marks }
+        ensures untouched { untouched_of self.new ≡ untouched_of self.old }
+        ensures capacity { self.new.max_marks ≡ self.old.max_marks }
     {
         'marks: while self.marks.len() > place {
             self.undo_last();

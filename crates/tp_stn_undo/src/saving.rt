@@ -1,6 +1,6 @@
 //! A change is saved for the marks in force.
 ghost use Rattle.std.specs.Prelude.{◌≡◌, ℕ, ◌≤◌, List, [], length};
-ghost use Rattle.tp_stn_undo.specs.declared.spots.Spot.{Spot};
+ghost use Rattle.tp_stn_undo.specs.declared.states.PointState.{PointState};
 ghost use Rattle.tp_stn_undo.specs.declared.links.Link.{Link};
 ghost use Rattle.tp_stn_undo.specs.Saved.{restored};
 ghost use Rattle.tp_stn_undo.specs.Marks.{past_of};
@@ -14,14 +14,14 @@ use crate::marks::LiveMark;
 pub(crate) fn save_changes(marks: &[LiveMark], changes: &mut Changes)
     requires ready { CanSave marks.now changes.old }
     ensures stack { (count edges : ℕ) → AreKnown count changes.old.entries
-        → IsStack marks.now changes.old.older count edges changes.old.room
-        → IsStack marks.now changes.new.older count edges changes.old.room }
-    ensures past { (spots : List Spot) (caps : List ℕ) (links : List Link) (edges : ℕ)
-        → IsStack marks.now changes.old.older (length spots) edges changes.old.room
-        → past_of marks.now changes.new.older spots caps links
-        ≡ past_of marks.now changes.old.older (restored changes.old.entries spots) caps links }
+        → IsStack marks.now changes.old.older count edges changes.old.capacity
+        → IsStack marks.now changes.new.older count edges changes.old.capacity }
+    ensures past { (states : List PointState) (caps : List ℕ) (links : List Link) (edges : ℕ)
+        → IsStack marks.now changes.old.older (length states) edges changes.old.capacity
+        → past_of marks.now changes.new.older states caps links
+        ≡ past_of marks.now changes.old.older (restored changes.old.entries states) caps links }
     ensures none { changes.new.entries ≡ [] }
-    ensures room { changes.new.room ≡ changes.old.room }
+    ensures capacity { changes.new.capacity ≡ changes.old.capacity }
     ensures most { changes.new.most ≡ changes.old.most }
 {
     match marks.last() {

@@ -5,16 +5,16 @@ ghost use Rattle.tp_base.specs.declared.edges.Edge.{Edge};
 ghost use Rattle.tp_base.specs.Net.{Keeps};
 ghost use Rattle.tp_base.specs.Grows.{IsKnown, IsSupported, PassesCap, AreWithin, cause_of};
 ghost use Rattle.tp_base.specs.Kept.{net_of, KeptRefutes};
-ghost use Rattle.tp_stn_undo.specs.Spots.{lows_of, times_of, edges_of, causes_of};
+ghost use Rattle.tp_stn_undo.specs.States.{lows_of, times_of, edges_of, causes_of};
 ghost use Rattle.tp_stn_undo.specs.Marks.{AreLinks};
 ghost use Rattle.tp_stn_undo.specs.Flags.{AreIdle, AreBelow, IsSameSave};
-ghost use Rattle.tp_stn_undo.specs.Spreading.{AreNumbered, AsksMore, AsksFor, SpotsRise, LeadsBack, KeptFrom, IsMet, AreKept, Reached, weight};
+ghost use Rattle.tp_stn_undo.specs.Spreading.{AreNumbered, AsksMore, AsksFor, StatesRise, LeadsBack, KeptFrom, IsMet, AreKept, Reached, weight};
 ghost use Rattle.tp_stn_undo.specs.Tracing.{AreZeros};
-ghost use Rattle.tp_stn_undo.specs.Working.{HasWorkingRoom, KeepsSizes};
+ghost use Rattle.tp_stn_undo.specs.Working.{HasWorkingCapacity, KeepsSizes};
 
 use crate::changes::Changes;
 use crate::links::Link;
-use crate::spots::Spot;
+use crate::states::PointState;
 use crate::tracing::trace_causes;
 use crate::waiting::Waiting;
 use crate::working::Working;
@@ -42,50 +42,50 @@ fn raise_along(
     caps: &[u32],
     links: &[Link],
     pull: Pull,
-    spots: &mut [Spot],
+    states: &mut [PointState],
     waiting: &mut Waiting,
     changes: &mut Changes,
 ) -> Result<(), PointId>
     requires some { 0 < pull.number }
     requires number { pull.number ≤ length links.now }
-    requires known { All (IsKnown (length spots.old)) (edges_of links.now) }
-    requires more { AsksMore (edges_of links.now) pull.number (slice_index (times_of spots.old)) }
-    requires reach { AsksFor (edges_of links.now) pull.number (slice_index (times_of spots.old))
+    requires known { All (IsKnown (length states.old)) (edges_of links.now) }
+    requires more { AsksMore (edges_of links.now) pull.number (slice_index (times_of states.old)) }
+    requires reach { AsksFor (edges_of links.now) pull.number (slice_index (times_of states.old))
         pull.reach }
-    requires caps { length caps.now ≡ length spots.old }
-    requires below { AreWithin caps.now (times_of spots.old) }
-    requires waits { length spots.old ≤ length waiting.old.flags }
-    requires room { length spots.old ≤ changes.old.room }
-    ensures back { LeadsBack links.now spots.old spots.new changes.old.entries changes.new.entries }
-    ensures rises { OnOk result (SpotsRise links.now spots.old spots.new) }
-    ensures below { AreWithin caps.now (times_of spots.new) }
+    requires caps { length caps.now ≡ length states.old }
+    requires below { AreWithin caps.now (times_of states.old) }
+    requires waits { length states.old ≤ length waiting.old.flags }
+    requires capacity { length states.old ≤ changes.old.capacity }
+    ensures back { LeadsBack links.now states.old states.new changes.old.entries changes.new.entries }
+    ensures rises { OnOk result (StatesRise links.now states.old states.new) }
+    ensures below { AreWithin caps.now (times_of states.new) }
     ensures waits { length waiting.new.flags ≡ length waiting.old.flags }
-    ensures known { AreBelow (length spots.old) waiting.old.points
-        → AreBelow (length spots.old) waiting.new.points }
+    ensures known { AreBelow (length states.old) waiting.old.points
+        → AreBelow (length states.old) waiting.new.points }
     ensures same { IsSameSave changes.old changes.new }
     ensures kept { OnOk result ((edges : List Edge) (point left : ℕ)
-        → KeptFrom edges (slice_index (times_of spots.old)) waiting.old.flags point left
-        → KeptFrom edges (slice_index (times_of spots.new)) waiting.new.flags point left) }
-    ensures met { OnOk result (IsMet (edges_of links.now) (slice_index (times_of spots.new))
+        → KeptFrom edges (slice_index (times_of states.old)) waiting.old.flags point left
+        → KeptFrom edges (slice_index (times_of states.new)) waiting.new.flags point left) }
+    ensures met { OnOk result (IsMet (edges_of links.now) (slice_index (times_of states.new))
         waiting.new.flags (pull.number - 1)) }
     ensures less { OnOk result
-        (weight caps.now spots.new waiting.new ≤ weight caps.now spots.old waiting.old) }
-    ensures late { IfErr result (λ p. PassesCap caps.now (edges_of links.now) (times_of spots.old)
-        (causes_of (edges_of links.now) spots.old) (causes_of (edges_of links.now) spots.new) p.0) }
+        (weight caps.now states.new waiting.new ≤ weight caps.now states.old waiting.old) }
+    ensures late { IfErr result (λ p. PassesCap caps.now (edges_of links.now) (times_of states.old)
+        (causes_of (edges_of links.now) states.old) (causes_of (edges_of links.now) states.new) p.0) }
 {
     let end = links[pull.number as usize - 1].edge.to;
     let to = end.0 as usize;
-    changes.note(end, &spots[to]);
+    changes.note(end, &states[to]);
     if pull.reach > i64::from(caps[to]) {
-        spots[to] = Spot {
-            low: spots[to].low,
-            time: spots[to].time,
+        states[to] = PointState {
+            low: states[to].low,
+            time: states[to].time,
             cause: pull.number,
         };
         return Err(end);
     }
-    spots[to] = Spot {
-        low: spots[to].low,
+    states[to] = PointState {
+        low: states[to].low,
         time: pull.reach as u32,
         cause: pull.number,
     };
@@ -101,40 +101,40 @@ pub(crate) fn follow(
     links: &[Link],
     pull: Pull,
     watched: PointId,
-    spots: &mut [Spot],
+    states: &mut [PointState],
     working: &mut Working,
 ) -> Result<(), Kept>
     requires some { 0 < pull.number }
     requires number { pull.number ≤ length links.now }
-    requires watched { watched.0 < length spots.old }
-    requires known { All (IsKnown (length spots.old)) (edges_of links.now) }
-    requires more { AsksMore (edges_of links.now) pull.number (slice_index (times_of spots.old)) }
-    requires reach { AsksFor (edges_of links.now) pull.number (slice_index (times_of spots.old))
+    requires watched { watched.0 < length states.old }
+    requires known { All (IsKnown (length states.old)) (edges_of links.now) }
+    requires more { AsksMore (edges_of links.now) pull.number (slice_index (times_of states.old)) }
+    requires reach { AsksFor (edges_of links.now) pull.number (slice_index (times_of states.old))
         pull.reach }
-    requires caps { length caps.now ≡ length spots.old }
-    requires below { AreWithin caps.now (times_of spots.old) }
-    requires supported { IsSupported (lows_of spots.old) (edges_of links.now)
-        (slice_index (times_of spots.old)) (cause_of (causes_of (edges_of links.now) spots.old)) }
-    requires numbered { AreNumbered links.now spots.old }
-    requires small { length spots.old < 2 ^ 32 }
-    requires room { HasWorkingRoom (length spots.old) working.old }
+    requires caps { length caps.now ≡ length states.old }
+    requires below { AreWithin caps.now (times_of states.old) }
+    requires supported { IsSupported (lows_of states.old) (edges_of links.now)
+        (slice_index (times_of states.old)) (cause_of (causes_of (edges_of links.now) states.old)) }
+    requires numbered { AreNumbered links.now states.old }
+    requires small { length states.old < 2 ^ 32 }
+    requires capacity { HasWorkingCapacity (length states.old) working.old }
     requires zeros { AreZeros working.old.places.items }
-    ensures back { LeadsBack links.now spots.old spots.new
+    ensures back { LeadsBack links.now states.old states.new
         working.old.changes.entries working.new.changes.entries }
-    ensures rises { OnOk result (SpotsRise links.now spots.old spots.new) }
-    ensures below { AreWithin caps.now (times_of spots.new) }
-    ensures known { AreBelow (length spots.old) working.old.waiting.points
-        → AreBelow (length spots.old) working.new.waiting.points }
+    ensures rises { OnOk result (StatesRise links.now states.old states.new) }
+    ensures below { AreWithin caps.now (times_of states.new) }
+    ensures known { AreBelow (length states.old) working.old.waiting.points
+        → AreBelow (length states.old) working.new.waiting.points }
     ensures kept { OnOk result ((edges : List Edge) (point left : ℕ)
-        → KeptFrom edges (slice_index (times_of spots.old)) working.old.waiting.flags point left
-        → KeptFrom edges (slice_index (times_of spots.new))
+        → KeptFrom edges (slice_index (times_of states.old)) working.old.waiting.flags point left
+        → KeptFrom edges (slice_index (times_of states.new))
         working.new.waiting.flags point left) }
-    ensures met { OnOk result (IsMet (edges_of links.now) (slice_index (times_of spots.new))
+    ensures met { OnOk result (IsMet (edges_of links.now) (slice_index (times_of states.new))
         working.new.waiting.flags (pull.number - 1)) }
-    ensures less { OnOk result (weight caps.now spots.new working.new.waiting
-        ≤ weight caps.now spots.old working.old.waiting) }
+    ensures less { OnOk result (weight caps.now states.new working.new.waiting
+        ≤ weight caps.now states.old working.old.waiting) }
     ensures refuted { IfErr result (λ kept. KeptRefutes
-        (net_of (lows_of spots.old) caps.now (edges_of links.now)) kept working.new.path.items) }
+        (net_of (lows_of states.old) caps.now (edges_of links.now)) kept working.new.path.items) }
     ensures sizes { KeepsSizes working.old working.new }
     ensures zeros { AreZeros working.new.places.items }
 {
@@ -142,14 +142,14 @@ pub(crate) fn follow(
         caps,
         links,
         pull,
-        spots,
+        states,
         &mut working.waiting,
         &mut working.changes,
     ) {
         Ok(()) => {
             if links[pull.number as usize - 1].edge.to.0 == watched.0 {
                 if trace_causes(
-                    spots,
+                    states,
                     links,
                     watched,
                     &mut working.path,
@@ -163,7 +163,7 @@ pub(crate) fn follow(
             Ok(())
         }
         Err(point) => match trace_causes(
-            spots,
+            states,
             links,
             point,
             &mut working.path,
@@ -181,34 +181,34 @@ pub(crate) fn spread(
     links: &[Link],
     heads: &[u32],
     start: Start,
-    spots: &mut [Spot],
+    states: &mut [PointState],
     working: &mut Working,
 ) -> Result<(), Kept>
-    requires heads { AreLinks links.now heads.now (length spots.old) }
-    requires watched { start.watched.0 < length spots.old }
-    requires known { All (IsKnown (length spots.old)) (edges_of links.now) }
-    requires caps { length caps.now ≡ length spots.old }
-    requires below { AreWithin caps.now (times_of spots.old) }
-    requires supported { IsSupported (lows_of spots.old) (edges_of links.now)
-        (slice_index (times_of spots.old)) (cause_of (causes_of (edges_of links.now) spots.old)) }
-    requires numbered { AreNumbered links.now spots.old }
-    requires small { length spots.old < 2 ^ 32 }
-    requires room { HasWorkingRoom (length spots.old) working.old }
+    requires heads { AreLinks links.now heads.now (length states.old) }
+    requires watched { start.watched.0 < length states.old }
+    requires known { All (IsKnown (length states.old)) (edges_of links.now) }
+    requires caps { length caps.now ≡ length states.old }
+    requires below { AreWithin caps.now (times_of states.old) }
+    requires supported { IsSupported (lows_of states.old) (edges_of links.now)
+        (slice_index (times_of states.old)) (cause_of (causes_of (edges_of links.now) states.old)) }
+    requires numbered { AreNumbered links.now states.old }
+    requires small { length states.old < 2 ^ 32 }
+    requires capacity { HasWorkingCapacity (length states.old) working.old }
     requires zeros { AreZeros working.old.places.items }
-    requires waiting { AreBelow (length spots.old) working.old.waiting.points }
+    requires waiting { AreBelow (length states.old) working.old.waiting.points }
     requires reached { Reached links.now start.watched.0 start.first }
-    requires kept { KeptFrom (edges_of links.now) (slice_index (times_of spots.old))
+    requires kept { KeptFrom (edges_of links.now) (slice_index (times_of states.old))
         working.old.waiting.flags start.watched.0 start.first }
-    ensures back { LeadsBack links.now spots.old spots.new
+    ensures back { LeadsBack links.now states.old states.new
         working.old.changes.entries working.new.changes.entries }
-    ensures rises { OnOk result (SpotsRise links.now spots.old spots.new) }
-    ensures below { AreWithin caps.now (times_of spots.new) }
+    ensures rises { OnOk result (StatesRise links.now states.old states.new) }
+    ensures below { AreWithin caps.now (times_of states.new) }
     ensures kept { OnOk result
-        (All (Keeps (slice_index (times_of spots.new))) (edges_of links.now)) }
+        (All (Keeps (slice_index (times_of states.new))) (edges_of links.now)) }
     ensures idle { OnOk result (AreIdle working.new.waiting.flags) }
     ensures none { OnOk result (working.new.waiting.points ≡ []) }
     ensures refuted { IfErr result (λ kept. KeptRefutes
-        (net_of (lows_of spots.old) caps.now (edges_of links.now)) kept working.new.path.items) }
+        (net_of (lows_of states.old) caps.now (edges_of links.now)) kept working.new.path.items) }
     ensures sizes { KeepsSizes working.old working.new }
     ensures zeros { AreZeros working.new.places.items }
 {
@@ -217,13 +217,13 @@ pub(crate) fn spread(
     'points: loop {
         'edges: while left > 0 {
             let link = &links[left as usize - 1];
-            let reach = i64::from(spots[point as usize].time) + link.edge.weight;
-            if reach > i64::from(spots[link.edge.to.0 as usize].time) {
+            let reach = i64::from(states[point as usize].time) + link.edge.weight;
+            if reach > i64::from(states[link.edge.to.0 as usize].time) {
                 let pull = Pull {
                     number: left,
                     reach,
                 };
-                match follow(caps, links, pull, start.watched, spots, working) {
+                match follow(caps, links, pull, start.watched, states, working) {
                     Ok(()) => {}
                     Err(kept) => return Err(kept),
                 }
@@ -246,46 +246,46 @@ pub(crate) fn settle(
     links: &[Link],
     heads: &[u32],
     number: u32,
-    spots: &mut [Spot],
+    states: &mut [PointState],
     working: &mut Working,
 ) -> Result<(), Kept>
-    requires heads { AreLinks links.now heads.now (length spots.old) }
+    requires heads { AreLinks links.now heads.now (length states.old) }
     requires some { 0 < number }
     requires newest { number ≡ length links.now }
-    requires known { All (IsKnown (length spots.old)) (edges_of links.now) }
-    requires caps { length caps.now ≡ length spots.old }
-    requires below { AreWithin caps.now (times_of spots.old) }
-    requires supported { IsSupported (lows_of spots.old) (edges_of links.now)
-        (slice_index (times_of spots.old)) (cause_of (causes_of (edges_of links.now) spots.old)) }
-    requires numbered { AreNumbered links.now spots.old }
-    requires small { length spots.old < 2 ^ 32 }
-    requires room { HasWorkingRoom (length spots.old) working.old }
+    requires known { All (IsKnown (length states.old)) (edges_of links.now) }
+    requires caps { length caps.now ≡ length states.old }
+    requires below { AreWithin caps.now (times_of states.old) }
+    requires supported { IsSupported (lows_of states.old) (edges_of links.now)
+        (slice_index (times_of states.old)) (cause_of (causes_of (edges_of links.now) states.old)) }
+    requires numbered { AreNumbered links.now states.old }
+    requires small { length states.old < 2 ^ 32 }
+    requires capacity { HasWorkingCapacity (length states.old) working.old }
     requires zeros { AreZeros working.old.places.items }
     requires idle { AreIdle working.old.waiting.flags }
     requires none { working.old.waiting.points ≡ [] }
     requires kept { AreKept (take (number - 1) (edges_of links.now))
-        (slice_index (times_of spots.old)) working.old.waiting.flags }
-    ensures back { LeadsBack links.now spots.old spots.new
+        (slice_index (times_of states.old)) working.old.waiting.flags }
+    ensures back { LeadsBack links.now states.old states.new
         working.old.changes.entries working.new.changes.entries }
-    ensures rises { OnOk result (SpotsRise links.now spots.old spots.new) }
-    ensures below { AreWithin caps.now (times_of spots.new) }
+    ensures rises { OnOk result (StatesRise links.now states.old states.new) }
+    ensures below { AreWithin caps.now (times_of states.new) }
     ensures kept { OnOk result
-        (All (Keeps (slice_index (times_of spots.new))) (edges_of links.now)) }
+        (All (Keeps (slice_index (times_of states.new))) (edges_of links.now)) }
     ensures idle { OnOk result (AreIdle working.new.waiting.flags) }
     ensures none { OnOk result (working.new.waiting.points ≡ []) }
     ensures refuted { IfErr result (λ kept. KeptRefutes
-        (net_of (lows_of spots.old) caps.now (edges_of links.now)) kept working.new.path.items) }
+        (net_of (lows_of states.old) caps.now (edges_of links.now)) kept working.new.path.items) }
     ensures sizes { KeepsSizes working.old working.new }
     ensures zeros { AreZeros working.new.places.items }
 {
     let edge = links[number as usize - 1].edge;
-    let reach = i64::from(spots[edge.from.0 as usize].time) + edge.weight;
-    if reach <= i64::from(spots[edge.to.0 as usize].time) {
+    let reach = i64::from(states[edge.from.0 as usize].time) + edge.weight;
+    if reach <= i64::from(states[edge.to.0 as usize].time) {
         return Ok(());
     }
     let start = Start {
         watched: edge.from,
         first: number,
     };
-    spread(caps, links, heads, start, spots, working)
+    spread(caps, links, heads, start, states, working)
 }

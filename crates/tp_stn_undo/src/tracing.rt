@@ -1,13 +1,13 @@
 //! Walking back along causes.
 ghost use Rattle.std.specs.Prelude.{◌≡◌, ℕ, ◌-◌, ◌<◌, ◌≤◌, ◌^◌, List, [], length, take, reverse, slice_index, IfSome, IfNone, IfOk, OnErr, IsErr, ◌↔◌, vec_capacity};
 ghost use Rattle.tp_base.specs.Refute.{AreCauses, IsCauseChain, IsCauseCircle};
-ghost use Rattle.tp_stn_undo.specs.Spots.{edges_of, causes_of};
+ghost use Rattle.tp_stn_undo.specs.States.{edges_of, causes_of};
 ghost use Rattle.tp_stn_undo.specs.Spreading.{AreNumbered};
 ghost use Rattle.tp_stn_undo.specs.Tracing.{AreZeros, MarkedWays, IsTraced};
 ghost use Rattle.tp_stn_undo.specs.Chains.{HasMoreCauses, NeverRound};
 
 use crate::links::Link;
-use crate::spots::Spot;
+use crate::states::PointState;
 use tp_base::{Edge, Full, PointId, Trail};
 
 /// Writes the causes that lead to a point, the first first. Gives the point that they begin at, which has none; or
@@ -15,28 +15,28 @@ use tp_base::{Edge, Full, PointId, Trail};
 /// the path alone.
 #[inline(never)]
 pub(crate) fn trace_causes(
-    spots: &[Spot],
+    states: &[PointState],
     links: &[Link],
     from: PointId,
     path: &mut Vec<Edge>,
     places: &mut [u32],
 ) -> Option<PointId>
-    requires known { from.0 < length spots.now }
-    requires causes { AreCauses (causes_of (edges_of links.now) spots.now) }
-    requires small { length spots.now < 2 ^ 32 }
-    requires numbered { AreNumbered links.now spots.now }
-    requires path_room { length spots.now ≤ vec_capacity path.old }
-    requires places_room { length spots.now ≤ length places.old }
+    requires known { from.0 < length states.now }
+    requires causes { AreCauses (causes_of (edges_of links.now) states.now) }
+    requires small { length states.now < 2 ^ 32 }
+    requires numbered { AreNumbered links.now states.now }
+    requires path_capacity { length states.now ≤ vec_capacity path.old }
+    requires places_capacity { length states.now ≤ length places.old }
     requires zeros { AreZeros places.old }
     ensures chain { IfSome result (λ first.
-        IsCauseChain (causes_of (edges_of links.now) spots.now) first.0 path.new.items from.0) }
+        IsCauseChain (causes_of (edges_of links.now) states.now) first.0 path.new.items from.0) }
     ensures circle { IfNone result
-        (IsCauseCircle (causes_of (edges_of links.now) spots.now) path.new.items) }
+        (IsCauseCircle (causes_of (edges_of links.now) states.now) path.new.items) }
     ensures path_kept { vec_capacity path.old ≤ vec_capacity path.new }
     ensures zeros { AreZeros places.new }
 {
     path.clear();
-    let (end, cut) = walk_back(spots, links, from, path, places);
+    let (end, cut) = walk_back(states, links, from, path, places);
     forget_places(path, places);
     path.reverse();
     path.truncate(path.len() - cut as usize);
@@ -46,22 +46,22 @@ pub(crate) fn trace_causes(
 /// Walks from a point back along the causes, and writes them. Gives the point that they begin at; or `None` where they
 /// lead round, and then how many were passed before that.
 fn walk_back(
-    spots: &[Spot],
+    states: &[PointState],
     links: &[Link],
     from: PointId,
     path: &mut Vec<Edge>,
     places: &mut [u32],
 ) -> (Option<PointId>, u32)
-    requires known { from.0 < length spots.now }
-    requires causes { AreCauses (causes_of (edges_of links.now) spots.now) }
-    requires small { length spots.now < 2 ^ 32 }
-    requires numbered { AreNumbered links.now spots.now }
-    requires path_room { length spots.now ≤ vec_capacity path.old }
-    requires places_room { length spots.now ≤ length places.old }
+    requires known { from.0 < length states.now }
+    requires causes { AreCauses (causes_of (edges_of links.now) states.now) }
+    requires small { length states.now < 2 ^ 32 }
+    requires numbered { AreNumbered links.now states.now }
+    requires path_capacity { length states.now ≤ vec_capacity path.old }
+    requires places_capacity { length states.now ≤ length places.old }
     requires zeros { AreZeros places.old }
     requires empty { path.old.items ≡ [] }
     ensures marked { MarkedWays places.new path.new.items }
-    ensures traced { IsTraced (causes_of (edges_of links.now) spots.now) from.0
+    ensures traced { IsTraced (causes_of (edges_of links.now) states.now) from.0
         path.new.items result.0 result.1 }
     ensures path_kept { vec_capacity path.old ≤ vec_capacity path.new }
 {
@@ -71,7 +71,7 @@ fn walk_back(
         if place > 0 {
             return (None, place - 1);
         }
-        let cause = spots[at.0 as usize].cause;
+        let cause = states[at.0 as usize].cause;
         if cause == 0 {
             return (Some(at), 0);
         }
@@ -95,26 +95,26 @@ fn forget_places(path: &[Edge], places: &mut [u32])
 /// Writes the causes that lead to a point, the first first, where they never lead round. Gives the point that they begin
 /// at, which has none.
 pub(crate) fn write_causes(
-    spots: &[Spot],
+    states: &[PointState],
     links: &[Link],
     from: PointId,
     into: &mut Trail<Edge>,
 ) -> Result<PointId, Full>
-    requires known { from.0 < length spots.now }
-    requires numbered { AreNumbered links.now spots.now }
-    requires causes { AreCauses (causes_of (edges_of links.now) spots.now) }
-    requires ends { NeverRound (causes_of (edges_of links.now) spots.now) }
+    requires known { from.0 < length states.now }
+    requires numbered { AreNumbered links.now states.now }
+    requires causes { AreCauses (causes_of (edges_of links.now) states.now) }
+    requires ends { NeverRound (causes_of (edges_of links.now) states.now) }
     requires empty { into.old.items ≡ [] }
     ensures chain { IfOk result (λ first.
-        IsCauseChain (causes_of (edges_of links.now) spots.now) first.0 into.new.items from.0) }
+        IsCauseChain (causes_of (edges_of links.now) states.now) first.0 into.new.items from.0) }
     ensures full { IsErr result
-        ↔ HasMoreCauses (causes_of (edges_of links.now) spots.now) from.0 into.old.room }
+        ↔ HasMoreCauses (causes_of (edges_of links.now) states.now) from.0 into.old.capacity }
     ensures none { OnErr result (into.new.items ≡ []) }
-    ensures room { into.new.room ≡ into.old.room }
+    ensures capacity { into.new.capacity ≡ into.old.capacity }
 {
     let mut at = from;
     'back: loop {
-        let cause = spots[at.0 as usize].cause;
+        let cause = states[at.0 as usize].cause;
         if cause == 0 {
             into.reverse();
             return Ok(at);

@@ -9,12 +9,12 @@ use crate::linking::unlink;
 use crate::links::Link;
 use crate::live_net::LiveNet;
 use crate::marks::LiveMark;
-use crate::spots::Spot;
+use crate::states::PointState;
 use tp_base::{Mark, Undo};
 
 /// Takes the lists back to the newest mark.
 pub(crate) fn restore(
-    spots: &mut Vec<Spot>,
+    states: &mut Vec<PointState>,
     caps: &mut Vec<u32>,
     links: &mut Vec<Link>,
     heads: &mut Vec<u32>,
@@ -22,14 +22,14 @@ pub(crate) fn restore(
     changes: &mut Changes,
 )
     requires some { 0 < length marks.old.items }
-    requires stack { (edges room : ℕ)
-        × IsStack marks.old.items changes.old.older (length spots.old.items) edges room }
+    requires stack { (edges capacity : ℕ)
+        × IsStack marks.old.items changes.old.older (length states.old.items) edges capacity }
     requires rest { changes.old.entries ≡ [] }
     requires edges { IsAt marks.old.items (length marks.old.items - 1)
         (λ m. m.edges ≤ length links.old.items) }
-    ensures spots { IsAt marks.old.items (length marks.old.items - 1) (λ m.
-        spots.new.items
-        ≡ restored (drop m.saved changes.old.older) (take m.points spots.old.items)) }
+    ensures states { IsAt marks.old.items (length marks.old.items - 1) (λ m.
+        states.new.items
+        ≡ restored (drop m.saved changes.old.older) (take m.points states.old.items)) }
     ensures caps { IsAt marks.old.items (length marks.old.items - 1) (λ m.
         caps.new.items ≡ take m.points caps.old.items) }
     ensures links { IsAt marks.old.items (length marks.old.items - 1) (λ m.
@@ -41,18 +41,18 @@ pub(crate) fn restore(
         changes.new.older ≡ take m.saved changes.old.older) }
     ensures marks { marks.new.items ≡ take (length marks.old.items - 1) marks.old.items }
     ensures rest { changes.new.entries ≡ [] }
-    ensures room { changes.new.room ≡ changes.old.room }
+    ensures capacity { changes.new.capacity ≡ changes.old.capacity }
     ensures most { changes.new.most ≡ changes.old.most }
-    ensures spots_room { vec_capacity spots.new ≡ vec_capacity spots.old }
-    ensures caps_room { vec_capacity caps.new ≡ vec_capacity caps.old }
-    ensures links_room { vec_capacity links.new ≡ vec_capacity links.old }
-    ensures heads_room { vec_capacity heads.new ≡ vec_capacity heads.old }
-    ensures marks_room { vec_capacity marks.new ≡ vec_capacity marks.old }
+    ensures states_capacity { vec_capacity states.new ≡ vec_capacity states.old }
+    ensures caps_capacity { vec_capacity caps.new ≡ vec_capacity caps.old }
+    ensures links_capacity { vec_capacity links.new ≡ vec_capacity links.old }
+    ensures heads_capacity { vec_capacity heads.new ≡ vec_capacity heads.old }
+    ensures marks_capacity { vec_capacity marks.new ≡ vec_capacity marks.old }
 {
     let place = marks.len() - 1;
     let at = marks[place];
-    changes.back_to(at.saved as usize, spots);
-    spots.truncate(at.points as usize);
+    changes.back_to(at.saved as usize, states);
+    states.truncate(at.points as usize);
     heads.truncate(at.points as usize);
     caps.truncate(at.points as usize);
     marks.truncate(place);
@@ -62,15 +62,15 @@ pub(crate) fn restore(
 impl Undo for LiveNet {
     ghost use Rattle.std.specs.Prelude.{ℕ, List, ◌∷◌, ◌++◌};
     ghost use Rattle.tp_base.specs.Net.{Net};
-    ghost use Rattle.tp_stn_undo.specs.LiveState.{LiveState, LiveAside, aside_of};
+    ghost use Rattle.tp_stn_undo.specs.LiveState.{LiveState, LiveUntouched, untouched_of};
 
     ghost Content = { Net };
 
-    ghost Aside = { LiveAside };
+    ghost Untouched = { LiveUntouched };
 
     ghost content = { λ n. n.net };
 
-    ghost aside = { aside_of };
+    ghost untouched = { untouched_of };
 
     ghost past = { λ n. n.past };
 
@@ -83,13 +83,11 @@ impl Undo for LiveNet {
     fn mark(&mut self) -> Mark {
         let number = self.marks.len() as u32;
         let mark = LiveMark {
-            points: self.spots.len() as u32,
+            points: self.states.len() as u32,
             edges: self.links.len() as u32,
             saved: self.working.changes.saved(),
         };
-        let Ok(()) = self.marks.push(mark) else {
-            unreachable!()
-        };
+        self.marks.push_reserved(mark);
         Mark(number)
     }
 

@@ -18,24 +18,24 @@ pub(crate) struct Working {
 }
 
 impl Working {
-    ghost use Rattle.tp_stn_undo.specs.Working.{HasWorkingRoom, AtRest};
+    ghost use Rattle.tp_stn_undo.specs.Working.{HasWorkingCapacity, AtRest};
 
     pub(crate) fn new(alloc: Global, points: u32, marks: u32) -> Result<Working, AllocError>
-        ensures room { IfOk result (λ w. HasWorkingRoom points w) }
-        ensures noted { IfOk result (λ w. w.changes.room ≡ points) }
+        ensures capacity { IfOk result (λ w. HasWorkingCapacity points w) }
+        ensures noted { IfOk result (λ w. w.changes.capacity ≡ points) }
         ensures most { IfOk result (λ w. points * (marks + 1) ≤ w.changes.most) }
         ensures older { IfOk result (λ w. w.changes.older ≡ []) }
         ensures rest { IfOk result (λ w. AtRest w) }
     {
-        let room = points as usize;
-        let mut places = Vec::with_capacity(alloc, room)?;
-        let Ok(()) = places.resize(room, 0) else {
+        let capacity = points as usize;
+        let mut places = Vec::with_capacity(alloc, capacity)?;
+        let Ok(()) = places.resize(capacity, 0) else {
             unreachable!()
         };
         Ok(Working {
-            waiting: Waiting::new(alloc, room)?,
+            waiting: Waiting::new(alloc, capacity)?,
             changes: Changes::new(alloc, points, marks)?,
-            path: Vec::with_capacity(alloc, room)?,
+            path: Vec::with_capacity(alloc, capacity)?,
             places,
         })
     }

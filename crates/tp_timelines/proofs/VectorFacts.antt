@@ -6,7 +6,7 @@ use Rattle.std.specs.List.{insert, remove}
 use Rattle.std.specs.Prelude.{Vec, vec_capacity}
 use Rattle.std.specs.declared.alloc.Global.{Global}
 use Rattle.tp_timelines.specs.declared.inserts.Insert.{Insert}
-use Rattle.tp_timelines.specs.Orders.{numbers_of, order_on, HaveRoom}
+use Rattle.tp_timelines.specs.Orders.{numbers_of, order_on, HaveCapacity}
 use Rattle.tp_timelines.specs.Inserts.{without}
 
 pub length-numbers : (vs : List (Vec ℕ Global)) → length (numbers_of vs) ≡ length vs
@@ -19,8 +19,8 @@ module _ (vs : List (Vec ℕ Global)) (r : ℕ) (v : Vec ℕ Global) (known : r 
   pub numbers-insert : (w : Vec ℕ Global) (place x : ℕ) → w.items ≡ insert v.items place x → numbers_of (set vs r w) ≡ set (numbers_of vs) r (insert (order_on (numbers_of vs) r) place x)
   numbers-insert w place x e = map-set (λ (v : Vec ℕ Global). v.items) vs r w ∙ ap (set (numbers_of vs) r) (e ∙ ap (λ xs. insert xs place x) (sym order_at))
 
-  pub HaveRoom-set : (w : Vec ℕ Global) (holds : ℕ) → vec_capacity v ≤ vec_capacity w → HaveRoom holds vs → HaveRoom holds (set vs r w)
-  HaveRoom-set w holds h all =
+  pub HaveCapacity-set : (w : Vec ℕ Global) (holds : ℕ) → vec_capacity v ≤ vec_capacity w → HaveCapacity holds vs → HaveCapacity holds (set vs r w)
+  HaveCapacity-set w holds h all =
       let k = all r v known in
       let e = ap (λ v. vec_capacity v) read in
       All-set (λ v. holds ≤ vec_capacity v) vs r w (omega arith) all

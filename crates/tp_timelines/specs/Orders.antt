@@ -7,16 +7,16 @@ use Rattle.std.specs.List.{All}
 pub record Orders : Type 0 where
   pub orders : List (List ℕ)
   pub past : List (List (List ℕ))
-  pub hold_room : ℕ
+  pub hold_capacity : ℕ
   pub max_marks : ℕ
 
 -- what marks leave alone
 pub record Sizes : Type 0 where
   pub resources : ℕ
-  pub hold_room : ℕ
+  pub hold_capacity : ℕ
 
 abbrev pub sizes_of : Orders → Sizes
-sizes_of o = record { resources = length o.orders; hold_room = o.hold_room }
+sizes_of o = record { resources = length o.orders; hold_capacity = o.hold_capacity }
 
 abbrev pub order_on : List (List ℕ) → ℕ → List ℕ
 order_on orders resource = slice_index_or orders resource []
@@ -37,5 +37,5 @@ abbrev pub numbers_of : List (Vec ℕ Global) → List (List ℕ)
 numbers_of orders = map (λ v. v.items) orders
 
 -- each vector has room for so many numbers
-abbrev pub HaveRoom : ℕ → List (Vec ℕ Global) → Type 0
-HaveRoom room orders = All (λ v. room ≤ vec_capacity v) orders
+abbrev pub HaveCapacity : ℕ → List (Vec ℕ Global) → Type 0
+HaveCapacity capacity orders = All (λ v. capacity ≤ vec_capacity v) orders

@@ -1,7 +1,7 @@
 //! Numbers put into orders, and taken out.
 ghost use Rattle.std.specs.Prelude.{◌≡◌, ℕ, ◌<◌, ◌≤◌, [], length, take, drop, replicate, IfOk, vec_capacity};
 ghost use Rattle.std.specs.List.{All};
-ghost use Rattle.tp_timelines.specs.Orders.{numbers_of, total, HaveRoom};
+ghost use Rattle.tp_timelines.specs.Orders.{numbers_of, total, HaveCapacity};
 ghost use Rattle.tp_timelines.specs.Inserts.{taken_back, StandAt};
 
 use std::alloc::{AllocError, Global};
@@ -21,7 +21,7 @@ pub(crate) fn empty_orders(
     holds: u32,
 ) -> Result<Vec<Vec<u32>>, AllocError>
     ensures numbers { IfOk result (λ orders. numbers_of orders.items ≡ replicate resources []) }
-    ensures room { IfOk result (λ orders. HaveRoom holds orders.items) }
+    ensures capacity { IfOk result (λ orders. HaveCapacity holds orders.items) }
 {
     let count = resources as usize;
     let mut orders = Vec::with_capacity(alloc, count)?;
@@ -34,8 +34,8 @@ pub(crate) fn empty_orders(
 /// Takes all numbers out.
 pub(crate) fn empty_all(orders: &mut Vec<Vec<u32>>)
     ensures numbers { numbers_of orders.new.items ≡ replicate (length orders.old.items) [] }
-    ensures room { (holds : ℕ) → HaveRoom holds orders.old.items
-        → HaveRoom holds orders.new.items }
+    ensures capacity { (holds : ℕ) → HaveCapacity holds orders.old.items
+        → HaveCapacity holds orders.new.items }
 {
     'orders: for at in 0..orders.len() {
         orders[at].clear();
@@ -52,8 +52,8 @@ pub(crate) fn take_back(orders: &mut Vec<Vec<u32>>, inserted: &mut Vec<Insert>, 
     ensures stand { StandAt (numbers_of orders.new.items) inserted.new.items }
     ensures all { total (numbers_of orders.old.items) ≡ length inserted.old.items
         → total (numbers_of orders.new.items) ≡ length inserted.new.items }
-    ensures room { (holds : ℕ) → HaveRoom holds orders.old.items
-        → HaveRoom holds orders.new.items }
+    ensures spacious { (holds : ℕ) → HaveCapacity holds orders.old.items
+        → HaveCapacity holds orders.new.items }
     ensures capacity { vec_capacity inserted.new ≡ vec_capacity inserted.old }
 {
     'back: while inserted.len() > to {

@@ -10,15 +10,27 @@ use tp_machine::ResId;
 
 /// The numbers of holds in the order of each resource. Each resource has room for all of them, of which the system hands
 /// over what is used, so that no call after `new` takes memory.
-#[derive(Drop)]
 pub struct Timelines {
     orders: Vec<Vec<u32>>,
     /// What was inserted, the oldest first.
     inserted: Vec<Insert>,
-    hold_room: u32,
+    hold_capacity: u32,
     /// How many inserts there were at each mark.
     marks: Vec<u32>,
     max_marks: u32,
+}
+
+// What becomes of its parts is proved here, once for all who let go of one.
+impl Drop for Timelines {
+    fn drop(self) {
+        let Timelines {
+            orders: _,
+            inserted: _,
+            hold_capacity: _,
+            marks: _,
+            max_marks: _,
+        } = self;
+    }
 }
 
 // Clauses see the orders, those at the marks in force, and the numbers that it was made for.
@@ -38,13 +50,13 @@ impl Timelines {
     pub fn new(alloc: Global, resources: u32, holds: u32, marks: u32) -> Result<Timelines, Memory>
         ensures orders { IfOk result (λ t. t.orders ≡ replicate resources []) }
         ensures past { IfOk result (λ t. t.past ≡ []) }
-        ensures holds { IfOk result (λ t. t.hold_room ≡ holds) }
+        ensures holds { IfOk result (λ t. t.hold_capacity ≡ holds) }
         ensures marks { IfOk result (λ t. t.max_marks ≡ marks) }
     {
         Ok(Timelines {
             orders: empty_orders(alloc, resources, holds)?,
             inserted: Vec::with_capacity(alloc, holds as usize)?,
-            hold_room: holds,
+            hold_capacity: holds,
             marks: Vec::with_capacity(alloc, marks as usize)?,
             max_marks: marks,
         })
@@ -54,7 +66,7 @@ impl Timelines {
     pub fn clear(&mut self)
         ensures orders { self.new.orders ≡ replicate (length self.old.orders) [] }
         ensures past { self.new.past ≡ [] }
-        ensures holds { self.new.hold_room ≡ self.old.hold_room }
+        ensures holds { self.new.hold_capacity ≡ self.old.hold_capacity }
         ensures marks { self.new.max_marks ≡ self.old.max_marks }
     {
         empty_all(&mut self.orders);
@@ -66,7 +78,7 @@ impl Timelines {
     pub fn len(&self, resource: ResId) -> u32
         requires known { resource.0 < length self.now.orders }
         ensures len { result ≡ length (order_on self.now.orders resource.0) }
-        ensures within { result ≤ self.now.hold_room }
+        ensures within { result ≤ self.now.hold_capacity }
     {
         self.orders[resource.0 as usize].len() as u32
     }
@@ -84,16 +96,16 @@ impl Timelines {
     pub fn insert(&mut self, resource: ResId, place: u32, id: u32) -> Result<(), Full>
         requires known { resource.0 < length self.old.orders }
         requires within { place ≤ length (order_on self.old.orders resource.0) }
-        ensures full { IsErr result ↔ (total self.old.orders ≡ self.old.hold_room) }
+        ensures full { IsErr result ↔ (total self.old.orders ≡ self.old.hold_capacity) }
         ensures ok { OnOk result (self.new.orders
             ≡ slice_set self.old.orders resource.0
             (insert (order_on self.old.orders resource.0) place id)) }
         ensures err { OnErr result (self.new.orders ≡ self.old.orders) }
         ensures past { self.new.past ≡ self.old.past }
-        ensures holds { self.new.hold_room ≡ self.old.hold_room }
+        ensures holds { self.new.hold_capacity ≡ self.old.hold_capacity }
         ensures marks { self.new.max_marks ≡ self.old.max_marks }
     {
-        if self.inserted.len() == self.hold_room as usize {
+        if self.inserted.len() == self.hold_capacity as usize {
             return Err(Full);
         }
         let Ok(()) = self.orders[resource.0 as usize].insert(place as usize, id) else {
@@ -131,11 +143,11 @@ impl Undo for Timelines {
 
     ghost Content = { List (List ℕ) };
 
-    ghost Aside = { Sizes };
+    ghost Untouched = { Sizes };
 
     ghost content = { λ t. t.orders };
 
-    ghost aside = { sizes_of };
+    ghost untouched = { sizes_of };
 
     ghost past = { λ t. t.past };
 

@@ -7,5 +7,5 @@ pub returns-in-Ok-clause-plan_on : goal.returns-in-Ok-clause-plan_on
 returns-in-Ok-clause-plan_on g c =
     let asked = c.in_ok-ask.ensures in
     subst (λ now. CanPlanOn c.args.machine.now now c.ask.new.schedule.plans) asked.now
-    (plan_on-answered (g.P.Planner.spent c.args.planner.now) c.args.machine.now c.in_ok-ask.ask c.args.schedule.now.plans c.ask.new.schedule.plans c.in-Ok.reply asked.new
+    (plan_on-answered (g.P.Planner.rules.spent c.args.planner.now) c.args.machine.now c.in_ok-ask.ask c.args.schedule.now.plans c.ask.new.schedule.plans c.in-Ok.reply asked.new
     (subst (λ now. CanPlanOn c.args.machine.now now c.args.schedule.now.plans) (sym asked.now) c.requires.plan_on) c.in-Ok.ensures.answer)

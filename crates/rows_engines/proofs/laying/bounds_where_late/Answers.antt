@@ -8,7 +8,7 @@ use Rattle.rows_engines.proofs.laying.bounds_where_late.Goals as goal
 
 pub open_action-requires-clause-ready : goal.open_action-requires-clause-ready
 open_action-requires-clause-ready g c =
-    can_lay g.N.Network.net g.N.Undo.content g.N.Undo.past c.args.board.now c.args.machine.now c.args.ask.now c.args.state 0 c.requires.laid (let kept = c.requires.kept in omega arith)
+    can_lay g.N.Network.reading c.args.board.now c.args.machine.now c.args.ask.now c.args.state 0 c.requires.laid (let kept = c.requires.kept in omega arith)
 
 pub place-requires-clause-next : goal.place-requires-clause-next
 place-requires-clause-next g c =

@@ -5,7 +5,7 @@ use Rattle.rows_engines.proofs.laying.tried_at.Goals as goal
 
 pub open_action-requires-clause-ready : goal.open_action-requires-clause-ready
 open_action-requires-clause-ready g c =
-    can_lay g.N.Network.net g.N.Undo.content g.N.Undo.past c.args.board.now c.args.machine.now c.args.ask.now c.args.state 0 c.requires.laid (let kept = c.requires.kept in omega arith)
+    can_lay g.N.Network.reading c.args.board.now c.args.machine.now c.args.ask.now c.args.state 0 c.requires.laid (let kept = c.requires.kept in omega arith)
 
 pub try_place-requires-clause-next : goal.try_place-requires-clause-next
 try_place-requires-clause-next g c =

@@ -4,9 +4,9 @@ use Rattle.rows_engines.proofs.probing.could_take.Goals as goal
 
 pub returns-in-Err-clause-net : goal.returns-in-Err-clause-net
 returns-in-Err-clause-net g c =
-    g.met.N.Network.net_by_content _ _ (last_mark _ _ _ _ _ (c.require.ensures.past ∙ c.mark-mark.ensures.past) c.mark-mark.ensures.number c.undo_to-in-Err.ensures.content)
+    last_mark _ _ _ _ _ (c.require.ensures.past ∙ c.set_mark-mark.ensures.past) c.set_mark-mark.ensures.number c.go_back-in-Err.ensures.net
 
 pub returns-in-Err-clause-no : goal.returns-in-Err-clause-no
 returns-in-Err-clause-no g c _ =
-    let e = g.met.N.Network.net_by_content _ _ c.mark-mark.ensures.content in
+    let e = c.set_mark-mark.ensures.net in
     rw (← e) c.in-Err.ensures.late

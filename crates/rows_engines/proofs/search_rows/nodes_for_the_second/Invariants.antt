@@ -5,5 +5,5 @@ use Rattle.rows_engines.proofs.search_rows.nodes_for_the_second.Given as goal
 abbrev pub invariant-rows : goal.invariant-rows
 invariant-rows g l = record {
   made : IsMadeFor l.board.made_for l.machine;
-  marks : 8 ≤ g.N.Undo.max_marks l.board.net;
+  marks : 8 ≤ g.N.Network.reading.max_marks l.board.net;
 }

@@ -15,7 +15,7 @@ push_reserved-requires c =
     let none = free_at (length c.args.causes.now) c.back.places.items c.back.path.items c.back.at.0 c.index-place.result.now c.back.invariant.marked c.back.invariant.way.known c.index-place.ensures c.if-place-gt0.false in
     let k : length c.back.path.items < length c.args.causes.now = WayBack-short c.args.causes.now c.args.from.0 c.back.at.0 c.back.path.items c.back.invariant.way none in
     let n = c.back.path.ok.0 in
-    let r = c.requires.path_room in
+    let r = c.requires.path_capacity in
     let p = c.back.invariant.path_kept in
     omega arith
 

@@ -9,7 +9,7 @@ pub loop-at-preserved : goal.loop-at-preserved
 loop-at-preserved g c = record {
   times = λ sol l.
       let known = c.requires.known in
-      let e : c.earliest.result ≡ sol (c.args.first.0 - c.loop-at.at) = earliest-is (g.N.Network.net c.args.net.now) sol (c.args.first.0 - c.loop-at.at) c.earliest.result l (omega arith) c.earliest.ensures in
+      let e : c.earliest.result ≡ sol (c.args.first.0 - c.loop-at.at) = earliest-is (g.N.Network.reading.net c.args.net.now) sol (c.args.first.0 - c.loop-at.at) c.earliest.result l (omega arith) c.earliest.ensures in
       let zero : c.loop-at.at ≡ 0 + c.loop-at.at = omega arith in
       c.push.ensures.pushed
       ∙ (λ i. c.loop-at.invariant.times sol l i ++ e i ∷ [])

@@ -6,6 +6,6 @@ use Rattle.tp_placing.proofs.asked.add_back.Given as goal
 
 abbrev pub invariant-loop-at : goal.invariant-loop-at
 invariant-loop-at g l = record {
-  times : (sol : ℕ → ℕ) → IsLeast (g.N.Network.net l.net) sol → l.points ≡ l.fn.points ++ ticks_from (back_from sol l.first.0) 0 l.at;
+  times : (sol : ℕ → ℕ) → IsLeast (g.N.Network.reading.net l.net) sol → l.points ≡ l.fn.points ++ ticks_from (back_from sol l.first.0) 0 l.at;
   count : length l.points ≡ length l.fn.points + l.at;
 }

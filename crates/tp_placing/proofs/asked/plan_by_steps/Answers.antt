@@ -52,10 +52,10 @@ returns-clause-plan g k t x e a =
     let acts = acts-now g c x e many in
     let f : ℕ → ℕ = λ i. settled_ticks c.args.ask.now (total_of c.args.ask.now x.choices) t (kept c.args.ask.now.sheet i) in
     let count = count-of (kept_acts c.args.ask.now.sheet c.args.plans.now) x (kept_of c.args.ask.now) c.args.own.count c.requires.kept many in
-    let starts : c.starts_so_far-points.result ≡ ticks_from (λ i. t (kept c.args.ask.now.sheet i)) 0 (kept_of c.args.ask.now) = c.starts_so_far-points.ensures.times t (least-of_plans (g.N.Network.net c.args.net.now) c.args.plans.now x t a) ∙ ap (λ n. ticks_from (λ i. t (kept c.args.ask.now.sheet i)) 0 n) c.requires.kept in
+    let starts : c.starts_so_far-points.result ≡ ticks_from (λ i. t (kept c.args.ask.now.sheet i)) 0 (kept_of c.args.ask.now) = c.starts_so_far-points.ensures.times t (least-of_plans (g.N.Network.reading.net c.args.net.now) c.args.plans.now x t a) ∙ ap (λ n. ticks_from (λ i. t (kept c.args.ask.now.sheet i)) 0 n) c.requires.kept in
     let points : c.add_back.new.points ≡ ticks_from f 0 (suc (length (kept_acts c.args.ask.now.sheet c.args.plans.now ++ acts_of x.choices))) =
     c.add_back.ensures.times a.solution a.least
     ∙ ap (λ ts. ts ++ ticks_from (back_from a.solution c.args.own.start.0) 0 (suc c.args.own.count)) starts
-    ∙ plan-points (g.N.Network.net c.args.net.now) c.args.plans.now c.args.ask.now x t a c.args.own.start.0 c.args.own.count c.requires.start many
+    ∙ plan-points (g.N.Network.reading.net c.args.net.now) c.args.plans.now c.args.ask.now x t a c.args.own.start.0 c.args.own.count c.requires.start many
     ∙ ap (λ n. ticks_from f 0 (suc n)) (sym count) in
     λ i. record { sheet = c.args.ask.now.sheet; name = c.args.ask.now.name; want = c.args.ask.now.want; goal = c.args.ask.now.goal; kind = Whole; acts = acts i; points = points i; released = released-now g c i }

@@ -39,7 +39,7 @@ pub returns-in-Some-clause-times : goal.returns-in-Some-clause-times
 returns-in-Some-clause-times g c t a =
     let l : c.len.result ≡ length c.index-plans-place.result.acts = c.len.ensures.len ∙ ap (λ (r : Plan). length r.acts) (sym c.index-plans-place.is) in
     c.times_from.ensures.times a.solution a.least
-    ∙ plan-ticks (g.N.Network.net c.args.net.now) c.args.plans.now c.args.firsts.now c.in-Some.place c.index-plans-place.result (record { 0 = 0 }) t c.len.result c.requires.firsts c.in-Some.ensures.within c.index-plans-place.is a (omega arith)
+    ∙ plan-ticks (g.N.Network.reading.net c.args.net.now) c.args.plans.now c.args.firsts.now c.in-Some.place c.index-plans-place.result (record { 0 = 0 }) t c.len.result c.requires.firsts c.in-Some.ensures.within c.index-plans-place.is a (omega arith)
     ∙ (λ i. ticks_from (λ k. t (kept (plan_of-sheet c.args.copy c.args.plans.now c.index-plans-place.result (planned g c) i) k)) 0 (l i))
     ∙ ap (λ o. ticks_from (λ k. t (kept c.args.copy k)) 0 (length (acts_in o))) (sym (planned g c))
 

@@ -22,7 +22,7 @@ invariant-loop-number l = record {
   total : total l.lines.orders ≡ total l.fn.lines.orders + (l.number - l.from);
   resources : length l.lines.orders ≡ length l.fn.lines.orders;
   past : l.lines.past ≡ l.fn.lines.past;
-  room : l.lines.hold_room ≡ l.fn.lines.hold_room;
+  hold_capacity : l.lines.hold_capacity ≡ l.fn.lines.hold_capacity;
   marks : l.lines.max_marks ≡ l.fn.lines.max_marks;
   capacity : vec_capacity l.fn.edges ≤ vec_capacity l.edges;
   from : l.from ≤ l.number;

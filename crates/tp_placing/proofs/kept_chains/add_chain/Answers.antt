@@ -11,7 +11,7 @@ push-tag-requires c =
     let two = two-read c.args.held.now (order_on c.args.lines.now.orders c.args.resource.0) c.loop-place.place _ _ _ c.requires.ids c.loop-place.auto.place c.at.ensures c.at-in-loop-place.ensures in
     let l = length-append c.args.causes.now (chain_causes (holds_on c.args.held.now c.args.lines.now.orders c.args.resource.0)) in
     let few = c.requires.few in
-    record { room = cause-fits _ _ _ _ two c.loop-place.causes _ c.between.result _ c.between.ensures c.loop-place.invariant.causes (omega arith) }
+    record { capacity = cause-fits _ _ _ _ two c.loop-place.causes _ c.between.result _ c.between.ensures c.loop-place.invariant.causes (omega arith) }
 
 pub push_reserved-requires : goal.push_reserved-requires
 push_reserved-requires c =

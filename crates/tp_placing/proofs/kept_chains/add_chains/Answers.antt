@@ -19,7 +19,7 @@ add_chain-requires-clause-few c =
     let a = length-append c.loop-left.causes (chain_causes (orders (left - 1)) ++ chains_causes orders (left - 1)) in
     let b = length-append (chain_causes (orders (left - 1))) (chains_causes orders (left - 1)) in
     let l = length-append c.args.causes.now (chains_causes orders c.args.resources) in
-    let room = c.requires.room in
+    let room = c.requires.capacity in
     omega arith
 
 pub loop-left-preserved : goal.loop-left-preserved

@@ -4,6 +4,7 @@ use Rattle.tp_schedule.specs.declared.parts.Plan.{Plan}
 use Rattle.tp_placing.specs.Loading.{with_plans, firsts_from, point_count}
 use Rattle.tp_placing.proofs.LoadEdges.{drop-read}
 use Rattle.tp_placing.proofs.LoadPoints.{plans-more, plan-count, firsts-more}
+use Rattle.tp_placing.proofs.ReadingFacts.{same-size-then}
 use Rattle.tp_placing.proofs.kept_points.add_points.Goals as goal
 
 pub loop-plan-preserved : goal.loop-plan-preserved
@@ -13,12 +14,12 @@ loop-plan-preserved g c =
     let d = drop-read c.args.plans.now c.loop-plan.plan-index c.plan-item.result c.loop-plan-test.true c.plan-item.is in
     let counted = ap point_count d in
     let left = ap length d in
-    let points = plan-count c.args.floor c.args.horizon c.plan-item.result (g.N.Network.net c.loop-plan.net) (g.N.Network.net c.add_plan.new.net) a.added in
+    let points = plan-count c.args.floor c.args.horizon c.plan-item.result (g.N.Network.reading.net c.loop-plan.net) (g.N.Network.reading.net c.add_plan.new.net) a.added in
     let count = v.count in
     let room = v.room in
     let space = v.space in
-    let same = v.points in
-    let kept = a.points in
+    let same = v.same_size.points in
+    let kept = a.same_size.points in
     let more = c.in-Ok.ensures.len in
     let wider = c.in-Ok.ensures.capacity in
     let before = v.capacity in
@@ -26,12 +27,10 @@ loop-plan-preserved g c =
       count = omega arith;
       room = omega arith;
       space = omega arith;
-      all = plans-more c.args.floor c.args.horizon c.plan-item.result (drop (c.loop-plan.plan-index + 1) c.args.plans.now) (g.N.Network.net c.loop-plan.net) (g.N.Network.net c.add_plan.new.net) a.added ∙ ap (λ ps. with_plans c.args.floor c.args.horizon ps (g.N.Network.net c.loop-plan.net)) (sym d) ∙ v.all;
+      all = plans-more c.args.floor c.args.horizon c.plan-item.result (drop (c.loop-plan.plan-index + 1) c.args.plans.now) (g.N.Network.reading.net c.loop-plan.net) (g.N.Network.reading.net c.add_plan.new.net) a.added ∙ ap (λ ps. with_plans c.args.floor c.args.horizon ps (g.N.Network.reading.net c.loop-plan.net)) (sym d) ∙ v.all;
       firsts = ap (λ (xs : List PointId). xs ++ firsts_from (c.loop-plan.first + length c.plan-item.result.acts + 1) (drop (c.loop-plan.plan-index + 1) c.args.plans.now)) c.in-Ok.ensures.items ∙ firsts-more c.loop-plan.firsts.items c.loop-plan.first c.plan-item.result (drop (c.loop-plan.plan-index + 1) c.args.plans.now) ∙ ap (λ (ps : List Plan). c.loop-plan.firsts.items ++ firsts_from c.loop-plan.first ps) (sym d) ∙ v.firsts;
       capacity = omega arith;
       solved = a.solved;
       past = a.past ∙ v.past;
-      marks = a.marks ∙ v.marks;
-      points = a.points ∙ v.points;
-      edges = a.edges ∙ v.edges;
+      same_size = same-size-then v.same_size a.same_size;
     })

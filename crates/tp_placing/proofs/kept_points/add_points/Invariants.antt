@@ -1,5 +1,6 @@
 use Rattle.std.proofs.Common.{◌≡◌, ◌≤◌, ◌+◌, ◌++◌, drop, length, vec_len, vec_capacity}
 use Rattle.tp_base.specs.Net.{HasLeast}
+use Rattle.tp_base.specs.Readings.{IsSameSize}
 use Rattle.tp_placing.specs.Loading.{with_plans, firsts_from, point_count}
 use Rattle.tp_placing.proofs.kept_points.add_points.Given as goal
 
@@ -7,14 +8,12 @@ use Rattle.tp_placing.proofs.kept_points.add_points.Given as goal
 abbrev pub invariant-loop-plan : goal.invariant-loop-plan
 invariant-loop-plan g l = record {
   count : l.first + point_count (drop l.plan-index l.plans) ≡ point_count l.plans;
-  room : length (g.N.Network.net l.net).lows + point_count (drop l.plan-index l.plans) ≤ g.N.Network.max_points l.net;
+  room : length (g.N.Network.reading.net l.net).lows + point_count (drop l.plan-index l.plans) ≤ g.N.Network.reading.max_points l.net;
   space : vec_len l.firsts + length (drop l.plan-index l.plans) ≤ vec_capacity l.firsts;
-  all : with_plans l.floor l.horizon (drop l.plan-index l.plans) (g.N.Network.net l.net) ≡ with_plans l.floor l.horizon l.plans (g.N.Network.net l.fn.net);
+  all : with_plans l.floor l.horizon (drop l.plan-index l.plans) (g.N.Network.reading.net l.net) ≡ with_plans l.floor l.horizon l.plans (g.N.Network.reading.net l.fn.net);
   firsts : l.firsts.items ++ firsts_from l.first (drop l.plan-index l.plans) ≡ l.fn.firsts.items ++ firsts_from 0 l.plans;
   capacity : vec_capacity l.fn.firsts ≤ vec_capacity l.firsts;
-  solved : HasLeast (g.N.Network.net l.net);
-  past : g.N.Undo.past l.net ≡ g.N.Undo.past l.fn.net;
-  marks : g.N.Undo.max_marks l.net ≡ g.N.Undo.max_marks l.fn.net;
-  points : g.N.Network.max_points l.net ≡ g.N.Network.max_points l.fn.net;
-  edges : g.N.Network.max_edges l.net ≡ g.N.Network.max_edges l.fn.net;
+  solved : HasLeast (g.N.Network.reading.net l.net);
+  past : g.N.Network.reading.past l.net ≡ g.N.Network.reading.past l.fn.net;
+  same_size : IsSameSize g.N.Network.reading l.fn.net l.net;
 }

@@ -8,7 +8,7 @@ pub loop-at-preserved : goal.loop-at-preserved
 loop-at-preserved g c = λ sol l.
     let known = c.requires.known in
     let within = c.loop-at-test.true in
-    let e : c.earliest.result ≡ sol (c.args.first.0 + c.loop-at.at) = earliest-is (g.N.Network.net c.args.net.now) sol (c.args.first.0 + c.loop-at.at) c.earliest.result l (omega arith) c.earliest.ensures in
+    let e : c.earliest.result ≡ sol (c.args.first.0 + c.loop-at.at) = earliest-is (g.N.Network.reading.net c.args.net.now) sol (c.args.first.0 + c.loop-at.at) c.earliest.result l (omega arith) c.earliest.ensures in
     let same = c.if-earliest-time.false in
     let time : get_or c.args.times.now c.loop-at.at 0 ≡ sol (c.args.first.0 + c.loop-at.at) = omega (arith, e, same) in
     take_more c.args.times.now c.loop-at.at 0 within ∙ (λ i. c.loop-at.invariant sol l i ++ time i ∷ []) ∙ sym (ticks-more sol c.args.first.0 c.loop-at.at)

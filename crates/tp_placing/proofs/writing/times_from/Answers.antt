@@ -17,7 +17,7 @@ loop-at-preserved g c =
     record {
       times = λ sol l.
           let known = c.requires.known in
-          let e : c.earliest.result ≡ sol (c.args.first.0 + c.loop-at.at) = earliest-is (g.N.Network.net c.args.net.now) sol (c.args.first.0 + c.loop-at.at) c.earliest.result l (omega arith) c.earliest.ensures in
+          let e : c.earliest.result ≡ sol (c.args.first.0 + c.loop-at.at) = earliest-is (g.N.Network.reading.net c.args.net.now) sol (c.args.first.0 + c.loop-at.at) c.earliest.result l (omega arith) c.earliest.ensures in
           let more : c.loop-at.points ++ c.earliest.result ∷ [] ≡ ticks_from sol c.args.first.0 c.loop-at.at ++ sol (c.args.first.0 + c.loop-at.at) ∷ [] = (λ i. c.loop-at.invariant.times sol l i ++ e i ∷ []) in
           pushed ∙ more ∙ sym (ticks-more sol c.args.first.0 c.loop-at.at);
       count = many;

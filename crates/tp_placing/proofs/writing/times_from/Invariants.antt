@@ -5,6 +5,6 @@ use Rattle.tp_placing.proofs.writing.times_from.Given as goal
 
 abbrev pub invariant-loop-at : goal.invariant-loop-at
 invariant-loop-at g l = record {
-  times : (sol : ℕ → ℕ) → IsLeast (g.N.Network.net l.net) sol → l.points ≡ ticks_from sol l.first.0 l.at;
+  times : (sol : ℕ → ℕ) → IsLeast (g.N.Network.reading.net l.net) sol → l.points ≡ ticks_from sol l.first.0 l.at;
   count : length l.points ≡ l.at;
 }

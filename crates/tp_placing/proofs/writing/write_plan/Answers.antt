@@ -12,7 +12,7 @@ pub put-requires-clause-new_copy : goal.put-requires-clause-new_copy
 put-requires-clause-new_copy c = none-planned c.args.plan.sheet c.args.schedule.now.plans (sym c.in-None.is ∙ c.find.ensures)
 
 pub put-requires-clause-room : goal.put-requires-clause-room
-put-requires-clause-room c = c.requires.room (none-planned c.args.plan.sheet c.args.schedule.now.plans (sym c.in-None.is ∙ c.find.ensures))
+put-requires-clause-room c = c.requires.capacity (none-planned c.args.plan.sheet c.args.schedule.now.plans (sym c.in-None.is ∙ c.find.ensures))
 
 pub returns-in-Some-clause-plans : goal.returns-in-Some-clause-plans
 returns-in-Some-clause-plans c =

@@ -26,7 +26,7 @@ write_points-requires-clause-planned g c =
     let within = c.loop-at-test.true in
     let p = c.index-plans-at.result in
     let there = slice_get_read c.args.plans.now (length c.args.plans.now) c.loop-at.at c.index-plans-at.result refl within c.index-plans-at.is in
-    let x = ticks-exist (g.N.Network.net c.args.net.now) c.args.plans.now c.requires.solved c.requires.in_order in
+    let x = ticks-exist (g.N.Network.reading.net c.args.net.now) c.args.plans.now c.requires.solved c.requires.in_order in
     let planned = All-at (λ (q : Plan). plan_of q.sheet c.args.schedule.now.plans ≡ Some q) c.args.plans.now c.loop-at.at c.index-plans-at.result c.requires.planned there in
     let still = planned-still (take c.loop-at.at c.args.plans.now) x.0 c.args.schedule.now.plans c.index-plans-at.result.sheet c.index-plans-at.result planned (not-before c.loop-at.at c.args.plans.now c.index-plans-at.result c.requires.in_order there) in
     ap (plan_of c.index-plans-at.result.sheet) (c.loop-at.invariant.times x.0 x.1) ∙ still
@@ -49,7 +49,7 @@ loop-at-preserved g c = record {
       let there = slice_get_read c.args.plans.now (length c.args.plans.now) c.loop-at.at c.index-plans-at.result refl c.loop-at-test.true c.index-plans-at.is in
       let planned = All-at (λ (q : Plan). plan_of q.sheet c.args.schedule.now.plans ≡ Some q) c.args.plans.now c.loop-at.at c.index-plans-at.result c.requires.planned there in
       let not_yet = not-before c.loop-at.at c.args.plans.now c.index-plans-at.result c.requires.in_order there in
-      let ticks = plan-ticks (g.N.Network.net c.args.net.now) c.args.plans.now c.args.firsts.now c.loop-at.at c.index-plans-at.result (record { 0 = 0 }) t (suc (length c.index-plans-at.result.acts)) c.requires.firsts c.loop-at-test.true c.index-plans-at.is a (omega arith) in
+      let ticks = plan-ticks (g.N.Network.reading.net c.args.net.now) c.args.plans.now c.args.firsts.now c.loop-at.at c.index-plans-at.result (record { 0 = 0 }) t (suc (length c.index-plans-at.result.acts)) c.requires.firsts c.loop-at-test.true c.index-plans-at.is a (omega arith) in
       let points = ticks_from a.solution (get_or c.args.firsts.now c.loop-at.at (record { 0 = 0 })).0 (suc (length c.index-plans-at.result.acts)) in
       let next = change-next (take c.loop-at.at c.args.plans.now) t points c.args.schedule.now.plans c.index-plans-at.result c.requires.schedule planned not_yet ticks in
       let more : take c.loop-at.at c.args.plans.now ++ c.index-plans-at.result ∷ [] ≡ take (c.loop-at.at + 1) c.args.plans.now = ap (λ q. take c.loop-at.at c.args.plans.now ++ q ∷ []) c.index-plans-at.is ∙ sym (take_more c.args.plans.now c.loop-at.at c.index-plans-at.result c.loop-at-test.true) in

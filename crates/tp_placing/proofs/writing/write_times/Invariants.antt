@@ -6,6 +6,6 @@ use Rattle.tp_placing.proofs.writing.write_times.Given as goal
 
 abbrev pub invariant-loop-at : goal.invariant-loop-at
 invariant-loop-at g l = record {
-  times : (t : Ticks) → AreLeastTicks (g.N.Network.net l.net) (table_of l.plans) t → l.schedule.plans ≡ map (retimed_in (take l.at l.plans) t) l.fn.schedule.plans;
+  times : (t : Ticks) → AreLeastTicks (g.N.Network.reading.net l.net) (table_of l.plans) t → l.schedule.plans ≡ map (retimed_in (take l.at l.plans) t) l.fn.schedule.plans;
   spare : l.schedule.spare ≡ l.fn.schedule.spare;
 }

@@ -28,8 +28,8 @@ step_on-requires-clause-spread c = (along-here c.args.machine.now c.args.ask.now
 pub actions-smaller : goal.actions-smaller
 actions-smaller c =
     let here = along-here c.args.machine.now c.args.ask.now c.actions.sums c.actions.waiting.items c.args.from.number c.in-Some.at c.actions.cursor c.in-Some.is c.actions.invariant.along in
-    let next = next-there c.args.machine.now c.args.index.now.firsts.items c.args.index.now.nexts.items (c.args.from.number / 8) c.in-Some.at c.requires.index.indexed here.1 here.2 in
-    rw (c.in-Some.is, c.as_slice-nexts.ensures.value) (ahead-smaller c.args.machine.now.actions (c.args.from.number / 8) c.in-Some.at (number_at c.args.index.now.nexts.items c.in-Some.at) here.1 next)
+    let next = next-there From c.args.machine.now.actions c.args.index.now.firsts.items c.args.index.now.nexts.items (c.args.from.number / 8) c.in-Some.at c.requires.index.indexed here.1 here.2 in
+    rw (c.in-Some.is, c.as_slice-nexts.ensures.value) (ahead-smaller From c.args.machine.now.actions (c.args.from.number / 8) c.in-Some.at (number_at c.args.index.now.nexts.items c.in-Some.at) here.1 next)
 
 pub actions-preserved : goal.actions-preserved
 actions-preserved c =
@@ -37,7 +37,7 @@ actions-preserved c =
     let here = along-here c.args.machine.now c.args.ask.now c.actions.sums c.actions.waiting.items c.args.from.number c.in-Some.at c.actions.cursor c.in-Some.is before.along in
     record {
       filling = c.step_on.ensures.filling;
-      along = record { low = c.in-Some.at + 1; next = subst (IsNextAt From c.args.machine.now.actions (c.args.from.number / 8) (c.in-Some.at + 1)) (ap (λ ns. number_at ns c.in-Some.at) (sym c.as_slice-nexts.ensures.value)) (next-there c.args.machine.now c.args.index.now.firsts.items c.args.index.now.nexts.items (c.args.from.number / 8) c.in-Some.at c.requires.index.indexed here.1 here.2); spread = c.step_on.ensures.spread };
+      along = record { low = c.in-Some.at + 1; next = subst (IsNextAt From c.args.machine.now.actions (c.args.from.number / 8) (c.in-Some.at + 1)) (ap (λ ns. number_at ns c.in-Some.at) (sym c.as_slice-nexts.ensures.value)) (next-there From c.args.machine.now.actions c.args.index.now.firsts.items c.args.index.now.nexts.items (c.args.from.number / 8) c.in-Some.at c.requires.index.indexed here.1 here.2); spread = c.step_on.ensures.spread };
       stands = c.step_on.ensures.busy;
       lowers = Lowers-then c.args.sums.now c.actions.sums c.step_on.new.sums before.lowers c.step_on.ensures.lowers;
       room = c.step_on.ensures.room;

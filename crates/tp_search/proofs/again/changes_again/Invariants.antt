@@ -8,8 +8,8 @@ use Rattle.tp_search.proofs.again.changes_again.Given as goal
 
 abbrev pub invariant-changes : goal.invariant-changes
 invariant-changes g l = record {
-  stands : Stands g.N.Network.net g.N.Undo.content g.N.Undo.past l.board l.machine;
+  stands : Stands g.N.Network.reading l.board l.machine;
   reached_so : l.reached ≡ reached_in (suffix_of l.board);
   suffix : suffix_of l.board ≡ again_by (take l.at l.changes);
-  same : IsSameButSteps g.N.Undo.past g.N.Undo.max_marks l.fn.board l.board;
+  same : IsSameButSteps g.N.Network.reading l.fn.board l.board;
 }

@@ -12,4 +12,4 @@ unreachable-requires g c =
     let can = c.requires.can in
     let no : has_goal c.args.reached ≡ false = sym c.has_goal.ensures ∙ c.if-has_goal.false in
     let none = goal-none (suffix_of c.args.board.now) c.args.reached can.1.reached_so no in
-    in-time g.N.Network.net g.N.Undo.content g.N.Undo.past can.0 c.args.board.now (Open c.args.room) c.args.reached can.1 (with_goal c.args.room) (ap (λ o. after_again o (Open c.args.room)) none) (c.in-Err.ensures.late can.0 can.1.stands)
+    in-time g.N.Network.reading can.0 c.args.board.now (Open c.args.room) c.args.reached can.1 (with_goal c.args.room) (ap (λ o. after_again o (Open c.args.room)) none) (c.in-Err.ensures.late can.0 can.1.stands)

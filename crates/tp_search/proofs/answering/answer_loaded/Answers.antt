@@ -25,5 +25,5 @@ returns-in-Err-Never-clause-few g c = λ is. (told g (goal.at.returns-in-Err-Nev
 
 pub returns-in-Ok-clause-rests : goal.returns-in-Ok-clause-rests
 returns-in-Ok-clause-rests g c =
-    let rests = at-rest g.N.Network.net g.N.Undo.content g.N.Undo.past g.N.Undo.max_marks c.args.board.now c.commit.new.self.0 c.args.machine.now c.requires.rests (c.commit.ensures.back c.args.board.now c.args.machine.now c.in-Ok.ensures.trial) in
+    let rests = at-rest g.N.Network.reading c.args.board.now c.commit.new.self.0 c.args.machine.now c.requires.rests (c.commit.ensures.back c.args.board.now c.args.machine.now c.in-Ok.ensures.trial) in
     search rules

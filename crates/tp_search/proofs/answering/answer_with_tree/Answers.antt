@@ -64,15 +64,15 @@ returns-in-Ok-show-clause-board g c =
 
 pub returns-in-Ok-show-clause-marks : goal.returns-in-Ok-show-clause-marks
 returns-in-Ok-show-clause-marks g c =
-    let same = same-marks (g.N.Undo.max_marks c.args.board.now.net) (g.N.Undo.max_marks c.commit.new.self.0.net) (c.commit.ensures.back c.args.board.now c.args.machine.now (c.show.ensures.trial c.args.board.now c.in-Ok.ensures.trial)).marks c.requires.marks in
+    let same = same-marks (g.N.Network.reading.max_marks c.args.board.now.net) (g.N.Network.reading.max_marks c.commit.new.self.0.net) (c.commit.ensures.back c.args.board.now c.args.machine.now (c.show.ensures.trial c.args.board.now c.in-Ok.ensures.trial)).marks c.requires.marks in
     search rules
 
 pub returns-in-Ok-show-clause-rests : goal.returns-in-Ok-show-clause-rests
 returns-in-Ok-show-clause-rests g c =
-    let rests = at-rest g.N.Network.net g.N.Undo.content g.N.Undo.past g.N.Undo.max_marks c.args.board.now c.commit.new.self.0 c.args.machine.now c.requires.rests (c.commit.ensures.back c.args.board.now c.args.machine.now (c.show.ensures.trial c.args.board.now c.in-Ok.ensures.trial)) in
+    let rests = at-rest g.N.Network.reading c.args.board.now c.commit.new.self.0 c.args.machine.now c.requires.rests (c.commit.ensures.back c.args.board.now c.args.machine.now (c.show.ensures.trial c.args.board.now c.in-Ok.ensures.trial)) in
     search rules
 
 pub returns-in-Err-clause-rests : goal.returns-in-Err-clause-rests
 returns-in-Err-clause-rests g c =
-    let rests = at-rest g.N.Network.net g.N.Undo.content g.N.Undo.past g.N.Undo.max_marks c.args.board.now c.abandon.new.self.0 c.args.machine.now c.requires.rests (c.abandon.ensures.back c.args.board.now c.args.machine.now (c.show.ensures.trial c.args.board.now c.in-Ok.ensures.trial)) in
+    let rests = at-rest g.N.Network.reading c.args.board.now c.abandon.new.self.0 c.args.machine.now c.requires.rests (c.abandon.ensures.back c.args.board.now c.args.machine.now (c.show.ensures.trial c.args.board.now c.in-Ok.ensures.trial)) in
     search rules

@@ -9,5 +9,5 @@ returns-in-Ok-clause-end g c plans loaded = subst (EndsEarliest c.args.machine.n
 
 pub returns-in-Ok-clause-rests : goal.returns-in-Ok-clause-rests
 returns-in-Ok-clause-rests g c =
-    let rests = at-rest g.N.Network.net g.N.Undo.content g.N.Undo.past g.N.Undo.max_marks c.args.board.now c.abandon.new.self.0 c.args.machine.now c.requires.rests (c.abandon.ensures.back c.args.board.now c.args.machine.now c.in-Ok.ensures.trial) in
+    let rests = at-rest g.N.Network.reading c.args.board.now c.abandon.new.self.0 c.args.machine.now c.requires.rests (c.abandon.ensures.back c.args.board.now c.args.machine.now c.in-Ok.ensures.trial) in
     search rules

@@ -25,7 +25,7 @@ end_child-requires-clause-child g t c = subst (IsNewChild c.args.problem.machine
 
 pub end_child-requires-clause-laid : goal.end_child-requires-clause-laid
 end_child-requires-clause-laid g t c =
-    subst (λ n. IsLaid g.N.Network.net g.N.Undo.content g.N.Undo.past g.N.Undo.max_marks c.args.board.now c.args.problem.machine.now c.args.problem.ask.now c.args.opening.now.goal c.args.child.first (record { act = c.args.child.act; places = take n c.args.child.choice.places } ∷ choices_by c.args.problem.machine.now (choices_before c.args.store.now.entries c.args.opening.now.parent)))
+    subst (λ n. IsLaid g.N.Network.reading c.args.board.now c.args.problem.machine.now c.args.problem.ask.now c.args.opening.now.goal c.args.child.first (record { act = c.args.child.act; places = take n c.args.child.choice.places } ∷ choices_by c.args.problem.machine.now (choices_before c.args.store.now.entries c.args.opening.now.parent)))
     (all-placed g t (goal.at.end_child-requires-clause-laid g t c).Then-hold-len) c.requires.laid
 
 pub end_child-requires-clause-marks : goal.end_child-requires-clause-marks
@@ -57,28 +57,28 @@ loop-place-init g t c =
     let count : length (take c.args.hold c.args.child.choice.places) ≡ c.args.hold = length-take-le c.args.hold c.args.child.choice.places (omega arith) in
     let is_rule = (λ i. slice_get (ap holds_of_act c.get.ensures i) (count i)) ∙ c.get-2.ensures in
     record {
-      progress = begin-now g.N.Network.net g.N.Undo.content g.N.Undo.past g.N.Undo.max_marks c.args.problem.machine.now c.args.problem.ask.now c.args.child.first c.args.child.act c.args.opening.now c.args.store.now c.args.board.now (take c.args.hold c.args.child.choice.places) c.get-2.result.now
+      progress = begin-now g.N.Network.reading c.args.problem.machine.now c.args.problem.ask.now c.args.child.first c.args.child.act c.args.opening.now c.args.store.now c.args.board.now (take c.args.hold c.args.child.choice.places) c.get-2.result.now
           c.requires.laid c.requires.fresh is_rule c.places-last.result c.places-last.ensures c.requires.progress;
       same = same-itself c.args.opening.now c.args.store.now;
-      back = back-itself g.N.Network.net g.N.Undo.content g.N.Undo.past g.N.Undo.max_marks c.args.board.now c.args.problem.machine.now;
+      back = back-itself g.N.Network.reading c.args.board.now c.args.problem.machine.now;
     }
 
 -- a place is tried on a marked board
-trying-here : (g : _) (t : _) (c : After-mark-mark g t) → IsTrying g.N.Network.net g.N.Undo.content g.N.Undo.past g.N.Undo.aside g.N.Undo.max_marks c.args.problem.machine.now c.args.problem.ask.now c.args.child.first c.args.child.act c.args.opening.now c.loop-place.opening c.args.store.now c.loop-place.store c.args.board.now c.loop-place.board c.mark-mark.new.self c.mark-mark.result.0 (take c.args.hold c.args.child.choice.places) c.loop-place.place c.get-2.result.now
+trying-here : (g : _) (t : _) (c : After-mark-mark g t) → IsTrying g.N.Network.reading g.N.Undo.untouched c.args.problem.machine.now c.args.problem.ask.now c.args.child.first c.args.child.act c.args.opening.now c.loop-place.opening c.args.store.now c.loop-place.store c.args.board.now c.loop-place.board c.mark-mark.new.self c.mark-mark.result.0 (take c.args.hold c.args.child.choice.places) c.loop-place.place c.get-2.result.now
 trying-here g t c =
     let known = ap length (ap holds_of_act c.get.ensures) in
     let count : length (take c.args.hold c.args.child.choice.places) ≡ c.args.hold = length-take-le c.args.hold c.args.child.choice.places (omega arith) in
     let m = c.mark-mark.ensures in
     let v = c.loop-place.invariant in
-    trying g.N.Network.net g.N.Undo.content g.N.Undo.past g.N.Undo.aside g.N.Undo.max_marks c.args.problem.machine.now c.args.problem.ask.now c.args.child.first c.args.child.act c.args.opening.now c.loop-place.opening c.args.store.now c.loop-place.store c.args.board.now c.loop-place.board c.mark-mark.new.self c.mark-mark.result.0
+    trying g.N.Network.reading g.N.Undo.untouched c.args.problem.machine.now c.args.problem.ask.now c.args.child.first c.args.child.act c.args.opening.now c.loop-place.opening c.args.store.now c.loop-place.store c.args.board.now c.loop-place.board c.mark-mark.new.self c.mark-mark.result.0
     (take c.args.hold c.args.child.choice.places) c.loop-place.place c.get-2.result.now
     c.get.result.now c.args.hold c.places-last.result c.marks_keep_boards.ensures.mark c.marks_keep_boards.ensures.back c.requires.laid c.requires.fresh c.get.ensures c.get-2.ensures count c.places-last.ensures (omega arith)
-    v.same v.back v.progress (record { number = m.number; past_more = m.past; content_same = m.content; aside_same = m.aside; room_same = m.room })
+    v.same v.back v.progress (record { number = m.number; past_more = m.past; content_same = m.content; untouched_same = m.untouched; room_same = m.capacity })
 
 pub try_place-requires-clause-stands : goal.try_place-requires-clause-stands
 try_place-requires-clause-stands g t c =
     let tried = trying-here g t (goal.at.try_place-requires-clause-stands g t c).After-mark-mark in
-    marked-stands g.N.Network.net g.N.Undo.content g.N.Undo.past g.N.Undo.aside g.N.Undo.max_marks c.args.problem.machine.now c.args.problem.ask.now c.args.child.first c.args.child.act c.args.opening.now c.loop-place.opening c.args.store.now c.loop-place.store c.args.board.now c.loop-place.board c.mark-mark.new.self c.mark-mark.result.0
+    marked-stands g.N.Network.reading g.N.Undo.untouched c.args.problem.machine.now c.args.problem.ask.now c.args.child.first c.args.child.act c.args.opening.now c.loop-place.opening c.args.store.now c.loop-place.store c.args.board.now c.loop-place.board c.mark-mark.new.self c.mark-mark.result.0
     (take c.args.hold c.args.child.choice.places) c.loop-place.place c.get-2.result.now tried
 
 pub try_place-requires-clause-next : goal.try_place-requires-clause-next
@@ -87,7 +87,7 @@ try_place-requires-clause-next g t c =
     let count : length (take c.args.hold c.args.child.choice.places) ≡ c.args.hold = length-take-le c.args.hold c.args.child.choice.places (omega arith) in
     let tried = trying-here g t (goal.at.try_place-requires-clause-next g t c).After-mark-mark in
     subst (λ n. IsSomeAnd (suffix_of c.mark-mark.new.self) (λ x. CanPlace c.args.problem.machine.now c.mark-mark.new.self.plans x n c.loop-place.place)) count
-    (may-place g.N.Network.net g.N.Undo.content g.N.Undo.past g.N.Undo.aside g.N.Undo.max_marks c.args.problem.machine.now c.args.problem.ask.now c.args.child.first c.args.child.act c.args.opening.now c.loop-place.opening c.args.store.now c.loop-place.store c.args.board.now c.loop-place.board c.mark-mark.new.self c.mark-mark.result.0
+    (may-place g.N.Network.reading g.N.Undo.untouched c.args.problem.machine.now c.args.problem.ask.now c.args.child.first c.args.child.act c.args.opening.now c.loop-place.opening c.args.store.now c.loop-place.store c.args.board.now c.loop-place.board c.mark-mark.new.self c.mark-mark.result.0
     (take c.args.hold c.args.child.choice.places) c.loop-place.place c.get-2.result.now tried)
 
 pub place_rest-requires : goal.place_rest-requires
@@ -100,15 +100,15 @@ place_rest-requires g t c κs within =
     let some : c.args.hold < length c.args.child.choice.places = omega arith in
     let next = next-places c.args.child.choice.places c.args.hold c.loop-place.place some in
     let olds = choices_by c.args.problem.machine.now (choices_before c.loop-place.store.entries c.loop-place.opening.parent) in
-    let laid = subst (λ ps. IsLaid g.N.Network.net g.N.Undo.content g.N.Undo.past g.N.Undo.max_marks c.try_place.new.self c.args.problem.machine.now c.args.problem.ask.now c.loop-place.opening.goal c.args.child.first (record { act = c.args.child.act; places = ps } ∷ olds)) (sym next)
-    (placed-laid g.N.Network.net g.N.Undo.content g.N.Undo.past g.N.Undo.aside g.N.Undo.max_marks c.args.problem.machine.now c.args.problem.ask.now c.args.child.first c.args.child.act c.args.opening.now c.loop-place.opening c.args.store.now c.loop-place.store c.args.board.now c.loop-place.board c.mark-mark.new.self c.mark-mark.result.0
+    let laid = subst (λ ps. IsLaid g.N.Network.reading c.try_place.new.self c.args.problem.machine.now c.args.problem.ask.now c.loop-place.opening.goal c.args.child.first (record { act = c.args.child.act; places = ps } ∷ olds)) (sym next)
+    (placed-laid g.N.Network.reading g.N.Undo.untouched c.args.problem.machine.now c.args.problem.ask.now c.args.child.first c.args.child.act c.args.opening.now c.loop-place.opening c.args.store.now c.loop-place.store c.args.board.now c.loop-place.board c.mark-mark.new.self c.mark-mark.result.0
     (take c.args.hold c.args.child.choice.places) c.loop-place.place c.get-2.result.now tried c.try_place.new.self put c.in-Ok.ensures.stands p.loaded) in
     let progress = subst (λ ps. IsAtProgress c.args.problem.machine.now c.try_place.new.self.plans c.args.problem.ask.now c.loop-place.opening c.loop-place.store (up_to c.args.child.act.0 ps)) (sym next)
-    (placed-progress g.N.Network.net g.N.Undo.content g.N.Undo.past g.N.Undo.aside g.N.Undo.max_marks c.args.problem.machine.now c.args.problem.ask.now c.args.child.first c.args.child.act c.args.opening.now c.loop-place.opening c.args.store.now c.loop-place.store c.args.board.now c.loop-place.board c.mark-mark.new.self c.mark-mark.result.0
+    (placed-progress g.N.Network.reading g.N.Undo.untouched c.args.problem.machine.now c.args.problem.ask.now c.args.child.first c.args.child.act c.args.opening.now c.loop-place.opening c.args.store.now c.loop-place.store c.args.board.now c.loop-place.board c.mark-mark.new.self c.mark-mark.result.0
     (take c.args.hold c.args.child.choice.places) c.loop-place.place c.get-2.result.now tried c.try_place.new.self p.loaded) in
     let more : suc (5 - (c.args.hold + 1)) ≡ 5 - c.args.hold = omega arith in
-    let spare = subst (λ n. HasMarks g.N.Network.net g.N.Undo.content g.N.Undo.past g.N.Undo.max_marks n c.args.board.now) (sym more) c.requires.marks in
-    let marks = placed-marks g.N.Network.net g.N.Undo.content g.N.Undo.past g.N.Undo.aside g.N.Undo.max_marks c.args.problem.machine.now c.args.problem.ask.now c.args.child.first c.args.child.act c.args.opening.now c.loop-place.opening c.args.store.now c.loop-place.store c.args.board.now c.loop-place.board c.mark-mark.new.self c.mark-mark.result.0
+    let spare = subst (λ n. HasMarks g.N.Network.reading n c.args.board.now) (sym more) c.requires.marks in
+    let marks = placed-marks g.N.Network.reading g.N.Undo.untouched c.args.problem.machine.now c.args.problem.ask.now c.args.child.first c.args.child.act c.args.opening.now c.loop-place.opening c.args.store.now c.loop-place.store c.args.board.now c.loop-place.board c.mark-mark.new.self c.mark-mark.result.0
     (take c.args.hold c.args.child.choice.places) c.loop-place.place c.get-2.result.now tried (5 - (c.args.hold + 1)) c.try_place.new.self spare p.past p.marks in
     let same = v.same in
     let r = c.requires in
@@ -132,43 +132,43 @@ undo_to-requires-in-loop-place g t c =
     let p = c.try_place.ensures in
     let some : c.args.hold < length c.args.child.choice.places = omega arith in
     let next = next-places c.args.child.choice.places c.args.hold c.loop-place.place some in
-    let after : IsTried g.N.Network.net g.N.Undo.content g.N.Undo.past g.N.Undo.aside g.N.Undo.max_marks c.args.problem.machine.now c.args.problem.ask.now c.args.child.first c.args.child.act c.args.opening.now c.loop-place.opening c.args.store.now c.loop-place.store c.args.board.now c.loop-place.board c.mark-mark.new.self c.mark-mark.result.0
+    let after : IsTried g.N.Network.reading g.N.Undo.untouched c.args.problem.machine.now c.args.problem.ask.now c.args.child.first c.args.child.act c.args.opening.now c.loop-place.opening c.args.store.now c.loop-place.store c.args.board.now c.loop-place.board c.mark-mark.new.self c.mark-mark.result.0
     (take c.args.hold c.args.child.choice.places) c.loop-place.place c.get-2.result.now c.match-try_place.board c.match-try_place.opening c.match-try_place.store = elim c.match-try_place.branch [
-      | in-Ok+else-place_rest w ↦ tried-as g.N.Network.net g.N.Undo.content g.N.Undo.past g.N.Undo.aside g.N.Undo.max_marks c.args.problem.machine.now c.args.problem.ask.now c.args.child.first c.args.child.act c.args.opening.now c.loop-place.opening c.args.store.now c.loop-place.store c.args.board.now c.loop-place.board c.mark-mark.new.self c.mark-mark.result.0
+      | in-Ok+else-place_rest w ↦ tried-as g.N.Network.reading g.N.Undo.untouched c.args.problem.machine.now c.args.problem.ask.now c.args.child.first c.args.child.act c.args.opening.now c.loop-place.opening c.args.store.now c.loop-place.store c.args.board.now c.loop-place.board c.mark-mark.new.self c.mark-mark.result.0
           (take c.args.hold c.args.child.choice.places) c.loop-place.place c.get-2.result.now w.place_rest.new.board c.match-try_place.board w.place_rest.new.opening c.match-try_place.opening w.place_rest.new.store c.match-try_place.store w.board-is w.opening-is w.store-is
-          (tried-placed g.N.Network.net g.N.Undo.content g.N.Undo.past g.N.Undo.aside g.N.Undo.max_marks c.args.problem.machine.now c.args.problem.ask.now c.args.child.first c.args.child.act c.args.opening.now c.loop-place.opening c.args.store.now c.loop-place.store c.args.board.now c.loop-place.board c.mark-mark.new.self c.mark-mark.result.0
+          (tried-placed g.N.Network.reading g.N.Undo.untouched c.args.problem.machine.now c.args.problem.ask.now c.args.child.first c.args.child.act c.args.opening.now c.loop-place.opening c.args.store.now c.loop-place.store c.args.board.now c.loop-place.board c.mark-mark.new.self c.mark-mark.result.0
           (take c.args.hold c.args.child.choice.places) c.loop-place.place c.get-2.result.now tried c.try_place.new.self w.place_rest.new.board w.place_rest.new.opening w.place_rest.new.store
-          (since-step g.N.Network.net g.N.Undo.content g.N.Undo.past g.N.Undo.max_marks c.mark-mark.new.self c.try_place.new.self c.args.problem.machine.now p.past p.loaded p.marks (λ s. w.in-Ok.ensures.stands)) w.place_rest.ensures.same (w.place_rest.ensures.back w.if-place_rest.false)
+          (since-step g.N.Network.reading c.mark-mark.new.self c.try_place.new.self c.args.problem.machine.now p.past p.loaded p.marks (λ s. w.in-Ok.ensures.stands)) w.place_rest.ensures.same (w.place_rest.ensures.back w.if-place_rest.false)
           (subst (λ ps. IsAtProgress c.args.problem.machine.now c.try_place.new.self.plans c.args.problem.ask.now w.place_rest.new.opening w.place_rest.new.store (through c.args.child.act.0 ps)) next (w.place_rest.ensures.progress w.if-place_rest.false)))
-      | in-Err-Here w ↦ tried-as g.N.Network.net g.N.Undo.content g.N.Undo.past g.N.Undo.aside g.N.Undo.max_marks c.args.problem.machine.now c.args.problem.ask.now c.args.child.first c.args.child.act c.args.opening.now c.loop-place.opening c.args.store.now c.loop-place.store c.args.board.now c.loop-place.board c.mark-mark.new.self c.mark-mark.result.0
+      | in-Err-Here w ↦ tried-as g.N.Network.reading g.N.Undo.untouched c.args.problem.machine.now c.args.problem.ask.now c.args.child.first c.args.child.act c.args.opening.now c.loop-place.opening c.args.store.now c.loop-place.store c.args.board.now c.loop-place.board c.mark-mark.new.self c.mark-mark.result.0
           (take c.args.hold c.args.child.choice.places) c.loop-place.place c.get-2.result.now c.try_place.new.self c.match-try_place.board c.loop-place.opening c.match-try_place.opening c.loop-place.store c.match-try_place.store w.board-is w.opening-is w.store-is
-          (tried-late g.N.Network.net g.N.Undo.content g.N.Undo.past g.N.Undo.aside g.N.Undo.max_marks c.args.problem.machine.now c.args.problem.ask.now c.args.child.first c.args.child.act c.args.opening.now c.loop-place.opening c.args.store.now c.loop-place.store c.args.board.now c.loop-place.board c.mark-mark.new.self c.mark-mark.result.0
+          (tried-late g.N.Network.reading g.N.Undo.untouched c.args.problem.machine.now c.args.problem.ask.now c.args.child.first c.args.child.act c.args.opening.now c.loop-place.opening c.args.store.now c.loop-place.store c.args.board.now c.loop-place.board c.mark-mark.new.self c.mark-mark.result.0
           (take c.args.hold c.args.child.choice.places) c.loop-place.place c.get-2.result.now tried c.try_place.new.self
-          (refused-since g.N.Network.net g.N.Undo.content g.N.Undo.past g.N.Undo.aside g.N.Undo.max_marks c.args.problem.machine.now c.args.problem.ask.now c.args.child.first c.args.child.act c.args.opening.now c.loop-place.opening c.args.store.now c.loop-place.store c.args.board.now c.loop-place.board c.mark-mark.new.self c.mark-mark.result.0
+          (refused-since g.N.Network.reading g.N.Undo.untouched c.args.problem.machine.now c.args.problem.ask.now c.args.child.first c.args.child.act c.args.opening.now c.loop-place.opening c.args.store.now c.loop-place.store c.args.board.now c.loop-place.board c.mark-mark.new.self c.mark-mark.result.0
           (take c.args.hold c.args.child.choice.places) c.loop-place.place c.get-2.result.now tried c.try_place.new.self p.past p.loaded p.marks w.in-Err-Here.ensures.back) w.in-Err-Here.ensures.late)
     ] in
-    mark-known g.N.Network.net g.N.Undo.content g.N.Undo.past g.N.Undo.aside g.N.Undo.max_marks c.loop-place.board c.mark-mark.new.self c.match-try_place.board c.mark-mark.result.0 tried.marked after.since.past_same
+    mark-known g.N.Network.reading g.N.Undo.untouched c.loop-place.board c.mark-mark.new.self c.match-try_place.board c.mark-mark.result.0 tried.marked after.since.past_same
 
 -- and was tried, or is late
-tried-here : (g : _) (t : _) (c : After-undo_to-in-loop-place g t) → IsTrying g.N.Network.net g.N.Undo.content g.N.Undo.past g.N.Undo.aside g.N.Undo.max_marks c.args.problem.machine.now c.args.problem.ask.now c.args.child.first c.args.child.act c.args.opening.now c.loop-place.opening c.args.store.now c.loop-place.store c.args.board.now c.loop-place.board c.mark-mark.new.self c.mark-mark.result.0 (take c.args.hold c.args.child.choice.places) c.loop-place.place c.get-2.result.now
-    → IsTried g.N.Network.net g.N.Undo.content g.N.Undo.past g.N.Undo.aside g.N.Undo.max_marks c.args.problem.machine.now c.args.problem.ask.now c.args.child.first c.args.child.act c.args.opening.now c.loop-place.opening c.args.store.now c.loop-place.store c.args.board.now c.loop-place.board c.mark-mark.new.self c.mark-mark.result.0 (take c.args.hold c.args.child.choice.places) c.loop-place.place c.get-2.result.now c.match-try_place.board c.match-try_place.opening c.match-try_place.store
+tried-here : (g : _) (t : _) (c : After-undo_to-in-loop-place g t) → IsTrying g.N.Network.reading g.N.Undo.untouched c.args.problem.machine.now c.args.problem.ask.now c.args.child.first c.args.child.act c.args.opening.now c.loop-place.opening c.args.store.now c.loop-place.store c.args.board.now c.loop-place.board c.mark-mark.new.self c.mark-mark.result.0 (take c.args.hold c.args.child.choice.places) c.loop-place.place c.get-2.result.now
+    → IsTried g.N.Network.reading g.N.Undo.untouched c.args.problem.machine.now c.args.problem.ask.now c.args.child.first c.args.child.act c.args.opening.now c.loop-place.opening c.args.store.now c.loop-place.store c.args.board.now c.loop-place.board c.mark-mark.new.self c.mark-mark.result.0 (take c.args.hold c.args.child.choice.places) c.loop-place.place c.get-2.result.now c.match-try_place.board c.match-try_place.opening c.match-try_place.store
 tried-here g t c tried =
     let known = ap length (ap holds_of_act c.get.ensures) in
     let p = c.try_place.ensures in
     let some : c.args.hold < length c.args.child.choice.places = omega arith in
     let next = next-places c.args.child.choice.places c.args.hold c.loop-place.place some in
     elim c.match-try_place.branch [
-      | in-Ok+else-place_rest w ↦ tried-as g.N.Network.net g.N.Undo.content g.N.Undo.past g.N.Undo.aside g.N.Undo.max_marks c.args.problem.machine.now c.args.problem.ask.now c.args.child.first c.args.child.act c.args.opening.now c.loop-place.opening c.args.store.now c.loop-place.store c.args.board.now c.loop-place.board c.mark-mark.new.self c.mark-mark.result.0
+      | in-Ok+else-place_rest w ↦ tried-as g.N.Network.reading g.N.Undo.untouched c.args.problem.machine.now c.args.problem.ask.now c.args.child.first c.args.child.act c.args.opening.now c.loop-place.opening c.args.store.now c.loop-place.store c.args.board.now c.loop-place.board c.mark-mark.new.self c.mark-mark.result.0
           (take c.args.hold c.args.child.choice.places) c.loop-place.place c.get-2.result.now w.place_rest.new.board c.match-try_place.board w.place_rest.new.opening c.match-try_place.opening w.place_rest.new.store c.match-try_place.store w.board-is w.opening-is w.store-is
-          (tried-placed g.N.Network.net g.N.Undo.content g.N.Undo.past g.N.Undo.aside g.N.Undo.max_marks c.args.problem.machine.now c.args.problem.ask.now c.args.child.first c.args.child.act c.args.opening.now c.loop-place.opening c.args.store.now c.loop-place.store c.args.board.now c.loop-place.board c.mark-mark.new.self c.mark-mark.result.0
+          (tried-placed g.N.Network.reading g.N.Undo.untouched c.args.problem.machine.now c.args.problem.ask.now c.args.child.first c.args.child.act c.args.opening.now c.loop-place.opening c.args.store.now c.loop-place.store c.args.board.now c.loop-place.board c.mark-mark.new.self c.mark-mark.result.0
           (take c.args.hold c.args.child.choice.places) c.loop-place.place c.get-2.result.now tried c.try_place.new.self w.place_rest.new.board w.place_rest.new.opening w.place_rest.new.store
-          (since-step g.N.Network.net g.N.Undo.content g.N.Undo.past g.N.Undo.max_marks c.mark-mark.new.self c.try_place.new.self c.args.problem.machine.now p.past p.loaded p.marks (λ s. w.in-Ok.ensures.stands)) w.place_rest.ensures.same (w.place_rest.ensures.back w.if-place_rest.false)
+          (since-step g.N.Network.reading c.mark-mark.new.self c.try_place.new.self c.args.problem.machine.now p.past p.loaded p.marks (λ s. w.in-Ok.ensures.stands)) w.place_rest.ensures.same (w.place_rest.ensures.back w.if-place_rest.false)
           (subst (λ ps. IsAtProgress c.args.problem.machine.now c.try_place.new.self.plans c.args.problem.ask.now w.place_rest.new.opening w.place_rest.new.store (through c.args.child.act.0 ps)) next (w.place_rest.ensures.progress w.if-place_rest.false)))
-      | in-Err-Here w ↦ tried-as g.N.Network.net g.N.Undo.content g.N.Undo.past g.N.Undo.aside g.N.Undo.max_marks c.args.problem.machine.now c.args.problem.ask.now c.args.child.first c.args.child.act c.args.opening.now c.loop-place.opening c.args.store.now c.loop-place.store c.args.board.now c.loop-place.board c.mark-mark.new.self c.mark-mark.result.0
+      | in-Err-Here w ↦ tried-as g.N.Network.reading g.N.Undo.untouched c.args.problem.machine.now c.args.problem.ask.now c.args.child.first c.args.child.act c.args.opening.now c.loop-place.opening c.args.store.now c.loop-place.store c.args.board.now c.loop-place.board c.mark-mark.new.self c.mark-mark.result.0
           (take c.args.hold c.args.child.choice.places) c.loop-place.place c.get-2.result.now c.try_place.new.self c.match-try_place.board c.loop-place.opening c.match-try_place.opening c.loop-place.store c.match-try_place.store w.board-is w.opening-is w.store-is
-          (tried-late g.N.Network.net g.N.Undo.content g.N.Undo.past g.N.Undo.aside g.N.Undo.max_marks c.args.problem.machine.now c.args.problem.ask.now c.args.child.first c.args.child.act c.args.opening.now c.loop-place.opening c.args.store.now c.loop-place.store c.args.board.now c.loop-place.board c.mark-mark.new.self c.mark-mark.result.0
+          (tried-late g.N.Network.reading g.N.Undo.untouched c.args.problem.machine.now c.args.problem.ask.now c.args.child.first c.args.child.act c.args.opening.now c.loop-place.opening c.args.store.now c.loop-place.store c.args.board.now c.loop-place.board c.mark-mark.new.self c.mark-mark.result.0
           (take c.args.hold c.args.child.choice.places) c.loop-place.place c.get-2.result.now tried c.try_place.new.self
-          (refused-since g.N.Network.net g.N.Undo.content g.N.Undo.past g.N.Undo.aside g.N.Undo.max_marks c.args.problem.machine.now c.args.problem.ask.now c.args.child.first c.args.child.act c.args.opening.now c.loop-place.opening c.args.store.now c.loop-place.store c.args.board.now c.loop-place.board c.mark-mark.new.self c.mark-mark.result.0
+          (refused-since g.N.Network.reading g.N.Undo.untouched c.args.problem.machine.now c.args.problem.ask.now c.args.child.first c.args.child.act c.args.opening.now c.loop-place.opening c.args.store.now c.loop-place.store c.args.board.now c.loop-place.board c.mark-mark.new.self c.mark-mark.result.0
           (take c.args.hold c.args.child.choice.places) c.loop-place.place c.get-2.result.now tried c.try_place.new.self p.past p.loaded p.marks w.in-Err-Here.ensures.back) w.in-Err-Here.ensures.late)
     ]
 
@@ -179,14 +179,14 @@ loop-place-preserved g t c =
     let tried = trying-here g t (goal.at.loop-place-preserved g t c).After-mark-mark in
     let after = tried-here g t (goal.at.loop-place-preserved g t c).After-undo_to-in-loop-place tried in
     let u = c.undo_to-in-loop-place.ensures in
-    let back = back-now g.N.Network.net g.N.Undo.content g.N.Undo.past g.N.Undo.aside g.N.Undo.max_marks c.args.problem.machine.now c.args.problem.ask.now c.args.child.first c.args.child.act c.args.opening.now c.loop-place.opening c.args.store.now c.loop-place.store c.args.board.now c.loop-place.board c.mark-mark.new.self c.mark-mark.result.0
+    let back = back-now g.N.Network.reading g.N.Undo.untouched c.args.problem.machine.now c.args.problem.ask.now c.args.child.first c.args.child.act c.args.opening.now c.loop-place.opening c.args.store.now c.loop-place.store c.args.board.now c.loop-place.board c.mark-mark.new.self c.mark-mark.result.0
     (take c.args.hold c.args.child.choice.places) c.loop-place.place c.get-2.result.now tried c.match-try_place.board c.undo_to-in-loop-place.new.self c.match-try_place.opening c.match-try_place.store after
-    (record { content_then = u.content; past_less = u.past; aside_same = u.aside; room_same = u.room }) in
+    (record { content_then = u.content; past_less = u.past; untouched_same = u.untouched; room_same = u.capacity }) in
     record {
-      progress = next-now g.N.Network.net g.N.Undo.content g.N.Undo.past g.N.Undo.aside g.N.Undo.max_marks c.args.problem.machine.now c.args.problem.ask.now c.args.child.first c.args.child.act c.args.opening.now c.loop-place.opening c.args.store.now c.loop-place.store c.args.board.now c.loop-place.board c.mark-mark.new.self c.mark-mark.result.0
+      progress = next-now g.N.Network.reading g.N.Undo.untouched c.args.problem.machine.now c.args.problem.ask.now c.args.child.first c.args.child.act c.args.opening.now c.loop-place.opening c.args.store.now c.loop-place.store c.args.board.now c.loop-place.board c.mark-mark.new.self c.mark-mark.result.0
           (take c.args.hold c.args.child.choice.places) c.loop-place.place c.get-2.result.now tried c.match-try_place.board c.undo_to-in-loop-place.new.self c.match-try_place.opening c.match-try_place.store after
           (c.loop-place.place - 1) (omega arith) back;
-      same = same-now g.N.Network.net g.N.Undo.content g.N.Undo.past g.N.Undo.aside g.N.Undo.max_marks c.args.problem.machine.now c.args.problem.ask.now c.args.child.first c.args.child.act c.args.opening.now c.loop-place.opening c.args.store.now c.loop-place.store c.args.board.now c.loop-place.board c.mark-mark.new.self c.mark-mark.result.0
+      same = same-now g.N.Network.reading g.N.Undo.untouched c.args.problem.machine.now c.args.problem.ask.now c.args.child.first c.args.child.act c.args.opening.now c.loop-place.opening c.args.store.now c.loop-place.store c.args.board.now c.loop-place.board c.mark-mark.new.self c.mark-mark.result.0
           (take c.args.hold c.args.child.choice.places) c.loop-place.place c.get-2.result.now tried c.match-try_place.board c.undo_to-in-loop-place.new.self c.match-try_place.opening c.match-try_place.store after;
       back = back;
     }
@@ -197,7 +197,7 @@ returns-after-try_place-clause-progress g t c none =
     let count : length (take c.args.hold c.args.child.choice.places) ≡ c.args.hold = length-take-le c.args.hold c.args.child.choice.places (omega arith) in
     let tried = trying-here g t (goal.at.returns-after-try_place-clause-progress g t c).After-mark-mark in
     let after = tried-here g t (goal.at.returns-after-try_place-clause-progress g t c).After-undo_to-in-loop-place tried in
-    end-now g.N.Network.net g.N.Undo.content g.N.Undo.past g.N.Undo.aside g.N.Undo.max_marks c.args.problem.machine.now c.args.problem.ask.now c.args.child.first c.args.child.act c.args.opening.now c.loop-place.opening c.args.store.now c.loop-place.store c.args.board.now c.loop-place.board c.mark-mark.new.self c.mark-mark.result.0
+    end-now g.N.Network.reading g.N.Undo.untouched c.args.problem.machine.now c.args.problem.ask.now c.args.child.first c.args.child.act c.args.opening.now c.loop-place.opening c.args.store.now c.loop-place.store c.args.board.now c.loop-place.board c.mark-mark.new.self c.mark-mark.result.0
     (take c.args.hold c.args.child.choice.places) c.loop-place.place c.get-2.result.now tried c.match-try_place.board c.undo_to-in-loop-place.new.self c.match-try_place.opening c.match-try_place.store after (omega arith) (omega arith)
 
 pub returns-after-try_place-clause-same : goal.returns-after-try_place-clause-same
@@ -205,7 +205,7 @@ returns-after-try_place-clause-same g t c =
     let known = ap length (ap holds_of_act c.get.ensures) in
     let tried = trying-here g t (goal.at.returns-after-try_place-clause-same g t c).After-mark-mark in
     let after = tried-here g t (goal.at.returns-after-try_place-clause-same g t c).After-undo_to-in-loop-place tried in
-    same-now g.N.Network.net g.N.Undo.content g.N.Undo.past g.N.Undo.aside g.N.Undo.max_marks c.args.problem.machine.now c.args.problem.ask.now c.args.child.first c.args.child.act c.args.opening.now c.loop-place.opening c.args.store.now c.loop-place.store c.args.board.now c.loop-place.board c.mark-mark.new.self c.mark-mark.result.0
+    same-now g.N.Network.reading g.N.Undo.untouched c.args.problem.machine.now c.args.problem.ask.now c.args.child.first c.args.child.act c.args.opening.now c.loop-place.opening c.args.store.now c.loop-place.store c.args.board.now c.loop-place.board c.mark-mark.new.self c.mark-mark.result.0
     (take c.args.hold c.args.child.choice.places) c.loop-place.place c.get-2.result.now tried c.match-try_place.board c.undo_to-in-loop-place.new.self c.match-try_place.opening c.match-try_place.store after
 
 pub returns-after-try_place-clause-back : goal.returns-after-try_place-clause-back
@@ -214,16 +214,16 @@ returns-after-try_place-clause-back g t c none =
     let tried = trying-here g t (goal.at.returns-after-try_place-clause-back g t c).After-mark-mark in
     let after = tried-here g t (goal.at.returns-after-try_place-clause-back g t c).After-undo_to-in-loop-place tried in
     let u = c.undo_to-in-loop-place.ensures in
-    back-now g.N.Network.net g.N.Undo.content g.N.Undo.past g.N.Undo.aside g.N.Undo.max_marks c.args.problem.machine.now c.args.problem.ask.now c.args.child.first c.args.child.act c.args.opening.now c.loop-place.opening c.args.store.now c.loop-place.store c.args.board.now c.loop-place.board c.mark-mark.new.self c.mark-mark.result.0
+    back-now g.N.Network.reading g.N.Undo.untouched c.args.problem.machine.now c.args.problem.ask.now c.args.child.first c.args.child.act c.args.opening.now c.loop-place.opening c.args.store.now c.loop-place.store c.args.board.now c.loop-place.board c.mark-mark.new.self c.mark-mark.result.0
     (take c.args.hold c.args.child.choice.places) c.loop-place.place c.get-2.result.now tried c.match-try_place.board c.undo_to-in-loop-place.new.self c.match-try_place.opening c.match-try_place.store after
-    (record { content_then = u.content; past_less = u.past; aside_same = u.aside; room_same = u.room })
+    (record { content_then = u.content; past_less = u.past; untouched_same = u.untouched; room_same = u.capacity })
 
 pub returns-in-Err-UpToHere-clause-progress : goal.returns-in-Err-UpToHere-clause-progress
 returns-in-Err-UpToHere-clause-progress g t c none =
     let known = ap length (ap holds_of_act c.get.ensures) in
     let count : length (take c.args.hold c.args.child.choice.places) ≡ c.args.hold = length-take-le c.args.hold c.args.child.choice.places (omega arith) in
     let tried = trying-here g t (goal.at.returns-in-Err-UpToHere-clause-progress g t c).After-mark-mark in
-    shut-now g.N.Network.net g.N.Undo.content g.N.Undo.past g.N.Undo.aside g.N.Undo.max_marks c.args.problem.machine.now c.args.problem.ask.now c.args.child.first c.args.child.act c.args.opening.now c.loop-place.opening c.args.store.now c.loop-place.store c.args.board.now c.loop-place.board c.mark-mark.new.self c.mark-mark.result.0
+    shut-now g.N.Network.reading g.N.Undo.untouched c.args.problem.machine.now c.args.problem.ask.now c.args.child.first c.args.child.act c.args.opening.now c.loop-place.opening c.args.store.now c.loop-place.store c.args.board.now c.loop-place.board c.mark-mark.new.self c.mark-mark.result.0
     (take c.args.hold c.args.child.choice.places) c.loop-place.place c.get-2.result.now tried (omega arith) (c.in-Err-UpToHere.ensures.late_before c.in-Err-UpToHere.field-0-is)
 
 pub returns-in-Err-UpToHere-clause-back : goal.returns-in-Err-UpToHere-clause-back
@@ -231,20 +231,20 @@ returns-in-Err-UpToHere-clause-back g t c none =
     let tried = trying-here g t (goal.at.returns-in-Err-UpToHere-clause-back g t c).After-mark-mark in
     let p = c.try_place.ensures in
     let u = c.undo_to.ensures in
-    let after = tried-late g.N.Network.net g.N.Undo.content g.N.Undo.past g.N.Undo.aside g.N.Undo.max_marks c.args.problem.machine.now c.args.problem.ask.now c.args.child.first c.args.child.act c.args.opening.now c.loop-place.opening c.args.store.now c.loop-place.store c.args.board.now c.loop-place.board c.mark-mark.new.self c.mark-mark.result.0
+    let after = tried-late g.N.Network.reading g.N.Undo.untouched c.args.problem.machine.now c.args.problem.ask.now c.args.child.first c.args.child.act c.args.opening.now c.loop-place.opening c.args.store.now c.loop-place.store c.args.board.now c.loop-place.board c.mark-mark.new.self c.mark-mark.result.0
     (take c.args.hold c.args.child.choice.places) c.loop-place.place c.get-2.result.now tried c.try_place.new.self
-    (refused-since g.N.Network.net g.N.Undo.content g.N.Undo.past g.N.Undo.aside g.N.Undo.max_marks c.args.problem.machine.now c.args.problem.ask.now c.args.child.first c.args.child.act c.args.opening.now c.loop-place.opening c.args.store.now c.loop-place.store c.args.board.now c.loop-place.board c.mark-mark.new.self c.mark-mark.result.0
+    (refused-since g.N.Network.reading g.N.Undo.untouched c.args.problem.machine.now c.args.problem.ask.now c.args.child.first c.args.child.act c.args.opening.now c.loop-place.opening c.args.store.now c.loop-place.store c.args.board.now c.loop-place.board c.mark-mark.new.self c.mark-mark.result.0
     (take c.args.hold c.args.child.choice.places) c.loop-place.place c.get-2.result.now tried c.try_place.new.self p.past p.loaded p.marks c.in-Err-UpToHere.ensures.back) c.in-Err-UpToHere.ensures.late in
-    back-now g.N.Network.net g.N.Undo.content g.N.Undo.past g.N.Undo.aside g.N.Undo.max_marks c.args.problem.machine.now c.args.problem.ask.now c.args.child.first c.args.child.act c.args.opening.now c.loop-place.opening c.args.store.now c.loop-place.store c.args.board.now c.loop-place.board c.mark-mark.new.self c.mark-mark.result.0
+    back-now g.N.Network.reading g.N.Undo.untouched c.args.problem.machine.now c.args.problem.ask.now c.args.child.first c.args.child.act c.args.opening.now c.loop-place.opening c.args.store.now c.loop-place.store c.args.board.now c.loop-place.board c.mark-mark.new.self c.mark-mark.result.0
     (take c.args.hold c.args.child.choice.places) c.loop-place.place c.get-2.result.now tried c.try_place.new.self c.undo_to.new.self c.loop-place.opening c.loop-place.store after
-    (record { content_then = u.content; past_less = u.past; aside_same = u.aside; room_same = u.room })
+    (record { content_then = u.content; past_less = u.past; untouched_same = u.untouched; room_same = u.capacity })
 
 -- an answer behind the place ends it
 pub returns-then-place_rest-clause-found : goal.returns-then-place_rest-clause-found
 returns-then-place_rest-clause-found g t c is =
     let tried = trying-here g t (goal.at.returns-then-place_rest-clause-found g t c).After-mark-mark in
     let p = c.try_place.ensures in
-    found-now g.N.Network.net g.N.Undo.content g.N.Undo.past g.N.Undo.aside g.N.Undo.max_marks c.args.problem.machine.now c.args.problem.ask.now c.args.child.first c.args.child.act c.args.opening.now c.loop-place.opening c.args.store.now c.loop-place.store c.args.board.now c.loop-place.board c.mark-mark.new.self c.mark-mark.result.0
+    found-now g.N.Network.reading g.N.Undo.untouched c.args.problem.machine.now c.args.problem.ask.now c.args.child.first c.args.child.act c.args.opening.now c.loop-place.opening c.args.store.now c.loop-place.store c.args.board.now c.loop-place.board c.mark-mark.new.self c.mark-mark.result.0
     (take c.args.hold c.args.child.choice.places) c.loop-place.place c.get-2.result.now tried c.try_place.new.self c.place_rest.new.board p.past p.loaded p.marks (c.place_rest.ensures.found c.if-place_rest.true)
 
 pub returns-then-place_rest-clause-same : goal.returns-then-place_rest-clause-same

@@ -15,5 +15,5 @@ abbrev pub invariant-loop-place : goal.invariant-loop-place
 invariant-loop-place g l = record {
   progress : IsAtProgress l.problem.machine.now l.board.plans l.problem.ask.now l.opening l.store (up_to l.child.act.0 (take l.hold l.child.choice.places ++ l.place ∷ []));
   same : IsSameOpening l.fn.opening l.opening l.fn.store l.store;
-  back : IsBack g.N.Network.net g.N.Undo.content g.N.Undo.past g.N.Undo.max_marks l.fn.board l.board l.problem.machine.now;
+  back : IsBack g.N.Network.reading l.fn.board l.board l.problem.machine.now;
 }

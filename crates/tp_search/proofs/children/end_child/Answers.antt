@@ -10,7 +10,7 @@ use Rattle.tp_search.specs.Stored.{choice_with, choices_by}
 use Rattle.tp_search.specs.Stores.{IsInRange, StoreGrows, after_keep}
 use Rattle.tp_search.proofs.FoundFacts.{found-laid}
 use Rattle.tp_search.proofs.FurtherFacts.{further-same}
-use Rattle.tp_search.proofs.OpeningSame.{dived-same, fresh-same, progress-same}
+use Rattle.tp_search.proofs.OpeningSame.{barred-same, fresh-same, progress-same}
 use Rattle.tp_search.proofs.PlaceSteps.{all-placed, holds-four, laid-same}
 use Rattle.tp_search.proofs.StoreFacts.{grows-by_keep, grows-itself}
 use Rattle.tp_search.proofs.children.end_child.Goals as goal
@@ -35,15 +35,15 @@ kept g c =
     let o = c.args.opening.now in
     let o' = c.dive_from.new.opening in
     let s = c.args.store.now in
-    let same = dived-same o o' s s c.dive_from.ensures.same (grows-itself s) in
+    let same = barred-same o o' s s c.dive_from.ensures.same (grows-itself s) in
     let other : IsTrue c.args.child.complete → c.end_bound-bound.result ≡ o'.bound → ⊥ = elim c.else-child.branch [
       | else-child-via-then-child+else-bound-opening w ↦ λ complete is. w.if-bound-opening.false (is ∙ same.bound)
       | else-child-via-else-child w ↦ λ complete is. both_ways c.args.child.complete w.if-child.false complete
     ] in
     let places = (choice_with c.args.problem.machine.now c.args.child.act c.args.child.choice.places).places in
-    all-placed g.N.Network.net g.N.Undo.content g.N.Undo.past g.N.Undo.max_marks c.args.problem.machine.now c.args.problem.ask.now c.args.child.first o' s c.args.board.now c.args.child.act c.args.child.choice places c.args.child.complete c.end_bound-bound.result
+    all-placed g.N.Network.reading c.args.problem.machine.now c.args.problem.ask.now c.args.child.first o' s c.args.board.now c.args.child.act c.args.child.choice places c.args.child.complete c.end_bound-bound.result
     r.child.act (r.child.goal ∙ sym same.goal) refl (many g (goal.at.After-dive_from g c).After-end_bound-bound) r.child.complete
-    (laid-same g.N.Network.net g.N.Undo.content g.N.Undo.past g.N.Undo.max_marks c.args.problem.machine.now c.args.problem.ask.now c.args.child.first o s c.args.board.now o' s (λ cs. choice_with c.args.problem.machine.now c.args.child.act c.args.child.choice.places ∷ cs) same r.fresh r.laid)
+    (laid-same g.N.Network.reading c.args.problem.machine.now c.args.problem.ask.now c.args.child.first o s c.args.board.now o' s (λ cs. choice_with c.args.problem.machine.now c.args.child.act c.args.child.choice.places ∷ cs) same r.fresh r.laid)
     (fresh-same c.args.problem.machine.now c.args.problem.ask.now o o' s s same r.fresh) r.bounds
     (progress-same c.args.problem.machine.now c.args.board.now.plans c.args.problem.ask.now o o' s (up_to c.args.child.act.0 places) same.goal same.parent same.bound same.stored r.progress)
     (c.end_bound-bound.ensures c.args.problem.machine.now r.laid.stands) other
@@ -54,8 +54,8 @@ returns-then-bound-opening-clause-found g c is =
     let r = c.requires in
     let b = c.args.board.now in
     let new = r.child.complete.0 c.if-child.true in
-    found-laid g.N.Network.net g.N.Undo.content g.N.Undo.past g.N.Undo.max_marks b b c.args.problem.machine.now c.args.problem.ask.now c.args.opening.now.goal c.args.child.first (choices_here g k) c.args.opening.now.bound c.end_bound-bound.result
-    (further-same g.N.Network.net g.N.Undo.content g.N.Undo.past g.N.Undo.max_marks b b refl (record { made_for = refl; plans = refl; ask = refl }) refl) r.laid (each g k) new.0 new.1 (c.end_bound-bound.ensures c.args.problem.machine.now r.laid.stands)
+    found-laid g.N.Network.reading b b c.args.problem.machine.now c.args.problem.ask.now c.args.opening.now.goal c.args.child.first (choices_here g k) c.args.opening.now.bound c.end_bound-bound.result
+    (further-same g.N.Network.reading b b refl (record { made_for = refl; plans = refl; ask = refl }) refl) r.laid (each g k) new.0 new.1 (c.end_bound-bound.ensures c.args.problem.machine.now r.laid.stands)
     (omega (arith, c.if-bound-opening.true))
 
 pub dive_from-requires-clause-carries : goal.dive_from-requires-clause-carries
@@ -64,7 +64,7 @@ dive_from-requires-clause-carries g c =
     record { goal = c.args.opening.now.goal; choices = choices_here g k; laid = c.requires.laid; placed = each g k; count = c.requires.count }
 
 pub returns-then-dive_from-clause-same : goal.returns-then-dive_from-clause-same
-returns-then-dive_from-clause-same g c = dived-same c.args.opening.now c.dive_from.new.opening c.args.store.now c.args.store.now c.dive_from.ensures.same (grows-itself c.args.store.now)
+returns-then-dive_from-clause-same g c = barred-same c.args.opening.now c.dive_from.new.opening c.args.store.now c.args.store.now c.dive_from.ensures.same (grows-itself c.args.store.now)
 
 pub keep-requires-clause-range : goal.keep-requires-clause-range
 keep-requires-clause-range g c = (kept g (goal.at.keep-requires-clause-range g c).After-dive_from).0
@@ -76,5 +76,5 @@ returns-clause-progress g c none =
 
 pub returns-clause-same : goal.returns-clause-same
 returns-clause-same g c =
-    dived-same c.args.opening.now c.dive_from.new.opening c.args.store.now c.keep.new.self c.dive_from.ensures.same
+    barred-same c.args.opening.now c.dive_from.new.opening c.args.store.now c.keep.new.self c.dive_from.ensures.same
     (subst (StoreGrows c.args.store.now) (sym c.keep.ensures) (grows-by_keep c.dive_from.new.opening.parent c.args.child.choice c.end_bound-bound.result c.args.child.complete c.args.store.now))

@@ -11,7 +11,8 @@ use Rattle.tp_ways.specs.Ways.{IsPlaced}
 use Rattle.tp_search.proofs.ActSteps.{laid-at_most, opening-full_list}
 use Rattle.tp_search.proofs.BoardSteps.{back-trans, laid-back}
 use Rattle.tp_search.proofs.FurtherFacts.{found-further, further-back}
-use Rattle.tp_search.proofs.LeadFacts.{ahead, ahead-smaller, laid-known, leads-first, leads-next, led-here, number, over-others}
+use Rattle.tp_routes.proofs.AlongFacts.{ahead, fewer-ahead}
+use Rattle.tp_search.proofs.LeadFacts.{laid-known, leads-first, leads-next, led-here, number, over-others}
 use Rattle.tp_search.proofs.OpeningSame.{before-same, bounds-same, fresh-same, same-trans}
 use Rattle.tp_search.proofs.PlaceSteps.{laid-same, parent-same}
 use Rattle.tp_search.proofs.children.open_list.Goals as goal
@@ -25,11 +26,11 @@ returns-then-kept-laid-eq64-clause-progress g c none =
     (parent-same c.args.problem.machine.now c.args.problem.ask.now c.args.opening.now c.open_stop.new.opening c.args.store.now c.open_stop.new.store stop.same c.requires.opened.fresh) full (stop.progress c.if-open_stop.false)
 
 -- the list is on the board as it was
-laid-now : (g : _) (c : In-Some g) → IsLaid g.N.Network.net g.N.Undo.content g.N.Undo.past g.N.Undo.max_marks c.acts.board c.args.problem.machine.now c.args.problem.ask.now c.acts.opening.goal c.args.laid.first
+laid-now : (g : _) (c : In-Some g) → IsLaid g.N.Network.reading c.acts.board c.args.problem.machine.now c.args.problem.ask.now c.acts.opening.goal c.args.laid.first
     (choices_by c.args.problem.machine.now (choices_before c.acts.store.entries c.acts.opening.parent))
 laid-now g c =
-    laid-same g.N.Network.net g.N.Undo.content g.N.Undo.past g.N.Undo.max_marks c.args.problem.machine.now c.args.problem.ask.now c.args.laid.first c.args.opening.now c.args.store.now c.acts.board c.acts.opening c.acts.store (λ cs. cs) c.acts.invariant.same c.requires.opened.fresh
-    (laid-back g.N.Network.net g.N.Undo.content g.N.Undo.past g.N.Undo.max_marks c.args.board.now c.acts.board c.args.problem.machine.now c.args.problem.ask.now c.args.opening.now.goal c.args.laid.first (choices_by c.args.problem.machine.now (choices_before c.args.store.now.entries c.args.opening.now.parent)) c.acts.invariant.back c.requires.opened.laid)
+    laid-same g.N.Network.reading c.args.problem.machine.now c.args.problem.ask.now c.args.laid.first c.args.opening.now c.args.store.now c.acts.board c.acts.opening c.acts.store (λ cs. cs) c.acts.invariant.same c.requires.opened.fresh
+    (laid-back g.N.Network.reading c.args.board.now c.acts.board c.args.problem.machine.now c.args.problem.ask.now c.args.opening.now.goal c.args.laid.first (choices_by c.args.problem.machine.now (choices_before c.args.store.now.entries c.args.opening.now.parent)) c.acts.invariant.back c.requires.opened.laid)
 
 pub open_act-requires-clause-opened : goal.open_act-requires-clause-opened
 open_act-requires-clause-opened g c =
@@ -44,7 +45,7 @@ open_act-requires-clause-opened g c =
 
 pub open_act-requires-clause-fewer : goal.open_act-requires-clause-fewer
 open_act-requires-clause-fewer g c =
-    let most = laid-at_most g.N.Network.net g.N.Undo.content g.N.Undo.past g.N.Undo.max_marks c.args.board.now c.args.problem.machine.now c.args.problem.ask.now c.args.opening.now.goal c.args.laid.first (choices_by c.args.problem.machine.now (choices_before c.args.store.now.entries c.args.opening.now.parent)) c.requires.opened.laid in
+    let most = laid-at_most g.N.Network.reading c.args.board.now c.args.problem.machine.now c.args.problem.ask.now c.args.opening.now.goal c.args.laid.first (choices_by c.args.problem.machine.now (choices_before c.args.store.now.entries c.args.opening.now.parent)) c.requires.opened.laid in
     let same = ap (λ cs. length (choices_by c.args.problem.machine.now cs)) (before-same c.args.problem.machine.now c.args.problem.ask.now c.args.opening.now c.acts.opening c.args.store.now c.acts.store c.acts.invariant.same c.requires.opened.fresh) in
     omega arith
 
@@ -58,19 +59,19 @@ open_act-requires-clause-known g c = (here g (goal.at.open_act-requires-clause-k
 pub open_act-requires-clause-progress : goal.open_act-requires-clause-progress
 open_act-requires-clause-progress g c =
     let h = here g (goal.at.open_act-requires-clause-progress g c).In-Some in
-    over-others g.N.Network.net g.N.Undo.content g.N.Undo.past g.N.Undo.max_marks c.acts.board c.args.problem.machine.now c.args.problem.ask.now c.args.laid.first c.acts.opening c.acts.store (laid-now g (goal.at.open_act-requires-clause-progress g c).In-Some)
+    over-others g.N.Network.reading c.acts.board c.args.problem.machine.now c.args.problem.ask.now c.args.laid.first c.acts.opening c.acts.store (laid-now g (goal.at.open_act-requires-clause-progress g c).In-Some)
     c.acts.invariant.led.low c.in-Some.act.0 h.0 h.3 c.acts.invariant.led.progress
 
 pub first_to-next-requires : goal.first_to-next-requires
 first_to-next-requires g c =
-    let known = laid-known g.N.Network.net g.N.Undo.content g.N.Undo.past g.N.Undo.max_marks c.args.board.now c.args.problem.machine.now c.args.problem.ask.now c.args.opening.now.goal c.args.laid.first _ c.requires.opened.laid c.requires.posed.origin in
+    let known = laid-known g.N.Network.reading c.args.board.now c.args.problem.machine.now c.args.problem.ask.now c.args.opening.now.goal c.args.laid.first _ c.requires.opened.laid c.requires.posed.origin in
     let same = c.requires.posed.table.locations in
     omega arith
 
 pub acts-init : goal.acts-init
 acts-init g c =
     let stop = c.open_stop.ensures in
-    let known = laid-known g.N.Network.net g.N.Undo.content g.N.Undo.past g.N.Undo.max_marks c.args.board.now c.args.problem.machine.now c.args.problem.ask.now c.args.opening.now.goal c.args.laid.first _ c.requires.opened.laid c.requires.posed.origin in
+    let known = laid-known g.N.Network.reading c.args.board.now c.args.problem.machine.now c.args.problem.ask.now c.args.opening.now.goal c.args.laid.first _ c.requires.opened.laid c.requires.posed.origin in
     record {
       led = record {
         low = 0;
@@ -98,22 +99,22 @@ acts-preserved g c =
         progress = subst (λ ps. IsAtProgress c.args.problem.machine.now ps c.args.problem.ask.now c.open_act.new.opening c.open_act.new.store (up_to (c.in-Some.act.0 + 1) [])) (sym back.loaded.plans) (act.progress c.if-open_act.false);
       };
       same = same-trans c.args.opening.now c.acts.opening c.open_act.new.opening c.args.store.now c.acts.store c.open_act.new.store c.acts.invariant.same act.same;
-      back = back-trans g.N.Network.net g.N.Undo.content g.N.Undo.past g.N.Undo.max_marks c.args.board.now c.acts.board c.open_act.new.board c.args.problem.machine.now c.acts.invariant.back back;
+      back = back-trans g.N.Network.reading c.args.board.now c.acts.board c.open_act.new.board c.args.problem.machine.now c.acts.invariant.back back;
     }
 
 pub acts-smaller : goal.acts-smaller
 acts-smaller g c =
     let h = here g (goal.at.acts-smaller g c).In-Some in
     let next = leads-next c.args.problem.machine.now c.args.problem.rooms.now.firsts c.args.problem.rooms.now.nexts c.args.laid.first.loc.0 c.requires.posed.leads c.in-Some.act c.next_to-next.result h.1 h.2 c.next_to-next.ensures in
-    subst (λ o. ahead c.args.problem.machine.now c.next_to-next.result < ahead c.args.problem.machine.now o) (sym c.in-Some.is)
-    (ahead-smaller c.args.problem.machine.now c.args.laid.first.loc.0 c.in-Some.act c.next_to-next.result h.1 next)
+    subst (λ o. ahead (length c.args.problem.machine.now.actions) (number c.next_to-next.result) < ahead (length c.args.problem.machine.now.actions) (number o)) (sym c.in-Some.is)
+    (fewer-ahead c.args.problem.machine.now.actions c.args.laid.first.loc.0 c.in-Some.act.0 (number c.next_to-next.result) h.1 next)
 
 pub returns-clause-progress : goal.returns-clause-progress
 returns-clause-progress g c none =
     let v = c.acts.invariant in
     let rest : NoneTo c.args.problem.machine.now.actions c.args.laid.first.loc.0 v.led.low (length c.args.problem.machine.now.actions) = subst (λ n. IsNextTo c.args.problem.machine.now.actions c.args.laid.first.loc.0 v.led.low (number n)) c.in_default.is v.led.leads in
     subst (λ ps. IsAtProgress c.args.problem.machine.now ps c.args.problem.ask.now c.acts.opening c.acts.store (up_to (length c.args.problem.machine.now.actions) [])) v.back.loaded.plans
-    (over-others g.N.Network.net g.N.Undo.content g.N.Undo.past g.N.Undo.max_marks c.acts.board c.args.problem.machine.now c.args.problem.ask.now c.args.laid.first c.acts.opening c.acts.store (laid-same g.N.Network.net g.N.Undo.content g.N.Undo.past g.N.Undo.max_marks c.args.problem.machine.now c.args.problem.ask.now c.args.laid.first c.args.opening.now c.args.store.now c.acts.board c.acts.opening c.acts.store (λ cs. cs) c.acts.invariant.same c.requires.opened.fresh (laid-back g.N.Network.net g.N.Undo.content g.N.Undo.past g.N.Undo.max_marks c.args.board.now c.acts.board c.args.problem.machine.now c.args.problem.ask.now c.args.opening.now.goal c.args.laid.first (choices_by c.args.problem.machine.now (choices_before c.args.store.now.entries c.args.opening.now.parent)) c.acts.invariant.back c.requires.opened.laid)) v.led.low (length c.args.problem.machine.now.actions) v.led.within rest v.led.progress)
+    (over-others g.N.Network.reading c.acts.board c.args.problem.machine.now c.args.problem.ask.now c.args.laid.first c.acts.opening c.acts.store (laid-same g.N.Network.reading c.args.problem.machine.now c.args.problem.ask.now c.args.laid.first c.args.opening.now c.args.store.now c.acts.board c.acts.opening c.acts.store (λ cs. cs) c.acts.invariant.same c.requires.opened.fresh (laid-back g.N.Network.reading c.args.board.now c.acts.board c.args.problem.machine.now c.args.problem.ask.now c.args.opening.now.goal c.args.laid.first (choices_by c.args.problem.machine.now (choices_before c.args.store.now.entries c.args.opening.now.parent)) c.acts.invariant.back c.requires.opened.laid)) v.led.low (length c.args.problem.machine.now.actions) v.led.within rest v.led.progress)
 
 pub open_act-requires-clause-count : goal.open_act-requires-clause-count
 open_act-requires-clause-count g c =
@@ -123,8 +124,8 @@ open_act-requires-clause-count g c =
 pub returns-then-open_act-clause-found : goal.returns-then-open_act-clause-found
 returns-then-open_act-clause-found g c is =
     let v = c.acts.invariant in
-    found-further g.N.Network.net g.N.Undo.content g.N.Undo.past g.N.Undo.max_marks c.args.board.now c.acts.board c.open_act.new.board c.args.problem.machine.now c.args.problem.ask.now c.args.opening.now.bound (further-back g.N.Network.net g.N.Undo.content g.N.Undo.past g.N.Undo.max_marks c.args.board.now c.acts.board c.args.problem.machine.now v.back)
-    (subst (HasFound g.N.Network.net g.N.Undo.content g.N.Undo.past g.N.Undo.max_marks c.acts.board c.open_act.new.board c.args.problem.machine.now c.args.problem.ask.now) v.same.bound (c.open_act.ensures.found c.if-open_act.true))
+    found-further g.N.Network.reading c.args.board.now c.acts.board c.open_act.new.board c.args.problem.machine.now c.args.problem.ask.now c.args.opening.now.bound (further-back g.N.Network.reading c.args.board.now c.acts.board c.args.problem.machine.now v.back)
+    (subst (HasFound g.N.Network.reading c.acts.board c.open_act.new.board c.args.problem.machine.now c.args.problem.ask.now) v.same.bound (c.open_act.ensures.found c.if-open_act.true))
 
 pub returns-then-open_act-clause-same : goal.returns-then-open_act-clause-same
 returns-then-open_act-clause-same g c = same-trans c.args.opening.now c.acts.opening c.open_act.new.opening c.args.store.now c.acts.store c.open_act.new.store c.acts.invariant.same c.open_act.ensures.same

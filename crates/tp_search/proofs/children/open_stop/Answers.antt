@@ -16,7 +16,7 @@ use Rattle.tp_search.specs.Stored.{choices_by}
 use Rattle.tp_search.specs.Stores.{IsInRange, after_keep}
 use Rattle.tp_search.proofs.BoardSteps.{IsMarked, laid-marked, load-of, since-step, taken-back}
 use Rattle.tp_search.proofs.FurtherFacts.{further-marked, further-step}
-use Rattle.tp_search.proofs.OpeningSame.{dived-same, same-itself}
+use Rattle.tp_search.proofs.OpeningSame.{barred-same, same-itself}
 use Rattle.tp_search.proofs.StopSteps.{empty-going, late-going, new-going, other-going, stop-found, stop-looked, stopped-bound}
 use Rattle.tp_search.proofs.StoreFacts.{grows-by_keep}
 use Rattle.tp_search.proofs.children.open_stop.Goals as goal
@@ -27,38 +27,38 @@ abbrev stop_to : State → Stored
 stop_to goal = record { act = None; goal = goal; places = 0 ∷ 0 ∷ 0 ∷ 0 ∷ [] }
 
 -- the board was marked
-marked : (g : _) (c : After-mark-mark g) → IsMarked g.N.Network.net g.N.Undo.content g.N.Undo.past g.N.Undo.aside g.N.Undo.max_marks c.args.board.now c.mark-mark.new.self c.mark-mark.result.0
+marked : (g : _) (c : After-mark-mark g) → IsMarked g.N.Network.reading g.N.Undo.untouched c.args.board.now c.mark-mark.new.self c.mark-mark.result.0
 marked g c =
     let m = c.mark-mark.ensures in
-    record { number = m.number; past_more = m.past; content_same = m.content; aside_same = m.aside; room_same = m.room }
+    record { number = m.number; past_more = m.past; content_same = m.content; untouched_same = m.untouched; room_same = m.capacity }
 
 -- it carries the list as before, with the same plans
-laid : (g : _) (c : After-mark-mark g) → IsLaid g.N.Network.net g.N.Undo.content g.N.Undo.past g.N.Undo.max_marks c.mark-mark.new.self c.args.problem.machine.now c.args.problem.ask.now c.args.opening.now.goal c.args.laid.first
+laid : (g : _) (c : After-mark-mark g) → IsLaid g.N.Network.reading c.mark-mark.new.self c.args.problem.machine.now c.args.problem.ask.now c.args.opening.now.goal c.args.laid.first
     (choices_by c.args.problem.machine.now (choices_before c.args.store.now.entries c.args.opening.now.parent))
 laid g c =
-    laid-marked g.N.Network.net g.N.Undo.content g.N.Undo.past g.N.Undo.aside g.N.Undo.max_marks c.marks_keep_boards.ensures.mark c.args.board.now c.mark-mark.new.self c.mark-mark.result.0 c.args.problem.machine.now c.args.problem.ask.now
+    laid-marked g.N.Network.reading g.N.Undo.untouched c.marks_keep_boards.ensures.mark c.args.board.now c.mark-mark.new.self c.mark-mark.result.0 c.args.problem.machine.now c.args.problem.ask.now
     c.args.opening.now.goal c.args.laid.first (choices_by c.args.problem.machine.now (choices_before c.args.store.now.entries c.args.opening.now.parent)) (marked g c) c.requires.opened.laid
 
 plans : (g : _) (c : After-mark-mark g) → c.args.board.now.plans ≡ c.mark-mark.new.self.plans
-plans g c = sym (load-of g.N.Network.net g.N.Undo.content g.N.Undo.past g.N.Undo.aside g.N.Undo.max_marks c.args.board.now c.mark-mark.new.self (marked g c).aside_same).plans
+plans g c = sym (load-of g.N.Network.reading g.N.Undo.untouched c.args.board.now c.mark-mark.new.self (marked g c).untouched_same).plans
 
 progress : (g : _) (c : After-mark-mark g) → IsAtProgress c.args.problem.machine.now c.mark-mark.new.self.plans c.args.problem.ask.now c.args.opening.now c.args.store.now nothing
 progress g c = subst (λ ps. IsAtProgress c.args.problem.machine.now ps c.args.problem.ask.now c.args.opening.now c.args.store.now nothing) (plans g c) c.requires.progress
 
 -- where the list was stopped, it is looked at with its bound
-looked : (g : _) (c : After-stop g) → IsLaid g.N.Network.net g.N.Undo.content g.N.Undo.past g.N.Undo.max_marks c.mark-mark.new.self c.args.problem.machine.now c.args.problem.ask.now c.args.opening.now.goal c.args.laid.first
+looked : (g : _) (c : After-stop g) → IsLaid g.N.Network.reading c.mark-mark.new.self c.args.problem.machine.now c.args.problem.ask.now c.args.opening.now.goal c.args.laid.first
     (choices_by c.args.problem.machine.now (choices_before c.args.store.now.entries c.args.opening.now.parent))
     → IsAtProgress c.args.problem.machine.now c.mark-mark.new.self.plans c.args.problem.ask.now c.args.opening.now c.args.store.now nothing
     → IsSomeAnd (suffix_of c.mark-mark.new.self) (λ x. suffix_of c.stop.new.self ≡ Some (with_stop x)) → (tick : ℕ)
-    → ((machine : Machine) → Stands g.N.Network.net g.N.Undo.content g.N.Undo.past c.stop.new.self machine → HasLeastTick machine c.stop.new.self (own 0) tick)
+    → ((machine : Machine) → Stands g.N.Network.reading c.stop.new.self machine → HasLeastTick machine c.stop.new.self (own 0) tick)
     → (tick ≡ c.args.opening.now.bound → ⊥) → IsInRange c.args.store.now tick
     × IsAtProgress c.args.problem.machine.now c.mark-mark.new.self.plans c.args.problem.ask.now c.args.opening.now (after_keep c.args.opening.now.parent (stop_to c.args.opening.now.goal) tick true c.args.store.now) (up_to 0 [])
 looked g c carries before put tick least other =
     let at : c.in-Front.state ≡ c.args.laid.first = c.is_at.ensures.0 c.if-not-is_at.false in
     let some : 0 < length (choices_by c.args.problem.machine.now (choices_before c.args.store.now.entries c.args.opening.now.parent)) = omega arith in
-    stop-looked g.N.Network.net g.N.Undo.content g.N.Undo.past g.N.Undo.max_marks c.args.problem.machine.now c.args.problem.ask.now c.args.laid.first c.args.opening.now c.args.store.now c.in-Front.state c.in-Front.end c.in-Front.kept c.in-Front.is
+    stop-looked g.N.Network.reading c.args.problem.machine.now c.args.problem.ask.now c.args.laid.first c.args.opening.now c.args.store.now c.in-Front.state c.in-Front.end c.in-Front.kept c.in-Front.is
     c.mark-mark.new.self carries at some (stop_to c.args.opening.now.goal) tick
-    (stopped-bound g.N.Network.net g.N.Undo.content g.N.Undo.past g.N.Undo.max_marks c.args.problem.machine.now c.args.problem.ask.now c.args.laid.first c.args.opening.now c.args.store.now c.in-Front.state c.in-Front.end c.in-Front.kept c.in-Front.is
+    (stopped-bound g.N.Network.reading c.args.problem.machine.now c.args.problem.ask.now c.args.laid.first c.args.opening.now c.args.store.now c.in-Front.state c.in-Front.end c.in-Front.kept c.in-Front.is
     c.mark-mark.new.self carries at some c.stop.new.self tick c.requires.opened.placed put c.stop.ensures.loaded (least c.args.problem.machine.now (c.stop.ensures.stands c.args.problem.machine.now carries.stands)))
     refl refl c.requires.opened.fresh c.requires.opened.bounds before other
 
@@ -71,7 +71,7 @@ returns-then-count-eq0-clause-progress g c none = elim c.then-count-eq0.branch [
       empty-going c.args.problem.machine.now c.args.board.now.plans c.args.problem.ask.now c.args.opening.now c.args.store.now c.in-Front.state c.in-Front.end c.in-Front.kept c.in-Front.is
       (omega arith) c.requires.progress
   | then-count-eq0-via-else-count-eq0+then-not-is_at w ↦
-      other-going g.N.Network.net g.N.Undo.content g.N.Undo.past g.N.Undo.max_marks c.args.problem.machine.now c.args.problem.ask.now c.args.laid.first c.args.opening.now c.args.store.now
+      other-going g.N.Network.reading c.args.problem.machine.now c.args.problem.ask.now c.args.laid.first c.args.opening.now c.args.store.now
       c.in-Front.state c.in-Front.end c.in-Front.kept c.in-Front.is c.args.board.now c.requires.opened.laid
       (λ same. both_ways w.is_at.result w.if-not-is_at.true (w.is_at.ensures.1 same)) c.requires.progress
 ]
@@ -100,7 +100,7 @@ returns-clause-progress g c none =
           (looked g at.After-stop carries before w.in-Ok.ensures.suffix w.end_bound-bound.result w.end_bound-bound.ensures w.if-bound-opening.false).1
       | in-Err w ↦
           subst (λ s. IsAtProgress c.args.problem.machine.now c.mark-mark.new.self.plans c.args.problem.ask.now c.args.opening.now s (up_to 0 [])) (sym w.store-is)
-          (late-going g.N.Network.net g.N.Undo.content g.N.Undo.past g.N.Undo.max_marks c.args.problem.machine.now c.args.problem.ask.now c.args.laid.first c.args.opening.now c.args.store.now
+          (late-going g.N.Network.reading c.args.problem.machine.now c.args.problem.ask.now c.args.laid.first c.args.opening.now c.args.store.now
           c.in-Front.state c.in-Front.end c.in-Front.kept c.in-Front.is c.mark-mark.new.self carries
           (w.in-Err.ensures.late c.args.problem.machine.now carries.stands) before)
     ] in
@@ -110,7 +110,7 @@ pub returns-clause-same : goal.returns-clause-same
 returns-clause-same g c = elim c.match-stop.branch [
   | in-Ok+else-bound-opening w ↦
       subst (λ s. IsSameOpening c.args.opening.now c.args.opening.now c.args.store.now s) (sym (w.store-is ∙ w.keep.ensures))
-      (dived-same c.args.opening.now c.args.opening.now c.args.store.now _ refl (grows-by_keep c.args.opening.now.parent (stop_to c.args.opening.now.goal) w.end_bound-bound.result true c.args.store.now))
+      (barred-same c.args.opening.now c.args.opening.now c.args.store.now _ refl (grows-by_keep c.args.opening.now.parent (stop_to c.args.opening.now.goal) w.end_bound-bound.result true c.args.store.now))
   | in-Err w ↦ subst (λ s. IsSameOpening c.args.opening.now c.args.opening.now c.args.store.now s) (sym w.store-is) (same-itself c.args.opening.now c.args.store.now)
 ]
 
@@ -123,9 +123,9 @@ returns-then-bound-opening-clause-found g c is =
     let stands = p.stands c.args.problem.machine.now carries.stands in
     let at : c.in-Front.state ≡ c.args.laid.first = c.is_at.ensures.0 c.if-not-is_at.false in
     let some : 0 < length (choices_by c.args.problem.machine.now (choices_before c.args.store.now.entries c.args.opening.now.parent)) = omega arith in
-    stop-found g.N.Network.net g.N.Undo.content g.N.Undo.past g.N.Undo.max_marks c.args.problem.machine.now c.args.problem.ask.now c.args.laid.first c.args.opening.now c.args.store.now c.in-Front.state c.in-Front.end c.in-Front.kept c.in-Front.is
+    stop-found g.N.Network.reading c.args.problem.machine.now c.args.problem.ask.now c.args.laid.first c.args.opening.now c.args.store.now c.in-Front.state c.in-Front.end c.in-Front.kept c.in-Front.is
     c.mark-mark.new.self carries at some c.args.board.now c.stop.new.self c.args.opening.now.bound c.end_bound-bound.result
-    (further-step g.N.Network.net g.N.Undo.content g.N.Undo.past g.N.Undo.max_marks c.args.board.now c.mark-mark.new.self c.stop.new.self (further-marked g.N.Network.net g.N.Undo.content g.N.Undo.past g.N.Undo.aside g.N.Undo.max_marks c.args.board.now c.mark-mark.new.self c.mark-mark.result.0 (marked g k.After-mark-mark)) p.past p.loaded p.marks)
+    (further-step g.N.Network.reading c.args.board.now c.mark-mark.new.self c.stop.new.self (further-marked g.N.Network.reading g.N.Undo.untouched c.args.board.now c.mark-mark.new.self c.mark-mark.result.0 (marked g k.After-mark-mark)) p.past p.loaded p.marks)
     c.requires.opened.placed c.in-Ok.ensures.suffix stands p.loaded (c.end_bound-bound.ensures c.args.problem.machine.now stands) (omega (arith, c.if-bound-opening.true))
 
 pub returns-clause-back : goal.returns-clause-back
@@ -133,7 +133,7 @@ returns-clause-back g c none =
     let keeps = c.marks_keep_boards.ensures in
     let p = c.stop.ensures in
     let u = c.undo_to.ensures in
-    taken-back g.N.Network.net g.N.Undo.content g.N.Undo.past g.N.Undo.aside g.N.Undo.max_marks keeps.mark keeps.back c.args.board.now c.mark-mark.new.self c.stop.new.self c.undo_to.new.self c.args.problem.machine.now
+    taken-back g.N.Network.reading g.N.Undo.untouched keeps.mark keeps.back c.args.board.now c.mark-mark.new.self c.stop.new.self c.undo_to.new.self c.args.problem.machine.now
     c.mark-mark.result.0 (marked g (goal.at.returns-clause-back g c).After-mark-mark)
-    (since-step g.N.Network.net g.N.Undo.content g.N.Undo.past g.N.Undo.max_marks c.mark-mark.new.self c.stop.new.self c.args.problem.machine.now p.past p.loaded p.marks (λ s. p.stands c.args.problem.machine.now s))
-    (record { content_then = u.content; past_less = u.past; aside_same = u.aside; room_same = u.room })
+    (since-step g.N.Network.reading c.mark-mark.new.self c.stop.new.self c.args.problem.machine.now p.past p.loaded p.marks (λ s. p.stands c.args.problem.machine.now s))
+    (record { content_then = u.content; past_less = u.past; untouched_same = u.untouched; room_same = u.capacity })

@@ -11,5 +11,5 @@ decreases-place_within g l = length (holds_of_act (action_at l.problem.machine.n
 -- the board is back
 abbrev pub invariant-loop-place : goal.invariant-loop-place
 invariant-loop-place g l = record {
-  back : IsBack g.N.Network.net g.N.Undo.content g.N.Undo.past g.N.Undo.max_marks l.fn.board l.board l.problem.machine.now;
+  back : IsBack g.N.Network.reading l.fn.board l.board l.problem.machine.now;
 }

@@ -8,8 +8,8 @@ use Rattle.tp_search.proofs.diving.dive.Given as goal
 -- the board is further than at the mark, and carries the list that was reached
 abbrev pub invariant-down : goal.invariant-down
 invariant-down g l = record {
-  since : (b : BoardValue g.row.N.Denot) × IsMarked g.N.Network.net g.N.Undo.content g.N.Undo.past g.N.Undo.aside g.N.Undo.max_marks l.fn.board b l.mark.0 × IsFurther g.N.Network.net g.N.Undo.content g.N.Undo.past g.N.Undo.max_marks b l.board;
-  carries : CanDive g.N.Network.net g.N.Undo.content g.N.Undo.past g.N.Undo.max_marks l.board l.problem.machine.now l.problem.ask.now l.reached;
+  since : (b : BoardValue g.row.N.Denot) × IsMarked g.N.Network.reading g.N.Undo.untouched l.fn.board b l.mark.0 × IsFurther g.N.Network.reading b l.board;
+  carries : CanDive g.N.Network.reading l.board l.problem.machine.now l.problem.ask.now l.reached;
 }
 
 -- how many choices more there can be

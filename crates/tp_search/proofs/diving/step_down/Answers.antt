@@ -1,7 +1,8 @@
 use Rattle.std.proofs.Common.{◌≡◌, ◌+◌, ◌<◌, Some, length, sym, subst, arith}
 use Rattle.tp_routes.specs.Index.{IsNextTo}
 use Rattle.tp_search.proofs.BoardSteps.{back-itself, back-trans}
-use Rattle.tp_search.proofs.LeadFacts.{ahead, ahead-smaller, laid-known, leads-first, leads-next, led-here}
+use Rattle.tp_routes.proofs.AlongFacts.{ahead, fewer-ahead}
+use Rattle.tp_search.proofs.LeadFacts.{number, laid-known, leads-first, leads-next, led-here}
 use Rattle.tp_search.proofs.diving.step_down.Goals as goal
 use Rattle.tp_search.proofs.diving.step_down.Goals.{In-Some, Start}
 
@@ -11,7 +12,7 @@ here g c = led-here c.args.problem.machine.now c.args.list.first.loc.0 c.acts.in
 
 -- the list begins at a location of the machine
 known : (g : _) (c : Start g) → c.args.list.first.loc.0 < length c.args.problem.machine.now.locations
-known g c = laid-known g.N.Network.net g.N.Undo.content g.N.Undo.past g.N.Undo.max_marks c.args.board.now c.args.problem.machine.now c.args.problem.ask.now c.requires.carries.goal c.args.list.first c.requires.carries.choices c.requires.carries.laid c.requires.posed.origin
+known g c = laid-known g.N.Network.reading c.args.board.now c.args.problem.machine.now c.args.problem.ask.now c.requires.carries.goal c.args.list.first c.requires.carries.choices c.requires.carries.laid c.requires.posed.origin
 
 pub first_to-next-requires : goal.first_to-next-requires
 first_to-next-requires g c = (let k = known g (goal.at.first_to-next-requires g c).Start in let same = c.requires.posed.table.locations in omega arith)
@@ -22,7 +23,7 @@ acts-init g c = record {
     low = 0;
     leads = leads-first c.args.problem.machine.now c.args.problem.rooms.now.firsts c.args.problem.rooms.now.nexts c.args.list.first.loc.0 c.requires.posed.leads c.first_to-next.result (known g (goal.at.acts-init g c).Start) c.first_to-next.ensures;
   };
-  back = back-itself g.N.Network.net g.N.Undo.content g.N.Undo.past g.N.Undo.max_marks c.args.board.now c.args.problem.machine.now;
+  back = back-itself g.N.Network.reading c.args.board.now c.args.problem.machine.now;
 }
 
 pub step_by-requires-clause-known : goal.step_by-requires-clause-known
@@ -39,12 +40,12 @@ acts-preserved g c =
         low = c.in-Some.act.0 + 1;
         leads = leads-next c.args.problem.machine.now c.args.problem.rooms.now.firsts c.args.problem.rooms.now.nexts c.args.list.first.loc.0 c.requires.posed.leads c.in-Some.act c.next_to-next.result h.1 h.2 c.next_to-next.ensures;
       };
-      back = back-trans g.N.Network.net g.N.Undo.content g.N.Undo.past g.N.Undo.max_marks c.args.board.now c.acts.board c.step_by.new.board c.args.problem.machine.now c.acts.invariant.back (c.step_by.ensures.back c.in_default-step_by.is);
+      back = back-trans g.N.Network.reading c.args.board.now c.acts.board c.step_by.new.board c.args.problem.machine.now c.acts.invariant.back (c.step_by.ensures.back c.in_default-step_by.is);
     }
 
 pub acts-smaller : goal.acts-smaller
 acts-smaller g c =
     let h = here g (goal.at.acts-smaller g c).In-Some in
     let next = leads-next c.args.problem.machine.now c.args.problem.rooms.now.firsts c.args.problem.rooms.now.nexts c.args.list.first.loc.0 c.requires.posed.leads c.in-Some.act c.next_to-next.result h.1 h.2 c.next_to-next.ensures in
-    subst (λ o. ahead c.args.problem.machine.now c.next_to-next.result < ahead c.args.problem.machine.now o) (sym c.in-Some.is)
-    (ahead-smaller c.args.problem.machine.now c.args.list.first.loc.0 c.in-Some.act c.next_to-next.result h.1 next)
+    subst (λ o. ahead (length c.args.problem.machine.now.actions) (number c.next_to-next.result) < ahead (length c.args.problem.machine.now.actions) (number o)) (sym c.in-Some.is)
+    (fewer-ahead c.args.problem.machine.now.actions c.args.list.first.loc.0 c.in-Some.act.0 (number c.next_to-next.result) h.1 next)

@@ -1,13 +1,15 @@
+use Rattle.std.proofs.Common.{length}
 use Rattle.tp_search.specs.Boards.{IsBack}
-use Rattle.tp_search.proofs.LeadFacts.{IsChain, ahead}
+use Rattle.tp_routes.proofs.AlongFacts.{ahead}
+use Rattle.tp_search.proofs.LeadFacts.{IsChain, number}
 use Rattle.tp_search.proofs.diving.step_down.Given as goal
 
 -- the board is back
 abbrev pub invariant-acts : goal.invariant-acts
 invariant-acts g l = record {
   chain : IsChain l.problem.machine.now l.list.first.loc.0 l.next;
-  back : IsBack g.N.Network.net g.N.Undo.content g.N.Undo.past g.N.Undo.max_marks l.fn.board l.board l.problem.machine.now;
+  back : IsBack g.N.Network.reading l.fn.board l.board l.problem.machine.now;
 }
 
 abbrev pub decreases-acts : goal.decreases-acts
-decreases-acts g l = ahead l.problem.machine.now l.next
+decreases-acts g l = ahead (length l.problem.machine.now.actions) (number l.next)

@@ -29,15 +29,15 @@ returns-in-Ok-clause-laid g c =
     let choices = (choices_of (suffix_of c.args.board.now)).choices in
     let child = child-stop c.args.problem.machine.now c.args.choice.now.goal choices c.args.choice.now c.in_default.is in
     let o = stopping-open g (goal.at.returns-in-Ok-clause-laid g c).In_default in
-    subst (HasList g.N.Network.net g.N.Undo.content g.N.Undo.past c.stop.new.self c.args.problem.machine.now c.args.problem.ask.now c.args.first) (sym child)
-    (stop-laid g.N.Network.net g.N.Undo.content g.N.Undo.past c.args.problem.machine.now c.args.board.now c.args.problem.ask.now c.args.choice.now.goal c.args.first choices c.requires.laid o c.stop.new.self
+    subst (HasList g.N.Network.reading c.stop.new.self c.args.problem.machine.now c.args.problem.ask.now c.args.first) (sym child)
+    (stop-laid g.N.Network.reading c.args.problem.machine.now c.args.board.now c.args.problem.ask.now c.args.choice.now.goal c.args.first choices c.requires.laid o c.stop.new.self
     (c.in-Ok.ensures.stands c.args.problem.machine.now c.requires.laid.stands) c.in-Ok.ensures.suffix c.in-Ok.ensures.loaded)
 
 pub unreachable-requires : goal.unreachable-requires
 unreachable-requires g c =
     let choices = (choices_of (suffix_of c.args.board.now)).choices in
     let o = stopping-open g (goal.at.unreachable-requires g c).In_default in
-    stop-in_time g.N.Network.net g.N.Undo.content g.N.Undo.past c.args.problem.machine.now c.args.board.now c.args.problem.ask.now c.args.choice.now.goal c.args.first choices c.requires.laid o
+    stop-in_time g.N.Network.reading c.args.problem.machine.now c.args.board.now c.args.problem.ask.now c.args.choice.now.goal c.args.first choices c.requires.laid o
     (c.in-Err.ensures.late c.args.problem.machine.now c.requires.laid.stands)
 
 pub state_before-requires-clause-known : goal.state_before-requires-clause-known
@@ -47,7 +47,7 @@ pub unreachable-requires-in_default-state_before : goal.unreachable-requires-in_
 unreachable-requires-in_default-state_before g c =
     let choices = (choices_of (suffix_of c.args.board.now)).choices in
     let o = more-open g (goal.at.unreachable-requires-in_default-state_before g c).In-Some in
-    some-before g.N.Network.net g.N.Undo.content g.N.Undo.past c.args.problem.machine.now c.args.board.now c.args.problem.ask.now c.args.choice.now.goal c.args.first choices c.requires.laid
+    some-before g.N.Network.reading c.args.problem.machine.now c.args.board.now c.args.problem.ask.now c.args.choice.now.goal c.args.first choices c.requires.laid
     c.in-Some.act c.args.choice.now.places o c.in_default-state_before.ensures.none
 
 pub open_action-requires-clause-known : goal.open_action-requires-clause-known
@@ -57,7 +57,7 @@ pub unreachable-requires-in-Err-open_action : goal.unreachable-requires-in-Err-o
 unreachable-requires-in-Err-open_action g c =
     let choices = (choices_of (suffix_of c.args.board.now)).choices in
     let o = more-open g (goal.at.unreachable-requires-in-Err-open_action g c).In-Some in
-    action-in_time g.N.Network.net g.N.Undo.content g.N.Undo.past c.args.problem.machine.now c.args.board.now c.args.problem.ask.now c.args.choice.now.goal c.args.first choices c.requires.laid
+    action-in_time g.N.Network.reading c.args.problem.machine.now c.args.board.now c.args.problem.ask.now c.args.choice.now.goal c.args.first choices c.requires.laid
     c.in-Some.act c.args.choice.now.places o c.in-Some-state_before.before c.in-Some-state_before.ensures.some c.in-Err-open_action.ensures.late
 
 pub place_all-requires-clause-known : goal.place_all-requires-clause-known
@@ -67,7 +67,7 @@ pub place_all-requires-clause-waits : goal.place_all-requires-clause-waits
 place_all-requires-clause-waits g c =
     let choices = (choices_of (suffix_of c.args.board.now)).choices in
     let o = more-open g (goal.at.place_all-requires-clause-waits g c).In-Some in
-    waits-more g.N.Network.net g.N.Undo.content g.N.Undo.past c.args.problem.machine.now c.args.board.now c.args.problem.ask.now c.args.choice.now.goal c.args.first choices c.requires.laid
+    waits-more g.N.Network.reading c.args.problem.machine.now c.args.board.now c.args.problem.ask.now c.args.choice.now.goal c.args.first choices c.requires.laid
     c.in-Some.act c.args.choice.now.places o c.in-Some-state_before.before c.in-Some-state_before.ensures.some c.open_action.new.self c.in-Ok-open_action.ensures.suffix c.in-Ok-open_action.ensures.loaded
 
 pub returns-clause-laid : goal.returns-clause-laid
@@ -75,7 +75,7 @@ returns-clause-laid g c =
     let choices = (choices_of (suffix_of c.args.board.now)).choices in
     let child = child-more c.args.problem.machine.now c.args.choice.now.goal choices c.args.choice.now c.in-Some.act c.in-Some.is in
     let o = more-open g (goal.at.returns-clause-laid g c).In-Some in
-    subst (HasList g.N.Network.net g.N.Undo.content g.N.Undo.past c.place_all.new.board c.args.problem.machine.now c.args.problem.ask.now c.in-Some-state_before.before.state) (sym child)
-    (more-laid g.N.Network.net g.N.Undo.content g.N.Undo.past c.args.problem.machine.now c.args.board.now c.args.problem.ask.now c.args.choice.now.goal c.args.first choices c.requires.laid
+    subst (HasList g.N.Network.reading c.place_all.new.board c.args.problem.machine.now c.args.problem.ask.now c.in-Some-state_before.before.state) (sym child)
+    (more-laid g.N.Network.reading c.args.problem.machine.now c.args.board.now c.args.problem.ask.now c.args.choice.now.goal c.args.first choices c.requires.laid
     c.in-Some.act c.args.choice.now.places o c.in-Some-state_before.before c.in-Some-state_before.ensures.some c.open_action.new.self c.in-Ok-open_action.ensures.suffix c.in-Ok-open_action.ensures.loaded
     c.place_all.new.board c.place_all.ensures.stands c.place_all.ensures.suffix c.place_all.ensures.same.loaded)

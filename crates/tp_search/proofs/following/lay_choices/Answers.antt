@@ -15,8 +15,8 @@ depths-init g c =
     let choices = stored_at c.args.store.now.entries c.args.node in
     let none : drop (length choices - 0) choices ≡ [] = ap (λ n. drop n choices) (omega arith) ∙ drop-length choices in
     record {
-      laid = subst (λ ds. HasList g.N.Network.net g.N.Undo.content g.N.Undo.past c.args.board.now c.args.problem.machine.now c.args.problem.ask.now c.args.goal (list_from c.args.problem.machine.now (list_by c.args.problem.machine.now choices).goal ds)) (sym none)
-          (subst (λ s. HasList g.N.Network.net g.N.Undo.content g.N.Undo.past c.args.board.now c.args.problem.machine.now c.args.problem.ask.now c.args.goal (going s [])) c.requires.goal c.requires.laid);
+      laid = subst (λ ds. HasList g.N.Network.reading c.args.board.now c.args.problem.machine.now c.args.problem.ask.now c.args.goal (list_from c.args.problem.machine.now (list_by c.args.problem.machine.now choices).goal ds)) (sym none)
+          (subst (λ s. HasList g.N.Network.reading c.args.board.now c.args.problem.machine.now c.args.problem.ask.now c.args.goal (going s [])) c.requires.goal c.requires.laid);
       same = search rules;
     }
 
@@ -30,14 +30,14 @@ lay-first-requires-clause-laid g k =
     let c = (goal.at.lay-first-requires-clause-laid g k).After-choice_at-choice in
     let choices = stored_at c.args.store.now.entries c.args.node in
     next-laid c.args.problem.machine.now c.args.board.now.plans c.args.problem.ask.now (list_by c.args.problem.machine.now choices).goal choices c.requires.stored c.requires.opens
-    c.depths.at c.choice_at-choice.result (read g c).0 (read g c).1 g.N.Network.net g.N.Undo.content g.N.Undo.past c.depths.board c.depths.first c.depths.invariant.laid
+    c.depths.at c.choice_at-choice.result (read g c).0 (read g c).1 g.N.Network.reading c.depths.board c.depths.first c.depths.invariant.laid
 
 pub lay-first-requires-clause-opens : goal.lay-first-requires-clause-opens
 lay-first-requires-clause-opens g k =
     let c = (goal.at.lay-first-requires-clause-opens g k).After-choice_at-choice in
     let choices = stored_at c.args.store.now.entries c.args.node in
     next-open c.args.problem.machine.now c.args.board.now.plans c.args.problem.ask.now (list_by c.args.problem.machine.now choices).goal choices c.requires.stored c.requires.opens
-    c.depths.at c.choice_at-choice.result (read g c).0 (read g c).1 g.N.Network.net g.N.Undo.content g.N.Undo.past c.depths.board c.depths.first c.depths.invariant.laid c.depths.invariant.same.loaded.plans
+    c.depths.at c.choice_at-choice.result (read g c).0 (read g c).1 g.N.Network.reading c.depths.board c.depths.first c.depths.invariant.laid c.depths.invariant.same.loaded.plans
 
 pub depths-preserved : goal.depths-preserved
 depths-preserved g k =
@@ -45,7 +45,7 @@ depths-preserved g k =
     let choices = stored_at c.args.store.now.entries c.args.node in
     record {
       laid = more-carried c.args.problem.machine.now c.args.board.now.plans c.args.problem.ask.now (list_by c.args.problem.machine.now choices).goal choices c.requires.stored c.requires.opens
-          c.depths.at c.choice_at-choice.result (read g c).0 (read g c).1 g.N.Network.net g.N.Undo.content g.N.Undo.past c.depths.board c.depths.first c.depths.invariant.laid
+          c.depths.at c.choice_at-choice.result (read g c).0 (read g c).1 g.N.Network.reading c.depths.board c.depths.first c.depths.invariant.laid
           k.lay-first.new.board k.lay-first.result k.lay-first.ensures.laid;
       same = search rules;
     }
@@ -55,5 +55,5 @@ returns-clause-laid g c =
     let choices = stored_at c.args.store.now.entries c.args.node in
     let goal = (list_by c.args.problem.machine.now choices).goal in
     let end : length choices - c.depths.at ≡ 0 = omega (arith, c.depth-at-end.ensures) in
-    subst (λ l. HasList g.N.Network.net g.N.Undo.content g.N.Undo.past c.depths.board c.args.problem.machine.now c.args.problem.ask.now c.depths.first l) (whole-list c.args.problem.machine.now goal choices c.requires.stored)
-    (subst (λ n. HasList g.N.Network.net g.N.Undo.content g.N.Undo.past c.depths.board c.args.problem.machine.now c.args.problem.ask.now c.depths.first (list_from c.args.problem.machine.now goal (drop n choices))) end c.depths.invariant.laid)
+    subst (λ l. HasList g.N.Network.reading c.depths.board c.args.problem.machine.now c.args.problem.ask.now c.depths.first l) (whole-list c.args.problem.machine.now goal choices c.requires.stored)
+    (subst (λ n. HasList g.N.Network.reading c.depths.board c.args.problem.machine.now c.args.problem.ask.now c.depths.first (list_from c.args.problem.machine.now goal (drop n choices))) end c.depths.invariant.laid)

@@ -9,6 +9,6 @@ abbrev pub invariant-depths : goal.invariant-depths
 invariant-depths g l =
     let choices = stored_at l.store.entries l.node in
     record {
-      laid : HasList g.N.Network.net g.N.Undo.content g.N.Undo.past l.board l.problem.machine.now l.problem.ask.now l.first (list_from l.problem.machine.now (list_by l.problem.machine.now choices).goal (drop (length choices - l.at) choices));
-      same : IsSameButSteps g.N.Undo.past g.N.Undo.max_marks l.fn.board l.board;
+      laid : HasList g.N.Network.reading l.board l.problem.machine.now l.problem.ask.now l.first (list_from l.problem.machine.now (list_by l.problem.machine.now choices).goal (drop (length choices - l.at) choices));
+      same : IsSameButSteps g.N.Network.reading l.fn.board l.board;
     }

@@ -7,7 +7,7 @@ use Rattle.tp_search.proofs.following.place_all.Given as goal
 
 abbrev pub invariant-holds : goal.invariant-holds
 invariant-holds g l = record {
-  stands : Stands g.N.Network.net g.N.Undo.content g.N.Undo.past l.board l.machine;
+  stands : Stands g.N.Network.reading l.board l.machine;
   suffix : IsSomeAnd (suffix_of l.fn.board) (λ x. suffix_of l.board ≡ Some (with_places (take l.hold l.places) x));
-  same : IsSameButSteps g.N.Undo.past g.N.Undo.max_marks l.fn.board l.board;
+  same : IsSameButSteps g.N.Network.reading l.fn.board l.board;
 }

@@ -8,7 +8,7 @@ use Rattle.tp_search.proofs.goals.find_goals.Goals as goal
 use Rattle.tp_search.proofs.goals.find_goals.Goals.{in-Some, in_default}
 
 pub try_goal-requires-clause-ready : goal.try_goal-requires-clause-ready
-try_goal-requires-clause-ready g c = ready-back g.N.Network.net g.N.Undo.content g.N.Undo.past g.N.Undo.max_marks c.args.board.now c.numbers.board c.args.problem.machine.now c.args.problem.ask.now c.numbers.invariant.back c.requires.ready
+try_goal-requires-clause-ready g c = ready-back g.N.Network.reading c.args.board.now c.numbers.board c.args.problem.machine.now c.args.problem.ask.now c.numbers.invariant.back c.requires.ready
 
 pub numbers-preserved : goal.numbers-preserved
 numbers-preserved g c =
@@ -29,7 +29,7 @@ numbers-preserved g c =
     ] in
     record {
       goals = found;
-      back = back-trans g.N.Network.net g.N.Undo.content g.N.Undo.past g.N.Undo.max_marks c.args.board.now c.numbers.board c.try_goal.new.board c.args.problem.machine.now i.back c.try_goal.ensures.back;
+      back = back-trans g.N.Network.reading c.args.board.now c.numbers.board c.try_goal.new.board c.args.problem.machine.now i.back c.try_goal.ensures.back;
       space = space;
     }
 

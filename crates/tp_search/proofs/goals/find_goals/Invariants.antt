@@ -7,6 +7,6 @@ use Rattle.tp_search.proofs.goals.find_goals.Given as goal
 abbrev pub invariant-numbers : goal.invariant-numbers
 invariant-numbers g l = record {
   goals : AreGoalsBelow l.problem.machine.now l.fn.board.plans l.problem.ask.now l.number l.goals.items;
-  back : IsBack g.N.Network.net g.N.Undo.content g.N.Undo.past g.N.Undo.max_marks l.fn.board l.board l.problem.machine.now;
+  back : IsBack g.N.Network.reading l.fn.board l.board l.problem.machine.now;
   space : vec_capacity l.fn.goals ≤ vec_capacity l.goals;
 }

@@ -11,15 +11,15 @@ choice_at-choice-requires-clause-first g c = subst (λ n. 1 ≤ n) (sym c.depth-
 pub lay-first-requires-clause-laid : goal.lay-first-requires-clause-laid
 lay-first-requires-clause-laid g c =
     let h = c.requires.holds in
-    child-laid g.N.Network.net g.N.Undo.content g.N.Undo.past g.N.Undo.max_marks c.args.board.now c.args.problem.machine.now c.args.problem.ask.now c.args.held.laid.first h.goal h.before (choices_of c.args.store.now.entries c.args.node) h.laid (h.children c.args.node c.requires.child c.requires.there) c.choice_at-choice.result (subst (λ n. choice_made (choices_of c.args.store.now.entries c.args.node) n ≡ Some c.choice_at-choice.result) c.depth-depth.ensures c.choice_at-choice.ensures)
+    child-laid g.N.Network.reading c.args.board.now c.args.problem.machine.now c.args.problem.ask.now c.args.held.laid.first h.goal h.before (choices_of c.args.store.now.entries c.args.node) h.laid (h.children c.args.node c.requires.child c.requires.there) c.choice_at-choice.result (subst (λ n. choice_made (choices_of c.args.store.now.entries c.args.node) n ≡ Some c.choice_at-choice.result) c.depth-depth.ensures c.choice_at-choice.ensures)
 
 pub lay-first-requires-clause-opens : goal.lay-first-requires-clause-opens
 lay-first-requires-clause-opens g c =
     let h = c.requires.holds in
-    child-opens g.N.Network.net g.N.Undo.content g.N.Undo.past g.N.Undo.max_marks c.args.board.now c.args.problem.machine.now c.args.problem.ask.now c.args.held.laid.first h.goal h.before (choices_of c.args.store.now.entries c.args.node) h.laid (h.children c.args.node c.requires.child c.requires.there) c.choice_at-choice.result (subst (λ n. choice_made (choices_of c.args.store.now.entries c.args.node) n ≡ Some c.choice_at-choice.result) c.depth-depth.ensures c.choice_at-choice.ensures) c.requires.opens
+    child-opens g.N.Network.reading c.args.board.now c.args.problem.machine.now c.args.problem.ask.now c.args.held.laid.first h.goal h.before (choices_of c.args.store.now.entries c.args.node) h.laid (h.children c.args.node c.requires.child c.requires.there) c.choice_at-choice.result (subst (λ n. choice_made (choices_of c.args.store.now.entries c.args.node) n ≡ Some c.choice_at-choice.result) c.depth-depth.ensures c.choice_at-choice.ensures) c.requires.opens
 
 pub returns-clause-laid : goal.returns-clause-laid
 returns-clause-laid g c =
     let h = c.requires.holds in
-    subst (HasList g.N.Network.net g.N.Undo.content g.N.Undo.past c.lay-first.new.board c.args.problem.machine.now c.args.problem.ask.now c.lay-first.result)
-    (child-whole g.N.Network.net g.N.Undo.content g.N.Undo.past g.N.Undo.max_marks c.args.board.now c.args.problem.machine.now c.args.problem.ask.now c.args.held.laid.first h.goal h.before (choices_of c.args.store.now.entries c.args.node) h.laid (h.children c.args.node c.requires.child c.requires.there) c.choice_at-choice.result (subst (λ n. choice_made (choices_of c.args.store.now.entries c.args.node) n ≡ Some c.choice_at-choice.result) c.depth-depth.ensures c.choice_at-choice.ensures)) c.lay-first.ensures.laid
+    subst (HasList g.N.Network.reading c.lay-first.new.board c.args.problem.machine.now c.args.problem.ask.now c.lay-first.result)
+    (child-whole g.N.Network.reading c.args.board.now c.args.problem.machine.now c.args.problem.ask.now c.args.held.laid.first h.goal h.before (choices_of c.args.store.now.entries c.args.node) h.laid (h.children c.args.node c.requires.child c.requires.there) c.choice_at-choice.result (subst (λ n. choice_made (choices_of c.args.store.now.entries c.args.node) n ≡ Some c.choice_at-choice.result) c.depth-depth.ensures c.choice_at-choice.ensures)) c.lay-first.ensures.laid

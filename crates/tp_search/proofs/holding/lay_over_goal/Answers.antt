@@ -11,16 +11,16 @@ use Rattle.tp_search.proofs.RootFacts.{goal-marked, root-marked, root-spare}
 use Rattle.tp_search.proofs.holding.lay_over_goal.Goals as goal
 use Rattle.tp_search.proofs.holding.lay_over_goal.Goals.{After-mark-mark}
 
-marked : (g : _) (c : After-mark-mark g) → IsMarked g.N.Network.net g.N.Undo.content g.N.Undo.past g.N.Undo.aside g.N.Undo.max_marks c.back_to_goal-base.new.board c.mark-mark.new.self c.mark-mark.result.0
-marked g c = (let m = c.mark-mark.ensures in record { number = m.number; past_more = m.past; content_same = m.content; aside_same = m.aside; room_same = m.room })
+marked : (g : _) (c : After-mark-mark g) → IsMarked g.N.Network.reading g.N.Undo.untouched c.back_to_goal-base.new.board c.mark-mark.new.self c.mark-mark.result.0
+marked g c = (let m = c.mark-mark.ensures in record { number = m.number; past_more = m.past; content_same = m.content; untouched_same = m.untouched; room_same = m.capacity })
 
 -- the plans are the same
 plans : (g : _) (c : After-mark-mark g) → c.mark-mark.new.self.plans ≡ c.args.board.now.plans
 plans g c =
-    (load-of g.N.Network.net g.N.Undo.content g.N.Undo.past g.N.Undo.aside g.N.Undo.max_marks c.back_to_goal-base.new.board c.mark-mark.new.self (marked g c).aside_same).plans ∙ (c.back_to_goal-base.ensures.since c.requires.over.0 c.requires.over.1 c.requires.over.2).loaded.plans ∙ sym (over-plans g.N.Network.net g.N.Undo.content g.N.Undo.past g.N.Undo.max_marks c.requires.over.0 c.args.board.now c.args.problem.machine.now c.args.problem.ask.now (Some c.args.held) c.requires.over.2)
+    (load-of g.N.Network.reading g.N.Undo.untouched c.back_to_goal-base.new.board c.mark-mark.new.self (marked g c).untouched_same).plans ∙ (c.back_to_goal-base.ensures.since c.requires.over.0 c.requires.over.1 c.requires.over.2).loaded.plans ∙ sym (over-plans g.N.Network.reading c.requires.over.0 c.args.board.now c.args.problem.machine.now c.args.problem.ask.now (Some c.args.held) c.requires.over.2)
 
 pub back_to_goal-base-requires-clause-over : goal.back_to_goal-base-requires-clause-over
-back_to_goal-base-requires-clause-over g c = (c.requires.over.0, c.requires.over.1, some-marks g.N.Network.net g.N.Undo.content g.N.Undo.past g.N.Undo.max_marks c.requires.over.0 (c.requires.room c.requires.over.0 c.requires.over.2), c.requires.over.2)
+back_to_goal-base-requires-clause-over g c = (c.requires.over.0, c.requires.over.1, some-marks g.N.Network.reading c.requires.over.0 (c.requires.room c.requires.over.0 c.requires.over.2), c.requires.over.2)
 
 pub back_to_goal-base-requires-clause-opens : goal.back_to_goal-base-requires-clause-opens
 back_to_goal-base-requires-clause-opens g c =
@@ -28,7 +28,7 @@ back_to_goal-base-requires-clause-opens g c =
     subst (λ s. IsOpen c.args.problem.machine.now c.args.board.now.plans c.args.problem.ask.now (going s [])) (sym (c.goal_of-goal.ensures c.args.problem.machine.now)) (goal-open c.args.problem.machine.now c.args.board.now.plans c.args.problem.ask.now (list_by c.args.problem.machine.now choices).goal choices c.requires.stored c.requires.opens)
 
 pub mark-mark-requires : goal.mark-mark-requires
-mark-mark-requires g c = root-spare g.N.Network.net g.N.Undo.content g.N.Undo.past g.N.Undo.max_marks c.requires.over.0 c.back_to_goal-base.new.board c.args.problem.machine.now c.args.problem.ask.now c.back_to_goal-base.result.0 (c.back_to_goal-base.ensures.since c.requires.over.0 c.requires.over.1 c.requires.over.2) (c.requires.room c.requires.over.0 c.requires.over.2)
+mark-mark-requires g c = root-spare g.N.Network.reading c.requires.over.0 c.back_to_goal-base.new.board c.args.problem.machine.now c.args.problem.ask.now c.back_to_goal-base.result.0 (c.back_to_goal-base.ensures.since c.requires.over.0 c.requires.over.1 c.requires.over.2) (c.requires.room c.requires.over.0 c.requires.over.2)
 
 pub lay_choices-first-requires-clause-opens : goal.lay_choices-first-requires-clause-opens
 lay_choices-first-requires-clause-opens g c =
@@ -36,12 +36,12 @@ lay_choices-first-requires-clause-opens g c =
 
 pub lay_choices-first-requires-clause-laid : goal.lay_choices-first-requires-clause-laid
 lay_choices-first-requires-clause-laid g c =
-    goal-marked g.N.Network.net g.N.Undo.content g.N.Undo.past g.N.Undo.aside g.N.Undo.max_marks c.marks_keep_boards.ensures.mark c.requires.over.0 c.back_to_goal-base.new.board c.mark-mark.new.self c.args.problem.machine.now c.args.problem.ask.now c.back_to_goal-base.result.0 (record { mark = c.mark-mark.result; goal = c.goal_of-goal.result }) (c.back_to_goal-base.ensures.since c.requires.over.0 c.requires.over.1 c.requires.over.2) c.back_to_goal-base.ensures.laid
+    goal-marked g.N.Network.reading g.N.Undo.untouched c.marks_keep_boards.ensures.mark c.requires.over.0 c.back_to_goal-base.new.board c.mark-mark.new.self c.args.problem.machine.now c.args.problem.ask.now c.back_to_goal-base.result.0 (record { mark = c.mark-mark.result; goal = c.goal_of-goal.result }) (c.back_to_goal-base.ensures.since c.requires.over.0 c.requires.over.1 c.requires.over.2) c.back_to_goal-base.ensures.laid
     (marked g (goal.at.lay_choices-first-requires-clause-laid g c).After-mark-mark)
 
 pub returns-clause-since : goal.returns-clause-since
 returns-clause-since g c b ready over =
-    since-more g.N.Network.net g.N.Undo.content g.N.Undo.past g.N.Undo.max_marks b c.mark-mark.new.self c.args.problem.machine.now c.args.problem.ask.now c.back_to_goal-base.result.0 (Some (record { mark = c.mark-mark.result; goal = c.goal_of-goal.result }))
-    (root-marked g.N.Network.net g.N.Undo.content g.N.Undo.past g.N.Undo.aside g.N.Undo.max_marks c.marks_keep_boards.ensures.mark b c.back_to_goal-base.new.board c.mark-mark.new.self c.args.problem.machine.now c.args.problem.ask.now c.back_to_goal-base.result.0 (record { mark = c.mark-mark.result; goal = c.goal_of-goal.result }) (c.back_to_goal-base.ensures.since b ready over) c.back_to_goal-base.ensures.laid
+    since-more g.N.Network.reading b c.mark-mark.new.self c.args.problem.machine.now c.args.problem.ask.now c.back_to_goal-base.result.0 (Some (record { mark = c.mark-mark.result; goal = c.goal_of-goal.result }))
+    (root-marked g.N.Network.reading g.N.Undo.untouched c.marks_keep_boards.ensures.mark b c.back_to_goal-base.new.board c.mark-mark.new.self c.args.problem.machine.now c.args.problem.ask.now c.back_to_goal-base.result.0 (record { mark = c.mark-mark.result; goal = c.goal_of-goal.result }) (c.back_to_goal-base.ensures.since b ready over) c.back_to_goal-base.ensures.laid
     (marked g (goal.at.returns-clause-since g c).After-mark-mark) (c.requires.room b over))
     c.lay_choices-first.new.board c.lay_choices-first.ensures.same c.lay_choices-first.ensures.laid.stands

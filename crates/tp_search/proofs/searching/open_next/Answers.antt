@@ -18,7 +18,7 @@ open_list-found-requires-clause-count g c =
 pub returns-clause-found : goal.returns-clause-found
 returns-clause-found g c is =
     let bound = ap (λ (o : Opening). o.bound) (c.opening_of-opening.ensures c.args.problem.machine.now) in
-    subst (HasFound g.N.Network.net g.N.Undo.content g.N.Undo.past g.N.Undo.max_marks c.args.board.now c.open_list-found.new.board c.args.problem.machine.now c.args.problem.ask.now) bound (c.open_list-found.ensures.found is)
+    subst (HasFound g.N.Network.reading c.args.board.now c.open_list-found.new.board c.args.problem.machine.now c.args.problem.ask.now) bound (c.open_list-found.ensures.found is)
 
 pub returns-clause-opened : goal.returns-clause-opened
 returns-clause-opened g c none =

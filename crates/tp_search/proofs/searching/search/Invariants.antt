@@ -6,8 +6,8 @@ use Rattle.tp_search.proofs.searching.search.Given as goal
 -- the search has come to some bound, and the board is back or holds the list that was opened last
 abbrev pub invariant-steps : goal.invariant-steps
 invariant-steps g l = record {
-  over : IsOver g.N.Network.net g.N.Undo.content g.N.Undo.past g.N.Undo.max_marks l.fn.board l.board l.problem.machine.now l.problem.ask.now l.held;
-  holds : IfSome l.held (HoldsList g.N.Network.net g.N.Undo.content g.N.Undo.past l.board l.problem.machine.now l.problem.ask.now l.store);
+  over : IsOver g.N.Network.reading l.fn.board l.board l.problem.machine.now l.problem.ask.now l.held;
+  holds : IfSome l.held (HoldsList g.N.Network.reading l.board l.problem.machine.now l.problem.ask.now l.store);
   searching : (bound : ℕ) × IsSearching l.problem.machine.now l.board.plans l.problem.ask.now l.goals.items l.store bound;
   same : IsSameSpace l.fn.goals l.goals l.fn.store l.store;
 }

@@ -26,8 +26,8 @@ use Rattle.tp_search.proofs.searching.step.Goals.{After-open_next, In-Some-best_
 -- a complete list that is stored is no later than the one that was taken
 best : (g : _) (c : In-Some-best_by g) → IsBestList c.args.problem.machine.now c.args.board.now.plans c.args.problem.ask.now c.take_next.new.store c.in-Some-best_by.best
 best g c =
-    best-list c.args.problem.machine.now c.args.board.now.plans c.args.problem.ask.now c.args.goals.now.items c.args.store.now c.requires.searching.0 c.requires.searching.1 c.take_next.new.goals.items c.take_next.new.store c.in-Some.next c.in-Some.ensures.next (over-legal g.N.Network.net g.N.Undo.content g.N.Undo.past g.N.Undo.max_marks c.requires.over.0 c.args.board.now c.args.problem.machine.now c.args.problem.ask.now c.args.held.now c.requires.over.1 c.requires.over.3)
-    (over-can_ask g.N.Network.net g.N.Undo.content g.N.Undo.past g.N.Undo.max_marks c.requires.over.0 c.args.board.now c.args.problem.machine.now c.args.problem.ask.now c.args.held.now c.requires.over.1 c.requires.over.3)
+    best-list c.args.problem.machine.now c.args.board.now.plans c.args.problem.ask.now c.args.goals.now.items c.args.store.now c.requires.searching.0 c.requires.searching.1 c.take_next.new.goals.items c.take_next.new.store c.in-Some.next c.in-Some.ensures.next (over-legal g.N.Network.reading c.requires.over.0 c.args.board.now c.args.problem.machine.now c.args.problem.ask.now c.args.held.now c.requires.over.1 c.requires.over.3)
+    (over-can_ask g.N.Network.reading c.requires.over.0 c.args.board.now c.args.problem.machine.now c.args.problem.ask.now c.args.held.now c.requires.over.1 c.requires.over.3)
     c.in-Some-best_by.best c.in-Some-best_by.ensures.best (subst (λ b. bound_of c.take_next.new.store.entries c.in-Some-best_by.best ≤ b) c.bound_of-bound.ensures c.in-Some-best_by.ensures.bound)
 
 -- or there is none
@@ -36,19 +36,19 @@ later g c = subst (IsBestLater c.take_next.new.store) c.bound_of-bound.ensures (
 
 -- the plans are the same once it is laid
 plans-laid : (g : _) (c : After-open_next g) → c.lay_next-reached.new.board.plans ≡ c.args.board.now.plans
-plans-laid g c = (c.lay_next-reached.ensures.since c.requires.over.0 c.requires.over.1 c.requires.over.3).loaded.plans ∙ sym (over-plans g.N.Network.net g.N.Undo.content g.N.Undo.past g.N.Undo.max_marks c.requires.over.0 c.args.board.now c.args.problem.machine.now c.args.problem.ask.now c.args.held.now c.requires.over.3)
+plans-laid g c = (c.lay_next-reached.ensures.since c.requires.over.0 c.requires.over.1 c.requires.over.3).loaded.plans ∙ sym (over-plans g.N.Network.reading c.requires.over.0 c.args.board.now c.args.problem.machine.now c.args.problem.ask.now c.args.held.now c.requires.over.3)
 
 -- the list was opened
 opened : (g : _) (c : After-open_next g) → c.open_next.result ≡ false → IsAllOpened c.args.problem.machine.now c.args.board.now.plans c.args.problem.ask.now c.take_next.new.store c.in-Some.next c.open_next.new.store
 opened g c none = subst (λ ps. IsAllOpened c.args.problem.machine.now ps c.args.problem.ask.now c.take_next.new.store c.in-Some.next c.open_next.new.store) (plans-laid g c) (c.open_next.ensures.opened none)
 
 -- all that the board carries was laid since the mark
-since : (g : _) (c : After-open_next g) → c.open_next.result ≡ false → (b : BoardValue g.row.N.Denot) → IsReady g.N.Network.net g.N.Undo.content g.N.Undo.past g.N.Undo.max_marks b c.args.problem.machine.now c.args.problem.ask.now → IsOver g.N.Network.net g.N.Undo.content g.N.Undo.past g.N.Undo.max_marks b c.args.board.now c.args.problem.machine.now c.args.problem.ask.now c.args.held.now → IsLaidSince g.N.Network.net g.N.Undo.content g.N.Undo.past g.N.Undo.max_marks b c.open_next.new.board c.args.problem.machine.now c.args.problem.ask.now c.lay_next-reached.result.base.0 c.lay_next-reached.result.root
-since g c none b ready over = since-back g.N.Network.net g.N.Undo.content g.N.Undo.past g.N.Undo.max_marks b c.lay_next-reached.new.board c.args.problem.machine.now c.args.problem.ask.now c.lay_next-reached.result.base.0 c.lay_next-reached.result.root (c.lay_next-reached.ensures.since b ready over) c.open_next.new.board (c.open_next.ensures.back none)
+since : (g : _) (c : After-open_next g) → c.open_next.result ≡ false → (b : BoardValue g.row.N.Denot) → IsReady g.N.Network.reading b c.args.problem.machine.now c.args.problem.ask.now → IsOver g.N.Network.reading b c.args.board.now c.args.problem.machine.now c.args.problem.ask.now c.args.held.now → IsLaidSince g.N.Network.reading b c.open_next.new.board c.args.problem.machine.now c.args.problem.ask.now c.lay_next-reached.result.base.0 c.lay_next-reached.result.root
+since g c none b ready over = since-back g.N.Network.reading b c.lay_next-reached.new.board c.args.problem.machine.now c.args.problem.ask.now c.lay_next-reached.result.base.0 c.lay_next-reached.result.root (c.lay_next-reached.ensures.since b ready over) c.open_next.new.board (c.open_next.ensures.back none)
 
 -- it carries the list still
-carried : (g : _) (c : After-open_next g) → c.open_next.result ≡ false → HasList g.N.Network.net g.N.Undo.content g.N.Undo.past c.open_next.new.board c.args.problem.machine.now c.args.problem.ask.now c.lay_next-reached.result.laid.first (next_list c.args.problem.machine.now c.take_next.new.store c.in-Some.next)
-carried g c none = list-back g.N.Network.net g.N.Undo.content g.N.Undo.past g.N.Undo.max_marks c.lay_next-reached.new.board c.open_next.new.board c.args.problem.machine.now c.args.problem.ask.now c.lay_next-reached.result.laid.first (next_list c.args.problem.machine.now c.take_next.new.store c.in-Some.next) (c.open_next.ensures.back none) c.lay_next-reached.ensures.laid
+carried : (g : _) (c : After-open_next g) → c.open_next.result ≡ false → HasList g.N.Network.reading c.open_next.new.board c.args.problem.machine.now c.args.problem.ask.now c.lay_next-reached.result.laid.first (next_list c.args.problem.machine.now c.take_next.new.store c.in-Some.next)
+carried g c none = list-back g.N.Network.reading c.lay_next-reached.new.board c.open_next.new.board c.args.problem.machine.now c.args.problem.ask.now c.lay_next-reached.result.laid.first (next_list c.args.problem.machine.now c.take_next.new.store c.in-Some.next) (c.open_next.ensures.back none) c.lay_next-reached.ensures.laid
 
 pub take_off-requires : goal.take_off-requires
 take_off-requires g c = record { over = (c.requires.over.0, c.args.problem.machine.now, c.args.problem.ask.now, c.requires.over.3) }
@@ -56,20 +56,20 @@ take_off-requires g c = record { over = (c.requires.over.0, c.args.problem.machi
 pub returns-in_default-clause-ends : goal.returns-in_default-clause-ends
 returns-in_default-clause-ends g c b ready over =
     let none = c.take_next.ensures.none.0 c.in_default.is in
-    let same = over-plans g.N.Network.net g.N.Undo.content g.N.Undo.past g.N.Undo.max_marks b c.args.board.now c.args.problem.machine.now c.args.problem.ask.now c.args.held.now over in
-    let never = searching-never c.args.problem.machine.now c.args.board.now.plans c.args.problem.ask.now c.args.goals.now.items c.args.store.now c.requires.searching.0 c.requires.searching.1 search_fronts frontier_ends (over-legal g.N.Network.net g.N.Undo.content g.N.Undo.past g.N.Undo.max_marks c.requires.over.0 c.args.board.now c.args.problem.machine.now c.args.problem.ask.now c.args.held.now c.requires.over.1 c.requires.over.3)
-    (over-can_ask g.N.Network.net g.N.Undo.content g.N.Undo.past g.N.Undo.max_marks c.requires.over.0 c.args.board.now c.args.problem.machine.now c.args.problem.ask.now c.args.held.now c.requires.over.1 c.requires.over.3) none.0 none.1 in
+    let same = over-plans g.N.Network.reading b c.args.board.now c.args.problem.machine.now c.args.problem.ask.now c.args.held.now over in
+    let never = searching-never c.args.problem.machine.now c.args.board.now.plans c.args.problem.ask.now c.args.goals.now.items c.args.store.now c.requires.searching.0 c.requires.searching.1 search_fronts frontier_ends (over-legal g.N.Network.reading c.requires.over.0 c.args.board.now c.args.problem.machine.now c.args.problem.ask.now c.args.held.now c.requires.over.1 c.requires.over.3)
+    (over-can_ask g.N.Network.reading c.requires.over.0 c.args.board.now c.args.problem.machine.now c.args.problem.ask.now c.args.held.now c.requires.over.1 c.requires.over.3) none.0 none.1 in
     let few = searching-few c.args.problem.machine.now c.args.board.now.plans c.args.problem.ask.now c.args.goals.now.items c.args.store.now c.requires.searching.0 c.requires.searching.1 ended_has_few (c.take_next.ensures.within c.in_default.is) none.0 none.1 in (
       subst (λ ps. (plans' : List Plan) → ¬ IsAlternative c.args.problem.machine.now ps c.args.problem.ask.now plans') same never,
       c.take_off.ensures.back b c.args.problem.machine.now c.args.problem.ask.now over,
-      subst (λ ps. FewListsOpen c.args.problem.machine.now ps c.args.problem.ask.now c.args.store.now.room) same few,
+      subst (λ ps. FewListsOpen c.args.problem.machine.now ps c.args.problem.ask.now c.args.store.now.capacity) same few,
     )
 
 pub bound_of-bound-requires : goal.bound_of-bound-requires
 bound_of-bound-requires g c = next-there c.args.problem.machine.now c.args.board.now.plans c.args.problem.ask.now c.args.goals.now.items c.args.store.now c.requires.searching.0 c.requires.searching.1 c.take_next.new.goals.items c.take_next.new.store c.in-Some.next c.in-Some.ensures.next
 
 pub mark_anew-base-requires : goal.mark_anew-base-requires
-mark_anew-base-requires g c = record { over = (c.requires.over.0, c.args.problem.machine.now, c.args.problem.ask.now, marks-some g.N.Network.net g.N.Undo.content g.N.Undo.past g.N.Undo.max_marks c.requires.over.0 c.requires.over.2, c.requires.over.3) }
+mark_anew-base-requires g c = record { over = (c.requires.over.0, c.args.problem.machine.now, c.args.problem.ask.now, marks-some g.N.Network.reading c.requires.over.0 c.requires.over.2, c.requires.over.3) }
 
 pub follow-requires-clause-ready : goal.follow-requires-clause-ready
 follow-requires-clause-ready g c = c.mark_anew-base.ensures.ready c.requires.over.0 c.args.problem.machine.now c.args.problem.ask.now c.requires.over.1 c.requires.over.3
@@ -78,26 +78,26 @@ pub follow-requires-clause-opens : goal.follow-requires-clause-opens
 follow-requires-clause-opens g c =
     let list = best g (goal.at.follow-requires-clause-opens g c).In-Some-best_by in
     let laid = (c.mark_anew-base.ensures.since c.requires.over.0 c.args.problem.machine.now c.args.problem.ask.now c.requires.over.1 c.requires.over.3).loaded.plans in
-    let same = laid ∙ sym (over-plans g.N.Network.net g.N.Undo.content g.N.Undo.past g.N.Undo.max_marks c.requires.over.0 c.args.board.now c.args.problem.machine.now c.args.problem.ask.now c.args.held.now c.requires.over.3) in
+    let same = laid ∙ sym (over-plans g.N.Network.reading c.requires.over.0 c.args.board.now c.args.problem.machine.now c.args.problem.ask.now c.args.held.now c.requires.over.3) in
     subst (λ ps. IsOpen c.args.problem.machine.now ps c.args.problem.ask.now (list_at c.args.problem.machine.now c.take_next.new.store.entries c.in-Some-best_by.best)) (sym same) (bound_of c.take_next.new.store.entries c.in-Some-best_by.best, list.is_bound.opens)
 
 pub returns-in-Some-best_by-clause-ends : goal.returns-in-Some-best_by-clause-ends
 returns-in-Some-best_by-clause-ends g c b ready over =
     let list = best g (goal.at.returns-in-Some-best_by-clause-ends g c).In-Some-best_by in
-    let same = over-plans g.N.Network.net g.N.Undo.content g.N.Undo.past g.N.Undo.max_marks b c.args.board.now c.args.problem.machine.now c.args.problem.ask.now c.args.held.now over in
+    let same = over-plans g.N.Network.reading b c.args.board.now c.args.problem.machine.now c.args.problem.ask.now c.args.held.now over in
     let whole = list_at c.args.problem.machine.now c.take_next.new.store.entries c.in-Some-best_by.best in
     let bound = bound_of c.take_next.new.store.entries c.in-Some-best_by.best in
-    since-answer g.N.Network.net g.N.Undo.content g.N.Undo.past g.N.Undo.max_marks b c.follow.new.board c.args.problem.machine.now c.args.problem.ask.now c.mark_anew-base.result.0 None
-    (since-more g.N.Network.net g.N.Undo.content g.N.Undo.past g.N.Undo.max_marks b c.mark_anew-base.new.board c.args.problem.machine.now c.args.problem.ask.now c.mark_anew-base.result.0 None (c.mark_anew-base.ensures.since b c.args.problem.machine.now c.args.problem.ask.now ready over) c.follow.new.board c.follow.ensures.same c.follow.ensures.laid.stands)
+    since-answer g.N.Network.reading b c.follow.new.board c.args.problem.machine.now c.args.problem.ask.now c.mark_anew-base.result.0 None
+    (since-more g.N.Network.reading b c.mark_anew-base.new.board c.args.problem.machine.now c.args.problem.ask.now c.mark_anew-base.result.0 None (c.mark_anew-base.ensures.since b c.args.problem.machine.now c.args.problem.ask.now ready over) c.follow.new.board c.follow.ensures.same c.follow.ensures.laid.stands)
     c.follow.result whole bound c.follow.ensures.laid list.complete (subst (λ ps. IsBound c.args.problem.machine.now ps c.args.problem.ask.now whole bound) same list.is_bound) (subst (λ ps. NoneBefore c.args.problem.machine.now ps c.args.problem.ask.now bound) same list.none_before)
 
 pub lay_next-reached-requires-clause-over : goal.lay_next-reached-requires-clause-over
-lay_next-reached-requires-clause-over g c = (c.requires.over.0, c.requires.over.1, marks-some g.N.Network.net g.N.Undo.content g.N.Undo.past g.N.Undo.max_marks c.requires.over.0 c.requires.over.2, c.requires.over.3)
+lay_next-reached-requires-clause-over g c = (c.requires.over.0, c.requires.over.1, marks-some g.N.Network.reading c.requires.over.0 c.requires.over.2, c.requires.over.3)
 
 pub lay_next-reached-requires-clause-holds : goal.lay_next-reached-requires-clause-holds
 lay_next-reached-requires-clause-holds g c =
     let same = ap (λ (t : StoreValue). t.entries) (known c.args.problem.machine.now c.args.board.now.plans c.args.problem.ask.now c.args.goals.now.items c.args.store.now c.requires.searching.0 c.requires.searching.1 c.take_next.new.goals.items c.take_next.new.store c.in-Some.next c.in-Some.ensures.next).same in
-    holds-taken g.N.Network.net g.N.Undo.content g.N.Undo.past c.args.board.now c.args.problem.machine.now c.args.problem.ask.now c.args.store.now c.take_next.new.store c.args.held.now same c.requires.holds
+    holds-taken g.N.Network.reading c.args.board.now c.args.problem.machine.now c.args.problem.ask.now c.args.store.now c.take_next.new.store c.args.held.now same c.requires.holds
 
 pub lay_next-reached-requires-clause-can : goal.lay_next-reached-requires-clause-can
 lay_next-reached-requires-clause-can g c =
@@ -105,22 +105,22 @@ lay_next-reached-requires-clause-can g c =
     (can-open c.args.problem.machine.now c.args.board.now.plans c.args.problem.ask.now c.args.goals.now.items c.args.store.now c.requires.searching.0 c.requires.searching.1 c.take_next.new.goals.items c.take_next.new.store c.in-Some.next c.in-Some.ensures.next (is_machine c.args.problem.machine.now) c.requires.goal (later g k.In_default-best_by)).can_lay
 
 pub open_next-requires-clause-marks : goal.open_next-requires-clause-marks
-open_next-requires-clause-marks g c = since-marks g.N.Network.net g.N.Undo.content g.N.Undo.past g.N.Undo.max_marks c.requires.over.0 c.lay_next-reached.new.board c.args.problem.machine.now c.args.problem.ask.now c.lay_next-reached.result.base.0 c.lay_next-reached.result.root (c.lay_next-reached.ensures.since c.requires.over.0 c.requires.over.1 c.requires.over.3) c.requires.over.2
+open_next-requires-clause-marks g c = since-marks g.N.Network.reading c.requires.over.0 c.lay_next-reached.new.board c.args.problem.machine.now c.args.problem.ask.now c.lay_next-reached.result.base.0 c.lay_next-reached.result.root (c.lay_next-reached.ensures.since c.requires.over.0 c.requires.over.1 c.requires.over.3) c.requires.over.2
 
 pub open_next-requires-clause-can : goal.open_next-requires-clause-can
 open_next-requires-clause-can g c =
     let k = goal.at.open_next-requires-clause-can g c in
-    let same = (c.lay_next-reached.ensures.since c.requires.over.0 c.requires.over.1 c.requires.over.3).loaded.plans ∙ sym (over-plans g.N.Network.net g.N.Undo.content g.N.Undo.past g.N.Undo.max_marks c.requires.over.0 c.args.board.now c.args.problem.machine.now c.args.problem.ask.now c.args.held.now c.requires.over.3) in
+    let same = (c.lay_next-reached.ensures.since c.requires.over.0 c.requires.over.1 c.requires.over.3).loaded.plans ∙ sym (over-plans g.N.Network.reading c.requires.over.0 c.args.board.now c.args.problem.machine.now c.args.problem.ask.now c.args.held.now c.requires.over.3) in
     subst (λ ps. CanOpen c.args.problem.machine.now ps c.args.problem.ask.now c.take_next.new.store c.in-Some.next) (sym same) (can-open c.args.problem.machine.now c.args.board.now.plans c.args.problem.ask.now c.args.goals.now.items c.args.store.now c.requires.searching.0 c.requires.searching.1 c.take_next.new.goals.items c.take_next.new.store c.in-Some.next c.in-Some.ensures.next (is_machine c.args.problem.machine.now) c.requires.goal (later g k.In_default-best_by))
 
 pub returns-then-open_next-clause-ends : goal.returns-then-open_next-clause-ends
 returns-then-open_next-clause-ends g c b ready over =
     let k = goal.at.returns-then-open_next-clause-ends g c in
-    let none = step-none_before c.args.problem.machine.now c.args.board.now.plans c.args.problem.ask.now c.args.goals.now.items c.args.store.now c.requires.searching.0 c.requires.searching.1 c.take_next.new.goals.items c.take_next.new.store c.in-Some.next c.in-Some.ensures.next (is_machine c.args.problem.machine.now) c.requires.goal (later g k.In_default-best_by) (over-legal g.N.Network.net g.N.Undo.content g.N.Undo.past g.N.Undo.max_marks c.requires.over.0 c.args.board.now c.args.problem.machine.now c.args.problem.ask.now c.args.held.now c.requires.over.1 c.requires.over.3)
-    (over-can_ask g.N.Network.net g.N.Undo.content g.N.Undo.past g.N.Undo.max_marks c.requires.over.0 c.args.board.now c.args.problem.machine.now c.args.problem.ask.now c.args.held.now c.requires.over.1 c.requires.over.3) in
+    let none = step-none_before c.args.problem.machine.now c.args.board.now.plans c.args.problem.ask.now c.args.goals.now.items c.args.store.now c.requires.searching.0 c.requires.searching.1 c.take_next.new.goals.items c.take_next.new.store c.in-Some.next c.in-Some.ensures.next (is_machine c.args.problem.machine.now) c.requires.goal (later g k.In_default-best_by) (over-legal g.N.Network.reading c.requires.over.0 c.args.board.now c.args.problem.machine.now c.args.problem.ask.now c.args.held.now c.requires.over.1 c.requires.over.3)
+    (over-can_ask g.N.Network.reading c.requires.over.0 c.args.board.now c.args.problem.machine.now c.args.problem.ask.now c.args.held.now c.requires.over.1 c.requires.over.3) in
     let bound = next_bound c.take_next.new.store c.in-Some.next in
-    let same = over-plans g.N.Network.net g.N.Undo.content g.N.Undo.past g.N.Undo.max_marks b c.args.board.now c.args.problem.machine.now c.args.problem.ask.now c.args.held.now over in
-    since-found g.N.Network.net g.N.Undo.content g.N.Undo.past g.N.Undo.max_marks b c.lay_next-reached.new.board c.open_next.new.board c.args.problem.machine.now c.args.problem.ask.now c.lay_next-reached.result.base.0 c.lay_next-reached.result.root bound (c.lay_next-reached.ensures.since b ready over)
+    let same = over-plans g.N.Network.reading b c.args.board.now c.args.problem.machine.now c.args.problem.ask.now c.args.held.now over in
+    since-found g.N.Network.reading b c.lay_next-reached.new.board c.open_next.new.board c.args.problem.machine.now c.args.problem.ask.now c.lay_next-reached.result.base.0 c.lay_next-reached.result.root bound (c.lay_next-reached.ensures.since b ready over)
     (c.open_next.ensures.found c.if-open_next.true) (subst (λ ps. NoneBefore c.args.problem.machine.now ps c.args.problem.ask.now bound) same none)
 
 pub returns-then-open_next-clause-same : goal.returns-then-open_next-clause-same
@@ -131,17 +131,17 @@ returns-then-open_next-clause-same g c =
 pub undo_to-requires : goal.undo_to-requires
 undo_to-requires g c =
     let k = goal.at.undo_to-requires g c in
-    since-known g.N.Network.net g.N.Undo.content g.N.Undo.past g.N.Undo.max_marks c.requires.over.0 c.open_next.new.board c.args.problem.machine.now c.args.problem.ask.now c.lay_next-reached.result.base.0 c.lay_next-reached.result.root (since g k.After-open_next c.if-open_next.false c.requires.over.0 c.requires.over.1 c.requires.over.3)
+    since-known g.N.Network.reading c.requires.over.0 c.open_next.new.board c.args.problem.machine.now c.args.problem.ask.now c.lay_next-reached.result.base.0 c.lay_next-reached.result.root (since g k.After-open_next c.if-open_next.false c.requires.over.0 c.requires.over.1 c.requires.over.3)
 
 pub returns-then-is_full-clause-ends : goal.returns-then-is_full-clause-ends
 returns-then-is_full-clause-ends g c b ready over =
     let k = goal.at.returns-then-is_full-clause-ends g c in
-    let spent = step-full c.args.problem.machine.now c.args.board.now.plans c.args.problem.ask.now c.args.goals.now.items c.args.store.now c.requires.searching.0 c.requires.searching.1 c.take_next.new.goals.items c.take_next.new.store c.in-Some.next c.in-Some.ensures.next (is_machine c.args.problem.machine.now) c.requires.goal (later g k.In_default-best_by) c.open_next.new.store (opened g k.After-open_next c.if-open_next.false) (sym c.is_full.ensures.full ∙ c.if-is_full.true) (over-legal g.N.Network.net g.N.Undo.content g.N.Undo.past g.N.Undo.max_marks c.requires.over.0 c.args.board.now c.args.problem.machine.now c.args.problem.ask.now c.args.held.now c.requires.over.1 c.requires.over.3)
-    (over-can_ask g.N.Network.net g.N.Undo.content g.N.Undo.past g.N.Undo.max_marks c.requires.over.0 c.args.board.now c.args.problem.machine.now c.args.problem.ask.now c.args.held.now c.requires.over.1 c.requires.over.3) in
-    let at = subst (IsSpent c.args.problem.machine.now c.args.board.now.plans c.args.problem.ask.now c.args.store.now.room) (sym c.bound_of-bound.ensures) spent in
+    let spent = step-full c.args.problem.machine.now c.args.board.now.plans c.args.problem.ask.now c.args.goals.now.items c.args.store.now c.requires.searching.0 c.requires.searching.1 c.take_next.new.goals.items c.take_next.new.store c.in-Some.next c.in-Some.ensures.next (is_machine c.args.problem.machine.now) c.requires.goal (later g k.In_default-best_by) c.open_next.new.store (opened g k.After-open_next c.if-open_next.false) (sym c.is_full.ensures.full ∙ c.if-is_full.true) (over-legal g.N.Network.reading c.requires.over.0 c.args.board.now c.args.problem.machine.now c.args.problem.ask.now c.args.held.now c.requires.over.1 c.requires.over.3)
+    (over-can_ask g.N.Network.reading c.requires.over.0 c.args.board.now c.args.problem.machine.now c.args.problem.ask.now c.args.held.now c.requires.over.1 c.requires.over.3) in
+    let at = subst (IsSpent c.args.problem.machine.now c.args.board.now.plans c.args.problem.ask.now c.args.store.now.capacity) (sym c.bound_of-bound.ensures) spent in
     let u = c.undo_to.ensures in (
-      subst (λ ps. IsSpent c.args.problem.machine.now ps c.args.problem.ask.now c.args.store.now.room c.bound_of-bound.result) (over-plans g.N.Network.net g.N.Undo.content g.N.Undo.past g.N.Undo.max_marks b c.args.board.now c.args.problem.machine.now c.args.problem.ask.now c.args.held.now over) at,
-      since-undone g.N.Network.net g.N.Undo.content g.N.Undo.past g.N.Undo.aside g.N.Undo.max_marks c.marks_keep_boards.ensures.back b c.open_next.new.board c.undo_to.new.self c.args.problem.machine.now c.args.problem.ask.now c.lay_next-reached.result.base.0 c.lay_next-reached.result.root (since g k.After-open_next c.if-open_next.false b ready over) (record { content_then = u.content; past_less = u.past; aside_same = u.aside; room_same = u.room }),
+      subst (λ ps. IsSpent c.args.problem.machine.now ps c.args.problem.ask.now c.args.store.now.capacity c.bound_of-bound.result) (over-plans g.N.Network.reading b c.args.board.now c.args.problem.machine.now c.args.problem.ask.now c.args.held.now over) at,
+      since-undone g.N.Network.reading g.N.Undo.untouched c.marks_keep_boards.ensures.back b c.open_next.new.board c.undo_to.new.self c.args.problem.machine.now c.args.problem.ask.now c.lay_next-reached.result.base.0 c.lay_next-reached.result.root (since g k.After-open_next c.if-open_next.false b ready over) (record { content_then = u.content; past_less = u.past; untouched_same = u.untouched; room_same = u.capacity }),
     )
 
 pub returns-then-is_full-clause-same : goal.returns-then-is_full-clause-same
@@ -162,7 +162,7 @@ returns-clause-over g c b ready over none = since g (goal.at.returns-clause-over
 pub returns-clause-holds : goal.returns-clause-holds
 returns-clause-holds g c none =
     let k = goal.at.returns-clause-holds g c in
-    step-holds c.args.problem.machine.now c.args.board.now.plans c.args.problem.ask.now c.args.goals.now.items c.args.store.now c.requires.searching.0 c.requires.searching.1 c.take_next.new.goals.items c.take_next.new.store c.in-Some.next c.in-Some.ensures.next (is_machine c.args.problem.machine.now) c.requires.goal (later g k.In_default-best_by) c.open_next.new.store (opened g k.After-open_next c.if-open_next.false) g.N.Network.net g.N.Undo.content g.N.Undo.past c.open_next.new.board c.lay_next-reached.result
+    step-holds c.args.problem.machine.now c.args.board.now.plans c.args.problem.ask.now c.args.goals.now.items c.args.store.now c.requires.searching.0 c.requires.searching.1 c.take_next.new.goals.items c.take_next.new.store c.in-Some.next c.in-Some.ensures.next (is_machine c.args.problem.machine.now) c.requires.goal (later g k.In_default-best_by) c.open_next.new.store (opened g k.After-open_next c.if-open_next.false) g.N.Network.reading c.open_next.new.board c.lay_next-reached.result
     (carried g k.After-open_next c.if-open_next.false) c.lay_next-reached.ensures.stored
 
 pub returns-clause-less : goal.returns-clause-less

@@ -6,7 +6,7 @@ use Rattle.tp_search.proofs.showing.show_never.Goals as goal
 
 pub overflow_add-horizon : goal.overflow_add-horizon
 overflow_add-horizon g c =
-    let on = ready-on g.N.Network.net g.N.Undo.content g.N.Undo.past g.N.Undo.max_marks c.args.board.now c.args.machine.now c.args.ask.now c.requires.ready in
+    let on = ready-on g.N.Network.reading c.args.board.now c.args.machine.now c.args.ask.now c.requires.ready in
     let small = on.small_horizon in
     let is = on.horizon in
     omega (arith, small, is)
@@ -16,7 +16,7 @@ show-requires-clause-loaded g c = (c.requires.loaded.0, c.requires.loaded.1.0)
 
 pub unreachable-requires : goal.unreachable-requires
 unreachable-requires g c =
-    let on = ready-on g.N.Network.net g.N.Undo.content g.N.Undo.past g.N.Undo.max_marks c.args.board.now c.args.machine.now c.args.ask.now c.requires.ready in
+    let on = ready-on g.N.Network.reading c.args.board.now c.args.machine.now c.args.ask.now c.requires.ready in
     let machine = c.args.machine.now in
     let plans = c.args.board.now.plans in
     let ask = c.args.ask.now in

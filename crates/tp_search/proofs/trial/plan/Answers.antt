@@ -11,12 +11,12 @@ returns-in-Found g c =
     let a = c.in-Found.ensures.outcome in
     let known = known-goal c.args.machine.now c.requires.loaded.0 c.args.ask.now c.requires.loaded.1.can_ask in
     let least = c.end_bound-end.ensures c.args.machine.now a.laid.stands in
-    let same = answer-ends g.N.Network.net g.N.Undo.content g.N.Undo.past g.N.Undo.max_marks c.args.board.now c.search.new.board c.args.machine.now c.args.ask.now c.in-Found.base.0 a c.end_bound-end.result least in (
+    let same = answer-ends g.N.Network.reading c.args.board.now c.search.new.board c.args.machine.now c.args.ask.now c.in-Found.base.0 a c.end_bound-end.result least in (
       (refl, λ w. refl, tt),
       record {
         rests = tt;
         same_reference = refl;
-        trial = answer-trial g.N.Network.net g.N.Undo.content g.N.Undo.past g.N.Undo.max_marks c.args.board.now c.args.machine.now
+        trial = answer-trial g.N.Network.reading c.args.board.now c.args.machine.now
             (record { board = record c.args.board { now = c.search.new.board }; base = c.in-Found.base; end = c.end_bound-end.result }) c.args.ask.now
             (record { stands = c.requires.stands; asked = c.requires.asked; closed = ap suffix_after c.requires.closed }) (is_machine c.args.machine.now) known a least;
         end = λ plans loaded. subst (EndsEarliest c.args.machine.now plans c.args.ask.now) (sym same)

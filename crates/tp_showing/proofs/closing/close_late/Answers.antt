@@ -7,9 +7,9 @@ use Rattle.tp_showing.proofs.closing.close_late.Goals as goal
 pub close_of-requires-clause-reason : goal.close_of-requires-clause-reason
 close_of-requires-clause-reason g c =
     let r = c.requires.refused.1 in
-    late-tellable g.N.Network.net g.N.Undo.content g.N.Undo.past g.N.Network.refutes c.args.machine.now c.args.board.now c.requires.stands c.requires.named c.requires.refused.0 r.few r.shown
+    late-tellable g.N.Network.reading g.N.Network.refutes c.args.machine.now c.args.board.now c.requires.stands c.requires.named c.requires.refused.0 r.few r.shown
 
 pub returns : goal.returns
 returns g c =
     ok-map (IsToldReason g.N.Network.refutes c.args.machine.now c.args.board.now) (ClosesRefused g.N.Network.refutes c.args.machine.now c.args.board.now) c.close_of.result
-    (late-told g.N.Network.net g.N.Undo.content g.N.Undo.past g.N.Network.refutes c.args.machine.now c.args.board.now c.requires.stands c.requires.named) c.close_of.ensures
+    (late-told g.N.Network.reading g.N.Network.refutes c.args.machine.now c.args.board.now c.requires.stands c.requires.named) c.close_of.ensures

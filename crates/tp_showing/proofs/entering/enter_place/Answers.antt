@@ -28,7 +28,7 @@ place-requires-clause-next g c =
     let x = c.requires.carries.0 in
     let k = c.requires.carries.1 in
     and-some (suffix_of c.args.board.now) x (λ y. CanPlace c.args.scene.machine.now c.args.board.now.plans y c.args.branch.places c.args.place) k.carried
-    (may-place g.N.Network.net g.N.Undo.content g.N.Undo.past g.N.Undo.max_marks g.N.Network.refutes c.args.scene.machine.now c.args.scene.ask.now c.args.board.now c.args.branch x c.args.rule c.args.place k c.requires.next (c.requires.within x k.carried))
+    (may-place g.N.Network.reading g.N.Network.refutes c.args.scene.machine.now c.args.scene.ask.now c.args.board.now c.args.branch x c.args.rule c.args.place k c.requires.next (c.requires.within x k.carried))
 
 pub put_carried-requires-clause-named : goal.put_carried-requires-clause-named
 put_carried-requires-clause-named g c = subst AreNamed (sym c.place.ensures.loaded.plans) c.requires.named
@@ -36,7 +36,7 @@ put_carried-requires-clause-named g c = subst AreNamed (sym c.place.ensures.load
 pub put_carried-requires-clause-carries : goal.put_carried-requires-clause-carries
 put_carried-requires-clause-carries g c =
     let x = c.requires.carries.0 in
-    let k = carries-place g.N.Network.net g.N.Undo.content g.N.Undo.past g.N.Undo.max_marks g.N.Network.refutes c.args.scene.machine.now c.args.scene.ask.now c.args.board.now c.place.new.self c.args.branch (placed_below c.args.branch) x c.args.rule c.args.place
+    let k = carries-place g.N.Network.reading g.N.Network.refutes c.args.scene.machine.now c.args.scene.ask.now c.args.board.now c.place.new.self c.args.branch (placed_below c.args.branch) x c.args.rule c.args.place
     c.requires.carries.1 c.requires.next (c.requires.within x c.requires.carries.1.carried) c.place.ensures.loaded c.in-Ok.ensures.suffix refl in
     (with_place c.args.place x, k.0)
 
@@ -46,7 +46,7 @@ put_late-requires-clause-named g c = subst AreNamed (sym c.place.ensures.loaded.
 pub put_late-requires-clause-refused : goal.put_late-requires-clause-refused
 put_late-requires-clause-refused g c =
     let x = c.requires.carries.0 in
-    (with_place c.args.place x, place-refused g.N.Network.net g.N.Undo.content g.N.Undo.past g.N.Undo.max_marks g.N.Network.refutes c.args.scene.machine.now c.args.scene.ask.now c.args.board.now c.place.new.self c.args.branch x c.args.place c.requires.carries.1 c.in-Err.ensures.shown)
+    (with_place c.args.place x, place-refused g.N.Network.reading g.N.Network.refutes c.args.scene.machine.now c.args.scene.ask.now c.args.board.now c.place.new.self c.args.branch x c.args.place c.requires.carries.1 c.in-Err.ensures.shown)
 
 -- the head's name is that of the resource
 named : (g : _) (c : After-get g) (rows : List TreeRow) → is_name_of_resource c.args.scene.machine.now c.args.board.now.plans c.args.scene.ask.now rows c.get.result.now.name (slice_get c.args.scene.machine.now.resources c.args.rule.resource.0) ≡ true
@@ -63,7 +63,7 @@ returns-in-Ok-put_late-clause-entered g c =
     let x0 = c.requires.carries.0 in
     let k = c.requires.carries.1 in
     let place = c.args.place in
-    let refused = place-refused g.N.Network.net g.N.Undo.content g.N.Undo.past g.N.Undo.max_marks g.N.Network.refutes machine ask c.args.board.now c.place.new.self c.args.branch x0 place k c.in-Err.ensures.shown in
+    let refused = place-refused g.N.Network.reading g.N.Network.refutes machine ask c.args.board.now c.place.new.self c.args.branch x0 place k c.in-Err.ensures.shown in
     let put = subst (λ ps. PutsNode machine ps ask limit c.args.nodes.now c.put_late.new.nodes (branch_by (placed_below c.args.branch) (with_place place x0)) (AtHead c.get.result.now.name place place) (λ _. [])) c.place.ensures.loaded.plans
     (c.in-Ok-put_late.ensures (branch_by (placed_below c.args.branch) (with_place place x0)) refl refused) in
     own-suffix (suffix_of c.args.board.now) x0 k.carried
@@ -87,18 +87,18 @@ returns-in-Ok-clause-entered g c =
     let place = c.args.place in
     let y = with_place place x0 in
     let head = AtHead c.get.result.now.name place place in
-    let carried = carries-place g.N.Network.net g.N.Undo.content g.N.Undo.past g.N.Undo.max_marks g.N.Network.refutes machine ask c.args.board.now c.place.new.self r child x0 c.args.rule place k c.requires.next (c.requires.within x0 k.carried) c.place.ensures.loaded c.in-Ok.ensures.suffix refl in
+    let carried = carries-place g.N.Network.reading g.N.Network.refutes machine ask c.args.board.now c.place.new.self r child x0 c.args.rule place k c.requires.next (c.requires.within x0 k.carried) c.place.ensures.loaded c.in-Ok.ensures.suffix refl in
     let name = named g (goal.at.returns-in-Ok-clause-entered g c).After-get in
-    let Put = λ (ps : List Plan) (o : Option Branch). (z : Suffix) → Carries g.N.Network.net g.N.Undo.content g.N.Undo.past g.N.Undo.max_marks machine ask c.place.new.self child z
+    let Put = λ (ps : List Plan) (o : Option Branch). (z : Suffix) → Carries g.N.Network.reading machine ask c.place.new.self child z
     → MatchOption o (PutsNode machine ps ask limit old new (branch_by child z) head (λ _. [])) (λ q. (q ≡ child) × PutsNode machine ps ask limit old new (branch_by child z) head (λ rows. kids_of machine ps ask rows (branch_by child z))) in
     let Open = λ (o : Option Branch). IfSome o (λ _. IsOpen machine ask child) in
     let Early = λ (o : Option Branch). IfSome o (λ _. IsEarly machine ask limit c.place.new.self) in
-    let Entered = λ (o : Option Branch) (x : Suffix). IsEntered g.N.Network.net g.N.Undo.content g.N.Undo.past g.N.Undo.max_marks machine plans ask sums limit old new c.put_carried.new.board r
+    let Entered = λ (o : Option Branch) (x : Suffix). IsEntered g.N.Network.reading machine plans ask sums limit old new c.put_carried.new.board r
     (λ rows. places_from machine plans ask rows (branch_by r x) c.args.rule place) (λ rows. places_from machine plans ask rows (branch_by r x) c.args.rule (place + 1)) o in
     let put = subst (λ ps. IfOk c.put_carried.result (Put ps)) c.place.ensures.loaded.plans c.put_carried.ensures.put in
     ok-map (λ o. Put plans o × (Open o × Early o)) (λ o. (x : Suffix) → suffix_of c.args.board.now ≡ Some x → Entered o x) c.put_carried.result
     (λ o both. own-suffix (suffix_of c.args.board.now) x0 k.carried (Entered o)
-    (enter-by g.N.Network.net g.N.Undo.content g.N.Undo.past g.N.Undo.max_marks machine plans ask sums limit old new o c.place.new.self c.put_carried.new.board r child y head
+    (enter-by g.N.Network.reading machine plans ask sums limit old new o c.place.new.self c.put_carried.new.board r child y head
     (λ rows. places_from machine plans ask rows (branch_by r x0) c.args.rule place) (λ rows. places_from machine plans ask rows (branch_by r x0) c.args.rule (place + 1)) carried.0 c.put_carried.ensures.same c.put_carried.ensures.since.load.plans carried.1
     (place-shows machine plans ask sums limit old new r x0 c.args.rule place c.get.result.now.name name (c.requires.within x0 k.carried)) (both.0 y carried.0) both.1.0 (early-at machine plans ask limit c.place.new.self y o both.1.1 carried.0.carried c.place.ensures.loaded.plans)))
     (ok-three (Put plans) Open Early c.put_carried.result put c.put_carried.ensures.splits c.put_carried.ensures.split_early)

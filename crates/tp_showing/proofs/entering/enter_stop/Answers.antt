@@ -17,7 +17,7 @@ pub put_stop-requires-clause-refused : goal.put_stop-requires-clause-refused
 put_stop-requires-clause-refused g c =
     let machine = c.args.scene.machine.now in (
       c.requires.carries.0,
-      stop-refused g.N.Network.net g.N.Undo.content g.N.Undo.past g.N.Undo.max_marks g.N.Network.refutes machine c.args.scene.ask.now c.args.board.now c.stop.new.self c.args.branch c.requires.carries.0 c.requires.carries.1 c.in-Err.ensures.same
+      stop-refused g.N.Network.reading g.N.Network.refutes machine c.args.scene.ask.now c.args.board.now c.stop.new.self c.args.branch c.requires.carries.0 c.requires.carries.1 c.in-Err.ensures.same
           (c.in-Err.ensures.shown machine c.requires.set.stands),
     )
 
@@ -34,7 +34,7 @@ returns-in-Ok-put_stop-clause-shown g c =
     let some = (stop-some ask r due).1 in
     let count = k.count in
     let many : 0 < length x0.choices = omega (arith, some, count) in
-    let refused = stop-refused g.N.Network.net g.N.Undo.content g.N.Undo.past g.N.Undo.max_marks g.N.Network.refutes machine ask c.args.board.now c.stop.new.self r x0 k c.in-Err.ensures.same (c.in-Err.ensures.shown machine c.requires.set.stands) in
+    let refused = stop-refused g.N.Network.reading g.N.Network.refutes machine ask c.args.board.now c.stop.new.self r x0 k c.in-Err.ensures.same (c.in-Err.ensures.shown machine c.requires.set.stands) in
     let Shown = λ (x : Suffix). Shows machine plans ask c.args.scene.rooms.now.sums limit c.args.nodes.now c.put_stop.new.nodes (λ rows. stop_due machine plans ask rows (branch_by r x)) (λ _. []) in
     own-suffix (suffix_of c.args.board.now) x0 k.carried Shown
     (stop-shows machine plans ask c.args.scene.rooms.now.sums limit c.args.nodes.now c.put_stop.new.nodes r x0 count due
@@ -51,5 +51,5 @@ returns-in-Ok-clause-early g c =
     let some = (stop-some ask r due).1 in
     let count = k.count in
     let many : 0 < length x.choices = omega (arith, some, count) in
-    stopped-ends g.N.Network.net g.N.Undo.content g.N.Undo.past g.N.Undo.max_marks machine ask c.args.board.now c.requires.set r x k c.requires.placed c.stop.new.self c.args.scene.limit (stop-front ask r due) many (c.requires.ends x k.carried)
+    stopped-ends g.N.Network.reading machine ask c.args.board.now c.requires.set r x k c.requires.placed c.stop.new.self c.args.scene.limit (stop-front ask r due) many (c.requires.ends x k.carried)
     c.in-Ok.ensures.suffix c.stop.ensures.loaded (c.in-Ok.ensures.times machine c.requires.set.stands)

@@ -43,7 +43,7 @@ returns-in_default-room-clause-entered g c =
     let plans = c.args.board.now.plans in
     let r = c.args.branch in
     ok-none (c.put_dead.new.nodes ≡ c.args.nodes.now ++ record { depth = r.depth + 1; head = ActHead c.get.result.now.name; close = Dead } ∷ [])
-    (λ o. (x : Suffix) → suffix_of c.args.board.now ≡ Some x → IsEntered g.N.Network.net g.N.Undo.content g.N.Undo.past g.N.Undo.max_marks machine plans ask c.args.scene.rooms.now.sums c.args.scene.limit c.args.nodes.now c.put_dead.new.nodes c.args.board.now r
+    (λ o. (x : Suffix) → suffix_of c.args.board.now ≡ Some x → IsEntered g.N.Network.reading machine plans ask c.args.scene.rooms.now.sums c.args.scene.limit c.args.nodes.now c.put_dead.new.nodes c.args.board.now r
     (λ rows. action_due machine plans ask rows (branch_by r x) c.args.act) (λ _. []) o) c.put_dead.result c.put_dead.ensures.none c.put_dead.ensures.put
     (λ put x carried. dead-shows machine plans ask c.args.scene.rooms.now.sums c.args.scene.limit c.args.nodes.now c.put_dead.new.nodes r x c.args.act c.in-Some.state c.get.result.now.name (named g at) c.in-Some.ensures.known (found g at) (sym c.room.ensures ∙ c.in_default-room.is) put)
 
@@ -51,7 +51,7 @@ pub put_carried-requires-clause-named : goal.put_carried-requires-clause-named
 put_carried-requires-clause-named g c = subst AreNamed (sym c.open_action.ensures.loaded.plans) c.requires.named
 
 -- what the board carries with the action
-opened : (g : _) (c : In-Ok g) → Carries g.N.Network.net g.N.Undo.content g.N.Undo.past g.N.Undo.max_marks c.args.scene.machine.now c.args.scene.ask.now c.open_action.new.self (opened_below c.args.branch c.args.act c.in-Some.state)
+opened : (g : _) (c : In-Ok g) → Carries g.N.Network.reading c.args.scene.machine.now c.args.scene.ask.now c.open_action.new.self (opened_below c.args.branch c.args.act c.in-Some.state)
     (with_action c.args.act c.in-Some-room.room c.requires.carries.0) × (below (opened_below c.args.branch c.args.act c.in-Some.state) < below c.args.branch)
 opened g c =
     let machine = c.args.scene.machine.now in
@@ -59,9 +59,9 @@ opened g c =
     let x = c.requires.carries.0 in
     let k = c.requires.carries.1 in
     let steps = found-steps machine ask c.args.act c.args.branch.first c.in-Some.state (sym c.in-Some.is ∙ c.step_back.ensures.before) in
-    carries-act g.N.Network.net g.N.Undo.content g.N.Undo.past g.N.Undo.max_marks g.N.Network.refutes machine ask c.args.board.now c.open_action.new.self c.args.branch (opened_below c.args.branch c.args.act c.in-Some.state) x c.args.act c.in-Some-room.room
+    carries-act g.N.Network.reading g.N.Network.refutes machine ask c.args.board.now c.open_action.new.self c.args.branch (opened_below c.args.branch c.args.act c.in-Some.state) x c.args.act c.in-Some-room.room
     c.in-Some.state k c.requires.known c.in-Some.ensures.known (c.requires.fewer x k.carried)
-    (has-places g.N.Network.net g.N.Undo.content g.N.Undo.past g.N.Undo.max_marks machine ask c.args.board.now c.requires.set c.args.branch x k c.requires.placed) steps.1 steps.0
+    (has-places g.N.Network.reading machine ask c.args.board.now c.requires.set c.args.branch x k c.requires.placed) steps.1 steps.0
     (room-is machine ask c.args.scene.rooms.now.sums c.in-Some.state c.in-Some-room.room c.requires.rooms c.in-Some.ensures.known (sym c.room.ensures ∙ c.in-Some-room.is)) c.open_action.ensures.loaded c.in-Ok.ensures.suffix refl
 
 pub put_carried-requires-clause-carries : goal.put_carried-requires-clause-carries
@@ -77,7 +77,7 @@ put_late-requires-clause-refused g c =
     let x = c.requires.carries.0 in
     let k = c.requires.carries.1 in (
       with_action c.args.act c.in-Some-room.room x,
-      act-refused g.N.Network.net g.N.Undo.content g.N.Undo.past g.N.Undo.max_marks g.N.Network.refutes c.args.scene.machine.now c.args.scene.ask.now c.args.board.now c.open_action.new.self c.args.branch x c.args.act c.in-Some-room.room k
+      act-refused g.N.Network.reading g.N.Network.refutes c.args.scene.machine.now c.args.scene.ask.now c.args.board.now c.open_action.new.self c.args.branch x c.args.act c.in-Some-room.room k
           (c.requires.fewer x k.carried) c.in-Err.ensures.shown,
     )
 
@@ -94,7 +94,7 @@ returns-in-Ok-put_late-clause-entered g c =
     let k = c.requires.carries.1 in
     let room = c.in-Some-room.room in
     let b = branch_by (opened_below r c.args.act c.in-Some.state) (with_action c.args.act room x0) in
-    let refused = act-refused g.N.Network.net g.N.Undo.content g.N.Undo.past g.N.Undo.max_marks g.N.Network.refutes machine ask c.args.board.now c.open_action.new.self r x0 c.args.act room k (c.requires.fewer x0 k.carried) c.in-Err.ensures.shown in
+    let refused = act-refused g.N.Network.reading g.N.Network.refutes machine ask c.args.board.now c.open_action.new.self r x0 c.args.act room k (c.requires.fewer x0 k.carried) c.in-Err.ensures.shown in
     let put = subst (λ ps. PutsNode machine ps ask limit c.args.nodes.now c.put_late.new.nodes b (ActHead c.get.result.now.name) (λ _. [])) c.open_action.ensures.loaded.plans (c.in-Ok-put_late.ensures b refl refused) in
     own-suffix (suffix_of c.args.board.now) x0 k.carried (λ x. Shows machine plans ask sums limit c.args.nodes.now c.put_late.new.nodes (λ rows. action_due machine plans ask rows (branch_by r x) c.args.act) (λ _. []))
     (act-shows machine plans ask sums limit c.args.nodes.now c.put_late.new.nodes r x0 c.args.act c.in-Some.state c.get.result.now.name (named g at) c.in-Some.ensures.known (found g at) room (sym c.room.ensures ∙ c.in-Some-room.is) (λ _. []) put)
@@ -118,16 +118,16 @@ returns-in-Ok-clause-entered g c =
     let y = with_action act room x0 in
     let head = ActHead c.get.result.now.name in
     let carried = opened g (goal.at.returns-in-Ok-clause-entered g c).In-Ok in
-    let Put = λ (ps : List Plan) (o : Option Branch). (z : Suffix) → Carries g.N.Network.net g.N.Undo.content g.N.Undo.past g.N.Undo.max_marks machine ask c.open_action.new.self child z
+    let Put = λ (ps : List Plan) (o : Option Branch). (z : Suffix) → Carries g.N.Network.reading machine ask c.open_action.new.self child z
     → MatchOption o (PutsNode machine ps ask limit old new (branch_by child z) head (λ _. [])) (λ q. (q ≡ child) × PutsNode machine ps ask limit old new (branch_by child z) head (λ rows. kids_of machine ps ask rows (branch_by child z))) in
     let Open = λ (o : Option Branch). IfSome o (λ _. IsOpen machine ask child) in
     let Early = λ (o : Option Branch). IfSome o (λ _. IsEarly machine ask limit c.open_action.new.self) in
-    let Entered = λ (o : Option Branch) (x : Suffix). IsEntered g.N.Network.net g.N.Undo.content g.N.Undo.past g.N.Undo.max_marks machine plans ask sums limit old new c.put_carried.new.board r
+    let Entered = λ (o : Option Branch) (x : Suffix). IsEntered g.N.Network.reading machine plans ask sums limit old new c.put_carried.new.board r
     (λ rows. action_due machine plans ask rows (branch_by r x) act) (λ _. []) o in
     let put = subst (λ ps. IfOk c.put_carried.result (Put ps)) c.open_action.ensures.loaded.plans c.put_carried.ensures.put in
     ok-map (λ o. Put plans o × (Open o × Early o)) (λ o. (x : Suffix) → suffix_of c.args.board.now ≡ Some x → Entered o x) c.put_carried.result
     (λ o both. own-suffix (suffix_of c.args.board.now) x0 k.carried (Entered o)
-    (enter-by g.N.Network.net g.N.Undo.content g.N.Undo.past g.N.Undo.max_marks machine plans ask sums limit old new o c.open_action.new.self c.put_carried.new.board r child y head
+    (enter-by g.N.Network.reading machine plans ask sums limit old new o c.open_action.new.self c.put_carried.new.board r child y head
     (λ rows. action_due machine plans ask rows (branch_by r x0) act) (λ _. []) carried.0 c.put_carried.ensures.same c.put_carried.ensures.since.load.plans carried.1
     (act-shows machine plans ask sums limit old new r x0 act c.in-Some.state c.get.result.now.name (named g at) c.in-Some.ensures.known (found g at) room (sym c.room.ensures ∙ c.in-Some-room.is)) (both.0 y carried.0) both.1.0 (early-at machine plans ask limit c.open_action.new.self y o both.1.1 carried.0.carried c.open_action.ensures.loaded.plans)))
     (ok-three (Put plans) Open Early c.put_carried.result put c.put_carried.ensures.splits c.put_carried.ensures.split_early)

@@ -21,7 +21,7 @@ pub returns-in_default-clause-entered : goal.returns-in_default-clause-entered
 returns-in_default-clause-entered g c =
     let machine = c.args.scene.machine.now in
     ok-none (c.put_dead.new.nodes ≡ c.args.nodes.now ++ record { depth = 0; head = GoalHead c.named.result; close = Dead } ∷ [])
-    (IsGoalEntered g.N.Network.net g.N.Undo.content g.N.Undo.past g.N.Undo.max_marks machine c.args.board.now.plans c.args.scene.ask.now c.args.scene.rooms.now.sums c.args.scene.limit c.args.nodes.now c.put_dead.new.nodes c.args.board.now c.args.goal)
+    (IsGoalEntered g.N.Network.reading machine c.args.board.now.plans c.args.scene.ask.now c.args.scene.rooms.now.sums c.args.scene.limit c.args.nodes.now c.put_dead.new.nodes c.args.board.now c.args.goal)
     c.put_dead.result c.put_dead.ensures.none c.put_dead.ensures.put
     (λ put. dead-goal machine c.args.board.now.plans c.args.scene.ask.now c.args.scene.rooms.now.sums c.args.scene.limit c.args.nodes.now c.put_dead.new.nodes c.args.goal c.requires.known (sym c.room.ensures ∙ c.in_default.is)
     (put ∙ ap (λ (s : NamedState). c.args.nodes.now ++ record { depth = 0; head = GoalHead s; close = Dead } ∷ []) c.named.ensures))
@@ -59,14 +59,14 @@ returns-in-Ok-clause-entered g c =
     let room = c.in-Some.room in
     let child = goal_below c.args.goal in
     let is_room = room-is machine ask sums c.args.goal room c.requires.rooms c.requires.known (sym c.room.ensures ∙ c.in-Some.is) in
-    let carried = carries-goal g.N.Network.net g.N.Undo.content g.N.Undo.past g.N.Undo.max_marks machine plans ask sums limit old new c.open_goal.new.self c.args.goal room c.requires.known c.requires.is_goal is_room c.requires.kept c.in-Ok.ensures.suffix in
-    let Put = λ (ps : List Plan) (s : NamedState) (o : Option Branch). (z : Suffix) → Carries g.N.Network.net g.N.Undo.content g.N.Undo.past g.N.Undo.max_marks machine ask c.open_goal.new.self child z
+    let carried = carries-goal g.N.Network.reading machine plans ask sums limit old new c.open_goal.new.self c.args.goal room c.requires.known c.requires.is_goal is_room c.requires.kept c.in-Ok.ensures.suffix in
+    let Put = λ (ps : List Plan) (s : NamedState) (o : Option Branch). (z : Suffix) → Carries g.N.Network.reading machine ask c.open_goal.new.self child z
     → MatchOption o (PutsNode machine ps ask limit old new (branch_by child z) (GoalHead s) (λ _. [])) (λ q. (q ≡ child) × PutsNode machine ps ask limit old new (branch_by child z) (GoalHead s) (λ rows. kids_of machine ps ask rows (branch_by child z))) in
     let Open = λ (o : Option Branch). IfSome o (λ _. IsOpen machine ask child) in
     let Early = λ (o : Option Branch). IfSome o (λ _. IsEarly machine ask limit c.open_goal.new.self) in
     let put = subst (λ s. IfOk c.put_carried.result (Put plans s)) c.named.ensures (subst (λ ps. IfOk c.put_carried.result (Put ps c.named.result)) c.open_goal.ensures.loaded.plans c.put_carried.ensures.put) in
-    ok-map (λ o. Put plans (named machine c.args.goal) o × (Open o × Early o)) (IsGoalEntered g.N.Network.net g.N.Undo.content g.N.Undo.past g.N.Undo.max_marks machine plans ask sums limit old new c.put_carried.new.board c.args.goal) c.put_carried.result
-    (λ o both. goal-by g.N.Network.net g.N.Undo.content g.N.Undo.past g.N.Undo.max_marks machine plans ask sums limit old new o c.open_goal.new.self c.put_carried.new.board c.args.goal room c.requires.known (sym c.room.ensures ∙ c.in-Some.is) carried
+    ok-map (λ o. Put plans (named machine c.args.goal) o × (Open o × Early o)) (IsGoalEntered g.N.Network.reading machine plans ask sums limit old new c.put_carried.new.board c.args.goal) c.put_carried.result
+    (λ o both. goal-by g.N.Network.reading machine plans ask sums limit old new o c.open_goal.new.self c.put_carried.new.board c.args.goal room c.requires.known (sym c.room.ensures ∙ c.in-Some.is) carried
     c.put_carried.ensures.same c.put_carried.ensures.since.load.plans (both.0 (with_goal room) carried) both.1.0 (early-at machine plans ask limit c.open_goal.new.self (with_goal room) o both.1.1 carried.carried c.open_goal.ensures.loaded.plans))
     (ok-three (Put plans (named machine c.args.goal)) Open Early c.put_carried.result put c.put_carried.ensures.splits c.put_carried.ensures.split_early)
 
@@ -81,5 +81,5 @@ put_carried-requires-clause-carries g c =
     let sums = c.args.scene.rooms.now.sums in
     let is_room = room-is machine ask sums c.args.goal room c.requires.rooms c.requires.known (sym c.room.ensures ∙ c.in-Some.is) in (
       with_goal room,
-      carries-goal g.N.Network.net g.N.Undo.content g.N.Undo.past g.N.Undo.max_marks machine c.args.board.now.plans ask sums 0 [] [] c.open_goal.new.self c.args.goal room c.requires.known c.requires.is_goal is_room c.requires.kept c.in-Ok.ensures.suffix,
+      carries-goal g.N.Network.reading machine c.args.board.now.plans ask sums 0 [] [] c.open_goal.new.self c.args.goal room c.requires.known c.requires.is_goal is_room c.requires.kept c.in-Ok.ensures.suffix,
     )

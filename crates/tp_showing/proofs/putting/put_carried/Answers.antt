@@ -25,7 +25,7 @@ put_end-requires-clause-refused g c =
     let x = c.requires.carries.0 in
     let e = c.refuse_end.ensures in (
       x,
-      end-refused g.N.Network.net g.N.Undo.content g.N.Undo.past g.N.Undo.max_marks g.N.Network.refutes c.args.scene.machine.now c.args.scene.ask.now c.args.board.now c.refuse_end.new.self c.args.child x c.args.scene.limit c.requires.carries.1 e.same
+      end-refused g.N.Network.reading g.N.Network.refutes c.args.scene.machine.now c.args.scene.ask.now c.args.board.now c.refuse_end.new.self c.args.child x c.args.scene.limit c.requires.carries.1 e.same
           (e.shown c.args.scene.machine.now c.requires.set.stands),
     )
 
@@ -37,7 +37,7 @@ returns-in-Ok-clause-put g c = λ x carries.
     let e = c.refuse_end.ensures in
     subst (λ ps. PutsNode c.args.scene.machine.now ps c.args.scene.ask.now c.args.scene.limit c.args.nodes.now c.put_end.new.nodes (branch_by c.args.child x) c.args.head (λ _. [])) e.loaded.plans
     (c.in-Ok.ensures (branch_by c.args.child x) refl
-    (end-refused g.N.Network.net g.N.Undo.content g.N.Undo.past g.N.Undo.max_marks g.N.Network.refutes c.args.scene.machine.now c.args.scene.ask.now c.args.board.now c.refuse_end.new.self c.args.child x c.args.scene.limit carries e.same
+    (end-refused g.N.Network.reading g.N.Network.refutes c.args.scene.machine.now c.args.scene.ask.now c.args.board.now c.refuse_end.new.self c.args.child x c.args.scene.limit carries e.same
     (e.shown c.args.scene.machine.now c.requires.set.stands)))
 
 pub returns-in-Ok-put_node-clause-put : goal.returns-in-Ok-put_node-clause-put
@@ -53,14 +53,14 @@ returns-in-Ok-put_node-clause-put g c = λ x carries. (
 ends : (g : _) (c : After-is_complete g) → HasEndBy c.args.scene.machine.now c.args.board.now.plans c.args.scene.ask.now c.requires.carries.0 c.args.scene.limit
 ends g c =
     let set = c.requires.set in
-    least-by g.N.Network.net g.N.Undo.content g.N.Undo.past g.N.Undo.max_marks c.args.scene.machine.now c.args.scene.ask.now c.args.board.now c.requires.carries.0 c.end_bound.result c.args.scene.limit set.asked c.requires.carries.1.carried
+    least-by g.N.Network.reading c.args.scene.machine.now c.args.scene.ask.now c.args.board.now c.requires.carries.0 c.end_bound.result c.args.scene.limit set.asked c.requires.carries.1.carried
     (c.end_bound.ensures c.args.scene.machine.now set.stands) c.if-end_bound-scene.false
 
 pub returns-then-is_complete-clause-early : goal.returns-then-is_complete-clause-early
 returns-then-is_complete-clause-early g c =
     let at = (goal.at.returns-then-is_complete-clause-early g c).After-is_complete in
     let done = c.is_complete.ensures in
-    begun-ends g.N.Network.net g.N.Undo.content g.N.Undo.past g.N.Undo.max_marks c.args.scene.machine.now c.args.scene.ask.now c.args.board.now c.requires.set c.args.child c.requires.carries.0 c.requires.carries.1 (done.placed c.if-is_complete.true)
+    begun-ends g.N.Network.reading c.args.scene.machine.now c.args.scene.ask.now c.args.board.now c.requires.set c.args.child c.requires.carries.0 c.requires.carries.1 (done.placed c.if-is_complete.true)
     c.args.scene.limit (done.begun c.if-is_complete.true) (ends g at)
 
 pub returns-in-Ok-put_node-clause-split_early : goal.returns-in-Ok-put_node-clause-split_early

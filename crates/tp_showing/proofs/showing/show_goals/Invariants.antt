@@ -9,5 +9,5 @@ use Rattle.tp_showing.proofs.showing.show_goals.Given as goal
 abbrev pub invariant-states : goal.invariant-states
 invariant-states g l = record {
   shown : Shows l.scene.machine.now l.fn.board.plans l.scene.ask.now l.scene.rooms.now.sums l.scene.limit l.fn.nodes l.nodes (λ (rows : List TreeRow). map (λ s. goal_due s) l.states) (λ rows. map (λ s. goal_due s) (drop l.at l.states));
-  back : IsBack g.N.Network.net g.N.Undo.content g.N.Undo.past g.N.Undo.max_marks l.fn.board l.board l.scene.machine.now;
+  back : IsBack g.N.Network.reading l.fn.board l.board l.scene.machine.now;
 }

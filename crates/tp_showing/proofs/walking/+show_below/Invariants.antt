@@ -15,7 +15,7 @@ invariant-ways g l = record {
   shown : (x : Suffix) → suffix_of l.fn.board ≡ Some x → Shows l.scene.machine.now l.fn.board.plans l.scene.ask.now l.scene.rooms.now.sums l.scene.limit l.fn.nodes l.nodes
       (λ (rows : List TreeRow). kids_of l.scene.machine.now l.fn.board.plans l.scene.ask.now rows (branch_by l.branch x))
       (λ rows. left_of l.scene.machine.now l.fn.board.plans l.scene.ask.now rows (branch_by l.branch x) (hold_of l.scene.machine.now l.branch) l.way);
-  back : IsBack g.N.Network.net g.N.Undo.content g.N.Undo.past g.N.Undo.max_marks l.fn.board l.board l.scene.machine.now;
+  back : IsBack g.N.Network.reading l.fn.board l.board l.scene.machine.now;
   within : l.way ≤ l.count;
 }
 

@@ -33,10 +33,10 @@ returns-in-Some-clause-entered g c =
     let rule = c.in-Some.rule in
     let hold = hold_of machine r in
     let Entered = λ (from to : Suffix → List TreeRow → List Due) (o : Option Branch). (x : Suffix) → suffix_of c.args.board.now ≡ Some x
-    → IsEntered g.N.Network.net g.N.Undo.content g.N.Undo.past g.N.Undo.max_marks machine plans ask c.args.scene.rooms.now.sums c.args.scene.limit c.args.nodes.now c.enter_place.new.nodes c.enter_place.new.board r (from x) (to x) o in
+    → IsEntered g.N.Network.reading machine plans ask c.args.scene.rooms.now.sums c.args.scene.limit c.args.nodes.now c.enter_place.new.nodes c.enter_place.new.board r (from x) (to x) o in
     ok-map (Entered (λ x rows. places_from machine plans ask rows (branch_by r x) rule way) (λ x rows. places_from machine plans ask rows (branch_by r x) rule (way + 1)))
     (Entered (λ x rows. left_of machine plans ask rows (branch_by r x) hold way) (λ x rows. left_of machine plans ask rows (branch_by r x) hold (suc way))) c.enter_place.result
-    (λ o entered x carried. place-gone g.N.Network.net g.N.Undo.content g.N.Undo.past g.N.Undo.max_marks machine plans ask c.args.scene.rooms.now.sums c.args.scene.limit c.args.nodes.now c.enter_place.new.nodes c.enter_place.new.board r o x way rule hold
+    (λ o entered x carried. place-gone g.N.Network.reading machine plans ask c.args.scene.rooms.now.sums c.args.scene.limit c.args.nodes.now c.enter_place.new.nodes c.enter_place.new.board r o x way rule hold
     (sym c.next_hold.ensures ∙ c.in-Some.is) (entered x carried))
     c.enter_place.ensures.entered
 
@@ -48,7 +48,7 @@ returns-in-None-clause-entered g c =
     let r = c.args.branch in
     let way = c.args.way in
     let Entered = λ (h : Option HoldRule) (o : Option Branch). (x : Suffix) → suffix_of c.args.board.now ≡ Some x
-    → IsEntered g.N.Network.net g.N.Undo.content g.N.Undo.past g.N.Undo.max_marks machine plans ask c.args.scene.rooms.now.sums c.args.scene.limit c.args.nodes.now c.enter_child.new.nodes c.enter_child.new.board r
+    → IsEntered g.N.Network.reading machine plans ask c.args.scene.rooms.now.sums c.args.scene.limit c.args.nodes.now c.enter_child.new.nodes c.enter_child.new.board r
     (λ rows. left_of machine plans ask rows (branch_by r x) h way) (λ rows. left_of machine plans ask rows (branch_by r x) h (suc way)) o in
     subst (λ h. IfOk c.enter_child.result (Entered h)) (sym (sym c.next_hold.ensures ∙ c.in-None.is)) c.enter_child.ensures.entered
 

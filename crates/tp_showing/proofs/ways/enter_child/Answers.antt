@@ -17,10 +17,10 @@ returns-then-way-gt0-clause-entered g c =
     let r = c.args.branch in
     let way = c.args.way in
     let Entered = λ (from to : Suffix → List TreeRow → List Due) (o : Option Branch). (x : Suffix) → suffix_of c.args.board.now ≡ Some x
-    → IsEntered g.N.Network.net g.N.Undo.content g.N.Undo.past g.N.Undo.max_marks machine plans ask c.args.scene.rooms.now.sums c.args.scene.limit c.args.nodes.now c.enter_act.new.nodes c.enter_act.new.board r (from x) (to x) o in
+    → IsEntered g.N.Network.reading machine plans ask c.args.scene.rooms.now.sums c.args.scene.limit c.args.nodes.now c.enter_act.new.nodes c.enter_act.new.board r (from x) (to x) o in
     ok-map (Entered (λ x rows. action_due machine plans ask rows (branch_by r x) (record { 0 = way - 1 })) (λ x rows. []))
     (Entered (λ x rows. left_of machine plans ask rows (branch_by r x) None way) (λ x rows. left_of machine plans ask rows (branch_by r x) None (suc way))) c.enter_act.result
-    (λ o entered x carried. act-gone g.N.Network.net g.N.Undo.content g.N.Undo.past g.N.Undo.max_marks machine plans ask c.args.scene.rooms.now.sums c.args.scene.limit c.args.nodes.now c.enter_act.new.nodes c.enter_act.new.board r o x way (way - 1) (omega arith)
+    (λ o entered x carried. act-gone g.N.Network.reading machine plans ask c.args.scene.rooms.now.sums c.args.scene.limit c.args.nodes.now c.enter_act.new.nodes c.enter_act.new.board r o x way (way - 1) (omega arith)
     (c.requires.within x carried) (entered x carried))
     c.enter_act.ensures.entered
 

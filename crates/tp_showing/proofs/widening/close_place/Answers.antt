@@ -11,13 +11,13 @@ use Rattle.tp_showing.proofs.RangeFacts.{IsAtMark, at-mark, ok-some}
 use Rattle.tp_showing.proofs.widening.close_place.Goals as goal
 use Rattle.tp_showing.proofs.widening.close_place.Goals.{After-mark-mark}
 
-marked : (g : _) (c : After-mark-mark g) → IsMarked g.N.Network.net g.N.Undo.content g.N.Undo.past g.N.Undo.aside g.N.Undo.max_marks c.args.board.now c.mark-mark.new.self c.mark-mark.result.0
-marked g c = let m = c.mark-mark.ensures in record { number = m.number; past_more = m.past; content_same = m.content; aside_same = m.aside; room_same = m.room }
+marked : (g : _) (c : After-mark-mark g) → IsMarked g.N.Network.reading g.N.Undo.untouched c.args.board.now c.mark-mark.new.self c.mark-mark.result.0
+marked g c = let m = c.mark-mark.ensures in record { number = m.number; past_more = m.past; content_same = m.content; untouched_same = m.untouched; room_same = m.capacity }
 
-here : (g : _) (c : After-mark-mark g) → IsAtMark g.N.Network.net g.N.Undo.content g.N.Undo.past g.N.Undo.aside g.N.Undo.max_marks c.args.scene.machine.now c.args.scene.ask.now c.args.board.now c.mark-mark.new.self c.args.branch c.requires.carries.0
+here : (g : _) (c : After-mark-mark g) → IsAtMark g.N.Network.reading g.N.Undo.untouched c.args.scene.machine.now c.args.scene.ask.now c.args.board.now c.mark-mark.new.self c.args.branch c.requires.carries.0
 here g c =
     let r = c.requires in
-    at-mark g.N.Network.net g.N.Undo.content g.N.Undo.past g.N.Undo.aside g.N.Undo.max_marks c.args.scene.machine.now c.args.scene.ask.now c.marks_keep_boards.ensures.mark c.args.board.now c.mark-mark.new.self c.args.branch r.carries.0 c.mark-mark.result.0 (marked g c) r.set r.carries.1
+    at-mark g.N.Network.reading g.N.Undo.untouched c.args.scene.machine.now c.args.scene.ask.now c.marks_keep_boards.ensures.mark c.args.board.now c.mark-mark.new.self c.args.branch r.carries.0 c.mark-mark.result.0 (marked g c) r.set r.carries.1
 
 pub refuse_place-close-requires-clause-set : goal.refuse_place-close-requires-clause-set
 refuse_place-close-requires-clause-set g c = (here g (goal.at.refuse_place-close-requires-clause-set g c).After-mark-mark).set
@@ -39,7 +39,7 @@ refuse_place-close-requires-clause-within g c =
 pub undo_to-requires : goal.undo_to-requires
 undo_to-requires g c =
     let m = marked g (goal.at.undo_to-requires g c).After-mark-mark in
-    mark-known g.N.Network.net g.N.Undo.content g.N.Undo.past g.N.Undo.aside g.N.Undo.max_marks c.args.board.now c.mark-mark.new.self c.refuse_place-close.new.board c.mark-mark.result.0 m c.refuse_place-close.ensures.since.past_same
+    mark-known g.N.Network.reading g.N.Undo.untouched c.args.board.now c.mark-mark.new.self c.refuse_place-close.new.board c.mark-mark.result.0 m c.refuse_place-close.ensures.since.past_same
 
 pub returns-clause-closes : goal.returns-clause-closes
 returns-clause-closes g c =
@@ -60,5 +60,5 @@ returns-clause-back g c =
     let keeps = c.marks_keep_boards.ensures in
     let u = c.undo_to.ensures in
     let m = marked g (goal.at.returns-clause-back g c).After-mark-mark in
-    taken-back g.N.Network.net g.N.Undo.content g.N.Undo.past g.N.Undo.aside g.N.Undo.max_marks keeps.mark keeps.back c.args.board.now c.mark-mark.new.self c.refuse_place-close.new.board c.undo_to.new.self c.args.scene.machine.now c.mark-mark.result.0 m
-    c.refuse_place-close.ensures.since (record { content_then = u.content; past_less = u.past; aside_same = u.aside; room_same = u.room })
+    taken-back g.N.Network.reading g.N.Undo.untouched keeps.mark keeps.back c.args.board.now c.mark-mark.new.self c.refuse_place-close.new.board c.undo_to.new.self c.args.scene.machine.now c.mark-mark.result.0 m
+    c.refuse_place-close.ensures.since (record { content_then = u.content; past_less = u.past; untouched_same = u.untouched; room_same = u.capacity })

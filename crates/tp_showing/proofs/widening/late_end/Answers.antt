@@ -16,7 +16,7 @@ refuse_end-requires-clause-below g c =
 refused : (g : _) (c : After-refuse_end g) → IsEndRefused g.N.Network.refutes c.args.scene.machine.now c.refuse_end.new.self c.requires.carries.0 c.args.scene.limit
 refused g c =
     let e = c.refuse_end.ensures in
-    end-refused g.N.Network.net g.N.Undo.content g.N.Undo.past g.N.Undo.max_marks g.N.Network.refutes c.args.scene.machine.now c.args.scene.ask.now c.args.board.now c.refuse_end.new.self c.args.child c.requires.carries.0 c.args.scene.limit c.requires.carries.1 e.same
+    end-refused g.N.Network.reading g.N.Network.refutes c.args.scene.machine.now c.args.scene.ask.now c.args.board.now c.refuse_end.new.self c.args.child c.requires.carries.0 c.args.scene.limit c.requires.carries.1 e.same
     (e.shown c.args.scene.machine.now c.requires.set.stands)
 
 pub close_end-requires-clause-named : goal.close_end-requires-clause-named

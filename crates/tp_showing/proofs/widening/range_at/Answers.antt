@@ -24,7 +24,7 @@ returns-in-Ok-Some-clause-range g c =
     let r = c.args.branch in
     let x0 = c.requires.carries.0 in
     let k = c.requires.carries.1 in
-    let on = stands-on g.N.Network.net g.N.Undo.content g.N.Undo.past g.N.Undo.max_marks machine ask c.args.board.now c.requires.set in
+    let on = stands-on g.N.Network.reading machine ask c.args.board.now c.requires.set in
     let next = sym (newest-hold machine r.newest r.places x0.choices k.newest) ∙ c.requires.next in
     let closes = (rw c.in-Ok-Some.field-0-is at c.in-Ok-Some.ensures).closes in
     some-map _ (λ range. (x : Suffix) → suffix_of c.args.board.now ≡ Some x → IsRange machine plans ask (pos limit) x places.rule places.lo c.args.place places.last range) c.of.result

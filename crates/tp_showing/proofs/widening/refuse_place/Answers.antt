@@ -18,7 +18,7 @@ place-requires-clause-next g c =
     let x = c.requires.carries.0 in
     let k = c.requires.carries.1 in
     and-some (suffix_of c.args.board.now) x (λ y. CanPlace c.args.scene.machine.now c.args.board.now.plans y c.args.branch.places c.args.place) k.carried
-    (may-place g.N.Network.net g.N.Undo.content g.N.Undo.past g.N.Undo.max_marks g.N.Network.refutes c.args.scene.machine.now c.args.scene.ask.now c.args.board.now c.args.branch x c.args.places.rule c.args.place k c.requires.next (c.requires.within x k.carried))
+    (may-place g.N.Network.reading g.N.Network.refutes c.args.scene.machine.now c.args.scene.ask.now c.args.board.now c.args.branch x c.args.places.rule c.args.place k c.requires.next (c.requires.within x k.carried))
 
 pub late_end-requires-clause-named : goal.late_end-requires-clause-named
 late_end-requires-clause-named g c = subst AreNamed (sym c.place.ensures.loaded.plans) c.requires.named
@@ -26,7 +26,7 @@ late_end-requires-clause-named g c = subst AreNamed (sym c.place.ensures.loaded.
 pub late_end-requires-clause-carries : goal.late_end-requires-clause-carries
 late_end-requires-clause-carries g c =
     let x = c.requires.carries.0 in
-    let k = carries-place g.N.Network.net g.N.Undo.content g.N.Undo.past g.N.Undo.max_marks g.N.Network.refutes c.args.scene.machine.now c.args.scene.ask.now c.args.board.now c.place.new.self c.args.branch (placed_below c.args.branch) x c.args.places.rule c.args.place
+    let k = carries-place g.N.Network.reading g.N.Network.refutes c.args.scene.machine.now c.args.scene.ask.now c.args.board.now c.place.new.self c.args.branch (placed_below c.args.branch) x c.args.places.rule c.args.place
     c.requires.carries.1 c.requires.next (c.requires.within x c.requires.carries.1.carried) c.place.ensures.loaded c.in-Ok.ensures.suffix refl in
     (with_place c.args.place x, k.0)
 
@@ -36,7 +36,7 @@ close_late-requires-clause-named g c = subst AreNamed (sym c.place.ensures.loade
 pub close_late-requires-clause-refused : goal.close_late-requires-clause-refused
 close_late-requires-clause-refused g c =
     let x = c.requires.carries.0 in
-    (with_place c.args.place x, place-refused g.N.Network.net g.N.Undo.content g.N.Undo.past g.N.Undo.max_marks g.N.Network.refutes c.args.scene.machine.now c.args.scene.ask.now c.args.board.now c.place.new.self c.args.branch x c.args.place c.requires.carries.1 c.in-Err.ensures.shown)
+    (with_place c.args.place x, place-refused g.N.Network.reading g.N.Network.refutes c.args.scene.machine.now c.args.scene.ask.now c.args.board.now c.place.new.self c.args.branch x c.args.place c.requires.carries.1 c.in-Err.ensures.shown)
 
 pub returns-in-Ok-clause-closes : goal.returns-in-Ok-clause-closes
 returns-in-Ok-clause-closes g c =
@@ -47,7 +47,7 @@ returns-in-Ok-clause-closes g c =
     let k = c.requires.carries.1 in
     let b1 = c.place.new.self in
     let y = with_place c.args.place x0 in
-    let carried = carries-place g.N.Network.net g.N.Undo.content g.N.Undo.past g.N.Undo.max_marks g.N.Network.refutes machine ask c.args.board.now b1 c.args.branch (placed_below c.args.branch) x0 c.args.places.rule c.args.place k c.requires.next
+    let carried = carries-place g.N.Network.reading g.N.Network.refutes machine ask c.args.board.now b1 c.args.branch (placed_below c.args.branch) x0 c.args.places.rule c.args.place k c.requires.next
     (c.requires.within x0 k.carried) c.place.ensures.loaded c.in-Ok.ensures.suffix refl in
     ok-some (λ (close : Close). (z : Suffix) → suffix_of b1 ≡ Some z → Closes machine b1.plans ask (pos limit) z close)
     (λ close. (x : Suffix) → suffix_of c.args.board.now ≡ Some x → Closes machine c.args.board.now.plans ask (pos limit) (with_place c.args.place x) close) c.late_end.result
@@ -65,6 +65,6 @@ returns-in-Ok-close_late-clause-closes g c =
     let load = c.place.ensures.loaded in
     let y = with_place c.args.place x0 in
     let close = c.in-Ok-close_late.close in
-    let refused = place-refused g.N.Network.net g.N.Undo.content g.N.Undo.past g.N.Undo.max_marks g.N.Network.refutes machine ask c.args.board.now c.place.new.self c.args.branch x0 c.args.place k c.in-Err.ensures.shown in
+    let refused = place-refused g.N.Network.reading g.N.Network.refutes machine ask c.args.board.now c.place.new.self c.args.branch x0 c.args.place k c.in-Err.ensures.shown in
     own-suffix (suffix_of c.args.board.now) x0 k.carried (λ x. Closes machine c.args.board.now.plans ask (pos limit) (with_place c.args.place x) close)
     (subst (λ ps. Closes machine ps ask (pos limit) y close) load.plans (c.in-Ok-close_late.ensures ask y (pos limit) (load.ask ∙ c.requires.set.asked) refused c.requires.limit))

@@ -11,7 +11,7 @@ abbrev pub invariant-wider : goal.invariant-wider
 invariant-wider g l = record {
   range : (x : Suffix) → suffix_of l.fn.board ≡ Some x → IsRange l.scene.machine.now l.fn.board.plans l.scene.ask.now (pos l.scene.limit) x l.places.rule l.places.lo l.places.lo l.places.last l.range;
   most : l.most ≤ l.places.last;
-  back : IsBack g.N.Network.net g.N.Undo.content g.N.Undo.past g.N.Undo.max_marks l.fn.board l.board l.scene.machine.now;
+  back : IsBack g.N.Network.reading l.fn.board l.board l.scene.machine.now;
 }
 
 abbrev pub decreases-wider : goal.decreases-wider

@@ -28,7 +28,7 @@ push-requires c =
     let m = c.args.machine.now in
     let so-far = take c.feeders.at m.feeders in
     let few : c.len-at-end.result < 4294967296 = c.len-at-end.type_inv in
-    record { room = omega (arith, ap length c.feeders.invariant, length-map so-far (free_sheets m (seen c.args.state.now)), length-take c.feeders.at m.feeders, c.feeders-test.true, few) }
+    record { capacity = omega (arith, ap length c.feeders.invariant, length-map so-far (free_sheets m (seen c.args.state.now)), length-take c.feeders.at m.feeders, c.feeders-test.true, few) }
 
 pub feeders-preserved : goal.feeders-preserved
 feeders-preserved c =

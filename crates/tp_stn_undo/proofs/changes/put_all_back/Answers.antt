@@ -11,6 +11,6 @@ back-preserved c =
     let last = last_of_first entries c.back.left c.back-test.true inv.within in
     record {
       within = omega (arith, inv.within);
-      len = length-set c.back.spots e.point.0 e.spot ∙ inv.len;
-      spots = restored_popped (take (c.back.left - 1) entries) (take c.back.left entries) e c.back.spots last ∙ inv.spots;
+      len = length-set c.back.states e.point.0 e.state ∙ inv.len;
+      states = restored_popped (take (c.back.left - 1) entries) (take c.back.left entries) e c.back.states last ∙ inv.states;
     }

@@ -5,8 +5,8 @@ use Rattle.tp_stn_undo.proofs.changes.put_all_back.Given as goal
 abbrev pub invariant-back : goal.invariant-back
 invariant-back l = record {
   within : l.left ≤ length l.entries;
-  len : length l.spots ≡ length l.initial.spots;
-  spots : restored (take l.left l.entries) l.spots ≡ restored l.entries l.initial.spots;
+  len : length l.states ≡ length l.initial.states;
+  states : restored (take l.left l.entries) l.states ≡ restored l.entries l.initial.states;
 }
 
 abbrev pub decreases-back : goal.decreases-back

@@ -1,7 +1,7 @@
 use Rattle.std.proofs.Common.{◌<◌, ◌≤◌, length, slice_index}
 use Rattle.tp_base.specs.Grows.{AreWithin}
-use Rattle.tp_stn_undo.specs.Spots.{times_of, edges_of}
-use Rattle.tp_stn_undo.specs.Spreading.{SpotsRise, LeadsBack, KeptFrom, Reached, weight}
+use Rattle.tp_stn_undo.specs.States.{times_of, edges_of}
+use Rattle.tp_stn_undo.specs.Spreading.{StatesRise, LeadsBack, KeptFrom, Reached, weight}
 use Rattle.tp_stn_undo.specs.Flags.{AreBelow}
 use Rattle.tp_stn_undo.specs.Tracing.{AreZeros}
 use Rattle.tp_stn_undo.specs.Working.{KeepsSizes}
@@ -9,30 +9,30 @@ use Rattle.tp_stn_undo.proofs.spreading.spread.Given as goal
 
 abbrev pub invariant-points : goal.invariant-points
 invariant-points l = record {
-  back : LeadsBack l.links l.fn.spots l.spots l.fn.working.changes.entries l.working.changes.entries;
-  rises : SpotsRise l.links l.fn.spots l.spots;
-  below : AreWithin l.caps (times_of l.spots);
+  back : LeadsBack l.links l.fn.states l.states l.fn.working.changes.entries l.working.changes.entries;
+  rises : StatesRise l.links l.fn.states l.states;
+  below : AreWithin l.caps (times_of l.states);
   sizes : KeepsSizes l.fn.working l.working;
-  waiting : AreBelow (length l.fn.spots) l.working.waiting.points;
-  known : l.point < length l.fn.spots;
+  waiting : AreBelow (length l.fn.states) l.working.waiting.points;
+  known : l.point < length l.fn.states;
   reached : Reached l.links l.point l.left;
-  kept : KeptFrom (edges_of l.links) (slice_index (times_of l.spots)) l.working.waiting.flags l.point l.left;
+  kept : KeptFrom (edges_of l.links) (slice_index (times_of l.states)) l.working.waiting.flags l.point l.left;
   zeros : AreZeros l.working.places.items;
 }
 
 abbrev pub decreases-points : goal.decreases-points
-decreases-points l = weight l.caps l.spots l.working.waiting
+decreases-points l = weight l.caps l.states l.working.waiting
 
 abbrev pub invariant-edges : goal.invariant-edges
 invariant-edges l = record {
-  back : LeadsBack l.links l.fn.spots l.spots l.fn.working.changes.entries l.working.changes.entries;
-  rises : SpotsRise l.links l.fn.spots l.spots;
-  below : AreWithin l.caps (times_of l.spots);
+  back : LeadsBack l.links l.fn.states l.states l.fn.working.changes.entries l.working.changes.entries;
+  rises : StatesRise l.links l.fn.states l.states;
+  below : AreWithin l.caps (times_of l.states);
   sizes : KeepsSizes l.fn.working l.working;
-  waiting : AreBelow (length l.fn.spots) l.working.waiting.points;
+  waiting : AreBelow (length l.fn.states) l.working.waiting.points;
   reached : Reached l.links l.point l.left;
-  kept : KeptFrom (edges_of l.links) (slice_index (times_of l.spots)) l.working.waiting.flags l.point l.left;
-  less : weight l.caps l.spots l.working.waiting ≤ weight l.caps l.initial.spots l.initial.working.waiting;
+  kept : KeptFrom (edges_of l.links) (slice_index (times_of l.states)) l.working.waiting.flags l.point l.left;
+  less : weight l.caps l.states l.working.waiting ≤ weight l.caps l.initial.states l.initial.working.waiting;
   zeros : AreZeros l.working.places.items;
 }
 

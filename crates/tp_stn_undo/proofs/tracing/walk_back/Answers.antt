@@ -5,15 +5,15 @@ use Rattle.std.specs.List.{All}
 use Rattle.tp_base.specs.declared.edges.Edge.{Edge}
 use Rattle.tp_base.proofs.TraceFacts.{IsWayBack, WayBack-short, WayBack-push, WayBack-chain, WayBack-circle}
 use Rattle.tp_base.proofs.WalkFacts.{AreMarked, AreMarked-push}
-use Rattle.tp_stn_undo.specs.declared.spots.Spot.{Spot}
+use Rattle.tp_stn_undo.specs.declared.states.PointState.{PointState}
 use Rattle.tp_stn_undo.specs.declared.links.Link.{Link}
-use Rattle.tp_stn_undo.specs.Spots.{edges_of, causes_of, numbered}
-use Rattle.tp_stn_undo.proofs.CauseFacts.{no_spot, no_link, cause_none, cause_some}
+use Rattle.tp_stn_undo.specs.States.{edges_of, causes_of, numbered}
+use Rattle.tp_stn_undo.proofs.CauseFacts.{no_state, no_link, cause_none, cause_some}
 use Rattle.tp_stn_undo.proofs.TracedFacts.{marked_ways}
 use Rattle.tp_stn_undo.proofs.tracing.walk_back.Goals as goal
 
-causes_len : (links : List Link) (spots : List Spot) → length (causes_of (edges_of links) spots) ≡ length spots
-causes_len links spots = length-map spots (λ (s : Spot). numbered (edges_of links) s.cause)
+causes_len : (links : List Link) (states : List PointState) → length (causes_of (edges_of links) states) ≡ length states
+causes_len links states = length-map states (λ (s : PointState). numbered (edges_of links) s.cause)
 
 -- the point was not passed yet
 module _ (causes : List (Option Edge)) (places : List ℕ) (path : List Edge) (from at : ℕ) (m : AreMarked (length places) places path) (w : IsWayBack causes from path at) (n : length causes ≤ length places) (z : slice_index places at ≤ 0) where
@@ -26,24 +26,24 @@ module _ (causes : List (Option Edge)) (places : List ℕ) (path : List Edge) (f
 pub back-preserved : goal.back-preserved
 back-preserved c =
     let links = c.args.links.now in
-    let spots = c.args.spots.now in
-    let causes = causes_of (edges_of links) spots in
+    let states = c.args.states.now in
+    let causes = causes_of (edges_of links) states in
     let at = c.back.at.0 in
     let places = c.back.places in
     let path = c.back.path.items in
     let w = c.back.invariant.way in
     let m = c.back.invariant.marked in
-    let len = causes_len links spots in
+    let len = causes_len links states in
     let a = c.back.auto.places in
-    let r = c.requires.places_room in
+    let r = c.requires.places_capacity in
     let z : slice_index places at ≤ 0 = c.if-place-gt0.false in
     let none = free causes places path c.args.from.0 at m w (omega arith) z in
     let k = w.known in
-    let known : at < length spots = omega arith in
+    let known : at < length states = omega arith in
     let q = c.if-cause-eq0.false in
-    let some : 0 < (get_or spots at no_spot).cause = omega arith in
-    let is = cause_some links spots at known no_link some (c.requires.numbered at no_spot known) in
-    let e = (get_or links ((get_or spots at no_spot).cause - 1) no_link).edge in
+    let some : 0 < (get_or states at no_state).cause = omega arith in
+    let is = cause_some links states at known no_link some (c.requires.numbered at no_state known) in
+    let e = (get_or links ((get_or states at no_state).cause - 1) no_link).edge in
     let to = (c.requires.causes at e k is).0 in
     let n : c.len.result ≡ length path + 1 = omega (arith, c.len.ensures, c.push_reserved.ensures.len, c.back.path.ok.0) in
     let kept = c.back.invariant.path_kept in
@@ -58,11 +58,11 @@ back-preserved c =
 pub back-smaller : goal.back-smaller
 back-smaller c =
     let links = c.args.links.now in
-    let spots = c.args.spots.now in
-    let len = causes_len links spots in
+    let states = c.args.states.now in
+    let len = causes_len links states in
     let a = c.back.auto.places in
-    let r = c.requires.places_room in
-    let s = short (causes_of (edges_of links) spots) c.back.places c.back.path.items c.args.from.0 c.back.at.0 c.back.invariant.marked c.back.invariant.way (omega arith) c.if-place-gt0.false in
+    let r = c.requires.places_capacity in
+    let s = short (causes_of (edges_of links) states) c.back.places c.back.path.items c.args.from.0 c.back.at.0 c.back.invariant.marked c.back.invariant.way (omega arith) c.if-place-gt0.false in
     let h = c.push_reserved.ensures.len in
     let n = c.back.path.ok.0 in
     let m = c.push_reserved.new.self.ok.0 in
@@ -71,11 +71,11 @@ back-smaller c =
 pub overflow_cast-places : goal.overflow_cast-places
 overflow_cast-places c =
     let links = c.args.links.now in
-    let spots = c.args.spots.now in
-    let len = causes_len links spots in
+    let states = c.args.states.now in
+    let len = causes_len links states in
     let a = c.back.auto.places in
-    let r = c.requires.places_room in
-    let s = short (causes_of (edges_of links) spots) c.back.places c.back.path.items c.args.from.0 c.back.at.0 c.back.invariant.marked c.back.invariant.way (omega arith) c.if-place-gt0.false in
+    let r = c.requires.places_capacity in
+    let s = short (causes_of (edges_of links) states) c.back.places c.back.path.items c.args.from.0 c.back.at.0 c.back.invariant.marked c.back.invariant.way (omega arith) c.if-place-gt0.false in
     let h = c.push_reserved.ensures.len in
     let n = c.back.path.ok.0 in
     let m = c.push_reserved.new.self.ok.0 in
@@ -86,55 +86,55 @@ overflow_cast-places c =
 pub push_reserved-requires : goal.push_reserved-requires
 push_reserved-requires c =
     let links = c.args.links.now in
-    let spots = c.args.spots.now in
-    let len = causes_len links spots in
+    let states = c.args.states.now in
+    let len = causes_len links states in
     let a = c.back.auto.places in
-    let r = c.requires.places_room in
-    let s = short (causes_of (edges_of links) spots) c.back.places c.back.path.items c.args.from.0 c.back.at.0 c.back.invariant.marked c.back.invariant.way (omega arith) c.if-place-gt0.false in
+    let r = c.requires.places_capacity in
+    let s = short (causes_of (edges_of links) states) c.back.places c.back.path.items c.args.from.0 c.back.at.0 c.back.invariant.marked c.back.invariant.way (omega arith) c.if-place-gt0.false in
     let n = c.back.path.ok.0 in
-    let p = c.requires.path_room in
+    let p = c.requires.path_capacity in
     let q = c.back.invariant.path_kept in
     omega arith
 
 pub returns-then-cause-eq0-clause-marked : goal.returns-then-cause-eq0-clause-marked
 returns-then-cause-eq0-clause-marked c =
-    let len = causes_len c.args.links.now c.args.spots.now in
+    let len = causes_len c.args.links.now c.args.states.now in
     let a = c.back.auto.places in
-    let r = c.requires.places_room in
-    marked_ways c.back.places c.back.path.items (causes_of (edges_of c.args.links.now) c.args.spots.now) c.args.from.0 c.back.at.0 c.back.invariant.marked c.back.invariant.way (omega arith)
+    let r = c.requires.places_capacity in
+    marked_ways c.back.places c.back.path.items (causes_of (edges_of c.args.links.now) c.args.states.now) c.args.from.0 c.back.at.0 c.back.invariant.marked c.back.invariant.way (omega arith)
 
 pub returns-then-cause-eq0-clause-traced : goal.returns-then-cause-eq0-clause-traced
 returns-then-cause-eq0-clause-traced c =
     let links = c.args.links.now in
-    let spots = c.args.spots.now in
-    let causes = causes_of (edges_of links) spots in
+    let states = c.args.states.now in
+    let causes = causes_of (edges_of links) states in
     let at = c.back.at.0 in
     let w = c.back.invariant.way in
-    let len = causes_len links spots in
+    let len = causes_len links states in
     let a = c.back.auto.places in
-    let r = c.requires.places_room in
+    let r = c.requires.places_capacity in
     let none = free causes c.back.places c.back.path.items c.args.from.0 at c.back.invariant.marked w (omega arith) c.if-place-gt0.false in
     let k = w.known in
-    (refl, WayBack-chain causes c.args.from.0 at c.back.path.items w none (cause_none links spots at (omega arith) c.if-cause-eq0.true))
+    (refl, WayBack-chain causes c.args.from.0 at c.back.path.items w none (cause_none links states at (omega arith) c.if-cause-eq0.true))
 
 pub returns-then-place-gt0-clause-marked : goal.returns-then-place-gt0-clause-marked
 returns-then-place-gt0-clause-marked c =
-    let len = causes_len c.args.links.now c.args.spots.now in
+    let len = causes_len c.args.links.now c.args.states.now in
     let a = c.back.auto.places in
-    let r = c.requires.places_room in
-    marked_ways c.back.places c.back.path.items (causes_of (edges_of c.args.links.now) c.args.spots.now) c.args.from.0 c.back.at.0 c.back.invariant.marked c.back.invariant.way (omega arith)
+    let r = c.requires.places_capacity in
+    marked_ways c.back.places c.back.path.items (causes_of (edges_of c.args.links.now) c.args.states.now) c.args.from.0 c.back.at.0 c.back.invariant.marked c.back.invariant.way (omega arith)
 
 pub returns-then-place-gt0-clause-traced : goal.returns-then-place-gt0-clause-traced
 returns-then-place-gt0-clause-traced c =
     let links = c.args.links.now in
-    let spots = c.args.spots.now in
-    let causes = causes_of (edges_of links) spots in
+    let states = c.args.states.now in
+    let causes = causes_of (edges_of links) states in
     let at = c.back.at.0 in
     let path = c.back.path.items in
     let w = c.back.invariant.way in
-    let len = causes_len links spots in
+    let len = causes_len links states in
     let a = c.back.auto.places in
-    let r = c.requires.places_room in
+    let r = c.requires.places_capacity in
     let k = w.known in
     let place = slice_index c.back.places at in
     let some : 0 < place = c.if-place-gt0.true in

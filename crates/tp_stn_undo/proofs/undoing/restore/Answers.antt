@@ -34,16 +34,16 @@ pub back_to-requires-clause-to : goal.back_to-requires-clause-to
 back_to-requires-clause-to c = below (goal.at.back_to-requires-clause-to c).After-index-at
 
 pub back_to-requires-clause-known : goal.back_to-requires-clause-known
-back_to-requires-clause-known c = rw c.deref_mut.ensures.value (known_all c.args.changes.now.older (length c.args.spots.now.items) c.requires.stack.2.kept.known)
+back_to-requires-clause-known c = rw c.deref_mut.ensures.value (known_all c.args.changes.now.older (length c.args.states.now.items) c.requires.stack.2.kept.known)
 
-pub returns-clause-spots : goal.returns-clause-spots
-returns-clause-spots c = λ m g.
-    let k = (goal.at.returns-clause-spots c).After-index-at in
-    subst (λ (x : LiveMark). c.truncate.new.self.items ≡ restored (drop x.saved c.args.changes.now.older) (take x.points c.args.spots.now.items))
+pub returns-clause-states : goal.returns-clause-states
+returns-clause-states c = λ m g.
+    let k = (goal.at.returns-clause-states c).After-index-at in
+    subst (λ (x : LiveMark). c.truncate.new.self.items ≡ restored (drop x.saved c.args.changes.now.older) (take x.points c.args.states.now.items))
     (mark_is k m g)
     (c.truncate.ensures.items
-    ∙ ap (take c.index-at.result.now.points) (mut_items c.args.spots.now.len c.back_to.new.spots c.args.spots.now.items (c.back_to.auto.spots ∙ ap length c.deref_mut.ensures.value ∙ sym c.args.spots.now.ok.0) ∙ c.back_to.ensures.spots ∙ ap (restored (drop c.index-at.result.now.saved c.args.changes.now.older)) c.deref_mut.ensures.value)
-    ∙ take-restored c.index-at.result.now.points (drop c.index-at.result.now.saved c.args.changes.now.older) c.args.spots.now.items)
+    ∙ ap (take c.index-at.result.now.points) (mut_items c.args.states.now.len c.back_to.new.states c.args.states.now.items (c.back_to.auto.states ∙ ap length c.deref_mut.ensures.value ∙ sym c.args.states.now.ok.0) ∙ c.back_to.ensures.states ∙ ap (restored (drop c.index-at.result.now.saved c.args.changes.now.older)) c.deref_mut.ensures.value)
+    ∙ take-restored c.index-at.result.now.points (drop c.index-at.result.now.saved c.args.changes.now.older) c.args.states.now.items)
 
 pub returns-clause-caps : goal.returns-clause-caps
 returns-clause-caps c = λ m g.

@@ -4,7 +4,7 @@ use Rattle.tp_base.proofs.SliceFacts.{take_popped}
 use Rattle.tp_timelines.specs.Orders.{numbers_of, total}
 use Rattle.tp_timelines.specs.Inserts.{taken_back, StandAt}
 use Rattle.tp_timelines.proofs.InsertFacts.{last_known, last_there, taken_back-last, StandAt-last, total-without}
-use Rattle.tp_timelines.proofs.VectorFacts.{length-numbers, order_at, numbers-remove, HaveRoom-set}
+use Rattle.tp_timelines.proofs.VectorFacts.{length-numbers, order_at, numbers-remove, HaveCapacity-set}
 use Rattle.tp_timelines.proofs.inserts.take_back.Goals as goal
 use Rattle.tp_timelines.proofs.inserts.take_back.Goals.{In-Some}
 
@@ -48,6 +48,6 @@ back-preserved k =
           let t = total-without i os (last_known os before all i is stand) (last_there os before all i is stand) in
           let e = ap total now in
           omega arith);
-      room = λ holds h. HaveRoom-set vs i.resource.0 k.index_mut.result.now (known c) k.index_mut.ensures.value k.remove-number.new.self holds (omega (arith, k.remove-number.ensures.capacity)) (k.back.invariant.room holds h);
+      spacious = λ holds h. HaveCapacity-set vs i.resource.0 k.index_mut.result.now (known c) k.index_mut.ensures.value k.remove-number.new.self holds (omega (arith, k.remove-number.ensures.capacity)) (k.back.invariant.spacious holds h);
       capacity = k.in-Some.ensures.capacity ∙ k.back.invariant.capacity;
     }

@@ -34,8 +34,8 @@ board g c =
     let a = c.self.inside in
     board_of a.net a.lines a.held.items a.plans.items a.firsts.items a.last a.floor a.horizon a.ask a.steps.items a.marks.items a.made_for a.causes a.limit
 
-stands-here : (g : _) (c : After-index-newest g) → StandsOn g.N.Network.net g.N.Undo.content g.N.Undo.past (board g c) c.args.machine.now c.in-Some.ask
-stands-here g c = stands-ask g.N.Network.net g.N.Undo.content g.N.Undo.past (board g c) c.args.machine.now c.in-Some.ask (rw (← c.self.view_is) at c.requires.stands) c.in-Some.is
+stands-here : (g : _) (c : After-index-newest g) → StandsOn g.N.Network.reading (board g c) c.args.machine.now c.in-Some.ask
+stands-here g c = stands-ask g.N.Network.reading (board g c) c.args.machine.now c.in-Some.ask (rw (← c.self.view_is) at c.requires.stands) c.in-Some.is
 
 loaded-here : (g : _) (c : After-index-newest g) → IsLoadedFrom c.args.machine.now c.args.schedule.now.plans c.in-Some.ask c.self.inside.plans.items
 loaded-here g c =
@@ -47,7 +47,7 @@ complete-here g c =
     let complete = rw (← c.self.view_is) at c.requires.complete in
     subst (λ o. IsSomeAnd o (λ (ask : Ask). IsSomeAnd (suffix_after c.self.inside.steps.items) (CanCommit c.args.machine.now c.self.inside.plans.items ask))) c.in-Some.is complete
 
-here : (g : _) (c : After-index-newest g) → IsReady g.N.Network.net (board g c) c.args.machine.now c.in-Some.ask c.index-newest.result.now
+here : (g : _) (c : After-index-newest g) → IsReady g.N.Network.reading.net (board g c) c.args.machine.now c.in-Some.ask c.index-newest.result.now
 here g c =
     let a = c.self.inside in
     let y = some-and (suffix_after a.steps.items) (CanCommit c.args.machine.now a.plans.items c.in-Some.ask) (complete-here g c) in
@@ -56,7 +56,7 @@ here g c =
     let k : c.len.result - 1 ≡ length a.steps.items - 1 = ap (λ n. n - 1) count in
     let at = slice_get_read a.steps.items (length a.steps.items) (c.len.result - 1) c.index-newest.result.now refl (omega arith) c.index-newest.ensures in
     let last : slice_get a.steps.items (length a.steps.items - 1) ≡ Some c.index-newest.result.now = ap (slice_get a.steps.items) (sym k) ∙ at in
-    ready g.N.Network.net g.N.Undo.content g.N.Undo.past (board g c) c.args.machine.now c.in-Some.ask c.index-newest.result.now (stands-here g c) (complete-here g c) last
+    ready g.N.Network.reading (board g c) c.args.machine.now c.in-Some.ask c.index-newest.result.now (stands-here g c) (complete-here g c) last
 
 pub overflow_sub-own : goal.overflow_sub-own
 overflow_sub-own g k =
@@ -76,7 +76,7 @@ pub write_times-requires-clause-known : goal.write_times-requires-clause-known
 write_times-requires-clause-known g k =
     let c = (goal.at.write_times-requires-clause-known g k).After-index-newest in
     let lows = (here g c).lows in
-    subst (λ ps. length (table_of ps) ≤ length (g.N.Network.net c.self.inside.net).lows) (sym k.deref.ensures.value) (omega arith)
+    subst (λ ps. length (table_of ps) ≤ length (g.N.Network.reading.net c.self.inside.net).lows) (sym k.deref.ensures.value) (omega arith)
 
 pub write_times-requires-clause-planned : goal.write_times-requires-clause-planned
 write_times-requires-clause-planned g k =
@@ -119,24 +119,24 @@ plan_by_steps-plan-requires-clause-known g k =
     omega arith
 
 -- the least ticks
-ticks-here : (g : _) (c : After-index-newest g) → AreLeastTicks (g.N.Network.net c.self.inside.net) (board_table c.self.inside.plans.items (Some (here g c).x)) (ticks_by (board_table c.self.inside.plans.items (Some (here g c).x)) (here g c).at.solved.0)
+ticks-here : (g : _) (c : After-index-newest g) → AreLeastTicks (g.N.Network.reading.net c.self.inside.net) (board_table c.self.inside.plans.items (Some (here g c).x)) (ticks_by (board_table c.self.inside.plans.items (Some (here g c).x)) (here g c).at.solved.0)
 ticks-here g c =
     let a = c.self.inside in
-    ready-ticks c.args.machine.now a.plans.items c.in-Some.ask (here g c).x a.steps.items (g.N.Network.net a.net) a.lines.orders a.held.items (here g c).at
+    ready-ticks c.args.machine.now a.plans.items c.in-Some.ask (here g c).x a.steps.items (g.N.Network.reading.net a.net) a.lines.orders a.held.items (here g c).at
 
 abbrev Ticks-here : (g : _) → After-index-newest g → Ticks
 Ticks-here g c = ticks_by (board_table c.self.inside.plans.items (Some (here g c).x)) (here g c).at.solved.0
 
-times-now : (g : _) (k : After-write_times g) → (t : Ticks) → AreLeastTicks (g.N.Network.net k.self.inside.net) (table_of k.self.inside.plans.items) t → k.write_times.new.schedule.plans ≡ map (retimed_in k.self.inside.plans.items t) k.args.schedule.now.plans
+times-now : (g : _) (k : After-write_times g) → (t : Ticks) → AreLeastTicks (g.N.Network.reading.net k.self.inside.net) (table_of k.self.inside.plans.items) t → k.write_times.new.schedule.plans ≡ map (retimed_in k.self.inside.plans.items t) k.args.schedule.now.plans
 times-now g k =
-    subst (λ ps. (t : Ticks) → AreLeastTicks (g.N.Network.net k.self.inside.net) (table_of ps) t → k.write_times.new.schedule.plans ≡ map (retimed_in ps t) k.args.schedule.now.plans) k.deref.ensures.value k.write_times.ensures.times
+    subst (λ ps. (t : Ticks) → AreLeastTicks (g.N.Network.reading.net k.self.inside.net) (table_of ps) t → k.write_times.new.schedule.plans ≡ map (retimed_in ps t) k.args.schedule.now.plans) k.deref.ensures.value k.write_times.ensures.times
 
-pub write_plan-requires-clause-room : goal.write_plan-requires-clause-room
-write_plan-requires-clause-room g k none =
-    let at = goal.at.write_plan-requires-clause-room g k in
+pub write_plan-requires-clause-capacity : goal.write_plan-requires-clause-capacity
+write_plan-requires-clause-capacity g k none =
+    let at = goal.at.write_plan-requires-clause-capacity g k in
     let c = at.After-index-newest in
     let a = c.self.inside in
-    let times = times-now g at.After-write_times (Ticks-here g c) (least-of_plans (g.N.Network.net a.net) a.plans.items (here g c).x (Ticks-here g c) (ticks-here g c)) in
+    let times = times-now g at.After-write_times (Ticks-here g c) (least-of_plans (g.N.Network.reading.net a.net) a.plans.items (here g c).x (Ticks-here g c) (ticks-here g c)) in
     let spare = rw (← c.self.view_is) at c.requires.spare in
     let own_spare = subst (λ o. IsSomeAnd o (λ (ask : Ask). plan_of ask.sheet c.args.schedule.now.plans ≡ None → 0 < c.args.schedule.now.spare)) c.in-Some.is spare in
     let none' : plan_of c.in-Some.ask.sheet (map (retimed_in a.plans.items (Ticks-here g c)) c.args.schedule.now.plans) ≡ None = sym (λ i. plan_of (k.plan_by_steps-plan.ensures.sheet i) (times i)) ∙ none in
@@ -145,17 +145,17 @@ write_plan-requires-clause-room g k none =
     omega arith
 
 -- the asked plan, at these ticks
-plan-now : (g : _) (k : After-plan_by_steps-plan g) → (t : Ticks) (x : Suffix) → suffix_after k.self.inside.steps.items ≡ Some x → AreLeastTicks (g.N.Network.net k.self.inside.net) (board_table k.self.inside.plans.items (Some x)) t
+plan-now : (g : _) (k : After-plan_by_steps-plan g) → (t : Ticks) (x : Suffix) → suffix_after k.self.inside.steps.items ≡ Some x → AreLeastTicks (g.N.Network.reading.net k.self.inside.net) (board_table k.self.inside.plans.items (Some x)) t
     → k.plan_by_steps-plan.result ≡ timed_by (settled_ticks k.in-Some.ask (total_of k.in-Some.ask x.choices) t) (asked_plan k.self.inside.plans.items k.in-Some.ask x.choices)
 plan-now g k =
-    let P : List Plan → List Step → Type 0 = λ ps ss. (t : Ticks) (x : Suffix) → suffix_after ss ≡ Some x → AreLeastTicks (g.N.Network.net k.self.inside.net) (board_table ps (Some x)) t
+    let P : List Plan → List Step → Type 0 = λ ps ss. (t : Ticks) (x : Suffix) → suffix_after ss ≡ Some x → AreLeastTicks (g.N.Network.reading.net k.self.inside.net) (board_table ps (Some x)) t
     → k.plan_by_steps-plan.result ≡ timed_by (settled_ticks k.in-Some.ask (total_of k.in-Some.ask x.choices) t) (asked_plan ps k.in-Some.ask x.choices) in
     subst (λ ss. P k.self.inside.plans.items ss) k.deref-5.ensures.value (subst (λ ps. P ps k.deref-5.result.now) k.deref-3.ensures.value k.plan_by_steps-plan.ensures.plan)
 
 -- the schedule that these steps make
 written-here : (g : _) (c : After-index-newest g) (mid new : List Plan) (p : Plan)
-    → ((t : Ticks) → AreLeastTicks (g.N.Network.net c.self.inside.net) (table_of c.self.inside.plans.items) t → mid ≡ map (retimed_in c.self.inside.plans.items t) c.args.schedule.now.plans)
-    → ((t : Ticks) (x : Suffix) → suffix_after c.self.inside.steps.items ≡ Some x → AreLeastTicks (g.N.Network.net c.self.inside.net) (board_table c.self.inside.plans.items (Some x)) t
+    → ((t : Ticks) → AreLeastTicks (g.N.Network.reading.net c.self.inside.net) (table_of c.self.inside.plans.items) t → mid ≡ map (retimed_in c.self.inside.plans.items t) c.args.schedule.now.plans)
+    → ((t : Ticks) (x : Suffix) → suffix_after c.self.inside.steps.items ≡ Some x → AreLeastTicks (g.N.Network.reading.net c.self.inside.net) (board_table c.self.inside.plans.items (Some x)) t
     → p ≡ timed_by (settled_ticks c.in-Some.ask (total_of c.in-Some.ask x.choices) t) (asked_plan c.self.inside.plans.items c.in-Some.ask x.choices))
     → p.sheet ≡ c.in-Some.ask.sheet → new ≡ put_plan p (without p.sheet mid) → AllPairs IsEarlier new
     → IsWritten c.args.machine.now c.args.schedule.now.plans c.in-Some.ask ((here g c).at.solved.0 (number (board_table c.self.inside.plans.items (Some (here g c).x)) (own 0))) new
@@ -163,8 +163,8 @@ written-here g c mid new p times plan sheet made in_order =
     let a = c.self.inside in
     let h = here g c in
     let s = stands-here g c in
-    written-is c.args.machine.now c.args.schedule.now.plans a.plans.items c.in-Some.ask h.x (board_table a.plans.items (Some h.x)) (g.N.Network.net a.net) h.at.solved.0 (loaded-here g c) s.loadable s.origin h.at.net h.complete h.at.solved.1 mid new p
-    (times (Ticks-here g c) (least-of_plans (g.N.Network.net a.net) a.plans.items h.x (Ticks-here g c) (ticks-here g c))) (plan (Ticks-here g c) h.x h.suffix (ticks-here g c)) sheet made in_order
+    written-is c.args.machine.now c.args.schedule.now.plans a.plans.items c.in-Some.ask h.x (board_table a.plans.items (Some h.x)) (g.N.Network.reading.net a.net) h.at.solved.0 (loaded-here g c) s.loadable s.origin h.at.net h.complete h.at.solved.1 mid new p
+    (times (Ticks-here g c) (least-of_plans (g.N.Network.reading.net a.net) a.plans.items h.x (Ticks-here g c) (ticks-here g c))) (plan (Ticks-here g c) h.x h.suffix (ticks-here g c)) sheet made in_order
 
 -- its end is the least tick of the asked copy's end
 end-here : (g : _) (c : After-index-newest g) (end : ℕ) → end ≡ (here g c).at.solved.0 (number (board_table c.self.inside.plans.items (Some (here g c).x)) (own 0)) → HasLeastTick c.args.machine.now (board g c) (own 0) end
@@ -176,7 +176,7 @@ end-here g c end e =
     let there = end-point a.plans.items (suffix_after a.steps.items) is_open a.last.0 s.last in
     let number-is : number (board_table a.plans.items (Some h.x)) (own 0) ≡ a.last.0 = number-at (board_table a.plans.items (Some h.x)) h.at.net.is_table.differ a.last.0 (own 0) (end-point a.plans.items (Some h.x) refl a.last.0 s.last) in
     and-some a.ask c.in-Some.ask _ s.asked
-    (least-tick c.args.machine.now a.plans.items c.in-Some.ask (suffix_after a.steps.items) a.steps.items (g.N.Network.net a.net) a.lines.orders a.held.items s.now a.last.0 (own 0) there end (h.at.solved.0, h.at.solved.1, e ∙ ap h.at.solved.0 number-is))
+    (least-tick c.args.machine.now a.plans.items c.in-Some.ask (suffix_after a.steps.items) a.steps.items (g.N.Network.reading.net a.net) a.lines.orders a.held.items s.now a.last.0 (own 0) there end (h.at.solved.0, h.at.solved.1, e ∙ ap h.at.solved.0 number-is))
 
 pub returns-clause-least : goal.returns-clause-least
 returns-clause-least g k =
@@ -197,7 +197,7 @@ written-before : (g : _) (k : After-write_plan g) → k.write_times.new.schedule
 written-before g k =
     let at = goal.at.returns-clause-new_copy g k in
     let c = at.After-index-newest in
-    times-now g at.After-write_times (Ticks-here g c) (least-of_plans (g.N.Network.net c.self.inside.net) c.self.inside.plans.items (here g c).x (Ticks-here g c) (ticks-here g c))
+    times-now g at.After-write_times (Ticks-here g c) (least-of_plans (g.N.Network.reading.net c.self.inside.net) c.self.inside.plans.items (here g c).x (Ticks-here g c) (ticks-here g c))
 
 pub returns-clause-new_copy : goal.returns-clause-new_copy
 returns-clause-new_copy g k =

@@ -18,5 +18,5 @@ returns-clause-stands g c =
     let past = rw (← c.self.view_is) at l.past in
     let loaded = rw (← c.self.view_is) at l.loaded in (
       c.args.ask.now,
-      stands-loaded g.N.Network.net g.N.Undo.content g.N.Undo.past _ c.args.machine.now c.args.schedule.now.plans c.args.ask.now c.requires.can_ask made refl c.start_floor-self-inside.ensures refl plans closed last past loaded,
+      stands-loaded g.N.Network.reading _ c.args.machine.now c.args.schedule.now.plans c.args.ask.now c.requires.can_ask made refl c.start_floor-self-inside.ensures refl plans closed last past loaded,
     )

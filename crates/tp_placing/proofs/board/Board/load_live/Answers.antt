@@ -19,14 +19,14 @@ use Rattle.tp_placing.proofs.LoadedNet.{causes-fit, count, edges-fit, edges-kept
 use Rattle.tp_placing.proofs.board.Board.load_live.Goals as goal
 use Rattle.tp_placing.proofs.board.Board.load_live.Goals.{After-deref-5}
 
-pub add_points-points-requires-clause-room : goal.add_points-points-requires-clause-room
-add_points-points-requires-clause-room g c =
+pub add_points-points-requires-clause-capacity : goal.add_points-points-requires-clause-capacity
+add_points-points-requires-clause-capacity g c =
     let live = ap point_count (c.deref.ensures.value ∙ c.keep_live.ensures.plans) in
     let few = points-few _ (few-acts c.args.machine.now c.args.now _ c.requires.can) in
     let plans = c.requires.can.few in
     let none = ap (λ (n : Net). length n.lows) c.clear.ensures.net in
-    let same = c.clear.ensures.points in
-    let room = c.self.invariant.room.points in
+    let same = c.clear.ensures.same_size.points in
+    let room = c.self.invariant.capacity.points in
     omega arith
 
 pub add_points-points-requires-clause-few : goal.add_points-points-requires-clause-few
@@ -52,7 +52,7 @@ module _ (g : _) (k : After-deref-5 g) where
   live = filter (is_live k.args.machine.now k.args.now) k.args.schedule.now.plans
 
   abbrev net : Net
-  net = g.N.Network.net k.add_points-points.new.net
+  net = g.N.Network.reading.net k.add_points-points.new.net
 
   net-is : net ≡ with_plans (k.args.now + k.args.machine.now.lead) (k.args.now + k.args.machine.now.window) live empty_net
   net-is = k.add_points-points.ensures.added ∙ (λ i. with_plans (k.args.now + k.args.machine.now.lead) (k.args.now + k.args.machine.now.window) ((k.deref.ensures.value ∙ k.keep_live.ensures.plans) i) (k.clear.ensures.net i))
@@ -70,8 +70,8 @@ module _ (g : _) (k : After-deref-5 g) where
   edges-are : all_edges k.args.machine.now k.deref-5.result.now k.put_plans.new.lines.orders k.deref-4.result.now ≡ edges
   edges-are = λ i. all_edges k.args.machine.now ((k.deref-5.ensures.value ∙ k.keep_live.ensures.plans) i) k.put_plans.new.lines.orders (k.deref-4.ensures.value i)
 
-  enough : most_edges ≤ g.N.Network.max_edges k.add_points-points.new.net
-  enough = let a = k.self.invariant.room.edges in let b = k.clear.ensures.edges in let d = k.add_points-points.ensures.edges in omega arith
+  enough : most_edges ≤ g.N.Network.reading.max_edges k.add_points-points.new.net
+  enough = let a = k.self.invariant.capacity.edges in let b = k.clear.ensures.same_size.edges in let d = k.add_points-points.ensures.same_size.edges in omega arith
 
   few-edges : length edges ≤ loaded_edges
   few-edges = count k.args.machine.now k.args.now live k.requires.can net net-is k.put_plans.new.lines k.put_plans.new.held.items put k.clear-2.new.self k.clear-2.ensures.plain based
@@ -81,7 +81,7 @@ add_edges-requires-clause-space g c =
     let k = (goal.at.add_edges-requires-clause-space g c).After-deref-5 in
     let few = few-edges g k in
     let same = ap length (edges-are g k) in
-    let space = k.self.invariant.room.edge_space in
+    let space = k.self.invariant.capacity.edge_space in
     let wide = k.clear-6.ensures.capacity in
     let none = k.clear-6.ensures.len in
     omega arith
@@ -89,9 +89,9 @@ add_edges-requires-clause-space g c =
 pub add_edges-requires-clause-causes : goal.add_edges-requires-clause-causes
 add_edges-requires-clause-causes g c = based g (goal.at.add_edges-requires-clause-causes g c).After-deref-5
 
-pub add_edges-requires-clause-room : goal.add_edges-requires-clause-room
-add_edges-requires-clause-room g c =
-    let k = (goal.at.add_edges-requires-clause-room g c).After-deref-5 in
+pub add_edges-requires-clause-capacity : goal.add_edges-requires-clause-capacity
+add_edges-requires-clause-capacity g c =
+    let k = (goal.at.add_edges-requires-clause-capacity g c).After-deref-5 in
     subst (λ hs. step_causes + length (chains_causes (holds_on hs k.put_plans.new.lines.orders) (length k.args.machine.now.resources)) ≤ most_causes) (sym k.deref-4.ensures.value)
     (causes-fit k.args.machine.now k.args.now (live g k) k.requires.can (net g k) (net-is g k) k.put_plans.new.lines k.put_plans.new.held.items (put g k) k.clear-2.new.self k.clear-2.ensures.plain (based g k))
 
@@ -110,8 +110,8 @@ pub load-requires-clause-spare : goal.load-requires-clause-spare
 load-requires-clause-spare g c =
     let k = (goal.at.load-requires-clause-spare g c).After-deref-5 in
     let is = made _ _ _ _ c.deref-6.ensures.value c.add_edges.ensures.added c.clear-6.ensures.items ∙ edges-are g k in
-    subst (λ es. length (net g k).edges + length es ≤ g.N.Network.max_edges k.add_points-points.new.net) (sym is)
-    (edges-fit k.args.machine.now k.args.now (live g k) k.requires.can (net g k) (net-is g k) k.put_plans.new.lines k.put_plans.new.held.items (put g k) k.clear-2.new.self k.clear-2.ensures.plain (based g k) (g.N.Network.max_edges k.add_points-points.new.net) (enough g k))
+    subst (λ es. length (net g k).edges + length es ≤ g.N.Network.reading.max_edges k.add_points-points.new.net) (sym is)
+    (edges-fit k.args.machine.now k.args.now (live g k) k.requires.can (net g k) (net-is g k) k.put_plans.new.lines k.put_plans.new.held.items (put g k) k.clear-2.new.self k.clear-2.ensures.plain (based g k) (g.N.Network.reading.max_edges k.add_points-points.new.net) (enough g k))
 
 pub load-requires-clause-solution : goal.load-requires-clause-solution
 load-requires-clause-solution g c =
@@ -127,6 +127,6 @@ returns-clause-loaded g c =
     let added = c.load.ensures.added ∙ ap (with_edges (net g k)) is in
     let causes = c.add_edges.ensures.causes ∙ ap (λ hs. k.clear-2.new.self ++ chains_causes (holds_on hs k.put_plans.new.lines.orders) (length k.args.machine.now.resources)) k.deref-4.ensures.value in
     let firsts = k.add_points-points.ensures.firsts ∙ ap (λ (fs : List PointId). fs ++ firsts_from 0 k.deref.result.now) k.clear-5.ensures.items ∙ ap (firsts_from 0) (k.deref.ensures.value ∙ k.keep_live.ensures.plans) in
-    subst (λ ps. IsLoaded k.args.machine.now k.args.now ps (g.N.Network.net c.load.new.self) k.put_plans.new.lines.orders k.put_plans.new.held.items k.add_points-points.new.firsts.items c.add_edges.new.causes) (sym k.keep_live.ensures.plans)
+    subst (λ ps. IsLoaded k.args.machine.now k.args.now ps (g.N.Network.reading.net c.load.new.self) k.put_plans.new.lines.orders k.put_plans.new.held.items k.add_points-points.new.firsts.items c.add_edges.new.causes) (sym k.keep_live.ensures.plans)
     (loaded k.args.machine.now k.args.now (live g k) k.requires.can (net g k) (net-is g k) k.put_plans.new.lines k.put_plans.new.held.items (put g k) k.clear-2.new.self k.clear-2.ensures.plain (based g k)
-    (g.N.Network.net c.load.new.self) k.add_points-points.new.firsts.items c.add_edges.new.causes added c.load.ensures.solved firsts causes)
+    (g.N.Network.reading.net c.load.new.self) k.add_points-points.new.firsts.items c.add_edges.new.causes added c.load.ensures.solved firsts causes)

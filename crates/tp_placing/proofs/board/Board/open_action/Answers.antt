@@ -33,10 +33,10 @@ board g c =
     board_of a.net a.lines a.held.items a.plans.items a.firsts.items a.last a.floor a.horizon a.ask a.steps.items a.marks.items a.made_for a.causes a.limit
 
 -- the board on the machine, with the ask that it keeps
-standing : (g : _) (c : After-index-newest g) → Stands g.N.Network.net g.N.Undo.content g.N.Undo.past (board g c) c.args.machine.now
+standing : (g : _) (c : After-index-newest g) → Stands g.N.Network.reading (board g c) c.args.machine.now
 standing g c = rw (← c.self.view_is) at c.requires.stands
 
-here : (g : _) (c : After-index-newest g) → OpensHere g.N.Network.net (board g c) c.args.machine.now (standing g c).0 c.index-newest.result.now
+here : (g : _) (c : After-index-newest g) → OpensHere g.N.Network.reading.net (board g c) c.args.machine.now (standing g c).0 c.index-newest.result.now
 here g c =
     let a = c.self.inside in
     let ask = (standing g c).0 in
@@ -48,15 +48,15 @@ here g c =
     let k : c.len.result - 1 ≡ length a.steps.items - 1 = ap (λ n. n - 1) count in
     let at = slice_get_read a.steps.items (length a.steps.items) (c.len.result - 1) c.index-newest.result.now refl (omega arith) c.index-newest.ensures in
     let last : slice_get a.steps.items (length a.steps.items - 1) ≡ Some c.index-newest.result.now = ap (slice_get a.steps.items) (sym k) ∙ at in
-    opens-here g.N.Network.net g.N.Undo.content g.N.Undo.past (board g c) c.args.machine.now ask c.index-newest.result.now (standing g c).1 ready last
+    opens-here g.N.Network.reading (board g c) c.args.machine.now ask c.index-newest.result.now (standing g c).1 ready last
 
-lows-here : (g : _) (c : After-index-newest g) → length (g.N.Network.net c.self.inside.net).lows ≡ length (table_of c.self.inside.plans.items) + suc (length (here g c).x.choices)
+lows-here : (g : _) (c : After-index-newest g) → length (g.N.Network.reading.net c.self.inside.net).lows ≡ length (table_of c.self.inside.plans.items) + suc (length (here g c).x.choices)
 lows-here g c =
     let a = c.self.inside in
-    length-lows c.args.machine.now a.plans.items (standing g c).0 (here g c).x a.steps.items (g.N.Network.net a.net) a.lines.orders a.held.items (here g c).at
+    length-lows c.args.machine.now a.plans.items (standing g c).0 (here g c).x a.steps.items (g.N.Network.reading.net a.net) a.lines.orders a.held.items (here g c).at
 
 -- there is room for one point more
-room-here : (g : _) (c : After-index-newest g) → length (g.N.Network.net c.self.inside.net).lows < 16642
+room-here : (g : _) (c : After-index-newest g) → length (g.N.Network.reading.net c.self.inside.net).lows < 16642
 room-here g c =
     let l = lows-here g c in
     let few = (standing g c).1.few_points in
@@ -73,17 +73,17 @@ overflow_add-start g k =
     let w : c.index-newest.result.now.first.0 + 1 < 2 ^ 32 = omega arith in
     search (rules, w)
 
-pub extend-requires-clause-room : goal.extend-requires-clause-room
-extend-requires-clause-room g k =
-    let c = (goal.at.extend-requires-clause-room g k).After-index-newest in
+pub extend-requires-clause-capacity : goal.extend-requires-clause-capacity
+extend-requires-clause-capacity g k =
+    let c = (goal.at.extend-requires-clause-capacity g k).After-index-newest in
     let r = room-here g c in
-    let p = k.self.invariant.room.points in
+    let p = k.self.invariant.capacity.points in
     omega arith
 
 pub extend-requires-clause-known : goal.extend-requires-clause-known
 extend-requires-clause-known g k =
     let c = (goal.at.extend-requires-clause-known g k).After-index-newest in
-    rw k.lasting-edges.ensures (can-open g.N.Network.net (board g c) c.args.machine.now (standing g c).0 c.index-newest.result.now (here g c) c.args.act k.get.result.now k.get.ensures c.args.room (record { 0 = c.index-newest.result.now.first.0 + 1 }) refl)
+    rw k.lasting-edges.ensures (can-open g.N.Network.reading.net (board g c) c.args.machine.now (standing g c).0 c.index-newest.result.now (here g c) c.args.act k.get.result.now k.get.ensures c.args.room (record { 0 = c.index-newest.result.now.first.0 + 1 }) refl)
 
 -- the low and the edges of the call
 low-is-sum : (g : _) (c : After-index-newest g) (low : ℕ) → low ≡ min (c.self.inside.floor + c.args.room) (c.self.inside.horizon + 1)
@@ -96,13 +96,13 @@ low-is-sum g c low e =
 -- the network that the call asks for
 net-asked : (g : _) (c : After-index-newest g) (a : Action) (low : ℕ) (edges : List Edge) → low ≡ min (c.self.inside.floor + c.args.room) (c.self.inside.horizon + 1)
     → edges ≡ duration_edges a (record { 0 = c.index-newest.result.now.first.0 + 1 }) c.index-newest.result.now.first
-    → with_edges (with_point (g.N.Network.net c.self.inside.net) low c.self.inside.horizon) edges
-    ≡ with_edges (with_point (g.N.Network.net c.self.inside.net) (min (start_floor c.args.machine.now (standing g c).0.now (standing g c).0.origin + c.args.room) ((standing g c).0.now + c.args.machine.now.window + 1)) ((standing g c).0.now + c.args.machine.now.window))
+    → with_edges (with_point (g.N.Network.reading.net c.self.inside.net) low c.self.inside.horizon) edges
+    ≡ with_edges (with_point (g.N.Network.reading.net c.self.inside.net) (min (start_floor c.args.machine.now (standing g c).0.now (standing g c).0.origin + c.args.room) ((standing g c).0.now + c.args.machine.now.window + 1)) ((standing g c).0.now + c.args.machine.now.window))
     (duration_edges a (record { 0 = c.index-newest.result.now.first.0 + 1 }) c.index-newest.result.now.first)
 net-asked g c a low edges low_is edges_are =
     let low_sum = low-is-sum g c low low_is in
     let h = (standing g c).1.horizon in
-    λ i. with_edges (with_point (g.N.Network.net c.self.inside.net) (low_sum i) (h i)) (edges_are i)
+    λ i. with_edges (with_point (g.N.Network.reading.net c.self.inside.net) (low_sum i) (h i)) (edges_are i)
 
 pub returns-in-Err-clause-late : goal.returns-in-Err-clause-late
 returns-in-Err-clause-late g k =
@@ -110,7 +110,7 @@ returns-in-Err-clause-late g k =
     let o = here g c in
     let none = subst HasNoSolution (net-asked g c k.get.result.now k.lowest-low.result k.lasting-edges.result k.lowest-low.ensures k.lasting-edges.ensures) k.in-Err.ensures.late in
     rw (← c.self.view_is) (and-some (suffix_of (board g c)) o.x _ o.suffix (and-some (board g c).ask (standing g c).0 _ (standing g c).1.asked
-    (open-refused g.N.Network.net (board g c) c.args.machine.now (standing g c).0 c.index-newest.result.now o c.args.act k.get.result.now k.get.ensures c.args.room (record { 0 = c.index-newest.result.now.first.0 + 1 }) refl
+    (open-refused g.N.Network.reading.net (board g c) c.args.machine.now (standing g c).0 c.index-newest.result.now o c.args.act k.get.result.now k.get.ensures c.args.room (record { 0 = c.index-newest.result.now.first.0 + 1 }) refl
     c.steps_add_edges.ensures.action c.solutions_are_ticks.ensures.late none)))
 
 pub returns-in-Err-clause-shown : goal.returns-in-Err-clause-shown
@@ -119,33 +119,32 @@ returns-in-Err-clause-shown g k =
     let o = here g c in
     let refused = subst (g.N.Network.refutes k.extend.new.self) (net-asked g c k.get.result.now k.lowest-low.result k.lasting-edges.result k.lowest-low.ensures k.lasting-edges.ensures) k.in-Err.ensures.refused in
     rw (← c.self.view_is) (and-some (suffix_of (board g c)) o.x _ o.suffix (and-some (board g c).ask (standing g c).0 _ (standing g c).1.asked
-    (open-reason g.N.Network.net (board g c) c.args.machine.now (standing g c).0 c.index-newest.result.now o c.args.act k.get.result.now k.get.ensures c.args.room (record { 0 = c.index-newest.result.now.first.0 + 1 }) refl
+    (open-reason g.N.Network.reading.net (board g c) c.args.machine.now (standing g c).0 c.index-newest.result.now o c.args.act k.get.result.now k.get.ensures c.args.room (record { 0 = c.index-newest.result.now.first.0 + 1 }) refl
     g.N.Network.refutes k.extend.new.self c.steps_add_edges.ensures.action c.gaps_are_hops.ensures.action (standing g c).1.plain (standing g c).1.caused refused)))
 
 pub returns-in-Err-clause-stands : goal.returns-in-Err-clause-stands
 returns-in-Err-clause-stands g k =
     let c = (goal.at.returns-in-Err-clause-stands g k).After-index-newest in
-    ((standing g c).0, stands-still g.N.Network.net g.N.Undo.content g.N.Undo.past g.met.N.Network.net_by_content (board g c) k.extend.new.self c.self.inside.causes None c.args.machine.now (standing g c).0 (standing g c).1 k.in-Err.ensures.kept k.in-Err.ensures.past (keeps-all _ _))
+    ((standing g c).0, stands-still g.N.Network.reading (board g c) k.extend.new.self c.self.inside.causes None c.args.machine.now (standing g c).0 (standing g c).1 k.in-Err.ensures.kept k.in-Err.ensures.past (keeps-all _ _))
 
 few-steps : (g : _) (c : After-index-newest g) → length c.self.inside.steps.items + 1 ≤ 330
 few-steps g c = steps-room (kept_of (standing g c).0) (length c.self.inside.steps.items) (here g c).x (here g c).at.few_steps
 
-pub unreachable-requires : goal.unreachable-requires
-unreachable-requires g k =
-    let few = few-steps g (goal.at.unreachable-requires g k).After-index-newest in
-    let space = k.self.invariant.room.steps_space in
+pub push_reserved-requires : goal.push_reserved-requires
+push_reserved-requires g k =
+    let few = few-steps g (goal.at.push_reserved-requires g k).After-index-newest in
+    let space = k.self.invariant.capacity.steps_space in
     let o = k.self.inside.steps.ok.0 in
-    let full = k.in_default.ensures.full in
     omega arith
 
 pub invariant_of-self-2 : goal.invariant_of-self-2
 invariant_of-self-2 g k =
     let a = k.self.inside in
     let few = few-steps g (goal.at.invariant_of-self-2 g k).After-index-newest in
-    let len = ap length k.in-Ok-push.ensures.items ∙ length-append a.steps.items (_ ∷ []) in
-    let space = k.in-Ok-push.ensures.capacity in
-    board-step _ _ _ _ _ _ _ _ _ _ _ _ _ _ k.self.invariant _ _ _ _ a.lines a.held k.push.new.self a.edges
-    (ap length k.in-Ok.ensures.past) k.in-Ok.ensures.marks k.in-Ok.ensures.points k.in-Ok.ensures.edges refl refl refl refl (omega arith) k.self.invariant.room.held_few (omega arith)
+    let len = ap length k.push_reserved.ensures.items ∙ length-append a.steps.items (_ ∷ []) in
+    let space = k.push_reserved.ensures.capacity in
+    board-step _ _ _ _ _ _ _ _ _ _ _ _ _ _ k.self.invariant _ _ _ _ a.lines a.held k.push_reserved.new.self a.edges
+    (ap length k.in-Ok.ensures.past) k.in-Ok.ensures.same_size.marks k.in-Ok.ensures.same_size.points k.in-Ok.ensures.same_size.edges refl refl refl refl (omega arith) k.self.invariant.capacity.held_few (omega arith)
     (omega arith) (omega arith) (omega arith) (omega arith)
 
 suffix-now : (g : _) (c : After-index-newest g) (x : Suffix) (steps : List Step) (step : Step) → suffix_after c.self.inside.steps.items ≡ Some x → steps ≡ c.self.inside.steps.items ++ step ∷ [] → step.change ≡ ActionOpened c.args.act c.args.room
@@ -155,24 +154,24 @@ suffix-now g c x steps step e pushed change = ap suffix_after pushed ∙ suffix-
 pub returns-clause-suffix : goal.returns-clause-suffix
 returns-clause-suffix g k =
     let c = (goal.at.returns-clause-suffix g k).After-index-newest in
-    rw (← c.self.view_is) (and-some (suffix_of (board g c)) (here g c).x _ (here g c).suffix (suffix-now g c (here g c).x k.push.new.self.items _ (here g c).suffix k.in-Ok-push.ensures.items refl))
+    rw (← c.self.view_is) (and-some (suffix_of (board g c)) (here g c).x _ (here g c).suffix (suffix-now g c (here g c).x k.push_reserved.new.self.items _ (here g c).suffix k.push_reserved.ensures.items refl))
 
 pub returns-clause-past : goal.returns-clause-past
 returns-clause-past g k =
     let a = k.self.inside in
     let i = k.self.invariant.marked.at_marks in
-    rw (← k.self.view_is, k.in-Ok.ensures.past, k.in-Ok-push.ensures.items) (side-steps a.held.items a.steps.items (_ ∷ []) (g.N.Undo.past a.net) a.lines.past a.marks.items (λ j n z. i.steps_below j n z))
+    rw (← k.self.view_is, k.in-Ok.ensures.past, k.push_reserved.ensures.items) (side-steps a.held.items a.steps.items (_ ∷ []) (g.N.Network.reading.past a.net) a.lines.past a.marks.items (λ j n z. i.steps_below j n z))
 
 -- the board after the call
 after : (g : _) (c : After-index-newest g) (a : Action) (n : Net) (low : ℕ) (edges : List Edge) (steps : List Step) (step : Step) → action_at c.args.machine.now c.args.act.0 ≡ Some a
     → low ≡ min (c.self.inside.floor + c.args.room) (c.self.inside.horizon + 1) → edges ≡ duration_edges a (record { 0 = c.index-newest.result.now.first.0 + 1 }) c.index-newest.result.now.first
-    → n ≡ with_edges (with_point (g.N.Network.net c.self.inside.net) low c.self.inside.horizon) edges → HasLeast n
+    → n ≡ with_edges (with_point (g.N.Network.reading.net c.self.inside.net) low c.self.inside.horizon) edges → HasLeast n
     → steps ≡ c.self.inside.steps.items ++ step ∷ [] → step.newest ≡ Some c.args.act → step.first ≡ record { 0 = c.index-newest.result.now.first.0 + 1 }
     → IsAtWith c.args.machine.now c.self.inside.plans.items (standing g c).0 (Some (with_action c.args.act c.args.room (here g c).x)) steps n c.self.inside.lines.orders c.self.inside.held.items
 after g c a n low edges steps step is low_is edges_are added solved pushed newest first =
     let ask = (standing g c).0 in
     let net = added ∙ net-asked g c a low edges low_is edges_are in
-    let at = open-at g.N.Network.net (board g c) c.args.machine.now ask c.index-newest.result.now (here g c) c.args.act a is c.args.room (record { 0 = c.index-newest.result.now.first.0 + 1 }) refl
+    let at = open-at g.N.Network.reading.net (board g c) c.args.machine.now ask c.index-newest.result.now (here g c) c.args.act a is c.args.room (record { 0 = c.index-newest.result.now.first.0 + 1 }) refl
     c.steps_add_edges.ensures.action (subst HasLeast net solved) step newest first in
     let P : Net → List Step → Type 0 = λ n steps. IsAtWith c.args.machine.now c.self.inside.plans.items ask (Some (with_action c.args.act c.args.room (here g c).x)) steps n c.self.inside.lines.orders c.self.inside.held.items in
     subst (λ n. P n steps) (sym net) (subst (P _) (sym pushed) at)
@@ -180,12 +179,12 @@ after g c a n low edges steps step is low_is edges_are added solved pushed newes
 -- and why its edges stand
 caused-after : (g : _) (c : After-index-newest g) (a : Action) (n : Net) (low : ℕ) (edges : List Edge) (steps : List Step) (step : Step) → action_at c.args.machine.now c.args.act.0 ≡ Some a
     → low ≡ min (c.self.inside.floor + c.args.room) (c.self.inside.horizon + 1) → edges ≡ duration_edges a (record { 0 = c.index-newest.result.now.first.0 + 1 }) c.index-newest.result.now.first
-    → n ≡ with_edges (with_point (g.N.Network.net c.self.inside.net) low c.self.inside.horizon) edges
+    → n ≡ with_edges (with_point (g.N.Network.reading.net c.self.inside.net) low c.self.inside.horizon) edges
     → steps ≡ c.self.inside.steps.items ++ step ∷ [] → suffix_after steps ≡ Some (with_action c.args.act c.args.room (here g c).x) → AreCaused c.args.machine.now c.self.inside.plans.items (standing g c).0 c.self.inside.causes steps n
 caused-after g c a n low edges steps step is low_is edges_are added pushed suffix =
     let ask = (standing g c).0 in
     let net = added ∙ net-asked g c a low edges low_is edges_are in
-    let caused = open-caused g.N.Network.net (board g c) c.args.machine.now ask c.index-newest.result.now (here g c) c.args.act a is c.args.room (record { 0 = c.index-newest.result.now.first.0 + 1 }) refl
+    let caused = open-caused g.N.Network.reading.net (board g c) c.args.machine.now ask c.index-newest.result.now (here g c) c.args.act a is c.args.room (record { 0 = c.index-newest.result.now.first.0 + 1 }) refl
     c.gaps_are_hops.ensures.action (standing g c).1.plain (standing g c).1.caused step (ap suffix_after (sym pushed) ∙ suffix) in
     let P : Net → List Step → Type 0 = λ n steps. AreCaused c.args.machine.now c.self.inside.plans.items ask c.self.inside.causes steps n in
     subst (λ n. P n steps) (sym net) (subst (P _) (sym pushed) caused)
@@ -194,8 +193,8 @@ pub returns-clause-times : goal.returns-clause-times
 returns-clause-times g k =
     let c = (goal.at.returns-clause-times g k).After-index-newest in
     let x = (here g c).x in
-    let at = after g c k.get.result.now (g.N.Network.net k.extend.new.self) k.lowest-low.result k.lasting-edges.result k.push.new.self.items _ k.get.ensures k.lowest-low.ensures k.lasting-edges.ensures k.in-Ok.ensures.added k.in-Ok.ensures.solved k.in-Ok-push.ensures.items refl refl in
-    and-some (suffix_after k.push.new.self.items) (with_action c.args.act c.args.room x) _ (suffix-now g c x k.push.new.self.items _ (here g c).suffix k.in-Ok-push.ensures.items refl) (and-some k.self.inside.ask (standing g c).0 _ (standing g c).1.asked
+    let at = after g c k.get.result.now (g.N.Network.reading.net k.extend.new.self) k.lowest-low.result k.lasting-edges.result k.push_reserved.new.self.items _ k.get.ensures k.lowest-low.ensures k.lasting-edges.ensures k.in-Ok.ensures.added k.in-Ok.ensures.solved k.push_reserved.ensures.items refl refl in
+    and-some (suffix_after k.push_reserved.new.self.items) (with_action c.args.act c.args.room x) _ (suffix-now g c x k.push_reserved.new.self.items _ (here g c).suffix k.push_reserved.ensures.items refl) (and-some k.self.inside.ask (standing g c).0 _ (standing g c).1.asked
     (has-times c.args.machine.now k.self.inside.plans.items (standing g c).0 (with_action c.args.act c.args.room x) _ _ _ _ c.solutions_are_ticks.ensures.board at))
 
 pub returns-clause-stands : goal.returns-clause-stands
@@ -204,11 +203,11 @@ returns-clause-stands g k =
     let a = k.self.inside in
     let i = k.self.invariant.marked.at_marks in
     let x = (here g c).x in
-    let at = after g c k.get.result.now (g.N.Network.net k.extend.new.self) k.lowest-low.result k.lasting-edges.result k.push.new.self.items _ k.get.ensures k.lowest-low.ensures k.lasting-edges.ensures k.in-Ok.ensures.added k.in-Ok.ensures.solved k.in-Ok-push.ensures.items refl refl in
-    let now = suffix-now g c x k.push.new.self.items _ (here g c).suffix k.in-Ok-push.ensures.items refl in
-    let caused = caused-after g c k.get.result.now (g.N.Network.net k.extend.new.self) k.lowest-low.result k.lasting-edges.result k.push.new.self.items _ k.get.ensures k.lowest-low.ensures k.lasting-edges.ensures k.in-Ok.ensures.added k.in-Ok-push.ensures.items now in (
+    let at = after g c k.get.result.now (g.N.Network.reading.net k.extend.new.self) k.lowest-low.result k.lasting-edges.result k.push_reserved.new.self.items _ k.get.ensures k.lowest-low.ensures k.lasting-edges.ensures k.in-Ok.ensures.added k.in-Ok.ensures.solved k.push_reserved.ensures.items refl refl in
+    let now = suffix-now g c x k.push_reserved.new.self.items _ (here g c).suffix k.push_reserved.ensures.items refl in
+    let caused = caused-after g c k.get.result.now (g.N.Network.reading.net k.extend.new.self) k.lowest-low.result k.lasting-edges.result k.push_reserved.new.self.items _ k.get.ensures k.lowest-low.ensures k.lasting-edges.ensures k.in-Ok.ensures.added k.push_reserved.ensures.items now in (
       (standing g c).0,
-      stands-after g.N.Network.net g.N.Undo.content g.N.Undo.past (board g c) k.extend.new.self a.lines a.held.items k.push.new.self.items a.causes c.args.machine.now (standing g c).0 (with_action c.args.act c.args.room x) (standing g c).1
-          (rw (k.in-Ok.ensures.past, k.in-Ok-push.ensures.items) (side-steps a.held.items a.steps.items (_ ∷ []) (g.N.Undo.past a.net) a.lines.past a.marks.items (λ j n z. i.steps_below j n z)))
+      stands-after g.N.Network.reading (board g c) k.extend.new.self a.lines a.held.items k.push_reserved.new.self.items a.causes c.args.machine.now (standing g c).0 (with_action c.args.act c.args.room x) (standing g c).1
+          (rw (k.in-Ok.ensures.past, k.push_reserved.ensures.items) (side-steps a.held.items a.steps.items (_ ∷ []) (g.N.Network.reading.past a.net) a.lines.past a.marks.items (λ j n z. i.steps_below j n z)))
           now at (keeps-all _ _) caused,
     )

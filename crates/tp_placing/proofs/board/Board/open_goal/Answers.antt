@@ -29,10 +29,10 @@ board g c =
     board_of a.net a.lines a.held.items a.plans.items a.firsts.items a.last a.floor a.horizon a.ask a.steps.items a.marks.items a.made_for a.causes a.limit
 
 -- the board on a machine that it stands on, with the ask that it keeps
-stands-here : (g : _) (c : In-Some g) (m : Machine) → Stands g.N.Network.net g.N.Undo.content g.N.Undo.past c.args.self.now m → StandsOn g.N.Network.net g.N.Undo.content g.N.Undo.past (board g c) m c.in-Some.ask
-stands-here g c m s = stands-ask g.N.Network.net g.N.Undo.content g.N.Undo.past (board g c) m c.in-Some.ask (rw (← c.self.view_is) at s) c.in-Some.is
+stands-here : (g : _) (c : In-Some g) (m : Machine) → Stands g.N.Network.reading c.args.self.now m → StandsOn g.N.Network.reading (board g c) m c.in-Some.ask
+stands-here g c m s = stands-ask g.N.Network.reading (board g c) m c.in-Some.ask (rw (← c.self.view_is) at s) c.in-Some.is
 
-known : (g : _) (c : In-Some g) → StandsOn g.N.Network.net g.N.Undo.content g.N.Undo.past (board g c) c.requires.stands.0 c.in-Some.ask
+known : (g : _) (c : In-Some g) → StandsOn g.N.Network.reading (board g c) c.requires.stands.0 c.in-Some.ask
 known g c = stands-here g c c.requires.stands.0 c.requires.stands.1
 
 closed : (g : _) (c : In-Some g) → suffix_after c.self.inside.steps.items ≡ None
@@ -50,26 +50,26 @@ pub extend-requires-clause-known : goal.extend-requires-clause-known
 extend-requires-clause-known g k =
     let c = (goal.at.extend-requires-clause-known g k).In-Some in
     let e = edges-are g c _ _ _ _ k.deref.ensures.value k.deref-2.ensures.value k.deref-3.ensures.value k.line_edges.ensures.edges in
-    rw e (can-open g.N.Network.net g.N.Undo.content g.N.Undo.past (board g c) c.requires.stands.0 c.in-Some.ask (known g c) (closed g c) k.args.room)
+    rw e (can-open g.N.Network.reading (board g c) c.requires.stands.0 c.in-Some.ask (known g c) (closed g c) k.args.room)
 
 pub extend-requires-clause-spare : goal.extend-requires-clause-spare
 extend-requires-clause-spare g k =
     let c = (goal.at.extend-requires-clause-spare g k).In-Some in
     let e = ap length (edges-are g c _ _ _ _ k.deref.ensures.value k.deref-2.ensures.value k.deref-3.ensures.value k.line_edges.ensures.edges) in
-    let few = few-edges g.N.Network.net g.N.Undo.content g.N.Undo.past (board g c) c.requires.stands.0 c.in-Some.ask (known g c) (closed g c) k.args.room in
-    let r = k.self.invariant.room.edges in
+    let few = few-edges g.N.Network.reading (board g c) c.requires.stands.0 c.in-Some.ask (known g c) (closed g c) k.args.room in
+    let r = k.self.invariant.capacity.edges in
     omega arith
 
 -- the network that the call asks for
-net-asked : (g : _) (c : In-Some g) (m : Machine) (room : ℕ) (s : StandsOn g.N.Network.net g.N.Undo.content g.N.Undo.past (board g c) m c.in-Some.ask) (low : ℕ) (edges : List Edge)
+net-asked : (g : _) (c : In-Some g) (m : Machine) (room : ℕ) (s : StandsOn g.N.Network.reading (board g c) m c.in-Some.ask) (low : ℕ) (edges : List Edge)
     → low ≡ min (c.self.inside.floor + room) (c.self.inside.horizon + 1) → edges ≡ es g c
-    → with_edges (with_point (g.N.Network.net c.self.inside.net) low c.self.inside.horizon) edges
-    ≡ with_edges (with_point (g.N.Network.net c.self.inside.net) (min (start_floor m c.in-Some.ask.now c.in-Some.ask.origin + room) (c.in-Some.ask.now + m.window + 1)) (c.in-Some.ask.now + m.window)) (es g c)
+    → with_edges (with_point (g.N.Network.reading.net c.self.inside.net) low c.self.inside.horizon) edges
+    ≡ with_edges (with_point (g.N.Network.reading.net c.self.inside.net) (min (start_floor m c.in-Some.ask.now c.in-Some.ask.origin + room) (c.in-Some.ask.now + m.window + 1)) (c.in-Some.ask.now + m.window)) (es g c)
 net-asked g c m room s low edges low_is edges_are =
     let f = s.floor in
     let h = s.horizon in
     let low_sum : low ≡ min (start_floor m c.in-Some.ask.now c.in-Some.ask.origin + room) (c.in-Some.ask.now + m.window + 1) = low_is ∙ (λ i. min (f i + room) (h i + 1)) in
-    λ i. with_edges (with_point (g.N.Network.net c.self.inside.net) (low_sum i) (h i)) (edges_are i)
+    λ i. with_edges (with_point (g.N.Network.reading.net c.self.inside.net) (low_sum i) (h i)) (edges_are i)
 
 pub returns-in-Err-clause-late : goal.returns-in-Err-clause-late
 returns-in-Err-clause-late g k m st =
@@ -78,7 +78,7 @@ returns-in-Err-clause-late g k m st =
     let e = edges-are g c _ _ _ _ k.deref.ensures.value k.deref-2.ensures.value k.deref-3.ensures.value k.line_edges.ensures.edges in
     let none = subst HasNoSolution (net-asked g c m k.args.room s k.lowest-low.result _ k.lowest-low.ensures e) k.in-Err.ensures.late in
     rw (← c.self.view_is) (and-some (board g c).ask c.in-Some.ask _ c.in-Some.is
-    (goal-refused g.N.Network.net g.N.Undo.content g.N.Undo.past (board g c) m c.in-Some.ask s (closed g c) k.args.room c.solutions_are_ticks.ensures.late none))
+    (goal-refused g.N.Network.reading (board g c) m c.in-Some.ask s (closed g c) k.args.room c.solutions_are_ticks.ensures.late none))
 
 pub returns-in-Err-clause-shown : goal.returns-in-Err-clause-shown
 returns-in-Err-clause-shown g k m st =
@@ -87,22 +87,22 @@ returns-in-Err-clause-shown g k m st =
     let e = edges-are g c _ _ _ _ k.deref.ensures.value k.deref-2.ensures.value k.deref-3.ensures.value k.line_edges.ensures.edges in
     let refused = subst (g.N.Network.refutes k.extend.new.self) (net-asked g c m k.args.room s k.lowest-low.result _ k.lowest-low.ensures e) k.in-Err.ensures.refused in
     and-some (board g c).ask c.in-Some.ask _ c.in-Some.is
-    (goal-reason g.N.Network.net g.N.Undo.content g.N.Undo.past (board g c) m c.in-Some.ask s (closed g c) k.args.room g.N.Network.refutes k.extend.new.self c.gaps_are_hops.ensures.goal refused)
+    (goal-reason g.N.Network.reading (board g c) m c.in-Some.ask s (closed g c) k.args.room g.N.Network.refutes k.extend.new.self c.gaps_are_hops.ensures.goal refused)
 
 pub returns-in-Err-clause-stands : goal.returns-in-Err-clause-stands
 returns-in-Err-clause-stands g k m st =
     let c = (goal.at.returns-in-Err-clause-stands g k).In-Some in
-    (c.in-Some.ask, stands-still g.N.Network.net g.N.Undo.content g.N.Undo.past g.met.N.Network.net_by_content (board g c) k.extend.new.self c.self.inside.causes None m c.in-Some.ask (stands-here g c m st) k.in-Err.ensures.kept k.in-Err.ensures.past (keeps-all _ _))
+    (c.in-Some.ask, stands-still g.N.Network.reading (board g c) k.extend.new.self c.self.inside.causes None m c.in-Some.ask (stands-here g c m st) k.in-Err.ensures.kept k.in-Err.ensures.past (keeps-all _ _))
 
 pub invariant_of-self-2 : goal.invariant_of-self-2
 invariant_of-self-2 g k =
     let a = k.self.inside in
     let c = (goal.at.invariant_of-self-2 g k).In-Some in
-    let none = ap length (empty g.N.Network.net g.N.Undo.content g.N.Undo.past (board g c) c.requires.stands.0 c.in-Some.ask (known g c) (closed g c) k.args.room) in
-    let len = ap length k.in-Ok-push.ensures.items ∙ length-append a.steps.items (_ ∷ []) in
-    let space = k.in-Ok-push.ensures.capacity in
-    board-step _ _ _ _ _ _ _ _ _ _ _ _ _ _ k.self.invariant _ _ _ _ a.lines a.held k.push.new.self k.line_edges.new.edges
-    (ap length k.in-Ok.ensures.past) k.in-Ok.ensures.marks k.in-Ok.ensures.points k.in-Ok.ensures.edges refl refl refl refl (omega arith) k.self.invariant.room.held_few (omega arith)
+    let none = ap length (empty g.N.Network.reading (board g c) c.requires.stands.0 c.in-Some.ask (known g c) (closed g c) k.args.room) in
+    let len = ap length k.push_reserved.ensures.items ∙ length-append a.steps.items (_ ∷ []) in
+    let space = k.push_reserved.ensures.capacity in
+    board-step _ _ _ _ _ _ _ _ _ _ _ _ _ _ k.self.invariant _ _ _ _ a.lines a.held k.push_reserved.new.self k.line_edges.new.edges
+    (ap length k.in-Ok.ensures.past) k.in-Ok.ensures.same_size.marks k.in-Ok.ensures.same_size.points k.in-Ok.ensures.same_size.edges refl refl refl refl (omega arith) k.self.invariant.capacity.held_few (omega arith)
     (omega arith) (omega arith) (omega arith) k.line_edges.ensures.capacity
 
 suffix-now : (g : _) (c : In-Some g) (room : ℕ) (steps : List Step) (step : Step) → steps ≡ c.self.inside.steps.items ++ step ∷ [] → step.change ≡ Goal room → suffix_after steps ≡ Some (with_goal room)
@@ -112,28 +112,28 @@ pub returns-clause-past : goal.returns-clause-past
 returns-clause-past g k =
     let a = k.self.inside in
     let i = k.self.invariant.marked.at_marks in
-    rw (← k.self.view_is, k.in-Ok.ensures.past, k.in-Ok-push.ensures.items) (side-steps a.held.items a.steps.items (_ ∷ []) (g.N.Undo.past a.net) a.lines.past a.marks.items (λ j n z. i.steps_below j n z))
+    rw (← k.self.view_is, k.in-Ok.ensures.past, k.push_reserved.ensures.items) (side-steps a.held.items a.steps.items (_ ∷ []) (g.N.Network.reading.past a.net) a.lines.past a.marks.items (λ j n z. i.steps_below j n z))
 
 -- the board after the call
-after : (g : _) (c : In-Some g) (m : Machine) (room : ℕ) → StandsOn g.N.Network.net g.N.Undo.content g.N.Undo.past (board g c) m c.in-Some.ask → (n : Net) (low : ℕ) (edges : List Edge) (steps : List Step) (step : Step)
+after : (g : _) (c : In-Some g) (m : Machine) (room : ℕ) → StandsOn g.N.Network.reading (board g c) m c.in-Some.ask → (n : Net) (low : ℕ) (edges : List Edge) (steps : List Step) (step : Step)
     → low ≡ min (c.self.inside.floor + room) (c.self.inside.horizon + 1) → edges ≡ es g c
-    → n ≡ with_edges (with_point (g.N.Network.net c.self.inside.net) low c.self.inside.horizon) edges → HasLeast n
+    → n ≡ with_edges (with_point (g.N.Network.reading.net c.self.inside.net) low c.self.inside.horizon) edges → HasLeast n
     → steps ≡ c.self.inside.steps.items ++ step ∷ [] → step.newest ≡ None → step.first ≡ c.self.inside.last
     → IsAtWith m c.self.inside.plans.items c.in-Some.ask (Some (with_goal room)) steps n c.self.inside.lines.orders c.self.inside.held.items
 after g c m room s n low edges steps step low_is edges_are added solved pushed newest first =
     let net = added ∙ net-asked g c m room s low edges low_is edges_are in
-    let at = goal-at g.N.Network.net g.N.Undo.content g.N.Undo.past (board g c) m c.in-Some.ask s (closed g c) room (subst HasLeast net solved) step newest first in
+    let at = goal-at g.N.Network.reading (board g c) m c.in-Some.ask s (closed g c) room (subst HasLeast net solved) step newest first in
     let P : Net → List Step → Type 0 = λ n steps. IsAtWith m c.self.inside.plans.items c.in-Some.ask (Some (with_goal room)) steps n c.self.inside.lines.orders c.self.inside.held.items in
     subst (λ n. P n steps) (sym net) (subst (P _) (sym pushed) at)
 
 -- and why its edges stand
-caused-after : (g : _) (c : In-Some g) (m : Machine) (room : ℕ) → StandsOn g.N.Network.net g.N.Undo.content g.N.Undo.past (board g c) m c.in-Some.ask → (n : Net) (low : ℕ) (edges : List Edge) (steps : List Step) (step : Step)
+caused-after : (g : _) (c : In-Some g) (m : Machine) (room : ℕ) → StandsOn g.N.Network.reading (board g c) m c.in-Some.ask → (n : Net) (low : ℕ) (edges : List Edge) (steps : List Step) (step : Step)
     → low ≡ min (c.self.inside.floor + room) (c.self.inside.horizon + 1) → edges ≡ es g c
-    → n ≡ with_edges (with_point (g.N.Network.net c.self.inside.net) low c.self.inside.horizon) edges
+    → n ≡ with_edges (with_point (g.N.Network.reading.net c.self.inside.net) low c.self.inside.horizon) edges
     → steps ≡ c.self.inside.steps.items ++ step ∷ [] → suffix_after steps ≡ Some (with_goal room) → AreCaused m c.self.inside.plans.items c.in-Some.ask c.self.inside.causes steps n
 caused-after g c m room s n low edges steps step low_is edges_are added pushed suffix =
     let net = added ∙ net-asked g c m room s low edges low_is edges_are in
-    let caused = goal-caused g.N.Network.net g.N.Undo.content g.N.Undo.past (board g c) m c.in-Some.ask s (closed g c) room c.gaps_are_hops.ensures.goal step (ap suffix_after (sym pushed) ∙ suffix) in
+    let caused = goal-caused g.N.Network.reading (board g c) m c.in-Some.ask s (closed g c) room c.gaps_are_hops.ensures.goal step (ap suffix_after (sym pushed) ∙ suffix) in
     let P : Net → List Step → Type 0 = λ n steps. AreCaused m c.self.inside.plans.items c.in-Some.ask c.self.inside.causes steps n in
     subst (λ n. P n steps) (sym net) (subst (P _) (sym pushed) caused)
 
@@ -142,7 +142,7 @@ returns-clause-times g k m st =
     let c = (goal.at.returns-clause-times g k).In-Some in
     let s = stands-here g c m st in
     let e = edges-are g c _ _ _ _ k.deref.ensures.value k.deref-2.ensures.value k.deref-3.ensures.value k.line_edges.ensures.edges in
-    let at = after g c m k.args.room s (g.N.Network.net k.extend.new.self) k.lowest-low.result _ k.push.new.self.items _ k.lowest-low.ensures e k.in-Ok.ensures.added k.in-Ok.ensures.solved k.in-Ok-push.ensures.items refl refl in
+    let at = after g c m k.args.room s (g.N.Network.reading.net k.extend.new.self) k.lowest-low.result _ k.push_reserved.new.self.items _ k.lowest-low.ensures e k.in-Ok.ensures.added k.in-Ok.ensures.solved k.push_reserved.ensures.items refl refl in
     and-some k.self.inside.ask c.in-Some.ask _ c.in-Some.is (has-times m k.self.inside.plans.items c.in-Some.ask (with_goal k.args.room) _ _ _ _ c.solutions_are_ticks.ensures.board at)
 
 pub returns-clause-stands : goal.returns-clause-stands
@@ -152,11 +152,11 @@ returns-clause-stands g k m st =
     let i = k.self.invariant.marked.at_marks in
     let s = stands-here g c m st in
     let e = edges-are g c _ _ _ _ k.deref.ensures.value k.deref-2.ensures.value k.deref-3.ensures.value k.line_edges.ensures.edges in
-    let at = after g c m k.args.room s (g.N.Network.net k.extend.new.self) k.lowest-low.result _ k.push.new.self.items _ k.lowest-low.ensures e k.in-Ok.ensures.added k.in-Ok.ensures.solved k.in-Ok-push.ensures.items refl refl in
-    let now = suffix-now g c k.args.room k.push.new.self.items _ k.in-Ok-push.ensures.items refl in
-    let caused = caused-after g c m k.args.room s (g.N.Network.net k.extend.new.self) k.lowest-low.result _ k.push.new.self.items _ k.lowest-low.ensures e k.in-Ok.ensures.added k.in-Ok-push.ensures.items now in (
+    let at = after g c m k.args.room s (g.N.Network.reading.net k.extend.new.self) k.lowest-low.result _ k.push_reserved.new.self.items _ k.lowest-low.ensures e k.in-Ok.ensures.added k.in-Ok.ensures.solved k.push_reserved.ensures.items refl refl in
+    let now = suffix-now g c k.args.room k.push_reserved.new.self.items _ k.push_reserved.ensures.items refl in
+    let caused = caused-after g c m k.args.room s (g.N.Network.reading.net k.extend.new.self) k.lowest-low.result _ k.push_reserved.new.self.items _ k.lowest-low.ensures e k.in-Ok.ensures.added k.push_reserved.ensures.items now in (
       c.in-Some.ask,
-      stands-after g.N.Network.net g.N.Undo.content g.N.Undo.past (board g c) k.extend.new.self a.lines a.held.items k.push.new.self.items a.causes m c.in-Some.ask (with_goal k.args.room) s
-          (rw (k.in-Ok.ensures.past, k.in-Ok-push.ensures.items) (side-steps a.held.items a.steps.items (_ ∷ []) (g.N.Undo.past a.net) a.lines.past a.marks.items (λ j n z. i.steps_below j n z)))
+      stands-after g.N.Network.reading (board g c) k.extend.new.self a.lines a.held.items k.push_reserved.new.self.items a.causes m c.in-Some.ask (with_goal k.args.room) s
+          (rw (k.in-Ok.ensures.past, k.push_reserved.ensures.items) (side-steps a.held.items a.steps.items (_ ∷ []) (g.N.Network.reading.past a.net) a.lines.past a.marks.items (λ j n z. i.steps_below j n z)))
           now at (keeps-all _ _) caused,
     )

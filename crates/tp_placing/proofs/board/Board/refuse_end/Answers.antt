@@ -6,28 +6,28 @@ use Rattle.tp_placing.proofs.ReasonFacts.{refuses-here, end-known, end-late, end
 use Rattle.tp_placing.proofs.StandFacts.{and-some, stands-still}
 use Rattle.tp_placing.proofs.board.Board.refuse_end.Goals as goal
 
-pub refuse_by-limit-requires-clause-room : goal.refuse_by-limit-requires-clause-room
-refuse_by-limit-requires-clause-room g c =
-    let h = refuses-here g.N.Network.net g.N.Undo.content g.N.Undo.past _ c.args.last (rw (← c.self.view_is) at c.requires.below) (rw (← c.self.view_is) at c.requires.open) in
-    point-room g.N.Network.net g.N.Undo.content g.N.Undo.past _ c.args.last h (g.N.Network.max_points c.self.inside.net) c.self.invariant.room.points
+pub refuse_by-limit-requires-clause-capacity : goal.refuse_by-limit-requires-clause-capacity
+refuse_by-limit-requires-clause-capacity g c =
+    let h = refuses-here g.N.Network.reading _ c.args.last (rw (← c.self.view_is) at c.requires.below) (rw (← c.self.view_is) at c.requires.open) in
+    point-room g.N.Network.reading _ c.args.last h (g.N.Network.reading.max_points c.self.inside.net) c.self.invariant.capacity.points
 
 pub refuse_by-limit-requires-clause-known : goal.refuse_by-limit-requires-clause-known
 refuse_by-limit-requires-clause-known g c =
-    let h = refuses-here g.N.Network.net g.N.Undo.content g.N.Undo.past _ c.args.last (rw (← c.self.view_is) at c.requires.below) (rw (← c.self.view_is) at c.requires.open) in
-    end-known g.N.Network.net g.N.Undo.content g.N.Undo.past _ c.args.last h
+    let h = refuses-here g.N.Network.reading _ c.args.last (rw (← c.self.view_is) at c.requires.below) (rw (← c.self.view_is) at c.requires.open) in
+    end-known g.N.Network.reading _ c.args.last h
 
 pub refuse_by-limit-requires-clause-late : goal.refuse_by-limit-requires-clause-late
 refuse_by-limit-requires-clause-late g c =
-    let h = refuses-here g.N.Network.net g.N.Undo.content g.N.Undo.past _ c.args.last (rw (← c.self.view_is) at c.requires.below) (rw (← c.self.view_is) at c.requires.open) in
-    end-late g.N.Network.net g.N.Undo.content g.N.Undo.past _ c.args.last h c.solutions_are_ticks.ensures.board
+    let h = refuses-here g.N.Network.reading _ c.args.last (rw (← c.self.view_is) at c.requires.below) (rw (← c.self.view_is) at c.requires.open) in
+    end-late g.N.Network.reading _ c.args.last h c.solutions_are_ticks.ensures.board
 
 pub returns-clause-shown : goal.returns-clause-shown
 returns-clause-shown g c m st' =
     let a = c.self.inside in
     let st = rw (← c.self.view_is) at st' in
-    let h = refuses-here g.N.Network.net g.N.Undo.content g.N.Undo.past _ c.args.last (rw (← c.self.view_is) at c.requires.below) (rw (← c.self.view_is) at c.requires.open) in
+    let h = refuses-here g.N.Network.reading _ c.args.last (rw (← c.self.view_is) at c.requires.below) (rw (← c.self.view_is) at c.requires.open) in
     and-some (suffix_after a.steps.items) h.x _ h.suffix (and-some a.ask st.0 _ st.1.asked
-    (end-reason g.N.Network.net g.N.Undo.content g.N.Undo.past (board_of a.net a.lines a.held.items a.plans.items a.firsts.items a.last a.floor a.horizon a.ask a.steps.items a.marks.items a.made_for a.causes a.limit)
+    (end-reason g.N.Network.reading (board_of a.net a.lines a.held.items a.plans.items a.firsts.items a.last a.floor a.horizon a.ask a.steps.items a.marks.items a.made_for a.causes a.limit)
     m st.0 st.1 h.x h.suffix c.args.last g.N.Network.refutes c.refuse_by-limit.new.net c.refuse_by-limit.result c.refuse_by-limit.ensures.limit c.refuse_by-limit.ensures.refused))
 
 pub returns-clause-stands : goal.returns-clause-stands
@@ -36,6 +36,6 @@ returns-clause-stands g c m st' =
     let st = rw (← c.self.view_is) at st' in
     let b = board_of a.net a.lines a.held.items a.plans.items a.firsts.items a.last a.floor a.horizon a.ask a.steps.items a.marks.items a.made_for a.causes a.limit in (
       st.0,
-      stands-still g.N.Network.net g.N.Undo.content g.N.Undo.past g.met.N.Network.net_by_content b c.refuse_by-limit.new.net a.causes (Some c.refuse_by-limit.result) m st.0 st.1 c.refuse_by-limit.ensures.same c.refuse_by-limit.ensures.past
+      stands-still g.N.Network.reading b c.refuse_by-limit.new.net a.causes (Some c.refuse_by-limit.result) m st.0 st.1 c.refuse_by-limit.ensures.same c.refuse_by-limit.ensures.past
           (keeps-all _ _),
     )

@@ -38,5 +38,5 @@ pub returns-clause-settled : goal.returns-clause-settled
 returns-clause-settled g c =
     let live = rw (← c.self.view_is) at c.load_live.ensures.plans in
     let loaded = rw (← c.self.view_is) at c.load_live.ensures.loaded in
-    settled-is c.args.machine.now c.args.now c.args.schedule.now.plans c.self.inside.plans.items c.write_times.new.schedule.plans _ _ _ _ (g.N.Network.net c.self.inside.net) c.requires.can_settle live loaded
-    (subst (λ ps. (t : Ticks) → AreLeastTicks (g.N.Network.net c.self.inside.net) (table_of ps) t → c.write_times.new.schedule.plans ≡ map (retimed_in ps t) c.args.schedule.now.plans) c.deref.ensures.value c.write_times.ensures.times)
+    settled-is c.args.machine.now c.args.now c.args.schedule.now.plans c.self.inside.plans.items c.write_times.new.schedule.plans _ _ _ _ (g.N.Network.reading.net c.self.inside.net) c.requires.can_settle live loaded
+    (subst (λ ps. (t : Ticks) → AreLeastTicks (g.N.Network.reading.net c.self.inside.net) (table_of ps) t → c.write_times.new.schedule.plans ≡ map (retimed_in ps t) c.args.schedule.now.plans) c.deref.ensures.value c.write_times.ensures.times)

@@ -14,7 +14,7 @@ put_in_turn-requires-clause-out c is =
     let below = All-contains (λ (r : Queued). r.node < length a.pool.entries) a.queue.queued there.0 c.self.invariant.known there.1 in
     absurd (omega (arith, there.2, c.in-Ok.ensures.number))
 
-space : (c : goal.After-best-1) → length c.self.inside.pool.entries ≢ c.self.inside.pool.room
+space : (c : goal.After-best-1) → length c.self.inside.pool.entries ≢ c.self.inside.pool.capacity
 space c full = absurd (false≢true (c.in-Ok.ensures.full.1 full))
 
 best-is : (c : goal.After-best-1) → c.best_with-best.result ≡ better c.self.inside.pool.entries c.args.complete c.args.bound (length c.self.inside.pool.entries) c.self.inside.best

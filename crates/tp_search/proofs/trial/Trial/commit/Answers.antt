@@ -23,5 +23,5 @@ returns-clause-earliest g c =
 pub returns-clause-back : goal.returns-clause-back
 returns-clause-back g c b m trial =
     let u = c.undo_to.ensures in
-    trial-back g.N.Network.net g.N.Undo.content g.N.Undo.past g.N.Undo.max_marks b m c.args.self g.N.Undo.aside c.marks_keep_boards.ensures.back c.undo_to.new.self trial
-    (record { content_then = u.content; past_less = u.past; aside_same = u.aside; room_same = u.room })
+    trial-back g.N.Network.reading b m c.args.self g.N.Undo.untouched c.marks_keep_boards.ensures.back c.undo_to.new.self trial
+    (record { content_then = u.content; past_less = u.past; untouched_same = u.untouched; room_same = u.capacity })

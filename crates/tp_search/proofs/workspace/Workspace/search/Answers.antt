@@ -33,7 +33,7 @@ search-requires-clause-posed g c = record {
 
 pub search-requires-clause-ready : goal.search-requires-clause-ready
 search-requires-clause-ready g c =
-    ready-back g.N.Network.net g.N.Undo.content g.N.Undo.past g.N.Undo.max_marks c.args.board.now c.find_goals.new.board c.args.machine.now c.args.ask.now c.find_goals.ensures.back
+    ready-back g.N.Network.reading c.args.board.now c.find_goals.new.board c.args.machine.now c.args.ask.now c.find_goals.ensures.back
     (record { stands = c.requires.stands; asked = c.requires.asked; closed = ap suffix_after c.requires.closed })
 
 pub search-requires-clause-searching : goal.search-requires-clause-searching
@@ -43,11 +43,11 @@ search-requires-clause-searching g c =
     let wide : a.store.width ≡ c.args.machine.now.window + 1 = omega (arith, c.self.invariant.wide, window, c.requires.made.2) in (
       0,
       subst (λ ps. IsSearching c.args.machine.now ps c.args.ask.now c.find_goals.new.goals.items c.clear.new.self 0) (sym c.find_goals.ensures.back.loaded.plans)
-          (begins-with c.args.machine.now c.args.board.now.plans c.args.ask.now c.find_goals.new.goals.items c.clear.new.self a.store.room a.store.width c.requires.loaded.0 c.find_goals.ensures.goals c.clear.ensures wide c.requires.loaded.1.can_ask.has_time),
+          (begins-with c.args.machine.now c.args.board.now.plans c.args.ask.now c.find_goals.new.goals.items c.clear.new.self a.store.capacity a.store.width c.requires.loaded.0 c.find_goals.ensures.goals c.clear.ensures wide c.requires.loaded.1.can_ask.has_time),
     )
 
 pub returns-clause-outcome : goal.returns-clause-outcome
 returns-clause-outcome g c =
-    let nodes = ap (λ (s : StoreValue). s.room) c.clear.ensures ∙ ap (λ (w : WorkspaceValue). w.nodes) c.self.view_is in
-    subst (λ n. IsOutcome g.N.Network.net g.N.Undo.content g.N.Undo.past g.N.Undo.max_marks c.args.board.now c.search.new.board c.args.machine.now c.args.ask.now n c.search.result) nodes
-    (outcome-back g.N.Network.net g.N.Undo.content g.N.Undo.past g.N.Undo.max_marks c.args.board.now c.find_goals.new.board c.search.new.board c.args.machine.now c.args.ask.now c.clear.new.self.room c.search.result c.find_goals.ensures.back c.search.ensures.outcome)
+    let nodes = ap (λ (s : StoreValue). s.capacity) c.clear.ensures ∙ ap (λ (w : WorkspaceValue). w.nodes) c.self.view_is in
+    subst (λ n. IsOutcome g.N.Network.reading c.args.board.now c.search.new.board c.args.machine.now c.args.ask.now n c.search.result) nodes
+    (outcome-back g.N.Network.reading c.args.board.now c.find_goals.new.board c.search.new.board c.args.machine.now c.args.ask.now c.clear.new.self.capacity c.search.result c.find_goals.ensures.back c.search.ensures.outcome)

@@ -16,7 +16,7 @@ pub show_limit-requires-clause-origin : goal.show_limit-requires-clause-origin
 show_limit-requires-clause-origin g c = asked-known c.args.machine.now c.requires.loaded.0 c.args.ask.now c.requires.loaded.1.can_ask.asked
 
 pub show_limit-requires-clause-kept : goal.show_limit-requires-clause-kept
-show_limit-requires-clause-kept g c = kept-few g.N.Network.net g.N.Undo.content g.N.Undo.past g.N.Undo.max_marks c.args.board.now c.args.machine.now c.args.ask.now c.requires.ready
+show_limit-requires-clause-kept g c = kept-few g.N.Network.reading c.args.board.now c.args.machine.now c.args.ask.now c.requires.ready
 
 pub returns-clause-back : goal.returns-clause-back
-returns-clause-back g c = back-shown g.N.Network.net g.N.Undo.content g.N.Undo.past g.N.Undo.max_marks c.args.board.now c.show_limit.new.board c.args.machine.now c.show_limit.ensures.back
+returns-clause-back g c = back-shown g.N.Network.reading c.args.board.now c.show_limit.new.board c.args.machine.now c.show_limit.ensures.back

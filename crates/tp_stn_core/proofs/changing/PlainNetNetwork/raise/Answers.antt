@@ -10,7 +10,7 @@ use Rattle.tp_stn_core.specs.Sound.{IsSound}
 use Rattle.tp_stn_core.specs.Plain.{net_in, past_in}
 use Rattle.tp_stn_core.specs.PlainState.{PlainState}
 use Rattle.tp_stn_core.proofs.StackFacts.{stacked_grown}
-use Rattle.tp_stn_core.proofs.KeepFacts.{saved_raised, has_room, length_raised, same_saved}
+use Rattle.tp_stn_core.proofs.KeepFacts.{saved_raised, has_capacity, length_raised, same_saved}
 use Rattle.tp_stn_core.proofs.PastFacts.{same_net, past_raised}
 use Rattle.tp_base.proofs.LeastFacts.{mut_items}
 use Rattle.tp_stn_core.specs.Saved.{saved_after, newest_after}
@@ -45,15 +45,15 @@ returns-then-low-index-clause-refused c =
     let chain = raised_chain (net_in a) p c.args.low (omega arith) h in
     rw c.clear.ensures.items (subst (λ (s : PlainState). IsLateChain (with_low s.net p c.args.low) p []) c.self.view_is chain)
 
-pub save-requires-clause-room : goal.save-requires-clause-room
-save-requires-clause-room c h =
+pub save-requires-clause-capacity : goal.save-requires-clause-capacity
+save-requires-clause-capacity c h =
     let a = c.self.inside in
     let inv = c.self.invariant in
     let v = ap (λ (s : PlainState). length s.net.lows) c.self.view_is in
     let k = c.requires.known in
     let due = rw (c.deref-in-Ok.ensures.value, c.deref_mut.ensures.value) at h in
-    let below = has_room a.marks.items a.saved.items a.newest.items (length a.lows.items) (length a.edges.items) a.max_points c.args.point c.index-old.result.now inv.stacked inv.links (omega arith) inv.points due in
-    let r = inv.room.saved in
+    let below = has_capacity a.marks.items a.saved.items a.newest.items (length a.lows.items) (length a.edges.items) a.max_points c.args.point c.index-old.result.now inv.stacked inv.links (omega arith) inv.points due in
+    let r = inv.capacity.saved in
     let m = mul-le-mul_left a.max_points inv.marks in
     omega arith
 
@@ -71,8 +71,8 @@ invariant_of-self-in-Ok c =
     let xc = ap (λ v. vec_capacity v) x in
     let yc = ap (λ v. vec_capacity v) c.swap.ensures.y_after in
     let p = inv.points in
-    let r0 = inv.room in
-    let w = c.in-Ok.ensures.room a.max_points inv.room.working in
+    let r0 = inv.capacity in
+    let w = c.in-Ok.ensures.capacity a.max_points inv.capacity.working in
     let wt = w.times in
     let sc = c.save.ensures.capacity in
     let long = length_raised a.marks.items a.saved.items a.newest.items (length a.lows.items) (length a.edges.items) a.max_points c.args.point c.index-old.result.now inv.stacked inv.links known inv.points inv.saved in
@@ -85,16 +85,16 @@ invariant_of-self-in-Ok c =
       edges = inv.edges;
       marks = inv.marks;
       saved = omega arith;
-      room = record {
-        lows = inv.room.lows;
-        caps = inv.room.caps;
-        edges = inv.room.edges;
+      capacity = record {
+        lows = inv.capacity.lows;
+        caps = inv.capacity.caps;
+        edges = inv.capacity.edges;
         times = omega arith;
         working = record { times = omega arith; causes = w.causes; path = w.path; places = w.places };
-        path = inv.room.path;
+        path = inv.capacity.path;
         saved = omega arith;
-        newest = inv.room.newest;
-        marks = inv.room.marks;
+        newest = inv.capacity.newest;
+        marks = inv.capacity.marks;
       };
       stacked = stacked_grown a.marks.items _ _ _ _ _ _ _ (omega arith) (omega arith) (omega arith) inv.stacked;
       links = same_saved _ _ _ _ _ _ _ _ refl (saved_is c) (items ∙ newest_is c) n (saved_raised a.marks.items a.saved.items a.newest.items (length a.lows.items) (length a.edges.items) a.max_points c.args.point c.index-old.result.now inv.stacked inv.links known inv.points);
@@ -137,8 +137,8 @@ invariant_of-self-in-Err c =
     let a = c.self.inside in
     let e : set (set a.lows.items c.args.point.0 c.args.low) c.args.point.0 c.index-old.result.now ≡ a.lows.items =
     set-set a.lows.items c.args.point.0 c.args.low c.index-old.result.now ∙ ap (set a.lows.items c.args.point.0) c.index-old.ensures ∙ set-get_or a.lows.items c.args.point.0 c.index-old.result.now in
-    let r4 = inv.room.path in
-    let w = c.in-Err.ensures.room a.max_points inv.room.working in
+    let r4 = inv.capacity.path in
+    let w = c.in-Err.ensures.capacity a.max_points inv.capacity.working in
     let wp = w.path in
     let xc = ap (λ v. vec_capacity v) c.swap-in-Err.ensures.x_after in
     let yc = ap (λ v. vec_capacity v) c.swap-in-Err.ensures.y_after in
@@ -147,16 +147,16 @@ invariant_of-self-in-Err c =
       edges = inv.edges;
       marks = inv.marks;
       saved = inv.saved;
-      room = record {
-        lows = inv.room.lows;
-        caps = inv.room.caps;
-        edges = inv.room.edges;
-        times = inv.room.times;
+      capacity = record {
+        lows = inv.capacity.lows;
+        caps = inv.capacity.caps;
+        edges = inv.capacity.edges;
+        times = inv.capacity.times;
         working = record { times = w.times; causes = w.causes; path = omega arith; places = w.places };
         path = omega arith;
-        saved = inv.room.saved;
-        newest = inv.room.newest;
-        marks = inv.room.marks;
+        saved = inv.capacity.saved;
+        newest = inv.capacity.newest;
+        marks = inv.capacity.marks;
       };
       stacked = rw e inv.stacked;
       links = rw e inv.links;

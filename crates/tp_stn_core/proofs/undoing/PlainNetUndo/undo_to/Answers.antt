@@ -47,12 +47,12 @@ solve-requires-clause-known c =
     let u = went (goal.at.solve-requires-clause-known c).After-restore in
     rw (c.deref.ensures.value, c.deref-3.ensures.value) u.sound.known
 
-pub solve-requires-clause-room : goal.solve-requires-clause-room
-solve-requires-clause-room c =
-    let u = went (goal.at.solve-requires-clause-room c).After-restore in
+pub solve-requires-clause-capacity : goal.solve-requires-clause-capacity
+solve-requires-clause-capacity c =
+    let u = went (goal.at.solve-requires-clause-capacity c).After-restore in
     let e = ap length c.deref.ensures.value in
     let p = c.self.invariant.points in
-    let w = c.self.invariant.room.working in
+    let w = c.self.invariant.capacity.working in
     let w1 = w.times in
     let w2 = w.causes in
     let w3 = w.path in
@@ -96,7 +96,7 @@ invariant_of-self c =
     let em = c.truncate.ensures.items in
     let nm = ap length em ∙ length-take-le c.args.mark.0 a.marks.items (omega arith) in
     let p : length c.truncate.new.self.items * a.max_points ≡ c.args.mark.0 * a.max_points = ap (λ i. i * a.max_points) nm in
-    let b = inv.stacked.in_room c.args.mark.0 m here in
+    let b = inv.stacked.in_capacity c.args.mark.0 m here in
     let least = rw (c.deref.ensures.value, c.deref-2.ensures.value, c.deref-3.ensures.value) at c.in-Ok.ensures.least in
     let l1 = u.lows_len in
     let l2 = u.edges_len in
@@ -106,30 +106,30 @@ invariant_of-self c =
     let i1 = inv.points in
     let i2 = inv.edges in
     let i3 = inv.marks in
-    let r0 = inv.room in
-    let r1 = c.restore.ensures.lows_room in
-    let r2 = c.restore.ensures.caps_room in
-    let r3 = c.restore.ensures.edges_room in
-    let r4 = c.restore.ensures.saved_room in
+    let r0 = inv.capacity in
+    let r1 = c.restore.ensures.lows_capacity in
+    let r2 = c.restore.ensures.caps_capacity in
+    let r3 = c.restore.ensures.edges_capacity in
+    let r4 = c.restore.ensures.saved_capacity in
     let r5 = c.truncate.ensures.capacity in
-    let r6 = c.restore.ensures.newest_room in
+    let r6 = c.restore.ensures.newest_capacity in
     let x = c.swap.ensures.x_after in
     let xc = ap (λ v. vec_capacity v) x in
     let yc = ap (λ v. vec_capacity v) c.swap.ensures.y_after in
-    let w = c.in-Ok.ensures.room a.max_points inv.room.working in
+    let w = c.in-Ok.ensures.capacity a.max_points inv.capacity.working in
     let wt = w.times in
     record {
       points = omega arith;
       edges = omega arith;
       marks = omega arith;
       saved = omega arith;
-      room = record {
+      capacity = record {
         lows = omega arith;
         caps = omega arith;
         edges = omega arith;
         times = omega arith;
         working = record { times = omega arith; causes = w.causes; path = w.path; places = w.places };
-        path = inv.room.path;
+        path = inv.capacity.path;
         saved = omega arith;
         newest = omega arith;
         marks = omega arith;

@@ -12,7 +12,7 @@ use Rattle.tp_stn_undo.proofs.ChangedFacts.{IsChanged, HoldsTogether, as_it_was,
 use Rattle.tp_stn_undo.proofs.changing.LiveNetNetwork.load.Goals as goal
 use Rattle.tp_stn_undo.proofs.changing.LiveNetNetwork.load.Goals.{After-load_edges, After-save_changes}
 
-added : (c : After-load_edges) → Adds c.args.edges.now c.self.inside.caps.items c.self.inside.links.items c.load_edges.new.links.items c.self.inside.spots.items c.load_edges.new.spots c.load_edges.new.working.changes.entries
+added : (c : After-load_edges) → Adds c.args.edges.now c.self.inside.caps.items c.self.inside.links.items c.load_edges.new.links.items c.self.inside.states.items c.load_edges.new.states c.load_edges.new.working.changes.entries
 added c = rw (c.deref.ensures.value, c.deref_mut-2.ensures.value) at c.load_edges.ensures.added
 
 pub save_changes-requires : goal.save_changes-requires
@@ -20,14 +20,14 @@ save_changes-requires c =
     let k = (goal.at.save_changes-requires c).After-load_edges in
     let a = c.self.inside in
     let inv = c.self.invariant in
-    record { ready = rw c.deref-2.ensures.value (can_save a inv c.load_edges.new.working.changes (length a.spots.items) (length a.links.items) c.load_edges.ensures.sizes.noted inv.points (stack_of a inv (length a.links.items) (omega arith)) (added k).known) }
+    record { ready = rw c.deref-2.ensures.value (can_save a inv c.load_edges.new.working.changes (length a.states.items) (length a.links.items) c.load_edges.ensures.sizes.noted inv.points (stack_of a inv (length a.links.items) (omega arith)) (added k).known) }
 
 abbrev after : After-save_changes → Inside
 after c = record {
   max_points = c.self.inside.max_points;
   max_edges = c.self.inside.max_edges;
   max_marks = c.self.inside.max_marks;
-  spots = with_items c.self.inside.spots c.load_edges.new.spots;
+  states = with_items c.self.inside.states c.load_edges.new.states;
   caps = c.self.inside.caps;
   links = c.load_edges.new.links;
   heads = with_items c.self.inside.heads c.load_edges.new.heads;
@@ -36,13 +36,13 @@ after c = record {
   marks = c.self.inside.marks;
 }
 
-changed : (c : After-save_changes) → IsChanged c.self.inside (after c) c.load_edges.new.spots c.self.inside.caps.items c.load_edges.new.links.items c.load_edges.new.heads
+changed : (c : After-save_changes) → IsChanged c.self.inside (after c) c.load_edges.new.states c.self.inside.caps.items c.load_edges.new.links.items c.load_edges.new.heads
 changed c =
     let a = c.self.inside in
     let e = c.load_edges.ensures in
     let s = c.save_changes.ensures in
     record {
-      spots = mut_items a.spots.len c.load_edges.new.spots _ (c.load_edges.auto.spots ∙ ap length c.deref_mut-2.ensures.value ∙ sym a.spots.ok.0);
+      states = mut_items a.states.len c.load_edges.new.states _ (c.load_edges.auto.states ∙ ap length c.deref_mut-2.ensures.value ∙ sym a.states.ok.0);
       caps = refl;
       links = refl;
       heads = mut_items a.heads.len c.load_edges.new.heads _ (c.load_edges.auto.heads ∙ ap length c.deref_mut.ensures.value ∙ sym a.heads.ok.0);
@@ -50,20 +50,20 @@ changed c =
       points_same = refl;
       edges_same = refl;
       marks_same = refl;
-      spots_room = refl;
-      caps_room = refl;
-      links_room = e.capacity;
-      heads_room = refl;
-      marks_room = refl;
+      states_capacity = refl;
+      caps_capacity = refl;
+      links_capacity = e.capacity;
+      heads_capacity = refl;
+      marks_capacity = refl;
       waits = e.sizes.waits;
-      noted = s.room ∙ e.sizes.noted.room;
+      noted = s.capacity ∙ e.sizes.noted.capacity;
       most = s.most ∙ e.sizes.noted.most;
       path = e.sizes.path;
       places = e.sizes.places;
       rest = record { idle = e.idle; none = e.none; unchanged = s.none; zeros = e.zeros };
     }
 
-holds : (c : After-save_changes) → HoldsTogether c.self.inside c.load_edges.new.spots c.self.inside.caps.items c.load_edges.new.links.items c.load_edges.new.heads c.save_changes.new.changes.older
+holds : (c : After-save_changes) → HoldsTogether c.self.inside c.load_edges.new.states c.self.inside.caps.items c.load_edges.new.links.items c.load_edges.new.heads c.save_changes.new.changes.older
 holds c =
     let a = c.self.inside in
     let k = (goal.at.invariant_of-self c).After-load_edges in
@@ -73,14 +73,14 @@ holds c =
     let r = ap (λ (s : LiveState). s.max_edges) c.self.view_is in
     let l = links_len a.links.items in
     let q = c.requires.spare in
-    added_holds a c.self.invariant a.spots.items c.load_edges.new.spots a.caps.items c.load_edges.new.links.items a.heads.items c.args.edges.now c.load_edges.new.working.changes.entries c.save_changes.new.changes.older
+    added_holds a c.self.invariant a.states.items c.load_edges.new.states a.caps.items c.load_edges.new.links.items a.heads.items c.args.edges.now c.load_edges.new.working.changes.entries c.save_changes.new.changes.older
     (as_it_was a c.self.invariant) ad (omega arith) c.load_edges.new.heads (rw c.deref_mut-2.ensures.value at c.load_edges.ensures.linked) (stack_by a.marks.items _ a.working.changes c.load_edges.new.working.changes c.save_changes.new.changes.older c.deref-2.ensures.value c.load_edges.ensures.sizes.noted c.save_changes.ensures.stack) (past_by a.marks.items _ a.working.changes c.load_edges.new.working.changes c.save_changes.new.changes.older c.deref-2.ensures.value c.load_edges.ensures.sizes.noted c.save_changes.ensures.past)
 
 pub invariant_of-self : goal.invariant_of-self
-invariant_of-self c = changed_live c.self.inside c.self.invariant (after c) c.load_edges.new.spots c.self.inside.caps.items c.load_edges.new.links.items c.load_edges.new.heads (changed c) (holds c)
+invariant_of-self c = changed_live c.self.inside c.self.invariant (after c) c.load_edges.new.states c.self.inside.caps.items c.load_edges.new.links.items c.load_edges.new.heads (changed c) (holds c)
 
 pub returns-clause-solved : goal.returns-clause-solved
 returns-clause-solved c = (_, (invariant_of-self c).sound.least)
 
 pub returns-clause-past : goal.returns-clause-past
-returns-clause-past c = ap nets_of (changed_past c.self.inside c.self.invariant (after c) c.load_edges.new.spots c.self.inside.caps.items c.load_edges.new.links.items c.load_edges.new.heads (changed c) (holds c)) ∙ ap (λ (s : LiveState). s.past) c.self.view_is
+returns-clause-past c = ap nets_of (changed_past c.self.inside c.self.invariant (after c) c.load_edges.new.states c.self.inside.caps.items c.load_edges.new.links.items c.load_edges.new.heads (changed c) (holds c)) ∙ ap (λ (s : LiveState). s.past) c.self.view_is

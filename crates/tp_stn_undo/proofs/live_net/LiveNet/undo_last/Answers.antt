@@ -5,7 +5,7 @@ use Rattle.std.proofs.lemmas.List.{length-map, take-map}
 use Rattle.std.proofs.lemmas.Option.{slice_get-map}
 use Rattle.tp_stn_undo.specs.declared.live_net.LiveNet.TheInside.{Inside}
 use Rattle.tp_stn_undo.specs.Marks.{core_at, nets_of}
-use Rattle.tp_stn_undo.specs.Spots.{net_of_core}
+use Rattle.tp_stn_undo.specs.States.{net_of_core}
 use Rattle.tp_stn_undo.specs.Live.{past_in}
 use Rattle.tp_stn_undo.specs.LiveState.{LiveState}
 use Rattle.tp_stn_undo.proofs.ChangeFacts.{stack_of}
@@ -14,13 +14,13 @@ use Rattle.tp_stn_undo.proofs.live_net.LiveNet.undo_last.Goals as goal
 use Rattle.tp_stn_undo.proofs.live_net.LiveNet.undo_last.Goals.{After-restore}
 
 pub restore-requires-clause-stack : goal.restore-requires-clause-stack
-restore-requires-clause-stack c = (length c.self.inside.links.items, c.self.inside.working.changes.room, stack_of c.self.inside c.self.invariant (length c.self.inside.links.items) (omega arith))
+restore-requires-clause-stack c = (length c.self.inside.links.items, c.self.inside.working.changes.capacity, stack_of c.self.inside c.self.invariant (length c.self.inside.links.items) (omega arith))
 
 left : (c : After-restore) → length c.args.self.now.past - 1 ≡ length c.self.inside.marks.items - 1
 left c =
     let a = c.self.inside in
     let v = ap (λ (s : LiveState). length s.past) c.self.view_is in
-    let l = length-map a.marks.items (core_at a.working.changes.older a.spots.items a.caps.items a.links.items) in
+    let l = length-map a.marks.items (core_at a.working.changes.older a.states.items a.caps.items a.links.items) in
     let m = length-map (past_in a) net_of_core in
     omega arith
 
@@ -29,7 +29,7 @@ some c =
     let a = c.self.inside in
     let r = c.requires in
     let v = ap (λ (s : LiveState). length s.past) c.self.view_is in
-    let l = length-map a.marks.items (core_at a.working.changes.older a.spots.items a.caps.items a.links.items) in
+    let l = length-map a.marks.items (core_at a.working.changes.older a.states.items a.caps.items a.links.items) in
     let m = length-map (past_in a) net_of_core in
     omega arith
 
@@ -38,7 +38,7 @@ net c = record {
   max_points = c.self.inside.max_points;
   max_edges = c.self.inside.max_edges;
   max_marks = c.self.inside.max_marks;
-  spots = c.restore.new.spots;
+  states = c.restore.new.states;
   caps = c.restore.new.caps;
   links = c.restore.new.links;
   heads = c.restore.new.heads;
@@ -58,20 +58,20 @@ went c =
       waiting_same = refl;
       path_same = refl;
       places_same = refl;
-      noted = e.room;
+      noted = e.capacity;
       most = e.most;
       unchanged = e.rest;
-      spots = e.spots;
+      states = e.states;
       caps = e.caps;
       links = e.links;
       heads = e.heads;
       saved = e.saved;
       marks = e.marks;
-      spots_room = e.spots_room;
-      caps_room = e.caps_room;
-      links_room = e.links_room;
-      heads_room = e.heads_room;
-      marks_room = e.marks_room;
+      states_capacity = e.states_capacity;
+      caps_capacity = e.caps_capacity;
+      links_capacity = e.links_capacity;
+      heads_capacity = e.heads_capacity;
+      marks_capacity = e.marks_capacity;
     }
 
 pub invariant_of-self : goal.invariant_of-self

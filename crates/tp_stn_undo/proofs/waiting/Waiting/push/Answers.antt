@@ -22,16 +22,16 @@ pub invariant_of-self : goal.invariant_of-self
 invariant_of-self c =
     let a = c.self.inside in
     let l = length-set a.waits.items c.args.point true in
-    let n = c.self.invariant.room in
-    let cap = c.push_back_reserved.ensures.room in
-    record { held = after c; room = omega arith }
+    let n = c.self.invariant.capacity in
+    let cap = c.push_back_reserved.ensures.capacity in
+    record { held = after c; capacity = omega arith }
 
 pub push_back_reserved-requires : goal.push_back_reserved-requires
 push_back_reserved-requires c =
     let k = (goal.at.push_back_reserved-requires c).After-index in
     let inv = c.self.invariant in
     let a = c.self.inside in
-    let m = inv.room in
+    let m = inv.capacity in
     let lt = flagged-lt a.waits.items c.args.point (known k) (free k c.if-not-index.true) in
     let s = inv.held.short in
     omega arith

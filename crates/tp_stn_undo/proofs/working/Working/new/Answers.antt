@@ -8,11 +8,11 @@ use Rattle.tp_stn_undo.proofs.working.Working.new.Goals.{In_ok-with_capacity}
 zeros : (c : In_ok-with_capacity) → c.resize.new.self.items ≡ replicate c.args.points 0
 zeros c = c.in-Ok.ensures.items ∙ filled c.args.points _ c.in_ok-places.places.items c.in_ok-places.ensures.items (omega (arith, c.in_ok-places.ensures.len))
 
-pub returns-clause-room : goal.returns-clause-room
-returns-clause-room c =
+pub returns-clause-capacity : goal.returns-clause-capacity
+returns-clause-capacity c =
     let lf = ap length c.in_ok-new.ensures.flags ∙ length-replicate c.args.points false in
     let lp = ap length (zeros c) ∙ length-replicate c.args.points 0 in
-    let r = c.in_ok-new-2.ensures.room in
+    let r = c.in_ok-new-2.ensures.capacity in
     record { waits = omega arith; noted = omega arith; path = c.in_ok-with_capacity.ensures.capacity; places = omega arith }
 
 pub returns-clause-rest : goal.returns-clause-rest

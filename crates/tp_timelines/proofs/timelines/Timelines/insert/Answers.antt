@@ -5,7 +5,7 @@ use Rattle.tp_timelines.specs.declared.inserts.Insert.{Insert}
 use Rattle.tp_timelines.specs.Orders.{Orders, numbers_of, order_on, total}
 use Rattle.tp_timelines.specs.Inserts.{taken_back, StandAt}
 use Rattle.tp_timelines.proofs.InsertFacts.{taken_back-insert, total-insert, StandAt-insert}
-use Rattle.tp_timelines.proofs.VectorFacts.{length-numbers, numbers-insert, HaveRoom-set}
+use Rattle.tp_timelines.proofs.VectorFacts.{length-numbers, numbers-insert, HaveCapacity-set}
 use Rattle.tp_timelines.proofs.MarkFacts.{marks_grown, past_same}
 use Rattle.tp_timelines.proofs.timelines.Timelines.insert.Goals as goal
 use Rattle.tp_timelines.proofs.timelines.Timelines.insert.Goals.{After-push_reserved}
@@ -50,8 +50,8 @@ invariant_of-self c =
       holds = omega arith;
       marks = inv.marks;
       fits = inv.fits;
-      room = HaveRoom-set vs c.args.resource.0 c.index_mut.result.now (known c) c.index_mut.ensures.value c.insert.new.self a.hold_room (omega (arith, c.in-Ok.ensures.capacity)) inv.room;
-      insert_room = omega (arith, inv.insert_room, c.push_reserved.ensures.capacity);
+      capacity = HaveCapacity-set vs c.args.resource.0 c.index_mut.result.now (known c) c.index_mut.ensures.value c.insert.new.self a.hold_capacity (omega (arith, c.in-Ok.ensures.capacity)) inv.capacity;
+      insert_capacity = omega (arith, inv.insert_capacity, c.push_reserved.ensures.capacity);
       mark_space = inv.mark_space;
     }
 

@@ -5,7 +5,7 @@ use Rattle.tp_timelines.proofs.VectorFacts.{length-numbers, order_at}
 use Rattle.tp_timelines.proofs.timelines.Timelines.len.Goals as goal
 use Rattle.tp_timelines.proofs.timelines.Timelines.len.Goals.{After-len}
 
-within : (c : After-len) → c.len.result ≤ c.self.inside.hold_room
+within : (c : After-len) → c.len.result ≤ c.self.inside.hold_capacity
 within c =
     let a = c.self.inside in
     let vs = a.orders.items in
@@ -21,4 +21,4 @@ pub overflow_cast-result : goal.overflow_cast-result
 overflow_cast-result c = omega (arith, within c, c.self.invariant.fits)
 
 pub returns-clause-within : goal.returns-clause-within
-returns-clause-within c = omega (arith, within c, ap (λ (o : Orders). o.hold_room) c.self.view_is)
+returns-clause-within c = omega (arith, within c, ap (λ (o : Orders). o.hold_capacity) c.self.view_is)

@@ -36,8 +36,8 @@ invariant_of-self c =
       holds = omega (arith, inv.holds);
       marks = omega (arith, inv.marks, in_force c);
       fits = inv.fits;
-      room = c.take_back.ensures.room a.hold_room inv.room;
-      insert_room = omega (arith, inv.insert_room, c.take_back.ensures.capacity);
+      capacity = c.take_back.ensures.spacious a.hold_capacity inv.capacity;
+      insert_capacity = omega (arith, inv.insert_capacity, c.take_back.ensures.capacity);
       mark_space = omega (arith, inv.mark_space, c.truncate.ensures.capacity);
     }
 
@@ -59,9 +59,9 @@ returns-clause-past c =
     ∙ past_undone a.marks.items os a.inserted.items c.args.mark.0 c.index.result.now (at_mark c) c.self.invariant.at_marks
     ∙ ap (λ (o : Orders). take c.args.mark.0 o.past) c.self.view_is
 
-pub returns-clause-aside : goal.returns-clause-aside
-returns-clause-aside c =
+pub returns-clause-untouched : goal.returns-clause-untouched
+returns-clause-untouched c =
     let a = c.self.inside in
     let os = numbers_of a.orders.items in
-    ap {B = Sizes} (λ n. record { resources = n; hold_room = a.hold_room }) (ap length c.take_back.ensures.numbers ∙ length-taken_back (drop c.index.result.now a.inserted.items) os)
+    ap {B = Sizes} (λ n. record { resources = n; hold_capacity = a.hold_capacity }) (ap length c.take_back.ensures.numbers ∙ length-taken_back (drop c.index.result.now a.inserted.items) os)
     ∙ ap sizes_of c.self.view_is
