@@ -78,9 +78,6 @@ module _ (asked : Option SheetId) (before after : List Plan) (from to : ℕ) (st
       record { plan = p; other = q; planned = among-others asked before from p at other; planned_too = among-others asked after to q at' other'; same = moved.0; moved = moved.1 },
     )
 
-pub alike-none : (xs ys : List Plan) → xs ≡ [] → ys ≡ [] → AreAlike xs ys
-alike-none xs ys e f = subst (λ zs. AreAlike zs ys) (sym e) (subst (AreAlike []) (sym f) tt)
-
 pub alike-empty : (xs ys : List Plan) → AreAlike xs ys → (xs ≡ [] → ys ≡ []) × (ys ≡ [] → xs ≡ [])
 alike-empty [] [] alike = (λ e. refl, λ e. refl)
 alike-empty [] (y ∷ ys) alike = absurd alike

@@ -1,15 +1,11 @@
 -- Branches grow no deeper than their choices and places are many, and frames stand one above another.
 use Rattle.std.proofs.Common.{◌≡◌, ℕ, suc, ◌+◌, ◌*◌, ◌<◌, ◌≤◌, true, List, [], ◌∷◌, ◌++◌, length, refl, sym, ◌∙◌, ap, subst, arith, All, Option, Some, None}
 use Rattle.std.proofs.lemmas.List.{length-append}
-use Rattle.tp_machine.specs.declared.parts.ActId.{ActId}
-use Rattle.tp_machine.specs.declared.parts.State.{State}
 use Rattle.tp_machine.specs.declared.machine.Machine.{Machine}
 use Rattle.tp_schedule.specs.Choices.{Choice}
-use Rattle.tp_constraints.specs.Suffixes.{place_first, with_action, with_place}
-use Rattle.tp_trees.specs.Places.{Branch, Stand}
+use Rattle.tp_trees.specs.Places.{Stand}
 use Rattle.std.specs.Prelude.{IfSome}
-use Rattle.tp_bound_check.specs.Branches.{newest_in}
-use Rattle.tp_bound_check.specs.Frames.{AreStacked, HasFewPlaces, IsOn, IsShallow, has_due, most_depth, with_frame}
+use Rattle.tp_bound_check.specs.Frames.{AreStacked, HasFewPlaces, IsOn, has_due, most_depth, with_frame}
 use Rattle.tp_bound_check.specs.Looks.{IsSoundFrame, IsSoundPassing, IsSoundStack}
 use Rattle.tp_bound_check.specs.declared.passing.Passing.TheVariants.{Passed}
 use Rattle.tp_bound_check.proofs.TakeFacts.{all-left, all-with}
@@ -17,29 +13,9 @@ use Rattle.tp_bound_check.specs.declared.dues.Frame.{Frame}
 use Rattle.tp_bound_check.specs.declared.dues.Frame.TheVariants.{Goals, Held, Acts, Nothing}
 
 -- ---- branches
-most-more : (cs : List Choice) → HasFewPlaces cs → most_depth cs + 1 ≤ 5 * length cs + 1
-most-more [] few = omega arith
-most-more (c ∷ cs) few = omega (arith, few)
-
 most-few : (cs : List Choice) → length cs ≤ 64 → HasFewPlaces cs → most_depth cs ≤ 320
 most-few [] le few = omega arith
 most-few (c ∷ cs) le few = omega (arith, few, le)
-
-pub shallow-act : (b : Branch) (depth room : ℕ) (act : ActId) (s : State) → IsShallow b → length b.x.choices < 64 → depth ≡ b.depth + 1 → IsShallow (record { depth = depth; first = s; x = with_action act room b.x })
-shallow-act b depth room act s shallow lt is =
-    let m = most-more b.x.choices shallow.places in let d = shallow.depth in
-    record { choices = omega (arith, lt); places = omega arith; depth = omega (arith, m, d, is) }
-
-pub shallow-place : (b : Branch) (depth place : ℕ) → IsShallow b → 0 < length b.x.choices → ((c : Choice) → newest_in b.x.choices ≡ Some c → length c.places < 4) → depth ≡ b.depth + 1
-    → IsShallow (record { depth = depth; first = b.first; x = with_place place b.x })
-shallow-place b depth place shallow some few is = go b.x.choices some few shallow.choices shallow.depth
-  where
-    go : (cs : List Choice) → 0 < length cs → ((c : Choice) → newest_in cs ≡ Some c → length c.places < 4) → length cs ≤ 64 → b.depth ≤ most_depth cs
-        → IsShallow (record { depth = depth; first = b.first; x = record { choices = place_first place cs; rooms = b.x.rooms; stopped = b.x.stopped } })
-    go [] some few le d = absurd (omega arith)
-    go (c ∷ cs) some few le d =
-        let f = few c refl in let l = length-append c.places (place ∷ []) in
-        record { choices = omega (arith, le); places = omega (arith, f, l); depth = omega (arith, d, is, l) }
 
 -- ---- frames
 -- a frame that stands so has a number below 322

@@ -1,7 +1,7 @@
 -- The live part, the orders of its resources, and the goals, one more at a time.
-use Rattle.std.proofs.Common.{◌≡◌, inl, inr, ℕ, zero, suc, ◌+◌, Bool, true, false, cond, List, [], ◌∷◌, ◌++◌, length, filter, flat_map, take, refl, ap, sym, arith, add-one, ◌∙◌, Some}
+use Rattle.std.proofs.Common.{◌≡◌, inl, inr, ℕ, zero, suc, ◌+◌, Bool, true, false, cond, List, [], ◌∷◌, ◌++◌, length, filter, flat_map, refl, ap, sym, arith, add-one, ◌∙◌, Some}
 use Rattle.std.specs.List.{slice_get}
-use Rattle.std.proofs.lemmas.List.{append-nil, append_assoc, length-append}
+use Rattle.std.proofs.lemmas.List.{append-nil, length-append}
 use Rattle.std.proofs.lemmas.List.Elements.{All-filter, filter-append}
 use Rattle.std.proofs.lemmas.List.Kept.{AllPairs-filter}
 use Rattle.std.proofs.lemmas.Grind.{flat_map-append}
@@ -16,7 +16,6 @@ use Rattle.tp_schedule.specs.Timetables.{IsOrdered}
 use Rattle.tp_schedule.specs.declared.parts.Plan.{Plan}
 use Rattle.tp_trees.specs.Places.{is_done_wanted, is_purge, locations_below, states_at}
 use Rattle.tp_bound_check.specs.Stands.{AreOrdersTo}
-use Rattle.tp_bound_check.proofs.TableFacts.{take-one}
 
 pub ordered-filter : (keeps : Plan → Bool) (plans : List Plan) → IsOrdered plans → IsOrdered (filter keeps plans)
 ordered-filter keeps plans ordered = record { formed = All-filter keeps IsFormed plans ordered.formed; in_order = AllPairs-filter IsEarlier keeps plans ordered.in_order }
@@ -38,18 +37,6 @@ orders-more machine plans n orders order are is = (
   last r other (suc j) e at = absurd (none at) where
     none : slice_get [] j ≡ Some other → ⊥
     none at' = cc
-
-pub filter-one : {X : Type 0} (p : X → Bool) (xs : List X) (x : X) → cond (p x) (xs ++ x ∷ []) xs ≡ xs ++ filter p (x ∷ [])
-filter-one p xs x = go (p x) where
-  go : (b : Bool) → cond b (xs ++ x ∷ []) xs ≡ xs ++ cond b (x ∷ []) []
-  go true = refl
-  go false = sym (append-nil xs)
-
-pub filter-more : {X : Type 0} (p : X → Bool) (before some : List X) (n : ℕ) (x : X) (now new : List X) → slice_get some n ≡ Some x → now ≡ before ++ filter p (take n some) → new ≡ now ++ filter p (x ∷ [])
-    → new ≡ before ++ filter p (take (n + 1) some)
-filter-more p before some n x now new at was is =
-    is ∙ ap (λ xs. xs ++ filter p (x ∷ [])) was ∙ append_assoc before (filter p (take n some)) (filter p (x ∷ []))
-    ∙ ap (λ xs. before ++ xs) (sym (filter-append p (take n some) (x ∷ []))) ∙ ap (λ xs. before ++ filter p xs) (sym (take-one some n x at))
 
 -- the goal states of a purge at the locations below a number
 abbrev pub purges_below : Machine → Sheet → ℕ → List State

@@ -1,20 +1,16 @@
 -- The ranks of a branch's holds, as the branch grows, and what they tell of the holds.
-use Rattle.std.proofs.Common.{◌≡◌, ◌≢◌, ◌⊎◌, inl, inr, ℕ, zero, suc, ◌+◌, ◌-◌, ◌*◌, ◌≤◌, ◌<◌, ◌==◌, ◌&&◌, leb, Bool, true, false, cond, max, min, List, [], ◌∷◌, ◌++◌, length, insert, take, drop, reverse, get_or, refl, sym, ◌∙◌, ap, subst, arith, All, AllPairs, Option, Some, None}
+use Rattle.std.proofs.Common.{◌≡◌, ◌≢◌, ◌⊎◌, inl, inr, ℕ, suc, ◌+◌, ◌-◌, ◌*◌, ◌≤◌, ◌<◌, ◌==◌, ◌&&◌, leb, Bool, true, false, cond, max, min, List, [], ◌∷◌, ◌++◌, length, insert, take, drop, reverse, get_or, refl, sym, ◌∙◌, ap, subst, arith, All, Option, Some, None}
 use Rattle.std.specs.Prelude.{ℤ}
 use Rattle.std.specs.List.{slice_get}
-use Rattle.std.proofs.lemmas.Bool.{eqb-true, leb-true}
-use Rattle.std.proofs.lemmas.List.{length-reverse, reverse-append, take-append-le}
+use Rattle.std.proofs.lemmas.Bool.{leb-true}
+use Rattle.std.proofs.lemmas.List.{length-reverse, take-append-le}
 use Rattle.std.proofs.lemmas.Option.{slice_get_within}
-use Rattle.std.proofs.lemmas.List.Elements.{All-contains, All-head, All-tail}
-use Rattle.tp_machine.proofs.MachineFacts.{is_machine}
 use Rattle.tp_machine.specs.Modes.{gap_at}
 use Rattle.tp_machine.specs.Using.{action_at}
 use Rattle.tp_machine.specs.declared.parts.ActId.{ActId}
-use Rattle.tp_machine.specs.declared.parts.Action.{Action}
 use Rattle.tp_machine.specs.declared.parts.HoldRule.{HoldRule}
 use Rattle.tp_machine.specs.declared.parts.State.{State}
 use Rattle.tp_machine.specs.declared.machine.Machine.{Machine}
-use Rattle.tp_schedule.proofs.Pairs.{AllPairs-head, AllPairs-nil, AllPairs-tail}
 use Rattle.tp_schedule.specs.Choices.{Choice, placed, put_places}
 use Rattle.tp_schedule.specs.Holding.{holds_of_act}
 use Rattle.tp_schedule.specs.Spots.{Slot, Spot, slot_order}
@@ -22,7 +18,7 @@ use Rattle.tp_schedule.specs.Spots.Spot.{kept, own}
 use Rattle.tp_schedule.specs.declared.parts.Ask.{Ask}
 use Rattle.tp_schedule.specs.declared.parts.Plan.{Plan}
 use Rattle.tp_constraints.specs.Gaps.{Gap}
-use Rattle.tp_constraints.specs.Suffixes.{choice_slot, order_in, place_first, with_action, with_place, with_stop, Suffix}
+use Rattle.tp_constraints.specs.Suffixes.{choice_slot, order_in, place_first, with_action, with_place, Suffix}
 use Rattle.tp_bounds.specs.declared.tree.TreeRow.{TreeRow}
 use Rattle.tp_trees.proofs.Lists.{number-same}
 use Rattle.tp_trees.specs.Chains.{choice_act, gap_in, or_else, resource_gap, spanned}
@@ -36,8 +32,7 @@ use Rattle.tp_bound_check.proofs.LaterFacts.{gap-until}
 use Rattle.tp_bound_check.proofs.KeptRanks.{kept-placed}
 use Rattle.tp_bound_check.proofs.RankFacts.{NotAt, insert-parts, mixed-is, mixed-none, placed-not}
 use Rattle.tp_bound_check.proofs.StandFacts.{order-step}
-use Rattle.tp_constraints.proofs.Lists.{contains-get}
-use Rattle.tp_bound_check.proofs.SeamFacts.{Differ, at-seam, few-rules, few-taken, left-seam, off-it, on-it, or-none, put-at, put-before, reverse-one, rules-differ, seam}
+use Rattle.tp_bound_check.proofs.SeamFacts.{Differ, at-seam, few-rules, few-taken, left-seam, off-it, on-it, put-at, put-before, reverse-one, rules-differ, seam}
 
 module _ (machine : Machine) (plans : List Plan) where
   -- the order with so many choices, where one more was made
@@ -256,15 +251,6 @@ module _ (machine : Machine) (plans : List Plan) where
       let P : Span → Type 0 = λ x. g ≡ mixed_gap (gap_at machine x.rule.resource.0) p q (Some (record { slot = record { rule = x.rule; from = from; to = to }; lo = lo; hi = hi })) (slot_order machine plans x.rule.resource.0) in
       span-gap b span (record { rule = span.rule; from = from; to = to }) lo hi p q g ask limit next slot-is some lo-is hi-is among (subst P same is)
 
-  -- a hold that isn't on the resource of the one with several places
-  pub other-span : (x : Suffix) (span : Span) (resource : ℕ) (p q : Spot) (g : Option Gap) → span.rule.resource.0 ≢ resource → g ≡ gap_in (gap_at machine resource) p q (order_in machine plans x resource)
-      → g ≡ or_else (gap_in (gap_at machine resource) p q (order_in machine plans x resource)) (cond (span.rule.resource.0 == resource) (gap_in (gap_at machine resource) p q (spanned x span (order_in machine plans x resource))) None)
-  other-span x span resource p q g ne is =
-      is ∙ sym (ap (λ v. or_else o (cond v (gap_in (gap_at machine resource) p q (spanned x span (order_in machine plans x resource))) None)) (off-it span.rule.resource.0 resource ne) ∙ or-none o)
-    where
-      o : Option Gap
-      o = gap_in (gap_at machine resource) p q (order_in machine plans x resource)
-
   -- ---- stands
   abbrev bare : Branch → Stand
   bare b = record { branch = b; span = None }
@@ -272,16 +258,8 @@ module _ (machine : Machine) (plans : List Plan) where
   bare-sound : (b b' : Branch) (s : Stand) (ranks : Ranks) → s ≡ bare b' → b' ≡ b → AreRanked machine plans b ranks.before → IsSoundStand machine plans s ranks
   bare-sound b b' s ranks s-is b-is ranked = subst (λ x. IsSoundStand machine plans x ranks) (sym (s-is ∙ ap bare b-is)) (record { span = tt; ranked = ranked; spanned = tt })
 
-  pub goal-sound : (b b' : Branch) (s : Stand) (ranks : Ranks) → s ≡ record { branch = b'; span = None } → b' ≡ b → b.x.choices ≡ [] → IsSoundStand machine plans s ranks
-  goal-sound b b' s ranks s-is b-is none = bare-sound b b' s ranks s-is b-is (λ n j place c rule at by has. absurd (nothing n c (subst (λ cs. slice_get (reverse cs) n ≡ Some c) none at))) where
-    nothing : (n : ℕ) (c : Choice) → slice_get (reverse []) n ≡ Some c → ⊥
-    nothing n c e = cc
-
   pub act-sound : (b b' : Branch) (s : Stand) (ranks : Ranks) (depth room : ℕ) (first : State) (act : ActId) → s ≡ record { branch = b'; span = None } → b' ≡ record { depth = depth; first = first; x = with_action act room b.x } → AreRanked machine plans b ranks.before → IsSoundStand machine plans s ranks
   act-sound b b' s ranks depth room first act s-is b-is ranked = bare-sound (record { depth = depth; first = first; x = with_action act room b.x }) b' s ranks s-is b-is (ranked-act b depth room first act ranks.before ranked)
-
-  pub stop-sound : (b b' : Branch) (s : Stand) (ranks : Ranks) (depth : ℕ) → s ≡ record { branch = b'; span = None } → b' ≡ record { depth = depth; first = b.first; x = with_stop b.x } → AreRanked machine plans b ranks.before → IsSoundStand machine plans s ranks
-  stop-sound b b' s ranks depth s-is b-is ranked = bare-sound (record { depth = depth; first = b.first; x = with_stop b.x }) b' s ranks s-is b-is ranked
 
   pub one-place : (ask : Ask) (rows : List TreeRow) (b : Branch) (rule : HoldRule) (lo hi : ℕ) (ranks : Ranks) → lo ≡ hi → ((depth : ℕ) → AreRanked machine plans (record { depth = depth; first = b.first; x = with_place lo b.x }) ranks.before) → IsSoundStand machine plans (at_places machine plans ask rows b rule lo hi) ranks
   one-place ask rows b rule lo hi ranks same ranked =

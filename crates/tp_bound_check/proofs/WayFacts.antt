@@ -140,9 +140,6 @@ module _ (machine : Machine) (plans : List Plan) where
   pub last-frame : (before : List ℕ) (old fs : List Frame) (f : Frame) → AreRankedFrames machine plans before old → old ≡ fs ++ f ∷ [] → IsRanked machine plans before f
   last-frame before old fs f frames is = all-last (IsRanked machine plans before) fs f (subst (All (IsRanked machine plans before)) is frames.ranked)
 
-  pub goal-frames : (before : List ℕ) (fs : List Frame) → fs ≡ Goals 0 ∷ [] → AreRankedFrames machine plans before fs
-  goal-frames before fs is = subst (AreRankedFrames machine plans before) (sym is) (record { ranked = All-cons (IsRanked machine plans before) (Goals 0) [] tt (All-nil (IsRanked machine plans before)); rising = (omega arith, tt) })
-
   -- what is left of places
   pub behind-ranked : (b : Branch) (rule : HoldRule) (head : Head) (before : List ℕ) → AreRanked machine plans b before → IsRanked machine plans before (places_behind b rule head)
   behind-ranked b rule (AtHead name from to) before ranked = ranked

@@ -26,9 +26,6 @@ pub ruleset pieces = (joined_on)
 pub same_bytes : (k l : List ℕ) → bytes_eq k l ≡ true → k ≡ l
 same_bytes k l test = (bytes_eq-Decides k l).0 test
 
-pub own_bytes : (k : List ℕ) → bytes_eq k k ≡ true
-own_bytes k = (bytes_eq-Decides k k).1 refl
-
 tied : (k : List ℕ) → slice_cmp nat_cmp k k ≡ Equal
 tied k = tied_itself nat_list_cmp_total k
 

@@ -69,19 +69,6 @@ line-plain count line plain = go (is_passed (words_of_line line)) refl
     go true e = refl
     go false e = ap (λ a. Some a) (sym (address-plain count (words_of_line line) e plain))
 
--- a line with a first word only
-pub plain_few : (words : List (List ℕ)) → length words ≤ 1 → IsPlain words
-plain_few [] few = tt
-plain_few (first ∷ []) few = inl refl
-plain_few (first ∷ second ∷ words) few = absurd (omega (arith, few))
-
-pub plain_other : (first : List ℕ) (rest : List (List ℕ)) (all : List (List ℕ)) → all ≡ first ∷ rest → bytes_eq first (codes "at") ≡ false → IsPlain all
-plain_other first rest all is other = subst IsPlain (sym is) (inr other)
-
--- a line that begins with at
-pub line-at : (count : ℕ) (line : List ℕ) (rest : List (List ℕ)) → words_of_line line ≡ codes "at" ∷ rest → Some (at_words count rest) ≡ line_address count line
-line-at count line rest is = rw is refl
-
 -- nothing, or K alone, stands behind at
 event-none : event_of [] ≡ None
 unfolding event_of

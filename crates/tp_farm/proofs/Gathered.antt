@@ -1,5 +1,5 @@
 -- What is sent as lines are answered, one after another.
-use Rattle.std.proofs.Common.{◌≡◌, ℕ, List, [], ◌∷◌, ◌++◌, length, Option, Some, None, refl, ap, subst, ◌∙◌}
+use Rattle.std.proofs.Common.{◌≡◌, ℕ, List, [], ◌∷◌, ◌++◌, length, Option, Some, refl, ap, subst, ◌∙◌}
 use Rattle.std.specs.Option.{MatchOption}
 use Rattle.tp_script.specs.declared.event.Event.{Event}
 use Rattle.tp_stream.specs.Answers.{AnswersAll}
@@ -23,12 +23,6 @@ module _ {S : Type 0} (tells : S → Event → List ℕ → S → Type 0) (probe
   abbrev Sends : FarmState S → FarmState S → List Sent → List ℕ → Option Addressed → Type 0
   Sends farm farm' sent text o =
       MatchOption o ((sent ≡ []) × (text ≡ []) × (farm' ≡ farm)) (λ address. (whom : Whom) × (sent ≡ record { event = address.event; whom = whom } ∷ []) × AnswersSent tells probes farm address whom text farm')
-
-  -- a line that is passed over
-  pub line-passed : (farm : FarmState S) (count : ℕ) (line : List ℕ) → count ≡ length farm.machines → None ≡ line_address count line → AnswersLine tells probes farm line [] farm
-  line-passed farm count line many is =
-      let e : None ≡ line_address (length farm.machines) line = is ∙ ap (λ n. line_address n line) many in
-      ([], subst (Sends farm farm [] []) e (refl, refl, refl))
 
   -- a line whose event is sent
   pub line-sent : (farm farm' : FarmState S) (count : ℕ) (line : List ℕ) (address : Addressed) (whom : Whom) (text : List ℕ) → count ≡ length farm.machines

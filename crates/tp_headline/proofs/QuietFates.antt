@@ -1,14 +1,13 @@
 -- What befalls copies leaves what was delivered, and each front that is not lost is of a copy in flight.
 use Rattle.std.proofs.Common.{◌≡◌, inl, true, false, List, [], ◌∷◌, refl, sym, ap, arith, Contains, subst}
 use Rattle.tp_machine.specs.declared.machine.Machine.{Machine}
-use Rattle.tp_schedule.proofs.Membership.{Contains-here}
+use Rattle.tp_schedule.proofs.Membership.{Contains-here, flat_map-from, flat_map-to}
 use Rattle.tp_schedule.specs.declared.parts.Plan.{Plan}
 use Rattle.tp_schedule.specs.declared.parts.SheetId.{SheetId}
 use Rattle.tp_schedule.specs.declared.records.Record.{Record}
 use Rattle.tp_turn.specs.Fates.{Fate, befall, left_by, left_of, to_purge}
 use Rattle.tp_turn.specs.Moments.{front_of, is_tray_plan}
 use Rattle.tp_turn.specs.States.{SessionState}
-use Rattle.tp_outages.proofs.Members.{flat_map-from, flat_map-to}
 use Rattle.tp_outages.proofs.Midway.{IsMeet, IsMid, one-same}
 use Rattle.tp_headline.proofs.Delivered.{IsDelivered}
 use Rattle.tp_headline.proofs.Steps.{AreNoDeliveries, IsQuiet}

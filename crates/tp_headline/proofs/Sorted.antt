@@ -2,8 +2,8 @@
 use Rattle.std.proofs.Common.{◌≡◌, ◌<◌, ◌≤◌, ◌⊎◌, inl, inr, Bool, true, false, cond, List, [], ◌∷◌, ◌++◌, map, flat_map, refl, sym, ap, arith, All, AllPairs, Contains, subst, nat_le}
 use Rattle.std.proofs.lemmas.Bool.Decides.{nat_tests}
 use Rattle.std.proofs.lemmas.List.Concat.{flat_map-cons}
-use Rattle.std.proofs.lemmas.List.Elements.{All-nil, All-cons, All-head, All-tail, All-contains, All-contains_itself, Contains-append_cases}
-use Rattle.tp_schedule.proofs.Membership.{All-from_contains, Contains-cons_cases, Contains-here, Contains-later}
+use Rattle.std.proofs.lemmas.List.Elements.{All-nil, All-cons, All-head, All-tail, All-contains, All-contains_itself}
+use Rattle.tp_schedule.proofs.Membership.{All-from_contains, Contains-cons_cases, Contains-here, Contains-later, flat_map-from}
 use Rattle.tp_schedule.proofs.Pairs.{AllPairs-nil, AllPairs-cons, AllPairs-head, AllPairs-tail, AllPairs-append}
 use Rattle.tp_turn.specs.Clock.{Told, put_told, by_moment}
 
@@ -137,11 +137,5 @@ AllPairs-flat_map {X} {Y} R f (x ∷ xs) own pairs =
     (AllPairs-append R (f x) (flat_map f xs) (All-head (λ x. AllPairs R (f x)) x xs own)
     (AllPairs-flat_map R f xs (All-tail (λ x. AllPairs R (f x)) x xs own) (AllPairs-tail Q x xs pairs))
     (All-from_contains (λ c. All (R c) (flat_map f xs)) (f x) (λ c in'. All-from_contains (R c) (flat_map f xs) (λ d in''.
-    let from = flat-from f xs d in'' in
-    All-contains (Q x) xs from.0 (AllPairs-head Q x xs pairs) from.1 c d in' from.2)))) where
-      flat-from : (f : X → List Y) (xs : List X) (d : Y) → Contains (flat_map f xs) d → (z : X) × Contains xs z × Contains (f z) d
-      flat-from f [] d in' = absurd (omega (arith, in'.1))
-      flat-from f (z ∷ zs) d in' = elim (Contains-append_cases (f z) (flat_map f zs) d (subst (λ l. Contains l d) (flat_map-cons f z zs) in')) [
-        | inl here ↦ (z, Contains-here z zs, here)
-        | inr later ↦ let r = flat-from f zs d later in (r.0, Contains-later z zs r.0 r.1, r.2)
-      ]
+    let from = flat_map-from f xs d in'' in
+    All-contains (Q x) xs from.0 (AllPairs-head Q x xs pairs) from.1 c d in' from.2))))

@@ -8,7 +8,7 @@ use Rattle.std.proofs.lemmas.Slice.Eq.{bytes_eq-Decides}
 use Rattle.tp_machine.specs.declared.machine.Machine.{Machine}
 use Rattle.tp_jobs.specs.Refusing.{is_tray_name}
 use Rattle.tp_jobs.specs.declared.parts.Job.{Job}
-use Rattle.tp_schedule.proofs.Membership.{All-from_contains, Contains-cons_cases, Contains-here, Contains-map, Contains-map_from}
+use Rattle.tp_schedule.proofs.Membership.{All-from_contains, Contains-cons_cases, Contains-here, Contains-map, Contains-map_from, flat_map-from, flat_map-to}
 use Rattle.tp_schedule.proofs.Pairs.{AllPairs-nil, AllPairs-cons, AllPairs-append, AllPairs-each}
 use Rattle.tp_schedule.specs.Holding.{Run}
 use Rattle.tp_schedule.specs.Plans.{IsTimedPlan, IsEarlier, end_of_plan, is_before, is_front}
@@ -25,7 +25,6 @@ use Rattle.tp_turn.specs.States.{SessionState}
 use Rattle.tp_turn.proofs.AskedFacts.{bytes_eq-same}
 use Rattle.tp_turn.proofs.ListFacts.{AllPairs-map_list}
 use Rattle.tp_outages.specs.Through.{KeepsOrder}
-use Rattle.tp_outages.proofs.Members.{flat_map-from, flat_map-to}
 use Rattle.tp_outages.proofs.PlanFacts.{not-false}
 use Rattle.tp_headline.proofs.Delivered.{IsFor, by-order, ends-first, told-earlier}
 use Rattle.tp_headline.proofs.Numbers.{AreFirst, AreNamedApart}

@@ -8,7 +8,7 @@ use Rattle.std.proofs.lemmas.List.Sorted.{IsPermutation-refl, IsPermutation-cons
 use Rattle.tp_machine.specs.declared.parts.ActId.{ActId}
 use Rattle.tp_machine.specs.declared.machine.Machine.{Machine}
 use Rattle.tp_schedule.proofs.CopyFacts.{same_copy-refl}
-use Rattle.tp_schedule.proofs.Membership.{All-from_contains, Contains-map_from}
+use Rattle.tp_schedule.proofs.Membership.{All-from_contains, Contains-map_from, flat_map-from}
 use Rattle.tp_schedule.proofs.Pairs.{AllPairs-nil, AllPairs-cons, AllPairs-append, AllPairs-each}
 use Rattle.tp_schedule.specs.Holding.{Run, runs_from, runs_of}
 use Rattle.tp_schedule.specs.Plans.{IsEarlier, is_before, is_same_copy}
@@ -17,7 +17,6 @@ use Rattle.tp_schedule.specs.declared.parts.SheetId.{SheetId}
 use Rattle.tp_turn.specs.Clock.{Told, put_told, by_moment, release_of, releases, is_done_between, delivery, deliveries}
 use Rattle.tp_turn.specs.Moments.{due_until, is_due}
 use Rattle.tp_turn.proofs.ListFacts.{AllPairs-map_list}
-use Rattle.tp_outages.proofs.Members.{flat_map-from}
 use Rattle.tp_headline.specs.InOrder.{comes_first, IsToldBefore, to_tell, ClockTellsInOrder}
 use Rattle.tp_headline.proofs.Sorted.{AllPairs-flat_map, Either, InTime, pairs-by_moment}
 

@@ -83,11 +83,6 @@ if-false A B C (Ok true) h f = tt
 if-false A B C (Ok false) h f = f h
 if-false A B C (Err e) h f = tt
 
-pub if-true : {E : Type 0} (A B C : Type 0) (r : Result Bool E) → IfOk r (λ b. MatchBool b A B) → C → IfOk r (λ b. MatchBool b C (Unit {0}))
-if-true A B C (Ok true) h c = c
-if-true A B C (Ok false) h c = tt
-if-true A B C (Err e) h c = tt
-
 pub some-not_none : {A : Type 0} (o : Option A) → IsSome o → o ≡ None → ⊥
 some-not_none None some e = cc
 some-not_none (Some x) some e = cc

@@ -1,24 +1,20 @@
 -- What a checker has read, with one line more, and at the end.
-use Rattle.std.proofs.Common.{◌≡◌, ℕ, List, [], ◌∷◌, ◌++◌, length, ◌+◌, All, Option, Some, None, refl, sym, ap, subst, ◌∙◌, append_assoc}
-use Rattle.std.specs.Prelude.{IfSome}
+use Rattle.std.proofs.Common.{◌≡◌, ℕ, List, [], ◌∷◌, ◌++◌, ◌+◌, All, Option, None, refl, sym, ap, subst, ◌∙◌}
 use Rattle.std.proofs.lemmas.List.{append-nil}
 use Rattle.std.proofs.lemmas.List.Elements.{All-append, All-head, All-nil, All-tail}
 use Rattle.tp_entries.specs.Counting.{counts_of}
-use Rattle.tp_entries.specs.Gathered.{lines_of}
 use Rattle.tp_entries.specs.declared.counts.Counts.{Counts}
-use Rattle.tp_entries.specs.declared.pending.Pending.{Pending}
 use Rattle.tp_log.specs.Gathering.{log_lines}
 use Rattle.tp_log.specs.Logs.{AreInPlace, IsItem, IsLog, StandEach}
 use Rattle.tp_log.specs.declared.item.Item.{Item}
 use Rattle.tp_log.specs.declared.item.Item.TheVariants.{Event, Note, Tree}
 use Rattle.tp_log.specs.declared.log_line.LogLine.{LogLine}
-use Rattle.tp_log_runs.specs.Accepting.{AreAccepted}
 use Rattle.tp_log_runs.proofs.Lawful.{logs_lawful}
 use Rattle.tp_machine.specs.declared.machine.Machine.{Machine}
 use Rattle.tp_runs.specs.Runs.{items_in}
-use Rattle.tp_turn.specs.States.{SessionState, empty_state}
+use Rattle.tp_turn.specs.States.{SessionState}
 use Rattle.tp_log_check.specs.Lawful.{AreInPlaces}
-use Rattle.tp_log_check.specs.Checking.{CheckerValue, HasTaken, IsAcceptedLog, LeadOn, Section, Underway, entries_of, items_of, lines_under, section_items, underway}
+use Rattle.tp_log_check.specs.Checking.{CheckerValue, HasTaken, IsAcceptedLog, Section, Underway, entries_of, items_of, lines_under, section_items}
 use Rattle.tp_log_check.specs.declared.flaw.Flaw.{Flaw}
 
 -- only the machine, the state and the event that is under way matter
@@ -26,38 +22,6 @@ pub same-taken : (machine : Machine) (state : SessionState) (under : Option Unde
     → HasTaken (record { machine = machine; state = state; under = under; events = events; lines = lines; counts = counts; flaw = flaw }) told
     → HasTaken (record { machine = machine; state = state; under = under; events = events'; lines = lines'; counts = counts'; flaw = flaw' }) told
 same-taken machine state under events events' lines lines' counts counts' flaw flaw' told h = record { sections = h.sections; logs = h.logs; plain = h.plain; places = h.places; accepted = h.accepted; only = h.only; lines = h.lines; number = h.number }
-
--- an event more, once none is under way
-pub event-more : (c c' : CheckerValue) (p : Pending) (line : LogLine) (told : List LogLine) → HasTaken c told → c.under ≡ None → c'.machine ≡ c.machine → c'.state ≡ c.state → c'.under ≡ Some (underway p)
-    → lines_of p ≡ line ∷ [] → p.line ≡ length told + 1 → HasTaken c' (told ++ line ∷ [])
-event-more c c' p line told h none machine state under first number =
-    let whole : told ≡ log_lines (items_of h.sections) = h.lines ∙ ap (λ u. log_lines (items_of h.sections) ++ lines_under u) none ∙ append-nil (log_lines (items_of h.sections)) in
-    record {
-      sections = h.sections;
-      logs = h.logs;
-      plain = h.plain;
-      places = h.places;
-      accepted = subst (λ m. AreAccepted m empty_state (entries_of h.sections) c'.state) (sym machine) (subst (AreAccepted c.machine empty_state (entries_of h.sections)) (sym state) h.accepted);
-      only = subst (λ m. LeadOn m empty_state h.sections c'.state) (sym machine) (subst (LeadOn c.machine empty_state h.sections) (sym state) h.only);
-      lines = (λ k. whole k ++ sym first k) ∙ ap (λ u. log_lines (items_of h.sections) ++ lines_under u) (sym under);
-      number = subst (λ u. IfSome u (λ u. u.line ≡ length (log_lines (items_of h.sections)) + 1)) (sym under) (number ∙ ap (λ ls. length ls + 1) whole);
-    }
-
--- a line more of the event that is under way
-pub line-more : (c c' : CheckerValue) (p q : Pending) (line : LogLine) (told : List LogLine) → HasTaken c told → c.under ≡ Some (underway p) → c'.machine ≡ c.machine → c'.state ≡ c.state → c'.under ≡ Some (underway q)
-    → lines_of q ≡ lines_of p ++ line ∷ [] → q.line ≡ p.line → HasTaken c' (told ++ line ∷ [])
-line-more c c' p q line told h before machine state under more same =
-    let whole : told ≡ log_lines (items_of h.sections) ++ lines_of p = h.lines ∙ ap (λ u. log_lines (items_of h.sections) ++ lines_under u) before in
-    record {
-      sections = h.sections;
-      logs = h.logs;
-      plain = h.plain;
-      places = h.places;
-      accepted = subst (λ m. AreAccepted m empty_state (entries_of h.sections) c'.state) (sym machine) (subst (AreAccepted c.machine empty_state (entries_of h.sections)) (sym state) h.accepted);
-      only = subst (λ m. LeadOn m empty_state h.sections c'.state) (sym machine) (subst (LeadOn c.machine empty_state h.sections) (sym state) h.only);
-      lines = ap (λ ls. ls ++ line ∷ []) whole ∙ append_assoc (log_lines (items_of h.sections)) (lines_of p) (line ∷ []) ∙ (λ k. log_lines (items_of h.sections) ++ sym more k) ∙ ap (λ u. log_lines (items_of h.sections) ++ lines_under u) (sym under);
-      number = subst (λ u. IfSome u (λ u. u.line ≡ length (log_lines (items_of h.sections)) + 1)) (sym under) (same ∙ subst (λ u. IfSome u (λ u. u.line ≡ length (log_lines (items_of h.sections)) + 1)) before h.number);
-    }
 
 -- ---- the sections of a log are a log
 

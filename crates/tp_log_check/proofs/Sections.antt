@@ -1,6 +1,6 @@
 -- What a checker has taken, with one event more that is accepted.
-use Rattle.std.proofs.Common.{◌≡◌, ℕ, ◌+◌, List, [], ◌∷◌, ◌++◌, Option, Some, None, Result, Ok, refl, sym, ap, subst, ◌∙◌, arith}
-use Rattle.std.specs.Prelude.{IfOk, IsNone}
+use Rattle.std.proofs.Common.{◌≡◌, ℕ, ◌+◌, List, [], ◌∷◌, ◌++◌, Option, Some, None, refl, sym, ap, subst, ◌∙◌, arith}
+use Rattle.std.specs.Prelude.{IsNone}
 use Rattle.std.proofs.lemmas.List.{append-nil, map-append}
 use Rattle.std.proofs.lemmas.List.Concat.{flat_map-append}
 use Rattle.std.proofs.lemmas.List.Elements.{All-append, All-from_recursion}
@@ -18,24 +18,16 @@ use Rattle.tp_log_runs.proofs.Lawful.{one_more}
 use Rattle.tp_machine.specs.declared.machine.Machine.{Machine}
 use Rattle.tp_turn.specs.Ready.{CanTakeEvents, KeepsStock, last_copy}
 use Rattle.tp_turn.specs.States.{SessionState, empty_state}
-use Rattle.tp_turn.proofs.ReadyTurns.{events-more}
 use Rattle.tp_turn.proofs.StockKept.{stock-more}
 use Rattle.tp_log_check.specs.Lawful.{AreInPlaces, LeadsTo}
 use Rattle.tp_log_check.specs.Checking.{CanGoOn, CheckerValue, HasTaken, LeadOn, Section, entries_of, items_of, section_items, underway}
 use Rattle.tp_log_check.specs.Judging.{entry}
 use Rattle.tp_log_check.specs.declared.flaw.Flaw.{Flaw}
 
--- what holds where nothing was found
-pub judged : {A E P : Type 0} (r : Result (Option A) E) (found : Option A) → r ≡ Ok found → found ≡ None → IfOk r (λ f. IsNone f → P) → P
-judged {A} {E} {P} r found is none h = (subst (λ x. IfOk x (λ (f : Option A). IsNone f → P)) (is ∙ ap (λ (f : Option A). Ok f) none) h) refl
-
 pub is-none : {A : Type 0} (o : Option A) → o ≡ None → IsNone o
 is-none o e = subst IsNone (sym e) refl
 
 -- ---- what holds between calls
-
-pub can-take : (machine : Machine) (s : SessionState) (pending : Option Pending) (events : ℕ) → CanGoOn machine s pending events → CanTakeEvents machine last_copy s
-can-take machine s pending events c = let h = c.behind in let k = c.few in events-more machine c.taken last_copy s (omega (arith, h, k)) c.can
 
 pub keeps-stock : (machine : Machine) (s : SessionState) (pending : Option Pending) (events : ℕ) → CanGoOn machine s pending events → KeepsStock machine last_copy s
 keeps-stock machine s pending events c = let h = c.behind in let k = c.few in stock-more machine c.taken last_copy s (omega (arith, h, k)) c.stocked

@@ -6,7 +6,7 @@ use Rattle.std.proofs.lemmas.Bool.{and_parts}
 use Rattle.std.proofs.lemmas.List.Concat.{flat_map-cons}
 use Rattle.tp_machine.specs.declared.machine.Machine.{Machine}
 use Rattle.tp_schedule.proofs.CopyFacts.{plan_of-itself}
-use Rattle.tp_schedule.proofs.Membership.{Contains-cons_cases, Contains-here, Contains-later, Contains-filter_from, Contains-map_from}
+use Rattle.tp_schedule.proofs.Membership.{Contains-cons_cases, Contains-filter_from, Contains-here, Contains-later, Contains-map_from, flat_map-from}
 use Rattle.tp_schedule.specs.Plans.{IsTimedPlan, end_of_plan, is_front, point}
 use Rattle.tp_schedule.specs.declared.parts.Plan.{Plan}
 use Rattle.tp_turn.specs.Labels.{job_name}
@@ -16,7 +16,7 @@ use Rattle.tp_turn.specs.Keeping.{is_known, is_of_its_job}
 use Rattle.tp_turn.specs.Lines.{is_job_broken, is_lost}
 use Rattle.tp_turn.specs.Moments.{front_of, is_to_tray}
 use Rattle.tp_turn.specs.States.{SessionState}
-use Rattle.tp_outages.proofs.Members.{any-contains, flat_map-from}
+use Rattle.tp_outages.proofs.Members.{any-contains}
 use Rattle.tp_outages.proofs.Falls.{Outset, is_open}
 use Rattle.tp_outages.proofs.Flight.{front-end}
 use Rattle.tp_outages.proofs.Midway.{IsFlying, IsMeet, lost-after}

@@ -3,7 +3,7 @@ use Rattle.std.proofs.Common.{◌≡◌, ℕ, ◌+◌, ◌<◌, ◌≤◌, ◌�
 use Rattle.tp_machine.specs.declared.machine.Machine.{Machine}
 use Rattle.tp_jobs.specs.Backlogs.{next_copy}
 use Rattle.tp_jobs.specs.declared.parts.WaitingCopy.{WaitingCopy}
-use Rattle.tp_schedule.proofs.Membership.{Contains-cons_cases}
+use Rattle.tp_schedule.proofs.Membership.{Contains-cons_cases, flat_map-from}
 use Rattle.tp_schedule.specs.Plans.{end_of_plan}
 use Rattle.tp_schedule.specs.declared.parts.Plan.{Plan}
 use Rattle.tp_turn.specs.FallBacks.{Displaced}
@@ -11,7 +11,6 @@ use Rattle.tp_turn.specs.Fates.{Fate, befall, left_of, to_purge, waits_for}
 use Rattle.tp_turn.specs.Lines.{is_job_broken}
 use Rattle.tp_turn.specs.Moments.{front_of}
 use Rattle.tp_turn.specs.States.{SessionState}
-use Rattle.tp_outages.proofs.Members.{flat_map-from}
 use Rattle.tp_outages.proofs.Falls.{Outset, is_open}
 use Rattle.tp_outages.proofs.Waits.{put-all-from}
 use Rattle.tp_outages.proofs.Fits.{IsFit, IsPass, again_for, stay, lose_sent, lose_purged, withdraw, displace, cut_off, give_up, replace, drop}

@@ -5,7 +5,7 @@ use Rattle.tp_machine.specs.declared.machine.Machine.{Machine}
 use Rattle.tp_jobs.specs.Backlogs.{next_copy}
 use Rattle.tp_jobs.specs.Waiting.{put_waiting}
 use Rattle.tp_jobs.specs.declared.parts.WaitingCopy.{WaitingCopy}
-use Rattle.tp_schedule.proofs.Membership.{Contains-cons_cases, Contains-filter_from, Contains-here, Contains-later}
+use Rattle.tp_schedule.proofs.Membership.{Contains-cons_cases, Contains-filter_from, Contains-here, Contains-later, flat_map-from}
 use Rattle.tp_schedule.specs.declared.parts.Plan.{Plan}
 use Rattle.tp_schedule.specs.declared.parts.SheetId.{SheetId}
 use Rattle.tp_schedule.specs.declared.records.Record.TheVariants.{Again}
@@ -25,7 +25,6 @@ use Rattle.tp_outages.proofs.FallSteps.{falls-waits, next_pending, state_waits}
 use Rattle.tp_outages.proofs.LaterFalls.{later-pass}
 use Rattle.tp_outages.proofs.ListCounts.{count-less}
 use Rattle.tp_outages.proofs.Lives.{AreClear, Lives, any_sheet, clear-befall, lives-befall}
-use Rattle.tp_outages.proofs.Members.{flat_map-from}
 use Rattle.tp_outages.proofs.OutFalls.{falls-out, out-pass}
 use Rattle.tp_outages.proofs.OutageFalls.{falls-unless, lines-same}
 use Rattle.tp_outages.proofs.Waits.{put-from}

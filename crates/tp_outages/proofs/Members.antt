@@ -1,26 +1,10 @@
 -- Members of lists.
-use Rattle.std.proofs.Common.{◌≡◌, inl, inr, Bool, true, false, cond, ◌||◌, List, [], ◌∷◌, filter, flat_map, refl, sym, ap, ◌∙◌, arith, Contains, subst, Some, None, find}
-use Rattle.std.proofs.lemmas.List.Concat.{flat_map-cons}
-use Rattle.std.proofs.lemmas.List.Elements.{Contains-append_left, Contains-append_right, Contains-append_cases}
+use Rattle.std.proofs.Common.{◌≡◌, inl, inr, Bool, true, false, cond, ◌||◌, List, [], ◌∷◌, filter, refl, sym, ap, ◌∙◌, arith, Contains, subst, Some, None, find}
 use Rattle.std.specs.List.{list_any}
 use Rattle.tp_schedule.proofs.Membership.{Contains-cons_cases, Contains-here, Contains-later}
 use Rattle.tp_schedule.proofs.CopyFacts.{same_copy-refl, same_copy-is}
 use Rattle.tp_schedule.specs.Plans.{is_same_copy}
 use Rattle.tp_schedule.specs.declared.parts.SheetId.{SheetId}
-
-pub flat_map-from : {X Y : Type 0} (f : X → List Y) (xs : List X) (d : Y) → Contains (flat_map f xs) d → (z : X) × Contains xs z × Contains (f z) d
-flat_map-from f [] d in' = absurd (omega (arith, in'.1))
-flat_map-from f (z ∷ zs) d in' = elim (Contains-append_cases (f z) (flat_map f zs) d (subst (λ l. Contains l d) (flat_map-cons f z zs) in')) [
-  | inl here ↦ (z, Contains-here z zs, here)
-  | inr later ↦ let r = flat_map-from f zs d later in (r.0, Contains-later z zs r.0 r.1, r.2)
-]
-
-pub flat_map-to : {X Y : Type 0} (f : X → List Y) (xs : List X) (x : X) (d : Y) → Contains xs x → Contains (f x) d → Contains (flat_map f xs) d
-flat_map-to f [] x d in' has = absurd (omega (arith, in'.1))
-flat_map-to f (z ∷ zs) x d in' has = rw (flat_map-cons f z zs) (elim (Contains-cons_cases z zs x in') [
-  | inl e ↦ Contains-append_left (f z) (flat_map f zs) d (subst (λ y. Contains (f y) d) (sym e) has)
-  | inr later ↦ Contains-append_right (f z) (flat_map f zs) d (flat_map-to f zs x d later has)
-])
 
 pub lost-any : (lost : List SheetId) (c : SheetId) → Contains lost c → list_any (is_same_copy c) lost ≡ true
 lost-any [] c in' = absurd (omega (arith, in'.1))

@@ -5,7 +5,7 @@ use Rattle.std.specs.List.{list_any}
 use Rattle.std.proofs.lemmas.Bool.Decides.{nat_tests}
 use Rattle.std.proofs.lemmas.List.Elements.{All-contains}
 use Rattle.tp_machine.specs.declared.machine.Machine.{Machine}
-use Rattle.tp_schedule.proofs.Membership.{Contains-cons_cases, Contains-filter, Contains-map}
+use Rattle.tp_schedule.proofs.Membership.{Contains-cons_cases, Contains-filter, Contains-map, flat_map-from}
 use Rattle.tp_schedule.specs.Plans.{IsTimedPlan, end_of_plan, is_front, is_same_copy, point}
 use Rattle.tp_schedule.specs.declared.parts.Plan.{Plan}
 use Rattle.tp_turn.specs.Fates.{Fate, befall, is_cut_by, is_loss, left_of, lost_by, to_purge}
@@ -15,7 +15,7 @@ use Rattle.tp_turn.specs.Moments.{front_of, is_unstarted}
 use Rattle.tp_turn.specs.States.{SessionState}
 use Rattle.tp_turn.proofs.PlanOnFacts.{fates_keep_planning}
 use Rattle.tp_outages.proofs.Flight.{front-end}
-use Rattle.tp_outages.proofs.Members.{flat_map-from, lost-any}
+use Rattle.tp_outages.proofs.Members.{lost-any}
 use Rattle.tp_turn.specs.Fates as fates
 
 -- each front of a copy that is not lost runs

@@ -5,7 +5,7 @@ use Rattle.std.proofs.lemmas.Bool.Decides.{nat_tests}
 use Rattle.std.proofs.lemmas.List.Elements.{All-contains}
 use Rattle.tp_machine.specs.declared.machine.Machine.{Machine}
 use Rattle.tp_jobs.specs.declared.parts.WaitingCopy.{WaitingCopy}
-use Rattle.tp_schedule.proofs.Membership.{Contains-cons_cases, Contains-here}
+use Rattle.tp_schedule.proofs.Membership.{Contains-cons_cases, Contains-here, flat_map-from, flat_map-to}
 use Rattle.tp_schedule.specs.Plans.{IsTimedPlan, point}
 use Rattle.tp_schedule.specs.declared.parts.Plan.{Plan}
 use Rattle.tp_turn.specs.FallBacks.{Displaced, is_copy}
@@ -18,7 +18,6 @@ use Rattle.tp_outages.proofs.Fits.{IsFit, IsPass, cut_off, displace, keeps_sheet
 use Rattle.tp_outages.proofs.BefallFalls.{falls-after}
 use Rattle.tp_outages.proofs.Falls.{pending_by, Outset, Falls, IsPending, IsPlanned, is_open, none_breaks}
 use Rattle.tp_outages.proofs.Flight.{last-end, running-on-range, to-run-above, up-to}
-use Rattle.tp_outages.proofs.Members.{flat_map-from, flat_map-to}
 use Rattle.tp_outages.proofs.PlanFacts.{not-false}
 use Rattle.tp_turn.specs.Fates as fates
 

@@ -23,7 +23,7 @@ use Rattle.tp_farm.specs.Farms.{FarmState, farm_of}
 use Rattle.tp_farm.specs.Lists.{IsFileName, names_of}
 use Rattle.tp_farm.specs.Scripts.{IsStopped, IsTaken}
 use Rattle.tp_farm_runs.specs.FarmRuns.{FarmScriptsLawful, FarmStopsLawful, farm_start}
-use Rattle.tp_program.specs.Farming.{AreMachines, AreNames, BeginsOn, FarmDone, FarmStops, FarmsOn, IsFarmFor, IsFirstOther, IsListed, NoFarm, NoMachines, NoneListedMissing, NoneMissing, of_machine}
+use Rattle.tp_program.specs.Farming.{AreMachines, AreNames, BeginsOn, FarmDone, FarmStops, IsFarmFor, IsFirstOther, IsListed, NoFarm, NoMachines, NoneListedMissing, NoneMissing, of_machine}
 use Rattle.tp_program.specs.Runs.{NoMachine}
 use Rattle.tp_program.specs.Texts.{IsLongText, IsShelved, most_text}
 use Rattle.tp_program.specs.declared.farm_fault.FarmFault.TheVariants as farm
@@ -191,8 +191,3 @@ module _ (machines : List Machine) (budget : Option ℕ) (bounds : Bool) (left l
   farm_stops cause stop is lawful some =
       let (script, read, (last, stops)) = subst (λ s. IsStopped Tells Probes s left taken stop left' taken') same (subst (λ s. IsStopped Tells Probes start left taken s left' taken') is some) in
       (script, read, lawful stop script taken taken' last stops)
-
-pub never_refuses : (start : FarmState Standing) (left left' taken taken' : Option (List ℕ)) (cause : Stop) → cause ≡ stop.Refused → ¬ IsStopped Tells Probes start left taken cause left' taken'
-never_refuses start left left' taken taken' cause is some =
-    let (script, read, (last, stops)) = subst (λ s. IsStopped Tells Probes start left taken s left' taken') is some in
-    stops.stops.0.refused

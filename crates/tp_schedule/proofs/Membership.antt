@@ -1,6 +1,7 @@
 -- What a list contains, mapped or filtered.
-use Rattle.std.proofs.Common.{◌≡◌, ◌⊎◌, inl, inr, zero, suc, Bool, true, false, cond, List, [], ◌∷◌, map, filter, refl, sym, arith, Contains, All, subst, get_or}
-use Rattle.std.proofs.lemmas.List.Elements.{Contains-get_or}
+use Rattle.std.proofs.Common.{◌≡◌, ◌⊎◌, inl, inr, zero, suc, Bool, true, false, cond, List, [], ◌∷◌, map, filter, flat_map, refl, sym, arith, Contains, All, subst, get_or}
+use Rattle.std.proofs.lemmas.List.Concat.{flat_map-cons}
+use Rattle.std.proofs.lemmas.List.Elements.{Contains-append_cases, Contains-append_left, Contains-append_right, Contains-get_or}
 
 pub Contains-cons_cases : {X : Type 0} (x : X) (xs : List X) (y : X) → Contains (x ∷ xs) y → (x ≡ y) ⊎ Contains xs y
 Contains-cons_cases x xs y (zero, within, is) = inl is
@@ -48,3 +49,17 @@ Contains-filter {X} p (y ∷ xs) x in' e = elim (Contains-cons_cases y xs x in')
   go : (b : Bool) → Contains (filter p xs) x → Contains (cond b (y ∷ filter p xs) (filter p xs)) x
   go true rest = Contains-later y (filter p xs) x rest
   go false rest = rest
+
+pub flat_map-from : {X Y : Type 0} (f : X → List Y) (xs : List X) (d : Y) → Contains (flat_map f xs) d → (z : X) × Contains xs z × Contains (f z) d
+flat_map-from f [] d in' = absurd (omega (arith, in'.1))
+flat_map-from f (z ∷ zs) d in' = elim (Contains-append_cases (f z) (flat_map f zs) d (subst (λ l. Contains l d) (flat_map-cons f z zs) in')) [
+  | inl here ↦ (z, Contains-here z zs, here)
+  | inr later ↦ let r = flat_map-from f zs d later in (r.0, Contains-later z zs r.0 r.1, r.2)
+]
+
+pub flat_map-to : {X Y : Type 0} (f : X → List Y) (xs : List X) (x : X) (d : Y) → Contains xs x → Contains (f x) d → Contains (flat_map f xs) d
+flat_map-to f [] x d in' has = absurd (omega (arith, in'.1))
+flat_map-to f (z ∷ zs) x d in' has = rw (flat_map-cons f z zs) (elim (Contains-cons_cases z zs x in') [
+  | inl e ↦ Contains-append_left (f z) (flat_map f zs) d (subst (λ y. Contains (f y) d) (sym e) has)
+  | inr later ↦ Contains-append_right (f z) (flat_map f zs) d (flat_map-to f zs x d later has)
+])

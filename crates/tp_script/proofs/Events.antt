@@ -1,5 +1,5 @@
 -- An event that is read is spelled so, and what is spelled so is read.
-use Rattle.std.proofs.Common.{◌≡◌, inl, inr, ℕ, ◌<◌, ◌^◌, Bool, true, false, cond, ltb, List, [], ◌∷◌, length, Some, None, Ok, Err, refl, sym, ap, subst, ◌∙◌, arith}
+use Rattle.std.proofs.Common.{◌≡◌, inl, inr, ℕ, ◌<◌, ◌^◌, Bool, true, false, cond, ltb, List, [], ◌∷◌, length, Some, None, Err, refl, sym, ap, subst, ◌∙◌, arith}
 use Rattle.std.specs.Prelude.{option_and_then, find}
 use Rattle.std.specs.List.{AllZip}
 use Rattle.std.specs.Str.{bytes_eq}
@@ -36,14 +36,6 @@ find_passes p (y ∷ ys) x e =
 
 verb_takes : (word : List ℕ) (v : Verb) → verb_of word ≡ Some v → word ≡ verb_text v
 verb_takes word v e = sym ((bytes_eq-Decides (verb_text v) word).0 (find_passes (λ v. bytes_eq (verb_text v) word) verbs-all v e))
-
-verb_again : (v : Verb) → verb_of (verb_text v) ≡ Some v
-verb_again verbs.Job = refl
-verb_again verbs.Clock = refl
-verb_again verbs.Jam = refl
-verb_again verbs.Off = refl
-verb_again verbs.On = refl
-verb_again verbs.Refill = refl
 
 name_takes : (word name : List ℕ) → name_of word ≡ Some name → (word ≡ name) × IsName name
 unfolding name_of
@@ -168,10 +160,6 @@ event_only words (Off n) (is, name) = rw (is, name_again n name) refl
 event_only words (On n) (is, name) = rw (is, name_again n name) refl
 event_only words (Refill n count) (digits, is, name, writes, below) =
     rw (is, name_again n name, writes.0, writes.1, lt-ltb count (2 ^ 32) below) refl
-
--- what a line's words answer
-pub reads_event : (words : List (List ℕ)) (e : Event) → event_of words ≡ Some e → Reads words (Ok (Some e))
-reads_event words e h = event_takes words e h
 
 pub reads_fault : (words : List (List ℕ)) (fault : LineFault) → is_passed words ≡ false → Gives {X = Event} (Err fault) (event_of words) → Reads words (Err fault)
 reads_fault words Memory not_passed h = tt

@@ -1,5 +1,5 @@
 -- Where each stands before the next one, each stands before all later ones.
-use Rattle.std.proofs.Common.{◌≡◌, ◌≢◌, ◌+◌, ℕ, zero, suc, ◌<◌, ◌≤◌, Bool, true, false, List, [], ◌∷◌, length, get_or, map, All, AllPairs, IsTrue, inl, inr, refl, sym, ◌∙◌, ◌-◌, arith, ◌⊎◌, subst}
+use Rattle.std.proofs.Common.{◌≡◌, ◌≢◌, ◌+◌, ℕ, zero, suc, ◌<◌, ◌≤◌, true, false, List, [], ◌∷◌, length, get_or, map, All, AllPairs, inl, inr, sym, ◌∙◌, ◌-◌, arith, ◌⊎◌, subst}
 use Rattle.std.proofs.lemmas.Bool.{cases_lt}
 use Rattle.std.proofs.lemmas.Bool.Decides.{nat_tests}
 use Rattle.std.proofs.lemmas.List.{get_or_default}
@@ -17,16 +17,6 @@ use Rattle.tp_snap_rules.specs.Rules.{AreInOrder, AreOfOthers, WaitsBefore}
 module _ {X : Type 0} (R : X → X → Type 0) where
   abbrev pub AreNext : ℕ → List X → Type 0
   AreNext n xs = (k : ℕ) (d : X) → k + 1 < n → k + 1 < length xs → R (get_or xs k d) (get_or xs (k + 1) d)
-
-  -- one more stands so
-  pub next-more : (i : ℕ) (xs : List X) → 0 < i → ((d : X) → R (get_or xs (i - 1) d) (get_or xs i d)) → AreNext i xs → AreNext (i + 1) xs
-  next-more i xs some here next k d low within = go (cases_lt (k + 1) i) where
-    go : (k + 1 < i) ⊎ (i ≤ k + 1) → R (get_or xs k d) (get_or xs (k + 1) d)
-    go (inl before) = next k d before within
-    go (inr from) =
-        let last : k + 1 ≡ i = omega (arith, from, low) in
-        let e : i - 1 ≡ k = omega (arith, last) in
-        subst (λ j. R (get_or xs k d) (get_or xs j d)) (sym last) (subst (λ j. R (get_or xs j d) (get_or xs i d)) e (here d))
 
 module _ {X : Type 0} (R : X → X → Type 0) (trans : (x y z : X) → R x y → R y z → R x z) where
   head-all : (x : X) (xs : List X) → AllPairs R xs → ((d : X) → 0 < length xs → R x (get_or xs 0 d)) → All (R x) xs
@@ -84,12 +74,6 @@ module _ {X : Type 0} (P : X → Type 0) (xs : List X) where
     go : (k < i) ⊎ (i ≤ k) → P (get_or xs k d)
     go (inl less) = so k d less within
     go (inr from) = let e : i ≡ k = omega (arith, from, under) in subst (λ j. P (get_or xs j d)) e (subst P (at-place i x low is d) here)
-
-  pub all-so : (n : ℕ) → length xs ≤ n → AreSo n → All P xs
-  all-so n le so k d low = so k d (omega (arith, low, le)) low
-
-  pub not-all : (i : ℕ) (x : X) → i < length xs → x ≡ get_or xs i x → ¬ P x → ¬ All P xs
-  not-all i x low is never all = never (subst P (sym is) (all i x low))
 
 -- two neighbours that do not stand so
 pub neighbours-fail : {X : Type 0} (R : X → X → Type 0) (xs : List X) (i : ℕ) (x y : X) → 0 < i → i < length xs → x ≡ get_or xs (i - 1) x → y ≡ get_or xs i y → ¬ R x y → ¬ AllPairs R xs

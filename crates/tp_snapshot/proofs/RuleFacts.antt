@@ -1,12 +1,10 @@
 -- Where a rule from 3 to 6 is broken, it is the first that is.
-use Rattle.std.proofs.Common.{◌≡◌, ◌≢◌, ◌∙◌, ℕ, ◌-◌, ◌<◌, ◌≤◌, List, [], Option, Some, None, refl, ap, sym, subst, arith, lit≤}
+use Rattle.std.proofs.Common.{◌≡◌, ◌≢◌, ◌∙◌, ℕ, ◌-◌, ◌<◌, ◌≤◌, List, [], Some, None, ap, sym, subst, arith, lit≤}
 use Rattle.serde_json.specs.Data.{Data}
 use Rattle.tp_machine.specs.declared.machine.Machine.{Machine}
-use Rattle.tp_machine.specs.declared.parts.Outs.{Outs}
 use Rattle.tp_schedule.specs.declared.parts.Plan.{Plan}
 use Rattle.tp_jobs.specs.Backlogs.{names_of}
 use Rattle.tp_jobs.specs.declared.parts.Job.{Job}
-use Rattle.tp_jobs.specs.declared.parts.WaitingCopy.{WaitingCopy}
 use Rattle.tp_jobs.specs.declared.standing.Standing.{Standing}
 use Rattle.tp_snap_rules.specs.Rules.{AreInOrder, AreKeptTo, IsFirstBroken, KeepsWaiting}
 use Rattle.tp_snapshot.proofs.OneTold.{one}
@@ -31,9 +29,6 @@ pub nothing : Standing
 nothing = record { now = 0; outs = none_out; stock = []; jobs = []; waiting = []; plans = [] }
 
 module _ (m : Machine) (d : Data) where
-  abbrev pub standing_by : ℕ → Outs → List (Option ℕ) → List Job → List Plan → List WaitingCopy → Standing
-  standing_by now outs stock jobs plans waiting = record { now = now; outs = outs; stock = stock; jobs = jobs; waiting = waiting; plans = plans }
-
   two : KeepsTo 2 m d nothing
   two = record {
     moment = λ from. absurd (omega (arith, from));

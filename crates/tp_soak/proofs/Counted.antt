@@ -1,22 +1,19 @@
 -- A log echoes each of its events once.
-use Rattle.std.proofs.Common.{◌≡◌, ℕ, ◌+◌, Bool, true, false, List, [], ◌∷◌, ◌++◌, length, map, take, drop, cond, Option, inr, refl, sym, ap, subst, ◌∙◌, arith}
+use Rattle.std.proofs.Common.{◌≡◌, ℕ, ◌+◌, Bool, true, false, List, [], ◌∷◌, ◌++◌, length, map, take, drop, cond, Option, refl, sym, ap, subst, ◌∙◌, arith}
 use Rattle.std.specs.Prelude.{IfOk, Result, unwrap_or}
-use Rattle.std.specs.List.{All, count_by}
+use Rattle.std.specs.List.{count_by}
 use Rattle.std.proofs.lemmas.List.{length-map}
-use Rattle.std.proofs.lemmas.List.Elements.{All-weaker}
 use Rattle.std.proofs.lemmas.List.Sums.{sum_by-append, sum_by-cons}
 use Rattle.std.proofs.lemmas.Result.{IfOk-weaker}
 use Rattle.tp_base.specs.declared.errors.Memory.{Memory}
 use Rattle.tp_bounds.specs.declared.tree.BoundTree.{BoundTree}
-use Rattle.tp_cases.specs.Scripts.{IsScripted}
 use Rattle.tp_log.specs.Logs.{IsLog, log_text}
 use Rattle.tp_log.specs.declared.item.Item.{Item}
 use Rattle.tp_log.specs.declared.item.Item.TheVariants as item
 use Rattle.tp_machine.specs.declared.machine.Machine.{Machine}
-use Rattle.tp_runs.specs.Runs.{is_of_plan, items_in, items_of, items_with, trees_behind}
+use Rattle.tp_runs.specs.Runs.{is_of_plan, items_in, items_with, trees_behind}
 use Rattle.tp_runs.specs.EventRuns.{IsRunOf}
 use Rattle.tp_schedule.specs.declared.records.Record.{Record}
-use Rattle.tp_script.specs.Printed.{IsEchoed}
 use Rattle.tp_script.specs.declared.event.Event.{Event}
 use Rattle.tp_script.specs.declared.event.Event.TheVariants as event
 use Rattle.tp_session.specs.Sessions.{SessionsTellLawful, Standing, Tells, start_of}
@@ -81,13 +78,3 @@ module _ (machine : Machine) (budget : Option ℕ) (events : List Event) (text p
       IfOk-weaker result _ _ (λ c are. record { log = run_of.log; lawful = run_of.lawful; counted = are }) (counts (items_in run_of.log) run_of.lawful.has_text (same ∙ run_of.is_text))
 
 -- ---- what a script has can be echoed
-
-scripted-echoed : (e : Event) → IsScripted e → IsEchoed e
-scripted-echoed (event.Job name tray media groups) h = inr h
-scripted-echoed (event.Clock to) h = inr h
-scripted-echoed (event.Jam name) h = inr h
-scripted-echoed (event.On name) h = inr h
-scripted-echoed _ h = absurd h
-
-pub all_echoed : (events : List Event) → All IsScripted events → All IsEchoed events
-all_echoed events h = All-weaker IsScripted IsEchoed scripted-echoed events h

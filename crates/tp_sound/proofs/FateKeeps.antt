@@ -1,7 +1,7 @@
 -- A state stays sound where fates befall its plans, where a job breaks, and where a copy falls back.
 use Rattle.std.proofs.Common.{◌≡◌, ℕ, inl, inr, Bool, true, false, cond, not, [], ◌∷◌, flat_map, sym, subst, arith, Contains, IsTrue}
 use Rattle.tp_machine.specs.declared.machine.Machine.{Machine}
-use Rattle.tp_schedule.proofs.Membership.{Contains-cons_cases, Contains-filter_from}
+use Rattle.tp_schedule.proofs.Membership.{Contains-cons_cases, Contains-filter_from, flat_map-from}
 use Rattle.tp_schedule.specs.declared.parts.Plan.{Plan}
 use Rattle.tp_schedule.specs.declared.parts.SheetId.{SheetId}
 use Rattle.tp_jobs.specs.Backlogs.{next_copy}
@@ -9,12 +9,11 @@ use Rattle.tp_jobs.specs.Refusing.{has_media}
 use Rattle.tp_jobs.specs.Waiting.{put_waiting}
 use Rattle.tp_jobs.specs.declared.parts.WaitingCopy.{WaitingCopy}
 use Rattle.tp_turn.specs.FallBacks.{Displaced, fall_back, fall_back_unless_broken, fate_in_break, fate_in_fall_back, is_line_entering, job_break, later_fall_back, next_waits}
-use Rattle.tp_turn.specs.Fates.{Fate, befall, left_by, left_of, waits_for}
+use Rattle.tp_turn.specs.Fates.{Fate, befall, left_of, waits_for}
 use Rattle.tp_turn.specs.Fates as fates
 use Rattle.tp_turn.specs.Lines.{is_job_broken, is_of_job}
 use Rattle.tp_turn.specs.Moments.{front_of}
 use Rattle.tp_turn.specs.States.{Outcome, SessionState, and_then, nothing_told}
-use Rattle.tp_outages.proofs.Members.{flat_map-from}
 use Rattle.tp_outages.proofs.Waits.{put-all-from, put-from}
 use Rattle.tp_standing.specs.Sound.{AreModules}
 use Rattle.tp_sound.specs.Kept.{IsCounted, KeepsRefills, KeepsWaiting}

@@ -10,10 +10,9 @@ use Rattle.tp_jobs.specs.Refusing.{has_media, is_taken, is_tray_name, most_waiti
 use Rattle.tp_jobs.specs.Waiting.{first_copies, sheet_of, sheets_of}
 use Rattle.tp_jobs.specs.declared.fault.JobFault.TheVariants.{UnknownTray, UnknownMedia, TwiceNamed, TooManyWaiting}
 use Rattle.tp_jobs.specs.declared.parts.Job.{Job}
-use Rattle.tp_schedule.proofs.Membership.{Contains-cons_cases, Contains-here, Contains-later}
+use Rattle.tp_schedule.proofs.Membership.{Contains-cons_cases, Contains-here, Contains-later, flat_map-from}
 use Rattle.tp_turn.specs.Refusals.{job_cause, job_refusal}
 use Rattle.tp_turn.proofs.FirstCopies.{accepted-job}
-use Rattle.tp_outages.proofs.Members.{flat_map-from}
 use Rattle.tp_sound.specs.Kept.{KeepsWaiting}
 
 -- an accepted job's media is some feeder's

@@ -8,9 +8,9 @@ use Rattle.tp_schedule.specs.declared.parts.Goal.{Goal}
 use Rattle.tp_schedule.specs.declared.parts.Goal.TheVariants.{Tray, Purge}
 use Rattle.tp_schedule.specs.declared.parts.Plan.{Plan}
 use Rattle.tp_schedule.specs.declared.parts.SheetId.{SheetId}
-use Rattle.tp_schedule.proofs.Membership.{Contains-cons_cases, Contains-here, Contains-later}
+use Rattle.tp_schedule.proofs.Membership.{Contains-cons_cases, Contains-here, Contains-later, flat_map-from}
 use Rattle.tp_turn.specs.FallBacks.{Displaced, fall_back_unless_broken}
-use Rattle.tp_turn.specs.Fates.{Fate, befall, to_purge}
+use Rattle.tp_turn.specs.Fates.{Fate, to_purge}
 use Rattle.tp_turn.specs.Fates as fates
 use Rattle.tp_turn.specs.Labels.{last_of}
 use Rattle.tp_turn.specs.Loops.{next_ask, not_planned, stuck_module}
@@ -18,7 +18,6 @@ use Rattle.tp_turn.specs.Moments.{is_to_tray}
 use Rattle.tp_turn.specs.Outages.{displaced, displaced_by, fate_in_outage, going_out, outage, with_out}
 use Rattle.tp_turn.specs.States.{SessionState, for_each}
 use Rattle.tp_turn.proofs.PlannableTurns.{asked}
-use Rattle.tp_outages.proofs.Members.{flat_map-from}
 use Rattle.tp_sound.proofs.FateKeeps.{StaysDisplaced, StaysSound, only, stays-befall, stays-fall_back, stays-unless_broken}
 use Rattle.tp_sound.proofs.ModulesOut.{out-modules, stuck-module}
 use Rattle.tp_sound.proofs.PlanKeeps.{StaysPlan, stays-purged}

@@ -4,7 +4,7 @@ use Rattle.std.specs.Prelude.{option_map, slice_get}
 use Rattle.std.proofs.lemmas.Bool.{cases_Bool, eqb-true, eq-eqb}
 use Rattle.std.proofs.lemmas.List.{get_or-replicate, length-replicate}
 use Rattle.std.proofs.lemmas.List.FromFn.{fill_by_all}
-use Rattle.std.proofs.lemmas.List.Sums.{count_by-le-length, sum_by_push}
+use Rattle.std.proofs.lemmas.List.Sums.{sum_by_push}
 use Rattle.std.proofs.lemmas.Option.{same_Some}
 use Rattle.tp_machine.specs.declared.parts.Action.{Action}
 use Rattle.tp_machine.specs.declared.parts.LocId.{LocId}
@@ -94,7 +94,3 @@ counted-all machine counts plans n all counted =
     take_all zero (x ∷ xs) le = absurd (omega arith)
     take_all (suc n) [] le = refl
     take_all (suc n) (x ∷ xs) le = ap (λ l. x ∷ l) (take_all n xs (omega arith))
-
--- the counts stay below the number of plans
-pub count-below : (machine : Machine) (counts : List ℕ) (plans : List Plan) (loc n : ℕ) → loc < 256 → length plans ≤ n → Counted machine counts plans → get_or counts loc 0 ≤ n
-count-below machine counts plans loc n within le counted = omega (arith, counted.each loc within, count_by-le-length (begins_at machine loc) plans)

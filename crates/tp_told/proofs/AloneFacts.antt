@@ -1,15 +1,12 @@
 -- What a plan breaks by itself no right plan does.
-use Rattle.std.proofs.Common.{ℕ, ◌+◌, ◌<◌, ◌≤◌, List, Option, Some, None, inl, inr, arith, subst}
-use Rattle.std.specs.Prelude.{IfOk, IfSome, IsSomeAnd, Bool, Result, Ok, Err}
+use Rattle.std.proofs.Common.{◌+◌, ◌<◌, ◌≤◌, Option, Some, None, inl, inr, arith, subst}
+use Rattle.std.specs.Prelude.{IfOk, IfSome, IsSomeAnd, Result, Ok, Err}
 use Rattle.std.proofs.lemmas.Int.{ints}
 use Rattle.tp_machine.specs.declared.machine.Machine.{Machine}
 use Rattle.tp_machine.specs.declared.parts.Action.{Action}
-use Rattle.tp_schedule.specs.Answers.{KeepsFloors, KeepsHorizon}
 use Rattle.tp_schedule.specs.Plans.{IsTimedPlan, LastsWithin, point}
 use Rattle.tp_schedule.specs.declared.parts.Plan.{Plan}
-use Rattle.tp_deciding.specs.Bounds.{IsBelowFloor, IsPastHorizon}
 use Rattle.tp_deciding.specs.Misfits.{IsMisfit}
-use Rattle.tp_deciding.specs.declared.bounds.PlanPoint.{PlanPoint}
 use Rattle.tp_deciding.specs.declared.misfit.Misfit.{Misfit}
 
 pub any-some : {X : Type 0} (o : Option X) (P : Type 0) → P → IfSome o (λ x. P)
@@ -23,16 +20,6 @@ some-by (Some x) P Q f holds = f holds
 pub ok-some-by : {X E : Type 0} (P Q : Type 0) (r : Result (Option X) E) → (P → Q) → IfOk r (λ found. IfSome found (λ x. P)) → IfOk r (λ found. IfSome found (λ x. Q))
 ok-some-by P Q (Ok found) f holds = some-by found P Q f holds
 ok-some-by P Q (Err e) f holds = tt
-
-pub floor-breaks : (machine : Machine) (now : ℕ) (exempt : Plan → Bool) (plans : List Plan) (x : PlanPoint) → IsBelowFloor machine now exempt plans x → KeepsFloors machine now exempt plans → ⊥
-floor-breaks machine now exempt plans x low keeps =
-    let above : now + machine.lead < point low.plan x.at = keeps low.plan low.point_of.planned low.bound x.at low.low.unreleased low.low.start in
-    absurd (omega (arith, above, low.low.low))
-
-pub horizon-breaks : (machine : Machine) (now : ℕ) (plans : List Plan) (x : PlanPoint) → IsPastHorizon machine now plans x → KeepsHorizon machine now plans → ⊥
-horizon-breaks machine now plans x late keeps =
-    let within : point late.plan x.at ≤ now + machine.window = keeps late.plan late.point_of.planned x.at late.past.within late.past.free in
-    absurd (omega (arith, within, late.past.past))
 
 pub misfit-breaks : (machine : Machine) (p : Plan) (m : Misfit) → IsMisfit machine p m → IsTimedPlan machine p → ⊥
 misfit-breaks machine p m is timed =

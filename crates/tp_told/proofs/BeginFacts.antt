@@ -1,9 +1,9 @@
 -- From which tick on an action holds a resource.
-use Rattle.std.proofs.Common.{◌≡◌, ℕ, ℤ, ◌-◌, ◌<◌, ◌≤◌, ◌==◌, Bool, true, false, cond, List, [], ◌∷◌, length, slice_get, Option, Some, None, refl, sym, ap, subst, ◌∙◌, arith, All, Contains}
+use Rattle.std.proofs.Common.{◌≡◌, ℕ, ℤ, ◌-◌, ◌<◌, ◌≤◌, ◌==◌, Bool, true, false, cond, List, [], ◌∷◌, slice_get, Option, Some, None, refl, sym, ap, subst, ◌∙◌, arith, All, Contains}
 use Rattle.std.specs.Prelude.{MatchOption, find}
 use Rattle.std.proofs.lemmas.Bool.Decides.{nat_tests}
 use Rattle.std.proofs.lemmas.List.Elements.{All-cons, All-contains, All-nil}
-use Rattle.std.proofs.lemmas.Option.{get_or_from_slice_get, same_Some, slice_get_within}
+use Rattle.std.proofs.lemmas.Option.{get_or_from_slice_get, same_Some}
 use Rattle.tp_machine.specs.Using.{action_at, begin_of}
 use Rattle.tp_machine.specs.declared.machine.Machine.{Machine}
 use Rattle.tp_machine.specs.declared.parts.ActId.{ActId}
@@ -76,14 +76,6 @@ module _ (machine : Machine) (plans : List Plan) (resource : ResId) (hold : Hold
 
   pub no-plan : plan_of hold.sheet plans ≡ None → (begin : ℤ) → BeginsAt machine plans resource hold begin → ⊥
   no-plan none begin b = let there = b.planned in absurd cc
-
-  -- the plan has no such action
-  pub no-act : (plan : Plan) → plan_of hold.sheet plans ≡ Some plan → (1 ≤ hold.act → hold.act ≤ length plan.acts → ⊥) → (begin : ℤ) → BeginsAt machine plans resource hold begin → ⊥
-  no-act plan there outside begin b =
-      let in' = begins-of plan there begin b in
-      let within : in'.at < length plan.acts = slice_get_within plan.acts in'.at in'.act in'.runs in
-      let number = in'.number_is in
-      outside (omega (arith, number)) (omega (arith, number, within))
 
 pub match-by : {X : Type 0} (A A' : Type 0) (B B' : X → Type 0) (o : Option X) → (A → A') → ((x : X) → B x → B' x) → MatchOption o A B → MatchOption o A' B'
 match-by A A' B B' None none some h = none h

@@ -1,8 +1,7 @@
 -- Hops along durations and lines are allowed as they are told, and so each hop is.
-use Rattle.std.proofs.Common.{◌≡◌, inl, inr, ℕ, zero, suc, ◌≤◌, Bool, true, false, cond, not, ◌==◌, List, [], ◌∷◌, length, flat_map, refl, sym, ◌∙◌, ap, subst, arith, AllPairs, Contains, Some, None}
+use Rattle.std.proofs.Common.{◌≡◌, ℕ, zero, suc, ◌≤◌, Bool, true, false, cond, not, ◌==◌, List, [], ◌∷◌, length, refl, sym, ◌∙◌, ap, subst, arith, AllPairs, Contains, Some, None}
 use Rattle.std.specs.Prelude.{pos, neg_ℤ, option_map}
 use Rattle.std.proofs.lemmas.Bool.{eqb-true, and_parts, and_from}
-use Rattle.std.proofs.lemmas.List.Elements.{Contains-append_cases}
 use Rattle.std.proofs.lemmas.Option.{slice_get_within}
 use Rattle.std.proofs.lemmas.List.{length-reverse}
 use Rattle.tp_bounds.specs.declared.hops.Hop.{Hop as TreeHop}
@@ -17,7 +16,7 @@ use Rattle.tp_schedule.specs.declared.parts.Goal.{Goal}
 use Rattle.tp_schedule.specs.declared.parts.Goal.TheVariants.{Tray, Purge}
 use Rattle.tp_schedule.specs.declared.parts.Plan.{Plan}
 use Rattle.tp_schedule.proofs.CopyFacts.{plan_of-itself}
-use Rattle.tp_schedule.proofs.Membership.{Contains-here, Contains-later}
+use Rattle.tp_schedule.proofs.Membership.{flat_map-from}
 use Rattle.tp_constraints.specs.Gaps.{Gap, IsPoint, end_spot, gap, is_in_line, is_same_line}
 use Rattle.tp_constraints.specs.Hops.{IsRun}
 use Rattle.tp_constraints.specs.Hops.IsHop.{by_end, by_least, by_line, by_most, by_order, by_stop}
@@ -84,15 +83,8 @@ module _ (ask : Ask) (plans : List Plan) (in_order : AllPairs IsEarlier plans) w
     go true false false x y z h = absurd (omega (arith, h.1))
     go false b c x y z h = absurd (omega (arith, h.1))
 
-  in-flat : (some : List Plan) (g : Gap) → Contains (flat_map (end_gap ask) some) g → (p : Plan) × Contains some p × Contains (end_gap ask p) g
-  in-flat [] g h = absurd (omega (arith, h.1))
-  in-flat (p ∷ some) g h = elim (Contains-append_cases (end_gap ask p) (flat_map (end_gap ask) some) g h) [
-    | inl l ↦ (p, Contains-here p some, l)
-    | inr l ↦ let r = in-flat some g l in (r.0, Contains-later p some r.0 r.1, r.2)
-  ]
-
   pub end-told : (g : Gap) → Contains (end_gaps ask plans) g → (line_gap ask plans g.from g.to ≡ Some g) × IsPoint plans 1 g.to
-  end-told g h = let r = in-flat plans g h in end-one r.0 g r.1 r.2
+  end-told g h = let r = flat_map-from (end_gap ask) plans g h in end-one r.0 g r.1 r.2
 
 -- ---- all hops
 some-hop : (h k : TreeHop) → Some h ≡ Some k → h ≡ k

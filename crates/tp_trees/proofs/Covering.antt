@@ -4,6 +4,7 @@ use Rattle.std.specs.Prelude.{ℤ, pos, ◌≤ℤ◌, nat_le, nat_lt, slice_get}
 use Rattle.std.proofs.lemmas.Bool.{eqb-true, and_parts, cases_lt}
 use Rattle.std.proofs.lemmas.Bool.Decides.{nat_tests}
 use Rattle.std.proofs.lemmas.Option.{slice_get_within}
+use Rattle.std.proofs.lemmas.List.Elements.{Contains-append_left, Contains-append_right}
 use Rattle.tp_bounds.specs.declared.tree.Close.{Close}
 use Rattle.tp_bounds.specs.declared.tree.Close.TheVariants.{Split, Dead, Chain, Loop}
 use Rattle.tp_bounds.specs.declared.tree.Head.{Head}
@@ -30,7 +31,6 @@ use Rattle.tp_trees.specs.Trees.Look.{due, wrong}
 use Rattle.tp_trees.specs.Trees.Wrong.{uncovered}
 use Rattle.tp_trees.proofs.Befores.{before-is, step-action}
 use Rattle.tp_trees.proofs.Closing.{chain-none, dead-none, loop-none}
-use Rattle.tp_trees.proofs.Lists.{left-of, right-of}
 use Rattle.tp_trees.proofs.Sitting.{Sits, SitsAt}
 use Rattle.tp_trees.proofs.Ways.{Way, way-reached, IsReached}
 use Rattle.tp_trees.proofs.Ways.Way.{by_action, by_place, by_stop, there}
@@ -133,8 +133,8 @@ module _ (machine : Machine) (plans : List Plan) (ask : Ask) (rows : List TreeRo
   in-actions : (b : Branch) (n i : ℕ) (d : Due) → i < n → Contains (action_due machine plans ask rows b (record { 0 = i })) d → Contains (actions_below machine plans ask rows b n) d
   in-actions b zero i d below in' = absurd (omega (arith, below))
   in-actions b (suc n) i d below in' = elim (cases_lt i n) [
-    | inl l ↦ left-of (actions_below machine plans ask rows b n) (action_due machine plans ask rows b (record { 0 = n })) d (in-actions b n i d l in')
-    | inr l ↦ let e : i ≡ n = omega arith in right-of (actions_below machine plans ask rows b n) (action_due machine plans ask rows b (record { 0 = n })) d (subst (λ k. Contains (action_due machine plans ask rows b (record { 0 = k })) d) e in')
+    | inl l ↦ Contains-append_left (actions_below machine plans ask rows b n) (action_due machine plans ask rows b (record { 0 = n })) d (in-actions b n i d l in')
+    | inr l ↦ let e : i ≡ n = omega arith in Contains-append_right (actions_below machine plans ask rows b n) (action_due machine plans ask rows b (record { 0 = n })) d (subst (λ k. Contains (action_due machine plans ask rows b (record { 0 = k })) d) e in')
   ]
 
   unless : (c : Bool) (ds more : List Due) → cond c None (Some ds) ≡ Some more → ds ≡ more
@@ -157,7 +157,7 @@ module _ (machine : Machine) (plans : List Plan) (ask : Ask) (rows : List TreeRo
       let found = before-is machine ask.want act before b.first step in
       let here : Contains (action_due machine plans ask rows b act) (action b act before) = rw (allowed, found) (Contains-here (action b act before) []) in
       let among : Contains (actions_due machine plans ask rows b) (action b act before) = rw (lt-to (kept_of ask + length b.x.choices) 64 few) (in-actions b (length machine.actions) act.0 (action b act before) within here) in
-      (action b act before, subst (λ ds. Contains ds (action b act before)) is (right-of (stop_due machine plans ask rows b) (actions_due machine plans ask rows b) (action b act before) among), way)
+      (action b act before, subst (λ ds. Contains ds (action b act before)) is (Contains-append_right (stop_due machine plans ask rows b) (actions_due machine plans ask rows b) (action b act before) among), way)
   children-met b more going (by_place rule place _ _ next' going' le way) o next e =
       let some : o ≡ Some rule = sym next ∙ next' in
       let e' : Some (places b rule 0 ∷ []) ≡ Some more = subst (λ k. children_of machine plans ask rows b k ≡ Some more) some e in
@@ -168,7 +168,7 @@ module _ (machine : Machine) (plans : List Plan) (ask : Ask) (rows : List TreeRo
       let e' : cond (is_begun machine ask ask.origin b.first) None (Some (stop_due machine plans ask rows b ++ actions_due machine plans ask rows b)) ≡ Some more = subst (λ k. children_of machine plans ask rows b k ≡ Some more) none e in
       let is : stop_due machine plans ask rows b ++ actions_due machine plans ask rows b ≡ more = unless (is_begun machine ask ask.origin b.first) (stop_due machine plans ask rows b ++ actions_due machine plans ask rows b) more e' in
       let here : Contains (stop_due machine plans ask rows b) (stop b) = rw (front, some) (Contains-here (stop b) []) in
-      (stop b, subst (λ ds. Contains ds (stop b)) is (left-of (stop_due machine plans ask rows b) (actions_due machine plans ask rows b) (stop b) here), way)
+      (stop b, subst (λ ds. Contains ds (stop b)) is (Contains-append_left (stop_due machine plans ask rows b) (actions_due machine plans ask rows b) (stop b) here), way)
 
   splits : (b : Branch) (o : Option Span) (more : List Due) → SitsAt machine plans ask rows X b o → children_at machine plans ask rows b o ≡ Some more → MeetsOne more
   splits b (Some span) more sits e = absurd cc
@@ -200,8 +200,8 @@ module _ (machine : Machine) (plans : List Plan) (ask : Ask) (rows : List TreeRo
       joined s u (due ds) v h =
           let same : ds ++ due_behind machine plans ask rows d n.head ≡ more = cc in
           subst MeetsOne same (elim (enters d n.head s u meets) [
-            | inl sits ↦ let m = closes s n.head n.close ds sits v in (m.0, left-of ds (due_behind machine plans ask rows d n.head) m.0 m.1, m.2)
-            | inr m ↦ (m.0, right-of ds (due_behind machine plans ask rows d n.head) m.0 m.1, m.2)
+            | inl sits ↦ let m = closes s n.head n.close ds sits v in (m.0, Contains-append_left ds (due_behind machine plans ask rows d n.head) m.0 m.1, m.2)
+            | inr m ↦ (m.0, Contains-append_right ds (due_behind machine plans ask rows d n.head) m.0 m.1, m.2)
           ])
 
       test : (s : Stand) → stand_of machine plans ask rows d n.head ≡ Some s → (c : Bool) → cond c (with_behind machine plans ask rows limit (due_behind machine plans ask rows d n.head) (close_look machine plans ask rows limit s n.head n.close)) (wrong uncovered) ≡ due more → MeetsOne more
@@ -217,6 +217,6 @@ module _ (machine : Machine) (plans : List Plan) (ask : Ask) (rows : List TreeRo
     covers-none [] (d ∷ ds) covers m = absurd covers
     covers-none (n ∷ nodes) [] covers m = absurd covers
     covers-none (n ∷ nodes) (d ∷ ds) (more, e, rest) m = elim (Contains-cons_cases d ds m.0 m.1) [
-      | inl is ↦ let k = looks d n more (subst Meets (sym is) m.2) e in covers-none nodes (more ++ ds) rest (k.0, left-of more ds k.0 k.1, k.2)
-      | inr later ↦ covers-none nodes (more ++ ds) rest (m.0, right-of more ds m.0 later, m.2)
+      | inl is ↦ let k = looks d n more (subst Meets (sym is) m.2) e in covers-none nodes (more ++ ds) rest (k.0, Contains-append_left more ds k.0 k.1, k.2)
+      | inr later ↦ covers-none nodes (more ++ ds) rest (m.0, Contains-append_right more ds m.0 later, m.2)
     ]

@@ -3,7 +3,7 @@ use Rattle.std.proofs.Common.{◌≡◌, inl, inr, ℕ, zero, suc, ◌<◌, Bool
 use Rattle.std.specs.List.{list_any, slice_index_or}
 use Rattle.std.specs.Str.{bytes_eq}
 use Rattle.std.proofs.lemmas.Bool.{and_parts, cases_lt}
-use Rattle.std.proofs.lemmas.List.Elements.{All-contains}
+use Rattle.std.proofs.lemmas.List.Elements.{All-contains, Contains-append_left, Contains-append_right}
 use Rattle.std.proofs.lemmas.List.Folds.{list_any-from_Any}
 use Rattle.std.proofs.lemmas.Slice.Eq.{bytes_eq-Decides}
 use Rattle.tp_machine.specs.Machines.{IsLocation}
@@ -29,12 +29,12 @@ use Rattle.tp_schedule.specs.declared.parts.Goal.TheVariants.{Tray, Purge}
 use Rattle.tp_schedule.specs.declared.parts.Origin.{Origin}
 use Rattle.tp_schedule.specs.declared.parts.Origin.TheVariants.{Feeder as FromFeeder, Front as FromFront}
 use Rattle.tp_schedule.specs.declared.parts.Plan.{Plan}
-use Rattle.tp_schedule.proofs.Membership.{Contains-cons_cases, Contains-filter, Contains-here}
+use Rattle.tp_schedule.proofs.Membership.{Contains-cons_cases, Contains-filter, Contains-here, flat_map-to}
 use Rattle.tp_schedule.proofs.Walks.{walk_first}
 use Rattle.tp_trees.specs.Places.{goal_states, is_begun, is_done_wanted, is_purge, locations_below, states_at}
 use Rattle.tp_trees.specs.Rows.{is_same_state}
 use Rattle.tp_trees.proofs.Befores.{states-at, step-action}
-use Rattle.tp_trees.proofs.Lists.{flat-of, left-of, right-of, number-same}
+use Rattle.tp_trees.proofs.Lists.{number-same}
 use Rattle.tp_trees.proofs.RowFacts.{same_state-refl}
 
 -- ---- sides that are done are wanted
@@ -111,8 +111,8 @@ reached-wanted machine plans ask acts s asked r = walk-wanted machine ask.want a
 location-below : (n : ℕ) (loc : LocId) → loc.0 < n → Contains (locations_below n) loc
 location-below zero loc below = absurd (omega (arith, below))
 location-below (suc n) loc below = elim (cases_lt loc.0 n) [
-  | inl l ↦ left-of (locations_below n) (record { 0 = n } ∷ []) loc (location-below n loc l)
-  | inr l ↦ let e : loc.0 ≡ n = omega arith in right-of (locations_below n) (record { 0 = n } ∷ []) loc (subst (λ k. Contains (record { 0 = k } ∷ []) loc) e (Contains-here loc []))
+  | inl l ↦ Contains-append_left (locations_below n) (record { 0 = n } ∷ []) loc (location-below n loc l)
+  | inr l ↦ let e : loc.0 ≡ n = omega arith in Contains-append_right (locations_below n) (record { 0 = n } ∷ []) loc (subst (λ k. Contains (record { 0 = k } ∷ []) loc) e (Contains-here loc []))
 ]
 
 purge-is : (purges : List LocId) (loc : LocId) → Contains purges loc → list_any (λ p. p.0 == loc.0) purges ≡ true
@@ -129,7 +129,7 @@ goal-due machine sheet Purge s in' ok =
     let places = filter (is_purge machine) (locations_below (length machine.locations)) in
     let at-place : Contains (filter (is_purge machine) (locations_below (length machine.locations))) s.loc = Contains-filter (is_purge machine) (locations_below (length machine.locations)) s.loc (location-below (length machine.locations) s.loc known) (purge-is machine.purges s.loc in') in
     Contains-filter (is_done_wanted sheet) (flat_map states_at (filter (is_purge machine) (locations_below (length machine.locations)))) s
-    (flat-of states_at (filter (is_purge machine) (locations_below (length machine.locations))) s.loc s at-place (states-at s s.loc refl)) ok
+    (flat_map-to states_at (filter (is_purge machine) (locations_below (length machine.locations))) s.loc s at-place (states-at s s.loc refl)) ok
 
 -- ---- starts
 

@@ -20,15 +20,15 @@ pub fn loop_goes_on<P: Planner>()
     ensures state { LoopStateGoesOn }
     ensures records { LoopRecordsGoOn }
     ensures in_turn { (machine : Machine)
-        → LoopGoesOn (right_steps P.spent P.steps P.stop_steps machine) machine }
+        → LoopGoesOn (right_steps P.rules machine) machine }
 {}
 
 /// A refused event gives the one record of its cause, and state and planner stay. No other event is told refused.
 pub fn refused_events_change_nothing<P: Planner>()
     ensures nothing { (machine : Machine)
-        → RefusedChangesNothing (right_steps P.spent P.steps P.stop_steps machine) machine }
+        → RefusedChangesNothing (right_steps P.rules machine) machine }
     ensures told { (machine : Machine)
-        → RefusalsAreTold (right_steps P.spent P.steps P.stop_steps machine) machine }
+        → RefusalsAreTold (right_steps P.rules machine) machine }
 {}
 
 /// After each turn of a planner the schedule can be planned on again: it is legal, past included, each unreleased start is
@@ -36,7 +36,7 @@ pub fn refused_events_change_nothing<P: Planner>()
 pub fn turns_keep_planning<P: Planner>()
     ensures empty { (machine : Machine) → IsPlannable machine empty_state }
     ensures turn { (machine : Machine)
-        → TurnsKeep (right_steps P.spent P.steps P.stop_steps machine) machine IsAny
+        → TurnsKeep (right_steps P.rules machine) machine IsAny
         (IsPlannable machine) }
 {}
 
@@ -46,9 +46,9 @@ pub fn turns_keep_state<P: Planner>()
     ensures empty { (machine : Machine) → KeepsState machine [] empty_state
         × IsLeastAt machine empty_state }
     ensures state { (machine : Machine)
-        → TurnsKeepState (right_steps P.spent P.steps P.stop_steps machine) machine IsNoOutage }
+        → TurnsKeepState (right_steps P.rules machine) machine IsNoOutage }
     ensures least { (machine : Machine)
-        → TurnsKeep (right_steps P.spent P.steps P.stop_steps machine) machine IsNoClock
+        → TurnsKeep (right_steps P.rules machine) machine IsNoClock
         (IsLeastAt machine) }
 {}
 
@@ -57,7 +57,7 @@ pub fn turns_keep_state<P: Planner>()
 pub fn stocks_are_never_overdrawn<P: Planner>()
     ensures empty { (machine : Machine) → IsStocked machine empty_state }
     ensures turn { (machine : Machine)
-        → TurnsKeep (right_steps P.spent P.steps P.stop_steps machine) machine IsAny
+        → TurnsKeep (right_steps P.rules machine) machine IsAny
         (IsStocked machine) }
 {}
 
