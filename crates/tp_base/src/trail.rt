@@ -22,8 +22,8 @@ impl<T: Copy> Model for Trail<T> {
 
     ghost view = { λ s. record { items = s.items.items; capacity = s.capacity } };
 
-    ghost invariant = { λ s. (length s.items.items ≤ s.capacity) × (s.capacity ≤ vec_capacity s.items)
-        × (s.capacity < 2 ^ 32) };
+    ghost invariant = { λ s. (length s.items.items ≤ s.capacity)
+        × (s.capacity ≤ vec_capacity s.items) × (s.capacity < 2 ^ 32) };
 }
 
 impl<T: Copy> Trail<T> {
@@ -66,14 +66,16 @@ impl<T: Copy> Trail<T> {
     /// Leaves the first `len` items.
     pub fn cut_to(&mut self, len: u32)
         requires { len ≤ length self.old.items }
-        ensures { self.new ≡ record { items = take len self.old.items; capacity = self.old.capacity } }
+        ensures { self.new
+            ≡ record { items = take len self.old.items; capacity = self.old.capacity } }
     {
         self.items.truncate(len as usize);
     }
 
     /// Turns the order of the items round.
     pub fn reverse(&mut self)
-        ensures { self.new ≡ record { items = reverse self.old.items; capacity = self.old.capacity } }
+        ensures { self.new
+            ≡ record { items = reverse self.old.items; capacity = self.old.capacity } }
     {
         self.items.reverse();
     }

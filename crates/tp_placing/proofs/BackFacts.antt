@@ -14,7 +14,7 @@ use Rattle.tp_placing.proofs.MarkFacts.{undo_keeps}
 use Rattle.tp_placing.proofs.StandFacts.{stands-still}
 
 module _ {N A : Type 0} (reading : Reading N) (untouched : N → A) where
-  -- of a network nothing is untouched
+  -- a network of which marks leave nothing alone
   abbrev bare : N → Unit {0}
   bare n = tt
 

@@ -35,7 +35,7 @@ module _ {N A : Type 0} (reading : Reading N) (untouched : N → A) where
   before-in : (b : BoardValue N) (m : Machine) (ask : Ask) → StandsOn reading b m ask → (x : BoardContent) → Contains (past_of reading b) x → StandsIn b m ask x
   before-in b m ask s x c n e = (s.before x c n e, s.caused_before x c n e)
 
-  -- with the same untouched, and the present net and each of the past such as the first board stands in
+  -- where marks left the same alone, and the present net and each of the past such as the first board stands in
   stands-in : (a b : BoardValue N) (m : Machine) (ask : Ask) → untouched_of untouched b ≡ untouched_of untouched a → StandsOn reading a m ask → StandsIn a m ask (content_of reading b)
       → ((x : BoardContent) → Contains (past_of reading b) x → StandsIn a m ask x) → StandsOn reading b m ask
   stands-in a b m ask e s here before =
@@ -88,7 +88,7 @@ module _ {N A : Type 0} (reading : Reading N) (untouched : N → A) where
         before-in a m s.0 s.1 x (contains-get (past_of reading a) g.0 x (slice_get_take k (past_of reading a) g.0 x at).1)),
   )
 
--- a board with the same untouched shows the same of the last refusal
+-- a board of which marks left the same alone shows the same of the last refusal
 module _ {N A : Type 0} (untouched : N → A) (refutes : N → Net → Type 0) (refutes_by : (a b : N) (late : Net) → untouched a ≡ untouched b → refutes a late → refutes b late) (a b : BoardValue N) (e : untouched_of untouched b ≡ untouched_of untouched a) where
   plans-kept : a.plans ≡ b.plans
   plans-kept = sym (ap (λ (x : BoardUntouched A). x.plans) e)

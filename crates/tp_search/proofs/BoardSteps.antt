@@ -178,7 +178,7 @@ module _ {N A : Type 0} (reading : Reading N) (untouched : N → A) where
     back = λ s back k there untouched_same less. undoes b' back machine k there untouched_same less (since.stands s);
   }
 
-  -- the load of a board is untouched
+  -- marks leave the load of a board alone
   pub load-of : (a b : BoardValue N) → untouched_of untouched b ≡ untouched_of untouched a → IsSameLoad a b
   load-of a b e = record {
     made_for = ap (λ (x : BoardUntouched A). x.made_for) e;

@@ -45,7 +45,7 @@ module _ {N A : Type 0} (reading : Reading N) (untouched : N → A) where
     pub untouched_same : untouched_of untouched b' ≡ untouched_of untouched b
     pub room_same : reading.max_marks b'.net - 1 ≡ reading.max_marks b.net - 1
 
-  -- the load of a board is untouched
+  -- marks leave the load of a board alone
   pub load-of : (a b : BoardValue N) → untouched_of untouched b ≡ untouched_of untouched a → IsSameLoad a b
   load-of a b e = record {
     made_for = ap (λ (x : BoardUntouched A). x.made_for) e;

@@ -132,7 +132,8 @@ impl Changes {
     /// Notes what a point is before it changes for the first time.
     pub(crate) fn note(&mut self, point: PointId, state: &PointState)
         requires { point.0 < self.old.capacity }
-        ensures back { (states : List PointState) (x : PointState) → slice_get states point.0 ≡ Some state.now
+        ensures back { (states : List PointState) (x : PointState)
+            → slice_get states point.0 ≡ Some state.now
             → restored self.new.entries (slice_set states point.0 x)
             ≡ restored self.old.entries states }
         ensures known { (count : ℕ) → point.0 < count → AreKnown count self.old.entries

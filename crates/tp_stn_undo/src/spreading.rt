@@ -56,7 +56,8 @@ fn raise_along(
     requires below { AreWithin caps.now (times_of states.old) }
     requires waits { length states.old ≤ length waiting.old.flags }
     requires capacity { length states.old ≤ changes.old.capacity }
-    ensures back { LeadsBack links.now states.old states.new changes.old.entries changes.new.entries }
+    ensures back { LeadsBack links.now states.old states.new
+        changes.old.entries changes.new.entries }
     ensures rises { OnOk result (StatesRise links.now states.old states.new) }
     ensures below { AreWithin caps.now (times_of states.new) }
     ensures waits { length waiting.new.flags ≡ length waiting.old.flags }
@@ -71,7 +72,8 @@ fn raise_along(
     ensures less { OnOk result
         (weight caps.now states.new waiting.new ≤ weight caps.now states.old waiting.old) }
     ensures late { IfErr result (λ p. PassesCap caps.now (edges_of links.now) (times_of states.old)
-        (causes_of (edges_of links.now) states.old) (causes_of (edges_of links.now) states.new) p.0) }
+        (causes_of (edges_of links.now) states.old)
+        (causes_of (edges_of links.now) states.new) p.0) }
 {
     let end = links[pull.number as usize - 1].edge.to;
     let to = end.0 as usize;
