@@ -17,7 +17,7 @@ use crate::spreading::{Start, settle, spread};
 use crate::states::PointState;
 use crate::waiting::Waiting;
 use crate::working::Working;
-use tp_base::{Edge, Kept};
+use tp_base::{Edge, Kept, PointId};
 
 /// Adds a point. No edge leads to it, so its lower bound is its time.
 pub(crate) fn push_point(
@@ -145,7 +145,7 @@ fn link_all(edges: &[Edge], links: &mut Vec<Link>, heads: &mut [u32], waiting: &
     }
 }
 
-/// Adds edges that leave a solution, all at once.
+/// Adds edges that leave a solution, all at once. They lead round in no positive circle, so nothing is watched.
 pub(crate) fn load_edges(
     edges: &[Edge],
     caps: &[u32],
@@ -174,8 +174,9 @@ pub(crate) fn load_edges(
         return;
     }
     link_all(edges, links, heads, &mut working.waiting);
+    // No point has the number of all points.
     let start = Start {
-        watched: edges[0].from,
+        watched: PointId(states.len() as u32),
         first: 0,
     };
     match spread(caps, links, heads, start, states, working) {

@@ -28,7 +28,7 @@ pub(crate) struct Pull {
 }
 
 /// Where following begins: with the edges of a point from one on, given by its number counted from 1; with none of them where
-/// that is 0. If the point rises, the causes are followed back.
+/// that is 0. If the point rises, the causes are followed back; where it is none of the points, nothing is watched.
 #[derive(Clone, Copy)]
 pub(crate) struct Start {
     pub(crate) watched: PointId,
@@ -108,7 +108,6 @@ pub(crate) fn follow(
 ) -> Result<(), Kept>
     requires some { 0 < pull.number }
     requires number { pull.number ≤ length links.now }
-    requires watched { watched.0 < length states.old }
     requires known { All (IsKnown (length states.old)) (edges_of links.now) }
     requires more { AsksMore (edges_of links.now) pull.number (slice_index (times_of states.old)) }
     requires reach { AsksFor (edges_of links.now) pull.number (slice_index (times_of states.old))
@@ -149,15 +148,15 @@ pub(crate) fn follow(
         &mut working.changes,
     ) {
         Ok(()) => {
-            if links[pull.number as usize - 1].edge.to.0 == watched.0 {
+            let end = links[pull.number as usize - 1].edge.to;
+            if end.0 == watched.0 {
                 if trace_causes(
                     states,
                     links,
-                    watched,
+                    end,
                     &mut working.path,
                     &mut working.places,
-                )
-                .is_none()
+                ).is_none()
                 {
                     return Err(Kept::Circle);
                 }
@@ -187,7 +186,6 @@ pub(crate) fn spread(
     working: &mut Working,
 ) -> Result<(), Kept>
     requires heads { AreLinks links.now heads.now (length states.old) }
-    requires watched { start.watched.0 < length states.old }
     requires known { All (IsKnown (length states.old)) (edges_of links.now) }
     requires caps { length caps.now ≡ length states.old }
     requires below { AreWithin caps.now (times_of states.old) }

@@ -1,4 +1,4 @@
-use Rattle.std.proofs.Common.{arith, ◌++◌, List, length, slice_index, get_or, refl, inl, sym, ap, ◌∙◌, subst}
+use Rattle.std.proofs.Common.{arith, ◌++◌, List, length, slice_index, refl, inl, sym, ap, ◌∙◌, subst}
 use Rattle.std.specs.List.{All}
 use Rattle.tp_base.specs.declared.edges.Edge.{Edge}
 use Rattle.tp_base.specs.Net.{HasNoSolution}
@@ -10,7 +10,6 @@ use Rattle.tp_stn_undo.specs.declared.states.SavedState.{SavedState}
 use Rattle.tp_stn_undo.specs.States.{IsSound, lows_of, times_of, edges_of}
 use Rattle.tp_stn_undo.specs.Saved.{restored}
 use Rattle.tp_stn_undo.specs.Spreading.{LeadsBack, KeptFrom}
-use Rattle.tp_stn_undo.proofs.CauseFacts.{no_link}
 use Rattle.tp_stn_undo.proofs.FollowFacts.{Supported}
 use Rattle.tp_stn_undo.proofs.SoundFacts.{supported_more}
 use Rattle.tp_stn_undo.proofs.ChangeFacts.{sound_edges}
@@ -28,7 +27,7 @@ pub spread-requires-clause-kept : goal.spread-requires-clause-kept
 spread-requires-clause-kept c =
     let t = slice_index (times_of c.args.states.now) in
     let e = c.link_all.ensures in
-    subst (λ (ls : List Link). KeptFrom (edges_of ls) t c.link_all.new.waiting.flags (get_or c.args.edges.now 0 no_link.edge).from.0 0) (sym c.deref.ensures.value)
+    subst (λ (ls : List Link). KeptFrom (edges_of ls) t c.link_all.new.waiting.flags (length c.args.states.now) 0) (sym c.deref.ensures.value)
     (λ k d g f _. kept_waiting c.args.links.now.items c.link_all.new.links.items c.args.edges.now t c.args.working.now.waiting.flags c.link_all.new.waiting.flags e.added c.requires.ready.sound.least.solution.keeps e.wait k d g f)
 
 pub unreachable-requires : goal.unreachable-requires

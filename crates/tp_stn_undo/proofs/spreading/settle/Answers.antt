@@ -38,9 +38,6 @@ returns-then-reach-from-clause-kept c =
     all_kept (edges_of links) (slice_index (times_of states)) flags
     (kept_newest (edges_of links) (slice_index (times_of states)) flags c.args.number (c.requires.newest ∙ sym (length-map links (λ (l : Link). l.edge))) (λ k e g f _. c.requires.kept k e g f) met) c.requires.idle
 
-pub spread-requires-clause-watched : goal.spread-requires-clause-watched
-spread-requires-clause-watched c = (known c.args.links.now c.args.states.now c.args.number c.requires.some (omega arith) c.requires.known).from
-
 pub spread-requires-clause-kept : goal.spread-requires-clause-kept
 spread-requires-clause-kept c =
     kept_begun c.args.links.now (slice_index (times_of c.args.states.now)) c.args.working.now.waiting.flags c.args.number c.requires.some c.requires.newest c.requires.kept

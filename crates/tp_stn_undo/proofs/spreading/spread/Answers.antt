@@ -184,7 +184,6 @@ points-preserved c =
       below = inv.below;
       sizes = record { waits = l ∙ inv.sizes.waits; noted = inv.sizes.noted; path = inv.sizes.path; places = inv.sizes.places };
       waiting = All-tail (λ p. p < length c.args.states.now) point c.pop.new.self.points (subst (AreBelow (length c.args.states.now)) c.in-Some.ensures.first inv.waiting);
-      known = k;
       reached = reached_head links heads (length c.args.states.now) point (slice_index heads point) c.requires.heads k refl;
       kept = subst (λ (fs : List Bool). KeptFrom (edges_of links) (slice_index (times_of c.edges.states)) fs point (slice_index heads point)) (sym f)
           (kept_head links heads (length c.args.states.now) point (slice_index heads point) (slice_index (times_of c.edges.states)) c.edges.working.waiting.flags c.requires.heads k refl all);

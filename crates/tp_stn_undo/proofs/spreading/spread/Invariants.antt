@@ -1,4 +1,4 @@
-use Rattle.std.proofs.Common.{◌<◌, ◌≤◌, length, slice_index}
+use Rattle.std.proofs.Common.{◌≤◌, length, slice_index}
 use Rattle.tp_base.specs.Grows.{AreWithin}
 use Rattle.tp_stn_undo.specs.States.{times_of, edges_of}
 use Rattle.tp_stn_undo.specs.Spreading.{StatesRise, LeadsBack, KeptFrom, Reached, weight}
@@ -14,7 +14,6 @@ invariant-points l = record {
   below : AreWithin l.caps (times_of l.states);
   sizes : KeepsSizes l.fn.working l.working;
   waiting : AreBelow (length l.fn.states) l.working.waiting.points;
-  known : l.point < length l.fn.states;
   reached : Reached l.links l.point l.left;
   kept : KeptFrom (edges_of l.links) (slice_index (times_of l.states)) l.working.waiting.flags l.point l.left;
   zeros : AreZeros l.working.places.items;
