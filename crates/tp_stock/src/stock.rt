@@ -1,5 +1,6 @@
 //! What is left at a feeder, and which feeders are empty.
-ghost use Rattle.std.specs.Prelude.{◌≡◌, ◌<◌, ◌==◌, IfSome, find, get_or};
+ghost use Rattle.std.specs.Prelude.{◌≡◌, ◌<◌, ◌==◌, IfSome, find, get_or, is_some};
+ghost use Rattle.std.specs.List.{list_any};
 ghost use Rattle.tp_stock.specs.Stock.{IsBounded, empties, feeder_at, feeder_named, free_of, refilled};
 
 use crate::counting::{Taken, count_taken};
@@ -45,12 +46,27 @@ pub fn feeder_named(machine: &Machine, name: &Name) -> Option<Feeder>
     feeder_at(machine, LocId(loc))
 }
 
-/// The feeders that are empty where these plans took their sheets. Takes the time of the plans and of the feeders.
+/// Whether a feeder is not endless.
+fn has_stock(machine: &Machine) -> bool
+    ensures { result ≡ list_any (λ f. is_some f.stock) machine.now.feeders }
+{
+    machine
+        .feeders
+        .as_slice()
+        .iter()
+        .any(|feeder| feeder.stock.is_some())
+}
+
+/// The feeders that are empty where these plans took their sheets. Takes the time of the feeders, and of the plans where not all
+/// feeders are endless.
 pub fn empty_feeders(machine: &Machine, refills: &Refills, schedule: &Schedule) -> Empties
     requires bounded { IsBounded refills.now.0 }
     ensures { result ≡ empties machine.now refills.now.0 schedule.now.plans }
 {
     machine_law(machine);
+    if !has_stock(machine) {
+        return Empties::none();
+    }
     let taken = count_taken(machine, schedule);
     let mut empty = Empties::none();
     'feeders: for feeder in machine.feeders.as_slice() {

@@ -5,7 +5,7 @@ use Rattle.tp_schedule.specs.LocationSets.{nowhere, with}
 use Rattle.tp_schedule.specs.declared.parts.Empties.{Empties}
 use Rattle.tp_machine.specs.declared.parts.Feeder.{Feeder}
 use Rattle.tp_stock.specs.Stock.{is_empty}
-use Rattle.tp_stock.proofs.EmptyFacts.{fold-more}
+use Rattle.tp_stock.proofs.EmptyFacts.{fold-more, none-empty}
 use Rattle.tp_stock.proofs.StockFacts.{empty-told, feeder-known}
 use Rattle.tp_stock.proofs.stock.empty_feeders.Goals as goal
 use Rattle.tp_stock.proofs.stock.empty_feeders.Goals.{then-eq, else-eq}
@@ -30,3 +30,7 @@ feeders-preserved c =
           w.empty-is ∙ w.with-empty.ensures.is ∙ ap (λ (set : Empties). with set f.loc) c.feeders.invariant ∙ sym (more ∙ ap (λ b. cond b (with before f.loc) before) (told ∙ w.if-eq.true))
       | else-eq w ↦ w.empty-is ∙ c.feeders.invariant ∙ sym (more ∙ ap (λ b. cond b (with before f.loc) before) (told ∙ w.if-eq.false))
     ]
+
+pub returns-then-not-has_stock : goal.returns-then-not-has_stock
+returns-then-not-has_stock c =
+    c.none.ensures ∙ ap (fold (λ (set : Empties) (f : Feeder). with set f.loc) nowhere) (sym (none-empty c.args.machine.now c.args.refills.now.0 c.args.schedule.now.plans c.args.machine.now.feeders (sym c.has_stock.ensures ∙ c.if-not-has_stock.true)))
