@@ -1,5 +1,5 @@
 -- Rooms and earliest ends are one number, and the step that computes is the step as a relation.
-use Rattle.std.proofs.Common.{◌≡◌, ℕ, arith, Some}
+use Rattle.std.proofs.Common.{◌≡◌, arith, Some}
 use Rattle.std.specs.Prelude.{List}
 use Rattle.tp_machine.specs.Steps.{Step, step_of}
 use Rattle.tp_schedule.specs.Answers.{IsEarliest}

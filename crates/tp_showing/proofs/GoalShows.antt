@@ -3,7 +3,6 @@ use Rattle.std.proofs.Common.{◌≡◌, ℕ, ◌<◌, ◌≤◌, true, List, []
 use Rattle.std.specs.Prelude.{pos, IfSome, MatchOption}
 use Rattle.std.proofs.lemmas.List.{append-nil}
 use Rattle.tp_base.specs.Readings.{Reading}
-use Rattle.tp_base.specs.Net.{Net}
 use Rattle.tp_bounds.specs.declared.tree.Close.TheVariants.{Dead}
 use Rattle.tp_bounds.specs.declared.tree.Head.TheVariants.{Goal as GoalHead}
 use Rattle.tp_bounds.specs.declared.tree.Node.{Node}

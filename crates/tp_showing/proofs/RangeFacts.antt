@@ -3,7 +3,6 @@ use Rattle.std.proofs.Common.{◌≡◌, ℕ, suc, ◌+◌, ◌≤◌, Bool, tru
 use Rattle.std.specs.Prelude.{ℤ, pos, slice_get, IfSome}
 use Rattle.std.specs.Result.{IfOk, OnOk}
 use Rattle.tp_base.specs.Readings.{Reading}
-use Rattle.tp_base.specs.Net.{Net}
 use Rattle.tp_bounds.specs.declared.tree.Close.{Close}
 use Rattle.tp_bounds.specs.declared.tree.Head.TheVariants.{At as AtHead}
 use Rattle.tp_bounds.specs.declared.tree.Node.{Node}

@@ -4,7 +4,6 @@ use Rattle.std.specs.Prelude.{pos}
 use Rattle.std.specs.Result.{OnOk}
 use Rattle.std.proofs.lemmas.List.{length-append}
 use Rattle.tp_base.specs.Readings.{Reading}
-use Rattle.tp_base.specs.Net.{Net}
 use Rattle.tp_bounds.specs.declared.tree.Node.{Node}
 use Rattle.tp_bounds.specs.declared.tree.TreeRow.{TreeRow}
 use Rattle.tp_machine.specs.declared.machine.Machine.{Machine}

@@ -4,7 +4,6 @@ use Rattle.std.specs.Prelude.{pos, nat_le, nat_lt}
 use Rattle.std.proofs.lemmas.Bool.Decides.{nat_tests}
 use Rattle.std.proofs.lemmas.List.{append-nil}
 use Rattle.tp_base.specs.Readings.{Reading}
-use Rattle.tp_base.specs.Net.{Net}
 use Rattle.tp_bounds.specs.declared.tree.Node.{Node}
 use Rattle.tp_bounds.specs.declared.tree.TreeRow.{TreeRow}
 use Rattle.tp_machine.specs.declared.parts.HoldRule.{HoldRule}
