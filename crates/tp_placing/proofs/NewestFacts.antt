@@ -106,7 +106,7 @@ pub record IsNext {N : Type 0} (reading : Reading N) (b : BoardValue N) (m : Mac
   pub ask : Ask
   pub stands : StandsOn reading b m ask
   pub next : IsSomeAnd (suffix_after b.steps) (λ x. CanPlace m b.plans x hold place)
-  pub is : IsCandidate b m hold place c
+  pub is : IsCandidate b m hold c
   pub resources : length b.orders.orders ≡ b.made_for.resources
 
 module _ {N : Type 0} {reading : Reading N} {b : BoardValue N} {m : Machine} {hold place : ℕ} {c : Candidate} (k : IsNext reading b m hold place c) where

@@ -30,6 +30,11 @@ some-and (Some x) P h = (x, refl, h)
 pub and-some : {X : Type 0} (o : Option X) (x : X) (P : X → Type 0) → o ≡ Some x → P x → IsSomeAnd o P
 and-some {X} o x P e p = subst (λ (q : Option X). IsSomeAnd q P) (sym e) p
 
+-- the number at which an option's value has a property
+pub some-at : {X : Type 0} (o : Option X) (P : X → ℕ → Type 0) → IsSomeAnd o (λ x. (k : ℕ) × P x k) → (k : ℕ) × IsSomeAnd o (λ x. P x k)
+some-at None P h = absurd h
+some-at (Some x) P h = h
+
 -- the points of a network with a suffix
 pub length-lows : (m : Machine) (plans : List Plan) (ask : Ask) (x : Suffix) (steps : List Step) (n : Net) (lines : List (List ℕ)) (holds : List Held) → IsAtWith m plans ask (Some x) steps n lines holds
     → length n.lows ≡ length (table_of plans) + suc (length x.choices)

@@ -7,20 +7,17 @@ use Rattle.tp_schedule.specs.Holding.{holds_of_act}
 use Rattle.tp_timelines.specs.Orders.{Orders, order_on}
 use Rattle.tp_placing.specs.Boards.{BoardValue}
 use Rattle.tp_placing.specs.Causes.{step_tag}
-use Rattle.tp_placing.specs.Edges.{held_before, held_behind}
 use Rattle.tp_placing.specs.declared.candidates.Candidate.{Candidate}
 use Rattle.tp_placing.specs.declared.parts.Change.TheVariants.{Place}
 use Rattle.tp_placing.specs.declared.parts.Held.{Held}
 use Rattle.tp_placing.specs.declared.parts.Step.{Step}
 
--- it is the newest action's hold of this number, between its neighbours at a place of its resource's order
-pub record IsCandidate {N : Type 0} (b : BoardValue N) (machine : Machine) (hold place : ℕ) (c : Candidate) : Type 0 where
+-- it is the newest action's hold of this number, with the gap of its resource and the tag of its first edge
+pub record IsCandidate {N : Type 0} (b : BoardValue N) (machine : Machine) (hold : ℕ) (c : Candidate) : Type 0 where
   pub newest : slice_get b.steps (length b.steps - 1) ≡ Some c.newest
   pub rule : IsSomeAnd c.newest.newest (λ act. slice_get (holds_of_act (action_at machine act.0)) hold ≡ Some c.hold.rule)
   pub start : c.hold.start ≡ c.newest.first
   pub end : c.hold.end.0 ≡ c.newest.first.0 - 1
-  pub before : c.neighbours.before ≡ held_before b.held (order_on b.orders.orders c.hold.rule.resource.0) place
-  pub behind : c.neighbours.behind ≡ held_behind b.held (order_on b.orders.orders c.hold.rule.resource.0) place
   pub gap : c.gap ≡ gap_at machine c.hold.rule.resource.0
   pub tag : c.tag ≡ step_tag (length b.steps)
 

@@ -1,5 +1,5 @@
-//! The next hold of the newest action: what it comes between at a place of its resource's order, and how it is put there.
-ghost use Rattle.std.specs.Prelude.{◌≡◌, ◌+◌, ◌<◌, ◌≤◌, length, IsSomeAnd, vec_len, vec_capacity};
+//! The next hold of the newest action, and how it is put at a place of its resource's order.
+ghost use Rattle.std.specs.Prelude.{◌≡◌, ℕ, ◌+◌, ◌<◌, ◌≤◌, length, IsSomeAnd, vec_len, vec_capacity};
 ghost use Rattle.tp_timelines.specs.Orders.{order_on, total};
 ghost use Rattle.tp_placing.specs.Boards.{suffix_of};
 ghost use Rattle.tp_placing.specs.Calls.{CanPlace};
@@ -10,18 +10,16 @@ ghost use Rattle.tp_placing.specs.Standing.{Stands};
 
 use crate::board::Board;
 use crate::causes::step_tag;
-use crate::neighbours::{Neighbours, neighbours_of};
 use crate::parts::{Change, Held, Step};
 use tp_base::{Network, PointId};
 use tp_machine::{Machine, gap_at};
 use tp_timelines::Timelines;
 
-/// A hold that may be placed after the newest step: its neighbours, the gap to them, and the tag of its first edge.
+/// A hold that may be placed after the newest step: the gap to its neighbours, and the tag of its first edge.
 #[derive(Clone, Copy)]
 pub(crate) struct Candidate {
     pub(crate) newest: Step,
     pub(crate) hold: Held,
-    pub(crate) neighbours: Neighbours,
     pub(crate) gap: u32,
     pub(crate) tag: u32,
 }
@@ -59,12 +57,12 @@ pub(crate) fn insert_hold(
 }
 
 impl<N: Network> Board<N> {
-    /// The next hold of the newest action, for a place of its resource's order.
-    pub(crate) fn next_hold(&self, machine: &Machine, hold: u32, place: u32) -> Candidate
+    /// The next hold of the newest action, where its resource's order has a place for it.
+    pub(crate) fn next_hold(&self, machine: &Machine, hold: u32) -> Candidate
         requires stands { Stands N.reading self.now machine.now }
         requires next { IsSomeAnd (suffix_of self.now)
-            (λ x. CanPlace machine.now self.now.plans x hold place) }
-        ensures is { IsCandidate self.now machine.now hold place result }
+            (λ x. (place : ℕ) × CanPlace machine.now self.now.plans x hold place) }
+        ensures is { IsCandidate self.now machine.now hold result }
         ensures behind { 5 ≤ result.tag }
         ensures within { result.tag + 1 < step_causes }
     {
@@ -80,7 +78,6 @@ impl<N: Network> Board<N> {
         Candidate {
             newest,
             hold,
-            neighbours: neighbours_of(&self.lines, &self.held, hold.rule.resource, place),
             gap: gap_at(machine, hold.rule.resource),
             tag: step_tag(self.steps.len()),
         }

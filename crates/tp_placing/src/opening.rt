@@ -13,7 +13,7 @@ use crate::causes::STOP;
 use crate::edges::{edge_between, lasting, lowest};
 use crate::finding::point_of;
 use crate::lining::line_edges;
-use crate::neighbours::{neighbour_edges, note_neighbours};
+use crate::neighbours::{neighbour_edges, neighbours_of, note_neighbours};
 use crate::parts::{Change, Step};
 use tp_base::{Late, Network, PointId};
 use tp_constraints::{gaps_are_hops, solutions_are_ticks, steps_add_edges};
@@ -96,16 +96,11 @@ impl<N: Network> Board<N> {
         gaps_are_hops();
         solutions_are_ticks();
         steps_add_edges();
-        let next = self.next_hold(machine, hold, place);
+        let next = self.next_hold(machine, hold);
+        let near = neighbours_of(&self.lines, &self.held, next.hold.rule.resource, place);
         self.limit = None;
-        note_neighbours(&mut self.causes, &next.neighbours, &next.hold, next.tag);
-        neighbour_edges(
-            &mut self.edges,
-            &next.neighbours,
-            &next.hold,
-            next.gap,
-            next.tag,
-        );
+        note_neighbours(&mut self.causes, &near, &next.hold, next.tag);
+        neighbour_edges(&mut self.edges, &near, &next.hold, next.gap, next.tag);
         match self.net.require_all(&self.edges) {
             Ok(()) => {}
             Err(Late) => return Err(Late),

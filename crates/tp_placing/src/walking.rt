@@ -15,7 +15,7 @@ ghost use Rattle.tp_placing.specs.declared.walking.Refused.TheVariants.{UpToHere
 use crate::board::Board;
 use crate::candidates::insert_hold;
 use crate::edges::following;
-use crate::neighbours::{Neighbours, note_neighbours};
+use crate::neighbours::{Neighbours, neighbours_of, note_neighbours};
 use crate::parts::Held;
 use tp_base::{Late, Network};
 use tp_constraints::{
@@ -165,16 +165,11 @@ impl<N: Network> Board<N> {
         steps_add_edges();
         walks_add_edges();
         walks_are_hops();
-        let next = self.next_hold(machine, hold, place);
+        let next = self.next_hold(machine, hold);
+        let near = neighbours_of(&self.lines, &self.held, next.hold.rule.resource, place);
         self.limit = None;
-        note_neighbours(&mut self.causes, &next.neighbours, &next.hold, next.tag);
-        match require_around(
-            &mut self.net,
-            &next.neighbours,
-            &next.hold,
-            next.gap,
-            next.tag,
-        ) {
+        note_neighbours(&mut self.causes, &near, &next.hold, next.tag);
+        match require_around(&mut self.net, &near, &next.hold, next.gap, next.tag) {
             Ok(()) => {}
             Err(refused) => return Err(refused),
         }

@@ -1,22 +1,23 @@
-use Rattle.std.proofs.Common.{arith, ap, ◌∙◌, [], ◌∷◌, length}
+use Rattle.std.proofs.Common.{arith, ap, subst, ◌∙◌, [], ◌∷◌, length}
 use Rattle.std.proofs.lemmas.List.{length-append, length-set}
+use Rattle.tp_timelines.specs.Orders.{order_on}
 use Rattle.tp_placing.specs.Boards.{BoardValue}
 use Rattle.tp_placing.specs.Inside.{board_of}
 use Rattle.tp_placing.proofs.BoardFacts.{board-step}
-use Rattle.tp_placing.proofs.CandidateFacts.{edges-fit, held-fit, orders-fit, past-now, stands-now, steps-fit, suffix-now, times-now}
+use Rattle.tp_placing.proofs.CandidateFacts.{AreNeighbours, causes-are, edges-fit, held-fit, orders-fit, past-now, stands-now, steps-fit, suffix-now, times-now}
 use Rattle.tp_placing.proofs.CandidateTried.{at-tried, back-still, can-tried, caused-tried, late-before, late-tried, shown-before, shown-tried}
 use Rattle.tp_placing.proofs.NewestFacts.{IsNext, known}
-use Rattle.tp_placing.proofs.NextHold.{fits-here}
+use Rattle.tp_placing.proofs.NextHold.{fits-here, numbers-here}
 use Rattle.tp_placing.proofs.board.Board.try_place.Goals as goal
-use Rattle.tp_placing.proofs.board.Board.try_place.Goals.{After-note_neighbours}
+use Rattle.tp_placing.proofs.board.Board.try_place.Goals.{After-deref, After-note_neighbours}
 
 -- the board as its fields show it
-abbrev board : (g : _) → After-note_neighbours g → BoardValue g.row.N.Denot
+abbrev board : (g : _) → After-deref g → BoardValue g.row.N.Denot
 board g c =
     let a = c.self.inside in
     board_of a.net a.lines a.held.items a.plans.items a.firsts.items a.last a.floor a.horizon a.ask a.steps.items a.marks.items a.made_for a.causes a.limit
 
-is-next : (g : _) (c : After-note_neighbours g) → IsNext g.N.Network.reading (board g c) c.args.machine.now c.args.hold c.args.place c.next_hold-next.result
+is-next : (g : _) (c : After-deref g) → IsNext g.N.Network.reading (board g c) c.args.machine.now c.args.hold c.args.place c.next_hold-next.result
 is-next g c =
     let stands = rw (← c.self.view_is) at c.requires.stands in
     record {
@@ -27,68 +28,85 @@ is-next g c =
       resources = c.self.invariant.capacity.resources;
     }
 
+pub neighbours_of-near-requires-clause-known : goal.neighbours_of-near-requires-clause-known
+neighbours_of-near-requires-clause-known g k = known (is-next g (goal.at.neighbours_of-near-requires-clause-known g k).After-deref)
+
+pub neighbours_of-near-requires-clause-numbers : goal.neighbours_of-near-requires-clause-numbers
+neighbours_of-near-requires-clause-numbers g k = rw k.deref.ensures.value (numbers-here (is-next g (goal.at.neighbours_of-near-requires-clause-numbers g k).After-deref))
+
+-- the holds that are read are those next to the place
+near-is : (g : _) (d : After-note_neighbours g) → AreNeighbours d.self.inside.held.items (order_on d.self.inside.lines.orders d.next_hold-next.result.hold.rule.resource.0) d.args.place d.neighbours_of-near.result
+near-is g d =
+    let order = order_on d.self.inside.lines.orders d.next_hold-next.result.hold.rule.resource.0 in
+    subst (λ hs. AreNeighbours hs order d.args.place d.neighbours_of-near.result) d.deref.ensures.value (record { before = d.neighbours_of-near.ensures.before; behind = d.neighbours_of-near.ensures.behind })
+
 pub require_around-requires-clause-can : goal.require_around-requires-clause-can
-require_around-requires-clause-can g c = can-tried (is-next g (goal.at.require_around-requires-clause-can g c).After-note_neighbours)
+require_around-requires-clause-can g c = can-tried (is-next g (goal.at.require_around-requires-clause-can g c).After-deref) (near-is g (goal.at.require_around-requires-clause-can g c).After-note_neighbours)
 
 pub require_around-requires-clause-spare : goal.require_around-requires-clause-spare
 require_around-requires-clause-spare g k =
-    let c = (goal.at.require_around-requires-clause-spare g k).After-note_neighbours in
+    let c = (goal.at.require_around-requires-clause-spare g k).After-deref in
     edges-fit (is-next g c) (g.N.Network.reading.max_edges c.self.inside.net) c.self.invariant.capacity.steps_few c.self.invariant.capacity.edges
 
 pub returns-in-Err-clause-late : goal.returns-in-Err-clause-late
 returns-in-Err-clause-late g k =
-    let c = (goal.at.returns-in-Err-clause-late g k).After-note_neighbours in
-    rw (← c.self.view_is) (late-tried (is-next g c) c.steps_add_edges.ensures.place c.solutions_are_ticks.ensures.late k.in-Err.ensures.late)
+    let c = (goal.at.returns-in-Err-clause-late g k).After-deref in
+    let d = (goal.at.returns-in-Err-clause-late g k).After-note_neighbours in
+    rw (← c.self.view_is) (late-tried (is-next g c) (near-is g d) c.steps_add_edges.ensures.place c.solutions_are_ticks.ensures.late k.in-Err.ensures.late)
 
 pub returns-in-Err-clause-shown : goal.returns-in-Err-clause-shown
 returns-in-Err-clause-shown g k =
-    let c = (goal.at.returns-in-Err-clause-shown g k).After-note_neighbours in
-    rw (← c.self.view_is) (shown-tried (is-next g c) g.N.Network.refutes k.require_around.new.net k.note_neighbours.new.causes c.steps_add_edges.ensures.place c.gaps_are_hops.ensures.place k.note_neighbours.ensures k.in-Err.ensures.refused)
+    let c = (goal.at.returns-in-Err-clause-shown g k).After-deref in
+    let d = (goal.at.returns-in-Err-clause-shown g k).After-note_neighbours in
+    rw (← c.self.view_is) (shown-tried (is-next g c) (near-is g d) g.N.Network.refutes k.require_around.new.net k.note_neighbours.new.causes c.steps_add_edges.ensures.place c.gaps_are_hops.ensures.place (k.note_neighbours.ensures ∙ causes-are (is-next g c) (near-is g d)) k.in-Err.ensures.refused)
 
 pub returns-in-Err-clause-late_before : goal.returns-in-Err-clause-late_before
 returns-in-Err-clause-late_before g k up =
-    let c = (goal.at.returns-in-Err-clause-late_before g k).After-note_neighbours in
-    rw (← c.self.view_is) (late-before (is-next g c) c.walks_add_edges.ensures.start c.walks_add_edges.ensures.before c.walks_add_edges.ensures.shut (k.in-Err.ensures.late_behind up))
+    let c = (goal.at.returns-in-Err-clause-late_before g k).After-deref in
+    let d = (goal.at.returns-in-Err-clause-late_before g k).After-note_neighbours in
+    rw (← c.self.view_is) (late-before (is-next g c) (near-is g d) c.walks_add_edges.ensures.start c.walks_add_edges.ensures.before c.walks_add_edges.ensures.shut (k.in-Err.ensures.late_behind up))
 
 pub returns-in-Err-clause-shown_before : goal.returns-in-Err-clause-shown_before
 returns-in-Err-clause-shown_before g k up =
-    let c = (goal.at.returns-in-Err-clause-shown_before g k).After-note_neighbours in
-    rw (← c.self.view_is) (shown-before (is-next g c) g.N.Network.refutes k.require_around.new.net k.note_neighbours.new.causes c.walks_add_edges.ensures.start c.walks_add_edges.ensures.before c.walks_add_edges.ensures.earlier
-    c.walks_are_hops.ensures.start c.walks_are_hops.ensures.before k.note_neighbours.ensures (k.in-Err.ensures.refused_behind up))
+    let c = (goal.at.returns-in-Err-clause-shown_before g k).After-deref in
+    let d = (goal.at.returns-in-Err-clause-shown_before g k).After-note_neighbours in
+    rw (← c.self.view_is) (shown-before (is-next g c) (near-is g d) g.N.Network.refutes k.require_around.new.net k.note_neighbours.new.causes c.walks_add_edges.ensures.start c.walks_add_edges.ensures.before c.walks_add_edges.ensures.earlier
+    c.walks_are_hops.ensures.start c.walks_are_hops.ensures.before (k.note_neighbours.ensures ∙ causes-are (is-next g c) (near-is g d)) (k.in-Err.ensures.refused_behind up))
 
 pub returns-in-Err-clause-back : goal.returns-in-Err-clause-back
 returns-in-Err-clause-back g k =
-    let c = (goal.at.returns-in-Err-clause-back g k).After-note_neighbours in
-    back-still (is-next g c) g.N.Undo.untouched k.require_around.new.net k.note_neighbours.new.causes k.note_neighbours.ensures k.in-Err.ensures.past
+    let c = (goal.at.returns-in-Err-clause-back g k).After-deref in
+    let d = (goal.at.returns-in-Err-clause-back g k).After-note_neighbours in
+    back-still (is-next g c) g.N.Undo.untouched k.require_around.new.net k.note_neighbours.new.causes (k.note_neighbours.ensures ∙ causes-are (is-next g c) (near-is g d)) k.in-Err.ensures.past
 
 pub insert_hold-requires-clause-known : goal.insert_hold-requires-clause-known
-insert_hold-requires-clause-known g k = known (is-next g (goal.at.insert_hold-requires-clause-known g k).After-note_neighbours)
+insert_hold-requires-clause-known g k = known (is-next g (goal.at.insert_hold-requires-clause-known g k).After-deref)
 
 pub insert_hold-requires-clause-within : goal.insert_hold-requires-clause-within
-insert_hold-requires-clause-within g k = fits-here (is-next g (goal.at.insert_hold-requires-clause-within g k).After-note_neighbours)
+insert_hold-requires-clause-within g k = fits-here (is-next g (goal.at.insert_hold-requires-clause-within g k).After-deref)
 
 pub insert_hold-requires-clause-capacity : goal.insert_hold-requires-clause-capacity
 insert_hold-requires-clause-capacity g k =
-    let few = orders-fit (is-next g (goal.at.insert_hold-requires-clause-capacity g k).After-note_neighbours) in
+    let few = orders-fit (is-next g (goal.at.insert_hold-requires-clause-capacity g k).After-deref) in
     let most = k.self.invariant.capacity.holds in
     omega arith
 
 pub insert_hold-requires-clause-few : goal.insert_hold-requires-clause-few
 insert_hold-requires-clause-few g k =
-    let few = held-fit (is-next g (goal.at.insert_hold-requires-clause-few g k).After-note_neighbours) in
+    let few = held-fit (is-next g (goal.at.insert_hold-requires-clause-few g k).After-deref) in
     let l = k.self.inside.held.ok.0 in
     omega arith
 
 pub insert_hold-requires-clause-held_space : goal.insert_hold-requires-clause-held_space
 insert_hold-requires-clause-held_space g k =
-    let few = held-fit (is-next g (goal.at.insert_hold-requires-clause-held_space g k).After-note_neighbours) in
+    let few = held-fit (is-next g (goal.at.insert_hold-requires-clause-held_space g k).After-deref) in
     let l = k.self.inside.held.ok.0 in
     let space = k.self.invariant.capacity.held_space in
     omega arith
 
 pub insert_hold-requires-clause-step_space : goal.insert_hold-requires-clause-step_space
 insert_hold-requires-clause-step_space g k =
-    let few = steps-fit (is-next g (goal.at.insert_hold-requires-clause-step_space g k).After-note_neighbours) in
+    let few = steps-fit (is-next g (goal.at.insert_hold-requires-clause-step_space g k).After-deref) in
     let l = k.self.inside.steps.ok.0 in
     let space = k.self.invariant.capacity.steps_space in
     omega arith
@@ -96,7 +114,7 @@ insert_hold-requires-clause-step_space g k =
 pub invariant_of-self-2 : goal.invariant_of-self-2
 invariant_of-self-2 g k =
     let a = k.self.inside in
-    let c = (goal.at.invariant_of-self-2 g k).After-note_neighbours in
+    let c = (goal.at.invariant_of-self-2 g k).After-deref in
     let p = k.insert_hold.ensures.inserted in
     let few = steps-fit (is-next g c) in
     let holds = held-fit (is-next g c) in
@@ -111,25 +129,27 @@ invariant_of-self-2 g k =
 
 pub returns-clause-suffix : goal.returns-clause-suffix
 returns-clause-suffix g k =
-    let c = (goal.at.returns-clause-suffix g k).After-note_neighbours in
+    let c = (goal.at.returns-clause-suffix g k).After-deref in
     rw (← c.self.view_is) (suffix-now (is-next g c) k.require_around.new.net k.note_neighbours.new.causes k.insert_hold.new.lines k.insert_hold.new.held.items k.insert_hold.new.steps.items k.insert_hold.ensures.inserted)
 
 pub returns-clause-past : goal.returns-clause-past
 returns-clause-past g k =
-    let c = (goal.at.returns-clause-past g k).After-note_neighbours in
+    let c = (goal.at.returns-clause-past g k).After-deref in
     rw (← c.self.view_is) (past-now (is-next g c) k.require_around.new.net k.note_neighbours.new.causes k.insert_hold.new.lines k.insert_hold.new.held.items k.insert_hold.new.steps.items k.insert_hold.ensures.inserted
     k.self.invariant.marked.at_marks k.in-Ok.ensures.past)
 
 pub returns-clause-times : goal.returns-clause-times
 returns-clause-times g k =
-    let c = (goal.at.returns-clause-times g k).After-note_neighbours in
-    let at = at-tried (is-next g c) k.require_around.new.net k.note_neighbours.new.causes k.insert_hold.new.lines k.insert_hold.new.held.items k.insert_hold.new.steps.items k.insert_hold.ensures.inserted c.steps_add_edges.ensures.place k.in-Ok.ensures.added k.in-Ok.ensures.solved in
+    let c = (goal.at.returns-clause-times g k).After-deref in
+    let d = (goal.at.returns-clause-times g k).After-note_neighbours in
+    let at = at-tried (is-next g c) (near-is g d) k.require_around.new.net k.note_neighbours.new.causes k.insert_hold.new.lines k.insert_hold.new.held.items k.insert_hold.new.steps.items k.insert_hold.ensures.inserted c.steps_add_edges.ensures.place k.in-Ok.ensures.added k.in-Ok.ensures.solved in
     times-now (is-next g c) k.require_around.new.net k.note_neighbours.new.causes k.insert_hold.new.lines k.insert_hold.new.held.items k.insert_hold.new.steps.items k.insert_hold.ensures.inserted c.solutions_are_ticks.ensures.board at
 
 pub returns-clause-stands : goal.returns-clause-stands
 returns-clause-stands g k =
-    let c = (goal.at.returns-clause-stands g k).After-note_neighbours in
-    let at = at-tried (is-next g c) k.require_around.new.net k.note_neighbours.new.causes k.insert_hold.new.lines k.insert_hold.new.held.items k.insert_hold.new.steps.items k.insert_hold.ensures.inserted c.steps_add_edges.ensures.place k.in-Ok.ensures.added k.in-Ok.ensures.solved in
-    let caused = caused-tried (is-next g c) k.require_around.new.net k.note_neighbours.new.causes k.insert_hold.new.lines k.insert_hold.new.held.items k.insert_hold.new.steps.items k.insert_hold.ensures.inserted c.gaps_are_hops.ensures.place k.in-Ok.ensures.added k.note_neighbours.ensures in
+    let c = (goal.at.returns-clause-stands g k).After-deref in
+    let d = (goal.at.returns-clause-stands g k).After-note_neighbours in
+    let at = at-tried (is-next g c) (near-is g d) k.require_around.new.net k.note_neighbours.new.causes k.insert_hold.new.lines k.insert_hold.new.held.items k.insert_hold.new.steps.items k.insert_hold.ensures.inserted c.steps_add_edges.ensures.place k.in-Ok.ensures.added k.in-Ok.ensures.solved in
+    let caused = caused-tried (is-next g c) (near-is g d) k.require_around.new.net k.note_neighbours.new.causes k.insert_hold.new.lines k.insert_hold.new.held.items k.insert_hold.new.steps.items k.insert_hold.ensures.inserted c.gaps_are_hops.ensures.place k.in-Ok.ensures.added (k.note_neighbours.ensures ∙ causes-are (is-next g c) (near-is g d)) in
     stands-now (is-next g c) k.require_around.new.net k.note_neighbours.new.causes k.insert_hold.new.lines k.insert_hold.new.held.items k.insert_hold.new.steps.items k.insert_hold.ensures.inserted
-    k.self.invariant.marked.at_marks k.in-Ok.ensures.past k.note_neighbours.ensures at caused
+    k.self.invariant.marked.at_marks k.in-Ok.ensures.past (k.note_neighbours.ensures ∙ causes-are (is-next g c) (near-is g d)) at caused
