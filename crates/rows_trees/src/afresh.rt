@@ -43,6 +43,36 @@ fn is_same_schedule(one: &Schedule, other: &Schedule) -> bool {
     true
 }
 
+impl Both {
+    /// Counts an answer.
+    fn compare(&mut self, same: bool)
+        ensures kept { self.new.kept ≡ self.old.kept }
+        ensures afresh { self.new.afresh ≡ self.old.afresh }
+    {
+        if same {
+            self.same = self.same.saturating_add(1);
+        } else {
+            self.other = self.other.saturating_add(1);
+        }
+    }
+}
+
+/// The answer of an engine that keeps no board.
+fn ask_afresh(
+    alloc: Global,
+    engine: &mut Engine<LiveNet>,
+    machine: &Machine,
+    schedule: &mut Schedule,
+    ask: &Ask,
+) -> Result<Reply, Halt>
+    requires served { ⟦<Engine<LiveNet> as Planner>⟧.serves engine.old machine.now }
+    requires can_ask { CanAsk machine.now schedule.old.plans ask.now }
+    ensures still_serves { ⟦<Engine<LiveNet> as Planner>⟧.serves engine.new machine.now }
+{
+    engine.settle(machine, &mut Schedule::new(alloc), 0)?;
+    engine.ask(machine, schedule, ask)
+}
+
 impl Planner for Both {
     ghost serves = { λ b machine. ⟦<Engine<LiveNet> as Planner>⟧.serves b.kept machine
         × ⟦<Engine<LiveNet> as Planner>⟧.serves b.afresh machine };
@@ -59,6 +89,11 @@ impl Planner for Both {
       stop_steps = λ b machine plans due b'. ⊥;
     } };
 
+    ghost moved = { λ b. ⟦<Engine<LiveNet> as Planner>⟧.moved b.kept };
+
+    ghost follows = { λ b machine plans.
+        ⟦<Engine<LiveNet> as Planner>⟧.follows b.kept machine plans };
+
     fn ask(
         &mut self,
         machine: &Machine,
@@ -68,15 +103,24 @@ impl Planner for Both {
         let Ok(mut copy) = schedule.copy(self.alloc) else {
             return Err(Halt::Memory);
         };
-        self.afresh
-            .settle(machine, &mut Schedule::new(self.alloc), 0)?;
-        let told = self.afresh.ask(machine, &mut copy, ask)?;
+        let told = ask_afresh(self.alloc, &mut self.afresh, machine, &mut copy, ask)?;
         let reply = self.kept.ask(machine, schedule, ask)?;
-        if told == reply && is_same_schedule(&copy, schedule) {
-            self.same = self.same.saturating_add(1);
-        } else {
-            self.other = self.other.saturating_add(1);
-        }
+        self.compare(told == reply && is_same_schedule(&copy, schedule));
+        Ok(reply)
+    }
+
+    fn ask_on(
+        &mut self,
+        machine: &Machine,
+        schedule: &mut Schedule,
+        ask: &Ask,
+    ) -> Result<Reply, Halt> {
+        let Ok(mut copy) = schedule.copy(self.alloc) else {
+            return Err(Halt::Memory);
+        };
+        let told = ask_afresh(self.alloc, &mut self.afresh, machine, &mut copy, ask)?;
+        let reply = self.kept.ask_on(machine, schedule, ask)?;
+        self.compare(told == reply && is_same_schedule(&copy, schedule));
         Ok(reply)
     }
 
@@ -87,6 +131,10 @@ impl Planner for Both {
         now: Tick,
     ) -> Result<(), Halt> {
         self.kept.settle(machine, schedule, now)
+    }
+
+    fn has_moved(&self) -> bool {
+        self.kept.has_moved()
     }
 }
 

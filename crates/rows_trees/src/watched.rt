@@ -68,6 +68,7 @@ impl Watched {
 }
 
 impl Planner for Watched {
+    ghost use Rattle.std.specs.Prelude.{true};
     ghost use Rattle.tp_search.specs.Engines.{EngineLasts};
     ghost use Rattle.tp_search.specs.Workspaces.{IsSpentOf};
 
@@ -84,6 +85,10 @@ impl Planner for Watched {
       steps = λ w machine plans deed plans' w'. Unit {0};
       stop_steps = λ w machine plans due w'. ⊥;
     } };
+
+    ghost moved = { λ w. true };
+
+    ghost follows = { λ w machine plans. Unit {0} };
 
     fn ask(
         &mut self,
@@ -105,6 +110,15 @@ impl Planner for Watched {
         }
     }
 
+    fn ask_on(
+        &mut self,
+        machine: &Machine,
+        schedule: &mut Schedule,
+        ask: &Ask,
+    ) -> Result<Reply, Halt> {
+        self.ask(machine, schedule, ask)
+    }
+
     fn settle(
         &mut self,
         machine: &Machine,
@@ -112,6 +126,10 @@ impl Planner for Watched {
         now: Tick,
     ) -> Result<(), Halt> {
         self.engine.settle(machine, schedule, now)
+    }
+
+    fn has_moved(&self) -> bool {
+        true
     }
 }
 

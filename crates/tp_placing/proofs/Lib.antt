@@ -69,3 +69,4 @@ pub mod NewestFacts
 pub mod NextHold
 pub mod CandidateFacts
 pub mod CandidateTried
+mod BehindCopies

@@ -89,13 +89,6 @@ split-copy copy (q ∷ plans) p in_order is = go (is_same_copy q.sheet copy) ref
         others = ap (λ c. cond (not c) (q ∷ without copy plans) (without copy plans)) e ∙ ap (λ ps. q ∷ ps) r.others;
       }
 
-pub none-without : (copy : SheetId) (plans : List Plan) → plan_of copy plans ≡ None → without copy plans ≡ plans
-none-without copy [] is = refl
-none-without copy (q ∷ plans) is = go (is_same_copy q.sheet copy) refl is (none-without copy plans) where
-  go : (a : Bool) → is_same_copy q.sheet copy ≡ a → cond a (Some q) (plan_of copy plans) ≡ None → (plan_of copy plans ≡ None → without copy plans ≡ plans) → without copy (q ∷ plans) ≡ q ∷ plans
-  go true e none rest = absurd cc
-  go false e none rest = ap (λ c. cond (not c) (q ∷ without copy plans) (without copy plans)) e ∙ ap (λ ps. q ∷ ps) (rest none)
-
 -- one plan more among those that pass a test
 pub one-more : (test : Plan → Bool) (before after : List Plan) (p : Plan)
     → (length (filter test (before ++ p ∷ after)) ≤ length (filter test (before ++ after)) + 1) × (point_count (filter test (before ++ p ∷ after)) ≤ point_count (filter test (before ++ after)) + (length p.acts + 1))

@@ -5,6 +5,7 @@ use Rattle.std.proofs.lemmas.List.Sums.{length-filter}
 use Rattle.tp_machine.specs.declared.machine.Machine.{Machine}
 use Rattle.tp_schedule.proofs.ChangeFacts.{All-plan_of}
 use Rattle.tp_schedule.proofs.Membership.{Contains-filter_from}
+use Rattle.tp_schedule.proofs.PlanOrder.{without-none}
 use Rattle.tp_schedule.specs.Answers.{IsAskedFrom, kept_from}
 use Rattle.tp_schedule.specs.Living.{is_live}
 use Rattle.tp_schedule.specs.Planning.{CanAsk, CanPlanOn, HasTimeFrom}
@@ -17,7 +18,7 @@ use Rattle.tp_choices.proofs.PastFacts.{past_points}
 use Rattle.tp_placing.specs.Loaded.{CanLoad}
 use Rattle.tp_placing.specs.Loading.{point_count}
 use Rattle.tp_placing.proofs.LiveFacts.{points-few}
-use Rattle.tp_placing.proofs.LivePart.{legal-filter, plan-none, plan-some, split-copy, none-without, one-more}
+use Rattle.tp_placing.proofs.LivePart.{legal-filter, plan-none, plan-some, split-copy, one-more}
 
 -- live plans that are few can be loaded
 pub can-load : (machine : Machine) (now : ℕ) (plans : List Plan) → CanPlanOn machine now plans → length (filter (is_live machine now) plans) ≤ 256 → CanLoad machine now (filter (is_live machine now) plans)
@@ -49,7 +50,7 @@ module _ (machine : Machine) (plans : List Plan) (ask : Ask) (can : CanAsk machi
   pub live-few : (origin : Origin) → IsAskedFrom machine plans ask origin
       → (length (filter (is_live machine ask.now) plans) ≤ 256) × (point_count (filter (is_live machine ask.now) plans) + 65 ≤ 16641 + kept_from origin) × (kept_from origin ≤ 64)
   live-few FromFeeder none =
-      let same = ap (filter (is_live machine ask.now)) (none-without ask.sheet plans none) in
+      let same = ap (filter (is_live machine ask.now)) (without-none ask.sheet plans none) in
       let l = ap length same in
       let n = ap point_count same in
       let few = others-few in

@@ -1,11 +1,9 @@
 -- A board on which no goal is open is loaded, whatever is asked of it next.
-use Rattle.std.proofs.Common.{◌≡◌, ◌∙◌, ℕ, ◌+◌, ◌<◌, ◌≤◌, false, List, [], length, All, get_or, ap, sym, subst, arith}
+use Rattle.std.proofs.Common.{◌≡◌, ◌∙◌, ℕ, ◌<◌, false, List, [], length, All, get_or, ap, sym, subst, arith}
 use Rattle.std.proofs.lemmas.List.Elements.{All-contains}
 use Rattle.tp_base.specs.Readings.{Reading}
 use Rattle.tp_base.specs.Net.{Net}
-use Rattle.tp_base.specs.declared.edges.Edge.{Edge}
 use Rattle.tp_machine.specs.declared.machine.Machine.{Machine}
-use Rattle.tp_schedule.specs.Spots.{Spot}
 use Rattle.tp_schedule.specs.Spots.Spot.{own}
 use Rattle.tp_schedule.specs.declared.parts.Ask.{Ask}
 use Rattle.tp_schedule.specs.declared.parts.Plan.{Plan}
@@ -13,7 +11,7 @@ use Rattle.tp_constraints.proofs.Lists.{contains-get, get-there}
 use Rattle.tp_constraints.specs.Gaps.{IsPoint}
 use Rattle.tp_constraints.specs.Hops.{no_choices}
 use Rattle.tp_constraints.specs.Nets.{IsLoadedNet}
-use Rattle.tp_constraints.specs.Numbers.{spot_at, spot_in, table_of}
+use Rattle.tp_constraints.specs.Numbers.{spot_in, table_of}
 use Rattle.tp_keeping.proofs.PlanHopFacts.{other_ask}
 use Rattle.tp_placing.specs.Boards.{BoardValue}
 use Rattle.tp_placing.specs.Causes.{IsNamedHop, hop_by, numbered}

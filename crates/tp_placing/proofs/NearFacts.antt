@@ -1,8 +1,8 @@
 -- The plans next to an asked copy in its line: what keeps apart from them keeps apart from all of the line.
-use Rattle.std.proofs.Common.{◌≡◌, zero, suc, ◌<◌, Bool, true, false, ◌&&◌, cond, List, [], ◌∷◌, ◌++◌, flat_map, refl, ◌⊎◌, inl, inr, sym, subst, arith, Option, Some, None, All, AllPairs, Contains, get_or, pos}
+use Rattle.std.proofs.Common.{◌≡◌, zero, suc, ◌<◌, Bool, true, false, ◌&&◌, cond, List, [], ◌∷◌, ◌++◌, refl, inl, inr, sym, subst, arith, Option, Some, None, All, AllPairs, Contains, get_or, pos}
 use Rattle.std.specs.Prelude.{◌+ℤ◌, ◌≤ℤ◌}
 use Rattle.std.proofs.lemmas.Int.{ints}
-use Rattle.std.proofs.lemmas.List.Elements.{All-append, All-cons, All-contains, All-head, All-nil, Contains-append_left, Contains-append_right, Contains-get_or}
+use Rattle.std.proofs.lemmas.List.Elements.{All-append, All-cons, All-contains, All-head, All-nil, Contains-get_or}
 use Rattle.tp_schedule.specs.Plans.{is_before}
 use Rattle.tp_schedule.specs.Spots.{Ticks}
 use Rattle.tp_schedule.specs.Spots.Spot.{own}

@@ -1,5 +1,5 @@
 -- The asked copy's plan by the steps.
-use Rattle.std.proofs.Common.{◌≡◌, ℕ, ◌+◌, ◌<◌, List, [], ◌∷◌, ◌++◌, length, take, reverse, flat_map, refl, ap, sym, ◌∙◌, subst, arith, Some, None, Option, IsSome, position, AllPairs}
+use Rattle.std.proofs.Common.{◌≡◌, ℕ, ◌+◌, ◌<◌, List, [], ◌∷◌, ◌++◌, length, take, reverse, flat_map, refl, ap, sym, ◌∙◌, subst, arith, Some, None, Option, IsSome, position, slice_get}
 use Rattle.std.specs.List.{fold}
 use Rattle.std.proofs.Math.Seq.{take-append-add, take-append_seam}
 use Rattle.std.proofs.lemmas.Grind.{common_steps, flat_map-append}
@@ -9,14 +9,13 @@ use Rattle.tp_base.proofs.SliceFacts.{found}
 use Rattle.tp_base.proofs.TraceFacts.{reverse-cons}
 use Rattle.tp_machine.specs.declared.parts.ActId.{ActId}
 use Rattle.tp_schedule.specs.Choices.{Choice, acts_of}
-use Rattle.tp_schedule.proofs.PlanOrder.{put-without}
 use Rattle.tp_constraints.specs.Suffixes.{Suffix, place_first, with_action, with_goal, with_place, with_stop}
 use Rattle.tp_placing.specs.Boards.{after_change, suffix_after}
 use Rattle.tp_placing.specs.Writing.{opened, opened_by}
 use Rattle.tp_placing.specs.declared.parts.Change.{Change}
 use Rattle.tp_placing.specs.declared.parts.Change.TheVariants.{Goal, Action, Place, Stop}
 use Rattle.tp_placing.specs.declared.parts.Step.{Step}
-use Rattle.tp_schedule.specs.Plans.{IsEarlier, change_plan, is_same_copy, plan_of, put_plan, without}
+use Rattle.tp_schedule.specs.Plans.{is_same_copy, plan_of}
 use Rattle.tp_schedule.specs.declared.parts.Plan.{Plan}
 use Rattle.tp_schedule.specs.declared.parts.SheetId.{SheetId}
 use Rattle.tp_schedule.proofs.ChangeFacts.{plan_of-at, planned-has_place}
@@ -28,6 +27,12 @@ none-planned copy plans none = go (plan_of copy plans) refl where
   go None e = refl
   go (Some p) e = absurd (planned-has_place copy plans (subst IsSome (sym e) refl) none)
 
+-- the plan at a copy's place is its plan
+pub planned-at : (copy : SheetId) (plans : List Plan) (k : ℕ) (p : Plan) → Some k ≡ position (λ q. is_same_copy q.sheet copy) plans → slice_get plans k ≡ Some p → plan_of copy plans ≡ Some p
+planned-at copy plans k p place there =
+    let within : k < length plans = grind (arith, common_steps) in
+    plan_of-at copy plans k p place within (sym (get_or_from_slice_get plans k p p there))
+
 -- a copy that has a place has a plan
 pub place-planned : (copy : SheetId) (plans : List Plan) (k : ℕ) → Some k ≡ position (λ p. is_same_copy p.sheet copy) plans → IsSome (plan_of copy plans)
 place-planned copy plans k place = go (position (λ p. is_same_copy p.sheet copy) plans) refl place where
@@ -37,14 +42,6 @@ place-planned copy plans k place = go (position (λ p. is_same_copy p.sheet copy
       let within : j < length plans = grind (arith, common_steps) in
       let p = found plans j within in
       rw (plan_of-at copy plans j p.0 (sym e) within (sym (get_or_from_slice_get plans j p.0 p.0 p.1))) refl
-
-some-plan : (o : Option Plan) → IsSome o → (p : Plan) × (o ≡ Some p)
-some-plan None h = absurd cc
-some-plan (Some p) h = (p, refl)
-
--- the plan takes the place of its copy's plan
-pub put-in_place : (q : Plan) (plans : List Plan) → AllPairs IsEarlier plans → IsSome (plan_of q.sheet plans) → change_plan q.sheet (λ _. q) plans ≡ put_plan q (without q.sheet plans)
-put-in_place q plans in_order planned = let p = some-plan (plan_of q.sheet plans) planned in sym (put-without q plans p.0 in_order p.1)
 
 -- what the steps opened
 opened-cons : (s : Step) (steps : List Step) → opened (s ∷ steps) ≡ opened steps ++ opened_by s.change

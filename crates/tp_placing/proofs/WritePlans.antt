@@ -1,10 +1,7 @@
 -- Plans that get other points.
-use Rattle.std.proofs.Common.{IsSome, Option, ◌≡◌, ℕ, zero, suc, Bool, true, false, cond, not, ◌||◌, List, [], ◌∷◌, ◌++◌, length, map, take, refl, ap, sym, ◌∙◌, subst, Some, None, All, AllPairs, get_or}
-use Rattle.std.specs.Prelude.{nat_eq, slice_get}
-use Rattle.std.specs.Cmp.Lexicographic.{pointwise}
-use Rattle.std.proofs.lemmas.Bool.Decides.{Decides-eqb}
+use Rattle.std.proofs.Common.{IsSome, Option, ◌≡◌, ℕ, zero, suc, Bool, true, false, cond, ◌||◌, List, [], ◌∷◌, ◌++◌, length, map, take, refl, ap, sym, ◌∙◌, subst, Some, None, All, AllPairs, get_or}
+use Rattle.std.specs.Prelude.{slice_get}
 use Rattle.std.proofs.lemmas.List.Elements.{All-head, All-tail}
-use Rattle.std.proofs.lemmas.Slice.Eq.{slice_eq-Decides}
 use Rattle.tp_base.proofs.SliceFacts.{All-at}
 use Rattle.tp_schedule.proofs.CopyFacts.{NotOf, before-not_same, before-not_same', same_copy-is, same_copy-refl}
 use Rattle.tp_schedule.proofs.Pairs.{AllPairs-head, AllPairs-map, AllPairs-tail}

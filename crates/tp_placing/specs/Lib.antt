@@ -14,3 +14,4 @@ pub mod Reasons
 pub mod Walking
 pub mod Growing
 pub mod Candidates
+pub mod Following

@@ -1,5 +1,5 @@
 -- The network of a loaded schedule: its points one plan after another, and an edge for each of its gaps.
-use Rattle.std.specs.Prelude.{◌≡◌, ℕ, zero, suc, ◌+◌, ◌<◌, ◌≤◌, false, List, [], ◌∷◌, ◌++◌, flat_map, length, pos, Option, Some, None, slice_get, All, if◌then◌else◌}
+use Rattle.std.specs.Prelude.{◌≡◌, ℕ, zero, suc, ◌+◌, ◌<◌, ◌≤◌, false, List, [], ◌∷◌, ◌++◌, flat_map, length, Option, Some, None, slice_get, All, if◌then◌else◌}
 use Rattle.tp_base.specs.Net.{Net}
 use Rattle.tp_base.specs.declared.edges.Edge.{Edge}
 use Rattle.tp_base.specs.declared.edges.PointId.{PointId}
@@ -13,10 +13,10 @@ use Rattle.tp_schedule.specs.Times.{ticks_from}
 use Rattle.tp_schedule.specs.declared.parts.Plan.{Plan}
 use Rattle.tp_constraints.specs.Gaps.{low_of, cap_of, is_same_line}
 use Rattle.tp_timelines.specs.Orders.{order_on}
-use Rattle.tp_placing.specs.Causes.{line_tag, cause_between}
+use Rattle.tp_placing.specs.Causes.{cause_between}
 use Rattle.tp_placing.specs.declared.causes.Cause.{Cause}
 use Rattle.tp_placing.specs.declared.parts.Held.{Held}
-use Rattle.tp_placing.specs.Edges.{edge_of, duration_edges, hold_edge, line_edge}
+use Rattle.tp_placing.specs.Edges.{duration_edges, hold_edge, line_edge}
 
 abbrev pub point_id : ℕ → PointId
 point_id n = record { 0 = n }

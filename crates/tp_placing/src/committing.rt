@@ -1,7 +1,7 @@
 //! The plan on a board, written into the schedule.
-ghost use Rattle.std.specs.Prelude.{◌≡◌, ◌+◌, ◌<◌, ◌≤◌, IsSome, IsSomeAnd, None};
+ghost use Rattle.std.specs.Prelude.{◌≡◌, ◌+◌, ◌<◌, ◌≤◌, false, IsSome, IsSomeAnd, None};
 ghost use Rattle.tp_schedule.specs.Answers.{IsAlternative, IsLeast, follows_front};
-ghost use Rattle.tp_schedule.specs.Plans.{end_of_plan, plan_of};
+ghost use Rattle.tp_schedule.specs.Plans.{end_of_plan, plan_of, without};
 ghost use Rattle.tp_schedule.specs.Spots.Spot.{own};
 ghost use Rattle.tp_placing.specs.Boards.{suffix_of};
 ghost use Rattle.tp_placing.specs.Standing.{Stands};
@@ -17,8 +17,8 @@ use tp_schedule::Schedule;
 
 impl<N: Network> Board<N> {
     /// Writes the asked copy's plan and the times of all loaded plans into the schedule that the board was loaded from. Takes
-    /// one spare plan for a new copy, and no memory.
-    pub fn commit(&self, machine: &Machine, schedule: &mut Schedule)
+    /// one spare plan for a new copy, and no memory. Answers whether another plan moved.
+    pub fn commit(&self, machine: &Machine, schedule: &mut Schedule) -> bool
         requires stands { Stands N.reading self.now machine.now }
         requires loaded { IsSomeAnd self.now.ask
             (λ ask. IsLoadedFrom machine.now schedule.old.plans ask self.now.plans) }
@@ -31,6 +31,9 @@ impl<N: Network> Board<N> {
             × HasLeastTick machine.now self.now (own 0) (end_of_plan a.plan)) }
         ensures least { IsSomeAnd self.now.ask
             (λ ask. IsLeast machine.now ask.now (follows_front ask) schedule.new.plans) }
+        ensures unmoved { result ≡ false → IsSomeAnd self.now.ask
+            (λ ask. without ask.sheet schedule.new.plans
+            ≡ without ask.sheet schedule.old.plans) }
         ensures new_copy { IsSomeAnd self.now.ask
             (λ ask. plan_of ask.sheet schedule.old.plans ≡ None → schedule.new.spare + 1
             ≡ schedule.old.spare) }
@@ -44,8 +47,9 @@ impl<N: Network> Board<N> {
             count: newest.first.0 - self.last.0,
             start: newest.first,
         };
-        write_times(&self.net, &self.plans, &self.firsts, schedule);
+        let moved = write_times(&self.net, &self.plans, &self.firsts, schedule);
         let plan = plan_by_steps(&self.net, &self.plans, &self.firsts, &ask, &self.steps, own);
         write_plan(schedule, plan);
+        moved
     }
 }

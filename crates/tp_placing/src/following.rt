@@ -1,11 +1,13 @@
 //! Whether a board's plans are the live ones of a schedule, with more behind them or none; and what a plan more is held against.
-ghost use Rattle.std.specs.Prelude.{◌≡◌, ℕ, ◌+◌, ◌<◌, ◌≤◌, ◌^◌, ◌++◌, ◌∷◌, [], filter, length, slice_get, slice_index, take, true, All, Some, vec_capacity};
+ghost use Rattle.std.specs.Prelude.{◌≡◌, ℕ, ◌+◌, ◌<◌, ◌≤◌, ◌^◌, ◌++◌, ◌∷◌, [], filter, length, slice_get, slice_index, take, true, All, AllPairs, Some, vec_capacity};
 ghost use Rattle.tp_base.specs.Grows.{IsKnown};
 ghost use Rattle.tp_base.specs.Net.{Keeps};
 ghost use Rattle.tp_base.specs.declared.edges.PointId.{PointId as PointValue};
 ghost use Rattle.tp_schedule.specs.Living.{is_live};
+ghost use Rattle.tp_schedule.specs.Plans.{IsEarlier, is_before, without};
 ghost use Rattle.tp_schedule.specs.declared.parts.Plan.{Plan as PlanValue};
 ghost use Rattle.tp_placing.specs.Growing.{IsLineEnd, KeepEdges};
+ghost use Rattle.tp_placing.specs.Following.{HoldsOthers};
 ghost use Rattle.tp_placing.specs.Loading.{HasPoints, firsts_from};
 ghost use Rattle.tp_placing.specs.LoadedHolds.{ticks_in};
 
@@ -14,7 +16,7 @@ use crate::kept_plans::is_live;
 use crate::kept_ticks::tick_at;
 use tp_base::{Edge, PointId, Tick};
 use tp_machine::Machine;
-use tp_schedule::{Plan, Schedule};
+use tp_schedule::{Ask, Origin, Plan, Schedule, SheetId, is_earlier};
 
 /// Whether both plans have the same actions at the same points.
 fn is_same_way(one: &Plan, other: &Plan) -> bool
@@ -104,6 +106,75 @@ pub(crate) fn follow_live(
         }
     }
     seen == plans.len()
+}
+
+/// Whether all plans, which stand in the order of copies, are of copies before this one.
+fn are_before(plans: &[Plan], copy: SheetId) -> bool
+    requires in_order { AllPairs IsEarlier plans.now }
+    ensures { result ≡ true → All (λ p. is_before p.sheet copy ≡ true) plans.now }
+{
+    if plans.is_empty() {
+        return true;
+    }
+    is_earlier(plans[plans.len() - 1].sheet, copy)
+}
+
+/// Adds the plan of a copy, where the plans are the other live ones of the schedule. Answers whether they are all of them then:
+/// they are not where the plan would not stand behind them, or is not live.
+pub(crate) fn follow_copy(
+    plans: &mut Vec<Plan>,
+    machine: &Machine,
+    schedule: &Schedule,
+    copy: SheetId,
+    now: Tick,
+) -> bool
+    requires others { filter (is_live machine.now now) (without copy schedule.now.plans)
+        ≡ plans.old.items }
+    requires space { length (filter (is_live machine.now now) schedule.now.plans)
+        ≤ vec_capacity plans.old }
+    ensures live { result ≡ true
+        → plans.new.items ≡ filter (is_live machine.now now) schedule.now.plans }
+    ensures kept { take (length plans.old.items) plans.new.items ≡ plans.old.items }
+    ensures more { length plans.old.items ≤ length plans.new.items }
+    ensures space { vec_capacity plans.old ≤ vec_capacity plans.new }
+{
+    schedule.ordered();
+    let Some(at) = schedule.find(copy) else {
+        return true;
+    };
+    let plan = schedule.plan_at(at);
+    if !is_live(machine, now, plan) || !are_before(plans, copy) {
+        return false;
+    }
+    plans.push_reserved(plan.copy());
+    true
+}
+
+/// Adds the live plans of the schedule that stand behind these, where the first ones are these, at the moment of the ask
+/// before. It looks at each of them, unless these are known to be the others than the plan of a new copy that was asked.
+/// Answers whether they are the live ones then.
+pub(crate) fn follow_plans(
+    plans: &mut Vec<Plan>,
+    machine: &Machine,
+    schedule: &Schedule,
+    before: &Ask,
+    known: bool,
+) -> bool
+    requires known { known ≡ true
+        → HoldsOthers machine.now before.now schedule.now.plans plans.old.items }
+    requires space { length (filter (is_live machine.now before.now.now) schedule.now.plans)
+        ≤ vec_capacity plans.old }
+    ensures live { result ≡ true → plans.new.items
+        ≡ filter (is_live machine.now before.entry.now.now) schedule.now.plans }
+    ensures kept { take (length plans.old.items) plans.new.items ≡ plans.old.items }
+    ensures more { length plans.old.items ≤ length plans.new.items }
+    ensures space { vec_capacity plans.old ≤ vec_capacity plans.new }
+{
+    if known && before.origin == Origin::Feeder {
+        follow_copy(plans, machine, schedule, before.sheet, before.now)
+    } else {
+        follow_live(plans, machine, schedule, before.now)
+    }
 }
 
 /// Whether the plans' own ticks keep the edge.

@@ -1,34 +1,26 @@
 //! A board that lives on from ask to ask: it follows the schedule where it can, and is loaded afresh elsewhere.
-ghost use Rattle.std.specs.Prelude.{◌≡◌, ◌≤◌, [], filter, true, Some};
+ghost use Rattle.std.specs.Prelude.{◌≡◌, ◌≤◌, [], filter, length, true, IsSomeAnd, Some};
 ghost use Rattle.tp_schedule.specs.Living.{is_live};
 ghost use Rattle.tp_schedule.specs.Planning.{CanAsk};
-ghost use Rattle.tp_schedule.specs.declared.parts.Ask.{Ask as AskValue};
 ghost use Rattle.tp_placing.specs.Boards.{past_of};
+ghost use Rattle.tp_placing.specs.Following.{HoldsOthers};
 ghost use Rattle.tp_placing.specs.Loaded.{CanLoad, IsLoaded};
 ghost use Rattle.tp_placing.specs.Loading.{point_count};
 ghost use Rattle.tp_placing.specs.Standing.{IsMadeFor, Stands};
 
 use crate::board::Board;
-use crate::following::follow_live;
+use crate::following::follow_plans;
 use crate::loading::start_floor;
 use tp_base::{Network, Tick};
 use tp_machine::Machine;
 use tp_schedule::{Ask, Schedule};
 
-/// Whether an ask was asked at the moment.
-fn is_of_moment(ask: Option<Ask>, now: Tick) -> bool
-    ensures { result ≡ true → (before : AskValue) → ask ≡ Some before → before.now ≡ now }
-{
-    match ask {
-        Some(before) => before.now == now,
-        None => false,
-    }
-}
-
 impl<N: Network> Board<N> {
     /// Follows the plans that are live at the moment, where it is that of the ask before, and where they are those that the
     /// board holds, or one more behind them. Answers whether the board is loaded with them.
-    fn follow(&mut self, machine: &Machine, schedule: &Schedule, now: Tick) -> bool
+    fn follow(&mut self, machine: &Machine, schedule: &Schedule, now: Tick, known: bool) -> bool
+        requires known { known ≡ true → IsSomeAnd self.old.ask
+            (λ before. HoldsOthers machine.now before schedule.now.plans self.old.plans) }
         requires made { IsMadeFor self.old.made_for machine.now }
         requires can { CanLoad machine.now now
             (filter (is_live machine.now now) schedule.now.plans) }
@@ -46,11 +38,12 @@ impl<N: Network> Board<N> {
         ensures past { past_of N.reading self.new ≡ [] }
         ensures marks { N.reading.max_marks self.new.net ≡ N.reading.max_marks self.old.net }
     {
-        if !is_of_moment(self.ask, now) {
+        let Some(before) = self.ask else { return false };
+        if before.now != now {
             return false;
         }
         let count = self.plans.len();
-        if !follow_live(&mut self.plans, machine, schedule, now) {
+        if !follow_plans(&mut self.plans, machine, schedule, &before, known) {
             return false;
         }
         if self.plans.len() == count {
@@ -65,8 +58,11 @@ impl<N: Network> Board<N> {
 
     /// Holds the schedule's live plans from now on, to be asked this, as `load` does. What the board holds stays where it still
     /// fits: at the moment of the ask before, where no plan but a new one behind all others changed. Costs a step for each
-    /// live point then, and elsewhere as much as `load`. Takes no memory.
-    pub fn renew(&mut self, machine: &Machine, schedule: &Schedule, ask: &Ask)
+    /// live plan then, or for the new plan alone where the others are known to be those that it holds; and elsewhere as much
+    /// as `load`. Takes no memory.
+    pub fn renew(&mut self, machine: &Machine, schedule: &Schedule, ask: &Ask, known: bool)
+        requires known { known ≡ true → IsSomeAnd self.old.ask
+            (λ before. HoldsOthers machine.now before schedule.now.plans self.old.plans) }
         requires made { IsMadeFor self.old.made_for machine.now }
         requires can_ask { CanAsk machine.now schedule.now.plans ask.now }
         requires stands { Stands N.reading self.old machine.now }
@@ -81,7 +77,7 @@ impl<N: Network> Board<N> {
         ensures past { past_of N.reading self.new ≡ [] }
         ensures marks { N.reading.max_marks self.new.net ≡ N.reading.max_marks self.old.net }
     {
-        if self.follow(machine, schedule, ask.now) {
+        if self.follow(machine, schedule, ask.now, known) {
             self.floor = start_floor(machine, ask);
             self.horizon = ask.now + machine.window;
             self.ask = Some(*ask);

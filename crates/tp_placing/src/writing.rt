@@ -1,5 +1,5 @@
 //! The times of a network's least solution, written into a schedule.
-ghost use Rattle.std.specs.Prelude.{◌≡◌, ℕ, suc, ◌+◌, ◌^◌, ◌<◌, ◌≤◌, All, AllPairs, length, map, true, IsSome, Some, None};
+ghost use Rattle.std.specs.Prelude.{◌≡◌, ℕ, suc, ◌+◌, ◌^◌, ◌<◌, ◌≤◌, All, AllPairs, length, map, false, true, IsSome, Some, None};
 ghost use Rattle.tp_base.specs.Net.{HasLeast, IsLeast};
 ghost use Rattle.tp_schedule.specs.Plans.{IsEarlier, IsFormed, change_plan, plan_of, put_plan, with_points, without};
 ghost use Rattle.tp_schedule.specs.Spots.{Ticks};
@@ -42,8 +42,8 @@ fn have_times<N: Network>(net: &N, first: PointId, times: &[Tick]) -> bool
     true
 }
 
-/// Gives a plan of the schedule its least times. Writes nothing where it has them.
-fn write_points<N: Network>(net: &N, plan: &Plan, first: PointId, schedule: &mut Schedule)
+/// Gives a plan of the schedule its least times. Writes nothing where it has them. Answers whether it did write.
+fn write_points<N: Network>(net: &N, plan: &Plan, first: PointId, schedule: &mut Schedule) -> bool
     requires formed { IsFormed plan.now }
     requires planned { plan_of plan.now.sheet schedule.old.plans ≡ Some plan.now }
     requires known { first.0 + length plan.now.acts < length (N.reading.net net.now).lows }
@@ -51,21 +51,24 @@ fn write_points<N: Network>(net: &N, plan: &Plan, first: PointId, schedule: &mut
     ensures plans { (sol : ℕ → ℕ) → IsLeast (N.reading.net net.now) sol → schedule.new.plans
         ≡ change_plan plan.now.sheet
         (with_points (ticks_from sol first.0 (suc (length plan.now.acts)))) schedule.old.plans }
+    ensures unmoved { result ≡ false → schedule.new.plans ≡ schedule.old.plans }
     ensures spare { schedule.new.spare ≡ schedule.old.spare }
 {
-    if !have_times(net, first, plan.points.as_slice()) {
-        let points = times_from(net, first, plan.acts.len() + 1);
-        schedule.set_points(plan.sheet, &points);
+    if have_times(net, first, plan.points.as_slice()) {
+        return false;
     }
+    let points = times_from(net, first, plan.acts.len() + 1);
+    schedule.set_points(plan.sheet, &points);
+    true
 }
 
-/// Gives each of the loaded plans its least times in the schedule.
+/// Gives each of the loaded plans its least times in the schedule. Answers whether one had others.
 pub(crate) fn write_times<N: Network>(
     net: &N,
     plans: &[Plan],
     firsts: &[PointId],
     schedule: &mut Schedule,
-)
+) -> bool
     requires firsts { AreFirsts 0 plans.now firsts.now }
     requires known { length (table_of plans.now) ≤ length (N.reading.net net.now).lows }
     requires fits { length (table_of plans.now) < 2 ^ 32 }
@@ -76,11 +79,16 @@ pub(crate) fn write_times<N: Network>(
     requires solved { HasLeast (N.reading.net net.now) }
     ensures times { (t : Ticks) → AreLeastTicks (N.reading.net net.now) (table_of plans.now) t
         → schedule.new.plans ≡ map (retimed_in plans.now t) schedule.old.plans }
+    ensures unmoved { result ≡ false → schedule.new.plans ≡ schedule.old.plans }
     ensures spare { schedule.new.spare ≡ schedule.old.spare }
 {
+    let mut moved = false;
     for (at, plan) in plans.iter().enumerate() {
-        write_points(net, plan, firsts[at], schedule);
+        if write_points(net, plan, firsts[at], schedule) {
+            moved = true;
+        }
     }
+    moved
 }
 
 /// Puts the plan into the schedule, in place of its copy's plan where there is one.

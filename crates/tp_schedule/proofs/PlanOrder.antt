@@ -1,5 +1,5 @@
 -- A plan put in its place keeps the order of copies, and what is known of earlier and later plans.
-use Rattle.std.proofs.Common.{Some, ◌≡◌, ◌⊎◌, inl, inr, Bool, true, false, cond, not, List, [], ◌∷◌, refl, ap, arith, Contains, All, AllPairs, subst, get_or, IsTrue}
+use Rattle.std.proofs.Common.{None, Option, Some, sym, IsSome, ◌≡◌, ◌⊎◌, inl, inr, Bool, true, false, cond, not, List, [], ◌∷◌, refl, ap, arith, Contains, All, AllPairs, subst, get_or, IsTrue}
 use Rattle.std.proofs.lemmas.List.Elements.{All-cons, All-head, All-tail, All-nil, All-contains}
 use Rattle.tp_schedule.proofs.CopyFacts.{before-not_same', same_copy-is, InOrder, before-asym, NotOf, before-trans, before-other}
 use Rattle.tp_schedule.proofs.Pairs.{AllPairs-head, AllPairs-tail, AllPairs-cons}
@@ -114,3 +114,18 @@ put-without q (p ∷ plans) old in_order e =
           let before : is_before p.sheet q.sheet ≡ true = behind plans old some (AllPairs-head Before p plans in_order) in
           let not-after : is_before q.sheet p.sheet ≡ false = before-asym p.sheet q.sheet before in
           rw not-after (ap (λ xs. p ∷ xs) (rest some))
+
+-- and so where it is known to have one
+pub put-in_place : (q : Plan) (plans : List Plan) → InOrder plans → IsSome (plan_of q.sheet plans) → change_plan q.sheet (λ _. q) plans ≡ put_plan q (without q.sheet plans)
+put-in_place q plans in_order planned = go (plan_of q.sheet plans) refl planned where
+  go : (o : Option Plan) → plan_of q.sheet plans ≡ o → IsSome o → change_plan q.sheet (λ _. q) plans ≡ put_plan q (without q.sheet plans)
+  go None is planned' = absurd cc
+  go (Some old) is planned' = sym (put-without q plans old in_order is)
+
+-- without a copy that has no plan they are all
+pub without-none : (copy : SheetId) (plans : List Plan) → plan_of copy plans ≡ None → without copy plans ≡ plans
+without-none copy [] none = refl
+without-none copy (q ∷ plans) none = go (is_same_copy q.sheet copy) none (without-none copy plans) where
+  go : (b : Bool) → cond b (Some q) (plan_of copy plans) ≡ None → (plan_of copy plans ≡ None → without copy plans ≡ plans) → cond (not b) (q ∷ without copy plans) (without copy plans) ≡ q ∷ plans
+  go true none' rest = absurd cc
+  go false none' rest = ap (λ ps. q ∷ ps) (rest none')

@@ -1,7 +1,6 @@
 -- The steps of opening an action: no action leads to the list, or it is late, or its holds are placed.
 use Rattle.std.proofs.Common.{◌≡◌, ◌⊎◌, inl, inr, false, ◌+◌, ◌<◌, ◌≤◌, ℕ, IsSomeAnd, List, [], ◌∷◌, length, refl, sym, ap, subst, arith}
 use Rattle.tp_base.specs.Readings.{Reading}
-use Rattle.tp_base.specs.Net.{Net}
 use Rattle.tp_machine.specs.declared.parts.ActId.{ActId}
 use Rattle.tp_machine.specs.declared.parts.State.{State}
 use Rattle.tp_machine.specs.declared.machine.Machine.{Machine}

@@ -1,7 +1,6 @@
 -- An answer that a search found can be committed, and what holds on the loaded plans holds on the whole schedule.
 use Rattle.std.proofs.Common.{◌≡◌, ℕ, ◌<◌, List, length, filter, Some, IsSomeAnd, sym, subst, ◌∙◌, arith}
 use Rattle.tp_base.specs.Readings.{Reading}
-use Rattle.tp_base.specs.Net.{Net}
 use Rattle.tp_machine.specs.Machines.{IsMachine}
 use Rattle.tp_machine.specs.declared.machine.Machine.{Machine}
 use Rattle.tp_schedule.specs.Answers.{IsAlternative, NoneBefore}

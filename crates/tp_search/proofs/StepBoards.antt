@@ -2,7 +2,6 @@
 use Rattle.std.proofs.Common.{◌≡◌, ℕ, List, ◌∷◌, ◌++◌, length, Some, sym, ap, subst, ◌∙◌}
 use Rattle.std.proofs.lemmas.Option.{same_Some}
 use Rattle.tp_base.specs.Readings.{Reading}
-use Rattle.tp_base.specs.Net.{Net}
 use Rattle.tp_machine.specs.declared.machine.Machine.{Machine}
 use Rattle.tp_schedule.specs.Answers.{IsAlternative, IsAsked, NoneBefore}
 use Rattle.tp_schedule.specs.Choices.{IsBound}

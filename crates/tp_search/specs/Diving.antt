@@ -1,7 +1,6 @@
 -- A dive: from a list on a board to a complete one, by one choice more at each step.
 use Rattle.std.specs.Prelude.{◌≡◌, ℕ, suc, ◌≤◌, List, ◌∷◌, length}
 use Rattle.tp_base.specs.Readings.{Reading}
-use Rattle.tp_base.specs.Net.{Net}
 use Rattle.tp_machine.specs.Using.{action_at}
 use Rattle.tp_machine.specs.declared.parts.ActId.{ActId}
 use Rattle.tp_machine.specs.declared.parts.State.{State}

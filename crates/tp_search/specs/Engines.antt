@@ -1,8 +1,7 @@
 -- A workspace and a board that answer asks together.
-use Rattle.std.specs.Prelude.{◌≡◌, ℕ, ◌≤◌, ◌==◌, ◌&&◌, Bool, true, IsTrue, List, [], ◌∷◌, ◌++◌, length, Option, Some, None, IsSomeAnd}
+use Rattle.std.specs.Prelude.{◌≡◌, ℕ, ◌≤◌, ◌==◌, ◌&&◌, Bool, false, true, IsTrue, List, [], ◌∷◌, ◌++◌, length, Option, Some, None, IsSomeAnd}
 use Rattle.std.specs.Bool.{MatchBool}
 use Rattle.tp_base.specs.Readings.{Reading}
-use Rattle.tp_base.specs.Net.{Net}
 use Rattle.tp_bounds.specs.declared.tree.BoundTree.{BoundTree}
 use Rattle.tp_machine.specs.declared.machine.Machine.{Machine}
 use Rattle.tp_schedule.specs.Planning.{Deed}
@@ -17,16 +16,18 @@ use Rattle.tp_trees.specs.Short.{IsShortTreeFor}
 use Rattle.tp_trees.specs.declared.claim.Claim.TheVariants.{Earliest, Never as NeverClaim}
 use Rattle.tp_placing.specs.Inside.{most_steps}
 use Rattle.tp_placing.specs.Boards.{BoardValue}
+use Rattle.tp_placing.specs.Following.{HoldsOthers}
 use Rattle.tp_placing.specs.declared.parts.MadeFor.{MadeFor}
 use Rattle.tp_search.specs.Boards.{IsAtRest}
 use Rattle.tp_search.specs.Workspaces.{WorkspaceValue}
 
--- what a search takes memory for, the board that it runs on, and whether that is kept from ask to ask; whether answers are shown
--- by trees, and the trees so far
+-- what a search takes memory for, the board that it runs on, and whether that is kept from ask to ask; whether the last answer
+-- moved another plan; whether answers are shown by trees, and the trees so far
 pub record EngineValue (N : Type 0) : Type 0 where
   pub work : WorkspaceValue
   pub board : BoardValue N
   pub kept : Bool
+  pub moved : Bool
   pub bounds : Bool
   pub trees : List BoundTree
 
@@ -47,6 +48,14 @@ is_engine_for e machine = e.work.locations == length machine.locations && e.work
 pub record Serves {N : Type 0} (reading : Reading N) (e : EngineValue N) (machine : Machine) : Type 0 where
   pub made : IsTrue (is_engine_for e machine)
   pub rests : e.kept ≡ true → IsAtRest reading e.board machine
+
+-- its board holds all plans but that of the new copy that was asked last
+abbrev pub HoldsPlans : {N : Type 0} → Machine → EngineValue N → List Plan → Type 0
+HoldsPlans machine e plans = IsSomeAnd e.board.ask (λ ask. HoldsOthers machine ask plans e.board.plans)
+
+-- so it is with the plans that its last answer left, if that moved no other plan
+abbrev pub Follows : {N : Type 0} → Machine → EngineValue N → List Plan → Type 0
+Follows machine e plans = e.moved ≡ false → HoldsPlans machine e plans
 
 -- where the deed is the answer that there is no plan, no more different lists with choices are open than nodes
 abbrev pub HasFewLists : ℕ → Machine → List Plan → Deed → Type 0

@@ -1,10 +1,11 @@
 //! The answer to an ask on a schedule: the earliest plan, that there is none, or that the budget is spent.
-ghost use Rattle.std.specs.Prelude.{◌≡◌, ◌≢◌, ◌+◌, ◌<◌, ◌≤◌, List, None, Some, IfErr, IfOk, IsSome, OnErr};
+ghost use Rattle.std.specs.Prelude.{◌≡◌, ◌≢◌, ◌+◌, ◌<◌, ◌≤◌, false, List, None, Some, IfErr, IfOk, IsSome, OnErr};
 ghost use Rattle.tp_schedule.specs.Planning.{CanAsk, IsAnswer};
-ghost use Rattle.tp_schedule.specs.Plans.{plan_of};
+ghost use Rattle.tp_schedule.specs.Plans.{plan_of, without};
 ghost use Rattle.tp_schedule.specs.Spending.{FewListsOpen};
 ghost use Rattle.tp_schedule.specs.declared.parts.Reply.TheVariants.{Never, Planned};
 ghost use Rattle.tp_schedule.specs.declared.parts.Plan.{Plan};
+ghost use Rattle.tp_placing.specs.Calls.{IsSameLoad};
 ghost use Rattle.tp_placing.specs.Inside.{most_steps};
 ghost use Rattle.tp_placing.specs.Standing.{IsMadeFor};
 ghost use Rattle.tp_placing.specs.Writing.{IsLoadedFrom};
@@ -56,7 +57,14 @@ pub fn answer<N: Network>(
     ensures rests { IsAtRest N.reading board.new machine.now }
 {
     board.load(machine, schedule, ask);
-    answer_loaded(work, board, machine, schedule, ask)
+    answer_loaded(work, board, machine, schedule, ask).reply
+}
+
+/// What an ask is answered, and whether a plan moved other than the asked copy's.
+#[derive(Clone, Copy)]
+pub(crate) struct Answered {
+    pub(crate) reply: Reply,
+    pub(crate) moved: bool,
 }
 
 /// Answers the ask for which the board is loaded, as `answer` does.
@@ -66,7 +74,7 @@ pub(crate) fn answer_loaded<N: Network>(
     machine: &Machine,
     schedule: &mut Schedule,
     ask: &Ask,
-) -> Reply
+) -> Answered
     requires work { IsFor work.old machine.now }
     requires marks { 8 ≤ N.reading.max_marks board.old.net }
     requires loaded { IsLoadedFrom machine.now schedule.old.plans ask.now board.old.plans }
@@ -74,29 +82,40 @@ pub(crate) fn answer_loaded<N: Network>(
     requires rests { IsAtRest N.reading board.old machine.now }
     requires spare { plan_of ask.now.sheet schedule.old.plans ≡ None → 0 < schedule.old.spare }
     ensures answer { IsAnswer
-        (IsSpentOf work.old.nodes) machine.now schedule.old.plans ask.entry.now result
+        (IsSpentOf work.old.nodes) machine.now schedule.old.plans ask.entry.now result.reply
         schedule.new.plans }
-    ensures few { result ≡ Never
+    ensures few { result.reply ≡ Never
         → FewListsOpen machine.now schedule.old.plans ask.entry.now work.old.nodes }
-    ensures new_copy { result ≡ Planned
+    ensures new_copy { result.reply ≡ Planned
         → plan_of ask.entry.now.sheet schedule.old.plans ≡ None
         → schedule.new.spare + 1 ≡ schedule.old.spare }
-    ensures in_flight { result ≡ Planned
+    ensures in_flight { result.reply ≡ Planned
         → IsSome (plan_of ask.entry.now.sheet schedule.old.plans)
         → schedule.new.spare ≡ schedule.old.spare }
-    ensures stays { result ≢ Planned → schedule.new ≡ schedule.old }
+    ensures stays { result.reply ≢ Planned → schedule.new ≡ schedule.old }
+    ensures unmoved { result.moved ≡ false → without ask.entry.now.sheet schedule.new.plans
+        ≡ without ask.entry.now.sheet schedule.old.plans }
     ensures work { work.new ≡ work.old }
-    ensures board { board.new.made_for ≡ board.old.made_for }
+    ensures loaded { IsSameLoad board.old board.new }
     ensures marks { N.reading.max_marks board.new.net ≡ N.reading.max_marks board.old.net }
     ensures rests { IsAtRest N.reading board.new machine.now }
 {
     match plan(board, work, machine, ask) {
         Ok(trial) => {
-            trial.commit(machine, schedule);
-            Reply::Planned
+            let moved = trial.commit(machine, schedule);
+            Answered {
+                reply: Reply::Planned,
+                moved,
+            }
         }
-        Err(NoPlan::Never) => Reply::Never,
-        Err(NoPlan::Spent { bound }) => Reply::Spent { bound },
+        Err(NoPlan::Never) => Answered {
+            reply: Reply::Never,
+            moved: false,
+        },
+        Err(NoPlan::Spent { bound }) => Answered {
+            reply: Reply::Spent { bound },
+            moved: false,
+        },
     }
 }
 
@@ -137,7 +156,7 @@ pub(crate) fn earliest_end<N: Network>(
 /// An answer with the tree that proves it, where it is a plan or a none.
 #[derive(Drop)]
 pub(crate) struct Shown {
-    pub(crate) reply: Reply,
+    pub(crate) answered: Answered,
     pub(crate) tree: Option<BoundTree>,
 }
 
@@ -158,24 +177,30 @@ pub(crate) fn answer_with_tree<N: Network>(
     requires rests { IsAtRest N.reading board.old machine.now }
     requires spare { plan_of ask.now.sheet schedule.old.plans ≡ None → 0 < schedule.old.spare }
     ensures answer { IfOk result (λ shown. IsAnswer
-        (IsSpentOf work.old.nodes) machine.now schedule.old.plans ask.entry.now shown.reply
+        (IsSpentOf work.old.nodes) machine.now schedule.old.plans ask.entry.now shown.answered.reply
         schedule.new.plans) }
     ensures tree { IfOk result (λ shown. HasTree machine.now schedule.old.plans ask.entry.now
-        schedule.new.plans shown.reply shown.tree) }
-    ensures few { IfOk result (λ shown. shown.reply ≡ Never
+        schedule.new.plans shown.answered.reply shown.tree) }
+    ensures few { IfOk result (λ shown. shown.answered.reply ≡ Never
         → FewListsOpen machine.now schedule.old.plans ask.entry.now work.old.nodes) }
+    ensures unmoved { IfOk result (λ shown. shown.answered.moved ≡ false
+        → without ask.entry.now.sheet schedule.new.plans
+        ≡ without ask.entry.now.sheet schedule.old.plans) }
     ensures stays { OnErr result (schedule.new ≡ schedule.old) }
     ensures work { work.new ≡ work.old }
-    ensures board { board.new.made_for ≡ board.old.made_for }
+    ensures loaded { IsSameLoad board.old board.new }
     ensures marks { N.reading.max_marks board.new.net ≡ N.reading.max_marks board.old.net }
     ensures rests { IsAtRest N.reading board.new machine.now }
 {
     match plan(board, work, machine, ask) {
         Ok(mut trial) => match trial.show(alloc, work, machine) {
             Ok(tree) => {
-                trial.commit(machine, schedule);
+                let moved = trial.commit(machine, schedule);
                 Ok(Shown {
-                    reply: Reply::Planned,
+                    answered: Answered {
+                        reply: Reply::Planned,
+                        moved,
+                    },
                     tree: Some(tree),
                 })
             }
@@ -186,13 +211,19 @@ pub(crate) fn answer_with_tree<N: Network>(
         },
         Err(NoPlan::Never) => match show_never(alloc, work, board, machine, ask) {
             Ok(tree) => Ok(Shown {
-                reply: Reply::Never,
+                answered: Answered {
+                    reply: Reply::Never,
+                    moved: false,
+                },
                 tree: Some(tree),
             }),
             Err(error) => Err(error),
         },
         Err(NoPlan::Spent { bound }) => Ok(Shown {
-            reply: Reply::Spent { bound },
+            answered: Answered {
+                reply: Reply::Spent { bound },
+                moved: false,
+            },
             tree: None,
         }),
     }

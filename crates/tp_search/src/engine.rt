@@ -1,16 +1,18 @@
 //! A workspace and a board as a planner.
-ghost use Rattle.std.specs.Prelude.{◌≡◌, ◌<◌, ◌≤◌, ◌⊎◌, ◌++◌, [], Some, IfErr, IfOk, IsOk, IsTrue, OnErr, OnOk, vec_capacity, vec_len};
+ghost use Rattle.std.specs.Prelude.{◌≡◌, ◌<◌, ◌≤◌, ◌⊎◌, ◌++◌, [], false, true, Some, IfErr, IfOk, IsOk, IsTrue, OnErr, OnOk, vec_capacity, vec_len};
 ghost use Rattle.tp_schedule.specs.Planning.{CanAsk, CanSettle, HasTimeFrom, IsAnswer, IsSettled};
 ghost use Rattle.tp_schedule.specs.Planning.Deed.{replied};
+ghost use Rattle.tp_schedule.specs.Plans.{without};
 ghost use Rattle.tp_schedule.specs.declared.parts.Origin.TheVariants.{Feeder};
+ghost use Rattle.tp_placing.specs.Calls.{IsSameLoad};
 ghost use Rattle.tp_placing.specs.Inside.{most_edges, most_points, most_steps};
 ghost use Rattle.tp_placing.specs.Writing.{IsLoadedFrom};
 ghost use Rattle.tp_search.specs.Boards.{IsAtRest};
-ghost use Rattle.tp_search.specs.Engines.{AddsTree, EngineLasts, HasFewLists, IsSameEngine, KeepsTrees, Serves, StepsOn, list_of};
+ghost use Rattle.tp_search.specs.Engines.{AddsTree, EngineLasts, Follows, HasFewLists, HoldsPlans, IsSameEngine, KeepsTrees, Serves, StepsOn, list_of};
 ghost use Rattle.tp_search.specs.Trials.{EndsEarliest, IsNoPlan};
 ghost use Rattle.tp_search.specs.Workspaces.{IsSpentOf};
 
-use crate::answering::{answer_loaded, answer_with_tree, earliest_end};
+use crate::answering::{Answered, answer_loaded, answer_with_tree, earliest_end};
 use crate::trial::NoPlan;
 use crate::workspace::Workspace;
 use std::alloc::Global;
@@ -29,6 +31,8 @@ pub struct Engine<N: Network> {
     work: Workspace,
     board: Board<N>,
     kept: bool,
+    /// Whether the last answer moved a plan other than the asked copy's.
+    moved: bool,
     bounds: bool,
     trees: Vec<BoundTree>,
 }
@@ -41,6 +45,7 @@ impl<N: Network + Drop> Drop for Engine<N> {
             work: _,
             board: _,
             kept: _,
+            moved: _,
             bounds: _,
             trees: _,
         } = self;
@@ -56,6 +61,7 @@ impl<N: Network> Model for Engine<N> {
       work = e.work;
       board = e.board;
       kept = e.kept;
+      moved = e.moved;
       bounds = e.bounds;
       trees = e.trees.items;
     } };
@@ -88,6 +94,7 @@ impl<N: Network + Drop> Engine<N> {
             work: Workspace::new(alloc, machine, nodes)?,
             board: Board::new(alloc, machine, net)?,
             kept: false,
+            moved: true,
             bounds,
             trees: Vec::new(alloc),
         })
@@ -116,8 +123,10 @@ impl<N: Network> Engine<N> {
         self.trees.clear();
     }
 
-    /// Loads the board for an ask: it follows the schedule where it is kept. It is kept from then on.
-    fn ready(&mut self, machine: &Machine, schedule: &Schedule, ask: &Ask)
+    /// Loads the board for an ask: it follows the schedule where it is kept, without a look at the plans that it is known to
+    /// hold. It is kept from then on.
+    fn ready(&mut self, machine: &Machine, schedule: &Schedule, ask: &Ask, known: bool)
+        requires known { known ≡ true → HoldsPlans machine.now self.old schedule.now.plans }
         requires served { Serves N.reading self.old machine.now }
         requires can_ask { CanAsk machine.now schedule.now.plans ask.now }
         ensures loaded { IsLoadedFrom machine.now schedule.now.plans ask.entry.now
@@ -131,7 +140,7 @@ impl<N: Network> Engine<N> {
         let kept = self.kept;
         self.kept = true;
         if kept {
-            self.board.renew(machine, schedule, ask);
+            self.board.renew(machine, schedule, ask, known);
         } else {
             self.board.load(machine, schedule, ask);
         }
@@ -154,7 +163,7 @@ impl<N: Network> Engine<N> {
         ensures same { IsSameEngine N.reading.max_marks self.old self.new }
         ensures trees { self.new.trees ≡ self.old.trees }
     {
-        self.ready(machine, schedule, ask);
+        self.ready(machine, schedule, ask, false);
         earliest_end(&mut self.work, &mut self.board, machine, ask)
     }
 
@@ -164,7 +173,7 @@ impl<N: Network> Engine<N> {
         machine: &Machine,
         schedule: &mut Schedule,
         ask: &Ask,
-    ) -> Result<Reply, Halt>
+    ) -> Result<Answered, Halt>
         requires served { Serves N.reading self.old machine.now }
         requires loaded { IsLoadedFrom machine.now schedule.old.plans ask.now
             self.old.board.plans }
@@ -172,14 +181,18 @@ impl<N: Network> Engine<N> {
         requires rests { IsAtRest N.reading self.old.board machine.now }
         requires spare { ask.now.origin ≡ Feeder → 0 < schedule.old.spare }
         ensures answer { IfOk result
-            (λ reply. IsAnswer (IsSpentOf self.old.work.nodes) machine.now schedule.old.plans
-            ask.entry.now reply schedule.new.plans) }
+            (λ answered. IsAnswer (IsSpentOf self.old.work.nodes) machine.now
+            schedule.old.plans ask.entry.now answered.reply schedule.new.plans) }
         ensures few { IfOk result
-            (λ reply. HasFewLists self.old.work.nodes machine.now schedule.old.plans
-            (replied ask.entry.now reply)) }
+            (λ answered. HasFewLists self.old.work.nodes machine.now schedule.old.plans
+            (replied ask.entry.now answered.reply)) }
         ensures trees { IfOk result
-            (λ reply. AddsTree machine.now schedule.old.plans ask.entry.now reply
-            schedule.new.plans self.old.trees self.new.trees) }
+            (λ answered. AddsTree machine.now schedule.old.plans ask.entry.now
+            answered.reply schedule.new.plans self.old.trees self.new.trees) }
+        ensures unmoved { IfOk result (λ answered. answered.moved ≡ false
+            → without ask.entry.now.sheet schedule.new.plans
+            ≡ without ask.entry.now.sheet schedule.old.plans) }
+        ensures loaded { IsSameLoad self.old.board self.new.board }
         ensures still_serves { Serves N.reading self.new machine.now }
         ensures same { IsSameEngine N.reading.max_marks self.old self.new }
         ensures memory { IfErr result (λ halt. halt ≡ Halt.Memory) }
@@ -199,10 +212,93 @@ impl<N: Network> Engine<N> {
         ) {
             Ok(shown) => {
                 add_tree(&mut self.trees, shown.tree);
-                Ok(shown.reply)
+                Ok(shown.answered)
             }
             Err(_) => Err(Halt::Memory),
         }
+    }
+
+    /// Answers the ask for which the board is loaded, and with bounds keeps the tree of the answer.
+    fn answer_ready(
+        &mut self,
+        machine: &Machine,
+        schedule: &mut Schedule,
+        ask: &Ask,
+    ) -> Result<Answered, Halt>
+        requires served { Serves N.reading self.old machine.now }
+        requires loaded { IsLoadedFrom machine.now schedule.old.plans ask.now
+            self.old.board.plans }
+        requires asked { self.old.board.ask ≡ Some ask.now }
+        requires rests { IsAtRest N.reading self.old.board machine.now }
+        requires spare { ask.now.origin ≡ Feeder → 0 < schedule.old.spare }
+        ensures answer { IfOk result
+            (λ answered. IsAnswer (IsSpentOf self.old.work.nodes) machine.now
+            schedule.old.plans ask.entry.now answered.reply schedule.new.plans) }
+        ensures few { IfOk result
+            (λ answered. HasFewLists self.old.work.nodes machine.now schedule.old.plans
+            (replied ask.entry.now answered.reply)) }
+        ensures trees { IfOk result
+            (λ answered. KeepsTrees self.old.bounds machine.now schedule.old.plans
+            (replied ask.entry.now answered.reply) schedule.new.plans self.old.trees
+            self.new.trees) }
+        ensures unmoved { IfOk result (λ answered. answered.moved ≡ false
+            → without ask.entry.now.sheet schedule.new.plans
+            ≡ without ask.entry.now.sheet schedule.old.plans) }
+        ensures loaded { IsSameLoad self.old.board self.new.board }
+        ensures still_serves { Serves N.reading self.new machine.now }
+        ensures same { IsSameEngine N.reading.max_marks self.old self.new }
+        ensures memory { IfErr result (λ halt. halt ≡ Halt.Memory) }
+        ensures bounds { OnErr result (IsTrue self.old.bounds) }
+        ensures stays { OnErr result (schedule.new.plans ≡ schedule.old.plans) }
+    {
+        if self.bounds {
+            self.ask_with_tree(machine, schedule, ask)
+        } else {
+            Ok(answer_loaded(&mut self.work, &mut self.board, machine, schedule, ask))
+        }
+    }
+
+    /// Answers an ask, of which it is known or not that the schedule is as the last answer left it.
+    fn answer(
+        &mut self,
+        machine: &Machine,
+        schedule: &mut Schedule,
+        ask: &Ask,
+        known: bool,
+    ) -> Result<Reply, Halt>
+        requires known { known ≡ true → Follows machine.now self.old schedule.old.plans }
+        requires served { Serves N.reading self.old machine.now }
+        requires can_ask { CanAsk machine.now schedule.old.plans ask.now }
+        ensures answer { IfOk result
+            (λ reply. IsAnswer (IsSpentOf self.old.work.nodes) machine.now schedule.old.plans
+            ask.entry.now reply schedule.new.plans) }
+        ensures few { IfOk result
+            (λ reply. HasFewLists self.old.work.nodes machine.now schedule.old.plans
+            (replied ask.entry.now reply)) }
+        ensures unmoved { IfOk result (λ reply. self.new.moved ≡ false
+            → without ask.entry.now.sheet schedule.new.plans
+            ≡ without ask.entry.now.sheet schedule.old.plans) }
+        ensures follows { IfOk result (λ reply.
+            Follows machine.now self.new schedule.new.plans) }
+        ensures still_serves { Serves N.reading self.new machine.now }
+        ensures same { IsSameEngine N.reading.max_marks self.old self.new }
+        ensures memory { IfErr result (λ halt. halt ≡ Halt.Memory) }
+        ensures trees { IfOk result
+            (λ reply. KeepsTrees self.old.bounds machine.now schedule.old.plans
+            (replied ask.entry.now reply) schedule.new.plans self.old.trees self.new.trees) }
+        ensures new_copy { OnErr result
+            ((ask.entry.now.origin ≡ Feeder) ⊎ IsTrue self.old.bounds) }
+        ensures stays { OnErr result (schedule.new.plans ≡ schedule.old.plans) }
+    {
+        match make_spare(schedule, ask) {
+            Ok(()) => {}
+            Err(_) => return Err(Halt::Memory),
+        }
+        let known = known && !self.moved;
+        self.ready(machine, schedule, ask, known);
+        let answered = self.answer_ready(machine, schedule, ask)?;
+        self.moved = answered.moved;
+        Ok(answered.reply)
     }
 }
 
@@ -246,6 +342,10 @@ impl<N: Network> Planner for Engine<N> {
       stop_steps = λ e machine plans due e'. ⊥;
     } };
 
+    ghost moved = { λ e. e.moved };
+
+    ghost follows = { λ e machine plans. Follows machine e plans };
+
     /// Wants memory for the spare plan of a new copy, and with bounds for trees, and never stops.
     fn ask(&mut self, machine: &Machine, schedule: &mut Schedule, ask: &Ask) -> Result<Reply, Halt>
         requires served { Serves N.reading self.old machine.now }
@@ -256,6 +356,11 @@ impl<N: Network> Planner for Engine<N> {
         ensures few { IfOk result
             (λ reply. HasFewLists self.old.work.nodes machine.now schedule.old.plans
             (replied ask.entry.now reply)) }
+        ensures unmoved { IfOk result (λ reply. self.new.moved ≡ false
+            → without ask.entry.now.sheet schedule.new.plans
+            ≡ without ask.entry.now.sheet schedule.old.plans) }
+        ensures follows { IfOk result (λ reply.
+            Follows machine.now self.new schedule.new.plans) }
         ensures still_serves { Serves N.reading self.new machine.now }
         ensures same { IsSameEngine N.reading.max_marks self.old self.new }
         ensures memory { IfErr result (λ halt. halt ≡ Halt.Memory) }
@@ -266,16 +371,41 @@ impl<N: Network> Planner for Engine<N> {
             ((ask.entry.now.origin ≡ Feeder) ⊎ IsTrue self.old.bounds) }
         ensures stays { OnErr result (schedule.new.plans ≡ schedule.old.plans) }
     {
-        match make_spare(schedule, ask) {
-            Ok(()) => {}
-            Err(_) => return Err(Halt::Memory),
-        }
-        self.ready(machine, schedule, ask);
-        if self.bounds {
-            self.ask_with_tree(machine, schedule, ask)
-        } else {
-            Ok(answer_loaded(&mut self.work, &mut self.board, machine, schedule, ask))
-        }
+        self.answer(machine, schedule, ask, false)
+    }
+
+    /// The same.
+    fn ask_on(
+        &mut self,
+        machine: &Machine,
+        schedule: &mut Schedule,
+        ask: &Ask,
+    ) -> Result<Reply, Halt>
+        requires follows { Follows machine.now self.old schedule.old.plans }
+        requires served { Serves N.reading self.old machine.now }
+        requires can_ask { CanAsk machine.now schedule.old.plans ask.now }
+        ensures answer { IfOk result
+            (λ reply. IsAnswer (IsSpentOf self.old.work.nodes) machine.now schedule.old.plans
+            ask.entry.now reply schedule.new.plans) }
+        ensures few { IfOk result
+            (λ reply. HasFewLists self.old.work.nodes machine.now schedule.old.plans
+            (replied ask.entry.now reply)) }
+        ensures unmoved { IfOk result (λ reply. self.new.moved ≡ false
+            → without ask.entry.now.sheet schedule.new.plans
+            ≡ without ask.entry.now.sheet schedule.old.plans) }
+        ensures follows { IfOk result (λ reply.
+            Follows machine.now self.new schedule.new.plans) }
+        ensures still_serves { Serves N.reading self.new machine.now }
+        ensures same { IsSameEngine N.reading.max_marks self.old self.new }
+        ensures memory { IfErr result (λ halt. halt ≡ Halt.Memory) }
+        ensures trees { IfOk result
+            (λ reply. KeepsTrees self.old.bounds machine.now schedule.old.plans
+            (replied ask.entry.now reply) schedule.new.plans self.old.trees self.new.trees) }
+        ensures new_copy { OnErr result
+            ((ask.entry.now.origin ≡ Feeder) ⊎ IsTrue self.old.bounds) }
+        ensures stays { OnErr result (schedule.new.plans ≡ schedule.old.plans) }
+    {
+        self.answer(machine, schedule, ask, true)
     }
 
     /// Takes no memory, and never stops.
@@ -292,5 +422,11 @@ impl<N: Network> Planner for Engine<N> {
         self.kept = false;
         self.board.settle(machine, schedule, now);
         Ok(())
+    }
+
+    fn has_moved(&self) -> bool
+        ensures { result ≡ self.now.moved }
+    {
+        self.moved
     }
 }

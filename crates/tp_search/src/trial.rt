@@ -1,9 +1,9 @@
 //! The earliest plan of an ask on a board, before it is written into the schedule.
-ghost use Rattle.std.specs.Prelude.{◌≡◌, ◌+◌, ◌<◌, ◌≤◌, [], List, None, Some, IfErr, IfOk, IsSome, IsSomeAnd};
+ghost use Rattle.std.specs.Prelude.{◌≡◌, ◌+◌, ◌<◌, ◌≤◌, [], false, List, None, Some, IfErr, IfOk, IsSome, IsSomeAnd};
 ghost use Rattle.std.specs.Borrow.{RestsIfErr, sem};
 ghost use Rattle.tp_machine.specs.declared.machine.Machine.{Machine as MachineValue};
 ghost use Rattle.tp_schedule.specs.Answers.{IsLeast, follows_front};
-ghost use Rattle.tp_schedule.specs.Plans.{plan_of};
+ghost use Rattle.tp_schedule.specs.Plans.{plan_of, without};
 ghost use Rattle.tp_schedule.specs.declared.parts.Plan.{Plan};
 ghost use Rattle.tp_placing.specs.Boards.{BoardValue, past_of};
 ghost use Rattle.tp_placing.specs.Standing.{Stands};
@@ -128,9 +128,9 @@ impl<N: Network> Trial<'_, N> {
     }
 
     /// Writes the plan, and the times of all live plans with it, into the schedule that the board was loaded from, and takes
-    /// it off the board, which is then as before `plan`. Takes one spare plan for a new copy, and no memory. The board holds
-    /// the schedule as it was: whoever asks next renews it.
-    pub fn commit(self, machine: &Machine, schedule: &mut Schedule)
+    /// it off the board, which is then as before `plan`. Takes one spare plan for a new copy, and no memory. Answers whether
+    /// another plan moved. The board holds the schedule as it was: whoever asks next renews it.
+    pub fn commit(self, machine: &Machine, schedule: &mut Schedule) -> bool
         requires trial { (b : BoardValue N)
             × IsTrial N.reading b machine.now self }
         requires loaded { IsSomeAnd (board_in self).ask
@@ -142,6 +142,9 @@ impl<N: Network> Trial<'_, N> {
             (end_in self.entry) schedule.new.plans) }
         ensures least { IsSomeAnd (board_in self.entry).ask
             (λ ask. IsLeast machine.now ask.now (follows_front ask) schedule.new.plans) }
+        ensures unmoved { result ≡ false → IsSomeAnd (board_in self.entry).ask
+            (λ ask. without ask.sheet schedule.new.plans
+            ≡ without ask.sheet schedule.old.plans) }
         ensures new_copy { IsSomeAnd (board_in self.entry).ask
             (λ ask. plan_of ask.sheet schedule.old.plans ≡ None → schedule.new.spare + 1
             ≡ schedule.old.spare) }
@@ -158,8 +161,9 @@ impl<N: Network> Trial<'_, N> {
             base,
             end: _,
         } = self;
-        board.commit(machine, schedule);
+        let moved = board.commit(machine, schedule);
         board.undo_to(base);
+        moved
     }
 
     /// Takes the plan off the board, which is then as before `plan`.

@@ -3,3 +3,5 @@ pub mod NameFacts
 pub mod MoveSteps
 pub mod PlaceFacts
 pub mod SpanSteps
+mod LastPlan
+mod AloneFacts

@@ -1,5 +1,5 @@
 -- A list of ticks that grows at its end keeps its spans, and has one more of them.
-use Rattle.std.proofs.Common.{◌≡◌, ℕ, ◌+◌, ◌-◌, List, [], ◌∷◌, ◌++◌, drop, length, map, take, All, arith, ap, sym, ◌∙◌, append_assoc}
+use Rattle.std.proofs.Common.{◌≡◌, ℕ, ◌+◌, ◌-◌, List, [], ◌∷◌, ◌++◌, drop, length, map, take, All, arith, ap, ◌∙◌}
 use Rattle.std.proofs.Math.Seq.{drop-append_seam, take-length}
 use Rattle.std.proofs.lemmas.List.{drop-append-le, length-append, length-drop, map-append, take-append-le}
 use Rattle.std.proofs.lemmas.List.Elements.{All-append, All-cons, All-nil}
@@ -18,31 +18,17 @@ last-at ticks more s from till =
     ap (λ n. take n (drop s.from (ticks ++ more))) count ∙ ap (λ n. take (length more) (drop n (ticks ++ more))) from
     ∙ ap (take (length more)) (drop-append_seam ticks more) ∙ take-length more
 
-notes-one : (ticks more : List ℕ) (spans : List Span) (s : Span) → s.from ≡ length ticks → s.till ≡ length (ticks ++ more) → All (IsWithin ticks) spans
+-- the points that are seen, with one plan's more
+pub notes-one : (ticks more : List ℕ) (spans : List Span) (s : Span) → s.from ≡ length ticks → s.till ≡ length (ticks ++ more) → All (IsWithin ticks) spans
     → map (ticks_at (ticks ++ more)) (spans ++ s ∷ []) ≡ map (ticks_at ticks) spans ++ more ∷ []
 notes-one ticks more spans s from till within =
     map-append (ticks_at (ticks ++ more)) spans (s ∷ [])
     ∙ ap (λ parts. parts ++ ticks_at (ticks ++ more) s ∷ []) (map_same (ticks_at (ticks ++ more)) (ticks_at ticks) spans (λ k r at. stays-at ticks more r (All-at (IsWithin ticks) spans k r within at)))
     ∙ ap (λ part. map (ticks_at ticks) spans ++ part ∷ []) (last-at ticks more s from till)
 
-within-one : (ticks more : List ℕ) (spans : List Span) (s : Span) → s.from ≡ length ticks → s.till ≡ length (ticks ++ more) → All (IsWithin ticks) spans
+pub within-one : (ticks more : List ℕ) (spans : List Span) (s : Span) → s.from ≡ length ticks → s.till ≡ length (ticks ++ more) → All (IsWithin ticks) spans
     → All (IsWithin (ticks ++ more)) (spans ++ s ∷ [])
 within-one ticks more spans s from till within =
     let longer : length (ticks ++ more) ≡ length ticks + length more = length-append ticks more in
     All-append (IsWithin (ticks ++ more)) spans (s ∷ []) (λ k d below. ((within k d below).0, omega (arith, longer, (within k d below).1)))
     (All-cons (IsWithin (ticks ++ more)) s [] (omega (arith, longer, from, till), omega (arith, till)) (All-nil (IsWithin (ticks ++ more))))
-
--- what was noted, with what is left
-pub record Notes (ticks : List ℕ) (spans : List Span) (left all : List (List ℕ)) : Type 0 where
-  pub rest : map (ticks_at ticks) spans ++ left ≡ all
-  pub within : All (IsWithin ticks) spans
-
-pub notes-more : (ticks ticks' more : List ℕ) (spans spans' : List Span) (s : Span) → ticks' ≡ ticks ++ more → spans' ≡ spans ++ s ∷ [] → s.from ≡ length ticks → s.till ≡ length ticks'
-    → (left left' all : List (List ℕ)) → left ≡ more ∷ left' → Notes ticks spans left all → Notes ticks' spans' left' all
-notes-more ticks ticks' more spans spans' s grown longer from till left left' all next notes =
-    let till' = till ∙ ap length grown in
-    rw (grown, longer) (record {
-      rest = ap (λ parts. parts ++ left') (notes-one ticks more spans s from till' notes.within)
-          ∙ append_assoc (map (ticks_at ticks) spans) (more ∷ []) left' ∙ ap (λ parts. map (ticks_at ticks) spans ++ parts) (sym next) ∙ notes.rest;
-      within = within-one ticks more spans s from till' notes.within;
-    })

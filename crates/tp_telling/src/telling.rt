@@ -8,7 +8,7 @@ ghost use Rattle.tp_schedule.specs.declared.parts.Plan.{Plan};
 ghost use Rattle.tp_schedule.specs.declared.records.Record.TheVariants.{FullUp};
 ghost use Rattle.tp_turn.specs.Answering.{moves, told_of_move, told_of_plan, told_of_planned, told_of_reply};
 ghost use Rattle.tp_turn.specs.Labels.{action_name};
-ghost use Rattle.tp_telling.specs.Telling.{IsKnown, others, points_of};
+ghost use Rattle.tp_telling.specs.Telling.{IsKnown, others, points_of, told_alone};
 
 use crate::naming::{action_name, end_name, goal_name, label};
 use crate::times::{Times, is_of};
@@ -34,13 +34,37 @@ pub fn tell_reply(
         → notes.new.items ≡ notes.old.items
         ++ told_of_reply machine.now plans ask.entry.now reply after.now.plans) }
 {
+    tell_alone(machine, ask, reply, after, notes)?;
+    match reply {
+        Reply::Planned => {
+            let alloc = *notes.allocator();
+            tell_moves(alloc, before, after, Some(ask.sheet), notes)
+        }
+        Reply::Never | Reply::Spent { .. } => Ok(()),
+    }
+}
+
+/// Notes what an answer says but for the plans that moved: all of it, where no other plan did.
+pub fn tell_alone(
+    machine: &Machine,
+    ask: &Ask,
+    reply: Reply,
+    after: &Schedule,
+    notes: &mut Vec<Record>,
+) -> Result<(), Memory>
+    requires goal { IsKnownGoal machine.now ask.now.goal }
+    requires timed { All (IsTimedPlan machine.now) after.now.plans }
+    ensures told { OnOk result (notes.new.items ≡ notes.old.items
+        ++ told_alone machine.now ask.entry.now reply after.now.plans) }
+    ensures all { OnOk result ((plans : List Plan)
+        → without ask.entry.now.sheet after.now.plans ≡ without ask.entry.now.sheet plans
+        → notes.new.items ≡ notes.old.items
+        ++ told_of_reply machine.now plans ask.entry.now reply after.now.plans) }
+{
     let alloc = *notes.allocator();
     let sheet = label(ask.name, ask.sheet);
     match reply {
-        Reply::Planned => {
-            tell_planned(alloc, machine, ask, after, notes)?;
-            tell_moves(alloc, before, after, Some(ask.sheet), notes)
-        }
+        Reply::Planned => tell_planned(alloc, machine, ask, after, notes),
         Reply::Never => {
             let goal = goal_name(machine, ask.goal);
             notes.push(Record::Never { sheet, goal })?;

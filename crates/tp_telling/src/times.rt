@@ -1,6 +1,7 @@
 //! The points of plans as they stand, noted in one list: beside them it can be told later which plans moved.
 
-ghost use Rattle.std.specs.Prelude.{◌≡◌, ◌<◌, length, sum_by, slice_get, Some, IfOk};
+ghost use Rattle.std.specs.Prelude.{◌≡◌, ◌<◌, ◌+◌, ◌++◌, ◌∷◌, [], length, sum_by, slice_get, Some, IfOk, IfSome, OnOk};
+ghost use Rattle.tp_schedule.specs.Plans.{without};
 ghost use Rattle.tp_telling.specs.Telling.{is_of, others, points_of};
 
 use std::alloc::Global;
@@ -39,20 +40,52 @@ impl Times {
     pub fn of(alloc: Global, schedule: &Schedule, asked: Option<SheetId>) -> Result<Times, Memory>
         ensures { IfOk result (λ times. times ≡ points_of (others asked schedule.now.plans)) }
     {
-        let mut ticks = Vec::with_capacity(alloc, count_points(schedule))?;
-        let mut spans = Vec::with_capacity(alloc, schedule.len() as usize)?;
+        let mut times = Times {
+            ticks: Vec::with_capacity(alloc, count_points(schedule))?,
+            spans: Vec::with_capacity(alloc, schedule.len() as usize)?,
+        };
         'plans: for at in 0..schedule.len() {
             let plan = schedule.plan_at(at);
             if !is_of(asked, plan) {
-                let from = ticks.len();
-                ticks.extend_from_slice(plan.points.as_slice())?;
-                spans.push(Span {
-                    from,
-                    till: ticks.len(),
-                })?;
+                times.push(plan)?;
             }
         }
-        Ok(Times { ticks, spans })
+        Ok(times)
+    }
+
+    /// The points of all plans of the schedule, by those of the plans but the copy's: `None` where the copy's plan is not the
+    /// last one.
+    pub fn with_plan_of(
+        mut self,
+        schedule: &Schedule,
+        copy: SheetId,
+    ) -> Result<Option<Times>, Memory>
+        requires others { self ≡ points_of (without copy schedule.now.plans) }
+        ensures all { IfOk result (λ times. IfSome times (λ t. t
+            ≡ points_of schedule.now.plans)) }
+    {
+        schedule.ordered();
+        let Some(at) = schedule.find(copy) else {
+            return Ok(Some(self));
+        };
+        if at + 1 < schedule.len() {
+            return Ok(None);
+        }
+        self.push(schedule.plan_at(at))?;
+        Ok(Some(self))
+    }
+
+    /// Adds the points of a plan behind the others.
+    fn push(&mut self, plan: &Plan) -> Result<(), Memory>
+        ensures { OnOk result (self.new ≡ self.old ++ plan.now.points ∷ []) }
+    {
+        let from = self.ticks.len();
+        self.ticks.extend_from_slice(plan.points.as_slice())?;
+        self.spans.push(Span {
+            from,
+            till: self.ticks.len(),
+        })?;
+        Ok(())
     }
 
     /// How many plans there are.

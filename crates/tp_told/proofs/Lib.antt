@@ -9,7 +9,6 @@ pub mod PlaceFacts
 pub mod PlanFacts
 pub mod FormFacts
 pub mod DueFacts
-pub mod PutFacts
 pub mod ReplyFacts
 pub mod SettleFacts
 pub mod ToldFacts

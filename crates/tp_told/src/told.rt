@@ -135,7 +135,7 @@ impl Told {
 }
 
 impl Planner for Told {
-    ghost use Rattle.std.specs.Prelude.{List, IfOk, IfErr, OnOk, OnErr, Err};
+    ghost use Rattle.std.specs.Prelude.{true, List, IfOk, IfErr, OnOk, OnErr, Err};
     ghost use Rattle.tp_log.specs.declared.item.Item.{Item};
     ghost use Rattle.tp_schedule.specs.Planning.{CanAsk, CanSettle, IsAnswer, IsSettled, StopsOnlyWhere};
     ghost use Rattle.tp_schedule.specs.Planning.Deed.{replied, settled};
@@ -158,6 +158,10 @@ impl Planner for Told {
       steps = λ p machine plans deed plans' p'. TakesOn p machine plans deed plans' p';
       stop_steps = λ p machine plans due p'. StopsAt p machine plans due p';
     } };
+
+    ghost moved = { λ p. true };
+
+    ghost follows = { λ p machine plans. Unit {0} };
 
     /// Takes the answer that the items tell. It stops where they tell none that is right.
     fn ask(&mut self, machine: &Machine, schedule: &mut Schedule, ask: &Ask) -> Result<Reply, Halt>
@@ -186,6 +190,16 @@ impl Planner for Told {
         }
     }
 
+    /// The same: it looks at the whole schedule each time.
+    fn ask_on(
+        &mut self,
+        machine: &Machine,
+        schedule: &mut Schedule,
+        ask: &Ask,
+    ) -> Result<Reply, Halt> {
+        self.ask(machine, schedule, ask)
+    }
+
     /// Takes the moves that the items tell. It stops where these don't settle the times.
     fn settle(&mut self, machine: &Machine, schedule: &mut Schedule, now: Tick) -> Result<(), Halt>
         requires can_settle { CanSettle machine.now now schedule.old.plans }
@@ -211,5 +225,10 @@ impl Planner for Told {
             }
             Err(failure) => Err(self.halt(failure)),
         }
+    }
+
+    /// It doesn't tell, so that the points are held against each other.
+    fn has_moved(&self) -> bool {
+        true
     }
 }

@@ -6,8 +6,9 @@ use Rattle.tp_machine.specs.declared.parts.Sheet.{Sheet}
 use Rattle.tp_machine.specs.declared.machine.Machine.{Machine}
 use Rattle.tp_schedule.proofs.CopyFacts.{same_copy-is}
 use Rattle.tp_stock.specs.Stock.{empties}
-use Rattle.tp_schedule.specs.Planning.{IsAnswer}
-use Rattle.tp_schedule.specs.Plans.{IsTimedPlan, is_same_copy}
+use Rattle.tp_schedule.specs.Answers.{IsAskedFrom}
+use Rattle.tp_schedule.specs.Planning.{CanAsk, IsAnswer}
+use Rattle.tp_schedule.specs.Plans.{IsTimedPlan, is_same_copy, plan_of}
 use Rattle.tp_schedule.specs.declared.parts.Empties.{Empties}
 use Rattle.tp_schedule.specs.declared.parts.Ask.{Ask}
 use Rattle.tp_schedule.specs.declared.parts.Goal.TheVariants.{Tray}
@@ -59,3 +60,7 @@ pub timed-after : (spent : Machine → List Plan → Ask → ℕ → Type 0) (ma
 timed-after spent machine plans ask Planned plans' answer timed = answer.0.alternative.legal.timed
 timed-after spent machine plans ask Never plans' answer timed = subst (All (IsTimedPlan machine)) (sym answer.0) timed
 timed-after spent machine plans ask (Spent bound) plans' answer timed = subst (All (IsTimedPlan machine)) (sym answer.0) timed
+
+-- a copy that is asked from a feeder has no plan
+pub new-copy : (machine : Machine) (plans : List Plan) (ask : Ask) → CanAsk machine plans ask → ask.origin ≡ FromFeeder → plan_of ask.sheet plans ≡ None
+new-copy machine plans ask can new = subst (IsAskedFrom machine plans ask) new can.asked

@@ -1,5 +1,5 @@
 -- What a move of the clock tells is known to the machine and the jobs, and what is live after it can be asked on.
-use Rattle.std.proofs.Common.{◌≡◌, ℕ, suc, ◌+◌, ◌<◌, ◌≤◌, Bool, true, false, cond, ◌||◌, not, nat_lt, List, [], ◌∷◌, ◌++◌, filter, map, length, ℤ, Some, None, refl, sym, ap, ◌∙◌, subst, append_assoc, arith, All, nat_le}
+use Rattle.std.proofs.Common.{◌≡◌, ℕ, suc, ◌+◌, ◌<◌, ◌≤◌, Bool, true, false, cond, ◌||◌, not, nat_lt, List, [], ◌∷◌, ◌++◌, filter, length, ℤ, Some, None, refl, sym, ap, ◌∙◌, subst, append_assoc, arith, All, nat_le}
 use Rattle.std.specs.List.{flat_map}
 use Rattle.std.specs.Option.{MatchOption}
 use Rattle.std.specs.Prelude.{IsTrue, is_some, position}
@@ -27,7 +27,7 @@ use Rattle.tp_turn.proofs.PlannableTurns.{accepted-clock}
 use Rattle.tp_turn.proofs.ReadyTurns.{broken-clock, fronts-clock, numbers-clock, purges-clock}
 use Rattle.tp_script.specs.declared.event.Event.TheVariants.{Clock}
 use Rattle.tp_turn.specs.Asking.{Asks}
-use Rattle.tp_turn.specs.Clock.{Told, by_moment, clock_move, clock_records, clock_tells, deliveries, delivery, is_done_between, put_told, record_of, release_of, released_until, releases}
+use Rattle.tp_turn.specs.Clock.{Told, by_moment, clock_move, clock_records, clock_tells, deliveries, delivery, is_done_between, put_told, release_of, released_until, releases}
 use Rattle.tp_turn.specs.Keeping.{KeepsLines, KeepsPlans, is_of_its_job, is_planned_among, live_part, live_plans, live_refills}
 use Rattle.tp_turn.specs.Labels.{end_location, last_of, to_in}
 use Rattle.tp_turn.specs.Moments.{due_until, is_due, release_until}
@@ -36,7 +36,6 @@ use Rattle.tp_turn.specs.Refusals.{clock_refusal}
 use Rattle.tp_turn.specs.Ready.{EntersWhereBroken, HasStartedWhole, KeepsLive}
 use Rattle.tp_turn.specs.Seen.{HasStarted, fronts_of}
 use Rattle.tp_turn.specs.States.{SessionState}
-use Rattle.tp_turn.specs.declared.telling.Tell.{Tell}
 use Rattle.tp_turning.proofs.LiveFacts.{lines-part, lost-part, older-part, plans-part}
 use Rattle.tp_turning.specs.Events.{MovesClock, NotesEvent}
 use Rattle.tp_turning.specs.Stops.{NotesEventStop, NotesStop, StopsAsks}

@@ -1,5 +1,5 @@
 -- The turns of jobs and of modules that come back: a refused one changes nothing, and an accepted one leads on to the phase of asks.
-use Rattle.std.proofs.Common.{◌≡◌, ℕ, ◌+◌, Bool, true, false, cond, not, List, [], ◌∷◌, ◌++◌, Option, Some, None, refl, sym, ap, ◌∙◌, subst, nat_lt, option_and_then, inr}
+use Rattle.std.proofs.Common.{◌≡◌, ℕ, List, [], ◌∷◌, ◌++◌, Option, Some, None, refl, sym, ap, ◌∙◌, subst, option_and_then, inr}
 use Rattle.std.specs.Option.{MatchOption}
 use Rattle.std.specs.Prelude.{IsSomeAnd, Err}
 use Rattle.tp_machine.specs.declared.machine.Machine.{Machine}
@@ -8,7 +8,6 @@ use Rattle.tp_schedule.specs.declared.records.Record.{Record}
 use Rattle.tp_schedule.specs.declared.records.Record.TheVariants.{Refused}
 use Rattle.tp_script.specs.Form.{GroupForm}
 use Rattle.tp_script.specs.declared.event.Event.{Event}
-use Rattle.tp_script.specs.declared.event.Event.TheVariants.{Bad, Job as NewJob, Clock, Jam, Off, On, Refill}
 use Rattle.tp_jobs.specs.Backlogs.{Backlog, Kept}
 use Rattle.tp_jobs.specs.Refusing.{job_fault, refusal_in}
 use Rattle.tp_jobs.specs.Waiting.{new_job, sheets_of, with_job as lines_with_job}
@@ -19,8 +18,6 @@ use Rattle.tp_turn.specs.Planners.{PlannerSteps}
 use Rattle.tp_turn.specs.Refusals.{job_cause, job_refusal, refusal}
 use Rattle.tp_turn.specs.States.{SessionState}
 use Rattle.tp_turn.specs.Turns.{Accepts, Begins, Turn, with_job}
-use Rattle.tp_turning.specs.Events.{NotesEvent}
-use Rattle.tp_turning.specs.Checking.{is_of_module, module_refusal}
 use Rattle.tp_turning.specs.Stops.{NotesStop, StopsTurn}
 use Rattle.tp_turning.specs.Phases.{NotesAsks}
 

@@ -1,5 +1,5 @@
 -- Filters of filtered lists.
-use Rattle.std.proofs.Common.{◌≡◌, Bool, true, false, cond, ◌||◌, List, [], ◌∷◌, ◌++◌, map, flat_map, filter, refl, ap, Contains, not, ℕ, ◌+◌, sym, arith}
+use Rattle.std.proofs.Common.{◌≡◌, Bool, true, false, cond, ◌||◌, List, [], ◌∷◌, ◌++◌, map, flat_map, filter, refl, ap, Contains, not, ℕ, ◌+◌, arith}
 use Rattle.std.specs.List.{list_any}
 use Rattle.tp_schedule.proofs.Membership.{Contains-here, Contains-later}
 use Rattle.std.specs.Prelude.{count_by}

@@ -1,5 +1,5 @@
 -- The turns of modules that go out and come back.
-use Rattle.std.proofs.Common.{◌≡◌, ℕ, Bool, true, inl, inr, List, ◌∷◌, [], ◌++◌, Some, None, refl, sym, ap, ◌∙◌, subst, append_assoc}
+use Rattle.std.proofs.Common.{◌≡◌, ℕ, Bool, true, inr, List, ◌∷◌, [], ◌++◌, Some, None, refl, sym, ap, ◌∙◌, subst, append_assoc}
 use Rattle.std.specs.Option.{MatchOption}
 use Rattle.tp_machine.specs.declared.machine.Machine.{Machine}
 use Rattle.tp_schedule.specs.declared.records.Record.{Record}
@@ -7,14 +7,14 @@ use Rattle.tp_schedule.specs.declared.records.Record.TheVariants.{Refused}
 use Rattle.tp_script.specs.declared.event.Event.{Event}
 use Rattle.tp_script.specs.declared.event.Event.TheVariants.{Bad, Job as NewJob, Clock, Jam, Off, On, Refill}
 use Rattle.tp_turn.specs.Laws.{is_outage}
-use Rattle.tp_turn.specs.Planners.{GoesOut, PlannerSteps, StopsGoingOut}
+use Rattle.tp_turn.specs.Planners.{GoesOut, PlannerSteps}
 use Rattle.tp_turn.specs.States.{SessionState}
 use Rattle.tp_turn.specs.Turns.{Accepts, Begins, Turn, with_on}
 use Rattle.tp_turn.specs.Refusals.{refusal}
 use Rattle.tp_turning.specs.Checking.{comes_back, is_jam, module_named, module_refusal}
 use Rattle.tp_turning.specs.Events.{NotesEvent}
 use Rattle.tp_turning.specs.Phases.{NotesAsks}
-use Rattle.tp_turning.specs.Stops.{NotesEventStop, NotesStop, StopsBeginning, StopsTurn}
+use Rattle.tp_turning.specs.Stops.{NotesEventStop, NotesStop, StopsTurn}
 use Rattle.tp_turning.proofs.EventFacts.{accepted-event, stopped-event}
 
 module _ {P : Type 0} (steps : PlannerSteps P) (machine : Machine) (s : SessionState) (p : P) (notes notes' : List Record) where

@@ -1,5 +1,5 @@
 -- A refill on the live part of a state is one on the whole.
-use Rattle.std.proofs.Common.{◌≡◌, ◌==◌, ◌∙◌, ℕ, Bool, true, false, cond, List, refl, sym, ap, pos, ◌+ℤ◌, Contains, Option, Some, None, option_and_then, find}
+use Rattle.std.proofs.Common.{◌≡◌, ◌==◌, ◌∙◌, ℕ, Bool, true, false, cond, List, refl, sym, ap, pos, ◌+ℤ◌, Contains, Option, Some, None, option_and_then}
 use Rattle.std.specs.Prelude.{IsSomeAnd, not, filter, position, ℤ, int_lt}
 use Rattle.tp_schedule.specs.declared.parts.Plan.{Plan}
 use Rattle.tp_schedule.specs.declared.records.Cause.TheVariants.{Stock}
@@ -8,7 +8,7 @@ use Rattle.std.specs.Str.{bytes_eq}
 use Rattle.tp_machine.specs.declared.parts.Feeder.{Feeder}
 use Rattle.tp_machine.specs.declared.machine.Machine.{Machine}
 use Rattle.tp_schedule.specs.Living.{is_live}
-use Rattle.tp_stock.specs.Stock.{feeder_at, feeder_named, free_stock, more_at, most_free}
+use Rattle.tp_stock.specs.Stock.{feeder_at, feeder_named, free_stock, most_free}
 use Rattle.tp_stock.proofs.StockFacts.{keeps-stock, less-more}
 use Rattle.tp_turn.proofs.ListFacts.{find-Some}
 use Rattle.tp_turn.specs.Keeping.{live_part}

@@ -1,5 +1,5 @@
 -- What is kept of the stock of a live state is kept through the turn of any event.
-use Rattle.std.proofs.Common.{◌≡◌, ℕ, ◌+◌, ◌≤◌, List, [], ◌∷◌, length, true, false, refl, sym, ap, ◌∙◌, subst, arith, Option, Some, None}
+use Rattle.std.proofs.Common.{◌≡◌, ℕ, ◌+◌, List, [], ◌∷◌, true, false, refl, sym, ap, subst, arith, Option, Some, None}
 use Rattle.std.specs.Option.{MatchOption}
 use Rattle.tp_machine.specs.declared.machine.Machine.{Machine}
 use Rattle.tp_script.specs.declared.event.Event.{Event}
@@ -20,7 +20,7 @@ use Rattle.tp_turn.specs.Ready.{KeepsLive, KeepsStock}
 use Rattle.tp_turn.specs.Refusals.{clock_refusal, refusal}
 use Rattle.tp_turn.specs.States.{SessionState}
 use Rattle.tp_turn.specs.Turns.{Accepts, Begins, Turn}
-use Rattle.tp_turn.proofs.StockKept.{few-plans, stock-moved, stock-more, stock-refill, within-more}
+use Rattle.tp_turn.proofs.StockKept.{few-plans, stock-moved, stock-more, stock-refill}
 use Rattle.tp_turn.proofs.StockTurns.{refills-asks, refills-goes, stocked-asks, stocked-begins}
 use Rattle.tp_turning.specs.Events.{KeepsStockInTurns, LiveTurn, MovesClock}
 

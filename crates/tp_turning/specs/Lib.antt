@@ -6,3 +6,4 @@ pub mod Events
 pub mod Stops
 pub mod WholeTurns
 pub mod Checking
+pub mod Leaving

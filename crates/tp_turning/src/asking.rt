@@ -1,10 +1,12 @@
 //! The phase of asks: the copies that wait are asked in their order, over any planner.
 
-ghost use Rattle.std.specs.Prelude.{◌≡◌, ℕ, Err, ◌+◌, ◌<◌, ◌≤◌, ◌++◌, length, IsSome, IsSomeAnd, IfOk, OnOk, IfErr};
+ghost use Rattle.std.specs.Prelude.{◌≡◌, ℕ, false, Err, None, ◌+◌, ◌<◌, ◌≤◌, ◌++◌, length, IsSome, IsSomeAnd, IfOk, OnOk, IfErr};
 ghost use Rattle.tp_schedule.specs.Planning.{CanAsk, StopsOnlyWhere};
 ghost use Rattle.tp_schedule.specs.Planning.Deed.{replied};
 ghost use Rattle.tp_schedule.specs.Planning.Due.{asking};
+ghost use Rattle.tp_schedule.specs.Plans.{without};
 ghost use Rattle.tp_schedule.specs.declared.parts.Halt.TheVariants.{Stopped};
+ghost use Rattle.tp_schedule.specs.declared.parts.Origin.TheVariants.{Feeder};
 ghost use Rattle.tp_jobs.specs.Waiting.{find_waiting};
 ghost use Rattle.tp_stock.specs.Stock.{IsBounded};
 ghost use Rattle.tp_turn.specs.Answering.{told_of_reply};
@@ -12,6 +14,8 @@ ghost use Rattle.tp_turn.specs.Asking.{ask_waiting, is_full};
 ghost use Rattle.tp_turn.specs.LiveStates.{seen};
 ghost use Rattle.tp_turn.specs.Planners.{right_steps};
 ghost use Rattle.tp_turn.specs.Ready.{CanTakeEvents, KeepsLive, last_copy};
+ghost use Rattle.tp_telling.specs.Telling.{points_of};
+ghost use Rattle.tp_turning.specs.Leaving.{IsLeft};
 ghost use Rattle.tp_turning.specs.Phases.{NotesAsks, NotesTurn};
 ghost use Rattle.tp_turning.specs.Stops.{NotesStop, StopsAtCopy};
 
@@ -20,7 +24,7 @@ use tp_jobs::Blocked;
 use tp_machine::{Machine, machine_law};
 use tp_schedule::{Ask, Goal, Halt, Origin, Planner, Record, Reply, Schedule, SheetId};
 use tp_stock::empty_feeders;
-use tp_telling::{Times, label, tell_full, tell_reply};
+use tp_telling::{Times, label, tell_alone, tell_full, tell_reply};
 use tp_turn::LiveState;
 
 /// The most copies that are live at once.
@@ -46,9 +50,59 @@ fn make_ask(machine: &Machine, state: &LiveState, copy: SheetId) -> Ask
     }
 }
 
-/// Asks the planner, and notes what it answers.
-fn ask_planner<P: Planner>(
+/// What one ask carries to the next: where memory comes from, and the points of all plans, where the planner left them so.
+#[derive(Drop)]
+struct Carry {
     alloc: Global,
+    left: Option<Times>,
+}
+
+/// Asks the planner. Gives the points of the plans before its answer beside it.
+fn ask_planner<P: Planner>(
+    carry: &mut Carry,
+    machine: &Machine,
+    schedule: &mut Schedule,
+    planner: &mut P,
+    ask: &Ask,
+) -> Result<(Times, Reply), Halt>
+    requires served { P.serves planner.old machine.now }
+    requires can_ask { CanAsk machine.now schedule.old.plans ask.now }
+    requires left { IsLeft (P.follows planner.old machine.now) schedule.old.plans carry.old.left }
+    ensures answers { IfOk result (λ answer.
+        (right_steps P.rules machine.now).does planner.old schedule.old.plans
+        (replied ask.entry.now answer.1) schedule.new.plans planner.new) }
+    ensures before { IfOk result (λ answer. answer.0 ≡ points_of schedule.old.plans) }
+    ensures unmoved { IfOk result (λ answer. P.moved planner.new ≡ false
+        → without ask.entry.now.sheet schedule.new.plans
+        ≡ without ask.entry.now.sheet schedule.old.plans) }
+    ensures follows { IfOk result (λ answer.
+        P.follows planner.new machine.now schedule.new.plans) }
+    ensures stopped { result ≡ Err Stopped → P.rules.stop_steps planner.old machine.now
+        schedule.old.plans (asking ask.entry.now) planner.new }
+    ensures stops_only { IfErr result (StopsOnlyWhere (P.stops planner.old) (P.stops planner.new)) }
+    ensures counted { P.stops planner.old ≤ P.stops planner.new }
+    ensures still_serves { P.serves planner.new machine.now }
+    ensures lasts { P.lasting planner.new ≡ P.lasting planner.old }
+    ensures none { carry.new.left ≡ None }
+{
+    match carry.left.take() {
+        Some(before) => {
+            let reply = planner.ask_on(machine, schedule, ask)?;
+            Ok((before, reply))
+        }
+        None => {
+            let Ok(before) = Times::of(carry.alloc, schedule, None) else {
+                return Err(Halt::Memory);
+            };
+            let reply = planner.ask(machine, schedule, ask)?;
+            Ok((before, reply))
+        }
+    }
+}
+
+/// Asks the planner for a new copy, and notes what it answers.
+fn ask_copy<P: Planner>(
+    carry: &mut Carry,
     machine: &Machine,
     schedule: &mut Schedule,
     planner: &mut P,
@@ -57,11 +111,15 @@ fn ask_planner<P: Planner>(
 ) -> Result<Reply, Halt>
     requires served { P.serves planner.old machine.now }
     requires can_ask { CanAsk machine.now schedule.old.plans ask.now }
+    requires new_copy { ask.now.origin ≡ Feeder }
+    requires left { IsLeft (P.follows planner.old machine.now) schedule.old.plans carry.old.left }
     ensures answers { IfOk result (λ reply.
         (right_steps P.rules machine.now).does planner.old schedule.old.plans
         (replied ask.entry.now reply) schedule.new.plans planner.new) }
     ensures told { IfOk result (λ reply. notes.new.items ≡ notes.old.items
         ++ told_of_reply machine.now schedule.old.plans ask.entry.now reply schedule.new.plans) }
+    ensures left { IfOk result (λ reply.
+        IsLeft (P.follows planner.new machine.now) schedule.new.plans carry.new.left) }
     ensures stopped { result ≡ Err Stopped → (notes.new.items ≡ notes.old.items)
         × P.rules.stop_steps planner.old machine.now schedule.old.plans
         (asking ask.entry.now) planner.new }
@@ -70,13 +128,20 @@ fn ask_planner<P: Planner>(
     ensures still_serves { P.serves planner.new machine.now }
     ensures lasts { P.lasting planner.new ≡ P.lasting planner.old }
 {
-    let Ok(before) = Times::of(alloc, schedule, Some(ask.sheet)) else {
+    let (before, reply) = ask_planner(carry, machine, schedule, planner, ask)?;
+    if planner.has_moved() {
+        let Ok(()) = tell_reply(machine, &before, ask, reply, schedule, notes) else {
+            return Err(Halt::Memory);
+        };
+        return Ok(reply);
+    }
+    let Ok(()) = tell_alone(machine, ask, reply, schedule, notes) else {
         return Err(Halt::Memory);
     };
-    let reply = planner.ask(machine, schedule, ask)?;
-    let Ok(()) = tell_reply(machine, &before, ask, reply, schedule, notes) else {
+    let Ok(left) = before.with_plan_of(schedule, ask.sheet) else {
         return Err(Halt::Memory);
     };
+    carry.left = left;
     Ok(reply)
 }
 
@@ -93,7 +158,7 @@ fn is_full(machine: &Machine, state: &LiveState) -> bool
 /// Gives a copy its turn: notes that too many copies are live, or asks it. Answers whether it was planned. It then waits
 /// no more.
 fn try_copy<P: Planner>(
-    alloc: Global,
+    carry: &mut Carry,
     machine: &Machine,
     state: &mut LiveState,
     planner: &mut P,
@@ -102,6 +167,8 @@ fn try_copy<P: Planner>(
 ) -> Result<bool, Halt>
     requires served { P.serves planner.old machine.now }
     requires can { KeepsLive machine.now (last_copy + 1) (seen state.old) }
+    requires left { IsLeft (P.follows planner.old machine.now) state.old.schedule.plans
+        carry.old.left }
     requires waits { IsSome (find_waiting copy state.old.lines.waiting) }
     requires job { copy.job < length state.old.lines.jobs }
     requires bounded { IsBounded state.old.refills.0 }
@@ -109,6 +176,8 @@ fn try_copy<P: Planner>(
         NotesTurn (right_steps P.rules machine.now) machine.now copy
         (seen state.old) planner.old notes.old.items planned
         (seen state.new) planner.new notes.new.items) }
+    ensures left { IfOk result (λ planned. IsLeft (P.follows planner.new machine.now)
+        state.new.schedule.plans carry.new.left) }
     ensures stopped { result ≡ Err Stopped →
         StopsAtCopy (right_steps P.rules machine.now) machine.now copy
         (seen state.old) planner.old notes.old.items planner.new notes.new.items }
@@ -127,7 +196,7 @@ fn try_copy<P: Planner>(
         return Ok(false);
     }
     let ask = make_ask(machine, state, copy);
-    match ask_planner(alloc, machine, &mut state.schedule, planner, &ask, notes)? {
+    match ask_copy(carry, machine, &mut state.schedule, planner, &ask, notes)? {
         Reply::Planned => {
             state.lines.taken(copy);
             Ok(true)
@@ -167,9 +236,10 @@ pub(crate) fn ask_waiting<P: Planner>(
     machine_law(machine);
     let mut blocked = Blocked::none();
     let mut last = None;
+    let mut carry = Carry { alloc, left: None };
     'asks: while let Some(copy) = state.lines.next_to_try(last, &blocked) {
         let tray = state.lines.tray_of(copy.job);
-        let planned = try_copy(alloc, machine, state, planner, copy, notes)?;
+        let planned = try_copy(&mut carry, machine, state, planner, copy, notes)?;
         if !planned {
             blocked.add(tray);
         }

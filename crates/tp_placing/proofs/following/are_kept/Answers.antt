@@ -1,4 +1,4 @@
-use Rattle.std.proofs.Common.{◌≡◌, ◌+◌, Bool, true, false, not, refl, arith, length, slice_index, subst, take, pos}
+use Rattle.std.proofs.Common.{arith, slice_index, subst, pos}
 use Rattle.std.proofs.lemmas.List.{take_all}
 use Rattle.std.proofs.lemmas.List.Elements.{All-more}
 use Rattle.tp_base.specs.Net.{Keeps}

@@ -1,4 +1,4 @@
-use Rattle.std.proofs.Common.{◌∙◌, ◌≡◌, ◌≤◌, ◌+◌, Bool, ap, sym, arith, length, refl, take, true, false, not}
+use Rattle.std.proofs.Common.{◌∙◌, ◌≡◌, ap, sym, arith, length, take, true}
 use Rattle.std.proofs.lemmas.List.{length-take, take-take}
 use Rattle.tp_schedule.specs.Living.{is_live}
 use Rattle.tp_placing.proofs.LiveFacts.{keep-passed, keep-failed, keep-fits}

@@ -1,4 +1,4 @@
-use Rattle.std.proofs.Common.{◌≡◌, ◌∙◌, List, ℕ, true, sym}
+use Rattle.std.proofs.Common.{◌∙◌, sym}
 use Rattle.tp_placing.proofs.SameLists.{same-acts, same-points}
 use Rattle.tp_placing.proofs.following.is_same_way.Goals as goal
 

@@ -1,9 +1,8 @@
-use Rattle.std.proofs.Common.{◌≡◌, ◌∙◌, ◌+◌, ◌-◌, ◌<◌, ◌≤◌, suc, true, false, All, ap, arith, drop, get_or, length, subst, sym, take}
+use Rattle.std.proofs.Common.{◌≡◌, ◌∙◌, ◌+◌, ◌-◌, suc, true, false, All, ap, arith, drop, get_or, length, subst, sym, take}
 use Rattle.std.proofs.lemmas.Option.{slice_get-get_or}
 use Rattle.tp_placing.proofs.LineEnds.{drop-before, read-at, read-before, read-is, read-one}
 use Rattle.tp_constraints.specs.Gaps.{is_same_line}
 use Rattle.tp_schedule.specs.declared.parts.Plan.{Plan}
-use Rattle.tp_placing.specs.Growing.{IsLineEnd}
 use Rattle.tp_placing.specs.Growing.IsLineEnd.{line_end, no_end}
 use Rattle.tp_placing.proofs.following.line_end.Goals as goal
 

@@ -4,7 +4,6 @@ use Rattle.tp_constraints.specs.Numbers.{table_of}
 use Rattle.std.specs.Prelude.{pos}
 use Rattle.tp_keeping.specs.Puts.{with_puts}
 use Rattle.tp_machine.specs.declared.parts.Anchor.TheVariants.{Start}
-use Rattle.tp_timelines.specs.Orders.{total}
 use Rattle.tp_placing.specs.Growing.{HasPut, slot_by}
 use Rattle.tp_placing.specs.LoadedHolds.{IsHeldWithin, IsRuleOf, ticks_in}
 use Rattle.tp_placing.specs.declared.parts.Held.{Held}

@@ -1,4 +1,4 @@
-use Rattle.std.proofs.Common.{rules, arith, suc, ap, sym, ◌∙◌, subst, ◌≡◌, ◌+◌, ◌-◌, ◌<◌, ◌^◌, drop, length, get_or, None, Some, true, false}
+use Rattle.std.proofs.Common.{rules, arith, suc, sym, ◌∙◌, subst, ◌≡◌, ◌+◌, ◌-◌, ◌<◌, ◌^◌, drop, length, get_or, None, Some, false}
 use Rattle.std.proofs.lemmas.List.{drop_all}
 use Rattle.tp_base.specs.declared.edges.PointId.{PointId}
 use Rattle.tp_placing.specs.Edges.{end_if, first_end, first_of, is_ahead, is_behind, last_end, plan_end}

@@ -1,8 +1,8 @@
 use Rattle.std.proofs.Common.{ap, sym, ◌∙◌, subst, AllPairs, IsSome}
 use Rattle.tp_schedule.specs.Plans.{IsEarlier, put_plan}
 use Rattle.tp_schedule.proofs.ChangeFacts.{IsOrdered-change_plan, IsOrdered-put_plan}
-use Rattle.tp_placing.proofs.LivePart.{none-without}
-use Rattle.tp_placing.proofs.WriteAsked.{none-planned, place-planned, put-in_place}
+use Rattle.tp_schedule.proofs.PlanOrder.{put-in_place, without-none}
+use Rattle.tp_placing.proofs.WriteAsked.{none-planned, place-planned}
 use Rattle.tp_placing.proofs.writing.write_plan.Goals as goal
 
 pub replace-requires-clause-planned : goal.replace-requires-clause-planned
@@ -28,7 +28,7 @@ returns-in-Some-clause-in_order c = subst (AllPairs IsEarlier) (sym c.replace.en
 
 pub returns-in-None-clause-plans : goal.returns-in-None-clause-plans
 returns-in-None-clause-plans c =
-    c.put.ensures.plans ∙ ap (put_plan c.args.plan) (sym (none-without c.args.plan.sheet c.args.schedule.now.plans (none-planned c.args.plan.sheet c.args.schedule.now.plans (sym c.in-None.is ∙ c.find.ensures))))
+    c.put.ensures.plans ∙ ap (put_plan c.args.plan) (sym (without-none c.args.plan.sheet c.args.schedule.now.plans (none-planned c.args.plan.sheet c.args.schedule.now.plans (sym c.in-None.is ∙ c.find.ensures))))
 
 pub returns-in-None-clause-in_flight : goal.returns-in-None-clause-in_flight
 returns-in-None-clause-in_flight c planned =

@@ -10,10 +10,11 @@ use Rattle.tp_placing.proofs.LineFacts.{end-fits}
 use Rattle.tp_placing.proofs.TableFacts.{length-firsts}
 use Rattle.tp_placing.proofs.WritePlans.{change-next, not-before, planned-still, retimed-none}
 use Rattle.tp_placing.proofs.WriteTimes.{plan-ticks, ticks-exist}
+use Rattle.tp_placing.proofs.writing.write_times.Goals.{then-write_points, else-write_points}
 use Rattle.tp_placing.proofs.writing.write_times.Goals as goal
 
 pub loop-at-init : goal.loop-at-init
-loop-at-init g c = record { times = λ t a. retimed-none t c.args.schedule.now.plans; spare = refl }
+loop-at-init g c = record { times = λ t a. retimed-none t c.args.schedule.now.plans; unmoved = λ e. refl; spare = refl }
 
 pub bounds-firsts-at : goal.bounds-firsts-at
 bounds-firsts-at g c =
@@ -54,6 +55,10 @@ loop-at-preserved g c = record {
       let next = change-next (take c.loop-at.at c.args.plans.now) t points c.args.schedule.now.plans c.index-plans-at.result c.requires.schedule planned not_yet ticks in
       let more : take c.loop-at.at c.args.plans.now ++ c.index-plans-at.result ∷ [] ≡ take (c.loop-at.at + 1) c.args.plans.now = ap (λ q. take c.loop-at.at c.args.plans.now ++ q ∷ []) c.index-plans-at.is ∙ sym (take_more c.args.plans.now c.loop-at.at c.index-plans-at.result c.loop-at-test.true) in
       c.write_points.ensures.plans a.solution a.least ∙ ap (change_plan c.index-plans-at.result.sheet (with_points points)) (c.loop-at.invariant.times t a) ∙ next ∙ ap (λ live. map (retimed_in live t) c.args.schedule.now.plans) more;
+  unmoved = λ e. elim c.if-write_points.branch [
+    | then-write_points w ↦ absurd cc
+    | else-write_points w ↦ c.write_points.ensures.unmoved w.if-write_points.false ∙ c.loop-at.invariant.unmoved (sym w.moved-is ∙ e)
+  ];
   spare = c.write_points.ensures.spare ∙ c.loop-at.invariant.spare;
 }
 

@@ -1,5 +1,6 @@
-use Rattle.std.proofs.Common.{refl, subst, ◌∙◌, IsSomeAnd, rules}
+use Rattle.std.proofs.Common.{◌≡◌, refl, subst, ◌∙◌, IsSomeAnd, rules}
 use Rattle.tp_schedule.specs.Answers.{IsLeast, follows_front}
+use Rattle.tp_schedule.specs.Plans.{without}
 use Rattle.tp_search.specs.Trials.{IsEarliestTo, IsNoPlan}
 use Rattle.tp_search.specs.declared.trial.NoPlan.TheVariants.{Never}
 use Rattle.tp_search.proofs.TrialFacts.{at-rest}
@@ -9,8 +10,8 @@ use Rattle.tp_search.proofs.answering.answer_loaded.Goals.{In-Err-Never}
 pub returns-in-Ok-clause-answer : goal.returns-in-Ok-clause-answer
 returns-in-Ok-clause-answer g c =
     let asked = c.in-Ok.ensures.trial.loaded.ask ∙ c.requires.asked in
-    let done = subst (λ o. IsSomeAnd o (λ ask. IsEarliestTo c.args.machine.now c.args.schedule.now.plans ask c.in-Ok.trial.end c.commit.new.schedule.plans)) asked c.commit.ensures.earliest in
-    let least = subst (λ o. IsSomeAnd o (λ ask. IsLeast c.args.machine.now ask.now (follows_front ask) c.commit.new.schedule.plans)) asked c.commit.ensures.least in
+    let done = subst (λ o. IsSomeAnd o (λ ask. IsEarliestTo c.args.machine.now c.args.schedule.now.plans ask c.in-Ok.trial.end c.commit-moved.new.schedule.plans)) asked c.commit-moved.ensures.earliest in
+    let least = subst (λ o. IsSomeAnd o (λ ask. IsLeast c.args.machine.now ask.now (follows_front ask) c.commit-moved.new.schedule.plans)) asked c.commit-moved.ensures.least in
     (done.earliest, least)
 
 -- what the search told of the whole schedule
@@ -25,5 +26,15 @@ returns-in-Err-Never-clause-few g c = λ is. (told g (goal.at.returns-in-Err-Nev
 
 pub returns-in-Ok-clause-rests : goal.returns-in-Ok-clause-rests
 returns-in-Ok-clause-rests g c =
-    let rests = at-rest g.N.Network.reading c.args.board.now c.commit.new.self.0 c.args.machine.now c.requires.rests (c.commit.ensures.back c.args.board.now c.args.machine.now c.in-Ok.ensures.trial) in
+    let rests = at-rest g.N.Network.reading c.args.board.now c.commit-moved.new.self.0 c.args.machine.now c.requires.rests (c.commit-moved.ensures.back c.args.board.now c.args.machine.now c.in-Ok.ensures.trial) in
+    search rules
+
+pub returns-in-Ok-clause-unmoved : goal.returns-in-Ok-clause-unmoved
+returns-in-Ok-clause-unmoved g c e =
+    let asked = c.in-Ok.ensures.trial.loaded.ask ∙ c.requires.asked in
+    subst (λ o. IsSomeAnd o (λ ask. without ask.sheet c.commit-moved.new.schedule.plans ≡ without ask.sheet c.args.schedule.now.plans)) asked (c.commit-moved.ensures.unmoved e)
+
+pub returns-in-Ok-clause-loaded : goal.returns-in-Ok-clause-loaded
+returns-in-Ok-clause-loaded g c =
+    let same = (c.commit-moved.ensures.back c.args.board.now c.args.machine.now c.in-Ok.ensures.trial).loaded in
     search rules

@@ -1,6 +1,7 @@
 -- The trial and its tree are of the ask for which the board was loaded.
 use Rattle.std.proofs.Common.{◌≡◌, ℕ, ◌+◌, ◌-◌, ◌≤◌, List, length, refl, sym, ap, subst, ◌∙◌, IsSomeAnd, arith, rules}
 use Rattle.tp_schedule.specs.Answers.{IsLeast, follows_front}
+use Rattle.tp_schedule.specs.Plans.{without}
 use Rattle.tp_schedule.specs.declared.parts.Plan.{Plan}
 use Rattle.tp_placing.specs.Writing.{IsLoadedFrom}
 use Rattle.tp_search.specs.Trials.{IsEarliestTo, IsNoPlan, board_in}
@@ -23,8 +24,8 @@ show-requires-clause-loaded g c =
     subst (λ o. IsSomeAnd o (λ ask. (x : List Plan) × IsLoadedFrom c.args.machine.now x ask (board_in c.in-Ok.trial).plans)) (sym asked)
     (plans, subst (IsLoadedFrom c.args.machine.now plans c.args.ask.now) (sym c.in-Ok.ensures.trial.loaded.plans) c.requires.loaded)
 
-pub commit-requires-clause-trial : goal.commit-requires-clause-trial
-commit-requires-clause-trial g c = (c.args.board.now, c.show.ensures.trial c.args.board.now c.in-Ok.ensures.trial)
+pub commit-moved-requires-clause-trial : goal.commit-moved-requires-clause-trial
+commit-moved-requires-clause-trial g c = (c.args.board.now, c.show.ensures.trial c.args.board.now c.in-Ok.ensures.trial)
 
 pub abandon-requires : goal.abandon-requires
 abandon-requires g c = record { trial = (c.args.board.now, c.args.machine.now, c.show.ensures.trial c.args.board.now c.in-Ok.ensures.trial) }
@@ -32,8 +33,8 @@ abandon-requires g c = record { trial = (c.args.board.now, c.args.machine.now, c
 pub returns-in-Ok-show-clause-answer : goal.returns-in-Ok-show-clause-answer
 returns-in-Ok-show-clause-answer g c =
     let asked = c.show.ensures.same.loaded.ask ∙ c.in-Ok.ensures.trial.loaded.ask ∙ c.requires.asked in
-    let done = subst (λ o. IsSomeAnd o (λ ask. IsEarliestTo c.args.machine.now c.args.schedule.now.plans ask c.show.new.self.end c.commit.new.schedule.plans)) asked c.commit.ensures.earliest in
-    let least = subst (λ o. IsSomeAnd o (λ ask. IsLeast c.args.machine.now ask.now (follows_front ask) c.commit.new.schedule.plans)) asked c.commit.ensures.least in
+    let done = subst (λ o. IsSomeAnd o (λ ask. IsEarliestTo c.args.machine.now c.args.schedule.now.plans ask c.show.new.self.end c.commit-moved.new.schedule.plans)) asked c.commit-moved.ensures.earliest in
+    let least = subst (λ o. IsSomeAnd o (λ ask. IsLeast c.args.machine.now ask.now (follows_front ask) c.commit-moved.new.schedule.plans)) asked c.commit-moved.ensures.least in
     (done.earliest, least)
 
 pub returns-in-Ok-show-clause-tree : goal.returns-in-Ok-show-clause-tree
@@ -43,7 +44,7 @@ returns-in-Ok-show-clause-tree g c =
     let ask = c.args.ask.now in
     let first = c.in-Ok.ensures.trial.loaded.ask ∙ c.requires.asked in
     let asked = c.show.ensures.same.loaded.ask ∙ first in
-    let done = subst (λ o. IsSomeAnd o (λ ask. IsEarliestTo machine plans ask c.show.new.self.end c.commit.new.schedule.plans)) asked c.commit.ensures.earliest in
+    let done = subst (λ o. IsSomeAnd o (λ ask. IsEarliestTo machine plans ask c.show.new.self.end c.commit-moved.new.schedule.plans)) asked c.commit-moved.ensures.earliest in
     let shows = subst (λ o. IsSomeAnd o (λ ask. (plans : List Plan) → IsLoadedFrom machine plans ask (board_in c.in-Ok.trial).plans → IsShortTreeFor machine plans ask (Earliest c.in-Ok.trial.end) c.in-Ok-show.tree)) first c.in-Ok-show.ensures.tree in
     let a = done.earliest.alternative in (
       a.plan,
@@ -57,19 +58,28 @@ returns-in-Ok-show_never-clause-answer g c =
     let told = subst (IsNoPlan c.args.machine.now c.args.schedule.now.plans c.args.ask.now c.args.work.now.nodes) c.in-Err-Never.field-0-is (c.in-Err-Never.ensures.none c.args.schedule.now.plans c.requires.loaded) in
     (refl, told.0)
 
-pub returns-in-Ok-show-clause-board : goal.returns-in-Ok-show-clause-board
-returns-in-Ok-show-clause-board g c =
-    let same = (c.commit.ensures.back c.args.board.now c.args.machine.now (c.show.ensures.trial c.args.board.now c.in-Ok.ensures.trial)).loaded.made_for in
-    search rules
+pub returns-in-Ok-show-clause-loaded : goal.returns-in-Ok-show-clause-loaded
+returns-in-Ok-show-clause-loaded g c =
+    let same = (c.commit-moved.ensures.back c.args.board.now c.args.machine.now (c.show.ensures.trial c.args.board.now c.in-Ok.ensures.trial)).loaded in
+    record {
+      made_for = (let made = same.made_for in search rules);
+      plans = (let held = same.plans in search rules);
+      ask = (let asked = same.ask in search rules);
+    }
+
+pub returns-in-Ok-show-clause-unmoved : goal.returns-in-Ok-show-clause-unmoved
+returns-in-Ok-show-clause-unmoved g c e =
+    let asked = c.show.ensures.same.loaded.ask ∙ c.in-Ok.ensures.trial.loaded.ask ∙ c.requires.asked in
+    subst (λ o. IsSomeAnd o (λ ask. without ask.sheet c.commit-moved.new.schedule.plans ≡ without ask.sheet c.args.schedule.now.plans)) asked (c.commit-moved.ensures.unmoved e)
 
 pub returns-in-Ok-show-clause-marks : goal.returns-in-Ok-show-clause-marks
 returns-in-Ok-show-clause-marks g c =
-    let same = same-marks (g.N.Network.reading.max_marks c.args.board.now.net) (g.N.Network.reading.max_marks c.commit.new.self.0.net) (c.commit.ensures.back c.args.board.now c.args.machine.now (c.show.ensures.trial c.args.board.now c.in-Ok.ensures.trial)).marks c.requires.marks in
+    let same = same-marks (g.N.Network.reading.max_marks c.args.board.now.net) (g.N.Network.reading.max_marks c.commit-moved.new.self.0.net) (c.commit-moved.ensures.back c.args.board.now c.args.machine.now (c.show.ensures.trial c.args.board.now c.in-Ok.ensures.trial)).marks c.requires.marks in
     search rules
 
 pub returns-in-Ok-show-clause-rests : goal.returns-in-Ok-show-clause-rests
 returns-in-Ok-show-clause-rests g c =
-    let rests = at-rest g.N.Network.reading c.args.board.now c.commit.new.self.0 c.args.machine.now c.requires.rests (c.commit.ensures.back c.args.board.now c.args.machine.now (c.show.ensures.trial c.args.board.now c.in-Ok.ensures.trial)) in
+    let rests = at-rest g.N.Network.reading c.args.board.now c.commit-moved.new.self.0 c.args.machine.now c.requires.rests (c.commit-moved.ensures.back c.args.board.now c.args.machine.now (c.show.ensures.trial c.args.board.now c.in-Ok.ensures.trial)) in
     search rules
 
 pub returns-in-Err-clause-rests : goal.returns-in-Err-clause-rests

@@ -1,4 +1,4 @@
-use Rattle.std.proofs.Common.{◌≡◌, ◌+◌, ◌<◌, Some, length, sym, subst, arith}
+use Rattle.std.proofs.Common.{◌+◌, ◌<◌, Some, length, sym, subst, arith}
 use Rattle.tp_routes.specs.Index.{IsNextTo}
 use Rattle.tp_search.proofs.BoardSteps.{back-itself, back-trans}
 use Rattle.tp_routes.proofs.AlongFacts.{ahead, fewer-ahead}

@@ -15,6 +15,7 @@ pub asks-init : goal.asks-init
 asks-init g c = record {
   under_way = begins (right_steps g.P.Planner.rules c.args.machine.now) c.args.machine.now (seen c.args.state.now)
       c.args.planner.now c.args.notes.now.items c.none-blocked.result c.none-blocked.ensures c.requires.can;
+  kept = tt;
   counted = omega arith;
   serves = c.requires.served;
   marked = refl;
@@ -56,6 +57,7 @@ planned g c =
 pub asks-preserved-then-not-planned : goal.asks-preserved-then-not-planned
 asks-preserved-then-not-planned g c = record {
   under_way = (refused g c).on;
+  kept = c.in_ok-planned.ensures.left;
   counted = omega (arith, c.asks.invariant.counted, c.in_ok-planned.ensures.counted);
   serves = c.in_ok-planned.ensures.still_serves;
   marked = c.in_ok-planned.ensures.marked ∙ c.asks.invariant.marked;
@@ -69,6 +71,7 @@ asks-smaller-then-not-planned g c = (refused g c).fewer
 pub asks-preserved : goal.asks-preserved
 asks-preserved g c = record {
   under_way = (planned g c).on;
+  kept = c.in_ok-planned.ensures.left;
   counted = omega (arith, c.asks.invariant.counted, c.in_ok-planned.ensures.counted);
   serves = c.in_ok-planned.ensures.still_serves;
   marked = c.in_ok-planned.ensures.marked ∙ c.asks.invariant.marked;

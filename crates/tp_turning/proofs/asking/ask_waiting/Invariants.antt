@@ -1,6 +1,7 @@
 use Rattle.std.proofs.Common.{◌≡◌, ◌≤◌, length}
 use Rattle.tp_turn.specs.LiveStates.{seen}
 use Rattle.tp_turn.specs.Planners.{right_steps}
+use Rattle.tp_turning.specs.Leaving.{IsLeft}
 use Rattle.tp_turning.proofs.LeftFacts.{left}
 use Rattle.tp_turning.proofs.PhaseFacts.{IsUnderWay}
 use Rattle.tp_turning.proofs.asking.ask_waiting.Given as goal
@@ -9,6 +10,7 @@ abbrev pub invariant-asks : goal.invariant-asks
 invariant-asks g l = record {
   under_way : IsUnderWay (right_steps g.P.Planner.rules l.machine) l.machine
       (seen l.fn.state) l.fn.planner l.fn.notes.items (seen l.state) l.planner l.notes.items l.last l.blocked;
+  kept : IsLeft (g.P.Planner.follows l.planner l.machine) l.state.schedule.plans l.carry.left;
   counted : g.P.Planner.stops l.fn.planner ≤ g.P.Planner.stops l.planner;
   serves : g.P.Planner.serves l.planner l.machine;
   marked : l.state.lines.kept ≡ l.fn.state.lines.kept;

@@ -1,5 +1,5 @@
 -- What the clock tells is known, and the phase of asks follows on what is still live.
-use Rattle.std.proofs.Common.{◌≡◌, ◌+◌, ◌++◌, All, ap, arith, map, sym, subst, ◌∙◌}
+use Rattle.std.proofs.Common.{◌+◌, ◌++◌, All, ap, arith, map, sym, subst, ◌∙◌}
 use Rattle.std.proofs.lemmas.Result.{on_ok_weaker}
 use Rattle.tp_turn.specs.LiveStates.{seen}
 use Rattle.tp_turn.specs.Ready.{CanTakeEvents, KeepsLive, last_copy}

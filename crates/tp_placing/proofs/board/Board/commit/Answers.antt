@@ -8,6 +8,8 @@ use Rattle.tp_schedule.specs.Spots.{Ticks}
 use Rattle.tp_schedule.specs.Spots.Spot.{own}
 use Rattle.tp_schedule.specs.declared.parts.Ask.{Ask}
 use Rattle.tp_schedule.specs.declared.parts.Plan.{Plan}
+use Rattle.tp_schedule.proofs.CopyFacts.{same_copy-refl}
+use Rattle.tp_schedule.proofs.PlanOrder.{All-without, without-put_plan}
 use Rattle.tp_constraints.specs.Numbers.{number, table_of, ticks_by}
 use Rattle.tp_constraints.specs.Suffixes.{Suffix}
 use Rattle.tp_placing.specs.declared.parts.Step.{Step}
@@ -26,7 +28,7 @@ use Rattle.tp_placing.proofs.WritePoints.{least-of_plans}
 use Rattle.tp_placing.proofs.WriteReady.{IsReady, ready, ready-ticks}
 use Rattle.tp_placing.proofs.WriteWhole.{loaded-planned}
 use Rattle.tp_placing.proofs.board.Board.commit.Goals as goal
-use Rattle.tp_placing.proofs.board.Board.commit.Goals.{After-index-newest, After-plan_by_steps-plan, After-write_plan, After-write_times}
+use Rattle.tp_placing.proofs.board.Board.commit.Goals.{After-index-newest, After-plan_by_steps-plan, After-write_plan, After-write_times-moved}
 
 -- the board as its fields show it
 abbrev board : (g : _) → After-index-newest g → BoardValue g.row.N.Denot
@@ -72,15 +74,15 @@ count-here g c =
     let last = (stands-here g c).last in
     omega arith
 
-pub write_times-requires-clause-known : goal.write_times-requires-clause-known
-write_times-requires-clause-known g k =
-    let c = (goal.at.write_times-requires-clause-known g k).After-index-newest in
+pub write_times-moved-requires-clause-known : goal.write_times-moved-requires-clause-known
+write_times-moved-requires-clause-known g k =
+    let c = (goal.at.write_times-moved-requires-clause-known g k).After-index-newest in
     let lows = (here g c).lows in
     subst (λ ps. length (table_of ps) ≤ length (g.N.Network.reading.net c.self.inside.net).lows) (sym k.deref.ensures.value) (omega arith)
 
-pub write_times-requires-clause-planned : goal.write_times-requires-clause-planned
-write_times-requires-clause-planned g k =
-    let c = (goal.at.write_times-requires-clause-planned g k).After-index-newest in
+pub write_times-moved-requires-clause-planned : goal.write_times-moved-requires-clause-planned
+write_times-moved-requires-clause-planned g k =
+    let c = (goal.at.write_times-moved-requires-clause-planned g k).After-index-newest in
     subst (All (λ (p : Plan). plan_of p.sheet c.args.schedule.now.plans ≡ Some p)) (sym k.deref.ensures.value) (loaded-planned c.args.machine.now c.args.schedule.now.plans c.in-Some.ask c.self.inside.plans.items (loaded-here g c))
 
 pub plan_by_steps-plan-requires-clause-few : goal.plan_by_steps-plan-requires-clause-few
@@ -127,21 +129,21 @@ ticks-here g c =
 abbrev Ticks-here : (g : _) → After-index-newest g → Ticks
 Ticks-here g c = ticks_by (board_table c.self.inside.plans.items (Some (here g c).x)) (here g c).at.solved.0
 
-times-now : (g : _) (k : After-write_times g) → (t : Ticks) → AreLeastTicks (g.N.Network.reading.net k.self.inside.net) (table_of k.self.inside.plans.items) t → k.write_times.new.schedule.plans ≡ map (retimed_in k.self.inside.plans.items t) k.args.schedule.now.plans
+times-now : (g : _) (k : After-write_times-moved g) → (t : Ticks) → AreLeastTicks (g.N.Network.reading.net k.self.inside.net) (table_of k.self.inside.plans.items) t → k.write_times-moved.new.schedule.plans ≡ map (retimed_in k.self.inside.plans.items t) k.args.schedule.now.plans
 times-now g k =
-    subst (λ ps. (t : Ticks) → AreLeastTicks (g.N.Network.reading.net k.self.inside.net) (table_of ps) t → k.write_times.new.schedule.plans ≡ map (retimed_in ps t) k.args.schedule.now.plans) k.deref.ensures.value k.write_times.ensures.times
+    subst (λ ps. (t : Ticks) → AreLeastTicks (g.N.Network.reading.net k.self.inside.net) (table_of ps) t → k.write_times-moved.new.schedule.plans ≡ map (retimed_in ps t) k.args.schedule.now.plans) k.deref.ensures.value k.write_times-moved.ensures.times
 
 pub write_plan-requires-clause-capacity : goal.write_plan-requires-clause-capacity
 write_plan-requires-clause-capacity g k none =
     let at = goal.at.write_plan-requires-clause-capacity g k in
     let c = at.After-index-newest in
     let a = c.self.inside in
-    let times = times-now g at.After-write_times (Ticks-here g c) (least-of_plans (g.N.Network.reading.net a.net) a.plans.items (here g c).x (Ticks-here g c) (ticks-here g c)) in
+    let times = times-now g at.After-write_times-moved (Ticks-here g c) (least-of_plans (g.N.Network.reading.net a.net) a.plans.items (here g c).x (Ticks-here g c) (ticks-here g c)) in
     let spare = rw (← c.self.view_is) at c.requires.spare in
     let own_spare = subst (λ o. IsSomeAnd o (λ (ask : Ask). plan_of ask.sheet c.args.schedule.now.plans ≡ None → 0 < c.args.schedule.now.spare)) c.in-Some.is spare in
     let none' : plan_of c.in-Some.ask.sheet (map (retimed_in a.plans.items (Ticks-here g c)) c.args.schedule.now.plans) ≡ None = sym (λ i. plan_of (k.plan_by_steps-plan.ensures.sheet i) (times i)) ∙ none in
     let more = own_spare (none-before a.plans.items (Ticks-here g c) c.args.schedule.now.plans c.in-Some.ask.sheet none') in
-    let same = k.write_times.ensures.spare in
+    let same = k.write_times-moved.ensures.spare in
     omega arith
 
 -- the asked plan, at these ticks
@@ -182,22 +184,22 @@ pub returns-clause-least : goal.returns-clause-least
 returns-clause-least g k =
     let at = goal.at.returns-clause-least g k in
     let c = at.After-index-newest in
-    let w = written-here g c k.write_times.new.schedule.plans k.write_plan.new.schedule.plans k.plan_by_steps-plan.result (times-now g at.After-write_times) (plan-now g at.After-plan_by_steps-plan) k.plan_by_steps-plan.ensures.sheet k.write_plan.ensures.plans k.write_plan.ensures.in_order in
+    let w = written-here g c k.write_times-moved.new.schedule.plans k.write_plan.new.schedule.plans k.plan_by_steps-plan.result (times-now g at.After-write_times-moved) (plan-now g at.After-plan_by_steps-plan) k.plan_by_steps-plan.ensures.sheet k.write_plan.ensures.plans k.write_plan.ensures.in_order in
     rw (← k.self.view_is) (and-some k.self.inside.ask k.in-Some.ask _ k.in-Some.is w.least)
 
 pub returns-clause-alternative : goal.returns-clause-alternative
 returns-clause-alternative g k =
     let at = goal.at.returns-clause-alternative g k in
     let c = at.After-index-newest in
-    let w = written-here g c k.write_times.new.schedule.plans k.write_plan.new.schedule.plans k.plan_by_steps-plan.result (times-now g at.After-write_times) (plan-now g at.After-plan_by_steps-plan) k.plan_by_steps-plan.ensures.sheet k.write_plan.ensures.plans k.write_plan.ensures.in_order in
+    let w = written-here g c k.write_times-moved.new.schedule.plans k.write_plan.new.schedule.plans k.plan_by_steps-plan.result (times-now g at.After-write_times-moved) (plan-now g at.After-plan_by_steps-plan) k.plan_by_steps-plan.ensures.sheet k.write_plan.ensures.plans k.write_plan.ensures.in_order in
     rw (← k.self.view_is) (and-some k.self.inside.ask k.in-Some.ask _ k.in-Some.is (w.answer, end-here g c (end_of_plan w.answer.plan) w.ends))
 
 -- the plans when the asked one is written are those of the schedule at other ticks
-written-before : (g : _) (k : After-write_plan g) → k.write_times.new.schedule.plans ≡ map (retimed_in k.self.inside.plans.items (Ticks-here g (goal.at.returns-clause-new_copy g k).After-index-newest)) k.args.schedule.now.plans
+written-before : (g : _) (k : After-write_plan g) → k.write_times-moved.new.schedule.plans ≡ map (retimed_in k.self.inside.plans.items (Ticks-here g (goal.at.returns-clause-new_copy g k).After-index-newest)) k.args.schedule.now.plans
 written-before g k =
     let at = goal.at.returns-clause-new_copy g k in
     let c = at.After-index-newest in
-    times-now g at.After-write_times (Ticks-here g c) (least-of_plans (g.N.Network.reading.net c.self.inside.net) c.self.inside.plans.items (here g c).x (Ticks-here g c) (ticks-here g c))
+    times-now g at.After-write_times-moved (Ticks-here g c) (least-of_plans (g.N.Network.reading.net c.self.inside.net) c.self.inside.plans.items (here g c).x (Ticks-here g c) (ticks-here g c))
 
 pub returns-clause-new_copy : goal.returns-clause-new_copy
 returns-clause-new_copy g k =
@@ -205,9 +207,9 @@ returns-clause-new_copy g k =
     let plans = k.self.inside.plans.items in
     let t = Ticks-here g c in
     let written = written-before g k in
-    let same = k.write_times.ensures.spare in
+    let same = k.write_times-moved.ensures.spare in
     let spare : plan_of k.in-Some.ask.sheet k.args.schedule.now.plans ≡ None → k.write_plan.new.schedule.spare + 1 ≡ k.args.schedule.now.spare = (λ none.
-    let now : plan_of k.plan_by_steps-plan.result.sheet k.write_times.new.schedule.plans ≡ None = (λ i. plan_of (k.plan_by_steps-plan.ensures.sheet i) (written i)) ∙ none-after plans t k.args.schedule.now.plans k.in-Some.ask.sheet none in
+    let now : plan_of k.plan_by_steps-plan.result.sheet k.write_times-moved.new.schedule.plans ≡ None = (λ i. plan_of (k.plan_by_steps-plan.ensures.sheet i) (written i)) ∙ none-after plans t k.args.schedule.now.plans k.in-Some.ask.sheet none in
     let one = k.write_plan.ensures.new_copy now in
     omega arith) in
     rw (← k.self.view_is) (and-some k.self.inside.ask k.in-Some.ask _ k.in-Some.is spare)
@@ -218,9 +220,18 @@ returns-clause-in_flight g k =
     let plans = k.self.inside.plans.items in
     let t = Ticks-here g c in
     let written = written-before g k in
-    let same = k.write_times.ensures.spare in
+    let same = k.write_times-moved.ensures.spare in
     let spare : IsSome (plan_of k.in-Some.ask.sheet k.args.schedule.now.plans) → k.write_plan.new.schedule.spare ≡ k.args.schedule.now.spare = (λ planned.
-    let there : plan_of k.plan_by_steps-plan.result.sheet k.write_times.new.schedule.plans ≡ plan_of k.in-Some.ask.sheet (map (retimed_in plans t) k.args.schedule.now.plans) = (λ i. plan_of (k.plan_by_steps-plan.ensures.sheet i) (written i)) in
+    let there : plan_of k.plan_by_steps-plan.result.sheet k.write_times-moved.new.schedule.plans ≡ plan_of k.in-Some.ask.sheet (map (retimed_in plans t) k.args.schedule.now.plans) = (λ i. plan_of (k.plan_by_steps-plan.ensures.sheet i) (written i)) in
     let now = subst IsSome (sym there) (planned-after plans t k.args.schedule.now.plans k.in-Some.ask.sheet planned) in
     k.write_plan.ensures.in_flight now ∙ same) in
     rw (← k.self.view_is) (and-some k.self.inside.ask k.in-Some.ask _ k.in-Some.is spare)
+
+pub returns-clause-unmoved : goal.returns-clause-unmoved
+returns-clause-unmoved g k e =
+    let p = k.plan_by_steps-plan.result in
+    let mid = k.write_times-moved.new.schedule.plans in
+    let new = k.write_plan.new.schedule.plans in
+    let put : without p.sheet new ≡ without p.sheet mid = ap (without p.sheet) k.write_plan.ensures.plans ∙ without-put_plan p (without p.sheet mid) (All-without p.sheet mid) (same_copy-refl p.sheet) in
+    let still : without p.sheet new ≡ without p.sheet k.args.schedule.now.plans = put ∙ ap (without p.sheet) (k.write_times-moved.ensures.unmoved e) in
+    rw (← k.self.view_is) (and-some k.self.inside.ask k.in-Some.ask _ k.in-Some.is (subst (λ c. without c new ≡ without c k.args.schedule.now.plans) k.plan_by_steps-plan.ensures.sheet still))

@@ -15,10 +15,10 @@ returns-clause-earliest g c =
     let b = c.args.self.board.now in
     let t = c.requires.trial.1 in
     let loaded = subst (λ o. IsSomeAnd o (λ ask. IsLoadedFrom c.args.machine.now c.args.schedule.now.plans ask b.plans)) t.asked c.requires.loaded in
-    let done = subst (λ o. IsSomeAnd o (λ ask. (a : IsAlternative c.args.machine.now c.args.schedule.now.plans ask c.commit.new.schedule.plans) × HasLeastTick c.args.machine.now b (own 0) (end_of_plan a.plan))) t.asked c.commit.ensures.alternative in
-    and-some b.ask t.ask (λ ask. IsEarliestTo c.args.machine.now c.args.schedule.now.plans ask c.args.self.end c.commit.new.schedule.plans) t.asked
+    let done = subst (λ o. IsSomeAnd o (λ ask. (a : IsAlternative c.args.machine.now c.args.schedule.now.plans ask c.commit-moved.new.schedule.plans) × HasLeastTick c.args.machine.now b (own 0) (end_of_plan a.plan))) t.asked c.commit-moved.ensures.alternative in
+    and-some b.ask t.ask (λ ask. IsEarliestTo c.args.machine.now c.args.schedule.now.plans ask c.args.self.end c.commit-moved.new.schedule.plans) t.asked
     (earliest-to c.args.machine.now c.args.schedule.now.plans t.ask c.args.self.end (none_before-whole c.args.machine.now c.args.schedule.now.plans t.ask loaded.can_ask b.plans loaded.live_part c.args.self.end t.none_before)
-    c.commit.new.schedule.plans done.0 (same-end c.args.machine.now b t.ask t.asked (end_of_plan done.0.plan) c.args.self.end done.1 t.ends))
+    c.commit-moved.new.schedule.plans done.0 (same-end c.args.machine.now b t.ask t.asked (end_of_plan done.0.plan) c.args.self.end done.1 t.ends))
 
 pub returns-clause-back : goal.returns-clause-back
 returns-clause-back g c b m trial =

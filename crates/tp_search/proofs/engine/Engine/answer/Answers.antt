@@ -1,0 +1,17 @@
+-- The board was loaded for the ask, and holds what it was loaded with.
+use Rattle.std.proofs.Common.{◌∙◌, ap, subst, sym}
+use Rattle.tp_placing.proofs.StandFacts.{and-some}
+use Rattle.tp_placing.specs.Calls.{IsSameLoad}
+use Rattle.tp_placing.specs.Following.{HoldsOthers}
+use Rattle.tp_search.proofs.EngineFacts.{holds-others}
+use Rattle.tp_search.proofs.engine.Engine.answer.Goals as goal
+
+pub returns-clause-follows : goal.returns-clause-follows
+returns-clause-follows g c still =
+    let machine = c.args.machine.now in
+    let ask = c.args.ask.now in
+    let new = c.answer_ready.new.schedule.plans in
+    let board = c.self-2.inside.board in
+    let same : IsSameLoad c.ready.new.self.board board = subst (IsSameLoad c.ready.new.self.board) (sym (ap (λ e. e.board) c.self-2.view_is)) c.answer_ready.ensures.loaded in
+    let holds = holds-others machine c.make_spare.new.schedule.plans new ask c.ready.new.self.board.plans c.ready.ensures.loaded (c.in_ok-answered.ensures.unmoved still) in
+    and-some board.ask ask (λ a. HoldsOthers machine a new board.plans) (same.ask ∙ c.ready.ensures.asked) (subst (HoldsOthers machine ask new) (sym same.plans) holds)
