@@ -1,5 +1,6 @@
 //! A board that lives on from ask to ask answers as one that is loaded afresh for each.
-ghost use Rattle.std.specs.Prelude.{◌≡◌, IfOk};
+ghost use Rattle.std.specs.Prelude.{◌≡◌, IfErr, IfOk};
+ghost use Rattle.tp_schedule.specs.Planning.{CanAsk};
 ghost use Rattle.tp_search.specs.Engines.{EngineLasts};
 ghost use Rattle.tp_search.specs.Workspaces.{IsSpentOf};
 
@@ -68,6 +69,7 @@ fn ask_afresh(
     requires served { ⟦<Engine<LiveNet> as Planner>⟧.serves engine.old machine.now }
     requires can_ask { CanAsk machine.now schedule.old.plans ask.now }
     ensures still_serves { ⟦<Engine<LiveNet> as Planner>⟧.serves engine.new machine.now }
+    ensures memory { IfErr result (λ halt. halt ≡ Halt.Memory) }
 {
     engine.settle(machine, &mut Schedule::new(alloc), 0)?;
     engine.ask(machine, schedule, ask)
