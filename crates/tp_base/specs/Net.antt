@@ -34,6 +34,10 @@ HasNoSolution net = (x : ℕ → ℕ) → IsSolution net x → ⊥
 abbrev pub IsEarliest : Net → ℕ → ℕ → Type 0
 IsEarliest net p t = (x : ℕ → ℕ) × IsLeast net x × (t ≡ x p)
 
+-- the first points of the old net, so many, are in the least solution of the new one where they are in that of the old one
+abbrev pub HaveSameTimes : ℕ → Net → Net → Type 0
+HaveSameTimes end old new = (x y : ℕ → ℕ) → IsLeast old x → IsLeast new y → (i : ℕ) → i < end → i < length old.lows → x i ≡ y i
+
 abbrev pub empty_net : Net
 empty_net = record { lows = []; caps = []; edges = [] }
 

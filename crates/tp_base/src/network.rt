@@ -1,7 +1,7 @@
 //! Networks of difference constraints, as a trait.
-ghost use Rattle.std.specs.Prelude.{◌≡◌, ℕ, ◌+◌, ◌<◌, ◌≤◌, ◌≤ℤ◌, pos, negsuc, ◌↔◌, [], length, slice_index, All, OnOk, OnErr, IfOk, IsErr};
+ghost use Rattle.std.specs.Prelude.{◌≡◌, ℕ, ◌+◌, ◌<◌, ◌≤◌, ◌≤ℤ◌, pos, negsuc, ◌↔◌, [], length, slice_get, slice_index, false, Some, All, OnOk, OnErr, IfOk, IsErr};
 ghost use Rattle.tp_base.specs.Grows.{IsKnown};
-ghost use Rattle.tp_base.specs.Net.{Net, HasLeast, HasNoSolution, IsEarliest, IsLeast, IsSolution, empty_net, with_bounds_at, with_edge, with_edges, with_low, with_point};
+ghost use Rattle.tp_base.specs.Net.{Net, HasLeast, HasNoSolution, HaveSameTimes, IsEarliest, IsLeast, IsSolution, empty_net, with_bounds_at, with_edge, with_edges, with_low, with_point};
 
 use crate::edges::{Edge, PointId, Proof};
 use crate::refusals::{Full, Late};
@@ -134,6 +134,12 @@ pub trait Network: Undo {
     fn earliest(&self, point: PointId) -> u32
         requires { point.0 < length (reading.net self.now).lows }
         ensures { IsEarliest (reading.net self.now) point.0 result };
+
+    /// Whether a point before this one may be later than it was at the oldest mark in force. A network that does not keep
+    /// what it was says yes.
+    fn may_have_risen(&self, end: PointId) -> bool
+        ensures { result ≡ false → (old : Net) → slice_get (reading.past self.now) 0 ≡ Some old
+            → HaveSameTimes end.0 old (reading.net self.now) };
 
     /// Why the last change was refused. `mark` and `undo_to` leave it as it is.
     fn proof(&self) -> Proof<'_>

@@ -30,6 +30,7 @@ module _ {N A : Type 0} (reading : Reading N) (untouched : N → A) where
     made_for = x.made_for;
     causes = x.causes;
     limit = x.limit;
+    settled = x.settled;
   }
 
   pub stands-back : (b : BoardValue N) (n : N) (causes : List Cause) (m : Machine) (ask : Ask) → StandsOn reading b m ask → reading.past n ≡ reading.past b.net → Keeps (length b.steps) b.causes causes

@@ -42,7 +42,7 @@ still reading b machine now (ask, s) closed moment =
 pub none-more : {X : Type 0} (old new : List X) → take (length old) new ≡ old → length new ≡ length old → new ≡ old
 none-more old new first same = sym (take_all (length old) new (omega arith)) ∙ first
 
-one-more : {X : Type 0} (old new : List X) → take (length old) new ≡ old → length new ≡ length old + 1 → (x : X) × (new ≡ old ++ x ∷ [])
+pub one-more : {X : Type 0} (old new : List X) → take (length old) new ≡ old → length new ≡ length old + 1 → (x : X) × (new ≡ old ++ x ∷ [])
 one-more old new first more =
     let x = get-there new (length old) (omega arith) in
     let none : drop (suc (length old)) new ≡ [] = drop_all (suc (length old)) new (omega arith) in

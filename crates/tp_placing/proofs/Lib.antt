@@ -52,6 +52,7 @@ pub mod LivePart
 pub mod LoadSlots
 pub mod LoadedTicks
 pub mod WriteSettle
+pub mod SettledFacts
 pub mod NameFacts
 pub mod SwapFacts
 pub mod WalkFacts

@@ -1,5 +1,5 @@
 -- A board whose parts are loaded stands on the ask.
-use Rattle.std.proofs.Common.{◌≡◌, ℕ, ◌+◌, ◌≤◌, List, [], length, filter, refl, ap, sym, ◌∙◌, subst, arith, Some, Contains}
+use Rattle.std.proofs.Common.{◌≡◌, ℕ, ◌+◌, ◌≤◌, List, [], length, filter, refl, ap, sym, ◌∙◌, subst, arith, true, Some, Contains}
 use Rattle.tp_base.specs.Readings.{Reading}
 use Rattle.tp_base.specs.Net.{Net}
 use Rattle.tp_machine.specs.declared.machine.Machine.{Machine}
@@ -13,6 +13,7 @@ use Rattle.tp_schedule.specs.declared.parts.Plan.{Plan}
 use Rattle.tp_placing.specs.Boards.{BoardValue, past_of}
 use Rattle.tp_placing.specs.Loaded.{CanLoad, IsLoaded}
 use Rattle.tp_placing.specs.Loading.{point_count}
+use Rattle.tp_placing.specs.Settled.{AreSettled}
 use Rattle.tp_placing.specs.Standing.{AreCaused, IsAt, IsMadeFor, StandsOn}
 use Rattle.tp_placing.specs.declared.causes.Cause.{Cause}
 use Rattle.tp_placing.specs.declared.parts.Held.{Held}
@@ -37,8 +38,8 @@ pub stands-loaded : {N : Type 0} (reading : Reading N) (b : BoardValue N) (machi
     → IsMadeFor b.made_for machine → b.ask ≡ Some ask → b.floor ≡ start_floor machine ask.now ask.origin → b.horizon ≡ ask.now + machine.window
     → b.plans ≡ filter (is_live machine ask.now) plans → b.steps ≡ [] → b.last.0 ≡ point_count b.plans → past_of reading b ≡ []
     → IsLoaded machine ask.now b.plans (reading.net b.net) b.orders.orders b.held b.firsts b.causes
-    → StandsOn reading b machine ask
-stands-loaded reading b machine plans ask can made asked floor horizon live closed last none loaded =
+    → (b.settled ≡ true → AreSettled machine ask.now b.plans) → StandsOn reading b machine ask
+stands-loaded reading b machine plans ask can made asked floor horizon live closed last none loaded settled =
     let few = live-few machine plans ask can ask.origin can.asked in
     let kept = few.2 in
     let length-live = few.0 in
@@ -59,8 +60,9 @@ stands-loaded reading b machine plans ask can made asked floor horizon live clos
       few_points = omega arith;
       few_plans = can-load.few;
       now = subst (λ s. IsAt machine b.plans ask s (reading.net b.net) b.orders.orders b.held) (sym closed) (at-first machine b.plans ask (reading.net b.net) b.orders.orders b.held b.firsts b.causes kept loaded);
-      before = λ x inside n same. (let gone = subst (λ cs. Contains cs x) none inside in absurd (omega (arith, gone.1)));
+      before = λ x inside. (let gone = subst (λ cs. Contains cs x) none inside in absurd (omega (arith, gone.1)));
       plain = loaded.plain;
       caused = subst (λ s. AreCaused machine b.plans ask b.causes s (reading.net b.net)) (sym closed) (record { hops = loaded.hops ask; safe = loaded.safe });
-      caused_before = λ x inside n same. (let gone = subst (λ cs. Contains cs x) none inside in absurd (omega (arith, gone.1)));
+      caused_before = λ x inside. (let gone = subst (λ cs. Contains cs x) none inside in absurd (omega (arith, gone.1)));
+      settled = settled;
     }

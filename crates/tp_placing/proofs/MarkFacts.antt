@@ -1,5 +1,5 @@
 -- A board stands after a mark, and back at one.
-use Rattle.std.proofs.Common.{◌≡◌, ℕ, suc, List, length, ◌+◌, ◌<◌, ◌≤◌, false, refl, ap, sym, ◌∙◌, subst, inl, inr, All, Contains, Some}
+use Rattle.std.proofs.Common.{◌≡◌, ℕ, suc, List, length, ◌+◌, ◌<◌, ◌≤◌, false, ap, sym, ◌∙◌, subst, inl, inr, All, Contains, Some}
 use Rattle.std.specs.List.{slice_get}
 use Rattle.tp_base.specs.Readings.{Reading}
 use Rattle.tp_base.proofs.SliceFacts.{slice_get_end, slice_get_take}
@@ -19,6 +19,7 @@ use Rattle.tp_placing.specs.Boards.{BoardValue, BoardContent, BoardUntouched, co
 use Rattle.tp_placing.specs.Causes.{ArePlain, IsNamedHop, limit_tag}
 use Rattle.tp_placing.specs.Laws.{UntouchedKeepsEndReasons, UntouchedKeepsReasons, UntouchedKeepsReasonsUpTo, MarkKeeps, UndoKeeps}
 use Rattle.tp_placing.specs.Reasons.{HasEndReason, HasReason, IsEndReason, IsReason, IsShown, with_limit}
+use Rattle.tp_placing.specs.Settled.{AreSettled}
 use Rattle.tp_placing.specs.Standing.{AreCaused, AreFirsts, IsAt, IsMadeFor, StandsOn, table_with}
 use Rattle.tp_placing.specs.Walking.{HasReasonUpTo, IsPartReason}
 use Rattle.tp_placing.specs.declared.causes.Cause.TheVariants.{Limit}
@@ -27,13 +28,13 @@ use Rattle.tp_placing.proofs.StandFacts.{and-some, some-and}
 module _ {N A : Type 0} (reading : Reading N) (untouched : N → A) where
   -- a net at which the board stands
   abbrev StandsIn : BoardValue N → Machine → Ask → BoardContent → Type 0
-  StandsIn b m ask x = (n : N) → reading.net n ≡ x.net → IsAt m b.plans ask x.steps (reading.net n) x.orders x.held × AreCaused m b.plans ask b.causes x.steps (reading.net n)
+  StandsIn b m ask x = IsAt m b.plans ask x.steps x.net x.orders x.held × AreCaused m b.plans ask b.causes x.steps x.net
 
   now-in : (b : BoardValue N) (m : Machine) (ask : Ask) → StandsOn reading b m ask → StandsIn b m ask (content_of reading b)
-  now-in b m ask s n e = subst (λ k. IsAt m b.plans ask b.steps k b.orders.orders b.held × AreCaused m b.plans ask b.causes b.steps k) (sym e) (s.now, s.caused)
+  now-in b m ask s = (s.now, s.caused)
 
   before-in : (b : BoardValue N) (m : Machine) (ask : Ask) → StandsOn reading b m ask → (x : BoardContent) → Contains (past_of reading b) x → StandsIn b m ask x
-  before-in b m ask s x c n e = (s.before x c n e, s.caused_before x c n e)
+  before-in b m ask s x c = (s.before x c, s.caused_before x c)
 
   -- where marks left the same alone, and the present net and each of the past such as the first board stands in
   stands-in : (a b : BoardValue N) (m : Machine) (ask : Ask) → untouched_of untouched b ≡ untouched_of untouched a → StandsOn reading a m ask → StandsIn a m ask (content_of reading b)
@@ -46,6 +47,7 @@ module _ {N A : Type 0} (reading : Reading N) (untouched : N → A) where
       let horizon = ap (λ (x : BoardUntouched A). x.horizon) e in
       let asked = ap (λ (x : BoardUntouched A). x.ask) e in
       let causes : a.causes ≡ b.causes = sym (ap (λ (x : BoardUntouched A). x.causes) e) in
+      let settled : b.settled ≡ a.settled = ap (λ (x : BoardUntouched A). x.settled) e in
       let made : a.made_for ≡ b.made_for = sym (ap (λ (x : BoardUntouched A). x.made_for) e) in
       record {
         made = subst (λ d. IsMadeFor d m) made s.made;
@@ -59,11 +61,12 @@ module _ {N A : Type 0} (reading : Reading N) (untouched : N → A) where
         firsts = subst (AreFirsts 0 b.plans) firsts (subst (λ ps. AreFirsts 0 ps a.firsts) plans s.firsts);
         few_points = subst (λ (p : PointId). p.0 + 65 ≤ 16641 + kept_of ask) last s.few_points;
         few_plans = subst (λ (ps : List Plan). length ps ≤ 256) plans s.few_plans;
-        now = subst (λ ps. IsAt m ps ask b.steps (reading.net b.net) b.orders.orders b.held) plans (here b.net refl).0;
-        before = λ x c n f. subst (λ ps. IsAt m ps ask x.steps (reading.net n) x.orders x.held) plans (before x c n f).0;
+        now = subst (λ ps. IsAt m ps ask b.steps (reading.net b.net) b.orders.orders b.held) plans here.0;
+        before = λ x c. subst (λ ps. IsAt m ps ask x.steps x.net x.orders x.held) plans (before x c).0;
         plain = subst ArePlain causes s.plain;
-        caused = subst (λ cs. AreCaused m b.plans ask cs b.steps (reading.net b.net)) causes (subst (λ ps. AreCaused m ps ask a.causes b.steps (reading.net b.net)) plans (here b.net refl).1);
-        caused_before = λ x c n f. subst (λ cs. AreCaused m b.plans ask cs x.steps (reading.net n)) causes (subst (λ ps. AreCaused m ps ask a.causes x.steps (reading.net n)) plans (before x c n f).1);
+        caused = subst (λ cs. AreCaused m b.plans ask cs b.steps (reading.net b.net)) causes (subst (λ ps. AreCaused m ps ask a.causes b.steps (reading.net b.net)) plans here.1);
+        caused_before = λ x c. subst (λ cs. AreCaused m b.plans ask cs x.steps x.net) causes (subst (λ ps. AreCaused m ps ask a.causes x.steps x.net) plans (before x c).1);
+        settled = λ is. subst (AreSettled m ask.now) plans (s.settled (sym settled ∙ is));
       }
 
   pub mark_keeps : MarkKeeps reading untouched

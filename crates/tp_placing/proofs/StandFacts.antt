@@ -82,9 +82,10 @@ module _ {N : Type 0} (reading : Reading N) where
     before = λ y c. s.before y (subst (λ xs. Contains xs y) same c);
     plain = plain-kept (length b.steps) b.causes causes keeps s.plain;
     caused = caused;
-    caused_before = λ y c k f. (
+    caused_before = λ y c. (
         let there = subst (λ xs. Contains xs y) same c in
-        caused-kept m b.plans ask (length b.steps) b.causes causes y.steps (reading.net k) keeps (short-past b.held b.steps (reading.past b.net) b.orders.past b.marks y there) (s.caused_before y there k f));
+        caused-kept m b.plans ask (length b.steps) b.causes causes y.steps y.net keeps (short-past b.held b.steps (reading.past b.net) b.orders.past b.marks y there) (s.caused_before y there));
+    settled = s.settled;
   }
 
   -- and after a refusal, which leaves the network's net
@@ -106,9 +107,10 @@ module _ {N : Type 0} (reading : Reading N) where
     before = λ y c. s.before y (subst (λ cs. Contains (side_by_side b.held b.steps cs b.orders.past b.marks) y) before c);
     plain = plain-kept (length b.steps) b.causes causes keeps s.plain;
     caused = caused-kept m b.plans ask (length b.steps) b.causes causes b.steps (reading.net n) keeps (omega arith) (subst (AreCaused m b.plans ask b.causes b.steps) (sym same) s.caused);
-    caused_before = λ y c k f. (
+    caused_before = λ y c. (
         let there = subst (λ cs. Contains (side_by_side b.held b.steps cs b.orders.past b.marks) y) before c in
-        caused-kept m b.plans ask (length b.steps) b.causes causes y.steps (reading.net k) keeps (short-past b.held b.steps (reading.past b.net) b.orders.past b.marks y there) (s.caused_before y there k f));
+        caused-kept m b.plans ask (length b.steps) b.causes causes y.steps y.net keeps (short-past b.held b.steps (reading.past b.net) b.orders.past b.marks y there) (s.caused_before y there));
+    settled = s.settled;
   }
 
   -- the ask that the board stands on is the one that it keeps

@@ -1,5 +1,5 @@
 -- What a board holds: live plans and an ask, and the steps that were taken since they were loaded.
-use Rattle.std.specs.Prelude.{ℕ, List, [], ◌∷◌, take, fold, Option, Some, None}
+use Rattle.std.specs.Prelude.{ℕ, Bool, List, [], ◌∷◌, take, fold, Option, Some, None}
 use Rattle.tp_base.specs.Net.{Net}
 use Rattle.tp_base.specs.Readings.{Reading}
 use Rattle.tp_timelines.specs.Orders.{Orders, Sizes, sizes_of}
@@ -15,8 +15,8 @@ use Rattle.tp_placing.specs.declared.parts.Step.{Step}
 use Rattle.tp_placing.specs.declared.parts.Change.{Change}
 use Rattle.tp_placing.specs.declared.parts.Change.TheVariants.{Goal, Action, Place, Stop}
 
--- the network, the orders of the holds by their numbers, the live plans, the ask, the steps since they were loaded, and why
--- the network's edges stand
+-- the network, the orders of the holds by their numbers, the live plans, the ask, the steps since they were loaded, why the
+-- network's edges stand, and whether the plans are known to have their least ticks
 pub record BoardValue (N : Type 0) : Type 0 where
   pub net : N
   pub orders : Orders
@@ -32,6 +32,7 @@ pub record BoardValue (N : Type 0) : Type 0 where
   pub made_for : MadeFor
   pub causes : List Cause
   pub limit : Option PointId
+  pub settled : Bool
 
 -- the suffix after a change
 abbrev pub after_change : Option Suffix → Change → Option Suffix
@@ -71,6 +72,7 @@ pub record BoardUntouched (A : Type 0) : Type 0 where
   pub made_for : MadeFor
   pub causes : List Cause
   pub limit : Option PointId
+  pub settled : Bool
 
 abbrev pub content_of : {N : Type 0} → Reading N → BoardValue N → BoardContent
 content_of reading b = record { net = reading.net b.net; orders = b.orders.orders; held = b.held; steps = b.steps }
@@ -88,6 +90,7 @@ untouched_of untouched b = record {
   made_for = b.made_for;
   causes = b.causes;
   limit = b.limit;
+  settled = b.settled;
 }
 
 -- the contents at the marks: what the network and the orders were, and the first so many holds and steps

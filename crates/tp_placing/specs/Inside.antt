@@ -1,5 +1,5 @@
 -- What a board keeps true of its fields.
-use Rattle.std.specs.Prelude.{◌≡◌, ℕ, ◌<◌, ◌≤◌, List, length, slice_get, Option, Some, Vec, vec_capacity}
+use Rattle.std.specs.Prelude.{◌≡◌, ℕ, Bool, ◌<◌, ◌≤◌, List, length, slice_get, Option, Some, Vec, vec_capacity}
 use Rattle.std.specs.declared.alloc.Global.{Global}
 use Rattle.tp_base.specs.declared.edges.Edge.{Edge}
 use Rattle.tp_base.specs.declared.edges.PointId.{PointId}
@@ -14,8 +14,8 @@ use Rattle.tp_placing.specs.declared.parts.MadeFor.{MadeFor}
 use Rattle.tp_placing.specs.declared.parts.Step.{Step}
 use Rattle.tp_placing.specs.Boards.{BoardValue}
 
-abbrev pub board_of : {N : Type 0} → N → Orders → List Held → List Plan → List PointId → PointId → ℕ → ℕ → Option Ask → List Step → List BoardMark → MadeFor → List Cause → Option PointId → BoardValue N
-board_of net orders held plans firsts last floor horizon ask steps marks made_for causes limit = record {
+abbrev pub board_of : {N : Type 0} → N → Orders → List Held → List Plan → List PointId → PointId → ℕ → ℕ → Option Ask → List Step → List BoardMark → MadeFor → List Cause → Option PointId → Bool → BoardValue N
+board_of net orders held plans firsts last floor horizon ask steps marks made_for causes limit settled = record {
   net = net;
   orders = orders;
   held = held;
@@ -30,6 +30,7 @@ board_of net orders held plans firsts last floor horizon ask steps marks made_fo
   made_for = made_for;
   causes = causes;
   limit = limit;
+  settled = settled;
 }
 
 -- the most live plans, own points beside them, steps, holds and edges

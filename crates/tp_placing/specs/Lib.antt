@@ -7,6 +7,7 @@ pub mod Ticks
 pub mod Loading
 pub mod LoadedHolds
 pub mod Laws
+pub mod Settled
 pub mod Standing
 pub mod Writing
 pub mod Loaded

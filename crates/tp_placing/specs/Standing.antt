@@ -1,5 +1,5 @@
 -- What holds of a loaded board: its network and its orders are those of the live plans with the suffix so far.
-use Rattle.std.specs.Prelude.{◌≡◌, ℕ, zero, suc, ◌+◌, ◌-◌, ◌*◌, ◌<◌, ◌≤◌, Bool, false, List, [], ◌∷◌, ◌++◌, length, slice_get, Option, Some, None, All, Contains, if◌then◌else◌}
+use Rattle.std.specs.Prelude.{◌≡◌, ℕ, zero, suc, ◌+◌, ◌-◌, ◌*◌, ◌<◌, ◌≤◌, Bool, false, true, List, [], ◌∷◌, ◌++◌, length, slice_get, Option, Some, None, All, Contains, if◌then◌else◌}
 use Rattle.tp_base.specs.Readings.{Reading}
 use Rattle.tp_base.specs.Net.{Net, HasLeast}
 use Rattle.tp_machine.specs.Machines.{IsOffset}
@@ -24,6 +24,7 @@ use Rattle.tp_placing.specs.declared.causes.Cause.{Cause}
 use Rattle.tp_placing.specs.declared.parts.Held.{Held}
 use Rattle.tp_placing.specs.declared.parts.MadeFor.{MadeFor}
 use Rattle.tp_placing.specs.declared.parts.Step.{Step}
+use Rattle.tp_placing.specs.Settled.{AreSettled}
 use Rattle.tp_placing.specs.Boards.{BoardValue, BoardContent, suffix_after, past_of}
 
 -- the board was made for a machine with these numbers
@@ -152,10 +153,11 @@ pub record StandsOn {N : Type 0} (reading : Reading N) (b : BoardValue N) (machi
   pub few_points : b.last.0 + 65 ≤ 16641 + kept_of ask
   pub few_plans : length b.plans ≤ 256
   pub now : IsAt machine b.plans ask b.steps (reading.net b.net) b.orders.orders b.held
-  pub before : (x : BoardContent) → Contains (past_of reading b) x → (n : N) → reading.net n ≡ x.net → IsAt machine b.plans ask x.steps (reading.net n) x.orders x.held
+  pub before : (x : BoardContent) → Contains (past_of reading b) x → IsAt machine b.plans ask x.steps x.net x.orders x.held
   pub plain : ArePlain b.causes
   pub caused : AreCaused machine b.plans ask b.causes b.steps (reading.net b.net)
-  pub caused_before : (x : BoardContent) → Contains (past_of reading b) x → (n : N) → reading.net n ≡ x.net → AreCaused machine b.plans ask b.causes x.steps (reading.net n)
+  pub caused_before : (x : BoardContent) → Contains (past_of reading b) x → AreCaused machine b.plans ask b.causes x.steps x.net
+  pub settled : b.settled ≡ true → AreSettled machine ask.now b.plans
 
 abbrev pub Stands : {N : Type 0} → Reading N → BoardValue N → Machine → Type 0
 Stands reading b machine = (ask : Ask) × StandsOn reading b machine ask

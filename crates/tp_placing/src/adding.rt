@@ -116,6 +116,7 @@ impl<N: Network> Board<N> {
             self.new.causes }
         ensures last { result ≡ true → self.new.last.0 ≡ point_count self.new.plans }
         ensures steps { self.new.steps ≡ self.old.steps }
+        ensures settled { self.new.settled ≡ self.old.settled }
         ensures past { past_of N.reading self.old ≡ [] → past_of N.reading self.new ≡ [] }
         ensures marks { N.reading.max_marks self.new.net ≡ N.reading.max_marks self.old.net }
     {

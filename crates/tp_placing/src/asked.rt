@@ -1,9 +1,9 @@
 //! The plan of the asked copy, by the steps of a board.
-ghost use Rattle.std.specs.Prelude.{◌≡◌, ℕ, suc, ◌+◌, ◌-◌, ◌^◌, ◌<◌, ◌≤◌, ◌++◌, length, take, Some, IsSomeAnd};
+ghost use Rattle.std.specs.Prelude.{◌≡◌, ℕ, suc, ◌+◌, ◌-◌, ◌^◌, ◌<◌, ◌≤◌, ◌++◌, AllPairs, length, take, Some, IsSomeAnd};
 ghost use Rattle.tp_base.specs.Net.{IsLeast};
 ghost use Rattle.tp_schedule.specs.Answers.{kept_acts, kept_of};
 ghost use Rattle.tp_schedule.specs.Completions.{asked_plan, settled_ticks, total_of};
-ghost use Rattle.tp_schedule.specs.Plans.{IsFormed};
+ghost use Rattle.tp_schedule.specs.Plans.{IsEarlier, IsFormed};
 ghost use Rattle.tp_schedule.specs.Spots.{Ticks};
 ghost use Rattle.tp_schedule.specs.Spots.Spot.{kept};
 ghost use Rattle.tp_schedule.specs.Times.{ticks_from, timed_by};
@@ -20,6 +20,7 @@ use tp_schedule::{Acts, Ask, Kind, Plan, Points, SheetId, copy_place};
 
 /// The actions that a copy has in the plans.
 fn acts_so_far(plans: &[Plan], copy: SheetId) -> Acts
+    requires { AllPairs IsEarlier plans.now }
     ensures { result ≡ kept_acts copy plans.now }
 {
     match copy_place(plans, copy) {
@@ -30,6 +31,7 @@ fn acts_so_far(plans: &[Plan], copy: SheetId) -> Acts
 
 /// The least times of their starts.
 fn starts_so_far<N: Network>(net: &N, plans: &[Plan], firsts: &[PointId], copy: SheetId) -> Points
+    requires in_order { AllPairs IsEarlier plans.now }
     requires firsts { AreFirsts 0 plans.now firsts.now }
     requires known { length (table_of plans.now) ≤ length (N.reading.net net.now).lows }
     requires fits { length (table_of plans.now) < 2 ^ 32 }
@@ -90,6 +92,7 @@ pub(crate) fn plan_by_steps<N: Network>(
     steps: &[Step],
     own: OwnActs,
 ) -> Plan
+    requires in_order { AllPairs IsEarlier plans.now }
     requires firsts { AreFirsts 0 plans.now firsts.now }
     requires kept { length (kept_acts ask.now.sheet plans.now) ≡ kept_of ask.now }
     requires few { kept_of ask.now + own.count ≤ 64 }

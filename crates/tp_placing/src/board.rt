@@ -34,6 +34,8 @@ pub struct Board<N: Network> {
     pub(crate) causes: Causes,
     /// The point of the end that was refused last, where that was the last change that was asked for.
     pub(crate) limit: Option<PointId>,
+    /// Whether the loaded plans are known to have their least times.
+    pub(crate) settled: bool,
 }
 
 // What becomes of its parts is proved here, once for all who let go of one.
@@ -57,6 +59,7 @@ impl<N: Network + Drop> Drop for Board<N> {
             edges: _,
             causes: _,
             limit: _,
+            settled: _,
         } = self;
     }
 }
@@ -70,7 +73,7 @@ impl<N: Network> Model for Board<N> {
     ghost Value = { BoardValue N };
 
     ghost view = { λ b. board_of b.net b.lines b.held.items b.plans.items b.firsts.items b.last
-        b.floor b.horizon b.ask b.steps.items b.marks.items b.made_for b.causes b.limit };
+        b.floor b.horizon b.ask b.steps.items b.marks.items b.made_for b.causes b.limit b.settled };
 
     ghost invariant = { λ b. IsBoard (length (N.reading.past b.net)) (N.reading.max_marks b.net)
         (N.reading.max_points b.net) (N.reading.max_edges b.net) b.edge_capacity b.lines b.held

@@ -1,9 +1,11 @@
 //! The plan on a board, written into the schedule.
-ghost use Rattle.std.specs.Prelude.{◌≡◌, ◌+◌, ◌<◌, ◌≤◌, false, IsSome, IsSomeAnd, None};
+ghost use Rattle.std.specs.Prelude.{◌≡◌, ◌+◌, ◌<◌, ◌≤◌, All, false, true, IsSome, IsSomeAnd, None};
+ghost use Rattle.tp_machine.specs.declared.machine.Machine.{Machine as MachineValue};
 ghost use Rattle.tp_schedule.specs.Answers.{IsAlternative, IsLeast, follows_front};
 ghost use Rattle.tp_schedule.specs.Plans.{end_of_plan, plan_of, without};
 ghost use Rattle.tp_schedule.specs.Spots.Spot.{own};
 ghost use Rattle.tp_placing.specs.Boards.{suffix_of};
+ghost use Rattle.tp_placing.specs.Settled.{HasLeastPoints};
 ghost use Rattle.tp_placing.specs.Standing.{Stands};
 ghost use Rattle.tp_placing.specs.Ticks.{HasLeastTick};
 ghost use Rattle.tp_placing.specs.Writing.{CanCommit, IsLoadedFrom};
@@ -16,6 +18,18 @@ use tp_machine::Machine;
 use tp_schedule::Schedule;
 
 impl<N: Network> Board<N> {
+    /// Whether the loaded plans are known to have their least times still: they had them, and none has risen since.
+    fn is_settled_still(&self) -> bool
+        requires { (m : MachineValue) × Stands N.reading self.now m }
+        ensures { result ≡ true
+            → All (HasLeastPoints (N.reading.net self.now.net) self.now.plans) self.now.plans }
+    {
+        if !self.settled || self.marks.is_empty() || self.marks[0].steps > 0 {
+            return false;
+        }
+        !self.net.may_have_risen(self.last)
+    }
+
     /// Writes the asked copy's plan and the times of all loaded plans into the schedule that the board was loaded from. Takes
     /// one spare plan for a new copy, and no memory. Answers whether another plan moved.
     pub fn commit(&self, machine: &Machine, schedule: &mut Schedule) -> bool
@@ -47,7 +61,8 @@ impl<N: Network> Board<N> {
             count: newest.first.0 - self.last.0,
             start: newest.first,
         };
-        let moved = write_times(&self.net, &self.plans, &self.firsts, schedule);
+        let known = self.is_settled_still();
+        let moved = write_times(&self.net, &self.plans, &self.firsts, schedule, known);
         let plan = plan_by_steps(&self.net, &self.plans, &self.firsts, &ask, &self.steps, own);
         write_plan(schedule, plan);
         moved

@@ -1,5 +1,5 @@
 //! The ticks of a schedule that is loaded, by the numbers of its points, and when its holds begin.
-ghost use Rattle.std.specs.Prelude.{◌≡◌, ◌<◌, ◌≤◌, length, slice_index, All};
+ghost use Rattle.std.specs.Prelude.{◌≡◌, ◌<◌, ◌≤◌, length, slice_index, true, All};
 ghost use Rattle.std.specs.List.{AllWithin};
 ghost use Rattle.std.specs.List.Sorted.{IsNonDecreasingBy};
 ghost use Rattle.tp_placing.specs.Loading.{HasPoints, firsts_from};
@@ -20,24 +20,37 @@ pub(crate) fn count_to(firsts: &[PointId], point: PointId) -> usize
     firsts.partition_point(|first| first.0 <= point.0)
 }
 
-/// The same, where a guess may spare the search: it is the answer if the point lies between its neighbours.
+/// Whether so many of the points, one or more, are at most this one: it lies between its neighbours then.
+fn is_count_to(firsts: &[PointId], count: usize, point: PointId) -> bool
+    requires { IsNonDecreasingBy (λ f. f.0) firsts.now }
+    ensures within { result ≡ true → count ≤ length firsts.now }
+    ensures before { result ≡ true → AllWithin (λ f. f.0 ≤ point.0) firsts.now 0 count }
+    ensures behind { result ≡ true
+        → AllWithin (λ f. point.0 < f.0) firsts.now count (length firsts.now) }
+{
+    if count == 0 || count > firsts.len() || point.0 < firsts[count - 1].0 {
+        return false;
+    }
+    if count == firsts.len() {
+        return true;
+    }
+    point.0 < firsts[count].0
+}
+
+/// The same as `count_to`, where a guess may spare the search: it is the answer, or one more than the answer.
 pub(crate) fn count_near(firsts: &[PointId], guess: usize, point: PointId) -> usize
     requires { IsNonDecreasingBy (λ f. f.0) firsts.now }
     ensures within { result ≤ length firsts.now }
     ensures before { AllWithin (λ f. f.0 ≤ point.0) firsts.now 0 result }
     ensures behind { AllWithin (λ f. point.0 < f.0) firsts.now result (length firsts.now) }
 {
-    if guess == 0 || guess > firsts.len() || point.0 < firsts[guess - 1].0 {
-        return count_to(firsts, point);
-    }
-    if guess == firsts.len() {
+    if is_count_to(firsts, guess, point) {
         return guess;
     }
-    if point.0 < firsts[guess].0 {
-        guess
-    } else {
-        count_to(firsts, point)
+    if guess > 0 && is_count_to(firsts, guess - 1, point) {
+        return guess - 1;
     }
+    count_to(firsts, point)
 }
 
 /// The tick of a point, of which the plan is found by its first point: the last of so many plans, or another.

@@ -7,6 +7,7 @@ ghost use Rattle.tp_placing.specs.Boards.{past_of};
 ghost use Rattle.tp_placing.specs.Standing.{IsMadeFor, Stands};
 
 use crate::board::Board;
+use crate::writing::are_settled;
 use tp_base::{Network, Tick};
 use tp_machine::Machine;
 use tp_schedule::{Ask, Origin, Schedule};
@@ -38,6 +39,7 @@ impl<N: Network> Board<N> {
         ensures marks { N.reading.max_marks self.new.net ≡ N.reading.max_marks self.old.net }
     {
         self.load_live(machine, schedule, ask.now);
+        self.settled = are_settled(&self.net, &self.plans, &self.firsts);
         self.floor = start_floor(machine, ask);
         self.horizon = ask.now + machine.window;
         self.ask = Some(*ask);

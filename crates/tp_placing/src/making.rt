@@ -62,6 +62,7 @@ impl<N: Network + Drop> Board<N> {
             edges: Vec::with_capacity(alloc, EDGES)?,
             causes: Causes::new(alloc)?,
             limit: None,
+            settled: false,
         })
     }
 }

@@ -6,11 +6,13 @@ ghost use Rattle.tp_placing.specs.Boards.{past_of};
 ghost use Rattle.tp_placing.specs.Following.{HoldsOthers};
 ghost use Rattle.tp_placing.specs.Loaded.{CanLoad, IsLoaded};
 ghost use Rattle.tp_placing.specs.Loading.{point_count};
+ghost use Rattle.tp_placing.specs.Settled.{AreSettled};
 ghost use Rattle.tp_placing.specs.Standing.{IsMadeFor, Stands};
 
 use crate::board::Board;
 use crate::following::follow_plans;
 use crate::loading::start_floor;
+use crate::writing::is_settled;
 use tp_base::{Network, Tick};
 use tp_machine::Machine;
 use tp_schedule::{Ask, Schedule};
@@ -34,6 +36,8 @@ impl<N: Network> Board<N> {
             (N.reading.net self.new.net) self.new.orders.orders self.new.held self.new.firsts
             self.new.causes }
         ensures last { result ≡ true → self.new.last.0 ≡ point_count self.new.plans }
+        ensures settled { result ≡ true → self.new.settled ≡ true
+            → AreSettled machine.now now self.new.plans }
         ensures closed { self.new.steps ≡ [] }
         ensures past { past_of N.reading self.new ≡ [] }
         ensures marks { N.reading.max_marks self.new.net ≡ N.reading.max_marks self.old.net }
@@ -49,11 +53,13 @@ impl<N: Network> Board<N> {
         if self.plans.len() == count {
             return true;
         }
-        if self.plans.len() == count + 1 {
-            self.add_last(machine, now)
-        } else {
-            false
+        if self.plans.len() != count + 1 || !self.add_last(machine, now) {
+            return false;
         }
+        if self.settled {
+            self.settled = is_settled(&self.net, &self.plans, &self.firsts, count);
+        }
+        true
     }
 
     /// Holds the schedule's live plans from now on, to be asked this, as `load` does. What the board holds stays where it still

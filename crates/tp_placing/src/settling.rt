@@ -25,6 +25,6 @@ impl<N: Network> Board<N> {
         ensures marks { N.reading.max_marks self.new.net ≡ N.reading.max_marks self.old.net }
     {
         self.load_live(machine, schedule, now);
-        write_times(&self.net, &self.plans, &self.firsts, schedule);
+        write_times(&self.net, &self.plans, &self.firsts, schedule, false);
     }
 }

@@ -1,10 +1,12 @@
 //! The times of a network's least solution, written into a schedule.
-ghost use Rattle.std.specs.Prelude.{◌≡◌, ℕ, suc, ◌+◌, ◌^◌, ◌<◌, ◌≤◌, All, AllPairs, length, map, false, true, IsSome, Some, None};
+ghost use Rattle.std.specs.Prelude.{◌≡◌, ℕ, suc, ◌+◌, ◌^◌, ◌<◌, ◌≤◌, All, AllPairs, length, map, slice_get, false, true, IsSome, Some, None};
 ghost use Rattle.tp_base.specs.Net.{HasLeast, IsLeast};
 ghost use Rattle.tp_schedule.specs.Plans.{IsEarlier, IsFormed, change_plan, plan_of, put_plan, with_points, without};
 ghost use Rattle.tp_schedule.specs.Spots.{Ticks};
 ghost use Rattle.tp_schedule.specs.Times.{ticks_from};
+ghost use Rattle.tp_schedule.specs.declared.parts.Plan.{Plan as PlanValue};
 ghost use Rattle.tp_constraints.specs.Numbers.{table_of};
+ghost use Rattle.tp_placing.specs.Settled.{HasLeastPoints};
 ghost use Rattle.tp_placing.specs.Standing.{AreFirsts};
 ghost use Rattle.tp_placing.specs.Writing.{AreLeastTicks, retimed_in};
 
@@ -42,6 +44,36 @@ fn have_times<N: Network>(net: &N, first: PointId, times: &[Tick]) -> bool
     true
 }
 
+/// Whether the plan at a place has its least times.
+pub(crate) fn is_settled<N: Network>(net: &N, plans: &[Plan], firsts: &[PointId], at: usize) -> bool
+    requires firsts { AreFirsts 0 plans.now firsts.now }
+    requires known { length (table_of plans.now) ≤ length (N.reading.net net.now).lows }
+    requires fits { length (table_of plans.now) < 2 ^ 32 }
+    requires formed { All IsFormed plans.now }
+    requires there { at < length plans.now }
+    ensures { result ≡ true → (p : PlanValue) → slice_get plans.now at ≡ Some p
+        → HasLeastPoints (N.reading.net net.now) plans.now p }
+{
+    have_times(net, firsts[at], plans[at].points.as_slice())
+}
+
+/// Whether the plans have their least times.
+pub(crate) fn are_settled<N: Network>(net: &N, plans: &[Plan], firsts: &[PointId]) -> bool
+    requires firsts { AreFirsts 0 plans.now firsts.now }
+    requires known { length (table_of plans.now) ≤ length (N.reading.net net.now).lows }
+    requires fits { length (table_of plans.now) < 2 ^ 32 }
+    requires formed { All IsFormed plans.now }
+    ensures { result ≡ true
+        → All (HasLeastPoints (N.reading.net net.now) plans.now) plans.now }
+{
+    for at in 0..plans.len() {
+        if !is_settled(net, plans, firsts, at) {
+            return false;
+        }
+    }
+    true
+}
+
 /// Gives a plan of the schedule its least times. Writes nothing where it has them. Answers whether it did write.
 fn write_points<N: Network>(net: &N, plan: &Plan, first: PointId, schedule: &mut Schedule) -> bool
     requires formed { IsFormed plan.now }
@@ -62,13 +94,17 @@ fn write_points<N: Network>(net: &N, plan: &Plan, first: PointId, schedule: &mut
     true
 }
 
-/// Gives each of the loaded plans its least times in the schedule. Answers whether one had others.
+/// Gives each of the loaded plans its least times in the schedule. Answers whether one had others. It looks at none of them
+/// where they are known to have these times.
 pub(crate) fn write_times<N: Network>(
     net: &N,
     plans: &[Plan],
     firsts: &[PointId],
     schedule: &mut Schedule,
+    known: bool,
 ) -> bool
+    requires settled { known ≡ true
+        → All (HasLeastPoints (N.reading.net net.now) plans.now) plans.now }
     requires firsts { AreFirsts 0 plans.now firsts.now }
     requires known { length (table_of plans.now) ≤ length (N.reading.net net.now).lows }
     requires fits { length (table_of plans.now) < 2 ^ 32 }
@@ -82,6 +118,9 @@ pub(crate) fn write_times<N: Network>(
     ensures unmoved { result ≡ false → schedule.new.plans ≡ schedule.old.plans }
     ensures spare { schedule.new.spare ≡ schedule.old.spare }
 {
+    if known {
+        return false;
+    }
     let mut moved = false;
     for (at, plan) in plans.iter().enumerate() {
         if write_points(net, plan, firsts[at], schedule) {

@@ -20,4 +20,5 @@ pub mod RunFacts
 pub mod SortFacts
 pub mod OrderFacts
 pub mod Without
+pub mod SearchFacts
 pub mod SetFacts

@@ -1,6 +1,6 @@
 //! The order of copies, and a copy looked up among plans.
-ghost use Rattle.std.specs.Prelude.{◌≡◌, ◌<◌, length, position, unwrap_or, vec_len, vec_capacity, IfSome, IsSome, Some};
-ghost use Rattle.tp_schedule.specs.Plans.{change_plan, is_before, is_same_copy, plan_of};
+ghost use Rattle.std.specs.Prelude.{◌≡◌, ◌<◌, AllPairs, length, position, unwrap_or, vec_len, vec_capacity, IfSome, IsSome, Some};
+ghost use Rattle.tp_schedule.specs.Plans.{IsEarlier, change_plan, is_before, is_same_copy, plan_of};
 
 use crate::parts::{Plan, SheetId};
 
@@ -13,31 +13,33 @@ pub fn is_earlier(one: SheetId, other: SheetId) -> bool
             && (one.number < other.number || (one.number == other.number && one.copy < other.copy)))
 }
 
-fn first_later(plans: &[Plan], copy: SheetId) -> Option<usize>
-    ensures { result ≡ position (λ q. is_before copy q.sheet) plans.now }
-{
-    plans.iter().position(|other| is_earlier(copy, other.sheet))
-}
-
-/// Where a plan of the copy goes in the order of copies.
+/// Where a plan of the copy goes in the order of copies, by a binary search.
 pub(crate) fn place_of(plans: &[Plan], copy: SheetId) -> usize
+    requires { AllPairs IsEarlier plans.now }
     ensures { result ≡ unwrap_or (position (λ q. is_before copy q.sheet) plans.now)
         (length plans.now) }
 {
-    first_later(plans, copy).unwrap_or(plans.len())
+    plans.partition_point(|other| !is_earlier(copy, other.sheet))
 }
 
-/// The place of the plan of the copy. Looks at the plans before it.
+/// The place of the plan of the copy, by a binary search.
 pub fn copy_place(plans: &[Plan], copy: SheetId) -> Option<usize>
+    requires in_order { AllPairs IsEarlier plans.now }
     ensures place { result ≡ position (λ p. is_same_copy p.sheet copy) plans.now }
     ensures within { IfSome result (λ at. at < length plans.now) }
 {
-    plans.iter().position(|plan| plan.sheet == copy)
+    let at = plans.partition_point(|other| is_earlier(other.sheet, copy));
+    if at < plans.len() && plans[at].sheet == copy {
+        Some(at)
+    } else {
+        None
+    }
 }
 
 /// The plan of the copy.
 pub(crate) fn plan_in(plans: &[Plan], copy: SheetId) -> &Plan
-    requires { IsSome (plan_of copy plans.now) }
+    requires in_order { AllPairs IsEarlier plans.now }
+    requires planned { IsSome (plan_of copy plans.now) }
     ensures { plan_of copy plans.now ≡ Some result.now }
 {
     match copy_place(plans, copy) {
@@ -48,7 +50,8 @@ pub(crate) fn plan_in(plans: &[Plan], copy: SheetId) -> &Plan
 
 /// The plan takes the place of its copy's plan.
 pub(crate) fn write_plan(plans: &mut Vec<Plan>, plan: Plan)
-    requires { IsSome (plan_of plan.sheet plans.old.items) }
+    requires in_order { AllPairs IsEarlier plans.old.items }
+    requires planned { IsSome (plan_of plan.sheet plans.old.items) }
     ensures plans { plans.new.items ≡ change_plan plan.sheet (λ _. plan) plans.old.items }
     ensures len { vec_len plans.new ≡ vec_len plans.old }
     ensures capacity { vec_capacity plans.new ≡ vec_capacity plans.old }

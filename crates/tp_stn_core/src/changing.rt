@@ -145,6 +145,10 @@ impl Network for PlainNet {
         self.times[point.0 as usize]
     }
 
+    fn may_have_risen(&self, _end: PointId) -> bool {
+        true
+    }
+
     fn proof(&self) -> Proof<'_> {
         match self.kept {
             Kept::Nothing => unreachable!(),

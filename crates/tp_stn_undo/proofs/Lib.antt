@@ -22,3 +22,4 @@ pub mod ChangeFacts
 pub mod AddFacts
 pub mod ChangedFacts
 pub mod BoundFacts
+pub mod TimeFacts

@@ -14,3 +14,4 @@ pub mod Chains
 pub mod Working
 pub mod Adding
 pub mod Live
+pub mod Times

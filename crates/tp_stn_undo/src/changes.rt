@@ -1,7 +1,8 @@
 //! What points were before they changed: for the marks in force, and before the change that is being made.
-ghost use Rattle.std.specs.Prelude.{◌≡◌, ℕ, ◌+◌, ◌*◌, ◌<◌, ◌≤◌, ◌^◌, List, [], length, take, drop, slice_get, slice_set, Some, IfOk, vec_capacity};
+ghost use Rattle.std.specs.Prelude.{◌≡◌, ℕ, ◌+◌, ◌*◌, ◌<◌, ◌≤◌, ◌^◌, false, true, List, [], length, take, drop, slice_get, slice_set, Some, IfOk, vec_capacity};
 ghost use Rattle.tp_stn_undo.specs.declared.states.PointState.{PointState};
 ghost use Rattle.tp_stn_undo.specs.Saved.{restored};
+ghost use Rattle.tp_stn_undo.specs.Times.{IsOneMoved, KeepTimes};
 ghost use Rattle.tp_stn_undo.specs.Flags.{AreHeld, AreKnown, IsSameSave, points_in};
 
 use crate::states::{PointState, SavedState};
@@ -58,6 +59,21 @@ fn put_all_back(entries: &[SavedState], states: &mut [PointState])
         let entry = &entries[left];
         states[entry.point.0 as usize] = entry.state;
     }
+}
+
+/// Whether a point before this one has another time than one of its entries says.
+fn is_one_moved(entries: &[SavedState], end: PointId, states: &[PointState]) -> bool
+    requires { AreKnown (length states.now) entries.now }
+    ensures same { result ≡ false
+        → KeepTimes end.0 (restored entries.now states.now) states.now }
+    ensures moved { result ≡ true → IsOneMoved end.0 states.now entries.now }
+{
+    'each: for entry in entries {
+        if entry.point.0 < end.0 && states[entry.point.0 as usize].time != entry.state.time {
+            return true;
+        }
+    }
+    false
 }
 
 /// Leaves the first one of each point from a place on.
@@ -160,6 +176,18 @@ impl Changes {
         ensures { result ≡ length self.now.older }
     {
         self.before as u32
+    }
+
+    /// Whether a point before this one has another time than it had when so many were saved, or since.
+    pub(crate) fn is_late(&self, from: usize, end: PointId, states: &[PointState]) -> bool
+        requires from { from ≤ length self.now.older }
+        requires known { AreKnown (length states.now) self.now.older }
+        ensures same { result ≡ false
+            → KeepTimes end.0 (restored (drop from self.now.older) states.now) states.now }
+        ensures moved { result ≡ true
+            → IsOneMoved end.0 states.now (drop from self.now.older) }
+    {
+        is_one_moved(&self.entries[from..self.before], end, states)
     }
 
     /// Keeps what was noted, behind what was saved. From this place on no more is left than there can be points.

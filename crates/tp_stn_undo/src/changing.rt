@@ -167,6 +167,16 @@ impl Network for LiveNet {
         self.states[point.0 as usize].time
     }
 
+    fn may_have_risen(&self, end: PointId) -> bool {
+        match self.marks.first() {
+            Some(mark) => self
+                .working
+                .changes
+                .is_late(mark.saved as usize, end, &self.states),
+            None => true,
+        }
+    }
+
     fn proof(&self) -> Proof<'_> {
         match self.kept {
             Kept::Nothing => unreachable!(),

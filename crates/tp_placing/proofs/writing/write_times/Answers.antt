@@ -7,6 +7,7 @@ use Rattle.tp_schedule.specs.Times.{ticks_from}
 use Rattle.tp_schedule.specs.declared.parts.Plan.{Plan}
 use Rattle.tp_placing.specs.Writing.{retimed_in}
 use Rattle.tp_placing.proofs.LineFacts.{end-fits}
+use Rattle.tp_placing.proofs.SettledFacts.{retimed-still}
 use Rattle.tp_placing.proofs.TableFacts.{length-firsts}
 use Rattle.tp_placing.proofs.WritePlans.{change-next, not-before, planned-still, retimed-none}
 use Rattle.tp_placing.proofs.WriteTimes.{plan-ticks, ticks-exist}
@@ -65,3 +66,8 @@ loop-at-preserved g c = record {
 pub returns-clause-times : goal.returns-clause-times
 returns-clause-times g c t a =
     c.loop-at.invariant.times t a ∙ ap (λ live. map (retimed_in live t) c.args.schedule.now.plans) (take_all c.loop-at.at c.args.plans.now c.loop-at-test.false)
+
+pub returns-then-known-clause-times : goal.returns-then-known-clause-times
+returns-then-known-clause-times g c t a =
+    let settled = c.requires.settled c.if-known.true in
+    retimed-still c.args.plans.now c.args.schedule.now.plans t c.requires.schedule c.requires.planned (λ k d within. settled k d within t a)

@@ -11,4 +11,4 @@ returns-in-Some-clause-plans c =
 
 pub returns-in_default-clause-plans : goal.returns-in_default-clause-plans
 returns-in_default-clause-plans c =
-    absurd (planned-has_place c.args.plan.sheet c.args.plans.now.items c.requires (sym c.in_default.is ∙ (rw c.as_slice.ensures.value at c.copy_place.ensures.place)))
+    absurd (planned-has_place c.args.plan.sheet c.args.plans.now.items c.requires.planned (sym c.in_default.is ∙ (rw c.as_slice.ensures.value at c.copy_place.ensures.place)))

@@ -34,7 +34,7 @@ use Rattle.tp_placing.proofs.board.Board.commit.Goals.{After-index-newest, After
 abbrev board : (g : _) → After-index-newest g → BoardValue g.row.N.Denot
 board g c =
     let a = c.self.inside in
-    board_of a.net a.lines a.held.items a.plans.items a.firsts.items a.last a.floor a.horizon a.ask a.steps.items a.marks.items a.made_for a.causes a.limit
+    board_of a.net a.lines a.held.items a.plans.items a.firsts.items a.last a.floor a.horizon a.ask a.steps.items a.marks.items a.made_for a.causes a.limit a.settled
 
 stands-here : (g : _) (c : After-index-newest g) → StandsOn g.N.Network.reading (board g c) c.args.machine.now c.in-Some.ask
 stands-here g c = stands-ask g.N.Network.reading (board g c) c.args.machine.now c.in-Some.ask (rw (← c.self.view_is) at c.requires.stands) c.in-Some.is

@@ -26,7 +26,7 @@ use Rattle.tp_placing.proofs.board.Board.open_goal.Goals.{In-Some}
 abbrev board : (g : _) → In-Some g → BoardValue g.row.N.Denot
 board g c =
     let a = c.self.inside in
-    board_of a.net a.lines a.held.items a.plans.items a.firsts.items a.last a.floor a.horizon a.ask a.steps.items a.marks.items a.made_for a.causes a.limit
+    board_of a.net a.lines a.held.items a.plans.items a.firsts.items a.last a.floor a.horizon a.ask a.steps.items a.marks.items a.made_for a.causes a.limit a.settled
 
 -- the board on a machine that it stands on, with the ask that it keeps
 stands-here : (g : _) (c : In-Some g) (m : Machine) → Stands g.N.Network.reading c.args.self.now m → StandsOn g.N.Network.reading (board g c) m c.in-Some.ask

@@ -17,7 +17,8 @@ returns-then-follow-clause-stands g c =
     let closed = rw (← c.self.view_is) at l.closed in
     let last = rw (← c.self.view_is) at (l.last yes) in
     let past = rw (← c.self.view_is) at l.past in
-    let loaded = rw (← c.self.view_is) at (l.loaded yes) in (
+    let loaded = rw (← c.self.view_is) at (l.loaded yes) in
+    let settled = rw (← c.self.view_is) at (l.settled yes) in (
       c.args.ask.now,
-      stands-loaded g.N.Network.reading _ c.args.machine.now c.args.schedule.now.plans c.args.ask.now c.requires.can_ask made refl c.start_floor-self-inside.ensures refl plans closed last past loaded,
+      stands-loaded g.N.Network.reading _ c.args.machine.now c.args.schedule.now.plans c.args.ask.now c.requires.can_ask made refl c.start_floor-self-inside.ensures refl plans closed last past loaded settled,
     )

@@ -31,7 +31,7 @@ use Rattle.tp_placing.proofs.board.Board.stop.Goals.{After-edge_between, After-p
 abbrev board : (g : _) → After-edge_between g → BoardValue g.row.N.Denot
 board g c =
     let a = c.self.inside in
-    board_of a.net a.lines a.held.items a.plans.items a.firsts.items a.last a.floor a.horizon a.ask a.steps.items a.marks.items a.made_for a.causes a.limit
+    board_of a.net a.lines a.held.items a.plans.items a.firsts.items a.last a.floor a.horizon a.ask a.steps.items a.marks.items a.made_for a.causes a.limit a.settled
 
 -- the board on a machine that it stands on, with the ask that it keeps
 stands-here : (g : _) (c : After-edge_between g) (m : Machine) → Stands g.N.Network.reading c.args.self.now m

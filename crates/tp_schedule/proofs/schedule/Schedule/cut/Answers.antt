@@ -11,8 +11,8 @@ cut_to-requires-2 c =
     let fits : c.args.kept ≤ length c.plan_in.result.now.acts = IsSomeAnd-at c.args.sheet (λ p. c.args.kept ≤ length p.acts) c.self.inside.plans.items c.plan_in.result.now (rw (← c.self.view_is) at c.requires.planned) here in
     rw c.copy-plan.ensures.same (record { shorter = let one = formed.one_more in omega arith })
 
-pub write_plan-requires : goal.write_plan-requires
-write_plan-requires c =
+pub write_plan-requires-clause-planned : goal.write_plan-requires-clause-planned
+write_plan-requires-clause-planned c =
     let here : plan_of c.args.sheet c.self.inside.plans.items ≡ Some c.plan_in.result.now = rw c.as_slice.ensures.value at c.plan_in.ensures in
     rw (c.copy-plan.ensures.same, plan_of-sheet c.args.sheet c.self.inside.plans.items c.plan_in.result.now here, here) refl
 

@@ -4,8 +4,8 @@ use Rattle.tp_schedule.specs.Plans.{IsFormed, plan_of, with_released}
 use Rattle.tp_schedule.proofs.ChangeFacts.{IsOrdered-change_plan, All-plan_of, IsFormed-with_released, IsSomeAnd-at, change_plan-there, plan_of-sheet}
 use Rattle.tp_schedule.proofs.schedule.Schedule.freeze.Goals as goal
 
-pub write_plan-requires : goal.write_plan-requires
-write_plan-requires c =
+pub write_plan-requires-clause-planned : goal.write_plan-requires-clause-planned
+write_plan-requires-clause-planned c =
     let here : plan_of c.args.sheet c.self.inside.plans.items ≡ Some c.plan_in.result.now = rw c.as_slice.ensures.value at c.plan_in.ensures in
     rw (c.copy-plan.ensures.same, plan_of-sheet c.args.sheet c.self.inside.plans.items c.plan_in.result.now here, here) refl
 
