@@ -1,11 +1,11 @@
 -- Items and their lines: the same text, lines in order, and no two logs of the same lines.
-use Rattle.std.proofs.Common.{◌≡◌, ℕ, ◌+◌, ◌<◌, Bool, true, false, IsTrue, List, [], ◌∷◌, ◌++◌, length, map, refl, sym, ap, ◌∙◌, append_assoc, arith}
+use Rattle.std.proofs.Common.{◌≡◌, ℕ, ◌+◌, ◌<◌, false, IsTrue, List, [], ◌∷◌, ◌++◌, length, map, refl, sym, ap, ◌∙◌, append_assoc, arith}
 use Rattle.std.specs.List.{All, AllByRecursion, flat_map}
 use Rattle.std.proofs.lemmas.List.{append-nil}
 use Rattle.std.proofs.lemmas.List.Concat.{flat_map-append}
 use Rattle.std.proofs.lemmas.List.Elements.{All-append, All-from_recursion, All-map, recursion_from_All}
-use Rattle.tp_bounds.specs.Lines.{IsNode, IsRow, node_text, row_text}
-use Rattle.tp_bounds.specs.Trees.{HasALine, HasLines, IsTree}
+use Rattle.tp_bounds.specs.Lines.{node_text, row_text}
+use Rattle.tp_bounds.specs.Trees.{HasLines}
 use Rattle.tp_bounds.specs.declared.tree.BoundTree.{BoundTree}
 use Rattle.tp_bounds.specs.declared.tree.Node.{Node as ANode}
 use Rattle.tp_bounds.specs.declared.tree.TreeRow.{TreeRow}
@@ -14,8 +14,8 @@ use Rattle.tp_log.specs.declared.item.Item.TheVariants.{Event, Note, Tree}
 use Rattle.tp_log.specs.declared.log_line.LogLine.{LogLine}
 use Rattle.tp_log.specs.declared.log_line.LogLine.TheVariants as line
 use Rattle.tp_log.specs.Gathering.{is_tree, item_lines, log_lines}
-use Rattle.tp_log.specs.LogLines.{AreInOrder, FollowEach, IsLogLine, log_line_text, takes_node, takes_row, takes_tree}
-use Rattle.tp_log.specs.Logs.{AreInPlace, IsItem, IsLog, StandEach, StandsBehind, is_open, item_text, log_text}
+use Rattle.tp_log.specs.LogLines.{AreInOrder, FollowEach, IsLogLine, log_line_text, takes_node, takes_row}
+use Rattle.tp_log.specs.Logs.{AreInPlace, IsItem, IsLog, StandEach, is_open, item_text, log_text}
 use Rattle.tp_log.proofs.LogLines.{text_of}
 
 never : {P : Type 0} → IsTrue false → P

@@ -1,8 +1,7 @@
 -- Lines in order, and one line more.
-use Rattle.std.proofs.Common.{◌≡◌, zero, suc, ℕ, Bool, true, false, IsTrue, List, [], ◌∷◌, ◌++◌, map, take, refl, sym, ap, subst, ◌∙◌, append_assoc}
+use Rattle.std.proofs.Common.{◌≡◌, zero, suc, ℕ, true, false, IsTrue, List, [], ◌∷◌, ◌++◌, map, take, refl, sym, ap, ◌∙◌, append_assoc}
 use Rattle.tp_bounds.specs.declared.tree.Node.{Node as ANode}
 use Rattle.tp_bounds.specs.declared.tree.TreeRow.{TreeRow}
-use Rattle.tp_log.specs.declared.gathering.Next.{Next}
 use Rattle.tp_log.specs.declared.log_line.LogLine.{LogLine}
 use Rattle.tp_log.specs.declared.log_line.LogLine.TheVariants.{Event, Note, Room, Node}
 use Rattle.tp_log.specs.LogLines.{AreInOrder, FollowEach, may_follow}

@@ -11,6 +11,9 @@ use tp_base::{Memory, Name, Tick};
 use tp_schedule::{Record, SheetName};
 use tp_words::{put_number_word, put_word};
 
+/// As many bytes as most lines have.
+const LINE_BYTES: usize = 64;
+
 /// Writes a heading and the copy that it is about.
 fn put_heading(out: &mut Vec<u8>, heading: &[u8], sheet: &SheetName) -> Result<(), Memory>
     ensures { OnOk result (out.new.items ≡ out.old.items
@@ -123,7 +126,7 @@ pub fn print_record(rec: &Record, out: &mut Vec<u8>) -> Result<(), Memory>
     ensures printed { OnOk result (out.new.items ≡ out.old.items ++ record_text rec.now) }
     ensures memory { OnErr result (out.new.items ≡ out.old.items) }
 {
-    let mut text = Vec::new(*out.allocator());
+    let mut text = Vec::with_capacity(*out.allocator(), LINE_BYTES)?;
     put_record(&mut text, rec)?;
     text.push(b'\n')?;
     out.extend_from_slice(&text)?;
