@@ -40,12 +40,13 @@ use Rattle.tp_deciding.specs.Marks.IsReached.{at_first, by_step}
 use Rattle.tp_deciding.specs.declared.early.Early.{Early}
 use Rattle.tp_deciding.specs.declared.held.Held.{Held}
 use Rattle.tp_deciding.specs.declared.marks.Step.{Step}
+use Rattle.tp_deciding.proofs.ChainFacts.{chains-are}
 use Rattle.tp_deciding.proofs.ClearFacts.{IsBefore, held-at, held-before, held-sound, in-slots, overlap-illegal, overlap-of}
 use Rattle.tp_deciding.proofs.HeldFacts.{is_on, row, row-plans}
 use Rattle.tp_deciding.proofs.LineFacts.{AllFrom, has-end}
 use Rattle.tp_deciding.proofs.ListFacts.{get-within}
 use Rattle.tp_deciding.proofs.NumberFacts.{MarksAt, from-both, from-contains, marks-count, marks-stand, number-get, numbered-plans, table-count, table-stands}
-use Rattle.tp_deciding.proofs.StepFacts.{IsNumbered, StandsAt, both, chains-are, durations-are, lines-are}
+use Rattle.tp_deciding.proofs.StepFacts.{IsNumbered, StandsAt, both, durations-are, lines-are}
 use Rattle.tp_deciding.proofs.TimedFacts.{timed-formed}
 use Rattle.std.proofs.Common.{flat_map}
 use Rattle.std.proofs.lemmas.List.Elements.{All-weaker}

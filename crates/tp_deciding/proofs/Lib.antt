@@ -6,6 +6,7 @@ pub mod ClearFacts
 pub mod LineFacts
 pub mod MarkFacts
 pub mod StepFacts
+pub mod ChainFacts
 pub mod NumberFacts
 pub mod EarlyFacts
 pub mod MisfitFacts

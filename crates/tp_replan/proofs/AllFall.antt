@@ -1,11 +1,10 @@
 -- Where a module goes out each displaced copy can fall back when its turn comes.
-use Rattle.std.proofs.Common.{◌≡◌, ℕ, zero, suc, ◌+◌, ◌<◌, ◌≤◌, Bool, true, false, cond, not, ◌&&◌, ◌||◌, ◌==◌, List, [], ◌∷◌, ◌++◌, length, map, filter, flat_map, IsTrue, All, Contains, refl, sym, ap, ◌∙◌, arith, subst, count_by}
-use Rattle.std.proofs.lemmas.List.{append_assoc}
+use Rattle.std.proofs.Common.{◌≡◌, ℕ, zero, suc, ◌+◌, ◌<◌, ◌≤◌, Bool, true, false, cond, not, ◌&&◌, ◌||◌, ◌==◌, List, [], ◌∷◌, ◌++◌, length, filter, flat_map, IsTrue, All, Contains, refl, sym, ap, ◌∙◌, arith, subst, count_by}
 use Rattle.std.proofs.lemmas.List.Concat.{flat_map-cons}
 use Rattle.std.proofs.lemmas.Grind.{flat_map-append}
-use Rattle.std.proofs.lemmas.List.Elements.{All-append, All-nil, All-cons, All-head, All-tail, All-contains, All-weaker}
+use Rattle.std.proofs.lemmas.List.Elements.{All-append, All-nil, All-cons, All-head, All-tail, All-contains}
 use Rattle.tp_machine.specs.declared.machine.Machine.{Machine}
-use Rattle.tp_schedule.specs.Plans.{IsFormed, is_before, point}
+use Rattle.tp_schedule.specs.Plans.{IsFormed, point}
 use Rattle.tp_schedule.specs.declared.parts.Plan.{Plan}
 use Rattle.tp_schedule.specs.declared.parts.SheetId.{SheetId}
 use Rattle.tp_schedule.specs.declared.records.Record.TheVariants.{Again}
@@ -20,15 +19,15 @@ use Rattle.tp_turn.specs.FallBacks.{Displaced, fall_back, fall_back_unless_broke
 use Rattle.tp_turn.specs.Labels.{label}
 use Rattle.tp_turn.specs.Lines.{is_job_broken, is_of_job}
 use Rattle.tp_turn.specs.Moments.{is_entering, is_running_on, is_to_run_on, is_to_tray, is_unstarted}
-use Rattle.tp_turn.specs.Outages.{displaced, displaced_by, fate_in_outage, going_out, is_lost_by, outage, with_out}
+use Rattle.tp_turn.specs.Outages.{displaced, displaced_by, fate_in_outage, going_out, is_lost_by, outage}
 use Rattle.tp_turn.specs.Seen.{HasNextCopy, HasStarted}
 use Rattle.tp_turn.specs.States.{Outcome, SessionState, and_then, for_each, nothing_told}
 use Rattle.tp_turn.proofs.CutPlans.{started-low}
 use Rattle.tp_replan.specs.Meanings.{IsKnown}
-use Rattle.tp_replan.specs.Open.{CanFall, Group, is_in, is_open, open_count, to_wait}
-use Rattle.tp_replan.specs.Outing.{CanAllFall, IsDisplaced}
+use Rattle.tp_replan.specs.Open.{CanFall, Group, is_in, to_wait}
+use Rattle.tp_replan.specs.Outing.{CanAllFall}
 use Rattle.tp_replan.proofs.BreakFacts.{break-fits}
-use Rattle.tp_replan.proofs.OpenFacts.{and-both, and-first, and-second, count-append, count-cons, fall_back-fits, is_of_sheet, is_open_of, of_sheet, of_sheet-put}
+use Rattle.tp_replan.proofs.OpenFacts.{and-first, and-second, count-append, count-cons, fall_back-fits, is_of_sheet, is_open_of, of_sheet-put}
 use Rattle.tp_replan.proofs.OutFacts.{outage-fits}
 use Rattle.tp_replan.proofs.StillFall.{Befits, can-befall, formed-befall, is_purged_by}
 

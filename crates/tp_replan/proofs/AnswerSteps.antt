@@ -1,33 +1,27 @@
 -- What an answer of the loop needs and gives, as calls see it.
-use Rattle.std.proofs.Common.{◌≡◌, ◌⊎◌, ℕ, ◌+◌, ◌<◌, ◌≤◌, ◌^◌, Bool, true, List, [], ◌∷◌, ◌++◌, length, Some, All, Contains, IsSomeAnd, IsTrue, refl, sym, ap, ◌∙◌, append_assoc, subst, inl, inr}
+use Rattle.std.proofs.Common.{◌≡◌, ◌⊎◌, ℕ, ◌+◌, ◌<◌, ◌≤◌, ◌^◌, List, [], ◌∷◌, ◌++◌, length, Some, IsSomeAnd, sym, ap, ◌∙◌, append_assoc, subst, inl, inr}
 use Rattle.std.proofs.lemmas.List.Elements.{All-contains}
-use Rattle.tp_machine.specs.declared.parts.Outs.{Outs}
 use Rattle.tp_machine.specs.declared.machine.Machine.{Machine}
 use Rattle.tp_schedule.specs.Answers.{IsAlternative}
 use Rattle.tp_schedule.specs.Planning.{IsAnswer}
 use Rattle.tp_schedule.specs.Planning.Deed.{replied}
-use Rattle.tp_schedule.specs.Plans.{IsTimedPlan, change_plan, is_same_copy, plan_of}
+use Rattle.tp_schedule.specs.Plans.{IsTimedPlan, is_same_copy, plan_of}
 use Rattle.tp_schedule.specs.declared.parts.Ask.{Ask}
 use Rattle.tp_schedule.specs.declared.parts.Plan.{Plan}
 use Rattle.tp_schedule.specs.declared.parts.Reply.{Reply}
-use Rattle.tp_schedule.specs.declared.parts.Reply.TheVariants.{Planned, Never, Spent}
-use Rattle.tp_schedule.specs.declared.parts.SheetId.{SheetId}
+use Rattle.tp_schedule.specs.declared.parts.Reply.TheVariants.{Never, Spent}
 use Rattle.tp_schedule.specs.declared.records.Record.{Record}
 use Rattle.tp_schedule.proofs.CopyFacts.{plan_of-itself}
-use Rattle.tp_jobs.specs.Backlogs.{Backlog}
-use Rattle.tp_turn.specs.Answering.{Answer, told_of_reply}
-use Rattle.tp_turn.specs.Fates.{to_purge}
-use Rattle.tp_turn.specs.Loops.{after_asked, after_one, after_reply, next_ask, not_planned}
-use Rattle.tp_turn.specs.Moments.{is_to_tray}
+use Rattle.tp_turn.specs.Answering.{told_of_reply}
+use Rattle.tp_turn.specs.Loops.{after_asked, after_reply, next_ask, not_planned}
 use Rattle.tp_turn.specs.Planners.{PlannerSteps}
 use Rattle.tp_turn.specs.Seen.{HasNextCopy}
-use Rattle.tp_turn.specs.States.{SessionState, none_out}
+use Rattle.tp_turn.specs.States.{SessionState}
 use Rattle.tp_turn.proofs.ListFacts.{find-Some}
 use Rattle.tp_replan.specs.Answered.{IsAnswered}
 use Rattle.tp_replan.specs.Looping.{CanLoop}
 use Rattle.tp_replan.specs.Meanings.{IsKnown, Leads}
-use Rattle.tp_replan.specs.Open.{CanFall}
-use Rattle.tp_replan.proofs.GivenUp.{can-given_up, first-loose}
+use Rattle.tp_replan.proofs.GivenUp.{first-loose}
 
 pub planned-timed : (machine : Machine) (plans : List Plan) (ask : Ask) (plans' : List Plan) → IsAlternative machine plans ask plans' → IsSomeAnd (plan_of ask.sheet plans') (IsTimedPlan machine)
 planned-timed machine plans ask plans' a =

@@ -1,27 +1,22 @@
 -- The fates where a job breaks: they fit, and no copy waits after them.
-use Rattle.std.proofs.Common.{◌≡◌, ℕ, ◌<◌, Bool, true, false, cond, not, ◌&&◌, ◌==◌, List, [], ◌∷◌, ◌++◌, length, map, filter, flat_map, All, AllPairs, refl, sym, ap, ◌∙◌, subst}
-use Rattle.std.proofs.lemmas.List.Elements.{All-contains, All-nil, All-cons, All-head, All-tail}
+use Rattle.std.proofs.Common.{◌≡◌, ℕ, ◌<◌, Bool, true, false, cond, not, ◌&&◌, ◌==◌, List, [], ◌∷◌, ◌++◌, length, map, filter, flat_map, All, AllPairs, refl, ap, ◌∙◌}
+use Rattle.std.proofs.lemmas.List.Elements.{All-nil, All-cons, All-head, All-tail}
 use Rattle.tp_schedule.specs.Plans.{IsFormed}
 use Rattle.tp_schedule.specs.declared.parts.Plan.{Plan}
 use Rattle.tp_schedule.specs.declared.parts.SheetId.{SheetId}
-use Rattle.tp_machine.specs.declared.parts.Outs.{Outs}
-use Rattle.tp_schedule.specs.declared.records.Record.TheVariants.{Broken}
 use Rattle.tp_schedule.proofs.Pairs.{AllPairs-nil, AllPairs-cons, AllPairs-head, AllPairs-tail}
-use Rattle.tp_jobs.specs.Backlogs.{Backlog, IsOfJob, WaitsBefore, mark_broken}
+use Rattle.tp_jobs.specs.Backlogs.{IsOfJob, WaitsBefore}
 use Rattle.tp_jobs.specs.declared.parts.Job.{Job}
 use Rattle.tp_jobs.specs.declared.parts.WaitingCopy.{WaitingCopy}
 use Rattle.tp_turn.specs.Fates as fates
-use Rattle.tp_turn.specs.Fates.{befall, waits_for}
-use Rattle.tp_turn.specs.FallBacks.{by_copy, fate_in_break, is_copy, is_on_its_way, job_break, notices_of_waiting}
-use Rattle.tp_turn.specs.Labels.{job_name}
-use Rattle.tp_turn.specs.Lines.{is_of_job, put_all_waiting}
+use Rattle.tp_turn.specs.Fates.{waits_for}
+use Rattle.tp_turn.specs.FallBacks.{fate_in_break, is_copy, is_on_its_way, notices_of_waiting}
+use Rattle.tp_turn.specs.Lines.{is_of_job}
 use Rattle.tp_turn.specs.Moments.{is_entering, is_unstarted}
-use Rattle.tp_turn.specs.States.{SessionState, none_out}
-use Rattle.tp_replan.specs.Meanings.{AreCutStarted, CanAllWait, StandsBefore, meant, notice_of_copy, notice_of_plan, told_by_copy, waits_in}
-use Rattle.tp_replan.specs.declared.fate.Fate.{Fate}
-use Rattle.tp_replan.proofs.FateFacts.{waits-by}
+use Rattle.tp_turn.specs.States.{SessionState}
+use Rattle.tp_replan.specs.Meanings.{StandsBefore, notice_of_copy}
 use Rattle.tp_replan.specs.Open.{Fits}
-use Rattle.tp_replan.proofs.OpenFacts.{cut-started, started-some, stays-fits}
+use Rattle.tp_replan.proofs.OpenFacts.{started-some, stays-fits}
 
 pub break-fits : (s : SessionState) (job : ℕ) (p : Plan) → IsFormed p → Fits s p (fate_in_break s job p)
 break-fits s job p formed = go ((p.sheet.job == job) && is_copy s p) (is_unstarted s.now p) refl (is_on_its_way s.now p && not (is_entering s.now p)) where

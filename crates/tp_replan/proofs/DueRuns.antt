@@ -1,19 +1,16 @@
 -- The actions of a plan that are due, one after another.
-use Rattle.std.proofs.Common.{◌≡◌, ℕ, zero, suc, ◌+◌, ◌-◌, ◌<◌, ◌≤◌, Bool, true, false, cond, ◌&&◌, List, [], ◌∷◌, ◌++◌, length, filter, map, take, get_or, refl, sym, ap, ◌∙◌, arith, Some, nat_le, nat_lt, slice_index}
+use Rattle.std.proofs.Common.{◌≡◌, ℕ, zero, suc, ◌+◌, ◌-◌, ◌<◌, ◌≤◌, Bool, true, false, cond, ◌&&◌, List, [], ◌∷◌, ◌++◌, length, filter, take, get_or, refl, sym, ap, ◌∙◌, arith, Some, nat_le, nat_lt, slice_index}
 use Rattle.std.specs.Prelude.{slice_get}
 use Rattle.std.proofs.lemmas.Bool.Decides.{nat_tests}
-use Rattle.std.proofs.lemmas.List.{append-nil, append_assoc, length-append, map-append, take_more}
+use Rattle.std.proofs.lemmas.List.{append-nil, length-append, take_more}
 use Rattle.std.proofs.lemmas.List.Elements.{filter-append}
 use Rattle.std.proofs.lemmas.Option.{get_or_from_slice_get, slice_get-get_or, slice_get_within}
 use Rattle.tp_machine.specs.declared.parts.ActId.{ActId}
-use Rattle.tp_machine.specs.declared.machine.Machine.{Machine}
 use Rattle.tp_schedule.specs.Holding.{Run, runs_from, runs_of}
 use Rattle.tp_schedule.specs.Plans.{IsFormed, point}
 use Rattle.tp_schedule.specs.declared.parts.Plan.{Plan}
 use Rattle.tp_schedule.specs.declared.parts.SheetId.{SheetId}
-use Rattle.tp_turn.specs.Clock.{Told, release_of}
 use Rattle.tp_turn.specs.Moments.{due_until, is_due}
-use Rattle.tp_turn.specs.declared.telling.Tell.TheVariants.{Release}
 use Rattle.tp_turn.proofs.CutPlans.{length-runs_from}
 
 -- an action of a plan in time

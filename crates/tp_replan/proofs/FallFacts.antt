@@ -1,20 +1,16 @@
 -- A fall-back: what it needs of the state, and how its parts follow one another.
-use Rattle.std.proofs.Common.{◌≡◌, ℕ, ◌+◌, ◌≤◌, Bool, true, false, cond, List, [], ◌∷◌, ◌++◌, None, IsTrue, refl, sym, ap, ◌∙◌, arith, append_assoc, subst, count_by, length}
-use Rattle.tp_schedule.specs.declared.parts.Plan.{Plan}
+use Rattle.std.proofs.Common.{◌≡◌, ℕ, ◌+◌, ◌≤◌, Bool, true, false, cond, List, [], ◌∷◌, ◌++◌, None, IsTrue, sym, ap, ◌∙◌, arith, append_assoc, count_by, length}
 use Rattle.tp_schedule.specs.declared.parts.SheetId.{SheetId}
 use Rattle.tp_schedule.specs.declared.records.Record.{Record}
-use Rattle.tp_jobs.specs.Backlogs.{Backlog, next_copy}
+use Rattle.tp_jobs.specs.Backlogs.{next_copy}
 use Rattle.tp_jobs.specs.Waiting.{find_waiting, put_waiting}
 use Rattle.tp_jobs.specs.declared.parts.WaitingCopy.{WaitingCopy}
-use Rattle.tp_machine.specs.declared.parts.Outs.{Outs}
-use Rattle.tp_turn.specs.FallBacks.{Displaced, fall_back, fall_back_unless_broken, is_line_entering, job_break, later_fall_back, next_waits}
+use Rattle.tp_turn.specs.FallBacks.{Displaced, fall_back, is_line_entering, job_break, later_fall_back, next_waits}
 use Rattle.tp_schedule.specs.declared.records.Record.TheVariants.{Again}
 use Rattle.tp_turn.specs.Labels.{label}
-use Rattle.tp_turn.specs.States.{Outcome, SessionState, and_then, for_each, none_out, nothing_told}
+use Rattle.tp_turn.specs.States.{Outcome, SessionState, and_then, for_each, nothing_told}
 use Rattle.tp_replan.specs.Meanings.{Leads}
-use Rattle.tp_turn.specs.Lines.{is_job_broken}
-use Rattle.tp_replan.specs.Outing.{CanAllFall}
-use Rattle.tp_replan.specs.Open.{CanFall, all_copies, is_in, most_waiting, one_sheet, open_count, to_wait}
+use Rattle.tp_replan.specs.Open.{CanFall, all_copies, is_in, most_waiting, one_sheet, to_wait}
 use Rattle.tp_replan.proofs.OpenFacts.{count-cons, count-every, is_of_sheet, none-of, of_sheet-put, one-where, own-sheet}
 
 pub without-pending : (s : SessionState) (pending : List SheetId) → CanFall s pending → CanFall s []

@@ -1,20 +1,16 @@
 -- A loose copy gives its tray up, and falls back: the loop can go on.
-use Rattle.std.proofs.Common.{◌≡◌, ℕ, zero, suc, ◌+◌, ◌<◌, ◌≤◌, Bool, true, false, cond, not, ◌&&◌, ◌||◌, ◌==◌, List, [], ◌∷◌, length, filter, find, Option, Some, None, option_map, IsTrue, All, AllPairs, Contains, refl, sym, ap, ◌∙◌, arith, subst, count_by, inl, inr}
-use Rattle.std.specs.Prelude.{IsFalse}
+use Rattle.std.proofs.Common.{◌≡◌, ℕ, ◌+◌, ◌<◌, ◌≤◌, Bool, true, false, cond, not, ◌&&◌, ◌||◌, ◌==◌, List, [], ◌∷◌, length, find, Option, Some, None, option_map, IsTrue, Contains, refl, sym, ap, ◌∙◌, arith, subst, count_by, inl, inr}
 use Rattle.std.proofs.lemmas.List.Elements.{All-contains}
 use Rattle.tp_machine.specs.declared.machine.Machine.{Machine}
 use Rattle.tp_schedule.specs.Living.{live_count}
 use Rattle.tp_schedule.specs.Planning.{IsKnownGoal}
-use Rattle.tp_schedule.specs.Plans.{IsEarlier, IsTimedPlan, change_plan, end_of_plan, goes_to, is_before, is_delivered_to, is_front, is_same_copy, plan_of, point}
+use Rattle.tp_schedule.specs.Plans.{IsTimedPlan, change_plan, end_of_plan, goes_to, is_before, is_delivered_to, is_front, is_same_copy, plan_of}
 use Rattle.tp_schedule.specs.declared.parts.Ask.{Ask}
-use Rattle.tp_schedule.specs.declared.parts.Goal.{Goal}
-use Rattle.tp_schedule.specs.declared.parts.Goal.TheVariants.{Tray, Purge}
 use Rattle.tp_schedule.specs.declared.parts.Plan.{Plan}
 use Rattle.tp_schedule.specs.declared.parts.SheetId.{SheetId}
 use Rattle.tp_schedule.proofs.CopyFacts.{plan_of-itself, same_copy-is}
 use Rattle.tp_schedule.proofs.Membership.{All-from_contains}
 use Rattle.tp_turn.specs.Fates.{to_purge}
-use Rattle.tp_turn.specs.FallBacks.{Displaced, fall_back, is_copy}
 use Rattle.tp_turn.specs.Lines.{is_lost}
 use Rattle.tp_turn.specs.Loops.{ask_in_flight, gives_tray_up, is_loose, next_ask}
 use Rattle.tp_turn.specs.Moments.{is_to_tray}
@@ -24,11 +20,11 @@ use Rattle.tp_turn.proofs.LeftPlans.{AreLeft, live_count-left}
 use Rattle.tp_turn.proofs.ListFacts.{find-Some}
 use Rattle.tp_turn.proofs.PlanOnFacts.{CanPlanOn-left, Contains-change_plan, IsLeft-to_purge}
 use Rattle.tp_turn.proofs.ReleasedPlans.{AreLeft-change_plan}
-use Rattle.tp_replan.specs.Looping.{CanLoop, IsOnWay, IsUnderWay, is_loose_in}
+use Rattle.tp_replan.specs.Looping.{CanLoop, IsUnderWay, is_loose_in}
 use Rattle.tp_replan.specs.Meanings.{IsKnown}
-use Rattle.tp_replan.specs.Open.{CanFall, Group, is_in, is_open}
+use Rattle.tp_replan.specs.Open.{is_in}
 use Rattle.tp_replan.proofs.AllFall.{StillCan, can-fall_back}
-use Rattle.tp_replan.proofs.OpenFacts.{and-both, and-first, and-second, count-cons, is_of_sheet, is_open_of}
+use Rattle.tp_replan.proofs.OpenFacts.{and-first, and-second, count-cons, is_open_of}
 use Rattle.tp_replan.proofs.StillOnWay.{IsStateOnWay, formed-in, on-fall_back}
 
 -- the first loose copy is asked

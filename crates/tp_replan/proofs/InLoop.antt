@@ -1,25 +1,22 @@
 -- The loop from answer to answer, and where it ends.
 use Rattle.std.proofs.Common.{◌≡◌, ℕ, ◌<◌, List, [], ◌∷◌, ◌++◌, Some, None, refl, sym, ap, ◌∙◌, append-nil, append_assoc, subst}
 use Rattle.tp_machine.specs.declared.machine.Machine.{Machine}
-use Rattle.tp_schedule.specs.Planning.{CanAsk, Deed, IsAnswer}
+use Rattle.tp_schedule.specs.Planning.{CanAsk, Deed}
 use Rattle.tp_schedule.specs.Planning.Deed.{replied, settled}
 use Rattle.tp_schedule.specs.declared.parts.Ask.{Ask}
 use Rattle.tp_schedule.specs.declared.parts.Plan.{Plan}
 use Rattle.tp_schedule.specs.declared.records.Record.{Record}
-use Rattle.tp_turn.specs.Answering.{Answer, moves}
+use Rattle.tp_turn.specs.Answering.{moves}
 use Rattle.tp_turn.specs.Loops.{after_one, after_answers, due, next_ask}
-use Rattle.tp_turn.specs.Outages.{outage}
-use Rattle.tp_turn.specs.Planners.{AnswersInTurn, GoesOut, IsRight, PlannerSteps, RunsLoop, StopsGoingOut, StopsInLoop}
+use Rattle.tp_turn.specs.Planners.{IsRight, PlannerSteps, RunsLoop, StopsInLoop}
 use Rattle.tp_turn.specs.States.{SessionState}
 use Rattle.tp_turn.proofs.LoopFacts.{in_turn-one_more, state-after_one_more, told-after_one_more}
 use Rattle.tp_turn.proofs.SameMoment.{now-answers}
 use Rattle.tp_replan.specs.Answered.{IsAnswered, IsInLoop}
 use Rattle.tp_replan.specs.Looping.{CanLoop, copies_left}
-use Rattle.tp_replan.specs.Meanings.{Leads}
 use Rattle.tp_replan.proofs.GivenUp.{first-loose}
 use Rattle.tp_replan.proofs.LoopAsks.{can-ask}
 use Rattle.tp_replan.proofs.LoopSteps.{IsLessWork, less-work, loop-step, work}
-use Rattle.tp_replan.proofs.StillOnWay.{loop-outage}
 
 -- the ask that is due can be put, and where none is due the times can be settled
 pub due-ask : (machine : Machine) (s : SessionState) (ask : Ask) → CanLoop machine s → next_ask machine s ≡ Some ask → CanAsk machine s.plans ask

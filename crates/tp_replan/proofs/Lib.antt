@@ -15,6 +15,7 @@ pub mod StillOnWay
 pub mod LoopAsks
 pub mod GivenUp
 pub mod GivesUp
+pub mod PlannedOthers
 pub mod PlannedLoose
 pub mod LoopFalls
 pub mod LoopSteps

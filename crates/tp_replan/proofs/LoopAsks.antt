@@ -1,24 +1,23 @@
 -- The ask for a loose copy can be put, and its running action uses its module.
-use Rattle.std.proofs.Common.{◌≡◌, ℕ, zero, suc, ◌+◌, ◌-◌, ◌<◌, ◌≤◌, Bool, true, false, cond, not, ◌&&◌, ◌||◌, ◌==◌, nat_le, nat_lt, List, [], ◌∷◌, length, filter, slice_index, slice_get, Option, Some, None, option_and_then, unwrap_or, find, IsTrue, All, Any, AllPairs, Contains, refl, sym, ap, ◌∙◌, arith, subst, count_by, inl, inr}
-use Rattle.std.specs.Prelude.{IsFalse, IsSomeAnd}
+use Rattle.std.proofs.Common.{◌≡◌, ℕ, zero, suc, ◌+◌, ◌-◌, ◌<◌, ◌≤◌, Bool, true, false, cond, not, ◌&&◌, ◌||◌, ◌==◌, nat_le, nat_lt, List, [], ◌∷◌, length, slice_index, slice_get, Option, Some, None, option_and_then, unwrap_or, Contains, refl, sym, ap, ◌∙◌, arith, count_by, inl, inr}
+use Rattle.std.specs.Prelude.{IsSomeAnd}
 use Rattle.std.specs.List.{list_any}
 use Rattle.std.proofs.lemmas.Bool.Decides.{nat_tests}
 use Rattle.std.proofs.lemmas.List.Folds.{list_any_at}
 use Rattle.std.proofs.lemmas.List.Elements.{All-contains}
 use Rattle.tp_machine.specs.Steps.{can_step, step_of, after}
-use Rattle.tp_machine.specs.Using.{action_at, uses_module}
+use Rattle.tp_machine.specs.Using.{action_at}
 use Rattle.tp_machine.specs.declared.parts.ActId.{ActId}
 use Rattle.tp_machine.specs.declared.parts.Action.{Action}
 use Rattle.tp_machine.specs.declared.parts.LocId.{LocId}
 use Rattle.tp_machine.specs.declared.parts.Sheet.{Sheet}
 use Rattle.tp_machine.specs.declared.parts.State.{State}
 use Rattle.tp_machine.specs.declared.machine.Machine.{Machine}
-use Rattle.tp_schedule.specs.Holding.{Run, runs_from, runs_of}
+use Rattle.tp_schedule.specs.Holding.{runs_from}
 use Rattle.tp_schedule.specs.Living.{is_live, live_count}
 use Rattle.tp_schedule.specs.Planning.{CanAsk, IsKnownGoal, IsOpenGoal}
-use Rattle.tp_schedule.specs.Plans.{IsTimedPlan, LastsWithin, end_of_plan, is_before, is_delivered_to, is_front, is_same_copy, plan_of, point, without}
-use Rattle.tp_schedule.specs.Routes.{IsFreshStart, fresh, step_by, walk}
-use Rattle.tp_schedule.specs.declared.parts.Ask.{Ask}
+use Rattle.tp_schedule.specs.Plans.{IsTimedPlan, end_of_plan, is_front, is_same_copy, point, without}
+use Rattle.tp_schedule.specs.Routes.{IsFreshStart, fresh, walk}
 use Rattle.tp_schedule.specs.declared.parts.Goal.{Goal}
 use Rattle.tp_schedule.specs.declared.parts.Goal.TheVariants.{Tray, Purge}
 use Rattle.tp_schedule.specs.declared.parts.Kind.{Kind}
@@ -31,11 +30,11 @@ use Rattle.tp_schedule.proofs.Walks.{walk_first}
 use Rattle.tp_turn.specs.Lines.{is_lost}
 use Rattle.tp_turn.specs.Labels.{last_of}
 use Rattle.tp_turn.specs.Loops.{ask_in_flight, first_location, from_in, is_loose, module_in, start_of, state_after}
-use Rattle.tp_turn.specs.Moments.{does_use, is_running, is_running_on, is_started, uses_in}
+use Rattle.tp_turn.specs.Moments.{does_use, is_running, is_running_on, uses_in}
 use Rattle.tp_turn.specs.States.{SessionState}
 use Rattle.tp_turn.proofs.ListFacts.{Any-contains}
-use Rattle.tp_replan.specs.Looping.{CanLoop, IsOnWay, IsUnderWay}
-use Rattle.tp_replan.proofs.OpenFacts.{and-both, and-first, and-second, count-cons}
+use Rattle.tp_replan.specs.Looping.{IsUnderWay}
+use Rattle.tp_replan.proofs.OpenFacts.{and-first, count-cons}
 use Rattle.tp_replan.proofs.StillOnWay.{IsStateOnWay}
 
 pub front-is : (k : Kind) → is_front k ≡ true → k ≡ Front

@@ -1,8 +1,7 @@
 -- Each answer leaves less of the loop's work.
-use Rattle.std.proofs.Common.{◌≡◌, ◌⊎◌, ℕ, zero, suc, ◌+◌, ◌*◌, ◌<◌, ◌≤◌, Bool, true, false, cond, not, ◌&&◌, ◌||◌, List, [], ◌∷◌, length, flat_map, IsTrue, Contains, refl, sym, ap, ◌∙◌, arith, subst, count_by, inl, inr}
+use Rattle.std.proofs.Common.{◌≡◌, ◌⊎◌, ℕ, ◌+◌, ◌*◌, ◌<◌, ◌≤◌, Bool, true, false, cond, not, ◌&&◌, ◌||◌, List, [], ◌∷◌, Contains, refl, sym, ap, ◌∙◌, arith, subst, count_by, inl, inr}
 use Rattle.std.proofs.lemmas.List.Concat.{flat_map-cons}
 use Rattle.tp_machine.specs.declared.machine.Machine.{Machine}
-use Rattle.tp_schedule.specs.Plans.{is_front}
 use Rattle.tp_schedule.specs.declared.parts.Plan.{Plan}
 use Rattle.tp_schedule.specs.declared.records.Record.TheVariants.{Again}
 use Rattle.tp_schedule.proofs.Membership.{Contains-cons_cases, Contains-here, Contains-later}
@@ -13,13 +12,12 @@ use Rattle.tp_turn.specs.Fates.{Fate as Befalls, befall, is_loss, left_by, left_
 use Rattle.tp_turn.specs.FallBacks.{Displaced, fall_back, fall_back_unless_broken, fate_in_break, fate_in_fall_back, is_copy, is_line_entering, job_break, later_fall_back, next_waits}
 use Rattle.tp_turn.specs.Labels.{label}
 use Rattle.tp_turn.specs.Lines.{is_job_broken, is_lost}
-use Rattle.tp_turn.specs.Loops.{is_loose}
 use Rattle.tp_turn.specs.Moments.{front_of, is_running_on, is_to_tray}
 use Rattle.tp_turn.specs.Outages.{displaced, fate_in_outage, fate_of_others, going_out, is_lost_by, outage}
-use Rattle.tp_turn.specs.States.{Outcome, SessionState, and_then, for_each, nothing_told}
+use Rattle.tp_turn.specs.States.{Outcome, SessionState, and_then, nothing_told}
 use Rattle.tp_turn.proofs.LessOutages.{for_each-keeps}
-use Rattle.tp_replan.specs.Looping.{copies_left, loose_left, trays_left}
-use Rattle.tp_replan.proofs.OpenFacts.{and-second, count-append, count-cons}
+use Rattle.tp_replan.specs.Looping.{copies_left, trays_left}
+use Rattle.tp_replan.proofs.OpenFacts.{count-append, count-cons}
 use Rattle.tp_replan.proofs.StillFall.{now-lost, still-lost}
 
 -- fewer copies that are not lost, and fewer that are to go to their trays

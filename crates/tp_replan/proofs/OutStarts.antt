@@ -1,5 +1,5 @@
 -- Where a module can go out, the loop can begin.
-use Rattle.std.proofs.Common.{◌≡◌, ℕ, zero, suc, ◌+◌, ◌<◌, ◌≤◌, Bool, true, false, cond, not, ◌&&◌, ◌||◌, ◌==◌, List, [], ◌∷◌, ◌++◌, length, map, filter, IsTrue, All, AllPairs, Contains, refl, sym, ap, ◌∙◌, arith, subst, count_by, inl, inr}
+use Rattle.std.proofs.Common.{◌≡◌, ℕ, ◌+◌, ◌<◌, ◌≤◌, Bool, true, false, cond, not, ◌&&◌, ◌||◌, ◌==◌, List, [], ◌∷◌, ◌++◌, length, map, filter, IsTrue, All, AllPairs, Contains, refl, ap, ◌∙◌, arith, subst, count_by, inl, inr}
 use Rattle.std.specs.Prelude.{IsFalse}
 use Rattle.std.specs.List.{list_any}
 use Rattle.std.specs.Str.{bytes_eq}
@@ -7,27 +7,24 @@ use Rattle.tp_jobs.specs.Backlogs.{tray_of}
 use Rattle.tp_turn.specs.Labels.{job_name}
 use Rattle.std.proofs.lemmas.Bool.Decides.{nat_tests}
 use Rattle.std.proofs.lemmas.List.{length-append, length-map}
-use Rattle.std.proofs.lemmas.List.Elements.{All-contains, All-head, All-tail, All-weaker}
+use Rattle.std.proofs.lemmas.List.Elements.{All-head, All-tail, All-weaker}
 use Rattle.std.proofs.lemmas.List.Sums.{count_by-le-length, length-filter}
 use Rattle.tp_machine.specs.declared.machine.Machine.{Machine}
-use Rattle.tp_schedule.specs.Planning.{CanPlanOn, IsKnownGoal, last_tick}
-use Rattle.tp_schedule.specs.Plans.{AreNamed, is_front, is_same_copy}
+use Rattle.tp_schedule.specs.Plans.{is_front, is_same_copy}
 use Rattle.tp_schedule.specs.declared.parts.Plan.{Plan}
 use Rattle.tp_schedule.specs.declared.parts.SheetId.{SheetId}
 use Rattle.tp_schedule.proofs.CopyFacts.{same_copy-refl}
 use Rattle.tp_schedule.proofs.Membership.{All-from_contains, Contains-cons_cases, Contains-filter, Contains-here, Contains-later, Contains-map}
 use Rattle.tp_schedule.proofs.Pairs.{AllPairs-head, AllPairs-tail}
 use Rattle.tp_jobs.specs.declared.parts.WaitingCopy.{WaitingCopy}
-use Rattle.tp_turn.specs.FallBacks.{is_copy}
-use Rattle.tp_turn.specs.Keeping.{KeepsLines, KeepsPlans, is_copy_of, is_known, is_of_its_job, is_own_goal, is_same_sheet, open_copies, tray_plans}
+use Rattle.tp_turn.specs.Keeping.{KeepsLines, is_copy_of, is_known, is_of_its_job, is_own_goal, is_same_sheet, open_copies, tray_plans}
 use Rattle.tp_turn.specs.Lines.{is_lost}
 use Rattle.tp_turn.specs.Moments.{is_to_tray, is_tray_plan}
-use Rattle.tp_turn.specs.Seen.{HasNextCopy, HasStarted}
 use Rattle.tp_turn.specs.States.{SessionState}
-use Rattle.tp_replan.specs.Looping.{CanBeginLoop, CanLoop, IsOnWay, IsUnderWay, is_loose_in}
+use Rattle.tp_replan.specs.Looping.{CanBeginLoop, CanLoop, IsUnderWay, is_loose_in}
 use Rattle.tp_replan.specs.Meanings.{IsKnown}
-use Rattle.tp_replan.specs.Open.{CanFall, Group, is_in, is_open, most_in, open_count}
-use Rattle.tp_replan.proofs.OpenFacts.{and-both, and-first, and-second, count-append, count-cons, is_of_sheet, is_open_of}
+use Rattle.tp_replan.specs.Open.{Group, is_in, is_open, most_in, open_count}
+use Rattle.tp_replan.proofs.OpenFacts.{and-first, and-second, count-append, count-cons, is_of_sheet, is_open_of}
 
 -- a front is lost where the fronts are those of the lost copies
 any-same : (c : SheetId) (copies : List SheetId) → Contains copies c → list_any (is_same_copy c) copies ≡ true

@@ -1,24 +1,17 @@
 -- A loose copy is planned: the loop can go on.
-use Rattle.std.proofs.Common.{◌≡◌, ◌⊎◌, ℕ, zero, suc, ◌+◌, ◌-◌, ◌<◌, ◌≤◌, Bool, true, false, cond, not, ◌&&◌, ◌||◌, ◌==◌, nat_le, nat_lt, List, [], ◌∷◌, ◌++◌, length, map, filter, slice_index, Option, Some, None, IsTrue, All, AllPairs, Contains, refl, sym, ap, ◌∙◌, arith, subst, count_by, inl, inr}
-use Rattle.std.specs.Prelude.{IsFalse}
-use Rattle.std.proofs.lemmas.Bool.Decides.{nat_tests}
+use Rattle.std.proofs.Common.{◌≡◌, ℕ, zero, suc, ◌+◌, ◌-◌, ◌<◌, ◌≤◌, Bool, true, false, cond, not, ◌&&◌, ◌||◌, List, [], ◌∷◌, ◌++◌, length, Some, IsTrue, All, AllPairs, Contains, refl, sym, ap, ◌∙◌, arith, subst, count_by, inl, inr}
 use Rattle.std.specs.List.{list_any}
 use Rattle.std.proofs.lemmas.List.{length-append}
 use Rattle.std.proofs.lemmas.List.Elements.{All-contains, All-head, All-tail, All-weaker}
 use Rattle.std.proofs.lemmas.List.Sums.{length-filter}
 use Rattle.tp_machine.specs.declared.parts.ActId.{ActId}
 use Rattle.tp_machine.specs.declared.machine.Machine.{Machine}
-use Rattle.tp_schedule.specs.Answers.{IsAlternative, acts_in, kept_acts, unmoved}
+use Rattle.tp_schedule.specs.Answers.{IsAlternative, acts_in, kept_acts}
 use Rattle.tp_schedule.specs.Living.{is_live, live_count}
-use Rattle.tp_schedule.specs.Planning.{Deed, Due, IsAnswer, IsKnownGoal}
-use Rattle.tp_schedule.specs.Planning.Deed.{replied}
-use Rattle.tp_schedule.specs.Plans.{IsEarlier, IsTimedPlan, change_plan, end_of_plan, goes_to, is_before, is_delivered_to, is_fixed, is_front, is_same_copy, plan_of, point, without}
+use Rattle.tp_schedule.specs.Planning.{IsAnswer, IsKnownGoal}
+use Rattle.tp_schedule.specs.Plans.{IsEarlier, IsTimedPlan, change_plan, end_of_plan, goes_to, is_before, is_delivered_to, is_front, is_same_copy, plan_of, point, without}
 use Rattle.tp_schedule.specs.declared.parts.Ask.{Ask}
-use Rattle.tp_schedule.specs.declared.parts.Goal.{Goal}
-use Rattle.tp_schedule.specs.declared.parts.Kind.TheVariants.{Whole}
 use Rattle.tp_schedule.specs.declared.parts.Plan.{Plan}
-use Rattle.tp_schedule.specs.declared.parts.Reply.{Reply}
-use Rattle.tp_schedule.specs.declared.parts.Reply.TheVariants.{Planned, Never, Spent}
 use Rattle.tp_schedule.specs.declared.parts.SheetId.{SheetId}
 use Rattle.tp_schedule.proofs.CopyFacts.{before-not_same', plan_of-itself, same_copy-is, same_copy-refl}
 use Rattle.tp_schedule.proofs.Membership.{All-from_contains, Contains-filter_from}
@@ -27,23 +20,24 @@ use Rattle.tp_turn.proofs.ListFacts.{find-Some}
 use Rattle.tp_turn.specs.Answering.{Answer}
 use Rattle.tp_turn.specs.Laws.{IsPlannable}
 use Rattle.tp_turn.specs.Lines.{is_lost}
-use Rattle.tp_turn.specs.Loops.{after_asked, after_one, after_reply, ask_in_flight, is_loose, next_ask, planned}
+use Rattle.tp_turn.specs.Loops.{after_one, ask_in_flight, is_loose, next_ask, planned}
 use Rattle.tp_turn.specs.Moments.{is_to_tray, release_until}
-use Rattle.tp_turn.specs.Planners.{AnswersInTurn, IsRight, PlannerSteps}
+use Rattle.tp_turn.specs.Planners.{IsRight, PlannerSteps}
 use Rattle.tp_turn.specs.Seen.{HasNextCopy, HasStarted}
 use Rattle.tp_turn.specs.States.{SessionState}
-use Rattle.tp_turn.proofs.AnsweredPlans.{IsUnmoved, mine-is, other-from, plan-cases, unmoved-sheet}
-use Rattle.tp_turn.proofs.AskedPlans.{IsRetimedPlan, count-unmoved, live-before, low-stays, one-more-than-others}
+use Rattle.tp_turn.proofs.AnsweredPlans.{IsUnmoved, mine-is, other-from, unmoved-sheet}
+use Rattle.tp_turn.proofs.AskedPlans.{count-unmoved, live-before, low-stays}
 use Rattle.tp_turn.proofs.LeftPlans.{live_count-left}
 use Rattle.tp_turn.proofs.PlanOnFacts.{Contains-change_plan}
 use Rattle.tp_turn.proofs.PlannableTurns.{plannable-answers}
 use Rattle.tp_turn.proofs.ReleasedPlans.{AreLeft-change_plan, IsLeft-release}
-use Rattle.tp_replan.specs.Looping.{CanLoop, IsOnWay, IsUnderWay, is_loose_in}
+use Rattle.tp_replan.specs.Looping.{CanLoop, IsUnderWay, is_loose_in}
 use Rattle.tp_replan.specs.Meanings.{IsKnown}
-use Rattle.tp_replan.specs.Open.{CanFall, Group, is_in, is_open}
-use Rattle.tp_replan.proofs.GivenUp.{count-change, first-loose}
+use Rattle.tp_replan.specs.Open.{CanFall, Group, is_in}
+use Rattle.tp_replan.proofs.GivenUp.{count-change}
 use Rattle.tp_replan.proofs.LoopAsks.{ends-live, one-of-them}
-use Rattle.tp_replan.proofs.OpenFacts.{and-first, and-second, count-cons, is_open_of}
+use Rattle.tp_replan.proofs.OpenFacts.{and-first, count-cons, is_open_of}
+use Rattle.tp_replan.proofs.PlannedOthers.{ends-yet, other-fixed, retimed, same-length}
 use Rattle.tp_replan.proofs.StillOnWay.{IsStateOnWay}
 
 -- after one right answer the schedule can be planned on
@@ -58,10 +52,6 @@ pub plannable-one : {P : Type 0} (planner : P) (spent : P → Machine → List P
 plannable-one {P} planner spent machine s ask a e answer can =
     plannable-answers (one_answer P spent machine) machine spent (λ p plans deed plans' p' does. does) s (a ∷ []) planner planner
     (ask, e, (planner, answer, refl)) can
-
--- a plan with the same points, but for its place in the schedule
-same-length : (q p : Plan) → IsUnmoved q p → length q.acts ≡ length p.acts
-same-length q p u = ap (λ (r : Plan). length r.acts) u.is
 
 module _ (machine : Machine) (s : SessionState) (p : Plan) (can : CanLoop machine s) (in' : Contains s.plans p) (loose : is_loose s p ≡ true)
     (plans' : List Plan) (a : IsAlternative machine s.plans (ask_in_flight machine s p) plans') where
@@ -83,75 +73,9 @@ module _ (machine : Machine) (s : SessionState) (p : Plan) (can : CanLoop machin
   own-at : plan_of p.sheet s.plans ≡ Some p
   own-at = plan_of-itself s.plans p on.plan_on.legal.in_order in'
 
-  -- another plan keeps what is fixed
   fixed-front : (front : Bool) (rest : Bool) → front ≡ true → (front || rest) ≡ true
   fixed-front true rest e = refl
   fixed-front false rest e = absurd cc
-
-  other-fixed : (q r : Plan) → Contains plans' q → Contains s.plans r → IsUnmoved q r → (i : ℕ) → is_fixed r i ≡ true → i ≤ length r.acts → point q i ≡ point r i
-  other-fixed q r in'' there u i fixed within =
-      a.fixed r q there (subst (λ c. plan_of c plans' ≡ Some q) (unmoved-sheet q r u) (plan_of-itself plans' q a.legal.in_order in'')) i fixed within
-
-  retimed : (q r : Plan) → Contains plans' q → Contains s.plans r → IsUnmoved q r → IsRetimedPlan machine s.now r q
-  retimed q r in'' there u = record {
-    unmoved = u;
-    timed = All-contains (IsTimedPlan machine) s.plans r on.plan_on.legal.timed there;
-    timed' = All-contains (IsTimedPlan machine) plans' q a.legal.timed in'';
-    floors = λ i released within. let above : s.now + machine.lead < point r i = on.plan_on.floors r there refl i released within in omega arith;
-    fixed = other-fixed q r in'' there u;
-  }
-
-  not-asked : (q : Plan) → is_same_copy q.sheet p.sheet ≡ false → (is_same_copy q.sheet p.sheet && nat_lt 0 (length p.acts)) ≡ false
-  not-asked q e = rw e refl
-
-  -- the same, seen from after
-  back : (q r : Plan) → Contains plans' q → Contains s.plans r → IsUnmoved q r → is_same_copy q.sheet p.sheet ≡ false → IsRetimedPlan machine s.now q r
-  back q r in'' there u other = record {
-    unmoved = record { is = sym u.is };
-    timed = All-contains (IsTimedPlan machine) plans' q a.legal.timed in'';
-    timed' = All-contains (IsTimedPlan machine) s.plans r on.plan_on.legal.timed there;
-    floors = λ i released within. let above : s.now + machine.lead < point q i = a.floors q in'' (not-asked q other) i released within in omega arith;
-    fixed = λ i fixed within.
-        let long = same-length q r u in
-        let same : is_fixed r i ≡ is_fixed q i = ap (λ (x : Plan). is_fixed x i) (sym u.is) in
-        sym (other-fixed q r in'' there u i (same ∙ fixed) (omega arith));
-  }
-
-  -- what ends after the moment does so yet
-  ends-yet : (q r : Plan) → Contains plans' q → Contains s.plans r → IsUnmoved q r → is_same_copy q.sheet p.sheet ≡ false → s.now < end_of_plan r → s.now < end_of_plan q
-  ends-yet q r in'' there u other late = go (nat_lt s.now (end_of_plan q)) refl where
-    b : IsRetimedPlan machine s.now q r
-    b = back q r in'' there u other
-
-    last-within : (n : ℕ) → 0 < n → (suc (n - 1)) ≡ n
-    last-within n some = omega arith
-
-    go : (t : Bool) → nat_lt s.now (end_of_plan q) ≡ t → s.now < end_of_plan q
-    go true e = grind (arith, nat_tests)
-    go false e = absurd (ends b (grind (arith, nat_tests))) where
-      ends : IsRetimedPlan machine s.now q r → end_of_plan q ≤ s.now → ⊥
-      ends b low =
-          let long = same-length q r u in
-          let some : 0 < length q.acts = b.timed.some in
-          let released : nat_lt q.released (length q.acts) ≡ false = all-in (nat_lt q.released (length q.acts)) refl in
-          let most : q.released ≤ length q.acts = b.timed.released in
-          let at : q.released ≡ length q.acts = grind (arith, nat_tests) in
-          let fixed : is_fixed q (length q.acts) ≡ true = fix (is_front q.kind) q.released (length q.acts) (omega arith) (omega arith) in
-          let same : point r (length q.acts) ≡ point q (length q.acts) = b.fixed (length q.acts) fixed (omega arith) in
-          let there = ap (point r) long in
-          omega arith where
-            fix : (f : Bool) (n i : ℕ) → 0 < n → i ≤ n → (f || (nat_lt 0 n && nat_le i n)) ≡ true
-            fix f n i some low = grind (arith, nat_tests)
-
-            all-in : (t : Bool) → nat_lt q.released (length q.acts) ≡ t → t ≡ false
-            all-in false e = refl
-            all-in true e =
-                let below : q.released < length q.acts = grind (arith, nat_tests) in
-                let last = last-within (length q.acts) b.timed.some in
-                let rise : point q (length q.acts - 1) < point q ((length q.acts - 1) + 1) = b.timed.rise (length q.acts - 1) (omega arith) in
-                let end : point q ((length q.acts - 1) + 1) ≡ end_of_plan q = ap (point q) (omega arith) in
-                let above : s.now < point q (length q.acts - 1) = b.floors (length q.acts - 1) (omega arith) (omega arith) in
-                absurd (omega arith)
 
   -- the asked copy's plan goes on from its front
   abbrev mine : Plan
@@ -255,7 +179,7 @@ module _ (machine : Machine) (s : SessionState) (p : Plan) (can : CanLoop machin
       let left = live_count-left machine s.now plans' after (AreLeft-change_plan machine p.sheet release plans' (λ q in'' e. IsLeft-release machine (s.now + machine.lead) q)) in
       let own = own-and-others (is_live machine s.now) p.sheet plans' mine a.legal.in_order a.planned in
       let others = count-unmoved (is_live machine s.now) (without p.sheet plans') (without p.sheet s.plans) a.others
-      (λ q o here there u. live-before machine s.now o q (retimed q o (Contains-filter_from (λ r. not (is_same_copy r.sheet p.sheet)) plans' q here).0 (Contains-filter_from (λ r. not (is_same_copy r.sheet p.sheet)) s.plans o there).0 u)) in
+      (λ q o here there u. live-before machine s.now o q (retimed machine s p on plans' a q o (Contains-filter_from (λ r. not (is_same_copy r.sheet p.sheet)) plans' q here).0 (Contains-filter_from (λ r. not (is_same_copy r.sheet p.sheet)) s.plans o there).0 u)) in
       let one = length-filter (is_live machine s.now) (without p.sheet plans') in
       let other = length-filter (is_live machine s.now) (without p.sheet s.plans) in
       let before = one-of-them (is_live machine s.now) p.sheet s.plans p in' (same_copy-refl p.sheet) in
@@ -270,7 +194,7 @@ module _ (machine : Machine) (s : SessionState) (p : Plan) (can : CanLoop machin
       let before = All-contains (λ (p : Plan). IsTrue (is_loose_in s.lost p) → IsUnderWay s.now p) s.plans o on.way there (sym same ∙ e) in
       let was-front : is_front o.kind ≡ true = and-first (is_front o.kind) (not (is_lost s o)) (sym same ∙ e) in
       let long = same-length q o u in
-      let stays : (i : ℕ) → i ≤ length o.acts → point q i ≡ point o i = λ i within. other-fixed q o here there u i (fixed-front (is_front o.kind) _ was-front) within in
+      let stays : (i : ℕ) → i ≤ length o.acts → point q i ≡ point o i = λ i within. other-fixed machine s p on plans' a q o here there u i (fixed-front (is_front o.kind) _ was-front) within in
       record {
         started = λ i low. let at = stays i (omega arith) in let was : point o i ≤ s.now = before.started i (omega arith) in omega arith;
         runs = let at = stays (length o.acts) (omega arith) in let end : end_of_plan q ≡ point q (length o.acts) = ap (point q) long in let was : s.now < end_of_plan o = before.runs in omega arith;
@@ -283,7 +207,7 @@ module _ (machine : Machine) (s : SessionState) (p : Plan) (can : CanLoop machin
       (λ q o here there u other to' before.
       cases (λ x. IsTrue (is_loose_in s.lost x) → IsTrue (goes_to x.goal tray) → IsTrue (is_before x.sheet q.sheet) → s.now < end_of_plan q) x in1
       (λ r v here' there' w other' e to before.
-      ends-yet q o here there u other
+      ends-yet machine s p on plans' a q o here there u other
       (on.ahead v o there' there (sym (ap (is_loose_in s.lost) w.is) ∙ e) tray (sym (ap (λ (x : Plan). goes_to x.goal tray) w.is) ∙ to)
       (sym (ap (λ (x : Plan). is_delivered_to x tray) u.is) ∙ to')
       (ap (λ (c : SheetId). is_before c o.sheet) (sym (unmoved-sheet r v w)) ∙ ap (is_before r.sheet) (sym (unmoved-sheet q o u)) ∙ before)))
@@ -328,7 +252,7 @@ module _ (machine : Machine) (s : SessionState) (p : Plan) (can : CanLoop machin
         cases (HasStarted s.now) r in''
         (λ q o here there u other purge.
         let was : point o 0 ≤ s.now = All-contains (HasStarted s.now) s.plans o can.fall.purges there (sym (ap (λ (x : Plan). is_to_tray x.goal) u.is) ∙ purge) in
-        let re = retimed q o here there u in
+        let re = retimed machine s p on plans' a q o here there u in
         let stays = low-stays machine s.now o q re 0 re.timed.some was in omega arith)
         (λ purge. let at = mine-fixed 0 (omega arith) in let was : point p 0 ≤ s.now = way.started 0 timed.some in omega arith));
     few = λ g.

@@ -1,18 +1,10 @@
 -- What is told of releases, one by one; and the place of a copy's plan.
-use Rattle.std.proofs.Common.{◌≡◌, ℕ, ◌+◌, ◌<◌, ◌≤◌, Bool, true, false, cond, ◌&&◌, nat_lt, nat_le, List, [], ◌∷◌, ◌++◌, length, map, filter, get_or, slice_get, position, Option, Some, None, IsSome, refl, sym, ap, ◌∙◌, append_assoc}
+use Rattle.std.proofs.Common.{◌≡◌, ℕ, ◌+◌, ◌<◌, ◌≤◌, ◌&&◌, List, [], ◌∷◌, ◌++◌, length, get_or, slice_get, position, Option, Some, None, IsSome, refl, sym, ◌∙◌}
 use Rattle.std.proofs.lemmas.Option.{get_or_from_slice_get, slice_get-get_or}
-use Rattle.tp_machine.specs.declared.parts.ActId.{ActId}
-use Rattle.tp_machine.specs.declared.machine.Machine.{Machine}
-use Rattle.tp_schedule.specs.Holding.{Run, runs_from}
 use Rattle.tp_schedule.specs.Plans.{is_same_copy, plan_of}
 use Rattle.tp_schedule.specs.declared.parts.Plan.{Plan}
 use Rattle.tp_schedule.specs.declared.parts.SheetId.{SheetId}
-use Rattle.tp_schedule.specs.declared.records.Record.{Record}
-use Rattle.tp_schedule.specs.declared.records.Record.TheVariants.{Release}
 use Rattle.tp_schedule.proofs.ChangeFacts.{plan_of-at}
-use Rattle.tp_jobs.specs.declared.parts.Job.{Job}
-use Rattle.tp_turn.specs.Clock.{record_of, release_of}
-use Rattle.tp_turn.specs.Labels.{action_name, label}
 
 pub place-is : (copy : SheetId) (plans : List Plan) (i : ℕ) → Some i ≡ position (λ p. is_same_copy p.sheet copy) plans → i < length plans → IsSome (plan_of copy plans) → slice_get plans i ≡ plan_of copy plans
 place-is copy plans i at within some = go (plan_of copy plans) refl some where

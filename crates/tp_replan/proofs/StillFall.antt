@@ -1,34 +1,28 @@
 -- What befalls the copies leaves a state where the displaced ones can fall back.
-use Rattle.std.proofs.Common.{◌≡◌, ℕ, zero, suc, ◌+◌, ◌<◌, ◌≤◌, Bool, true, false, cond, not, ◌&&◌, ◌||◌, List, [], ◌∷◌, ◌++◌, length, map, filter, flat_map, take, IsTrue, All, Contains, refl, sym, ap, ◌∙◌, arith, subst, count_by, inl, inr}
-use Rattle.std.specs.Prelude.{IsFalse}
+use Rattle.std.proofs.Common.{◌≡◌, ℕ, ◌+◌, ◌<◌, ◌≤◌, Bool, true, false, cond, not, ◌&&◌, ◌||◌, List, [], ◌∷◌, ◌++◌, length, map, filter, flat_map, take, IsTrue, All, Contains, refl, sym, ap, ◌∙◌, arith, subst, count_by, inl, inr}
 use Rattle.std.specs.List.{list_any}
-use Rattle.std.proofs.lemmas.Bool.Decides.{nat_tests}
-use Rattle.std.proofs.lemmas.List.{get_or-take, length-take-le, append_assoc}
+use Rattle.std.proofs.lemmas.List.{get_or-take, length-take-le}
 use Rattle.std.proofs.lemmas.List.Concat.{flat_map-cons}
-use Rattle.std.proofs.lemmas.List.Elements.{All-append, All-nil, All-cons, All-head, All-tail, All-contains}
+use Rattle.std.proofs.lemmas.List.Elements.{All-append, All-nil, All-cons, All-contains}
 use Rattle.std.proofs.lemmas.List.Sums.{count_by-le-length}
-use Rattle.tp_machine.specs.declared.machine.Machine.{Machine}
 use Rattle.tp_schedule.specs.Holding.{runs_of}
 use Rattle.tp_schedule.specs.Plans.{IsFormed, is_same_copy, point}
-use Rattle.tp_schedule.specs.declared.parts.Goal.{Goal}
 use Rattle.tp_schedule.specs.declared.parts.Plan.{Plan}
 use Rattle.tp_schedule.specs.declared.parts.SheetId.{SheetId}
 use Rattle.tp_schedule.proofs.CopyFacts.{same_copy-refl}
-use Rattle.tp_schedule.proofs.Membership.{All-from_contains, Contains-cons_cases, Contains-here, Contains-later}
-use Rattle.tp_jobs.specs.Backlogs.{mark_broken, next_copy}
+use Rattle.tp_schedule.proofs.Membership.{Contains-cons_cases, Contains-here, Contains-later}
+use Rattle.tp_jobs.specs.Backlogs.{next_copy}
 use Rattle.tp_jobs.specs.Waiting.{put_waiting}
-use Rattle.tp_jobs.specs.declared.parts.Job.{Job}
 use Rattle.tp_jobs.specs.declared.parts.WaitingCopy.{WaitingCopy}
 use Rattle.tp_turn.specs.Fates as fates
 use Rattle.tp_turn.specs.Fates.{Fate as Befalls, befall, is_cut_by, is_loss, left_by, left_of, to_purge, waits_for}
-use Rattle.tp_turn.specs.FallBacks.{is_copy}
 use Rattle.tp_turn.specs.Lines.{is_lost, put_all_waiting}
 use Rattle.tp_turn.specs.Moments.{front_of, is_started, is_to_tray, started_count}
 use Rattle.tp_turn.specs.Seen.{HasNextCopy, HasStarted}
 use Rattle.tp_turn.specs.States.{SessionState}
 use Rattle.tp_turn.proofs.CutPlans.{length-runs_from}
 use Rattle.tp_replan.specs.Meanings.{IsKnown}
-use Rattle.tp_replan.specs.Open.{CanFall, Fits, Group, is_in, is_open, is_waiting_after, open_count}
+use Rattle.tp_replan.specs.Open.{CanFall, Fits, Group, is_in, is_open, is_waiting_after}
 use Rattle.tp_replan.proofs.OpenFacts.{count-append, count-cons, is_of_sheet, is_open_of, of_sheet, of_sheet-put}
 
 -- whether the copy is to be purged from now on

@@ -5,6 +5,8 @@ pub mod OnWhole
 pub mod OutageLines
 pub mod Scripts
 pub mod TurnLines
+pub mod ProvedAnswers
+pub mod ProvedEntries
 pub mod Proved
 pub mod Promises
 pub mod TreeLines

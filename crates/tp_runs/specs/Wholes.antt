@@ -3,9 +3,7 @@ use Rattle.std.specs.Prelude.{◌≡◌, ℕ, Bool, List, []}
 use Rattle.std.specs.List.{All, filter_map}
 use Rattle.tp_bounds.specs.declared.tree.BoundTree.{BoundTree}
 use Rattle.tp_machine.specs.declared.machine.Machine.{Machine}
-use Rattle.tp_schedule.specs.Planning.{Deed, Due, PlannerRules}
-use Rattle.tp_schedule.specs.declared.parts.Ask.{Ask}
-use Rattle.tp_schedule.specs.declared.parts.Plan.{Plan}
+use Rattle.tp_schedule.specs.Planning.{PlannerRules}
 use Rattle.tp_schedule.specs.declared.records.Record.{Record}
 use Rattle.tp_script.specs.Lines.{line_event}
 use Rattle.tp_script.specs.declared.event.Event.{Event}

@@ -2,6 +2,7 @@ pub mod AskFacts
 pub mod CanAskFacts
 pub mod TurnFacts
 pub mod LeftFacts
+pub mod MarkFacts
 pub mod PhaseFacts
 pub mod LiveLists
 pub mod LiveClock
@@ -25,9 +26,11 @@ pub mod PartedLists
 pub mod PastPlans
 pub mod PartedStates
 pub mod PartedBreaks
+pub mod PartedFalls
 pub mod PartedOutages
 pub mod PartedChanges
 pub mod PartedAsks
+pub mod PartedAnswers
 pub mod PartedLoops
 pub mod WholeAnswered
 pub mod WholeLoops

@@ -11,7 +11,7 @@ use Rattle.tp_schedule.specs.declared.parts.SheetId.{SheetId}
 use Rattle.tp_schedule.proofs.CopyFacts.{same_copy-is}
 use Rattle.tp_schedule.proofs.Membership.{Contains-here, Contains-later}
 use Rattle.tp_turn.specs.Fates as fates
-use Rattle.tp_turn.specs.Fates.{Fate, befall, is_loss, left_by, left_of, lost_by, told_by, told_of, waits_for}
+use Rattle.tp_turn.specs.Fates.{Fate, befall, is_loss, left_by, left_of, told_by, told_of, waits_for}
 use Rattle.tp_turn.specs.Lines.{is_lost, put_all_waiting}
 use Rattle.tp_turn.specs.States.{SessionState}
 

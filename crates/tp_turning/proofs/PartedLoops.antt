@@ -44,9 +44,11 @@ use Rattle.tp_turning.specs.LiveTurns.{Follows, OutsPassOn, PassesOutOn, Settles
 use Rattle.tp_turning.proofs.LiveAnswered.{answers-pass_on}
 use Rattle.tp_turning.proofs.LivePast.{gone-is, gone_at}
 use Rattle.tp_turning.proofs.LiveSettled.{live-settles_hold}
-use Rattle.tp_turning.proofs.PartedAsks.{IsLoose, can-live, due-of, given_up, less-is, live-part_is, lost-by_part, next-same, parted-given_up, parted-planned, plan-same, state-planned, stays, past-is}
+use Rattle.tp_turning.proofs.PartedAnswers.{given_up, parted-given_up, parted-planned, plan-same, state-planned}
+use Rattle.tp_turning.proofs.PartedAsks.{IsLoose, can-live, due-of, less-is, live-part_is, lost-by_part, next-same, stays, past-is}
+use Rattle.tp_turning.proofs.PartedFalls.{Alike, Like, alike-fall_back, alike-next}
 use Rattle.tp_turning.proofs.PartedLists.{gone_from, part}
-use Rattle.tp_turning.proofs.PartedOutages.{Alike, Like, alike-fall_back, alike-next, alike-outage}
+use Rattle.tp_turning.proofs.PartedOutages.{alike-outage}
 use Rattle.tp_turning.proofs.PartedStates.{IsParted, among-there, planned-there}
 use Rattle.tp_stock.specs.Stock.{less_taken}
 

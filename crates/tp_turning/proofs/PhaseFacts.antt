@@ -1,18 +1,12 @@
 -- A phase of asks under way: what is left of it from here on, behind what was done, is the phase from its beginning.
-use Rattle.std.proofs.Common.{◌≡◌, ℕ, ◌+◌, ◌≤◌, ◌<◌, inl, inr, Bool, true, false, cond, ◌&&◌, ◌||◌, ◌==◌, not, List, [], ◌∷◌, ◌++◌, length, filter, find, Option, Some, None, refl, sym, ap, ◌∙◌, subst, append_assoc, arith, slice_get, All, Contains}
-use Rattle.std.proofs.lemmas.Bool.{not-true, not-false}
+use Rattle.std.proofs.Common.{◌≡◌, ℕ, ◌+◌, ◌<◌, inl, inr, Bool, true, false, List, [], ◌∷◌, ◌++◌, length, Option, Some, None, refl, sym, ap, ◌∙◌, subst, append_assoc, arith}
 use Rattle.std.specs.Bool.{MatchBool}
 use Rattle.std.specs.Prelude.{IsSomeAnd}
-use Rattle.std.specs.List.{list_any}
-use Rattle.std.proofs.lemmas.List.Elements.{All-contains, All-contains_itself}
-use Rattle.tp_base.proofs.SliceFacts.{All-at}
-use Rattle.tp_machine.specs.Machines.{IsLocation}
-use Rattle.tp_machine.specs.declared.parts.LocId.{LocId}
+use Rattle.std.proofs.lemmas.List.Elements.{All-contains_itself}
 use Rattle.tp_machine.specs.declared.machine.Machine.{Machine}
 use Rattle.tp_schedule.specs.Planning.{Deed, IsAnswer}
 use Rattle.tp_schedule.specs.Planning.Deed.{replied}
 use Rattle.tp_schedule.specs.Planning.Due.{asking}
-use Rattle.tp_schedule.specs.Plans.{is_before}
 use Rattle.tp_schedule.specs.declared.parts.Ask.{Ask}
 use Rattle.tp_schedule.specs.declared.parts.Plan.{Plan}
 use Rattle.tp_schedule.specs.declared.parts.Reply.{Reply}
@@ -21,15 +15,13 @@ use Rattle.tp_schedule.specs.declared.parts.SheetId.{SheetId}
 use Rattle.tp_schedule.specs.declared.records.Record.{Record}
 use Rattle.tp_schedule.specs.declared.records.Record.TheVariants.{FullUp}
 use Rattle.tp_jobs.specs.Backlogs.{tray_of, unmarked}
-use Rattle.tp_jobs.specs.Trying.{is_blocked, is_open, next_to_try}
+use Rattle.tp_jobs.specs.Trying.{next_to_try}
 use Rattle.tp_jobs.specs.Waiting.{find_waiting}
-use Rattle.tp_jobs.specs.declared.parts.Job.{Job}
 use Rattle.tp_jobs.specs.declared.parts.WaitingCopy.{WaitingCopy}
 use Rattle.tp_turn.proofs.AskedFacts.{IsAskedFirst}
 use Rattle.tp_turn.proofs.AskedKept.{least-asked}
 use Rattle.tp_turn.proofs.AskedLines.{planned_waiting}
-use Rattle.tp_turn.proofs.AskedTurns.{IsRest, first-of_line, rest-planned, rest-refused, rest-tail}
-use Rattle.tp_turn.proofs.ListFacts.{find-Some}
+use Rattle.tp_turn.proofs.AskedTurns.{IsRest, first-of_line, rest-planned, rest-refused}
 use Rattle.tp_turn.proofs.ReadyAsked.{ready-asked}
 use Rattle.tp_turn.specs.Answering.{told_of_reply}
 use Rattle.tp_turn.specs.Asking.{Asks, AsksInTurn, ask_waiting, is_full, is_passed_over, passed_after, state_after_reply}
@@ -38,15 +30,12 @@ use Rattle.tp_turn.specs.Labels.{label}
 use Rattle.tp_turn.specs.Planners.{IsRight, PlannerSteps}
 use Rattle.tp_turn.specs.Ready.{CanTakeEvents, KeepsLive, last_copy}
 use Rattle.tp_turn.specs.States.{SessionState}
-use Rattle.tp_turning.proofs.LeftFacts.{IsNext, left, left-all, left-behind, left-without, found-itself, is-next, none-next, behind-head, behind-later}
+use Rattle.tp_turning.proofs.LeftFacts.{IsNext, left, left-all, left-behind, left-without, found-itself, is-next, none-next}
+use Rattle.tp_turning.proofs.MarkFacts.{AreClosed, AreMarked, IsSkipped, all-passed, behind, closed-after, skipped}
 use Rattle.std.proofs.lemmas.List.{append-nil}
 use Rattle.tp_turning.proofs.TurnFacts.{match-true, match-false}
 use Rattle.tp_turning.specs.Stops.{NotesStop, StopsAsks, StopsAtCopy, StopsInTurn}
 use Rattle.tp_turning.specs.Phases.{IsTried, NotesAsks, NotesTurn, is_planned}
-
--- the marks are those of the trays whose lines are passed over
-abbrev pub AreMarked : List Bool → List ℕ → Type 0
-AreMarked marks passed = (place : LocId) → is_blocked marks place ≡ list_any (λ t. place.0 == t) passed
 
 -- the phase is under way: its state and planner now, what was noted, and how it goes on from the copies that are left
 pub record IsUnderWay {P : Type 0} (steps : PlannerSteps P) (machine : Machine) (s : SessionState) (p : P) (notes : List Record)
@@ -60,67 +49,6 @@ pub record IsUnderWay {P : Type 0} (steps : PlannerSteps P) (machine : Machine) 
   pub notes_are : told ≡ notes ++ done
   pub goes_on : (more : List Record) (last : SessionState) (q : P) → AsksInTurn steps machine (left after now.waiting) passed now planner more last q → Asks steps machine s p (done ++ more) last q
   pub stops_on : (more : List Record) (q : P) → StopsInTurn steps machine (left after now.waiting) passed now planner more q → StopsAsks steps machine s p (done ++ more) q
-
--- behind the first copy whose line is open
-abbrev behind : WaitingCopy → List WaitingCopy → List WaitingCopy
-behind w xs = filter (λ v. is_before w.sheet v.sheet) xs
-
-module _ {P : Type 0} (steps : PlannerSteps P) (machine : Machine) (s : SessionState) (p : P) (passed : List ℕ) (marks : List Bool) (marked : AreMarked marks passed) where
-  -- the copies before the first one whose line is open are passed over
-  record IsSkipped (xs : List WaitingCopy) (w : WaitingCopy) : Type 0 where
-    taken : is_passed_over s passed w ≡ false
-    rest : IsRest s passed (w ∷ behind w xs)
-    goes : (more : List Record) (last : SessionState) (q : P) → AsksInTurn steps machine (w ∷ behind w xs) passed s p more last q → AsksInTurn steps machine xs passed s p more last q
-    stops : (more : List Record) (q : P) → StopsInTurn steps machine (w ∷ behind w xs) passed s p more q → StopsInTurn steps machine xs passed s p more q
-    fewer : length (behind w xs) < length xs
-
-  skipped : (xs : List WaitingCopy) (w : WaitingCopy) → find (is_open s.jobs marks) xs ≡ Some w → IsRest s passed xs → IsSkipped xs w
-  skipped [] w e rest = absurd (cc)
-  skipped (v ∷ xs) w e rest = go (is_open s.jobs marks v) refl e (skipped xs w) where
-    go : (b : Bool) → is_open s.jobs marks v ≡ b → cond b (Some v) (find (is_open s.jobs marks) xs) ≡ Some w → (find (is_open s.jobs marks) xs ≡ Some w → IsRest s passed xs → IsSkipped xs w) → IsSkipped (v ∷ xs) w
-    go true f e' later =
-        let is : v ≡ w = cc in
-        let all = behind-head v xs rest.in_order in
-        subst (IsSkipped (v ∷ xs)) is (record {
-          taken = sym (marked (tray_of s.jobs v.sheet)) ∙ not-true (is_blocked marks (tray_of s.jobs v.sheet)) f;
-          rest = subst (λ ys. IsRest s passed (v ∷ ys)) (sym all) rest;
-          goes = λ more last q asks. subst (λ ys. AsksInTurn steps machine (v ∷ ys) passed s p more last q) all asks;
-          stops = λ more q stop. subst (λ ys. StopsInTurn steps machine (v ∷ ys) passed s p more q) all stop;
-          fewer = let same = ap (λ (l : List WaitingCopy). length l) all in omega arith;
-        })
-    go false f e' later =
-        let over : is_passed_over s passed v ≡ true = sym (marked (tray_of s.jobs v.sheet)) ∙ not-false (is_blocked marks (tray_of s.jobs v.sheet)) f in
-        let next = later e' (rest-tail s passed v xs over rest) in
-        let same = behind-later v w xs rest.in_order (find-Some (is_open s.jobs marks) xs w e').0 in
-        record {
-          taken = next.taken;
-          rest = subst (λ ys. IsRest s passed (w ∷ ys)) (sym same) next.rest;
-          goes = λ more last q asks. match-true (is_passed_over s passed v) _ _ over (next.goes more last q (subst (λ ys. AsksInTurn steps machine (w ∷ ys) passed s p more last q) same asks));
-          stops = λ more q stop. match-true (is_passed_over s passed v) _ _ over (next.stops more q (subst (λ ys. StopsInTurn steps machine (w ∷ ys) passed s p more q) same stop));
-          fewer = let len = ap (λ (l : List WaitingCopy). length l) same in let few = next.fewer in omega arith;
-        }
-
-  -- where no line of them is open, nothing more is asked
-  all-passed : (xs : List WaitingCopy) → find (is_open s.jobs marks) xs ≡ None → AsksInTurn steps machine xs passed s p [] s p
-  all-passed [] e = (refl, refl, refl)
-  all-passed (v ∷ xs) e = go (is_open s.jobs marks v) refl e (all-passed xs) where
-    go : (b : Bool) → is_open s.jobs marks v ≡ b → cond b (Some v) (find (is_open s.jobs marks) xs) ≡ None → (find (is_open s.jobs marks) xs ≡ None → AsksInTurn steps machine xs passed s p [] s p)
-        → AsksInTurn steps machine (v ∷ xs) passed s p [] s p
-    go true f e' later = absurd (cc)
-    go false f e' later =
-        match-true (is_passed_over s passed v) _ _ (sym (marked (tray_of s.jobs v.sheet)) ∙ not-false (is_blocked marks (tray_of s.jobs v.sheet)) f) (later e')
-
--- the marks after a copy's turn: its line is closed where it was not planned
-abbrev pub AreClosed : Bool → LocId → List Bool → List Bool → Type 0
-AreClosed planned tray marks marks' = (place : LocId) → is_blocked marks' place ≡ ((not planned && (place.0 == tray.0)) || is_blocked marks place)
-
-closed-after : (reply : Reply) (planned : Bool) (tray : LocId) (marks marks' : List Bool) (passed : List ℕ) → planned ≡ is_planned reply → AreMarked marks passed → AreClosed planned tray marks marks'
-    → AreMarked marks' (passed_after reply tray.0 passed)
-closed-after Planned planned tray marks marks' passed is marked closed place = closed place ∙ ap (λ b. (not b && (place.0 == tray.0)) || is_blocked marks place) is ∙ marked place
-closed-after Never planned tray marks marks' passed is marked closed place =
-    closed place ∙ ap (λ b. (not b && (place.0 == tray.0)) || is_blocked marks place) is ∙ ap (λ c. (place.0 == tray.0) || c) (marked place)
-closed-after (Spent bound) planned tray marks marks' passed is marked closed place =
-    closed place ∙ ap (λ b. (not b && (place.0 == tray.0)) || is_blocked marks place) is ∙ ap (λ c. (place.0 == tray.0) || c) (marked place)
 
 module _ {P : Type 0} (steps : PlannerSteps P) (machine : Machine) (s : SessionState) (p : P) (notes : List Record) where
   -- at the beginning all that wait are left
@@ -308,24 +236,3 @@ module _ {P : Type 0} (steps : PlannerSteps P) (machine : Machine) (s : SessionS
             subst (λ l. StopsAsks steps machine s p l planner') (append-nil u.done)
                 (u.stops_on [] planner' (skip.stops [] planner' (match-false (is_passed_over now u.passed next.w) _ _ skip.taken (match-false (is_full machine now) _ _ its.1 (inl (refl, its.2)))))),
           )
-
--- the marks where the line is closed, and where it stays open
-pub closed-refused : (planned : Bool) (tray added : LocId) (marks marks' : List Bool) → planned ≡ false → tray ≡ added
-    → ((place : LocId) → is_blocked marks' place ≡ ((place.0 == added.0) || is_blocked marks place)) → AreClosed planned tray marks marks'
-closed-refused planned tray added marks marks' refused is closed place =
-    closed place ∙ (λ k. (not (sym refused k) && (place.0 == (sym is k).0)) || is_blocked marks place)
-
-pub closed-planned : (planned : Bool) (tray : LocId) (marks : List Bool) → planned ≡ true → AreClosed planned tray marks marks
-closed-planned planned tray marks is place = ap (λ b. (not b && (place.0 == tray.0)) || is_blocked marks place) (sym is)
-
--- the tray of a job is below 256
-pub tray-below : (machine : Machine) (jobs : List Job) (job : ℕ) (tray : LocId) → All (IsLocation machine) machine.trays → length machine.locations ≤ 256 → All (λ j. Contains machine.trays j.tray) jobs
-    → IsSomeAnd (slice_get jobs job) (λ j. j.tray ≡ tray) → tray.0 < 256
-tray-below machine jobs job tray known few trays at = go (slice_get jobs job) refl at where
-  go : (o : Option Job) → slice_get jobs job ≡ o → IsSomeAnd o (λ j. j.tray ≡ tray) → tray.0 < 256
-  go None e none = absurd none
-  go (Some j) e is =
-      let one : Contains machine.trays j.tray = All-at (λ j. Contains machine.trays j.tray) jobs job j trays e in
-      let within : j.tray.0 < length machine.locations = All-contains (IsLocation machine) machine.trays j.tray known one in
-      let same = ap (λ (t : LocId). t.0) is in
-      omega arith

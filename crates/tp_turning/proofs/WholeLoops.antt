@@ -34,7 +34,8 @@ use Rattle.tp_turning.proofs.LiveStates.{IsWhole, can-ask-live, same-ask, whole-
 use Rattle.tp_turning.proofs.PartedAsks.{IsLoose, can-live, due-of, less-is, live-part_is, lost-by_part, next-same, past-is}
 use Rattle.tp_turning.proofs.PartedLists.{gone_from, part}
 use Rattle.tp_turning.proofs.PartedLoops.{like-answer, on-trust, parted-first}
-use Rattle.tp_turning.proofs.PartedOutages.{Alike, Like, alike-next, alike-outage}
+use Rattle.tp_turning.proofs.PartedFalls.{Alike, Like, alike-next}
+use Rattle.tp_turning.proofs.PartedOutages.{alike-outage}
 use Rattle.tp_turning.proofs.PartedStates.{IsParted}
 use Rattle.tp_turning.proofs.WholeAnswered.{answers-pass_back, whole-settles_hold}
 use Rattle.tp_stock.specs.Stock.{less_taken}

@@ -1,7 +1,7 @@
 use Rattle.std.proofs.Common.{◌-◌, drop, arith}
 use Rattle.tp_deciding.specs.Early.{chain_steps}
+use Rattle.tp_deciding.proofs.ChainFacts.{chain-end}
 use Rattle.tp_deciding.proofs.ListFacts.{last-piece}
-use Rattle.tp_deciding.proofs.StepFacts.{chain-end}
 use Rattle.tp_deciding.proofs.early.add_chains.Goals as goal
 
 pub returns : goal.returns

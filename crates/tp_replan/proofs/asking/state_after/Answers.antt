@@ -1,6 +1,5 @@
 -- The actions of a plan in time are the machine's.
 use Rattle.std.proofs.Common.{All, arith, sym, subst}
-use Rattle.std.proofs.lemmas.Option.{slice_get_within}
 use Rattle.tp_base.proofs.SliceFacts.{All-at}
 use Rattle.tp_telling.specs.Telling.{IsKnown}
 use Rattle.tp_telling.proofs.NameFacts.{acts-known}

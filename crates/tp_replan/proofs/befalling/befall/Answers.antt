@@ -1,6 +1,5 @@
 -- Lost copies, waiting copies and plans are those of the state that the fates lead to.
 use Rattle.std.proofs.Common.{◌≡◌, ◌∙◌, ap, flat_map}
-use Rattle.tp_jobs.specs.Backlogs.{Backlog}
 use Rattle.tp_turn.specs.Fates.{waits_for}
 use Rattle.tp_turn.specs.Lines.{put_all_waiting}
 use Rattle.tp_turn.specs.LiveStates.{seen}

@@ -4,7 +4,6 @@ use Rattle.std.proofs.lemmas.List.Elements.{All-contains}
 use Rattle.tp_machine.specs.Using.{put_out}
 use Rattle.tp_schedule.specs.Plans.{IsFormed}
 use Rattle.tp_schedule.specs.declared.parts.Plan.{Plan}
-use Rattle.tp_turn.specs.Fates.{befall}
 use Rattle.tp_turn.specs.LiveStates.{seen}
 use Rattle.tp_turn.specs.Outages.{fate_in_outage}
 use Rattle.tp_turn.specs.Seen.{HasStarted}

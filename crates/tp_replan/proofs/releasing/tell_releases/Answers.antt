@@ -9,7 +9,7 @@ use Rattle.tp_schedule.specs.declared.records.Record.{Record}
 use Rattle.tp_telling.specs.Telling.{IsKnown}
 use Rattle.tp_telling.proofs.NameFacts.{acts-known}
 use Rattle.tp_turn.specs.Clock.{record_of, release_of}
-use Rattle.tp_replan.proofs.DueRuns.{count-takes, due-none, due-skips, due-whole, due_below}
+use Rattle.tp_replan.proofs.DueRuns.{count-takes, due-none, due-skips, due-whole}
 use Rattle.tp_replan.proofs.RunFacts.{release-told}
 use Rattle.tp_replan.proofs.releasing.tell_releases.Goals as goal
 use Rattle.tp_replan.proofs.releasing.tell_releases.Goals.{then-start-last+in_ok-push, else-start-last}

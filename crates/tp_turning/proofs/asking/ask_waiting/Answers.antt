@@ -4,7 +4,8 @@ use Rattle.tp_jobs.specs.Backlogs.{tray_of}
 use Rattle.tp_turn.specs.LiveStates.{seen}
 use Rattle.tp_turn.specs.Planners.{right_steps}
 use Rattle.tp_turning.proofs.AskFacts.{tray-is}
-use Rattle.tp_turning.proofs.PhaseFacts.{IsStep, begins, closed-planned, closed-refused, ended, step, stopped, tray-below}
+use Rattle.tp_turning.proofs.MarkFacts.{closed-planned, closed-refused, tray-below}
+use Rattle.tp_turning.proofs.PhaseFacts.{IsStep, begins, ended, step, stopped}
 use Rattle.tp_turning.proofs.asking.ask_waiting.Given.{Over}
 use Rattle.tp_turning.proofs.asking.ask_waiting.Goals as goal
 use Rattle.tp_turning.proofs.asking.ask_waiting.Goals.{After-add, Else-not-planned}
