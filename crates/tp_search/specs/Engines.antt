@@ -36,9 +36,9 @@ abbrev pub numbers_of : WorkspaceValue → MadeFor
 numbers_of w = record { locations = w.locations; resources = w.resources; window = w.window }
 
 -- both were made for the same numbers, and the board has the marks that a search sets and a tree is made with
-pub record IsEngine {N : Type 0} (max_marks : N → ℕ) (work : WorkspaceValue) (board : BoardValue N) : Type 0 where
+pub record IsEngine {N : Type 0} (reading : Reading N) (work : WorkspaceValue) (board : BoardValue N) : Type 0 where
   pub made : board.made_for ≡ numbers_of work
-  pub marks : most_steps ≤ max_marks board.net
+  pub marks : most_steps ≤ reading.max_marks board.net
 
 -- whether the machine has the numbers that it was made for
 abbrev pub is_engine_for : {N : Type 0} → EngineValue N → Machine → Bool
@@ -80,15 +80,15 @@ KeepsTrees bounds machine plans (replied ask reply) plans' trees trees' = MatchB
 KeepsTrees bounds machine plans (settled now) plans' trees trees' = trees' ≡ trees
 
 -- it is for the same machines, stores as many lists, and shows bounds as before
-pub record IsSameEngine {N : Type 0} (max_marks : N → ℕ) (e e' : EngineValue N) : Type 0 where
+pub record IsSameEngine {N : Type 0} (reading : Reading N) (e e' : EngineValue N) : Type 0 where
   pub work : e'.work ≡ e.work
   pub made : e'.board.made_for ≡ e.board.made_for
-  pub marks : max_marks e'.board.net ≡ max_marks e.board.net
+  pub marks : reading.max_marks e'.board.net ≡ reading.max_marks e.board.net
   pub bounds : e'.bounds ≡ e.bounds
 
 -- what a call leaves: the same engine, few open lists where it told that there is no plan, and the trees with that of the answer
-pub record StepsOn {N : Type 0} (max_marks : N → ℕ) (e : EngineValue N) (machine : Machine) (plans : List Plan) (deed : Deed) (plans' : List Plan) (e' : EngineValue N) : Type 0 where
-  pub same : IsSameEngine max_marks e e'
+pub record StepsOn {N : Type 0} (reading : Reading N) (e : EngineValue N) (machine : Machine) (plans : List Plan) (deed : Deed) (plans' : List Plan) (e' : EngineValue N) : Type 0 where
+  pub same : IsSameEngine reading e e'
   pub few : HasFewLists e.work.nodes machine plans deed
   pub trees : KeepsTrees e.bounds machine plans deed plans' e.trees e'.trees
 

@@ -66,7 +66,7 @@ impl<N: Network> Model for Engine<N> {
       trees = e.trees.items;
     } };
 
-    ghost invariant = { λ e. IsEngine N.reading.max_marks e.work e.board };
+    ghost invariant = { λ e. IsEngine N.reading e.work e.board };
 }
 
 impl<N: Network + Drop> Engine<N> {
@@ -134,7 +134,7 @@ impl<N: Network> Engine<N> {
         ensures asked { self.new.board.ask ≡ Some ask.entry.now }
         ensures rests { IsAtRest N.reading self.new.board machine.now }
         ensures served { Serves N.reading self.new machine.now }
-        ensures same { IsSameEngine N.reading.max_marks self.old self.new }
+        ensures same { IsSameEngine N.reading self.old self.new }
         ensures trees { self.new.trees ≡ self.old.trees }
     {
         let kept = self.kept;
@@ -160,7 +160,7 @@ impl<N: Network> Engine<N> {
         ensures none { IfErr result
             (IsNoPlan machine.now schedule.now.plans ask.entry.now self.old.work.nodes) }
         ensures still_serves { Serves N.reading self.new machine.now }
-        ensures same { IsSameEngine N.reading.max_marks self.old self.new }
+        ensures same { IsSameEngine N.reading self.old self.new }
         ensures trees { self.new.trees ≡ self.old.trees }
     {
         self.ready(machine, schedule, ask, false);
@@ -194,7 +194,7 @@ impl<N: Network> Engine<N> {
             ≡ without ask.entry.now.sheet schedule.old.plans) }
         ensures loaded { IsSameLoad self.old.board self.new.board }
         ensures still_serves { Serves N.reading self.new machine.now }
-        ensures same { IsSameEngine N.reading.max_marks self.old self.new }
+        ensures same { IsSameEngine N.reading self.old self.new }
         ensures memory { IfErr result (λ halt. halt ≡ Halt.Memory) }
         ensures stays { OnErr result (schedule.new.plans ≡ schedule.old.plans) }
     {
@@ -246,7 +246,7 @@ impl<N: Network> Engine<N> {
             ≡ without ask.entry.now.sheet schedule.old.plans) }
         ensures loaded { IsSameLoad self.old.board self.new.board }
         ensures still_serves { Serves N.reading self.new machine.now }
-        ensures same { IsSameEngine N.reading.max_marks self.old self.new }
+        ensures same { IsSameEngine N.reading self.old self.new }
         ensures memory { IfErr result (λ halt. halt ≡ Halt.Memory) }
         ensures bounds { OnErr result (IsTrue self.old.bounds) }
         ensures stays { OnErr result (schedule.new.plans ≡ schedule.old.plans) }
@@ -281,7 +281,7 @@ impl<N: Network> Engine<N> {
         ensures follows { IfOk result (λ reply.
             Follows machine.now self.new schedule.new.plans) }
         ensures still_serves { Serves N.reading self.new machine.now }
-        ensures same { IsSameEngine N.reading.max_marks self.old self.new }
+        ensures same { IsSameEngine N.reading self.old self.new }
         ensures memory { IfErr result (λ halt. halt ≡ Halt.Memory) }
         ensures trees { IfOk result
             (λ reply. KeepsTrees self.old.bounds machine.now schedule.old.plans
@@ -338,7 +338,7 @@ impl<N: Network> Planner for Engine<N> {
     ghost rules = { record {
       spent = λ e. IsSpentOf e.work.nodes;
       steps = λ e machine plans deed plans' e'.
-          StepsOn N.reading.max_marks e machine plans deed plans' e';
+          StepsOn N.reading e machine plans deed plans' e';
       stop_steps = λ e machine plans due e'. ⊥;
     } };
 
@@ -362,7 +362,7 @@ impl<N: Network> Planner for Engine<N> {
         ensures follows { IfOk result (λ reply.
             Follows machine.now self.new schedule.new.plans) }
         ensures still_serves { Serves N.reading self.new machine.now }
-        ensures same { IsSameEngine N.reading.max_marks self.old self.new }
+        ensures same { IsSameEngine N.reading self.old self.new }
         ensures memory { IfErr result (λ halt. halt ≡ Halt.Memory) }
         ensures trees { IfOk result
             (λ reply. KeepsTrees self.old.bounds machine.now schedule.old.plans
@@ -396,7 +396,7 @@ impl<N: Network> Planner for Engine<N> {
         ensures follows { IfOk result (λ reply.
             Follows machine.now self.new schedule.new.plans) }
         ensures still_serves { Serves N.reading self.new machine.now }
-        ensures same { IsSameEngine N.reading.max_marks self.old self.new }
+        ensures same { IsSameEngine N.reading self.old self.new }
         ensures memory { IfErr result (λ halt. halt ≡ Halt.Memory) }
         ensures trees { IfOk result
             (λ reply. KeepsTrees self.old.bounds machine.now schedule.old.plans
@@ -415,7 +415,7 @@ impl<N: Network> Planner for Engine<N> {
         ensures settles { IsSettled machine.now now schedule.old.plans schedule.new.plans }
         ensures spare { schedule.new.spare ≡ schedule.old.spare }
         ensures still_serves { Serves N.reading self.new machine.now }
-        ensures same { IsSameEngine N.reading.max_marks self.old self.new }
+        ensures same { IsSameEngine N.reading self.old self.new }
         ensures trees { self.new.trees ≡ self.old.trees }
         ensures done { IsOk result }
     {

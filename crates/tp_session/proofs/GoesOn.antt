@@ -14,7 +14,7 @@ use Rattle.tp_stock.specs.Stock.{by_location, drawn_at, less_taken, taken_at}
 use Rattle.tp_stock.proofs.StockFacts.{at-location, drawn-few}
 use Rattle.tp_choices.proofs.Lists.{filter-all}
 use Rattle.tp_teller.specs.Tellers.{TellsAll}
-use Rattle.tp_turn.specs.Keeping.{is_planned_among, live_part}
+use Rattle.tp_turn.specs.Keeping.{is_planned_among}
 use Rattle.tp_turn.specs.Seen.{fronts_of}
 use Rattle.tp_turn.specs.States.{SessionState}
 use Rattle.tp_turning.proofs.LiveFacts.{lost-part}

@@ -140,7 +140,7 @@ pub(crate) fn try_ask<N: Network>(
     ensures gives { AskGives engine.old.work.nodes machine.now schedule.now.plans
         ask.entry.now result }
     ensures still_serves { Serves N.reading engine.new machine.now }
-    ensures same { IsSameEngine N.reading.max_marks engine.old engine.new }
+    ensures same { IsSameEngine N.reading engine.old engine.new }
     ensures trees { engine.new.trees ≡ engine.old.trees }
 {
     match engine.probe(machine, schedule, ask) {
