@@ -5,7 +5,6 @@ use Rattle.std.proofs.lemmas.List.Elements.{All-head}
 use Rattle.std.proofs.lemmas.List.Sums.{count_by-le-length, length-filter}
 use Rattle.tp_base.specs.Readings.{Reading}
 use Rattle.tp_base.proofs.MarkFacts.{last_mark}
-use Rattle.tp_base.specs.Net.{Net}
 use Rattle.tp_machine.specs.Using.{action_at}
 use Rattle.tp_machine.specs.declared.parts.ActId.{ActId}
 use Rattle.tp_machine.specs.declared.parts.Action.{Action}
@@ -13,13 +12,13 @@ use Rattle.tp_machine.specs.declared.parts.HoldRule.{HoldRule}
 use Rattle.tp_machine.specs.declared.parts.State.{State}
 use Rattle.tp_machine.specs.declared.machine.Machine.{Machine}
 use Rattle.tp_schedule.specs.Answers.{IsAlternative, IsAskedFrom, kept_from, kept_of, follows_front}
-use Rattle.tp_schedule.specs.Choices.{AreWithin, IsCompleteFrom, acts_of, placed, put_places}
+use Rattle.tp_schedule.specs.Choices.{AreWithin, acts_of, placed, put_places}
 use Rattle.tp_schedule.specs.Holding.{holds_of_act}
 use Rattle.tp_schedule.specs.Legality.{IsLegal}
 use Rattle.tp_schedule.specs.Living.{is_live}
 use Rattle.tp_schedule.specs.Planning.{CanAsk, CanPlanOn, CanSettle, HasTimeFrom, IsOpenGoal, last_tick}
 use Rattle.tp_schedule.specs.Plans.{IsEarlier, is_before, is_same_copy, put_plan, without}
-use Rattle.tp_schedule.specs.Routes.{IsStart, is_act_allowed}
+use Rattle.tp_schedule.specs.Routes.{is_act_allowed}
 use Rattle.tp_schedule.specs.Spots.{Slot, Spot, slot_order}
 use Rattle.tp_schedule.specs.declared.parts.Ask.{Ask}
 use Rattle.tp_schedule.specs.declared.parts.Goal.{Goal}
@@ -31,12 +30,11 @@ use Rattle.tp_schedule.proofs.CopyFacts.{before-not_same, same_copy-refl}
 use Rattle.tp_schedule.proofs.LegalFacts.{IsLegal-without}
 use Rattle.tp_schedule.proofs.Membership.{Contains-cons_cases}
 use Rattle.tp_schedule.proofs.Pairs.{AllPairs-head}
-use Rattle.tp_constraints.specs.Suffixes.{Suffix, list_of, with_action, with_place}
+use Rattle.tp_constraints.specs.Suffixes.{Suffix, with_action, with_place}
 use Rattle.tp_placing.specs.Boards.{BoardUntouched, BoardContent, BoardValue, untouched_of, content_of, past_of, suffix_after, suffix_of}
 use Rattle.tp_placing.specs.Calls.{CanGoOn, CanPlace, IsSameLoad}
 use Rattle.tp_placing.specs.Laws.{MarkKeeps, UndoKeeps}
 use Rattle.tp_placing.specs.Standing.{Stands, order_after}
-use Rattle.tp_placing.specs.Writing.{CanCommit}
 use Rattle.tp_placing.proofs.StandFacts.{and-some, some-and}
 use Rattle.tp_placing.proofs.WriteAsked.{none-planned}
 use Rattle.tp_constraints.proofs.Lists.{contains-get}

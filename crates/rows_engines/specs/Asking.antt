@@ -1,7 +1,6 @@
 -- A board that is asked for a new copy.
-use Rattle.std.specs.Prelude.{◌≡◌, ◌<◌, ℕ, List, [], IsSomeAnd, IsFalse}
+use Rattle.std.specs.Prelude.{◌≡◌, ◌<◌, ℕ, [], IsSomeAnd, IsFalse}
 use Rattle.tp_base.specs.Readings.{Reading}
-use Rattle.tp_base.specs.Net.{Net}
 use Rattle.tp_machine.specs.declared.machine.Machine.{Machine}
 use Rattle.tp_schedule.specs.Answers.{kept_of}
 use Rattle.tp_placing.specs.Boards.{BoardValue, past_of, suffix_of}

@@ -1,7 +1,6 @@
 -- Ways that are laid on a board, the last choice first.
 use Rattle.std.specs.Prelude.{◌≡◌, ℕ, ◌≤◌, List, [], ◌∷◌, length, Option, Some, IsSomeAnd, IsTrue, IsFalse}
 use Rattle.tp_base.specs.Readings.{Reading}
-use Rattle.tp_base.specs.Net.{Net}
 use Rattle.tp_machine.specs.Using.{action_at}
 use Rattle.tp_machine.specs.declared.parts.ActId.{ActId}
 use Rattle.tp_machine.specs.declared.parts.HoldRule.{HoldRule}

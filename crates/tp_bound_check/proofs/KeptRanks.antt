@@ -1,13 +1,11 @@
 -- Ranks among kept holds: what stands before a place, with and without own holds.
-use Rattle.std.proofs.Common.{◌≡◌, ℕ, zero, suc, ◌+◌, ◌-◌, ◌<◌, ◌==◌, ◌||◌, Bool, true, false, cond, leb, ltb, min, List, [], ◌∷◌, ◌++◌, length, filter, find, insert, take, drop, get_or, refl, sym, ◌∙◌, ap, arith, All, AllPairs, Option, Some, None, option_map}
+use Rattle.std.proofs.Common.{◌≡◌, ℕ, zero, suc, ◌+◌, ◌-◌, ◌<◌, ◌==◌, ◌||◌, Bool, true, false, cond, ltb, min, List, [], ◌∷◌, ◌++◌, length, filter, insert, take, drop, get_or, refl, sym, ◌∙◌, ap, arith, All}
 use Rattle.std.proofs.lemmas.Bool.Decides.{nat_tests}
 use Rattle.std.proofs.lemmas.Bool.{ltb-true}
 use Rattle.std.proofs.lemmas.List.{length-take}
-use Rattle.std.proofs.lemmas.List.Elements.{All-nil, All-cons, All-head, All-tail, All-take, All-drop}
+use Rattle.std.proofs.lemmas.List.Elements.{All-head, All-tail, All-take}
 use Rattle.tp_choices.proofs.LiveSlots.{slot_of, slots-in}
 use Rattle.tp_choices.proofs.SameTicks.{in-slots}
-use Rattle.tp_constraints.specs.Gaps.{Gap, slot_gap}
-use Rattle.tp_constraints.specs.Numbers.{is_same_spot}
 use Rattle.tp_machine.specs.Using.{action_at}
 use Rattle.tp_machine.specs.declared.parts.HoldRule.{HoldRule}
 use Rattle.tp_machine.specs.declared.machine.Machine.{Machine}
@@ -16,19 +14,9 @@ use Rattle.tp_schedule.specs.Holding.{holds_of_act}
 use Rattle.tp_schedule.specs.Spots.{Slot, Spot, slot_order}
 use Rattle.tp_schedule.specs.Spots.Spot.{kept, own}
 use Rattle.tp_schedule.specs.declared.parts.Plan.{Plan}
-use Rattle.tp_schedule.specs.declared.parts.SheetId.{SheetId}
 use Rattle.tp_schedule.proofs.Membership.{All-from_contains}
-use Rattle.tp_schedule.proofs.PutFacts.{All-insert}
-use Rattle.tp_trees.proofs.Lists.{number-same}
-use Rattle.tp_trees.specs.Chains.{gap_behind, gap_in}
-use Rattle.tp_trees.proofs.ApartStarts.{Apart}
-use Rattle.tp_bound_check.proofs.CutFacts.{find-cut, slot-out}
 use Rattle.tp_bound_check.proofs.TrackFacts.{places-one}
-use Rattle.tp_bound_check.specs.Founds.{found_in, next_found, slot_before, slot_behind}
-use Rattle.tp_bound_check.specs.Points.{copy_in}
-use Rattle.tp_bound_check.specs.declared.found.Found.{Found}
-use Rattle.tp_bound_check.specs.Ranks.{is_kept, is_kept_point, mixed_gap, own_among, rank_at, without}
-use Rattle.tp_bound_check.specs.declared.stance.Stance.{Stance}
+use Rattle.tp_bound_check.specs.Ranks.{is_kept, is_kept_point, rank_at, without}
 
 -- ---- ranks of places
 abbrev counted : Bool → Slot → List Slot → ℕ

@@ -1,12 +1,8 @@
 -- Own holds among kept ones: an order with a branch's holds is the kept one where they are left out, and a rank tells where
 -- an own hold stands in it.
-use Rattle.std.proofs.Common.{◌≡◌, ℕ, zero, suc, ◌+◌, ◌-◌, ◌<◌, ◌==◌, ◌||◌, Bool, true, false, cond, leb, ltb, min, List, [], ◌∷◌, ◌++◌, length, filter, find, insert, take, drop, get_or, refl, sym, ◌∙◌, ap, arith, All, AllPairs, Option, Some, None, option_map}
+use Rattle.std.proofs.Common.{◌≡◌, ℕ, zero, suc, ◌+◌, ◌-◌, ◌<◌, ◌==◌, ◌||◌, Bool, true, false, cond, leb, ltb, List, [], ◌∷◌, ◌++◌, length, filter, find, insert, take, drop, refl, sym, ◌∙◌, ap, arith, All, AllPairs, Option, Some, None, option_map}
 use Rattle.std.proofs.lemmas.Bool.Decides.{nat_tests}
-use Rattle.std.proofs.lemmas.Bool.{ltb-true}
-use Rattle.std.proofs.lemmas.List.{length-take}
 use Rattle.std.proofs.lemmas.List.Elements.{All-nil, All-cons, All-head, All-tail, All-take, All-drop}
-use Rattle.tp_choices.proofs.LiveSlots.{slot_of, slots-in}
-use Rattle.tp_choices.proofs.SameTicks.{in-slots}
 use Rattle.tp_constraints.specs.Gaps.{Gap, slot_gap}
 use Rattle.tp_constraints.specs.Numbers.{is_same_spot}
 use Rattle.tp_machine.specs.Using.{action_at}
@@ -18,17 +14,15 @@ use Rattle.tp_schedule.specs.Spots.{Slot, Spot, slot_order}
 use Rattle.tp_schedule.specs.Spots.Spot.{kept, own}
 use Rattle.tp_schedule.specs.declared.parts.Plan.{Plan}
 use Rattle.tp_schedule.specs.declared.parts.SheetId.{SheetId}
-use Rattle.tp_schedule.proofs.Membership.{All-from_contains}
 use Rattle.tp_schedule.proofs.PutFacts.{All-insert}
 use Rattle.tp_trees.proofs.Lists.{number-same}
 use Rattle.tp_trees.specs.Chains.{gap_behind, gap_in}
 use Rattle.tp_trees.proofs.ApartStarts.{Apart}
 use Rattle.tp_bound_check.proofs.CutFacts.{find-cut, slot-out}
-use Rattle.tp_bound_check.proofs.TrackFacts.{places-one}
 use Rattle.tp_bound_check.specs.Founds.{found_in, next_found, slot_before, slot_behind}
 use Rattle.tp_bound_check.specs.Points.{copy_in}
 use Rattle.tp_bound_check.specs.declared.found.Found.{Found}
-use Rattle.tp_bound_check.specs.Ranks.{is_kept, is_kept_point, mixed_gap, own_among, rank_at, without}
+use Rattle.tp_bound_check.specs.Ranks.{is_kept, is_kept_point, mixed_gap, own_among, rank_at}
 use Rattle.tp_bound_check.specs.declared.stance.Stance.{Stance}
 use Rattle.tp_bound_check.proofs.KeptRanks.{filter-drop, filter-take, order-kept}
 

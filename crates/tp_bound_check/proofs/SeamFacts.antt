@@ -1,41 +1,22 @@
 -- A hold's place among the rules of its action, and lists with one more at the end.
-use Rattle.std.proofs.Common.{◌≡◌, ◌≢◌, ◌⊎◌, inl, inr, ℕ, zero, suc, ◌+◌, ◌-◌, ◌*◌, ◌≤◌, ◌<◌, ◌==◌, ◌&&◌, leb, Bool, true, false, cond, max, min, List, [], ◌∷◌, ◌++◌, length, insert, take, drop, reverse, get_or, refl, sym, ◌∙◌, ap, subst, arith, All, AllPairs, Option, Some, None}
+use Rattle.std.proofs.Common.{◌≡◌, ◌≢◌, ◌⊎◌, inl, inr, ℕ, zero, suc, ◌+◌, ◌-◌, ◌*◌, ◌≤◌, ◌<◌, ◌==◌, ◌&&◌, Bool, true, false, cond, List, [], ◌∷◌, ◌++◌, length, insert, take, reverse, refl, sym, ◌∙◌, ap, subst, arith, All, AllPairs, Option, Some, None}
 use Rattle.std.specs.Prelude.{ℤ}
 use Rattle.std.specs.List.{slice_get}
-use Rattle.std.proofs.lemmas.Bool.{eqb-true, leb-true}
-use Rattle.std.proofs.lemmas.List.{length-reverse, reverse-append, take-append-le}
-use Rattle.std.proofs.lemmas.Option.{slice_get_within}
+use Rattle.std.proofs.lemmas.Bool.{eqb-true}
+use Rattle.std.proofs.lemmas.List.{length-reverse, reverse-append}
 use Rattle.std.proofs.lemmas.List.Elements.{All-contains, All-head, All-tail}
 use Rattle.tp_machine.proofs.MachineFacts.{is_machine}
-use Rattle.tp_machine.specs.Modes.{gap_at}
 use Rattle.tp_machine.specs.Using.{action_at}
-use Rattle.tp_machine.specs.declared.parts.ActId.{ActId}
 use Rattle.tp_machine.specs.declared.parts.Action.{Action}
 use Rattle.tp_machine.specs.declared.parts.HoldRule.{HoldRule}
-use Rattle.tp_machine.specs.declared.parts.State.{State}
 use Rattle.tp_machine.specs.declared.machine.Machine.{Machine}
 use Rattle.tp_schedule.proofs.Pairs.{AllPairs-head, AllPairs-nil, AllPairs-tail}
-use Rattle.tp_schedule.specs.Choices.{Choice, placed, put_places}
+use Rattle.tp_schedule.specs.Choices.{Choice, put_places}
 use Rattle.tp_schedule.specs.Holding.{holds_of_act}
-use Rattle.tp_schedule.specs.Spots.{Slot, Spot, slot_order}
-use Rattle.tp_schedule.specs.Spots.Spot.{kept, own}
-use Rattle.tp_schedule.specs.declared.parts.Ask.{Ask}
-use Rattle.tp_schedule.specs.declared.parts.Plan.{Plan}
+use Rattle.tp_schedule.specs.Spots.{Slot, Spot}
 use Rattle.tp_constraints.specs.Gaps.{Gap}
-use Rattle.tp_constraints.specs.Suffixes.{choice_slot, order_in, place_first, with_action, with_place, with_stop, Suffix}
-use Rattle.tp_bounds.specs.declared.tree.TreeRow.{TreeRow}
 use Rattle.tp_trees.proofs.Lists.{number-same}
-use Rattle.tp_trees.specs.Chains.{choice_act, gap_in, or_else, resource_gap, spanned}
-use Rattle.tp_trees.specs.Places.{Branch, Span, Stand, at_places, next_rule, place_branch, rule_in}
-use Rattle.tp_bound_check.specs.Points.{choices_to}
-use Rattle.tp_bound_check.specs.Ranks.{AreRanked, AreSpanRanks, IsSoundStand, Ranks, mixed_gap, next_number, own_among, rank_at}
-use Rattle.tp_bound_check.specs.Stands.{order_until}
-use Rattle.tp_bound_check.specs.declared.stance.Stance.{Stance}
-use Rattle.tp_bound_check.proofs.ChoiceFacts.{slice-is}
-use Rattle.tp_bound_check.proofs.LaterFacts.{gap-until}
-use Rattle.tp_bound_check.proofs.KeptRanks.{kept-placed}
-use Rattle.tp_bound_check.proofs.RankFacts.{NotAt, insert-parts, mixed-is, mixed-none, placed-not}
-use Rattle.tp_bound_check.proofs.StandFacts.{order-step}
+use Rattle.tp_trees.specs.Chains.{or_else}
 use Rattle.tp_constraints.proofs.Lists.{contains-get}
 
 -- ---- an action holds a resource once

@@ -1,9 +1,8 @@
 -- The end of a log of which all lines were taken.
-use Rattle.std.proofs.Common.{◌≡◌, ◌≢◌, ℕ, ◌+◌, inr, List, [], ◌++◌, Option, length, refl, sym, ap, subst, ◌∙◌, arith}
+use Rattle.std.proofs.Common.{◌≡◌, ◌≢◌, ℕ, ◌+◌, inr, List, [], ◌++◌, Option, refl, sym, ap, subst, ◌∙◌, arith}
 use Rattle.std.specs.List.{flat_map}
 use Rattle.std.proofs.lemmas.List.{append-nil}
 use Rattle.tp_entries.specs.declared.counts.Counts.{Counts}
-use Rattle.tp_log.specs.Logs.{log_text}
 use Rattle.tp_log.specs.LogLines.{log_line_text}
 use Rattle.tp_log.proofs.Items.{text_of-log}
 use Rattle.tp_log_check.specs.Checking.{CheckerValue, IsAcceptedLog, items_of}

@@ -10,9 +10,9 @@ use Rattle.tp_words.specs.Texts.{lines_of}
 use Rattle.tp_checking.specs.declared.cause.Cause.{Cause}
 use Rattle.tp_checking.specs.declared.cause.Cause.TheVariants.{Memory, Source, Line, Log, Flaw}
 use Rattle.tp_checking.specs.Ends.{IsCaused, StopsAt, StopsFor, StopsFrom}
-use Rattle.tp_checking.specs.Sizes.{KeepsSizes, begins_event, event_lines, events_in, line_bytes, most_bytes, most_events, most_lines}
+use Rattle.tp_checking.specs.Sizes.{begins_event, events_in, line_bytes, most_events, most_lines}
 use Rattle.tp_checking.specs.Taking.{Answers, LogState, RefusesLine}
-use Rattle.tp_checking.proofs.Feeding.{Feeds, HasTakenText, IsAtStart, feeds-all, taken-text}
+use Rattle.tp_checking.proofs.Feeding.{HasTakenText, IsAtStart, feeds-all, taken-text}
 use Rattle.tp_checking.proofs.Lines.{begins-more, few_lines}
 
 -- no line is refused without a text

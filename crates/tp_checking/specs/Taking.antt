@@ -5,10 +5,9 @@ use Rattle.tp_log.specs.declared.log_line.LogLine.{LogLine}
 use Rattle.tp_log_check.specs.Checking.{CheckerValue, HasRead}
 use Rattle.tp_log_check.specs.Causes.{HasCause}
 use Rattle.tp_log_check.specs.FlawLines.{LiesAt}
-use Rattle.tp_log_check.specs.declared.flaw.Flaw.{Flaw}
 use Rattle.tp_log_check.specs.declared.flaw.Flaw.TheVariants.{Memory as WantsMemory}
 use Rattle.tp_checking.specs.declared.cause.Cause.{Cause}
-use Rattle.tp_checking.specs.declared.cause.Cause.TheVariants.{Memory, Source, Line, Log, Flaw as Flawed}
+use Rattle.tp_checking.specs.declared.cause.Cause.TheVariants.{Log, Flaw as Flawed}
 use Rattle.tp_checking.specs.Sizes.{IsPastSizes, events_in, most_bytes, most_events}
 
 -- the checker, the bytes of the lines that it took, and why the last line is refused

@@ -3,28 +3,20 @@ use Rattle.std.proofs.Common.{◌≡◌, ◌≢◌, ℕ, Bool, true, false, List
 use Rattle.std.proofs.lemmas.Option.{same_Some}
 use Rattle.tp_bounds.specs.declared.tree.BoundTree.{BoundTree}
 use Rattle.tp_machine.specs.declared.machine.Machine.{Machine}
-use Rattle.tp_schedule.specs.Planning.{Deed, Due, IsAnswer, IsSettled}
 use Rattle.tp_schedule.specs.Planning.Deed.{replied, settled}
 use Rattle.tp_schedule.specs.Planning.Due.{asking, settling}
 use Rattle.tp_schedule.specs.Plans.{AreNamed}
 use Rattle.tp_schedule.specs.declared.parts.Ask.{Ask}
 use Rattle.tp_schedule.specs.declared.parts.Plan.{Plan}
-use Rattle.tp_schedule.specs.declared.parts.Reply.{Reply}
-use Rattle.tp_schedule.specs.declared.parts.Reply.TheVariants.{Planned, Never, Spent}
 use Rattle.tp_schedule.specs.declared.records.Record.{Record}
 use Rattle.tp_told.specs.Stopping.{StopsAt}
-use Rattle.tp_told.specs.Telling.{TakesOn, TellsSettled, ToldValue, ahead, behind_asides, notes}
-use Rattle.tp_jobs.specs.declared.parts.Job.{Job}
+use Rattle.tp_told.specs.Telling.{TakesOn, TellsSettled, ToldValue, ahead, behind_asides}
 use Rattle.tp_turn.specs.Answering.{Answer, moves, told_of_reply}
-use Rattle.tp_turn.specs.Laws.{IsPlannable}
-use Rattle.tp_turn.specs.Loops.{after_answer, after_answers, after_asked, after_one, after_reply, due, due_by, next_ask}
+use Rattle.tp_turn.specs.Loops.{after_answers, after_one, after_reply, due, due_by, next_ask}
 use Rattle.tp_turn.specs.Outages.{outage}
 use Rattle.tp_turn.specs.Planners.{AnswersInTurn, GoesOut, IsRight, RunsLoop, StopsGoingOut, StopsInLoop}
 use Rattle.tp_turn.specs.States.{SessionState}
-use Rattle.tp_turn.proofs.SameMoment.{now-answers}
-use Rattle.tp_outages.proofs.AnswerFalls.{falls-one}
 use Rattle.tp_outages.proofs.Falls.{Falls, none_breaks}
-use Rattle.tp_outages.proofs.LooseAsks.{IsAskOf, asked-of}
 use Rattle.tp_outages.proofs.OutageFalls.{falls-outage}
 use Rattle.tp_outages.proofs.OutagesKeep.{any_outset}
 use Rattle.tp_runs.specs.Runs.{items_with}
@@ -34,7 +26,7 @@ use Rattle.tp_log_runs.proofs.AlongAsks.{IsAhead, lawful_steps, no-stop, same-an
 use Rattle.tp_log_runs.proofs.Asides.{other-after, other-outage}
 use Rattle.tp_log_runs.proofs.Names.{falls-named}
 use Rattle.tp_log_runs.proofs.OneAnswer.{AnswersFirst, Ends, here-after, mids-after, parted, stays-behind, told_from, whole-told}
-use Rattle.tp_log_runs.proofs.Places.{IsOver, IsParted, all-moves, is_plan_reply, moves-first, none-of_plan, of_plan, over-behind, reply-over, skip, TellsMovesFirst}
+use Rattle.tp_log_runs.proofs.Places.{IsOver, IsParted, all-moves, is_plan_reply, moves-first, none-of_plan, of_plan, reply-over, skip, TellsMovesFirst}
 use Rattle.tp_log_runs.proofs.Still.{StaysSettled}
 
 -- the items to come are those of the records, behind a plan or not

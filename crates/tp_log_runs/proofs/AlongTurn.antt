@@ -5,7 +5,7 @@ use Rattle.std.proofs.lemmas.Option.{same_Some}
 use Rattle.tp_bounds.specs.declared.tree.BoundTree.{BoundTree}
 use Rattle.tp_machine.specs.declared.machine.Machine.{Machine}
 use Rattle.tp_machine.specs.declared.parts.Feeder.{Feeder}
-use Rattle.tp_schedule.specs.Planning.{Deed, IsAnswer}
+use Rattle.tp_schedule.specs.Planning.{Deed}
 use Rattle.tp_schedule.specs.declared.parts.Plan.{Plan}
 use Rattle.tp_schedule.specs.declared.records.Cause.{Cause}
 use Rattle.tp_schedule.specs.declared.records.Record.{Record}
@@ -21,14 +21,14 @@ use Rattle.tp_turn.specs.Laws.{IsNoClock}
 use Rattle.tp_turn.specs.Logs.{spent_on_trust}
 use Rattle.tp_turn.specs.Planners.{GoesOut, IsRight, StopsGoingOut}
 use Rattle.tp_turn.specs.Ready.{CanTakeEvents}
-use Rattle.tp_turn.specs.Refusals.{clock_refusal, module_of, refusal}
+use Rattle.tp_turn.specs.Refusals.{clock_refusal, refusal}
 use Rattle.tp_turn.specs.States.{SessionState}
 use Rattle.tp_turn.specs.Turns.{Accepts, Begins, Turn, with_on, with_refill}
 use Rattle.tp_turn.proofs.Refilled.{lines-refilled}
-use Rattle.tp_turning.specs.Events.{ClockTurn, LiveTurn, MovesClock}
-use Rattle.tp_turning.specs.Stops.{LiveStop, StopsAfter, StopsAsks, StopsBeginning, StopsClock, StopsTurn}
+use Rattle.tp_turning.specs.Events.{LiveTurn, MovesClock}
+use Rattle.tp_turning.specs.Stops.{StopsAfter, StopsAsks, StopsBeginning, StopsClock, StopsTurn}
 use Rattle.tp_turning.proofs.KeptEvents.{events-job, events-moved, events-on}
-use Rattle.tp_outages.proofs.OutagesKeep.{any-sheets, any_outset, through-goes}
+use Rattle.tp_outages.proofs.OutagesKeep.{any-sheets, through-goes}
 use Rattle.tp_outages.proofs.Starts.{starts}
 use Rattle.tp_outages.specs.Through.{KeepsThrough}
 use Rattle.tp_runs.specs.Runs.{items_with}

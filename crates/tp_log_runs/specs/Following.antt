@@ -1,7 +1,6 @@
 -- How a turn goes over a planner that is told its answers by the records and trees of an entry.
 use Rattle.std.specs.Prelude.{◌≡◌, ℕ, false, List, [], ◌∷◌}
 use Rattle.tp_bounds.specs.declared.tree.BoundTree.{BoundTree}
-use Rattle.tp_log.specs.declared.item.Item.{Item}
 use Rattle.tp_machine.specs.declared.machine.Machine.{Machine}
 use Rattle.tp_schedule.specs.Planning.{PlannerRules}
 use Rattle.tp_schedule.specs.declared.records.Record.{Record}

@@ -1,5 +1,5 @@
 -- How a check ends, by what it found.
-use Rattle.std.proofs.Common.{◌≡◌, ◌⊎◌, ℕ, List, [], Option, Some, inl, inr, refl, sym, subst}
+use Rattle.std.proofs.Common.{◌≡◌, ◌⊎◌, ℕ, List, [], Option, Some, inl, inr, sym, subst}
 use Rattle.std.specs.Prelude.{IfSome}
 use Rattle.tp_entries.specs.declared.counts.Counts.{Counts}
 use Rattle.tp_machine.specs.declared.machine.Machine.{Machine}

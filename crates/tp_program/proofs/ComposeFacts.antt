@@ -1,5 +1,5 @@
 -- What is composed of a text is written, or cut short.
-use Rattle.std.proofs.Common.{◌≡◌, ◌++◌, List, ℕ, Option, Some, subst, sym}
+use Rattle.std.proofs.Common.{◌≡◌, ◌++◌, List, ℕ, Option, Some, subst}
 use Rattle.std.specs.Prelude.{IfSome}
 use Rattle.tp_compose.specs.Texts.{IsComposed, IsSoundRack}
 use Rattle.tp_outside.specs.Outside.{Files}

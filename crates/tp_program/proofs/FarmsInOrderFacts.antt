@@ -1,6 +1,5 @@
 -- Where a farm is in order, its list and texts are those that the shelf tells, and no cause of a refusal holds.
-use Rattle.std.proofs.Common.{◌≡◌, ◌≢◌, ℕ, ◌<◌, ◌≤◌, List, length, slice_get, Option, Some, None, inl, inr, sym, subst, ◌∙◌, arith}
-use Rattle.std.specs.List.{All}
+use Rattle.std.proofs.Common.{◌≡◌, ◌≢◌, ℕ, ◌<◌, ◌≤◌, List, slice_get, Option, Some, None, inl, inr, sym, subst, ◌∙◌}
 use Rattle.std.specs.Prelude.{IsTrue}
 use Rattle.tp_outside.specs.Outside.{Files}
 use Rattle.tp_command.specs.Form.{Asked}

@@ -5,7 +5,6 @@ use Rattle.tp_machine.specs.declared.machine.Machine.{Machine}
 use Rattle.tp_jobs.specs.declared.standing.Standing as kept
 use Rattle.tp_script.specs.Lines.{line_event}
 use Rattle.tp_snapshot.specs.Laws.{OneIsRead}
-use Rattle.tp_snapshot.specs.Rules.{IsSnapshot}
 use Rattle.tp_standing.specs.Told.{standing_of, told as state_told}
 use Rattle.tp_stream.specs.Takes.{IsWritten}
 use Rattle.tp_turn.specs.States.{SessionState, empty_state}

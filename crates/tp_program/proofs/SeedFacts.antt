@@ -1,6 +1,6 @@
 -- Words that ask for soaking give a number.
 use Rattle.std.proofs.Common.{◌≡◌, ℕ, Bool, true, false, ◌&&◌, List, [], ◌∷◌, Option, Some, None, option_and_then, option_map, refl, sym, subst}
-use Rattle.std.specs.Prelude.{IsSome, ◌==◌, if◌then◌else◌, is_some, nat_le}
+use Rattle.std.specs.Prelude.{IsSome, ◌==◌, if◌then◌else◌, nat_le}
 use Rattle.tp_command.specs.Form.{Asked, Text, Told, asked_at, asked_by, asked_with, budget_of, form, free, is_arg, mode_of, nothing_told, seed_in, told_by}
 use Rattle.tp_command.specs.declared.request.Mode.{Mode}
 use Rattle.tp_command.specs.declared.request.Mode.TheVariants.{Soak}

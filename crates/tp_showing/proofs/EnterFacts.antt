@@ -20,7 +20,7 @@ use Rattle.tp_constraints.specs.Suffixes.{IsInFlight, Suffix, order_in, with_pla
 use Rattle.tp_placing.specs.Boards.{BoardValue, content_of, suffix_of}
 use Rattle.tp_trees.specs.Places as places
 use Rattle.tp_trees.specs.Places.Due.{places as places_due, stop}
-use Rattle.tp_trees.specs.Places.{Due, has_choice, is_front_state, stop_due, due_behind, is_name_of_resource, order_length, places_from, stand_of}
+use Rattle.tp_trees.specs.Places.{Due, has_choice, is_front_state, stop_due, is_name_of_resource, places_from, stand_of}
 use Rattle.tp_trees.proofs.Allowing.{le-to, lt-to}
 use Rattle.tp_trees.proofs.Lists.{number-same}
 use Rattle.tp_ways.specs.Ends.{HasEndBy}

@@ -16,7 +16,7 @@ use Rattle.tp_placing.specs.Boards.{BoardValue}
 use Rattle.tp_placing.specs.Laws.{MarkKeeps}
 use Rattle.tp_trees.specs.Places as places
 use Rattle.tp_trees.specs.Places.Due.{places as places_due}
-use Rattle.tp_trees.specs.Places.{Due, Stand, alone, at_places, due_behind, is_name_of_resource, place_branch, places_from, stand_of}
+use Rattle.tp_trees.specs.Places.{Stand, alone, at_places, due_behind, is_name_of_resource, place_branch, places_from, stand_of}
 use Rattle.tp_trees.specs.Trees.{look, stand_look, with_behind}
 use Rattle.tp_trees.specs.Trees.Look.{due}
 use Rattle.tp_trees.proofs.Allowing.{le-to}

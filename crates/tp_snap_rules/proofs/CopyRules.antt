@@ -1,9 +1,8 @@
 -- The rule on copies is its tests.
-use Rattle.std.proofs.Common.{◌≡◌, ◌↔◌, ℕ, Bool, true, ◌&&◌, List, [], ◌∷◌, ◌++◌, length, zero, suc, get_or, map, All, AllPairs, IsTrue, cond, false, refl, sym, ap, ◌∙◌, ◌<◌, ◌⊎◌, inl, inr, arith, not, ◌||◌}
+use Rattle.std.proofs.Common.{◌≡◌, ◌↔◌, ℕ, Bool, true, ◌&&◌, List, [], ◌∷◌, ◌++◌, length, zero, suc, get_or, map, All, AllPairs, false, ap, ◌∙◌, ◌<◌, ◌⊎◌, inl, inr, arith, ◌||◌}
 use Rattle.std.specs.List.{list_all}
 use Rattle.std.proofs.lemmas.Bool.{and_from, and_parts}
 use Rattle.std.proofs.lemmas.List.Elements.{All-append, All-map}
-use Rattle.tp_machine.proofs.Lists.{AllPairs-cons, AllPairs-head, AllPairs-nil, AllPairs-tail}
 use Rattle.std.proofs.lemmas.Bool.{cases_Bool}
 use Rattle.std.proofs.lemmas.Bool.Decides.{nat_tests}
 use Rattle.std.proofs.lemmas.List.{get_or_default}
@@ -19,7 +18,6 @@ use Rattle.tp_jobs.specs.declared.standing.Standing.{Standing}
 use Rattle.tp_turn.proofs.ListFacts.{AllPairs-append_across, AllPairs-append_left}
 use Rattle.tp_turn.specs.Keeping.{IsOlder, StandsBehind, is_same_sheet, tray_plans}
 use Rattle.tp_turn.specs.Moments.{is_tray_plan}
-use Rattle.tp_turn.specs.Ready.{EntersWhereBroken}
 use Rattle.tp_snap_rules.proofs.TestFacts.{IsEntering, IsSingle, all-test, behind-test, newest-test, other-test, plan-test, tray-all}
 use Rattle.tp_snap_rules.specs.Rules.{AreInOrder, AreOfOthers, KeepsCopies, open_in}
 use Rattle.tp_snap_rules.specs.Tests.{is_newest, is_of_other, is_plan_kept, is_waiting_kept, stands_behind}

@@ -1,7 +1,7 @@
 -- The tests of plans and copies are what they test.
-use Rattle.std.proofs.Common.{◌≡◌, ◌↔◌, ◌∙◌, ◌⊎◌, ℕ, ◌-◌, ◌<◌, ◌≤◌, cond, Bool, true, false, not, ◌&&◌, ◌||◌, List, [], ◌∷◌, length, All, IsTrue, IsFalse, inl, inr, refl, sym, ap, arith, nat_le, nat_lt}
+use Rattle.std.proofs.Common.{◌≡◌, ◌↔◌, ◌∙◌, ◌⊎◌, ℕ, ◌-◌, ◌<◌, ◌≤◌, cond, Bool, true, false, not, ◌&&◌, ◌||◌, List, [], ◌∷◌, length, All, IsTrue, IsFalse, refl, sym, arith, nat_le, nat_lt}
 use Rattle.std.specs.List.{list_all}
-use Rattle.std.proofs.lemmas.Bool.{and_from, and_parts, cases_Bool, leb-true, le-leb, lt-ltb, ltb-true, not-true}
+use Rattle.std.proofs.lemmas.Bool.{and_from, and_parts, leb-true, le-leb, lt-ltb, ltb-true}
 use Rattle.std.proofs.lemmas.List.Elements.{All-cons, All-head, All-tail}
 use Rattle.tp_machine.proofs.Lists.{All-from_test}
 use Rattle.tp_schedule.specs.Plans.{is_before, is_same_copy, point}
@@ -14,7 +14,7 @@ use Rattle.tp_turn.proofs.TestFacts.{of-all}
 use Rattle.tp_turn.specs.Keeping.{IsOlder, StandsBehind, is_same_sheet, tray_plans}
 use Rattle.tp_turn.specs.Lines.{is_job_broken, is_same_line}
 use Rattle.tp_turn.specs.Moments.{is_tray_plan}
-use Rattle.tp_turn.specs.Ready.{EntersWhereBroken, HasEntered}
+use Rattle.tp_turn.specs.Ready.{HasEntered}
 use Rattle.tp_snap_rules.specs.Rules.{AreOfOthers}
 use Rattle.tp_snap_rules.specs.Tests.{is_newest, is_of_other, is_older_than, is_plan_kept, is_single, stands_behind}
 

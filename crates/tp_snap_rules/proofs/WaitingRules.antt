@@ -1,5 +1,5 @@
 -- The rule on copies that wait is its tests.
-use Rattle.std.proofs.Common.{◌≡◌, ◌↔◌, ◌∙◌, ℕ, ◌+◌, ◌≤◌, Bool, true, not, ◌&&◌, length, count_by, AllPairs, IsTrue, sym, arith}
+use Rattle.std.proofs.Common.{◌≡◌, ◌↔◌, ◌∙◌, ℕ, ◌+◌, ◌≤◌, Bool, true, not, ◌&&◌, length, count_by, AllPairs, IsTrue}
 use Rattle.std.specs.List.{list_all}
 use Rattle.std.proofs.lemmas.Bool.{and_from, and_parts}
 use Rattle.tp_machine.specs.declared.machine.Machine.{Machine}

@@ -1,8 +1,7 @@
 -- What is written is one line: its text has no LF.
-use Rattle.std.proofs.Common.{◌≡◌, ℕ, ◌+◌, ◌<◌, ◌≤◌, ◌^◌, ◌/◌, ◌%◌, cond, Bool, true, false, List, [], ◌∷◌, ◌++◌, length, get_or, map, All, Option, Some, None, inl, inr, refl, ap, sym, ◌∙◌, arith, nat_lt, codes}
+use Rattle.std.proofs.Common.{◌≡◌, ℕ, ◌+◌, ◌<◌, ◌≤◌, ◌^◌, ◌/◌, ◌%◌, cond, Bool, true, false, List, [], ◌∷◌, ◌++◌, map, All, refl, ◌∙◌, arith, nat_lt}
 use Rattle.std.specs.Prelude.{⊤}
 use Rattle.std.specs.Char.{digit_char, is_ascii_digit}
-use Rattle.std.proofs.lemmas.Bool.{and_from, cases_Bool}
 use Rattle.std.proofs.lemmas.Bool.Decides.{nat_tests}
 use Rattle.std.proofs.lemmas.List.Elements.{All-head, All-tail}
 use Rattle.json.specs.Print.{escape, escape_byte, escape_letter, quoted}

@@ -1,5 +1,5 @@
 -- Copies, jobs and goals as they were read.
-use Rattle.std.proofs.Common.{◌≡◌, ◌∙◌, ℕ, ◌<◌, ◌≤◌, ◌&&◌, ◌==◌, cond, Bool, true, List, [], length, Contains, Option, Some, None, refl, ap, sym, subst, arith, codes, nat_le}
+use Rattle.std.proofs.Common.{◌≡◌, ◌∙◌, ℕ, ◌<◌, ◌≤◌, ◌&&◌, ◌==◌, true, List, [], length, Contains, Option, Some, None, refl, subst, codes, nat_le}
 use Rattle.std.specs.Prelude.{position}
 use Rattle.std.specs.Str.{bytes_eq}
 use Rattle.std.proofs.lemmas.Bool.{and_parts, eqb-true, leb-true}
@@ -15,7 +15,6 @@ use Rattle.tp_machine.specs.declared.parts.LocId.{LocId}
 use Rattle.tp_schedule.specs.declared.parts.Goal.{Goal}
 use Rattle.tp_schedule.specs.declared.parts.Goal.TheVariants.{Tray, Purge}
 use Rattle.tp_schedule.specs.declared.parts.SheetId.{SheetId}
-use Rattle.tp_schedule.specs.declared.records.SheetName.{SheetName}
 use Rattle.tp_words.proofs.Steps.{and_then_some}
 use Rattle.tp_bounds.specs.Sheets.{sheet_of}
 use Rattle.tp_jobs.specs.Refusing.{tray_at, tray_named}

@@ -6,7 +6,7 @@ use Rattle.std.specs.Str.{bytes_eq}
 use Rattle.std.proofs.lemmas.Bool.{and_from, cases_lt, leb-true, lt-ltb}
 use Rattle.std.proofs.lemmas.Bool.Decides.{nat_tests}
 use Rattle.std.proofs.lemmas.List.{get_or-take, length-map}
-use Rattle.std.proofs.lemmas.List.Sums.{prefix_len-le-length, prefix_len_passes, prefix_len_stops}
+use Rattle.std.proofs.lemmas.List.Sums.{prefix_len_passes, prefix_len_stops}
 use Rattle.std.proofs.lemmas.Option.{same_Some, slice_get_within}
 use Rattle.std.proofs.lemmas.Slice.Eq.{bytes_eq-Decides}
 use Rattle.serde_json.specs.Data.{Data}
@@ -24,9 +24,9 @@ use Rattle.tp_turn.specs.Keeping.{is_known, is_of_its_job, is_own_goal}
 use Rattle.tp_turn.specs.Labels.{job_name, job_name_in}
 use Rattle.tp_standing.specs.Sound.{IsReleasedBy}
 use Rattle.tp_snapshot.proofs.PartsRead.{IsCopy, copy-read, goal-read}
-use Rattle.tp_snapshot.proofs.ReadFacts.{IsRead, field-value, list-read, when_some, whole-most}
+use Rattle.tp_snapshot.proofs.ReadFacts.{field-value, list-read, when_some, whole-most}
 use Rattle.tp_snapshot.specs.Copies.{copy_in, want_in}
-use Rattle.tp_snapshot.specs.Plans.{act_in, course_of, goal_in, is_course, kind_of, owner_of, plan_from, plan_of, plan_with, released_of}
+use Rattle.tp_snapshot.specs.Plans.{act_in, course_of, goal_in, is_course, owner_of, plan_from, plan_of, plan_with, released_of}
 use Rattle.tp_snapshot.specs.Values.{each_of, field_of, has_members, whole_of}
 use Rattle.tp_snapshot.specs.declared.course.Course.{Course}
 use Rattle.tp_snapshot.specs.declared.course.Owner.{Owner}

@@ -1,15 +1,14 @@
 -- What is written for a sound standing keeps the ten rules.
-use Rattle.std.proofs.Common.{◌≡◌, ℕ, true, List, get_or, All, Some, refl, codes}
+use Rattle.std.proofs.Common.{◌≡◌, ℕ, true, List, Some, refl, codes}
 use Rattle.serde_json.specs.Data.{Data}
 use Rattle.serde_json.specs.Find.{as_str}
 use Rattle.tp_machine.specs.declared.machine.Machine.{Machine}
-use Rattle.tp_machine_text.specs.Texts.{IsMachineText}
 use Rattle.tp_jobs.specs.declared.standing.Standing.{Standing}
 use Rattle.tp_standing.specs.Sound.{IsSound}
 use Rattle.tp_snap_rules.specs.Rules.{AreKeptTo, KeepsWaiting}
 use Rattle.tp_snapshot.proofs.ToldBack.{told-back}
 use Rattle.tp_snapshot.specs.Laws.{IsSpelled}
-use Rattle.tp_snapshot.specs.Rules.{HasMachine, IsSnapshot, KeepsTo, has_keys}
+use Rattle.tp_snapshot.specs.Rules.{IsSnapshot, KeepsTo, has_keys}
 use Rattle.tp_snapshot.specs.Texts.{IsWritten}
 use Rattle.tp_snapshot.specs.Values.{field_of, whole_of}
 use Rattle.tp_snapshot.specs.Written.{snapshot_data}

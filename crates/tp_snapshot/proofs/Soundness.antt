@@ -1,5 +1,5 @@
 -- A standing that keeps the rules is sound.
-use Rattle.std.proofs.Common.{◌≡◌, ℕ, ◌+◌, ◌<◌, ◌≤◌, List, length, get_or, All, Contains, Some, inr, subst, arith, codes, lit≤}
+use Rattle.std.proofs.Common.{◌≡◌, ℕ, ◌+◌, ◌<◌, ◌≤◌, length, get_or, All, inr, subst, arith, codes, lit≤}
 use Rattle.std.proofs.lemmas.Bool.{lt-ltb}
 use Rattle.std.proofs.lemmas.List.{length-map}
 use Rattle.std.proofs.lemmas.List.Elements.{All-contains}
@@ -15,7 +15,7 @@ use Rattle.tp_jobs.specs.Backlogs.{names_of}
 use Rattle.tp_jobs.specs.declared.parts.Job.{Job}
 use Rattle.tp_jobs.specs.declared.standing.Standing.{Standing}
 use Rattle.tp_standing.specs.Sound.{IsKeptPlan, IsKeptWaiting, IsNumbered, IsReleasedBy, IsSound}
-use Rattle.tp_snap_rules.specs.Rules.{AreOnTheirWay, IsOnItsWay}
+use Rattle.tp_snap_rules.specs.Rules.{AreOnTheirWay}
 use Rattle.tp_snapshot.proofs.MomentsRead.{outs-read, stock-read}
 use Rattle.tp_snapshot.proofs.PartsRead.{IsCopy, job-read, waiting-read}
 use Rattle.tp_snapshot.proofs.PlansRead.{IsPlanRead, plan-read, released-read}

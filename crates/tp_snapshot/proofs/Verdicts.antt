@@ -1,21 +1,16 @@
 -- Bytes are a snapshot of one machine and one standing, or no JSON, or break one rule first.
-use Rattle.std.proofs.Common.{◌≡◌, ◌⊎◌, ◌∙◌, ℕ, ◌-◌, ◌<◌, ◌≤◌, List, Some, inl, inr, sym, subst, arith, lit≤}
-use Rattle.std.proofs.lemmas.Bool.{cases_lt}
+use Rattle.std.proofs.Common.{◌≡◌, ◌⊎◌, ◌∙◌, ℕ, ◌-◌, ◌<◌, ◌≤◌, List, inl, inr, sym, subst, arith, lit≤}
 use Rattle.std.proofs.lemmas.Option.{same_Some}
 use Rattle.serde_json.specs.Data.{Data}
-use Rattle.serde_json.specs.Find.{as_str}
 use Rattle.tp_machine.specs.declared.machine.Machine.{Machine}
 use Rattle.tp_machine_text.proofs.OneMachine.{one_of_text}
 use Rattle.tp_machine_text.specs.Texts.{IsMachineText}
 use Rattle.tp_jobs.specs.declared.standing.Standing.{Standing}
-use Rattle.tp_snap_rules.specs.Rules.{AreKeptTo}
 use Rattle.tp_snapshot.proofs.OneTold.{one}
 use Rattle.tp_snapshot.proofs.RuleFacts.{all-told}
-use Rattle.tp_snapshot.proofs.TellFacts.{both}
 use Rattle.tp_snapshot.specs.Laws.{HasOneVerdict}
-use Rattle.tp_snapshot.specs.Rules.{Breaks, BreaksOf, BreaksStanding, HasMachine, IsBrokenAt, IsSnapshot, KeepsRules, KeepsTo}
+use Rattle.tp_snapshot.specs.Rules.{Breaks, BreaksOf, HasMachine, IsSnapshot, KeepsRules, KeepsTo}
 use Rattle.tp_snapshot.specs.Texts.{IsJson}
-use Rattle.tp_snapshot.specs.Values.{field_of}
 
 one-value : (bytes : List ℕ) (d e : Data) → IsJson bytes d → IsJson bytes e → e ≡ d
 one-value bytes d e a b = same_Some e d (sym b.reads ∙ a.reads)

@@ -5,16 +5,13 @@ use Rattle.std.specs.List.{list_any}
 use Rattle.std.proofs.lemmas.Bool.{eqb-true, ne_eqb}
 use Rattle.std.proofs.lemmas.Int.{ints}
 use Rattle.std.proofs.lemmas.List.Elements.{All-head, All-tail}
-use Rattle.tp_machine.specs.declared.machine.Machine.{Machine}
 use Rattle.tp_machine.specs.declared.parts.Feeder.{Feeder}
 use Rattle.tp_schedule.proofs.Membership.{Contains-here, Contains-later}
 use Rattle.tp_schedule.proofs.Pairs.{AllPairs-head, AllPairs-tail}
-use Rattle.tp_stock.specs.Stock.{by_location, free_of, is_counted, refilled, taken_at}
+use Rattle.tp_stock.specs.Stock.{free_of, is_counted, refilled, taken_at}
 use Rattle.tp_stock.proofs.CountedFacts.{counts}
-use Rattle.tp_turn.specs.States.{SessionState}
 use Rattle.tp_standing.proofs.FeederFacts.{Apart, feeders-apart}
 use Rattle.tp_standing.specs.Told.{count_of, refill_at, refill_by, standing_of, told, told_refills}
-use Rattle.tp_sound.specs.Kept.{CanBeSaved}
 use Rattle.tp_sound.specs.Laws.{StandsAsTold}
 use Rattle.tp_sound.proofs.CountedRefills.{by-same}
 

@@ -1,5 +1,5 @@
 -- Feeders stand at different places, and what is free at each is a count.
-use Rattle.std.proofs.Common.{◌≡◌, ◌≢◌, ◌∙◌, ℕ, ◌==◌, cond, Bool, true, false, List, [], ◌∷◌, ◌+◌, ◌++◌, get_or, length, map, take, find, refl, ap, sym, subst, inl, inr, All, AllPairs, Contains, Option, Some, None, pos, ◌+ℤ◌, ◌-ℤ◌, ◌≤ℤ◌, arith}
+use Rattle.std.proofs.Common.{◌≡◌, ◌≢◌, ◌∙◌, ℕ, ◌==◌, cond, List, [], ◌∷◌, ◌+◌, ◌++◌, get_or, map, take, find, refl, ap, inl, inr, AllPairs, Contains, Option, Some, None, pos, ◌+ℤ◌, ◌-ℤ◌, ◌≤ℤ◌, arith}
 use Rattle.std.specs.Prelude.{IfSome, slice_get, ℤ}
 use Rattle.std.proofs.lemmas.List.{map-append, take_more}
 use Rattle.std.proofs.lemmas.Option.{get_or_from_slice_get, slice_get_within}
@@ -14,7 +14,7 @@ use Rattle.tp_machine.specs.declared.parts.Feeder.{Feeder}
 use Rattle.tp_schedule.proofs.Membership.{Contains-cons_cases}
 use Rattle.tp_schedule.proofs.Pairs.{AllPairs-each, AllPairs-head, AllPairs-map_from, AllPairs-tail}
 use Rattle.tp_stock.proofs.StockFacts.{feeder-known, free-told}
-use Rattle.tp_stock.specs.Stock.{by_location, feeder_at, free_of, free_stock, most_stocked, refilled, taken_at}
+use Rattle.tp_stock.specs.Stock.{by_location, free_of, free_stock, most_stocked, refilled, taken_at}
 use Rattle.tp_turn.specs.Ready.{KeepsStock}
 use Rattle.tp_turn.specs.States.{SessionState}
 

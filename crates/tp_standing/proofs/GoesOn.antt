@@ -1,18 +1,15 @@
 -- A session can go on from a sound standing.
-use Rattle.std.proofs.Common.{◌≡◌, ◌≢◌, ℕ, ◌+◌, ◌<◌, ◌≤◌, ◌==◌, List, map, refl, ap, ◌∙◌, subst, inl, inr, ◌⊎◌, arith, All, AllPairs, Contains, Option, Some, None, pos, ◌+ℤ◌, ◌≤ℤ◌}
-use Rattle.std.specs.Prelude.{neg_ℤ, option_map, slice_get}
+use Rattle.std.proofs.Common.{◌≡◌, ◌≢◌, ℕ, ◌+◌, ◌<◌, ◌≤◌, ◌==◌, refl, ap, ◌∙◌, subst, inl, inr, ◌⊎◌, arith, All, Contains, Option, Some, None, pos, ◌+ℤ◌, ◌≤ℤ◌}
+use Rattle.std.specs.Prelude.{neg_ℤ, option_map}
 use Rattle.std.proofs.lemmas.Bool.{cases_lt, eqb-true}
 use Rattle.std.proofs.lemmas.Int.{ints}
 use Rattle.std.proofs.lemmas.List.Elements.{All-contains}
 use Rattle.std.proofs.lemmas.Option.{same_Some}
 use Rattle.std.proofs.lemmas.List.Sums.{count_by-le-length, list_all-from_AllPass}
 use Rattle.tp_machine.proofs.MachineFacts.{is_machine}
-use Rattle.tp_machine.proofs.RisingNames.{rising_names_differ}
-use Rattle.tp_machine.specs.Rules.{name_in}
 use Rattle.tp_machine.specs.declared.machine.Machine.{Machine}
 use Rattle.tp_machine.specs.declared.parts.Feeder.{Feeder}
 use Rattle.tp_schedule.proofs.Membership.{All-from_contains}
-use Rattle.tp_schedule.proofs.Pairs.{AllPairs-map_from, AllPairs-each}
 use Rattle.tp_schedule.specs.Answers.{KeepsFloors}
 use Rattle.tp_schedule.specs.Living.{is_live}
 use Rattle.tp_schedule.specs.Planning.{none_exempt}

@@ -1,5 +1,5 @@
 -- Plans that are put one after another, in the order of copies.
-use Rattle.std.proofs.Common.{◌≡◌, ◌∙◌, ℕ, ◌+◌, ◌<◌, cond, Bool, true, false, List, [], ◌∷◌, ◌++◌, length, get_or, take, map, filter, slice_get, None, Some, All, AllPairs, refl, ap, sym, arith}
+use Rattle.std.proofs.Common.{◌≡◌, ◌∙◌, ℕ, ◌+◌, ◌<◌, cond, Bool, true, false, List, [], ◌∷◌, ◌++◌, length, get_or, take, map, filter, slice_get, None, Some, All, refl, ap, sym, arith}
 use Rattle.std.proofs.lemmas.List.{append-nil, get_or-take, get_or_default, length-take, map-append, take_more}
 use Rattle.std.proofs.lemmas.List.Elements.{All-head, All-tail, filter-append}
 use Rattle.std.proofs.lemmas.Option.{get_or_from_slice_get, slice_get_within}
@@ -7,7 +7,6 @@ use Rattle.tp_jobs.proofs.Found.{find-none}
 use Rattle.tp_schedule.proofs.CopyFacts.{InOrder, before-asym, before-not_same}
 use Rattle.tp_schedule.specs.Plans.{is_before, is_front, is_same_copy, plan_of, put_plan}
 use Rattle.tp_schedule.specs.declared.parts.Plan.{Plan}
-use Rattle.tp_schedule.specs.declared.parts.SheetId.{SheetId}
 use Rattle.tp_turn.specs.Seen.{fronts_of}
 
 abbrev ComesBefore : Plan → Plan → Type 0

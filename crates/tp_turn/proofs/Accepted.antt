@@ -13,7 +13,7 @@ use Rattle.tp_jobs.specs.Backlogs.{next_copy}
 use Rattle.tp_turn.specs.Lines.{is_job_broken}
 use Rattle.tp_turn.specs.Labels.{label}
 use Rattle.tp_turn.specs.Fates as fates
-use Rattle.tp_turn.specs.Fates.{Fate, recalls, told_of, told_by, to_purge}
+use Rattle.tp_turn.specs.Fates.{Fate, recalls, told_of, told_by}
 use Rattle.tp_turn.specs.FallBacks.{Notice, put_notice, by_copy, notices_of_waiting, notices_of_plans, job_break, Displaced, next_waits, later_fall_back, is_line_entering, fall_back, fall_back_unless_broken, fate_in_break}
 use Rattle.tp_turn.specs.Outages.{told_in_outage, fate_of_running, fate_unless_lost, displaced, going_out, outage}
 use Rattle.tp_turn.specs.Moments.{recalled}

@@ -4,7 +4,6 @@ use Rattle.std.proofs.lemmas.List.Elements.{All-head, All-tail}
 use Rattle.std.proofs.lemmas.List.Sums.{length-filter}
 use Rattle.tp_machine.specs.declared.machine.Machine.{Machine}
 use Rattle.tp_schedule.specs.Living.{is_live, live_count}
-use Rattle.tp_turn.specs.Keeping.{is_to_arrive}
 use Rattle.tp_turn.specs.Ready.{KeepsLive}
 use Rattle.tp_turn.specs.States.{SessionState}
 

@@ -1,7 +1,7 @@
 -- A new job, a module that comes back and a move of the clock keep what a live state keeps.
-use Rattle.std.proofs.Common.{◌≡◌, ℕ, ◌+◌, ◌-◌, ◌<◌, ◌≤◌, inl, inr, true, false, List, [], ◌∷◌, ◌++◌, length, length-append, sym, ap, ◌∙◌, arith, All, Contains, IsTrue, subst, None}
+use Rattle.std.proofs.Common.{◌≡◌, ℕ, ◌+◌, ◌-◌, ◌<◌, ◌≤◌, true, false, List, [], ◌∷◌, ◌++◌, length, length-append, sym, ap, ◌∙◌, arith, All, subst, None}
 use Rattle.std.specs.Prelude.{IsFalse}
-use Rattle.std.proofs.lemmas.List.Elements.{All-append, All-cons, All-contains, All-nil, All-weaker}
+use Rattle.std.proofs.lemmas.List.Elements.{All-append, All-cons, All-nil, All-weaker}
 use Rattle.tp_base.proofs.SliceFacts.{slice_get_last}
 use Rattle.tp_machine.specs.declared.parts.Sheet.{Sheet}
 use Rattle.tp_machine.specs.declared.machine.Machine.{Machine}
@@ -9,11 +9,10 @@ use Rattle.tp_jobs.specs.Refusing.{sheet_count}
 use Rattle.tp_jobs.specs.Waiting.{first_copies, new_job, sheets_of}
 use Rattle.tp_jobs.specs.declared.parts.WaitingCopy.{WaitingCopy}
 use Rattle.tp_schedule.specs.Plans.{point}
-use Rattle.tp_schedule.specs.declared.parts.Plan.{Plan}
 use Rattle.tp_schedule.specs.declared.parts.SheetId.{SheetId}
 use Rattle.tp_script.specs.Form.{GroupForm}
 use Rattle.tp_turn.specs.Clock.{clock_move, released_until}
-use Rattle.tp_turn.specs.Keeping.{KeepsLines, is_known, is_of_its_job}
+use Rattle.tp_turn.specs.Keeping.{KeepsLines, is_known}
 use Rattle.tp_turn.specs.Lines.{broken_in, is_job_broken}
 use Rattle.tp_turn.specs.Moments.{release_until}
 use Rattle.tp_turn.specs.Ready.{CanTakeEvents, CopiesAtMost, EntersWhereBroken, HasStartedWhole, KeepsBroken, KeepsLive}

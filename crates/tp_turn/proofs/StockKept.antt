@@ -1,9 +1,8 @@
 -- What is kept of the stock of a live state: in the empty state, through a refill and a move of the clock.
-use Rattle.std.proofs.Common.{◌≡◌, ◌≢◌, ℕ, ◌+◌, ◌*◌, ◌<◌, ◌≤◌, ◌==◌, eqb, ◌^◌, Bool, true, false, cond, List, [], ◌∷◌, length, refl, sym, ap, ◌∙◌, subst, inl, inr, arith, All, Contains, Option, Some, None, option_and_then, find, pos, ◌+ℤ◌, ◌-ℤ◌, ◌≤ℤ◌}
+use Rattle.std.proofs.Common.{◌≡◌, ◌≢◌, ℕ, ◌+◌, ◌*◌, ◌<◌, ◌≤◌, ◌==◌, eqb, ◌^◌, Bool, true, false, cond, List, [], ◌∷◌, length, refl, sym, ap, ◌∙◌, subst, inl, inr, arith, All, Contains, Option, Some, None, option_and_then, pos, ◌+ℤ◌, ◌-ℤ◌, ◌≤ℤ◌}
 use Rattle.std.specs.Prelude.{IfSome, ℤ, count_by, filter, int_lt, neg_ℤ, not, position}
 use Rattle.std.specs.Str.{bytes_eq}
 use Rattle.std.proofs.lemmas.Bool.{cases_Bool, cases_lt, eqb-true}
-use Rattle.std.proofs.lemmas.Bool.Decides.{nat_tests}
 use Rattle.std.proofs.lemmas.Int.{ints}
 use Rattle.std.proofs.lemmas.List.Elements.{All-contains, All-head, All-tail}
 use Rattle.std.proofs.lemmas.Option.{same_Some}
@@ -13,11 +12,9 @@ use Rattle.tp_machine.specs.declared.machine.Machine.{Machine}
 use Rattle.tp_machine.proofs.MachineFacts.{is_machine}
 use Rattle.tp_schedule.specs.Living.{is_live, live_count}
 use Rattle.tp_schedule.specs.declared.parts.Plan.{Plan}
-use Rattle.tp_schedule.specs.declared.records.Cause.{Cause}
-use Rattle.tp_schedule.specs.declared.records.Cause.TheVariants.{Endless, Feeder as NoFeeder, Stock}
-use Rattle.tp_stock.specs.Stock.{AreWithin, IsBounded, IsNotOverdrawn, IsStockedWithin, begins_at, drawn_at, feeder_at, feeder_named, free_of, free_stock, less_taken, more_at, most_free, no_refills, refilled, taken_at}
+use Rattle.tp_schedule.specs.declared.records.Cause.TheVariants.{Stock}
+use Rattle.tp_stock.specs.Stock.{AreWithin, IsBounded, IsStockedWithin, begins_at, drawn_at, feeder_at, feeder_named, free_of, less_taken, more_at, most_free, no_refills, refilled, taken_at}
 use Rattle.tp_stock.proofs.StockFacts.{at-location, at-none, count-cons, drawn-few, drawn-fewer, drawn-more, drawn-part, feeder-known, refilled-less, refilled-more}
-use Rattle.tp_turn.proofs.LeftPlans.{AreLeft}
 use Rattle.tp_turn.proofs.ListFacts.{find-Some}
 use Rattle.tp_turn.proofs.ReleasedPlans.{AreLeft-released}
 use Rattle.tp_turn.proofs.TakenSheets.{taken-left}

@@ -1,5 +1,5 @@
 -- How many sheets plans took, where less of them is left, where they moved, and where an ask was answered.
-use Rattle.std.proofs.Common.{◌≡◌, ℕ, ◌+◌, ◌<◌, ◌≤◌, Bool, true, false, cond, ◌&&◌, ◌==◌, List, [], ◌∷◌, ◌++◌, length, map, refl, sym, ap, ◌∙◌, subst, arith, Contains, Option, Some, None, option_and_then, find}
+use Rattle.std.proofs.Common.{◌≡◌, ℕ, ◌+◌, ◌<◌, ◌≤◌, Bool, true, false, cond, ◌&&◌, ◌==◌, List, [], ◌∷◌, ◌++◌, length, map, refl, sym, ap, ◌∙◌, arith, Option, Some, None, option_and_then}
 use Rattle.std.specs.Prelude.{count_by, not, slice_get}
 use Rattle.std.proofs.lemmas.Bool.Decides.{nat_tests}
 use Rattle.tp_machine.specs.Steps.{step_of}
@@ -9,7 +9,7 @@ use Rattle.tp_machine.specs.declared.parts.Action.{Action}
 use Rattle.tp_machine.specs.declared.parts.Sheet.{Sheet}
 use Rattle.tp_machine.specs.declared.parts.State.{State}
 use Rattle.tp_machine.specs.declared.machine.Machine.{Machine}
-use Rattle.tp_schedule.specs.Answers.{IsAlternative, acts_in, kept_acts, unmoved}
+use Rattle.tp_schedule.specs.Answers.{IsAlternative, acts_in, unmoved}
 use Rattle.tp_schedule.specs.Plans.{is_same_copy, plan_of, without}
 use Rattle.tp_schedule.specs.Routes.{walk}
 use Rattle.tp_schedule.specs.declared.parts.Ask.{Ask}

@@ -1,5 +1,5 @@
 -- All lines were taken, or the first ones.
-use Rattle.std.proofs.Common.{◌≡◌, Some, sym, subst, ◌∙◌}
+use Rattle.std.proofs.Common.{◌≡◌, subst, ◌∙◌}
 use Rattle.tp_stream.specs.declared.stop.Stop.TheVariants as stop
 use Rattle.tp_checking.specs.Ends.{StopsFor}
 use Rattle.tp_checking.specs.Taking.{LogState}

@@ -1,6 +1,6 @@
 -- One name after another is a machine's.
 use Rattle.std.proofs.Common.{◌≡◌, ◌+◌, ◌<◌, [], ◌∷◌, ◌++◌, length, take, sym, subst, ◌∙◌, arith}
-use Rattle.std.specs.List.{All, AllZip}
+use Rattle.std.specs.List.{AllZip}
 use Rattle.tp_outside.proofs.Parts.{IsCounted-more}
 use Rattle.tp_words.specs.Parts.{shown}
 use Rattle.tp_program.specs.Farming.{BeginsOn}

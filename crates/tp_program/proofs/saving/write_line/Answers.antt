@@ -1,5 +1,4 @@
 -- The line is made and written, or not.
-use Rattle.std.proofs.Common.{refl}
 use Rattle.tp_program.proofs.SavingFacts.{wrote_part, wrote_whole}
 use Rattle.tp_program.proofs.saving.write_line.Goals as goal
 

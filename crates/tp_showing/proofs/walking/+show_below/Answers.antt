@@ -15,7 +15,7 @@ use Rattle.tp_showing.proofs.MarkSteps.{IsMarked, back-trans, mark-known, since-
 use Rattle.tp_showing.proofs.WalkFacts.{HasGone, IsAtWay, IsStill, at-way, goes-on, gone-none, gone-some, marks-below, set-since, shows-to, shows-trans, still}
 use Rattle.tp_showing.proofs.WayFacts.{none-left}
 use Rattle.tp_showing.proofs.walking.+show_below.Goals as goal
-use Rattle.tp_showing.proofs.walking.+show_below.Goals.{After-close_from, After-mark-mark, After-undo_to, In-Ok, In-ways, in-Ok-Some, in-Ok-None, in-Err-enter}
+use Rattle.tp_showing.proofs.walking.+show_below.Goals.{After-mark-mark, After-undo_to, In-Ok, In-ways, in-Ok-Some, in-Ok-None, in-Err-enter}
 
 -- the board at a way is as it was
 still0 : (g : _) (t : _) (c : In-ways g t) → IsStill g.N.Network.reading c.args.scene.machine.now c.args.scene.ask.now c.args.board.now c.ways.board c.args.branch c.requires.carries.0

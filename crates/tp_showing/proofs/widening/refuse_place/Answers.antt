@@ -11,7 +11,6 @@ use Rattle.tp_showing.proofs.CarryFacts.{carries-place, may-place, own-suffix, p
 use Rattle.tp_showing.proofs.EnterFacts.{placed_below}
 use Rattle.tp_showing.proofs.RangeFacts.{ok-some}
 use Rattle.tp_showing.proofs.widening.refuse_place.Goals as goal
-use Rattle.tp_showing.proofs.widening.refuse_place.Goals.{After-place}
 
 pub place-requires-clause-next : goal.place-requires-clause-next
 place-requires-clause-next g c =

@@ -1,9 +1,8 @@
-use Rattle.std.proofs.Common.{◌≡◌, ◌∙◌, ◌↔◌, Bool, true, List, AllPairs, ap, sym, subst}
+use Rattle.std.proofs.Common.{◌≡◌, ◌∙◌, ◌↔◌, true, List, AllPairs, ap, sym, subst}
 use Rattle.std.specs.List.{list_all}
-use Rattle.tp_schedule.specs.declared.parts.Plan.{Plan}
 use Rattle.tp_jobs.specs.declared.parts.WaitingCopy.{WaitingCopy}
 use Rattle.tp_snap_rules.proofs.CopyRules.{rule-apart, rule-plans, rule-waiting, waits}
-use Rattle.tp_snap_rules.specs.Rules.{AreOfOthers, KeepsCopies}
+use Rattle.tp_snap_rules.specs.Rules.{AreOfOthers}
 use Rattle.tp_snap_rules.specs.Tests.{is_plan_kept, is_waiting_kept}
 use Rattle.tp_snap_rules.proofs.copies.keeps_copies.Goals as goal
 

@@ -1,4 +1,4 @@
-use Rattle.std.proofs.Common.{refl, sym, ◌∙◌, arith}
+use Rattle.std.proofs.Common.{refl, ◌∙◌, arith}
 use Rattle.tp_schedule.specs.Plans.{IsEarlier}
 use Rattle.tp_snap_rules.proofs.Neighbours.{neighbours-fail, plans-from-next}
 use Rattle.tp_snap_rules.proofs.order.are_in_order.Goals as goal

@@ -1,4 +1,4 @@
-use Rattle.std.proofs.Common.{refl, sym, ◌∙◌, arith}
+use Rattle.std.proofs.Common.{refl, ◌∙◌, arith}
 use Rattle.tp_jobs.specs.declared.parts.WaitingCopy.{WaitingCopy}
 use Rattle.tp_schedule.proofs.Pairs.{AllPairs-map_from}
 use Rattle.tp_snap_rules.proofs.Neighbours.{IsOfOther, apart-from-next, neighbours-fail}

@@ -1,4 +1,4 @@
-use Rattle.std.proofs.Common.{refl, sym, ◌∙◌, arith}
+use Rattle.std.proofs.Common.{refl, ◌∙◌, arith}
 use Rattle.tp_snap_rules.proofs.Neighbours.{neighbours-fail, waiting-from-next}
 use Rattle.tp_snap_rules.specs.Rules.{WaitsBefore}
 use Rattle.tp_snap_rules.proofs.order.are_waiting_in_order.Goals as goal

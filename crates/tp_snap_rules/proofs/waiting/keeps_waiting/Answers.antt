@@ -1,6 +1,5 @@
 use Rattle.std.proofs.Common.{◌≡◌, ◌∙◌, ◌+◌, true, ℕ, List, length, count_by, AllPairs, ap, sym, subst, arith}
 use Rattle.std.specs.List.{list_all}
-use Rattle.tp_schedule.specs.declared.parts.Plan.{Plan}
 use Rattle.tp_jobs.specs.declared.parts.WaitingCopy.{WaitingCopy}
 use Rattle.tp_turn.specs.Keeping.{is_to_arrive}
 use Rattle.tp_snap_rules.proofs.WaitingRules.{rule-can, rule-few}

@@ -1,14 +1,14 @@
-use Rattle.std.proofs.Common.{◌≡◌, ℕ, List, [], Option, Some, None, sym, ap, subst, ◌∙◌}
+use Rattle.std.proofs.Common.{◌≡◌, ℕ, List, [], Some, sym, ap, subst, ◌∙◌}
 use Rattle.serde_json.specs.View.{view}
 use Rattle.tp_schedule.specs.declared.parts.Plan.{Plan}
 use Rattle.tp_jobs.specs.Backlogs.{names_of}
 use Rattle.tp_jobs.specs.declared.parts.Job.{Job}
 use Rattle.tp_jobs.specs.declared.standing.Standing.{Standing}
-use Rattle.tp_snap_rules.specs.Rules.{AreInOrder, KeepsWaiting}
+use Rattle.tp_snap_rules.specs.Rules.{AreInOrder}
 use Rattle.tp_snapshot.proofs.RuleFacts.{cannot-wait, no-jobs, no-now, no-outs, no-plans, no-stock, no-waiting, out-of-order, six, twice-named}
 use Rattle.tp_snapshot.specs.Jobs.{DoNamesDiffer, jobs_of}
 use Rattle.tp_snapshot.specs.Plans.{plans_of}
-use Rattle.tp_snapshot.specs.Rules.{TellsJobs, TellsMoment, TellsPlans, TellsWaiting}
+use Rattle.tp_snapshot.specs.Rules.{TellsJobs, TellsMoment, TellsPlans}
 use Rattle.tp_snapshot.specs.Waiting.{waiting_of}
 use Rattle.tp_snapshot.proofs.standing.standing_in.Goals as goal
 

@@ -1,6 +1,6 @@
 -- Each part is the one that is told.
 use Rattle.std.proofs.Common.{◌≡◌, ◌∙◌, ℕ, List, Option, ap, ℤ}
-use Rattle.tp_jobs.specs.Backlogs.{Backlog, unmarked}
+use Rattle.tp_jobs.specs.Backlogs.{unmarked}
 use Rattle.tp_jobs.specs.declared.standing.Standing.{Standing}
 use Rattle.tp_schedule.specs.declared.parts.Plan.{Plan}
 use Rattle.tp_stock.specs.Stock.{by_location, taken_at}

@@ -1,5 +1,5 @@
 -- A line that the checker took is taken.
-use Rattle.std.proofs.Common.{◌+◌, sym, ap, subst, ◌∙◌, arith}
+use Rattle.std.proofs.Common.{◌+◌, sym, subst, ◌∙◌, arith}
 use Rattle.tp_checking.specs.Sizes.{events_in}
 use Rattle.tp_checking.specs.Taking.{Answers, LogState, TakesLine}
 use Rattle.tp_checking.proofs.Feeding.{events-of, kept-sizes}
