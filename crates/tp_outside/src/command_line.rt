@@ -45,7 +45,8 @@ fn word_at(
     }
 }
 
-/// The words of the command line, without the program's name. A word that is longer than any can be is empty.
+/// The words of the command line, without the program's name. A word that is longer than any can be is empty. What an
+/// environment gives is nowhere said, so that there is nothing to promise of the words.
 pub fn words(alloc: Global, env: &impl Env) -> Result<Vec<String>, AllocError> {
     let mut words = Vec::new(alloc);
     for at in 1..usize::MAX {

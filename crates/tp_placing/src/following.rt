@@ -119,8 +119,8 @@ fn are_before(plans: &[Plan], copy: SheetId) -> bool
     is_earlier(plans[plans.len() - 1].sheet, copy)
 }
 
-/// Adds the plan of a copy, where the plans are the other live ones of the schedule. Answers whether they are all of them then:
-/// they are not where the plan would not stand behind them, or is not live.
+/// Adds the plan of a copy, where the plans are the other live ones of the schedule. Yes says that they are all of them then. It
+/// says no where the plan would not stand behind them, and, since it looks no further, where the plan is not live.
 pub(crate) fn follow_copy(
     plans: &mut Vec<Plan>,
     machine: &Machine,
