@@ -29,12 +29,16 @@ pub record Grows (count : ℕ) (edges : List Edge) (t : ℕ → ℕ) (cause : �
   pub rises : (i : ℕ) → i < count → t i ≤ t' i
   pub below : (y : ℕ → ℕ) → All (Keeps y) edges → ((i : ℕ) → i < count → t i ≤ y i) → (i : ℕ) → i < count → t' i ≤ y i
 
+-- the greatest weight of an edge, in ticks
+abbrev pub most_weight : ℕ
+most_weight = 1000000
+
 -- the edge is between known points, and its weight is small
 pub record IsKnown (count : ℕ) (e : Edge) : Type 0 where
   pub from : e.from.0 < count
   pub to : e.to.0 < count
   pub least : negsuc 999999 ≤ℤ e.weight
-  pub most : e.weight ≤ℤ pos 1000000
+  pub most : e.weight ≤ℤ pos most_weight
 
 -- how far the times are below the caps, added up
 abbrev pub slack : List ℕ → List ℕ → ℕ

@@ -1,6 +1,6 @@
 //! Networks of difference constraints, as a trait.
 ghost use Rattle.std.specs.Prelude.{◌≡◌, ℕ, ◌+◌, ◌<◌, ◌≤◌, ◌≤ℤ◌, pos, negsuc, ◌↔◌, [], length, slice_get, slice_index, false, Some, All, OnOk, OnErr, IfOk, IsErr};
-ghost use Rattle.tp_base.specs.Grows.{IsKnown};
+ghost use Rattle.tp_base.specs.Grows.{IsKnown, most_weight};
 ghost use Rattle.tp_base.specs.Net.{Net, HasLeast, HasNoSolution, HaveSameTimes, IsEarliest, IsLeast, IsSolution, empty_net, with_bounds_at, with_edge, with_edges, with_low, with_point};
 
 use crate::edges::{Edge, PointId, Proof};
@@ -47,7 +47,7 @@ pub trait Network: Undo {
         requires to { edge.to.0 < length (reading.net self.old).lows }
         requires spare { length (reading.net self.old).edges < reading.max_edges self.old }
         requires least { negsuc 999999 ≤ℤ edge.weight }
-        requires most { edge.weight ≤ℤ pos 1000000 }
+        requires most { edge.weight ≤ℤ pos most_weight }
         ensures added { OnOk result (reading.net self.new ≡ with_edge (reading.net self.old) edge) }
         ensures solved { OnOk result (HasLeast (reading.net self.new)) }
         ensures late { OnErr result (HasNoSolution (with_edge (reading.net self.old) edge)) }

@@ -1,6 +1,7 @@
 -- What every machine keeps: the rules of its text, said of the machine itself.
 use Rattle.std.specs.Prelude.{◌≡◌, ◌≢◌, ℕ, ◌+◌, ◌≤◌, ◌<◌, List, length, Some, IfSome, All, AllPairs, Contains, IsTrue, ℤ, pos, negsuc, ◌≤ℤ◌, ◌<ℤ◌, map}
 use Rattle.tp_base.specs.NameText.{is_name_text}
+use Rattle.tp_machine.specs.Limits.{longest, most_act_holds, most_actions, most_budget, most_locations, most_mode, most_modules, most_resources, most_stock, most_window}
 use Rattle.tp_machine.specs.Modes.{gap_at}
 use Rattle.tp_machine.specs.Rules.{do_names_rise, feeder_names}
 use Rattle.tp_machine.specs.Using.{action_at, begin_of, end_of}
@@ -39,13 +40,13 @@ abbrev pub AreDifferent : List (List ℕ) → Type 0
 AreDifferent names = AllPairs (λ a b. a ≢ b) names
 
 pub record IsMachine (machine : Machine) : Type 0 where
-  pub lead : machine.lead ≤ 4096
-  pub window : (1 ≤ machine.window) × (machine.window ≤ 32768)
-  pub budget : (1 ≤ machine.budget) × (machine.budget ≤ 200000)
-  pub locations : (1 ≤ length machine.locations) × (length machine.locations ≤ 256)
-  pub modules : (1 ≤ length machine.modules) × (length machine.modules ≤ 64)
-  pub resources : length machine.resources ≤ 256
-  pub actions : (1 ≤ length machine.actions) × (length machine.actions ≤ 512)
+  pub lead : machine.lead ≤ longest
+  pub window : (1 ≤ machine.window) × (machine.window ≤ most_window)
+  pub budget : (1 ≤ machine.budget) × (machine.budget ≤ most_budget)
+  pub locations : (1 ≤ length machine.locations) × (length machine.locations ≤ most_locations)
+  pub modules : (1 ≤ length machine.modules) × (length machine.modules ≤ most_modules)
+  pub resources : length machine.resources ≤ most_resources
+  pub actions : (1 ≤ length machine.actions) × (length machine.actions ≤ most_actions)
   pub location_names : All IsName machine.locations × AreDifferent machine.locations
   pub module_names : All IsName machine.modules × AreDifferent machine.modules
   pub media_names : All (λ f. IsName f.media) machine.feeders
@@ -61,14 +62,14 @@ pub record IsMachine (machine : Machine) : Type 0 where
   pub feeders_rise : IsTrue (do_names_rise (feeder_names machine.locations machine.feeders))
   pub resources_rise : IsTrue (do_names_rise (map (λ r. r.name) machine.resources))
   pub resource_modules : All (λ r. r.module.0 < length machine.modules) machine.resources
-  pub gaps : (resource : ℕ) → gap_at machine resource ≤ 4096
-  pub stocks : All (λ f. IfSome f.stock (λ n. n ≤ 1000000)) machine.feeders
+  pub gaps : (resource : ℕ) → gap_at machine resource ≤ longest
+  pub stocks : All (λ f. IfSome f.stock (λ n. n ≤ most_stock)) machine.feeders
   pub ways : (n : ℕ) (a : Action) → action_at machine n ≡ Some a → IsWay machine a
   pub lasts : (n : ℕ) (a : Action) → action_at machine n ≡ Some a → 1 ≤ a.least
-  pub in_range : (n : ℕ) (a : Action) → action_at machine n ≡ Some a → (a.least ≤ a.most) × (a.most ≤ 4096)
-  pub few_holds : (n : ℕ) (a : Action) → action_at machine n ≡ Some a → length a.holds ≤ 4
+  pub in_range : (n : ℕ) (a : Action) → action_at machine n ≡ Some a → (a.least ≤ a.most) × (a.most ≤ longest)
+  pub few_holds : (n : ℕ) (a : Action) → action_at machine n ≡ Some a → length a.holds ≤ most_act_holds
   pub known : (n : ℕ) (a : Action) → action_at machine n ≡ Some a → (rule : HoldRule) → Contains a.holds rule → rule.resource.0 < length machine.resources
   pub offsets : (n : ℕ) (a : Action) → action_at machine n ≡ Some a → (rule : HoldRule) → Contains a.holds rule → IsOffset rule.begin_off × IsOffset rule.end_off
-  pub modes : (n : ℕ) (a : Action) → action_at machine n ≡ Some a → (rule : HoldRule) → Contains a.holds rule → rule.mode ≤ 255
+  pub modes : (n : ℕ) (a : Action) → action_at machine n ≡ Some a → (rule : HoldRule) → Contains a.holds rule → rule.mode ≤ most_mode
   pub sound : (n : ℕ) (a : Action) → action_at machine n ≡ Some a → (rule : HoldRule) → Contains a.holds rule → IsSoundRule a rule
   pub differ : (n : ℕ) (a : Action) → action_at machine n ≡ Some a → AllPairs (λ h k. h.resource.0 ≢ k.resource.0) a.holds

@@ -1,5 +1,6 @@
 //! The mode of a hold, and the gap between two holds of one resource.
 ghost use Rattle.std.specs.Prelude.{◌≡◌, ◌≤◌, slice_get};
+ghost use Rattle.tp_machine.specs.Limits.{longest};
 ghost use Rattle.tp_machine.specs.Modes.{mode_of, gap_of, gap_at, gap_between};
 
 use crate::machine::Machine;
@@ -17,7 +18,7 @@ pub fn mode_of(hold: &HoldRule) -> u8
 #[tactic(auto, unfolding(crate::specs::Modes::gap_at))]
 pub fn gap_at(machine: &Machine, resource: ResId) -> u32
     ensures gap { result ≡ gap_at machine.now resource.0 }
-    ensures within { result ≤ 4096 }
+    ensures within { result ≤ longest }
 {
     gap_in(machine.resources.as_slice(), resource)
 }

@@ -1,6 +1,7 @@
 //! The modules that are out.
 
 ghost use Rattle.std.specs.Prelude.{◌≡◌, ◌<◌};
+ghost use Rattle.tp_machine.specs.Limits.{most_modules};
 
 use crate::parts::{ModId, Outs};
 
@@ -16,7 +17,7 @@ impl Outs {
 
     /// These modules and one more.
     pub fn put_out(self, id: ModId) -> Outs
-        requires { id.0 < 64 }
+        requires { id.0 < most_modules }
         ensures { result ≡ put_out self id.0 }
     {
         Outs(self.0 | 1 << id.0)
@@ -24,7 +25,7 @@ impl Outs {
 
     /// These modules but for one.
     pub fn put_on(self, id: ModId) -> Outs
-        requires { id.0 < 64 }
+        requires { id.0 < most_modules }
         ensures { result ≡ put_on self id.0 }
     {
         Outs(self.0 & !(1 << id.0))

@@ -10,6 +10,7 @@ use Rattle.tp_schedule.specs.Routes.{walk, IsStart, IsGoalState, AreAllowed, Rea
 use Rattle.tp_schedule.specs.Plans.{LastsWithin, is_delivered_to, goes_to, is_before}
 use Rattle.tp_schedule.specs.Holding.{holds_of_act}
 use Rattle.tp_schedule.specs.Answers.{kept_of}
+use Rattle.tp_schedule.specs.Limits.{most_acts}
 use Rattle.tp_schedule.specs.Spots.{Spot, Ticks, Slot, IsApart, slot_order}
 use Rattle.tp_schedule.specs.Spots.Spot.{own}
 use Rattle.tp_schedule.specs.Times.{KeepsTimes, at}
@@ -73,7 +74,7 @@ CanStop machine ask list (FromFront state end count) = (list.choices ≢ []) × 
 pub record IsChoiceList (machine : Machine) (plans : List Plan) (ask : Ask) (list : ChoiceList) : Type 0 where
   pub goal : IsGoalState machine ask.want ask.goal list.goal
   pub allowed : AreAllowed machine ask.outs (acts_of list.choices)
-  pub at_most : kept_of ask + length list.choices ≤ 64
+  pub at_most : kept_of ask + length list.choices ≤ most_acts
   pub places : HavePlaces machine (slot_order machine plans) list.choices
   pub can_stop : IsTrue list.stopped → CanStop machine ask list ask.origin
 

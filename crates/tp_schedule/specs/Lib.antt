@@ -1,3 +1,4 @@
+pub mod Limits
 pub mod LocationSets
 pub mod Routes
 pub mod Plans

@@ -5,6 +5,7 @@ use Rattle.tp_schedule.specs.Plans.{AreNamed, without, is_before, is_delivered_t
 use Rattle.tp_schedule.specs.Legality.{IsLegal}
 use Rattle.tp_schedule.specs.Living.{is_live, live_count}
 use Rattle.tp_schedule.specs.Answers.{IsAsked, IsAlternative, IsEarliest, IsRetimed, IsLeast, KeepsFloors, KeepsHorizon, follows_front}
+use Rattle.tp_schedule.specs.Limits.{most_live}
 use Rattle.tp_schedule.specs.declared.parts.Ask.{Ask}
 use Rattle.tp_schedule.specs.declared.parts.Goal.{Goal}
 use Rattle.tp_schedule.specs.declared.parts.Goal.TheVariants.{Tray, Purge}
@@ -52,7 +53,7 @@ IsOpenGoal machine plans ask (Tray t) = Contains machine.trays t
 -- and the asked copy's origin and goal fit the schedule
 pub record CanAsk (machine : Machine) (plans : List Plan) (ask : Ask) : Type 0 where
   pub plan_on : CanPlanOn machine ask.now plans
-  pub few_live : live_count machine ask.now (without ask.sheet plans) ≤ 255
+  pub few_live : live_count machine ask.now (without ask.sheet plans) < most_live
   pub named : AreNamed plans
   pub asked : IsAsked machine plans ask
   pub has_time : HasTimeFrom plans ask.now ask.origin
@@ -61,7 +62,7 @@ pub record CanAsk (machine : Machine) (plans : List Plan) (ask : Ask) : Type 0 w
 -- the times can be settled: at most 256 copies are live
 pub record CanSettle (machine : Machine) (now : ℕ) (plans : List Plan) : Type 0 where
   pub plan_on : CanPlanOn machine now plans
-  pub few_live : live_count machine now plans ≤ 256
+  pub few_live : live_count machine now plans ≤ most_live
 
 -- planned: the new schedule is earliest and least; never: there is no alternative; spent: by the planner's own relation.
 -- Where it is not planned the schedule stays

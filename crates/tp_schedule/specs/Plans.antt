@@ -4,6 +4,7 @@ use Rattle.tp_machine.specs.Using.{action_at}
 use Rattle.tp_machine.specs.declared.parts.ActId.{ActId}
 use Rattle.tp_machine.specs.declared.parts.State.{State}
 use Rattle.tp_machine.specs.declared.machine.Machine.{Machine}
+use Rattle.tp_schedule.specs.Limits.{most_acts}
 use Rattle.tp_schedule.specs.Routes.{walk, IsFreshStart, IsGoalState}
 use Rattle.tp_schedule.specs.declared.parts.Goal.{Goal}
 use Rattle.tp_schedule.specs.declared.parts.Goal.TheVariants.{Tray, Purge}
@@ -51,7 +52,7 @@ EndsIn machine p Front s = Unit {0}
 -- and points that rise, one more than actions, each action running from its point to the next within its durations
 pub record IsTimedPlan (machine : Machine) (p : Plan) : Type 0 where
   pub some : 0 < length p.acts
-  pub at_most : length p.acts ≤ 64
+  pub at_most : length p.acts ≤ most_acts
   pub one_more : length p.points ≡ length p.acts + 1
   pub released : p.released ≤ length p.acts
   pub start : State

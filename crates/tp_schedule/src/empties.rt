@@ -1,6 +1,7 @@
 //! Sets of locations.
 
 ghost use Rattle.std.specs.Prelude.{◌≡◌, ◌<◌, ◌==◌, ◌||◌};
+ghost use Rattle.tp_machine.specs.Limits.{most_locations};
 ghost use Rattle.tp_machine.specs.declared.parts.LocId.{LocId};
 ghost use Rattle.tp_schedule.specs.LocationSets.{word_with};
 
@@ -35,7 +36,7 @@ impl Empties {
 
     /// Whether the location is in the set.
     pub fn has(&self, loc: LocId) -> bool
-        requires { loc.0 < 256 }
+        requires { loc.0 < most_locations }
         ensures { result ≡ has self.now loc }
     {
         let words = [self.w0, self.w1, self.w2, self.w3];
@@ -44,7 +45,7 @@ impl Empties {
 
     /// This set and one location more.
     pub fn with(self, loc: LocId) -> Empties
-        requires { loc.0 < 256 }
+        requires { loc.0 < most_locations }
         ensures is { result ≡ with self loc }
         ensures members { (other : LocId) → has result other ≡ (has self other
             || (other.0 == loc.0)) }

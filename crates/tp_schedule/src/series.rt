@@ -1,14 +1,20 @@
 //! The actions and the points of a plan, in place: at most 64 and 65.
 ghost use Rattle.std.specs.Prelude.{◌≡◌, ◌<◌, ◌≤◌, [], ◌∷◌, ◌++◌, length, take, slice_get, Some};
+ghost use Rattle.tp_schedule.specs.Limits.{most_acts, most_plan_points};
 
 use std::marker::Model;
 use tp_base::Tick;
 use tp_machine::ActId;
 
+/// The most actions of a plan, and the points of one with so many.
+const MOST_ACTS: usize = 64;
+
+const MOST_POINTS: usize = 65;
+
 /// At most 64 actions, in place.
 #[derive(Drop)]
 pub struct Acts {
-    acts: [ActId; 64],
+    acts: [ActId; MOST_ACTS],
     len: u32,
 }
 
@@ -16,12 +22,13 @@ pub struct Acts {
 impl Model for Acts {
     ghost use Rattle.std.specs.Prelude.{List, ℕ, take, length, ◌≡◌, ◌≤◌};
     ghost use Rattle.tp_machine.specs.declared.parts.ActId.{ActId};
+    ghost use Rattle.tp_schedule.specs.Limits.{most_acts};
 
     ghost Value = { List ActId };
 
     ghost view = { λ s. take s.len s.acts };
 
-    ghost invariant = { λ s. (s.len ≤ 64) × (length s.acts ≡ 64) };
+    ghost invariant = { λ s. (s.len ≤ most_acts) × (length s.acts ≡ most_acts) };
 }
 
 impl Acts {
@@ -29,14 +36,14 @@ impl Acts {
         ensures { result ≡ [] }
     {
         Acts {
-            acts: [ActId(0); 64],
+            acts: [ActId(0); MOST_ACTS],
             len: 0,
         }
     }
 
     pub fn len(&self) -> u32
         ensures len { result ≡ length self.now }
-        ensures within { length self.now ≤ 64 }
+        ensures within { length self.now ≤ most_acts }
     {
         self.len
     }
@@ -50,13 +57,13 @@ impl Acts {
 
     pub fn as_slice(&self) -> &[ActId]
         ensures items { result.now ≡ self.now }
-        ensures within { length result.now ≤ 64 }
+        ensures within { length result.now ≤ most_acts }
     {
         &self.acts[..self.len as usize]
     }
 
     pub fn push(&mut self, act: ActId)
-        requires room { length self.old < 64 }
+        requires room { length self.old < most_acts }
         ensures pushed { self.new ≡ self.old ++ act ∷ [] }
     {
         self.acts[self.len as usize] = act;
@@ -83,19 +90,20 @@ impl Acts {
 /// At most 65 ticks, in place.
 #[derive(Drop)]
 pub struct Points {
-    points: [Tick; 65],
+    points: [Tick; MOST_POINTS],
     len: u32,
 }
 
 // Clauses see the list.
 impl Model for Points {
     ghost use Rattle.std.specs.Prelude.{List, ℕ, take, length, ◌≡◌, ◌≤◌};
+    ghost use Rattle.tp_schedule.specs.Limits.{most_plan_points};
 
     ghost Value = { List ℕ };
 
     ghost view = { λ s. take s.len s.points };
 
-    ghost invariant = { λ s. (s.len ≤ 65) × (length s.points ≡ 65) };
+    ghost invariant = { λ s. (s.len ≤ most_plan_points) × (length s.points ≡ most_plan_points) };
 }
 
 impl Points {
@@ -103,14 +111,14 @@ impl Points {
         ensures { result ≡ [] }
     {
         Points {
-            points: [0; 65],
+            points: [0; MOST_POINTS],
             len: 0,
         }
     }
 
     pub fn len(&self) -> u32
         ensures len { result ≡ length self.now }
-        ensures within { length self.now ≤ 65 }
+        ensures within { length self.now ≤ most_plan_points }
     {
         self.len
     }
@@ -124,13 +132,13 @@ impl Points {
 
     pub fn as_slice(&self) -> &[Tick]
         ensures items { result.now ≡ self.now }
-        ensures within { length result.now ≤ 65 }
+        ensures within { length result.now ≤ most_plan_points }
     {
         &self.points[..self.len as usize]
     }
 
     pub fn push(&mut self, point: Tick)
-        requires room { length self.old < 65 }
+        requires room { length self.old < most_plan_points }
         ensures pushed { self.new ≡ self.old ++ point ∷ [] }
     {
         self.points[self.len as usize] = point;

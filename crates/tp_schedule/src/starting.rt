@@ -7,6 +7,9 @@ ghost use Rattle.tp_schedule.specs.Routes.{IsStart, fresh};
 use crate::parts::{Ask, Origin};
 use tp_machine::{Face, Feeder, LocId, Machine, Sheet, State};
 
+/// The most locations of a machine.
+const MOST_LOCATIONS: u16 = 256;
+
 /// A new sheet at a location.
 pub fn new_sheet(loc: LocId) -> State
     ensures { result ≡ fresh loc }
@@ -31,7 +34,7 @@ impl Ask {
     pub fn may_begin_at(&self, loc: LocId) -> bool
         ensures { result ≡ not (has self.entry.now.empty loc) }
     {
-        loc.0 >= 256 || !self.empty.has(loc)
+        loc.0 >= MOST_LOCATIONS || !self.empty.has(loc)
     }
 }
 
