@@ -3,6 +3,7 @@ ghost use Rattle.std.specs.Prelude.{◌≡◌, ℕ, ◌+◌, ◌<◌, ◌≤◌,
 ghost use Rattle.tp_machine.specs.Using.{action_at};
 ghost use Rattle.tp_schedule.specs.Answers.{IsLeast, KeepsFloors, KeepsHorizon};
 ghost use Rattle.tp_schedule.specs.Legality.{IsLegal};
+ghost use Rattle.tp_schedule.specs.Limits.{most_plan_points};
 ghost use Rattle.tp_schedule.specs.Planning.{last_tick};
 ghost use Rattle.tp_schedule.specs.Plans.{IsFormed, is_fixed};
 ghost use Rattle.tp_schedule.specs.Spots.{ticks_of};
@@ -187,7 +188,7 @@ fn add_acts(
     number: usize,
 ) -> Result<(), Memory>
     requires formed { IsFormed plan.now }
-    requires fits { number + 65 < 2 ^ 64 }
+    requires fits { number + most_plan_points < 2 ^ 64 }
     ensures { OnOk result (steps.new.items ≡ steps.old.items
         ++ acts_steps machine.entry.now number plan.entry.now.acts plan.entry.now.points) }
 {

@@ -1,6 +1,7 @@
 //! The ends of the whole plans to each tray, each with the next one of its line.
 ghost use Rattle.std.specs.Prelude.{◌≡◌, ℕ, ◌+◌, ◌*◌, ◌<◌, ◌≤◌, ◌^◌, ◌++◌, IfOk, OnOk, Some, if◌then◌else◌, length, nat_eq, option_and_then};
 ghost use Rattle.std.specs.HashMap.{get};
+ghost use Rattle.tp_schedule.specs.Limits.{most_acts, most_plan_points};
 ghost use Rattle.tp_schedule.specs.Plans.{IsFormed, is_delivered_to};
 ghost use Rattle.tp_deciding.specs.Lines.{end_of, line_of, line_pairs, pair_with, point_count};
 
@@ -30,7 +31,7 @@ fn line_of(plan: &Plan) -> Option<LocId>
 
 fn end_of(plan: &Plan, number: usize) -> End
     requires formed { IsFormed plan.now }
-    requires fits { number + 64 < 2 ^ 64 }
+    requires fits { number + most_acts < 2 ^ 64 }
     ensures { result ≡ end_of number plan.now }
 {
     let acts = plan.acts.len();
@@ -49,7 +50,7 @@ fn put_end(
     number: usize,
 ) -> Result<(), Memory>
     requires formed { IsFormed plan.now }
-    requires fits { number + 64 < 2 ^ 64 }
+    requires fits { number + most_acts < 2 ^ 64 }
     ensures next { OnOk result ((tray : ℕ) → get nat_eq next.new tray
         ≡ (if is_delivered_to plan.entry.now tray then Some (end_of number plan.entry.now)
         else get nat_eq next.old tray)) }
@@ -70,7 +71,7 @@ fn put_end(
 /// How many points the plans have.
 fn count_points(schedule: &Schedule) -> usize
     ensures count { result ≡ point_count schedule.now.plans }
-    ensures within { result ≤ 65 * length schedule.now.plans }
+    ensures within { result ≤ most_plan_points * length schedule.now.plans }
 {
     let mut count = 0;
     'plans: for at in 0..schedule.len() {

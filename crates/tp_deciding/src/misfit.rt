@@ -1,5 +1,6 @@
 //! Whether the actions of a plan last within their durations, and where not, how long one lasts.
 ghost use Rattle.std.specs.Prelude.{◌≡◌, ◌+◌, ◌⊎◌, ◌<◌, ◌≤◌, ◌-ℤ◌, ◌<ℤ◌, ◌≤ℤ◌, MatchOption, length, pos};
+ghost use Rattle.tp_schedule.specs.Limits.{most_acts};
 ghost use Rattle.tp_schedule.specs.Plans.{IsFormed};
 ghost use Rattle.tp_deciding.specs.Misfits.{DoAllFit, DoesFit, IsMisfit};
 
@@ -45,7 +46,7 @@ fn lasting(start: Tick, end: Tick) -> i64
 fn misfit_at(machine: &Machine, plan: &Plan, at: u32) -> Option<Misfit>
     requires formed { IsFormed plan.now }
     requires within { at < length plan.now.acts }
-    requires few { at < 64 }
+    requires few { at < most_acts }
     ensures { MatchOption result (DoesFit machine.now plan.now at)
         (IsMisfit machine.now plan.now) }
 {

@@ -1,5 +1,6 @@
 //! The trays whose lines are passed over.
 ghost use Rattle.std.specs.Prelude.{◌≡◌, ◌<◌, ◌||◌, ◌==◌, false};
+ghost use Rattle.tp_machine.specs.Limits.{most_locations};
 ghost use Rattle.tp_machine.specs.declared.parts.LocId.{LocId};
 ghost use Rattle.tp_jobs.specs.Trying.{is_blocked};
 
@@ -15,12 +16,13 @@ pub struct Blocked {
 // Clauses see a mark for each location.
 impl Model for Blocked {
     ghost use Rattle.std.specs.Prelude.{◌≡◌, List, Bool, length};
+    ghost use Rattle.tp_machine.specs.Limits.{most_locations};
 
     ghost Value = { List Bool };
 
     ghost view = { λ b. b.marks };
 
-    ghost invariant = { λ b. length b.marks ≡ 256 };
+    ghost invariant = { λ b. length b.marks ≡ most_locations };
 }
 
 impl Blocked {
@@ -35,7 +37,7 @@ impl Blocked {
 
     /// This location too.
     pub fn add(&mut self, loc: LocId)
-        requires { loc.0 < 256 }
+        requires { loc.0 < most_locations }
         ensures { (place : LocId)
             → is_blocked self.new place ≡ ((place.0 == loc.0) || is_blocked self.old place) }
     {

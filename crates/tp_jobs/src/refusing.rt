@@ -3,6 +3,7 @@ ghost use Rattle.std.specs.Prelude.{◌≡◌, ◌*◌, ◌<◌, ◌≤◌, ◌^
 ghost use Rattle.std.specs.List.{list_any};
 ghost use Rattle.std.specs.Str.{bytes_eq};
 ghost use Rattle.tp_machine.specs.Rules.{is_among};
+ghost use Rattle.tp_script.specs.Form.{most_sheets};
 ghost use Rattle.tp_jobs.specs.Refusing.{tray_named, sheet_count};
 
 use tp_base::Name;
@@ -38,7 +39,7 @@ pub(crate) fn has_feeder(feeders: &[Feeder], media: &Name) -> bool
 pub(crate) fn count_sheets(groups: &[Group]) -> u64
     requires { length groups.now < 2 ^ 32 }
     ensures sheets { result ≡ sheet_count groups.now }
-    ensures few { result ≤ 4096 * length groups.now }
+    ensures few { result ≤ most_sheets * length groups.now }
 {
     let mut sheets = 0;
     for group in groups {

@@ -1,6 +1,7 @@
 -- How far a table of rooms is filled.
 use Rattle.std.specs.Prelude.{◌≡◌, ◌⊎◌, ℕ, ◌+◌, ◌*◌, ◌<◌, ◌≤◌, Bool, true, List, length, slice_set, slice_get, Option, Some, None, nat_lt, nat_eq, filter, not, ◌==◌, sum_by, IsTrue, IsFalse, if◌then◌else◌}
 use Rattle.std.specs.List.{list_any, IsDistinct}
+use Rattle.tp_machine.specs.Limits.{longest}
 use Rattle.tp_machine.specs.Steps.{step_of}
 use Rattle.tp_machine.specs.Using.{action_at}
 use Rattle.tp_machine.specs.declared.parts.ActId.{ActId}
@@ -85,7 +86,7 @@ pub record IsFilling (machine : Machine) (ask : Ask) (sums : List (Option ℕ)) 
   pub states : length sums ≡ 8 * length machine.locations
   pub queue : IsQueue waiting (length sums)
   pub reached : AreSums machine ask sums
-  pub small : (n sum : ℕ) → n < length sums → sum_at sums n ≡ Some sum → sum ≤ 4096 * filled sums
+  pub small : (n sum : ℕ) → n < length sums → sum_at sums n ≡ Some sum → sum ≤ longest * filled sums
 
 -- a lower sum may take the place of this one
 pub record Lowers (sums sums' : List (Option ℕ)) : Type 0 where

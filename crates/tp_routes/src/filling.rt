@@ -1,5 +1,6 @@
 //! The rooms, found state by state from the start states on.
 ghost use Rattle.std.specs.Prelude.{◌≡◌, ℕ, ◌+◌, ◌*◌, ◌<◌, ◌≤◌, [], Some, None, IsTrue, IfSome, length, vec_capacity};
+ghost use Rattle.tp_machine.specs.Limits.{longest};
 ghost use Rattle.tp_machine.specs.Using.{action_at};
 ghost use Rattle.tp_schedule.specs.Routes.{IsStart, is_act_allowed};
 ghost use Rattle.tp_routes.specs.Index.{IsIndexOf};
@@ -26,7 +27,7 @@ pub(crate) fn offer(
     requires filling { IsFilling machine.now ask.now sums.old waiting.old.items }
     requires known { state.loc.0 < length machine.now.locations }
     requires is_sum { IsSum machine.now ask.now state sum }
-    requires small { sum ≤ 4096 * (filled sums.old + 1) }
+    requires small { sum ≤ longest * (filled sums.old + 1) }
     requires room { length sums.old ≤ vec_capacity waiting.old }
     ensures filling { IsFilling machine.now ask.entry.now sums.new waiting.new.items }
     ensures lowers { Lowers sums.old sums.new }

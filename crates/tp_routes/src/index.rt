@@ -1,5 +1,6 @@
 //! The actions by the location that they start from, or by the one that they lead to.
 ghost use Rattle.std.specs.Prelude.{◌≡◌, ◌<◌, ◌≤◌, None, length, replicate, slice_get, IfOk, IfSome};
+ghost use Rattle.tp_machine.specs.Limits.{most_actions};
 ghost use Rattle.tp_routes.specs.Index.{AreIndexed, IsIndexOf, place_at};
 
 use std::alloc::{AllocError, Global};
@@ -28,7 +29,7 @@ impl ActionIndex {
     /// An index for machines with so many locations.
     pub(crate) fn new(alloc: Global, locations: u32) -> Result<ActionIndex, AllocError>
         ensures places { IfOk result (λ i. length i.firsts.items ≡ locations) }
-        ensures room { IfOk result (λ i. length i.nexts.items ≡ 512) }
+        ensures room { IfOk result (λ i. length i.nexts.items ≡ most_actions) }
     {
         Ok(ActionIndex {
             firsts: vec![in alloc; None; locations as usize]?,
@@ -39,9 +40,9 @@ impl ActionIndex {
     /// Indexes the actions of the machine by this end, in place of what was there.
     pub(crate) fn fill(&mut self, machine: &Machine, end: End)
         requires places { length self.old.firsts.items ≡ length machine.now.locations }
-        requires room { length self.old.nexts.items ≡ 512 }
+        requires room { length self.old.nexts.items ≡ most_actions }
         ensures index { IsIndexOf end machine.now self.new.firsts.items self.new.nexts.items }
-        ensures room { length self.new.nexts.items ≡ 512 }
+        ensures room { length self.new.nexts.items ≡ most_actions }
     {
         index_actions(machine, end, &mut self.firsts, &mut self.nexts);
     }

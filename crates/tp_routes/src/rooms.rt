@@ -45,6 +45,7 @@ impl Drop for Rooms {
 // Clauses see the table, and the numbers of the machine that it was made for.
 impl Model for Rooms {
     ghost use Rattle.std.specs.Prelude.{◌≡◌, ◌*◌, ◌≤◌, length, vec_capacity};
+    ghost use Rattle.tp_machine.specs.Limits.{most_actions};
     ghost use Rattle.tp_routes.specs.Tables.{RoomTable};
 
     ghost Value = { RoomTable };
@@ -61,9 +62,9 @@ impl Model for Rooms {
     ghost invariant = { λ r. (length r.sums.items ≡ 8 * r.locations)
         × (8 * r.locations ≤ vec_capacity r.waiting)
         × (length r.index.firsts.items ≡ r.locations)
-        × (length r.index.nexts.items ≡ 512)
+        × (length r.index.nexts.items ≡ most_actions)
         × (length r.leads.firsts.items ≡ r.locations)
-        × (length r.leads.nexts.items ≡ 512) };
+        × (length r.leads.nexts.items ≡ most_actions) };
 }
 
 impl Rooms {

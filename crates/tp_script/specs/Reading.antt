@@ -8,7 +8,7 @@ use Rattle.tp_machine.specs.declared.parts.Want.{Want}
 use Rattle.tp_machine.specs.declared.parts.Want.TheVariants.{Blank, Mono, Colour}
 use Rattle.tp_machine.specs.declared.parts.Face.{Face}
 use Rattle.tp_machine.specs.declared.parts.Face.TheVariants.{Front, Back}
-use Rattle.tp_script.specs.Form.{GroupForm}
+use Rattle.tp_script.specs.Form.{GroupForm, most_sheets}
 use Rattle.tp_script.specs.declared.event.Event.{Event}
 use Rattle.tp_script.specs.declared.event.Event.TheVariants.{Job, Clock, Jam, Off, On, Refill}
 use Rattle.tp_script.specs.declared.fault.LineFault.{LineFault}
@@ -40,7 +40,7 @@ group_with count _ = None
 abbrev pub count_of : List ℕ → Option ℕ
 count_of text = do
   n ← digits_of 4 text
-  if nat_le 1 n && nat_le n 4096 then Some n else None
+  if nat_le 1 n && nat_le n most_sheets then Some n else None
 
 abbrev pub group_from : List ℕ → Option (List ℕ × List ℕ) → Option GroupForm
 group_from word None = group_with 1 word

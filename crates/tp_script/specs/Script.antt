@@ -10,7 +10,7 @@ use Rattle.tp_machine.specs.declared.parts.Want.{Want}
 use Rattle.tp_machine.specs.declared.parts.Want.TheVariants.{Blank, Mono, Colour}
 use Rattle.tp_machine.specs.declared.parts.Face.{Face}
 use Rattle.tp_machine.specs.declared.parts.Face.TheVariants.{Front, Back}
-use Rattle.tp_script.specs.Form.{GroupForm}
+use Rattle.tp_script.specs.Form.{GroupForm, most_sheets}
 use Rattle.tp_script.specs.declared.fault.LineFault.{LineFault}
 use Rattle.tp_script.specs.declared.fault.LineFault.TheVariants.{Memory, Syntax}
 use Rattle.tp_script.specs.declared.event.Event.{Event}
@@ -37,7 +37,7 @@ spec_text g = want_byte g.front ∷ want_byte g.back ∷ 58 ∷ face_byte g.face
 abbrev pub IsGroup : List ℕ → GroupForm → Type 0
 IsGroup word g =
     ((g.count ≡ 1) × (word ≡ spec_text g))
-    ⊎ ((count : List ℕ) × Writes 4 count g.count × (1 ≤ g.count) × (g.count ≤ 4096) × (word ≡ count ++ 42 ∷ spec_text g))
+    ⊎ ((count : List ℕ) × Writes 4 count g.count × (1 ≤ g.count) × (g.count ≤ most_sheets) × (word ≡ count ++ 42 ∷ spec_text g))
 
 -- the words of a line that gives the event
 abbrev pub IsEvent : List (List ℕ) → Event → Type 0

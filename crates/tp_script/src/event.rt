@@ -15,7 +15,7 @@ pub struct Group {
 // Clauses see the four fields.
 impl Model for Group {
     ghost use Rattle.std.specs.Prelude.{◌≤◌};
-    ghost use Rattle.tp_script.specs.Form.{GroupForm};
+    ghost use Rattle.tp_script.specs.Form.{GroupForm, most_sheets};
 
     ghost Value = { GroupForm };
 
@@ -26,7 +26,7 @@ impl Model for Group {
       face = g.face;
     } };
 
-    ghost invariant = { λ g. (1 ≤ g.count) × (g.count ≤ 4096) };
+    ghost invariant = { λ g. (1 ≤ g.count) × (g.count ≤ most_sheets) };
 
     ghost inverse = { λ f. record {
       count = f.count;

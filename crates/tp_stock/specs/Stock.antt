@@ -4,6 +4,7 @@ use Rattle.std.specs.List.{fold, list_any, range_with_len}
 use Rattle.std.specs.Option.{option_eq}
 use Rattle.std.specs.Ordering.{int_eq}
 use Rattle.std.specs.Str.{bytes_eq}
+use Rattle.tp_machine.specs.Limits.{most_locations}
 use Rattle.tp_machine.specs.Using.{action_at}
 use Rattle.tp_machine.specs.declared.parts.Action.{Action}
 use Rattle.tp_machine.specs.declared.parts.Feeder.{Feeder}
@@ -26,7 +27,7 @@ taken_at machine plans loc = count_by (begins_at machine loc) plans
 
 -- a number for each location
 unfoldable pub by_location : {X : Type 0} → (ℕ → X) → List X
-by_location f = map f (range_with_len 0 256)
+by_location f = map f (range_with_len 0 most_locations)
 
 -- the sums of refills where no feeder has been refilled
 abbrev pub no_refills : List ℤ
@@ -95,7 +96,7 @@ IsNotOverdrawn machine refills plans = (f : Feeder) → Contains machine.feeders
 
 -- so many refills, and so many plans forgotten, are at most what this many events make of them
 abbrev pub AreWithin : ℕ → List ℤ → Type 0
-AreWithin events refills = (loc : ℕ) → (neg_ℤ (pos (events * 1000000)) ≤ℤ refilled refills loc) × (refilled refills loc ≤ℤ pos (events * 1000000))
+AreWithin events refills = (loc : ℕ) → (neg_ℤ (pos (events * most_free)) ≤ℤ refilled refills loc) × (refilled refills loc ≤ℤ pos (events * most_free))
 
 -- a stock and its refills, less what is forgotten, come to no more than this: a feeder is refilled to 1,000,000 free sheets at
 -- most while at most 256 plans are live, so that 1,000,256 may be free when they are withdrawn; and a desk may go on from there

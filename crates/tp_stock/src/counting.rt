@@ -6,9 +6,12 @@ ghost use Rattle.tp_stock.specs.Stock.{by_location, taken_at};
 use tp_machine::{LocId, Machine};
 use tp_schedule::{Plan, Schedule};
 
+/// The most locations of a machine.
+pub(crate) const MOST_LOCATIONS: usize = 256;
+
 /// The number of plans that begin at each location.
 #[derive(Clone, Copy, Debug)]
-pub struct Taken(pub [u32; 256]);
+pub struct Taken(pub [u32; MOST_LOCATIONS]);
 
 /// Where the plan begins.
 fn first_location(machine: &Machine, plan: &Plan) -> Option<LocId>
@@ -24,7 +27,7 @@ fn first_location(machine: &Machine, plan: &Plan) -> Option<LocId>
 pub fn count_taken(machine: &Machine, schedule: &Schedule) -> Taken
     ensures { result.0 ≡ by_location (taken_at machine.now schedule.now.plans) }
 {
-    let mut counts = [0u32; 256];
+    let mut counts = [0u32; MOST_LOCATIONS];
     'plans: for at in 0..schedule.len() {
         match first_location(machine, schedule.plan_at(at)) {
             Some(loc) => {

@@ -1,6 +1,7 @@
 //! What is left at a feeder, and which feeders are empty.
 ghost use Rattle.std.specs.Prelude.{◌≡◌, ◌<◌, ◌==◌, IfSome, find, get_or, is_some};
 ghost use Rattle.std.specs.List.{list_any};
+ghost use Rattle.tp_machine.specs.Limits.{most_locations};
 ghost use Rattle.tp_stock.specs.Stock.{IsBounded, empties, feeder_at, feeder_named, free_of, refilled};
 
 use crate::counting::{Taken, count_taken};
@@ -12,7 +13,7 @@ use tp_schedule::{Empties, Schedule};
 /// The free stock of a feeder, in sheets: its stock and its refills, less what was taken there. None where it is endless.
 pub fn free_stock(refills: &Refills, taken: &Taken, feeder: &Feeder) -> Option<i64>
     requires bounded { IsBounded refills.now.0 }
-    requires known { feeder.now.loc.0 < 256 }
+    requires known { feeder.now.loc.0 < most_locations }
     ensures { result ≡ free_of feeder.now.stock (refilled refills.now.0 feeder.now.loc.0)
         (get_or taken.now.0 feeder.now.loc.0 0) }
 {
@@ -32,7 +33,7 @@ fn first_at(feeders: &[Feeder], loc: u16) -> Option<Feeder>
 /// The feeder at a location. None where none is there.
 pub fn feeder_at(machine: &Machine, loc: LocId) -> Option<Feeder>
     ensures is { result ≡ feeder_at machine.now loc.0 }
-    ensures known { IfSome result (λ f. f.loc.0 < 256) }
+    ensures known { IfSome result (λ f. f.loc.0 < most_locations) }
 {
     first_at(machine.feeders.as_slice(), loc.0)
 }
@@ -40,7 +41,7 @@ pub fn feeder_at(machine: &Machine, loc: LocId) -> Option<Feeder>
 /// The feeder at the location with this name. None where the name is no location's, or no feeder is there.
 pub fn feeder_named(machine: &Machine, name: &Name) -> Option<Feeder>
     ensures is { result ≡ feeder_named machine.now name.now }
-    ensures known { IfSome result (λ f. f.loc.0 < 256) }
+    ensures known { IfSome result (λ f. f.loc.0 < most_locations) }
 {
     let loc = machine.locations.find(name)?;
     feeder_at(machine, LocId(loc))

@@ -8,6 +8,7 @@ use Rattle.tp_machine.specs.declared.machine.Machine.{Machine}
 use Rattle.tp_schedule.specs.Answers.{kept_of}
 use Rattle.tp_schedule.specs.Choices.{Choice, IsChoiceList, IsOpen, IsComplete, acts_of, going, stopping}
 use Rattle.tp_schedule.specs.Holding.{holds_of_act}
+use Rattle.tp_schedule.specs.Limits.{most_acts}
 use Rattle.tp_schedule.specs.Routes.{IsGoalState, IsRoom, HasNoRoom, IsStart, is_act_allowed, step_by, walk}
 use Rattle.tp_schedule.specs.Spots.{Ticks}
 use Rattle.tp_schedule.specs.declared.parts.Ask.{Ask}
@@ -42,13 +43,13 @@ OpenTimes = (machine : Machine) (plans : List Plan) (ask : Ask) (goal first : St
 
 -- an opened goal with its room is a way
 abbrev pub GoalWay : Type 0
-GoalWay = (machine : Machine) (plans : List Plan) (ask : Ask) (goal : State) (room : ℕ) → IsGoalState machine ask.want ask.goal goal → IsRoom machine ask goal room → kept_of ask ≤ 64
+GoalWay = (machine : Machine) (plans : List Plan) (ask : Ask) (goal : State) (room : ℕ) → IsGoalState machine ask.want ask.goal goal → IsRoom machine ask goal room → kept_of ask ≤ most_acts
     → IsWay machine plans ask goal goal (with_goal room)
 
 -- and so is a placed way with an allowed action more that leads to its first state
 abbrev pub ActionWay : Type 0
 ActionWay = (machine : Machine) (plans : List Plan) (ask : Ask) (goal s before : State) (x : Suffix) (act : ActId) (room : ℕ) → IsWay machine plans ask goal s x → IsPlaced machine x.choices → IsFalse x.stopped
-    → step_by machine ask.want act before ≡ Some s → IsTrue (is_act_allowed machine ask.outs act) → IsRoom machine ask before room → kept_of ask + length x.choices < 64
+    → step_by machine ask.want act before ≡ Some s → IsTrue (is_act_allowed machine ask.outs act) → IsRoom machine ask before room → kept_of ask + length x.choices < most_acts
     → IsWay machine plans ask goal before (with_action act room x)
 
 -- one with a place more
@@ -84,7 +85,7 @@ ChildClosed = (machine : Machine) (plans : List Plan) (ask : Ask) (goal s : Stat
     → ¬ IsOpen machine plans ask (going goal (record { act = act; places = places } ∷ x.choices))
 
 abbrev pub ChildFull : Type 0
-ChildFull = (machine : Machine) (plans : List Plan) (ask : Ask) (goal : State) (x : Suffix) (c : Choice) → kept_of ask + length x.choices ≡ 64 → ¬ IsOpen machine plans ask (going goal (c ∷ x.choices))
+ChildFull = (machine : Machine) (plans : List Plan) (ask : Ask) (goal : State) (x : Suffix) (c : Choice) → kept_of ask + length x.choices ≡ most_acts → ¬ IsOpen machine plans ask (going goal (c ∷ x.choices))
 
 -- an open list has a place for each hold of its newest choice
 abbrev pub ChildPlaces : Type 0

@@ -7,6 +7,7 @@ use Rattle.tp_machine.specs.declared.machine.Machine.{Machine}
 use Rattle.tp_schedule.specs.Answers.{kept_of}
 use Rattle.tp_schedule.specs.Choices.{Choice, CanStop, acts_of}
 use Rattle.tp_schedule.specs.Holding.{holds_of_act}
+use Rattle.tp_schedule.specs.Limits.{most_acts}
 use Rattle.tp_schedule.specs.Routes.{AreAllowed, IsGoalState}
 use Rattle.tp_schedule.specs.Spots.{slot_order}
 use Rattle.tp_schedule.specs.declared.parts.Ask.{Ask}
@@ -19,7 +20,7 @@ pub record IsWay (machine : Machine) (plans : List Plan) (ask : Ask) (goal first
   pub is_goal : IsGoalState machine ask.want ask.goal goal
   pub rooms : HaveRooms machine ask goal first x.choices x.rooms
   pub allowed : AreAllowed machine ask.outs (acts_of x.choices)
-  pub at_most : kept_of ask + length x.choices ≤ 64
+  pub at_most : kept_of ask + length x.choices ≤ most_acts
   pub places : HavePlacesSoFar machine (slot_order machine plans) x.choices
   pub can_stop : IsTrue x.stopped → CanStop machine ask (list_of goal x) ask.origin
 
