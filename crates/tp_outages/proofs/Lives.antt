@@ -9,11 +9,11 @@ use Rattle.std.proofs.lemmas.List.Concat.{flat_map-cons}
 use Rattle.tp_machine.specs.declared.machine.Machine.{Machine}
 use Rattle.tp_jobs.specs.declared.parts.WaitingCopy.{WaitingCopy}
 use Rattle.tp_schedule.proofs.Membership.{Contains-cons_cases}
+use Rattle.tp_schedule.specs.Limits.{most_live}
 use Rattle.tp_schedule.specs.Living.{is_live}
 use Rattle.tp_schedule.specs.Plans.{IsTimedPlan, end_of_plan}
 use Rattle.tp_schedule.specs.declared.parts.Plan.{Plan}
 use Rattle.tp_schedule.specs.declared.parts.SheetId.{SheetId}
-use Rattle.tp_turn.specs.Asking.{most_live}
 use Rattle.tp_turn.specs.FallBacks.{Displaced}
 use Rattle.tp_turn.specs.Fates.{Fate, befall, left_by, left_of, to_purge, waits_for}
 use Rattle.tp_turn.specs.Keeping.{is_clear, most_open}

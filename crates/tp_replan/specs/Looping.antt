@@ -2,13 +2,13 @@
 use Rattle.std.specs.Prelude.{◌≡◌, ℕ, ◌+◌, ◌*◌, ◌<◌, ◌≤◌, Bool, not, ◌&&◌, List, [], length, count_by, All, Contains, IsTrue}
 use Rattle.std.specs.List.{list_any}
 use Rattle.tp_machine.specs.declared.machine.Machine.{Machine}
+use Rattle.tp_schedule.specs.Limits.{most_live}
 use Rattle.tp_schedule.specs.Living.{live_count}
 use Rattle.tp_schedule.specs.Planning.{CanPlanOn, IsKnownGoal, last_tick}
 use Rattle.tp_schedule.specs.Plans.{AreNamed, end_of_plan, goes_to, is_before, is_delivered_to, is_front, is_same_copy, point}
 use Rattle.tp_schedule.specs.declared.parts.Plan.{Plan}
 use Rattle.tp_schedule.specs.declared.parts.SheetId.{SheetId}
 use Rattle.tp_schedule.specs.declared.records.Record.{Record}
-use Rattle.tp_turn.specs.Asking.{most_live}
 use Rattle.tp_turn.specs.FallBacks.{is_copy}
 use Rattle.tp_turn.specs.Keeping.{KeepsLines, KeepsPlans}
 use Rattle.tp_turn.specs.Loops.{is_loose}
@@ -32,7 +32,7 @@ is_loose_in lost p = is_front p.kind && not (is_lost_in lost p)
 -- action of each loose copy is running, and later copies of its line are on their way yet
 pub record IsOnWay (machine : Machine) (now : ℕ) (plans : List Plan) (lost : List SheetId) : Type 0 where
   pub plan_on : CanPlanOn machine now plans
-  pub few_live : live_count machine now plans ≤ 256
+  pub few_live : live_count machine now plans ≤ most_live
   pub named : AreNamed plans
   pub goals : All (λ p. IsKnownGoal machine p.goal) plans
   pub way : All (λ p. IsTrue (is_loose_in lost p) → IsUnderWay now p) plans

@@ -2,6 +2,7 @@
 
 ghost use Rattle.std.specs.Prelude.{◌≡◌, ℕ, Bool, ◌<◌, [], ◌++◌, length, map, flat_map};
 ghost use Rattle.std.specs.Prelude.{All, IfOk, OnOk};
+ghost use Rattle.tp_machine.specs.Limits.{most_modules};
 ghost use Rattle.tp_machine.specs.declared.machine.Machine.{Machine};
 ghost use Rattle.tp_schedule.specs.declared.parts.Plan.{Plan};
 ghost use Rattle.tp_turn.specs.Fates.{Fate as Befalls};
@@ -121,7 +122,7 @@ fn put_module_out(
     event: Outage,
     notes: &mut Vec<Record>,
 ) -> Result<Vec<Displaced>, Memory>
-    requires there { event.module.0 < 64 }
+    requires there { event.module.0 < most_modules }
     requires can { CanFall (seen state.old) [] }
     ensures copies { IfOk result (λ copies. copies.items
         ≡ displaced machine.now event.module.0 event.jammed (seen state.old)) }
@@ -149,7 +150,7 @@ pub(crate) fn take_out(
     event: Outage,
     notes: &mut Vec<Record>,
 ) -> Result<(), Memory>
-    requires there { event.module.0 < 64 }
+    requires there { event.module.0 < most_modules }
     requires can { CanFall (seen state.old) [] }
     ensures leads { OnOk result
         (Leads (outage machine.now event.module.0 event.jammed (seen state.old))

@@ -1,6 +1,7 @@
 //! What is left at a feeder.
 
 ghost use Rattle.std.specs.Prelude.{◌≡◌, ◌<◌, ◌≤ℤ◌, Some, option_map, pos};
+ghost use Rattle.tp_machine.specs.Limits.{most_locations};
 ghost use Rattle.tp_session.specs.Stocks.{IsFreeOf};
 ghost use Rattle.tp_stock.specs.Stock.{feeder_at, free_stock, most_stocked};
 ghost use Rattle.tp_turn.specs.LiveStates.{seen};
@@ -25,7 +26,7 @@ pub(crate) fn free_sheets(machine: &Machine, state: &LiveState, loc: LocId) -> O
 fn free_at_feeder(machine: &Machine, state: &LiveState, loc: LocId, feeder: &Feeder) -> Option<u32>
     requires stocked { KeepsStock machine.now last_copy (seen state.now) }
     requires there { feeder_at machine.now loc.0 ≡ Some feeder.now }
-    requires known { feeder.now.loc.0 < 256 }
+    requires known { feeder.now.loc.0 < most_locations }
     ensures { option_map pos result
         ≡ free_stock machine.now state.now.refills.0 state.now.schedule.plans feeder.now }
 {

@@ -1,6 +1,7 @@
 //! The rules from 7 on, in their order.
 ghost use Rattle.std.specs.Prelude.{◌≡◌, ◌≤◌, AllPairs, IfOk, IfSome, None, length};
 ghost use Rattle.tp_schedule.specs.Answers.{KeepsFloors};
+ghost use Rattle.tp_schedule.specs.Limits.{most_live};
 ghost use Rattle.tp_schedule.specs.Planning.{last_tick, none_exempt};
 ghost use Rattle.tp_snap_rules.specs.Rules.{AreInOrder, AreKeptTo, AreOnTheirWay, IsFirstBroken, WaitsBefore};
 
@@ -20,7 +21,7 @@ pub fn first_broken(
     standing: &Standing,
 ) -> Result<Option<u8>, Memory>
     requires moment { standing.now.now ≤ last_tick }
-    requires few { length standing.now.plans ≤ 256 }
+    requires few { length standing.now.plans ≤ most_live }
     requires plans { AreInOrder standing.now.plans }
     requires waiting { AllPairs WaitsBefore standing.now.waiting }
     requires floors { AreOnTheirWay machine.now standing.now

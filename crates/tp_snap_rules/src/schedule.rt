@@ -4,6 +4,7 @@ ghost use Rattle.std.specs.List.{list_all};
 ghost use Rattle.tp_schedule.specs.Answers.{IsLeast, KeepsFloors, KeepsHorizon};
 ghost use Rattle.tp_schedule.specs.Holding.{runs_from};
 ghost use Rattle.tp_schedule.specs.Legality.{IsLegal};
+ghost use Rattle.tp_schedule.specs.Limits.{most_live};
 ghost use Rattle.tp_schedule.specs.Planning.{last_tick, none_exempt};
 ghost use Rattle.tp_schedule.specs.Plans.{IsFormed, point};
 ghost use Rattle.tp_schedule.specs.Routes.{is_act_allowed};
@@ -150,7 +151,7 @@ pub(crate) fn keeps_schedule(
     machine: &Machine,
     standing: &Standing,
 ) -> Result<bool, Memory>
-    requires few { length standing.now.plans ≤ 256 }
+    requires few { length standing.now.plans ≤ most_live }
     requires in_order { AreInOrder standing.now.plans }
     requires courses { AreOnTheirWay machine.now standing.now }
     ensures { IfOk result (λ kept. IsTrue kept
@@ -174,7 +175,7 @@ pub(crate) fn keeps_times(
     machine: &Machine,
     standing: &Standing,
 ) -> Result<bool, Memory>
-    requires few { length standing.now.plans ≤ 256 }
+    requires few { length standing.now.plans ≤ most_live }
     requires moment { standing.now.now ≤ last_tick }
     requires legal { IsLegal machine.now standing.now.plans }
     requires floors { KeepsFloors machine.now standing.now.now none_exempt standing.now.plans }

@@ -6,6 +6,7 @@ use Rattle.tp_machine.specs.declared.parts.Feeder.{Feeder}
 use Rattle.tp_machine.specs.declared.parts.Outs.{Outs}
 use Rattle.tp_schedule.specs.Answers.{KeepsHorizon}
 use Rattle.tp_schedule.specs.Legality.{IsLegal}
+use Rattle.tp_schedule.specs.Limits.{most_live}
 use Rattle.tp_schedule.specs.Living.{is_live}
 use Rattle.tp_schedule.specs.Planning.{last_tick}
 use Rattle.tp_schedule.specs.Plans.{is_before, is_front, point}
@@ -95,7 +96,7 @@ pub record IsSound (machine : Machine) (t : Standing) : Type 0 where
   pub few_jobs : length t.jobs ≤ most_jobs
   pub jobs : KeepsJobs machine t.jobs
   -- plans and waiting copies, each in the order of copies; of each sheet at most one copy is open, which is its newest
-  pub few_plans : length t.plans ≤ 256
+  pub few_plans : length t.plans ≤ most_live
   pub plans : All (IsKeptPlan machine t) t.plans
   pub few_waiting : length t.waiting ≤ most_open
   pub few_open : open_count (told machine t) ≤ most_open

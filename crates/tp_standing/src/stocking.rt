@@ -1,6 +1,7 @@
 //! The stock of feeders as it is kept: what is free at each, and the refills by which so much is.
 
 ghost use Rattle.std.specs.Prelude.{◌≡◌, ◌<◌, ◌≤ℤ◌, IfOk, IfSome, get_or, map, option_map, pos};
+ghost use Rattle.tp_machine.specs.Limits.{most_locations};
 ghost use Rattle.tp_standing.specs.Told.{count_of, free_sheets, refill_at, refill_by};
 ghost use Rattle.tp_stock.specs.Stock.{IsBounded, by_location, free_of, most_stocked, refilled, taken_at};
 ghost use Rattle.tp_turn.specs.LiveStates.{seen};
@@ -26,7 +27,7 @@ fn count_of(free: i64) -> u32
 /// What is free at the feeder, where so many sheets were taken.
 fn free_at(refills: &Refills, taken: &Taken, feeder: &Feeder) -> Option<u32>
     requires bounded { IsBounded refills.now.0 }
-    requires known { feeder.now.loc.0 < 256 }
+    requires known { feeder.now.loc.0 < most_locations }
     requires some { IfSome (free_of feeder.now.stock (refilled refills.now.0 feeder.now.loc.0)
         (get_or taken.now.0 feeder.now.loc.0 0)) (λ free. pos 0 ≤ℤ free) }
     requires few { IfSome (free_of feeder.now.stock (refilled refills.now.0 feeder.now.loc.0)

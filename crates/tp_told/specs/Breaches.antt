@@ -8,6 +8,7 @@ use Rattle.tp_machine.specs.declared.parts.HoldRule.{HoldRule}
 use Rattle.tp_machine.specs.declared.parts.ResId.{ResId}
 use Rattle.tp_schedule.specs.Answers.{acts_in}
 use Rattle.tp_schedule.specs.Holding.{holds_of_act}
+use Rattle.tp_schedule.specs.Limits.{most_acts}
 use Rattle.tp_schedule.specs.Plans.{end_of_plan, plan_of, point, with_points}
 use Rattle.tp_schedule.specs.declared.parts.Ask.{Ask}
 use Rattle.tp_schedule.specs.declared.parts.Hold.{Hold}
@@ -156,9 +157,9 @@ pub record HasOffMove (machine : Machine) (now : ℕ) (asked : Option SheetId) (
 
 -- how many actions there are, and the most that there may be
 pub record AreTooMany (front : Option Plan) (names : List (List ℕ)) (first second : ℤ) : Type 0 where
-  pub many : 64 < length (acts_in front) + length names
+  pub many : most_acts < length (acts_in front) + length names
   pub first_is : first ≡ pos (length (acts_in front) + length names)
-  pub second_is : second ≡ pos 64
+  pub second_is : second ≡ pos most_acts
 
 -- the first new point, and the end of the front, where it is to be
 pub record IsApart (front : Plan) (points : List ℕ) (first second : ℤ) : Type 0 where

@@ -3,6 +3,7 @@ use Rattle.std.specs.Prelude.{◌≡◌, ◌≢◌, ℕ, ◌⊎◌, List, ◌++�
 use Rattle.tp_machine.specs.declared.machine.Machine.{Machine}
 use Rattle.tp_machine.specs.declared.parts.ActId.{ActId}
 use Rattle.tp_schedule.specs.Answers.{AnswersAsk, acts_in, kept_of}
+use Rattle.tp_schedule.specs.Limits.{most_acts}
 use Rattle.tp_schedule.specs.Plans.{IsFormed, IsTimedPlan, end_of_plan}
 use Rattle.tp_schedule.specs.declared.parts.Ask.{Ask}
 use Rattle.tp_schedule.specs.declared.parts.Kind.TheVariants.{Whole}
@@ -31,7 +32,7 @@ IsJoined (Some front) points = slice_index points 0 ≡ end_of_plan front
 -- new actions and points that fit the front: at most 64 actions in all, at least one new one, one point more than new
 -- actions, and joined
 pub record DoFit (front : Option Plan) (points : List ℕ) (names : List (List ℕ)) : Type 0 where
-  pub at_most : length (acts_in front) + length names ≤ 64
+  pub at_most : length (acts_in front) + length names ≤ most_acts
   pub names_some : 0 < length names
   pub one_more : length points ≡ length names + 1
   pub joined : IsJoined front points

@@ -1,6 +1,7 @@
 //! Actions by their names.
 ghost use Rattle.std.specs.Prelude.{◌≡◌, ◌≢◌, ◌+◌, ◌≤◌, ◌++◌, List, MatchBool, MatchOption, length};
 ghost use Rattle.tp_machine.specs.declared.parts.ActId.{ActId};
+ghost use Rattle.tp_schedule.specs.Limits.{most_acts};
 ghost use Rattle.tp_telling.specs.Telling.{IsKnown};
 ghost use Rattle.tp_turn.specs.Labels.{action_name};
 ghost use Rattle.tp_told.specs.Planning.{HaveNames};
@@ -27,7 +28,7 @@ fn act_named(machine: &Machine, name: &Name) -> Option<ActId>
 
 /// Adds the actions of these names, or answers false where one has none.
 pub(crate) fn add_named(machine: &Machine, names: &[Name], acts: &mut Acts) -> bool
-    requires { length acts.old + length names.now ≤ 64 }
+    requires { length acts.old + length names.now ≤ most_acts }
     ensures { MatchBool result
         ((ids : List ActId) × (acts.new ≡ acts.old ++ ids)
         × HaveNames machine.now names.now ids)

@@ -2,6 +2,7 @@
 ghost use Rattle.std.specs.Prelude.{◌≡◌, ◌↔◌, ◌≤◌, All, IfErr, IfSome, IsTrue, MatchOption, MatchResult, length, option_copied};
 ghost use Rattle.tp_schedule.specs.Answers.{IsAsked, acts_in};
 ghost use Rattle.tp_schedule.specs.Legality.{IsLegal};
+ghost use Rattle.tp_schedule.specs.Limits.{most_plan_points};
 ghost use Rattle.tp_schedule.specs.Plans.{IsFormed, plan_of};
 ghost use Rattle.tp_schedule.specs.declared.records.Record.TheVariants.{Plan as TellsPlan};
 ghost use Rattle.tp_telling.specs.Telling.{IsKnown};
@@ -103,7 +104,7 @@ fn end_name(machine: &Machine, plan: &Plan) -> Name
 /// The plan of the asked copy by its actions and its new points.
 fn make_plan(ask: &Ask, front: Option<&Plan>, acts: Acts, points: &[Tick]) -> Plan
     requires some { 1 ≤ length points.now }
-    requires room { length (points_behind (option_copied front) points.now) ≤ 65 }
+    requires room { length (points_behind (option_copied front) points.now) ≤ most_plan_points }
     ensures { result ≡ plan_with ask.entry.now (option_copied front.entry) acts points.now }
 {
     Plan {

@@ -1,5 +1,6 @@
 //! Points of plans, as records tell them.
 ghost use Rattle.std.specs.Prelude.{◌≡◌, ◌+◌, ◌≤◌, ◌++◌, length, option_copied};
+ghost use Rattle.tp_schedule.specs.Limits.{most_plan_points};
 ghost use Rattle.tp_told.specs.Planning.{points_behind};
 
 use tp_base::Tick;
@@ -7,7 +8,7 @@ use tp_schedule::{Plan, Points};
 
 /// Adds points behind others.
 fn add_points(ticks: &[Tick], points: &mut Points)
-    requires { length points.old + length ticks.now ≤ 65 }
+    requires { length points.old + length ticks.now ≤ most_plan_points }
     ensures { points.new ≡ points.old ++ ticks.now }
 {
     if let [tick, later @ ..] = ticks {
@@ -18,7 +19,7 @@ fn add_points(ticks: &[Tick], points: &mut Points)
 
 /// The ticks as points.
 pub(crate) fn points_of(ticks: &[Tick]) -> Points
-    requires { length ticks.now ≤ 65 }
+    requires { length ticks.now ≤ most_plan_points }
     ensures { result ≡ ticks.now }
 {
     let mut points = Points::new();
@@ -29,7 +30,7 @@ pub(crate) fn points_of(ticks: &[Tick]) -> Points
 /// The points of a copy's plan, of which these are told: behind those of its front, if it has one.
 pub(crate) fn points_behind(front: Option<&Plan>, ticks: &[Tick]) -> Points
     requires some { 1 ≤ length ticks.now }
-    requires room { length (points_behind (option_copied front) ticks.now) ≤ 65 }
+    requires room { length (points_behind (option_copied front) ticks.now) ≤ most_plan_points }
     ensures { result ≡ points_behind (option_copied front.entry) ticks.now }
 {
     match front {

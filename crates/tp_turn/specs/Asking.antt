@@ -3,6 +3,7 @@ use Rattle.std.specs.Prelude.{◌≡◌, ℕ, Bool, ◌==◌, nat_le, List, [], 
 use Rattle.std.specs.Bool.{MatchBool}
 use Rattle.std.specs.List.{list_any}
 use Rattle.tp_machine.specs.declared.machine.Machine.{Machine}
+use Rattle.tp_schedule.specs.Limits.{most_live}
 use Rattle.tp_schedule.specs.Living.{live_count}
 use Rattle.tp_schedule.specs.Planning.Deed.{replied}
 use Rattle.tp_schedule.specs.declared.parts.Ask.{Ask}
@@ -21,10 +22,6 @@ use Rattle.tp_turn.specs.States.{SessionState}
 use Rattle.tp_turn.specs.Labels.{job_name, label}
 use Rattle.tp_turn.specs.Answering.{told_of_reply}
 use Rattle.tp_turn.specs.Planners.{PlannerSteps}
-
--- the most copies that are live at once
-abbrev pub most_live : ℕ
-most_live = 256
 
 abbrev pub is_full : Machine → SessionState → Bool
 is_full machine s = nat_le most_live (live_count machine s.now s.plans)

@@ -6,6 +6,7 @@ use Rattle.tp_machine.specs.declared.machine.Machine.{Machine}
 use Rattle.tp_schedule.specs.Answers.{KeepsFloors, KeepsHorizon, IsLeast}
 use Rattle.tp_schedule.specs.Holding.{runs_of}
 use Rattle.tp_schedule.specs.Legality.{IsLegal}
+use Rattle.tp_schedule.specs.Limits.{most_live}
 use Rattle.tp_schedule.specs.Living.{is_live, live_count}
 use Rattle.tp_schedule.specs.Planning.{none_exempt}
 use Rattle.tp_schedule.specs.Plans.{end_of_plan, is_before, is_front, is_same_copy}
@@ -22,7 +23,6 @@ use Rattle.tp_turn.specs.States.{SessionState}
 use Rattle.tp_turn.specs.Lines.{is_job_broken, is_same_line}
 use Rattle.tp_turn.specs.Labels.{job_name}
 use Rattle.tp_turn.specs.Moments.{is_started, is_tray_plan}
-use Rattle.tp_turn.specs.Asking.{most_live}
 
 -- the copies that have a whole plan to their tray: planned, entering or delivered
 abbrev pub tray_plans : List Plan → List Plan

@@ -3,6 +3,7 @@ use Rattle.std.proofs.Common.{◌≡◌, ℕ, Bool, true, false, List, [], ◌�
 use Rattle.std.specs.Bool.{MatchBool}
 use Rattle.std.proofs.lemmas.List.Sums.{length-filter}
 use Rattle.tp_machine.specs.declared.machine.Machine.{Machine}
+use Rattle.tp_schedule.specs.Limits.{most_live}
 use Rattle.tp_schedule.specs.Living.{is_live, live_count}
 use Rattle.tp_schedule.specs.Planning.{IsAnswer}
 use Rattle.tp_schedule.specs.declared.parts.Plan.{Plan}
@@ -11,7 +12,7 @@ use Rattle.tp_schedule.specs.declared.parts.Reply.TheVariants.{Planned, Never, S
 use Rattle.tp_schedule.specs.declared.records.Record.{Record}
 use Rattle.tp_jobs.specs.Backlogs.{tray_of}
 use Rattle.tp_jobs.specs.declared.parts.WaitingCopy.{WaitingCopy}
-use Rattle.tp_turn.specs.Asking.{AsksInTurn, ask_waiting, is_full, is_passed_over, most_live, passed_after, state_after_reply}
+use Rattle.tp_turn.specs.Asking.{AsksInTurn, ask_waiting, is_full, is_passed_over, passed_after, state_after_reply}
 use Rattle.tp_turn.specs.Keeping.{live_part, live_plans}
 use Rattle.tp_turn.specs.Planners.{PlannerSteps}
 use Rattle.tp_turn.specs.States.{SessionState}

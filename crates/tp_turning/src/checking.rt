@@ -1,6 +1,7 @@
 //! Which module a `jam`, an `off` or an `on` names, or why it is refused.
 
 ghost use Rattle.std.specs.Prelude.{◌≡◌, ◌<◌, Some, length, option_map, IsTrue, IfSome, IfOk};
+ghost use Rattle.tp_machine.specs.Limits.{most_modules};
 ghost use Rattle.tp_turn.specs.Refusals.{jam_refusal, module_of, off_refusal, on_refusal};
 ghost use Rattle.tp_turning.specs.Checking.{is_of_module, module_named, module_refusal, out_cause, out_cause_in};
 
@@ -17,7 +18,7 @@ pub fn check_module(machine: &Machine, outs: Outs, event: &Event) -> Result<ModI
     ensures refused { out_cause_in result ≡ module_refusal machine.now outs event.now }
     ensures found { IfOk result (λ id. module_named machine.now event.now ≡ Some id.0) }
     ensures there { IfOk result (λ id. id.0 < length machine.now.modules) }
-    ensures known { IfOk result (λ id. id.0 < 64) }
+    ensures known { IfOk result (λ id. id.0 < most_modules) }
 {
     match event {
         Event::Jam { module } => find_named(machine, *module),
@@ -34,7 +35,7 @@ fn find_named(machine: &Machine, name: Name) -> Result<ModId, OutFault>
     ensures refused { out_cause_in result ≡ jam_refusal machine.now name }
     ensures found { IfOk result (λ id. module_of machine.now name ≡ Some id.0) }
     ensures there { IfOk result (λ id. id.0 < length machine.now.modules) }
-    ensures known { IfOk result (λ id. id.0 < 64) }
+    ensures known { IfOk result (λ id. id.0 < most_modules) }
 {
     match module_of(machine, &name) {
         None => Err(OutFault::UnknownModule(name)),
@@ -47,7 +48,7 @@ fn find_on(machine: &Machine, outs: Outs, name: Name) -> Result<ModId, OutFault>
     ensures refused { out_cause_in result ≡ off_refusal machine.now outs name }
     ensures found { IfOk result (λ id. module_of machine.now name ≡ Some id.0) }
     ensures there { IfOk result (λ id. id.0 < length machine.now.modules) }
-    ensures known { IfOk result (λ id. id.0 < 64) }
+    ensures known { IfOk result (λ id. id.0 < most_modules) }
 {
     match module_of(machine, &name) {
         None => Err(OutFault::UnknownModule(name)),
@@ -66,7 +67,7 @@ fn find_out(machine: &Machine, outs: Outs, name: Name) -> Result<ModId, OutFault
     ensures refused { out_cause_in result ≡ on_refusal machine.now outs name }
     ensures found { IfOk result (λ id. module_of machine.now name ≡ Some id.0) }
     ensures there { IfOk result (λ id. id.0 < length machine.now.modules) }
-    ensures known { IfOk result (λ id. id.0 < 64) }
+    ensures known { IfOk result (λ id. id.0 < most_modules) }
 {
     match module_of(machine, &name) {
         None => Err(OutFault::UnknownModule(name)),

@@ -1,6 +1,7 @@
 //! A feeder is refilled.
 
 ghost use Rattle.std.specs.Prelude.{◌≡◌, ℕ, Err, ◌+◌, ◌<◌, ◌≤◌, OnOk, IfErr, IfOk, IsSomeAnd};
+ghost use Rattle.tp_machine.specs.Limits.{most_locations};
 ghost use Rattle.tp_schedule.specs.Planning.{StopsOnlyWhere};
 ghost use Rattle.tp_schedule.specs.declared.parts.Halt.TheVariants.{Stopped};
 ghost use Rattle.tp_script.specs.declared.event.Event.TheVariants.{Refill};
@@ -33,7 +34,7 @@ fn check_refill(machine: &Machine, state: &LiveState, order: &RefillOrder) -> Re
         state.now.schedule.plans order.now.feeder order.now.count }
     ensures found { IfOk result (λ loc.
         IsSomeAnd (feeder_named machine.now order.now.feeder) (λ f. f.loc ≡ loc)) }
-    ensures known { IfOk result (λ loc. loc.0 < 256) }
+    ensures known { IfOk result (λ loc. loc.0 < most_locations) }
 {
     machine_law(machine);
     let Some(feeder) = feeder_named(machine, &order.feeder) else {
