@@ -1,6 +1,8 @@
 -- How deep branches are, and how many frames stand below one.
 use Rattle.std.specs.Prelude.{◌≡◌, ℕ, suc, ◌+◌, ◌*◌, ◌≤◌, Bool, true, false, List, [], ◌∷◌, ◌++◌, length, None, if◌then◌else◌}
+use Rattle.tp_machine.specs.Limits.{most_act_holds}
 use Rattle.tp_schedule.specs.Choices.{Choice}
+use Rattle.tp_schedule.specs.Limits.{most_acts}
 use Rattle.tp_trees.specs.Places.{Branch, Stand}
 use Rattle.tp_bound_check.specs.declared.dues.Frame.{Frame}
 use Rattle.tp_bound_check.specs.declared.dues.Frame.TheVariants.{Goals, Held, Acts, Nothing}
@@ -12,11 +14,11 @@ most_depth (c ∷ choices) = 5 * length choices + 1 + length c.places
 
 abbrev pub HasFewPlaces : List Choice → Type 0
 HasFewPlaces [] = Unit {0}
-HasFewPlaces (c ∷ choices) = length c.places ≤ 4
+HasFewPlaces (c ∷ choices) = length c.places ≤ most_act_holds
 
 -- a branch is no deeper than its choices and their places are many
 pub record IsShallow (b : Branch) : Type 0 where
-  pub choices : length b.x.choices ≤ 64
+  pub choices : length b.x.choices ≤ most_acts
   pub places : HasFewPlaces b.x.choices
   pub depth : b.depth ≤ most_depth b.x.choices
 

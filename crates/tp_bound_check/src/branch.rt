@@ -1,7 +1,9 @@
 //! A branch of a bound tree, as the check carries it.
 ghost use Rattle.std.specs.Prelude.{◌≡◌, ℕ, ◌+◌, ◌<◌, ◌≤◌, ◌-◌, [], ◌∷◌, ◌++◌, length, slice_get, Some, List, reverse, Option};
+ghost use Rattle.tp_machine.specs.Limits.{most_act_holds};
 ghost use Rattle.tp_constraints.specs.Suffixes.{room_of, with_action, with_goal, with_place, with_stop};
 ghost use Rattle.tp_schedule.specs.Choices.{Choice};
+ghost use Rattle.tp_schedule.specs.Limits.{most_acts};
 ghost use Rattle.tp_trees.specs.Chains.{choice_act};
 ghost use Rattle.tp_bound_check.specs.Branches.{newest_in};
 
@@ -82,7 +84,7 @@ impl Branch {
     /// How many choices it has.
     pub(crate) fn count(&self) -> u32
         ensures count { result ≡ length self.now.x.choices }
-        ensures within { length self.now.x.choices ≤ 64 }
+        ensures within { length self.now.x.choices ≤ most_acts }
     {
         self.choices.len()
     }
@@ -143,7 +145,7 @@ impl Branch {
 
     /// One action more, from this state.
     pub(crate) fn act_before(&self, depth: u32, act: ActId, first: State, room: Tick) -> Branch
-        requires { length self.now.x.choices < 64 }
+        requires { length self.now.x.choices < most_acts }
         ensures { result ≡ record {
           depth = depth;
           first = first;
@@ -168,7 +170,7 @@ impl Branch {
     pub(crate) fn place(&self, depth: u32, place: u32) -> Branch
         requires some { 0 < length self.now.x.choices }
         requires room { (c : Choice) → newest_in self.now.x.choices ≡ Some c
-            → length c.places < 4 }
+            → length c.places < most_act_holds }
         ensures { result ≡ record {
           depth = depth;
           first = self.now.first;

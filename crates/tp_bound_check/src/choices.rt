@@ -1,10 +1,15 @@
 //! The choices of a branch, in place.
 ghost use Rattle.std.specs.Prelude.{◌≡◌, ◌+◌, ◌<◌, ◌≤◌, ◌-◌, [], ◌∷◌, ◌++◌, length, slice_get, Some, set, IfOk, map, take, reverse};
+ghost use Rattle.tp_machine.specs.Limits.{most_act_holds};
+ghost use Rattle.tp_schedule.specs.Limits.{most_acts};
 ghost use Rattle.tp_bound_check.specs.Branches.{IsRaw, choice_by, newest_in, with_one};
 ghost use Rattle.tp_constraints.specs.Suffixes.{place_first};
 
 use std::marker::Model;
 use tp_machine::ActId;
+
+/// The most choices of a branch: a plan has no more actions.
+const MOST_ACTS: usize = 64;
 
 /// An action with the places of its first holds.
 #[derive(Clone, Copy)]
@@ -17,20 +22,21 @@ pub(crate) struct Raw {
 /// At most 64 choices, the oldest first.
 #[derive(Drop)]
 pub(crate) struct Choices {
-    raw: [Raw; 64],
+    raw: [Raw; MOST_ACTS],
     len: u32,
 }
 
 impl Model for Choices {
     ghost use Rattle.std.specs.Prelude.{List, length, map, take, All, ◌≤◌, ◌≡◌};
     ghost use Rattle.tp_schedule.specs.Choices.{Choice};
+    ghost use Rattle.tp_schedule.specs.Limits.{most_acts};
     ghost use Rattle.tp_bound_check.specs.Branches.{choice_by, IsRaw};
 
     ghost Value = { List Choice };
 
     ghost view = { λ c. map choice_by (take c.len c.raw) };
 
-    ghost invariant = { λ c. (c.len ≤ 64) × (length c.raw ≡ 64)
+    ghost invariant = { λ c. (c.len ≤ most_acts) × (length c.raw ≡ most_acts)
         × All IsRaw (take c.len c.raw) };
 }
 
@@ -46,7 +52,7 @@ impl Choices {
             count: 0,
         };
         Choices {
-            raw: [none; 64],
+            raw: [none; MOST_ACTS],
             len: 0,
         }
     }
@@ -62,7 +68,7 @@ impl Choices {
 
     pub(crate) fn len(&self) -> u32
         ensures len { result ≡ length self.now }
-        ensures within { length self.now ≤ 64 }
+        ensures within { length self.now ≤ most_acts }
     {
         self.len
     }
@@ -80,7 +86,7 @@ impl Choices {
         requires { at < length self.now }
         ensures places { (c : Choice) → slice_get self.now at ≡ Some c
             → result.now ≡ c.places }
-        ensures few { length result.now ≤ 4 }
+        ensures few { length result.now ≤ most_act_holds }
     {
         let raw = &self.raw[at as usize];
         &raw.places[..raw.count as usize]
@@ -88,7 +94,7 @@ impl Choices {
 
     /// One choice more.
     pub(crate) fn add(&mut self, act: ActId)
-        requires { length self.old < 64 }
+        requires { length self.old < most_acts }
         ensures { self.new ≡ self.old ++ record { act = act; places = [] } ∷ [] }
     {
         self.raw[self.len as usize] = Raw {
@@ -102,7 +108,8 @@ impl Choices {
     /// One place more for the choice.
     pub(crate) fn place(&mut self, at: u32, place: u32)
         requires known { at < length self.old }
-        requires room { (c : Choice) → slice_get self.old at ≡ Some c → length c.places < 4 }
+        requires room { (c : Choice) → slice_get self.old at ≡ Some c
+            → length c.places < most_act_holds }
         ensures { (c : Choice) → slice_get self.old at ≡ Some c → self.new ≡ set self.old at
             (with_one place c) }
     {
@@ -114,7 +121,7 @@ impl Choices {
     pub(crate) fn place_newest(&mut self, place: u32)
         requires some { 0 < length self.old }
         requires room { (c : Choice) → newest_in (reverse self.old) ≡ Some c
-            → length c.places < 4 }
+            → length c.places < most_act_holds }
         ensures choices { reverse self.new ≡ place_first place (reverse self.old) }
         ensures len { length self.new ≡ length self.old }
     {
@@ -123,7 +130,7 @@ impl Choices {
 }
 
 fn more(raw: Raw, place: u32) -> Raw
-    requires few { raw.count < 4 }
+    requires few { raw.count < most_act_holds }
     requires four { length raw.places ≡ 4 }
     ensures choice { choice_by result ≡ with_one place (choice_by raw) }
     ensures raw { IsRaw result }

@@ -1,5 +1,6 @@
 //! Where the holds of two actions stand in the order of a resource.
 ghost use Rattle.std.specs.Prelude.{◌≡◌, ◌+◌, ◌<◌, ◌≤◌, ◌^◌, ◌==◌, List, All, insert, length, max, min, if◌then◌else◌};
+ghost use Rattle.tp_machine.specs.Limits.{longest};
 ghost use Rattle.tp_bound_check.specs.Founds.{IsBelow, IsTrack, earlier, gap_out, is_outside, put_found, shifted, track_of};
 ghost use Rattle.tp_bound_check.specs.Points.{HasOffsets, choices_to};
 ghost use Rattle.tp_bound_check.specs.Ranks.{own_among};
@@ -186,7 +187,7 @@ impl Track {
 
     /// What is between the holds where the one stands before the other, without the places cut out.
     pub(crate) fn gap(&self, apart: u32, cut: Cut) -> Option<Gap>
-        requires { apart ≤ 4096 }
+        requires { apart ≤ longest }
         ensures { result ≡ gap_out apart cut.lo cut.hi self.now.before self.now.after }
     {
         match (self.before, self.after) {

@@ -8,6 +8,7 @@ ghost use Rattle.tp_trees.specs.Chains.{arrival_at, arrival_in, arrival_of, dura
 ghost use Rattle.tp_bound_check.specs.Ranges.{IsShort, least_by, most_by};
 ghost use Rattle.std.specs.Prelude.{IfSome, suc, ◌==◌};
 ghost use Rattle.std.specs.Prelude.{pos, ◌+ℤ◌, ◌-ℤ◌};
+ghost use Rattle.tp_machine.specs.Limits.{longest};
 ghost use Rattle.tp_bound_check.specs.Points.{HasOffsets, IsWeight, copy_in};
 ghost use Rattle.tp_machine.specs.Modes.{gap_between};
 ghost use Rattle.tp_schedule.specs.Choices.{Choice};
@@ -202,7 +203,7 @@ fn anchor_spot(anchor: Anchor, from: Point, to: Point) -> Point
 }
 
 fn weight(apart: u32, one: &HoldRule, other: &HoldRule) -> i64
-    requires apart { apart ≤ 4096 }
+    requires apart { apart ≤ longest }
     requires one { HasOffsets one.now }
     requires other { HasOffsets other.now }
     ensures weight { result ≡ (one.now.end_off -ℤ other.now.begin_off)
@@ -215,7 +216,7 @@ fn weight(apart: u32, one: &HoldRule, other: &HoldRule) -> i64
 
 /// The one hold ends by the begin of the other, or the gap before it where their modes differ.
 pub(crate) fn slot_gap(apart: u32, one: &Slot, other: &Slot) -> Gap
-    requires { apart ≤ 4096 }
+    requires { apart ≤ longest }
     ensures { result ≡ slot_gap apart one.now other.now }
 {
     Gap {

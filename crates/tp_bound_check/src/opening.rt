@@ -10,6 +10,7 @@ ghost use Rattle.tp_machine.specs.Using.{action_at};
 ghost use Rattle.tp_machine.specs.declared.parts.State.{State};
 ghost use Rattle.tp_schedule.specs.Answers.{kept_of};
 ghost use Rattle.tp_schedule.specs.Holding.{holds_of_act};
+ghost use Rattle.tp_schedule.specs.Limits.{most_acts};
 ghost use Rattle.tp_schedule.specs.Routes.{fresh};
 ghost use Rattle.tp_trees.specs.Places.{children, children_of, has_choice, is_begun, is_front_state, next_rule};
 ghost use Rattle.tp_trees.specs.Rows.{is_same_state};
@@ -108,7 +109,7 @@ impl<'a> Scene<'a> {
     /// The first of the actions that lead to a branch, if one more may go before it.
     fn first_act(&self, branch: &Branch) -> Option<u16>
         ensures none { result ≡ (if nat_lt (kept_of self.now.rows.ask.now + length
-            branch.now.x.choices) 64 then next_at branch.now.first.loc.0 0 (ends_of
+            branch.now.x.choices) most_acts then next_at branch.now.first.loc.0 0 (ends_of
             self.now.rows.machine.now) else None) }
         ensures sound { IfSome result (IsActOf self.now.rows.machine.now branch.now) }
     {

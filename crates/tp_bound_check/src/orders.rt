@@ -1,5 +1,6 @@
 //! Orders of resources with the holds of a branch.
 ghost use Rattle.std.specs.Prelude.{◌≡◌, ◌+◌, ◌*◌, ◌<◌, ◌≤◌, ◌^◌, length, map, Some, IfOk, All};
+ghost use Rattle.tp_machine.specs.Limits.{most_act_holds};
 ghost use Rattle.tp_bound_check.specs.Branches.{newest_in};
 ghost use Rattle.tp_bound_check.specs.Founds.{IsBelow, IsTrack, found_in, track_of};
 ghost use Rattle.tp_bound_check.specs.Keys.{start_key};
@@ -114,7 +115,7 @@ pub(crate) struct Scene<'a> {
 pub(crate) fn holds_of(machine: &Machine, act: ActId) -> &[HoldRule]
     ensures holds { result.now ≡ holds_of_act (action_at machine.now act.0) }
     ensures offsets { All HasOffsets result.now }
-    ensures few { length result.now ≤ 4 }
+    ensures few { length result.now ≤ most_act_holds }
 {
     machine_law(machine);
     match machine.actions.as_slice().get(usize::from(act.0)) {
@@ -132,7 +133,7 @@ pub(crate) fn rule_law(machine: &Machine, branch: &Branch, rule: HoldRule)
     ensures offsets { HasOffsets rule }
     ensures known { rule.resource.0 < length machine.now.resources }
     ensures few { (c : Choice) → newest_in branch.now.x.choices ≡ Some c
-        → length c.places < 4 }
+        → length c.places < most_act_holds }
     ensures some { 0 < length branch.now.x.choices }
 {
     machine_law(machine);

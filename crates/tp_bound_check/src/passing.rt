@@ -6,6 +6,7 @@ ghost use Rattle.tp_bound_check.specs.Looks.{IsActOf, IsPassing, IsSoundFrame, I
 ghost use Rattle.tp_bound_check.specs.declared.dues.Frame.TheVariants.{Acts, Goals, Held};
 ghost use Rattle.tp_machine.specs.Using.{action_at};
 ghost use Rattle.tp_machine.specs.declared.parts.State.{State};
+ghost use Rattle.tp_schedule.specs.Limits.{most_acts};
 ghost use Rattle.tp_schedule.specs.Routes.{is_act_allowed};
 ghost use Rattle.tp_trees.specs.Places.{Due, next_rule, state_before};
 ghost use Rattle.tp_trees.specs.Places.Due.{action};
@@ -67,7 +68,7 @@ impl<'a> Scene<'a> {
             self.now.rows.ask.now self.now.rows.rows.now self.now.limit branch.now t.after) }
         ensures none { IfNone result (acts_at self.now.rows.machine.now self.now.plans.now
             self.now.rows.ask.now self.now.rows.rows.now self.now.limit branch.now from ≡ []) }
-        ensures few { IfSome result (λ _. length branch.now.x.choices < 64) }
+        ensures few { IfSome result (λ _. length branch.now.x.choices < most_acts) }
         ensures after { IfSome result (λ t. IfSome t.after (IsActOf self.now.rows.machine.now
             branch.now)) }
     {

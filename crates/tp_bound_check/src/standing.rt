@@ -6,6 +6,7 @@ ghost use Rattle.tp_bound_check.specs.Ranks as ranking;
 ghost use Rattle.tp_bound_check.specs.Ranks.{AreRanked, IsFrameOf, IsSoundStand, next_number};
 ghost use Rattle.tp_machine.specs.declared.parts.State.{State};
 ghost use Rattle.tp_machine.specs.Using.{action_at};
+ghost use Rattle.tp_schedule.specs.Limits.{most_acts};
 ghost use Rattle.tp_trees.specs.Places.{Due, due_behind, is_name_of_act, is_name_of_resource, next_rule, order_length, room_at, stand_of};
 ghost use Rattle.tp_trees.specs.Places.Due.{goal, action, places, stop};
 ghost use Rattle.tp_trees.specs.Trees.{look};
@@ -99,7 +100,7 @@ impl<'a> Scene<'a> {
         head: &Head,
         depth: u32,
     ) -> Option<Stand>
-        requires few { length branch.now.x.choices < 64 }
+        requires few { length branch.now.x.choices < most_acts }
         requires shallow { IsShallow branch.now }
         ensures stand { result ≡ at_depth depth (stand_of self.now.rows.machine.now
             self.now.plans.now self.now.rows.ask.now self.now.rows.rows.now (action branch.now act

@@ -6,6 +6,7 @@ use Rattle.tp_machine.specs.declared.machine.Machine.{Machine}
 use Rattle.tp_schedule.specs.Answers.{kept_of}
 use Rattle.tp_schedule.specs.Choices.{Choice}
 use Rattle.tp_schedule.specs.Holding.{holds_of_act}
+use Rattle.tp_schedule.specs.Limits.{most_acts}
 use Rattle.tp_schedule.specs.declared.parts.Ask.{Ask}
 use Rattle.tp_schedule.specs.declared.parts.Plan.{Plan}
 use Rattle.tp_schedule.specs.Spots.{Ticks}
@@ -28,7 +29,7 @@ pub record IsSameLoad {N : Type 0} (b b' : BoardValue N) : Type 0 where
 -- one action more may come before the suffix: it isn't stopped, and its actions and the kept ones are fewer than 64
 pub record CanGoOn (ask : Ask) (x : Suffix) : Type 0 where
   pub going : IsFalse x.stopped
-  pub fewer : kept_of ask + length x.choices < 64
+  pub fewer : kept_of ask + length x.choices < most_acts
 
 -- the hold is the first of the newest choice that isn't placed, and the order of its resource has the place
 pub record CanPlace (machine : Machine) (plans : List Plan) (x : Suffix) (hold place : ℕ) : Type 0 where

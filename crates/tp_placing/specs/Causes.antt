@@ -50,6 +50,10 @@ step_causes = 665
 abbrev pub most_causes : ℕ
 most_causes = 66665
 
+-- the most causes of a plan: two of each hold
+abbrev pub most_plan_causes : ℕ
+most_plan_causes = 512
+
 -- the causes without a resource stand first
 pub record ArePlain (causes : List Cause) : Type 0 where
   pub forward : slice_get causes forward_tag ≡ Some Forward

@@ -5,6 +5,7 @@ use Rattle.tp_base.specs.declared.edges.Edge.{Edge}
 use Rattle.tp_base.specs.declared.edges.PointId.{PointId}
 use Rattle.tp_machine.specs.declared.machine.Machine.{Machine}
 use Rattle.tp_schedule.specs.Answers.{KeepsHorizon}
+use Rattle.tp_schedule.specs.Limits.{most_live}
 use Rattle.tp_schedule.specs.Planning.{last_tick}
 use Rattle.tp_schedule.specs.Spots.{slot_order}
 use Rattle.tp_schedule.specs.declared.parts.Ask.{Ask}
@@ -25,7 +26,7 @@ pub record CanLoad (machine : Machine) (now : ℕ) (plans : List Plan) : Type 0 
   pub now_at_most : now ≤ last_tick
   pub loadable : IsLoadable machine now (λ _. false) plans
   pub horizon : KeepsHorizon machine now plans
-  pub few : length plans ≤ 256
+  pub few : length plans ≤ most_live
 
 -- the edges of plans and of the orders of their holds
 abbrev pub all_edges : Machine → List Plan → List (List ℕ) → List Held → List Edge

@@ -19,6 +19,8 @@ use Rattle.tp_constraints.specs.Nets.{IsLoadedNet, IsBoardNet}
 use Rattle.tp_constraints.specs.Numbers.{table_of}
 use Rattle.tp_constraints.specs.Suffixes.{Suffix, order_in}
 use Rattle.tp_base.specs.declared.edges.PointId.{PointId}
+use Rattle.tp_machine.specs.Limits.{most_act_holds}
+use Rattle.tp_schedule.specs.Limits.{most_acts, most_live, most_plan_points}
 use Rattle.tp_placing.specs.Causes.{ArePlain, IsNamedHop, IsSafe}
 use Rattle.tp_placing.specs.declared.causes.Cause.{Cause}
 use Rattle.tp_placing.specs.declared.parts.Held.{Held}
@@ -94,8 +96,8 @@ abbrev pub stop_steps : Bool → ℕ
 stop_steps stopped = if stopped then 1 else 0
 
 abbrev pub AreFewSteps : ℕ → Option Suffix → ℕ → Type 0
-AreFewSteps kept None steps = (steps ≡ 0) × (kept ≤ 64)
-AreFewSteps kept (Some x) steps = (steps ≤ 1 + choice_steps x.choices + stop_steps x.stopped) × (kept + length x.choices ≤ 64) × (newest_places x.choices ≤ 4)
+AreFewSteps kept None steps = (steps ≡ 0) × (kept ≤ most_acts)
+AreFewSteps kept (Some x) steps = (steps ≤ 1 + choice_steps x.choices + stop_steps x.stopped) × (kept + length x.choices ≤ most_acts) × (newest_places x.choices ≤ most_act_holds)
 
 -- how many edges and holds a loaded schedule can have, and how many edges the steps add
 abbrev pub loaded_edges : ℕ
@@ -103,6 +105,10 @@ loaded_edges = 98600
 
 abbrev pub loaded_holds : ℕ
 loaded_holds = 65536
+
+-- the most edges of a plan
+abbrev pub most_plan_edges : ℕ
+most_plan_edges = 641
 
 abbrev pub step_edges : List Step → ℕ
 step_edges [] = 0
@@ -150,8 +156,8 @@ pub record StandsOn {N : Type 0} (reading : Reading N) (b : BoardValue N) (machi
   pub origin : IsAsked machine b.plans ask
   pub last : b.last.0 ≡ length (table_of b.plans)
   pub firsts : AreFirsts 0 b.plans b.firsts
-  pub few_points : b.last.0 + 65 ≤ 16641 + kept_of ask
-  pub few_plans : length b.plans ≤ 256
+  pub few_points : b.last.0 + most_plan_points ≤ 16641 + kept_of ask
+  pub few_plans : length b.plans ≤ most_live
   pub now : IsAt machine b.plans ask b.steps (reading.net b.net) b.orders.orders b.held
   pub before : (x : BoardContent) → Contains (past_of reading b) x → IsAt machine b.plans ask x.steps x.net x.orders x.held
   pub plain : ArePlain b.causes

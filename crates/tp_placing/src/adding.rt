@@ -4,14 +4,15 @@ ghost use Rattle.tp_base.specs.Grows.{IsKnown};
 ghost use Rattle.tp_base.specs.Net.{HasLeast, IsSolution, with_edges};
 ghost use Rattle.tp_base.specs.Readings.{IsSameSize};
 ghost use Rattle.tp_base.specs.declared.edges.PointId.{PointId as PointValue};
+ghost use Rattle.tp_schedule.specs.Limits.{most_plan_holds};
 ghost use Rattle.tp_schedule.specs.declared.parts.Plan.{Plan as PlanValue};
 ghost use Rattle.tp_placing.specs.Boards.{past_of};
-ghost use Rattle.tp_placing.specs.Causes.{most_causes};
+ghost use Rattle.tp_placing.specs.Causes.{most_causes, most_plan_causes};
 ghost use Rattle.tp_placing.specs.Growing.{IsBehind, IsLineEnd, KeepEdges, own_edges};
 ghost use Rattle.tp_placing.specs.Loaded.{IsLoaded};
 ghost use Rattle.tp_placing.specs.LoadedHolds.{ticks_in};
 ghost use Rattle.tp_placing.specs.Loading.{HasPoints, firsts_from, point_count};
-ghost use Rattle.tp_placing.specs.Standing.{IsMadeFor, loaded_edges, loaded_holds};
+ghost use Rattle.tp_placing.specs.Standing.{IsMadeFor, loaded_edges, loaded_holds, most_plan_edges};
 
 use crate::board::Board;
 use crate::causes::LINE;
@@ -89,9 +90,9 @@ impl<N: Network> Board<N> {
     /// Whether there is room for the edges, holds and causes of one plan more.
     fn has_capacity(&self) -> bool
         ensures edges { result ≡ true
-            → length (N.reading.net self.now.net).edges + 641 ≤ loaded_edges }
-        ensures holds { result ≡ true → length self.now.held + 256 ≤ loaded_holds }
-        ensures causes { result ≡ true → length self.now.causes + 512 ≤ most_causes }
+            → length (N.reading.net self.now.net).edges + most_plan_edges ≤ loaded_edges }
+        ensures holds { result ≡ true → length self.now.held + most_plan_holds ≤ loaded_holds }
+        ensures causes { result ≡ true → length self.now.causes + most_plan_causes ≤ most_causes }
     {
         if self.edge_capacity - self.net.spare_edges() > EDGES {
             return false;

@@ -3,6 +3,7 @@ ghost use Rattle.std.specs.Prelude.{◌≡◌, ℕ, suc, ◌+◌, ◌-◌, ◌^�
 ghost use Rattle.tp_base.specs.Net.{IsLeast};
 ghost use Rattle.tp_schedule.specs.Answers.{kept_acts, kept_of};
 ghost use Rattle.tp_schedule.specs.Completions.{asked_plan, settled_ticks, total_of};
+ghost use Rattle.tp_schedule.specs.Limits.{most_acts, most_plan_points};
 ghost use Rattle.tp_schedule.specs.Plans.{IsEarlier, IsFormed};
 ghost use Rattle.tp_schedule.specs.Spots.{Ticks};
 ghost use Rattle.tp_schedule.specs.Spots.Spot.{kept};
@@ -48,7 +49,7 @@ fn starts_so_far<N: Network>(net: &N, plans: &[Plan], firsts: &[PointId], copy: 
 
 /// Adds the actions that the steps opened, the last first, up to so many in all.
 fn add_opened(acts: &mut Acts, steps: &[Step], most: u32)
-    requires few { most ≤ 64 }
+    requires few { most ≤ most_acts }
     requires more { length acts.old ≤ most }
     ensures { acts.new ≡ take most (acts.old ++ opened steps.now) }
 {
@@ -63,7 +64,7 @@ fn add_opened(acts: &mut Acts, steps: &[Step], most: u32)
 
 /// Adds the least times of a point and of so many before it, from that point back.
 fn add_back<N: Network>(points: &mut Points, net: &N, first: PointId, count: u32)
-    requires few { length points.old + count < 65 }
+    requires few { length points.old + count < most_plan_points }
     requires known { first.0 < length (N.reading.net net.now).lows }
     requires within { count ≤ first.0 }
     ensures times { (sol : ℕ → ℕ) → IsLeast (N.reading.net net.now) sol
@@ -95,7 +96,7 @@ pub(crate) fn plan_by_steps<N: Network>(
     requires in_order { AllPairs IsEarlier plans.now }
     requires firsts { AreFirsts 0 plans.now firsts.now }
     requires kept { length (kept_acts ask.now.sheet plans.now) ≡ kept_of ask.now }
-    requires few { kept_of ask.now + own.count ≤ 64 }
+    requires few { kept_of ask.now + own.count ≤ most_acts }
     requires some { 0 < own.count }
     requires opened { IsSomeAnd (suffix_after steps.now) (λ x. length x.choices ≡ own.count) }
     requires start { own.start.0 ≡ length (table_of plans.now) + own.count }

@@ -1,5 +1,6 @@
 //! The orders of the resources of a schedule that is loaded, as edges between neighbours, with their causes.
 ghost use Rattle.std.specs.Prelude.{◌≡◌, ℕ, ◌+◌, ◌<◌, ◌≤◌, ◌++◌, length, vec_len, vec_capacity};
+ghost use Rattle.tp_machine.specs.Limits.{most_resources};
 ghost use Rattle.tp_timelines.specs.Orders.{order_on};
 ghost use Rattle.tp_placing.specs.Causes.{most_causes};
 ghost use Rattle.tp_placing.specs.Loading.{AreIds, chain_causes, chain_edges, chains_causes, chains_edges, holds_on};
@@ -55,7 +56,7 @@ pub(crate) fn add_chains(
     requires capacity { length causes.old
         + length (chains_causes (holds_on held.now lines.now.orders) resources) ≤ most_causes }
     requires known { resources ≤ length lines.now.orders }
-    requires few { resources ≤ 256 }
+    requires few { resources ≤ most_resources }
     requires ids { (resource : ℕ) → resource < resources
         → AreIds held.now (order_on lines.now.orders resource) }
     ensures added { edges.new.items ≡ edges.old.items

@@ -1,6 +1,7 @@
 //! The points and edges of a board's network, and of a reason, by name.
 ghost use Rattle.std.specs.Prelude.{◌≡◌, ◌+◌, ◌<◌, ◌≤◌, length, slice_get, Some};
 ghost use Rattle.tp_machine.specs.declared.machine.Machine.{Machine};
+ghost use Rattle.tp_schedule.specs.Limits.{most_acts};
 ghost use Rattle.tp_placing.specs.Causes.{grip_name, kind_of, name_of_plan, named_point, numbered, spot_name, why_name};
 ghost use Rattle.tp_placing.specs.Standing.{Stands};
 
@@ -30,7 +31,7 @@ impl<N: Network> Board<N> {
             ≡ Some (Spot.Kept result.0 result.1) }
         ensures grip { grip_name self.now.plans (numbered self.now.plans point.0)
             ≡ Some (Grip.Kept result.0 (result.1 + 1)) }
-        ensures few { result.1 ≤ 64 }
+        ensures few { result.1 ≤ most_acts }
     {
         let place = count_to(&self.firsts, point) - 1;
         let plan = &self.plans[place];

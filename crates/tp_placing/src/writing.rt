@@ -1,6 +1,7 @@
 //! The times of a network's least solution, written into a schedule.
 ghost use Rattle.std.specs.Prelude.{◌≡◌, ℕ, suc, ◌+◌, ◌^◌, ◌<◌, ◌≤◌, All, AllPairs, length, map, slice_get, false, true, IsSome, Some, None};
 ghost use Rattle.tp_base.specs.Net.{HasLeast, IsLeast};
+ghost use Rattle.tp_schedule.specs.Limits.{most_plan_points};
 ghost use Rattle.tp_schedule.specs.Plans.{IsEarlier, IsFormed, change_plan, plan_of, put_plan, with_points, without};
 ghost use Rattle.tp_schedule.specs.Spots.{Ticks};
 ghost use Rattle.tp_schedule.specs.Times.{ticks_from};
@@ -15,7 +16,7 @@ use tp_schedule::{Plan, Points, Schedule};
 
 /// The least times of so many points from one on.
 pub(crate) fn times_from<N: Network>(net: &N, first: PointId, count: u32) -> Points
-    requires few { count ≤ 65 }
+    requires few { count ≤ most_plan_points }
     requires known { first.0 + count ≤ length (N.reading.net net.now).lows }
     requires fits { first.0 + count < 2 ^ 32 }
     ensures times { (sol : ℕ → ℕ) → IsLeast (N.reading.net net.now) sol → result

@@ -4,6 +4,7 @@ use Rattle.tp_base.specs.Readings.{Reading}
 use Rattle.tp_machine.specs.declared.machine.Machine.{Machine}
 use Rattle.tp_schedule.specs.Answers.{kept_of}
 use Rattle.tp_schedule.specs.Choices.{Choice}
+use Rattle.tp_schedule.specs.Limits.{most_acts}
 use Rattle.tp_schedule.specs.Spots.{Ticks, slot_order}
 use Rattle.tp_schedule.specs.declared.parts.Ask.{Ask}
 use Rattle.tp_schedule.specs.declared.parts.Plan.{Plan}
@@ -51,7 +52,7 @@ pub record CanCarry (machine : Machine) (plans : List Plan) (ask : Ask) (x : Suf
   pub rooms : length x.rooms ≡ suc (length x.choices)
   pub places : HavePlacesSoFar machine (slot_order machine plans) x.choices
   pub going : IsFalse x.stopped
-  pub at_most : kept_of ask + length x.choices ≤ 64
+  pub at_most : kept_of ask + length x.choices ≤ most_acts
   pub ticks : Ticks
   pub are_times : SuffixTimes machine plans ask x ticks
 

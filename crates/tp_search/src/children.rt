@@ -4,6 +4,7 @@ ghost use Rattle.tp_machine.specs.Using.{action_at};
 ghost use Rattle.tp_pool.specs.Entries.{choices_before};
 ghost use Rattle.tp_schedule.specs.Answers.{kept_of};
 ghost use Rattle.tp_schedule.specs.Holding.{holds_of_act};
+ghost use Rattle.tp_schedule.specs.Limits.{most_acts};
 ghost use Rattle.tp_search.specs.Boards.{HasMarks, IsBack, IsLaid};
 ghost use Rattle.tp_search.specs.Children.{CarriesOpened, HasFound, IsNewChild};
 ghost use Rattle.tp_search.specs.Diving.{CanDive};
@@ -202,7 +203,7 @@ fn open_act<N: Network>(
     requires marks { HasMarks N.reading 6 board.old }
     requires fewer { kept_of problem.ask.now
         + length (choices_by problem.machine.now
-        (choices_before store.old.entries opening.old.parent)) < 64 }
+        (choices_before store.old.entries opening.old.parent)) < most_acts }
     requires progress { IsAtProgress problem.machine.now board.old.plans problem.ask.now opening.old
         store.old (up_to act.0 []) }
     ensures found { IsTrue result

@@ -1,6 +1,7 @@
 //! A dive: from a list on a board to a complete one by one choice more at a time, the first that keeps a bound.
 ghost use Rattle.std.specs.Prelude.{◌≡◌, ◌+◌, ◌-◌, ◌<◌, ◌≤◌, length, IfSome, IsFalse, IsTrue, None};
 ghost use Rattle.tp_schedule.specs.Answers.{kept_of};
+ghost use Rattle.tp_schedule.specs.Limits.{most_acts};
 ghost use Rattle.tp_search.specs.Boards.{HasMarks, IsBack};
 ghost use Rattle.tp_search.specs.Children.{HasFound};
 ghost use Rattle.tp_search.specs.Diving.{CanDive, IsDeeper, IsPlacing};
@@ -68,8 +69,8 @@ fn place_within<N: Network>(
 
 /// Whether the list may have one choice more, and the board has the marks to try it.
 fn can_go_on<N: Network>(board: &Board<N>, problem: Problem, list: Laid) -> bool
-    requires most { kept_of problem.ask.now + list.count ≤ 64 }
-    ensures fewer { IsTrue result → kept_of problem.entry.ask.now + list.count < 64 }
+    requires most { kept_of problem.ask.now + list.count ≤ most_acts }
+    ensures fewer { IsTrue result → kept_of problem.entry.ask.now + list.count < most_acts }
     ensures marks { IsTrue result → HasMarks N.reading 6 board.now }
 {
     problem.ask.origin.kept() + list.count < 64 && board.spare_marks() >= 6
@@ -88,7 +89,7 @@ fn step_by<N: Network>(
     requires known { act.0 < length problem.machine.now.actions }
     requires carries { CanDive N.reading board.old problem.machine.now
         problem.ask.now list }
-    requires fewer { kept_of problem.ask.now + list.count < 64 }
+    requires fewer { kept_of problem.ask.now + list.count < most_acts }
     requires marks { HasMarks N.reading 6 board.old }
     ensures deeper { IfSome result
         (IsDeeper N.reading board.old board.new

@@ -3,6 +3,7 @@ ghost use Rattle.std.specs.Prelude.{◌≡◌, ◌*◌, ◌<◌, ◌≤◌, [], 
 ghost use Rattle.tp_routes.specs.Numbers.{state_at};
 ghost use Rattle.tp_schedule.specs.Answers.{kept_of};
 ghost use Rattle.tp_schedule.specs.Choices.{IsBound, IsOpen, going};
+ghost use Rattle.tp_schedule.specs.Limits.{most_acts};
 ghost use Rattle.tp_search.specs.Boards.{HasMarks, IsBack, IsReady};
 ghost use Rattle.tp_search.specs.Problems.{IsPosed};
 ghost use Rattle.tp_search.specs.Searching.{AreOpenGoals, list_of_goal};
@@ -24,7 +25,7 @@ pub(crate) struct OpenGoal {
 fn try_goal<N: Network>(board: &mut Board<N>, problem: Problem, number: u32) -> Option<OpenGoal>
     requires posed { IsPosed problem }
     requires known { number < 8 * length problem.machine.now.locations }
-    requires kept { kept_of problem.ask.now ≤ 64 }
+    requires kept { kept_of problem.ask.now ≤ most_acts }
     requires ready { IsReady N.reading board.old problem.machine.now
         problem.ask.now }
     requires marks { HasMarks N.reading 1 board.old }
@@ -61,7 +62,7 @@ pub(crate) fn find_goals<N: Network>(
     problem: Problem,
 )
     requires posed { IsPosed problem }
-    requires kept { kept_of problem.ask.now ≤ 64 }
+    requires kept { kept_of problem.ask.now ≤ most_acts }
     requires ready { IsReady N.reading board.old problem.machine.now
         problem.ask.now }
     requires marks { HasMarks N.reading 1 board.old }

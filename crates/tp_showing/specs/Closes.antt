@@ -5,6 +5,7 @@ use Rattle.tp_bounds.specs.declared.tree.Close.{Close}
 use Rattle.tp_bounds.specs.declared.tree.Head.{Head}
 use Rattle.tp_bounds.specs.declared.tree.TreeRow.{TreeRow}
 use Rattle.tp_machine.specs.declared.machine.Machine.{Machine}
+use Rattle.tp_schedule.specs.Limits.{most_acts}
 use Rattle.tp_schedule.specs.declared.parts.Ask.{Ask}
 use Rattle.tp_schedule.specs.declared.parts.Plan.{Plan}
 use Rattle.tp_constraints.specs.Suffixes.{IsInFlight, Suffix, with_stop}
@@ -27,17 +28,17 @@ module _ {N : Type 0} (refutes : N → Net → Type 0) (machine : Machine) (b : 
   -- a suffix that goes on was refused, or its end by a tick; and the stop of the suffix that the board carries
   pub record IsRefused (x : Suffix) : Type 0 where
     pub going : IsFalse x.stopped
-    pub few : length x.choices ≤ 64
+    pub few : length x.choices ≤ most_acts
     pub shown : HasReason refutes machine b x
 
   pub record IsEndRefused (x : Suffix) (last : ℕ) : Type 0 where
     pub going : IsFalse x.stopped
-    pub few : length x.choices ≤ 64
+    pub few : length x.choices ≤ most_acts
     pub shown : HasEndReason refutes machine b x last
 
   pub record IsStopRefused (x : Suffix) : Type 0 where
     pub carried : suffix_of b ≡ Some x
-    pub few : length x.choices ≤ 64
+    pub few : length x.choices ≤ most_acts
     pub shown : HasReason refutes machine b (with_stop x)
 
   -- the close is right where the suffix was refused

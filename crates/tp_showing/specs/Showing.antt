@@ -1,6 +1,7 @@
 -- A tree that is made on a board: the nodes so far and what is still due behind them, and what the board carries.
 use Rattle.std.specs.Prelude.{◌≡◌, ℕ, zero, suc, ◌+◌, ◌*◌, ◌-◌, ◌<◌, ◌≤◌, nat_lt, List, [], ◌∷◌, ◌++◌, length, slice_get, All, Option, Some, None, ℤ, pos, IsFalse, MatchOption, false, if◌then◌else◌}
 use Rattle.tp_base.specs.Readings.{Reading}
+use Rattle.tp_machine.specs.Limits.{most_act_holds}
 use Rattle.tp_bounds.specs.declared.tree.Head.{Head}
 use Rattle.tp_bounds.specs.declared.tree.Node.{Node}
 use Rattle.tp_bounds.specs.declared.tree.TreeRow.{TreeRow}
@@ -12,6 +13,7 @@ use Rattle.tp_machine.specs.declared.machine.Machine.{Machine}
 use Rattle.tp_schedule.specs.Answers.{kept_of}
 use Rattle.tp_schedule.specs.Choices.{Choice}
 use Rattle.tp_schedule.specs.Holding.{holds_of_act}
+use Rattle.tp_schedule.specs.Limits.{most_acts}
 use Rattle.tp_schedule.specs.Planning.{IsKnownGoal}
 use Rattle.tp_schedule.specs.declared.parts.Ask.{Ask}
 use Rattle.tp_schedule.specs.declared.parts.Plan.{Plan}
@@ -75,12 +77,12 @@ branch_by r x = record { depth = r.depth; first = r.first; x = x }
 
 -- how much may still come below a branch
 abbrev pub below : Branch → ℕ
-below r = 5 * (64 - r.count) + (4 - r.places)
+below r = 5 * (most_acts - r.count) + (most_act_holds - r.places)
 
 -- how many ways go on from a suffix: the places of its next hold, or the stop and all actions
 abbrev pub ways_of : Machine → List Plan → Ask → Suffix → Option HoldRule → ℕ
 ways_of machine plans ask x (Some rule) = suc (length (order_in machine plans x rule.resource.0))
-ways_of machine plans ask x None = if nat_lt (kept_of ask + length x.choices) 64 then suc (length machine.actions) else 1
+ways_of machine plans ask x None = if nat_lt (kept_of ask + length x.choices) most_acts then suc (length machine.actions) else 1
 
 module _ (machine : Machine) (plans : List Plan) (ask : Ask) (rows : List TreeRow) where
   -- the dues of actions from one on
@@ -92,7 +94,7 @@ module _ (machine : Machine) (plans : List Plan) (ask : Ask) (rows : List TreeRo
   abbrev pub left_of : places.Branch → Option HoldRule → ℕ → List Due
   left_of b (Some rule) way = places_from machine plans ask rows b rule way
   left_of b None zero = stop_due machine plans ask rows b ++ actions_due machine plans ask rows b
-  left_of b None (suc way) = if nat_lt (kept_of ask + length b.x.choices) 64 then acts_from b way (length machine.actions - way) else []
+  left_of b None (suc way) = if nat_lt (kept_of ask + length b.x.choices) most_acts then acts_from b way (length machine.actions - way) else []
 
   abbrev pub or_no_dues : Option (List Due) → List Due
   or_no_dues None = []
@@ -113,8 +115,8 @@ module _ {N : Type 0} (reading : Reading N) where
     pub known : r.first.loc.0 < length machine.locations
     pub goal : State
     pub way : IsWay machine b.plans ask goal r.first x
-    pub few : kept_of ask + length x.choices ≤ 64
-    pub few_places : r.places ≤ 4
+    pub few : kept_of ask + length x.choices ≤ most_acts
+    pub few_places : r.places ≤ most_act_holds
     pub deep : r.depth ≤ 5 * r.count + r.places
 
   -- a board for the ask, whose tray is one of the machine's

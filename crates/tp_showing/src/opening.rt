@@ -6,6 +6,7 @@ ghost use Rattle.tp_machine.specs.Using.{action_at};
 ghost use Rattle.tp_placing.specs.Boards.{suffix_of};
 ghost use Rattle.tp_routes.specs.Tables.{AreRooms, IsMadeFor};
 ghost use Rattle.tp_schedule.specs.Answers.{kept_of};
+ghost use Rattle.tp_schedule.specs.Limits.{most_acts};
 ghost use Rattle.tp_schedule.specs.Plans.{AreNamed};
 ghost use Rattle.tp_schedule.specs.Routes.{IsGoalState, is_act_allowed};
 ghost use Rattle.tp_showing.specs.Closes.{IsLimit};
@@ -57,7 +58,7 @@ pub(crate) fn enter_act<N: Network>(
     requires placed { hold_of scene.machine.now branch ≡ None }
     requires known { act.0 < length scene.machine.now.actions }
     requires fewer { (x : Suffix) → suffix_of board.old ≡ Some x
-        → kept_of scene.ask.now + length x.choices < 64 }
+        → kept_of scene.ask.now + length x.choices < most_acts }
     ensures entered { IfOk result (λ o. (x : Suffix) → suffix_of board.old ≡ Some x
         → IsEntered N.reading scene.entry.machine.now board.old.plans
         scene.entry.ask.now scene.entry.rooms.now.sums scene.entry.limit nodes.old nodes.new
@@ -110,7 +111,7 @@ pub(crate) fn enter_goal<N: Network>(
     requires closed { suffix_of board.old ≡ None }
     requires known { goal.loc.0 < length scene.machine.now.locations }
     requires is_goal { IsGoalState scene.machine.now scene.ask.now.want scene.ask.now.goal goal }
-    requires kept { kept_of scene.ask.now ≤ 64 }
+    requires kept { kept_of scene.ask.now ≤ most_acts }
     ensures entered { IfOk result (IsGoalEntered N.reading
         scene.entry.machine.now board.old.plans scene.entry.ask.now scene.entry.rooms.now.sums
         scene.entry.limit nodes.old nodes.new board.new goal) }

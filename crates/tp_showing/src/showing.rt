@@ -5,6 +5,7 @@ ghost use Rattle.tp_machine.specs.declared.parts.State.{State};
 ghost use Rattle.tp_placing.specs.Boards.{suffix_of};
 ghost use Rattle.tp_routes.specs.Tables.{AreRooms, IsKnownOrigin, IsMadeFor};
 ghost use Rattle.tp_schedule.specs.Answers.{kept_of};
+ghost use Rattle.tp_schedule.specs.Limits.{most_acts};
 ghost use Rattle.tp_schedule.specs.Plans.{AreNamed};
 ghost use Rattle.tp_schedule.specs.Routes.{IsGoalState};
 ghost use Rattle.tp_showing.specs.Closes.{IsLimit};
@@ -42,7 +43,7 @@ fn show_goal<N: Network>(
     requires closed { suffix_of board.old ≡ None }
     requires known { state.loc.0 < length scene.machine.now.locations }
     requires is_goal { IsGoalState scene.machine.now scene.ask.now.want scene.ask.now.goal state }
-    requires kept { kept_of scene.ask.now ≤ 64 }
+    requires kept { kept_of scene.ask.now ≤ most_acts }
     requires marks { HasMarks N.reading 326 board.old }
     ensures shown { OnOk result (Shows scene.entry.machine.now board.old.plans scene.entry.ask.now
         scene.entry.rooms.now.sums scene.entry.limit nodes.old nodes.new (λ _. goal state ∷ [])
@@ -81,7 +82,7 @@ fn show_goals<N: Network>(
         states.now }
     requires are_goals { All (IsGoalState scene.machine.now scene.ask.now.want
         scene.ask.now.goal) states.now }
-    requires kept { kept_of scene.ask.now ≤ 64 }
+    requires kept { kept_of scene.ask.now ≤ most_acts }
     requires marks { HasMarks N.reading 326 board.old }
     ensures shown { OnOk result (Shows scene.entry.machine.now board.old.plans scene.entry.ask.now
         scene.entry.rooms.now.sums scene.entry.limit nodes.old nodes.new
@@ -119,7 +120,7 @@ pub fn show_limit<N: Network>(
     requires rooms { AreRooms machine.now ask.now rooms.now.sums }
     requires origin { IsKnownOrigin machine.now ask.now.origin }
     requires closed { suffix_of board.old ≡ None }
-    requires kept { kept_of ask.now ≤ 64 }
+    requires kept { kept_of ask.now ≤ most_acts }
     requires marks { HasMarks N.reading 326 board.old }
     ensures tree { IfOk result (IsBoundTree machine.entry.now board.old.plans ask.entry.now
         (pos limit)) }
