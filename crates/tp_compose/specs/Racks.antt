@@ -23,6 +23,10 @@ joins r = elements_at (codes "joins") r
 abbrev pub feeders : Members → Members
 feeders r = members_at (codes "feeders") r
 
+-- the most ports of a type
+abbrev pub most_ports : ℕ
+most_ports = 256
+
 -- the ports, the resources and the actions of a type
 abbrev pub ports : Data → List (List ℕ)
 ports t = map text_of (elements_in (get (codes "ports") t))

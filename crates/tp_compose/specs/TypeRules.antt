@@ -3,9 +3,10 @@ use Rattle.std.specs.Prelude.{ℕ, pos, Bool, false, not, is_some, ◌&&◌, ◌
 use Rattle.std.specs.List.{list_all}
 use Rattle.tp_base.specs.NameText.{is_between}
 use Rattle.toml.specs.Data.{Data, string, Members, get_member, get}
+use Rattle.tp_machine.specs.Limits.{most_act_holds, most_actions, most_modules, most_resources}
 use Rattle.tp_machine_text.specs.Words.{keys_of, data_of, elements_in, text_of, text_at, is_there, is_fit, is_array, is_table, is_whole, is_among, is_one_of, is_count, are_different}
 use Rattle.tp_machine_text.specs.ActionRules.{are_keys_among}
-use Rattle.tp_compose.specs.Racks.{rack_keys, type_keys, types, parts, ports, type_resources, type_actions}
+use Rattle.tp_compose.specs.Racks.{rack_keys, type_keys, types, parts, ports, type_resources, type_actions, most_ports}
 
 -- 1 to 15 letters, digits or `_`
 abbrev pub is_short_byte : ℕ → Bool
@@ -41,8 +42,8 @@ are_shorts least most ds = is_count least most (length ds) && list_all is_short 
 -- `ports` is an array of 1 to 256 different short texts, and `resources`, where it is there, one of at most 256
 unfoldable pub has_ports : Data → Bool
 has_ports t =
-    are_shorts 1 256 (elements_in (get (codes "ports") t))
-    && is_fit is_array (get (codes "resources") t) && are_shorts 0 256 (elements_in (get (codes "resources") t))
+    are_shorts 1 most_ports (elements_in (get (codes "ports") t))
+    && is_fit is_array (get (codes "resources") t) && are_shorts 0 most_resources (elements_in (get (codes "resources") t))
 
 abbrev pub have_ports : Members → Bool
 have_ports r = list_all has_ports (data_of (types r))
@@ -56,7 +57,7 @@ is_deed ports a =
 -- `actions` is an array of at most 512 such tables, and their names differ within the type
 unfoldable pub has_deeds : Data → Bool
 has_deeds t =
-    is_there is_array (get (codes "actions") t) && nat_le (length (type_actions t)) 512
+    is_there is_array (get (codes "actions") t) && nat_le (length (type_actions t)) most_actions
     && list_all (is_deed (ports t)) (type_actions t) && are_different (map (text_at (codes "name")) (type_actions t))
 
 abbrev pub have_deeds : Members → Bool
@@ -69,7 +70,7 @@ is_grip resources h = is_table h && is_there (is_one_of resources) (get (codes "
 -- `holds`, where it is there, is an array of at most 4 such tables
 unfoldable pub has_grips : List (List ℕ) → Data → Bool
 has_grips resources a =
-    is_fit is_array (get (codes "holds") a) && nat_le (length (elements_in (get (codes "holds") a))) 4
+    is_fit is_array (get (codes "holds") a) && nat_le (length (elements_in (get (codes "holds") a))) most_act_holds
     && list_all (is_grip resources) (elements_in (get (codes "holds") a))
 
 unfoldable pub has_all_grips : Data → Bool
@@ -81,7 +82,7 @@ have_grips r = list_all has_all_grips (data_of (types r))
 -- `parts` is there and is a table of 1 to 64 keys, each short, each value a type
 abbrev pub has_parts : Members → Bool
 has_parts r =
-    is_count 1 64 (length (keys_of (parts r))) && list_all is_short_text (keys_of (parts r))
+    is_count 1 most_modules (length (keys_of (parts r))) && list_all is_short_text (keys_of (parts r))
     && list_all (is_one_of (keys_of (types r))) (data_of (parts r))
 
 abbrev pub type_rules : Members → List Bool

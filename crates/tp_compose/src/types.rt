@@ -16,6 +16,15 @@ use tp_machine_text::looking::{
     value_at, values_in,
 };
 
+/// The most ports, resources and actions of a type, and the most parts of a rack: each is a module.
+const MOST_PORTS: usize = 256;
+
+const MOST_RESOURCES: usize = 256;
+
+const MOST_ACTIONS: usize = 512;
+
+const MOST_PARTS: usize = 64;
+
 /// The first of the rules 1 to 7 that is broken.
 pub(crate) fn first_broken_type(table: &Table) -> Option<u8>
     ensures { result ≡ first_from 1 (type_rules (table_view table.now)) }
@@ -216,9 +225,9 @@ fn has_ports(value: &Value) -> bool
     ensures { result ≡ has_ports (view value.now) }
 {
     let resources = field(value, "resources");
-    are_shorts(values_in(field(value, "ports")), 1, 256)
+    are_shorts(values_in(field(value, "ports")), 1, MOST_PORTS)
         && is_array_or_absent(resources)
-        && are_shorts(values_in(resources), 0, 256)
+        && are_shorts(values_in(resources), 0, MOST_RESOURCES)
 }
 
 #[tactic(auto, using(tp_machine_text::proofs::Seen::seen))]
@@ -244,7 +253,7 @@ fn has_deeds(value: &Value) -> bool
     let actions = field(value, "actions");
     let deeds = values_in(actions);
     is_array(actions)
-        && deeds.len() <= 512
+        && deeds.len() <= MOST_ACTIONS
         && are_deeds(values_in(field(value, "ports")), deeds)
         && differ_at(deeds, "name")
 }
@@ -356,7 +365,7 @@ fn has_parts(table: &Table) -> bool
 {
     match table_in(value_at(table, "parts")) {
         Some(parts) => {
-            let counted = 1 <= parts.len() && parts.len() <= 64;
+            let counted = 1 <= parts.len() && parts.len() <= MOST_PARTS;
             counted
                 && are_keys_short(parts)
                 && are_of_types(table_in(value_at(table, "types")), parts)

@@ -18,10 +18,14 @@ names_of list = names_in (parts_at 10 list)
 abbrev pub IsNoList : List ℕ → Type 0
 IsNoList list = names_of list ≡ None
 
+-- the most bytes of a file name
+abbrev pub most_name : ℕ
+most_name = 255
+
 -- 1 to 255 bytes of UTF-8
 pub record IsFileName (name : List ℕ) : Type 0 where
   pub some : 1 ≤ length name
-  pub short : length name ≤ 255
+  pub short : length name ≤ most_name
   pub text : IsUtf8 name
 
 -- the name at the place is the first that is none

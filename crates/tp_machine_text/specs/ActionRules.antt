@@ -2,12 +2,13 @@
 use Rattle.std.specs.Prelude.{ℕ, pos, Bool, not, ◌&&◌, List, [], ◌∷◌, length, map, codes, int_le}
 use Rattle.std.specs.List.{list_all}
 use Rattle.toml.specs.Data.{Data, Members, get, as_table}
+use Rattle.tp_machine.specs.Limits.{longest, most_actions}
 use Rattle.tp_machine_text.specs.Words.{keys_of, members_of, elements_in, text_at, whole_at, is_there, is_fit, is_array, is_table, is_truth_value, is_name, is_among, is_one_of, is_count, are_from, are_different}
 use Rattle.tp_machine_text.specs.Keys.{action_keys, kinds, locations, modules, trays, purges, feeders, actions}
 
 -- `actions` is there and is an array of 1 to 512 tables
 abbrev pub has_actions : Members → Bool
-has_actions t = is_count 1 512 (length (actions t)) && list_all is_table (actions t)
+has_actions t = is_count 1 most_actions (length (actions t)) && list_all is_table (actions t)
 
 abbrev pub are_keys_among : List (List ℕ) → Data → Bool
 are_keys_among known d = list_all (is_among known) (keys_of (members_of (as_table d)))
@@ -50,7 +51,7 @@ has_ways t = list_all (is_way (trays t) (purges t) (feeders t)) (actions t)
 unfoldable pub has_durations : Data → Bool
 has_durations a =
     int_le (pos 1) (whole_at (codes "least") a) && int_le (whole_at (codes "least") a) (whole_at (codes "most") a)
-    && int_le (whole_at (codes "most") a) (pos 4096)
+    && int_le (whole_at (codes "most") a) (pos longest)
 
 abbrev pub has_action_durations : Members → Bool
 has_action_durations t = list_all has_durations (actions t)

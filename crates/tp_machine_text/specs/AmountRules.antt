@@ -2,6 +2,7 @@
 use Rattle.std.specs.Prelude.{ℕ, ℤ, pos, Bool, not, is_some, ◌&&◌, ◌||◌, List, [], ◌∷◌, Option, codes}
 use Rattle.std.specs.List.{list_all}
 use Rattle.toml.specs.Data.{Data, Members, get_member}
+use Rattle.tp_machine.specs.Limits.{longest, most_stock}
 use Rattle.tp_machine_text.specs.Words.{keys_of, data_of, members_of, table_in, is_fit, is_table, is_whole, is_among}
 use Rattle.tp_machine_text.specs.Keys.{resources, feeders}
 use Rattle.tp_machine_text.specs.TopRules.{is_second}
@@ -20,11 +21,11 @@ has_amounts key names most t = (is_second t || not (is_some (get_member key t)))
 
 -- `gaps`, where it is there, stands in a text of format 2 and is a table from resources to whole numbers from 0 to 4,096
 abbrev pub has_gaps : Members → Bool
-has_gaps t = has_amounts (codes "gaps") (resources t) (pos 4096) t
+has_gaps t = has_amounts (codes "gaps") (resources t) (pos longest) t
 
 -- `stock`, where it is there, stands in a text of format 2 and is a table from feeders to whole numbers from 0 to 1,000,000
 abbrev pub has_stock : Members → Bool
-has_stock t = has_amounts (codes "stock") (feeders t) (pos 1000000) t
+has_stock t = has_amounts (codes "stock") (feeders t) (pos most_stock) t
 
 abbrev pub amount_rules : Members → List Bool
 amount_rules t = has_gaps t ∷ has_stock t ∷ []

@@ -3,6 +3,7 @@ use Rattle.std.specs.Prelude.{ℕ, ℤ, pos, negsuc, Bool, false, not, is_some, 
 use Rattle.std.specs.List.{list_all}
 use Rattle.std.specs.Str.{bytes_eq}
 use Rattle.toml.specs.Data.{Data, Members, get}
+use Rattle.tp_machine.specs.Limits.{most_act_holds, most_mode}
 use Rattle.tp_machine.specs.Rules.{begins_within, is_never_empty}
 use Rattle.tp_machine.specs.declared.parts.Anchor.{Anchor}
 use Rattle.tp_machine.specs.declared.parts.Anchor.TheVariants.{Start, End}
@@ -26,12 +27,12 @@ has_point key h = is_point (elements_in (get key h))
 unfoldable pub is_hold : List (List ℕ) → Data → Bool
 is_hold resources h =
     is_table h && are_keys_among hold_keys h && is_there (is_one_of resources) (get (codes "resource") h)
-    && has_point (codes "begin") h && has_point (codes "end") h && is_fit (is_whole (pos 0) (pos 255)) (get (codes "mode") h)
+    && has_point (codes "begin") h && has_point (codes "end") h && is_fit (is_whole (pos 0) (pos most_mode)) (get (codes "mode") h)
 
 -- `holds`, where it is there, is an array of at most 4 holds, and their resources differ within the action
 unfoldable pub has_holds : List (List ℕ) → Data → Bool
 has_holds resources a =
-    is_fit is_array (get (codes "holds") a) && nat_le (length (holds a)) 4 && list_all (is_hold resources) (holds a)
+    is_fit is_array (get (codes "holds") a) && nat_le (length (holds a)) most_act_holds && list_all (is_hold resources) (holds a)
     && are_different (map (text_at (codes "resource")) (holds a))
 
 -- no hold of the action has a mode

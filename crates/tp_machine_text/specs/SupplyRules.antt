@@ -3,6 +3,7 @@ use Rattle.std.specs.Prelude.{ℕ, Bool, not, ◌&&◌, nat_le, List, [], ◌∷
 use Rattle.std.specs.List.{list_all}
 use Rattle.toml.specs.Data.{Members, get_member}
 use Rattle.tp_base.specs.NameText.{is_name_text}
+use Rattle.tp_machine.specs.Limits.{most_resources}
 use Rattle.tp_machine_text.specs.Words.{data_of, members_at, is_fit, is_table, is_name, is_among, is_one_of}
 use Rattle.tp_machine_text.specs.Keys.{locations, modules, trays, purges, feeders, resources}
 
@@ -20,7 +21,7 @@ has_media t = list_all is_name (data_of (members_at (codes "feeders") t))
 
 -- `resources`, where it is there, is a table of at most 256 keys, each a name
 abbrev pub has_resources : Members → Bool
-has_resources t = is_fit is_table (get_member (codes "resources") t) && nat_le (length (resources t)) 256 && list_all is_name_text (resources t)
+has_resources t = is_fit is_table (get_member (codes "resources") t) && nat_le (length (resources t)) most_resources && list_all is_name_text (resources t)
 
 -- each value of `resources` is a module
 abbrev pub has_resource_modules : Members → Bool

@@ -2,6 +2,7 @@
 use Rattle.std.specs.Prelude.{pos, Bool, ◌&&◌, nat_le, List, [], ◌∷◌, length, codes}
 use Rattle.std.specs.List.{list_all}
 use Rattle.toml.specs.Data.{Members, get_member}
+use Rattle.tp_machine.specs.Limits.{longest, most_budget, most_locations, most_modules, most_window}
 use Rattle.tp_machine_text.specs.Words.{keys_of, elements_at, is_there, is_fit, is_array, is_whole, is_among, is_apart, are_names, are_from}
 use Rattle.tp_machine_text.specs.Keys.{top_keys, locations, trays}
 
@@ -19,23 +20,23 @@ is_second t = is_there (is_whole (pos 2) (pos 2)) (get_member (codes "format") t
 
 -- `lead`, where it is there, is a whole number from 0 to 4,096
 abbrev pub has_lead : Members → Bool
-has_lead t = is_fit (is_whole (pos 0) (pos 4096)) (get_member (codes "lead") t)
+has_lead t = is_fit (is_whole (pos 0) (pos longest)) (get_member (codes "lead") t)
 
 -- `window`, where it is there, is a whole number from 1 to 32,768
 abbrev pub has_window : Members → Bool
-has_window t = is_fit (is_whole (pos 1) (pos 32768)) (get_member (codes "window") t)
+has_window t = is_fit (is_whole (pos 1) (pos most_window)) (get_member (codes "window") t)
 
 -- `budget`, where it is there, is a whole number from 1 to 200,000
 abbrev pub has_budget : Members → Bool
-has_budget t = is_fit (is_whole (pos 1) (pos 200000)) (get_member (codes "budget") t)
+has_budget t = is_fit (is_whole (pos 1) (pos most_budget)) (get_member (codes "budget") t)
 
 -- `locations` is there and is an array of 1 to 256 different names
 abbrev pub has_locations : Members → Bool
-has_locations t = are_names 256 (elements_at (codes "locations") t)
+has_locations t = are_names most_locations (elements_at (codes "locations") t)
 
 -- `modules` is there and is an array of 1 to 64 different names
 abbrev pub has_modules : Members → Bool
-has_modules t = are_names 64 (elements_at (codes "modules") t)
+has_modules t = are_names most_modules (elements_at (codes "modules") t)
 
 -- `trays` is there and is an array of at least one location, all different
 abbrev pub has_trays : Members → Bool

@@ -3,6 +3,7 @@ ghost use Rattle.std.specs.Prelude.{◌≡◌, ◌≤◌, ◌≤ℤ◌, pos, neg
 ghost use Rattle.std.specs.List.{list_all};
 ghost use Rattle.toml.specs.Data.{get};
 ghost use Rattle.toml.specs.View.{table_view, view};
+ghost use Rattle.tp_machine.specs.Limits.{most_act_holds, most_actions, most_locations, most_mode, most_modules, most_resources};
 ghost use Rattle.tp_machine_text.specs.Words.{text_of, keys_of, members_of, is_fit, is_whole};
 ghost use Rattle.tp_machine_text.specs.ActionRules.{is_named, has_durations};
 ghost use Rattle.tp_machine_text.specs.HoldRules.{is_hold, has_holds, holds};
@@ -19,7 +20,7 @@ use tp_machine::{Action, HoldRule, Holds, ResId};
 
 fn resource_of(resources: Option<&Table>, text: &str) -> ResId
     requires { length (keys_of (members_of
-        (option_map (λ m. table_view m.now) resources))) ≤ 256 }
+        (option_map (λ m. table_view m.now) resources))) ≤ most_resources }
     ensures { result ≡ resource_of
         (keys_of (members_of (option_map (λ m. table_view m.now) resources.entry))) text.now }
 {
@@ -40,7 +41,8 @@ fn narrow(offset: i64) -> i32
 
 /// The mode of a hold, which is 0 where it is absent.
 fn mode_of(hold: &Value) -> u8
-    requires { IsTrue (is_fit (is_whole (pos 0) (pos 255)) (get (codes "mode") (view hold.now))) }
+    requires { IsTrue (is_fit (is_whole (pos 0) (pos most_mode))
+        (get (codes "mode") (view hold.now))) }
     ensures { result ≡ number_or 0 (get (codes "mode") (view hold.now)) }
 {
     match field(hold, "mode") {
@@ -52,7 +54,7 @@ fn mode_of(hold: &Value) -> u8
 #[tactic(auto, unfolding(crate::specs::TheMachine::hold_of))]
 fn hold_of(resources: Option<&Table>, hold: &Value) -> HoldRule
     requires few { length (keys_of (members_of (option_map (λ m. table_view m.now) resources)))
-        ≤ 256 }
+        ≤ most_resources }
     requires kept { is_hold (keys_of (members_of (option_map (λ m. table_view m.now) resources)))
         (view hold.now) ≡ true }
     ensures { result ≡ hold_of (keys_of
@@ -73,8 +75,8 @@ fn hold_of(resources: Option<&Table>, hold: &Value) -> HoldRule
 /// The holds of an action, in the order of the text.
 fn holds_in(resources: Option<&Table>, holds: &[Value]) -> Holds
     requires few { length (keys_of (members_of (option_map (λ m. table_view m.now) resources)))
-        ≤ 256 }
-    requires counted { length holds.now ≤ 4 }
+        ≤ most_resources }
+    requires counted { length holds.now ≤ most_act_holds }
     requires kept { list_all (is_hold
         (keys_of (members_of (option_map (λ m. table_view m.now) resources)))) (map view holds.now)
         ≡ true }
@@ -94,7 +96,7 @@ fn holds_in(resources: Option<&Table>, holds: &[Value]) -> Holds
 #[tactic(auto, unfolding(crate::specs::HoldRules::has_holds))]
 fn action_holds(resources: Option<&Table>, action: &Value) -> Holds
     requires few { length (keys_of (members_of (option_map (λ m. table_view m.now) resources)))
-        ≤ 256 }
+        ≤ most_resources }
     requires kept { has_holds (keys_of (members_of (option_map (λ m. table_view m.now) resources)))
         (view action.now) ≡ true }
     ensures { result ≡ map (hold_of
@@ -126,10 +128,10 @@ fn action_of(
     resources: Option<&Table>,
     action: &Value,
 ) -> Action
-    requires few_locations { length locations.now ≤ 256 }
-    requires few_modules { length modules.now ≤ 64 }
+    requires few_locations { length locations.now ≤ most_locations }
+    requires few_modules { length modules.now ≤ most_modules }
     requires few { length (keys_of (members_of (option_map (λ m. table_view m.now) resources)))
-        ≤ 256 }
+        ≤ most_resources }
     requires named { is_named (view action.now) ≡ true }
     requires lasting { has_durations (view action.now) ≡ true }
     requires held { has_holds (keys_of (members_of (option_map (λ m. table_view m.now) resources)))
@@ -161,11 +163,11 @@ pub(crate) fn actions_of(
     resources: Option<&Table>,
     actions: &[Value],
 ) -> Result<Items<Action>, Memory>
-    requires few_locations { length locations.now ≤ 256 }
-    requires few_modules { length modules.now ≤ 64 }
+    requires few_locations { length locations.now ≤ most_locations }
+    requires few_modules { length modules.now ≤ most_modules }
     requires few { length (keys_of (members_of (option_map (λ m. table_view m.now) resources)))
-        ≤ 256 }
-    requires counted { length actions.now ≤ 512 }
+        ≤ most_resources }
+    requires counted { length actions.now ≤ most_actions }
     requires named { list_all is_named (map view actions.now) ≡ true }
     requires lasting { list_all has_durations (map view actions.now) ≡ true }
     requires held { list_all (has_holds

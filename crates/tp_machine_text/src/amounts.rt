@@ -12,6 +12,11 @@ use crate::looking::{is_key, is_table_or_absent, is_whole, table_in, value_at};
 use crate::numbers::is_second;
 use toml::{Table, Value};
 
+/// The longest gap, in ticks, and the greatest stock.
+const LONGEST_GAP: u32 = 4096;
+
+const MOST_STOCK: u32 = 1_000_000;
+
 /// The first of the rules 25 and 26 that is broken.
 pub(crate) fn first_broken_amount(table: &Table) -> Option<u8>
     ensures { result ≡ first_from 25 (amount_rules (table_view table.now)) }
@@ -28,13 +33,13 @@ pub(crate) fn first_broken_amount(table: &Table) -> Option<u8>
 fn has_gaps(table: &Table) -> bool
     ensures { result ≡ has_gaps (table_view table.now) }
 {
-    has_amounts(table, "gaps", "resources", 4096)
+    has_amounts(table, "gaps", "resources", LONGEST_GAP)
 }
 
 fn has_stock(table: &Table) -> bool
     ensures { result ≡ has_stock (table_view table.now) }
 {
-    has_amounts(table, "stock", "feeders", 1_000_000)
+    has_amounts(table, "stock", "feeders", MOST_STOCK)
 }
 
 /// Whether the value at the key may be there, and is a table from the keys of the table at `of` to whole numbers up to

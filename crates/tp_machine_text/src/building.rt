@@ -4,6 +4,7 @@ ghost use Rattle.std.specs.List.{list_all};
 ghost use Rattle.toml.specs.Data.{get_member};
 ghost use Rattle.toml.specs.View.{table_view, view};
 ghost use Rattle.tp_base.specs.NameText.{is_name_text};
+ghost use Rattle.tp_machine.specs.Limits.{most_budget, most_locations, most_modules};
 ghost use Rattle.tp_machine.specs.Rules.{do_names_rise};
 ghost use Rattle.tp_machine_text.specs.Words.{text_of, keys_of, data_of, is_fit, is_whole, is_among, is_name, are_names, are_from, are_different};
 ghost use Rattle.tp_machine_text.specs.TheMachine.{place_in, loc_of, module_of, number_or};
@@ -16,7 +17,7 @@ use tp_machine::{LocId, ModId, Names};
 
 /// The whole number at the key, or `absent`.
 pub(crate) fn number_at(table: &Table, key: &str, absent: u32) -> u32
-    requires { IsTrue (is_fit (is_whole (pos 0) (pos 200000))
+    requires { IsTrue (is_fit (is_whole (pos 0) (pos most_budget))
         (get_member key.now (table_view table.now))) }
     ensures { result ≡ number_or absent (get_member key.now (table_view table.now)) }
 {
@@ -45,7 +46,7 @@ pub(crate) fn name_of(value: &Value) -> Name
 
 /// Adds a name that is not there yet.
 fn add_name(names: &mut Names, value: &Value) -> Result<(), Memory>
-    requires room { length names.old < 256 }
+    requires room { length names.old < most_locations }
     requires named { IsTrue (is_name (view value.now)) }
     requires new { is_among names.old (text_of (view value.now)) ≡ false }
     ensures { OnOk result (names.new ≡ names.old ++ text_of (view value.now) ∷ []) }
@@ -57,7 +58,7 @@ fn add_name(names: &mut Names, value: &Value) -> Result<(), Memory>
 /// The names of an array, in its order.
 #[tactic(auto, using(crate::proofs::Fresh::fresh, crate::proofs::Seen::seen))]
 pub(crate) fn names_of(alloc: Global, values: &[Value]) -> Result<Names, Memory>
-    requires { IsTrue (are_names 256 (map view values.now)) }
+    requires { IsTrue (are_names most_locations (map view values.now)) }
     ensures { IfOk result (λ names. names ≡ map text_of (map view values.now)) }
 {
     let mut names = Names::new(alloc);
@@ -87,14 +88,14 @@ pub(crate) fn place_in(values: &[Value], text: &str) -> usize
 }
 
 pub(crate) fn loc_of(locations: &[Value], text: &str) -> LocId
-    requires { length locations.now ≤ 256 }
+    requires { length locations.now ≤ most_locations }
     ensures { result ≡ loc_of (map text_of (map view locations.now)) text.now }
 {
     LocId(place_in(locations, text) as u16)
 }
 
 pub(crate) fn module_of(modules: &[Value], text: &str) -> ModId
-    requires { length modules.now ≤ 64 }
+    requires { length modules.now ≤ most_modules }
     ensures { result ≡ module_of (map text_of (map view modules.now)) text.now }
 {
     ModId(place_in(modules, text) as u8)
@@ -106,8 +107,8 @@ pub(crate) fn locs_of(
     locations: &[Value],
     values: &[Value],
 ) -> Result<Items<LocId>, Memory>
-    requires few { length locations.now ≤ 256 }
-    requires within { length values.now ≤ 256 }
+    requires few { length locations.now ≤ most_locations }
+    requires within { length values.now ≤ most_locations }
     ensures { IfOk result (λ locs. locs
         ≡ map (loc_of (map text_of (map view locations.now)))
         (map text_of (map view values.now))) }

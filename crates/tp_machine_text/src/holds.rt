@@ -4,6 +4,7 @@ ghost use Rattle.std.specs.List.{list_all};
 ghost use Rattle.std.specs.BTreeMap.{keys};
 ghost use Rattle.toml.specs.Data.{get};
 ghost use Rattle.toml.specs.View.{table_view, view};
+ghost use Rattle.tp_machine.specs.Limits.{most_mode};
 ghost use Rattle.tp_machine.specs.Rules.{begins_within, is_never_empty};
 ghost use Rattle.tp_machine_text.specs.Words.{is_among as is_text_among, is_one_of as is_text_of, is_there, is_fit, is_whole as is_whole_from, keys_of, members_of};
 ghost use Rattle.tp_machine_text.specs.Keys.{anchors, hold_keys, resources, actions};
@@ -134,7 +135,7 @@ fn is_hold(resources: Option<&Table>, hold: &Value) -> bool
 
 /// Whether the mode, where it is there, is a byte.
 fn has_mode(hold: &Value) -> bool
-    ensures { result ≡ is_fit (is_whole_from (pos 0) (pos 255))
+    ensures { result ≡ is_fit (is_whole_from (pos 0) (pos most_mode))
         (get (codes "mode") (view hold.now)) }
 {
     match field(hold, "mode") {

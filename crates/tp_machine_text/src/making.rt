@@ -3,6 +3,7 @@ ghost use Rattle.std.specs.Prelude.{◌≡◌, ◌<◌, ◌≤◌, pos, true, Is
 ghost use Rattle.std.specs.List.{list_all};
 ghost use Rattle.toml.specs.Data.{string, integer};
 ghost use Rattle.toml.specs.View.{table_view, view};
+ghost use Rattle.tp_machine.specs.Limits.{most_locations};
 ghost use Rattle.tp_machine.specs.Rules.{do_names_rise, feeder_names};
 ghost use Rattle.tp_machine_text.specs.Printed.{put_member, is_place, texts_data, loc_names, feeder_members, resource_members, put_amount, gap_members, stock_members, resource_names, anchor_text, point_data, hold_data, kind_words};
 
@@ -40,7 +41,7 @@ pub(crate) fn name_value(alloc: Global, name: &Name) -> Result<Value, Memory>
 
 /// An array of all the names.
 pub(crate) fn names_value(alloc: Global, names: &Names) -> Result<Value, Memory>
-    requires { length names.now ≤ 256 }
+    requires { length names.now ≤ most_locations }
     ensures { IfOk result (λ value. view value ≡ texts_data names.now) }
 {
     let mut array = Array::new(alloc);

@@ -12,6 +12,13 @@ ghost use Rattle.tp_machine_text.specs.TopRules.{has_known_keys, has_format, is_
 use crate::looking::{is_whole, value_at};
 use toml::Table;
 
+/// The longest lead and window, in ticks, and the greatest budget.
+const LONGEST_LEAD: i64 = 4096;
+
+const MOST_WINDOW: i64 = 32_768;
+
+const MOST_BUDGET: i64 = 200_000;
+
 /// The first of the rules 1 to 5 that is broken.
 pub(crate) fn first_broken_number(table: &Table) -> Option<u8>
     ensures { result ≡ first_from 1 (number_rules (table_view table.now)) }
@@ -22,13 +29,13 @@ pub(crate) fn first_broken_number(table: &Table) -> Option<u8>
     if !is_format_known(table) {
         return Some(2);
     }
-    if !is_fit(table, "lead", 0, 4096) {
+    if !is_fit(table, "lead", 0, LONGEST_LEAD) {
         return Some(3);
     }
-    if !is_fit(table, "window", 1, 32768) {
+    if !is_fit(table, "window", 1, MOST_WINDOW) {
         return Some(4);
     }
-    if !is_fit(table, "budget", 1, 200_000) {
+    if !is_fit(table, "budget", 1, MOST_BUDGET) {
         return Some(5);
     }
     None

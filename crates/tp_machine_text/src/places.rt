@@ -12,6 +12,11 @@ use crate::looking::{
 };
 use toml::{Table, Value};
 
+/// The most locations and modules.
+const MOST_LOCATIONS: usize = 256;
+
+const MOST_MODULES: usize = 64;
+
 /// The first of the rules 6 to 9 that is broken.
 pub(crate) fn first_broken_place(table: &Table) -> Option<u8>
     ensures { result ≡ first_from 6 (place_rules (table_view table.now)) }
@@ -34,13 +39,13 @@ pub(crate) fn first_broken_place(table: &Table) -> Option<u8>
 fn has_locations(table: &Table) -> bool
     ensures { result ≡ has_locations (table_view table.now) }
 {
-    are_names(values_at(table, "locations"), 256)
+    are_names(values_at(table, "locations"), MOST_LOCATIONS)
 }
 
 fn has_modules(table: &Table) -> bool
     ensures { result ≡ has_modules (table_view table.now) }
 {
-    are_names(values_at(table, "modules"), 64)
+    are_names(values_at(table, "modules"), MOST_MODULES)
 }
 
 #[tactic(auto, using(crate::proofs::Seen::seen))]

@@ -4,6 +4,7 @@ ghost use Rattle.std.specs.List.{list_all};
 ghost use Rattle.toml.specs.Data.{get_member};
 ghost use Rattle.toml.specs.View.{table_view, view};
 ghost use Rattle.tp_base.specs.NameText.{is_name_text};
+ghost use Rattle.tp_machine.specs.Limits.{most_locations, most_modules, most_resources, most_stock};
 ghost use Rattle.tp_machine.specs.Rules.{do_names_rise};
 ghost use Rattle.tp_machine_text.specs.Words.{text_of, keys_of, data_of, members_of, is_name, is_among, is_fit, is_whole};
 ghost use Rattle.tp_machine_text.specs.TheMachine.{amount_at, or_zero, feeders_of, resources_of, place_in as place_among};
@@ -18,7 +19,7 @@ use tp_machine::{Feeder, Resource};
 /// The whole number at the key, where it is there.
 #[tactic(auto, unfolding(crate::specs::TheMachine::amount_at))]
 fn amount_in(amounts: &Table, key: &str) -> Option<u32>
-    requires { IsTrue (is_fit (is_whole (pos 0) (pos 1000000))
+    requires { IsTrue (is_fit (is_whole (pos 0) (pos most_stock))
         (get_member key.now (table_view amounts.now))) }
     ensures { result ≡ amount_at key.now (table_view amounts.now) }
 {
@@ -31,7 +32,7 @@ fn amount_in(amounts: &Table, key: &str) -> Option<u32>
 /// The same of a table that may be absent.
 #[tactic(auto, unfolding(crate::specs::TheMachine::amount_at))]
 fn amount_at(amounts: Option<&Table>, key: &str) -> Option<u32>
-    requires { list_all (is_whole (pos 0) (pos 1000000))
+    requires { list_all (is_whole (pos 0) (pos most_stock))
         (data_of (members_of (option_map (λ m. table_view m.now) amounts))) ≡ true }
     ensures { result ≡ amount_at key.now
         (members_of (option_map (λ m. table_view m.now) amounts.entry)) }
@@ -43,7 +44,7 @@ fn amount_at(amounts: Option<&Table>, key: &str) -> Option<u32>
 }
 
 fn gap_at(gaps: Option<&Table>, key: &str) -> u32
-    requires { list_all (is_whole (pos 0) (pos 1000000))
+    requires { list_all (is_whole (pos 0) (pos most_stock))
         (data_of (members_of (option_map (λ m. table_view m.now) gaps))) ≡ true }
     ensures { result ≡ or_zero (amount_at key.now
         (members_of (option_map (λ m. table_view m.now) gaps.entry))) }
@@ -61,11 +62,11 @@ pub(crate) fn feeders_of(
     stocks: Option<&Table>,
     table: &Table,
 ) -> Result<Items<Feeder>, Memory>
-    requires few { length locations.now ≤ 256 }
+    requires few { length locations.now ≤ most_locations }
     requires known { list_all (is_among (map text_of (map view locations.now)))
         (keys_of (table_view table.now)) ≡ true }
     requires named { list_all is_name (data_of (table_view table.now)) ≡ true }
-    requires stocked { list_all (is_whole (pos 0) (pos 1000000))
+    requires stocked { list_all (is_whole (pos 0) (pos most_stock))
         (data_of (members_of (option_map (λ m. table_view m.now) stocks))) ≡ true }
     ensures feeders { IfOk result (λ feeders. feeders
         ≡ feeders_of (map text_of (map view locations.now))
@@ -91,10 +92,10 @@ pub(crate) fn resources_of(
     gaps: Option<&Table>,
     table: &Table,
 ) -> Result<Items<Resource>, Memory>
-    requires few { length modules.now ≤ 64 }
-    requires counted { length (keys_of (table_view table.now)) ≤ 256 }
+    requires few { length modules.now ≤ most_modules }
+    requires counted { length (keys_of (table_view table.now)) ≤ most_resources }
     requires named { list_all is_name_text (keys_of (table_view table.now)) ≡ true }
-    requires spaced { list_all (is_whole (pos 0) (pos 1000000))
+    requires spaced { list_all (is_whole (pos 0) (pos most_stock))
         (data_of (members_of (option_map (λ m. table_view m.now) gaps))) ≡ true }
     ensures resources { IfOk result
         (λ resources. resources ≡ resources_of (map text_of (map view modules.now))

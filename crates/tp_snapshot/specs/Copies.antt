@@ -10,12 +10,13 @@ use Rattle.tp_schedule.specs.declared.records.SheetName.{SheetName}
 use Rattle.tp_script.specs.Form.{GroupForm}
 use Rattle.tp_script.specs.Reading.{group_with}
 use Rattle.tp_words.specs.Fields.{◌>>=◌, name_of, pair_of}
+use Rattle.tp_standing.specs.Sound.{last_number, last_sheet}
 use Rattle.tp_bounds.specs.Sheets.{sheet_of}
 
 -- the copy of a job among these names, its sheet from 1 to 4,096, and its number from 1 to 4,000,000,000
 abbrev pub copy_by : SheetName → ℕ → Option SheetId
 copy_by sheet job =
-    if is_between 1 4096 sheet.number && is_between 1 4000000000 sheet.copy then Some (record { job = job; number = sheet.number; copy = sheet.copy }) else None
+    if is_between 1 last_sheet sheet.number && is_between 1 last_number sheet.copy then Some (record { job = job; number = sheet.number; copy = sheet.copy }) else None
 
 unfoldable pub copy_of : List (List ℕ) → List ℕ → Option SheetId
 copy_of names text = do

@@ -7,6 +7,7 @@ use Rattle.tp_machine.specs.declared.parts.LocId.{LocId}
 use Rattle.tp_words.specs.Fields.{◌>>=◌}
 use Rattle.tp_jobs.specs.Refusing.{tray_named}
 use Rattle.tp_jobs.specs.declared.parts.Job.{Job}
+use Rattle.tp_standing.specs.Sound.{most_jobs}
 use Rattle.tp_snapshot.specs.Values.{each_of, field_of, has_members, name_in}
 
 -- a text that is the name of a tray
@@ -27,7 +28,7 @@ unfoldable pub job_of : Machine → Data → Option Job
 job_of machine d = if has_members 3 d then job_from machine d else None
 
 abbrev pub jobs_of : Machine → Data → Option (List Job)
-jobs_of machine d = each_of 1000000 (codes "jobs") (job_of machine) d
+jobs_of machine d = each_of most_jobs (codes "jobs") (job_of machine) d
 
 -- no two jobs have one name
 abbrev pub DoNamesDiffer : List Job → Type 0

@@ -6,11 +6,13 @@ use Rattle.tp_machine.specs.Using.{put_out}
 use Rattle.tp_machine.specs.declared.machine.Machine.{Machine}
 use Rattle.tp_machine.specs.declared.parts.Feeder.{Feeder}
 use Rattle.tp_machine.specs.declared.parts.Outs.{Outs}
+use Rattle.tp_schedule.specs.Planning.{last_tick}
 use Rattle.tp_words.specs.Fields.{◌>>=◌}
+use Rattle.tp_standing.specs.Sound.{most_free}
 use Rattle.tp_snapshot.specs.Values.{field_of, list_of, whole_of}
 
 abbrev pub now_of : Data → Option ℕ
-now_of d = field_of (codes "now") (whole_of 1000000000) d
+now_of d = field_of (codes "now") (whole_of last_tick) d
 
 abbrev pub is_text : List ℕ → Data → Bool
 is_text name (string text) = bytes_eq text name
@@ -36,7 +38,7 @@ outs_of machine d = do
 abbrev pub free_in : Option ℕ → Data → Option (Option ℕ)
 free_in None null = Some None
 free_in None _ = None
-free_in (Some stock) d = option_map (λ free. Some free) (whole_of 1000256 d)
+free_in (Some stock) d = option_map (λ free. Some free) (whole_of most_free d)
 
 unfoldable pub stock_from : List Feeder → List Data → Option (List (Option ℕ))
 stock_from [] [] = Some []

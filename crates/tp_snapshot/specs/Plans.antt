@@ -8,6 +8,7 @@ use Rattle.tp_machine.specs.declared.machine.Machine.{Machine}
 use Rattle.tp_machine.specs.declared.parts.ActId.{ActId}
 use Rattle.tp_machine.specs.declared.parts.Action.{Action}
 use Rattle.tp_machine.specs.declared.parts.LocId.{LocId}
+use Rattle.tp_schedule.specs.Limits.{most_acts, most_live, most_plan_points}
 use Rattle.tp_schedule.specs.declared.parts.Goal.{Goal}
 use Rattle.tp_schedule.specs.declared.parts.Goal.TheVariants.{Tray, Purge}
 use Rattle.tp_schedule.specs.declared.parts.Kind.{Kind}
@@ -16,6 +17,7 @@ use Rattle.tp_schedule.specs.declared.parts.Plan.{Plan}
 use Rattle.tp_words.specs.Fields.{◌>>=◌}
 use Rattle.tp_jobs.specs.Backlogs.{names_of}
 use Rattle.tp_jobs.specs.declared.parts.Job.{Job}
+use Rattle.tp_standing.specs.Sound.{last_point}
 use Rattle.tp_snapshot.specs.declared.course.Course.{Course}
 use Rattle.tp_snapshot.specs.declared.course.Owner.{Owner}
 use Rattle.tp_snapshot.specs.Copies.{copy_in, want_in}
@@ -59,8 +61,8 @@ is_course acts points = nat_le 1 (length acts) && (length points == length acts 
 
 unfoldable pub course_of : Machine → Data → Option Course
 course_of machine d = do
-  acts ← each_of 64 (codes "acts") (act_in machine) d
-  points ← each_of 65 (codes "points") (whole_of 2000000000) d
+  acts ← each_of most_acts (codes "acts") (act_in machine) d
+  points ← each_of most_plan_points (codes "points") (whole_of last_point) d
   if is_course acts points then Some (record { acts = acts; points = points }) else None
 
 unfoldable pub owner_of : List (List ℕ) → Data → Option Owner
@@ -95,4 +97,4 @@ unfoldable pub plan_of : Machine → ℕ → List Job → Data → Option Plan
 plan_of machine now jobs d = if has_members 6 d then plan_from machine now jobs d else None
 
 abbrev pub plans_of : Machine → ℕ → List Job → Data → Option (List Plan)
-plans_of machine now jobs d = each_of 256 (codes "plans") (plan_of machine now jobs) d
+plans_of machine now jobs d = each_of most_live (codes "plans") (plan_of machine now jobs) d

@@ -5,6 +5,7 @@ ghost use Rattle.serde_json.specs.Data.{array, boolean, member, no_members, obje
 ghost use Rattle.serde_json.specs.View.{items_of, view};
 ghost use Rattle.tp_machine.specs.Rules.{is_among};
 ghost use Rattle.tp_jobs.specs.Refusing.{tray_named};
+ghost use Rattle.tp_standing.specs.Sound.{most_jobs};
 ghost use Rattle.tp_snapshot.specs.Jobs.{job_of, jobs_of, tray_in};
 ghost use Rattle.tp_snapshot.specs.Values.{few_read, field_of};
 ghost use Rattle.tp_snapshot.specs.Written.{has_place, job_data};
@@ -68,7 +69,7 @@ fn read_job(machine: &Machine, value: &Value) -> Option<JobRow>
 /// The jobs of the values, where each is one.
 fn jobs_in(alloc: Global, machine: &Machine, values: &[Value]) -> Result<Option<JobRows>, Memory>
     ensures { IfOk result (λ jobs. jobs
-        ≡ few_read 1000000 (job_of machine.now) (map view values.now)) }
+        ≡ few_read most_jobs (job_of machine.now) (map view values.now)) }
 {
     if values.len() > MOST_JOBS {
         return Ok(None);

@@ -2,6 +2,7 @@
 ghost use Rattle.std.specs.Prelude.{◌≡◌, ◌≤◌, ◌<◌, ◌^◌, IfOk, length, map};
 ghost use Rattle.serde_json.specs.Data.{array};
 ghost use Rattle.serde_json.specs.View.{items_of, view};
+ghost use Rattle.tp_machine.specs.Limits.{most_modules};
 ghost use Rattle.tp_snapshot.specs.Moments.{free_in, is_text, none_out, now_of, out_from, outs_of, stock_from, stock_of};
 ghost use Rattle.tp_snapshot.specs.Written.{out_names, stock_data, texts};
 
@@ -37,7 +38,7 @@ fn is_text(name: &Name, value: &Value) -> bool
 
 /// The modules that the values name, in the order of the machine's modules.
 fn outs_in(modules: &Names, values: &[Value]) -> Option<Outs>
-    requires { length modules.now ≤ 64 }
+    requires { length modules.now ≤ most_modules }
     ensures { result ≡ out_from 0 modules.now (map view values.now) none_out }
 {
     let mut outs = Outs(0);
@@ -114,7 +115,7 @@ pub(crate) fn read_stock(
 
 /// An array of the names of the modules that are out.
 pub(crate) fn outs_value(alloc: Global, modules: &Names, outs: Outs) -> Result<Value, Memory>
-    requires { length modules.now ≤ 64 }
+    requires { length modules.now ≤ most_modules }
     ensures { IfOk result (λ value. view value ≡ texts (out_names outs 0 modules.now)) }
 {
     let mut array = Vec::new(alloc);

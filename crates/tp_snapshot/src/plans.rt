@@ -4,8 +4,12 @@ ghost use Rattle.std.specs.List.{list_all, prefix_len};
 ghost use Rattle.std.specs.Str.{bytes_eq};
 ghost use Rattle.serde_json.specs.Data.{array, boolean, member, no_members, object};
 ghost use Rattle.serde_json.specs.View.{items_of, view};
+ghost use Rattle.tp_machine.specs.Limits.{most_actions};
+ghost use Rattle.tp_schedule.specs.Limits.{most_acts, most_live, most_plan_points};
+ghost use Rattle.tp_schedule.specs.Planning.{last_tick};
 ghost use Rattle.tp_schedule.specs.Plans.{is_front};
 ghost use Rattle.tp_jobs.specs.Backlogs.{names_of};
+ghost use Rattle.tp_standing.specs.Sound.{last_point};
 ghost use Rattle.tp_snapshot.specs.Plans.{act_in, act_named, course_of, goal_in, kind_of, owner_of, plan_of, plan_with, plans_of, released_of};
 ghost use Rattle.tp_snapshot.specs.Values.{each_of, few_read, field_of, whole_of};
 ghost use Rattle.tp_snapshot.specs.Written.{act_data, goal_data, is_action, is_goal_known, is_plan_known, plan_data, whole_data};
@@ -44,7 +48,7 @@ fn place_named(actions: &[Action], name: &Name) -> Option<usize>
 
 /// The action of this name.
 fn act_named(actions: &[Action], name: &Name) -> Option<ActId>
-    requires { length actions.now ≤ 512 }
+    requires { length actions.now ≤ most_actions }
     ensures { result ≡ act_named actions.now name.now }
 {
     match place_named(actions, name) {
@@ -61,7 +65,7 @@ fn read_act(machine: &Machine, value: &Value) -> Option<ActId>
 }
 
 fn acts_in(machine: &Machine, values: &[Value]) -> Option<Acts>
-    ensures { result ≡ few_read 64 (act_in machine.now) (map view values.now) }
+    ensures { result ≡ few_read most_acts (act_in machine.now) (map view values.now) }
 {
     if values.len() > MOST_ACTS {
         return None;
@@ -77,7 +81,7 @@ fn acts_in(machine: &Machine, values: &[Value]) -> Option<Acts>
 }
 
 fn points_in(values: &[Value]) -> Option<Points>
-    ensures { result ≡ few_read 65 (whole_of 2000000000) (map view values.now) }
+    ensures { result ≡ few_read most_plan_points (whole_of last_point) (map view values.now) }
 {
     if values.len() > MOST_POINTS {
         return None;
@@ -148,7 +152,7 @@ fn kind_of(whole: bool) -> Kind
 
 /// How many of the first starts are not after this tick.
 fn count_started(by: Tick, starts: &[Tick]) -> u32
-    requires { length starts.now ≤ 64 }
+    requires { length starts.now ≤ most_acts }
     ensures count { result ≡ prefix_len (λ start. nat_le start by) starts.now }
     ensures within { result ≤ length starts.now }
 {
@@ -160,7 +164,7 @@ fn count_started(by: Tick, starts: &[Tick]) -> u32
 
 /// How many actions with these starts count as released where those do that start by this tick.
 fn released_of(by: Tick, kind: Kind, starts: &[Tick]) -> u32
-    requires { length starts.now ≤ 64 }
+    requires { length starts.now ≤ most_acts }
     ensures { result ≡ released_of by kind starts.now }
 {
     match kind {
@@ -170,7 +174,7 @@ fn released_of(by: Tick, kind: Kind, starts: &[Tick]) -> u32
 }
 
 fn plan_with(by: Tick, job: &JobRow, owner: Owner, course: Course, goal: Goal) -> Plan
-    requires few { length course.acts ≤ 64 }
+    requires few { length course.acts ≤ most_acts }
     requires points { length course.acts ≤ length course.points }
     ensures { result ≡ plan_with by job.now owner course goal }
 {
@@ -209,7 +213,7 @@ fn read_plan(
 ) -> Option<Plan>
     requires names { names.now.keys ≡ names_of jobs.now }
     requires few { length names.now.keys < 2 ^ 32 }
-    requires moment { now ≤ 1000000000 }
+    requires moment { now ≤ last_tick }
     ensures { result ≡ plan_of machine.now now jobs.now (view value.now) }
 {
     machine_law(machine);
@@ -233,9 +237,9 @@ fn plans_in(
 ) -> Result<Option<PlanRows>, Memory>
     requires names { names.now.keys ≡ names_of jobs.now }
     requires few { length names.now.keys < 2 ^ 32 }
-    requires moment { now ≤ 1000000000 }
+    requires moment { now ≤ last_tick }
     ensures { IfOk result (λ plans. plans
-        ≡ few_read 256 (plan_of machine.now now jobs.now) (map view values.now)) }
+        ≡ few_read most_live (plan_of machine.now now jobs.now) (map view values.now)) }
 {
     if values.len() > MOST_PLANS {
         return Ok(None);
@@ -261,7 +265,7 @@ pub(crate) fn read_plans(
 ) -> Result<Option<PlanRows>, Memory>
     requires names { names.now.keys ≡ names_of jobs.now }
     requires few { length names.now.keys < 2 ^ 32 }
-    requires moment { now ≤ 1000000000 }
+    requires moment { now ≤ last_tick }
     ensures { IfOk result (λ plans. plans ≡ plans_of machine.now now jobs.now (view value.now)) }
 {
     match values_at(value, "plans") {
