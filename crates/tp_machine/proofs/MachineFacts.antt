@@ -7,8 +7,8 @@ use Rattle.std.proofs.lemmas.Int.{ints}
 use Rattle.tp_base.specs.NameText.{is_between}
 use Rattle.std.proofs.lemmas.List.Elements.{All-contains}
 use Rattle.tp_machine.specs.Using.{action_at, tick_of}
-use Rattle.tp_machine.specs.Rules.{are_different, is_among, is_way, is_feeder_place, has_durations, has_holds, is_sound_hold, begins_within, is_never_empty, is_offset, do_holds_differ}
-use Rattle.tp_machine.specs.Machines.{IsMachine, IsLocation, IsOpenPlace, IsWay, IsSoundRule, IsOffset}
+use Rattle.tp_machine.specs.Rules.{are_different, is_among, is_way, is_feeder_location, has_durations, has_holds, is_sound_hold, begins_within, is_never_empty, is_offset, do_holds_differ}
+use Rattle.tp_machine.specs.Machines.{IsMachine, IsLocation, IsOpenLocation, IsWay, IsSoundRule, IsOffset}
 use Rattle.tp_machine.specs.declared.parts.Action.{Action}
 use Rattle.tp_machine.specs.declared.parts.Anchor.{Anchor}
 use Rattle.tp_machine.specs.declared.parts.Anchor.TheVariants.{Start, End}
@@ -24,18 +24,18 @@ use Rattle.tp_machine.proofs.ModeFacts.{gap_at_most}
 use Rattle.tp_machine.proofs.Lists.{list_all-at, All-from_test, All-from_none, not_contained, AllPairs-nil, AllPairs-cons}
 
 -- a location that is not among others is not one of them
-pub not_among : (places : List LocId) (place : LocId) → is_among places place ≡ false → ¬ Contains places place
-not_among places place none = not_contained (λ p. p.0 == place.0) places place (grind (arith, nat_tests)) none
+pub not_among : (locs : List LocId) (loc : LocId) → is_among locs loc ≡ false → ¬ Contains locs loc
+not_among locs loc none = not_contained (λ p. p.0 == loc.0) locs loc (grind (arith, nat_tests)) none
 
--- places that pass their tests differ
-place_differs : (place p : LocId) → (p.0 == place.0) ≡ false → place ≢ p
-place_differs place p test same = let e : p.0 ≡ place.0 = ap (λ q. q.0) (sym same) in grind (arith, nat_tests)
+-- locations that pass their tests differ
+location_differs : (loc p : LocId) → (p.0 == loc.0) ≡ false → loc ≢ p
+location_differs loc p test same = let e : p.0 ≡ loc.0 = ap (λ q. q.0) (sym same) in grind (arith, nat_tests)
 
-places_differ : (places : List LocId) → are_different places ≡ true → AllPairs (λ p q. p ≢ q) places
-places_differ [] test = AllPairs-nil (λ p q. p ≢ q)
-places_differ (place ∷ places) test =
-    AllPairs-cons (λ p q. p ≢ q) place places
-    (All-from_none (λ p. p.0 == place.0) (λ p. place ≢ p) (place_differs place) places (grind arith)) (places_differ places (grind arith))
+locations_differ : (locs : List LocId) → are_different locs ≡ true → AllPairs (λ p q. p ≢ q) locs
+locations_differ [] test = AllPairs-nil (λ p q. p ≢ q)
+locations_differ (loc ∷ locs) test =
+    AllPairs-cons (λ p q. p ≢ q) loc locs
+    (All-from_none (λ p. p.0 == loc.0) (λ p. loc ≢ p) (location_differs loc) locs (grind arith)) (locations_differ locs (grind arith))
 
 above : (a b : ℤ) → int_le a b ≡ true → a ≤ℤ b
 above a b test = grind (arith, ints)
@@ -114,8 +114,8 @@ way_of machine a test =
       no_feeder = not_among feeders a.to feeder;
     }
 
-feeder_place : (machine : Machine) (f : Feeder) → is_feeder_place machine.locations machine.trays machine.purges f ≡ true → IsLocation machine f.loc × IsOpenPlace machine f.loc
-feeder_place machine f test =
+feeder_location : (machine : Machine) (f : Feeder) → is_feeder_location machine.locations machine.trays machine.purges f ≡ true → IsLocation machine f.loc × IsOpenLocation machine f.loc
+feeder_location machine f test =
     let known : nat_lt f.loc.0 (length machine.locations) ≡ true = grind arith in
     let tray : is_among machine.trays f.loc ≡ false = grind arith in
     let purge : is_among machine.purges f.loc ≡ false = grind arith in
@@ -175,8 +175,8 @@ is_machine machine =
       modules = within 1 64 (length machine.modules) (grind arith);
       resources = at_most (length machine.resources) 256 (grind arith);
       actions = within 1 512 (length machine.actions) (grind arith);
-      trays_differ = places_differ machine.trays (grind arith);
-      purges_differ = places_differ machine.purges (grind arith);
+      trays_differ = locations_differ machine.trays (grind arith);
+      purges_differ = locations_differ machine.purges (grind arith);
       some_tray = at_most 1 (length machine.trays) (grind arith);
       trays = All-from_test (λ p. nat_lt p.0 (length machine.locations)) (IsLocation machine) (λ p test. less_than p.0 (length machine.locations) test) machine.trays (grind arith);
       purges = λ k d below. (
@@ -184,7 +184,7 @@ is_machine machine =
         All-from_test (λ p. not (is_among machine.trays p)) (λ p. ¬ Contains machine.trays p) (λ p test. not_among machine.trays p (not_true (is_among machine.trays p) test)) machine.purges (grind arith) k d below,
       );
       some_feeder = at_most 1 (length machine.feeders) (grind arith);
-      feeders = All-from_test (is_feeder_place machine.locations machine.trays machine.purges) (λ f. IsLocation machine f.loc × IsOpenPlace machine f.loc) (feeder_place machine) machine.feeders (grind arith);
+      feeders = All-from_test (is_feeder_location machine.locations machine.trays machine.purges) (λ f. IsLocation machine f.loc × IsOpenLocation machine f.loc) (feeder_location machine) machine.feeders (grind arith);
       feeders_rise = grind arith;
       resources_rise = grind arith;
       resource_modules = All-from_test (λ r. nat_lt r.module.0 (length machine.modules)) (λ r. r.module.0 < length machine.modules) (λ r test. less_than r.module.0 (length machine.modules) test) machine.resources (grind arith);

@@ -11,18 +11,18 @@ use Rattle.tp_machine.specs.declared.parts.LocId.{LocId}
 use Rattle.tp_machine.specs.declared.machine.Machine.{Machine}
 
 abbrev pub IsLocation : Machine → LocId → Type 0
-IsLocation machine place = place.0 < length machine.locations
+IsLocation machine loc = loc.0 < length machine.locations
 
 -- a location at which nothing is put away: neither a tray nor a purge tray
-abbrev pub IsOpenPlace : Machine → LocId → Type 0
-IsOpenPlace machine place = (¬ Contains machine.trays place) × (¬ Contains machine.purges place)
+abbrev pub IsOpenLocation : Machine → LocId → Type 0
+IsOpenLocation machine loc = (¬ Contains machine.trays loc) × (¬ Contains machine.purges loc)
 
 -- an action leads from a location that is no tray or purge tray to one that is no feeder
 pub record IsWay (machine : Machine) (a : Action) : Type 0 where
   pub module_known : a.module.0 < length machine.modules
   pub from_known : IsLocation machine a.from
   pub to_known : IsLocation machine a.to
-  pub leaves : IsOpenPlace machine a.from
+  pub leaves : IsOpenLocation machine a.from
   pub no_feeder : ¬ Contains (map (λ f. f.loc) machine.feeders) a.to
 
 -- for each duration of its action the hold is not empty and begins at or after the action's start
@@ -58,7 +58,7 @@ pub record IsMachine (machine : Machine) : Type 0 where
   pub trays : All (IsLocation machine) machine.trays
   pub purges : All (λ p. IsLocation machine p × ¬ Contains machine.trays p) machine.purges
   pub some_feeder : 1 ≤ length machine.feeders
-  pub feeders : All (λ f. IsLocation machine f.loc × IsOpenPlace machine f.loc) machine.feeders
+  pub feeders : All (λ f. IsLocation machine f.loc × IsOpenLocation machine f.loc) machine.feeders
   pub feeders_rise : IsTrue (do_names_rise (feeder_names machine.locations machine.feeders))
   pub resources_rise : IsTrue (do_names_rise (map (λ r. r.name) machine.resources))
   pub resource_modules : All (λ r. r.module.0 < length machine.modules) machine.resources

@@ -6,7 +6,7 @@ use crate::names::Names;
 use crate::parts::{Action, Feeder, LocId, Resource};
 use tp_base::{Items, Tick};
 
-/// A printer: its places and modules, and the actions that move a sheet through it.
+/// A printer: its locations and modules, and the actions that move a sheet through it.
 ///
 /// `lead` is how many ticks before its start an action is released, and `window` how many ticks
 /// from now on a sheet may take to its end. `budget` is how many choice lists a search may store.

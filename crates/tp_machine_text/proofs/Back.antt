@@ -21,7 +21,7 @@ use Rattle.tp_machine.specs.declared.parts.Resource.{Resource}
 use Rattle.tp_machine_text.specs.Words.{text_of, values_of, keys_of, is_among, are_different}
 use Rattle.tp_machine_text.specs.HoldRules.{anchor_of}
 use Rattle.tp_machine_text.specs.TheMachine.{place_in, amount_at, loc_of, feeders_of, resources_of, hold_of, action_of}
-use Rattle.tp_machine_text.specs.Printed.{is_place, is_of_resource, is_known, name_at, loc_names, feeder_members, resource_members, gaps_of, stocks_of, resource_names, anchor_text, kind_words, hold_data, action_data}
+use Rattle.tp_machine_text.specs.Printed.{is_location, is_of_resource, is_known, name_at, loc_names, feeder_members, resource_members, gaps_of, stocks_of, resource_names, anchor_text, kind_words, hold_data, action_data}
 use Rattle.tp_machine_text.proofs.AmountsBack.{HasAmount}
 use Rattle.tp_machine_text.proofs.Fitting.{knows}
 use Rattle.tp_machine_text.proofs.Seen.{values_of-items}
@@ -82,14 +82,14 @@ same_texts (x ∷ xs) = ap (λ t. x ∷ t) (same_texts xs)
 pub texts_back : (xs : List (List ℕ)) → map text_of (values_of (items_of (map string xs))) ≡ xs
 texts_back xs = ap (map text_of) (values_of-items (map string xs)) ∙ same_texts xs
 
-pub is_within : (n : ℕ) (l : LocId) → is_place n l ≡ true → l.0 < n
-unfolding is_place
+pub is_within : (n : ℕ) (l : LocId) → is_location n l ≡ true → l.0 < n
+unfolding is_location
 is_within n l test = grind (arith, nat_tests)
 
-pub locs_back : (names : List (List ℕ)) (locs : List LocId) → are_different names ≡ true → list_all (is_place (length names)) locs ≡ true → map (loc_of names) (loc_names names locs) ≡ locs
+pub locs_back : (names : List (List ℕ)) (locs : List LocId) → are_different names ≡ true → list_all (is_location (length names)) locs ≡ true → map (loc_of names) (loc_names names locs) ≡ locs
 locs_back names [] differ known = refl
 locs_back names (l ∷ locs) differ known =
-    let (here, rest) = and_parts (is_place (length names) l) (list_all (is_place (length names)) locs) known in
+    let (here, rest) = and_parts (is_location (length names) l) (list_all (is_location (length names)) locs) known in
     rw (place_back names l.0 differ (is_within (length names) l here), locs_back names locs differ rest)
 
 lt_of : (n m : ℕ) → nat_lt n m ≡ true → n < m

@@ -118,4 +118,4 @@ pub machine_built : (m : Machine) (t0 t1 t2 t3 t4 : Members) → t0 ≡ no_membe
     → t4 ≡ put_member (codes "stock") (table (stock_members m.locations m.feeders)) (put_member (codes "gaps") (table (gap_members m.resources)) t3)
     → t4 ≡ table_of m
 unfolding table_of
-machine_built m t0 t1 t2 t3 t4 none numbers places parts amounts = rw (amounts, parts, places, numbers, none)
+machine_built m t0 t1 t2 t3 t4 none numbers locations parts amounts = rw (amounts, parts, locations, numbers, none)

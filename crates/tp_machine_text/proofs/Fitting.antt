@@ -1,4 +1,4 @@
--- The numbers in a machine are those of its own places, modules and resources.
+-- The numbers in a machine are those of its own locations, modules and resources.
 use Rattle.std.proofs.Common.{◌≡◌, ℕ, ◌<◌, true, not, ◌&&◌, List, [], ◌∷◌, length, refl, arith}
 use Rattle.std.specs.Prelude.{nat_lt, nat_le}
 use Rattle.std.specs.List.{list_all}
@@ -10,33 +10,33 @@ use Rattle.tp_machine.specs.declared.parts.Feeder.{Feeder}
 use Rattle.tp_machine.specs.declared.parts.HoldRule.{HoldRule}
 use Rattle.tp_machine.specs.declared.parts.LocId.{LocId}
 use Rattle.tp_machine.specs.declared.parts.Resource.{Resource}
-use Rattle.tp_machine_text.specs.Printed.{is_place, is_of_resource, is_known}
+use Rattle.tp_machine_text.specs.Printed.{is_location, is_of_resource, is_known}
 
-places_fit : (names : List (List ℕ)) (locs : List LocId) → machine.are_locations names locs ≡ true → list_all (is_place (length names)) locs ≡ true
-unfolding is_place
-places_fit names locs test = test
+locations_fit : (names : List (List ℕ)) (locs : List LocId) → machine.are_locations names locs ≡ true → list_all (is_location (length names)) locs ≡ true
+unfolding is_location
+locations_fit names locs test = test
 
-pub trays_fit : (names : List (List ℕ)) (locs : List LocId) → machine.are_trays names locs ≡ true → list_all (is_place (length names)) locs ≡ true
+pub trays_fit : (names : List (List ℕ)) (locs : List LocId) → machine.are_trays names locs ≡ true → list_all (is_location (length names)) locs ≡ true
 trays_fit names locs test =
     let (first, differ) = and_parts (nat_le 1 (length locs) && machine.are_locations names locs) (machine.are_different locs) test in
-    places_fit names locs (and_parts (nat_le 1 (length locs)) (machine.are_locations names locs) first).1
+    locations_fit names locs (and_parts (nat_le 1 (length locs)) (machine.are_locations names locs) first).1
 
-pub purges_fit : (names : List (List ℕ)) (trays locs : List LocId) → machine.are_purges names trays locs ≡ true → list_all (is_place (length names)) locs ≡ true
+pub purges_fit : (names : List (List ℕ)) (trays locs : List LocId) → machine.are_purges names trays locs ≡ true → list_all (is_location (length names)) locs ≡ true
 purges_fit names trays locs test =
     let (first, apart) = and_parts (machine.are_locations names locs && machine.are_different locs) (list_all (λ p. not (machine.is_among trays p)) locs) test in
-    places_fit names locs (and_parts (machine.are_locations names locs) (machine.are_different locs) first).0
+    locations_fit names locs (and_parts (machine.are_locations names locs) (machine.are_different locs) first).0
 
-all_there : (names : List (List ℕ)) (trays purges : List LocId) (fs : List Feeder) → list_all (machine.is_feeder_place names trays purges) fs ≡ true → list_all (λ f. nat_lt f.loc.0 (length names)) fs ≡ true
+all_there : (names : List (List ℕ)) (trays purges : List LocId) (fs : List Feeder) → list_all (machine.is_feeder_location names trays purges) fs ≡ true → list_all (λ f. nat_lt f.loc.0 (length names)) fs ≡ true
 all_there names trays purges [] test = refl
 all_there names trays purges (f ∷ fs) test =
-    let (here, rest) = and_parts (machine.is_feeder_place names trays purges f) (list_all (machine.is_feeder_place names trays purges) fs) test in
+    let (here, rest) = and_parts (machine.is_feeder_location names trays purges f) (list_all (machine.is_feeder_location names trays purges) fs) test in
     let (first, no_purge) = and_parts (nat_lt f.loc.0 (length names) && not (machine.is_among trays f.loc)) (not (machine.is_among purges f.loc)) here in
     rw ((and_parts (nat_lt f.loc.0 (length names)) (not (machine.is_among trays f.loc)) first).0, all_there names trays purges fs rest)
 
 pub feeders_fit : (names : List (List ℕ)) (trays purges : List LocId) (fs : List Feeder) → machine.are_feeders names trays purges fs ≡ true → list_all (λ f. nat_lt f.loc.0 (length names)) fs ≡ true
 feeders_fit names trays purges fs test =
-    let (first, rise) = and_parts (nat_le 1 (length fs) && list_all (machine.is_feeder_place names trays purges) fs) (machine.do_names_rise (machine.feeder_names names fs)) test in
-    all_there names trays purges fs (and_parts (nat_le 1 (length fs)) (list_all (machine.is_feeder_place names trays purges) fs) first).1
+    let (first, rise) = and_parts (nat_le 1 (length fs) && list_all (machine.is_feeder_location names trays purges) fs) (machine.do_names_rise (machine.feeder_names names fs)) test in
+    all_there names trays purges fs (and_parts (nat_le 1 (length fs)) (list_all (machine.is_feeder_location names trays purges) fs) first).1
 
 -- ---- actions
 

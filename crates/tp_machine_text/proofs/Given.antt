@@ -18,8 +18,8 @@ few_seen vs ds n seen few =
     let s = ap length seen in
     omega arith
 
-pub few_places : (t : Members) (k : KeepsRules t) (ds : List Data) (vs : List Value) → are_from (text.locations t) ds ≡ true → map view vs ≡ ds → length vs ≤ 256
-few_places t k ds vs from seen =
+pub few_known : (t : Members) (k : KeepsRules t) (ds : List Data) (vs : List Value) → are_from (text.locations t) ds ≡ true → map view vs ≡ ds → length vs ≤ 256
+few_known t k ds vs from seen =
     let few = few_from (text.locations t) ds from in
     let e = length_texts (elements_at (codes "locations") t) in
     let s = few_locations t k in

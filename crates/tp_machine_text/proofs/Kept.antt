@@ -2,7 +2,7 @@
 use Rattle.std.proofs.Common.{◌≡◌, ℕ, suc, Bool, true, false, List, [], ◌∷◌, Option, Some, None, refl}
 use Rattle.toml.specs.Data.{Members}
 use Rattle.tp_machine_text.specs.Order.{first_from, or_else}
-use Rattle.tp_machine_text.specs.TopRules.{number_rules, place_rules}
+use Rattle.tp_machine_text.specs.TopRules.{number_rules, location_rules}
 use Rattle.tp_machine_text.specs.SupplyRules.{supply_rules}
 use Rattle.tp_machine_text.specs.ActionRules.{action_rules}
 use Rattle.tp_machine_text.specs.HoldRules.{hold_rules}
@@ -26,12 +26,12 @@ or_else-None (Some n) b none = cc
 pub kept : (t : Members) → first_broken t ≡ None → KeepsRules t
 kept t none =
     let (numbers, later) = or_else-None (first_from 1 (number_rules t)) _ none in
-    let (places, later_still) = or_else-None (first_from 6 (place_rules t)) _ later in
+    let (locations, later_still) = or_else-None (first_from 6 (location_rules t)) _ later in
     let (supplies, last) = or_else-None (first_from 10 (supply_rules t)) _ later_still in
     let (deeds, still) = or_else-None (first_from 14 (action_rules t)) _ last in
     let (ties, amounts) = or_else-None (first_from 22 (hold_rules t)) (first_from 25 (amount_rules t)) still in
     let a = all_kept 1 (number_rules t) numbers in
-    let b = all_kept 6 (place_rules t) places in
+    let b = all_kept 6 (location_rules t) locations in
     let c = all_kept 10 (supply_rules t) supplies in
     let d = all_kept 14 (action_rules t) deeds in
     let e = all_kept 22 (hold_rules t) ties in

@@ -8,7 +8,7 @@ use Rattle.tp_base.specs.NameText.{is_name_text}
 use Rattle.toml.specs.Data.{Data, Members, get_member}
 use Rattle.tp_machine_text.specs.Words.{elements_at, members_at, keys_of, data_of, is_whole, text_of, is_fit, is_array, is_table, is_name, is_among, is_one_of, is_apart, is_count, are_names, are_from, are_different}
 use Rattle.tp_machine_text.specs.Keys as text
-use Rattle.tp_machine_text.specs.SupplyRules.{is_open_place}
+use Rattle.tp_machine_text.specs.SupplyRules.{is_open_location}
 use Rattle.tp_machine_text.specs.TopRules.{is_second}
 use Rattle.tp_machine_text.specs.ActionRules.{is_named}
 use Rattle.tp_machine_text.specs.HoldRules.{has_holds, lacks_modes}
@@ -65,10 +65,10 @@ module _ (t : Members) (k : KeepsRules t) where
   purges_apart = purge_parts.1
 
   pub some_feeder : nat_le 1 (length (text.feeders t)) ≡ true
-  some_feeder = (and_parts (nat_le 1 (length (text.feeders t))) (list_all (is_open_place (text.locations t) (text.trays t) (text.purges t)) (text.feeders t)) k.feeders).0
+  some_feeder = (and_parts (nat_le 1 (length (text.feeders t))) (list_all (is_open_location (text.locations t) (text.trays t) (text.purges t)) (text.feeders t)) k.feeders).0
 
-  pub feeders_open : list_all (is_open_place (text.locations t) (text.trays t) (text.purges t)) (text.feeders t) ≡ true
-  feeders_open = (and_parts (nat_le 1 (length (text.feeders t))) (list_all (is_open_place (text.locations t) (text.trays t) (text.purges t)) (text.feeders t)) k.feeders).1
+  pub feeders_open : list_all (is_open_location (text.locations t) (text.trays t) (text.purges t)) (text.feeders t) ≡ true
+  feeders_open = (and_parts (nat_le 1 (length (text.feeders t))) (list_all (is_open_location (text.locations t) (text.trays t) (text.purges t)) (text.feeders t)) k.feeders).1
 
   pub feeders_known : list_all (is_among (text.locations t)) (text.feeders t) ≡ true
   feeders_known = keys_known (text.locations t) (text.trays t) (text.purges t) (text.feeders t) feeders_open

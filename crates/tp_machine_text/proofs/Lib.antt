@@ -25,7 +25,7 @@ pub mod Fitting
 pub mod Back
 pub mod Depth
 pub mod PrintedBack
-pub mod PrintedPlaces
+pub mod PrintedLocations
 pub mod PrintedActions
 pub mod MachineParts
 pub mod PrintedTops

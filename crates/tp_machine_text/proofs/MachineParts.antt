@@ -10,7 +10,7 @@ use Rattle.tp_machine.specs.declared.parts.Feeder.{Feeder}
 use Rattle.tp_machine.specs.declared.parts.LocId.{LocId}
 use Rattle.tp_machine.specs.declared.machine.Machine.{Machine}
 use Rattle.tp_machine_text.specs.Words.{are_different}
-use Rattle.tp_machine_text.specs.Printed.{is_place, is_known, resource_names}
+use Rattle.tp_machine_text.specs.Printed.{is_location, is_known, resource_names}
 use Rattle.tp_machine.proofs.NameFacts.{name_tests}
 use Rattle.tp_machine_text.proofs.ActionFacts.{same_differ}
 use Rattle.tp_machine_text.proofs.Back.{rise_differ}
@@ -49,14 +49,14 @@ module _ (m : Machine) where
   pub modules_differ : are_different m.modules ≡ true
   modules_differ = sym (same_differ m.modules) ∙ (name_tests m).modules_differ
 
-  pub known_trays : list_all (is_place (length m.locations)) m.trays ≡ true
+  pub known_trays : list_all (is_location (length m.locations)) m.trays ≡ true
   known_trays = trays_fit m.locations m.trays m.good_trays
 
-  pub known_purges : list_all (is_place (length m.locations)) m.purges ≡ true
+  pub known_purges : list_all (is_location (length m.locations)) m.purges ≡ true
   known_purges = purges_fit m.locations m.trays m.purges m.good_purges
 
-  pub known_feeders : list_all (is_place (length m.locations)) (map (λ f. f.loc) m.feeders) ≡ true
-  unfolding is_place
+  pub known_feeders : list_all (is_location (length m.locations)) (map (λ f. f.loc) m.feeders) ≡ true
+  unfolding is_location
   known_feeders = list_all-map (λ (l : LocId). nat_lt l.0 (length m.locations)) (λ (f : Feeder). f.loc) m.feeders ∙ feeders_fit m.locations m.trays m.purges m.feeders m.good_feeders
 
   pub known_resources : list_all (λ r. nat_lt r.module.0 (length m.modules)) m.resources ≡ true

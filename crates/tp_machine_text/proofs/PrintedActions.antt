@@ -20,11 +20,11 @@ use Rattle.tp_machine_text.specs.Words.{values_of, text_at, is_table, is_whole, 
 use Rattle.tp_machine_text.specs.Keys.{action_keys, anchors, kinds}
 use Rattle.tp_machine_text.specs.ActionRules.{are_keys_among, is_named, is_of_module, has_ends, is_way, has_durations, has_prints}
 use Rattle.tp_machine_text.specs.HoldRules.{is_hold, has_holds, begins_in_action, begins_all, is_filled, fills_all}
-use Rattle.tp_machine_text.specs.Printed.{is_place, is_of_resource, is_known, loc_names, anchor_text, hold_data, kind_words, action_data}
+use Rattle.tp_machine_text.specs.Printed.{is_location, is_of_resource, is_known, loc_names, anchor_text, hold_data, kind_words, action_data}
 use Rattle.tp_machine_text.proofs.Back.{anchor_back, at_known, holds_back}
 use Rattle.tp_machine_text.proofs.Fitting.{all_held, knows}
 use Rattle.tp_machine_text.proofs.HoldsFacts.{holds_differ}
-use Rattle.tp_machine_text.proofs.PrintedPlaces.{among_back}
+use Rattle.tp_machine_text.proofs.PrintedLocations.{among_back}
 use Rattle.tp_machine_text.proofs.Seen.{values_of-items}
 
 -- what is known of each of a list passes another test, as it is printed
@@ -63,7 +63,7 @@ module _ (ls ms rs : List (List ℕ)) where
       let k = knows (length ls) (length ms) (length rs) a known in
       rw (at_known ls a.from.0 k.from, at_known ls a.to.0 k.to)
 
-  pub way_printed : (trays purges feeders : List LocId) → are_different ls ≡ true → list_all (is_place (length ls)) trays ≡ true → list_all (is_place (length ls)) purges ≡ true → list_all (is_place (length ls)) feeders ≡ true
+  pub way_printed : (trays purges feeders : List LocId) → are_different ls ≡ true → list_all (is_location (length ls)) trays ≡ true → list_all (is_location (length ls)) purges ≡ true → list_all (is_location (length ls)) feeders ≡ true
       → (a : Action) → is_known (length ls) (length ms) (length rs) a ≡ true → (not (machine.is_among trays a.from) && not (machine.is_among purges a.from) && not (machine.is_among feeders a.to)) ≡ true
       → is_way (loc_names ls trays) (loc_names ls purges) (loc_names ls feeders) (action_data ls ms rs a) ≡ true
   unfolding action_data is_way

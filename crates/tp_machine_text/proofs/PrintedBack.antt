@@ -4,7 +4,7 @@ use Rattle.std.specs.Prelude.{codes, nat_le, nat_lt, length}
 use Rattle.std.specs.List.{list_all, AllByRecursion}
 use Rattle.std.proofs.lemmas.Bool.{and_parts}
 use Rattle.std.proofs.lemmas.List.{length-map}
-use Rattle.tp_machine.specs.Rules.{do_names_rise, is_feeder_place, feeder_names}
+use Rattle.tp_machine.specs.Rules.{do_names_rise, is_feeder_location, feeder_names}
 use Rattle.tp_machine.specs.declared.parts.Resource.{Resource}
 use Rattle.tp_machine.specs.declared.machine.Machine.{Machine}
 use Rattle.tp_machine_text.specs.Words.{elements_at, are_different}
@@ -60,7 +60,7 @@ gaps_found rs differ = amounts_found (gaps_of rs) (rw (gap_names rs) differ)
 
 stocks_found : (m : Machine) → AllByRecursion (HasAmount (stock_members m.locations m.feeders)) (stocks_of m.locations m.feeders)
 stocks_found m =
-    let (first, rise) = and_parts (nat_le 1 (length m.feeders) && list_all (is_feeder_place m.locations m.trays m.purges) m.feeders) (do_names_rise (feeder_names m.locations m.feeders)) m.good_feeders in
+    let (first, rise) = and_parts (nat_le 1 (length m.feeders) && list_all (is_feeder_location m.locations m.trays m.purges) m.feeders) (do_names_rise (feeder_names m.locations m.feeders)) m.good_feeders in
     amounts_found (stocks_of m.locations m.feeders) (rw (stock_names m.locations m.feeders) (rise_differ (feeder_names m.locations m.feeders) rise))
 
 pub printed_back : (m : Machine) → are_different m.locations ≡ true → are_different m.modules ≡ true → IsMachineOf (table_of m) m

@@ -1,4 +1,4 @@
--- The numbers, places, feeders and resources of a printed table keep their rules.
+-- The numbers, locations, feeders and resources of a printed table keep their rules.
 use Rattle.std.proofs.Common.{◌≡◌, ℕ, true, not, ◌&&◌, Option, Some, None, List, [], ◌∷◌, length, map, refl, ◌∙◌, arith}
 use Rattle.std.specs.Prelude.{nat_le, pos}
 use Rattle.std.specs.List.{list_all}
@@ -23,7 +23,7 @@ use Rattle.tp_machine_text.proofs.AmountsBack.{is_small, amounts_printed, all_am
 use Rattle.tp_machine_text.proofs.Built.{gap_names, stock_names}
 use Rattle.tp_machine_text.proofs.MachineParts.{number_tests, count_tests, locations_differ, modules_differ, known_trays, known_purges, known_resources, same_count}
 use Rattle.tp_machine_text.proofs.Back.{texts_back, feeder_keys, resource_keys}
-use Rattle.tp_machine_text.proofs.PrintedPlaces as places
+use Rattle.tp_machine_text.proofs.PrintedLocations as printed
 use Rattle.tp_machine_text.proofs.Seen.{list_all-map, values_of-items}
 
 at_most_printed : (high n : ℕ) → nat_le n high ≡ true → is_whole (pos 0) (pos high) (integer (pos n)) ≡ true
@@ -64,18 +64,18 @@ module _ (m : Machine) where
 
   pub locations : has_locations (table_of m) ≡ true
   unfolding table_of
-  locations = rw (values_of-items (map string m.locations)) (places.names_printed 256 m.locations (count_tests m).locations (name_tests m).locations (locations_differ m))
+  locations = rw (values_of-items (map string m.locations)) (printed.names_printed 256 m.locations (count_tests m).locations (name_tests m).locations (locations_differ m))
 
   pub modules : has_modules (table_of m) ≡ true
   unfolding table_of
-  modules = rw (values_of-items (map string m.modules)) (places.names_printed 64 m.modules (count_tests m).modules (name_tests m).modules (modules_differ m))
+  modules = rw (values_of-items (map string m.modules)) (printed.names_printed 64 m.modules (count_tests m).modules (name_tests m).modules (modules_differ m))
 
   pub trays : has_trays (table_of m) ≡ true
   unfolding table_of
   trays =
       let (first, differ) = and_parts (nat_le 1 (length m.trays) && machine.are_locations m.locations m.trays) (machine.are_different m.trays) m.good_trays in
       let (some, known) = and_parts (nat_le 1 (length m.trays)) (machine.are_locations m.locations m.trays) first in
-      rw (values_of-items (map string (loc_names m.locations m.trays)), texts_back m.locations) (places.trays_printed m.locations m.trays (locations_differ m) (known_trays m) some differ)
+      rw (values_of-items (map string (loc_names m.locations m.trays)), texts_back m.locations) (printed.trays_printed m.locations m.trays (locations_differ m) (known_trays m) some differ)
 
   pub purges : has_purges (table_of m) ≡ true
   unfolding table_of
@@ -86,17 +86,17 @@ module _ (m : Machine) where
         values_of-items (map string (loc_names m.locations m.purges)),
         texts_back m.locations,
         texts_back (loc_names m.locations m.trays),
-        places.texts_printed m.locations (loc_names m.locations m.purges) (places.locs_among m.locations m.purges (known_purges m)) (places.locs_apart m.locations m.purges (locations_differ m) (known_purges m) ∙ differ),
+        printed.texts_printed m.locations (loc_names m.locations m.purges) (printed.locs_among m.locations m.purges (known_purges m)) (printed.locs_apart m.locations m.purges (locations_differ m) (known_purges m) ∙ differ),
       )
-      (places.purges_apart m.locations m.trays m.purges (locations_differ m) (known_trays m) (known_purges m) apart)
+      (printed.purges_apart m.locations m.trays m.purges (locations_differ m) (known_trays m) (known_purges m) apart)
 
   -- ---- feeders and resources
 
   pub feeders : has_feeders (table_of m) ≡ true
   unfolding table_of
   feeders =
-      let (first, rise) = and_parts (nat_le 1 (length m.feeders) && list_all (machine.is_feeder_place m.locations m.trays m.purges) m.feeders) (machine.do_names_rise (machine.feeder_names m.locations m.feeders)) m.good_feeders in
-      let (some, open_places) = and_parts (nat_le 1 (length m.feeders)) (list_all (machine.is_feeder_place m.locations m.trays m.purges) m.feeders) first in
+      let (first, rise) = and_parts (nat_le 1 (length m.feeders) && list_all (machine.is_feeder_location m.locations m.trays m.purges) m.feeders) (machine.do_names_rise (machine.feeder_names m.locations m.feeders)) m.good_feeders in
+      let (some, open_locations) = and_parts (nat_le 1 (length m.feeders)) (list_all (machine.is_feeder_location m.locations m.trays m.purges) m.feeders) first in
       rw (
         feeder_keys m.locations m.feeders,
         length-map m.feeders (λ (f : Feeder). name_at m.locations f.loc.0),
@@ -105,11 +105,11 @@ module _ (m : Machine) where
         texts_back (loc_names m.locations m.trays),
         texts_back (loc_names m.locations m.purges),
       )
-      (places.feeders_printed m.locations m.trays m.purges m.feeders (locations_differ m) (known_trays m) (known_purges m) open_places)
+      (printed.feeders_printed m.locations m.trays m.purges m.feeders (locations_differ m) (known_trays m) (known_purges m) open_locations)
 
   pub media : has_media (table_of m) ≡ true
   unfolding table_of
-  media = places.media_printed m.locations m.feeders (name_tests m).media
+  media = printed.media_printed m.locations m.feeders (name_tests m).media
 
   pub resources : has_resources (table_of m) ≡ true
   unfolding table_of
@@ -125,4 +125,4 @@ module _ (m : Machine) where
 
   pub resource_modules : has_resource_modules (table_of m) ≡ true
   unfolding table_of
-  resource_modules = rw (texts_back m.modules) (places.modules_printed m.modules m.resources (known_resources m))
+  resource_modules = rw (texts_back m.modules) (printed.modules_printed m.modules m.resources (known_resources m))

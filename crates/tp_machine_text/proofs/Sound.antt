@@ -14,7 +14,7 @@ use Rattle.tp_machine_text.specs.Kept.{KeepsRules}
 use Rattle.tp_machine_text.specs.TheMachine.{number_or, loc_of, feeders_of, resources_of, action_of}
 use Rattle.tp_machine_text.proofs.NumberFacts.{number_between, length_texts, length_resources, length_feeders}
 use Rattle.tp_machine_text.proofs.KeptFacts.{names_parts, trays_from, purges_from, purges_apart, some_feeder, feeders_open, feeders_known, few_resources_test, actions_counted, actions_named, actions_differ, resources_named, texts_known, holds_kept, gaps_whole, stocks_whole}
-use Rattle.tp_machine_text.proofs.SupplyFacts.{sound_trays, sound_purges, feeder_places, feeder_names_are, sound_resources}
+use Rattle.tp_machine_text.proofs.SupplyFacts.{sound_trays, sound_purges, feeder_locations, feeder_names_are, sound_resources}
 use Rattle.tp_machine_text.proofs.ActionFacts.{same_differ, action_names, sound_ways, sound_durations}
 use Rattle.tp_machine_text.proofs.AmountFacts.{amounts_sound}
 use Rattle.tp_machine_text.proofs.HoldsFacts.{actions_held}
@@ -40,12 +40,12 @@ module _ (t : Members) (k : KeepsRules t) where
 
   pub counts : machine.are_counts (text.locations t) (text.modules t) (resources_of (text.modules t) (text.gaps t) (resource_table t)) (map (action_of (text.locations t) (text.modules t) (text.resources t)) (text.actions t)) ≡ true
   counts =
-      let places = names_parts 256 (elements_at (codes "locations") t) k.locations in
+      let locations = names_parts 256 (elements_at (codes "locations") t) k.locations in
       let parts = names_parts 64 (elements_at (codes "modules") t) k.modules in
       rw (
         length_texts (elements_at (codes "locations") t),
-        places.some,
-        places.few,
+        locations.some,
+        locations.few,
         length_texts (elements_at (codes "modules") t),
         parts.some,
         parts.few,
@@ -73,7 +73,7 @@ module _ (t : Members) (k : KeepsRules t) where
       rw (
         length_feeders (text.locations t) (text.stocks t) (feeder_table t),
         some_feeder t k,
-        feeder_places (text.locations t) (text.trays t) (text.purges t) (text.stocks t) (feeder_table t) trays_known purges_known (feeders_open t k),
+        feeder_locations (text.locations t) (text.trays t) (text.purges t) (text.stocks t) (feeder_table t) trays_known purges_known (feeders_open t k),
         feeder_names_are (text.locations t) (text.stocks t) (feeder_table t) (feeders_known t k),
         rise,
       )

@@ -7,7 +7,7 @@ use Rattle.std.proofs.lemmas.List.{length-map}
 use Rattle.toml.specs.Data.{Data, Members, no_members, member}
 use Rattle.tp_machine.specs.Rules as machine
 use Rattle.tp_machine_text.specs.Words.{keys_of, data_of, text_of, is_among, is_one_of, is_apart, are_different, are_from}
-use Rattle.tp_machine_text.specs.SupplyRules.{is_open_place}
+use Rattle.tp_machine_text.specs.SupplyRules.{is_open_location}
 use Rattle.tp_machine_text.specs.TheMachine.{loc_of, feeders_of, resources_of}
 use Rattle.tp_machine_text.proofs.PlaceFacts.{place_known, place_named, loc_among, locs_known, locs_differ}
 use Rattle.tp_machine_text.proofs.TextFacts.{one_of, all_one_of, all_apart}
@@ -20,7 +20,7 @@ sound_trays names ds test =
     let long : length (map (loc_of names) (map text_of ds)) ≡ length ds = length-map (map text_of ds) (loc_of names) ∙ length-map ds text_of in
     rw (long, some, locs_known names (map text_of ds) texts, locs_differ names (map text_of ds) texts, differ)
 
--- places apart from others, told by their names
+-- locations apart from others, told by their names
 locs_apart : (names others xs : List (List ℕ)) → list_all (is_among names) others ≡ true → list_all (is_among names) xs ≡ true
     → list_all (λ s. not (is_among others s)) xs ≡ true → list_all (λ p. not (machine.is_among (map (loc_of names) others) p)) (map (loc_of names) xs) ≡ true
 locs_apart names others [] known_others known apart = refl
@@ -45,23 +45,23 @@ pub feeder_locs : (names : List (List ℕ)) (stocks ms : Members) → map (λ f.
 feeder_locs names stocks no_members = refl
 feeder_locs names stocks (member k d ms) = ap (λ t. loc_of names k ∷ t) (feeder_locs names stocks ms)
 
-open_parts : (names trays purges : List (List ℕ)) (k : List ℕ) → is_open_place names trays purges k ≡ true → (is_among names k ≡ true) × (is_among trays k ≡ false) × (is_among purges k ≡ false)
+open_parts : (names trays purges : List (List ℕ)) (k : List ℕ) → is_open_location names trays purges k ≡ true → (is_among names k ≡ true) × (is_among trays k ≡ false) × (is_among purges k ≡ false)
 open_parts names trays purges k test = (grind arith, grind arith, grind arith)
 
-pub keys_known : (names trays purges : List (List ℕ)) (ks : List (List ℕ)) → list_all (is_open_place names trays purges) ks ≡ true → list_all (is_among names) ks ≡ true
+pub keys_known : (names trays purges : List (List ℕ)) (ks : List (List ℕ)) → list_all (is_open_location names trays purges) ks ≡ true → list_all (is_among names) ks ≡ true
 keys_known names trays purges [] test = refl
 keys_known names trays purges (k ∷ ks) test =
-    let (here, rest) = and_parts (is_open_place names trays purges k) (list_all (is_open_place names trays purges) ks) test in
+    let (here, rest) = and_parts (is_open_location names trays purges k) (list_all (is_open_location names trays purges) ks) test in
     rw ((open_parts names trays purges k here).0, keys_known names trays purges ks rest)
 
-pub feeder_places : (names trays purges : List (List ℕ)) (stocks ms : Members) → list_all (is_among names) trays ≡ true → list_all (is_among names) purges ≡ true
-    → list_all (is_open_place names trays purges) (keys_of ms) ≡ true
-    → list_all (machine.is_feeder_place names (map (loc_of names) trays) (map (loc_of names) purges)) (feeders_of names stocks ms) ≡ true
-feeder_places names trays purges stocks no_members kt kp test = refl
-feeder_places names trays purges stocks (member k d ms) kt kp test =
-    let (here, rest) = and_parts (is_open_place names trays purges k) (list_all (is_open_place names trays purges) (keys_of ms)) test in
+pub feeder_locations : (names trays purges : List (List ℕ)) (stocks ms : Members) → list_all (is_among names) trays ≡ true → list_all (is_among names) purges ≡ true
+    → list_all (is_open_location names trays purges) (keys_of ms) ≡ true
+    → list_all (machine.is_feeder_location names (map (loc_of names) trays) (map (loc_of names) purges)) (feeders_of names stocks ms) ≡ true
+feeder_locations names trays purges stocks no_members kt kp test = refl
+feeder_locations names trays purges stocks (member k d ms) kt kp test =
+    let (here, rest) = and_parts (is_open_location names trays purges k) (list_all (is_open_location names trays purges) (keys_of ms)) test in
     let p = open_parts names trays purges k here in
-    rw (place_known names k p.0, loc_among names trays k kt p.0, p.1, loc_among names purges k kp p.0, p.2, feeder_places names trays purges stocks ms kt kp rest)
+    rw (place_known names k p.0, loc_among names trays k kt p.0, p.1, loc_among names purges k kp p.0, p.2, feeder_locations names trays purges stocks ms kt kp rest)
 
 pub feeder_names_are : (names : List (List ℕ)) (stocks ms : Members) → list_all (is_among names) (keys_of ms) ≡ true → machine.feeder_names names (feeders_of names stocks ms) ≡ keys_of ms
 feeder_names_are names stocks no_members known = refl

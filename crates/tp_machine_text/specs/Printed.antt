@@ -20,9 +20,9 @@ abbrev pub put_member : List ℕ → Data → Members → Members
 put_member k d no_members = member k d no_members
 put_member k d (member l e ms) = match_ordering (slice_cmp nat_cmp k l) (member k d (member l e ms)) (member l d ms) (member l e (put_member k d ms))
 
--- a place among n names
-unfoldable pub is_place : ℕ → LocId → Bool
-is_place n loc = nat_lt loc.0 n
+-- a location among n names
+unfoldable pub is_location : ℕ → LocId → Bool
+is_location n loc = nat_lt loc.0 n
 
 -- a hold of one of n resources
 unfoldable pub is_of_resource : ℕ → HoldRule → Bool

@@ -8,12 +8,12 @@ use Rattle.tp_machine_text.specs.Words.{data_of, members_at, is_fit, is_table, i
 use Rattle.tp_machine_text.specs.Keys.{locations, modules, trays, purges, feeders, resources}
 
 -- a location that is neither tray nor purge tray
-abbrev pub is_open_place : List (List ℕ) → List (List ℕ) → List (List ℕ) → List ℕ → Bool
-is_open_place locations trays purges text = is_among locations text && not (is_among trays text) && not (is_among purges text)
+abbrev pub is_open_location : List (List ℕ) → List (List ℕ) → List (List ℕ) → List ℕ → Bool
+is_open_location locations trays purges text = is_among locations text && not (is_among trays text) && not (is_among purges text)
 
 -- `feeders` is there and is a table with at least one key, each a location that is neither tray nor purge tray
 abbrev pub has_feeders : Members → Bool
-has_feeders t = nat_le 1 (length (feeders t)) && list_all (is_open_place (locations t) (trays t) (purges t)) (feeders t)
+has_feeders t = nat_le 1 (length (feeders t)) && list_all (is_open_location (locations t) (trays t) (purges t)) (feeders t)
 
 -- each value of `feeders` is a name
 abbrev pub has_media : Members → Bool

@@ -51,5 +51,5 @@ has_purges t =
 abbrev pub number_rules : Members → List Bool
 number_rules t = has_known_keys t ∷ has_format t ∷ has_lead t ∷ has_window t ∷ has_budget t ∷ []
 
-abbrev pub place_rules : Members → List Bool
-place_rules t = has_locations t ∷ has_modules t ∷ has_trays t ∷ has_purges t ∷ []
+abbrev pub location_rules : Members → List Bool
+location_rules t = has_locations t ∷ has_modules t ∷ has_trays t ∷ has_purges t ∷ []

@@ -5,7 +5,7 @@ ghost use Rattle.toml.specs.Data.{string, integer};
 ghost use Rattle.toml.specs.View.{table_view, view};
 ghost use Rattle.tp_machine.specs.Limits.{most_locations};
 ghost use Rattle.tp_machine.specs.Rules.{do_names_rise, feeder_names};
-ghost use Rattle.tp_machine_text.specs.Printed.{put_member, is_place, texts_data, loc_names, feeder_members, resource_members, put_amount, gap_members, stock_members, resource_names, anchor_text, point_data, hold_data, kind_words};
+ghost use Rattle.tp_machine_text.specs.Printed.{put_member, is_location, texts_data, loc_names, feeder_members, resource_members, put_amount, gap_members, stock_members, resource_names, anchor_text, point_data, hold_data, kind_words};
 
 use std::alloc::Global;
 use toml::value::Array;
@@ -52,9 +52,9 @@ pub(crate) fn names_value(alloc: Global, names: &Names) -> Result<Value, Memory>
 }
 
 /// An array of the names of some locations.
-#[tactic(auto, unfolding(crate::specs::Printed::is_place))]
+#[tactic(auto, unfolding(crate::specs::Printed::is_location))]
 pub(crate) fn locs_value(alloc: Global, names: &Names, locs: &[LocId]) -> Result<Value, Memory>
-    requires { list_all (is_place (length names.now)) locs.now ≡ true }
+    requires { list_all (is_location (length names.now)) locs.now ≡ true }
     ensures { IfOk result (λ value. view value ≡ texts_data (loc_names names.now locs.now)) }
 {
     let mut array = Array::new(alloc);
@@ -79,9 +79,9 @@ pub(crate) fn feeders_table(
     match feeders {
         [feeder, rest @ ..] => {
             let mut table = feeders_table(alloc, names, rest)?;
-            let place = names.get(feeder.loc.0);
+            let location = names.get(feeder.loc.0);
             let media = name_value(alloc, &feeder.media)?;
-            put(alloc, &mut table, text_of_name(&place), media)?;
+            put(alloc, &mut table, text_of_name(&location), media)?;
             Ok(table)
         }
         [] => Ok(Table::new(alloc)),
@@ -161,8 +161,8 @@ pub(crate) fn stocks_table(
     match feeders {
         [feeder, rest @ ..] => {
             let mut table = stocks_table(alloc, names, rest)?;
-            let place = names.get(feeder.loc.0);
-            put_amount(alloc, &mut table, text_of_name(&place), feeder.stock)?;
+            let location = names.get(feeder.loc.0);
+            put_amount(alloc, &mut table, text_of_name(&location), feeder.stock)?;
             Ok(table)
         }
         [] => Ok(Table::new(alloc)),

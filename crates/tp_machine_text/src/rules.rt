@@ -6,8 +6,8 @@ ghost use Rattle.tp_machine_text.specs.Broken.{first_broken};
 use crate::actions::first_broken_action;
 use crate::amounts::first_broken_amount;
 use crate::holds::first_broken_hold;
+use crate::locations::first_broken_location;
 use crate::numbers::first_broken_number;
-use crate::places::first_broken_place;
 use crate::supplies::first_broken_supply;
 use toml::Table;
 
@@ -19,7 +19,7 @@ pub fn first_broken(table: &Table) -> Option<u8>
     if let Some(rule) = first_broken_number(table) {
         return Some(rule);
     }
-    if let Some(rule) = first_broken_place(table) {
+    if let Some(rule) = first_broken_location(table) {
         return Some(rule);
     }
     if let Some(rule) = first_broken_supply(table) {

@@ -7,7 +7,7 @@ ghost use Rattle.tp_base.specs.NameText.{is_name_text as is_text_of_name};
 ghost use Rattle.tp_machine_text.specs.Keys.{locations, modules, trays, purges};
 ghost use Rattle.tp_machine_text.specs.Words.{keys_of, data_of, text_of, is_name as is_named, is_one_of as is_text_of};
 ghost use Rattle.tp_machine_text.specs.Order.{first_from};
-ghost use Rattle.tp_machine_text.specs.SupplyRules.{is_open_place, has_feeders, has_media, has_resources, has_resource_modules, supply_rules};
+ghost use Rattle.tp_machine_text.specs.SupplyRules.{is_open_location, has_feeders, has_media, has_resources, has_resource_modules, supply_rules};
 
 use crate::looking::{
     is_among, is_name, is_name_text, is_one_of, is_table_or_absent, table_in, value_at, values_at,
@@ -44,27 +44,32 @@ fn has_feeders(table: &Table) -> bool
 }
 
 fn are_feeders_open(table: &Table, feeders: &Table) -> bool
-    ensures { result ≡ list_all (is_open_place (locations (table_view table.now))
+    ensures { result ≡ list_all (is_open_location (locations (table_view table.now))
         (trays (table_view table.now)) (purges (table_view table.now)))
         (keys_of (table_view feeders.now)) }
 {
     let locations = values_at(table, "locations");
     let trays = values_at(table, "trays");
     let purges = values_at(table, "purge");
-    are_open_places(locations, trays, purges, feeders)
+    are_open_locations(locations, trays, purges, feeders)
 }
 
-fn are_open_places(locations: &[Value], trays: &[Value], purges: &[Value], feeders: &Table) -> bool
-    ensures { result ≡ list_all (λ key. is_open_place (map text_of (map view locations.now))
+fn are_open_locations(
+    locations: &[Value],
+    trays: &[Value],
+    purges: &[Value],
+    feeders: &Table,
+) -> bool
+    ensures { result ≡ list_all (λ key. is_open_location (map text_of (map view locations.now))
         (map text_of (map view trays.now)) (map text_of (map view purges.now)) (string_bytes key))
         (keys feeders.now) }
 {
-    feeders.keys().all(|key| is_open_place(locations, trays, purges, key.as_str()))
+    feeders.keys().all(|key| is_open_location(locations, trays, purges, key.as_str()))
 }
 
 /// Whether the text is a location, and neither a tray nor a purge tray.
-fn is_open_place(locations: &[Value], trays: &[Value], purges: &[Value], text: &str) -> bool
-    ensures { result ≡ is_open_place (map text_of (map view locations.now))
+fn is_open_location(locations: &[Value], trays: &[Value], purges: &[Value], text: &str) -> bool
+    ensures { result ≡ is_open_location (map text_of (map view locations.now))
         (map text_of (map view trays.now)) (map text_of (map view purges.now)) text.now }
 {
     is_among(locations, text) && !is_among(trays, text) && !is_among(purges, text)

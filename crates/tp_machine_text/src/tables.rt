@@ -130,7 +130,7 @@ fn put_numbers(alloc: Global, table: &mut Table, machine: &Machine) -> Result<()
 }
 
 /// Puts the locations, the modules and the trays.
-fn put_places(alloc: Global, table: &mut Table, machine: &Machine) -> Result<(), Memory>
+fn put_locations(alloc: Global, table: &mut Table, machine: &Machine) -> Result<(), Memory>
     ensures { OnOk result (table_view table.new ≡
         put_member (codes "purge") (texts_data (loc_names machine.now.locations machine.now.purges))
         (put_member (codes "trays") (texts_data (loc_names machine.now.locations machine.now.trays))
@@ -193,7 +193,7 @@ pub(crate) fn table_of(alloc: Global, machine: &Machine) -> Result<Table, Memory
 {
     let mut table = Table::new(alloc);
     put_numbers(alloc, &mut table, machine)?;
-    put_places(alloc, &mut table, machine)?;
+    put_locations(alloc, &mut table, machine)?;
     put_parts(alloc, &mut table, machine)?;
     put_amounts(alloc, &mut table, machine)?;
     Ok(table)

@@ -7,7 +7,7 @@ use Rattle.tp_machine.specs.declared.parts.Sheet.{Sheet}
 use Rattle.tp_machine.specs.declared.parts.State.{State}
 use Rattle.tp_machine.specs.declared.machine.Machine.{Machine}
 use Rattle.tp_schedule.specs.declared.parts.Ask.{Ask}
-use Rattle.tp_routes.specs.Index.{NoneAt, IsNextAt, IsNextTo, AreIndexed, number_at, place_at}
+use Rattle.tp_routes.specs.Index.{NoneAt, IsNextAt, IsNextTo, AreIndexed, number_at, location_at}
 use Rattle.tp_routes.specs.declared.index.End.{End}
 use Rattle.tp_routes.specs.declared.index.End.TheVariants.{From, To}
 use Rattle.tp_routes.specs.Numbers.{state_at}
@@ -78,21 +78,21 @@ some_action [] k below = absurd (omega arith)
 some_action (x ∷ xs) zero below = (x, refl)
 some_action (x ∷ xs) (suc k) below = some_action xs k (omega arith)
 
--- the next action at the same place
-pub next-there : (end : End) (actions : List Action) (firsts nexts : List (Option ℕ)) (place n : ℕ) → AreIndexed end actions firsts nexts 0 → n < length actions → ((a : Action) → slice_get actions n ≡ Some a → place_at end a ≡ place)
-    → IsNextAt end actions place (n + 1) (number_at nexts n)
-next-there end actions firsts nexts place n index within at =
+-- the next action at the same location
+pub next-there : (end : End) (actions : List Action) (firsts nexts : List (Option ℕ)) (loc n : ℕ) → AreIndexed end actions firsts nexts 0 → n < length actions → ((a : Action) → slice_get actions n ≡ Some a → location_at end a ≡ loc)
+    → IsNextAt end actions loc (n + 1) (number_at nexts n)
+next-there end actions firsts nexts loc n index within at =
     let a = some_action actions n within in
     subst (λ p. IsNextAt end actions p (n + 1) (number_at nexts n)) (at a.0 a.1) (index.next n a.0 (omega arith) a.1)
 
-pub ahead-smaller : (end : End) (actions : List Action) (place n : ℕ) (o : Option ℕ) → n < length actions → IsNextAt end actions place (n + 1) o → ahead (length actions) o < suc (length actions - n)
-ahead-smaller end actions place n None within next = omega arith
-ahead-smaller end actions place n (Some m) within next = (let above = next.0 in omega arith)
+pub ahead-smaller : (end : End) (actions : List Action) (loc n : ℕ) (o : Option ℕ) → n < length actions → IsNextAt end actions loc (n + 1) o → ahead (length actions) o < suc (length actions - n)
+ahead-smaller end actions loc n None within next = omega arith
+ahead-smaller end actions loc n (Some m) within next = (let above = next.0 in omega arith)
 
--- the same of those that lead to a place
-pub next-to : (actions : List Action) (firsts nexts : List (Option ℕ)) (place n : ℕ) → AreIndexed To actions firsts nexts 0 → n < length actions → ((a : Action) → slice_get actions n ≡ Some a → a.to.0 ≡ place)
-    → IsNextTo actions place (n + 1) (number_at nexts n)
+-- the same of those that lead to a location
+pub next-to : (actions : List Action) (firsts nexts : List (Option ℕ)) (loc n : ℕ) → AreIndexed To actions firsts nexts 0 → n < length actions → ((a : Action) → slice_get actions n ≡ Some a → a.to.0 ≡ loc)
+    → IsNextTo actions loc (n + 1) (number_at nexts n)
 next-to = next-there To
 
-pub fewer-ahead : (actions : List Action) (place n : ℕ) (o : Option ℕ) → n < length actions → IsNextTo actions place (n + 1) o → ahead (length actions) o < suc (length actions - n)
+pub fewer-ahead : (actions : List Action) (loc n : ℕ) (o : Option ℕ) → n < length actions → IsNextTo actions loc (n + 1) o → ahead (length actions) o < suc (length actions - n)
 fewer-ahead = ahead-smaller To

@@ -21,7 +21,7 @@ use Rattle.tp_routes.specs.Tables.{sum_at, AreRooms, IsKnownOrigin}
 use Rattle.tp_routes.specs.Filling.{IsSum, AreSums, HasAtMost, StartsAreIn, IsStepIn}
 use Rattle.tp_routes.specs.Laws.{StepsKeepRoom}
 use Rattle.tp_schedule.proofs.Walks.{walk_first, walk_on, least_sum-push, AreAllowed-head, AreAllowed-tail, AreAllowed-push}
-use Rattle.tp_machine.specs.Machines.{IsLocation, IsOpenPlace}
+use Rattle.tp_machine.specs.Machines.{IsLocation, IsOpenLocation}
 use Rattle.tp_machine.specs.declared.parts.Face.{Face}
 use Rattle.tp_machine.specs.declared.parts.Face.TheVariants.{Front, Back}
 use Rattle.tp_machine.specs.declared.parts.Feeder.{Feeder}
@@ -94,7 +94,7 @@ along machine ask sums states rest (act ∷ acts) s t sum allowed known leads (v
         (last.0, last.1, omega (arith, last.2, most, least))
 
 fresh_known : (machine : Machine) (f : Feeder) → Contains machine.feeders f → f.loc.0 < length machine.locations
-fresh_known machine f has = (All-contains (λ g. IsLocation machine g.loc × IsOpenPlace machine g.loc) machine.feeders f (is_machine machine).feeders has).0
+fresh_known machine f has = (All-contains (λ g. IsLocation machine g.loc × IsOpenLocation machine g.loc) machine.feeders f (is_machine machine).feeders has).0
 
 -- a fresh start is at a location of the machine
 pub fresh_start_known : (machine : Machine) (sheet : Sheet) (s : State) → IsFreshStart machine sheet s → s.loc.0 < length machine.locations

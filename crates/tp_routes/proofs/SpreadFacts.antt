@@ -106,7 +106,7 @@ one_at_most (Some v) = omega arith
 pub sums-small : (machine : Machine) (ask : Ask) (sums : List (Option ℕ)) (waiting : List ℕ) → IsFilling machine ask sums waiting → (4096 * filled sums ≤ 8388608) × (length sums ≤ 2048)
 sums-small machine ask sums waiting filling =
     let count = sum_by-le one_if_some 1 sums (λ k d below. one_at_most _) in
-    let places = (is_machine machine).locations.1 in
+    let locations = (is_machine machine).locations.1 in
     (omega (arith, filling.states), omega (arith, filling.states))
 
 pub least-small : (machine : Machine) (n : ℕ) (a : Action) → action_at machine n ≡ Some a → a.least ≤ 4096

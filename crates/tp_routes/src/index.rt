@@ -1,7 +1,7 @@
 //! The actions by the location that they start from, or by the one that they lead to.
 ghost use Rattle.std.specs.Prelude.{◌≡◌, ◌<◌, ◌≤◌, None, length, replicate, slice_get, IfOk, IfSome};
 ghost use Rattle.tp_machine.specs.Limits.{most_actions};
-ghost use Rattle.tp_routes.specs.Index.{AreIndexed, IsIndexOf, place_at};
+ghost use Rattle.tp_routes.specs.Index.{AreIndexed, IsIndexOf, location_at};
 
 use std::alloc::{AllocError, Global};
 use tp_machine::Machine;
@@ -28,7 +28,7 @@ pub(crate) struct ActionIndex {
 impl ActionIndex {
     /// An index for machines with so many locations.
     pub(crate) fn new(alloc: Global, locations: u32) -> Result<ActionIndex, AllocError>
-        ensures places { IfOk result (λ i. length i.firsts.items ≡ locations) }
+        ensures locations { IfOk result (λ i. length i.firsts.items ≡ locations) }
         ensures room { IfOk result (λ i. length i.nexts.items ≡ most_actions) }
     {
         Ok(ActionIndex {
@@ -39,7 +39,7 @@ impl ActionIndex {
 
     /// Indexes the actions of the machine by this end, in place of what was there.
     pub(crate) fn fill(&mut self, machine: &Machine, end: End)
-        requires places { length self.old.firsts.items ≡ length machine.now.locations }
+        requires locations { length self.old.firsts.items ≡ length machine.now.locations }
         requires room { length self.old.nexts.items ≡ most_actions }
         ensures index { IsIndexOf end machine.now self.new.firsts.items self.new.nexts.items }
         ensures room { length self.new.nexts.items ≡ most_actions }
@@ -51,7 +51,7 @@ impl ActionIndex {
 /// Finds the first action at each location, and behind each action the next one at the same
 /// location: one pass over the actions, the last one first.
 fn index_actions(machine: &Machine, end: End, firsts: &mut [Option<u16>], nexts: &mut [Option<u16>])
-    requires places { length firsts.old ≡ length machine.now.locations }
+    requires locations { length firsts.old ≡ length machine.now.locations }
     requires room { length machine.now.actions ≤ length nexts.old }
     ensures { AreIndexed end machine.now.actions firsts.new nexts.new 0 }
 {
@@ -59,9 +59,9 @@ fn index_actions(machine: &Machine, end: End, firsts: &mut [Option<u16>], nexts:
     let mut at = machine.actions.len();
     'actions: while at > 0 {
         at -= 1;
-        let place = place_of(machine, end, at);
-        nexts[at as usize] = firsts[place];
-        firsts[place] = Some(at as u16);
+        let location = location_of(machine, end, at);
+        nexts[at as usize] = firsts[location];
+        firsts[location] = Some(at as u16);
     }
 }
 
@@ -72,10 +72,10 @@ fn clear(numbers: &mut [Option<u16>])
 }
 
 /// The location at this end of an action.
-fn place_of(machine: &Machine, end: End, at: u32) -> usize
+fn location_of(machine: &Machine, end: End, at: u32) -> usize
     requires { at < length machine.now.actions }
-    ensures place { IfSome (slice_get machine.now.actions at)
-        (λ action. result ≡ place_at end action) }
+    ensures location { IfSome (slice_get machine.now.actions at)
+        (λ action. result ≡ location_at end action) }
     ensures within { result < length machine.now.locations }
 {
     let action = machine.actions.get(at);

@@ -112,11 +112,11 @@ impl Rooms {
     }
 
     /// The first action that leads to the location, if there is one.
-    pub fn first_to(&self, place: LocId) -> Option<ActId>
-        requires { place.0 < self.now.locations }
-        ensures { option_map (λ act. act.0) result ≡ number_at self.now.firsts place.0 }
+    pub fn first_to(&self, loc: LocId) -> Option<ActId>
+        requires { loc.0 < self.now.locations }
+        ensures { option_map (λ act. act.0) result ≡ number_at self.now.firsts loc.0 }
     {
-        self.leads.firsts[usize::from(place.0)].map(ActId)
+        self.leads.firsts[usize::from(loc.0)].map(ActId)
     }
 
     /// Behind an action the next one that leads to the same location, if there is one.

@@ -26,10 +26,10 @@ pub fn finished(want: &Sheet, tray: LocId) -> State
     }
 }
 
-fn is_among(places: &[LocId], place: LocId) -> bool
-    ensures { IsTrue result ↔ Contains places.now place }
+fn is_among(locs: &[LocId], loc: LocId) -> bool
+    ensures { IsTrue result ↔ Contains locs.now loc }
 {
-    places.contains(&place)
+    locs.contains(&loc)
 }
 
 /// Whether the state is a goal state of the ask.

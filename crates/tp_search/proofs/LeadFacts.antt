@@ -66,16 +66,16 @@ abbrev pub number : Option ActId → Option ℕ
 number act = option_map (λ a. a.0) act
 
 -- all children were looked at whose action stands before the next one that leads to their first state
-pub record IsLed (machine : Machine) (plans : List Plan) (ask : Ask) (o : Opening) (s : StoreValue) (place : ℕ) (next : Option ActId) : Type 0 where
+pub record IsLed (machine : Machine) (plans : List Plan) (ask : Ask) (o : Opening) (s : StoreValue) (loc : ℕ) (next : Option ActId) : Type 0 where
   pub low : ℕ
   pub within : low ≤ length machine.actions
-  pub leads : IsNextTo machine.actions place low (number next)
+  pub leads : IsNextTo machine.actions loc low (number next)
   pub progress : IsAtProgress machine plans ask o s (up_to low [])
 
--- the next action is the first one from some number on that leads to the place
-pub record IsChain (machine : Machine) (place : ℕ) (next : Option ActId) : Type 0 where
+-- the next action is the first one from some number on that leads to the location
+pub record IsChain (machine : Machine) (loc : ℕ) (next : Option ActId) : Type 0 where
   pub low : ℕ
-  pub leads : IsNextTo machine.actions place low (number next)
+  pub leads : IsNextTo machine.actions loc low (number next)
 
 first-room : (machine : Machine) (ask : Ask) (goal s : State) (choices : List Choice) (rooms : List ℕ) → HaveRooms machine ask goal s choices rooms → (room : ℕ) × IsRoom machine ask s room
 first-room machine ask goal s [] [] h = absurd h
@@ -97,16 +97,16 @@ laid-known reading b machine ask goal first choices l origin =
     let r = first-room machine ask goal first w.x.choices w.x.rooms w.is.way.rooms in
     within-locations machine ask first r.0 origin r.1
 
-module _ (machine : Machine) (firsts nexts : List (Option ℕ)) (place : ℕ) (index : IsLeadIndex machine firsts nexts) where
+module _ (machine : Machine) (firsts nexts : List (Option ℕ)) (loc : ℕ) (index : IsLeadIndex machine firsts nexts) where
   -- where the chain begins
-  pub leads-first : (next : Option ActId) → place < length machine.locations → number next ≡ number_at firsts place → IsNextTo machine.actions place 0 (number next)
-  leads-first next known is = (let p = index.places in subst (IsNextTo machine.actions place 0) (sym is) (index.indexed.first place (omega arith)))
+  pub leads-first : (next : Option ActId) → loc < length machine.locations → number next ≡ number_at firsts loc → IsNextTo machine.actions loc 0 (number next)
+  leads-first next known is = (let p = index.locations in subst (IsNextTo machine.actions loc 0) (sym is) (index.indexed.first loc (omega arith)))
 
   -- and how it goes on
-  pub leads-next : (act : ActId) (next : Option ActId) → act.0 < length machine.actions → ((a : Action) → slice_get machine.actions act.0 ≡ Some a → a.to.0 ≡ place) → number next ≡ number_at nexts act.0
-      → IsNextTo machine.actions place (act.0 + 1) (number next)
-  leads-next act next within to is = subst (IsNextTo machine.actions place (act.0 + 1)) (sym is) (next-to machine.actions firsts nexts place act.0 index.indexed within to)
+  pub leads-next : (act : ActId) (next : Option ActId) → act.0 < length machine.actions → ((a : Action) → slice_get machine.actions act.0 ≡ Some a → a.to.0 ≡ loc) → number next ≡ number_at nexts act.0
+      → IsNextTo machine.actions loc (act.0 + 1) (number next)
+  leads-next act next within to is = subst (IsNextTo machine.actions loc (act.0 + 1)) (sym is) (next-to machine.actions firsts nexts loc act.0 index.indexed within to)
 
 -- the next action of the chain
-pub led-here : (machine : Machine) (place low : ℕ) (next : Option ActId) (act : ActId) → next ≡ Some act → IsNextTo machine.actions place low (number next) → IsNextTo machine.actions place low (Some act.0)
-led-here machine place low next act is leads = subst (λ n. IsNextTo machine.actions place low (number n)) is leads
+pub led-here : (machine : Machine) (loc low : ℕ) (next : Option ActId) (act : ActId) → next ≡ Some act → IsNextTo machine.actions loc low (number next) → IsNextTo machine.actions loc low (Some act.0)
+led-here machine loc low next act is leads = subst (λ n. IsNextTo machine.actions loc low (number n)) is leads

@@ -25,8 +25,8 @@ use Rattle.tp_search.specs.States.{HasNoneBefore}
 pub step_within : (machine : Machine) (act : ActId) (a : Action) (sheet : Sheet) (before after : State) → action_at machine act.0 ≡ Some a → Step a sheet before after
     → before.loc.0 < length machine.locations
 step_within machine act a sheet before after at step =
-    let place = eqb-true before.loc.0 a.from.0 (and_parts _ _ step.can).0 in
-    omega (arith, place, ((is_machine machine).ways act.0 a at).from_known)
+    let location = eqb-true before.loc.0 a.from.0 (and_parts _ _ step.can).0 in
+    omega (arith, location, ((is_machine machine).ways act.0 a at).from_known)
 
 -- where an action leads here from no other state, its number doesn't either
 pub only_before : (machine : Machine) (act : ActId) (a : Action) (sheet : Sheet) (before after : State) → action_at machine act.0 ≡ Some a → ((other : State) → Step a sheet other after → other ≡ before)

@@ -12,7 +12,7 @@ use Rattle.std.proofs.lemmas.Bool.Decides.{nat_tests}
 use Rattle.std.proofs.lemmas.List.Elements.{All-contains, All-filter, All-head, All-tail}
 use Rattle.std.proofs.lemmas.List.FromFn.{fill_by_all, get_or-map-range_with_len, length-map-range_with_len}
 use Rattle.std.proofs.lemmas.List.Sums.{sum_by-cons}
-use Rattle.tp_machine.specs.Machines.{IsLocation, IsOpenPlace}
+use Rattle.tp_machine.specs.Machines.{IsLocation, IsOpenLocation}
 use Rattle.tp_machine.specs.declared.parts.Feeder.{Feeder}
 use Rattle.tp_machine.specs.declared.machine.Machine.{Machine}
 use Rattle.tp_machine.proofs.MachineFacts.{is_machine}
@@ -44,7 +44,7 @@ parted {X} p stays (x ∷ xs) = go (stays x) (parted p stays xs)
 
 pub feeder-known : (machine : Machine) (f : Feeder) → Contains machine.feeders f → f.loc.0 < 256
 feeder-known machine f in' =
-    let place = (All-contains (λ g. IsLocation machine g.loc × IsOpenPlace machine g.loc) machine.feeders f (is_machine machine).feeders in').0 in
+    let known = (All-contains (λ g. IsLocation machine g.loc × IsOpenLocation machine g.loc) machine.feeders f (is_machine machine).feeders in').0 in
     let few = (is_machine machine).locations.1 in
     omega arith
 

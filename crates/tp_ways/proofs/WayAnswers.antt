@@ -2,7 +2,7 @@
 use Rattle.std.proofs.Common.{◌≡◌, ◌<◌, Bool, true, false, true≢false, List, [], ◌∷◌, length, Contains, Some, refl, sym, ap, subst, ◌∙◌, arith}
 use Rattle.std.proofs.lemmas.List.Elements.{All-contains}
 use Rattle.std.proofs.lemmas.Option.{same_Some}
-use Rattle.tp_machine.specs.Machines.{IsLocation, IsMachine, IsOpenPlace}
+use Rattle.tp_machine.specs.Machines.{IsLocation, IsMachine, IsOpenLocation}
 use Rattle.tp_machine.specs.declared.parts.Feeder.{Feeder}
 use Rattle.tp_machine.specs.declared.parts.State.{State}
 use Rattle.tp_machine.specs.declared.machine.Machine.{Machine}
@@ -24,7 +24,7 @@ use Rattle.tp_ways.specs.Ends.{CompleteEnds}
 use Rattle.tp_ways.proofs.WayLists.{way-opens_to}
 
 -- nothing can be put away at a feeder
-goal-placed : (machine : Machine) (ask : Ask) (state : State) (goal : Goal) → IsKnownGoal machine goal → IsGoalState machine ask.want goal state → IsOpenPlace machine state.loc → ⊥
+goal-placed : (machine : Machine) (ask : Ask) (state : State) (goal : Goal) → IsKnownGoal machine goal → IsGoalState machine ask.want goal state → IsOpenLocation machine state.loc → ⊥
 goal-placed machine ask state (Tray tray) known is free =
     let at : state.loc ≡ tray = ap (λ (s : State). s.loc) is in
     free.0 (subst (Contains machine.trays) (sym at) known)
@@ -35,9 +35,9 @@ pub goal-incomplete : (machine : Machine) (ask : Ask) (state : State) → IsMach
 goal-incomplete machine ask state is-machine known is = go ask.origin refl where
   fed : (first : State) → Some first ≡ Some state → IsFreshStart machine ask.want first → ⊥
   fed first leads (k, feeder, within, at, (media, fresh)) =
-      let place = All-contains (λ (f : Feeder). IsLocation machine f.loc × IsOpenPlace machine f.loc) machine.feeders feeder is-machine.feeders (k, within, at) in
+      let location = All-contains (λ (f : Feeder). IsLocation machine f.loc × IsOpenLocation machine f.loc) machine.feeders feeder is-machine.feeders (k, within, at) in
       let loc : state.loc ≡ feeder.loc = ap (λ (s : State). s.loc) (sym (same_Some first state leads) ∙ fresh) in
-      goal-placed machine ask state ask.goal known is (subst (IsOpenPlace machine) (sym loc) place.1)
+      goal-placed machine ask state ask.goal known is (subst (IsOpenLocation machine) (sym loc) location.1)
 
   go : (origin : Origin) → ask.origin ≡ origin → IsCompleteFrom machine ask (going state []) origin → ⊥
   go FromFeeder from (first, leads, start) = fed first leads (subst (λ o. IsStartFrom machine ask o first) from start).0

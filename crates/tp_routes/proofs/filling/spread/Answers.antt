@@ -9,10 +9,10 @@ use Rattle.tp_routes.proofs.filling.spread.Goals as goal
 
 pub actions-init : goal.actions-init
 actions-init c =
-    let place : c.args.from.number / 8 < length c.args.index.now.firsts.items = (let small = c.requires.filling.states in let known = c.requires.known in omega (arith, c.requires.index.places)) in
+    let location : c.args.from.number / 8 < length c.args.index.now.firsts.items = (let small = c.requires.filling.states in let known = c.requires.known in omega (arith, c.requires.index.locations)) in
     record {
       filling = c.requires.filling;
-      along = record { low = 0; next = subst (IsNextAt From c.args.machine.now.actions (c.args.from.number / 8) 0) (ap (λ fs. number_at fs (c.args.from.number / 8)) (sym c.as_slice-firsts.ensures.value)) (c.requires.index.indexed.first (c.args.from.number / 8) place); spread = c.requires.spread };
+      along = record { low = 0; next = subst (IsNextAt From c.args.machine.now.actions (c.args.from.number / 8) 0) (ap (λ fs. number_at fs (c.args.from.number / 8)) (sym c.as_slice-firsts.ensures.value)) (c.requires.index.indexed.first (c.args.from.number / 8) location); spread = c.requires.spread };
       stands = c.requires.busy;
       lowers = Lowers-refl c.args.sums.now;
       room = c.requires.room;

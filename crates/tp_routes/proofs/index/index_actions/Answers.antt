@@ -1,6 +1,6 @@
 -- Each turn puts one action more before those that are indexed.
 use Rattle.std.proofs.Common.{◌≡◌, ◌+◌, ◌-◌, ◌<◌, length, arith, sym, subst}
-use Rattle.tp_routes.specs.Index.{AreIndexed, place_at}
+use Rattle.tp_routes.specs.Index.{AreIndexed, location_at}
 use Rattle.tp_routes.proofs.IndexFacts.{indexed-none, indexed-more, action-there}
 use Rattle.tp_routes.proofs.index.index_actions.Goals as goal
 
@@ -14,9 +14,9 @@ pub actions-preserved : goal.actions-preserved
 actions-preserved c =
     let at = c.actions.at - 1 in
     let below : at < length c.args.machine.now.actions = omega (arith, c.actions.invariant.within, c.actions-test.true) in
-    let there = action-there c.args.end c.args.machine.now.actions at c.place_of-place.result below c.place_of-place.ensures.place in
+    let there = action-there c.args.end c.args.machine.now.actions at c.location_of-location.result below c.location_of-location.ensures.location in
     let before : AreIndexed c.args.end c.args.machine.now.actions c.actions.firsts c.actions.nexts (at + 1) = subst (AreIndexed c.args.end c.args.machine.now.actions c.actions.firsts c.actions.nexts) (let h = c.actions-test.true in omega arith) c.actions.invariant.indexed in
-    let known : place_at c.args.end there.0 < length c.actions.firsts = omega (arith, there.2, c.place_of-place.ensures.within, c.actions.auto.firsts, c.requires.places) in
+    let known : location_at c.args.end there.0 < length c.actions.firsts = omega (arith, there.2, c.location_of-location.ensures.within, c.actions.auto.firsts, c.requires.locations) in
     let within : at < length c.actions.nexts = omega (arith, c.actions.invariant.within, c.actions-test.true, c.actions.auto.nexts, c.requires.room) in
     rw there.2 (record {
       within = omega (arith, c.actions.invariant.within);

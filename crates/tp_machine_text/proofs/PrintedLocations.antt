@@ -1,4 +1,4 @@
--- The places, feeders and resources that are printed for a machine keep the rules on them.
+-- The locations, feeders and resources that are printed for a machine keep the rules on them.
 use Rattle.std.proofs.Common.{◌≡◌, ℕ, ◌<◌, true, not, ◌&&◌, List, [], ◌∷◌, length, map, refl, ap, sym, ◌∙◌, arith}
 use Rattle.std.specs.Prelude.{nat_lt, nat_le}
 use Rattle.std.specs.List.{list_all}
@@ -12,8 +12,8 @@ use Rattle.tp_machine.specs.declared.parts.Feeder.{Feeder}
 use Rattle.tp_machine.specs.declared.parts.LocId.{LocId}
 use Rattle.tp_machine.specs.declared.parts.Resource.{Resource}
 use Rattle.tp_machine_text.specs.Words.{data_of, is_name, is_among, is_one_of, is_apart, is_count, are_names, are_from, are_different}
-use Rattle.tp_machine_text.specs.SupplyRules.{is_open_place}
-use Rattle.tp_machine_text.specs.Printed.{is_place, name_at, loc_names, feeder_members, resource_members}
+use Rattle.tp_machine_text.specs.SupplyRules.{is_open_location}
+use Rattle.tp_machine_text.specs.Printed.{is_location, name_at, loc_names, feeder_members, resource_members}
 use Rattle.tp_machine_text.proofs.Back.{at_known, is_within, locs_back, place_back, same_texts}
 use Rattle.tp_machine_text.proofs.PlaceFacts.{loc_among, locs_differ}
 use Rattle.tp_machine_text.proofs.Seen.{list_all-map}
@@ -26,44 +26,44 @@ names_printed most names count named differ =
 pub texts_printed : (names xs : List (List ℕ)) → list_all (is_among names) xs ≡ true → are_different xs ≡ true → are_from names (map string xs) ≡ true
 texts_printed names xs known differ = rw (list_all-map (is_one_of names) string xs, known, same_texts xs, differ)
 
-pub locs_among : (names : List (List ℕ)) (locs : List LocId) → list_all (is_place (length names)) locs ≡ true → list_all (is_among names) (loc_names names locs) ≡ true
+pub locs_among : (names : List (List ℕ)) (locs : List LocId) → list_all (is_location (length names)) locs ≡ true → list_all (is_among names) (loc_names names locs) ≡ true
 locs_among names [] known = refl
 locs_among names (l ∷ locs) known =
-    let (here, rest) = and_parts (is_place (length names) l) (list_all (is_place (length names)) locs) known in
+    let (here, rest) = and_parts (is_location (length names) l) (list_all (is_location (length names)) locs) known in
     rw (at_known names l.0 (is_within (length names) l here), locs_among names locs rest)
 
-pub locs_apart : (names : List (List ℕ)) (locs : List LocId) → are_different names ≡ true → list_all (is_place (length names)) locs ≡ true → are_different (loc_names names locs) ≡ machine.are_different locs
+pub locs_apart : (names : List (List ℕ)) (locs : List LocId) → are_different names ≡ true → list_all (is_location (length names)) locs ≡ true → are_different (loc_names names locs) ≡ machine.are_different locs
 locs_apart names locs differ known = sym (locs_differ names (loc_names names locs) (locs_among names locs known)) ∙ ap machine.are_different (locs_back names locs differ known)
 
 -- a location is among some by its name
-pub among_back : (names : List (List ℕ)) (locs : List LocId) (l : LocId) → are_different names ≡ true → list_all (is_place (length names)) locs ≡ true → l.0 < length names → is_among (loc_names names locs) (name_at names l.0) ≡ machine.is_among locs l
+pub among_back : (names : List (List ℕ)) (locs : List LocId) (l : LocId) → are_different names ≡ true → list_all (is_location (length names)) locs ≡ true → l.0 < length names → is_among (loc_names names locs) (name_at names l.0) ≡ machine.is_among locs l
 among_back names locs l differ known within =
     sym (loc_among names (loc_names names locs) (name_at names l.0) (locs_among names locs known) (at_known names l.0 within))
     ∙ (λ k. machine.is_among (locs_back names locs differ known k) (record { 0 = place_back names l.0 differ within k }))
 
-pub trays_printed : (names : List (List ℕ)) (trays : List LocId) → are_different names ≡ true → list_all (is_place (length names)) trays ≡ true → nat_le 1 (length trays) ≡ true → machine.are_different trays ≡ true
+pub trays_printed : (names : List (List ℕ)) (trays : List LocId) → are_different names ≡ true → list_all (is_location (length names)) trays ≡ true → nat_le 1 (length trays) ≡ true → machine.are_different trays ≡ true
     → (nat_le 1 (length (map string (loc_names names trays))) && are_from names (map string (loc_names names trays))) ≡ true
 trays_printed names trays dn known some differ =
     rw (length-map (loc_names names trays) string, length-map trays (λ (l : LocId). name_at names l.0), some)
     (texts_printed names (loc_names names trays) (locs_among names trays known) (locs_apart names trays dn known ∙ differ))
 
 -- none of the purge trays is a tray
-pub purges_apart : (names : List (List ℕ)) (trays purges : List LocId) → are_different names ≡ true → list_all (is_place (length names)) trays ≡ true → list_all (is_place (length names)) purges ≡ true
+pub purges_apart : (names : List (List ℕ)) (trays purges : List LocId) → are_different names ≡ true → list_all (is_location (length names)) trays ≡ true → list_all (is_location (length names)) purges ≡ true
     → list_all (λ p. not (machine.is_among trays p)) purges ≡ true → list_all (is_apart (loc_names names trays)) (map string (loc_names names purges)) ≡ true
 purges_apart names trays [] dn kt kp apart = refl
 purges_apart names trays (p ∷ purges) dn kt kp apart =
-    let (here, rest) = and_parts (is_place (length names) p) (list_all (is_place (length names)) purges) kp in
+    let (here, rest) = and_parts (is_location (length names) p) (list_all (is_location (length names)) purges) kp in
     let (none, more) = and_parts (not (machine.is_among trays p)) (list_all (λ q. not (machine.is_among trays q)) purges) apart in
     rw (among_back names trays p dn kt (is_within (length names) p here), none, purges_apart names trays purges dn kt rest more)
 
 lt_of : (n m : ℕ) → nat_lt n m ≡ true → n < m
 lt_of n m test = grind (arith, nat_tests)
 
-pub feeders_printed : (names : List (List ℕ)) (trays purges : List LocId) (fs : List Feeder) → are_different names ≡ true → list_all (is_place (length names)) trays ≡ true → list_all (is_place (length names)) purges ≡ true
-    → list_all (machine.is_feeder_place names trays purges) fs ≡ true → list_all (is_open_place names (loc_names names trays) (loc_names names purges)) (map (λ f. name_at names f.loc.0) fs) ≡ true
+pub feeders_printed : (names : List (List ℕ)) (trays purges : List LocId) (fs : List Feeder) → are_different names ≡ true → list_all (is_location (length names)) trays ≡ true → list_all (is_location (length names)) purges ≡ true
+    → list_all (machine.is_feeder_location names trays purges) fs ≡ true → list_all (is_open_location names (loc_names names trays) (loc_names names purges)) (map (λ f. name_at names f.loc.0) fs) ≡ true
 feeders_printed names trays purges [] dn kt kp test = refl
 feeders_printed names trays purges (f ∷ fs) dn kt kp test =
-    let (here, rest) = and_parts (machine.is_feeder_place names trays purges f) (list_all (machine.is_feeder_place names trays purges) fs) test in
+    let (here, rest) = and_parts (machine.is_feeder_location names trays purges f) (list_all (machine.is_feeder_location names trays purges) fs) test in
     let (first, no_purge) = and_parts (nat_lt f.loc.0 (length names) && not (machine.is_among trays f.loc)) (not (machine.is_among purges f.loc)) here in
     let (known, no_tray) = and_parts (nat_lt f.loc.0 (length names)) (not (machine.is_among trays f.loc)) first in
     let within = lt_of f.loc.0 (length names) known in

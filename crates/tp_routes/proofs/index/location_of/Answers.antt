@@ -1,7 +1,7 @@
 -- Each action starts from a location of the machine and leads to one.
 use Rattle.std.proofs.Common.{arith}
 use Rattle.tp_machine.proofs.MachineFacts.{is_machine}
-use Rattle.tp_routes.proofs.index.place_of.Goals as goal
+use Rattle.tp_routes.proofs.index.location_of.Goals as goal
 
 pub returns-in-From-clause-within : goal.returns-in-From-clause-within
 returns-in-From-clause-within c = (let h = ((is_machine c.args.machine.now).ways c.args.at c.get-action.result.now c.get-action.ensures).from_known in omega (arith, h, c.from.ensures))

@@ -3,7 +3,7 @@ use Rattle.toml.specs.View.{view, table_view}
 use Rattle.tp_machine_text.specs.Words.{text_of, is_apart}
 use Rattle.tp_machine_text.specs.Keys.{trays}
 use Rattle.tp_machine_text.proofs.Seen.{all_seen}
-use Rattle.tp_machine_text.proofs.places.are_no_trays.Goals as goal
+use Rattle.tp_machine_text.proofs.locations.are_no_trays.Goals as goal
 
 pub returns : goal.returns
 returns c =

@@ -1,5 +1,5 @@
 use Rattle.tp_machine_text.proofs.Fitting.{trays_fit, purges_fit}
-use Rattle.tp_machine_text.proofs.tables.put_places.Goals as goal
+use Rattle.tp_machine_text.proofs.tables.put_locations.Goals as goal
 
 pub locs_value-requires : goal.locs_value-requires
 locs_value-requires c = let m = c.args.machine.now in rw c.as_slice.ensures (trays_fit m.locations m.trays m.good_trays)

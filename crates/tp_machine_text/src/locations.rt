@@ -5,7 +5,7 @@ ghost use Rattle.toml.specs.View.{table_view, view};
 ghost use Rattle.tp_machine_text.specs.Words.{text_of, is_apart};
 ghost use Rattle.tp_machine_text.specs.Keys.{trays};
 ghost use Rattle.tp_machine_text.specs.Order.{first_from};
-ghost use Rattle.tp_machine_text.specs.TopRules.{has_locations, has_modules, has_trays, has_purges, place_rules};
+ghost use Rattle.tp_machine_text.specs.TopRules.{has_locations, has_modules, has_trays, has_purges, location_rules};
 
 use crate::looking::{
     are_from, are_names, is_array_or_absent, is_one_of, value_at, values_at, values_in,
@@ -18,8 +18,8 @@ const MOST_LOCATIONS: usize = 256;
 const MOST_MODULES: usize = 64;
 
 /// The first of the rules 6 to 9 that is broken.
-pub(crate) fn first_broken_place(table: &Table) -> Option<u8>
-    ensures { result ≡ first_from 6 (place_rules (table_view table.now)) }
+pub(crate) fn first_broken_location(table: &Table) -> Option<u8>
+    ensures { result ≡ first_from 6 (location_rules (table_view table.now)) }
 {
     if !has_locations(table) {
         return Some(6);
