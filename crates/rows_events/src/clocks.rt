@@ -189,10 +189,10 @@ fn release(act: u32, action: u16, start: Tick, end: Tick) -> Tell {
     }
 }
 
-fn done(place: u16, at: Tick) -> Tell {
+fn done(loc: u16, at: Tick) -> Tell {
     Tell::Done {
         sheet: FIRST,
-        place: LocId(place),
+        place: LocId(loc),
         at,
     }
 }

@@ -54,7 +54,7 @@ least = 3
 most = 3
 "#;
 
-/// An engine of this name and module, from one place to another, with what it does and holds.
+/// An engine of this name and module, from one location to another, with what it does and holds.
 macro_rules! engine {
     ($name:literal, $from:literal, $to:literal, $does:literal) => {
         concat!(

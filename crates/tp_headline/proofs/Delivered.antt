@@ -25,7 +25,7 @@ use Rattle.tp_turn.proofs.AskedFacts.{Apart, apart-sym}
 use Rattle.tp_outages.specs.Through.{KeepsOrder}
 use Rattle.tp_outages.proofs.PlanFacts.{is-delivered, known-of, tray-known}
 use Rattle.tp_headline.proofs.Numbers.{AreFirst, AreNamedApart, earlier-is}
-use Rattle.tp_headline.proofs.Places.{place-named}
+use Rattle.tp_headline.proofs.Locations.{location-named}
 
 -- the copy was delivered at its tray
 pub record IsDelivered (now : ℕ) (plans : List Plan) (c : SheetId) : Type 0 where
@@ -46,19 +46,19 @@ module _ (machine : Machine) (totals : List ℕ) (s : SessionState) (keeps : Kee
   pub known-plan : (p : Plan) → Contains s.plans p → is_known s.jobs p.sheet ≡ true
   known-plan p in' = known-of s.jobs p (own p in')
 
-  place-known : (p : Plan) → Contains s.plans p → IsLocation machine (tray_of s.jobs p.sheet)
-  place-known p in' = All-contains (IsLocation machine) machine.trays (tray_of s.jobs p.sheet) (is_machine machine).trays (tray-known machine s.jobs p.sheet keeps.jobs.trays (known-plan p in'))
+  location-known : (p : Plan) → Contains s.plans p → IsLocation machine (tray_of s.jobs p.sheet)
+  location-known p in' = All-contains (IsLocation machine) machine.trays (tray_of s.jobs p.sheet) (is_machine machine).trays (tray-known machine s.jobs p.sheet keeps.jobs.trays (known-plan p in'))
 
   same-tray : (tray : List ℕ) (p q : Plan) → Contains s.plans p → Contains s.plans q → IsFor machine s.jobs tray p.sheet → IsFor machine s.jobs tray q.sheet → tray_of s.jobs p.sheet ≡ tray_of s.jobs q.sheet
-  same-tray tray p q in' in'' for for' = place-named machine (tray_of s.jobs p.sheet) (tray_of s.jobs q.sheet) (place-known p in') (place-known q in'') (for ∙ sym for')
+  same-tray tray p q in' in'' for for' = location-named machine (tray_of s.jobs p.sheet) (tray_of s.jobs q.sheet) (location-known p in') (location-known q in'') (for ∙ sym for')
 
   -- a job whose tray has the name of a plan's
-  pub place-of-both : (j : Job) (n : ℕ) → slice_get s.jobs n ≡ Some j → (p : Plan) → Contains s.plans p → location_name machine j.tray ≡ location_name machine (tray_of s.jobs p.sheet) → j.tray ≡ tray_of s.jobs p.sheet
-  place-of-both j n at p in' same =
+  pub location-of-both : (j : Job) (n : ℕ) → slice_get s.jobs n ≡ Some j → (p : Plan) → Contains s.plans p → location_name machine j.tray ≡ location_name machine (tray_of s.jobs p.sheet) → j.tray ≡ tray_of s.jobs p.sheet
+  location-of-both j n at p in' same =
       let there : Contains s.jobs j = (n, slice_get_within s.jobs n j at, get_or_from_slice_get s.jobs n j j at) in
-      place-named machine j.tray (tray_of s.jobs p.sheet)
+      location-named machine j.tray (tray_of s.jobs p.sheet)
       (All-contains (IsLocation machine) machine.trays j.tray (is_machine machine).trays (All-contains (λ j. Contains machine.trays j.tray) s.jobs j keeps.jobs.trays there))
-      (place-known p in') same
+      (location-known p in') same
 
   trays-apart : AllPairs (λ p q. Apart p.sheet q.sheet) (tray_plans s.plans)
   trays-apart = AllPairs-map_from Apart (λ p. p.sheet) (tray_plans s.plans) (AllPairs-append_right Apart (map (λ w. w.sheet) s.waiting) (map (λ p. p.sheet) (tray_plans s.plans)) keeps.lines.one)

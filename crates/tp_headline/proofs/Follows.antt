@@ -26,7 +26,7 @@ use Rattle.tp_turn.specs.Receiving.{Arrival, IsAskedFor, IsReceivedOrBroken, She
 use Rattle.tp_turn.specs.States.{SessionState}
 use Rattle.tp_turn.proofs.ListFacts.{Any-contains}
 use Rattle.tp_outages.specs.Through.{KeepsOrder}
-use Rattle.tp_headline.proofs.Delivered.{IsDelivered, IsFor, by-order, ends-first, known-plan, place-of-both}
+use Rattle.tp_headline.proofs.Delivered.{IsDelivered, IsFor, by-order, ends-first, known-plan, location-of-both}
 use Rattle.tp_headline.proofs.Numbers.{AreFirst, AreNamedApart, arrival-at, arrived, job-at, number-of}
 use Rattle.tp_headline.proofs.Sorted.{append-split}
 use Rattle.tp_headline.proofs.Tells.{IsDoneAfter, clock-split}
@@ -164,9 +164,9 @@ module _ (machine : Machine) (totals : List ℕ) (s : SessionState) (keeps : Kee
 
       -- the line of both
       same-line : (c : SheetId) → is_copy_of of.0 sheet.number c ≡ true → (tray_of s.jobs c).0 ≡ (tray_of s.jobs d.p.sheet).0
-      same-line c is = ap (λ l. l.0) (tray-is c is ∙ place) where
-        place : of.1.j.tray ≡ tray_of s.jobs d.p.sheet
-        place = place-of-both machine totals s keeps of.1.j of.0 of.1.at d.p d.there (of.1.for ∙ sym d.brought.for)
+      same-line c is = ap (λ l. l.0) (tray-is c is ∙ location) where
+        location : of.1.j.tray ≡ tray_of s.jobs d.p.sheet
+        location = location-of-both machine totals s keeps of.1.j of.0 of.1.at d.p d.there (of.1.for ∙ sym d.brought.for)
 
       open-is : (c : SheetId) → Contains (open_copies s) c → is_copy_of of.0 sheet.number c ≡ true → IsReceivedOrBroken tray (records ++ before) sheet
       open-is c in' is = elim (Contains-append_cases (map (λ w. w.sheet) s.waiting) (map (λ p. p.sheet) (tray_plans s.plans)) c in') [

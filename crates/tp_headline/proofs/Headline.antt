@@ -48,7 +48,7 @@ use Rattle.tp_outages.specs.Through.{KeepsOrder}
 use Rattle.tp_headline.proofs.Numbers.{names-apart, told-more, told_jobs, AreNamedApart}
 use Rattle.tp_headline.proofs.Follows.{Follows}
 use Rattle.tp_headline.proofs.OrderTurns.{Leads, order-asks}
-use Rattle.tp_headline.proofs.Places.{tray-place}
+use Rattle.tp_headline.proofs.Locations.{tray-location}
 use Rattle.tp_headline.proofs.Steps.{IsNoDelivery, IsQuiet, follows-clock, follows-job, follows-quiet, same-arrived}
 use Rattle.tp_stock.specs.Stock.{more_at}
 use Rattle.tp_turn.proofs.Refilled.{lines-refilled, sheets-refilled}
@@ -84,7 +84,7 @@ module _ {P : Type 0} (steps : PlannerSteps P) (machine : Machine) (spent : P �
         }),
         comes name tray media groups told is ok.is_tray refl,
         λ rest none. ap (λ (t : SessionState). told_jobs machine (totals ++ sheet_count groups ∷ []) t.jobs) is ∙ told-more machine totals s.jobs (sheet_count groups) (new_job machine name tray groups) keeps.sheets.known
-            ∙ ap (λ (a : Arrival). told_jobs machine totals s.jobs ++ a ∷ []) (ap (λ n. record { name = name; tray = n; sheets = sheet_count groups }) (tray-place machine tray ok.is_tray).1)
+            ∙ ap (λ (a : Arrival). told_jobs machine totals s.jobs ++ a ∷ []) (ap (λ n. record { name = name; tray = n; sheets = sheet_count groups }) (tray-location machine tray ok.is_tray).1)
             ∙ ap (λ b. told_jobs machine totals s.jobs ++ cond b [] (record { name = name; tray = tray; sheets = sheet_count groups } ∷ [])) (sym none),
       )
   order-begins (Clock to) totals s p records s' p' accepted (told, is, same) keeps =

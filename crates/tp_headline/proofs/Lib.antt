@@ -1,5 +1,5 @@
 pub mod Sorted
-pub mod Places
+pub mod Locations
 pub mod Numbers
 pub mod Delivered
 pub mod Tells

@@ -28,7 +28,7 @@ use Rattle.tp_outages.specs.Through.{KeepsOrder}
 use Rattle.tp_outages.proofs.PlanFacts.{not-false}
 use Rattle.tp_headline.proofs.Delivered.{IsFor, by-order, ends-first, told-earlier}
 use Rattle.tp_headline.proofs.Numbers.{AreFirst, AreNamedApart}
-use Rattle.tp_headline.proofs.Places.{own-place, tray-goal}
+use Rattle.tp_headline.proofs.Locations.{own-location, tray-goal}
 use Rattle.tp_headline.proofs.Sorted.{AllPairs-flat_map, Either, InTime, IsSplit, by_moment-from, by_moment-to, map-split, pairs-by_moment, stands-before}
 
 AllPairs-any : {X : Type 0} (R : X → X → Type 0) (xs : List X) → ((x y : X) → Contains xs x → Contains xs y → R x y) → AllPairs R xs
@@ -133,22 +133,22 @@ module _ (machine : Machine) (totals : List ℕ) (s : SessionState) (keeps : Kee
   pub brought : (p : Plan) (c : SheetName) → Contains s.plans p → is_done_between s.now to p ≡ true → Has (delivery machine p) c → IsBrought machine s tray s.now to c p
   brought p c in' done has =
       let between = done-between s.now to p done in
-      let place = received-of tray (label s.jobs p.sheet) (location_name machine (end_location machine p)) (end_of_plan p) c has in
-      let goal : is_to_tray p.goal ≡ true = tray-goal machine p tray (timed-at p in') between.whole tray_is place.0 in
+      let location = received-of tray (label s.jobs p.sheet) (location_name machine (end_location machine p)) (end_of_plan p) c has in
+      let goal : is_to_tray p.goal ≡ true = tray-goal machine p tray (timed-at p in') between.whole tray_is location.0 in
       let to_tray : is_tray_plan p ≡ true = rw (between.whole, goal) refl in
       record {
         to_tray = to_tray;
-        for = ap (location_name machine) (sym (own-place machine s.jobs p (timed-at p in') to_tray (own-at p in'))) ∙ place.0;
+        for = ap (location_name machine) (sym (own-location machine s.jobs p (timed-at p in') to_tray (own-at p in'))) ∙ location.0;
         after = between.after;
         until = between.until;
-        is = place.1;
+        is = location.1;
       }
 
   -- and it is told to be received
   pub brings : (p : Plan) → Contains s.plans p → is_tray_plan p ≡ true → IsFor machine s.jobs tray p.sheet → Has (delivery machine p) (label s.jobs p.sheet)
   brings p in' to_tray for =
-      let place : location_name machine (end_location machine p) ≡ tray = ap (location_name machine) (own-place machine s.jobs p (timed-at p in') to_tray (own-at p in')) ∙ for in
-      rw ((bytes_eq-Decides (location_name machine (end_location machine p)) tray).1 place) (Contains-here (label s.jobs p.sheet) [])
+      let location : location_name machine (end_location machine p) ≡ tray = ap (location_name machine) (own-location machine s.jobs p (timed-at p in') to_tray (own-at p in')) ∙ for in
+      rw ((bytes_eq-Decides (location_name machine (end_location machine p)) tray).1 location) (Contains-here (label s.jobs p.sheet) [])
 
   -- where a copy that is told to be received comes from
   pub told-from : (t : Told) (c : SheetName) → Contains (tolds machine s.now to s.plans) t → Has t c → IsToldOf machine s.now to s.plans t

@@ -9,7 +9,7 @@ use Rattle.tp_jobs.specs.declared.parts.WaitingCopy.{WaitingCopy}
 
 -- the location is marked
 abbrev pub is_blocked : List Bool → LocId → Bool
-is_blocked marks place = slice_index_or marks place.0 false
+is_blocked marks loc = slice_index_or marks loc.0 false
 
 -- the copy comes after the one that was tried last, if any was
 abbrev pub comes_after : Option SheetId → SheetId → Bool

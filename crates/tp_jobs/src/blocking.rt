@@ -28,7 +28,7 @@ impl Model for Blocked {
 impl Blocked {
     /// No location.
     pub fn none() -> Blocked
-        ensures { (place : LocId) → is_blocked result place ≡ false }
+        ensures { (loc : LocId) → is_blocked result loc ≡ false }
     {
         Blocked {
             marks: [false; 256],
@@ -38,8 +38,8 @@ impl Blocked {
     /// This location too.
     pub fn add(&mut self, loc: LocId)
         requires { loc.0 < most_locations }
-        ensures { (place : LocId)
-            → is_blocked self.new place ≡ ((place.0 == loc.0) || is_blocked self.old place) }
+        ensures { (location : LocId)
+            → is_blocked self.new location ≡ ((location.0 == loc.0) || is_blocked self.old location) }
     {
         self.marks[usize::from(loc.0)] = true;
     }

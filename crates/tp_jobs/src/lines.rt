@@ -275,10 +275,10 @@ impl Lines {
         requires { length groups.now < 2 ^ 32 }
         ensures refused { refusal_in result ≡ job_fault machine.now self.now.jobs
             (length self.now.waiting) name.now tray.now media.now groups.now }
-        ensures tray { IfOk result (λ place. tray_named machine.now tray.now ≡ Some place) }
+        ensures tray { IfOk result (λ loc. tray_named machine.now tray.now ≡ Some loc) }
         ensures no_memory { IfErr result (λ fault. fault ≢ WantsMemory) }
     {
-        let Some(place) = find_tray(machine, tray) else {
+        let Some(loc) = find_tray(machine, tray) else {
             return Err(JobFault::UnknownTray(*tray));
         };
         if !has_feeder(machine.feeders.as_slice(), media) {
@@ -292,7 +292,7 @@ impl Lines {
         if u64::from(waiting) + asked > MOST_WAITING {
             return Err(JobFault::TooManyWaiting { waiting, asked });
         }
-        Ok(place)
+        Ok(loc)
     }
 
     /// The copy waits with this want, in its place in the order of copies.

@@ -14,18 +14,18 @@ use tp_script::Group;
 pub(crate) fn find_tray(machine: &Machine, name: &Name) -> Option<LocId>
     ensures { result ≡ tray_named machine.now name.now }
 {
-    let place = LocId(machine.locations.find(name)?);
-    if is_tray(machine.trays.as_slice(), place) {
-        Some(place)
+    let loc = LocId(machine.locations.find(name)?);
+    if is_tray(machine.trays.as_slice(), loc) {
+        Some(loc)
     } else {
         None
     }
 }
 
-fn is_tray(trays: &[LocId], place: LocId) -> bool
-    ensures { result ≡ is_among trays.now place }
+fn is_tray(trays: &[LocId], loc: LocId) -> bool
+    ensures { result ≡ is_among trays.now loc }
 {
-    trays.iter().any(|tray| tray.0 == place.0)
+    trays.iter().any(|tray| tray.0 == loc.0)
 }
 
 /// Whether a feeder has the media.

@@ -96,7 +96,7 @@ opened true false e f = refl
 opened false b e f = absurd cc
 
 -- the next one that is tried is the one at the place
-pub next-at : (jobs : List Job) (marks : List Bool) (job i : ℕ) (ws : List WaitingCopy) (w : WaitingCopy) → AllPairs WaitsBefore ws → ((place : LocId) → is_blocked marks place ≡ false)
+pub next-at : (jobs : List Job) (marks : List Bool) (job i : ℕ) (ws : List WaitingCopy) (w : WaitingCopy) → AllPairs WaitsBefore ws → ((loc : LocId) → is_blocked marks loc ≡ false)
     → slice_get ws i ≡ Some w → next_to_try (unmarked jobs (left_to job i ws)) (last_at i ws) marks ≡ Some w.sheet
 next-at jobs marks job i ws w in_order free at = split i at where
   found : (last : Option SheetId) (n : ℕ) → slice_get ws n ≡ Some w → ((x : WaitingCopy) → Contains (filter (others job) (take n ws)) x → comes_after last x.sheet ≡ false) → comes_after last w.sheet ≡ true

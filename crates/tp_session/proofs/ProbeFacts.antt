@@ -85,12 +85,12 @@ module _ (machine : Machine) (name tray media : List ℕ) (groups : List GroupFo
   copy want = record { sheet = record { job = length s.jobs; number = 1; copy = 1 }; want = want }
 
   -- its ask
-  pub ask-first : (want : Sheet) (place : LocId) → tray_named machine tray ≡ Some place
-      → record { sheet = record { job = length s.jobs; number = 1; copy = 1 }; name = name; want = want; goal = Tray place; origin = FromFeeder; outs = s.outs; empty = empties machine s.refills s.plans; now = s.now } ≡ ask_waiting machine next (copy want)
-  ask-first want place named =
+  pub ask-first : (want : Sheet) (loc : LocId) → tray_named machine tray ≡ Some loc
+      → record { sheet = record { job = length s.jobs; number = 1; copy = 1 }; name = name; want = want; goal = Tray loc; origin = FromFeeder; outs = s.outs; empty = empties machine s.refills s.plans; now = s.now } ≡ ask_waiting machine next (copy want)
+  ask-first want loc named =
       let last = last-job s.jobs (new_job machine name tray groups) in
       let name-is : job_name_in (slice_get next.jobs (length s.jobs)) ≡ name = ap job_name_in last in
-      let tray-is : tray_in (slice_get next.jobs (length s.jobs)) ≡ place = ap tray_in last ∙ ap given_tray named in
+      let tray-is : tray_in (slice_get next.jobs (length s.jobs)) ≡ loc = ap tray_in last ∙ ap given_tray named in
       λ k. record { sheet = record { job = length s.jobs; number = 1; copy = 1 }; name = sym name-is k; want = want; goal = Tray (sym tray-is k); origin = FromFeeder; outs = s.outs; empty = empties machine s.refills s.plans; now = s.now }
 
   waits-next : (w : WaitingCopy) → first_copy s media groups ≡ Some w → Contains next.waiting w

@@ -85,16 +85,16 @@ fn ask_for_job(
     ensures told { (nodes : ℕ) → IfErr result (IsProbe machine.now nodes
         (NewJob name.now tray.now media.now groups.now) (seen state.now)) }
 {
-    let Ok(place) = state.lines.check(machine, name, tray, media, groups) else {
+    let Ok(loc) = state.lines.check(machine, name, tray, media, groups) else {
         return Err(Probe::Refused);
     };
-    if state.lines.waits_for(place) {
+    if state.lines.waits_for(loc) {
         return Err(Probe::Waits);
     }
     if state.schedule.live(machine, state.moment) >= MOST_LIVE {
         return Err(Probe::Full);
     }
-    Ok(make_ask(machine, state, *name, first_sheet(*media, groups), place))
+    Ok(make_ask(machine, state, *name, first_sheet(*media, groups), loc))
 }
 
 /// The ask for the first sheet of the job, or what is told without one: the event is no job or would be refused, a copy of

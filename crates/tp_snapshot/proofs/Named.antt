@@ -23,18 +23,18 @@ use Rattle.tp_turn.specs.Keeping.{is_known, is_own_goal}
 use Rattle.tp_turn.specs.Labels.{job_name}
 use Rattle.tp_standing.specs.Sound.{IsKeptPlan, IsSound}
 use Rattle.tp_snapshot.specs.Texts.{HasNames}
-use Rattle.tp_snapshot.specs.Written.{has_place, is_action, is_goal_known, is_of_jobs, is_plan_known}
+use Rattle.tp_snapshot.specs.Written.{has_location, is_action, is_goal_known, is_of_jobs, is_plan_known}
 
 module _ (machine : Machine) (t : Standing) (sound : IsSound machine t) where
-  place-known : (tray : LocId) → Contains machine.trays tray → tray.0 < length machine.locations
-  place-known tray in' = All-contains (IsLocation machine) machine.trays tray (is_machine machine).trays in'
+  location-known : (tray : LocId) → Contains machine.trays tray → tray.0 < length machine.locations
+  location-known tray in' = All-contains (IsLocation machine) machine.trays tray (is_machine machine).trays in'
 
   tray-known : (n : ℕ) → n < length t.jobs → (tray_in (slice_get t.jobs n)).0 < length machine.locations
   tray-known n low =
       elim ((slice_get_cases t.jobs n).1) [
         | inl w ↦
             let at : Contains machine.trays w.0.tray = subst (λ (j : Job). Contains machine.trays j.tray) w.3 (sound.jobs.trays n w.0 low) in
-            subst (λ (o : Option Job). (tray_in o).0 < length machine.locations) (sym w.2) (place-known w.0.tray at)
+            subst (λ (o : Option Job). (tray_in o).0 < length machine.locations) (sym w.2) (location-known w.0.tray at)
         | inr w ↦ absurd (omega (arith, w.0, low))
       ]
 
@@ -56,7 +56,7 @@ module _ (machine : Machine) (t : Standing) (sound : IsSound machine t) where
 
   pub has-names : HasNames machine t
   has-names = record {
-    jobs = list_all-from_AllPass (has_place machine) t.jobs (λ k d low. lt-ltb (get_or t.jobs k d).tray.0 (length machine.locations) (place-known (get_or t.jobs k d).tray (sound.jobs.trays k d low)));
+    jobs = list_all-from_AllPass (has_location machine) t.jobs (λ k d low. lt-ltb (get_or t.jobs k d).tray.0 (length machine.locations) (location-known (get_or t.jobs k d).tray (sound.jobs.trays k d low)));
     plans = list_all-from_AllPass (is_plan_known machine) t.plans (λ k d low. plan-known (get_or t.plans k d) (sound.plans k d low) (sound.legal.timed k d low));
     waiting = list_all-from_AllPass (is_of_jobs (length t.jobs)) t.waiting (λ k d low. (sound.waiting k d low).numbered.known);
   }

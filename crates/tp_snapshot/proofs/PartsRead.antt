@@ -72,9 +72,9 @@ among-contains trays n e =
 tray-there : (machine : Machine) (o : Option ℕ) (tray : LocId) → tray_at machine o ≡ Some tray → Contains machine.trays tray
 tray-there machine None tray e = absurd (none-some tray e)
 tray-there machine (Some n) tray e =
-    let place : LocId = record { 0 = n } in
-    let (among, is) = when_some (is_among machine.trays place) (Some place) tray e in
-    subst (λ (t : LocId). Contains machine.trays t) (same_Some place tray is) (among-contains machine.trays n among)
+    let loc : LocId = record { 0 = n } in
+    let (among, is) = when_some (is_among machine.trays loc) (Some loc) tray e in
+    subst (λ (t : LocId). Contains machine.trays t) (same_Some loc tray is) (among-contains machine.trays n among)
 
 pub job-read : (machine : Machine) (d : Data) (j : Job) → job_of machine d ≡ Some j → Contains machine.trays j.tray
 unfolding job_of job_from
@@ -84,10 +84,10 @@ job-read machine d j e =
     let (name, b, rest) = and_then_some (field_of (codes "name") name_in d) _ j more in
     let (tray, at, made) = and_then_some (field_of (codes "tray") (tray_in machine) d) _ j rest in
     let (v, is) = field-value (codes "tray") (tray_in machine) d tray at in
-    let (text, named, place) = and_then_some (name_in v) (tray_named machine) tray is in
+    let (text, named, location) = and_then_some (name_in v) (tray_named machine) tray is in
     let job : Job = record { name = name; tray = tray; broken = broken } in
     subst (λ (k : Job). Contains machine.trays k.tray) (same_Some job j made)
-    (tray-there machine (position (bytes_eq text) machine.locations) tray place)
+    (tray-there machine (position (bytes_eq text) machine.locations) tray location)
 
 own-of : (tray : LocId) (o : Option LocId) (g : Goal) → goal_of tray o ≡ Some g → is_own_goal g tray.0 ≡ true
 own-of tray None g e = absurd (none-some g e)

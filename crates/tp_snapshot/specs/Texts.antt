@@ -6,7 +6,7 @@ use Rattle.serde_json.specs.Read.{read}
 use Rattle.tp_machine.specs.declared.machine.Machine.{Machine}
 use Rattle.tp_machine_text.specs.Texts.{IsMachineText}
 use Rattle.tp_jobs.specs.declared.standing.Standing.{Standing}
-use Rattle.tp_snapshot.specs.Written.{has_place, is_of_jobs, is_plan_known, snapshot_data}
+use Rattle.tp_snapshot.specs.Written.{has_location, is_of_jobs, is_plan_known, snapshot_data}
 
 -- the bytes are the JSON text of the value
 pub record IsJson (bytes : List ℕ) (d : Data) : Type 0 where
@@ -19,7 +19,7 @@ IsNotJson bytes = (d : Data) → ¬ IsJson bytes d
 
 -- all that the standing tells of has a name
 pub record HasNames (machine : Machine) (t : Standing) : Type 0 where
-  pub jobs : list_all (has_place machine) t.jobs ≡ true
+  pub jobs : list_all (has_location machine) t.jobs ≡ true
   pub plans : list_all (is_plan_known machine) t.plans ≡ true
   pub waiting : list_all (is_of_jobs (length t.jobs)) t.waiting ≡ true
 

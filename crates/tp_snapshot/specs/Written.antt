@@ -79,10 +79,10 @@ abbrev pub out_names : Outs → ℕ → List (List ℕ) → List (List ℕ)
 out_names outs n [] = []
 out_names outs n (name ∷ names) = if is_out outs n then name ∷ out_names outs (suc n) names else out_names outs (suc n) names
 
--- ---- what has a name: a place, an action and a goal that the machine knows, and a job that is one of so many
+-- ---- what has a name: a location, an action and a goal that the machine knows, and a job that is one of so many
 
-abbrev pub has_place : Machine → Job → Bool
-has_place machine j = nat_lt j.tray.0 (length machine.locations)
+abbrev pub has_location : Machine → Job → Bool
+has_location machine j = nat_lt j.tray.0 (length machine.locations)
 
 abbrev pub is_action : Machine → ActId → Bool
 is_action machine act = nat_lt act.0 (length machine.actions)

@@ -8,7 +8,7 @@ ghost use Rattle.tp_jobs.specs.Refusing.{tray_named};
 ghost use Rattle.tp_standing.specs.Sound.{most_jobs};
 ghost use Rattle.tp_snapshot.specs.Jobs.{job_of, jobs_of, tray_in};
 ghost use Rattle.tp_snapshot.specs.Values.{few_read, field_of};
-ghost use Rattle.tp_snapshot.specs.Written.{has_place, job_data};
+ghost use Rattle.tp_snapshot.specs.Written.{has_location, job_data};
 
 use crate::looking::{has_members, name_at, read_name, truth_at, value_at, values_at};
 use crate::making::name_value;
@@ -22,19 +22,19 @@ use tp_telling::location_name;
 /// The most jobs of a snapshot.
 const MOST_JOBS: usize = 1_000_000;
 
-fn is_tray(trays: &[LocId], place: LocId) -> bool
-    ensures { result ≡ is_among trays.now place }
+fn is_tray(trays: &[LocId], loc: LocId) -> bool
+    ensures { result ≡ is_among trays.now loc }
 {
-    trays.iter().any(|tray| tray.0 == place.0)
+    trays.iter().any(|tray| tray.0 == loc.0)
 }
 
 /// The tray of this name.
 fn tray_named(machine: &Machine, name: &Name) -> Option<LocId>
     ensures { result ≡ tray_named machine.now name.now }
 {
-    let place = LocId(machine.locations.find(name)?);
-    if is_tray(machine.trays.as_slice(), place) {
-        Some(place)
+    let loc = LocId(machine.locations.find(name)?);
+    if is_tray(machine.trays.as_slice(), loc) {
+        Some(loc)
     } else {
         None
     }
@@ -106,7 +106,7 @@ fn job_object(alloc: Global, broken: bool, name: Value, tray: Value) -> Result<V
 }
 
 fn job_value(alloc: Global, machine: &Machine, job: &JobRow) -> Result<Value, Memory>
-    requires { has_place machine.now job.now ≡ true }
+    requires { has_location machine.now job.now ≡ true }
     ensures { IfOk result (λ value. view value ≡ job_data machine.now job.now) }
 {
     let name = name_value(alloc, &job.name)?;
@@ -116,7 +116,7 @@ fn job_value(alloc: Global, machine: &Machine, job: &JobRow) -> Result<Value, Me
 
 /// An array of the jobs.
 pub(crate) fn jobs_value(alloc: Global, machine: &Machine, jobs: &[JobRow]) -> Result<Value, Memory>
-    requires { list_all (has_place machine.now) jobs.now ≡ true }
+    requires { list_all (has_location machine.now) jobs.now ≡ true }
     ensures { IfOk result (λ value. view value
         ≡ array (items_of (map (job_data machine.now) jobs.now))) }
 {

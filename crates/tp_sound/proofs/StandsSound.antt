@@ -32,7 +32,7 @@ use Rattle.tp_standing.specs.Told.{count_of, free_sheets, standing_of}
 use Rattle.tp_sound.specs.Kept.{IsCounted, KeepsPlan, KeepsSound, KeepsWaiting}
 use Rattle.tp_sound.specs.Laws.{StandsSoundly}
 
--- a feeder is the one that is found at its place
+-- a feeder is the one that is found at its location
 found : (feeders : List Feeder) → AllPairs Apart feeders → (f : Feeder) → Contains feeders f → find (λ (g : Feeder). g.loc.0 == f.loc.0) feeders ≡ Some f
 found [] apart f in' = absurd (omega (arith, in'.1))
 found (g ∷ feeders) apart f in' = elim (Contains-cons_cases g feeders f in') [

@@ -20,8 +20,8 @@ use Rattle.tp_sound.specs.Kept.{KeepsRefills}
 use Rattle.tp_sound.proofs.CountedRefills.{IsFreeWithin, counted-by, uncounted}
 
 -- where a feeder of the machine stands
-place : (machine : Machine) (loc : ℕ) (f : Feeder) → feeder_at machine loc ≡ Some f → Contains machine.feeders f × (f.loc.0 ≡ loc) × (loc < 256)
-place machine loc f at =
+location : (machine : Machine) (loc : ℕ) (f : Feeder) → feeder_at machine loc ≡ Some f → Contains machine.feeders f × (f.loc.0 ≡ loc) × (loc < 256)
+location machine loc f at =
     let found = find-Some (λ (g : Feeder). g.loc.0 == loc) machine.feeders f at in
     let e = eqb-true f.loc.0 loc found.1 in
     let known = feeder-known machine f found.0 in
@@ -29,7 +29,7 @@ place machine loc f at =
 
 free-empty : (machine : Machine) → IsFreeWithin machine no_refills
 free-empty machine loc f stock at is =
-    let here = place machine loc f at in
+    let here = location machine loc f at in
     let le : stock ≤ 1000000 = subst (λ o. IfSome o (λ n. n ≤ 1000000)) is (All-contains (λ (g : Feeder). IfSome g.stock (λ n. n ≤ 1000000)) machine.feeders f (is_machine machine).stocks here.0) in
     let none : refilled no_refills loc ≡ pos 0 = at-location (λ l. pos 0) loc (pos 0) here.2 in
     rw none (low stock le) where
@@ -57,14 +57,14 @@ module _ (machine : Machine) (refills : List ℤ) (plans : List Plan) (few : len
   free-refilled name count f accepted named loc g stock at' is = elim (cases_Bool (eqb loc f.loc.0)) [
     | inl same ↦
         let e = eqb-true loc f.loc.0 same in
-        let low = (place machine loc g at').2 in
+        let low = (location machine loc g at').2 in
         let one : g ≡ f = same_Some g f (sym at' ∙ ap (feeder_at machine) e ∙ named-at name f named) in
         let stocks : stock ≡ of.stock = same_Some stock of.stock (sym is ∙ ap (λ (h : Feeder). h.stock) one ∙ of.is) in
         rw (refilled-more f.loc.0 count refills loc low, same)
         (subst (λ l. (pos stock +ℤ (refilled refills l +ℤ pos count)) ≤ℤ pos 1000256) (sym e)
         (subst (λ n. (pos n +ℤ (refilled refills f.loc.0 +ℤ pos count)) ≤ℤ pos 1000256) (sym stocks) (stock-few of.stock (taken_at machine plans f.loc.0) count (refilled refills f.loc.0) (taken-few f.loc.0) of.few)))
     | inr other ↦
-        let low = (place machine loc g at').2 in
+        let low = (location machine loc g at').2 in
         rw (refilled-more f.loc.0 count refills loc low, other) (plain stock (refilled refills loc) (free loc g stock at' is))
   ] where
     of : IsAccepted machine refills plans f count
@@ -73,7 +73,7 @@ module _ (machine : Machine) (refills : List ℤ) (plans : List Plan) (few : len
 -- plans are forgotten
 free-forgotten : (machine : Machine) (refills : List ℤ) (gone : List Plan) → IsFreeWithin machine refills → IsFreeWithin machine (less_taken machine gone refills)
 free-forgotten machine refills gone free loc g stock at is =
-    rw (refilled-less machine gone refills loc (place machine loc g at).2) (lower stock (drawn_at machine gone loc) (refilled refills loc) (free loc g stock at is)) where
+    rw (refilled-less machine gone refills loc (location machine loc g at).2) (lower stock (drawn_at machine gone loc) (refilled refills loc) (free loc g stock at is)) where
       lower : (stock n : ℕ) (r : ℤ) → (pos stock +ℤ r) ≤ℤ pos 1000256 → (pos stock +ℤ (r -ℤ pos n)) ≤ℤ pos 1000256
       lower stock n r high = omega (arith, ints)
 
@@ -100,7 +100,7 @@ refills-refilled machine refills plans few k name count f accepted named = recor
   of = accepted-refill machine refills plans name count f accepted named
 
   there : is_counted machine f.loc.0 ≡ true
-  there = counted-there machine f of.stock (place machine f.loc.0 f (named-at machine refills plans few k.few name f named)).0 of.is
+  there = counted-there machine f of.stock (location machine f.loc.0 f (named-at machine refills plans few k.few name f named)).0 of.is
 
   elsewhere : (loc : ℕ) → is_counted machine loc ≡ false → (loc == f.loc.0) ≡ false
   elsewhere loc none = elim (cases_Bool (eqb loc f.loc.0)) [

@@ -1,4 +1,4 @@
--- Feeders stand at different places, and what is free at each is a count.
+-- Feeders stand at different locations, and what is free at each is a count.
 use Rattle.std.proofs.Common.{◌≡◌, ◌≢◌, ◌∙◌, ℕ, ◌==◌, cond, List, [], ◌∷◌, ◌+◌, ◌++◌, get_or, map, take, find, refl, ap, inl, inr, AllPairs, Contains, Option, Some, None, pos, ◌+ℤ◌, ◌-ℤ◌, ◌≤ℤ◌, arith}
 use Rattle.std.specs.Prelude.{IfSome, slice_get, ℤ}
 use Rattle.std.proofs.lemmas.List.{map-append, take_more}
@@ -30,7 +30,7 @@ feeders-apart machine =
     (AllPairs-map_from (λ a b. a ≢ b) (name_at machine) machine.feeders (rising_names_differ (map (name_at machine) machine.feeders) (is_machine machine).feeders_rise))
     (λ f g in' in'' differ same. differ (ap (λ n. name_in (slice_get machine.locations n)) same))
 
--- each is the one that is found at its place
+-- each is the one that is found at its location
 found : (feeders : List Feeder) → AllPairs Apart feeders → (f : Feeder) → Contains feeders f → find (λ (g : Feeder). g.loc.0 == f.loc.0) feeders ≡ Some f
 found [] apart f in' = absurd (omega (arith, in'.1))
 found (g ∷ feeders) apart f in' = elim (Contains-cons_cases g feeders f in') [

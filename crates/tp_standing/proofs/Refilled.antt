@@ -12,7 +12,7 @@ use Rattle.tp_standing.proofs.FeederFacts.{Apart}
 use Rattle.tp_standing.specs.Sound.{AreFree, IsFreeOf}
 use Rattle.tp_standing.specs.Told.{count_of, refill_at, refill_by}
 
--- a feeder of the list, what is free there, and the refills at its place
+-- a feeder of the list, what is free there, and the refills at its location
 pub record Refilled (taken : ℕ) (feeders : List Feeder) (stock : List (Option ℕ)) (f : Feeder) : Type 0 where
   pub free : Option ℕ
   pub fits : IsFreeOf f.stock free

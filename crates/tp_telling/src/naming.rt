@@ -1,4 +1,4 @@
-//! The names by which records call copies, places, goals and actions.
+//! The names by which records call copies, locations, goals and actions.
 
 ghost use Rattle.std.specs.Prelude.{◌≡◌};
 ghost use Rattle.tp_machine.specs.Machines.{IsLocation};
@@ -22,11 +22,11 @@ pub fn label(name: Name, sheet: SheetId) -> SheetName
     }
 }
 
-pub fn location_name(machine: &Machine, place: LocId) -> Name
-    requires { IsLocation machine.now place }
-    ensures { result ≡ location_name machine.now place }
+pub fn location_name(machine: &Machine, loc: LocId) -> Name
+    requires { IsLocation machine.now loc }
+    ensures { result ≡ location_name machine.now loc }
 {
-    machine.locations.get(place.0)
+    machine.locations.get(loc.0)
 }
 
 pub fn action_name(machine: &Machine, act: ActId) -> Name

@@ -64,11 +64,11 @@ own-more jobs j p e =
     rw (known-more jobs j p.sheet known, before-same jobs j p.sheet known) (subst (λ b. (b && bytes_eq p.name (job_name jobs p.sheet.job) && is_own_goal p.goal (tray_of jobs p.sheet).0) ≡ true) known e)
 
 -- the tray of an accepted job is one of the machine's
-among-trays : (trays : List LocId) (place : LocId) → is_among trays place ≡ true → Contains trays place
-among-trays [] place e = absurd (cc)
-among-trays (t ∷ trays) place e = go (among-trays trays place) (t.0 == place.0) refl e where
-  go : (is_among trays place ≡ true → Contains trays place) → (b : Bool) → (t.0 == place.0) ≡ b → (b || is_among trays place) ≡ true → Contains (t ∷ trays) place
-  go rest true f g = let same : t.0 ≡ place.0 = grind (arith, nat_tests) in (0, omega arith, ap (λ n. record { 0 = n }) same)
+among-trays : (trays : List LocId) (loc : LocId) → is_among trays loc ≡ true → Contains trays loc
+among-trays [] loc e = absurd (cc)
+among-trays (t ∷ trays) loc e = go (among-trays trays loc) (t.0 == loc.0) refl e where
+  go : (is_among trays loc ≡ true → Contains trays loc) → (b : Bool) → (t.0 == loc.0) ≡ b → (b || is_among trays loc) ≡ true → Contains (t ∷ trays) loc
+  go rest true f g = let same : t.0 ≡ loc.0 = grind (arith, nat_tests) in (0, omega arith, ap (λ n. record { 0 = n }) same)
   go rest false f g = let r = rest g in (suc r.0, omega (arith, r.1), r.2)
 
 is-tray : (machine : Machine) (n : ℕ) (b : Bool) → is_among machine.trays (record { 0 = n }) ≡ b → is_some {T = LocId} (cond b (Some (record { 0 = n })) None) ≡ true → Contains machine.trays (given_tray (cond b (Some (record { 0 = n })) None))

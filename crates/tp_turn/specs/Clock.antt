@@ -52,7 +52,7 @@ clock_tells machine now to plans =
 
 -- the record of it, by names
 abbrev pub record_of : Machine → List Job → Tell → Record
-record_of machine jobs (TellsDone sheet place at) = Done (label jobs sheet) (location_name machine place) at
+record_of machine jobs (TellsDone sheet loc at) = Done (label jobs sheet) (location_name machine loc) at
 record_of machine jobs (TellsRelease sheet number act start end) =
     Release (label jobs sheet) number (action_name machine act) start end
 

@@ -1,4 +1,4 @@
--- What records call copies, places, actions and modules.
+-- What records call copies, locations, actions and modules.
 use Rattle.std.specs.Prelude.{ℕ, List, [], ◌∷◌, slice_get, Option, Some, None}
 use Rattle.tp_machine.specs.Rules.{name_in}
 use Rattle.tp_machine.specs.Using.{action_at}

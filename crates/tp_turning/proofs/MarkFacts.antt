@@ -28,7 +28,7 @@ use Rattle.tp_turning.specs.Phases.{is_planned}
 
 -- the marks are those of the trays whose lines are passed over
 abbrev pub AreMarked : List Bool → List ℕ → Type 0
-AreMarked marks passed = (place : LocId) → is_blocked marks place ≡ list_any (λ t. place.0 == t) passed
+AreMarked marks passed = (loc : LocId) → is_blocked marks loc ≡ list_any (λ t. loc.0 == t) passed
 
 -- behind the first copy whose line is open
 abbrev pub behind : WaitingCopy → List WaitingCopy → List WaitingCopy
@@ -81,24 +81,24 @@ module _ {P : Type 0} (steps : PlannerSteps P) (machine : Machine) (s : SessionS
 
 -- the marks after a copy's turn: its line is closed where it was not planned
 abbrev pub AreClosed : Bool → LocId → List Bool → List Bool → Type 0
-AreClosed planned tray marks marks' = (place : LocId) → is_blocked marks' place ≡ ((not planned && (place.0 == tray.0)) || is_blocked marks place)
+AreClosed planned tray marks marks' = (loc : LocId) → is_blocked marks' loc ≡ ((not planned && (loc.0 == tray.0)) || is_blocked marks loc)
 
 pub closed-after : (reply : Reply) (planned : Bool) (tray : LocId) (marks marks' : List Bool) (passed : List ℕ) → planned ≡ is_planned reply → AreMarked marks passed → AreClosed planned tray marks marks'
     → AreMarked marks' (passed_after reply tray.0 passed)
-closed-after Planned planned tray marks marks' passed is marked closed place = closed place ∙ ap (λ b. (not b && (place.0 == tray.0)) || is_blocked marks place) is ∙ marked place
-closed-after Never planned tray marks marks' passed is marked closed place =
-    closed place ∙ ap (λ b. (not b && (place.0 == tray.0)) || is_blocked marks place) is ∙ ap (λ c. (place.0 == tray.0) || c) (marked place)
-closed-after (Spent bound) planned tray marks marks' passed is marked closed place =
-    closed place ∙ ap (λ b. (not b && (place.0 == tray.0)) || is_blocked marks place) is ∙ ap (λ c. (place.0 == tray.0) || c) (marked place)
+closed-after Planned planned tray marks marks' passed is marked closed loc = closed loc ∙ ap (λ b. (not b && (loc.0 == tray.0)) || is_blocked marks loc) is ∙ marked loc
+closed-after Never planned tray marks marks' passed is marked closed loc =
+    closed loc ∙ ap (λ b. (not b && (loc.0 == tray.0)) || is_blocked marks loc) is ∙ ap (λ c. (loc.0 == tray.0) || c) (marked loc)
+closed-after (Spent bound) planned tray marks marks' passed is marked closed loc =
+    closed loc ∙ ap (λ b. (not b && (loc.0 == tray.0)) || is_blocked marks loc) is ∙ ap (λ c. (loc.0 == tray.0) || c) (marked loc)
 
 -- the marks where the line is closed, and where it stays open
 pub closed-refused : (planned : Bool) (tray added : LocId) (marks marks' : List Bool) → planned ≡ false → tray ≡ added
-    → ((place : LocId) → is_blocked marks' place ≡ ((place.0 == added.0) || is_blocked marks place)) → AreClosed planned tray marks marks'
-closed-refused planned tray added marks marks' refused is closed place =
-    closed place ∙ (λ k. (not (sym refused k) && (place.0 == (sym is k).0)) || is_blocked marks place)
+    → ((loc : LocId) → is_blocked marks' loc ≡ ((loc.0 == added.0) || is_blocked marks loc)) → AreClosed planned tray marks marks'
+closed-refused planned tray added marks marks' refused is closed loc =
+    closed loc ∙ (λ k. (not (sym refused k) && (loc.0 == (sym is k).0)) || is_blocked marks loc)
 
 pub closed-planned : (planned : Bool) (tray : LocId) (marks : List Bool) → planned ≡ true → AreClosed planned tray marks marks
-closed-planned planned tray marks is place = ap (λ b. (not b && (place.0 == tray.0)) || is_blocked marks place) (sym is)
+closed-planned planned tray marks is loc = ap (λ b. (not b && (loc.0 == tray.0)) || is_blocked marks loc) (sym is)
 
 -- the tray of a job is below 256
 pub tray-below : (machine : Machine) (jobs : List Job) (job : ℕ) (tray : LocId) → All (IsLocation machine) machine.trays → length machine.locations ≤ 256 → All (λ j. Contains machine.trays j.tray) jobs

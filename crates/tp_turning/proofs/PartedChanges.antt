@@ -32,7 +32,7 @@ walk-start machine want act acts s end e = go (action_at machine act.0) e where
   go None e = absurd (cc)
   go (Some a) e = at a (s.loc.0 == a.from.0) refl _ _ e
 
--- so a plan starts from the state of its first action's place
+-- so a plan starts from the state of its first action's location
 pub starts-there : (machine : Machine) (p : Plan) (timed : IsTimedPlan machine p) → start_of machine p ≡ timed.start
 starts-there machine p timed =
     let at = Any-contains _ machine.feeders timed.starts in

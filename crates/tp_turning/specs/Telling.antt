@@ -7,7 +7,7 @@ use Rattle.tp_telling.specs.Telling.{IsKnown}
 use Rattle.tp_turn.specs.declared.telling.Tell.{Tell}
 use Rattle.tp_turn.specs.declared.telling.Tell.TheVariants.{Done, Release}
 
--- the copy is of one of the jobs, and the place or the action is one of the machine's
+-- the copy is of one of the jobs, and the location or the action is one of the machine's
 abbrev pub IsKnownTell : Machine → List Job → Tell → Type 0
-IsKnownTell machine jobs (Done sheet place at) = (sheet.job < length jobs) × IsLocation machine place
+IsKnownTell machine jobs (Done sheet loc at) = (sheet.job < length jobs) × IsLocation machine loc
 IsKnownTell machine jobs (Release sheet number act start end) = (sheet.job < length jobs) × IsKnown machine act

@@ -22,7 +22,7 @@ returns-clause-can_ask c =
     let media = c.args.media.now in
     let groups = c.args.groups.now in
     let first = copy-first (length s.jobs) (sheets_of media groups) c.first_sheet.result c.first_sheet.ensures in
-    subst (CanAsk m s.plans) (sym (c.make_ask.ensures ∙ ask-first m name tray media groups s c.first_sheet.result c.in-Ok.place c.in-Ok.ensures.tray))
+    subst (CanAsk m s.plans) (sym (c.make_ask.ensures ∙ ask-first m name tray media groups s c.first_sheet.result c.in-Ok.loc c.in-Ok.ensures.tray))
     (can-ask-first m name tray media groups s last_copy (accepted-by m s.jobs (length s.waiting) name tray media groups c.in-Ok.ensures.refused) c.requires.can
     (record { sheet = record { job = length s.jobs; number = 1; copy = 1 }; want = c.first_sheet.result }) first
     (is-free m s c.live.result c.live.ensures (omega (arith, c.if-live-ge-MOST_LIVE.false))))
@@ -38,7 +38,7 @@ returns-clause-asked c nodes =
     let first = copy-first (length s.jobs) (sheets_of media groups) c.first_sheet.result c.first_sheet.ensures in
     let none : has_waiting s.jobs s.waiting (given_tray (tray_named m tray)) ≡ false =
     ap (λ t. has_waiting s.jobs s.waiting (given_tray t)) c.in-Ok.ensures.tray ∙ sym c.waits_for.ensures ∙ c.if-waits_for.false in
-    subst (GivesProbe m nodes (NewJob name tray media groups) s) (sym (c.make_ask.ensures ∙ ask-first m name tray media groups s c.first_sheet.result c.in-Ok.place c.in-Ok.ensures.tray))
+    subst (GivesProbe m nodes (NewJob name tray media groups) s) (sym (c.make_ask.ensures ∙ ask-first m name tray media groups s c.first_sheet.result c.in-Ok.loc c.in-Ok.ensures.tray))
     (probes-first m name tray media groups s nodes (accepted-by m s.jobs (length s.waiting) name tray media groups c.in-Ok.ensures.refused) none
     (is-free m s c.live.result c.live.ensures (omega (arith, c.if-live-ge-MOST_LIVE.false)))
     (record { sheet = record { job = length s.jobs; number = 1; copy = 1 }; want = c.first_sheet.result }) first)

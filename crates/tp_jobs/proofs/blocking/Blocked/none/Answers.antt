@@ -8,4 +8,4 @@ unmarked (suc m) zero = refl
 unmarked (suc m) (suc n) = unmarked m n
 
 pub returns : goal.returns
-returns c place = unmarked 256 place.0
+returns c loc = unmarked 256 loc.0

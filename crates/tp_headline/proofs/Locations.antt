@@ -1,4 +1,4 @@
--- Where whole plans end, and which places have a tray's name.
+-- Where whole plans end, and which locations have a tray's name.
 use Rattle.std.proofs.Common.{◌≡◌, ℕ, suc, ◌<◌, Bool, true, false, cond, ◌&&◌, ◌||◌, not, List, [], ◌∷◌, length, refl, sym, ap, ◌∙◌, arith, Contains, subst, nat_lt, get_or, Option, Some, None}
 use Rattle.std.specs.Prelude.{◌==◌, is_some, position}
 use Rattle.std.specs.Option.{option_and_then}
@@ -36,9 +36,9 @@ use Rattle.tp_turn.specs.Keeping.{is_of_its_job, is_own_goal, is_known}
 use Rattle.tp_turn.specs.Labels.{location_name, end_location, last_of, to_in, job_name}
 use Rattle.tp_turn.specs.Moments.{is_tray_plan, is_to_tray}
 
--- two places of one name are one place
-pub place-named : (machine : Machine) (a b : LocId) → IsLocation machine a → IsLocation machine b → location_name machine a ≡ location_name machine b → a ≡ b
-place-named machine a b here there same = ap (λ n. record { 0 = n }) (go (nat_lt a.0 b.0) refl (nat_lt b.0 a.0) refl) where
+-- two locations of one name are one location
+pub location-named : (machine : Machine) (a b : LocId) → IsLocation machine a → IsLocation machine b → location_name machine a ≡ location_name machine b → a ≡ b
+location-named machine a b here there same = ap (λ n. record { 0 = n }) (go (nat_lt a.0 b.0) refl (nat_lt b.0 a.0) refl) where
   first : location_name machine a ≡ get_or machine.locations a.0 []
   first = ap name_in (slice_get-get_or machine.locations a.0 [] here)
 
@@ -50,17 +50,17 @@ place-named machine a b here there same = ap (λ n. record { 0 = n }) (go (nat_l
   go false e true f = absurd ((is_machine machine).location_names.1 b.0 a.0 [] (grind (arith, nat_tests)) here (sym second ∙ sym same ∙ first))
   go false e false f = grind (arith, nat_tests)
 
-among-contains : (places : List LocId) (place : LocId) → is_among places place ≡ true → Contains places place
-among-contains [] place e = absurd (cc)
-among-contains (t ∷ places) place e = go (among-contains places place) (t.0 == place.0) refl e where
-  go : (is_among places place ≡ true → Contains places place) → (b : Bool) → (t.0 == place.0) ≡ b → (b || is_among places place) ≡ true → Contains (t ∷ places) place
-  go rest true f g = let same : t.0 ≡ place.0 = grind (arith, nat_tests) in (0, omega arith, ap (λ n. record { 0 = n }) same)
+among-contains : (locs : List LocId) (loc : LocId) → is_among locs loc ≡ true → Contains locs loc
+among-contains [] loc e = absurd (cc)
+among-contains (t ∷ locs) loc e = go (among-contains locs loc) (t.0 == loc.0) refl e where
+  go : (is_among locs loc ≡ true → Contains locs loc) → (b : Bool) → (t.0 == loc.0) ≡ b → (b || is_among locs loc) ≡ true → Contains (t ∷ locs) loc
+  go rest true f g = let same : t.0 ≡ loc.0 = grind (arith, nat_tests) in (0, omega arith, ap (λ n. record { 0 = n }) same)
   go rest false f g = let r = rest g in (suc r.0, omega (arith, r.1), r.2)
 
 -- the tray of a name
-pub tray-place : (machine : Machine) (tray : List ℕ) → is_tray_name machine tray ≡ true
+pub tray-location : (machine : Machine) (tray : List ℕ) → is_tray_name machine tray ≡ true
     → Contains machine.trays (given_tray (tray_named machine tray)) × (location_name machine (given_tray (tray_named machine tray)) ≡ tray)
-tray-place machine tray e = at (position (bytes_eq tray) machine.locations) refl e where
+tray-location machine tray e = at (position (bytes_eq tray) machine.locations) refl e where
   at : (o : Option ℕ) → position (bytes_eq tray) machine.locations ≡ o → is_some (tray_at machine o) ≡ true
       → Contains machine.trays (given_tray (tray_at machine o)) × (location_name machine (given_tray (tray_at machine o)) ≡ tray)
   at None p f = absurd (cc)
@@ -91,8 +91,8 @@ walk-end machine sheet (act ∷ next ∷ acts) s e some leads =
     let first = walk_first machine sheet act (next ∷ acts) s e leads in
     walk-end machine sheet (next ∷ acts) first.0 e (omega arith) first.2
 
-end-place : (machine : Machine) (p : Plan) (timed : IsTimedPlan machine p) → end_location machine p ≡ timed.end.loc
-end-place machine p timed = walk-end machine p.want p.acts timed.start timed.end timed.some timed.leads
+end-location : (machine : Machine) (p : Plan) (timed : IsTimedPlan machine p) → end_location machine p ≡ timed.end.loc
+end-location machine p timed = walk-end machine p.want p.acts timed.start timed.end timed.some timed.leads
 
 goal-of : (machine : Machine) (p : Plan) (timed : IsTimedPlan machine p) → is_front p.kind ≡ false → IsGoalState machine p.want p.goal timed.end
 goal-of machine p timed whole = go p.kind whole timed.ends where
@@ -104,9 +104,9 @@ goal-of machine p timed whole = go p.kind whole timed.ends where
 pub tray-end : (machine : Machine) (p : Plan) (t : LocId) → IsTimedPlan machine p → is_front p.kind ≡ false → p.goal ≡ Tray t → end_location machine p ≡ t
 tray-end machine p t timed whole to =
     let state = subst (λ g. IsGoalState machine p.want g timed.end) to (goal-of machine p timed whole) in
-    end-place machine p timed ∙ ap (λ (s : State). s.loc) state
+    end-location machine p timed ∙ ap (λ (s : State). s.loc) state
 
--- what ends at a place of a tray's name is to go to a tray
+-- what ends at a location of a tray's name is to go to a tray
 pub tray-goal : (machine : Machine) (p : Plan) (tray : List ℕ) → IsTimedPlan machine p → is_front p.kind ≡ false → is_tray_name machine tray ≡ true
     → location_name machine (end_location machine p) ≡ tray → is_to_tray p.goal ≡ true
 tray-goal machine p tray timed whole known there = go p.goal refl (goal-of machine p timed whole) where
@@ -114,16 +114,16 @@ tray-goal machine p tray timed whole known there = go p.goal refl (goal-of machi
   go (Tray t) e is = refl
   go Purge e purged =
       let law = is_machine machine in
-      let t = tray-place machine tray known in
-      let at = subst (λ l. location_name machine l ≡ tray) (end-place machine p timed) there in
+      let t = tray-location machine tray known in
+      let at = subst (λ l. location_name machine l ≡ tray) (end-location machine p timed) there in
       let purge = All-contains (λ l. IsLocation machine l × (Contains machine.trays l → ⊥)) machine.purges timed.end.loc law.purges purged in
-      let same = place-named machine timed.end.loc (given_tray (tray_named machine tray)) purge.0
+      let same = location-named machine timed.end.loc (given_tray (tray_named machine tray)) purge.0
       (All-contains (IsLocation machine) machine.trays (given_tray (tray_named machine tray)) law.trays t.0) (at ∙ sym t.1) in
       absurd (purge.1 (subst (Contains machine.trays) (sym same) t.0))
 
 -- a plan of its job that is whole and to the tray ends at the job's tray
-pub own-place : (machine : Machine) (jobs : List Job) (p : Plan) → IsTimedPlan machine p → is_tray_plan p ≡ true → is_of_its_job jobs p ≡ true → end_location machine p ≡ tray_of jobs p.sheet
-own-place machine jobs p timed tray own = go p.goal refl (and_parts (not (is_front p.kind)) (is_to_tray p.goal) tray).1 (and_parts (is_known jobs p.sheet && bytes_eq p.name (job_name jobs p.sheet.job)) (is_own_goal p.goal (tray_of jobs p.sheet).0) own).1 where
+pub own-location : (machine : Machine) (jobs : List Job) (p : Plan) → IsTimedPlan machine p → is_tray_plan p ≡ true → is_of_its_job jobs p ≡ true → end_location machine p ≡ tray_of jobs p.sheet
+own-location machine jobs p timed tray own = go p.goal refl (and_parts (not (is_front p.kind)) (is_to_tray p.goal) tray).1 (and_parts (is_known jobs p.sheet && bytes_eq p.name (job_name jobs p.sheet.job)) (is_own_goal p.goal (tray_of jobs p.sheet).0) own).1 where
   whole : is_front p.kind ≡ false
   whole = let w = (and_parts (not (is_front p.kind)) (is_to_tray p.goal) tray).0 in not-true (is_front p.kind) w where
     not-true : (b : Bool) → not b ≡ true → b ≡ false
