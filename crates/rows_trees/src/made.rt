@@ -13,9 +13,9 @@ use tp_bounds::{
 use tp_machine::Face;
 use tp_schedule::SheetName;
 
-fn printed_state(place: Name) -> NamedState {
+fn printed_state(location: Name) -> NamedState {
     NamedState {
-        place,
+        place: location,
         up: Face::Front,
         front_done: true,
         back_done: false,

@@ -43,7 +43,7 @@ abbrev pub purges_below : Machine → Sheet → ℕ → List State
 purges_below machine sheet n = filter (is_done_wanted sheet) (flat_map states_at (filter (is_purge machine) (locations_below n)))
 
 abbrev pub purges_at : Machine → Sheet → LocId → List State
-purges_at machine sheet place = cond (is_purge machine place) (filter (is_done_wanted sheet) (states_at place)) []
+purges_at machine sheet loc = cond (is_purge machine loc) (filter (is_done_wanted sheet) (states_at loc)) []
 
 pub purges-more : (machine : Machine) (sheet : Sheet) (n : ℕ) (now new : List State) → now ≡ purges_below machine sheet n → new ≡ now ++ purges_at machine sheet (record { 0 = n })
     → new ≡ purges_below machine sheet (n + 1)

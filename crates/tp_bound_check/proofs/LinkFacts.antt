@@ -1,4 +1,4 @@
--- Numbers are linked by their places, the last one first.
+-- Numbers are linked by their locations, the last one first.
 use Rattle.std.proofs.Common.{◌≡◌, ◌≢◌, inl, inr, ℕ, zero, suc, ◌+◌, ◌-◌, ◌<◌, ◌≤◌, Bool, true, false, cond, eqb, List, [], ◌∷◌, length, map, replicate, slice_get, Option, Some, None, refl, sym, ◌∙◌, ap, subst, arith}
 use Rattle.std.specs.Prelude.{slice_set, slice_index_or, IfSome}
 use Rattle.std.specs.List.{position_from}
@@ -25,42 +25,42 @@ at-map f [] k x at = absurd cc
 at-map f (y ∷ ys) zero x at = (let e : y ≡ x = cc in ap (λ z. Some (f z)) e)
 at-map f (y ∷ ys) (suc k) x at = at-map f ys k x at
 
--- what holds of all that stands somewhere holds of its places
+-- what holds of all that stands somewhere holds of its locations
 pub below-map : {X : Type 0} (f : X → ℕ) (xs : List X) (count : ℕ) → ((k : ℕ) (x : X) → slice_get xs k ≡ Some x → f x < count) → AreBelow count (map f xs)
-below-map f [] count all k place at = absurd cc
-below-map f (x ∷ xs) count all zero place at = (let e : f x ≡ place = same_Some (f x) place at in subst (λ n. n < count) e (all 0 x refl))
-below-map f (x ∷ xs) count all (suc k) place at = below-map f xs count (λ j y there. all (suc j) y there) k place at
+below-map f [] count all k loc at = absurd cc
+below-map f (x ∷ xs) count all zero loc at = (let e : f x ≡ loc = same_Some (f x) loc at in subst (λ n. n < count) e (all 0 x refl))
+below-map f (x ∷ xs) count all (suc k) loc at = below-map f xs count (λ j y there. all (suc j) y there) k loc at
 
 -- ---- from one number on
-pub next-here : (places : List ℕ) (place at p : ℕ) → slice_get places at ≡ Some p → next_at place at places ≡ cond (eqb p place) (Some at) (next_at place (at + 1) places)
-next-here places place at p is = ap (position_from (λ q. eqb q place) at) (drop-one places at p is)
+pub next-here : (locs : List ℕ) (loc at p : ℕ) → slice_get locs at ≡ Some p → next_at loc at locs ≡ cond (eqb p loc) (Some at) (next_at loc (at + 1) locs)
+next-here locs loc at p is = ap (position_from (λ q. eqb q loc) at) (drop-one locs at p is)
 
-pub next-none : (places : List ℕ) (place : ℕ) → next_at place (length places) places ≡ None
-next-none places place = ap (position_from (λ q. eqb q place) (length places)) (drop-length places)
+pub next-none : (locs : List ℕ) (loc : ℕ) → next_at loc (length locs) locs ≡ None
+next-none locs loc = ap (position_from (λ q. eqb q loc) (length locs)) (drop-length locs)
 
-pub next-is : (places : List ℕ) (place low m : ℕ) (o : Option ℕ) → low + m ≡ length places → o ≡ next_at place low places → IfSome o (λ n. (low ≤ n) × (slice_get places n ≡ Some place))
-next-is places place low zero None all e = tt
-next-is places place low zero (Some n) all e =
-    let end : low ≡ length places = omega (arith, all) in
-    let P : ℕ → Type 0 = λ k. Some n ≡ next_at place k places in
-    let none : Some n ≡ None = subst P end e ∙ next-none places place in
+pub next-is : (locs : List ℕ) (loc low m : ℕ) (o : Option ℕ) → low + m ≡ length locs → o ≡ next_at loc low locs → IfSome o (λ n. (low ≤ n) × (slice_get locs n ≡ Some loc))
+next-is locs loc low zero None all e = tt
+next-is locs loc low zero (Some n) all e =
+    let end : low ≡ length locs = omega (arith, all) in
+    let P : ℕ → Type 0 = λ k. Some n ≡ next_at loc k locs in
+    let none : Some n ≡ None = subst P end e ∙ next-none locs loc in
     absurd cc
-next-is places place low (suc m) o all e =
-    let p = some-at places low (omega (arith, all)) in
-    go (eqb p.0 place) p.0 refl p.1 (e ∙ next-here places place low p.0 p.1) (next-is places place (low + 1) m o (omega (arith, all)))
+next-is locs loc low (suc m) o all e =
+    let p = some-at locs low (omega (arith, all)) in
+    go (eqb p.0 loc) p.0 refl p.1 (e ∙ next-here locs loc low p.0 p.1) (next-is locs loc (low + 1) m o (omega (arith, all)))
   where
-    later : (o : Option ℕ) → IfSome o (λ n. (low + 1 ≤ n) × (slice_get places n ≡ Some place)) → IfSome o (λ n. (low ≤ n) × (slice_get places n ≡ Some place))
+    later : (o : Option ℕ) → IfSome o (λ n. (low + 1 ≤ n) × (slice_get locs n ≡ Some loc)) → IfSome o (λ n. (low ≤ n) × (slice_get locs n ≡ Some loc))
     later None h = tt
     later (Some n) h = (let l = h.0 in omega arith, h.1)
 
-    go : (b : Bool) (q : ℕ) → eqb q place ≡ b → slice_get places low ≡ Some q → o ≡ cond b (Some low) (next_at place (low + 1) places) → (o ≡ next_at place (low + 1) places → IfSome o (λ n. (low + 1 ≤ n) × (slice_get places n ≡ Some place)))
-        → IfSome o (λ n. (low ≤ n) × (slice_get places n ≡ Some place))
-    go true q t is same rest = subst (λ x. IfSome x (λ n. (low ≤ n) × (slice_get places n ≡ Some place))) (sym same) (omega arith, is ∙ ap (λ n. Some n) (eqb-true q place t))
+    go : (b : Bool) (q : ℕ) → eqb q loc ≡ b → slice_get locs low ≡ Some q → o ≡ cond b (Some low) (next_at loc (low + 1) locs) → (o ≡ next_at loc (low + 1) locs → IfSome o (λ n. (low + 1 ≤ n) × (slice_get locs n ≡ Some loc)))
+        → IfSome o (λ n. (low ≤ n) × (slice_get locs n ≡ Some loc))
+    go true q t is same rest = subst (λ x. IfSome x (λ n. (low ≤ n) × (slice_get locs n ≡ Some loc))) (sym same) (omega arith, is ∙ ap (λ n. Some n) (eqb-true q loc t))
     go false q t is same rest = later o (rest same)
 
 -- what was looked up is the next one
-pub is-next : (places : List ℕ) (place low : ℕ) (o : Option ℕ) → low ≤ length places → o ≡ next_at place low places → IsNextAt place low places o
-is-next places place low o le e = record { is = e; there = next-is places place low (length places - low) o (omega (arith, le)) e }
+pub is-next : (locs : List ℕ) (loc low : ℕ) (o : Option ℕ) → low ≤ length locs → o ≡ next_at loc low locs → IsNextAt loc low locs o
+is-next locs loc low o le e = record { is = e; there = next-is locs loc low (length locs - low) o (omega (arith, le)) e }
 
 -- ---- the links
 no_number : (n k : ℕ) → slice_index_or {A = Option ℕ} (replicate n None) k None ≡ None
@@ -68,63 +68,63 @@ no_number zero k = refl
 no_number (suc n) zero = refl
 no_number (suc n) (suc k) = no_number n k
 
-pub linked-none : (places : List ℕ) (firsts nexts : List (Option ℕ)) (n : ℕ) → firsts ≡ replicate n None → AreLinked places firsts nexts (length places)
-linked-none places firsts nexts n empty = record {
-  first = λ place. ap (λ f. slice_index_or f place None) empty ∙ no_number n place ∙ sym (next-none places place);
-  next = λ k place low at. (let below = within places k place at in absurd (omega arith));
+pub linked-none : (locs : List ℕ) (firsts nexts : List (Option ℕ)) (n : ℕ) → firsts ≡ replicate n None → AreLinked locs firsts nexts (length locs)
+linked-none locs firsts nexts n empty = record {
+  first = λ loc. ap (λ f. slice_index_or f loc None) empty ∙ no_number n loc ∙ sym (next-none locs loc);
+  next = λ k loc low at. (let below = within locs k loc at in absurd (omega arith));
 }
 
 -- one number more, before those that are linked
-pub linked-more : (places : List ℕ) (firsts nexts : List (Option ℕ)) (at p : ℕ) → slice_get places at ≡ Some p → p < length firsts → at < length nexts
-    → AreLinked places firsts nexts (at + 1) → AreLinked places (slice_set firsts p (Some at)) (slice_set nexts at (slice_index_or firsts p None)) at
-linked-more places firsts nexts at p is known inside links = record { first = first_of; next = next_of } where
+pub linked-more : (locs : List ℕ) (firsts nexts : List (Option ℕ)) (at p : ℕ) → slice_get locs at ≡ Some p → p < length firsts → at < length nexts
+    → AreLinked locs firsts nexts (at + 1) → AreLinked locs (slice_set firsts p (Some at)) (slice_set nexts at (slice_index_or firsts p None)) at
+linked-more locs firsts nexts at p is known inside links = record { first = first_of; next = next_of } where
   same : eqb p p ≡ true
   same = eq-eqb p p refl
 
-  first_of : (place : ℕ) → slice_index_or (slice_set firsts p (Some at)) place None ≡ next_at place at places
-  first_of place = elim (cases_Bool (eqb place p)) [
+  first_of : (loc : ℕ) → slice_index_or (slice_set firsts p (Some at)) loc None ≡ next_at loc at locs
+  first_of loc = elim (cases_Bool (eqb loc p)) [
     | inl here ↦
-        let e = eqb-true place p here in
-        let own : next_at p at places ≡ Some at = next-here places p at p is ∙ ap (λ b. cond b (Some at) (next_at p (at + 1) places)) same in
-        subst (λ n. slice_index_or (slice_set firsts p (Some at)) n None ≡ next_at n at places) (sym e) (get_or-set_same firsts p (Some at) None known ∙ sym own)
+        let e = eqb-true loc p here in
+        let own : next_at p at locs ≡ Some at = next-here locs p at p is ∙ ap (λ b. cond b (Some at) (next_at p (at + 1) locs)) same in
+        subst (λ n. slice_index_or (slice_set firsts p (Some at)) n None ≡ next_at n at locs) (sym e) (get_or-set_same firsts p (Some at) None known ∙ sym own)
     | inr other ↦
-        let differs : place ≢ p = λ e. (let t : eqb place p ≡ true = eq-eqb place p e in absurd cc) in
-        let no : eqb p place ≡ false = ne_eqb p place (λ e. differs (sym e)) in
-        get_or-set_other firsts p place (Some at) None differs ∙ links.first place ∙ sym (next-here places place at p is ∙ ap (λ b. cond b (Some at) (next_at place (at + 1) places)) no)
+        let differs : loc ≢ p = λ e. (let t : eqb loc p ≡ true = eq-eqb loc p e in absurd cc) in
+        let no : eqb p loc ≡ false = ne_eqb p loc (λ e. differs (sym e)) in
+        get_or-set_other firsts p loc (Some at) None differs ∙ links.first loc ∙ sym (next-here locs loc at p is ∙ ap (λ b. cond b (Some at) (next_at loc (at + 1) locs)) no)
   ]
 
-  next_of : (k place : ℕ) → at ≤ k → slice_get places k ≡ Some place → slice_index_or (slice_set nexts at (slice_index_or firsts p None)) k None ≡ next_at place (k + 1) places
-  next_of k place low there = elim (cases_Bool (eqb k at)) [
+  next_of : (k loc : ℕ) → at ≤ k → slice_get locs k ≡ Some loc → slice_index_or (slice_set nexts at (slice_index_or firsts p None)) k None ≡ next_at loc (k + 1) locs
+  next_of k loc low there = elim (cases_Bool (eqb k at)) [
     | inl here ↦
         let e = eqb-true k at here in
-        let q : place ≡ p = same_Some place p (sym there ∙ ap (slice_get places) e ∙ is) in
-        let put : slice_index_or (slice_set nexts at (slice_index_or firsts p None)) at None ≡ next_at p (at + 1) places = get_or-set_same nexts at (slice_index_or firsts p None) None inside ∙ links.first p in
-        subst (λ r. slice_index_or (slice_set nexts at (slice_index_or firsts p None)) k None ≡ next_at r (k + 1) places) (sym q)
-        (subst (λ j. slice_index_or (slice_set nexts at (slice_index_or firsts p None)) j None ≡ next_at p (j + 1) places) (sym e) put)
+        let q : loc ≡ p = same_Some loc p (sym there ∙ ap (slice_get locs) e ∙ is) in
+        let put : slice_index_or (slice_set nexts at (slice_index_or firsts p None)) at None ≡ next_at p (at + 1) locs = get_or-set_same nexts at (slice_index_or firsts p None) None inside ∙ links.first p in
+        subst (λ r. slice_index_or (slice_set nexts at (slice_index_or firsts p None)) k None ≡ next_at r (k + 1) locs) (sym q)
+        (subst (λ j. slice_index_or (slice_set nexts at (slice_index_or firsts p None)) j None ≡ next_at p (j + 1) locs) (sym e) put)
     | inr other ↦
         let differs : k ≢ at = λ e. (let t : eqb k at ≡ true = eq-eqb k at e in absurd cc) in
-        get_or-set_other nexts at k (slice_index_or firsts p None) None differs ∙ links.next k place (omega (arith, low, differs)) there
+        get_or-set_other nexts at k (slice_index_or firsts p None) None differs ∙ links.next k loc (omega (arith, low, differs)) there
   ]
 
--- ---- going along the numbers of a place
+-- ---- going along the numbers of a location
 -- the numbers that are still ahead
 abbrev pub ahead : ℕ → Option ℕ → ℕ
 ahead count None = 0
 ahead count (Some n) = suc (count - n)
 
-pub ahead-smaller : (places : List ℕ) (place count n : ℕ) (o : Option ℕ) → n < count → IsNextAt place (n + 1) places o → ahead count o < suc (count - n)
-ahead-smaller places place count n None below next = omega arith
-ahead-smaller places place count n (Some m) below next = (let above = next.there.0 in omega arith)
+pub ahead-smaller : (locs : List ℕ) (loc count n : ℕ) (o : Option ℕ) → n < count → IsNextAt loc (n + 1) locs o → ahead count o < suc (count - n)
+ahead-smaller locs loc count n None below next = omega arith
+ahead-smaller locs loc count n (Some m) below next = (let above = next.there.0 in omega arith)
 
 -- what stands at the next number
-pub there-is : (places : List ℕ) (place low : ℕ) (o : Option ℕ) → IsNextAt place low places o → IfSome o (λ n. slice_get places n ≡ Some place)
-there-is places place low None next = tt
-there-is places place low (Some n) next = next.there.1
+pub there-is : (locs : List ℕ) (loc low : ℕ) (o : Option ℕ) → IsNextAt loc low locs o → IfSome o (λ n. slice_get locs n ≡ Some loc)
+there-is locs loc low None next = tt
+there-is locs loc low (Some n) next = next.there.1
 
 pub none-there : {X : Type 0} (o : Option X) → ((x : X) → o ≢ Some x) → o ≡ None
 none-there None not = refl
 none-there (Some x) not = absurd (not x refl)
 
 -- the next number behind one
-pub next-of : (places others : List ℕ) (n place : ℕ) (o : Option ℕ) → places ≡ others → ((p : ℕ) → slice_get places n ≡ Some p → IsNextAt p (n + 1) places o) → slice_get others n ≡ Some place → IsNextAt place (n + 1) others o
-next-of places others n place o same next at = let P : List ℕ → Type 0 = λ ps. (p : ℕ) → slice_get ps n ≡ Some p → IsNextAt p (n + 1) ps o in subst P same next place at
+pub next-of : (locs others : List ℕ) (n loc : ℕ) (o : Option ℕ) → locs ≡ others → ((p : ℕ) → slice_get locs n ≡ Some p → IsNextAt p (n + 1) locs o) → slice_get others n ≡ Some loc → IsNextAt loc (n + 1) others o
+next-of locs others n loc o same next at = let P : List ℕ → Type 0 = λ ps. (p : ℕ) → slice_get ps n ≡ Some p → IsNextAt p (n + 1) ps o in subst P same next loc at

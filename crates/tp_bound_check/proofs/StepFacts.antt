@@ -88,5 +88,5 @@ module _ (machine : Machine) (ask : Ask) (rows : List TreeRow) (s : State) (room
       ∙ ap (λ u. is_step_kept machine ask rows s room (record { 0 = n }) && u) (ap (λ k. kept_from k (N - (n + 1))) (sym one) ∙ skip (n + 1) (N - (n + 1)) (omega (arith, lt)) ∙ ap kept_at (sym is))
 
 -- the actions that start somewhere are those of the machine
-pub known-start : (machine : Machine) (n place : ℕ) → slice_get (starts_of machine) n ≡ Some place → n < length machine.actions
-known-start machine n place at = let l = within (starts_of machine) n place at in omega (arith, l, length-map machine.actions (λ (a : Action). a.from.0))
+pub known-start : (machine : Machine) (n loc : ℕ) → slice_get (starts_of machine) n ≡ Some loc → n < length machine.actions
+known-start machine n loc at = let l = within (starts_of machine) n loc at in omega (arith, l, length-map machine.actions (λ (a : Action). a.from.0))

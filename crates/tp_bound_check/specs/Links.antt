@@ -1,25 +1,25 @@
--- Numbers by their places: the first number of each place, and behind each number the next one of its place.
+-- Numbers by their locations: the first number of each location, and behind each number the next one of its location.
 use Rattle.std.specs.Prelude.{◌≡◌, ℕ, ◌+◌, ◌≤◌, ◌<◌, ◌==◌, List, drop, map, slice_get, slice_index_or, Option, Some, None, IfSome}
 use Rattle.std.specs.List.{position_from}
 use Rattle.tp_machine.specs.declared.machine.Machine.{Machine}
 
--- the first number of the place, from this number on
+-- the first number of the location, from this number on
 abbrev pub next_at : ℕ → ℕ → List ℕ → Option ℕ
-next_at place low places = position_from (λ p. p == place) low (drop low places)
+next_at loc low locs = position_from (λ p. p == loc) low (drop low locs)
 
 -- it is that number, and stands there
-pub record IsNextAt (place low : ℕ) (places : List ℕ) (next : Option ℕ) : Type 0 where
-  pub is : next ≡ next_at place low places
-  pub there : IfSome next (λ n. (low ≤ n) × (slice_get places n ≡ Some place))
+pub record IsNextAt (loc low : ℕ) (locs : List ℕ) (next : Option ℕ) : Type 0 where
+  pub is : next ≡ next_at loc low locs
+  pub there : IfSome next (λ n. (low ≤ n) × (slice_get locs n ≡ Some loc))
 
 -- from this number on they are linked
-pub record AreLinked (places : List ℕ) (firsts nexts : List (Option ℕ)) (low : ℕ) : Type 0 where
-  pub first : (place : ℕ) → slice_index_or firsts place None ≡ next_at place low places
-  pub next : (k place : ℕ) → low ≤ k → slice_get places k ≡ Some place → slice_index_or nexts k None ≡ next_at place (k + 1) places
+pub record AreLinked (locs : List ℕ) (firsts nexts : List (Option ℕ)) (low : ℕ) : Type 0 where
+  pub first : (loc : ℕ) → slice_index_or firsts loc None ≡ next_at loc low locs
+  pub next : (k loc : ℕ) → low ≤ k → slice_get locs k ≡ Some loc → slice_index_or nexts k None ≡ next_at loc (k + 1) locs
 
--- each place is below the count
+-- each location is below the count
 abbrev pub AreBelow : ℕ → List ℕ → Type 0
-AreBelow count places = (k place : ℕ) → slice_get places k ≡ Some place → place < count
+AreBelow count locs = (k loc : ℕ) → slice_get locs k ≡ Some loc → loc < count
 
 -- where the actions of a machine start, and where they lead to
 abbrev pub starts_of : Machine → List ℕ

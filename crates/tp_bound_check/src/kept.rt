@@ -116,14 +116,14 @@ fn is_done_wanted(sheet: &Sheet, state: State) -> bool
     (!state.front_done || is_wanted(sheet.front)) && (!state.back_done || is_wanted(sheet.back))
 }
 
-fn is_purge(machine: &Machine, place: LocId) -> bool
-    ensures { result ≡ is_purge machine.now place }
+fn is_purge(machine: &Machine, loc: LocId) -> bool
+    ensures { result ≡ is_purge machine.now loc }
 {
     machine
         .purges
         .as_slice()
         .iter()
-        .any(|purge| purge.0 == place.0)
+        .any(|purge| purge.0 == loc.0)
 }
 
 fn state(loc: LocId, up: Face, front_done: bool, back_done: bool) -> State
@@ -183,13 +183,13 @@ fn put_purge(
     states: &mut Vec<State>,
     machine: &Machine,
     sheet: &Sheet,
-    place: LocId,
+    loc: LocId,
 ) -> Result<(), Memory>
     ensures { OnOk result (states.new.items ≡ states.old.items ++ (if is_purge machine.entry.now
-        place then filter (is_done_wanted sheet.entry.now) (states_at place) else [])) }
+        loc then filter (is_done_wanted sheet.entry.now) (states_at loc) else [])) }
 {
-    if is_purge(machine, place) {
-        put_states(states, sheet, states_at(place).as_slice())?;
+    if is_purge(machine, loc) {
+        put_states(states, sheet, states_at(loc).as_slice())?;
     }
     Ok(())
 }
@@ -199,7 +199,7 @@ fn purge_states(alloc: Global, machine: &Machine, sheet: &Sheet) -> Result<Vec<S
 {
     machine_law(machine);
     let mut states = Vec::new(alloc);
-    'places: for at in 0..machine.locations.len() as u16 {
+    'locations: for at in 0..machine.locations.len() as u16 {
         put_purge(&mut states, machine, sheet, LocId(at))?;
     }
     Ok(states)

@@ -108,7 +108,7 @@ pub(crate) struct Scene<'a> {
     pub(crate) limit: i64,
     pub(crate) ghost ordered: { IsOrdered plans.now },
     pub(crate) ghost in_order: { AreOrders rows.machine.now plans.now orders.now },
-    pub(crate) ghost ending: { ends.now.places.items ≡ ends_of rows.machine.now },
+    pub(crate) ghost ending: { ends.now.locations.items ≡ ends_of rows.machine.now },
 }
 
 /// The holds of the action.

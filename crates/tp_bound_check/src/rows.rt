@@ -28,7 +28,7 @@ pub(crate) struct Rows<'a> {
     pub(crate) starts: &'a Links,
     pub(crate) ghost rooms: { AreRooms machine.now rows.now table.now.firsts.items
         table.now.leasts.items },
-    pub(crate) ghost starting: { starts.now.places.items ≡ starts_of machine.now },
+    pub(crate) ghost starting: { starts.now.locations.items ≡ starts_of machine.now },
 }
 
 impl<'a> Rows<'a> {

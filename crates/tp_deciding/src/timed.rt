@@ -40,10 +40,10 @@ pub fn walk(machine: &Machine, want: &Sheet, acts: &[ActId], state: State) -> Op
     }
 }
 
-fn is_among(places: &[LocId], place: LocId) -> bool
-    ensures { IsTrue result ↔ Contains places.now place }
+fn is_among(locs: &[LocId], loc: LocId) -> bool
+    ensures { IsTrue result ↔ Contains locs.now loc }
 {
-    places.contains(&place)
+    locs.contains(&loc)
 }
 
 /// Whether the plan may end in the state.

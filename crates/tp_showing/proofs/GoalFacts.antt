@@ -23,7 +23,7 @@ abbrev pub purges_below : Machine → Sheet → ℕ → List State
 purges_below machine sheet n = filter (is_done_wanted sheet) (flat_map states_at (filter (is_purge machine) (locations_below n)))
 
 abbrev pub purges_at : Machine → Sheet → LocId → List State
-purges_at machine sheet place = cond (is_purge machine place) (filter (is_done_wanted sheet) (states_at place)) []
+purges_at machine sheet loc = cond (is_purge machine loc) (filter (is_done_wanted sheet) (states_at loc)) []
 
 pub purges-more : (machine : Machine) (sheet : Sheet) (n : ℕ) (now new : List State) → now ≡ purges_below machine sheet n → new ≡ now ++ purges_at machine sheet (record { 0 = n })
     → new ≡ purges_below machine sheet (n + 1)
@@ -51,8 +51,8 @@ at-all P (l ∷ ls) h =
 -- what holds of the purge trays below the machine's locations holds of the goal states at them
 purges-all : (machine : Machine) (sheet : Sheet) (P : LocId → Type 0) → All P (filter (is_purge machine) (locations_below (length machine.locations))) → All (λ (s : State). P s.loc) (goal_states machine sheet Purge)
 purges-all machine sheet P h =
-    let places = filter (is_purge machine) (locations_below (length machine.locations)) in
-    All-filter (is_done_wanted sheet) (λ (s : State). P s.loc) (flat_map states_at places) (at-all P places h)
+    let locs = filter (is_purge machine) (locations_below (length machine.locations)) in
+    All-filter (is_done_wanted sheet) (λ (s : State). P s.loc) (flat_map states_at locs) (at-all P locs h)
 
 pub goals-known : (machine : Machine) (sheet : Sheet) (goal : Goal) → IsKnownGoal machine goal → All (λ (s : State). s.loc.0 < length machine.locations) (goal_states machine sheet goal)
 goals-known machine sheet (Tray tray) known =

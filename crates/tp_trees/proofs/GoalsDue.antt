@@ -126,10 +126,10 @@ pub goal-due : (machine : Machine) (sheet : Sheet) (g : Goal) (s : State) → Is
 goal-due machine sheet (Tray t) s is ok = subst (λ q. Contains (finished sheet t ∷ []) q) (sym is) (Contains-here (finished sheet t) [])
 goal-due machine sheet Purge s in' ok =
     let known : s.loc.0 < length machine.locations = (All-contains (λ p. IsLocation machine p × ¬ Contains machine.trays p) machine.purges s.loc (is_machine machine).purges in').0 in
-    let places = filter (is_purge machine) (locations_below (length machine.locations)) in
-    let at-place : Contains (filter (is_purge machine) (locations_below (length machine.locations))) s.loc = Contains-filter (is_purge machine) (locations_below (length machine.locations)) s.loc (location-below (length machine.locations) s.loc known) (purge-is machine.purges s.loc in') in
+    let locs = filter (is_purge machine) (locations_below (length machine.locations)) in
+    let at-location : Contains (filter (is_purge machine) (locations_below (length machine.locations))) s.loc = Contains-filter (is_purge machine) (locations_below (length machine.locations)) s.loc (location-below (length machine.locations) s.loc known) (purge-is machine.purges s.loc in') in
     Contains-filter (is_done_wanted sheet) (flat_map states_at (filter (is_purge machine) (locations_below (length machine.locations)))) s
-    (flat_map-to states_at (filter (is_purge machine) (locations_below (length machine.locations))) s.loc s at-place (states-at s s.loc refl)) ok
+    (flat_map-to states_at (filter (is_purge machine) (locations_below (length machine.locations))) s.loc s at-location (states-at s s.loc refl)) ok
 
 -- ---- starts
 

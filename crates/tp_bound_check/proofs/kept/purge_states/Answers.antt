@@ -1,5 +1,5 @@
 use Rattle.tp_bound_check.proofs.KeptFacts.{purges-more}
 use Rattle.tp_bound_check.proofs.kept.purge_states.Goals as goal
 
-pub places-preserved : goal.places-preserved
-places-preserved c = purges-more c.args.machine.now c.args.sheet.now c.places.at c.places.states.items c.put_purge.new.states.items c.places.invariant c.in_ok-put_purge.ensures
+pub locations-preserved : goal.locations-preserved
+locations-preserved c = purges-more c.args.machine.now c.args.sheet.now c.locations.at c.locations.states.items c.put_purge.new.states.items c.locations.invariant c.in_ok-put_purge.ensures

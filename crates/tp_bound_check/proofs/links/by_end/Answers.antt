@@ -8,5 +8,5 @@ pub new-requires-clause-known : goal.new-requires-clause-known
 new-requires-clause-known c =
     let m = c.args.machine.now in
     let known = below-map (λ (a : Action). a.to.0) m.actions (length m.locations) (λ k a at. (c.machine_law.ensures.ways k a at).to_known) in
-    let are : c.in_ok-places.places.items ≡ map (λ (a : Action). a.to.0) m.actions = c.in_ok-places.ensures ∙ ap (map (λ (a : Action). a.to.0)) c.as_slice.ensures in
-    subst (λ n. AreBelow n c.in_ok-places.places.items) (sym c.len.ensures) (subst (AreBelow (length m.locations)) (sym are) known)
+    let are : c.in_ok-locations.locations.items ≡ map (λ (a : Action). a.to.0) m.actions = c.in_ok-locations.ensures ∙ ap (map (λ (a : Action). a.to.0)) c.as_slice.ensures in
+    subst (λ n. AreBelow n c.in_ok-locations.locations.items) (sym c.len.ensures) (subst (AreBelow (length m.locations)) (sym are) known)

@@ -19,7 +19,7 @@ pub returns-in-Some-before-clause-some : goal.returns-in-Some-before-clause-some
 returns-in-Some-before-clause-some c =
     let s = c.args.self.now in let m = s.rows.machine.now in let b = c.args.branch.now in
     let here = subst (λ (o : Option ℕ). IfSome o (IsActOf m b)) c.in-Some.is c.acts.invariant.there in
-    let next = next-of s.ends.now.places.items (ends_of m) c.in-Some.act b.first.loc.0 c.after-cursor.result s.ending c.after-cursor.ensures here.1 in
+    let next = next-of s.ends.now.locations.items (ends_of m) c.in-Some.act b.first.loc.0 c.after-cursor.result s.ending c.after-cursor.ensures here.1 in
     c.acts.invariant.left ∙ ap (acts_at m s.plans.now s.rows.ask.now s.rows.rows.now s.limit b) c.in-Some.is
     ∙ acts-on m s.plans.now s.rows.ask.now s.rows.rows.now s.limit b c.in-Some.act (Some c.in-Some-before.state) c.after-cursor.result (known-end m c.in-Some.act b.first.loc.0 here.1) c.in-Some-before.ensures next.is
 
@@ -32,21 +32,21 @@ pub returns-in-Some-before-clause-after : goal.returns-in-Some-before-clause-aft
 returns-in-Some-before-clause-after c =
     let s = c.args.self.now in let m = s.rows.machine.now in let b = c.args.branch.now in
     let here = subst (λ (o : Option ℕ). IfSome o (IsActOf m b)) c.in-Some.is c.acts.invariant.there in
-    let next = next-of s.ends.now.places.items (ends_of m) c.in-Some.act b.first.loc.0 c.after-cursor.result s.ending c.after-cursor.ensures here.1 in
+    let next = next-of s.ends.now.locations.items (ends_of m) c.in-Some.act b.first.loc.0 c.after-cursor.result s.ending c.after-cursor.ensures here.1 in
     act-next m b (c.in-Some.act + 1) c.after-cursor.result here.0 next
 
 pub acts-smaller : goal.acts-smaller
 acts-smaller c =
     let s = c.args.self.now in let m = s.rows.machine.now in let b = c.args.branch.now in
     let here = subst (λ (o : Option ℕ). IfSome o (IsActOf m b)) c.in-Some.is c.acts.invariant.there in
-    let next = next-of s.ends.now.places.items (ends_of m) c.in-Some.act b.first.loc.0 c.after-cursor.result s.ending c.after-cursor.ensures here.1 in
+    let next = next-of s.ends.now.locations.items (ends_of m) c.in-Some.act b.first.loc.0 c.after-cursor.result s.ending c.after-cursor.ensures here.1 in
     rw (c.in-Some.is) (ahead-smaller (ends_of m) b.first.loc.0 (length m.actions) c.in-Some.act c.after-cursor.result (known-end m c.in-Some.act b.first.loc.0 here.1) next)
 
 pub acts-preserved : goal.acts-preserved
 acts-preserved c =
     let s = c.args.self.now in let m = s.rows.machine.now in let b = c.args.branch.now in
     let here = subst (λ (o : Option ℕ). IfSome o (IsActOf m b)) c.in-Some.is c.acts.invariant.there in
-    let next = next-of s.ends.now.places.items (ends_of m) c.in-Some.act b.first.loc.0 c.after-cursor.result s.ending c.after-cursor.ensures here.1 in
+    let next = next-of s.ends.now.locations.items (ends_of m) c.in-Some.act b.first.loc.0 c.after-cursor.result s.ending c.after-cursor.ensures here.1 in
     record {
       left = c.acts.invariant.left ∙ ap (acts_at m s.plans.now s.rows.ask.now s.rows.rows.now s.limit b) c.in-Some.is
           ∙ acts-on m s.plans.now s.rows.ask.now s.rows.rows.now s.limit b c.in-Some.act None c.after-cursor.result (known-end m c.in-Some.act b.first.loc.0 here.1) c.in-None.ensures next.is;
