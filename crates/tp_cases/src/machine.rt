@@ -28,11 +28,11 @@ fn modules(alloc: Global, engines: &[Engine]) -> Result<Names, Memory>
 }
 
 fn only(alloc: Global, place: u16) -> Result<Items<LocId>, Memory>
-    ensures { IfOk result (λ places. places ≡ at place ∷ []) }
+    ensures { IfOk result (λ locs. locs ≡ at place ∷ []) }
 {
-    let mut places = Items::new(alloc);
-    places.push(LocId(place))?;
-    Ok(places)
+    let mut locs = Items::new(alloc);
+    locs.push(LocId(place))?;
+    Ok(locs)
 }
 
 fn feeders(alloc: Global) -> Result<Items<Feeder>, Memory>

@@ -9,7 +9,7 @@ use Rattle.tp_schedule.specs.declared.records.SheetName.{SheetName}
 -- delivered
 pub record Way : Type 0 where
   pub sheet : SheetName
-  pub place : List ℕ
+  pub location : List ℕ
   pub points : List ℕ
   pub acts : List (List ℕ)
   pub released : ℕ
@@ -21,7 +21,7 @@ is_same_copy a b = (a.number == b.number) && (a.copy == b.copy) && bytes_eq a.jo
 
 -- the way of a plan
 abbrev pub fresh : SheetName → List ℕ → List ℕ → List (List ℕ) → Way
-fresh sheet place points acts = record { sheet = sheet; place = place; points = points; acts = acts; released = 0; is_lost = false; done = None }
+fresh sheet location points acts = record { sheet = sheet; location = location; points = points; acts = acts; released = 0; is_lost = false; done = None }
 
 -- how many actions have started at the moment
 abbrev pub kept_count : ℕ → Way → ℕ
@@ -37,7 +37,7 @@ cut_course moment w = front (kept_count moment w) w
 
 -- a front that goes on by a plan, whose first point is the end of the front
 abbrev pub joined : List ℕ → List ℕ → List (List ℕ) → Way → Way
-joined place points acts w = record w { place = place; points = w.points ++ drop 1 points; acts = w.acts ++ acts }
+joined location points acts w = record w { location = location; points = w.points ++ drop 1 points; acts = w.acts ++ acts }
 
 -- what a record of the copy changes, told at the moment
 abbrev pub tell_course : ℕ → Record → Way → Way

@@ -11,7 +11,7 @@ use tp_schedule::{Record, SheetName};
 #[derive(Drop)]
 pub struct Course {
     sheet: SheetName,
-    place: Name,
+    location: Name,
     points: Vec<Tick>,
     acts: Vec<Name>,
     released: usize,
@@ -27,7 +27,7 @@ impl Model for Course {
 
     ghost view = { λ c. record {
       sheet = c.sheet;
-      place = c.place;
+      location = c.location;
       points = c.points.items;
       acts = c.acts.items;
       released = c.released;
@@ -54,17 +54,17 @@ impl Course {
     pub(crate) fn new(
         alloc: Global,
         sheet: &SheetName,
-        place: Name,
+        location: Name,
         points: &[Tick],
         acts: &[Name],
     ) -> Result<Course, Memory>
-        ensures { IfOk result (λ c. c ≡ fresh sheet.now place points.now acts.now) }
+        ensures { IfOk result (λ c. c ≡ fresh sheet.now location points.now acts.now) }
     {
         let points = Vec::from_slice(alloc, points)?;
         let acts = Vec::from_slice(alloc, acts)?;
         Ok(Course {
             sheet: *sheet,
-            place,
+            location,
             points,
             acts,
             released: 0,
@@ -81,10 +81,10 @@ impl Course {
     }
 
     /// Where the plan ends.
-    pub fn place(&self) -> Name
-        ensures { result ≡ self.now.place }
+    pub fn location(&self) -> Name
+        ensures { result ≡ self.now.location }
     {
-        self.place
+        self.location
     }
 
     pub fn points(&self) -> &[Tick]
@@ -129,14 +129,19 @@ impl Course {
     }
 
     /// A front goes on by a plan, whose first point is the end of the front.
-    pub(crate) fn join(&mut self, place: Name, points: &[Tick], acts: &[Name]) -> Result<(), Memory>
-        ensures { OnOk result (self.new ≡ joined place points.now acts.now self.old) }
+    pub(crate) fn join(
+        &mut self,
+        location: Name,
+        points: &[Tick],
+        acts: &[Name],
+    ) -> Result<(), Memory>
+        ensures { OnOk result (self.new ≡ joined location points.now acts.now self.old) }
     {
         if let [_, rest @ ..] = points {
             self.points.extend_from_slice(rest)?;
         }
         self.acts.extend_from_slice(acts)?;
-        self.place = place;
+        self.location = location;
         Ok(())
     }
 

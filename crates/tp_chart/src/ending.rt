@@ -9,8 +9,8 @@ use std::alloc::AllocError;
 use tp_base::{Name, Tick};
 use tp_machine::{LocId, Machine, Names};
 
-fn has_name(machine: &Machine, place: LocId, name: &Name) -> bool {
-    u32::from(place.0) < machine.locations.len() && machine.locations.get(place.0) == *name
+fn has_name(machine: &Machine, loc: LocId, name: &Name) -> bool {
+    u32::from(loc.0) < machine.locations.len() && machine.locations.get(loc.0) == *name
 }
 
 /// The row of the tray or purge tray of this name, if it is one.
@@ -49,7 +49,7 @@ fn put_delivery(
     )?;
     put_copy(text, course.sheet())?;
     text.push_str(" in ")?;
-    put_name(text, &course.place())?;
+    put_name(text, &course.location())?;
     write!(text, " at {at}</title></path>\n")
 }
 
@@ -89,11 +89,11 @@ pub(crate) fn put_ending(
 ) -> Result<(), AllocError> {
     let mut own: u64 = 0;
     for course in scene.courses() {
-        let place = course.place();
+        let location = course.location();
         let row = if by_copies {
             Some(own)
         } else {
-            row_of_tray(machine, &place)
+            row_of_tray(machine, &location)
         };
         if let Some(row) = row
             && let Some(at) = course.done()

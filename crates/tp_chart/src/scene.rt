@@ -66,18 +66,18 @@ fn change(
 fn plan(
     courses: &mut Vec<Course>,
     sheet: &SheetName,
-    place: Name,
+    location: Name,
     points: &[Tick],
     acts: &[Name],
 ) -> Result<(), Memory>
     ensures { OnOk result (courses.new.items ≡ planned sheet.now
-        (joined place points.now acts.now)
-        (fresh sheet.now place points.now acts.now) courses.old.items) }
+        (joined location points.now acts.now)
+        (fresh sheet.now location points.now acts.now) courses.old.items) }
 {
     match place_of(courses, sheet) {
-        Some(at) => courses[at].join(place, points, acts),
+        Some(at) => courses[at].join(location, points, acts),
         None => {
-            let course = Course::new(*courses.allocator(), sheet, place, points, acts)?;
+            let course = Course::new(*courses.allocator(), sheet, location, points, acts)?;
             courses.push(course)?;
             Ok(())
         }

@@ -6,10 +6,10 @@ use Rattle.toml.specs.View.{items_of}
 use Rattle.tp_machine_text.specs.Words.{keys_of}
 use Rattle.tp_machine_text.specs.Printed.{put_member, texts_data}
 use Rattle.tp_compose.specs.Racks.{parts}
-use Rattle.tp_compose.specs.Flat.{put_found, locations, places, feeder_table, resource_table, actions, flat_parts, flat_by}
+use Rattle.tp_compose.specs.Flat.{put_found, locations, end_locations, feeder_table, resource_table, actions, flat_parts, flat_by}
 
 pub flat_built : (own firsts r : Members) (two : Data) (t0 t1 t2 t3 t4 t5 : Members) → t0 ≡ no_members → two ≡ integer (pos 2) → t1 ≡ put_member (codes "format") two t0
-    → t2 ≡ put_member (codes "purge") (texts_data (places own firsts (codes "purge") r)) (put_member (codes "trays") (texts_data (places own firsts (codes "trays") r))
+    → t2 ≡ put_member (codes "purge") (texts_data (end_locations own firsts (codes "purge") r)) (put_member (codes "trays") (texts_data (end_locations own firsts (codes "trays") r))
     (put_member (codes "modules") (texts_data (keys_of (parts r))) (put_member (codes "locations") (array (items_of (locations firsts r))) t1)))
     → t3 ≡ put_member (codes "resources") (table (resource_table r)) (put_member (codes "feeders") (table (feeder_table own firsts r)) t2)
     → t4 ≡ put_member (codes "actions") (array (items_of (actions own firsts r))) t3

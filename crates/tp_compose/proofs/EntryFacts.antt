@@ -6,7 +6,7 @@ use Rattle.toml.specs.Data.{Data, string, integer, float, boolean, datetime, arr
 use Rattle.tp_machine.specs.declared.parts.Feeder.{Feeder}
 use Rattle.tp_machine_text.specs.Words.{keys_of, data_of, text_of, is_name, is_among}
 use Rattle.tp_machine_text.specs.TheMachine.{place_in, loc_of, feeders_of}
-use Rattle.tp_compose.specs.Racks.{entries, place_by}
+use Rattle.tp_compose.specs.Racks.{entries, location_by}
 use Rattle.tp_compose.specs.Flat.{placed_feeders}
 use Rattle.tp_compose.proofs.Lists.{In}
 use Rattle.tp_compose.proofs.Puts.{same_bytes}
@@ -53,9 +53,9 @@ name_text (datetime t) test = cc
 name_text (array ds) test = cc
 name_text (table ms) test = cc
 
-pub placed_keys : (own firsts ms : Members) → map (λ e. e.0) (placed_feeders own firsts ms) ≡ map (place_by own firsts) (keys_of ms)
+pub placed_keys : (own firsts ms : Members) → map (λ e. e.0) (placed_feeders own firsts ms) ≡ map (location_by own firsts) (keys_of ms)
 placed_keys own firsts no_members = refl
-placed_keys own firsts (member k d ms) = ap (λ t. place_by own firsts k ∷ t) (placed_keys own firsts ms)
+placed_keys own firsts (member k d ms) = ap (λ t. location_by own firsts k ∷ t) (placed_keys own firsts ms)
 
 -- a feeder of the machine is an entry of its table
 pub record IsEntry (names : List (List ℕ)) (f : Feeder) (k : List ℕ) (d : Data) : Type 0 where

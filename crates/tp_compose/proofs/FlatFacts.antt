@@ -9,8 +9,8 @@ use Rattle.tp_machine_text.specs.Printed.{put_member}
 use Rattle.tp_machine_text.specs.TheMachine.{loc_of, action_of, truth_in}
 use Rattle.tp_machine_text.proofs.Back.{texts_back}
 use Rattle.tp_machine_text.proofs.Seen.{values_of-items}
-use Rattle.tp_compose.specs.Racks.{parts, dotted, hyphened, own_names, first_ends, place_by}
-use Rattle.tp_compose.specs.Flat.{put_found, places, feeder_table, put_holds, flat_action, actions, flat_parts, flat}
+use Rattle.tp_compose.specs.Racks.{parts, dotted, hyphened, own_names, first_ends, location_by}
+use Rattle.tp_compose.specs.Flat.{put_found, end_locations, feeder_table, put_holds, flat_action, actions, flat_parts, flat}
 use Rattle.tp_compose.specs.Walks.{work_of}
 use Rattle.tp_compose.proofs.Puts.{get_put, get_put_other, get_found_other}
 
@@ -30,9 +30,9 @@ module _ (r : Members) where
       ∙ get_found_other key (codes "window") (get_member (codes "window") r) leads w
       ∙ get_found_other key (codes "lead") (get_member (codes "lead") r) (flat_parts own firsts r) l
 
-  pub trays_are : text.trays (flat r) ≡ places own firsts (codes "trays") r
+  pub trays_are : text.trays (flat r) ≡ end_locations own firsts (codes "trays") r
   unfolding flat_parts
-  trays_are = ap (λ o. map text_of (elements_in o)) (other (codes "trays") refl refl refl) ∙ texts_back (places own firsts (codes "trays") r)
+  trays_are = ap (λ o. map text_of (elements_in o)) (other (codes "trays") refl refl refl) ∙ texts_back (end_locations own firsts (codes "trays") r)
 
   pub modules_are : text.modules (flat r) ≡ keys_of (parts r)
   unfolding flat_parts
@@ -63,10 +63,10 @@ past_holds key p (Some d) ms apart = get_put_other key (codes "holds") _ ms apar
 
 module _ (own firsts : Members) (p : List ℕ) (a : Data) where
   abbrev from_put : Data
-  from_put = string (place_by own firsts (dotted p (text_at (codes "from") a)))
+  from_put = string (location_by own firsts (dotted p (text_at (codes "from") a)))
 
   abbrev to_put : Data
-  to_put = string (place_by own firsts (dotted p (text_at (codes "to") a)))
+  to_put = string (location_by own firsts (dotted p (text_at (codes "to") a)))
 
   abbrev named : Members
   named = put_member (codes "name") (string (hyphened p (text_at (codes "name") a))) (members_of (as_table a))
@@ -96,10 +96,10 @@ module _ (own firsts : Members) (p : List ℕ) (a : Data) where
   pub name_is : text_at (codes "name") (flat_action own firsts p a) ≡ hyphened p (text_at (codes "name") a)
   name_is = ap text_in (at_named (codes "name") refl refl refl refl ∙ get_put (codes "name") (string (hyphened p (text_at (codes "name") a))) (members_of (as_table a)))
 
-  pub to_is : text_at (codes "to") (flat_action own firsts p a) ≡ place_by own firsts (dotted p (text_at (codes "to") a))
+  pub to_is : text_at (codes "to") (flat_action own firsts p a) ≡ location_by own firsts (dotted p (text_at (codes "to") a))
   to_is = ap text_in (at_action (codes "to") refl ∙ get_put (codes "to") to_put begun)
 
-  pub from_is : text_at (codes "from") (flat_action own firsts p a) ≡ place_by own firsts (dotted p (text_at (codes "from") a))
+  pub from_is : text_at (codes "from") (flat_action own firsts p a) ≡ location_by own firsts (dotted p (text_at (codes "from") a))
   from_is = ap text_in (at_action (codes "from") refl ∙ get_put_other (codes "from") (codes "to") to_put begun refl ∙ get_put (codes "from") from_put moduled)
 
   module _ (ls ms rs : List (List ℕ)) where
@@ -107,11 +107,11 @@ module _ (own firsts : Members) (p : List ℕ) (a : Data) where
     unfolding action_of
     action_name = name_is
 
-    pub action_from : (action_of ls ms rs (flat_action own firsts p a)).from ≡ loc_of ls (place_by own firsts (dotted p (text_at (codes "from") a)))
+    pub action_from : (action_of ls ms rs (flat_action own firsts p a)).from ≡ loc_of ls (location_by own firsts (dotted p (text_at (codes "from") a)))
     unfolding action_of
     action_from = ap (loc_of ls) from_is
 
-    pub action_to : (action_of ls ms rs (flat_action own firsts p a)).to ≡ loc_of ls (place_by own firsts (dotted p (text_at (codes "to") a)))
+    pub action_to : (action_of ls ms rs (flat_action own firsts p a)).to ≡ loc_of ls (location_by own firsts (dotted p (text_at (codes "to") a)))
     unfolding action_of
     action_to = ap (loc_of ls) to_is
 

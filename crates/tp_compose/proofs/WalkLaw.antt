@@ -20,9 +20,9 @@ use Rattle.tp_machine_text.specs.TheMachine.{loc_of, feeders_of}
 use Rattle.tp_machine_text.proofs.ActionFacts.{there_known}
 use Rattle.tp_machine_text.proofs.KeptFacts.{trays_from, texts_known, feeders_known}
 use Rattle.tp_compose.specs.TypeRules.{is_deed}
-use Rattle.tp_compose.specs.Racks.{feeders, entries, ports, type_actions, typed_parts, own_names, first_ends, place_of, place_by, put_all}
+use Rattle.tp_compose.specs.Racks.{feeders, entries, ports, type_actions, typed_parts, own_names, first_ends, location_of, location_by, put_all}
 use Rattle.tp_compose.specs.EndRules.{is_end, is_end_text, has_trays, has_purges, has_feeders}
-use Rattle.tp_compose.specs.Flat.{flat, flat_action, part_actions, placed_feeders, places}
+use Rattle.tp_compose.specs.Flat.{flat, flat_action, part_actions, placed_feeders, end_locations}
 use Rattle.tp_compose.specs.Texts.{IsMachineOfRack}
 use Rattle.tp_compose.specs.Walks.{Pair, IsOnePlace, anywhere, work_of, from_end, to_end, LeadsOn, IsWalk, ArePairsOf, IsNewRoute}
 use Rattle.tp_compose.proofs.Lists.{In, Apart, apart_of, in_any, any_in, in_contained, contained_in, in_map, in_map_back, in_flat, all_in}
@@ -51,15 +51,15 @@ module _ (r : Members) (m : Machine) (is : IsMachineOfRack r m) where
 
   -- the number of an END's location
   abbrev spot : List ℕ → LocId
-  spot e = loc_of names (place_of r e)
+  spot e = loc_of names (location_of r e)
 
   -- an END whose location the machine has
   record Stands (e : List ℕ) : Type 0 where
     pub end : is_end_text own e ≡ true
-    pub known : is_among names (place_of r e) ≡ true
+    pub known : is_among names (location_of r e) ≡ true
 
   one_spot : (e f : List ℕ) → Stands e → Stands f → spot e ≡ spot f → IsOnePlace r e f
-  one_spot e f se sf same = one_place r (rules r m is) e f se.end sf.end (loc_name names (place_of r e) (place_of r f) se.known sf.known same)
+  one_spot e f se sf same = one_place r (rules r m is) e f se.end sf.end (loc_name names (location_of r e) (location_of r f) se.known sf.known same)
 
   same_spot : (e f : List ℕ) → Stands e → Stands f → IsOnePlace r e f → spot e ≡ spot f
   same_spot e f se sf one = ap (loc_of names) (same_place r (rules r m is) e f se.end sf.end one)
@@ -112,22 +112,22 @@ module _ (r : Members) (m : Machine) (is : IsMachineOfRack r m) where
       let placed = subst (λ ts. list_all (is_among names) ts ≡ true) (trays_are r) known in
       record {
         end = subst (λ x. is_end_text own x ≡ true) same (end_text own d (all_in (is_end own) ds d all in_d));
-        known = all_in (is_among names) (places own (first_ends r) (codes "trays") r) (place_of r t) placed (in_map (place_of r) (text.texts_at (codes "trays") r) t within);
+        known = all_in (is_among names) (end_locations own (first_ends r) (codes "trays") r) (location_of r t) placed (in_map (location_of r) (text.texts_at (codes "trays") r) t within);
       }
 
-  trays_made : m.trays ≡ map (loc_of names) (map (place_of r) (text.texts_at (codes "trays") r))
+  trays_made : m.trays ≡ map (loc_of names) (map (location_of r) (text.texts_at (codes "trays") r))
   trays_made = is.is_machine.trays ∙ ap (map (loc_of names)) (trays_are r)
 
   tray_end : (tray : LocId) → Contains m.trays tray → (t : List ℕ) × In (text.texts_at (codes "trays") r) t × (spot t ≡ tray)
   tray_end tray within =
       let there = subst (λ ts. In ts tray) trays_made (in_contained m.trays tray within) in
-      let (n, in_n, is_n) = in_map_back (loc_of names) (map (place_of r) (text.texts_at (codes "trays") r)) tray there in
-      let (t, in_t, is_t) = in_map_back (place_of r) (text.texts_at (codes "trays") r) n in_n in
+      let (n, in_n, is_n) = in_map_back (loc_of names) (map (location_of r) (text.texts_at (codes "trays") r)) tray there in
+      let (t, in_t, is_t) = in_map_back (location_of r) (text.texts_at (codes "trays") r) n in_n in
       (t, in_t, ap (loc_of names) is_t ∙ is_n)
 
   end_tray : (t : List ℕ) → In (text.texts_at (codes "trays") r) t → Contains m.trays (spot t)
   end_tray t within =
-      contained_in m.trays (spot t) (subst (λ ts. In ts (spot t)) (sym trays_made) (in_map (loc_of names) (map (place_of r) (text.texts_at (codes "trays") r)) (place_of r t) (in_map (place_of r) (text.texts_at (codes "trays") r) t within)))
+      contained_in m.trays (spot t) (subst (λ ts. In ts (spot t)) (sym trays_made) (in_map (loc_of names) (map (location_of r) (text.texts_at (codes "trays") r)) (location_of r t) (in_map (location_of r) (text.texts_at (codes "trays") r) t within)))
 
   -- ---- from step to step
 
@@ -182,7 +182,7 @@ module _ (r : Members) (m : Machine) (is : IsMachineOfRack r m) where
   feeders_made : m.feeders ≡ feeders_of names (text.stocks (flat r)) (put_all (placed_feeders own (first_ends r) (feeders r)) no_members)
   feeders_made = is.is_machine.feeders ∙ ap (feeders_of names (text.stocks (flat r))) (feeders_are r)
 
-  feeder_stands : (e : List ℕ) (d : Data) → In (entries (feeders r)) (e, d) → In (entries (put_all (placed_feeders own (first_ends r) (feeders r)) no_members)) (place_of r e, d) → Stands e
+  feeder_stands : (e : List ℕ) (d : Data) → In (entries (feeders r)) (e, d) → In (entries (put_all (placed_feeders own (first_ends r) (feeders r)) no_members)) (location_of r e, d) → Stands e
   feeder_stands e d within there =
       let k = rules r m is in
       let fed = (and_parts (has_trays own r && has_purges own r) (has_feeders own r) k.ends).1 in
@@ -190,7 +190,7 @@ module _ (r : Members) (m : Machine) (is : IsMachineOfRack r m) where
       let known = subst (λ ms. list_all (is_among names) (keys_of ms) ≡ true) (feeders_are r) (feeders_known (flat r) (flat_rules r m is)) in
       record {
         end = all_in (is_end_text own) (keys_of (feeders r)) e all (entry_key (feeders r) e d within);
-        known = all_in (is_among names) _ (place_of r e) known (entry_key _ (place_of r e) d there);
+        known = all_in (is_among names) _ (location_of r e) known (entry_key _ (location_of r e) d there);
       }
 
   abbrev fed : Members
@@ -210,7 +210,7 @@ module _ (r : Members) (m : Machine) (is : IsMachineOfRack r m) where
         from_entry : (e : List ℕ × Data) → In (entries fed) e → IsEntry names f e.0 e.1 → In (placed_feeders own (first_ends r) (feeders r)) e ⊎ ⊥ → IsFeederEnd sheet f.loc
         from_entry e in_e entry (inr none) = elim none [ ]
         from_entry e in_e entry (inl put) =
-            let (g, in_g, same) = in_map_back (λ g. (place_by own (first_ends r) g.0, g.1)) (entries (feeders r)) e put in
+            let (g, in_g, same) = in_map_back (λ g. (location_by own (first_ends r) g.0, g.1)) (entries (feeders r)) e put in
             let named = subst (λ ms. list_all is_name (data_of ms) ≡ true) (feeders_are r) (flat_rules r m is).media in
             let medium = name_text e.1 (all_in is_name (data_of fed) e.1 named (entry_data fed e.0 e.1 in_e)) ∙ ap string (sym entry.media ∙ media) in
             let value : g.1 ≡ string sheet.media = (λ i. (same i).1) ∙ medium in
@@ -224,10 +224,10 @@ module _ (r : Members) (m : Machine) (is : IsMachineOfRack r m) where
   end_feeder : (sheet : Sheet) (e : List ℕ) → In (entries (feeders r)) (e, string sheet.media) → Stands e × IsFreshStart m sheet (fresh (spot e))
   end_feeder sheet e within =
       let es = placed_feeders own (first_ends r) (feeders r) in
-      let put = in_map (λ g. (place_by own (first_ends r) g.0, g.1)) (entries (feeders r)) (e, string sheet.media) within in
-      let apart = subst (λ t. Apart t) (sym (placed_keys own (first_ends r) (feeders r))) (apart_of (map (place_of r) (keys_of (feeders r))) (rules r m is).feeders) in
-      let there = in_all es no_members (place_of r e, string sheet.media) apart put in
-      let (f, in_f, entry) = entry_feeder names (text.stocks (flat r)) (put_all es no_members) (place_of r e) (string sheet.media) there in (
+      let put = in_map (λ g. (location_by own (first_ends r) g.0, g.1)) (entries (feeders r)) (e, string sheet.media) within in
+      let apart = subst (λ t. Apart t) (sym (placed_keys own (first_ends r) (feeders r))) (apart_of (map (location_of r) (keys_of (feeders r))) (rules r m is).feeders) in
+      let there = in_all es no_members (location_of r e, string sheet.media) apart put in
+      let (f, in_f, entry) = entry_feeder names (text.stocks (flat r)) (put_all es no_members) (location_of r e) (string sheet.media) there in (
         feeder_stands e (string sheet.media) within there,
         any_in (λ f. (f.media ≡ sheet.media) × (fresh (spot e) ≡ fresh f.loc)) m.feeders f (subst (λ fs. In fs f) (sym feeders_made) in_f) (entry.media, ap fresh (sym entry.loc)),
       )

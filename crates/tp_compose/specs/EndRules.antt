@@ -3,7 +3,7 @@ use Rattle.std.specs.Prelude.{ℕ, Bool, false, is_some, ◌&&◌, List, [], ◌
 use Rattle.std.specs.List.{list_all, flat_map}
 use Rattle.toml.specs.Data.{Data, string, Members, get_member}
 use Rattle.tp_machine_text.specs.Words.{keys_of, elements, elements_at, text_of, is_there, is_fit, is_array, is_table, are_different}
-use Rattle.tp_compose.specs.Racks.{joins, feeders, place_by}
+use Rattle.tp_compose.specs.Racks.{joins, feeders, location_by}
 
 -- a part and a port of its type, by the names that ENDs have of their own
 abbrev pub is_end_text : Members → List ℕ → Bool
@@ -49,7 +49,7 @@ has_ends own r = has_trays own r && has_purges own r && has_feeders own r
 
 -- no two feeders have the same location
 abbrev pub has_feeders_apart : Members → Members → Members → Bool
-has_feeders_apart own firsts r = are_different (map (place_by own firsts) (keys_of (feeders r)))
+has_feeders_apart own firsts r = are_different (map (location_by own firsts) (keys_of (feeders r)))
 
 -- the rules by the names that ENDs have of their own and the first ENDs of joins
 abbrev pub end_rules : Members → Members → Members → List Bool

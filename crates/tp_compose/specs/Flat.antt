@@ -7,7 +7,7 @@ use Rattle.toml.specs.View.{items_of}
 use Rattle.tp_machine_text.specs.Words.{elements_in, keys_of, members_of, text_at}
 use Rattle.tp_machine_text.specs.Keys.{texts_at}
 use Rattle.tp_machine_text.specs.Printed.{put_member, texts_data}
-use Rattle.tp_compose.specs.Racks.{parts, feeders, entries, typed_parts, type_resources, type_actions, ports, dotted, hyphened, put_all, first_ends, own_names, place_by}
+use Rattle.tp_compose.specs.Racks.{parts, feeders, entries, typed_parts, type_resources, type_actions, ports, dotted, hyphened, put_all, first_ends, own_names, location_by}
 
 -- the members with the value put at the key, where there is one
 abbrev pub put_found : List ℕ → Option Data → Members → Members
@@ -15,22 +15,22 @@ put_found key None ms = ms
 put_found key (Some d) ms = put_member key d ms
 
 -- the name of a port's own location, where its END is no second END of a join
-unfoldable pub port_place : Members → List ℕ → List ℕ → List Data
-port_place firsts p q = if is_some (get_member (dotted p q) firsts) then [] else string (hyphened p q) ∷ []
+unfoldable pub port_location : Members → List ℕ → List ℕ → List Data
+port_location firsts p q = if is_some (get_member (dotted p q) firsts) then [] else string (hyphened p q) ∷ []
 
-abbrev pub part_places : Members → List ℕ × Data → List Data
-part_places firsts p = flat_map (port_place firsts p.0) (ports p.1)
+abbrev pub part_locations : Members → List ℕ × Data → List Data
+part_locations firsts p = flat_map (port_location firsts p.0) (ports p.1)
 
 abbrev pub locations : Members → Members → List Data
-locations firsts r = flat_map (part_places firsts) (typed_parts r)
+locations firsts r = flat_map (part_locations firsts) (typed_parts r)
 
 -- the locations of the ENDs of an array
-abbrev pub places : Members → Members → List ℕ → Members → List (List ℕ)
-places own firsts key r = map (place_by own firsts) (texts_at key r)
+abbrev pub end_locations : Members → Members → List ℕ → Members → List (List ℕ)
+end_locations own firsts key r = map (location_by own firsts) (texts_at key r)
 
 -- each feeder's medium at its location
 abbrev pub placed_feeders : Members → Members → Members → List (List ℕ × Data)
-placed_feeders own firsts ms = map (λ f. (place_by own firsts f.0, f.1)) (entries ms)
+placed_feeders own firsts ms = map (λ f. (location_by own firsts f.0, f.1)) (entries ms)
 
 abbrev pub feeder_table : Members → Members → Members → Members
 feeder_table own firsts r = put_all (placed_feeders own firsts (feeders r)) no_members
@@ -54,8 +54,8 @@ put_holds p (Some holds) ms = put_member (codes "holds") (array (items_of (map (
 unfoldable pub flat_action : Members → Members → List ℕ → Data → Data
 flat_action own firsts p a =
     table (put_holds p (get (codes "holds") a)
-    (put_member (codes "to") (string (place_by own firsts (dotted p (text_at (codes "to") a))))
-    (put_member (codes "from") (string (place_by own firsts (dotted p (text_at (codes "from") a))))
+    (put_member (codes "to") (string (location_by own firsts (dotted p (text_at (codes "to") a))))
+    (put_member (codes "from") (string (location_by own firsts (dotted p (text_at (codes "from") a))))
     (put_member (codes "module") (string p)
     (put_member (codes "name") (string (hyphened p (text_at (codes "name") a))) (members_of (as_table a)))))))
 
@@ -73,9 +73,9 @@ flat_parts own firsts r =
     (member (codes "format") (integer (pos 2))
     (member (codes "locations") (array (items_of (locations firsts r)))
     (member (codes "modules") (texts_data (keys_of (parts r)))
-    (member (codes "purge") (texts_data (places own firsts (codes "purge") r))
+    (member (codes "purge") (texts_data (end_locations own firsts (codes "purge") r))
     (member (codes "resources") (table (resource_table r))
-    (member (codes "trays") (texts_data (places own firsts (codes "trays") r)) no_members)))))))
+    (member (codes "trays") (texts_data (end_locations own firsts (codes "trays") r)) no_members)))))))
 
 -- and lead, window and budget as they are
 abbrev pub flat_by : Members → Members → Members → Members

@@ -94,9 +94,9 @@ abbrev pub first_in : List ℕ → Option Data → List ℕ
 first_in e None = e
 first_in e (Some d) = text_of d
 
-abbrev pub place_by : Members → Members → List ℕ → List ℕ
-place_by own firsts e = text_in (get_member (first_in e (get_member e firsts)) own)
+abbrev pub location_by : Members → Members → List ℕ → List ℕ
+location_by own firsts e = text_in (get_member (first_in e (get_member e firsts)) own)
 
 -- the name of an END's location
-abbrev pub place_of : Members → List ℕ → List ℕ
-place_of r e = place_by (own_names r) (first_ends r) e
+abbrev pub location_of : Members → List ℕ → List ℕ
+location_of r e = location_by (own_names r) (first_ends r) e

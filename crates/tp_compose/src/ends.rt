@@ -6,7 +6,7 @@ ghost use Rattle.toml.specs.Data.{string, get_member, get, no_members};
 ghost use Rattle.toml.specs.View.{table_view, view};
 ghost use Rattle.tp_machine_text.specs.Words.{text_of, elements, elements_at, elements_in, keys_of, members_of, is_there, is_fit};
 ghost use Rattle.tp_machine_text.specs.Order.{first_from};
-ghost use Rattle.tp_compose.specs.Racks.{joins, entries, type_in, typed, dotted, hyphened, part_ends, put_all, own_names, join_entry, join_entries, first_ends, first_in, place_by};
+ghost use Rattle.tp_compose.specs.Racks.{joins, entries, type_in, typed, dotted, hyphened, part_ends, put_all, own_names, join_entry, join_entries, first_ends, first_in, location_by};
 ghost use Rattle.tp_compose.specs.EndRules.{is_end_text, is_end as is_end_data, are_two_ends, is_join as is_join_data, joined, has_joins, has_trays, has_purges, has_feeders, has_ends, has_feeders_apart, end_rules};
 
 use std::alloc::Global;
@@ -149,8 +149,8 @@ fn put_join(alloc: Global, firsts: &mut Table, ends: &[Value]) -> Result<(), Mem
 }
 
 /// The name of the location of an END. Another text has the empty name.
-pub(crate) fn place_by<'a>(own: &'a Table, firsts: &Table, end: &str) -> &'a str
-    ensures { result.now ≡ place_by (table_view own.now) (table_view firsts.now) end.now }
+pub(crate) fn location_by<'a>(own: &'a Table, firsts: &Table, end: &str) -> &'a str
+    ensures { result.now ≡ location_by (table_view own.now) (table_view firsts.now) end.now }
 {
     match value_at(own, first_of(firsts, end)) {
         Some(name) => text_of(name),
@@ -319,28 +319,28 @@ fn has_feeders_apart(
 {
     match table_in(value_at(table, "feeders")) {
         Some(feeders) => {
-            let places = places_of_keys(alloc, own, firsts, feeders)?;
-            Ok(are_different(places.as_slice()))
+            let locations = locations_of_keys(alloc, own, firsts, feeders)?;
+            Ok(are_different(locations.as_slice()))
         }
         None => Ok(true),
     }
 }
 
 /// The names of the locations of a table's keys.
-fn places_of_keys(
+fn locations_of_keys(
     alloc: Global,
     own: &Table,
     firsts: &Table,
     table: &Table,
 ) -> Result<Array, Memory>
-    ensures { IfOk result (λ places. map text_of (map view places.items)
-        ≡ map (place_by (table_view own.now) (table_view firsts.now))
+    ensures { IfOk result (λ locations. map text_of (map view locations.items)
+        ≡ map (location_by (table_view own.now) (table_view firsts.now))
         (keys_of (table_view table.now))) }
 {
-    let mut places = Array::new(alloc);
+    let mut locations = Array::new(alloc);
     let entries = table.iter();
     'entries: for (key, _value) in entries {
-        places.push(Value::string(alloc, place_by(own, firsts, key.as_str()))?)?;
+        locations.push(Value::string(alloc, location_by(own, firsts, key.as_str()))?)?;
     }
-    Ok(places)
+    Ok(locations)
 }

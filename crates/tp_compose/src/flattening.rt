@@ -5,10 +5,10 @@ ghost use Rattle.toml.specs.Data.{string, integer, array, table as table_data, a
 ghost use Rattle.toml.specs.View.{table_view, view, items_of};
 ghost use Rattle.tp_machine_text.specs.Printed.{put_member, texts_data};
 ghost use Rattle.tp_machine_text.specs.Words.{text_of, elements_in, keys_of, members_of};
-ghost use Rattle.tp_compose.specs.Racks.{parts, entries, typed, typed_parts, dotted, hyphened, put_all, place_by, own_names, first_ends};
-ghost use Rattle.tp_compose.specs.Flat.{put_found, locations, port_place, part_places, places, placed_feeders, feeder_table, part_resources, resource_table, flat_hold, put_holds, flat_action, part_actions, actions, flat_parts, flat_by};
+ghost use Rattle.tp_compose.specs.Racks.{parts, entries, typed, typed_parts, dotted, hyphened, put_all, location_by, own_names, first_ends};
+ghost use Rattle.tp_compose.specs.Flat.{put_found, locations, port_location, part_locations, end_locations, placed_feeders, feeder_table, part_resources, resource_table, flat_hold, put_holds, flat_action, part_actions, actions, flat_parts, flat_by};
 
-use crate::ends::{dotted, hyphened, kind_values, place_by};
+use crate::ends::{dotted, hyphened, kind_values, location_by};
 use std::alloc::Global;
 use toml::value::Array;
 use toml::{Table, Value};
@@ -28,7 +28,7 @@ pub(crate) fn flat_of(
 {
     let mut flat = Table::new(alloc);
     put(alloc, &mut flat, "format", Value::from(2u32))?;
-    put_places(alloc, &mut flat, table, own, firsts)?;
+    put_locations(alloc, &mut flat, table, own, firsts)?;
     put_supplies(alloc, &mut flat, table, own, firsts)?;
     put_actions(alloc, &mut flat, table, own, firsts)?;
     put_numbers(alloc, &mut flat, table)?;
@@ -64,7 +64,7 @@ fn put_found(
 }
 
 /// Puts the locations, the modules and the trays.
-fn put_places(
+fn put_locations(
     alloc: Global,
     flat: &mut Table,
     table: &Table,
@@ -72,9 +72,9 @@ fn put_places(
     firsts: &Table,
 ) -> Result<(), Memory>
     ensures { OnOk result (table_view flat.new ≡
-        put_member (codes "purge") (texts_data (places (table_view own.now)
+        put_member (codes "purge") (texts_data (end_locations (table_view own.now)
         (table_view firsts.now) (codes "purge") (table_view table.now)))
-        (put_member (codes "trays") (texts_data (places (table_view own.now)
+        (put_member (codes "trays") (texts_data (end_locations (table_view own.now)
         (table_view firsts.now) (codes "trays") (table_view table.now)))
         (put_member (codes "modules") (texts_data (keys_of (parts (table_view table.now))))
         (put_member (codes "locations") (array (items_of (locations (table_view firsts.now)
@@ -85,9 +85,9 @@ fn put_places(
     put(alloc, flat, "locations", locations)?;
     let modules = keys_value(alloc, table_in(value_at(table, "parts")))?;
     put(alloc, flat, "modules", modules)?;
-    let trays = places_value(alloc, own, firsts, values_at(table, "trays"))?;
+    let trays = locations_value(alloc, own, firsts, values_at(table, "trays"))?;
     put(alloc, flat, "trays", trays)?;
-    let purges = places_value(alloc, own, firsts, values_at(table, "purge"))?;
+    let purges = locations_value(alloc, own, firsts, values_at(table, "purge"))?;
     put(alloc, flat, "purge", purges)
 }
 
@@ -119,7 +119,7 @@ fn push_parts(
     parts: &Table,
 ) -> Result<(), Memory>
     ensures { OnOk result (map view array.new.items ≡ map view array.old.items
-        ++ flat_map (part_places (table_view firsts.now))
+        ++ flat_map (part_locations (table_view firsts.now))
         (typed (members_of (option_map (λ m. table_view m.now) types.entry))
         (table_view parts.now))) }
 {
@@ -145,7 +145,7 @@ fn push_ports(
     ports: &[Value],
 ) -> Result<(), Memory>
     ensures { OnOk result (map view array.new.items ≡ map view array.old.items
-        ++ flat_map (port_place (table_view firsts.now) part.now)
+        ++ flat_map (port_location (table_view firsts.now) part.now)
         (map text_of (map view ports.now))) }
 {
     let mut rest = ports;
@@ -156,7 +156,7 @@ fn push_ports(
     Ok(())
 }
 
-#[tactic(auto, unfolding(crate::specs::Flat::port_place))]
+#[tactic(auto, unfolding(crate::specs::Flat::port_location))]
 fn push_port(
     alloc: Global,
     array: &mut Array,
@@ -165,7 +165,7 @@ fn push_port(
     port: &str,
 ) -> Result<(), Memory>
     ensures { OnOk result (map view array.new.items ≡ map view array.old.items
-        ++ port_place (table_view firsts.now) part.now port.now) }
+        ++ port_location (table_view firsts.now) part.now port.now) }
 {
     let end = dotted(alloc, part, port)?;
     if value_at(firsts, end.as_str()).is_none() {
@@ -197,15 +197,20 @@ fn table_keys_value(alloc: Global, table: &Table) -> Result<Value, Memory>
 }
 
 /// The names of the locations of some ENDs.
-fn places_value(alloc: Global, own: &Table, firsts: &Table, ends: &[Value]) -> Result<Value, Memory>
+fn locations_value(
+    alloc: Global,
+    own: &Table,
+    firsts: &Table,
+    ends: &[Value],
+) -> Result<Value, Memory>
     ensures { IfOk result (λ value. view value ≡ texts_data
-        (map (place_by (table_view own.now) (table_view firsts.now))
+        (map (location_by (table_view own.now) (table_view firsts.now))
         (map text_of (map view ends.now)))) }
 {
     let mut array = Array::new(alloc);
     let mut rest = ends;
     'ends: while let [end, others @ ..] = rest {
-        array.push(Value::string(alloc, place_by(own, firsts, text_of(end)))?)?;
+        array.push(Value::string(alloc, location_by(own, firsts, text_of(end)))?)?;
         rest = others;
     }
     Ok(Value::from(array))
@@ -259,7 +264,7 @@ fn put_feeders(
         put(
             alloc,
             placed,
-            place_by(own, firsts, end.as_str()),
+            location_by(own, firsts, end.as_str()),
             media.clone()?,
         )?;
     }
@@ -436,11 +441,11 @@ fn end_value(
     part: &str,
     port: &str,
 ) -> Result<Value, Memory>
-    ensures { IfOk result (λ value. view value ≡ string (place_by (table_view own.now)
+    ensures { IfOk result (λ value. view value ≡ string (location_by (table_view own.now)
         (table_view firsts.now) (dotted part.now port.now))) }
 {
     let end = dotted(alloc, part, port)?;
-    Ok(Value::string(alloc, place_by(own, firsts, end.as_str()))?)
+    Ok(Value::string(alloc, location_by(own, firsts, end.as_str()))?)
 }
 
 /// Puts the holds of the part's resources, where the action has any.
