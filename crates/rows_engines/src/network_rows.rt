@@ -1,5 +1,5 @@
 //! Small networks, on each of the two: times, causes, refusals, and the way back to a mark.
-ghost use Rattle.std.specs.Prelude.{◌≡◌, ℕ, ◌+◌, ◌<◌, ◌≤◌, [], length};
+ghost use Rattle.std.specs.Prelude.{◌≡◌, ℕ, ◌+◌, ◌<◌, ◌≤◌, []};
 ghost use Rattle.tp_base.specs.Net.{empty_net};
 ghost use Rattle.rows_engines.specs.Rows.{edge_of, three_points};
 

@@ -1,6 +1,6 @@
 //! Schedules on DUO that are looked at as a whole: legal, within their bounds and least, or not.
 ghost use Rattle.std.specs.Prelude.{◌≡◌, length, None};
-ghost use Rattle.tp_schedule.specs.Answers.{KeepsFloors, KeepsHorizon};
+ghost use Rattle.tp_schedule.specs.Answers.{KeepsFloors};
 ghost use Rattle.tp_schedule.specs.Legality.{IsLegal};
 ghost use Rattle.tp_deciding.specs.Early.{is_exempt};
 

@@ -1,7 +1,5 @@
 //! Whether the times of a schedule are those that are wanted.
 ghost use Rattle.std.specs.Prelude.{◌≤◌, ◌↔◌, IfOk, IfSome, IsNone};
-ghost use Rattle.tp_deciding.specs.Early.{is_exempt};
-ghost use Rattle.tp_schedule.specs.Answers.{KeepsFloors, KeepsHorizon};
 ghost use Rattle.tp_schedule.specs.Legality.{IsLegal};
 ghost use Rattle.tp_schedule.specs.Planning.{last_tick};
 ghost use Rattle.tp_answers.specs.Faults.{HasOrders, HasTimes, IsBoundsFault, IsTimesFault, KeepsBounds};

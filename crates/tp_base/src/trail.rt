@@ -1,5 +1,5 @@
 //! A list with a capacity, for what has to be taken back.
-ghost use Rattle.std.specs.Prelude.{◌≡◌, ℕ, ◌<◌, ◌≤◌, ◌↔◌, List, [], ◌∷◌, ◌++◌, length, take, reverse, slice_get, Some, IfOk, IsErr, OnOk, OnErr};
+ghost use Rattle.std.specs.Prelude.{◌≡◌, ℕ, ◌<◌, ◌≤◌, ◌↔◌, [], ◌∷◌, ◌++◌, length, take, reverse, slice_get, Some, IfOk, IsErr, OnOk, OnErr};
 
 use crate::errors::Memory;
 use crate::refusals::Full;

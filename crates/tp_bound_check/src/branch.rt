@@ -1,5 +1,5 @@
 //! A branch of a bound tree, as the check carries it.
-ghost use Rattle.std.specs.Prelude.{◌≡◌, ℕ, ◌+◌, ◌<◌, ◌≤◌, ◌-◌, [], ◌∷◌, ◌++◌, length, slice_get, Some, List, reverse, Option};
+ghost use Rattle.std.specs.Prelude.{◌≡◌, ℕ, ◌+◌, ◌<◌, ◌≤◌, ◌-◌, [], ◌∷◌, ◌++◌, length, slice_get, Some, reverse, Option};
 ghost use Rattle.tp_machine.specs.Limits.{most_act_holds};
 ghost use Rattle.tp_constraints.specs.Suffixes.{room_of, with_action, with_goal, with_place, with_stop};
 ghost use Rattle.tp_schedule.specs.Choices.{Choice};

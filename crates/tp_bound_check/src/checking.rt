@@ -1,5 +1,5 @@
 //! The check of a bound tree: its rows first, then its nodes.
-ghost use Rattle.std.specs.Prelude.{◌≡◌, IfOk, IfErr, OnOk, None, List};
+ghost use Rattle.std.specs.Prelude.{◌≡◌, IfOk, IfErr, OnOk, None};
 ghost use Rattle.tp_schedule.specs.Answers.{IsAsked};
 ghost use Rattle.tp_schedule.specs.Legality.{IsLegal};
 ghost use Rattle.tp_schedule.specs.Timetables.{IsOrdered};

@@ -1,5 +1,5 @@
 //! The choices of a branch, in place.
-ghost use Rattle.std.specs.Prelude.{◌≡◌, ◌+◌, ◌<◌, ◌≤◌, ◌-◌, [], ◌∷◌, ◌++◌, length, slice_get, Some, set, IfOk, map, take, reverse};
+ghost use Rattle.std.specs.Prelude.{◌≡◌, ◌+◌, ◌<◌, ◌≤◌, ◌-◌, [], ◌∷◌, ◌++◌, length, slice_get, Some, set, map, take, reverse};
 ghost use Rattle.tp_machine.specs.Limits.{most_act_holds};
 ghost use Rattle.tp_schedule.specs.Limits.{most_acts};
 ghost use Rattle.tp_bound_check.specs.Branches.{IsRaw, choice_by, newest_in, with_one};

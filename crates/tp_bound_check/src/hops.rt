@@ -1,10 +1,9 @@
 //! What hops say.
-ghost use Rattle.std.specs.Prelude.{◌≡◌, ℕ, ◌+◌, ◌<◌, ◌≤◌, ◌-◌, [], ◌∷◌, ◌++◌, length, slice_get, Some, None, option_copied, find, Option, IfOk, take, drop, reverse, position, List};
-ghost use Rattle.std.specs.Str.{bytes_eq};
+ghost use Rattle.std.specs.Prelude.{◌≡◌, ℕ, ◌+◌, ◌<◌, ◌≤◌, ◌-◌, [], ◌∷◌, ◌++◌, Some, None, option_copied, Option, List};
 ghost use Rattle.tp_constraints.specs.Gaps.{slot_gap, anchor_spot};
 ghost use Rattle.tp_schedule.specs.Plans.{plan_of};
 ghost use Rattle.tp_schedule.specs.Spots as spots;
-ghost use Rattle.tp_trees.specs.Chains.{arrival_at, arrival_in, arrival_of, duration_gap, gap_behind, gap_in, is_next_arrival, kept_act, least_gap, line_gap, most_gap, own_act, own_arrival, acts_in, act_in, choice_act};
+ghost use Rattle.tp_trees.specs.Chains.{arrival_at, arrival_in, arrival_of, duration_gap, is_next_arrival, least_gap, line_gap, most_gap};
 ghost use Rattle.tp_bound_check.specs.Ranges.{IsShort, least_by, most_by};
 ghost use Rattle.std.specs.Prelude.{IfSome, suc, ◌==◌};
 ghost use Rattle.std.specs.Prelude.{pos, ◌+ℤ◌, ◌-ℤ◌};

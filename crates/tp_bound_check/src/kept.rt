@@ -1,6 +1,5 @@
 //! The live part of a schedule, the orders of its holds, and the goals of an ask.
-ghost use Rattle.std.specs.Prelude.{◌≡◌, ◌||◌, ◌&&◌, ◌++◌, ◌∷◌, [], length, not, filter, IfOk, OnOk, if◌then◌else◌};
-ghost use Rattle.std.specs.List.{list_any};
+ghost use Rattle.std.specs.Prelude.{◌≡◌, ◌||◌, ◌&&◌, ◌++◌, ◌∷◌, [], filter, IfOk, OnOk, if◌then◌else◌};
 ghost use Rattle.tp_bound_check.specs.Stands.{AreOrders};
 ghost use Rattle.tp_schedule.specs.Living.{is_live};
 ghost use Rattle.tp_schedule.specs.Plans.{is_same_copy};

@@ -1,5 +1,5 @@
 //! The actions of a machine by where they start, and by where they lead to.
-ghost use Rattle.std.specs.Prelude.{◌≡◌, ℕ, ◌+◌, ◌<◌, ◌≤◌, ◌^◌, length, map, replicate, slice_get, slice_index_or, IfOk, None, Some, List};
+ghost use Rattle.std.specs.Prelude.{◌≡◌, ℕ, ◌+◌, ◌<◌, ◌≤◌, ◌^◌, length, map, replicate, slice_get, slice_index_or, IfOk, None, Some};
 ghost use Rattle.tp_bound_check.specs.Links.{AreBelow, AreLinked, IsNextAt, ends_of, starts_of};
 
 use std::alloc::{AllocError, Global};

@@ -4,8 +4,8 @@
 //! looked at last, or of the goals. The deeper one stands later, and no two are of nodes of one
 //! depth. A way has a goal, and at most 64 actions with at most 4 holds each. So there are at most
 //! 322 frames: the stack never takes more memory than it was made with.
-ghost use Rattle.std.specs.Prelude.{◌≡◌, ℕ, ◌+◌, ◌<◌, ◌≤◌, ◌^◌, [], ◌∷◌, ◌++◌, length, Some, None, Option, IfOk, IfErr, OnOk, OnErr, IfSome, IfNone, List, All, map, drop, vec_capacity, true, false};
-ghost use Rattle.tp_bound_check.specs.Frames.{IsOn, has_due, with_frame};
+ghost use Rattle.std.specs.Prelude.{◌≡◌, ℕ, ◌+◌, ◌<◌, ◌≤◌, ◌^◌, [], ◌∷◌, ◌++◌, length, Some, None, IfOk, IfErr, OnOk, List, All, map, vec_capacity, true, false};
+ghost use Rattle.tp_bound_check.specs.Frames.{has_due, with_frame};
 ghost use Rattle.tp_bound_check.specs.Ranks.{AreRankedFrames};
 ghost use Rattle.tp_bound_check.specs.Looks.{IsNodeFault, IsSoundFrame, IsSoundStack, IsStep, due_on, flaw_by};
 ghost use Rattle.tp_bound_check.specs.declared.dues.Frame.TheVariants.{Goals};

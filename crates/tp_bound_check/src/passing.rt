@@ -1,6 +1,6 @@
 //! A node at a frame: it stands where the first of the frame is due.
-ghost use Rattle.std.specs.Prelude.{◌≡◌, ℕ, ◌+◌, ◌-◌, ◌<◌, ◌≤◌, ◌^◌, [], ◌∷◌, ◌++◌, length, slice_get, Some, None, Option, IfOk, IfErr, IfSome, IfNone, List, if◌then◌else◌, false, true};
-ghost use Rattle.tp_bound_check.specs.Frames.{IsOn, IsShallow};
+ghost use Rattle.std.specs.Prelude.{◌≡◌, ℕ, ◌+◌, ◌-◌, ◌<◌, ◌≤◌, ◌^◌, [], ◌∷◌, ◌++◌, length, slice_get, Some, None, Option, IfSome, IfNone, List, if◌then◌else◌, false, true};
+ghost use Rattle.tp_bound_check.specs.Frames.{IsShallow};
 ghost use Rattle.tp_bound_check.specs.Ranks.{AreRanked, IsRanked, IsRankedPassing, StayTo, next_number, number_of};
 ghost use Rattle.tp_bound_check.specs.Looks.{IsActOf, IsPassing, IsSoundFrame, IsSoundPassing, acts_at, dues_of, places_behind};
 ghost use Rattle.tp_bound_check.specs.declared.dues.Frame.TheVariants.{Acts, Goals, Held};

@@ -1,13 +1,13 @@
 //! The check of room rows.
-ghost use Rattle.std.specs.Prelude.{◌≡◌, ◌+◌, ◌<◌, ◌≤◌, [], ◌∷◌, ◌++◌, length, IfOk, None, Some, true, false, not, ◌&&◌, ◌||◌, set, slice_index_or, slice_get, replicate, vec_len, List, ◌*◌};
-ghost use Rattle.std.specs.List.{list_all, list_any};
+ghost use Rattle.std.specs.Prelude.{◌≡◌, ◌+◌, ◌<◌, ◌≤◌, [], ◌∷◌, ◌++◌, length, IfOk, None, Some, true, false, not, ◌&&◌, ◌||◌, set, slice_index_or, replicate, vec_len, List, ◌*◌};
+ghost use Rattle.std.specs.List.{list_all};
 ghost use Rattle.std.specs.Str.{bytes_eq};
 ghost use Rattle.tp_bound_check.specs.Links.{starts_of};
-ghost use Rattle.tp_bound_check.specs.Tables.{AreRooms, AreSeen, is_among, place_of};
+ghost use Rattle.tp_bound_check.specs.Tables.{AreRooms, AreSeen, place_of};
 ghost use Rattle.tp_schedule.specs.LocationSets.{has};
-ghost use Rattle.tp_schedule.specs.Routes.{fresh, is_act_allowed, least_of, step_by};
-ghost use Rattle.tp_trees.specs.Rows.{is_state, row_of, state_of};
-ghost use Rattle.tp_trees.specs.Flaws.{are_starts_kept, are_steps_kept, bad_row, bad_row_from, has_row_by, is_good_row, is_row_after, is_row_of, is_step_kept};
+ghost use Rattle.tp_schedule.specs.Routes.{fresh};
+ghost use Rattle.tp_trees.specs.Rows.{row_of, state_of};
+ghost use Rattle.tp_trees.specs.Flaws.{are_starts_kept, are_steps_kept, bad_row, has_row_by, is_good_row, is_row_after, is_step_kept};
 ghost use Rattle.tp_bounds.specs.declared.tree.TreeRow.{TreeRow};
 
 use crate::links::Links;

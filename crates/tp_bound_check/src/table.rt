@@ -1,10 +1,9 @@
 //! Room rows by states.
-ghost use Rattle.std.specs.Prelude.{◌≡◌, ℕ, ◌+◌, ◌*◌, ◌<◌, [], ◌∷◌, ◌++◌, length, slice_index_or, IfOk, IfSome, OnOk, OnErr, None, Some, set, replicate, take, true, false};
+ghost use Rattle.std.specs.Prelude.{◌≡◌, ℕ, ◌+◌, ◌*◌, ◌<◌, [], ◌∷◌, ◌++◌, length, slice_index_or, IfOk, IfSome, None, Some, set, replicate, false};
 ghost use Rattle.std.specs.Prelude.{vec_len, List};
 ghost use Rattle.tp_bounds.specs.declared.tree.TreeRow.{TreeRow};
-ghost use Rattle.tp_bound_check.specs.Tables.{AreRooms, AreSeen, bool_part, face_part, first_with, is_among, is_by, least_of, least_with, place_of};
-ghost use Rattle.tp_trees.specs.Rows.{row_of, state_of};
-ghost use Rattle.tp_trees.specs.Flaws.{has_row_by};
+ghost use Rattle.tp_bound_check.specs.Tables.{AreRooms, face_part, first_with, is_by, least_with, place_of};
+ghost use Rattle.tp_trees.specs.Rows.{state_of};
 
 use std::alloc::{AllocError, Global};
 use tp_base::Memory;

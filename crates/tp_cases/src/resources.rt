@@ -2,7 +2,7 @@
 
 ghost use Rattle.std.specs.Prelude.{◌≡◌, ◌<◌, IfOk, length};
 ghost use Rattle.tp_cases.specs.Kept.{IsDrawn};
-ghost use Rattle.tp_cases.specs.Machines.{engine_resource, resource, resources};
+ghost use Rattle.tp_cases.specs.Machines.{resource, resources};
 
 use crate::engine::Engine;
 use crate::naming::{name_of, numbered};

@@ -1,7 +1,6 @@
 //! The bars of a picture.
-ghost use Rattle.std.specs.Prelude.{◌≡◌, ◌++◌, ℕ, List, map, flat_map, find, OnOk, IfOk, option_map};
-ghost use Rattle.std.specs.Str.{bytes_eq};
-ghost use Rattle.tp_chart.specs.Bars.{action_bar, action_bars, action_named, bars_from, hold_bar, hold_bars, hold_bars_in, holds_named, runs_of, way_bars};
+ghost use Rattle.std.specs.Prelude.{◌≡◌, ◌++◌, ℕ, map, flat_map, find, OnOk, IfOk, option_map};
+ghost use Rattle.tp_chart.specs.Bars.{action_bar, action_named, bars_from, hold_bar, hold_bars_in, holds_named, runs_of, way_bars};
 
 use crate::course::Course;
 use crate::runs::{Run, runs_of};

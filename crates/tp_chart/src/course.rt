@@ -1,6 +1,6 @@
 //! The way of a copy in time, as a log tells it.
-ghost use Rattle.std.specs.Prelude.{◌≡◌, ◌≤◌, ℕ, List, count_by, nat_le, min, length, vec_len, IfOk, OnOk};
-ghost use Rattle.tp_chart.specs.Courses.{fresh, is_same_copy, kept_count, tell_course, cut_course, joined};
+ghost use Rattle.std.specs.Prelude.{◌≡◌, ◌≤◌, ℕ, count_by, nat_le, min, IfOk, OnOk};
+ghost use Rattle.tp_chart.specs.Courses.{fresh, is_same_copy, tell_course, cut_course, joined};
 
 use std::alloc::Global;
 use std::marker::Model;

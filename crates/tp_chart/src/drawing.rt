@@ -1,5 +1,5 @@
 //! A picture as a text.
-ghost use Rattle.std.specs.Prelude.{◌≡◌, IfOk, OnOk};
+ghost use Rattle.std.specs.Prelude.{◌≡◌, IfOk};
 ghost use Rattle.tp_chart.specs.Pictures.{Draws};
 
 use crate::bars::Bar;

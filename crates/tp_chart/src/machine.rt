@@ -1,7 +1,7 @@
 //! The machine that the shelf has under a name.
-ghost use Rattle.std.specs.Prelude.{◌≡◌, ◌≢◌, ◌⊎◌, ℕ, IfOk, IfErr, IfSome, IsSome, IsTrue};
+ghost use Rattle.std.specs.Prelude.{◌≡◌, ◌≢◌, ◌⊎◌, ℕ, IfOk, IfErr, IsTrue};
 ghost use Rattle.tp_machine_text.specs.Texts.{IsBrokenAt, IsMachineText, IsNotToml};
-ghost use Rattle.tp_outside.specs.Outside.{Rises, file_at};
+ghost use Rattle.tp_outside.specs.Outside.{Rises};
 ghost use Rattle.tp_chart.specs.Runs.{IsLongText, IsShelved, is_of_machine};
 
 use crate::status::{Long, Status};

@@ -1,5 +1,5 @@
 //! The text of a bar.
-ghost use Rattle.std.specs.Prelude.{◌≡◌, ◌++◌, flat_map, OnOk, IfOk, decimal};
+ghost use Rattle.std.specs.Prelude.{◌≡◌, ◌++◌, flat_map, OnOk, decimal};
 ghost use Rattle.std.specs.Fmt.{signed_decimal};
 ghost use Rattle.tp_chart.specs.Pictures.{bar_text, colour_of, cross_text, end_text, kind_of, names_text, shape_text, start_text, ticks_text};
 

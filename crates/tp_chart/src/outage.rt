@@ -1,6 +1,5 @@
 //! The modules that are out, and from when to when.
 ghost use Rattle.std.specs.Prelude.{◌≡◌, map, IfOk};
-ghost use Rattle.std.specs.List.{list_any};
 ghost use Rattle.tp_chart.specs.Scenes.{ended, is_out, is_out_in};
 
 use std::alloc::{AllocError, Global};

@@ -1,7 +1,7 @@
 //! The schedule that a log tells up to a moment.
-ghost use Rattle.std.specs.Prelude.{◌≡◌, ◌≤◌, IfOk, OnOk, position, filter, not, List};
-ghost use Rattle.tp_chart.specs.Courses.{Way, fresh, is_same_copy, joined, tell_course};
-ghost use Rattle.tp_chart.specs.Scenes.{back_by, begun, changed, comes_back, goes_out, is_past, moved_to, moves_past, nothing, out_by, place_of_module, planned, sight_from, sight_of, tell, tell_event, tell_record, with_changed, with_plan, without};
+ghost use Rattle.std.specs.Prelude.{◌≡◌, ◌≤◌, IfOk, OnOk, position};
+ghost use Rattle.tp_chart.specs.Courses.{fresh, is_same_copy, joined, tell_course};
+ghost use Rattle.tp_chart.specs.Scenes.{changed, comes_back, goes_out, is_past, moves_past, nothing, planned, sight_of, tell, tell_event, tell_record, with_changed, without};
 ghost use Rattle.tp_schedule.specs.declared.records.Record.TheVariants.{Plan};
 
 use crate::course::{Course, is_same_copy};

@@ -1,6 +1,6 @@
 //! What the library of command lines makes of the words.
 
-ghost use Rattle.std.specs.Prelude.{◌≡◌, IfOk, IfErr, [], Some, None, map, option_map, string_bytes};
+ghost use Rattle.std.specs.Prelude.{◌≡◌, IfOk, IfErr, [], map, option_map, string_bytes};
 ghost use Rattle.clap.specs.Words.{app_of, found_of, fault_of, matches_of, rows_of};
 ghost use Rattle.tp_command.specs.App.{printer, values_in};
 

@@ -1,10 +1,10 @@
 //! The ENDs of a rack and their locations, and the rules 8 to 10, which name ENDs.
-ghost use Rattle.std.specs.Prelude.{◌≡◌, ◌++◌, ◌∷◌, [], IfOk, OnOk, map, option_map, string_bytes, codes};
+ghost use Rattle.std.specs.Prelude.{◌≡◌, ◌++◌, ◌∷◌, [], IfOk, OnOk, map, option_map, string_bytes};
 ghost use Rattle.std.specs.List.{list_all, flat_map};
 ghost use Rattle.std.specs.BTreeMap.{keys};
-ghost use Rattle.toml.specs.Data.{string, get_member, get, no_members};
+ghost use Rattle.toml.specs.Data.{string, get_member, get};
 ghost use Rattle.toml.specs.View.{table_view, view};
-ghost use Rattle.tp_machine_text.specs.Words.{text_of, elements, elements_at, elements_in, keys_of, members_of, is_there, is_fit};
+ghost use Rattle.tp_machine_text.specs.Words.{text_of, elements_in, keys_of, members_of};
 ghost use Rattle.tp_machine_text.specs.Order.{first_from};
 ghost use Rattle.tp_compose.specs.Racks.{joins, entries, type_in, typed, dotted, hyphened, part_ends, put_all, own_names, join_entry, join_entries, first_ends, first_in, location_by};
 ghost use Rattle.tp_compose.specs.EndRules.{is_end_text, is_end as is_end_data, are_two_ends, is_join as is_join_data, joined, has_joins, has_trays, has_purges, has_feeders, has_ends, has_feeders_apart, end_rules};

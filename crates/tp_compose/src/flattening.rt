@@ -1,12 +1,12 @@
 //! The table of a machine text that a rack comes to.
-ghost use Rattle.std.specs.Prelude.{◌≡◌, ◌++◌, ◌∷◌, [], pos, IfOk, OnOk, map, option_map, string_bytes, codes};
+ghost use Rattle.std.specs.Prelude.{◌≡◌, ◌++◌, ◌∷◌, [], IfOk, OnOk, map, option_map, codes};
 ghost use Rattle.std.specs.List.{flat_map};
-ghost use Rattle.toml.specs.Data.{string, integer, array, table as table_data, as_table, get, get_member, no_members};
+ghost use Rattle.toml.specs.Data.{string, array, table as table_data, as_table, get_member};
 ghost use Rattle.toml.specs.View.{table_view, view, items_of};
 ghost use Rattle.tp_machine_text.specs.Printed.{put_member, texts_data};
-ghost use Rattle.tp_machine_text.specs.Words.{text_of, elements_in, keys_of, members_of};
-ghost use Rattle.tp_compose.specs.Racks.{parts, entries, typed, typed_parts, dotted, hyphened, put_all, location_by, own_names, first_ends};
-ghost use Rattle.tp_compose.specs.Flat.{put_found, locations, port_location, part_locations, end_locations, placed_feeders, feeder_table, part_resources, resource_table, flat_hold, put_holds, flat_action, part_actions, actions, flat_parts, flat_by};
+ghost use Rattle.tp_machine_text.specs.Words.{text_of, keys_of, members_of};
+ghost use Rattle.tp_compose.specs.Racks.{parts, entries, typed, dotted, hyphened, put_all, location_by};
+ghost use Rattle.tp_compose.specs.Flat.{put_found, locations, port_location, part_locations, end_locations, placed_feeders, feeder_table, part_resources, resource_table, flat_hold, put_holds, flat_action, part_actions, actions, flat_by};
 
 use crate::ends::{dotted, hyphened, kind_values, location_by};
 use std::alloc::Global;

@@ -1,13 +1,13 @@
 //! The rules 1 to 7: keys, format, types and parts.
-ghost use Rattle.std.specs.Prelude.{◌≡◌, map, option_map, string_bytes, length, codes};
+ghost use Rattle.std.specs.Prelude.{◌≡◌, map, option_map, string_bytes, codes};
 ghost use Rattle.std.specs.List.{list_all};
 ghost use Rattle.std.specs.BTreeMap.{keys, values};
 ghost use Rattle.toml.specs.Data.{get};
 ghost use Rattle.toml.specs.View.{table_view, view};
 ghost use Rattle.tp_machine_text.specs.ActionRules.{are_keys_among};
-ghost use Rattle.tp_machine_text.specs.Words.{text_of, is_among as is_text_among, is_one_of as is_text_of, is_there, is_array as is_array_data, keys_of, data_of, members_of, elements_in};
+ghost use Rattle.tp_machine_text.specs.Words.{text_of, is_among as is_text_among, is_one_of as is_text_of, is_there, is_array as is_array_data, keys_of, data_of, members_of};
 ghost use Rattle.tp_machine_text.specs.Order.{first_from};
-ghost use Rattle.tp_compose.specs.Racks.{rack_keys, type_keys, types, ports, type_resources, type_actions};
+ghost use Rattle.tp_compose.specs.Racks.{rack_keys, type_keys, types, ports};
 ghost use Rattle.tp_compose.specs.TypeRules.{is_short_byte, is_short_text, is_short as is_short_data, has_known_keys, has_format, is_type, has_types, are_shorts, has_ports, have_ports, is_deed, has_deeds, have_deeds, is_grip, has_grips, has_all_grips, have_grips, has_parts, type_rules};
 
 use toml::{Table, Value};

@@ -5,7 +5,6 @@ ghost use Rattle.tp_farm.specs.Farms.{AnswersLine};
 ghost use Rattle.tp_farm.specs.Inside.{state_of};
 ghost use Rattle.tp_farm.specs.Scripts.{IsStopped, IsTaken};
 ghost use Rattle.tp_outside.specs.Outside.{Rises, IsCounted};
-ghost use Rattle.tp_stream.specs.Scripts.{NoRefusal};
 ghost use Rattle.tp_stream.specs.declared.stop.Stop.{Stop};
 ghost use Rattle.tp_teller.specs.Tellers.{most_events};
 

@@ -1,5 +1,5 @@
 //! The copies that a new job puts into its line.
-ghost use Rattle.std.specs.Prelude.{◌≡◌, ◌+◌, ◌<◌, ◌^◌, ◌++◌, length, replicate, vec_len, IfOk, OnOk};
+ghost use Rattle.std.specs.Prelude.{◌≡◌, ◌+◌, ◌<◌, ◌^◌, ◌++◌, replicate, vec_len, IfOk, OnOk};
 ghost use Rattle.tp_jobs.specs.Refusing.{sheet_count};
 ghost use Rattle.tp_jobs.specs.Waiting.{first_copies, sheets_of};
 

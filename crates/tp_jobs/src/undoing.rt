@@ -1,5 +1,5 @@
 //! What changes of the lines, and how it is taken back.
-ghost use Rattle.std.specs.Prelude.{ℕ, ◌≡◌, ◌+◌, ◌<◌, ◌≤◌, length, take, vec_len, vec_capacity, OnOk, OnErr};
+ghost use Rattle.std.specs.Prelude.{ℕ, ◌≡◌, ◌+◌, ◌<◌, ◌≤◌, length, vec_len, vec_capacity, OnOk, OnErr};
 ghost use Rattle.tp_jobs.specs.Backlogs.{mark_broken};
 ghost use Rattle.tp_jobs.specs.Keeping.{jobs_then, mark_all_whole, whole_count};
 

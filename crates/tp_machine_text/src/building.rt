@@ -1,12 +1,10 @@
 //! Numbers and names, taken from a table that keeps the rules.
-ghost use Rattle.std.specs.Prelude.{◌≡◌, ◌≤◌, ◌<◌, ◌++◌, ◌∷◌, [], false, OnOk, IsTrue, IfOk, length, map, option_map, string_bytes, pos};
-ghost use Rattle.std.specs.List.{list_all};
+ghost use Rattle.std.specs.Prelude.{◌≡◌, ◌≤◌, ◌<◌, ◌++◌, ◌∷◌, [], false, OnOk, IsTrue, IfOk, length, map, pos};
 ghost use Rattle.toml.specs.Data.{get_member};
 ghost use Rattle.toml.specs.View.{table_view, view};
 ghost use Rattle.tp_base.specs.NameText.{is_name_text};
 ghost use Rattle.tp_machine.specs.Limits.{most_budget, most_locations, most_modules};
-ghost use Rattle.tp_machine.specs.Rules.{do_names_rise};
-ghost use Rattle.tp_machine_text.specs.Words.{text_of, keys_of, data_of, is_fit, is_whole, is_among, is_name, are_names, are_from, are_different};
+ghost use Rattle.tp_machine_text.specs.Words.{text_of, is_fit, is_whole, is_among, is_name, are_names};
 ghost use Rattle.tp_machine_text.specs.TheMachine.{place_in, loc_of, module_of, number_or};
 
 use crate::looking::{text_of, value_at, whole_of};

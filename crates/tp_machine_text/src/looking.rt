@@ -1,12 +1,12 @@
 //! Looking into a table of TOML: its values, and whether they are of a kind.
-ghost use Rattle.std.specs.Prelude.{◌≡◌, ℤ, map, option_map, string_bytes, length, nat_le};
+ghost use Rattle.std.specs.Prelude.{◌≡◌, ℤ, map, option_map, string_bytes};
 ghost use Rattle.std.specs.List.{list_all, list_any};
 ghost use Rattle.std.specs.Str.{bytes_eq};
 ghost use Rattle.toml.specs.Data.{get_member, get};
 ghost use Rattle.toml.specs.View.{table_view, view};
 ghost use Rattle.tp_base.specs.NameText.{is_name_text};
 ghost use Rattle.std.specs.BTreeMap.{keys};
-ghost use Rattle.tp_machine_text.specs.Words.{elements_in, table_in, is_fit, text_at, whole_of, whole_at, keys_of, members_of, elements, elements_at, members_at, text_of, is_array, is_table, is_truth_value, is_whole, is_name, is_among, is_one_of, are_different, is_count, are_names, are_from};
+ghost use Rattle.tp_machine_text.specs.Words.{elements_in, table_in, is_fit, text_at, whole_of, whole_at, keys_of, members_of, elements, elements_at, text_of, is_array, is_table, is_whole, is_name, is_among, is_one_of, are_different, are_names, are_from};
 
 use toml::{Table, Value};
 use tp_base::Name;

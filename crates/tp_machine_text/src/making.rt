@@ -1,5 +1,5 @@
 //! Tables of TOML, put together key by key.
-ghost use Rattle.std.specs.Prelude.{◌≡◌, ◌<◌, ◌≤◌, pos, true, IsTrue, IfOk, OnOk, length, nat_lt};
+ghost use Rattle.std.specs.Prelude.{◌≡◌, ◌<◌, ◌≤◌, pos, true, IfOk, OnOk, length, nat_lt};
 ghost use Rattle.std.specs.List.{list_all};
 ghost use Rattle.toml.specs.Data.{string, integer};
 ghost use Rattle.toml.specs.View.{table_view, view};

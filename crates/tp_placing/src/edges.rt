@@ -1,9 +1,7 @@
 //! The edges between two holds, and between ends in a line.
 ghost use Rattle.std.specs.Prelude.{◌≡◌, ◌+◌, ◌<◌, ◌+ℤ◌, ◌-ℤ◌, pos, min};
-ghost use Rattle.tp_machine.specs.Machines.{IsOffset};
 ghost use Rattle.tp_machine.specs.Modes.{gap_between};
-ghost use Rattle.tp_placing.specs.Edges.{anchor_point, duration_edges, edge_of, hold_edge, edge_after, edge_until};
-ghost use Rattle.tp_placing.specs.Standing.{HasSmallOffsets};
+ghost use Rattle.tp_placing.specs.Edges.{anchor_point, duration_edges, edge_of, hold_edge};
 
 use crate::causes::{BACK, FORWARD};
 use crate::parts::Held;

@@ -1,5 +1,5 @@
 //! Which point of the network a point of a plan is.
-ghost use Rattle.std.specs.Prelude.{◌≡◌, ◌^◌, ◌<◌, ◌≤◌, AllPairs, length, position, slice_get, Some, IfSome, IsSomeAnd};
+ghost use Rattle.std.specs.Prelude.{◌≡◌, ◌^◌, ◌<◌, ◌≤◌, AllPairs, length, slice_get, Some, IsSomeAnd};
 ghost use Rattle.tp_schedule.specs.Plans.{IsEarlier, plan_of};
 ghost use Rattle.tp_schedule.specs.Spots.Spot.{kept};
 ghost use Rattle.tp_constraints.specs.Numbers.{table_of};

@@ -1,5 +1,5 @@
 //! The holds of a plan that is added behind the others, as they are put into the orders of their resources.
-ghost use Rattle.std.specs.Prelude.{◌≡◌, ℕ, ◌+◌, ◌*◌, ◌-◌, ◌<◌, ◌≤◌, ◌^◌, ◌++◌, List, [], drop, insert, length, map, slice_get, slice_set, All, Some, vec_len, vec_capacity};
+ghost use Rattle.std.specs.Prelude.{◌≡◌, ℕ, ◌+◌, ◌*◌, ◌-◌, ◌<◌, ◌≤◌, ◌^◌, ◌++◌, List, [], drop, insert, length, map, slice_set, All, Some, vec_len, vec_capacity};
 ghost use Rattle.tp_base.specs.declared.edges.Edge.{Edge};
 ghost use Rattle.tp_schedule.specs.Spots.{Slot};
 ghost use Rattle.tp_constraints.specs.Numbers.{table_of};
@@ -11,7 +11,6 @@ ghost use Rattle.tp_placing.specs.Loading.{AreIds, HasPoints, firsts_from};
 ghost use Rattle.tp_placing.specs.LoadedHolds.{IsHeldWithin, IsRuleOf, ticks_in};
 ghost use Rattle.tp_placing.specs.Standing.{AreSlots, HasSmallOffsets};
 ghost use Rattle.tp_placing.specs.declared.causes.Cause.{Cause as CauseValue};
-ghost use Rattle.tp_placing.specs.declared.parts.Held.{Held as HeldValue};
 
 use crate::causes::{Cause, Causes, between};
 use crate::edges::following;

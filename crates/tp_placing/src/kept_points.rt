@@ -1,9 +1,9 @@
 //! The points of a schedule that is loaded, with their bounds.
-ghost use Rattle.std.specs.Prelude.{◌≡◌, ◌+◌, ◌<◌, ◌≤◌, ◌^◌, ◌++◌, Bool, false, length, All, vec_len, vec_capacity};
+ghost use Rattle.std.specs.Prelude.{◌≡◌, ◌+◌, ◌<◌, ◌≤◌, ◌^◌, ◌++◌, false, length, All, vec_len, vec_capacity};
 ghost use Rattle.tp_base.specs.Readings.{IsSameSize};
 ghost use Rattle.tp_base.specs.Net.{HasLeast};
 ghost use Rattle.tp_schedule.specs.Plans.{IsFormed, is_fixed};
-ghost use Rattle.tp_constraints.specs.Gaps.{cap_of, is_unreleased, low_of};
+ghost use Rattle.tp_constraints.specs.Gaps.{cap_of, low_of};
 ghost use Rattle.tp_placing.specs.Loading.{HasBounds, caps_of, firsts_from, lows_of, point_count, with_bounds, with_plans};
 
 use tp_base::{Network, PointId, Tick};

@@ -1,5 +1,5 @@
 //! A board that lives on from ask to ask: it follows the schedule where it can, and is loaded afresh elsewhere.
-ghost use Rattle.std.specs.Prelude.{◌≡◌, ◌≤◌, [], filter, length, true, IsSomeAnd, Some};
+ghost use Rattle.std.specs.Prelude.{◌≡◌, ◌≤◌, [], filter, true, IsSomeAnd, Some};
 ghost use Rattle.tp_schedule.specs.Living.{is_live};
 ghost use Rattle.tp_schedule.specs.Planning.{CanAsk};
 ghost use Rattle.tp_placing.specs.Boards.{past_of};

@@ -4,7 +4,7 @@ use crate::parts::BoardMark;
 use tp_base::{Mark, Network, Undo};
 
 impl<N: Network> Undo for Board<N> {
-    ghost use Rattle.std.specs.Prelude.{ℕ, List, ◌-◌};
+    ghost use Rattle.std.specs.Prelude.{ℕ, ◌-◌};
     ghost use Rattle.tp_placing.specs.Boards.{BoardContent, BoardUntouched, content_of, untouched_of, past_of};
 
     ghost Content = { BoardContent };

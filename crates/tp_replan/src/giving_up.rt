@@ -9,7 +9,6 @@ ghost use Rattle.tp_turn.specs.Labels.{last_of};
 ghost use Rattle.tp_turn.specs.LiveStates.{seen};
 ghost use Rattle.tp_turn.specs.Loops.{gets_stuck, gives_tray_up, module_in, not_planned};
 ghost use Rattle.tp_turn.specs.Moments.{is_to_tray};
-ghost use Rattle.tp_turn.specs.Seen.{HasNextCopy};
 ghost use Rattle.tp_replan.specs.Meanings.{Leads};
 ghost use Rattle.tp_replan.specs.Open.{CanFall};
 ghost use Rattle.tp_replan.specs.Outing.{CanGiveUp};

@@ -1,6 +1,6 @@
 //! Actions of a planned copy that are released at once.
 
-ghost use Rattle.std.specs.Prelude.{◌≡◌, ◌<◌, ◌++◌, length, map, slice_get, All, IfOk, IsSome};
+ghost use Rattle.std.specs.Prelude.{◌≡◌, ◌<◌, ◌++◌, length, slice_get, IfOk, IsSome};
 ghost use Rattle.std.specs.Prelude.{IsSomeAnd, OnOk};
 ghost use Rattle.tp_schedule.specs.Plans.{IsTimedPlan, change_plan, plan_of};
 ghost use Rattle.tp_turn.specs.LiveStates.{seen};

@@ -1,13 +1,11 @@
 //! The rooms, found state by state from the start states on.
-ghost use Rattle.std.specs.Prelude.{◌≡◌, ℕ, ◌+◌, ◌*◌, ◌<◌, ◌≤◌, [], Some, None, IsTrue, IfSome, length, vec_capacity};
+ghost use Rattle.std.specs.Prelude.{◌≡◌, ℕ, ◌+◌, ◌*◌, ◌<◌, ◌≤◌, [], Some, length, vec_capacity};
 ghost use Rattle.tp_machine.specs.Limits.{longest};
-ghost use Rattle.tp_machine.specs.Using.{action_at};
-ghost use Rattle.tp_schedule.specs.Routes.{IsStart, is_act_allowed};
 ghost use Rattle.tp_routes.specs.Index.{IsIndexOf};
 ghost use Rattle.tp_routes.specs.declared.index.End.TheVariants.{From};
 ghost use Rattle.tp_routes.specs.Numbers.{number_of, state_at};
-ghost use Rattle.tp_routes.specs.Tables.{sum_at, IsKnownOrigin};
-ghost use Rattle.tp_routes.specs.Filling.{IsFilling, IsSpreadTo, IsStepIn, IsSum, HasAtMost, Lowers, filled, left_to_fill};
+ghost use Rattle.tp_routes.specs.Tables.{sum_at};
+ghost use Rattle.tp_routes.specs.Filling.{IsFilling, IsSpreadTo, IsSum, HasAtMost, Lowers, filled, left_to_fill};
 
 use crate::index::ActionIndex;
 use crate::numbering::{number_of, state_at};

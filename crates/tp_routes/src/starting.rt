@@ -1,8 +1,8 @@
 //! The start states of an ask.
-ghost use Rattle.std.specs.Prelude.{◌≡◌, ℕ, ◌*◌, ◌<◌, ◌≤◌, None, length, replicate, vec_capacity, [], slice_get, Some, ◌↔◌, IsTrue, IsFalse};
+ghost use Rattle.std.specs.Prelude.{◌≡◌, ℕ, ◌*◌, ◌<◌, ◌≤◌, None, length, replicate, vec_capacity, [], ◌↔◌, IsTrue, IsFalse};
 ghost use Rattle.tp_schedule.specs.LocationSets.{has};
 ghost use Rattle.tp_routes.specs.Tables.{IsKnownOrigin};
-ghost use Rattle.tp_routes.specs.Filling.{IsFilling, IsSpreadTo, StartsAreIn, StartsUpTo};
+ghost use Rattle.tp_routes.specs.Filling.{IsFilling, IsSpreadTo, StartsAreIn};
 
 use crate::filling::offer;
 use tp_machine::{Feeder, Machine};

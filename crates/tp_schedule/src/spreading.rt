@@ -1,8 +1,7 @@
 //! Outages that spread: which modes a resource is held in over a stretch of time.
 ghost use Rattle.std.specs.Prelude.{◌≡◌, ℕ, ◌↔◌, IsTrue};
-ghost use Rattle.tp_machine.specs.Using.{action_at};
 ghost use Rattle.tp_schedule.specs.declared.parts.SheetId.{SheetId};
-ghost use Rattle.tp_schedule.specs.Holding.{holds_of_act, runs_from};
+ghost use Rattle.tp_schedule.specs.Holding.{runs_from};
 ghost use Rattle.tp_schedule.specs.Legality.{IsSpreadAt};
 ghost use Rattle.tp_schedule.specs.Spreading.{first_of, is_held_within, is_passed, mode_within, mode_of_run, mode_of_plan};
 

@@ -1,6 +1,5 @@
 //! The start states of an ask.
 ghost use Rattle.std.specs.Prelude.{◌≡◌, ◌↔◌, Any, IsTrue, not};
-ghost use Rattle.std.specs.List.{list_any};
 ghost use Rattle.tp_schedule.specs.LocationSets.{has};
 ghost use Rattle.tp_schedule.specs.Routes.{IsStart, fresh};
 

@@ -1,8 +1,7 @@
 //! Lines as events.
-ghost use Rattle.std.specs.Prelude.{◌≡◌, ◌↔◌, ◌≤◌, ◌+◌, ◌<◌, ◌^◌, ◌++◌, ℕ, IsTrue, IsNone, IsErrOf, IfOk, IfSome, OnOk, length, option_map, Ok, None, Some};
+ghost use Rattle.std.specs.Prelude.{◌≡◌, ◌↔◌, ◌≤◌, ◌+◌, ◌<◌, ◌^◌, ◌++◌, ℕ, length, Ok, None, Some};
 ghost use Rattle.tp_words.specs.Parts.{shown};
 ghost use Rattle.tp_script.specs.Script.{is_passed, bare, ends_with_byte, words_of_line, Reads};
-ghost use Rattle.tp_words.specs.Fields.{name_of};
 ghost use Rattle.tp_script.specs.Reading.{Gives, groups_of, one_name, number_of, after_clock, after_refill, job_of, after_job, event_after, event_of};
 
 use crate::event::{Event, Group};

@@ -1,5 +1,5 @@
 //! A best-first search: lists are opened by rising bound, until a complete one has the least bound of all that wait.
-ghost use Rattle.std.specs.Prelude.{ℕ, ◌≡◌, ◌<◌, ◌≤◌, length, vec_capacity, None, Some, IfNone, IfSome, IsFalse, IsTrue};
+ghost use Rattle.std.specs.Prelude.{ℕ, ◌≡◌, ◌<◌, ◌≤◌, length, None, Some, IfSome, IsFalse, IsTrue};
 ghost use Rattle.tp_machine.specs.declared.machine.Machine.{Machine};
 ghost use Rattle.tp_pool.specs.Entries.{bound_of, choices_before};
 ghost use Rattle.tp_placing.specs.Boards.{BoardValue};

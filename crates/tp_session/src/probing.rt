@@ -1,6 +1,6 @@
 //! What an ask for the first sheet of a job would give, in the state as it stands.
 
-ghost use Rattle.std.specs.Prelude.{◌≡◌, ◌<◌, ◌^◌, ℕ, length, slice_get, Some, IfErr, IfOk, IsTrue};
+ghost use Rattle.std.specs.Prelude.{◌≡◌, ◌<◌, ◌^◌, ℕ, length, slice_get, Some, IfErr, IfOk};
 ghost use Rattle.tp_jobs.specs.Waiting.{sheets_of};
 ghost use Rattle.tp_schedule.specs.Planning.{CanAsk};
 ghost use Rattle.tp_schedule.specs.declared.parts.Goal.TheVariants.{Tray};

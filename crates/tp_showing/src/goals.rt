@@ -1,6 +1,5 @@
 //! The goal states of an ask, in the order of a tree.
-ghost use Rattle.std.specs.Prelude.{◌≡◌, ◌++◌, ◌∷◌, [], length, filter, IfOk, OnOk, if◌then◌else◌};
-ghost use Rattle.std.specs.List.{list_any};
+ghost use Rattle.std.specs.Prelude.{◌≡◌, ◌++◌, ◌∷◌, [], filter, IfOk, OnOk, if◌then◌else◌};
 ghost use Rattle.tp_schedule.specs.Routes.{is_wanted};
 ghost use Rattle.tp_schedule.specs.declared.parts.Goal.TheVariants.{Purge};
 ghost use Rattle.tp_trees.specs.Places.{goal_states, is_done_wanted, is_purge, states_at};

@@ -1,7 +1,6 @@
 //! The edges of a reason as hops of a tree.
-ghost use Rattle.std.specs.Prelude.{◌≡◌, ◌+◌, ◌<◌, ◌++◌, All, IfNone, IfSome, OnOk, OnErr, Some, length, option_map, slice_get};
+ghost use Rattle.std.specs.Prelude.{◌≡◌, ◌+◌, ◌<◌, ◌++◌, All, IfNone, IfSome, OnOk, Some, length};
 ghost use Rattle.tp_machine.specs.declared.machine.Machine.{Machine};
-ghost use Rattle.tp_placing.specs.Causes.{kind_of, named_point};
 ghost use Rattle.tp_placing.specs.Standing.{Stands};
 ghost use Rattle.tp_showing.specs.Tellings.{IsFirstUntold, IsKnownWhy, IsNameOf, IsTellable, IsTold, hold_by, tell, told_until, told_why};
 

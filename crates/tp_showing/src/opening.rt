@@ -1,6 +1,5 @@
 //! Goals and actions that are opened on a board.
-ghost use Rattle.std.specs.Prelude.{◌≡◌, ◌+◌, ◌<◌, ◌≤◌, [], ◌∷◌, ◌++◌, None, Option, IfErr, IfOk, IfSome, OnOk, Some, length, pos, if◌then◌else◌};
-ghost use Rattle.tp_bounds.specs.declared.tree.TreeRow.{TreeRow};
+ghost use Rattle.std.specs.Prelude.{◌≡◌, ◌+◌, ◌<◌, ◌≤◌, [], ◌∷◌, ◌++◌, None, Option, IfErr, IfOk, IfSome, Some, length, pos, if◌then◌else◌};
 ghost use Rattle.tp_constraints.specs.Suffixes.{Suffix};
 ghost use Rattle.tp_machine.specs.Using.{action_at};
 ghost use Rattle.tp_placing.specs.Boards.{suffix_of};
@@ -10,7 +9,7 @@ ghost use Rattle.tp_schedule.specs.Limits.{most_acts};
 ghost use Rattle.tp_schedule.specs.Plans.{AreNamed};
 ghost use Rattle.tp_schedule.specs.Routes.{IsGoalState, is_act_allowed};
 ghost use Rattle.tp_showing.specs.Closes.{IsLimit};
-ghost use Rattle.tp_showing.specs.Showing.{Carries, IsEarlyEnd, IsEntered, IsGoalEntered, IsSet, IsSince, Shows, branch_by, hold_of};
+ghost use Rattle.tp_showing.specs.Showing.{Carries, IsEarlyEnd, IsEntered, IsGoalEntered, IsSet, IsSince, branch_by, hold_of};
 ghost use Rattle.tp_trees.specs.Places.{action_due, state_before};
 
 use crate::putting::{put_carried, put_dead, put_late};

@@ -1,18 +1,15 @@
 //! Nodes of a tree, each where a branch is due.
-ghost use Rattle.std.specs.Prelude.{◌≡◌, ◌&&◌, false, ◌≤◌, ◌<◌, ◌∷◌, ◌++◌, [], None, Some, true, IfErr, IfNone, IfOk, IfSome, OnOk, List, length, pos, MatchOption};
+ghost use Rattle.std.specs.Prelude.{◌≡◌, ◌&&◌, false, ◌≤◌, ◌<◌, ◌∷◌, ◌++◌, [], None, Some, true, IfErr, IfOk, IfSome, OnOk, length, pos, MatchOption};
 ghost use Rattle.tp_bounds.specs.declared.tree.Close.TheVariants.{Dead};
-ghost use Rattle.tp_bounds.specs.declared.tree.TreeRow.{TreeRow};
 ghost use Rattle.tp_constraints.specs.Suffixes.{IsInFlight, Suffix, with_stop};
 ghost use Rattle.tp_machine.specs.declared.parts.ActId.{ActId};
-ghost use Rattle.tp_placing.specs.Boards.{content_of, suffix_of};
-ghost use Rattle.tp_placing.specs.Standing.{Stands};
+ghost use Rattle.tp_placing.specs.Boards.{content_of};
 ghost use Rattle.tp_schedule.specs.Plans.{AreNamed};
 ghost use Rattle.tp_showing.specs.Closes.{IsEndRefused, IsLimit, IsRefused, IsStopRefused};
 ghost use Rattle.tp_showing.specs.Showing.{Carries, IsEarly, IsEarlyEnd, IsSet, IsSince, PutsNode, branch_by, hold_of, kids_of};
 ghost use Rattle.tp_trees.specs.Places as places;
 ghost use Rattle.tp_trees.specs.Places.{is_begun};
-ghost use Rattle.tp_trees.specs.Trees.{may_be_dead};
-ghost use Rattle.tp_trees.specs.Rows.{is_same_state, row_of};
+ghost use Rattle.tp_trees.specs.Rows.{is_same_state};
 ghost use Rattle.tp_schedule.specs.Routes.{fresh};
 ghost use Rattle.std.specs.List.{list_any};
 ghost use Rattle.std.specs.Str.{bytes_eq};

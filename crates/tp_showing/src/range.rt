@@ -1,6 +1,5 @@
 //! The places of a hold that one node closes.
 ghost use Rattle.std.specs.Prelude.{◌≡◌, ℕ, ◌≤◌, ◌+◌, ◌<◌, AllPairs, List, OnOk, IfErr, IfOk, IfSome, Some, length, pos};
-ghost use Rattle.tp_bounds.specs.declared.tree.TreeRow.{TreeRow};
 ghost use Rattle.tp_constraints.specs.Suffixes.{Suffix, order_in, with_place};
 ghost use Rattle.tp_schedule.specs.Plans.{IsEarlier};
 ghost use Rattle.tp_schedule.specs.declared.parts.Plan.{Plan};

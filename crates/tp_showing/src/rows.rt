@@ -2,7 +2,7 @@
 ghost use Rattle.std.specs.Prelude.{◌≡◌, ◌+◌, ◌*◌, ◌<◌, ◌++◌, IfOk, OnOk, length};
 ghost use Rattle.tp_routes.specs.Tables.{AreRooms, IsKnownOrigin, IsMadeFor, sum_at};
 ghost use Rattle.tp_schedule.specs.declared.parts.Ask.{Ask};
-ghost use Rattle.tp_showing.specs.RoomRows.{HasRooms, named, row_by, rows_below};
+ghost use Rattle.tp_showing.specs.RoomRows.{HasRooms, named, row_by};
 ghost use Rattle.tp_trees.specs.Rows.{AreRoomRows};
 
 use std::alloc::Global;

@@ -1,10 +1,8 @@
 //! A walk through the branches below one, each of which is tried on a board and taken back.
-ghost use Rattle.std.specs.Prelude.{◌≡◌, ◌+◌, ◌<◌, ◌≤◌, [], ◌∷◌, All, Some, None, IfErr, IfOk, OnOk, length, pos};
-ghost use Rattle.tp_bounds.specs.declared.tree.TreeRow.{TreeRow};
+ghost use Rattle.std.specs.Prelude.{◌≡◌, ◌+◌, ◌<◌, ◌≤◌, [], ◌∷◌, Some, None, IfErr, OnOk, pos};
 ghost use Rattle.tp_constraints.specs.Suffixes.{Suffix};
 ghost use Rattle.tp_placing.specs.Boards.{suffix_of};
 ghost use Rattle.tp_routes.specs.Tables.{AreRooms, IsMadeFor};
-ghost use Rattle.tp_schedule.specs.Answers.{kept_of};
 ghost use Rattle.tp_schedule.specs.Plans.{AreNamed};
 ghost use Rattle.tp_showing.specs.Closes.{IsLimit};
 ghost use Rattle.tp_showing.specs.Showing.{Carries, HasMarks, IsBack, IsEarly, IsEarlyEnd, IsOpen, IsSet, Shows, below, branch_by, kids_of};

@@ -1,6 +1,5 @@
 //! The ways that go on from a branch, each gone by its number.
-ghost use Rattle.std.specs.Prelude.{◌≡◌, ◌<◌, ◌≤◌, suc, None, IfErr, IfOk, Some, length, pos};
-ghost use Rattle.tp_bounds.specs.declared.tree.TreeRow.{TreeRow};
+ghost use Rattle.std.specs.Prelude.{◌≡◌, ◌<◌, ◌≤◌, suc, None, IfErr, IfOk, Some, pos};
 ghost use Rattle.tp_constraints.specs.Suffixes.{Suffix};
 ghost use Rattle.tp_placing.specs.Boards.{suffix_of};
 ghost use Rattle.tp_routes.specs.Tables.{AreRooms, IsMadeFor};

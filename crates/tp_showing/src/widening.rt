@@ -1,8 +1,7 @@
 //! Places of a hold that one node closes: as many as its reason serves for.
 ghost use Rattle.std.specs.Prelude.{◌≡◌, ◌<◌, ◌≤◌, IfErr, IfOk, IfSome, Some, length, pos};
-ghost use Rattle.tp_bounds.specs.declared.tree.TreeRow.{TreeRow};
 ghost use Rattle.tp_constraints.specs.Suffixes.{Suffix, order_in, with_place};
-ghost use Rattle.tp_placing.specs.Boards.{content_of, suffix_of};
+ghost use Rattle.tp_placing.specs.Boards.{suffix_of};
 ghost use Rattle.tp_schedule.specs.Plans.{AreNamed};
 ghost use Rattle.tp_showing.specs.Closes.{Closes, IsLimit};
 ghost use Rattle.tp_showing.specs.Ranges.{IsRange};

@@ -1,5 +1,5 @@
 //! The names of a snapshot's jobs, by which their copies are found.
-ghost use Rattle.std.specs.Prelude.{◌≡◌, ◌<◌, ◌^◌, IfOk, IfSome, None, length};
+ghost use Rattle.std.specs.Prelude.{◌≡◌, ◌<◌, ◌^◌, IfOk, IfSome, None};
 ghost use Rattle.tp_jobs.specs.Backlogs.{names_of};
 ghost use Rattle.tp_snapshot.specs.Jobs.{DoNamesDiffer};
 

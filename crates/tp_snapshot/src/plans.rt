@@ -11,7 +11,7 @@ ghost use Rattle.tp_schedule.specs.Plans.{is_front};
 ghost use Rattle.tp_jobs.specs.Backlogs.{names_of};
 ghost use Rattle.tp_standing.specs.Sound.{last_point};
 ghost use Rattle.tp_snapshot.specs.Plans.{act_in, act_named, course_of, goal_in, kind_of, owner_of, plan_of, plan_with, plans_of, released_of};
-ghost use Rattle.tp_snapshot.specs.Values.{each_of, few_read, field_of, whole_of};
+ghost use Rattle.tp_snapshot.specs.Values.{few_read, field_of, whole_of};
 ghost use Rattle.tp_snapshot.specs.Written.{act_data, goal_data, is_action, is_goal_known, is_plan_known, plan_data, whole_data};
 
 use crate::copies::{copy_value, want_value};

@@ -6,11 +6,10 @@ use std::mem;
 use tp_base::{Edge, Full, Kept, Late, Network, PointId, Proof, Tick};
 
 impl Network for PlainNet {
-    ghost use Rattle.std.specs.Prelude.{ℕ, List, ◌≡◌};
+    ghost use Rattle.std.specs.Prelude.{ℕ, ◌≡◌};
     ghost use Rattle.std.proofs.Common.{ap};
-    ghost use Rattle.tp_base.specs.Net.{Net};
     ghost use Rattle.tp_base.specs.Kept.{KeptRefutes};
-    ghost use Rattle.tp_stn_core.specs.PlainState.{PlainState, PlainUntouched, kept_by_marks, plain_reading, refutes_by};
+    ghost use Rattle.tp_stn_core.specs.PlainState.{PlainUntouched, kept_by_marks, plain_reading, refutes_by};
 
     ghost reading = { plain_reading };
 

@@ -1,6 +1,6 @@
 //! One round over all edges.
-ghost use Rattle.std.specs.Prelude.{◌≡◌, ℕ, ◌<◌, ◌≤◌, length, slice_index, Ok, None, true, false, IsSome, IfSome, OnOk, IfOk, IfErr, vec_capacity};
-ghost use Rattle.std.specs.List.{All, Contains};
+ghost use Rattle.std.specs.Prelude.{◌≡◌, ℕ, ◌<◌, ◌≤◌, length, slice_index, Ok, None, IsSome, IfSome, OnOk, IfOk, IfErr, vec_capacity};
+ghost use Rattle.std.specs.List.{All};
 ghost use Rattle.tp_base.specs.Net.{Keeps, IsLeast};
 ghost use Rattle.tp_base.specs.Grows.{IsKnown, Rises, PassesCap, AreWithin, slack, cause_of};
 ghost use Rattle.tp_base.specs.Kept.{net_of, KeptRefutes};

@@ -41,9 +41,9 @@ fn restore(
 }
 
 impl Undo for PlainNet {
-    ghost use Rattle.std.specs.Prelude.{ℕ, List, ◌∷◌, ◌++◌};
+    ghost use Rattle.std.specs.Prelude.{ℕ, ◌∷◌, ◌++◌};
     ghost use Rattle.tp_base.specs.Net.{Net};
-    ghost use Rattle.tp_stn_core.specs.PlainState.{PlainState, PlainUntouched, untouched_of};
+    ghost use Rattle.tp_stn_core.specs.PlainState.{PlainUntouched, untouched_of};
 
     ghost Content = { Net };
 

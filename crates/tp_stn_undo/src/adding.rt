@@ -3,7 +3,7 @@ ghost use Rattle.std.specs.Prelude.{◌≡◌, ℕ, ◌+◌, ◌<◌, ◌≤◌,
 ghost use Rattle.tp_base.specs.Net.{IsSolution};
 ghost use Rattle.tp_base.specs.Grows.{IsKnown};
 ghost use Rattle.tp_base.specs.Kept.{net_of, KeptRefutes};
-ghost use Rattle.tp_stn_undo.specs.States.{Core, IsSound, lows_of, edges_of};
+ghost use Rattle.tp_stn_undo.specs.States.{IsSound, lows_of, edges_of};
 ghost use Rattle.tp_stn_undo.specs.Marks.{AreLinks};
 ghost use Rattle.tp_stn_undo.specs.Flags.{AreIdle, AreBelow};
 ghost use Rattle.tp_stn_undo.specs.Spreading.{LeadsBack};

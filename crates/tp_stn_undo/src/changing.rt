@@ -8,10 +8,10 @@ use crate::states::PointState;
 use tp_base::{Edge, Full, Kept, Late, Network, PointId, Proof, Tick};
 
 impl Network for LiveNet {
-    ghost use Rattle.std.specs.Prelude.{ℕ, List, ◌≡◌};
+    ghost use Rattle.std.specs.Prelude.{ℕ, ◌≡◌};
     ghost use Rattle.std.proofs.Common.{ap};
     ghost use Rattle.tp_base.specs.Kept.{KeptRefutes};
-    ghost use Rattle.tp_stn_undo.specs.LiveState.{LiveState, LiveUntouched, kept_by_marks, live_reading, refutes_by};
+    ghost use Rattle.tp_stn_undo.specs.LiveState.{LiveUntouched, kept_by_marks, live_reading, refutes_by};
 
     ghost reading = { live_reading };
 

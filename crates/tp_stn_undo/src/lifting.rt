@@ -1,6 +1,6 @@
 //! Raising a lower bound.
-ghost use Rattle.std.specs.Prelude.{◌≡◌, ℕ, ◌<◌, ◌≤◌, List, length, slice_index, slice_set};
-ghost use Rattle.tp_stn_undo.specs.States.{lows_of, times_of};
+ghost use Rattle.std.specs.Prelude.{◌≡◌, ℕ, ◌<◌, ◌≤◌, length, slice_index};
+ghost use Rattle.tp_stn_undo.specs.States.{lows_of};
 ghost use Rattle.tp_stn_undo.specs.Saved.{restored};
 ghost use Rattle.tp_stn_undo.specs.Flags.{AreKnown, AreBelow, IsSameSave};
 ghost use Rattle.tp_stn_undo.specs.Lifting.{Lifts};

@@ -1,5 +1,5 @@
 //! Walking back along causes.
-ghost use Rattle.std.specs.Prelude.{◌≡◌, ℕ, ◌-◌, ◌<◌, ◌≤◌, ◌^◌, List, [], length, take, reverse, slice_index, IfSome, IfNone, IfOk, OnErr, IsErr, ◌↔◌, vec_capacity};
+ghost use Rattle.std.specs.Prelude.{◌≡◌, ℕ, ◌-◌, ◌<◌, ◌≤◌, ◌^◌, [], length, reverse, IfSome, IfNone, IfOk, OnErr, IsErr, ◌↔◌, vec_capacity};
 ghost use Rattle.tp_base.specs.Refute.{AreCauses, IsCauseChain, IsCauseCircle};
 ghost use Rattle.tp_stn_undo.specs.States.{edges_of, causes_of};
 ghost use Rattle.tp_stn_undo.specs.Spreading.{AreNumbered};

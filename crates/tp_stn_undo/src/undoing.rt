@@ -60,9 +60,9 @@ pub(crate) fn restore(
 }
 
 impl Undo for LiveNet {
-    ghost use Rattle.std.specs.Prelude.{ℕ, List, ◌∷◌, ◌++◌};
+    ghost use Rattle.std.specs.Prelude.{ℕ, ◌∷◌, ◌++◌};
     ghost use Rattle.tp_base.specs.Net.{Net};
-    ghost use Rattle.tp_stn_undo.specs.LiveState.{LiveState, LiveUntouched, untouched_of};
+    ghost use Rattle.tp_stn_undo.specs.LiveState.{LiveUntouched, untouched_of};
 
     ghost Content = { Net };
 

@@ -1,6 +1,6 @@
 //! A script answered line by line.
 
-ghost use Rattle.std.specs.Prelude.{◌≡◌, ◌+◌, ◌<◌, ◌≤◌, ◌^◌, ◌-◌, ℕ, List, [], length, Some, OnOk, IfOk, IfErr, IfSome, IsErrOf};
+ghost use Rattle.std.specs.Prelude.{◌≡◌, ◌+◌, ◌<◌, ◌≤◌, ◌^◌, ◌-◌, ℕ, [], length, Some, OnOk, IfOk, IfErr, IfSome, IsErrOf};
 ghost use Rattle.tp_outside.specs.Outside.{Rises, IsCounted};
 ghost use Rattle.tp_stream.specs.Scripts.{AnswersLine, IsStopped, IsTaken, ReadsEvent};
 ghost use Rattle.tp_stream.specs.declared.stop.Stop.{Stop};

@@ -1,7 +1,7 @@
 //! What is told of answers to asks and of points that moved.
 
-ghost use Rattle.std.specs.Prelude.{◌≡◌, ◌<◌, ◌+◌, ◌^◌, ◌++◌, ◌∷◌, List, [], length, drop, map, All, IfOk, OnOk};
-ghost use Rattle.tp_schedule.specs.Answers.{kept_from, kept_of};
+ghost use Rattle.std.specs.Prelude.{◌≡◌, ◌<◌, ◌+◌, ◌^◌, ◌++◌, ◌∷◌, List, [], drop, map, All, IfOk, OnOk};
+ghost use Rattle.tp_schedule.specs.Answers.{kept_of};
 ghost use Rattle.tp_schedule.specs.Planning.{IsKnownGoal};
 ghost use Rattle.tp_schedule.specs.Plans.{IsTimedPlan, plan_of, with_points, without};
 ghost use Rattle.tp_schedule.specs.declared.parts.Plan.{Plan};

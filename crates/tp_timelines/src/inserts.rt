@@ -1,6 +1,5 @@
 //! Numbers put into orders, and taken out.
 ghost use Rattle.std.specs.Prelude.{◌≡◌, ℕ, ◌<◌, ◌≤◌, [], length, take, drop, replicate, IfOk, vec_capacity};
-ghost use Rattle.std.specs.List.{All};
 ghost use Rattle.tp_timelines.specs.Orders.{numbers_of, total, HaveCapacity};
 ghost use Rattle.tp_timelines.specs.Inserts.{taken_back, StandAt};
 

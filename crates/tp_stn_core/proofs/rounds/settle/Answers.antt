@@ -6,7 +6,7 @@ use Rattle.tp_base.specs.Kept.{net_of}
 use Rattle.tp_base.proofs.RisenFacts.{risen_causes, risen_circle, passed_causes, passed_chain, passed_circle}
 use Rattle.tp_stn_core.proofs.RoundFacts.{none_of}
 use Rattle.tp_stn_core.proofs.rounds.settle.Goals as goal
-use Rattle.tp_stn_core.proofs.rounds.settle.Goals.{In-Ok-None, In-Ok-Some, In-Err}
+use Rattle.tp_stn_core.proofs.rounds.settle.Goals.{In-Ok-Some, In-Err}
 
 -- the times have risen from the lower bounds
 risen : (c : In-Ok-Some) → Rises c.args.edges.now c.args.times.now c.args.causes.now c.round.new.times c.round.new.causes
