@@ -29,8 +29,9 @@ use Rattle.tp_schedule.specs.declared.parts.Origin.TheVariants.{Feeder as FromFe
 use Rattle.tp_schedule.specs.declared.parts.Plan.{Plan}
 use Rattle.tp_schedule.specs.declared.parts.SheetId.{SheetId}
 use Rattle.tp_schedule.specs.Spots.Spot.{kept, own}
+use Rattle.tp_choices.proofs.CompleteTimes as second-times
 use Rattle.tp_choices.proofs.CompleteAnswers as second
-use Rattle.tp_choices.proofs.AnswerOpens as first
+use Rattle.tp_choices.proofs.AnswerTimes as first
 use Rattle.tp_choices.specs.Retimings.{LeastAnswers, NoLater}
 
 same-sheets : (xs ys : List Plan) (copy : SheetId) → map unmoved xs ≡ map unmoved ys → map unmoved (without copy xs) ≡ map unmoved (without copy ys)
@@ -147,13 +148,13 @@ module _ (machine : Machine) (plans : List Plan) (ask : Ask) (list : ChoiceList)
 
   -- the least ticks make a least schedule
   least_new : ((t₂ : Ticks) → HasTimes machine plans ask list 0 t₂ → NoLater plans list t t₂) → IsLeast machine ask.now (follows_front ask) new
-  least_new least other r p in' i le = elim (second.new-cases machine plans ask list 0 t rules legal is_list times some is_prefix p in') [
+  least_new least other r p in' i le = elim (second-times.new-cases machine plans ask list 0 t rules legal is_list times some is_prefix p in') [
     | inl e ↦ of-asked e
     | inr (q, in-rest, e) ↦
-        let of = second.rest-of machine plans ask list 0 t rules legal is_list times some is_prefix q in-rest in
+        let of = second-times.rest-of machine plans ask list 0 t rules legal is_list times some is_prefix q in-rest in
         let le' : i ≤ length q.acts = subst (λ r'. i ≤ length r'.acts) e le in
         subst (λ r'. point r' i ≤ ticks_of other (kept r'.sheet i)) (sym e)
-        (rw (point-timed_by t' q i le', second.t'-other machine plans ask list 0 t rules legal is_list times some is_prefix q.sheet i of.1) (later.0 q of.0 i le'))
+        (rw (point-timed_by t' q i le', second-times.t'-other machine plans ask list 0 t rules legal is_list times some is_prefix q.sheet i of.1) (later.0 q of.0 i le'))
   ] where
     t' : Ticks
     t' = settled_ticks ask total t
@@ -164,7 +165,7 @@ module _ (machine : Machine) (plans : List Plan) (ask : Ask) (list : ChoiceList)
     of-asked : p ≡ timed_by (settled_ticks ask total t) (asked_plan plans ask list.choices) → point p i ≤ ticks_of other (kept p.sheet i)
     of-asked e =
         let asked-p : Plan = asked_plan plans ask list.choices in
-        let lengths = second.length-asked machine plans ask list 0 t rules legal is_list times some is_prefix in
+        let lengths = second-times.length-asked machine plans ask list 0 t rules legal is_list times some is_prefix in
         let le' : i ≤ length (asked_plan plans ask list.choices).acts = subst (λ r'. i ≤ length r'.acts) e le in
         elim (cases_lt i (kept_of ask)) [
           | inl below ↦
@@ -179,7 +180,7 @@ module _ (machine : Machine) (plans : List Plan) (ask : Ask) (list : ChoiceList)
               let back : total - (total - i) ≡ i = omega (arith, lengths) in
               let one' : t (own (total - i)) ≤ ticks_of other (kept ask.sheet i) = subst (λ n. t (own (total - i)) ≤ ticks_of other (kept ask.sheet n)) back one in
               subst (λ r'. point r' i ≤ ticks_of other (kept r'.sheet i)) (sym e)
-              (rw (point-timed_by (settled_ticks ask total t) asked-p i le', second.t'-own machine plans ask list 0 t rules legal is_list times some is_prefix i above) one')
+              (rw (point-timed_by (settled_ticks ask total t) asked-p i le', second-times.t'-own machine plans ask list 0 t rules legal is_list times some is_prefix i above) one')
         ]
 
 pub least_answers : LeastAnswers

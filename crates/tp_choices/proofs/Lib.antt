@@ -8,7 +8,9 @@ pub mod Placing
 pub mod SamePlaces
 pub mod Unmoved
 pub mod AskedFront
+pub mod CompleteTimes
 pub mod CompleteAnswers
+pub mod AnswerTimes
 pub mod AnswerOpens
 pub mod Frontier
 pub mod LeastAnswers
@@ -24,6 +26,7 @@ pub mod LiveSlots
 pub mod PointFacts
 pub mod Fewer
 pub mod WholeAnswers
+pub mod LiveJoins
 pub mod LiveAnswers
 pub mod LiveTimes
 pub mod Joining
