@@ -7,7 +7,7 @@ use Rattle.std.proofs.lemmas.Bool.{cases_lt, cases_eq}
 use Rattle.std.proofs.lemmas.List.Elements.{All-head, All-tail, All-weaker}
 use Rattle.std.specs.List.{All, Contains}
 use Rattle.tp_base.specs.declared.edges.Edge.{Edge}
-use Rattle.tp_base.specs.Net.{Net, Keeps, IsLeast, with_low}
+use Rattle.tp_base.specs.Net.{Net, Keeps, IsLeast, IsEarliest, with_low}
 use Rattle.tp_base.specs.Grows.{IsKnown, IsCause, IsSupported, Rises, PassesCap, AreWithin, cause_of}
 use Rattle.tp_base.specs.Refute.{Leads, total_weight, IsCaused, AreCauses, IsCauseChain, IsCauseCircle, IsLateChain, IsLateCircle}
 
@@ -107,6 +107,14 @@ settled_least net causes0 causes times n g within keeps = record {
   };
   least = λ y sol i h. g.below y sol.keeps sol.above_low i h;
 }
+
+-- two least solutions are the same at each point
+pub least_same : (net : Net) (x y : ℕ → ℕ) → IsLeast net x → IsLeast net y → (i : ℕ) → i < length net.lows → x i ≡ y i
+least_same net x y f g i h = let a = f.least y g.solution i h in let b = g.least x f.solution i h in omega arith
+
+-- the earliest time of a point is its time in each least solution
+pub earliest-is : (net : Net) (sol : ℕ → ℕ) (p t : ℕ) → IsLeast net sol → p < length net.lows → IsEarliest net p t → t ≡ sol p
+earliest-is net sol p t l within e = e.2 ∙ least_same net e.0 sol e.1 l p within
 
 -- the times past the cap are supported too, and so is what was kept of them
 pub passed_supported : (lows caps : List ℕ) (edges : List Edge) (causes0 causes : List (Option Edge)) (p : ℕ) → ((v : ℕ) → cause_of causes0 v ≡ None) → (k : PassesCap caps edges lows causes0 causes p) → IsSupported lows edges k.time (cause_of causes)

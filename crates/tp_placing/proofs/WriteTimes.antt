@@ -1,9 +1,8 @@
 -- The times of the least solution, point after point.
 use Rattle.std.proofs.Common.{◌≡◌, ℕ, zero, suc, ◌+◌, ◌<◌, ◌≤◌, List, [], ◌∷◌, ◌++◌, length, refl, ap, sym, ◌∙◌, arith}
-use Rattle.tp_base.specs.Net.{Net, IsLeast, IsEarliest}
+use Rattle.tp_base.specs.Net.{Net, HasLeast}
 use Rattle.std.proofs.Common.{AllPairs, get_or}
 use Rattle.std.proofs.lemmas.Option.{slice_get_read, slice_get-get_or}
-use Rattle.tp_base.specs.Net.{HasLeast}
 use Rattle.tp_base.specs.declared.edges.PointId.{PointId}
 use Rattle.tp_schedule.specs.Plans.{IsEarlier}
 use Rattle.tp_schedule.specs.Spots.{Ticks}
@@ -17,14 +16,7 @@ use Rattle.tp_placing.specs.Standing.{AreFirsts}
 use Rattle.tp_placing.specs.Writing.{AreLeastTicks}
 use Rattle.tp_placing.proofs.TableFacts.{begins-at, length-firsts}
 
--- all least solutions agree
-pub earliest-is : (net : Net) (sol : ℕ → ℕ) (p t : ℕ) → IsLeast net sol → p < length net.lows → IsEarliest net p t → t ≡ sol p
-earliest-is net sol p t l within e =
-    let a = l.least e.0 e.1.solution p within in
-    let b = e.1.least sol l.solution p within in
-    let c = e.2 in
-    omega arith
-
+-- one number more, at the end
 pub ticks-push : (f : ℕ → ℕ) (i n : ℕ) → ticks_from f i (suc n) ≡ ticks_from f i n ++ f (i + n) ∷ []
 ticks-push f i zero = let e : i + 0 ≡ i = omega arith in ap (λ k. f k ∷ []) (sym e)
 ticks-push f i (suc n) = let e : suc i + n ≡ i + suc n = omega arith in ap (λ ts. f i ∷ ts) (ticks-push f (suc i) n ∙ ap (λ k. ticks_from f (suc i) n ++ f k ∷ []) e)

@@ -6,8 +6,9 @@ use Rattle.std.proofs.lemmas.List.Elements.{All-head, All-tail}
 use Rattle.std.proofs.lemmas.Option.{same_Some, slice_get-map}
 use Rattle.std.specs.List.{All, slice_get}
 use Rattle.std.specs.Option.{option_map}
+use Rattle.tp_base.proofs.LeastFacts.{least_same}
 use Rattle.tp_base.proofs.SliceFacts.{All-at}
-use Rattle.tp_base.specs.Net.{Net, HaveSameTimes, IsLeast}
+use Rattle.tp_base.specs.Net.{Net, HaveSameTimes}
 use Rattle.tp_stn_undo.specs.declared.states.PointState.{PointState}
 use Rattle.tp_stn_undo.specs.declared.states.SavedState.{SavedState}
 use Rattle.tp_stn_undo.specs.declared.links.Link.{Link}
@@ -49,11 +50,7 @@ times_kept (s ∷ ss) end states now i h =
     time_set (restored ss states) s.point.0 i (slice_index (times_of states) i) s.state (times_kept ss end states (All-tail (IsOfNow end states) s ss now) i h)
     (λ e. ap (slice_index (times_of states)) (sym e) ∙ All-head (IsOfNow end states) s ss now (omega arith))
 
--- two least solutions are the same at each point
-pub least_same : (net : Net) (x y : ℕ → ℕ) → IsLeast net x → IsLeast net y → (i : ℕ) → i < length net.lows → x i ≡ y i
-least_same net x y f g i h = let a = f.least y g.solution i h in let b = g.least x f.solution i h in omega arith
-
--- so the net at a mark has the times of the net now
+-- where the points put back have the times of now, the net at a mark has the times of the net now
 pub same_times_at : (saved : List SavedState) (states : List PointState) (caps : List ℕ) (links : List Link) (m : LiveMark) (end : ℕ) → m.points ≤ length states → IsSound (core_at saved states caps links m) → IsSound (record { states = states; caps = caps; links = links })
     → KeepTimes end (restored (drop m.saved saved) states) states → HaveSameTimes end (net_of_core (core_at saved states caps links m)) (net_of_core (record { states = states; caps = caps; links = links }))
 same_times_at saved states caps links m end within then now kept x y is is' i before known =

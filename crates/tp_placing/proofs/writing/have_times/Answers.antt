@@ -1,7 +1,8 @@
 use Rattle.std.proofs.Common.{◌≡◌, ◌+◌, ◌++◌, ◌∷◌, [], length, get_or, ap, sym, ◌∙◌, arith}
 use Rattle.std.proofs.lemmas.List.{take_all, take_more}
+use Rattle.tp_base.proofs.LeastFacts.{earliest-is}
 use Rattle.tp_schedule.specs.Times.{ticks_from}
-use Rattle.tp_placing.proofs.WriteTimes.{earliest-is, ticks-more}
+use Rattle.tp_placing.proofs.WriteTimes.{ticks-more}
 use Rattle.tp_placing.proofs.writing.have_times.Goals as goal
 
 pub loop-at-preserved : goal.loop-at-preserved

@@ -1,7 +1,8 @@
 use Rattle.std.proofs.Common.{◌≡◌, ◌+◌, ◌++◌, ◌∷◌, [], length, ap, sym, ◌∙◌, arith}
 use Rattle.std.proofs.lemmas.List.{length-append}
+use Rattle.tp_base.proofs.LeastFacts.{earliest-is}
 use Rattle.tp_schedule.specs.Times.{ticks_from}
-use Rattle.tp_placing.proofs.WriteTimes.{earliest-is, ticks-more}
+use Rattle.tp_placing.proofs.WriteTimes.{ticks-more}
 use Rattle.tp_placing.proofs.writing.times_from.Goals as goal
 
 pub push-requires : goal.push-requires
