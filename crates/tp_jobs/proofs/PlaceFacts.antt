@@ -1,12 +1,9 @@
 -- Where a copy stands among those that wait, which stand in the order of copies.
-use Rattle.std.proofs.Common.{◌≡◌, ℕ, ◌≤◌, ◌<◌, suc, Bool, true, false, not, cond, inl, inr, List, [], ◌∷◌, length, get_or, slice_get, find, drop, insert, remove, Some, IsSome, All, AllPairs, refl, sym, ap, arith, subst}
+use Rattle.std.proofs.Common.{◌≡◌, ℕ, ◌≤◌, ◌<◌, suc, Bool, true, false, cond, List, [], ◌∷◌, length, get_or, slice_get, find, drop, insert, remove, Some, IsSome, All, AllPairs, refl, sym, ap, arith, subst}
 use Rattle.std.specs.Prelude.{◌&&◌}
 use Rattle.std.specs.List.{position_or_len}
-use Rattle.std.specs.List.Sorted.{IsPartitionPoint, IsPartitionedBy}
-use Rattle.std.proofs.lemmas.Bool.{cases_lt, not-false, not-true}
 use Rattle.std.proofs.lemmas.Bool.Decides.{nat_tests}
 use Rattle.std.proofs.lemmas.List.Elements.{All-head, All-tail}
-use Rattle.std.proofs.lemmas.List.Sums.{position_or_len_is}
 use Rattle.std.proofs.Math.Numerals.{one-add}
 use Rattle.tp_schedule.proofs.CopyFacts.{before-trans, before-asym, before-not_same', same_copy-is}
 use Rattle.tp_schedule.proofs.Pairs.{AllPairs-head, AllPairs-tail}
@@ -19,27 +16,7 @@ use Rattle.tp_jobs.specs.declared.parts.WaitingCopy.{WaitingCopy}
 abbrev pub is_behind : SheetId → WaitingCopy → Bool
 is_behind copy w = is_before copy w.sheet
 
-not_before-earlier : (copy a b : SheetId) → is_before a b ≡ true → is_before copy b ≡ false → is_before copy a ≡ false
-not_before-earlier copy a b before not_behind = go (is_before copy a) refl where
-  go : (v : Bool) → is_before copy a ≡ v → v ≡ false
-  go true e = let both : is_before copy b ≡ true = before-trans copy a b e before in absurd (cc)
-  go false e = refl
-
--- no copy that is behind this one stands before one that is not
-pub partitioned : (copy : SheetId) (xs : List WaitingCopy) → AllPairs WaitsBefore xs → IsPartitionedBy (λ w. not (is_before copy w.sheet)) xs
-partitioned copy xs in_order i j d le lt passes = elim (cases_lt i j) [
-  | inl below ↦ rw (not_before-earlier copy (get_or xs i d).sheet (get_or xs j d).sheet (in_order i j d below lt) (not-true (is_before copy (get_or xs j d).sheet) passes)) refl
-  | inr above ↦ let same : i ≡ j = omega arith in rw same passes
-]
-
--- a binary search finds the first copy behind this one
-pub place-from_partition : (copy : SheetId) (xs : List WaitingCopy) (i : ℕ) → i ≤ length xs → IsPartitionPoint (λ w. not (is_before copy w.sheet) ≡ true) (λ w. not (is_before copy w.sheet) ≡ false) xs i → position_or_len (is_behind copy) xs ≡ i
-place-from_partition copy [] i within point = omega arith
-place-from_partition copy (x ∷ xs) i within point =
-    position_or_len_is (is_behind copy) (x ∷ xs) i x within
-    (λ k below. not-true (is_before copy (get_or (x ∷ xs) k x).sheet) (point.0 k x (omega arith) below))
-    (λ below. not-false (is_before copy (get_or (x ∷ xs) i x).sheet) (point.1 i x (omega arith) below))
-
+-- put before the first copy behind it, a copy stands where the order puts it
 pub insert-put_waiting : (w : WaitingCopy) (xs : List WaitingCopy) → insert xs (position_or_len (is_behind w.sheet) xs) w ≡ put_waiting xs w
 insert-put_waiting w [] = refl
 insert-put_waiting w (x ∷ xs) = go (is_before w.sheet x.sheet) refl (insert-put_waiting w xs) where
