@@ -1,6 +1,6 @@
 -- An alternative gives a complete list: its route read backwards, with the places that its holds have in its orders.
 -- The schedule's points are ticks of that list.
-use Rattle.std.proofs.Common.{◌≡◌, ℕ, suc, ◌+◌, ◌-◌, ◌≤◌, ◌<◌, Bool, true, false, not, ◌&&◌, List, [], ◌++◌, map, length, filter, refl, ap, sym, arith, Contains, All, AllPairs, ◌∙◌, subst, Some, IsTrue, nat_lt, append_assoc}
+use Rattle.std.proofs.Common.{◌≡◌, ℕ, suc, ◌≤◌, ◌<◌, Bool, true, false, not, ◌&&◌, List, [], ◌++◌, map, length, filter, refl, ap, sym, arith, Contains, All, AllPairs, ◌∙◌, subst, Some, IsTrue, nat_lt, append_assoc}
 use Rattle.std.specs.Prelude.{IsPermutation}
 use Rattle.std.proofs.lemmas.Bool.{le-ltb}
 use Rattle.std.proofs.lemmas.List.{length-map, map-append}

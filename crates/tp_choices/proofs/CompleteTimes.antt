@@ -1,6 +1,6 @@
 -- Ticks of a complete list time the asked plan and all others. The schedule that they make keeps the order of copies, its
 -- lines, what is fixed, the floors and the horizon.
-use Rattle.std.proofs.Common.{◌≡◌, ◌⊎◌, inl, inr, ℕ, suc, ◌+◌, ◌-◌, ◌≤◌, ◌<◌, Bool, true, false, not, ◌&&◌, List, [], map, length, filter, refl, ap, sym, arith, Contains, All, AllPairs, ◌∙◌, subst, Some, slice_get, IsTrue, IsFalse, nat_le, nat_lt}
+use Rattle.std.proofs.Common.{◌≡◌, ◌⊎◌, inl, inr, ℕ, suc, ◌+◌, ◌-◌, ◌≤◌, ◌<◌, Bool, true, false, not, ◌&&◌, List, map, length, filter, refl, ap, sym, arith, Contains, All, AllPairs, ◌∙◌, subst, Some, slice_get, IsTrue, IsFalse, nat_le, nat_lt}
 use Rattle.std.proofs.lemmas.Option.{slice_get_within}
 use Rattle.std.proofs.lemmas.Bool.{cases_lt, le-leb, lt-leb}
 use Rattle.std.proofs.lemmas.Bool.Decides.{nat_tests}

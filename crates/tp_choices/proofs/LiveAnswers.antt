@@ -1,6 +1,6 @@
 -- From the live part to the whole schedule: an alternative on the live part, joined with what is forgotten, is one on the
 -- whole.
-use Rattle.std.proofs.Common.{◌≡◌, ◌⊎◌, inl, inr, Bool, true, false, not, List, [], map, filter, refl, ap, sym, arith, Contains, AllPairs, ◌∙◌, subst}
+use Rattle.std.proofs.Common.{◌≡◌, ◌⊎◌, inl, inr, Bool, true, false, not, List, map, filter, refl, ap, sym, arith, Contains, AllPairs, ◌∙◌, subst}
 use Rattle.tp_machine.specs.declared.machine.Machine.{Machine}
 use Rattle.tp_schedule.specs.declared.parts.Ask.{Ask}
 use Rattle.tp_schedule.specs.declared.parts.Plan.{Plan}
