@@ -1,6 +1,5 @@
 -- Of an answer that moved no other plan nothing is told but the answer.
-use Rattle.std.proofs.Common.{◌≡◌, ◌∙◌, List, [], ◌∷◌, ◌++◌, Result, Ok, Err, refl, ap, sym}
-use Rattle.std.specs.Result.{OnOk}
+use Rattle.std.proofs.Common.{◌≡◌, ◌∙◌, List, [], ◌∷◌, ◌++◌, refl, ap, sym}
 use Rattle.std.proofs.lemmas.List.{append-nil}
 use Rattle.std.proofs.lemmas.Slice.Eq.{bytes_eq-Decides}
 use Rattle.tp_machine.specs.declared.machine.Machine.{Machine}
@@ -17,14 +16,10 @@ none-moved : (plans : List Plan) → moves plans plans ≡ []
 none-moved [] = refl
 none-moved (p ∷ plans) = rw ((bytes_eq-Decides p.points p.points).1 refl) (none-moved plans)
 
+-- where the other plans are the same, what is told of the answer alone is all that is told
 pub alone-is : (machine : Machine) (plans after : List Plan) (ask : Ask) (reply : Reply) → without ask.sheet after ≡ without ask.sheet plans → told_alone machine ask reply after ≡ told_of_reply machine plans ask reply after
 alone-is machine plans after ask Planned same =
     let planned = told_of_planned machine (kept_of ask) (plan_of ask.sheet after) in
     sym (ap (λ rs. planned ++ rs) (ap (λ qs. moves (without ask.sheet plans) qs) same ∙ none-moved (without ask.sheet plans)) ∙ append-nil planned)
 alone-is machine plans after ask Never same = refl
 alone-is machine plans after ask (Spent bound) same = refl
-
--- what follows, where the call has done it
-pub then-ok : {T E : Type 0} (P Q : Type 0) (r : Result T E) → (P → Q) → OnOk r P → OnOk r Q
-then-ok P Q (Ok x) step did = step did
-then-ok P Q (Err e) step did = tt
