@@ -21,4 +21,5 @@ pub mod SortFacts
 pub mod OrderFacts
 pub mod Without
 pub mod SearchFacts
+pub mod LastPlan
 pub mod SetFacts
