@@ -1,5 +1,5 @@
 -- The ticks of a schedule that can be loaded keep its bounds and its gaps.
-use Rattle.std.proofs.Common.{◌≡◌, ℕ, ◌+◌, ◌≤◌, false, List, length, map, refl, ap, sym, ◌∙◌, arith, Some, All, Contains}
+use Rattle.std.proofs.Common.{◌≡◌, ℕ, ◌+◌, ◌<◌, ◌≤◌, false, List, length, map, refl, ap, sym, ◌∙◌, arith, Some, All, Contains}
 use Rattle.std.specs.List.{flat_map}
 use Rattle.std.proofs.lemmas.List.Elements.{All-contains, All-weaker}
 use Rattle.tp_machine.specs.declared.machine.Machine.{Machine}
@@ -17,7 +17,8 @@ use Rattle.tp_constraints.proofs.ScheduleGaps.{gaps_law}
 use Rattle.tp_placing.specs.Loaded.{CanLoad}
 use Rattle.tp_placing.specs.Loading.{HasBounds, lows_of, caps_of, point_count}
 use Rattle.tp_placing.specs.LoadedHolds.{ticks_in}
-use Rattle.tp_placing.proofs.LoadTable.{map-table, length-ticks}
+use Rattle.tp_placing.proofs.LiveFacts.{points-few}
+use Rattle.tp_placing.proofs.LoadTable.{length-table-of, map-table, length-ticks}
 
 module _ (machine : Machine) (now : ℕ) (plans : List Plan) (can : CanLoad machine now plans) where
   pub timed : (p : Plan) → Contains plans p → IsTimedPlan machine p
@@ -39,6 +40,14 @@ module _ (machine : Machine) (now : ℕ) (plans : List Plan) (can : CanLoad mach
 
   pub few-acts : All (λ p. length p.acts ≤ 64) plans
   few-acts = All-weaker (IsTimedPlan machine) (λ p. length p.acts ≤ 64) (λ p t. t.at_most) plans can.loadable.legal.timed
+
+  -- the points of plans that can be loaded are few
+  pub points-fit : length (table_of plans) < 4294967296
+  points-fit =
+      let points = points-few plans few-acts in
+      let few = can.few in
+      let count = length-table-of plans in
+      omega arith
 
   pub ticks-count : length (ticks_in plans) ≡ point_count plans
   ticks-count = length-ticks plans (λ p inside. (timed p inside).one_more)

@@ -2,7 +2,7 @@
 use Rattle.std.proofs.Common.{◌≡◌, ◌∙◌, ℕ, suc, ◌+◌, ◌<◌, ◌≤◌, Bool, true, false, List, [], ◌∷◌, length, map, slice_index, take, All, AllPairs, Contains, Some, inl, inr, refl, ap, sym, subst, arith}
 use Rattle.std.proofs.lemmas.List.{length-map}
 use Rattle.std.specs.Prelude.{◌||◌, slice_get}
-use Rattle.std.proofs.lemmas.List.Elements.{All-contains, All-weaker, Contains-append_cases}
+use Rattle.std.proofs.lemmas.List.Elements.{All-contains, Contains-append_cases}
 use Rattle.std.proofs.lemmas.Option.{same_Some, slice_get_within}
 use Rattle.tp_base.proofs.SliceFacts.{slice_get_last}
 use Rattle.tp_base.specs.Readings.{Reading}
@@ -37,8 +37,6 @@ use Rattle.tp_placing.specs.declared.parts.BoardMark.{BoardMark}
 use Rattle.tp_placing.specs.declared.parts.Held.{Held}
 use Rattle.tp_placing.specs.declared.parts.Step.{Step}
 use Rattle.tp_placing.proofs.FollowFacts.{one-more}
-use Rattle.tp_placing.proofs.LiveFacts.{points-few}
-use Rattle.tp_placing.proofs.LoadTable.{length-table-of}
 use Rattle.tp_placing.proofs.WritePlans.{retimed-is, retimed-not}
 use Rattle.tp_placing.proofs.LoadedTicks.{times}
 
@@ -157,12 +155,3 @@ settled-still reading b machine ask s settled m there none nets orders same =
     let times : HaveSameTimes (length (table_of b.plans)) f.0 (reading.net b.net) = subst (λ k. HaveSameTimes k f.0 (reading.net b.net)) s.last (same f.0 f.1) in
     All-from_contains (HasLeastPoints (reading.net b.net) b.plans) b.plans (λ p inside.
     still-least machine ask.now b.plans f.0 here.net (s.settled settled) s.loadable.legal.in_order here.solved (reading.net b.net) times p inside (let one = (All-contains (IsTimedPlan machine) b.plans p s.loadable.legal.timed inside).one_more in omega (arith, one)))
-
--- the points of plans that can be loaded are few
-pub points-fit : (machine : Machine) (now : ℕ) (plans : List Plan) → CanLoad machine now plans → length (table_of plans) < 4294967296
-points-fit machine now plans can =
-    let acts = All-weaker (IsTimedPlan machine) (λ p. length p.acts ≤ 64) (λ p t. t.at_most) plans can.loadable.legal.timed in
-    let points = points-few plans acts in
-    let few = can.few in
-    let count = length-table-of plans in
-    omega arith

@@ -1,13 +1,11 @@
 -- The live plans at their least ticks are a settled schedule with the plans that are not live.
-use Rattle.std.proofs.Common.{◌≡◌, ℕ, ◌<◌, ◌≤◌, false, List, length, filter, map, refl, ap, sym, ◌∙◌, subst, arith, Contains}
-use Rattle.std.proofs.lemmas.List.Elements.{All-weaker}
+use Rattle.std.proofs.Common.{◌≡◌, ℕ, ◌<◌, false, List, length, filter, map, refl, ap, sym, ◌∙◌, subst, arith, Contains}
 use Rattle.std.proofs.lemmas.List.Sums.{length-filter}
 use Rattle.tp_base.specs.Net.{Net, IsLeast as IsLeastSolution}
 use Rattle.tp_machine.specs.declared.machine.Machine.{Machine}
 use Rattle.tp_schedule.specs.Answers.{IsLeast, IsRetimed}
 use Rattle.tp_schedule.specs.Living.{is_live}
 use Rattle.tp_schedule.specs.Planning.{CanSettle, IsSettled, none_exempt}
-use Rattle.tp_schedule.specs.Plans.{IsTimedPlan}
 use Rattle.tp_schedule.specs.Spots.{Spot, Ticks}
 use Rattle.tp_schedule.specs.Times.{timed_by}
 use Rattle.tp_schedule.specs.declared.parts.Plan.{Plan}
@@ -19,11 +17,9 @@ use Rattle.tp_constraints.specs.Numbers.{table_of, ticks_by}
 use Rattle.tp_constraints.proofs.LeastSolutions.{settle_law}
 use Rattle.tp_constraints.proofs.Numbering.{number-at}
 use Rattle.tp_placing.specs.Loaded.{CanLoad, IsLoaded}
-use Rattle.tp_placing.specs.Loading.{point_count}
 use Rattle.tp_placing.specs.Writing.{AreLeastTicks, retimed_in}
-use Rattle.tp_placing.proofs.LiveFacts.{points-few}
-use Rattle.tp_placing.proofs.LoadTable.{length-table-of}
 use Rattle.tp_placing.proofs.LivePlans.{can-load}
+use Rattle.tp_placing.proofs.LoadedTicks.{points-fit}
 use Rattle.tp_placing.proofs.WriteJoined.{joined-times}
 use Rattle.tp_placing.proofs.WriteLive.{gone, may-forget}
 use Rattle.tp_placing.proofs.WriteWhole.{less-live}
@@ -62,11 +58,6 @@ settled-is machine now plans live new lines held firsts causes net can part l ti
     let e = times (ticks_by (table_of live) l.solved.0) (record { solution = l.solved.0; least = l.solved.1; there = λ i s at. ap l.solved.0 (number-at (table_of live) l.net.is_table.differ i s at) }) in
     subst (IsSettled machine now plans) (sym (e ∙ ap (λ ps. map (retimed_in ps (ticks_by (table_of live) l.solved.0)) plans) part)) (settled machine now plans can (table_of live) net l.solved.0 (subst P part l.net) l.solved.1)
 
+-- the points of the live plans are few
 pub settled-few : (machine : Machine) (now : ℕ) (plans live : List Plan) → CanSettle machine now plans → live ≡ filter (is_live machine now) plans → length (table_of live) < 4294967296
-settled-few machine now plans live can part =
-    let load = live-settles machine now plans can in
-    let acts = All-weaker (IsTimedPlan machine) (λ p. length p.acts ≤ 64) (λ p t. t.at_most) (filter (is_live machine now) plans) load.loadable.legal.timed in
-    let points = points-few (filter (is_live machine now) plans) acts in
-    let few = load.few in
-    let count = length-table-of live ∙ ap point_count part in
-    omega arith
+settled-few machine now plans live can part = subst (λ ps. length (table_of ps) < 4294967296) (sym part) (points-fit machine now (filter (is_live machine now) plans) (live-settles machine now plans can))

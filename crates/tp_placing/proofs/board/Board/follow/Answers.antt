@@ -10,7 +10,8 @@ use Rattle.tp_placing.specs.Loaded.{CanLoad, IsLoaded}
 use Rattle.tp_placing.specs.Loading.{point_count}
 use Rattle.tp_placing.specs.Settled.{AreSettled, HasLeastPoints}
 use Rattle.tp_placing.proofs.FollowFacts.{IsStill, none-more, one-behind, still}
-use Rattle.tp_placing.proofs.SettledFacts.{points-fit, settled-last}
+use Rattle.tp_placing.proofs.LoadedTicks.{points-fit}
+use Rattle.tp_placing.proofs.SettledFacts.{settled-last}
 use Rattle.tp_placing.proofs.WriteReady.{timed-formed}
 use Rattle.tp_placing.proofs.board.Board.follow.Goals as goal
 use Rattle.tp_placing.proofs.board.Board.follow.Goals.{After-add_last-arg-1, After-deref-then-self, Then-len-count}

@@ -5,7 +5,8 @@ use Rattle.tp_placing.specs.Settled.{HasLeastPoints}
 use Rattle.tp_placing.specs.Standing.{IsMadeFor}
 use Rattle.tp_placing.proofs.LivePlans.{live-loads}
 use Rattle.tp_placing.proofs.LoadedBoard.{stands-loaded}
-use Rattle.tp_placing.proofs.SettledFacts.{points-fit, settled-all}
+use Rattle.tp_placing.proofs.LoadedTicks.{points-fit}
+use Rattle.tp_placing.proofs.SettledFacts.{settled-all}
 use Rattle.tp_placing.proofs.WriteReady.{timed-formed}
 use Rattle.tp_placing.proofs.board.Board.load.Goals as goal
 use Rattle.tp_placing.proofs.board.Board.load.Goals.{After-deref-2}
