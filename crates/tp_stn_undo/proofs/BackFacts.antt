@@ -88,7 +88,7 @@ module _ (a b : Inside) (k : ℕ) (inv : IsLive a) (w : WentBack a b k) where
       let more : (b.max_marks + 1) * b.working.changes.capacity ≡ (a.max_marks + 1) * a.working.changes.capacity = ap (λ i. (i + 1) * b.working.changes.capacity) mp ∙ ap (λ i. (a.max_marks + 1) * i) w2 in
       let w1 = ap (λ (x : Waiting). length x.flags) w.waiting_same in
       let w3 = ap (λ (x : Vec Edge Global). vec_capacity x) w.path_same in
-      let w4 = ap (λ (x : Vec ℕ Global). length x.items) w.places_same in
+      let w4 = ap (λ (x : Vec ℕ Global). vec_capacity x) w.places_same in
       let v1 = inv.capacity.working.waits in
       let v2 = inv.capacity.working.noted in
       let v3 = inv.capacity.working.path in

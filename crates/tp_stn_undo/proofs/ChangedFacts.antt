@@ -42,7 +42,7 @@ pub record IsChanged (a b : Inside) (S : List PointState) (C : List ℕ) (L : Li
   pub noted : b.working.changes.capacity ≡ a.working.changes.capacity
   pub most : b.working.changes.most ≡ a.working.changes.most
   pub path : vec_capacity a.working.path ≤ vec_capacity b.working.path
-  pub places : length b.working.places.items ≡ length a.working.places.items
+  pub places : vec_capacity a.working.places ≤ vec_capacity b.working.places
   pub rest : AtRest b.working
 
 -- the lists hold together, and what stands at the marks is what stood there

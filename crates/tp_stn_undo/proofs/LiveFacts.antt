@@ -1,7 +1,7 @@
 -- A network of nothing.
-use Rattle.std.proofs.Common.{◌≡◌, ℕ, [], length, slice_index, get_or, replicate, take, List, ◌++◌, ◌-◌, ◌∙◌, Some, ap, arith, inl, inr}
+use Rattle.std.proofs.Common.{◌≡◌, ℕ, [], length, slice_index, get_or, replicate, Some, ap, arith, inl, inr}
 use Rattle.std.proofs.lemmas.Option.{slice_get_within}
-use Rattle.std.proofs.lemmas.List.{length-map, length-replicate, get_or-replicate, get_or_past, take_all}
+use Rattle.std.proofs.lemmas.List.{length-map, length-replicate, get_or-replicate, get_or_past}
 use Rattle.std.proofs.lemmas.Bool.{cases_lt}
 use Rattle.std.specs.List.{slice_get}
 use Rattle.tp_base.specs.Net.{IsLeast}
@@ -70,7 +70,3 @@ all_same n v x = elim (cases_lt v n) [
   | inl h ↦ get_or-replicate n v x x h
   | inr h ↦ (let l = length-replicate n x in get_or_past (replicate n x) v x (omega arith))
 ]
-
-pub filled : (n l : ℕ) (xs : List ℕ) → xs ≡ [] → l ≡ 0 → take n xs ++ replicate (n - l) 0 ≡ replicate n 0
-filled n l xs e z =
-    ap (λ (ys : List ℕ). take n ys ++ replicate (n - l) 0) e ∙ ap (λ (ys : List ℕ). ys ++ replicate (n - l) 0) (take_all n [] (omega arith)) ∙ ap (λ (k : ℕ). replicate k 0) (omega arith)

@@ -9,14 +9,14 @@ pub record HasWorkingCapacity (points : ℕ) (w : Working) : Type 0 where
   pub waits : points ≤ length w.waiting.flags
   pub noted : points ≤ w.changes.capacity
   pub path : points ≤ vec_capacity w.path
-  pub places : points ≤ length w.places.items
+  pub places : points ≤ vec_capacity w.places
 
 -- the room stays, and what was saved before
 pub record KeepsSizes (old new : Working) : Type 0 where
   pub waits : length new.waiting.flags ≡ length old.waiting.flags
   pub noted : IsSameSave old.changes new.changes
   pub path : vec_capacity old.path ≤ vec_capacity new.path
-  pub places : length new.places.items ≡ length old.places.items
+  pub places : vec_capacity old.places ≤ vec_capacity new.places
 
 -- between two changes no point waits or is noted, and each place is 0
 pub record AtRest (w : Working) : Type 0 where

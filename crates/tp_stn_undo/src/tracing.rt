@@ -11,36 +11,53 @@ use crate::states::PointState;
 use tp_base::{Edge, Full, PointId, Trail};
 
 /// Writes the causes that lead to a point, the first first. Gives the point that they begin at, which has none; or
-/// `None` where they lead round, and then the path is the way round. `places` is working space of zeros. Takes time for
-/// the path alone.
+/// `None` where they lead round, and then the path is the way round. `places` is working space of zeros, with capacity for
+/// one for each point. Takes time for the path, and for the points that have no place yet.
 #[inline(never)]
 pub(crate) fn trace_causes(
     states: &[PointState],
     links: &[Link],
     from: PointId,
     path: &mut Vec<Edge>,
-    places: &mut [u32],
+    places: &mut Vec<u32>,
 ) -> Option<PointId>
     requires known { from.0 < length states.now }
     requires causes { AreCauses (causes_of (edges_of links.now) states.now) }
     requires small { length states.now < 2 ^ 32 }
     requires numbered { AreNumbered links.now states.now }
     requires path_capacity { length states.now ≤ vec_capacity path.old }
-    requires places_capacity { length states.now ≤ length places.old }
-    requires zeros { AreZeros places.old }
+    requires places_capacity { length states.now ≤ vec_capacity places.old }
+    requires zeros { AreZeros places.old.items }
     ensures chain { IfSome result (λ first.
         IsCauseChain (causes_of (edges_of links.now) states.now) first.0 path.new.items from.0) }
     ensures circle { IfNone result
         (IsCauseCircle (causes_of (edges_of links.now) states.now) path.new.items) }
     ensures path_kept { vec_capacity path.old ≤ vec_capacity path.new }
-    ensures zeros { AreZeros places.new }
+    ensures places_kept { vec_capacity places.old ≤ vec_capacity places.new }
+    ensures zeros { AreZeros places.new.items }
 {
     path.clear();
+    make_places(places, states.len());
     let (end, cut) = walk_back(states, links, from, path, places);
     forget_places(path, places);
     path.reverse();
     path.truncate(path.len() - cut as usize);
     end
+}
+
+/// Adds zeros until there are so many places.
+fn make_places(places: &mut Vec<u32>, count: usize)
+    requires capacity { count ≤ vec_capacity places.old }
+    requires zeros { AreZeros places.old.items }
+    ensures enough { count ≤ length places.new.items }
+    ensures zeros { AreZeros places.new.items }
+    ensures kept { vec_capacity places.old ≤ vec_capacity places.new }
+{
+    if places.len() < count {
+        let Ok(()) = places.resize(count, 0) else {
+            unreachable!()
+        };
+    }
 }
 
 /// Walks from a point back along the causes, and writes them. Gives the point that they begin at; or `None` where they

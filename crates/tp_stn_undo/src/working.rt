@@ -13,7 +13,7 @@ pub(crate) struct Working {
     pub(crate) changes: Changes,
     /// The edges that show why the last refused change was refused.
     pub(crate) path: Vec<Edge>,
-    /// Zeros, a place for each point of the path while it is walked.
+    /// Zeros, a place for each point of the path while it is walked. The places grow with the points.
     pub(crate) places: Vec<u32>,
 }
 
@@ -28,15 +28,11 @@ impl Working {
         ensures rest { IfOk result (λ w. AtRest w) }
     {
         let capacity = points as usize;
-        let mut places = Vec::with_capacity(alloc, capacity)?;
-        let Ok(()) = places.resize(capacity, 0) else {
-            unreachable!()
-        };
         Ok(Working {
             waiting: Waiting::new(alloc, capacity)?,
             changes: Changes::new(alloc, points, marks)?,
             path: Vec::with_capacity(alloc, capacity)?,
-            places,
+            places: Vec::with_capacity(alloc, capacity)?,
         })
     }
 }

@@ -45,6 +45,7 @@ each-preserved c =
     let p3 = inv.sizes.path in
     let q1 = e.sizes.places in
     let q2 = r.capacity.places in
+    let q3 = inv.sizes.places in
     let s = r.small in
     record {
       added = adds_next edges c.args.caps.now c.args.links.now.items c.each.links.items c.add_edge.new.links.items c.args.states.now c.each.states c.add_edge.new.states c.each.working.changes.entries c.add_edge.new.working.changes.entries l i no_link.edge c.each-test.true refl inv.added e.links
@@ -58,7 +59,7 @@ each-preserved c =
         none = c.in-Ok.ensures.none;
         zeros = e.zeros;
       };
-      sizes = record { waits = w1 ∙ inv.sizes.waits; noted = same_saves inv.sizes.noted e.sizes.noted; path = omega arith; places = q1 ∙ inv.sizes.places };
+      sizes = record { waits = w1 ∙ inv.sizes.waits; noted = same_saves inv.sizes.noted e.sizes.noted; path = omega arith; places = omega arith };
       capacity = e.capacity ∙ inv.capacity;
     }
 

@@ -123,11 +123,13 @@ edges-preserved c = elim c.if-reach-from.branch [
       let less2 = o.less in
       let p1 = inv.sizes.path in
       let p2 = e.sizes.path in
+      let q1 = inv.sizes.places in
+      let q2 = e.sizes.places in
       rw (w.states-is, w.working-is) (record {
         back = LeadsBack-trans links c.args.states.now c.edges.states w.follow.new.states c.args.working.now.changes.entries c.edges.working.changes.entries w.follow.new.working.changes.entries inv.back e.back;
         rises = States-trans links c.args.states.now c.edges.states w.follow.new.states n inv.rises o.rises;
         below = e.below;
-        sizes = record { waits = e.sizes.waits ∙ inv.sizes.waits; noted = same_saves inv.sizes.noted e.sizes.noted; path = omega arith; places = e.sizes.places ∙ inv.sizes.places };
+        sizes = record { waits = e.sizes.waits ∙ inv.sizes.waits; noted = same_saves inv.sizes.noted e.sizes.noted; path = omega arith; places = omega arith };
         waiting = subst (λ (m : ℕ). AreBelow m w.follow.new.working.waiting.points) n (e.known (subst (λ (m : ℕ). AreBelow m c.edges.working.waiting.points) (sym n) inv.waiting));
         reached = (next c.args.links.now c.args.heads.now c.args.states.now c.edges.states c.points.point c.edges.left c.requires.heads c.requires.known c.edges.invariant.back.len c.edges.invariant.reached c.edges-test.true).reached;
         kept = kept_next links point c.edges.left _ (slice_index (times_of w.follow.new.states)) w.follow.new.working.waiting.flags (next c.args.links.now c.args.heads.now c.args.states.now c.edges.states c.points.point c.edges.left c.requires.heads c.requires.known c.edges.invariant.back.len c.edges.invariant.reached c.edges-test.true) c.edges-test.true (o.kept (edges_of links) point c.edges.left inv.kept) o.met;
