@@ -42,10 +42,10 @@ pub record CanPut (base : ℕ) (heads nexts : List (Option ℕ)) (link : Option 
   pub behind : link ≡ head_at heads place
   pub out : ¬ IsIn node (queued_of base nexts heads)
 
-pub can_put : (v : BucketQueue) (base : ℕ) (heads nexts : List (Option ℕ)) (link : Option ℕ) (node bound : ℕ) → record { nodes = length nexts; width = length heads; base = base; queued = queued_of base nexts heads } ≡ v
-    → node < v.nodes → v.base ≤ bound → bound < v.base + v.width → ¬ IsIn node v.queued → link ≡ get_or heads (bound - base) link → CanPut base heads nexts link (bound - base) node
-can_put v base heads nexts link node bound is known from below out read =
-    let nodes = ap (λ (b : BucketQueue). b.nodes) is in
+pub can_put : (v : BucketQueue) (base : ℕ) (heads nexts : List (Option ℕ)) (link : Option ℕ) (nodes node bound : ℕ) → record { nodes = nodes; width = length heads; base = base; queued = queued_of base nexts heads } ≡ v
+    → length nexts ≡ nodes → node < v.nodes → v.base ≤ bound → bound < v.base + v.width → ¬ IsIn node v.queued → link ≡ get_or heads (bound - base) link → CanPut base heads nexts link (bound - base) node
+can_put v base heads nexts link nodes node bound is many known from below out read =
+    let same_nodes = ap (λ (b : BucketQueue). b.nodes) is in
     let width = ap (λ (b : BucketQueue). b.width) is in
     let same = ap (λ (b : BucketQueue). b.base) is in
     let there : bound - base < length heads = omega arith in
@@ -140,24 +140,24 @@ take-known base place heads nexts node is =
     taken_known (record { node = node; bound = base + place }) (queued_of base nexts heads) (queued_of base nexts (slice_set heads place (head_at nexts node))) (length nexts) is.linked.queued (first_out base place heads nexts node is)
 
 -- with the link behind it, as it is read
-moved_out : (base place : ℕ) (heads nexts : List (Option ℕ)) (node : ℕ) (link : Option ℕ) → IsFirst base place heads nexts node → link ≡ get_or nexts node link
+moved_out : (base place : ℕ) (heads nexts : List (Option ℕ)) (node : ℕ) (link : Option ℕ) → IsFirst base place heads nexts node → link ≡ head_at nexts node
     → IsPermutation (queued_of base nexts heads) (record { node = node; bound = base + place } ∷ queued_of base nexts (slice_set heads place link))
 moved_out base place heads nexts node link is read =
     subst (λ behind. IsPermutation (queued_of base nexts heads) (record { node = node; bound = base + place } ∷ queued_of base nexts (slice_set heads place behind)))
-    (sym (get_or_read nexts node link (take-known base place heads nexts node is) read None)) (first_out base place heads nexts node is)
+    (sym read) (first_out base place heads nexts node is)
 
-pub take-all : (base place : ℕ) (heads nexts : List (Option ℕ)) (node : ℕ) (link : Option ℕ) → IsFirst base place heads nexts node → link ≡ get_or nexts node link → IsTaken node (queued_of base nexts heads) (queued_of base nexts (slice_set heads place link))
+pub take-all : (base place : ℕ) (heads nexts : List (Option ℕ)) (node : ℕ) (link : Option ℕ) → IsFirst base place heads nexts node → link ≡ head_at nexts node → IsTaken node (queued_of base nexts heads) (queued_of base nexts (slice_set heads place link))
 take-all base place heads nexts node link is read = record {
   bound = base + place;
   rest = moved_out base place heads nexts node link is read;
   least = least-first (base + place) base (suc (length nexts)) nexts heads place refl is.linked.empty;
 }
 
-pub take-gone : (base place : ℕ) (heads nexts : List (Option ℕ)) (node : ℕ) (link : Option ℕ) → IsFirst base place heads nexts node → link ≡ get_or nexts node link → ¬ IsIn node (queued_of base nexts (slice_set heads place link))
+pub take-gone : (base place : ℕ) (heads nexts : List (Option ℕ)) (node : ℕ) (link : Option ℕ) → IsFirst base place heads nexts node → link ≡ head_at nexts node → ¬ IsIn node (queued_of base nexts (slice_set heads place link))
 take-gone base place heads nexts node link is read =
     taken_out (record { node = node; bound = base + place }) (queued_of base nexts heads) (queued_of base nexts (slice_set heads place link)) (length nexts) is.linked.queued (moved_out base place heads nexts node link is read)
 
-pub take-kept : (base place : ℕ) (heads nexts : List (Option ℕ)) (node : ℕ) (link : Option ℕ) → IsFirst base place heads nexts node → link ≡ get_or nexts node link → IsBuckets base place (slice_set heads place link) nexts
+pub take-kept : (base place : ℕ) (heads nexts : List (Option ℕ)) (node : ℕ) (link : Option ℕ) → IsFirst base place heads nexts node → link ≡ head_at nexts node → IsBuckets base place (slice_set heads place link) nexts
 take-kept base place heads nexts node link is read =
     let many = length-set heads place link in
     let within = is.linked.within in
@@ -167,7 +167,7 @@ take-kept base place heads nexts node link is read =
       empty = λ k earlier. get_or-set_other heads place k link None (λ e. absurd (omega arith)) ∙ is.linked.empty k earlier;
     }
 
-pub take-queue : (base place top : ℕ) (heads nexts : List (Option ℕ)) (node : ℕ) (link : Option ℕ) → top ≤ length heads → ((k : ℕ) → top ≤ k → head_at heads k ≡ None) → IsFirst base place heads nexts node → link ≡ get_or nexts node link
+pub take-queue : (base place top : ℕ) (heads nexts : List (Option ℕ)) (node : ℕ) (link : Option ℕ) → top ≤ length heads → ((k : ℕ) → top ≤ k → head_at heads k ≡ None) → IsFirst base place heads nexts node → link ≡ head_at nexts node
     → IsQueue base place top (slice_set heads place link) nexts
 take-queue base place top heads nexts node link within none is read =
     let many = length-set heads place link in
@@ -191,11 +191,11 @@ module _ (base cursor top place : ℕ) (heads nexts : List (Option ℕ)) (node :
       taken_known (record { node = node; bound = base + place }) (queued_of base nexts heads) (queued_of base nexts (slice_set heads place (head_at nexts node))) (length nexts) is.linked.queued head-out
 
   -- with the link behind it, as it is read
-  module _ (link : Option ℕ) (read : link ≡ get_or nexts node link) where
+  module _ (link : Option ℕ) (read : link ≡ head_at nexts node) where
     pub head-moved : (bound : ℕ) → bound ≡ base + place → IsPermutation (queued_of base nexts heads) (record { node = node; bound = bound } ∷ queued_of base nexts (slice_set heads place link))
     head-moved bound at =
         subst (λ b. IsPermutation (queued_of base nexts heads) (record { node = node; bound = b } ∷ queued_of base nexts (slice_set heads place link))) (sym at)
-        (subst (λ behind. IsPermutation (queued_of base nexts heads) (record { node = node; bound = base + place } ∷ queued_of base nexts (slice_set heads place behind))) (sym (get_or_read nexts node link head-known read None)) head-out)
+        (subst (λ behind. IsPermutation (queued_of base nexts heads) (record { node = node; bound = base + place } ∷ queued_of base nexts (slice_set heads place behind))) (sym read) head-out)
 
     pub head-gone : ¬ IsIn node (queued_of base nexts (slice_set heads place link))
     head-gone = taken_out (record { node = node; bound = base + place }) (queued_of base nexts heads) (queued_of base nexts (slice_set heads place link)) (length nexts) is.linked.queued (head-moved (base + place) refl)

@@ -1,6 +1,7 @@
 //! A queue of nodes by bound: a bucket for each bound.
-ghost use Rattle.std.specs.Prelude.{◌≡◌, ◌≢◌, ℕ, ◌+◌, ◌<◌, ◌≤◌, ◌↔◌, [], ◌∷◌, length, None, IfNone, IfOk, IfSome};
+ghost use Rattle.std.specs.Prelude.{◌≡◌, ◌≢◌, ℕ, ◌+◌, ◌<◌, ◌≤◌, ◌↔◌, [], ◌∷◌, length, slice_set, vec_capacity, None, IfNone, IfOk, IfSome};
 ghost use Rattle.std.specs.List.Sorted.{IsPermutation};
+ghost use Rattle.tp_base.specs.Padded.{padded};
 ghost use Rattle.tp_pool.specs.Queues.{IsIn, IsLeastIn, IsTaken, head_at};
 
 use std::alloc::Global;
@@ -12,8 +13,10 @@ use tp_base::{Memory, Tick};
 pub struct Buckets {
     /// The first node of each bound, from the base on.
     heads: Vec<Option<u32>>,
-    /// The node behind each node that is in the queue.
+    /// The node behind each node that is in the queue, up to the last node that was ever put in.
     nexts: Vec<Option<u32>>,
+    /// All nodes are below this number.
+    nodes: u32,
     base: Tick,
     /// No head before this place has a node.
     cursor: usize,
@@ -23,32 +26,34 @@ pub struct Buckets {
 
 // Clauses see the nodes with their bounds, in an order that means nothing, and the numbers that it was made for.
 impl Model for Buckets {
-    ghost use Rattle.std.specs.Prelude.{length};
+    ghost use Rattle.std.specs.Prelude.{length, None, vec_capacity};
+    ghost use Rattle.tp_base.specs.Padded.{padded};
     ghost use Rattle.tp_pool.specs.Queues.{BucketQueue};
-    ghost use Rattle.tp_pool.specs.Linked.{queued_of, IsQueue};
+    ghost use Rattle.tp_pool.specs.Linked.{queued_of, IsGrowing};
 
     ghost Value = { BucketQueue };
 
     ghost view = { λ b. record {
-      nodes = length b.nexts.items;
+      nodes = b.nodes;
       width = length b.heads.items;
       base = b.base;
-      queued = queued_of b.base b.nexts.items b.heads.items;
+      queued = queued_of b.base (padded None b.nodes b.nexts.items) b.heads.items;
     } };
 
-    ghost invariant = { λ b. IsQueue b.base b.cursor b.top b.heads.items b.nexts.items };
+    ghost invariant = { λ b. IsGrowing b.base b.cursor b.top b.nodes (vec_capacity b.nexts) b.heads.items b.nexts.items };
 }
 
 impl Buckets {
     /// A queue for nodes below a number, and for bounds from 0 on up to, and without, a width. Takes all the memory that
-    /// it will ever hold: 8 bytes for each node and each bound.
+    /// it will ever hold: 8 bytes for each node and each bound. Costs a step for each bound.
     pub fn new(alloc: Global, nodes: u32, width: u32) -> Result<Buckets, Memory>
         ensures { IfOk result (λ buckets. buckets
             ≡ record { nodes = nodes; width = width; base = 0; queued = [] }) }
     {
         Ok(Buckets {
             heads: vec![in alloc; None; width as usize]?,
-            nexts: vec![in alloc; None; nodes as usize]?,
+            nexts: Vec::with_capacity(alloc, nodes as usize)?,
+            nodes,
             base: 0,
             cursor: width as usize,
             top: 0,
@@ -71,7 +76,8 @@ impl Buckets {
         self.top = 0;
     }
 
-    /// Puts a node in, in constant time. It may be put in again once it was taken.
+    /// Puts a node in, in constant time, or in a step for each node between where it is above all that were ever put in. It
+    /// may be put in again once it was taken.
     pub fn put(&mut self, node: u32, bound: Tick)
         requires node { node < self.old.nodes }
         requires from { self.old.base ≤ bound }
@@ -84,7 +90,7 @@ impl Buckets {
         ensures base { self.new.base ≡ self.old.base }
     {
         let place = (bound - self.base) as usize;
-        self.nexts[node as usize] = self.heads[place];
+        set_next(&mut self.nexts, node, self.heads[place]);
         self.heads[place] = Some(node);
         self.cursor = self.cursor.min(place);
         self.top = self.top.max(place + 1);
@@ -106,7 +112,7 @@ impl Buckets {
     {
         let place = (bound - self.base) as usize;
         let node = self.heads[place]?;
-        self.heads[place] = self.nexts[node as usize];
+        self.heads[place] = next_of(&self.nexts, node);
         Some(node)
     }
 
@@ -166,7 +172,7 @@ impl Buckets {
             return None;
         }
         let node = self.heads[self.cursor]?;
-        self.heads[self.cursor] = self.nexts[node as usize];
+        self.heads[self.cursor] = next_of(&self.nexts, node);
         Some(node)
     }
 }
@@ -196,4 +202,29 @@ fn first_filled(heads: &[Option<u32>], from: usize) -> usize
         at += 1;
     }
     at
+}
+
+/// The node behind this one, or None where none was put behind it.
+fn next_of(nexts: &[Option<u32>], node: u32) -> Option<u32>
+    ensures { result ≡ head_at nexts.now node }
+{
+    *nexts.get(node as usize)?
+}
+
+/// Puts a node or none behind this one. Nodes below it that were not there yet have none behind them.
+fn set_next(nexts: &mut Vec<Option<u32>>, node: u32, next: Option<u32>)
+    requires room { node < vec_capacity nexts.old }
+    ensures set { (nodes : ℕ) → node < nodes → length nexts.old.items ≤ nodes
+        → padded None nodes nexts.new.items ≡ slice_set (padded None nodes nexts.old.items) node next }
+    ensures few { (nodes : ℕ) → node < nodes → length nexts.old.items ≤ nodes
+        → length nexts.new.items ≤ nodes }
+    ensures capacity { vec_capacity nexts.old ≤ vec_capacity nexts.new }
+{
+    let place = node as usize;
+    if nexts.len() <= place {
+        let Ok(()) = nexts.resize(place + 1, None) else {
+            unreachable!()
+        };
+    }
+    nexts[place] = next;
 }
