@@ -1,25 +1,16 @@
 -- What each call makes of linked nodes.
-use Rattle.std.proofs.Common.{◌≡◌, ℕ, zero, suc, ◌+◌, ◌-◌, ◌<◌, ◌≤◌, List, [], ◌∷◌, length, get_or, replicate, min, max, Option, Some, None, refl, sym, ap, subst, ◌∙◌, arith, inl, inr}
+use Rattle.std.proofs.Common.{◌≡◌, ◌≢◌, ℕ, suc, ◌+◌, ◌-◌, ◌<◌, ◌≤◌, List, [], ◌∷◌, length, min, max, Option, Some, None, refl, sym, ap, subst, ◌∙◌, arith, inl, inr}
 use Rattle.std.specs.Prelude.{slice_set}
 use Rattle.std.specs.List.Sorted.{IsPermutation}
 use Rattle.std.proofs.lemmas.Bool.{cases_lt}
 use Rattle.std.proofs.lemmas.Option.{none-some}
-use Rattle.std.proofs.lemmas.List.{length-set, get_or-set_other, get_or_read}
+use Rattle.std.proofs.lemmas.List.{length-set, get_or-set_other, get_or_past}
 use Rattle.std.proofs.lemmas.List.Elements.{Contains-get_or}
 use Rattle.std.proofs.lemmas.List.Sorted.{Contains-permutation, IsPermutation-sym, length_permutation}
 use Rattle.tp_pool.specs.Queues.{Queued, BucketQueue, IsIn, IsLeastIn, IsTaken, head_at}
 use Rattle.tp_pool.specs.Linked.{queued_from, queued_of, AreQueued, IsBuckets, IsQueue}
 use Rattle.tp_pool.proofs.QueueFacts.{out_test, none-queued, few, put-queued, take-queued, taken_out, taken_known}
 use Rattle.tp_pool.proofs.LinkFacts.{put-in, take-out, queued-none, least-first}
-
-no_head : (n k : ℕ) → head_at (replicate n None) k ≡ None
-no_head zero k = refl
-no_head (suc n) zero = refl
-no_head (suc n) (suc k) = no_head n k
-
--- heads without a node
-pub none_in : (n : ℕ) (heads : List (Option ℕ)) → heads ≡ replicate n None → (k : ℕ) → head_at heads k ≡ None
-none_in n heads is k = ap (λ hs. head_at hs k) is ∙ no_head n k
 
 pub emptied-none : (base : ℕ) (heads nexts : List (Option ℕ)) → ((k : ℕ) → head_at heads k ≡ None) → queued_of base nexts heads ≡ []
 emptied-none base heads nexts none = queued-none base (suc (length nexts)) nexts heads (λ k below. none k)
@@ -42,17 +33,17 @@ pub record CanPut (base : ℕ) (heads nexts : List (Option ℕ)) (link : Option 
   pub behind : link ≡ head_at heads place
   pub out : ¬ IsIn node (queued_of base nexts heads)
 
-pub can_put : (v : BucketQueue) (base : ℕ) (heads nexts : List (Option ℕ)) (link : Option ℕ) (nodes node bound : ℕ) → record { nodes = nodes; width = length heads; base = base; queued = queued_of base nexts heads } ≡ v
-    → length nexts ≡ nodes → node < v.nodes → v.base ≤ bound → bound < v.base + v.width → ¬ IsIn node v.queued → link ≡ get_or heads (bound - base) link → CanPut base heads nexts link (bound - base) node
-can_put v base heads nexts link nodes node bound is many known from below out read =
+pub can_put : (v : BucketQueue) (base : ℕ) (heads nexts : List (Option ℕ)) (link : Option ℕ) (nodes width node bound : ℕ) → record { nodes = nodes; width = width; base = base; queued = queued_of base nexts heads } ≡ v
+    → length nexts ≡ nodes → length heads ≡ width → node < v.nodes → v.base ≤ bound → bound < v.base + v.width → ¬ IsIn node v.queued → link ≡ head_at heads (bound - base) → CanPut base heads nexts link (bound - base) node
+can_put v base heads nexts link nodes width node bound is many wide known from below out read =
     let same_nodes = ap (λ (b : BucketQueue). b.nodes) is in
-    let width = ap (λ (b : BucketQueue). b.width) is in
+    let same_width = ap (λ (b : BucketQueue). b.width) is in
     let same = ap (λ (b : BucketQueue). b.base) is in
     let there : bound - base < length heads = omega arith in
     record {
       there = there;
       below = omega arith;
-      behind = get_or_read heads (bound - base) link there read None;
+      behind = read;
       out = subst (λ (b : BucketQueue). ¬ IsIn node b.queued) (sym is) out;
     }
 
@@ -93,28 +84,45 @@ put-queue base cursor top heads nexts link place node is can =
     }
 
 -- the cursor moved on over heads without a node
-pub moved-on : (base cursor place : ℕ) (slice heads nexts : List (Option ℕ)) → slice ≡ heads → IsBuckets base cursor heads nexts → place ≤ length slice → ((k : ℕ) → cursor ≤ k → k < place → head_at slice k ≡ None) → IsBuckets base place heads nexts
-moved-on base cursor place slice heads nexts same is within none = record {
+pub moved-on : (base cursor place : ℕ) (heads nexts : List (Option ℕ)) → IsBuckets base cursor heads nexts → place ≤ length heads → ((k : ℕ) → cursor ≤ k → k < place → head_at heads k ≡ None) → IsBuckets base place heads nexts
+moved-on base cursor place heads nexts is within none = record {
   queued = is.queued;
-  within = subst (λ (hs : List (Option ℕ)). place ≤ length hs) same within;
-  empty = λ k below. elim (cases_lt k cursor) [ inl before ↦ is.empty k before | inr after ↦ ap (λ hs. head_at hs k) (sym same) ∙ none k after below ];
+  within = within;
+  empty = λ k below. elim (cases_lt k cursor) [ inl before ↦ is.empty k before | inr after ↦ none k after below ];
 }
 
--- behind the last head there is none
-pub end-none : (base : ℕ) (heads nexts : List (Option ℕ)) → IsBuckets base (length heads) heads nexts → queued_of base nexts heads ≡ []
-end-none base heads nexts is = queued-none base (suc (length nexts)) nexts heads is.empty
+-- where there is none from the cursor on either there is none at all
+pub end-none : (base place : ℕ) (heads nexts : List (Option ℕ)) → IsBuckets base place heads nexts → ((k : ℕ) → place ≤ k → head_at heads k ≡ None) → queued_of base nexts heads ≡ []
+end-none base place heads nexts is none = queued-none base (suc (length nexts)) nexts heads (λ k below. elim (cases_lt k place) [ inl before ↦ is.empty k before | inr after ↦ none k after ])
 
 -- the first head with a node
 pub record IsFirst (base place : ℕ) (heads nexts : List (Option ℕ)) (node : ℕ) : Type 0 where
   pub linked : IsBuckets base place heads nexts
   pub here : head_at heads place ≡ Some node
 
-pub is_first : (base cursor place : ℕ) (slice heads nexts : List (Option ℕ)) (head : Option ℕ) (node : ℕ) → slice ≡ heads → IsBuckets base cursor heads nexts → place < length heads
-    → ((k : ℕ) → cursor ≤ k → k < place → head_at slice k ≡ None) → head ≡ get_or heads place head → head ≡ Some node → IsFirst base place heads nexts node
-is_first base cursor place slice heads nexts head node same is within none read some = record {
-  linked = (let long = ap length same in moved-on base cursor place slice heads nexts same is (omega arith) none);
-  here = sym (get_or_read heads place head within read None) ∙ some;
+-- what was found from the cursor on
+pub record IsFound (cursor place : ℕ) (heads slice : List (Option ℕ)) (head : Option ℕ) : Type 0 where
+  pub same : (k : ℕ) → head_at heads k ≡ head_at slice k
+  pub within : place ≤ length heads
+  pub empty : (k : ℕ) → cursor ≤ k → k < place → head_at slice k ≡ None
+  pub filled : place < length slice → head_at slice place ≢ None
+  pub here : head ≡ head_at slice place
+
+pub is_first : (base cursor place : ℕ) (heads slice nexts : List (Option ℕ)) (head : Option ℕ) (node : ℕ) → IsBuckets base cursor heads nexts → IsFound cursor place heads slice head → head ≡ Some node → IsFirst base place heads nexts node
+is_first base cursor place heads slice nexts head node is found some = record {
+  linked = moved-on base cursor place heads nexts is found.within (λ k after before. found.same k ∙ found.empty k after before);
+  here = found.same place ∙ sym found.here ∙ some;
 }
+
+pub is_none : (base cursor place : ℕ) (heads slice nexts : List (Option ℕ)) (head : Option ℕ) → IsBuckets base cursor heads nexts → IsFound cursor place heads slice head → head ≡ None → queued_of base nexts heads ≡ []
+is_none base cursor place heads slice nexts head is found none =
+    let past : length slice ≤ place = elim (cases_lt place (length slice)) [ inl there ↦ absurd (found.filled there (sym found.here ∙ none)) | inr past ↦ past ] in
+    end-none base place heads nexts (moved-on base cursor place heads nexts is found.within (λ k after before. found.same k ∙ found.empty k after before))
+    (λ k after. found.same k ∙ get_or_past slice k None (omega arith))
+
+-- a head with a node is there
+pub head-there : (heads : List (Option ℕ)) (place node : ℕ) → head_at heads place ≡ Some node → place < length heads
+head-there heads place node some = elim (cases_lt place (length heads)) [ inl there ↦ there | inr past ↦ absurd (none-some node (sym (get_or_past heads place None past) ∙ some)) ]
 
 -- the first node taken out
 first_out : (base place : ℕ) (heads nexts : List (Option ℕ)) (node : ℕ) → IsFirst base place heads nexts node

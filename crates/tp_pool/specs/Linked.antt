@@ -1,7 +1,6 @@
 -- A queue by bound as linked nodes: a head for each bound, and behind each node the next one.
 use Rattle.std.specs.Prelude.{◌≡◌, ℕ, zero, suc, ◌<◌, ◌≤◌, nat_eq, List, [], ◌∷◌, ◌++◌, length, map, Option, Some, None}
 use Rattle.std.specs.List.{IsDistinct}
-use Rattle.tp_base.specs.Padded.{padded}
 use Rattle.tp_pool.specs.Queues.{Queued, nodes_of, IsIn, head_at}
 
 -- the nodes from a head on, so many at most
@@ -35,9 +34,3 @@ pub record IsQueue (base cursor top : ℕ) (heads nexts : List (Option ℕ)) : T
   pub linked : IsBuckets base cursor heads nexts
   pub top_within : top ≤ length heads
   pub none_above : (k : ℕ) → top ≤ k → head_at heads k ≡ None
-
--- linked nodes below a number, with links up to the last node that was ever put in, and capacity for those of all
-pub record IsGrowing (base cursor top nodes capacity : ℕ) (heads nexts : List (Option ℕ)) : Type 0 where
-  pub queue : IsQueue base cursor top heads (padded None nodes nexts)
-  pub few : length nexts ≤ nodes
-  pub room : nodes ≤ capacity

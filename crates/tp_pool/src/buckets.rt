@@ -1,5 +1,5 @@
 //! A queue of nodes by bound: a bucket for each bound.
-ghost use Rattle.std.specs.Prelude.{◌≡◌, ◌≢◌, ℕ, ◌+◌, ◌<◌, ◌≤◌, ◌↔◌, [], ◌∷◌, length, slice_set, vec_capacity, None, IfNone, IfOk, IfSome};
+ghost use Rattle.std.specs.Prelude.{◌≡◌, ◌≢◌, ℕ, ◌+◌, ◌<◌, ◌≤◌, ◌↔◌, [], ◌∷◌, length, max, slice_set, vec_capacity, None, IfNone, IfOk, IfSome};
 ghost use Rattle.std.specs.List.Sorted.{IsPermutation};
 ghost use Rattle.tp_base.specs.Padded.{padded};
 ghost use Rattle.tp_pool.specs.Queues.{IsIn, IsLeastIn, IsTaken, head_at};
@@ -11,12 +11,14 @@ use tp_base::{Memory, Tick};
 /// A queue of nodes by bound. Nodes of one bound are linked to one another.
 #[derive(Drop)]
 pub struct Buckets {
-    /// The first node of each bound, from the base on.
+    /// The first node of each bound, from the base on, up to the last place that ever had one.
     heads: Vec<Option<u32>>,
     /// The node behind each node that is in the queue, up to the last node that was ever put in.
     nexts: Vec<Option<u32>>,
     /// All nodes are below this number.
     nodes: u32,
+    /// All places of heads are below this number.
+    width: usize,
     base: Tick,
     /// No head before this place has a node.
     cursor: usize,
@@ -26,34 +28,28 @@ pub struct Buckets {
 
 // Clauses see the nodes with their bounds, in an order that means nothing, and the numbers that it was made for.
 impl Model for Buckets {
-    ghost use Rattle.std.specs.Prelude.{length, None, vec_capacity};
-    ghost use Rattle.tp_base.specs.Padded.{padded};
     ghost use Rattle.tp_pool.specs.Queues.{BucketQueue};
-    ghost use Rattle.tp_pool.specs.Linked.{queued_of, IsGrowing};
+    ghost use Rattle.tp_pool.specs.Growing.{queue_of, IsGrowing};
 
     ghost Value = { BucketQueue };
 
-    ghost view = { λ b. record {
-      nodes = b.nodes;
-      width = length b.heads.items;
-      base = b.base;
-      queued = queued_of b.base (padded None b.nodes b.nexts.items) b.heads.items;
-    } };
+    ghost view = { queue_of };
 
-    ghost invariant = { λ b. IsGrowing b.base b.cursor b.top b.nodes (vec_capacity b.nexts) b.heads.items b.nexts.items };
+    ghost invariant = { IsGrowing };
 }
 
 impl Buckets {
     /// A queue for nodes below a number, and for bounds from 0 on up to, and without, a width. Takes all the memory that
-    /// it will ever hold: 8 bytes for each node and each bound. Costs a step for each bound.
+    /// it will ever hold: 8 bytes for each node and each bound.
     pub fn new(alloc: Global, nodes: u32, width: u32) -> Result<Buckets, Memory>
         ensures { IfOk result (λ buckets. buckets
             ≡ record { nodes = nodes; width = width; base = 0; queued = [] }) }
     {
         Ok(Buckets {
-            heads: vec![in alloc; None; width as usize]?,
+            heads: Vec::with_capacity(alloc, width as usize)?,
             nexts: Vec::with_capacity(alloc, nodes as usize)?,
             nodes,
+            width: width as usize,
             base: 0,
             cursor: width as usize,
             top: 0,
@@ -72,12 +68,12 @@ impl Buckets {
     {
         empty(&mut self.heads, self.cursor, self.top);
         self.base = base;
-        self.cursor = self.heads.len();
+        self.cursor = self.width;
         self.top = 0;
     }
 
-    /// Puts a node in, in constant time, or in a step for each node between where it is above all that were ever put in. It
-    /// may be put in again once it was taken.
+    /// Puts a node in, in constant time. Where it or its bound is above all that were ever put in, it costs a step for each
+    /// node or bound between. It may be put in again once it was taken.
     pub fn put(&mut self, node: u32, bound: Tick)
         requires node { node < self.old.nodes }
         requires from { self.old.base ≤ bound }
@@ -90,8 +86,9 @@ impl Buckets {
         ensures base { self.new.base ≡ self.old.base }
     {
         let place = (bound - self.base) as usize;
-        set_next(&mut self.nexts, node, self.heads[place]);
-        self.heads[place] = Some(node);
+        let first = link_at(&self.heads, place);
+        set_link(&mut self.nexts, node as usize, first);
+        set_link(&mut self.heads, place, Some(node));
         self.cursor = self.cursor.min(place);
         self.top = self.top.max(place + 1);
     }
@@ -111,8 +108,8 @@ impl Buckets {
         ensures base { self.new.base ≡ self.old.base }
     {
         let place = (bound - self.base) as usize;
-        let node = self.heads[place]?;
-        self.heads[place] = next_of(&self.nexts, node);
+        let node = link_at(&self.heads, place)?;
+        self.heads[place] = link_at(&self.nexts, node as usize);
         Some(node)
     }
 
@@ -149,10 +146,7 @@ impl Buckets {
         ensures stays { self.new ≡ self.old }
     {
         self.cursor = first_filled(&self.heads, self.cursor);
-        if self.cursor == self.heads.len() {
-            return None;
-        }
-        let node = self.heads[self.cursor]?;
+        let node = link_at(&self.heads, self.cursor)?;
         Some(node)
     }
 
@@ -168,11 +162,8 @@ impl Buckets {
         ensures base { self.new.base ≡ self.old.base }
     {
         self.cursor = first_filled(&self.heads, self.cursor);
-        if self.cursor == self.heads.len() {
-            return None;
-        }
-        let node = self.heads[self.cursor]?;
-        self.heads[self.cursor] = next_of(&self.nexts, node);
+        let node = link_at(&self.heads, self.cursor)?;
+        self.heads[self.cursor] = link_at(&self.nexts, node as usize);
         Some(node)
     }
 }
@@ -184,16 +175,16 @@ fn empty(heads: &mut Vec<Option<u32>>, from: usize, to: usize)
     requires within { to ≤ length heads.old.items }
     ensures none { (k : ℕ) → head_at heads.new.items k ≡ None }
     ensures len { length heads.new.items ≡ length heads.old.items }
+    ensures capacity { vec_capacity heads.new ≡ vec_capacity heads.old }
 {
     'heads: for at in from..to {
         heads[at] = None;
     }
 }
 
-/// The place of the first head with a node, from a place on, or the number of heads where there is none.
+/// The place of the first head with a node, from a place on, or one behind all heads where there is none.
 fn first_filled(heads: &[Option<u32>], from: usize) -> usize
-    requires { from ≤ length heads.now }
-    ensures within { result ≤ length heads.now }
+    ensures within { result ≤ max from (length heads.now) }
     ensures empty { (k : ℕ) → from ≤ k → k < result → head_at heads.now k ≡ None }
     ensures filled { result < length heads.now → head_at heads.now result ≢ None }
 {
@@ -204,27 +195,29 @@ fn first_filled(heads: &[Option<u32>], from: usize) -> usize
     at
 }
 
-/// The node behind this one, or None where none was put behind it.
-fn next_of(nexts: &[Option<u32>], node: u32) -> Option<u32>
-    ensures { result ≡ head_at nexts.now node }
+/// What stands at this place, or None where nothing was put there.
+fn link_at(links: &[Option<u32>], place: usize) -> Option<u32>
+    ensures { result ≡ head_at links.now place }
 {
-    *nexts.get(node as usize)?
+    *links.get(place)?
 }
 
-/// Puts a node or none behind this one. Nodes below it that were not there yet have none behind them.
-fn set_next(nexts: &mut Vec<Option<u32>>, node: u32, next: Option<u32>)
-    requires room { node < vec_capacity nexts.old }
-    ensures set { (nodes : ℕ) → node < nodes → length nexts.old.items ≤ nodes
-        → padded None nodes nexts.new.items ≡ slice_set (padded None nodes nexts.old.items) node next }
-    ensures few { (nodes : ℕ) → node < nodes → length nexts.old.items ≤ nodes
-        → length nexts.new.items ≤ nodes }
-    ensures capacity { vec_capacity nexts.old ≤ vec_capacity nexts.new }
+/// Puts a node or none at this place. Places before it that were not there yet have none.
+fn set_link(links: &mut Vec<Option<u32>>, place: usize, link: Option<u32>)
+    requires room { place < vec_capacity links.old }
+    ensures set { (most : ℕ) → place < most → length links.old.items ≤ most
+        → padded None most links.new.items
+        ≡ slice_set (padded None most links.old.items) place link }
+    ensures few { (most : ℕ) → place < most → length links.old.items ≤ most
+        → length links.new.items ≤ most }
+    ensures there { place < length links.new.items }
+    ensures kept { length links.old.items ≤ length links.new.items }
+    ensures capacity { vec_capacity links.old ≤ vec_capacity links.new }
 {
-    let place = node as usize;
-    if nexts.len() <= place {
-        let Ok(()) = nexts.resize(place + 1, None) else {
+    if links.len() <= place {
+        let Ok(()) = links.resize(place + 1, None) else {
             unreachable!()
         };
     }
-    nexts[place] = next;
+    links[place] = link;
 }
