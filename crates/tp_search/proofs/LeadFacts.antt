@@ -65,17 +65,16 @@ module _ {N : Type 0} (reading : Reading N) (b : BoardValue N) (machine : Machin
 abbrev pub number : Option ActId → Option ℕ
 number act = option_map (λ a. a.0) act
 
--- all children were looked at whose action stands before the next one that leads to their first state
-pub record IsLed (machine : Machine) (plans : List Plan) (ask : Ask) (o : Opening) (s : StoreValue) (loc : ℕ) (next : Option ActId) : Type 0 where
-  pub low : ℕ
-  pub within : low ≤ length machine.actions
-  pub leads : IsNextTo machine.actions loc low (number next)
-  pub progress : IsAtProgress machine plans ask o s (up_to low [])
-
 -- the next action is the first one from some number on that leads to the location
 pub record IsChain (machine : Machine) (loc : ℕ) (next : Option ActId) : Type 0 where
   pub low : ℕ
   pub leads : IsNextTo machine.actions loc low (number next)
+
+-- all children were looked at whose action stands before the next one that leads to their first state
+pub record IsLed (machine : Machine) (plans : List Plan) (ask : Ask) (o : Opening) (s : StoreValue) (loc : ℕ) (next : Option ActId) : Type 0 where
+  pub chain : IsChain machine loc next
+  pub within : chain.low ≤ length machine.actions
+  pub progress : IsAtProgress machine plans ask o s (up_to chain.low [])
 
 first-room : (machine : Machine) (ask : Ask) (goal s : State) (choices : List Choice) (rooms : List ℕ) → HaveRooms machine ask goal s choices rooms → (room : ℕ) × IsRoom machine ask s room
 first-room machine ask goal s [] [] h = absurd h

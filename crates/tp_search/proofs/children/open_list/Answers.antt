@@ -50,8 +50,8 @@ open_act-requires-clause-fewer g c =
     omega arith
 
 -- where the chain of actions stands
-here : (g : _) (c : In-Some g) → IsNextTo c.args.problem.machine.now.actions c.args.laid.first.loc.0 c.acts.invariant.led.low (Some c.in-Some.act.0)
-here g c = led-here c.args.problem.machine.now c.args.laid.first.loc.0 c.acts.invariant.led.low c.acts.next c.in-Some.act c.in-Some.is c.acts.invariant.led.leads
+here : (g : _) (c : In-Some g) → IsNextTo c.args.problem.machine.now.actions c.args.laid.first.loc.0 c.acts.invariant.led.chain.low (Some c.in-Some.act.0)
+here g c = led-here c.args.problem.machine.now c.args.laid.first.loc.0 c.acts.invariant.led.chain.low c.acts.next c.in-Some.act c.in-Some.is c.acts.invariant.led.chain.leads
 
 pub open_act-requires-clause-known : goal.open_act-requires-clause-known
 open_act-requires-clause-known g c = (here g (goal.at.open_act-requires-clause-known g c).In-Some).1
@@ -60,7 +60,7 @@ pub open_act-requires-clause-progress : goal.open_act-requires-clause-progress
 open_act-requires-clause-progress g c =
     let h = here g (goal.at.open_act-requires-clause-progress g c).In-Some in
     over-others g.N.Network.reading c.acts.board c.args.problem.machine.now c.args.problem.ask.now c.args.laid.first c.acts.opening c.acts.store (laid-now g (goal.at.open_act-requires-clause-progress g c).In-Some)
-    c.acts.invariant.led.low c.in-Some.act.0 h.0 h.3 c.acts.invariant.led.progress
+    c.acts.invariant.led.chain.low c.in-Some.act.0 h.0 h.3 c.acts.invariant.led.progress
 
 pub first_to-next-requires : goal.first_to-next-requires
 first_to-next-requires g c =
@@ -74,9 +74,8 @@ acts-init g c =
     let known = laid-known g.N.Network.reading c.args.board.now c.args.problem.machine.now c.args.problem.ask.now c.args.opening.now.goal c.args.laid.first _ c.requires.opened.laid c.requires.posed.origin in
     record {
       led = record {
-        low = 0;
+        chain = record { low = 0; leads = leads-first c.args.problem.machine.now c.args.problem.rooms.now.firsts c.args.problem.rooms.now.nexts c.args.laid.first.loc.0 c.requires.posed.leads c.first_to-next.result known c.first_to-next.ensures };
         within = omega arith;
-        leads = leads-first c.args.problem.machine.now c.args.problem.rooms.now.firsts c.args.problem.rooms.now.nexts c.args.laid.first.loc.0 c.requires.posed.leads c.first_to-next.result known c.first_to-next.ensures;
         progress = subst (λ ps. IsAtProgress c.args.problem.machine.now ps c.args.problem.ask.now c.open_stop.new.opening c.open_stop.new.store (up_to 0 [])) (sym (stop.back c.if-open_stop.false).loaded.plans) (stop.progress c.if-open_stop.false);
       };
       same = stop.same;
@@ -93,9 +92,8 @@ acts-preserved g c =
     let h = here g (goal.at.acts-preserved g c).In-Some in
     record {
       led = record {
-        low = c.in-Some.act.0 + 1;
+        chain = record { low = c.in-Some.act.0 + 1; leads = leads-next c.args.problem.machine.now c.args.problem.rooms.now.firsts c.args.problem.rooms.now.nexts c.args.laid.first.loc.0 c.requires.posed.leads c.in-Some.act c.next_to-next.result h.1 h.2 c.next_to-next.ensures };
         within = (let w = h.1 in omega arith);
-        leads = leads-next c.args.problem.machine.now c.args.problem.rooms.now.firsts c.args.problem.rooms.now.nexts c.args.laid.first.loc.0 c.requires.posed.leads c.in-Some.act c.next_to-next.result h.1 h.2 c.next_to-next.ensures;
         progress = subst (λ ps. IsAtProgress c.args.problem.machine.now ps c.args.problem.ask.now c.open_act.new.opening c.open_act.new.store (up_to (c.in-Some.act.0 + 1) [])) (sym back.loaded.plans) (act.progress c.if-open_act.false);
       };
       same = same-trans c.args.opening.now c.acts.opening c.open_act.new.opening c.args.store.now c.acts.store c.open_act.new.store c.acts.invariant.same act.same;
@@ -112,9 +110,9 @@ acts-smaller g c =
 pub returns-clause-progress : goal.returns-clause-progress
 returns-clause-progress g c none =
     let v = c.acts.invariant in
-    let rest : NoneTo c.args.problem.machine.now.actions c.args.laid.first.loc.0 v.led.low (length c.args.problem.machine.now.actions) = subst (λ n. IsNextTo c.args.problem.machine.now.actions c.args.laid.first.loc.0 v.led.low (number n)) c.in_default.is v.led.leads in
+    let rest : NoneTo c.args.problem.machine.now.actions c.args.laid.first.loc.0 v.led.chain.low (length c.args.problem.machine.now.actions) = subst (λ n. IsNextTo c.args.problem.machine.now.actions c.args.laid.first.loc.0 v.led.chain.low (number n)) c.in_default.is v.led.chain.leads in
     subst (λ ps. IsAtProgress c.args.problem.machine.now ps c.args.problem.ask.now c.acts.opening c.acts.store (up_to (length c.args.problem.machine.now.actions) [])) v.back.loaded.plans
-    (over-others g.N.Network.reading c.acts.board c.args.problem.machine.now c.args.problem.ask.now c.args.laid.first c.acts.opening c.acts.store (laid-same g.N.Network.reading c.args.problem.machine.now c.args.problem.ask.now c.args.laid.first c.args.opening.now c.args.store.now c.acts.board c.acts.opening c.acts.store (λ cs. cs) c.acts.invariant.same c.requires.opened.fresh (laid-back g.N.Network.reading c.args.board.now c.acts.board c.args.problem.machine.now c.args.problem.ask.now c.args.opening.now.goal c.args.laid.first (choices_by c.args.problem.machine.now (choices_before c.args.store.now.entries c.args.opening.now.parent)) c.acts.invariant.back c.requires.opened.laid)) v.led.low (length c.args.problem.machine.now.actions) v.led.within rest v.led.progress)
+    (over-others g.N.Network.reading c.acts.board c.args.problem.machine.now c.args.problem.ask.now c.args.laid.first c.acts.opening c.acts.store (laid-same g.N.Network.reading c.args.problem.machine.now c.args.problem.ask.now c.args.laid.first c.args.opening.now c.args.store.now c.acts.board c.acts.opening c.acts.store (λ cs. cs) c.acts.invariant.same c.requires.opened.fresh (laid-back g.N.Network.reading c.args.board.now c.acts.board c.args.problem.machine.now c.args.problem.ask.now c.args.opening.now.goal c.args.laid.first (choices_by c.args.problem.machine.now (choices_before c.args.store.now.entries c.args.opening.now.parent)) c.acts.invariant.back c.requires.opened.laid)) v.led.chain.low (length c.args.problem.machine.now.actions) v.led.within rest v.led.progress)
 
 pub open_act-requires-clause-count : goal.open_act-requires-clause-count
 open_act-requires-clause-count g c =
