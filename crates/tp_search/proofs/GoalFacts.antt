@@ -4,6 +4,8 @@ use Rattle.std.proofs.lemmas.Bool.{cases_lt}
 use Rattle.std.proofs.lemmas.List.{length_push}
 use Rattle.std.proofs.lemmas.List.Elements.{All-cons, All-nil, All-push, All-weaker, Contains-append_left, Contains-push}
 use Rattle.tp_machine.specs.declared.machine.Machine.{Machine}
+use Rattle.tp_machine.specs.declared.parts.State.{State}
+use Rattle.tp_schedule.specs.Routes.{IsGoalState}
 use Rattle.tp_schedule.specs.Choices.{CanStop, ChoiceList, IsBound, IsOpen, going}
 use Rattle.tp_schedule.specs.declared.parts.Ask.{Ask}
 use Rattle.tp_schedule.specs.declared.parts.Origin.{Origin}
@@ -84,3 +86,22 @@ module _ (machine : Machine) (plans : List Plan) (ask : Ask) where
         let g = a.every s.0 s.1 (subst (λ state. IsOpen machine plans ask (going state [])) (sym s.2) opens) in
         let same : list_of_goal g.0 ≡ list = ap (λ state. going state []) (g.2 ∙ s.2) ∙ sym is in
         subst (Contains (map list_of_goal goals)) same (Contains-map list_of_goal goals g.0 g.1)
+
+  -- where an ask has one goal state, that one alone or none
+  module _ (state : State) (only : (goal : State) → IsGoalState machine ask.want ask.goal goal → goal ≡ state) where
+    is-only : (list : ChoiceList) → list.choices ≡ [] → IsOpen machine plans ask list → list ≡ going state []
+    is-only list none o = (let is = is-going list none o in is ∙ ap (λ s. going s []) (only list.goal o.1.is_list.goal))
+
+    pub goal-alone : (g : OpenGoal) → g.state ≡ state → IsBound machine plans ask (list_of_goal g) g.bound → AreOpenGoals machine plans ask (g ∷ [])
+    goal-alone g is bound = record {
+      bounds = All-cons (λ x. IsBound machine plans ask (list_of_goal x) x.bound) g [] bound (All-nil (λ x. IsBound machine plans ask (list_of_goal x) x.bound));
+      apart = AllPairs-cons (λ x y. x.state ≢ y.state) g [] (All-nil (λ y. g.state ≢ y.state)) (AllPairs-nil (λ x y. x.state ≢ y.state));
+      every = λ list none o. subst (Contains (list_of_goal g ∷ [])) (ap (λ s. going s []) is ∙ sym (is-only list none o)) (Contains-push [] (list_of_goal g));
+    }
+
+    pub goal-none : ¬ IsOpen machine plans ask (going state []) → AreOpenGoals machine plans ask []
+    goal-none shut = record {
+      bounds = All-nil (λ x. IsBound machine plans ask (list_of_goal x) x.bound);
+      apart = AllPairs-nil (λ x y. x.state ≢ y.state);
+      every = λ list none o. absurd (shut (subst (IsOpen machine plans ask) (is-only list none o) o));
+    }

@@ -1,5 +1,5 @@
 -- The mark at a goal: it can be set on a board that carries the goal's list, and the board taken back to it carries that list.
-use Rattle.std.proofs.Common.{◌≡◌, ℕ, ◌-◌, ◌+◌, ◌<◌, List, [], ◌∷◌, ◌++◌, length, take, Some, None, IsSomeAnd, refl, sym, ap, subst, ◌∙◌, arith}
+use Rattle.std.proofs.Common.{◌≡◌, ℕ, ◌-◌, ◌+◌, ◌<◌, ◌≤◌, List, [], ◌∷◌, ◌++◌, length, take, Some, None, IsSomeAnd, refl, sym, ap, subst, ◌∙◌, arith}
 use Rattle.std.proofs.Math.Seq.{take-append_seam}
 use Rattle.std.proofs.lemmas.List.{length-append}
 use Rattle.std.proofs.lemmas.Option.{same_Some}
@@ -11,7 +11,6 @@ use Rattle.tp_schedule.specs.declared.parts.Ask.{Ask}
 use Rattle.tp_placing.specs.Boards.{BoardContent, BoardValue, content_of, past_of, suffix_after, suffix_of}
 use Rattle.tp_placing.specs.Laws.{MarkKeeps, UndoKeeps}
 use Rattle.tp_placing.specs.Standing.{Stands}
-use Rattle.tp_search.specs.Boards.{HasMarks}
 use Rattle.tp_search.specs.Following.{HasList, IsWayTo}
 use Rattle.tp_search.specs.Holding.{CarriesGoal, IsLaidSince}
 use Rattle.tp_search.specs.declared.holding.Root.{Root}
@@ -68,11 +67,8 @@ module _ {N A : Type 0} (reading : Reading N) (untouched : N → A) where
       stands = stands;
     }
 
-  module _ (keeps : MarkKeeps reading untouched) (b b' b'' : BoardValue N) (machine : Machine) (ask : Ask) (base : ℕ) (root : Root) (since : IsLaidSince reading b b' machine ask base None)
+  module _ (keeps : MarkKeeps reading untouched) (b' b'' : BoardValue N) (machine : Machine) (ask : Ask) (root : Root)
       (laid : HasList reading b' machine ask root.goal (going root.goal [])) (m : IsMarked reading untouched b' b'' root.mark.0) where
-    past-was : past_of reading b' ≡ past_of reading b ++ content_of reading b ∷ []
-    past-was = since.past_more ∙ ap (λ kept. past_of reading b ++ content_of reading b ∷ kept) since.are_kept
-
     still : Stands reading b'' machine
     still = keeps b' b'' machine m.content_same m.untouched_same m.past_more laid.stands
 
@@ -86,26 +82,26 @@ module _ {N A : Type 0} (reading : Reading N) (untouched : N → A) where
               (subst (λ ps. IsSomeAnd (suffix_of b') (IsWayTo machine ps ask root.goal (going root.goal []))) (sym load.plans) laid.way);
         }
 
-    pub root-marked : HasMarks reading 8 b → IsLaidSince reading b b'' machine ask base (Some root)
-    root-marked spare = record {
-      number = since.number;
-      kept = content_of reading b' ∷ [];
-      past_more = m.past_more ∙ ap (λ p. p ++ content_of reading b' ∷ []) past-was ∙ two-behind (past_of reading b) (content_of reading b) (content_of reading b');
-      are_kept = (content_of reading b', refl, number-is, subst (λ ps. CarriesGoal machine ps ask root.goal (content_of reading b')) since.loaded.plans laid.way);
-      room = spare;
-      loaded = load-trans reading b b' b'' since.loaded (load-of reading untouched b' b'' m.untouched_same);
-      marks = m.room_same ∙ since.marks;
-      stands = still;
-    } where
+    module _ (b : BoardValue N) (base : ℕ) (since : IsLaidSince reading b b' machine ask base None) where
+      past-was : past_of reading b' ≡ past_of reading b ++ content_of reading b ∷ []
+      past-was = since.past_more ∙ ap (λ kept. past_of reading b ++ content_of reading b ∷ kept) since.are_kept
+
       number-is : root.mark.0 ≡ base + 1
       number-is = omega (arith, m.number, ap length past-was, length-append (past_of reading b) (content_of reading b ∷ []), since.number)
 
--- there is a mark for it
-pub root-spare : {N : Type 0} (reading : Reading N) (b b' : BoardValue N) (machine : Machine) (ask : Ask) (base : ℕ) → IsLaidSince reading b b' machine ask base None → HasMarks reading 8 b
-    → length (past_of reading b') < reading.max_marks b'.net - 1
-root-spare reading b b' machine ask base since spare = omega (arith, spare, ap length since.past_more, ap length since.are_kept, length-append (past_of reading b) (content_of reading b ∷ since.kept), since.marks)
+      pub root-marked : 7 ≤ reading.max_marks b'.net - 1 - length (past_of reading b') → IsLaidSince reading b b'' machine ask base (Some root)
+      root-marked spare = record {
+        number = since.number;
+        kept = content_of reading b' ∷ [];
+        past_more = m.past_more ∙ ap (λ p. p ++ content_of reading b' ∷ []) past-was ∙ two-behind (past_of reading b) (content_of reading b) (content_of reading b');
+        are_kept = (content_of reading b', refl, number-is, subst (λ ps. CarriesGoal machine ps ask root.goal (content_of reading b')) since.loaded.plans laid.way);
+        room = omega (arith, spare, ap length past-was, length-append (past_of reading b) (content_of reading b ∷ []), since.marks);
+        loaded = load-trans reading b b' b'' since.loaded (load-of reading untouched b' b'' m.untouched_same);
+        marks = m.room_same ∙ since.marks;
+        stands = still;
+      }
 
--- nor is the mark at the goal gone
+-- the mark at the goal is in force
 pub root-known : {N : Type 0} (reading : Reading N) (b b' : BoardValue N) (machine : Machine) (ask : Ask) (base : ℕ) (root : Root) → IsLaidSince reading b b' machine ask base (Some root)
     → root.mark.0 < length (past_of reading b')
 root-known reading b b' machine ask base root since =

@@ -1,5 +1,5 @@
 //! The list that a search opened last, which stays on the board: one of its children is laid by its newest choice alone.
-ghost use Rattle.std.specs.Prelude.{◌≡◌, ◌<◌, ◌≤◌, [], length, IfSome, IsTrue, None, Some};
+ghost use Rattle.std.specs.Prelude.{◌≡◌, ℕ, ◌<◌, ◌≤◌, [], length, IfSome, None, Some};
 ghost use Rattle.tp_machine.specs.declared.machine.Machine.{Machine};
 ghost use Rattle.tp_placing.specs.Boards.{BoardValue};
 ghost use Rattle.tp_pool.specs.Entries.{choices_before, choices_of};
@@ -223,7 +223,65 @@ fn back_to_goal<N: Network>(board: &mut Board<N>, problem: Problem, goal: State,
     base
 }
 
-/// Lays a node's list over its goal, at which the board has a mark then.
+/// Marks the board at the goal whose list it carries, where it has a mark for that beside those that an opening sets.
+pub(crate) fn mark_goal<N: Network>(board: &mut Board<N>, goal: State) -> Option<Root>
+    ensures laid { (machine : Machine) (ask : Ask)
+        → HasList N.reading board.old machine ask goal (going goal [])
+        → HasList N.reading board.new machine ask goal (going goal []) }
+    ensures since { (b : BoardValue N) (machine : Machine) (ask : Ask) (base : ℕ)
+        → HasList N.reading board.old machine ask goal (going goal [])
+        → IsLaidSince N.reading b board.old machine ask base None
+        → IsLaidSince N.reading b board.new machine ask base result }
+{
+    marks_keep_boards::<N>();
+    if board.spare_marks() < 7 {
+        return None;
+    }
+    let mark = board.mark();
+    Some(Root { mark, goal })
+}
+
+/// Lays the list of a goal without choices, at which the board has a mark then, where it has one spare.
+fn lay_goal<N: Network>(
+    store: &Store,
+    board: &mut Board<N>,
+    problem: Problem,
+    goal: State,
+    held: Held,
+) -> Held
+    requires posed { IsPosed problem }
+    requires over { (b : BoardValue N)
+        × IsReady N.reading b problem.machine.now problem.ask.now
+        × HasMarks N.reading 1 b
+        × IsOver N.reading b board.old problem.machine.now
+        problem.ask.now (Some held) }
+    requires opens { IsOpen problem.machine.now board.old.plans problem.ask.now (going goal []) }
+    ensures laid { HasList N.reading board.new problem.entry.machine.now
+        problem.entry.ask.now goal (going goal []) }
+    ensures at { result.laid ≡ record { first = goal; count = 0 } }
+    ensures stored { result.stored ≡ length store.now.entries }
+    ensures since { (b : BoardValue N)
+        → IsReady N.reading b problem.entry.machine.now
+        problem.entry.ask.now
+        → IsOver N.reading b board.old problem.entry.machine.now
+        problem.entry.ask.now (Some held)
+        → IsLaidSince N.reading b board.new problem.entry.machine.now
+        problem.entry.ask.now result.base.0 result.root }
+{
+    let base = back_to_goal(board, problem, goal, held);
+    let root = mark_goal(board, goal);
+    Held {
+        base,
+        root,
+        laid: Laid {
+            first: goal,
+            count: 0,
+        },
+        stored: store.len(),
+    }
+}
+
+/// Lays a node's list over its goal.
 fn lay_over_goal<N: Network>(
     store: &Store,
     board: &mut Board<N>,
@@ -234,11 +292,9 @@ fn lay_over_goal<N: Network>(
     requires posed { IsPosed problem }
     requires over { (b : BoardValue N)
         × IsReady N.reading b problem.machine.now problem.ask.now
+        × HasMarks N.reading 1 b
         × IsOver N.reading b board.old problem.machine.now
         problem.ask.now (Some held) }
-    requires room { (b : BoardValue N)
-        → IsOver N.reading b board.old problem.machine.now
-        problem.ask.now (Some held) → HasMarks N.reading 8 b }
     requires there { node < length store.now.entries }
     requires stored { let choices = choices_of store.now.entries node in IsStoredList
         (list_by problem.machine.now choices).goal choices }
@@ -257,33 +313,21 @@ fn lay_over_goal<N: Network>(
         → IsLaidSince N.reading b board.new problem.entry.machine.now
         problem.entry.ask.now result.base.0 result.root }
 {
-    marks_keep_boards::<N>();
     let goal = goal_of(store, node);
-    let base = back_to_goal(board, problem, goal, held);
-    let mark = board.mark();
+    let over = lay_goal(store, board, problem, goal, held);
     let first = lay_choices(store, board, problem, node, goal);
     Held {
-        base,
-        root: Some(Root { mark, goal }),
+        base: over.base,
+        root: over.root,
         laid: Laid {
             first,
             count: store.depth(node),
         },
-        stored: store.len(),
+        stored: over.stored,
     }
 }
 
-/// Whether there is a mark for the goal beside those that an opening sets.
-fn can_keep_goal<N: Network>(board: &Board<N>, held: Held) -> bool
-    ensures { IsTrue result → (b : BoardValue N) (machine : Machine) (ask : Ask)
-        → IsOver N.reading b board.now machine ask (Some held)
-        → HasMarks N.reading 8 b }
-{
-    held.root.is_some() || board.spare_marks() >= 7
-}
-
-/// Lays the list that was taken: by its newest choice alone where it is a child of the held list, or else over its goal where
-/// the board has a mark for that.
+/// Lays the list that was taken: by its newest choice alone where it is a child of the held list, or else over its goal.
 pub(crate) fn lay_next<N: Network>(
     store: &Store,
     board: &mut Board<N>,
@@ -318,12 +362,10 @@ pub(crate) fn lay_next<N: Network>(
         return lay_anew(store, board, problem, next, held);
     };
     match *next {
+        Next::Goal(goal) => lay_goal(store, board, problem, goal.state, parent),
         Next::Node(node) if parent.stored <= node => {
             lay_child(store, board, problem, node, parent)
         }
-        Next::Node(node) if can_keep_goal(board, parent) => {
-            lay_over_goal(store, board, problem, node, parent)
-        }
-        _ => lay_anew(store, board, problem, next, held),
+        Next::Node(node) => lay_over_goal(store, board, problem, node, parent),
     }
 }

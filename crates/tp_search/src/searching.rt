@@ -203,26 +203,36 @@ fn step<N: Network>(
     None
 }
 
-/// Searches from these goals on.
+/// Searches from these goals on, with the list that the board carries to begin with, if there is one.
 pub(crate) fn search<N: Network>(
     goals: &mut Vec<OpenGoal>,
     store: &mut Store,
     board: &mut Board<N>,
     problem: Problem,
+    begun: Option<Held>,
 ) -> Outcome
     requires posed { IsPosed problem }
     requires goal { IsKnownGoal problem.machine.now problem.ask.now.goal }
-    requires ready { IsReady N.reading board.old problem.machine.now
-        problem.ask.now }
-    requires marks { HasMarks N.reading 7 board.old }
+    requires over { (b : BoardValue N)
+        × IsReady N.reading b problem.machine.now problem.ask.now
+        × HasMarks N.reading 7 b
+        × IsOver N.reading b board.old problem.machine.now
+        problem.ask.now begun }
+    requires holds { IfSome begun (HoldsList N.reading board.old
+        problem.machine.now problem.ask.now store.old) }
     requires searching { (bound : ℕ)
         × IsSearching problem.machine.now board.old.plans problem.ask.now goals.old.items store.old
         bound }
-    ensures outcome { IsOutcome N.reading board.old board.new
+    ensures outcome { (b : BoardValue N)
+        → IsReady N.reading b problem.entry.machine.now
+        problem.entry.ask.now
+        → IsOver N.reading b board.old problem.entry.machine.now
+        problem.entry.ask.now begun
+        → IsOutcome N.reading b board.new
         problem.entry.machine.now problem.entry.ask.now store.old.capacity result }
     ensures same { IsSameSpace goals.old goals.new store.old store.new }
 {
-    let mut held = None;
+    let mut held = begun;
     let mut barred = None;
     'steps: loop {
         if let Some(outcome) = step(goals, store, board, problem, &mut held, &mut barred) {

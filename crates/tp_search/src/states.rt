@@ -1,5 +1,5 @@
 //! The states that a search comes to, from the goal states back.
-ghost use Rattle.std.specs.Prelude.{◌≡◌, ◌*◌, ◌<◌, IfNone, IfSome, Some, length};
+ghost use Rattle.std.specs.Prelude.{◌≡◌, ◌<◌, IfNone, IfSome, Some, length};
 ghost use Rattle.tp_schedule.specs.Routes.{HasNoRoom, IsRoom, step_by};
 ghost use Rattle.tp_machine.specs.declared.parts.State.{State};
 ghost use Rattle.tp_search.specs.Problems.{IsPosed};
@@ -7,7 +7,6 @@ ghost use Rattle.tp_search.specs.States.{HasNoGoalAt, HasNoneBefore, IsBefore, I
 
 use crate::problem::Problem;
 use tp_machine::{ActId, State, allowed, regress};
-use tp_routes::state_at;
 use tp_schedule::is_goal;
 
 /// A state with its room, in ticks.
@@ -59,17 +58,14 @@ pub(crate) fn state_before(problem: Problem, state: State, act: ActId) -> Option
     })
 }
 
-/// The state of this number with its room, where it is a goal state of the ask. None where it is no goal state or has no room.
-pub(crate) fn goal_at(problem: Problem, number: u32) -> Option<Before>
+/// The state with its room, where it is a goal state of the ask. None where it is no goal state or has no room.
+pub(crate) fn goal_at(problem: Problem, state: State) -> Option<Before>
     requires posed { IsPosed problem }
-    requires known { number < 8 * length problem.machine.now.locations }
-    ensures some { IfSome result (IsGoalAt problem.entry.machine.now problem.entry.ask.now number) }
+    requires known { state.loc.0 < length problem.machine.now.locations }
+    ensures some { IfSome result (IsGoalAt problem.entry.machine.now problem.entry.ask.now state) }
     ensures none { IfNone result
-        (HasNoGoalAt problem.entry.machine.now problem.entry.ask.now number) }
-    ensures within { IfSome result
-        (λ r. r.state.loc.0 < length problem.entry.machine.now.locations) }
+        (HasNoGoalAt problem.entry.machine.now problem.entry.ask.now state) }
 {
-    let state = state_at(number);
     if !is_goal(problem.machine, problem.ask, state) {
         return None;
     }

@@ -101,8 +101,8 @@ impl Workspace {
             machine,
             ask,
         };
-        find_goals(&mut self.goals, board, problem);
-        search(&mut self.goals, &mut self.store, board, problem)
+        let begun = find_goals(&mut self.goals, board, problem);
+        search(&mut self.goals, &mut self.store, board, problem, begun)
     }
 
     /// Makes a tree that shows that no alternative of the ask, for which the board is loaded with no

@@ -1,40 +1,19 @@
-use Rattle.std.proofs.Common.{◌≡◌, ◌+◌, ◌*◌, ◌≤◌, ◌∷◌, ◌++◌, [], length, vec_capacity, sym, subst, arith}
-use Rattle.tp_schedule.specs.Choices.{IsBound, IsOpen, going}
-use Rattle.tp_routes.specs.Numbers.{state_at}
-use Rattle.tp_search.specs.Searching.{list_of_goal}
-use Rattle.tp_search.proofs.BoardSteps.{back-trans, ready-back}
-use Rattle.tp_search.proofs.GoalFacts.{AreGoalsBelow, goals-all, goals-push, goals-skip}
+-- The goal at a tray of the machine is the only one.
+use Rattle.std.proofs.Common.{◌<◌, Contains, length, sym, subst, ◌∙◌}
+use Rattle.std.proofs.lemmas.List.Elements.{All-contains}
+use Rattle.tp_machine.specs.Machines.{IsLocation}
+use Rattle.tp_machine.specs.declared.parts.State.{State}
+use Rattle.tp_machine.proofs.MachineFacts.{is_machine}
+use Rattle.tp_schedule.specs.Planning.{IsKnownGoal}
+use Rattle.tp_schedule.specs.Routes.{IsGoalState}
 use Rattle.tp_search.proofs.goals.find_goals.Goals as goal
-use Rattle.tp_search.proofs.goals.find_goals.Goals.{in-Some, in_default}
 
-pub try_goal-requires-clause-ready : goal.try_goal-requires-clause-ready
-try_goal-requires-clause-ready g c = ready-back g.N.Network.reading c.args.board.now c.numbers.board c.args.problem.machine.now c.args.problem.ask.now c.numbers.invariant.back c.requires.ready
+pub find_finished-requires-clause-known : goal.find_finished-requires-clause-known
+find_finished-requires-clause-known g c =
+    let machine = c.args.problem.machine.now in
+    let known : Contains machine.trays c.in-Tray.tray = subst (IsKnownGoal machine) c.in-Tray.is c.requires.goal in
+    subst (λ (s : State). s.loc.0 < length machine.locations) (sym c.finished-state.ensures) (All-contains (IsLocation machine) machine.trays c.in-Tray.tray (is_machine machine).trays known)
 
-pub numbers-preserved : goal.numbers-preserved
-numbers-preserved g c =
-    let i = c.numbers.invariant in
-    let found : AreGoalsBelow c.args.problem.machine.now c.args.board.now.plans c.args.problem.ask.now (c.numbers.number + 1) c.match-try_goal.goals.items = elim c.match-try_goal.branch [
-      | in-Some w ↦ (let more : c.match-try_goal.goals.items ≡ c.numbers.goals.items ++ w.in-Some.goal ∷ [] = cc w.push_reserved.ensures.items in
-          subst (AreGoalsBelow c.args.problem.machine.now c.args.board.now.plans c.args.problem.ask.now (c.numbers.number + 1)) (sym more)
-          (goals-push c.args.problem.machine.now c.args.board.now.plans c.args.problem.ask.now c.numbers.number c.numbers.goals.items w.in-Some.goal i.goals w.in-Some.ensures.state
-          (subst (λ ps. IsBound c.args.problem.machine.now ps c.args.problem.ask.now (list_of_goal w.in-Some.goal) w.in-Some.goal.bound) i.back.loaded.plans w.in-Some.ensures.bound)))
-      | in_default w ↦ (let same : c.match-try_goal.goals.items ≡ c.numbers.goals.items = cc in
-          subst (AreGoalsBelow c.args.problem.machine.now c.args.board.now.plans c.args.problem.ask.now (c.numbers.number + 1)) (sym same)
-          (goals-skip c.args.problem.machine.now c.args.board.now.plans c.args.problem.ask.now c.numbers.number c.numbers.goals.items i.goals
-          (subst (λ ps. ¬ IsOpen c.args.problem.machine.now ps c.args.problem.ask.now (going (state_at c.numbers.number) [])) i.back.loaded.plans w.in_default.ensures.none)))
-    ] in
-    let space : vec_capacity c.args.goals.now ≤ vec_capacity c.match-try_goal.goals = elim c.match-try_goal.branch [
-      | in-Some w ↦ (let same : vec_capacity c.match-try_goal.goals ≡ vec_capacity w.push_reserved.new.self = cc in omega (arith, w.push_reserved.ensures.capacity, i.space))
-      | in_default w ↦ (let same : vec_capacity c.match-try_goal.goals ≡ vec_capacity c.numbers.goals = cc in omega (arith, i.space))
-    ] in
-    record {
-      goals = found;
-      back = back-trans g.N.Network.reading c.args.board.now c.numbers.board c.try_goal.new.board c.args.problem.machine.now i.back c.try_goal.ensures.back;
-      space = space;
-    }
-
-pub returns-clause-goals : goal.returns-clause-goals
-returns-clause-goals g c =
-    let last : c.numbers.number ≡ 8 * length c.args.problem.machine.now.locations = omega arith in
-    goals-all c.args.problem.machine.now c.args.board.now.plans c.args.problem.ask.now c.numbers.goals.items c.requires.posed.origin
-    (subst (λ n. AreGoalsBelow c.args.problem.machine.now c.args.board.now.plans c.args.problem.ask.now n c.numbers.goals.items) last c.numbers.invariant.goals)
+pub find_finished-requires-clause-only : goal.find_finished-requires-clause-only
+find_finished-requires-clause-only g c state is =
+    subst (λ goal'. IsGoalState c.args.problem.machine.now c.args.problem.ask.now.want goal' state) c.in-Tray.is is ∙ sym c.finished-state.ensures

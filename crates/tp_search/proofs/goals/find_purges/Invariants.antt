@@ -1,7 +1,7 @@
 use Rattle.std.proofs.Common.{◌≤◌, vec_capacity}
 use Rattle.tp_search.specs.Boards.{IsBack}
 use Rattle.tp_search.proofs.GoalFacts.{AreGoalsBelow}
-use Rattle.tp_search.proofs.goals.find_goals.Given as goal
+use Rattle.tp_search.proofs.goals.find_purges.Given as goal
 
 -- the open goals of smaller numbers were found, and the board is back
 abbrev pub invariant-numbers : goal.invariant-numbers
