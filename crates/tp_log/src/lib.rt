@@ -22,6 +22,6 @@ pub use item::Item;
 pub use laws::{one_log, one_log_line};
 pub use line::print_echo;
 pub use log_line::{LogLine, read_log_line};
-pub use printing::print_record;
+pub use printing::{print_record, print_record_by};
 pub use reading::read_log;
 pub use record_laws::record_law;

@@ -119,6 +119,20 @@ fn put_record(out: &mut Vec<u8>, rec: &Record) -> Result<(), Memory>
     }
 }
 
+/// Appends the record's line as `print_record` does. It is made in `line` first, whose old text goes: many records are
+/// printed in the memory of one line.
+pub fn print_record_by(rec: &Record, line: &mut Vec<u8>, out: &mut Vec<u8>) -> Result<(), Memory>
+    requires { IsPrintable rec.now }
+    ensures printed { OnOk result (out.new.items ≡ out.old.items ++ record_text rec.now) }
+    ensures memory { OnErr result (out.new.items ≡ out.old.items) }
+{
+    line.clear();
+    put_record(line, rec)?;
+    line.push(b'\n')?;
+    out.extend_from_slice(line)?;
+    Ok(())
+}
+
 /// Appends the record's line, with its LF: words with one space between, numbers without leading
 /// zeros. After `Memory` the buffer is as before.
 pub fn print_record(rec: &Record, out: &mut Vec<u8>) -> Result<(), Memory>
@@ -126,9 +140,6 @@ pub fn print_record(rec: &Record, out: &mut Vec<u8>) -> Result<(), Memory>
     ensures printed { OnOk result (out.new.items ≡ out.old.items ++ record_text rec.now) }
     ensures memory { OnErr result (out.new.items ≡ out.old.items) }
 {
-    let mut text = Vec::with_capacity(*out.allocator(), LINE_BYTES)?;
-    put_record(&mut text, rec)?;
-    text.push(b'\n')?;
-    out.extend_from_slice(&text)?;
-    Ok(())
+    let mut line = Vec::with_capacity(*out.allocator(), LINE_BYTES)?;
+    print_record_by(rec, &mut line, out)
 }

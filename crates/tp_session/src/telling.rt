@@ -12,7 +12,7 @@ ghost use Rattle.tp_session.specs.Texts.{IsLonger};
 
 use tp_base::Memory;
 use tp_bounds::{BoundTree, print_tree};
-use tp_log::{print_echo, print_record, record_law};
+use tp_log::{print_echo, print_record_by, record_law};
 use tp_schedule::Record;
 use tp_script::Event;
 
@@ -85,15 +85,17 @@ fn put_first<'t>(trees: &'t [BoundTree], out: &mut Vec<u8>) -> Result<&'t [Bound
     }
 }
 
-/// Appends the line of the record, and the lines of a tree where one stands behind it. Tells the trees that are left.
+/// Appends the line of the record, made in `line`, and the lines of a tree where one stands behind it. Tells the trees that are
+/// left.
 fn put_record<'t>(
     before: bool,
     rec: &Record,
     more: &[Record],
     trees: &'t [BoundTree],
+    line: &mut Vec<u8>,
     out: &mut Vec<u8>,
 ) -> Result<&'t [BoundTree], Memory>
-    requires line { IsRecord rec.now }
+    requires is_record { IsRecord rec.now }
     requires printable { All IsPrintable trees.now }
     ensures left { IfOk result
         (λ left. left.now ≡ drop (trees_behind before rec.now more.now) trees.now) }
@@ -104,7 +106,7 @@ fn put_record<'t>(
         (map (λ t. Tree t) (take (trees_behind before rec.now more.now) trees.now))) }
     ensures grows { IsLonger out.old.items out.new.items }
 {
-    print_record(rec, out)?;
+    print_record_by(rec, line, out)?;
     if takes_tree(before, rec, more) {
         put_first(trees, out)
     } else {
@@ -124,8 +126,9 @@ fn put_items(records: &[Record], trees: &[BoundTree], out: &mut Vec<u8>) -> Resu
     let mut rest = records;
     let mut left = trees;
     let mut of_plan = false;
+    let mut line = Vec::new(*out.allocator());
     'records: while let Some((rec, more)) = first_record(rest) {
-        left = put_record(of_plan, rec, more, left, out)?;
+        left = put_record(of_plan, rec, more, left, &mut line, out)?;
         of_plan = is_of_plan(of_plan, rec);
         rest = more;
     }
