@@ -1,5 +1,5 @@
 -- What records may name, and the points of plans.
-use Rattle.std.specs.Prelude.{ℕ, ◌<◌, Bool, false, List, [], ◌∷◌, length, map, Option, Some, None}
+use Rattle.std.specs.Prelude.{◌≡◌, ℕ, ◌+◌, ◌<◌, position, Bool, false, List, [], ◌∷◌, length, map, Option, Some, None}
 use Rattle.tp_machine.specs.declared.parts.ActId.{ActId}
 use Rattle.tp_machine.specs.declared.machine.Machine.{Machine}
 use Rattle.tp_schedule.specs.Answers.{kept_of}
@@ -21,6 +21,10 @@ IsKnown machine act = act.0 < length machine.actions
 -- the points of each plan
 abbrev pub points_of : List Plan → List (List ℕ)
 points_of plans = map (λ p. p.points) plans
+
+-- the copy has a plan, and another one stands behind it
+abbrev pub IsNotLast : SheetId → List Plan → Type 0
+IsNotLast copy plans = (at : ℕ) × (position (λ p. is_same_copy p.sheet copy) plans ≡ Some at) × (at + 1 < length plans)
 
 -- the plan is the copy's, where one is named
 abbrev pub is_of : Option SheetId → Plan → Bool

@@ -1,8 +1,8 @@
 //! The points of plans as they stand, noted in one list: beside them it can be told later which plans moved.
 
-ghost use Rattle.std.specs.Prelude.{◌≡◌, ◌<◌, ◌+◌, ◌++◌, ◌∷◌, [], length, sum_by, slice_get, Some, IfOk, IfSome, OnOk};
+ghost use Rattle.std.specs.Prelude.{◌≡◌, ◌<◌, ◌+◌, ◌++◌, ◌∷◌, [], length, sum_by, slice_get, Some, IfNone, IfOk, IfSome, OnOk};
 ghost use Rattle.tp_schedule.specs.Plans.{without};
-ghost use Rattle.tp_telling.specs.Telling.{is_of, others, points_of};
+ghost use Rattle.tp_telling.specs.Telling.{IsNotLast, is_of, others, points_of};
 
 use std::alloc::Global;
 use std::marker::Model;
@@ -63,6 +63,7 @@ impl Times {
         requires others { self ≡ points_of (without copy schedule.now.plans) }
         ensures all { IfOk result (λ times. IfSome times (λ t. t
             ≡ points_of schedule.now.plans)) }
+        ensures none { IfOk result (λ times. IfNone times (IsNotLast copy schedule.now.plans)) }
     {
         schedule.ordered();
         let Some(at) = schedule.find(copy) else {

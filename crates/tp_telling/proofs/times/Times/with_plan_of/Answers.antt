@@ -5,7 +5,18 @@ use Rattle.tp_telling.proofs.LastPlan.{none-there, place-within, points-last}
 use Rattle.tp_telling.proofs.times.Times.with_plan_of.Goals as goal
 
 pub returns-in_default : goal.returns-in_default
-returns-in_default c = record { all = c.requires.others ∙ ap points_of (none-there c.args.copy c.args.schedule.now.plans (sym c.in_default.is ∙ c.find.ensures)) }
+returns-in_default c = record {
+  all = c.requires.others ∙ ap points_of (none-there c.args.copy c.args.schedule.now.plans (sym c.in_default.is ∙ c.find.ensures));
+  none = tt;
+}
+
+pub returns-then-at-len : goal.returns-then-at-len
+returns-then-at-len c =
+    let len = c.len.ensures.len in
+    record {
+      all = tt;
+      none = (c.in-Some.at, sym c.find.ensures ∙ c.in-Some.is, omega (arith, c.if-at-len.true));
+    }
 
 pub overflow_add-at : goal.overflow_add-at
 overflow_add-at c =
@@ -21,4 +32,5 @@ returns c =
     record {
       all = c.in_ok-push.ensures ∙ ap (λ ts. ts ++ c.plan_at.result.now.points ∷ []) c.requires.others
           ∙ points-last c.args.copy c.args.schedule.now.plans c.in-Some.at c.plan_at.result.now (sym c.in-Some.is ∙ c.find.ensures) few c.plan_at.ensures.plan;
+      none = tt;
     }
