@@ -39,7 +39,8 @@ impl Blocked {
     pub fn add(&mut self, loc: LocId)
         requires { loc.0 < most_locations }
         ensures { (location : LocId)
-            → is_blocked self.new location ≡ ((location.0 == loc.0) || is_blocked self.old location) }
+            → is_blocked self.new location
+            ≡ ((location.0 == loc.0) || is_blocked self.old location) }
     {
         self.marks[usize::from(loc.0)] = true;
     }
