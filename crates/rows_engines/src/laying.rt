@@ -151,7 +151,7 @@ fn put<N: Network>(
 
 /// A way that is laid: the state at which it begins, and how many choices it has.
 #[derive(Clone, Copy)]
-pub(crate) struct Laid {
+pub(crate) struct LaidWay {
     pub(crate) first: State,
     pub(crate) many: u32,
 }
@@ -163,7 +163,7 @@ fn lay_next<N: Network>(
     rooms: &Rooms,
     machine: &Machine,
     ask: &Ask,
-    way: Laid,
+    way: LaidWay,
     choice: (ActId, u32, u32),
 ) -> Result<State, Fail>
     requires table { IsTableFor rooms.now machine.now }
@@ -192,7 +192,7 @@ pub(crate) fn bound_with<N: Network>(
     rooms: &Rooms,
     machine: &Machine,
     ask: &Ask,
-    way: Laid,
+    way: LaidWay,
     choice: (ActId, u32, u32),
 ) -> Result<Tick, Fail>
     requires table { IsTableFor rooms.now machine.now }
@@ -310,7 +310,7 @@ pub(crate) fn lay<N: Network>(
     let mut first = goal;
     'choices: for at in 0..way.len() {
         let many = at as u32;
-        first = lay_next(board, rooms, machine, ask, Laid { first, many }, way[at])?;
+        first = lay_next(board, rooms, machine, ask, LaidWay { first, many }, way[at])?;
     }
     Ok(first)
 }

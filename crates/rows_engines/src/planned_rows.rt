@@ -9,7 +9,7 @@ ghost use Rattle.rows_engines.specs.Laying.{IsLaid};
 
 use crate::by_hand::{FEED, OUT, PRINT1, PRINT2, ask_for, goal_of, name_of};
 use crate::laying::{
-    Laid, begin, bound_with, bounds_where_late, follow, is_askable, lay, tried_at,
+    LaidWay, begin, bound_with, bounds_where_late, follow, is_askable, lay, tried_at,
 };
 use std::alloc::Global;
 use std::process::Abort;
@@ -216,7 +216,7 @@ fn bounds_of<N: Network>(
     let (ask, first) = second_begun(alloc, board, rooms, machine, way)?;
     let bound = board.end_bound();
     let many = way.len() as u32;
-    let laid = Laid { first, many };
+    let laid = LaidWay { first, many };
     let [one, other] = choices;
     let with_one = bound_with(board, rooms, machine, &ask, laid, one)?;
     let with_other = bound_with(board, rooms, machine, &ask, laid, other)?;

@@ -6,7 +6,7 @@ ghost use Rattle.tp_routes.specs.Tables.{IsMadeFor as IsTableFor};
 use crate::by_hand::{OUT, name_of};
 use crate::laying::bounds_where_late;
 use crate::planned_rows::second_begun;
-use crate::telling::{Reason, reason_by, reason_of};
+use crate::telling::{NamedChain, reason_by, reason_of};
 use std::alloc::Global;
 use std::process::Abort;
 use std::test::Fail;
@@ -41,7 +41,7 @@ fn place_reason<N: Network>(
     board: &mut Board<N>,
     rooms: &mut Rooms,
     machine: &Machine,
-) -> Result<Reason, Fail>
+) -> Result<NamedChain, Fail>
     requires made { IsMadeFor board.old.made_for machine.now }
     requires table { IsTableFor rooms.old machine.now }
     ensures made { OnOk result (IsMadeFor board.new.made_for machine.now) }
@@ -59,7 +59,7 @@ fn end_reason<N: Network>(
     rooms: &mut Rooms,
     machine: &Machine,
     last: Tick,
-) -> Result<Reason, Fail>
+) -> Result<NamedChain, Fail>
     requires made { IsMadeFor board.old.made_for machine.now }
     requires table { IsTableFor rooms.old machine.now }
 {
@@ -68,7 +68,7 @@ fn end_reason<N: Network>(
 }
 
 /// Whether a reason is a circle of these two edges, wherever it is said to begin.
-fn is_circle_of(reason: &Reason, one: (Why, Spot), other: (Why, Spot)) -> bool {
+fn is_circle_of(reason: &NamedChain, one: (Why, Spot), other: (Why, Spot)) -> bool {
     match reason.edges.as_slice() {
         [first, second] => {
             reason.first.is_none()

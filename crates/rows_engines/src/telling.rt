@@ -12,7 +12,7 @@ use tp_placing::{Board, Spot, Why};
 
 /// The point where a chain begins, if it is one, and of each edge why it stands and the point that it leads to.
 #[derive(Drop)]
-pub(crate) struct Reason {
+pub(crate) struct NamedChain {
     pub(crate) first: Option<Spot>,
     pub(crate) edges: Vec<(Why, Spot)>,
 }
@@ -39,18 +39,18 @@ fn edge_names<N: Network>(
 }
 
 /// The names of the last refusal's reason.
-pub(crate) fn reason_of<N: Network>(alloc: Global, board: &Board<N>) -> Result<Reason, Fail>
+pub(crate) fn reason_of<N: Network>(alloc: Global, board: &Board<N>) -> Result<NamedChain, Fail>
     requires stands { (m : Machine) × Stands N.reading board.now m }
     requires told { IsTold N.refutes board.now }
     ensures { IfOk result
         (λ reason. AreNames N.refutes board.now reason.first reason.edges.items) }
 {
     match board.reason() {
-        Proof::Chain { first, edges } => Ok(Reason {
+        Proof::Chain { first, edges } => Ok(NamedChain {
             first: Some(board.spot_of(first)),
             edges: edge_names(alloc, board, edges)?,
         }),
-        Proof::Circle { edges } => Ok(Reason {
+        Proof::Circle { edges } => Ok(NamedChain {
             first: None,
             edges: edge_names(alloc, board, edges)?,
         }),
@@ -62,7 +62,7 @@ pub(crate) fn reason_by<N: Network>(
     alloc: Global,
     board: &mut Board<N>,
     last: Tick,
-) -> Result<Reason, Fail>
+) -> Result<NamedChain, Fail>
     requires stands { (m : Machine) × Stands N.reading board.old m }
     requires open { IsSome (suffix_of board.old) }
     ensures { IfOk result

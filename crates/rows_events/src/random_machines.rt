@@ -192,7 +192,7 @@ fn text_of(alloc: Global, number: u64, gaps: &str) -> Result<Vec<u8>, Fail> {
 /// What was seen: how many plans, the sum of the last ends of all schedules, at how many ticks a resource was looked at,
 /// and at how many of them it is not as the machine asks.
 #[derive(Clone, Copy, Default, Debug)]
-struct Seen {
+struct AnswersSeen {
     plans: u64,
     ends: u64,
     ticks: u64,
@@ -210,7 +210,7 @@ fn last_end(schedule: &Schedule) -> Tick {
     last
 }
 
-impl Seen {
+impl AnswersSeen {
     /// Looks at each resource at each tick until all holds have ended, as all do 9 ticks after their plan.
     fn look(&mut self, schedule: &Schedule, machine: &Machine) {
         let last = last_end(schedule);
@@ -266,14 +266,19 @@ fn run_both(
     alloc: Global,
     number: u64,
     machine: &Machine,
-    apart: &mut Seen,
-    close: &mut Seen,
+    apart: &mut AnswersSeen,
+    close: &mut AnswersSeen,
 ) -> Result<(), Fail> {
     apart.run(alloc, number, GAPS, machine)?;
     close.run(alloc, number, "", machine)
 }
 
-fn compare(alloc: Global, number: u64, apart: &mut Seen, close: &mut Seen) -> Result<(), Fail> {
+fn compare(
+    alloc: Global,
+    number: u64,
+    apart: &mut AnswersSeen,
+    close: &mut AnswersSeen,
+) -> Result<(), Fail> {
     let text = text_of(alloc, number, GAPS)?;
     let machine = machine_of(alloc, text.as_slice())?;
     let compared = run_both(alloc, number, &machine, apart, close);
@@ -283,8 +288,8 @@ fn compare(alloc: Global, number: u64, apart: &mut Seen, close: &mut Seen) -> Re
 
 #[test]
 fn schedules_of_random_machines(rt: HostRuntime) -> Result<(), Fail> {
-    let mut apart = Seen::default();
-    let mut close = Seen::default();
+    let mut apart = AnswersSeen::default();
+    let mut close = AnswersSeen::default();
     for number in 0..60 {
         compare(rt.alloc(), number, &mut apart, &mut close)?;
     }

@@ -148,9 +148,9 @@ fn budgets(rt: HostRuntime) -> Result<(), Fail> {
 }
 
 /// What is kept after a script: the moment, how many events came, and how many plans are live.
-type Kept = (u32, u32, u32);
+type KeptCounts = (u32, u32, u32);
 
-fn kept(session: &Session) -> Kept {
+fn kept(session: &Session) -> KeptCounts {
     (session.now(), session.events(), session.schedule().len())
 }
 
@@ -160,14 +160,18 @@ fn kept_between(
     session: &mut Session,
     first: &[&[u8]],
     second: &[&[u8]],
-) -> Result<(Kept, Vec<u8>), Fail> {
+) -> Result<(KeptCounts, Vec<u8>), Fail> {
     take_lines(alloc, session, first)?;
     let kept = kept(session);
     session.clear_text();
     Ok((kept, text_after(alloc, session, second)?))
 }
 
-fn kept_on_duo(alloc: Global, first: &[&[u8]], second: &[&[u8]]) -> Result<(Kept, Vec<u8>), Fail> {
+fn kept_on_duo(
+    alloc: Global,
+    first: &[&[u8]],
+    second: &[&[u8]],
+) -> Result<(KeptCounts, Vec<u8>), Fail> {
     let mut session = session_on(alloc, DUO.as_bytes(), None)?;
     let kept = kept_between(alloc, &mut session, first, second);
     drop(session);

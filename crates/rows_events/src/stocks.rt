@@ -76,7 +76,7 @@ impl Count {
 /// How many events were taken and how many of them were refused, how many sheets were refilled, and how often what was left
 /// was as counted and how often it was nothing.
 #[derive(Clone, Copy, Default, Debug)]
-struct Seen {
+struct StocksSeen {
     events: u32,
     refused: u32,
     refilled: u32,
@@ -84,7 +84,7 @@ struct Seen {
     empty: u32,
 }
 
-impl Seen {
+impl StocksSeen {
     fn look(&mut self, left: u32, count: &Count) {
         self.events = self.events.saturating_add(1);
         if count.leaves(left) {
@@ -149,7 +149,7 @@ fn step(
     session: &mut Session,
     dice: &mut Dice,
     count: &mut Count,
-    seen: &mut Seen,
+    seen: &mut StocksSeen,
 ) -> Result<(), Fail> {
     let mut line = Vec::new(alloc);
     let sheets = next_line(dice, session.now(), &mut line)?;
@@ -163,7 +163,12 @@ fn step(
 }
 
 /// Takes 60 lines of the script of this number.
-fn watch(alloc: Global, session: &mut Session, number: u64, seen: &mut Seen) -> Result<(), Fail> {
+fn watch(
+    alloc: Global,
+    session: &mut Session,
+    number: u64,
+    seen: &mut StocksSeen,
+) -> Result<(), Fail> {
     let mut dice = Dice::new(number);
     let mut count = Count::new(alloc);
     for _ in 0..60 {
@@ -180,7 +185,7 @@ fn stocked(alloc: Global) -> Result<String, Fail> {
 }
 
 /// Runs a session on the machine with a stock.
-fn run(alloc: Global, number: u64, seen: &mut Seen) -> Result<(), Fail> {
+fn run(alloc: Global, number: u64, seen: &mut StocksSeen) -> Result<(), Fail> {
     let text = stocked(alloc)?;
     let mut session = session_on(alloc, text.as_bytes(), None)?;
     let watched = watch(alloc, &mut session, number, seen);
@@ -190,7 +195,7 @@ fn run(alloc: Global, number: u64, seen: &mut Seen) -> Result<(), Fail> {
 
 #[test]
 fn stocks_of_random_scripts(rt: HostRuntime) -> Result<(), Fail> {
-    let mut seen = Seen::default();
+    let mut seen = StocksSeen::default();
     for number in 0..8 {
         run(rt.alloc(), number, &mut seen)?;
     }

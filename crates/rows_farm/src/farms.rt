@@ -67,15 +67,15 @@ fn text_of(alloc: Global, machines: [&str; 2], script: &[u8]) -> Result<Vec<u8>,
 }
 
 #[derive(Clone, Copy)]
-struct Row {
+struct FarmRow {
     machines: [&'static str; 2],
     script: &'static [u8],
     told: &'static [u8],
 }
 
-const ROWS: [Row; 6] = [
+const ROWS: [FarmRow; 6] = [
     // Jobs go where they end first; a name that was accepted goes where it was; the clock goes to all.
-    Row {
+    FarmRow {
         machines: [DUO, LINE],
         script: b"job j1 t plain C-:F\n\
             job j2 t plain M-:F\n\
@@ -97,7 +97,7 @@ const ROWS: [Row; 6] = [
             1 refused syntax\n",
     },
     // Of equal ends the least number has the job.
-    Row {
+    FarmRow {
         machines: [LINE, LINE],
         script: b"job j1 t plain M-:F\njob j2 t plain M-:F\n",
         told: b"1 > job j1 t plain M-:F\n\
@@ -106,7 +106,7 @@ const ROWS: [Row; 6] = [
             2 plan j2.1.1 t 3 feed 5 print2 11 out 14\n",
     },
     // Where all refuse, machine 1 tells why, and the name stays free.
-    Row {
+    FarmRow {
         machines: [LINE, LINE],
         script: b"job j1 x plain M-:F\n  # no job\n\njob j1 t plain M-:F\njob j1 t plain M-:F",
         told: b"1 > job j1 x plain M-:F\n\
@@ -117,7 +117,7 @@ const ROWS: [Row; 6] = [
             1 refused named j1\n",
     },
     // A job that none can plan goes to the first that takes it; a machine with a waiting line is passed by.
-    Row {
+    FarmRow {
         machines: [LINE, LINE],
         script: b"at 1 off ENG2\r\n\
             at 2 off ENG2\n\
@@ -136,7 +136,7 @@ const ROWS: [Row; 6] = [
             1 plan j1.1.1 t 3 feed 5 print2 11 out 14\n",
     },
     // A job that the first can never print goes to the second.
-    Row {
+    FarmRow {
         machines: [LINE, DUO],
         script: b"job j1 t plain C-:F\nat  2   jam ENG1\n",
         told: b"2 > job j1 t plain C-:F\n\
@@ -146,7 +146,7 @@ const ROWS: [Row; 6] = [
             2 none j1.1.1 t\n",
     },
     // Off the grammar of a farm.
-    Row {
+    FarmRow {
         machines: [LINE, LINE],
         script: b"at 9 jam ENG2\n\
             at 0 jam ENG2\n\

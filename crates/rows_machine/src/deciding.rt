@@ -19,44 +19,48 @@ use tp_schedule::{Hold, Schedule};
 
 /// What is told of a schedule: what clashes, or else what breaks floor or horizon at 0, or else what could stand earlier.
 #[derive(Clone, Copy, PartialEq, Eq, Debug)]
-enum Told {
+enum FirstFault {
     Clash(Clash),
     Bound(PlanPoint),
     Early(Option<Early>),
 }
 
-fn told_of_bounded(alloc: Global, machine: &Machine, schedule: &Schedule) -> Result<Told, Fail>
+fn told_of_bounded(
+    alloc: Global,
+    machine: &Machine,
+    schedule: &Schedule,
+) -> Result<FirstFault, Fail>
     requires legal { IsLegal machine.now schedule.now.plans }
     requires floors { KeepsFloors machine.now 0 (is_exempt None) schedule.now.plans }
 {
     match find_past_horizon(machine, 0, schedule) {
-        Some(point) => Ok(Told::Bound(point)),
-        None => Ok(Told::Early(find_early(alloc, machine, 0, None, schedule)?)),
+        Some(point) => Ok(FirstFault::Bound(point)),
+        None => Ok(FirstFault::Early(find_early(alloc, machine, 0, None, schedule)?)),
     }
 }
 
-fn told_of_legal(alloc: Global, machine: &Machine, schedule: &Schedule) -> Result<Told, Fail>
+fn told_of_legal(alloc: Global, machine: &Machine, schedule: &Schedule) -> Result<FirstFault, Fail>
     requires { IsLegal machine.now schedule.now.plans }
 {
     match find_below_floor(machine, 0, None, schedule) {
-        Some(point) => Ok(Told::Bound(point)),
+        Some(point) => Ok(FirstFault::Bound(point)),
         None => told_of_bounded(alloc, machine, schedule),
     }
 }
 
-fn told_of(alloc: Global, machine: &Machine, schedule: &Schedule) -> Result<Told, Fail> {
+fn told_of(alloc: Global, machine: &Machine, schedule: &Schedule) -> Result<FirstFault, Fail> {
     let found = find_clash(alloc, machine, schedule)?;
     match found {
-        Some(clash) => Ok(Told::Clash(clash)),
+        Some(clash) => Ok(FirstFault::Clash(clash)),
         None => told_of_legal(alloc, machine, schedule),
     }
 }
 
 /// What prints the second sheet, the points of its plan, and what is told.
-type Row = (u16, (Tick, Tick, Tick, Tick), Told);
+type DecidingRow = (u16, (Tick, Tick, Tick, Tick), FirstFault);
 
-fn overlap(act: u32, free: i64, begin: i64) -> Told {
-    Told::Clash(Clash::Overlap {
+fn overlap(act: u32, free: i64, begin: i64) -> FirstFault {
+    FirstFault::Clash(Clash::Overlap {
         earlier: Hold { sheet: SECOND, act },
         later: Hold { sheet: FIRST, act },
         free,
@@ -64,15 +68,15 @@ fn overlap(act: u32, free: i64, begin: i64) -> Told {
     })
 }
 
-fn point_of_second(at: u32, tick: Tick) -> Told {
-    Told::Bound(PlanPoint {
+fn point_of_second(at: u32, tick: Tick) -> FirstFault {
+    FirstFault::Bound(PlanPoint {
         sheet: SECOND,
         at,
         tick,
     })
 }
 
-fn rows() -> [Row; 7] {
+fn rows() -> [DecidingRow; 7] {
     let early = Early {
         sheet: SECOND,
         at: 2,
@@ -87,14 +91,14 @@ fn rows() -> [Row; 7] {
     };
     let slow = Clash::NotTimed { sheet: SECOND };
     [
-        (1, (3, 5, 14, 17), Told::Early(None)),
-        (1, (3, 5, 15, 18), Told::Early(Some(early))),
+        (1, (3, 5, 14, 17), FirstFault::Early(None)),
+        (1, (3, 5, 15, 18), FirstFault::Early(Some(early))),
         // The first engine takes at least 9 ticks.
-        (1, (3, 5, 13, 17), Told::Clash(slow)),
+        (1, (3, 5, 13, 17), FirstFault::Clash(slow)),
         // The second engine has both sheets.
         (2, (3, 5, 11, 17), overlap(2, 11, 7)),
         // The second sheet comes first.
-        (1, (0, 2, 11, 14), Told::Clash(line)),
+        (1, (0, 2, 11, 14), FirstFault::Clash(line)),
         // A start below now + lead is too early, and an end past now + window too late.
         (1, (2, 4, 13, 17), point_of_second(0, 2)),
         (1, (180, 182, 191, 201), point_of_second(3, 201)),

@@ -6,20 +6,20 @@ use std::test::Fail;
 
 /// A port of a part. No action leads to port 0 of its part, and none leads from port 2.
 #[derive(Clone, Copy, PartialEq, Eq)]
-pub(crate) struct End {
+pub(crate) struct PartPort {
     pub(crate) part: u32,
     pub(crate) port: u32,
 }
 
-impl fmt::Display for End {
+impl fmt::Display for PartPort {
     fn fmt<W: fmt::Write>(&self, f: &mut fmt::Formatter<W>) -> fmt::Result {
-        let End { part, port } = *self;
+        let PartPort { part, port } = *self;
         write!(f, "p{part}.q{port}")
     }
 }
 
 /// The END that feeds new sheets.
-pub(crate) const FEEDER: End = End { part: 0, port: 0 };
+pub(crate) const FEEDER: PartPort = PartPort { part: 0, port: 0 };
 
 /// An action of a type, from a port to a port.
 #[derive(Clone, Copy)]
@@ -35,8 +35,8 @@ pub(crate) struct Deed {
 /// Two ENDs that are joined.
 #[derive(Clone, Copy)]
 pub(crate) struct Join {
-    pub(crate) first: End,
-    pub(crate) second: End,
+    pub(crate) first: PartPort,
+    pub(crate) second: PartPort,
 }
 
 /// Parts by their types, the actions of all types, joins and trays.
@@ -46,19 +46,19 @@ pub(crate) struct Rack {
     pub(crate) deeds: Vec<Deed>,
     pub(crate) parts: Vec<u32>,
     pub(crate) joins: Vec<Join>,
-    pub(crate) trays: Vec<End>,
+    pub(crate) trays: Vec<PartPort>,
 }
 
-fn is_joined(joins: &[Join], end: End) -> bool {
+fn is_joined(joins: &[Join], end: PartPort) -> bool {
     joins.iter().any(|j| j.first == end || j.second == end)
 }
 
 /// Whether this END would lead to the feeder or from the last part's tray, if it were joined there.
-fn is_foul(end: End, other: End, last: End) -> bool {
+fn is_foul(end: PartPort, other: PartPort, last: PartPort) -> bool {
     (other == FEEDER && end.port != 0) || (other == last && end.port != 2)
 }
 
-fn may_join(joins: &[Join], first: End, second: End, last: End) -> bool {
+fn may_join(joins: &[Join], first: PartPort, second: PartPort, last: PartPort) -> bool {
     first != second
         && !is_joined(joins, first)
         && !is_joined(joins, second)
@@ -68,9 +68,9 @@ fn may_join(joins: &[Join], first: End, second: End, last: End) -> bool {
 
 /// Numbers that look random, each made from the one before.
 #[derive(Clone, Copy)]
-pub(crate) struct Draws(pub(crate) u64);
+pub(crate) struct RackDraws(pub(crate) u64);
 
-impl Draws {
+impl RackDraws {
     pub(crate) fn below(&mut self, sides: u32) -> u32 {
         self.0 = self
             .0
@@ -118,14 +118,20 @@ impl Draws {
         Ok(parts)
     }
 
-    fn end(&mut self, count: u32) -> End {
+    fn end(&mut self, count: u32) -> PartPort {
         let part = self.below(count);
         let port = self.below(3);
-        End { part, port }
+        PartPort { part, port }
     }
 
     /// Joins the two ENDs, one of them first, where they may be joined.
-    fn join(&mut self, joins: &mut Vec<Join>, one: End, other: End, last: End) -> Result<(), Fail> {
+    fn join(
+        &mut self,
+        joins: &mut Vec<Join>,
+        one: PartPort,
+        other: PartPort,
+        last: PartPort,
+    ) -> Result<(), Fail> {
         if !may_join(joins.as_slice(), one, other, last) {
             return Ok(());
         }
@@ -139,15 +145,15 @@ impl Draws {
     }
 
     /// Most parts stand in a row, and some more ENDs are joined.
-    fn joins(&mut self, alloc: Global, count: u32, last: End) -> Result<Vec<Join>, Fail> {
+    fn joins(&mut self, alloc: Global, count: u32, last: PartPort) -> Result<Vec<Join>, Fail> {
         let mut joins = Vec::new(alloc);
         for part in 1..count {
-            let before = End {
+            let before = PartPort {
                 part: part - 1,
                 port: 2,
             };
             if !self.is_once_in(8) {
-                self.join(&mut joins, before, End { part, port: 0 }, last)?;
+                self.join(&mut joins, before, PartPort { part, port: 0 }, last)?;
             }
         }
         for _ in 0..4 {
@@ -159,11 +165,16 @@ impl Draws {
     }
 
     /// The last part's tray, and some of the ports 2 that are not joined.
-    fn trays(&mut self, alloc: Global, joins: &[Join], last: End) -> Result<Vec<End>, Fail> {
+    fn trays(
+        &mut self,
+        alloc: Global,
+        joins: &[Join],
+        last: PartPort,
+    ) -> Result<Vec<PartPort>, Fail> {
         let mut trays = Vec::new(alloc);
         trays.push(last)?;
         for part in 0..last.part {
-            let end = End { part, port: 2 };
+            let end = PartPort { part, port: 2 };
             if !is_joined(joins, end) && self.is_once_in(2) {
                 trays.push(end)?;
             }
@@ -176,7 +187,7 @@ impl Draws {
         let kinds = self.below(3).saturating_add(1);
         let before = self.below(3).saturating_add(1);
         let count = before.saturating_add(1);
-        let last = End {
+        let last = PartPort {
             part: before,
             port: 2,
         };
@@ -237,7 +248,7 @@ fn put_joins(alloc: Global, joins: &[Join], text: &mut String) -> Result<(), Fai
     Ok(())
 }
 
-fn put_trays(alloc: Global, trays: &[End], text: &mut String) -> Result<(), Fail> {
+fn put_trays(alloc: Global, trays: &[PartPort], text: &mut String) -> Result<(), Fail> {
     text.push_str("trays = [\n")?;
     for tray in trays {
         let line = format!(in alloc; "\"{tray}\",\n")?;

@@ -1,6 +1,6 @@
 //! In racks made at random a list of actions is a route of a new copy exactly where it is a walk through the rack.
 
-use crate::drawn_racks::{Deed, Draws, End, FEEDER, Join, Rack};
+use crate::drawn_racks::{Deed, FEEDER, Join, PartPort, Rack, RackDraws};
 use std::alloc::Global;
 use std::test::Fail;
 use tp_base::Name;
@@ -17,8 +17,8 @@ struct Pair {
 
 /// The END that a sheet came to, which side is up, and which sides are done.
 #[derive(Clone, Copy)]
-struct Stop {
-    end: End,
+struct WalkStop {
+    end: PartPort,
     up: Face,
     front_done: bool,
     back_done: bool,
@@ -26,12 +26,12 @@ struct Stop {
 
 /// Where a list of actions leads in the rack and in its machine.
 #[derive(Clone, Copy)]
-struct Trial {
-    walk: Option<Stop>,
+struct ListTrial {
+    walk: Option<WalkStop>,
     route: Option<State>,
 }
 
-fn is_one_place(joins: &[Join], one: End, other: End) -> bool {
+fn is_one_place(joins: &[Join], one: PartPort, other: PartPort) -> bool {
     one == other
         || joins.iter().any(|j| {
             (j.first == one && j.second == other) || (j.first == other && j.second == one)
@@ -73,9 +73,9 @@ fn turned(face: Face) -> Face {
 
 /// The action leads from where the sheet is. It prints the side that is up, where mono is wanted there and isn't done, and
 /// may turn the sheet.
-fn walked(joins: &[Join], sheet: &Sheet, stop: Stop, pair: Pair) -> Option<Stop> {
+fn walked(joins: &[Join], sheet: &Sheet, stop: WalkStop, pair: Pair) -> Option<WalkStop> {
     let Pair { part, deed } = pair;
-    let from = End {
+    let from = PartPort {
         part,
         port: deed.from,
     };
@@ -86,8 +86,8 @@ fn walked(joins: &[Join], sheet: &Sheet, stop: Stop, pair: Pair) -> Option<Stop>
     if !is_one_place(joins, stop.end, from) || (deed.mono && (is_done || want != Want::Mono)) {
         return None;
     }
-    Some(Stop {
-        end: End {
+    Some(WalkStop {
+        end: PartPort {
             part,
             port: deed.to,
         },
@@ -104,8 +104,8 @@ fn longer(
     sheet: &Sheet,
     actions: &[Action],
     pairs: &[Pair],
-    trials: &[Trial],
-) -> Result<Vec<Trial>, Fail> {
+    trials: &[ListTrial],
+) -> Result<Vec<ListTrial>, Fail> {
     let mut all = Vec::new(alloc);
     for trial in trials {
         for (action, pair) in actions.iter().zip(pairs) {
@@ -117,7 +117,7 @@ fn longer(
                 Some(state) => step(action, sheet, state),
                 None => None,
             };
-            all.push(Trial { walk, route })?;
+            all.push(ListTrial { walk, route })?;
         }
     }
     Ok(all)
@@ -130,7 +130,7 @@ fn is_finished(sheet: &Sheet, up: Face, front_done: bool, back_done: bool) -> bo
         && back_done == (sheet.back != Want::Blank)
 }
 
-fn is_walk(rack: &Rack, sheet: &Sheet, walk: Option<Stop>) -> bool {
+fn is_walk(rack: &Rack, sheet: &Sheet, walk: Option<WalkStop>) -> bool {
     let Some(stop) = walk else {
         return false;
     };
@@ -149,13 +149,13 @@ fn is_route(trays: &[LocId], sheet: &Sheet, route: Option<State>) -> bool {
 }
 
 /// The list of no action, from the one feeder.
-fn start(machine: &Machine) -> Result<Trial, Fail> {
+fn start(machine: &Machine) -> Result<ListTrial, Fail> {
     let [feeder] = machine.feeders.as_slice() else {
         return Err(Fail::from("not one feeder"));
     };
     let up = Face::Front;
-    Ok(Trial {
-        walk: Some(Stop {
+    Ok(ListTrial {
+        walk: Some(WalkStop {
             end: FEEDER,
             up,
             front_done: false,
@@ -173,15 +173,15 @@ fn start(machine: &Machine) -> Result<Trial, Fail> {
 /// How many racks came to a machine, how many lists of actions were looked at, how many of them are walks, and how many
 /// are either a walk or a route but not both.
 #[derive(Clone, Copy, Default, Debug)]
-struct Seen {
+struct WalksSeen {
     racks: u64,
     lists: u64,
     walks: u64,
     wrong: u64,
 }
 
-impl Seen {
-    fn count(&mut self, rack: &Rack, machine: &Machine, sheet: &Sheet, trials: &[Trial]) {
+impl WalksSeen {
+    fn count(&mut self, rack: &Rack, machine: &Machine, sheet: &Sheet, trials: &[ListTrial]) {
         for trial in trials {
             let walk = is_walk(rack, sheet, trial.walk);
             let route = is_route(machine.trays.as_slice(), sheet, trial.route);
@@ -254,7 +254,7 @@ impl Seen {
 
     // What a function lets go of at its end is proved anew for each of its ways out. So what is large is lent to a function that may
     // fail, and then given to `drop`, which is proved once.
-    fn draw(&mut self, alloc: Global, draws: &mut Draws) -> Result<(), Fail> {
+    fn draw(&mut self, alloc: Global, draws: &mut RackDraws) -> Result<(), Fail> {
         let rack = draws.rack(alloc)?;
         let looked = self.look_at_rack(alloc, &rack);
         drop(rack);
@@ -276,8 +276,8 @@ fn machine_for(alloc: Global, rack: &Rack) -> Result<Option<Machine>, Fail> {
 
 #[test]
 fn routes_are_walks(rt: HostRuntime) -> Result<(), Fail> {
-    let mut draws = Draws(1);
-    let mut seen = Seen::default();
+    let mut draws = RackDraws(1);
+    let mut seen = WalksSeen::default();
     for _ in 0..100 {
         seen.draw(rt.alloc(), &mut draws)?;
     }

@@ -5,9 +5,9 @@ use std::alloc::Global;
 use std::test::Fail;
 
 /// A part of a snapshot, what stands there instead, and the rule that it breaks then: 0 for none, and 11 where it is no JSON.
-type Row = (&'static str, &'static str, u8);
+type BrokenRow = (&'static str, &'static str, u8);
 
-const ONE_BROKEN: [Row; 58] = [
+const ONE_BROKEN: [BrokenRow; 58] = [
     (r#""format""#, r#""formal""#, 1),
     (r#"{"format""#, r#"{"more":0,"format""#, 1),
     (r#""format":1"#, r#""format":2"#, 2),
@@ -92,14 +92,14 @@ const ONE_BROKEN: [Row; 58] = [
     ("3,5,11,14", "4,6,12,15", 0),
 ];
 
-const JAMMED_BROKEN: [Row; 4] = [
+const JAMMED_BROKEN: [BrokenRow; 4] = [
     ("j1.1.2", "j1.1.1", 5),
     ("3,5,11", "5,7,13", 8),
     ("9,11,20,23", "10,12,21,24", 10),
     (r#""out":["ENG2"]"#, r#""out":[]"#, 0),
 ];
 
-const AFTERMATH_BROKEN: [Row; 14] = [
+const AFTERMATH_BROKEN: [BrokenRow; 14] = [
     (r#""stock":[3]"#, r#""stock":[null]"#, 3),
     (r#""stock":[3]"#, r#""stock":[1000257]"#, 3),
     (r#""stock":[3]"#, r#""stock":[1000256]"#, 0),
@@ -137,7 +137,7 @@ fn changed(alloc: Global, text: &str, part: &str, other: &str) -> Result<String,
 }
 
 /// The number of the first row whose rule isn't told.
-fn first_untold(alloc: Global, saved: Saved, rows: &[Row]) -> Result<Option<usize>, Fail> {
+fn first_untold(alloc: Global, saved: Saved, rows: &[BrokenRow]) -> Result<Option<usize>, Fail> {
     let text = text_of(alloc, saved)?;
     for (number, (part, other, rule)) in rows.iter().enumerate() {
         let text = changed(alloc, &text, part, other)?;

@@ -16,7 +16,7 @@ use tp_schedule::{Acts, Ask, Goal, Kind, Origin, Plan, Points, Schedule};
 /// What is changed: a digit to the next one or the one before, where 0 follows 9; a word left out, or exchanged with the
 /// one before it on its line; a line left out, or written twice.
 #[derive(Clone, Copy)]
-enum Change {
+enum TextChange {
     Raised,
     Lowered,
     LeftOut,
@@ -27,7 +27,7 @@ enum Change {
 
 /// How many trees are accepted, off the grammar, and of each flaw.
 #[derive(Clone, Copy, PartialEq, Eq, Debug)]
-struct Counts {
+struct FlawCounts {
     bound: u32,
     unread: u32,
     room_row: u32,
@@ -39,7 +39,7 @@ struct Counts {
 
 /// A tree with what it is checked against.
 #[derive(Clone, Copy)]
-struct Case<'a> {
+struct CheckedTree<'a> {
     machine: &'a Machine,
     schedule: &'a Schedule,
     ask: &'a Ask,
@@ -149,25 +149,35 @@ fn line(alloc: Global, text: &[u8], at: usize, twice: bool) -> Result<Option<Vec
 }
 
 /// The text changed at this place, if there is something to change.
-fn changed(alloc: Global, text: &[u8], change: Change, at: usize) -> Result<Option<Vec<u8>>, Fail>
+fn changed(
+    alloc: Global,
+    text: &[u8],
+    change: TextChange,
+    at: usize,
+) -> Result<Option<Vec<u8>>, Fail>
     requires { at < length text.now }
 {
     match change {
-        Change::Raised => digit(alloc, text, at, 1),
-        Change::Lowered => digit(alloc, text, at, 9),
-        Change::LeftOut => left_out(alloc, text, at),
-        Change::Exchanged => exchanged(alloc, text, at),
-        Change::LineLeftOut => line(alloc, text, at, false),
-        Change::LineTwice => line(alloc, text, at, true),
+        TextChange::Raised => digit(alloc, text, at, 1),
+        TextChange::Lowered => digit(alloc, text, at, 9),
+        TextChange::LeftOut => left_out(alloc, text, at),
+        TextChange::Exchanged => exchanged(alloc, text, at),
+        TextChange::LineLeftOut => line(alloc, text, at, false),
+        TextChange::LineTwice => line(alloc, text, at, true),
     }
 }
 
 /// The counts with a text more.
-fn counted(alloc: Global, case: &Case, text: &[u8], counts: Counts) -> Result<Counts, Fail> {
+fn counted(
+    alloc: Global,
+    case: &CheckedTree,
+    text: &[u8],
+    counts: FlawCounts,
+) -> Result<FlawCounts, Fail> {
     let tree = match read(alloc, text) {
         Ok(tree) => tree,
         Err(TreeFault::Bad(_)) => {
-            return Ok(Counts {
+            return Ok(FlawCounts {
                 unread: counts.unread.saturating_add(1),
                 ..counts
             });
@@ -197,7 +207,7 @@ fn counted(alloc: Global, case: &Case, text: &[u8], counts: Counts) -> Result<Co
 }
 
 /// What becomes of the tree by every change of the kind.
-fn counts_of(alloc: Global, case: &Case, change: Change) -> Result<Counts, Fail> {
+fn counts_of(alloc: Global, case: &CheckedTree, change: TextChange) -> Result<FlawCounts, Fail> {
     let mut counts = row([0; 7]);
     for at in 0..case.text.len() {
         if let Some(text) = changed(alloc, case.text, change, at)? {
@@ -208,7 +218,7 @@ fn counts_of(alloc: Global, case: &Case, change: Change) -> Result<Counts, Fail>
 }
 
 /// Counts in the order of their fields.
-fn row(counts: [u32; 7]) -> Counts {
+fn row(counts: [u32; 7]) -> FlawCounts {
     let [
         bound,
         unread,
@@ -218,7 +228,7 @@ fn row(counts: [u32; 7]) -> Counts {
         weak,
         not_dead,
     ] = counts;
-    Counts {
+    FlawCounts {
         bound,
         unread,
         room_row,
@@ -230,9 +240,9 @@ fn row(counts: [u32; 7]) -> Counts {
 }
 
 /// A kind of change, and what becomes of the tree by all changes of the kind.
-type Row = (Change, [u32; 7]);
+type ChangeRow = (TextChange, [u32; 7]);
 
-fn count_rows(alloc: Global, case: &Case, rows: &[Row]) -> Result<(), Fail> {
+fn count_rows(alloc: Global, case: &CheckedTree, rows: &[ChangeRow]) -> Result<(), Fail> {
     let unchanged = counted(alloc, case, case.text, row([0; 7]))?;
     if unchanged != row([1, 0, 0, 0, 0, 0, 0]) {
         return Err(Fail::from("a tree that is not accepted"));
@@ -252,10 +262,10 @@ fn are_counted(
     ask: &Ask,
     claim: Claim,
     text: &[u8],
-    rows: &[Row],
+    rows: &[ChangeRow],
 ) -> Result<(), Fail> {
     let machine = machine_of(alloc, DUO)?;
-    let case = Case {
+    let case = CheckedTree {
         machine: &machine,
         schedule,
         ask,
@@ -314,12 +324,12 @@ fn first_sheet_changed(rt: HostRuntime) -> Result<(), Fail> {
              b room p:F10 11\n\
              b 0 goal t:F10 chain *0\n";
     let rows = [
-        (Change::Raised, [0, 4, 14, 2, 1, 0, 0]),
-        (Change::Lowered, [1, 10, 6, 2, 1, 1, 0]),
-        (Change::LeftOut, [0, 20, 0, 0, 0, 0, 0]),
-        (Change::Exchanged, [0, 20, 0, 0, 0, 0, 0]),
-        (Change::LineLeftOut, [0, 0, 5, 1, 0, 0, 0]),
-        (Change::LineTwice, [0, 0, 5, 1, 0, 0, 0]),
+        (TextChange::Raised, [0, 4, 14, 2, 1, 0, 0]),
+        (TextChange::Lowered, [1, 10, 6, 2, 1, 1, 0]),
+        (TextChange::LeftOut, [0, 20, 0, 0, 0, 0, 0]),
+        (TextChange::Exchanged, [0, 20, 0, 0, 0, 0, 0]),
+        (TextChange::LineLeftOut, [0, 0, 5, 1, 0, 0, 0]),
+        (TextChange::LineTwice, [0, 0, 5, 1, 0, 0, 0]),
     ];
     let ask = ask_of(1, Outs(0))?;
     let schedule = Schedule::new(rt.alloc());
@@ -349,12 +359,12 @@ fn second_sheet_changed(rt: HostRuntime) -> Result<(), Fail> {
              b 4 at r2 0 0 chain *2 d:*1 r2:*/2>j1.1.1/2 d:j1.1.1@2 d:j1.1.1@3 l:*0\n\
              b 4 at r2 1 1 chain j1.1.1@0 d:j1.1.1@1 d:j1.1.1@2 r2:j1.1.1/2>*/2 d:*1 d:*0\n";
     let rows = [
-        (Change::Raised, [0, 4, 14, 19, 49, 0, 0]),
-        (Change::Lowered, [2, 10, 6, 21, 47, 0, 0]),
-        (Change::LeftOut, [0, 59, 0, 0, 11, 3, 0]),
-        (Change::Exchanged, [4, 59, 0, 0, 10, 0, 0]),
-        (Change::LineLeftOut, [0, 0, 5, 8, 0, 0, 0]),
-        (Change::LineTwice, [0, 0, 5, 8, 0, 0, 0]),
+        (TextChange::Raised, [0, 4, 14, 19, 49, 0, 0]),
+        (TextChange::Lowered, [2, 10, 6, 21, 47, 0, 0]),
+        (TextChange::LeftOut, [0, 59, 0, 0, 11, 3, 0]),
+        (TextChange::Exchanged, [4, 59, 0, 0, 10, 0, 0]),
+        (TextChange::LineLeftOut, [0, 0, 5, 8, 0, 0, 0]),
+        (TextChange::LineTwice, [0, 0, 5, 8, 0, 0, 0]),
     ];
     let ask = ask_of(2, Outs(0))?;
     let schedule = schedule_of(rt.alloc(), first_plan()?)?;
@@ -376,12 +386,12 @@ fn tray_out_of_reach_changed(rt: HostRuntime) -> Result<(), Fail> {
              b room p:F10 11\n\
              b 0 goal t:F10 dead\n";
     let rows = [
-        (Change::Raised, [0, 3, 11, 2, 0, 0, 0]),
-        (Change::Lowered, [1, 8, 5, 2, 0, 0, 0]),
-        (Change::LeftOut, [0, 16, 0, 0, 0, 0, 0]),
-        (Change::Exchanged, [0, 16, 0, 0, 0, 0, 0]),
-        (Change::LineLeftOut, [0, 0, 4, 1, 0, 0, 0]),
-        (Change::LineTwice, [0, 0, 4, 1, 0, 0, 0]),
+        (TextChange::Raised, [0, 3, 11, 2, 0, 0, 0]),
+        (TextChange::Lowered, [1, 8, 5, 2, 0, 0, 0]),
+        (TextChange::LeftOut, [0, 16, 0, 0, 0, 0, 0]),
+        (TextChange::Exchanged, [0, 16, 0, 0, 0, 0, 0]),
+        (TextChange::LineLeftOut, [0, 0, 4, 1, 0, 0, 0]),
+        (TextChange::LineTwice, [0, 0, 4, 1, 0, 0, 0]),
     ];
     let ask = ask_of(1, OUT)?;
     let schedule = Schedule::new(rt.alloc());
@@ -404,12 +414,12 @@ fn copy_in_flight_changed(rt: HostRuntime) -> Result<(), Fail> {
              b 5 stop chain *2 d:*1 d:*0\n\
              b 5 act feed dead\n";
     let rows = [
-        (Change::Raised, [2, 4, 7, 16, 6, 0, 0]),
-        (Change::Lowered, [2, 6, 5, 16, 6, 0, 0]),
-        (Change::LeftOut, [0, 49, 0, 0, 2, 2, 0]),
-        (Change::Exchanged, [2, 49, 0, 0, 2, 0, 0]),
-        (Change::LineLeftOut, [0, 0, 4, 8, 0, 0, 0]),
-        (Change::LineTwice, [0, 0, 4, 8, 0, 0, 0]),
+        (TextChange::Raised, [2, 4, 7, 16, 6, 0, 0]),
+        (TextChange::Lowered, [2, 6, 5, 16, 6, 0, 0]),
+        (TextChange::LeftOut, [0, 49, 0, 0, 2, 2, 0]),
+        (TextChange::Exchanged, [2, 49, 0, 0, 2, 0, 0]),
+        (TextChange::LineLeftOut, [0, 0, 4, 8, 0, 0, 0]),
+        (TextChange::LineTwice, [0, 0, 4, 8, 0, 0, 0]),
     ];
     let ask = ask_on(Goal::Tray(TRAY))?;
     let schedule = schedule_of(rt.alloc(), front()?)?;
@@ -435,12 +445,12 @@ fn purge_changed(rt: HostRuntime) -> Result<(), Fail> {
              b 0 goal p:B00 dead\n\
              b 0 goal p:B10 dead\n";
     let rows = [
-        (Change::Raised, [1, 5, 7, 10, 1, 1, 0]),
-        (Change::Lowered, [1, 11, 5, 6, 1, 1, 0]),
-        (Change::LeftOut, [0, 29, 0, 0, 0, 0, 0]),
-        (Change::Exchanged, [0, 29, 0, 0, 0, 0, 0]),
-        (Change::LineLeftOut, [0, 0, 4, 4, 0, 0, 0]),
-        (Change::LineTwice, [0, 0, 4, 4, 0, 0, 0]),
+        (TextChange::Raised, [1, 5, 7, 10, 1, 1, 0]),
+        (TextChange::Lowered, [1, 11, 5, 6, 1, 1, 0]),
+        (TextChange::LeftOut, [0, 29, 0, 0, 0, 0, 0]),
+        (TextChange::Exchanged, [0, 29, 0, 0, 0, 0, 0]),
+        (TextChange::LineLeftOut, [0, 0, 4, 4, 0, 0, 0]),
+        (TextChange::LineTwice, [0, 0, 4, 4, 0, 0, 0]),
     ];
     let ask = ask_on(Goal::Purge)?;
     let schedule = schedule_of(rt.alloc(), front()?)?;

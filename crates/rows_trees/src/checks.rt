@@ -124,14 +124,14 @@ fn flaw_of(
 }
 
 /// A claim, a tree, and its first flaw.
-type Row = (Claim, &'static [u8], Option<TreeFlaw>);
+type CheckRow = (Claim, &'static [u8], Option<TreeFlaw>);
 
 fn are_told_on(
     alloc: Global,
     machine: &Machine,
     schedule: &Schedule,
     ask: &Ask,
-    rows: &[Row],
+    rows: &[CheckRow],
 ) -> Result<(), Fail> {
     for (claim, text, wanted) in rows {
         let flaw = flaw_of(alloc, machine, schedule, ask, *claim, *text)?;
@@ -144,7 +144,7 @@ fn are_told_on(
 
 // What a function lets go of at its end is proved anew for each of its ways out. So what is large is lent to a function that may
 // fail, and then given to `drop`, which is proved once.
-fn are_told(alloc: Global, schedule: &Schedule, ask: &Ask, rows: &[Row]) -> Result<(), Fail> {
+fn are_told(alloc: Global, schedule: &Schedule, ask: &Ask, rows: &[CheckRow]) -> Result<(), Fail> {
     let machine = machine_of(alloc, DUO)?;
     let told = are_told_on(alloc, &machine, schedule, ask, rows);
     drop(machine);
@@ -153,7 +153,7 @@ fn are_told(alloc: Global, schedule: &Schedule, ask: &Ask, rows: &[Row]) -> Resu
 
 #[test]
 fn first_sheet(rt: HostRuntime) -> Result<(), Fail> {
-    let rows: [Row; 10] = [
+    let rows: [CheckRow; 10] = [
         // A first sheet ends at 14.
         (
             Claim::Earliest(14),
@@ -282,7 +282,7 @@ fn first_sheet(rt: HostRuntime) -> Result<(), Fail> {
 
 #[test]
 fn second_sheet(rt: HostRuntime) -> Result<(), Fail> {
-    let rows: [Row; 6] = [
+    let rows: [CheckRow; 6] = [
         // The second sheet ends at 17.
         (
             Claim::Earliest(17),
@@ -406,7 +406,7 @@ fn second_sheet(rt: HostRuntime) -> Result<(), Fail> {
 
 #[test]
 fn tray_out_of_reach(rt: HostRuntime) -> Result<(), Fail> {
-    let rows: [Row; 2] = [
+    let rows: [CheckRow; 2] = [
         // No sheet comes to the tray.
         (
             Claim::Never,
@@ -440,10 +440,10 @@ fn look_without_sheets(alloc: Global, schedule: &Schedule) -> Result<(), Fail> {
         empty: Empties::none().with(LocId(0)),
         ..ask
     };
-    let dead: [Row; 1] = [(Claim::Never, text, None)];
+    let dead: [CheckRow; 1] = [(Claim::Never, text, None)];
     are_told(alloc, schedule, &without_sheets, &dead)?;
     // Where the feeder isn't empty, it needs a row.
-    let lacking: [Row; 1] = [(Claim::Never, text, Some(TreeFlaw::RoomRow { row: 0 }))];
+    let lacking: [CheckRow; 1] = [(Claim::Never, text, Some(TreeFlaw::RoomRow { row: 0 }))];
     are_told(alloc, schedule, &ask, &lacking)
 }
 

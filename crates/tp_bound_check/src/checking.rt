@@ -10,7 +10,7 @@ ghost use Rattle.tp_trees.specs.declared.claim.TreeFlaw.TheVariants.{Memory as N
 
 use crate::kept::{goal_states, kept_orders, live_part};
 use crate::links::{by_end, by_start};
-use crate::orders::Scene;
+use crate::orders::CheckScene;
 use crate::rows::Rows;
 use crate::sheets::Sheets;
 use crate::table::Table;
@@ -66,7 +66,7 @@ fn check_kept(
         Ok(ends) => ends,
         Err(memory) => return Err(wanting(memory)),
     };
-    let scene = Scene {
+    let scene = CheckScene {
         rows: *rows,
         plans,
         orders: orders.as_slice(),

@@ -9,10 +9,10 @@ ghost use Rattle.tp_trees.specs.Rows.{row_of};
 ghost use Rattle.tp_trees.specs.Trees.{chain_look, close_look, dead_look, loop_look, may_be_dead, reach_look};
 ghost use Rattle.tp_trees.specs.Trees.Look.{due};
 
-use crate::dues::{Fault, Frame};
+use crate::dues::{Frame, NodeFault};
 use crate::following::Walk;
 use crate::naming::spot_of;
-use crate::orders::Scene;
+use crate::orders::CheckScene;
 use crate::points::Point;
 use crate::ranks::Ranks;
 use crate::stands::Stand;
@@ -30,30 +30,30 @@ fn may_be_dead(head: &Head) -> bool
 }
 
 /// A sum above its cap closes a node.
-fn reach_look(reach: i64, cap: i64) -> Result<(), Fault>
+fn reach_look(reach: i64, cap: i64) -> Result<(), NodeFault>
     ensures ok { OnOk result (reach_look reach cap ≡ due []) }
     ensures fault { IfErr result (IsFaultOf (reach_look reach cap)) }
 {
     if cap < reach {
         Ok(())
     } else {
-        Err(Fault::Weak { reach, cap })
+        Err(NodeFault::Weak { reach, cap })
     }
 }
 
-impl<'a> Scene<'a> {
+impl<'a> CheckScene<'a> {
     /// A dead node's state has no row.
-    fn dead_look(&self, stand: &Stand, head: &Head) -> Result<(), Fault>
+    fn dead_look(&self, stand: &Stand, head: &Head) -> Result<(), NodeFault>
         ensures ok { OnOk result (dead_look (may_be_dead head.now) (row_of self.now.rows.machine.now
             self.now.rows.rows.now stand.now.branch.first) ≡ due []) }
         ensures fault { IfErr result (IsFaultOf (dead_look (may_be_dead head.now) (row_of
             self.now.rows.machine.now self.now.rows.rows.now stand.now.branch.first))) }
     {
         if !may_be_dead(head) {
-            return Err(Fault::NotDead);
+            return Err(NodeFault::NotDead);
         }
         match self.rows.row_of(stand.branch.first()) {
-            Some(_) => Err(Fault::NotDead),
+            Some(_) => Err(NodeFault::NotDead),
             None => Ok(()),
         }
     }
@@ -64,7 +64,7 @@ impl<'a> Scene<'a> {
         ranks: &Ranks,
         first: &TreePoint,
         hops: &Hops,
-    ) -> Result<(), Fault>
+    ) -> Result<(), NodeFault>
         requires sound { IsSoundStand self.now.rows.machine.now self.now.plans.now stand.now
             ranks.now }
         ensures ok { OnOk result (chain_look self.now.rows.machine.now self.now.plans.now
@@ -76,11 +76,17 @@ impl<'a> Scene<'a> {
     {
         match spot_of(self.plans, stand.branch.count(), first) {
             Some(at) => self.chain_from(stand, ranks, at, hops),
-            None => Err(Fault::NoSuchHop(0)),
+            None => Err(NodeFault::NoSuchHop(0)),
         }
     }
 
-    fn chain_from(&self, stand: &Stand, ranks: &Ranks, at: Point, hops: &Hops) -> Result<(), Fault>
+    fn chain_from(
+        &self,
+        stand: &Stand,
+        ranks: &Ranks,
+        at: Point,
+        hops: &Hops,
+    ) -> Result<(), NodeFault>
         requires sound { IsSoundStand self.now.rows.machine.now self.now.plans.now stand.now
             ranks.now }
         ensures ok { OnOk result (chain_look self.now.rows.machine.now self.now.plans.now
@@ -96,7 +102,7 @@ impl<'a> Scene<'a> {
         };
         match self.follow(stand, ranks, from, hops) {
             Ok(walk) => reach_look(walk.sum, self.cap(&stand.branch, walk.at)),
-            Err(hop) => Err(Fault::NoSuchHop(hop)),
+            Err(hop) => Err(NodeFault::NoSuchHop(hop)),
         }
     }
 
@@ -106,7 +112,7 @@ impl<'a> Scene<'a> {
         ranks: &Ranks,
         first: &TreePoint,
         hops: &Hops,
-    ) -> Result<(), Fault>
+    ) -> Result<(), NodeFault>
         requires sound { IsSoundStand self.now.rows.machine.now self.now.plans.now stand.now
             ranks.now }
         ensures ok { OnOk result (loop_look self.now.rows.machine.now self.now.plans.now
@@ -118,11 +124,17 @@ impl<'a> Scene<'a> {
     {
         match spot_of(self.plans, stand.branch.count(), first) {
             Some(at) => self.loop_from(stand, ranks, at, hops),
-            None => Err(Fault::NoSuchHop(0)),
+            None => Err(NodeFault::NoSuchHop(0)),
         }
     }
 
-    fn loop_from(&self, stand: &Stand, ranks: &Ranks, at: Point, hops: &Hops) -> Result<(), Fault>
+    fn loop_from(
+        &self,
+        stand: &Stand,
+        ranks: &Ranks,
+        at: Point,
+        hops: &Hops,
+    ) -> Result<(), NodeFault>
         requires sound { IsSoundStand self.now.rows.machine.now self.now.plans.now stand.now
             ranks.now }
         ensures ok { OnOk result (loop_look self.now.rows.machine.now self.now.plans.now
@@ -138,10 +150,10 @@ impl<'a> Scene<'a> {
                 if walk.at.is(at) {
                     reach_look(walk.sum, 0)
                 } else {
-                    Err(Fault::NoSuchHop(hops.len().saturating_sub(1)))
+                    Err(NodeFault::NoSuchHop(hops.len().saturating_sub(1)))
                 }
             }
-            Err(hop) => Err(Fault::NoSuchHop(hop)),
+            Err(hop) => Err(NodeFault::NoSuchHop(hop)),
         }
     }
 
@@ -152,7 +164,7 @@ impl<'a> Scene<'a> {
         ranks: &Ranks,
         head: &Head,
         close: &Close,
-    ) -> Result<Frame, Fault>
+    ) -> Result<Frame, NodeFault>
         requires sound { IsSoundStand self.now.rows.machine.now self.now.plans.now stand
             ranks.now }
         requires shallow { IsShallowStand stand }

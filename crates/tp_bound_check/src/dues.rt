@@ -5,7 +5,7 @@ use tp_machine::HoldRule;
 
 /// What is wrong with a node.
 #[derive(Clone, Copy)]
-pub(crate) enum Fault {
+pub(crate) enum NodeFault {
     Uncovered,
     NoSuchHop(u32),
     Weak { reach: i64, cap: i64 },

@@ -19,7 +19,7 @@ use crate::branch::Branch;
 use crate::found::{Cut, Ends, Part, Track};
 use crate::hops::{duration_gap, line_gap};
 use crate::naming::{resource_of, spot_of, start_of};
-use crate::orders::{Scene, rule_law};
+use crate::orders::{CheckScene, rule_law};
 use crate::points::{Gap, Point, Slot};
 use crate::ranks::Ranks;
 use crate::stands::{Span, Stand};
@@ -110,7 +110,7 @@ fn start_floor(machine: &Machine, ask: &Ask) -> u64
     }
 }
 
-impl<'a> Scene<'a> {
+impl<'a> CheckScene<'a> {
     /// The least tick of a point.
     pub(crate) fn low(&self, branch: &Branch, point: Point) -> i64
         ensures low { (stand : places.Stand) → stand.branch ≡ branch.now → result ≡ pos (low

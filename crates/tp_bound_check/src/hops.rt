@@ -16,13 +16,13 @@ ghost use Rattle.tp_schedule.specs.declared.parts.Plan.{Plan};
 use crate::branch::Branch;
 use crate::naming::act_from;
 use crate::points::{Gap, Point, Slot};
-use crate::ranges::{Range, range_of};
+use crate::ranges::{ActLength, range_of};
 use crate::sheets::Sheets;
 use std::marker::Model;
 use tp_machine::{Anchor, HoldRule, LocId, Machine, gap_between};
 use tp_schedule::{Ask, Goal, Kind, Plan, SheetId, is_earlier};
 
-fn least_gap(from: Point, to: Point, range: Option<Range>) -> Option<Gap>
+fn least_gap(from: Point, to: Point, range: Option<ActLength>) -> Option<Gap>
     requires { IfSome range IsShort }
     ensures { result ≡ least_by from to range }
 {
@@ -36,7 +36,7 @@ fn least_gap(from: Point, to: Point, range: Option<Range>) -> Option<Gap>
     }
 }
 
-fn most_gap(from: Point, to: Point, range: Option<Range>) -> Option<Gap>
+fn most_gap(from: Point, to: Point, range: Option<ActLength>) -> Option<Gap>
     requires { IfSome range IsShort }
     ensures { result ≡ most_by from to range }
 {

@@ -14,8 +14,8 @@ ghost use Rattle.tp_trees.specs.Flaws.{IsFlawOf, bad_node_from};
 ghost use Rattle.tp_trees.specs.Places.{Due};
 ghost use Rattle.tp_trees.specs.Places.Due.{goal};
 
-use crate::dues::{Fault, Frame};
-use crate::orders::Scene;
+use crate::dues::{Frame, NodeFault};
+use crate::orders::CheckScene;
 use crate::passing::Passing;
 use crate::ranks::Ranks;
 use std::alloc::{AllocError, Global};
@@ -27,14 +27,14 @@ use tp_trees::TreeFlaw;
 const MOST_FRAMES: usize = 322;
 
 /// The flaw of the node of this number.
-fn flaw_of(node: u64, fault: Fault) -> TreeFlaw
+fn flaw_of(node: u64, fault: NodeFault) -> TreeFlaw
     ensures { result ≡ flaw_by node fault }
 {
     match fault {
-        Fault::Uncovered => TreeFlaw::Uncovered { node },
-        Fault::NoSuchHop(hop) => TreeFlaw::NoSuchHop { node, hop },
-        Fault::Weak { reach, cap } => TreeFlaw::Weak { node, reach, cap },
-        Fault::NotDead => TreeFlaw::NotDead { node },
+        NodeFault::Uncovered => TreeFlaw::Uncovered { node },
+        NodeFault::NoSuchHop(hop) => TreeFlaw::NoSuchHop { node, hop },
+        NodeFault::Weak { reach, cap } => TreeFlaw::Weak { node, reach, cap },
+        NodeFault::NotDead => TreeFlaw::NotDead { node },
     }
 }
 
@@ -71,7 +71,7 @@ fn goal_stack(alloc: Global) -> Result<Vec<Frame>, AllocError>
     Ok(stack)
 }
 
-impl<'a> Scene<'a> {
+impl<'a> CheckScene<'a> {
     /// Whether nothing is due of a stack, which is empty then.
     fn is_done(&self, goals: &[State], stack: &mut Vec<Frame>) -> bool
         requires { All (IsSoundFrame self.now.rows.machine.now) stack.old.items }
@@ -130,7 +130,7 @@ impl<'a> Scene<'a> {
         stack: &mut Vec<Frame>,
         ranks: &mut Ranks,
         node: &Node,
-    ) -> Result<(), Fault>
+    ) -> Result<(), NodeFault>
         requires stack { IsSoundStack self.now.rows.machine.now stack.old.items }
         requires ranked { AreRankedFrames self.now.rows.machine.now self.now.plans.now
             ranks.old.before stack.old.items }
@@ -161,6 +161,6 @@ impl<'a> Scene<'a> {
                 }
             }
         }
-        Err(Fault::Uncovered)
+        Err(NodeFault::Uncovered)
     }
 }

@@ -18,8 +18,8 @@ ghost use Rattle.tp_trees.specs.Trees.{split_look};
 ghost use Rattle.tp_trees.specs.Trees.Look.{due};
 
 use crate::branch::Branch;
-use crate::dues::{Fault, Frame};
-use crate::orders::{Scene, holds_of};
+use crate::dues::{Frame, NodeFault};
+use crate::orders::{CheckScene, holds_of};
 use crate::stands::Stand;
 use crate::states::is_same_state;
 use tp_machine::{ActId, Feeder, HoldRule, Machine, State};
@@ -33,7 +33,7 @@ fn rule_at(machine: &Machine, act: ActId, places: &[u32]) -> Option<HoldRule>
     holds_of(machine, act).get(places.len()).copied()
 }
 
-impl<'a> Scene<'a> {
+impl<'a> CheckScene<'a> {
     /// The hold of the newest choice that has no place yet.
     fn next_rule(&self, branch: &Branch) -> Option<HoldRule>
         ensures { result ≡ next_rule self.now.rows.machine.now branch.now.x }
@@ -121,7 +121,7 @@ impl<'a> Scene<'a> {
     }
 
     /// What is due below a complete or open branch all of whose holds have places.
-    fn open(&self, branch: Branch) -> Result<Frame, Fault>
+    fn open(&self, branch: Branch) -> Result<Frame, NodeFault>
         requires shallow { IsShallow branch }
         ensures ok { IfOk result (λ f. (goals : List State) → split_look (children_of
             self.now.rows.machine.now self.now.plans.now self.now.rows.ask.now
@@ -136,7 +136,7 @@ impl<'a> Scene<'a> {
     {
         let first = branch.first();
         if self.is_begun(first) {
-            return Err(Fault::Uncovered);
+            return Err(NodeFault::Uncovered);
         }
         let with_stop = self.can_stop(&branch);
         let at = self.first_act(&branch);
@@ -148,7 +148,7 @@ impl<'a> Scene<'a> {
     }
 
     /// What is due below a node that is split.
-    pub(crate) fn split(&self, stand: Stand) -> Result<Frame, Fault>
+    pub(crate) fn split(&self, stand: Stand) -> Result<Frame, NodeFault>
         requires shallow { IsShallowStand stand }
         ensures ok { IfOk result (λ f. (goals : List State) → split_look (children
             self.now.rows.machine.now self.now.plans.now self.now.rows.ask.now
@@ -163,10 +163,10 @@ impl<'a> Scene<'a> {
         ensures below { IfOk result (IsFrameBelow stand.branch) }
     {
         match stand.span {
-            Some(_) => Err(Fault::Uncovered),
+            Some(_) => Err(NodeFault::Uncovered),
             None => {
                 if stand.branch.is_stopped() {
-                    return Err(Fault::Uncovered);
+                    return Err(NodeFault::Uncovered);
                 }
                 match self.next_rule(&stand.branch) {
                     Some(rule) => Ok(Frame::Held {

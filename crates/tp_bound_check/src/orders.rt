@@ -100,7 +100,7 @@ impl Order {
 
 /// What a tree is checked against.
 #[derive(Clone, Copy)]
-pub(crate) struct Scene<'a> {
+pub(crate) struct CheckScene<'a> {
     pub(crate) rows: Rows<'a>,
     pub(crate) plans: &'a Sheets,
     pub(crate) orders: &'a [Order],
@@ -139,7 +139,7 @@ pub(crate) fn rule_law(machine: &Machine, branch: &Branch, rule: HoldRule)
     machine_law(machine);
 }
 
-impl<'a> Scene<'a> {
+impl<'a> CheckScene<'a> {
     /// The kept order of a resource: its length, and where the holds of two actions stand in it.
     fn kept_track(&self, resource: u16, ends: &Ends) -> Track
         requires { resource < length self.now.rows.machine.now.resources }

@@ -15,7 +15,7 @@ ghost use Rattle.tp_trees.specs.Places.{next_rule};
 use crate::branch::Branch;
 use crate::found::{Ends, Found};
 use crate::hops::slot_gap;
-use crate::orders::{Scene, holds_of, rule_law};
+use crate::orders::{CheckScene, holds_of, rule_law};
 use crate::points::{Gap, Point, Slot};
 use crate::ranks::Ranks;
 use crate::stance::Stance;
@@ -58,7 +58,7 @@ fn slot_before(lo: u32, found: Option<Found>) -> Option<Slot>
     }
 }
 
-impl<'a> Scene<'a> {
+impl<'a> CheckScene<'a> {
     /// The hold in the kept order of the action that starts at the point.
     fn kept_found(&self, resource: u16, start: Point) -> Option<Found>
         requires { resource < length self.now.rows.machine.now.resources }

@@ -12,8 +12,8 @@ ghost use Rattle.tp_trees.specs.Places.{Due, next_rule, state_before};
 ghost use Rattle.tp_trees.specs.Places.Due.{action};
 
 use crate::branch::Branch;
-use crate::dues::{Fault, Frame};
-use crate::orders::Scene;
+use crate::dues::{Frame, NodeFault};
+use crate::orders::CheckScene;
 use crate::ranks::Ranks;
 use tp_bounds::{Head, Node};
 use tp_machine::{ActId, HoldRule, State, allowed, regress};
@@ -24,7 +24,7 @@ use tp_schedule::action_law;
 #[derive(Drop)]
 pub(crate) enum Passing {
     Empty,
-    Wrong(Fault),
+    Wrong(NodeFault),
     Passed { left: Frame, below: Frame },
 }
 
@@ -42,7 +42,7 @@ fn goal_at(goals: &[State], at: usize) -> Option<State>
     goals.get(at).copied()
 }
 
-impl<'a> Scene<'a> {
+impl<'a> CheckScene<'a> {
     /// The state from which the action leads to the branch's state, if it is allowed.
     fn before(&self, branch: &Branch, act: u16) -> Option<State>
         requires { act < length self.now.rows.machine.now.actions }

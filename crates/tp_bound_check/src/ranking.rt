@@ -9,7 +9,7 @@ ghost use Rattle.tp_trees.specs.Places.{Stand, next_rule, stand_of};
 ghost use Rattle.tp_trees.specs.Places.Due.{places};
 
 use crate::branch::Branch;
-use crate::orders::{Order, Scene, holds_of, rule_law};
+use crate::orders::{CheckScene, Order, holds_of, rule_law};
 use crate::ranks::Ranks;
 use tp_bounds::Head;
 use tp_machine::HoldRule;
@@ -39,7 +39,7 @@ fn place_below(resource: u16, rules: &[HoldRule], places: &[u32], place: u32) ->
     left
 }
 
-impl<'a> Scene<'a> {
+impl<'a> CheckScene<'a> {
     /// The kept order of a resource.
     pub(crate) fn kept_order(&self, resource: u16) -> &Order
         requires { resource < length self.now.rows.machine.now.resources }

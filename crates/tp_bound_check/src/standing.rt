@@ -13,8 +13,8 @@ ghost use Rattle.tp_trees.specs.Trees.{look};
 ghost use Rattle.tp_trees.specs.Trees.Look.{due};
 
 use crate::branch::Branch;
-use crate::dues::{Fault, Frame};
-use crate::orders::{Scene, rule_law};
+use crate::dues::{Frame, NodeFault};
+use crate::orders::{CheckScene, rule_law};
 use crate::ranks::Ranks;
 use crate::stands::{Span, Stand};
 use crate::states::is_named;
@@ -28,7 +28,7 @@ fn alone(branch: Branch) -> Stand
     Stand { branch, span: None }
 }
 
-impl<'a> Scene<'a> {
+impl<'a> CheckScene<'a> {
     pub(crate) fn is_name_of_act(&self, act: ActId, name: &Name) -> bool
         ensures { result ≡ is_name_of_act self.now.rows.machine.now self.now.plans.now
             self.now.rows.ask.now self.now.rows.rows.now name.now (action_at
@@ -209,7 +209,7 @@ impl<'a> Scene<'a> {
         stand: Option<Stand>,
         ranks: &Ranks,
         node: &Node,
-    ) -> Result<Frame, Fault>
+    ) -> Result<Frame, NodeFault>
         requires sound { IfSome stand (λ s. IsSoundStand self.now.rows.machine.now
             self.now.plans.now s ranks.now) }
         requires shallow { IfSome stand IsShallowStand }
@@ -234,7 +234,7 @@ impl<'a> Scene<'a> {
     {
         match stand {
             Some(stand) => self.close_look(stand, ranks, &node.head, &node.close),
-            None => Err(Fault::Uncovered),
+            None => Err(NodeFault::Uncovered),
         }
     }
 }

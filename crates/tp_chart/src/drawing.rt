@@ -4,7 +4,7 @@ ghost use Rattle.tp_chart.specs.Pictures.{Draws};
 
 use crate::bars::Bar;
 use crate::ending::{put_edges, put_ending};
-use crate::frame::{Frame, HEAD, ROW, count_rows};
+use crate::frame::{AxisFrame, HEAD, ROW, count_rows};
 use crate::marks::put_bars;
 use crate::rows::put_rows;
 use crate::scene::Scene;
@@ -49,7 +49,7 @@ fn letters_of(by_copies: bool, machine: &Machine, scene: &Scene) -> u64 {
 }
 
 /// The beginning of the group of bars, which are drawn in ticks and rows.
-fn put_group(text: &mut String, frame: &Frame) -> Result<(), AllocError> {
+fn put_group(text: &mut String, frame: &AxisFrame) -> Result<(), AllocError> {
     let left = frame.left;
     let back = 0i64.saturating_sub(frame.first);
     write!(text, "<g transform=\"translate({left},{HEAD}) scale(")?;
@@ -61,7 +61,7 @@ fn put_group(text: &mut String, frame: &Frame) -> Result<(), AllocError> {
 fn top_of(
     alloc: Global,
     by_copies: bool,
-    frame: &Frame,
+    frame: &AxisFrame,
     machine: &Machine,
     scene: &Scene,
     jobs: &Names,
@@ -74,7 +74,7 @@ fn top_of(
 }
 
 /// The end of the group of bars, and the lines that part them.
-fn edges_of(alloc: Global, frame: &Frame, bars: &[Bar]) -> Result<String, AllocError> {
+fn edges_of(alloc: Global, frame: &AxisFrame, bars: &[Bar]) -> Result<String, AllocError> {
     let mut text = String::new(alloc);
     text.push_str("</g>\n")?;
     put_edges(&mut text, frame, bars)?;
@@ -85,7 +85,7 @@ fn edges_of(alloc: Global, frame: &Frame, bars: &[Bar]) -> Result<String, AllocE
 fn ending_of(
     alloc: Global,
     by_copies: bool,
-    frame: &Frame,
+    frame: &AxisFrame,
     machine: &Machine,
     scene: &Scene,
     jobs: &Names,
@@ -107,7 +107,7 @@ pub fn draw(
 {
     let jobs = jobs_of(alloc, scene)?;
     let rows = count_rows(by_copies, machine, scene);
-    let frame = Frame::of(scene, bars, rows, letters_of(by_copies, machine, scene));
+    let frame = AxisFrame::of(scene, bars, rows, letters_of(by_copies, machine, scene));
     let top = top_of(alloc, by_copies, &frame, machine, scene, &jobs)?;
     let ending = ending_of(alloc, by_copies, &frame, machine, scene, &jobs)?;
     let edges = edges_of(alloc, &frame, bars)?;

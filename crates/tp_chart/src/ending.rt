@@ -1,7 +1,7 @@
 //! What stands above the bars: deliveries, and the moment.
 use crate::bars::Bar;
 use crate::course::Course;
-use crate::frame::{Frame, HEAD};
+use crate::frame::{AxisFrame, HEAD};
 use crate::marks::colour_of;
 use crate::putting::{put_copy, put_name};
 use crate::scene::Scene;
@@ -34,7 +34,7 @@ fn row_of_tray(machine: &Machine, name: &Name) -> Option<u64> {
 /// A mark where a copy was delivered.
 fn put_delivery(
     text: &mut String,
-    frame: &Frame,
+    frame: &AxisFrame,
     jobs: &Names,
     course: &Course,
     row: u64,
@@ -54,7 +54,11 @@ fn put_delivery(
 }
 
 /// A thin line at the begin of each bar, which parts it from the one before.
-pub(crate) fn put_edges(text: &mut String, frame: &Frame, bars: &[Bar]) -> Result<(), AllocError> {
+pub(crate) fn put_edges(
+    text: &mut String,
+    frame: &AxisFrame,
+    bars: &[Bar],
+) -> Result<(), AllocError> {
     text.push_str("<path class=\"edge\" d=\"")?;
     for bar in bars {
         let x = frame.x(bar.begin);
@@ -65,7 +69,7 @@ pub(crate) fn put_edges(text: &mut String, frame: &Frame, bars: &[Bar]) -> Resul
 }
 
 /// The line of the moment, where it is in the picture.
-fn put_moment(text: &mut String, frame: &Frame, moment: Tick) -> Result<(), AllocError> {
+fn put_moment(text: &mut String, frame: &AxisFrame, moment: Tick) -> Result<(), AllocError> {
     let tick = i64::from(moment);
     if frame.first <= tick && tick <= frame.last {
         let x = frame.x(tick);
@@ -82,7 +86,7 @@ fn put_moment(text: &mut String, frame: &Frame, moment: Tick) -> Result<(), Allo
 pub(crate) fn put_ending(
     text: &mut String,
     by_copies: bool,
-    frame: &Frame,
+    frame: &AxisFrame,
     machine: &Machine,
     scene: &Scene,
     jobs: &Names,

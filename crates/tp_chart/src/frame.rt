@@ -60,7 +60,7 @@ const STEPS: [i64; 30] = [
 /// The ticks from `first` to `last`, drawn from `left` on, `scale` millionths of a pixel wide each. The axis has a tick at
 /// each `step`.
 #[derive(Clone, Copy, Debug, PartialEq, Eq)]
-pub(crate) struct Frame {
+pub(crate) struct AxisFrame {
     pub(crate) first: i64,
     pub(crate) last: i64,
     pub(crate) step: i64,
@@ -109,13 +109,13 @@ fn ticks_between(first: i64, last: i64) -> u64 {
     last.saturating_sub(first).max(0).unsigned_abs()
 }
 
-impl Frame {
+impl AxisFrame {
     /// The frame of a picture with so many rows, whose longest label has so many letters.
-    pub(crate) fn of(scene: &Scene, bars: &[Bar], rows: u64, letters: u64) -> Frame {
+    pub(crate) fn of(scene: &Scene, bars: &[Bar], rows: u64, letters: u64) -> AxisFrame {
         let (first, last) = extent(scene, bars);
         let step = step_of(scale_of(ticks_between(first, last)));
         let first = first.saturating_sub(first % step.max(1));
-        Frame {
+        AxisFrame {
             first,
             last,
             step,

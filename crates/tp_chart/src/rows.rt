@@ -1,5 +1,5 @@
 //! The rows of a picture: their labels, the axis above them, and the times in which modules were out.
-use crate::frame::{Frame, HEAD, ROW};
+use crate::frame::{AxisFrame, HEAD, ROW};
 use crate::outage::Outage;
 use crate::putting::{put_copy, put_name};
 use crate::scene::Scene;
@@ -13,7 +13,7 @@ const TRAY: &str = "tray ";
 const PURGE: &str = "purge ";
 
 /// The stripe of a row, and the beginning of its label.
-fn put_row(text: &mut String, frame: &Frame, row: u64) -> Result<(), AllocError> {
+fn put_row(text: &mut String, frame: &AxisFrame, row: u64) -> Result<(), AllocError> {
     let y = frame.y(row);
     let below = y.saturating_add(14);
     let right = frame.right();
@@ -32,7 +32,7 @@ fn put_row(text: &mut String, frame: &Frame, row: u64) -> Result<(), AllocError>
 
 fn put_named_row(
     text: &mut String,
-    frame: &Frame,
+    frame: &AxisFrame,
     row: u64,
     kind: &str,
     name: &Name,
@@ -46,7 +46,7 @@ fn put_named_row(
 /// The rows of trays, the first of this number.
 fn put_trays(
     text: &mut String,
-    frame: &Frame,
+    frame: &AxisFrame,
     machine: &Machine,
     kind: &str,
     row: u64,
@@ -63,7 +63,11 @@ fn put_trays(
     Ok(())
 }
 
-fn put_machine_rows(text: &mut String, frame: &Frame, machine: &Machine) -> Result<(), AllocError> {
+fn put_machine_rows(
+    text: &mut String,
+    frame: &AxisFrame,
+    machine: &Machine,
+) -> Result<(), AllocError> {
     let mut row: u64 = 0;
     for resource in machine.resources.as_slice() {
         put_named_row(text, frame, row, "", &resource.name)?;
@@ -75,7 +79,7 @@ fn put_machine_rows(text: &mut String, frame: &Frame, machine: &Machine) -> Resu
     put_trays(text, frame, machine, PURGE, row, machine.purges.as_slice())
 }
 
-fn put_copy_rows(text: &mut String, frame: &Frame, scene: &Scene) -> Result<(), AllocError> {
+fn put_copy_rows(text: &mut String, frame: &AxisFrame, scene: &Scene) -> Result<(), AllocError> {
     let mut row: u64 = 0;
     for course in scene.courses() {
         put_row(text, frame, row)?;
@@ -89,7 +93,7 @@ fn put_copy_rows(text: &mut String, frame: &Frame, scene: &Scene) -> Result<(), 
 /// The grey bands of one outage, on the rows of the module's resources.
 fn put_outage(
     text: &mut String,
-    frame: &Frame,
+    frame: &AxisFrame,
     machine: &Machine,
     outage: &Outage,
 ) -> Result<(), AllocError> {
@@ -115,7 +119,7 @@ fn put_outage(
 }
 
 /// A line of the axis with its label above it.
-fn put_tick(text: &mut String, frame: &Frame, tick: i64) -> Result<(), AllocError> {
+fn put_tick(text: &mut String, frame: &AxisFrame, tick: i64) -> Result<(), AllocError> {
     let x = frame.x(tick);
     let top = HEAD - 4;
     let label = HEAD - 9;
@@ -126,7 +130,7 @@ fn put_tick(text: &mut String, frame: &Frame, tick: i64) -> Result<(), AllocErro
     )
 }
 
-fn put_axis(text: &mut String, frame: &Frame) -> Result<(), AllocError> {
+fn put_axis(text: &mut String, frame: &AxisFrame) -> Result<(), AllocError> {
     let step = frame.step.max(1);
     let count = frame.last.saturating_sub(frame.first).max(0) / step;
     for number in 0..=count {
@@ -139,7 +143,7 @@ fn put_axis(text: &mut String, frame: &Frame) -> Result<(), AllocError> {
 pub(crate) fn put_rows(
     text: &mut String,
     by_copies: bool,
-    frame: &Frame,
+    frame: &AxisFrame,
     machine: &Machine,
     scene: &Scene,
 ) -> Result<(), AllocError> {

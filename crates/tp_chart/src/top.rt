@@ -1,5 +1,5 @@
 //! The top of a picture: its size and colours, its title, and the key.
-use crate::frame::{Frame, ROW};
+use crate::frame::{AxisFrame, ROW};
 use crate::putting::put_name;
 use crate::scene::Scene;
 use std::alloc::AllocError;
@@ -81,7 +81,7 @@ fn put_hatches(text: &mut String, scale: u64) -> Result<(), AllocError> {
     text.push_str("</defs>\n")
 }
 
-fn put_size(text: &mut String, frame: &Frame) -> Result<(), AllocError> {
+fn put_size(text: &mut String, frame: &AxisFrame) -> Result<(), AllocError> {
     let width = frame.right().saturating_add(32).max(720);
     let height = frame.bottom().saturating_add(ROW);
     write!(
@@ -132,7 +132,7 @@ fn put_key(text: &mut String) -> Result<(), AllocError> {
 
 pub(crate) fn put_top(
     text: &mut String,
-    frame: &Frame,
+    frame: &AxisFrame,
     scene: &Scene,
     jobs: &Names,
 ) -> Result<(), AllocError> {

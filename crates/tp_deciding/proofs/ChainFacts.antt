@@ -20,13 +20,13 @@ use Rattle.tp_constraints.specs.Gaps.{Gap, all_chains, anchor_spot, chain_gaps, 
 use Rattle.tp_constraints.specs.Supports.{IsTight}
 use Rattle.tp_deciding.specs.Early.{AreTightSteps, IsStepOf, IsTightStep, anchor_point, chain_steps, hold_steps, step_to, touches}
 use Rattle.tp_deciding.specs.Holds.{IsAhead, finish_of, free_at, slot_of}
-use Rattle.tp_deciding.specs.declared.held.Held.{Held}
-use Rattle.tp_deciding.specs.declared.marks.Step.{Step}
+use Rattle.tp_deciding.specs.declared.held.NumberedHold.{NumberedHold}
+use Rattle.tp_deciding.specs.declared.marks.MarkStep.{MarkStep}
 use Rattle.tp_deciding.proofs.HeldFacts.{IsHeldAt, is_on, row}
 use Rattle.tp_deciding.proofs.StepFacts.{IsNumbered, in-append}
 
 module _ (table : List Spot) (t : Ticks) (machine : Machine) where
-  anchored : (a : Anchor) (h : Held) → IsNumbered table h → slice_get table (anchor_point a h) ≡ Some (anchor_spot a (kept h.hold.sheet h.at) (kept h.hold.sheet h.hold.act))
+  anchored : (a : Anchor) (h : NumberedHold) → IsNumbered table h → slice_get table (anchor_point a h) ≡ Some (anchor_spot a (kept h.hold.sheet h.at) (kept h.hold.sheet h.hold.act))
   anchored Start h is = is.0
   anchored AtEnd h is = is.1
 
@@ -35,7 +35,7 @@ module _ (table : List Spot) (t : Ticks) (machine : Machine) where
   spot-tick AtEnd from to = refl
 
   -- the gap between two holds has no room exactly where they touch
-  touch-tight : (g : ℕ) (x y : Held) → IsHeldAt t x → IsHeldAt t y → finish_of x +ℤ pos (gap_between g x.rule y.rule) ≡ y.begin → IsTight t (slot_gap g (slot_of x) (slot_of y))
+  touch-tight : (g : ℕ) (x y : NumberedHold) → IsHeldAt t x → IsHeldAt t y → finish_of x +ℤ pos (gap_between g x.rule y.rule) ≡ y.begin → IsTight t (slot_gap g (slot_of x) (slot_of y))
   touch-tight g x y at-x at-y e =
       let a = spot-tick x.rule.end (kept x.hold.sheet x.at) (kept x.hold.sheet x.hold.act) in
       let b = spot-tick y.rule.begin (kept y.hold.sheet y.at) (kept y.hold.sheet y.hold.act) in
@@ -43,7 +43,7 @@ module _ (table : List Spot) (t : Ticks) (machine : Machine) where
       let h = at-y.0 in
       omega (arith, ints, a, b, f, h, e)
 
-  tight-touch : (g : ℕ) (x y : Held) → IsHeldAt t x → IsHeldAt t y → IsTight t (slot_gap g (slot_of x) (slot_of y)) → finish_of x +ℤ pos (gap_between g x.rule y.rule) ≡ y.begin
+  tight-touch : (g : ℕ) (x y : NumberedHold) → IsHeldAt t x → IsHeldAt t y → IsTight t (slot_gap g (slot_of x) (slot_of y)) → finish_of x +ℤ pos (gap_between g x.rule y.rule) ≡ y.begin
   tight-touch g x y at-x at-y e =
       let a = spot-tick x.rule.end (kept x.hold.sheet x.at) (kept x.hold.sheet x.hold.act) in
       let b = spot-tick y.rule.begin (kept y.hold.sheet y.at) (kept y.hold.sheet y.hold.act) in
@@ -54,12 +54,12 @@ module _ (table : List Spot) (t : Ticks) (machine : Machine) where
   same-int : (a b : ℤ) → int_eq a b ≡ true → a ≡ b
   same-int a b e = (signed_Decides a b).0 e
 
-  touch-says : (x y : Held) → touches machine x y ≡ true → (x.rule.resource.0 ≡ y.rule.resource.0) × (free_at machine x y ≡ y.begin)
+  touch-says : (x y : NumberedHold) → touches machine x y ≡ true → (x.rule.resource.0 ≡ y.rule.resource.0) × (free_at machine x y ≡ y.begin)
   touch-says x y e =
       let two = and_parts (x.rule.resource.0 == y.rule.resource.0) (int_eq (free_at machine x y) y.begin) e in
       (eqb-true x.rule.resource.0 y.rule.resource.0 two.0, same-int (free_at machine x y) y.begin two.1)
 
-  touch-from : (x y : Held) → x.rule.resource.0 ≡ y.rule.resource.0 → free_at machine x y ≡ y.begin → touches machine x y ≡ true
+  touch-from : (x y : NumberedHold) → x.rule.resource.0 ≡ y.rule.resource.0 → free_at machine x y ≡ y.begin → touches machine x y ≡ true
   touch-from x y same e =
       and_from (x.rule.resource.0 == y.rule.resource.0) (int_eq (free_at machine x y) y.begin)
       (grind (arith, nat_tests)) (itself (free_at machine x y) y.begin e) where
@@ -71,17 +71,17 @@ module _ (table : List Spot) (t : Ticks) (machine : Machine) where
   chain-more g z [] x c = absurd (omega (arith, c.1))
   chain-more g z (y ∷ xs) x c = Contains-later (slot_gap g z y) (chain_gaps g (y ∷ xs)) x c
 
-  row-more : (r : ℕ) (z : Held) (hs : List Held) (x : Gap) → Contains (chain_gaps (gap_at machine r) (row r hs)) x → Contains (chain_gaps (gap_at machine r) (row r (z ∷ hs))) x
+  row-more : (r : ℕ) (z : NumberedHold) (hs : List NumberedHold) (x : Gap) → Contains (chain_gaps (gap_at machine r) (row r hs)) x → Contains (chain_gaps (gap_at machine r) (row r (z ∷ hs))) x
   row-more r z hs x c = go (is_on r z) where
     go : (b : Bool) → Contains (chain_gaps (gap_at machine r) (map slot_of (cond b (z ∷ filter (is_on r) hs) (filter (is_on r) hs)))) x
     go true = chain-more (gap_at machine r) (slot_of z) (row r hs) x c
     go false = c
 
   -- the gap of a chain of a resource, of which the step is
-  abbrev IsChained : (ℕ → List Slot) → Step → Type 0
+  abbrev IsChained : (ℕ → List Slot) → MarkStep → Type 0
   IsChained orders s = (r : ℕ) × (g : Gap) × Contains (chain_gaps (gap_at machine r) (orders r)) g × IsTight t g × IsStepOf table g s
 
-  row-two : (r : ℕ) (x y : Held) (hs : List Held) → is_on r x ≡ true → is_on r y ≡ true → Contains (chain_gaps (gap_at machine r) (row r (x ∷ y ∷ hs))) (slot_gap (gap_at machine r) (slot_of x) (slot_of y))
+  row-two : (r : ℕ) (x y : NumberedHold) (hs : List NumberedHold) → is_on r x ≡ true → is_on r y ≡ true → Contains (chain_gaps (gap_at machine r) (row r (x ∷ y ∷ hs))) (slot_gap (gap_at machine r) (slot_of x) (slot_of y))
   row-two r x y hs on-x on-y = go (is_on r x) (is_on r y) on-x on-y where
     go : (a b : Bool) → a ≡ true → b ≡ true
         → Contains (chain_gaps (gap_at machine r) (map slot_of (cond a (x ∷ cond b (y ∷ filter (is_on r) hs) (filter (is_on r) hs)) (cond b (y ∷ filter (is_on r) hs) (filter (is_on r) hs))))) (slot_gap (gap_at machine r) (slot_of x) (slot_of y))
@@ -89,7 +89,7 @@ module _ (table : List Spot) (t : Ticks) (machine : Machine) where
     go true false e f = absurd cc
     go false b e f = absurd cc
 
-  chains-sound : (hs : List Held) → All (IsHeldAt t) hs → All (IsNumbered table) hs → All (IsChained (λ r. row r hs)) (chain_steps machine hs)
+  chains-sound : (hs : List NumberedHold) → All (IsHeldAt t) hs → All (IsNumbered table) hs → All (IsChained (λ r. row r hs)) (chain_steps machine hs)
   chains-sound [] at numbered = All-nil (IsChained (λ r. []))
   chains-sound (x ∷ []) at numbered = All-nil (IsChained (λ r. row r (x ∷ [])))
   chains-sound (x ∷ y ∷ hs) at numbered =
@@ -113,30 +113,30 @@ module _ (table : List Spot) (t : Ticks) (machine : Machine) where
           (All-nil (IsChained (λ r. row r (x ∷ y ∷ hs))))
 
   -- behind a hold of a later resource there is none of this one
-  row-none : (r : ℕ) (hs : List Held) → All (λ h. r < h.rule.resource.0) hs → row r hs ≡ []
+  row-none : (r : ℕ) (hs : List NumberedHold) → All (λ h. r < h.rule.resource.0) hs → row r hs ≡ []
   row-none r [] all = refl
   row-none r (h ∷ hs) all = go (is_on r h) refl (row-none r hs (All-tail (λ h. r < h.rule.resource.0) h hs all)) where
     go : (b : Bool) → is_on r h ≡ b → row r hs ≡ [] → map slot_of (cond b (h ∷ filter (is_on r) hs) (filter (is_on r) hs)) ≡ []
     go true e rest = let same : h.rule.resource.0 ≡ r = eqb-true h.rule.resource.0 r e in let less : r < h.rule.resource.0 = All-head (λ h. r < h.rule.resource.0) h hs all in absurd (omega arith)
     go false e rest = rest
 
-  behind : (r : ℕ) (x y : Held) → r ≡ x.rule.resource.0 → is_on r y ≡ false → IsAhead x y → r < y.rule.resource.0
+  behind : (r : ℕ) (x y : NumberedHold) → r ≡ x.rule.resource.0 → is_on r y ≡ false → IsAhead x y → r < y.rule.resource.0
   behind r x y same off (inl less) = omega arith
   behind r x y same off (inr le) = let one = le.0 in absurd (differ r y.rule.resource.0 off (omega arith)) where
     differ : (m n : ℕ) → (n == m) ≡ false → n ≡ m → ⊥
     differ m n e f = absurd (grind (arith, nat_tests))
 
-  later : (r : ℕ) (x y : Held) → r < x.rule.resource.0 → IsAhead x y → r < y.rule.resource.0
+  later : (r : ℕ) (x y : NumberedHold) → r < x.rule.resource.0 → IsAhead x y → r < y.rule.resource.0
   later r x y less (inl more) = omega arith
   later r x y less (inr le) = let one = le.0 in omega arith
 
   -- one hold more in front
-  module _ (x y : Held) (hs : List Held) (at-x : IsHeldAt t x) (at-y : IsHeldAt t y) (numbered-x : IsNumbered table x) (numbered-y : IsNumbered table y) (next : IsAhead x y) (ahead-y : All (IsAhead y) hs) (r : ℕ) (g : Gap) (tight : IsTight t g)
-      (old : Contains (chain_gaps (gap_at machine r) (row r (y ∷ hs))) g → (s : Step) × Contains (chain_steps machine (y ∷ hs)) s × IsStepOf table g s) where
-    further : Contains (chain_gaps (gap_at machine r) (row r (y ∷ hs))) g → (s : Step) × Contains (chain_steps machine (x ∷ y ∷ hs)) s × IsStepOf table g s
+  module _ (x y : NumberedHold) (hs : List NumberedHold) (at-x : IsHeldAt t x) (at-y : IsHeldAt t y) (numbered-x : IsNumbered table x) (numbered-y : IsNumbered table y) (next : IsAhead x y) (ahead-y : All (IsAhead y) hs) (r : ℕ) (g : Gap) (tight : IsTight t g)
+      (old : Contains (chain_gaps (gap_at machine r) (row r (y ∷ hs))) g → (s : MarkStep) × Contains (chain_steps machine (y ∷ hs)) s × IsStepOf table g s) where
+    further : Contains (chain_gaps (gap_at machine r) (row r (y ∷ hs))) g → (s : MarkStep) × Contains (chain_steps machine (x ∷ y ∷ hs)) s × IsStepOf table g s
     further c = let s = old c in (s.0, Contains-append_right (hold_steps machine x y) (chain_steps machine (y ∷ hs)) s.0 s.1, s.2)
 
-    first : is_on r x ≡ true → is_on r y ≡ true → slot_gap (gap_at machine r) (slot_of x) (slot_of y) ≡ g → (s : Step) × Contains (chain_steps machine (x ∷ y ∷ hs)) s × IsStepOf table g s
+    first : is_on r x ≡ true → is_on r y ≡ true → slot_gap (gap_at machine r) (slot_of x) (slot_of y) ≡ g → (s : MarkStep) × Contains (chain_steps machine (x ∷ y ∷ hs)) s × IsStepOf table g s
     first on-x on-y same =
         let a : x.rule.resource.0 ≡ r = eqb-true x.rule.resource.0 r on-x in
         let b : y.rule.resource.0 ≡ r = eqb-true y.rule.resource.0 r on-y in
@@ -156,7 +156,7 @@ module _ (table : List Spot) (t : Ticks) (machine : Machine) where
 
     chain-first : (a : Bool) → is_on r x ≡ a → (b : Bool) → is_on r y ≡ b
         → Contains (chain_gaps (gap_at machine r) (map slot_of (cond a (x ∷ cond b (y ∷ filter (is_on r) hs) (filter (is_on r) hs)) (cond b (y ∷ filter (is_on r) hs) (filter (is_on r) hs))))) g
-        → (s : Step) × Contains (chain_steps machine (x ∷ y ∷ hs)) s × IsStepOf table g s
+        → (s : MarkStep) × Contains (chain_steps machine (x ∷ y ∷ hs)) s × IsStepOf table g s
     chain-first false e b f c = further (subst (λ z. Contains (chain_gaps (gap_at machine r) (map slot_of (cond z (y ∷ filter (is_on r) hs) (filter (is_on r) hs)))) g) (sym f) c)
     chain-first true e true f c = elim (Contains-cons_cases (slot_gap (gap_at machine r) (slot_of x) (slot_of y)) (chain_gaps (gap_at machine r) (slot_of y ∷ row r hs)) g c) [
       | inl same ↦ first e f same
@@ -167,8 +167,8 @@ module _ (table : List Spot) (t : Ticks) (machine : Machine) where
       alone [] empty d = omega (arith, d.1)
       alone (z ∷ xs) empty d = absurd cc
 
-  chains-all : (hs : List Held) → All (IsHeldAt t) hs → All (IsNumbered table) hs → AllPairs IsAhead hs → (r : ℕ) (g : Gap) → Contains (chain_gaps (gap_at machine r) (row r hs)) g → IsTight t g
-      → (s : Step) × Contains (chain_steps machine hs) s × IsStepOf table g s
+  chains-all : (hs : List NumberedHold) → All (IsHeldAt t) hs → All (IsNumbered table) hs → AllPairs IsAhead hs → (r : ℕ) (g : Gap) → Contains (chain_gaps (gap_at machine r) (row r hs)) g → IsTight t g
+      → (s : MarkStep) × Contains (chain_steps machine hs) s × IsStepOf table g s
   chains-all [] at numbered ahead r g in' tight = absurd (omega (arith, in'.1))
   chains-all (x ∷ []) at numbered ahead r g in' tight = absurd (single (is_on r x) in') where
     single : (b : Bool) → Contains (chain_gaps (gap_at machine r) (map slot_of (cond b (x ∷ []) []))) g → ⊥
@@ -194,7 +194,7 @@ module _ (table : List Spot) (t : Ticks) (machine : Machine) where
   chains-of orders zero g c = absurd (omega (arith, c.1))
   chains-of orders (suc n) g c = elim (in-append (chain_gaps (gap_at machine n) (orders n)) (all_chains machine orders n) g c) [ inl a ↦ (n, a) | inr b ↦ chains-of orders n g b ]
 
-  pub chains-are : (orders : ℕ → List Slot) (n : ℕ) (hs : List Held) → ((r : ℕ) → orders r ≡ row r hs) → ((r : ℕ) (s : Slot) → Contains (orders r) s → r < n) → All (IsHeldAt t) hs → All (IsNumbered table) hs → AllPairs IsAhead hs
+  pub chains-are : (orders : ℕ → List Slot) (n : ℕ) (hs : List NumberedHold) → ((r : ℕ) → orders r ≡ row r hs) → ((r : ℕ) (s : Slot) → Contains (orders r) s → r < n) → All (IsHeldAt t) hs → All (IsNumbered table) hs → AllPairs IsAhead hs
       → AreTightSteps table t (all_chains machine orders n) (chain_steps machine hs)
   chains-are orders n hs rows known at numbered ahead = record {
     sound = All-weaker (IsChained (λ r. row r hs)) (IsTightStep table t (all_chains machine orders n)) (λ s c.
@@ -208,7 +208,7 @@ module _ (table : List Spot) (t : Ticks) (machine : Machine) where
     some (z ∷ xs) r g each c = each z (Contains-here z xs)
 
 -- no steps are left of one hold
-pub chain-end : (machine : Machine) (n : ℕ) (holds : List Held) → length holds ≤ n + 1 → chain_steps machine (drop n holds) ≡ []
+pub chain-end : (machine : Machine) (n : ℕ) (holds : List NumberedHold) → length holds ≤ n + 1 → chain_steps machine (drop n holds) ≡ []
 chain-end machine zero [] le = refl
 chain-end machine zero (x ∷ []) le = refl
 chain-end machine zero (x ∷ y ∷ holds) le = absurd (omega arith)

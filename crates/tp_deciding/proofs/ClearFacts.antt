@@ -23,7 +23,7 @@ use Rattle.tp_schedule.proofs.SlotOrder.{IsPermutation-by_begin, apart_behind}
 use Rattle.tp_constraints.proofs.Lists.{contains-get}
 use Rattle.tp_deciding.specs.Clashes.{AreHoldsApart, DoOverlap}
 use Rattle.tp_deciding.specs.Holds.{AreClear, AreNeighbours, IsAhead, free_at, held_plans, overlaps, slot_of}
-use Rattle.tp_deciding.specs.declared.held.Held.{Held}
+use Rattle.tp_deciding.specs.declared.held.NumberedHold.{NumberedHold}
 use Rattle.tp_deciding.proofs.HeldFacts.{AreTwo, IsHeldAt, at-plans, is_on, row-plans, two-plans}
 use Rattle.tp_deciding.proofs.ListFacts.{get-is}
 use Rattle.tp_deciding.proofs.PairFacts.{pairs-permuted}
@@ -39,7 +39,7 @@ pair-at R (a ∷ b ∷ xs) zero x y pairs e f =
 pair-at R (a ∷ xs) (suc k) x y pairs e f = pair-at R xs k x y (AllPairs-tail R a xs pairs) e f
 
 -- what the test of two holds says
-pub overlap-says : (machine : Machine) (x y : Held) → overlaps machine x y ≡ true
+pub overlap-says : (machine : Machine) (x y : NumberedHold) → overlaps machine x y ≡ true
     → (x.rule.resource.0 ≡ y.rule.resource.0) × (y.begin <ℤ (free_at machine x y))
 overlap-says machine x y e =
     let both = and_parts (x.rule.resource.0 == y.rule.resource.0) (int_lt y.begin (free_at machine x y)) e in
@@ -47,7 +47,7 @@ overlap-says machine x y e =
       late : (a b : ℤ) → int_lt a b ≡ true → a <ℤ b
       late a b f = grind (arith, ints)
 
-clear-says : (machine : Machine) (x y : Held) → overlaps machine x y ≡ false → x.rule.resource.0 ≡ y.rule.resource.0
+clear-says : (machine : Machine) (x y : NumberedHold) → overlaps machine x y ≡ false → x.rule.resource.0 ≡ y.rule.resource.0
     → (free_at machine x y) ≤ℤ y.begin
 clear-says machine x y e same = go (x.rule.resource.0 == y.rule.resource.0) refl (int_lt y.begin (free_at machine x y)) refl e where
   late : (a b : ℤ) → int_lt a b ≡ false → b ≤ℤ a
@@ -61,23 +61,23 @@ clear-says machine x y e same = go (x.rule.resource.0 == y.rule.resource.0) refl
 
 module _ (machine : Machine) (t : Ticks) where
   -- of one resource, the first hold stands apart before the second, or whichever is earlier before the other
-  abbrev pub IsBefore : Held → Held → Type 0
+  abbrev pub IsBefore : NumberedHold → NumberedHold → Type 0
   IsBefore x y = x.rule.resource.0 ≡ y.rule.resource.0 → IsApart (gap_at machine x.rule.resource.0) t (slot_of x) (slot_of y)
 
-  abbrev IsEither : Held → Held → Type 0
+  abbrev IsEither : NumberedHold → NumberedHold → Type 0
   IsEither x y = x.rule.resource.0 ≡ y.rule.resource.0 → AreApart (gap_at machine x.rule.resource.0) t (slot_of x) (slot_of y)
 
-  either-back : (x y : Held) → IsEither x y → IsEither y x
+  either-back : (x y : NumberedHold) → IsEither x y → IsEither y x
   either-back x y e same = subst (λ r. AreApart (gap_at machine r) t (slot_of y) (slot_of x)) (sym same) (turned (e (sym same))) where
     turned : AreApart (gap_at machine x.rule.resource.0) t (slot_of x) (slot_of y) → AreApart (gap_at machine x.rule.resource.0) t (slot_of y) (slot_of x)
     turned (inl a) = inr a
     turned (inr a) = inl a
 
-  next-before : (x y : Held) → IsHeldAt t x → IsHeldAt t y → overlaps machine x y ≡ false → IsBefore x y
+  next-before : (x y : NumberedHold) → IsHeldAt t x → IsHeldAt t y → overlaps machine x y ≡ false → IsBefore x y
   next-before x y at-x at-y e same = let le = clear-says machine x y e same in let f = at-x.1 in let b = at-y.0 in rw (← f, ← b) le
 
   -- neighbours that are clear are all before one another
-  pub all-before : (hs : List Held) → All (IsHeldAt t) hs → All (λ h. IsSoundSlot t (slot_of h)) hs → AllPairs IsAhead hs → AreClear machine hs → AllPairs IsBefore hs
+  pub all-before : (hs : List NumberedHold) → All (IsHeldAt t) hs → All (λ h. IsSoundSlot t (slot_of h)) hs → AllPairs IsAhead hs → AreClear machine hs → AllPairs IsBefore hs
   all-before [] at sound ahead clear = AllPairs-nil IsBefore
   all-before (x ∷ []) at sound ahead clear = AllPairs-cons IsBefore x [] (All-nil (IsBefore x)) (AllPairs-nil IsBefore)
   all-before (x ∷ y ∷ hs) at sound ahead clear =
@@ -92,18 +92,18 @@ module _ (machine : Machine) (t : Ticks) where
       (All-head (λ h. IsSoundSlot t (slot_of h)) y hs sound-y) (AllPairs-head IsBefore y hs rest k d within)))
       rest
     where
-      between : (a b c : Held) → IsAhead a b → IsAhead b c → a.rule.resource.0 ≡ c.rule.resource.0 → a.rule.resource.0 ≡ b.rule.resource.0
+      between : (a b c : NumberedHold) → IsAhead a b → IsAhead b c → a.rule.resource.0 ≡ c.rule.resource.0 → a.rule.resource.0 ≡ b.rule.resource.0
       between a b c (inl p) (inl q) same = absurd (omega arith)
       between a b c (inl p) (inr q) same = let e = q.0 in absurd (omega arith)
       between a b c (inr p) q same = p.0
 
-      later : (z : Held) → IsBefore x y → IsAhead x y → IsAhead y z → IsSoundSlot t (slot_of y) → IsBefore y z → IsBefore x z
+      later : (z : NumberedHold) → IsBefore x y → IsAhead x y → IsAhead y z → IsSoundSlot t (slot_of y) → IsBefore y z → IsBefore x z
       later z x-y a b sound-one y-z same =
           let one = between x y z a b same in
           apart_behind (gap_at machine x.rule.resource.0) t (slot_of x) (slot_of y) (slot_of z) sound-one (x-y one)
           (subst (λ r. IsApart (gap_at machine r) t (slot_of y) (slot_of z)) (sym one) (y-z (sym one ∙ same)))
 
-module _ (machine : Machine) (plans : List Plan) (order : InOrder plans) (timed : All (IsTimedPlan machine) plans) (hs : List Held) (same : IsPermutation (held_plans machine 0 plans) hs) (ahead : AllPairs IsAhead hs) where
+module _ (machine : Machine) (plans : List Plan) (order : InOrder plans) (timed : All (IsTimedPlan machine) plans) (hs : List NumberedHold) (same : IsPermutation (held_plans machine 0 plans) hs) (ahead : AllPairs IsAhead hs) where
   formed : All IsFormed plans
   formed = All-weaker (IsTimedPlan machine) IsFormed (timed-formed machine) plans timed
 
@@ -111,7 +111,7 @@ module _ (machine : Machine) (plans : List Plan) (order : InOrder plans) (timed 
   pub held-at : All (IsHeldAt (ticks_of plans)) hs
   held-at = All-permutation (IsHeldAt (ticks_of plans)) (held_plans machine 0 plans) hs same (at-plans machine (ticks_of plans) 0 plans (IsTimedBy-plans machine plans order timed))
 
-  pub in-slots : (h : Held) → Contains hs h → Contains (slots machine h.rule.resource.0 plans) (slot_of h)
+  pub in-slots : (h : NumberedHold) → Contains hs h → Contains (slots machine h.rule.resource.0 plans) (slot_of h)
   in-slots h in' =
       let was : Contains (held_plans machine 0 plans) h = Contains-permutation hs (held_plans machine 0 plans) h (IsPermutation-sym (held_plans machine 0 plans) hs same) in' in
       subst (λ ss. Contains ss (slot_of h)) (row-plans machine h.rule.resource.0 0 plans formed)
@@ -146,7 +146,7 @@ module _ (machine : Machine) (plans : List Plan) (order : InOrder plans) (timed 
   held-two = pairs-permuted AreTwo (λ x y two one hold. two (sym one) (sym hold)) (held_plans machine 0 plans) hs same (two-plans machine 0 plans order)
 
   -- neighbours that overlap
-  pub overlap-of : (x y : Held) → AreNeighbours hs x y → overlaps machine x y ≡ true
+  pub overlap-of : (x y : NumberedHold) → AreNeighbours hs x y → overlaps machine x y ≡ true
       → DoOverlap machine plans x.hold y.hold (free_at machine x y) y.begin
   overlap-of x y near e =
       let says = overlap-says machine x y e in
@@ -168,7 +168,7 @@ module _ (machine : Machine) (plans : List Plan) (order : InOrder plans) (timed 
         first = begins x y at-x at-y says.0 (pair-at IsAhead hs near.place x y ahead near.one near.other);
         clash = says.1;
       } where
-        begins : (x y : Held) → IsHeldAt (ticks_of plans) x → IsHeldAt (ticks_of plans) y → x.rule.resource.0 ≡ y.rule.resource.0 → IsAhead x y → begin_at (ticks_of plans) (slot_of x) ≤ℤ begin_at (ticks_of plans) (slot_of y)
+        begins : (x y : NumberedHold) → IsHeldAt (ticks_of plans) x → IsHeldAt (ticks_of plans) y → x.rule.resource.0 ≡ y.rule.resource.0 → IsAhead x y → begin_at (ticks_of plans) (slot_of x) ≤ℤ begin_at (ticks_of plans) (slot_of y)
         begins x y at-x at-y one (inl less) = absurd (omega arith)
         begins x y at-x at-y one (inr le) = let a = at-x.0 in let b = at-y.0 in rw (← a, ← b) le.1
 
@@ -198,9 +198,9 @@ overlap-illegal machine plans earlier later free begin o legal =
       behind sound a = let first = o.first in let long = sound.long in omega (arith, ints)
 
 -- one pair of neighbours more that does not overlap
-pub clear-more : (machine : Machine) (holds : List Held) (at : ℕ) (d e : Held) → 1 ≤ at → ((k : ℕ) (x y : Held) → suc k < at → slice_get holds k ≡ Some x → slice_get holds (suc k) ≡ Some y → overlaps machine x y ≡ false)
+pub clear-more : (machine : Machine) (holds : List NumberedHold) (at : ℕ) (d e : NumberedHold) → 1 ≤ at → ((k : ℕ) (x y : NumberedHold) → suc k < at → slice_get holds k ≡ Some x → slice_get holds (suc k) ≡ Some y → overlaps machine x y ≡ false)
     → overlaps machine (get_or holds (at - 1) d) (get_or holds at e) ≡ false
-    → (k : ℕ) (x y : Held) → suc k < at + 1 → slice_get holds k ≡ Some x → slice_get holds (suc k) ≡ Some y → overlaps machine x y ≡ false
+    → (k : ℕ) (x y : NumberedHold) → suc k < at + 1 → slice_get holds k ≡ Some x → slice_get holds (suc k) ≡ Some y → overlaps machine x y ≡ false
 clear-more machine holds at d e some was now k x y less one other = elim (cases_lt (suc k) at) [
   | inl before ↦ was k x y before one other
   | inr more ↦ (

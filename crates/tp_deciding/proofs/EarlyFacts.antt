@@ -38,8 +38,8 @@ use Rattle.tp_deciding.specs.Lines.{line_pairs}
 use Rattle.tp_deciding.specs.Marks.{IsMarked, IsReached, IsSpread, IsStepWithin}
 use Rattle.tp_deciding.specs.Marks.IsReached.{at_first, by_step}
 use Rattle.tp_deciding.specs.declared.early.Early.{Early}
-use Rattle.tp_deciding.specs.declared.held.Held.{Held}
-use Rattle.tp_deciding.specs.declared.marks.Step.{Step}
+use Rattle.tp_deciding.specs.declared.held.NumberedHold.{NumberedHold}
+use Rattle.tp_deciding.specs.declared.marks.MarkStep.{MarkStep}
 use Rattle.tp_deciding.proofs.ChainFacts.{chains-are}
 use Rattle.tp_deciding.proofs.ClearFacts.{IsBefore, held-at, held-before, held-sound, in-slots, overlap-illegal, overlap-of}
 use Rattle.tp_deciding.proofs.HeldFacts.{is_on, row, row-plans}
@@ -53,7 +53,7 @@ use Rattle.std.proofs.lemmas.List.Elements.{All-weaker}
 use Rattle.tp_schedule.specs.Plans.{IsTimedPlan}
 
 -- ---- the orders of a legal schedule are its sorted holds
-module _ (machine : Machine) (plans : List Plan) (legal : IsLegal machine plans) (hs : List Held) (same : IsPermutation (held_plans machine 0 plans) hs) (ahead : AllPairs IsAhead hs) where
+module _ (machine : Machine) (plans : List Plan) (legal : IsLegal machine plans) (hs : List NumberedHold) (same : IsPermutation (held_plans machine 0 plans) hs) (ahead : AllPairs IsAhead hs) where
   legal-clear : AreClear machine hs
   legal-clear k x y one other = go (overlaps machine x y) refl where
     go : (b : Bool) → overlaps machine x y ≡ b → b ≡ false
@@ -72,7 +72,7 @@ module _ (machine : Machine) (plans : List Plan) (legal : IsLegal machine plans)
   apart-first g x y sound apart = let long = sound.long in omega (arith, ints)
 
   module _ (r : ℕ) where
-    held : List Held
+    held : List NumberedHold
     held = held_plans machine 0 plans
 
     slot-sound : (s : Slot) → Contains (slots machine r plans) s → IsSoundSlot (ticks_of plans) s
@@ -81,7 +81,7 @@ module _ (machine : Machine) (plans : List Plan) (legal : IsLegal machine plans)
     in-order : (s : Slot) → Contains (slot_order machine plans r) s → Contains (slots machine r plans) s
     in-order s in' = Contains-permutation (slot_order machine plans r) (slots machine r plans) s (IsPermutation-sym (slots machine r plans) (slot_order machine plans r) (IsPermutation-by_begin (ticks_of plans) (slots machine r plans))) in'
 
-    row-in : (s : Slot) → Contains (row r hs) s → (h : Held) × Contains (filter (is_on r) hs) h × (s ≡ slot_of h)
+    row-in : (s : Slot) → Contains (row r hs) s → (h : NumberedHold) × Contains (filter (is_on r) hs) h × (s ≡ slot_of h)
     row-in s in' = Contains-map_from slot_of (filter (is_on r) hs) s in'
 
     rise-order : AllPairs BeginsFirst (slot_order machine plans r)
@@ -159,7 +159,7 @@ unmarked-in whole table marks early n (p ∷ plans) among stands (inl here) = (p
 unmarked-in whole table marks early n (p ∷ plans) among stands (inr later) = unmarked-in whole table marks early (n + (length p.acts + 1)) plans (All-tail (Contains whole) p plans among) stands.1 later
 
 module _ (machine : Machine) (now : ℕ) (exempt : Plan → Bool) (plans : List Plan) (load : IsLoadable machine now exempt plans) (only : IgnoresPoints exempt) (horizon : KeepsHorizon machine now plans)
-    (steps : List Step) (tight : AreTightSteps (table_of plans) (ticks_of plans) (plans_gaps machine plans) steps)
+    (steps : List MarkStep) (tight : AreTightSteps (table_of plans) (ticks_of plans) (plans_gaps machine plans) steps)
     (after : List Bool) (spread : IsSpread steps (low_marks (now + machine.lead) exempt plans) after) where
   count : length after ≡ length (table_of plans)
   count = spread.count ∙ marks-count (now + machine.lead) exempt plans ∙ sym (table-count plans)
@@ -290,7 +290,7 @@ module _ (machine : Machine) (now : ℕ) (exempt : Plan → Bool) (plans : List 
   found-early (Some early) bare = early-is early bare
 
 -- the steps lie between points of the table
-pub steps-within : (table : List Spot) (t : Ticks) (gaps : List Gap) (steps : List Step) (n : ℕ) → length table ≡ n → AreTightSteps table t gaps steps → All (IsStepWithin n) steps
+pub steps-within : (table : List Spot) (t : Ticks) (gaps : List Gap) (steps : List MarkStep) (n : ℕ) → length table ≡ n → AreTightSteps table t gaps steps → All (IsStepWithin n) steps
 steps-within table t gaps steps n same tight =
     All-weaker (IsTightStep table t gaps) (IsStepWithin n) (λ s is.
     let a = get-within table s.from is.by.from is.of.0 in

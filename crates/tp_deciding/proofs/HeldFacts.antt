@@ -25,11 +25,11 @@ use Rattle.tp_schedule.proofs.CopyFacts.{InOrder, before-not_same, same_copy-ref
 use Rattle.tp_schedule.proofs.HeldCount.{Agrees, Differ, IsTimedBy}
 use Rattle.tp_schedule.proofs.Pairs.{AllPairs-append, AllPairs-head, AllPairs-map, AllPairs-nil, AllPairs-tail}
 use Rattle.tp_deciding.specs.Holds.{IsAhead, finish_of, held_acts, held_by, held_plan, held_plans, slot_of}
-use Rattle.tp_deciding.specs.declared.held.Held.{Held}
-use Rattle.tp_deciding.specs.declared.held.Run.{Run}
+use Rattle.tp_deciding.specs.declared.held.NumberedHold.{NumberedHold}
+use Rattle.tp_deciding.specs.declared.held.NumberedAct.{NumberedAct}
 
 -- what is not behind in the order of the sort's keys is ahead
-pub ahead-from : (x y : Held) → is_lt (ordering_then (nat_cmp y.rule.resource.0 x.rule.resource.0) (int_cmp y.begin x.begin)) ≡ false → IsAhead x y
+pub ahead-from : (x y : NumberedHold) → is_lt (ordering_then (nat_cmp y.rule.resource.0 x.rule.resource.0) (int_cmp y.begin x.begin)) ≡ false → IsAhead x y
 ahead-from x y e = go (nat_cmp y.rule.resource.0 x.rule.resource.0) refl e where
   by : (o : Ordering) → MatchOrdering o (y.begin <ℤ x.begin) (y.begin ≡ x.begin) (x.begin <ℤ y.begin) → is_lt o ≡ false → x.begin ≤ℤ y.begin
   by Less earlier f = absurd cc
@@ -42,16 +42,16 @@ ahead-from x y e = go (nat_cmp y.rule.resource.0 x.rule.resource.0) refl e where
   go Greater is f = inl (grind (arith, nat_tests))
 
 -- ---- slots
-abbrev pub is_on : ℕ → Held → Bool
+abbrev pub is_on : ℕ → NumberedHold → Bool
 is_on resource h = h.rule.resource.0 == resource
 
-abbrev pub row : ℕ → List Held → List Slot
+abbrev pub row : ℕ → List NumberedHold → List Slot
 row resource hs = map slot_of (filter (is_on resource) hs)
 
-row-append : (resource : ℕ) (xs ys : List Held) → row resource (xs ++ ys) ≡ row resource xs ++ row resource ys
+row-append : (resource : ℕ) (xs ys : List NumberedHold) → row resource (xs ++ ys) ≡ row resource xs ++ row resource ys
 row-append resource xs ys = ap (map slot_of) (filter-append (is_on resource) xs ys) ∙ map-append slot_of (filter (is_on resource) xs) (filter (is_on resource) ys)
 
-row-rules : (resource : ℕ) (run : Run) (rules : List HoldRule) → row resource (map (held_by run) rules) ≡ slots_by resource (kept run.sheet run.at) (kept run.sheet (run.at + 1)) rules
+row-rules : (resource : ℕ) (run : NumberedAct) (rules : List HoldRule) → row resource (map (held_by run) rules) ≡ slots_by resource (kept run.sheet run.at) (kept run.sheet (run.at + 1)) rules
 row-rules resource run [] = refl
 row-rules resource run (rule ∷ rules) = go (rule.resource.0 == resource) (row-rules resource run rules) where
   one : Slot
@@ -69,7 +69,7 @@ row-acts machine resource sheet at number [] points e = refl
 row-acts machine resource sheet at number (act ∷ acts) [] e = absurd (omega arith)
 row-acts machine resource sheet at number (act ∷ acts) (start ∷ []) e = absurd (omega arith)
 row-acts machine resource sheet at number (act ∷ acts) (start ∷ end ∷ points) e =
-    let run : Run = record { sheet = sheet; at = at; number = number; start = start; end = end } in
+    let run : NumberedAct = record { sheet = sheet; at = at; number = number; start = start; end = end } in
     let rules = holds_of_act (action_at machine act.0) in
     let rest = row-acts machine resource sheet (at + 1) (number + 1) acts (end ∷ points) (omega arith) in
     row-append resource (map (held_by run) rules) (held_acts machine sheet (at + 1) (number + 1) acts (end ∷ points))
@@ -86,7 +86,7 @@ row-plans machine resource number (p ∷ plans) formed =
     ∙ ap (λ xs. slots_of machine resource p ++ xs) (row-plans machine resource (number + (length p.acts + 1)) plans (All-tail IsFormed p plans formed))
 
 -- ---- times
-abbrev pub IsHeldAt : Ticks → Held → Type 0
+abbrev pub IsHeldAt : Ticks → NumberedHold → Type 0
 IsHeldAt t h = (h.begin ≡ begin_at t (slot_of h)) × (finish_of h ≡ end_at t (slot_of h))
 
 at-acts : (machine : Machine) (t : Ticks) (sheet : SheetId) (at number : ℕ) (acts : List ActId) (points : List ℕ) → length points ≡ length acts + 1 → Agrees t sheet at points
@@ -95,7 +95,7 @@ at-acts machine t sheet at number [] points e agrees = All-nil (IsHeldAt t)
 at-acts machine t sheet at number (act ∷ acts) [] e agrees = All-nil (IsHeldAt t)
 at-acts machine t sheet at number (act ∷ acts) (start ∷ []) e agrees = All-nil (IsHeldAt t)
 at-acts machine t sheet at number (act ∷ acts) (start ∷ end ∷ points) e agrees =
-    let run : Run = record { sheet = sheet; at = at; number = number; start = start; end = end } in
+    let run : NumberedAct = record { sheet = sheet; at = at; number = number; start = start; end = end } in
     let rules = holds_of_act (action_at machine act.0) in
     let first : t (kept sheet at) ≡ start = agrees 0 at (omega arith) (omega arith) in
     let second : t (kept sheet (at + 1)) ≡ end = agrees 1 (at + 1) (omega arith) (omega arith) in
@@ -115,10 +115,10 @@ at-plans machine t number (p ∷ plans) timed =
     (at-plans machine t (number + (length p.acts + 1)) plans (All-tail (IsTimedBy t) p plans timed))
 
 -- ---- no hold stands twice
-abbrev pub AreTwo : Held → Held → Type 0
+abbrev pub AreTwo : NumberedHold → NumberedHold → Type 0
 AreTwo x y = x.rule.resource.0 ≡ y.rule.resource.0 → x.hold ≡ y.hold → ⊥
 
-abbrev IsOf : SheetId → ℕ → Held → Type 0
+abbrev IsOf : SheetId → ℕ → NumberedHold → Type 0
 IsOf sheet at h = (h.hold.sheet ≡ sheet) × (at < h.hold.act)
 
 of-acts : (machine : Machine) (sheet : SheetId) (at number : ℕ) (acts : List ActId) (points : List ℕ) → All (IsOf sheet at) (held_acts machine sheet at number acts points)
@@ -126,7 +126,7 @@ of-acts machine sheet at number [] points = All-nil (IsOf sheet at)
 of-acts machine sheet at number (act ∷ acts) [] = All-nil (IsOf sheet at)
 of-acts machine sheet at number (act ∷ acts) (start ∷ []) = All-nil (IsOf sheet at)
 of-acts machine sheet at number (act ∷ acts) (start ∷ end ∷ points) =
-    let run : Run = record { sheet = sheet; at = at; number = number; start = start; end = end } in
+    let run : NumberedAct = record { sheet = sheet; at = at; number = number; start = start; end = end } in
     All-append (IsOf sheet at) (map (held_by run) (holds_of_act (action_at machine act.0))) (held_acts machine sheet (at + 1) (number + 1) acts (end ∷ points))
     (All-map (IsOf sheet at) (held_by run) (holds_of_act (action_at machine act.0)) (λ k d within. (refl, omega arith)))
     (All-weaker (IsOf sheet (at + 1)) (IsOf sheet at) (λ h o. (o.0, let later = o.1 in omega arith)) (held_acts machine sheet (at + 1) (number + 1) acts (end ∷ points)) (of-acts machine sheet (at + 1) (number + 1) acts (end ∷ points)))
@@ -142,7 +142,7 @@ two-acts machine sheet at number [] points = AllPairs-nil AreTwo
 two-acts machine sheet at number (act ∷ acts) [] = AllPairs-nil AreTwo
 two-acts machine sheet at number (act ∷ acts) (start ∷ []) = AllPairs-nil AreTwo
 two-acts machine sheet at number (act ∷ acts) (start ∷ end ∷ points) =
-    let run : Run = record { sheet = sheet; at = at; number = number; start = start; end = end } in
+    let run : NumberedAct = record { sheet = sheet; at = at; number = number; start = start; end = end } in
     let rules = holds_of_act (action_at machine act.0) in
     let later = held_acts machine sheet (at + 1) (number + 1) acts (end ∷ points) in
     AllPairs-append AreTwo (map (held_by run) rules) later
@@ -154,7 +154,7 @@ two-acts machine sheet at number (act ∷ acts) (start ∷ end ∷ points) =
     omega arith))
 
 -- of plans of other copies
-abbrev IsAmong : List Plan → Held → Type 0
+abbrev IsAmong : List Plan → NumberedHold → Type 0
 IsAmong plans h = (p : Plan) × Contains plans p × (h.hold.sheet ≡ p.sheet)
 
 among-plans : (machine : Machine) (number : ℕ) (plans : List Plan) → All (IsAmong plans) (held_plans machine number plans)

@@ -24,7 +24,7 @@ use Rattle.tp_constraints.proofs.LineGaps.{rise-from_gaps}
 use Rattle.tp_constraints.proofs.Lists.{All-split}
 use Rattle.tp_deciding.specs.Clashes.{AreOutOfLine, is_late}
 use Rattle.tp_deciding.specs.Lines.{end_of, line_of, line_pairs, next_in, next_to, pair_with, point_count}
-use Rattle.tp_deciding.specs.declared.lines.End.{End}
+use Rattle.tp_deciding.specs.declared.lines.PlanEnd.{PlanEnd}
 
 -- ---- what is found in a list
 pub found-one : {X : Type 0} (p : X → Bool) (xs : List X) (x : X) → find p xs ≡ Some x → Contains xs x × (p x ≡ true)
@@ -55,7 +55,7 @@ anything n [] = tt
 anything n (p ∷ plans) = (tt, anything (n + (length p.acts + 1)) plans)
 
 -- the end is that of the plan, by its number
-abbrev pub IsNext : (Plan → ℕ → Type 0) → Option Plan → Option End → Type 0
+abbrev pub IsNext : (Plan → ℕ → Type 0) → Option Plan → Option PlanEnd → Type 0
 IsNext P None None = Unit {0}
 IsNext P None (Some e) = ⊥
 IsNext P (Some q) None = ⊥
@@ -82,14 +82,14 @@ pub next-is : (P : Plan → ℕ → Type 0) (p : Plan) (n : ℕ) (plans : List P
 next-is P p n plans all = next-line P p.kind p.goal n plans all
 
 -- ---- pairs in time
-abbrev IsInTime : End × End → Type 0
+abbrev IsInTime : PlanEnd × PlanEnd → Type 0
 IsInTime pair = is_late pair ≡ false
 
 -- the ticks of ends are those of the plans
 abbrev pub HasEnd : Ticks → Plan → Type 0
 HasEnd t p = t (end_spot p) ≡ end_of_plan p
 
-gap-in-time : (t : Ticks) (p : Plan) (n : ℕ) (o : Option Plan) (e : Option End) → IsNext Anything o e → HasEnd t p → ((q : Plan) → o ≡ Some q → HasEnd t q) → All IsInTime (pair_with (end_of n p) e) → KeepsGaps t (line_gap p o)
+gap-in-time : (t : Ticks) (p : Plan) (n : ℕ) (o : Option Plan) (e : Option PlanEnd) → IsNext Anything o e → HasEnd t p → ((q : Plan) → o ≡ Some q → HasEnd t q) → All IsInTime (pair_with (end_of n p) e) → KeepsGaps t (line_gap p o)
 gap-in-time t p n None e next at each all = All-nil (KeepsGap t)
 gap-in-time t p n (Some q) None next at each all = absurd next
 gap-in-time t p n (Some q) (Some e) next at each all =
@@ -124,7 +124,7 @@ module _ (plans : List Plan) (order : InOrder plans) where
 
 -- ---- a late pair
 -- two plans of a line, the one before the other
-record IsPair (plans : List Plan) (pair : End × End) : Type 0 where
+record IsPair (plans : List Plan) (pair : PlanEnd × PlanEnd) : Type 0 where
   one : Plan
   other : Plan
   one_in : Contains plans one
@@ -146,7 +146,7 @@ line-is Whole (Tray y) x e = let same : y ≡ x = cc in subst (λ z. goes_to (Tr
   itself : (n : ℕ) → goes_to (Tray (record { 0 = n })) n ≡ true
   itself n = grind (arith, nat_tests)
 
-from-next : (tray n : ℕ) (plans : List Plan) (e : End) → next_to tray n plans ≡ Some e → (q : Plan) × Contains plans q × (is_delivered_to q tray ≡ true) × (q.sheet ≡ e.sheet) × (end_of_plan q ≡ e.tick)
+from-next : (tray n : ℕ) (plans : List Plan) (e : PlanEnd) → next_to tray n plans ≡ Some e → (q : Plan) × Contains plans q × (is_delivered_to q tray ≡ true) × (q.sheet ≡ e.sheet) × (end_of_plan q ≡ e.tick)
 from-next tray n [] e is = absurd cc
 from-next tray n (p ∷ plans) e is = go (is_delivered_to p tray) refl is (from-next tray (n + (length p.acts + 1)) plans e) where
   go : (b : Bool) → is_delivered_to p tray ≡ b → cond b (Some (end_of n p)) (next_to tray (n + (length p.acts + 1)) plans) ≡ Some e
@@ -156,11 +156,11 @@ from-next tray n (p ∷ plans) e is = go (is_delivered_to p tray) refl is (from-
   go false to f rest = let r = rest f in (r.0, Contains-later p plans r.0 r.1, r.2, r.3, r.4)
 
 -- the map of ends has the next one
-pub next-found : (f : ℕ → Option End) (n : ℕ) (plans : List Plan) → ((tray : ℕ) → f tray ≡ next_to tray n plans) → (o : Option LocId) → option_and_then (λ t. f t.0) o ≡ next_in o n plans
+pub next-found : (f : ℕ → Option PlanEnd) (n : ℕ) (plans : List Plan) → ((tray : ℕ) → f tray ≡ next_to tray n plans) → (o : Option LocId) → option_and_then (λ t. f t.0) o ≡ next_in o n plans
 next-found f n plans is None = refl
 next-found f n plans is (Some t) = is t.0
 
-more-plans : (p : Plan) (plans : List Plan) (pair : End × End) → IsPair plans pair → IsPair (p ∷ plans) pair
+more-plans : (p : Plan) (plans : List Plan) (pair : PlanEnd × PlanEnd) → IsPair plans pair → IsPair (p ∷ plans) pair
 more-plans p plans pair is = record {
   one = is.one;
   other = is.other;
@@ -176,7 +176,7 @@ more-plans p plans pair is = record {
   other_end = is.other_end;
 }
 
-pair-first : (p : Plan) (plans : List Plan) (n m : ℕ) → All (λ q. is_before p.sheet q.sheet ≡ true) plans → (o : Option LocId) → line_of p.kind p.goal ≡ o → (e : Option End) → next_in o m plans ≡ e → All (IsPair (p ∷ plans)) (pair_with (end_of n p) e)
+pair-first : (p : Plan) (plans : List Plan) (n m : ℕ) → All (λ q. is_before p.sheet q.sheet ≡ true) plans → (o : Option LocId) → line_of p.kind p.goal ≡ o → (e : Option PlanEnd) → next_in o m plans ≡ e → All (IsPair (p ∷ plans)) (pair_with (end_of n p) e)
 pair-first p plans n m first o line None is = All-nil (IsPair (p ∷ plans))
 pair-first p plans n m first None line (Some e) is = absurd cc
 pair-first p plans n m first (Some x) line (Some e) is =
@@ -204,7 +204,7 @@ all-pairs n (p ∷ plans) order =
     (λ k d within. more-plans p plans (get_or (line_pairs m plans) k d) (all-pairs m plans (AllPairs-tail (λ x y. is_before x.sheet y.sheet ≡ true) p plans order) k d within))
     (pair-first p plans n m (AllPairs-head (λ x y. is_before x.sheet y.sheet ≡ true) p plans order) (line_of p.kind p.goal) refl (next_in (line_of p.kind p.goal) m plans) refl)
 
-pub late-of : (plans : List Plan) → InOrder plans → (pair : End × End) → find is_late (line_pairs 0 plans) ≡ Some pair → AreOutOfLine plans pair.0.sheet pair.1.sheet pair.0.tick pair.1.tick
+pub late-of : (plans : List Plan) → InOrder plans → (pair : PlanEnd × PlanEnd) → find is_late (line_pairs 0 plans) ≡ Some pair → AreOutOfLine plans pair.0.sheet pair.1.sheet pair.0.tick pair.1.tick
 late-of plans order pair is =
     let found = found-one is_late (line_pairs 0 plans) pair is in
     let of = All-contains (IsPair plans) (line_pairs 0 plans) pair (all-pairs 0 plans order) found.0 in

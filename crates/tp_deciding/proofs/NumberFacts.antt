@@ -16,7 +16,7 @@ use Rattle.tp_constraints.proofs.Numbering.{same_spot-is}
 use Rattle.tp_deciding.specs.Early.{is_low, low_marks, plan_marks, values_from}
 use Rattle.tp_deciding.specs.Holds.{held_acts, held_by, held_plan, held_plans}
 use Rattle.tp_deciding.specs.Lines.{point_count}
-use Rattle.tp_deciding.specs.declared.held.Run.{Run}
+use Rattle.tp_deciding.specs.declared.held.NumberedAct.{NumberedAct}
 use Rattle.tp_deciding.proofs.LineFacts.{AllFrom}
 use Rattle.tp_deciding.proofs.ListFacts.{take-one}
 use Rattle.tp_deciding.proofs.StepFacts.{IsNumbered, StandsAt}
@@ -114,7 +114,7 @@ module _ (table : List Spot) where
   numbered-acts machine sheet at n (act ∷ acts) [] stands = All-nil (IsNumbered table)
   numbered-acts machine sheet at n (act ∷ acts) (start ∷ []) stands = All-nil (IsNumbered table)
   numbered-acts machine sheet at n (act ∷ acts) (start ∷ end ∷ points) stands =
-      let run : Run = record { sheet = sheet; at = at; number = n; start = start; end = end } in
+      let run : NumberedAct = record { sheet = sheet; at = at; number = n; start = start; end = end } in
       All-append (IsNumbered table) (map (held_by run) (holds_of_act (action_at machine act.0))) (held_acts machine sheet (at + 1) (n + 1) acts (end ∷ points))
       (All-map (IsNumbered table) (held_by run) (holds_of_act (action_at machine act.0)) (λ k d within. (stands 0 n at (omega arith) (omega arith) (omega arith), stands 1 (n + 1) (at + 1) refl refl (omega arith))))
       (numbered-acts machine sheet (at + 1) (n + 1) acts (end ∷ points) (λ i j k is is' le. stands (suc i) j k (omega arith) (omega arith) (omega arith)))

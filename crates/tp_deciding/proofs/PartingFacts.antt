@@ -16,7 +16,7 @@ use Rattle.tp_schedule.specs.declared.parts.Plan.{Plan}
 use Rattle.tp_schedule.proofs.Pairs.{AllPairs-head, AllPairs-map, AllPairs-tail}
 use Rattle.tp_deciding.specs.Holds.{IsAhead, held_plans, slot_of}
 use Rattle.tp_deciding.specs.Partings.{AreOrdersKept, DoPart, IsCommon, IsFirstParting, IsParting, first_of, first_resource, hold_on, is_new_of, old_order, part_on, seen_slot}
-use Rattle.tp_deciding.specs.declared.held.Held.{Held}
+use Rattle.tp_deciding.specs.declared.held.NumberedHold.{NumberedHold}
 use Rattle.tp_deciding.specs.declared.parting.Parting.{Parting}
 use Rattle.tp_deciding.proofs.EarlyFacts.{row-order}
 use Rattle.tp_deciding.proofs.HeldFacts.{is_on, row}
@@ -87,7 +87,7 @@ parts r (x ∷ xs) (y ∷ ys) (suc n) sorted sorted' same from from' =
     go false p = p
 
 -- ---- holds as slots
-slots-on : (r : ℕ) (hs : List Held) → row r hs ≡ filter (on r) (map slot_of hs)
+slots-on : (r : ℕ) (hs : List NumberedHold) → row r hs ≡ filter (on r) (map slot_of hs)
 slots-on r [] = refl
 slots-on r (h ∷ hs) = go (is_on r h) (slots-on r hs) where
   go : (b : Bool) → row r hs ≡ filter (on r) (map slot_of hs)
@@ -96,7 +96,7 @@ slots-on r (h ∷ hs) = go (is_on r h) (slots-on r hs) where
   go false rest = rest
 
 -- a row without some of its slots
-less-row : (p : Slot → Bool) (r : ℕ) (hs : List Held) → filter p (row r hs) ≡ row r (filter (λ h. p (slot_of h)) hs)
+less-row : (p : Slot → Bool) (r : ℕ) (hs : List NumberedHold) → filter p (row r hs) ≡ row r (filter (λ h. p (slot_of h)) hs)
 less-row p r [] = refl
 less-row p r (h ∷ hs) = go (is_on r h) refl (p (slot_of h)) refl (less-row p r hs) where
   go : (b : Bool) → is_on r h ≡ b → (c : Bool) → p (slot_of h) ≡ c → filter p (row r hs) ≡ row r (filter (λ g. p (slot_of g)) hs)
@@ -106,22 +106,22 @@ less-row p r (h ∷ hs) = go (is_on r h) refl (p (slot_of h)) refl (less-row p r
   go false e true f rest = rw e rest
   go false e false f rest = rest
 
-hold-on : (r : ResId) (o : Option Held) → hold_on r o ≡ option_map hold_in (on_it r.0 (seen_slot o))
+hold-on : (r : ResId) (o : Option NumberedHold) → hold_on r o ≡ option_map hold_in (on_it r.0 (seen_slot o))
 hold-on r None = refl
 hold-on r (Some h) = go (h.rule.resource.0 == r.0) where
   go : (b : Bool) → cond b (Some h.hold) None ≡ option_map hold_in (cond b (Some (slot_of h)) None)
   go true = refl
   go false = refl
 
-ahead-later : (x y : Held) → IsAhead x y → IsNoLater (slot_of x) (slot_of y)
+ahead-later : (x y : NumberedHold) → IsAhead x y → IsNoLater (slot_of x) (slot_of y)
 ahead-later x y (inl less) = omega arith
 ahead-later x y (inr same) = let e = same.0 in omega arith
 
-sorted-slots : (hs : List Held) → AllPairs IsAhead hs → AllPairs IsNoLater (map slot_of hs)
+sorted-slots : (hs : List NumberedHold) → AllPairs IsAhead hs → AllPairs IsNoLater (map slot_of hs)
 sorted-slots hs ahead = AllPairs-map IsAhead IsNoLater (λ _. Unit {0}) slot_of hs (λ k d within. tt) ahead (λ x y _ _ a. ahead-later x y a)
 
 -- ---- the lists that were looked at
-from-first : (x y : Option Held) (r : ResId) → first_resource x y ≡ Some r → IsFrom r.0 (seen_slot x) × IsFrom r.0 (seen_slot y)
+from-first : (x y : Option NumberedHold) (r : ResId) → first_resource x y ≡ Some r → IsFrom r.0 (seen_slot x) × IsFrom r.0 (seen_slot y)
 from-first None None r e = absurd cc
 from-first None (Some y) r e = let same : y.rule.resource ≡ r = cc in (tt, let n = ap (λ (q : ResId). q.0) same in omega arith)
 from-first (Some x) None r e = let same : x.rule.resource ≡ r = cc in (let n = ap (λ (q : ResId). q.0) same in omega arith, tt)
@@ -134,7 +134,7 @@ from-first (Some x) (Some y) r e = go (nat_lt y.rule.resource.0 x.rule.resource.
   go false f same = let n = ap (λ (q : ResId). q.0) same in let le : x.rule.resource.0 ≤ y.rule.resource.0 = grind (arith, nat_tests) in (omega arith, omega arith)
 
 -- one of both is on it
-is-on-first : (x y : Option Held) (r : ResId) → first_resource x y ≡ Some r → on_it r.0 (seen_slot x) ≡ on_it r.0 (seen_slot y) → seen_slot x ≡ seen_slot y
+is-on-first : (x y : Option NumberedHold) (r : ResId) → first_resource x y ≡ Some r → on_it r.0 (seen_slot x) ≡ on_it r.0 (seen_slot y) → seen_slot x ≡ seen_slot y
 is-on-first None None r e same = absurd cc
 is-on-first None (Some y) r e same = absurd (go (on r.0 (slot_of y)) refl same) where
   here : y.rule.resource ≡ r
@@ -164,7 +164,7 @@ is-on-first (Some x) (Some y) r e same = go (on r.0 (slot_of x)) refl (on r.0 (s
   go false f true g is = absurd cc
   go false f false g is = absurd (either (nat_lt y.rule.resource.0 x.rule.resource.0) refl first f g)
 
-none-first : (x y : Option Held) → first_resource x y ≡ None → (x ≡ None) × (y ≡ None)
+none-first : (x y : Option NumberedHold) → first_resource x y ≡ None → (x ≡ None) × (y ≡ None)
 none-first None None e = (refl, refl)
 none-first None (Some y) e = absurd cc
 none-first (Some x) None e = absurd cc
@@ -175,7 +175,7 @@ none-within [] n e = omega arith
 none-within (x ∷ xs) zero e = absurd cc
 none-within (x ∷ xs) (suc n) e = let r = none-within xs n e in omega arith
 
-module _ (xs ys : List Held) (ahead : AllPairs IsAhead xs) (ahead' : AllPairs IsAhead ys) (n : ℕ) (common : IsCommon xs ys n) where
+module _ (xs ys : List NumberedHold) (ahead : AllPairs IsAhead xs) (ahead' : AllPairs IsAhead ys) (n : ℕ) (common : IsCommon xs ys n) where
   same-slots : slice_get xs n ≡ None → slice_get ys n ≡ None → map slot_of ys ≡ map slot_of xs
   same-slots none none' =
       ap (map slot_of) (sym (take-whole ys n (none-within ys n none'))) ∙ common.alike ∙ ap (map slot_of) (take-whole xs n (none-within xs n none))
@@ -211,7 +211,7 @@ module _ (xs ys : List Held) (ahead : AllPairs IsAhead xs) (ahead' : AllPairs Is
           cc
 
 -- ---- what was found
-pub first-parting : (xs ys : List Held) (n : ℕ) → IsCommon xs ys n → (x y : Option Held) → x ≡ slice_get xs n → y ≡ slice_get ys n → (r : ResId) → first_resource x y ≡ Some r
+pub first-parting : (xs ys : List NumberedHold) (n : ℕ) → IsCommon xs ys n → (x y : Option NumberedHold) → x ≡ slice_get xs n → y ≡ slice_get ys n → (r : ResId) → first_resource x y ≡ Some r
     → (stood stands : Option Hold) → stood ≡ hold_on r x → stands ≡ hold_on r y → IsFirstParting xs ys (Some (record { resource = r; stood = stood; stands = stands }))
 first-parting xs ys n common x y at at' r first stood stands one other = record {
   place = n;
@@ -222,7 +222,7 @@ first-parting xs ys n common x y at at' r first stood stands one other = record 
       ∙ (λ i. part_on (first_resource (at i) (at' i)) (at i) (at' i));
 }
 
-pub no-parting : (xs ys : List Held) (n : ℕ) → IsCommon xs ys n → (x y : Option Held) → x ≡ slice_get xs n → y ≡ slice_get ys n → first_resource x y ≡ None → IsFirstParting xs ys None
+pub no-parting : (xs ys : List NumberedHold) (n : ℕ) → IsCommon xs ys n → (x y : Option NumberedHold) → x ≡ slice_get xs n → y ≡ slice_get ys n → first_resource x y ≡ None → IsFirstParting xs ys None
 no-parting xs ys n common x y at at' none = record {
   place = n;
   common = common;
@@ -231,12 +231,12 @@ no-parting xs ys n common x y at at' none = record {
 
 -- ---- orders of legal schedules
 module _ (machine : Machine) (asked : Option Ask) (plans plans' : List Plan) (legal : IsLegal machine plans) (legal' : IsLegal machine plans')
-    (hs gs : List Held) (same : IsPermutation (held_plans machine 0 plans) hs) (ahead : AllPairs IsAhead hs) (same' : IsPermutation (held_plans machine 0 plans') gs) (ahead' : AllPairs IsAhead gs) where
-  abbrev old : List Held
-  old = filter (λ (h : Held). not (is_new_of asked (slot_of h))) gs
+    (hs gs : List NumberedHold) (same : IsPermutation (held_plans machine 0 plans) hs) (ahead : AllPairs IsAhead hs) (same' : IsPermutation (held_plans machine 0 plans') gs) (ahead' : AllPairs IsAhead gs) where
+  abbrev old : List NumberedHold
+  old = filter (λ (h : NumberedHold). not (is_new_of asked (slot_of h))) gs
 
   ahead-old : AllPairs IsAhead old
-  ahead-old = AllPairs-filter IsAhead (λ (h : Held). not (is_new_of asked (slot_of h))) gs ahead'
+  ahead-old = AllPairs-filter IsAhead (λ (h : NumberedHold). not (is_new_of asked (slot_of h))) gs ahead'
 
   order-before : (r : ℕ) → slot_order machine plans r ≡ row r hs
   order-before r = row-order machine plans legal hs same ahead r

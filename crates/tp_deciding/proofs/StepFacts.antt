@@ -21,9 +21,9 @@ use Rattle.tp_constraints.specs.Gaps.{Gap, acts_gaps, duration_gaps, end_spot, g
 use Rattle.tp_constraints.specs.Supports.{IsTight}
 use Rattle.tp_deciding.specs.Early.{AreTightSteps, IsStepOf, IsTightStep, act_steps, acts_steps, pair_steps, plans_steps, step_to}
 use Rattle.tp_deciding.specs.Lines.{end_of, line_of, line_pairs, next_in, pair_with}
-use Rattle.tp_deciding.specs.declared.held.Held.{Held}
-use Rattle.tp_deciding.specs.declared.lines.End.{End}
-use Rattle.tp_deciding.specs.declared.marks.Step.{Step}
+use Rattle.tp_deciding.specs.declared.held.NumberedHold.{NumberedHold}
+use Rattle.tp_deciding.specs.declared.lines.PlanEnd.{PlanEnd}
+use Rattle.tp_deciding.specs.declared.marks.MarkStep.{MarkStep}
 use Rattle.tp_deciding.proofs.LineFacts.{AllFrom, HasEnd, IsNext, found-one, next-is}
 
 pub in-append : {X : Type 0} (xs ys : List X) (x : X) → Contains (xs ++ ys) x → Contains xs x ⊎ Contains ys x
@@ -37,21 +37,21 @@ in-append (y ∷ xs) ys x c = elim (Contains-cons_cases y (xs ++ ys) x c) [
 abbrev pub StandsAt : List Spot → Plan → ℕ → Type 0
 StandsAt table p n = (i j : ℕ) → j ≡ n + i → i ≤ length p.acts → slice_get table j ≡ Some (kept p.sheet i)
 
-abbrev pub IsNumbered : List Spot → Held → Type 0
+abbrev pub IsNumbered : List Spot → NumberedHold → Type 0
 IsNumbered table h = (slice_get table h.from ≡ Some (kept h.hold.sheet h.at)) × (slice_get table h.to ≡ Some (kept h.hold.sheet h.hold.act))
 
 module _ (table : List Spot) (t : Ticks) where
-  abbrev Are : List Gap → List Step → Type 0
+  abbrev Are : List Gap → List MarkStep → Type 0
   Are = AreTightSteps table t
 
-  more-gaps : (gs hs : List Gap) → ((g : Gap) → Contains gs g → Contains hs g) → (s : Step) → IsTightStep table t gs s → IsTightStep table t hs s
+  more-gaps : (gs hs : List Gap) → ((g : Gap) → Contains gs g → Contains hs g) → (s : MarkStep) → IsTightStep table t gs s → IsTightStep table t hs s
   more-gaps gs hs there s is = record { by = is.by; among = there is.by is.among; tight = is.tight; of = is.of }
 
   none : Are [] []
   none = record { sound = All-nil (IsTightStep table t []); all = λ g in' tight. absurd (omega (arith, in'.1)) }
 
   -- gaps and steps of two kinds together, whichever steps come first
-  pub both : (gs hs : List Gap) (ss rs : List Step) → Are gs ss → Are hs rs → Are (gs ++ hs) (ss ++ rs)
+  pub both : (gs hs : List Gap) (ss rs : List MarkStep) → Are gs ss → Are hs rs → Are (gs ++ hs) (ss ++ rs)
   both gs hs ss rs one other = record {
     sound = All-append (IsTightStep table t (gs ++ hs)) ss rs
         (All-weaker (IsTightStep table t gs) (IsTightStep table t (gs ++ hs)) (more-gaps gs (gs ++ hs) (λ g c. Contains-append_left gs hs g c)) ss one.sound)
@@ -62,26 +62,26 @@ module _ (table : List Spot) (t : Ticks) where
     ];
   }
 
-  turned : (gs : List Gap) (ss rs : List Step) → Are gs (ss ++ rs) → Are gs (rs ++ ss)
+  turned : (gs : List Gap) (ss rs : List MarkStep) → Are gs (ss ++ rs) → Are gs (rs ++ ss)
   turned gs ss rs is = record {
     sound = λ k d within. All-contains (IsTightStep table t gs) (ss ++ rs) (get_or (rs ++ ss) k d) is.sound (back (get_or (rs ++ ss) k d) (in-append rs ss (get_or (rs ++ ss) k d) (k, within, here (rs ++ ss) k d within)));
     all = λ g in' tight. let r = is.all g in' tight in (r.0, forth r.0 (in-append ss rs r.0 r.1), r.2);
   } where
-    here : (xs : List Step) (k : ℕ) (d : Step) → k < length xs → get_or xs k (get_or xs k d) ≡ get_or xs k d
+    here : (xs : List MarkStep) (k : ℕ) (d : MarkStep) → k < length xs → get_or xs k (get_or xs k d) ≡ get_or xs k d
     here [] k d within = absurd (omega (arith, within))
     here (x ∷ xs) zero d within = refl
     here (x ∷ xs) (suc k) d within = here xs k d (omega arith)
 
-    back : (s : Step) → Contains rs s ⊎ Contains ss s → Contains (ss ++ rs) s
+    back : (s : MarkStep) → Contains rs s ⊎ Contains ss s → Contains (ss ++ rs) s
     back s (inl a) = Contains-append_right ss rs s a
     back s (inr b) = Contains-append_left ss rs s b
 
-    forth : (s : Step) → Contains ss s ⊎ Contains rs s → Contains (rs ++ ss) s
+    forth : (s : MarkStep) → Contains ss s ⊎ Contains rs s → Contains (rs ++ ss) s
     forth s (inl a) = Contains-append_right rs ss s a
     forth s (inr b) = Contains-append_left rs ss s b
 
   -- one gap, by a test
-  one-gap : (g : Gap) (s : Step) (b : Bool) → (b ≡ true → IsTight t g) → (IsTight t g → b ≡ true) → IsStepOf table g s → Are (g ∷ []) (cond b (s ∷ []) [])
+  one-gap : (g : Gap) (s : MarkStep) (b : Bool) → (b ≡ true → IsTight t g) → (IsTight t g → b ≡ true) → IsStepOf table g s → Are (g ∷ []) (cond b (s ∷ []) [])
   one-gap g s true to back of = record {
     sound = All-cons (IsTightStep table t (g ∷ [])) s [] (record { by = g; among = Contains-here g []; tight = to refl; of = of }) (All-nil (IsTightStep table t (g ∷ [])));
     all = λ h in' tight. elim (Contains-cons_cases g [] h in') [ inl e ↦ (s, Contains-here s [], subst (λ x. IsStepOf table x s) e of) | inr later ↦ absurd (omega (arith, later.1)) ];
@@ -137,7 +137,7 @@ module _ (table : List Spot) (t : Ticks) where
       (durations-are machine (n + (length p.acts + 1)) plans (All-tail (IsTimedBy t) p plans timed) stands.1)
 
   -- ---- lines
-  line-one : (p : Plan) (n : ℕ) (o : Option Plan) (e : Option End) → IsNext (StandsAt table) o e → StandsAt table p n → HasEnd t p → ((q : Plan) → o ≡ Some q → HasEnd t q) → Are (line_gap p o) (flat_map pair_steps (pair_with (end_of n p) e))
+  line-one : (p : Plan) (n : ℕ) (o : Option Plan) (e : Option PlanEnd) → IsNext (StandsAt table) o e → StandsAt table p n → HasEnd t p → ((q : Plan) → o ≡ Some q → HasEnd t q) → Are (line_gap p o) (flat_map pair_steps (pair_with (end_of n p) e))
   line-one p n None None next stands at each = none
   line-one p n None (Some e) next stands at each = absurd next
   line-one p n (Some q) None next stands at each = absurd next

@@ -9,7 +9,7 @@ use Rattle.tp_schedule.specs.declared.parts.Plan.{Plan}
 use Rattle.tp_schedule.specs.declared.parts.SheetId.{SheetId}
 use Rattle.tp_deciding.specs.declared.clash.Clash.{Clash}
 use Rattle.tp_deciding.specs.declared.clash.Clash.TheVariants.{NotTimed, Overlap, OutOfLine}
-use Rattle.tp_deciding.specs.declared.lines.End.{End}
+use Rattle.tp_deciding.specs.declared.lines.PlanEnd.{PlanEnd}
 
 -- the copy has a plan that is no timed plan
 pub record IsNotTimed (machine : Machine) (plans : List Plan) (sheet : SheetId) : Type 0 where
@@ -60,5 +60,5 @@ abbrev pub AreHoldsApart : Machine → List Plan → Type 0
 AreHoldsApart machine plans = (resource : ℕ) → AllPairs (AreApart (gap_at machine resource) (ticks_of plans)) (slots machine resource plans)
 
 -- a line whose later end is not later
-abbrev pub is_late : End × End → Bool
+abbrev pub is_late : PlanEnd × PlanEnd → Bool
 is_late pair = nat_le pair.1.tick pair.0.tick

@@ -17,10 +17,10 @@ use Rattle.tp_constraints.specs.Gaps.{Gap, low_of}
 use Rattle.tp_constraints.specs.Supports.{IsTight}
 use Rattle.tp_deciding.specs.Holds.{free_at}
 use Rattle.tp_deciding.specs.declared.early.Early.{Early}
-use Rattle.tp_deciding.specs.declared.held.Held.{Held}
-use Rattle.tp_deciding.specs.declared.lines.End.{End}
+use Rattle.tp_deciding.specs.declared.held.NumberedHold.{NumberedHold}
+use Rattle.tp_deciding.specs.declared.lines.PlanEnd.{PlanEnd}
 use Rattle.tp_deciding.specs.Marks.{IsMarked}
-use Rattle.tp_deciding.specs.declared.marks.Step.{Step}
+use Rattle.tp_deciding.specs.declared.marks.MarkStep.{MarkStep}
 
 -- the plans that are exempt from their floors: none, or that of the copy
 abbrev pub is_exempt : Option SheetId → Plan → Bool
@@ -55,62 +55,62 @@ plan_marks floor exempt p = values_from (is_low floor exempt p) 0 (length p.acts
 abbrev pub low_marks : ℕ → (Plan → Bool) → List Plan → List Bool
 low_marks floor exempt plans = flat_map (plan_marks floor exempt) plans
 
-abbrev pub step_to : ℕ → ℕ → Step
+abbrev pub step_to : ℕ → ℕ → MarkStep
 step_to from to = record { from = from; to = to }
 
 -- the steps of an action that lasts its least or its most, between two points of which the first has this number
-abbrev pub act_steps : Option Action → ℕ → ℕ → ℕ → List Step
+abbrev pub act_steps : Option Action → ℕ → ℕ → ℕ → List MarkStep
 act_steps None n start end = []
 act_steps (Some a) n start end =
     (if (start + a.least) == end then step_to n (n + 1) ∷ [] else []) ++ (if (start + a.most) == end then step_to (n + 1) n ∷ [] else [])
 
-abbrev pub acts_steps : Machine → ℕ → List ActId → List ℕ → List Step
+abbrev pub acts_steps : Machine → ℕ → List ActId → List ℕ → List MarkStep
 acts_steps machine n [] points = []
 acts_steps machine n (act ∷ acts) [] = []
 acts_steps machine n (act ∷ acts) (start ∷ []) = []
 acts_steps machine n (act ∷ acts) (start ∷ end ∷ points) = act_steps (action_at machine act.0) n start end ++ acts_steps machine (n + 1) acts (end ∷ points)
 
-abbrev pub plans_steps : Machine → ℕ → List Plan → List Step
+abbrev pub plans_steps : Machine → ℕ → List Plan → List MarkStep
 plans_steps machine n [] = []
 plans_steps machine n (p ∷ plans) = acts_steps machine n p.acts p.points ++ plans_steps machine (n + (length p.acts + 1)) plans
 
 -- the steps of lines whose later end stands directly behind the earlier one
-abbrev pub pair_steps : End × End → List Step
+abbrev pub pair_steps : PlanEnd × PlanEnd → List MarkStep
 pair_steps pair = if (pair.0.tick + 1) == pair.1.tick then step_to pair.0.number pair.1.number ∷ [] else []
 
 -- the number of an anchor's point
-abbrev pub anchor_point : Anchor → Held → ℕ
+abbrev pub anchor_point : Anchor → NumberedHold → ℕ
 anchor_point Start h = h.from
 anchor_point AtEnd h = h.to
 
 -- both are of one resource, and the second begins as soon as the first and the gap between them have ended
-abbrev pub touches : Machine → Held → Held → Bool
+abbrev pub touches : Machine → NumberedHold → NumberedHold → Bool
 touches machine x y =
     (x.rule.resource.0 == y.rule.resource.0) && int_eq (free_at machine x y) y.begin
 
-abbrev pub hold_steps : Machine → Held → Held → List Step
+abbrev pub hold_steps : Machine → NumberedHold → NumberedHold → List MarkStep
 hold_steps machine x y =
     if touches machine x y then step_to (anchor_point x.rule.end x) (anchor_point y.rule.begin y) ∷ [] else []
 
-abbrev pub chain_steps : Machine → List Held → List Step
+abbrev pub chain_steps : Machine → List NumberedHold → List MarkStep
 chain_steps machine [] = []
 chain_steps machine (x ∷ []) = []
 chain_steps machine (x ∷ y ∷ holds) = hold_steps machine x y ++ chain_steps machine (y ∷ holds)
 
 -- the step is the gap's, by the numbers of points in a table
-abbrev pub IsStepOf : List Spot → Gap → Step → Type 0
+abbrev pub IsStepOf : List Spot → Gap → MarkStep → Type 0
 IsStepOf table g s = (slice_get table s.from ≡ Some g.from) × (slice_get table s.to ≡ Some g.to)
 
-pub record IsTightStep (table : List Spot) (t : Ticks) (gaps : List Gap) (s : Step) : Type 0 where
+pub record IsTightStep (table : List Spot) (t : Ticks) (gaps : List Gap) (s : MarkStep) : Type 0 where
   pub by : Gap
   pub among : Contains gaps by
   pub tight : IsTight t by
   pub of : IsStepOf table by s
 
 -- the steps are those of the gaps that the ticks leave no room
-pub record AreTightSteps (table : List Spot) (t : Ticks) (gaps : List Gap) (steps : List Step) : Type 0 where
+pub record AreTightSteps (table : List Spot) (t : Ticks) (gaps : List Gap) (steps : List MarkStep) : Type 0 where
   pub sound : All (IsTightStep table t gaps) steps
-  pub all : (g : Gap) → Contains gaps g → IsTight t g → (s : Step) × Contains steps s × IsStepOf table g s
+  pub all : (g : Gap) → Contains gaps g → IsTight t g → (s : MarkStep) × Contains steps s × IsStepOf table g s
 
 -- each point of the plans is marked, where the first of them has this number
 abbrev pub AreMarked : List Bool → ℕ → List Plan → Type 0

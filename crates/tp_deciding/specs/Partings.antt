@@ -8,7 +8,7 @@ use Rattle.tp_schedule.specs.declared.parts.Ask.{Ask}
 use Rattle.tp_schedule.specs.declared.parts.Hold.{Hold}
 use Rattle.tp_schedule.specs.declared.parts.Plan.{Plan}
 use Rattle.tp_deciding.specs.Holds.{slot_of}
-use Rattle.tp_deciding.specs.declared.held.Held.{Held}
+use Rattle.tp_deciding.specs.declared.held.NumberedHold.{NumberedHold}
 use Rattle.tp_deciding.specs.declared.parting.Parting.{Parting}
 
 -- a new hold of the copy that is asked for, if one is
@@ -38,32 +38,32 @@ IsParting machine asked plans plans' p = DoPart (slot_order machine plans p.reso
 
 -- ---- as they are looked at: sorted holds
 
-abbrev pub hold_on : ResId → Option Held → Option Hold
+abbrev pub hold_on : ResId → Option NumberedHold → Option Hold
 hold_on resource None = None
 hold_on resource (Some h) = if h.rule.resource.0 == resource.0 then Some h.hold else None
 
-abbrev pub first_of : Held → Held → ResId
+abbrev pub first_of : NumberedHold → NumberedHold → ResId
 first_of x y = if nat_lt y.rule.resource.0 x.rule.resource.0 then y.rule.resource else x.rule.resource
 
-abbrev pub first_resource : Option Held → Option Held → Option ResId
+abbrev pub first_resource : Option NumberedHold → Option NumberedHold → Option ResId
 first_resource None None = None
 first_resource None (Some y) = Some y.rule.resource
 first_resource (Some x) None = Some x.rule.resource
 first_resource (Some x) (Some y) = Some (first_of x y)
 
-abbrev pub seen_slot : Option Held → Option Slot
+abbrev pub seen_slot : Option NumberedHold → Option Slot
 seen_slot o = option_map slot_of o
 
 -- both lists begin with so many of the same holds, and no more
-pub record IsCommon (before after : List Held) (n : ℕ) : Type 0 where
+pub record IsCommon (before after : List NumberedHold) (n : ℕ) : Type 0 where
   pub alike : map slot_of (take n after) ≡ map slot_of (take n before)
   pub ends : seen_slot (slice_get before n) ≡ seen_slot (slice_get after n) → (slice_get before n ≡ None) × (slice_get after n ≡ None)
 
-abbrev pub part_on : Option ResId → Option Held → Option Held → Option Parting
+abbrev pub part_on : Option ResId → Option NumberedHold → Option NumberedHold → Option Parting
 part_on None stood stands = None
 part_on (Some r) stood stands = Some (record { resource = r; stood = hold_on r stood; stands = hold_on r stands })
 
-pub record IsFirstParting (before after : List Held) (found : Option Parting) : Type 0 where
+pub record IsFirstParting (before after : List NumberedHold) (found : Option Parting) : Type 0 where
   pub place : ℕ
   pub common : IsCommon before after place
   pub is : found ≡ part_on (first_resource (slice_get before place) (slice_get after place)) (slice_get before place) (slice_get after place)

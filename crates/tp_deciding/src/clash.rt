@@ -5,8 +5,8 @@ ghost use Rattle.tp_schedule.specs.Plans.{IsEarlier, IsTimedPlan};
 ghost use Rattle.tp_deciding.specs.Clashes.{AreHoldsApart, IsClash, IsNotTimed, is_late};
 ghost use Rattle.tp_deciding.specs.Holds.{AreClear, AreNeighbours, free_at, overlaps};
 
-use crate::held::{Held, free_at, sorted_holds};
-use crate::lines::{End, line_pairs};
+use crate::held::{NumberedHold, free_at, sorted_holds};
+use crate::lines::{PlanEnd, line_pairs};
 use crate::timed::is_timed_plan;
 use std::alloc::Global;
 use tp_base::{Memory, Tick};
@@ -51,7 +51,7 @@ fn find_untimed(machine: &Machine, schedule: &Schedule) -> Option<SheetId>
     None
 }
 
-fn do_overlap(machine: &Machine, one: &Held, other: &Held) -> bool
+fn do_overlap(machine: &Machine, one: &NumberedHold, other: &NumberedHold) -> bool
     ensures { result ≡ overlaps machine.now one.now other.now }
 {
     let late = other.begin < free_at(machine, one, other);
@@ -59,7 +59,7 @@ fn do_overlap(machine: &Machine, one: &Held, other: &Held) -> bool
 }
 
 /// The first two neighbours that overlap.
-fn find_overlap(machine: &Machine, holds: &[Held]) -> Option<(Held, Held)>
+fn find_overlap(machine: &Machine, holds: &[NumberedHold]) -> Option<(NumberedHold, NumberedHold)>
     ensures { MatchOption result (AreClear machine.now holds.now)
         (λ pair. AreNeighbours holds.now pair.0 pair.1
         × IsTrue (overlaps machine.now pair.0 pair.1)) }
@@ -74,7 +74,7 @@ fn find_overlap(machine: &Machine, holds: &[Held]) -> Option<(Held, Held)>
     None
 }
 
-fn find_late(pairs: &[(End, End)]) -> Option<(End, End)>
+fn find_late(pairs: &[(PlanEnd, PlanEnd)]) -> Option<(PlanEnd, PlanEnd)>
     ensures { result ≡ find is_late pairs.now }
 {
     pairs
@@ -83,7 +83,7 @@ fn find_late(pairs: &[(End, End)]) -> Option<(End, End)>
         .find(|pair| pair.1.tick <= pair.0.tick)
 }
 
-fn overlap_of(machine: &Machine, one: &Held, other: &Held) -> Clash
+fn overlap_of(machine: &Machine, one: &NumberedHold, other: &NumberedHold) -> Clash
     ensures { result ≡ Clash.Overlap one.now.hold other.now.hold
         (free_at machine.now one.now other.now) other.now.begin }
 {

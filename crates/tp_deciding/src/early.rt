@@ -14,9 +14,9 @@ ghost use Rattle.tp_deciding.specs.Early.{AreMarked, AreTightSteps, IsEarly, IsU
 ghost use Rattle.tp_deciding.specs.Lines.{point_count};
 ghost use Rattle.tp_deciding.specs.Marks.{IsMarked};
 
-use crate::held::{Held, free_at, sorted_holds};
-use crate::lines::{End, line_pairs};
-use crate::marks::{Step, spread};
+use crate::held::{NumberedHold, free_at, sorted_holds};
+use crate::lines::{PlanEnd, line_pairs};
+use crate::marks::{MarkStep, spread};
 use std::alloc::Global;
 use tp_base::{Memory, Tick};
 use tp_machine::{ActId, Action, Anchor, Machine, machine_law};
@@ -120,7 +120,7 @@ pub(crate) fn action_of(machine: &Machine, act: ActId) -> Option<&Action>
     machine.actions.as_slice().get(usize::from(act.0))
 }
 
-fn add_if(steps: &mut Vec<Step>, tight: bool, step: Step) -> Result<(), Memory>
+fn add_if(steps: &mut Vec<MarkStep>, tight: bool, step: MarkStep) -> Result<(), Memory>
     ensures { OnOk result (steps.new.items ≡ steps.old.items
         ++ (if tight then step ∷ [] else [])) }
 {
@@ -132,7 +132,7 @@ fn add_if(steps: &mut Vec<Step>, tight: bool, step: Step) -> Result<(), Memory>
 
 /// Adds the steps of an action that lasts its least or its most, and starts at the point with this number.
 fn add_action(
-    steps: &mut Vec<Step>,
+    steps: &mut Vec<MarkStep>,
     action: &Action,
     number: usize,
     start: Tick,
@@ -147,7 +147,7 @@ fn add_action(
     add_if(
         steps,
         least,
-        Step {
+        MarkStep {
             from: number,
             to: number + 1,
         },
@@ -155,7 +155,7 @@ fn add_action(
     add_if(
         steps,
         most,
-        Step {
+        MarkStep {
             from: number + 1,
             to: number,
         },
@@ -164,7 +164,7 @@ fn add_action(
 }
 
 fn add_act(
-    steps: &mut Vec<Step>,
+    steps: &mut Vec<MarkStep>,
     machine: &Machine,
     act: ActId,
     number: usize,
@@ -182,7 +182,7 @@ fn add_act(
 }
 
 fn add_acts(
-    steps: &mut Vec<Step>,
+    steps: &mut Vec<MarkStep>,
     machine: &Machine,
     plan: &Plan,
     number: usize,
@@ -208,7 +208,7 @@ fn add_acts(
 }
 
 fn add_durations(
-    steps: &mut Vec<Step>,
+    steps: &mut Vec<MarkStep>,
     machine: &Machine,
     schedule: &Schedule,
 ) -> Result<(), Memory>
@@ -224,12 +224,12 @@ fn add_durations(
     Ok(())
 }
 
-fn add_line(steps: &mut Vec<Step>, end: &End, later: &End) -> Result<(), Memory>
+fn add_line(steps: &mut Vec<MarkStep>, end: &PlanEnd, later: &PlanEnd) -> Result<(), Memory>
     ensures { OnOk result (steps.new.items ≡ steps.old.items
         ++ pair_steps (end.entry.now, later.entry.now)) }
 {
     if u64::from(end.tick) + 1 == u64::from(later.tick) {
-        steps.push(Step {
+        steps.push(MarkStep {
             from: end.number,
             to: later.number,
         })?;
@@ -237,7 +237,7 @@ fn add_line(steps: &mut Vec<Step>, end: &End, later: &End) -> Result<(), Memory>
     Ok(())
 }
 
-fn add_lines(steps: &mut Vec<Step>, pairs: &[(End, End)]) -> Result<(), Memory>
+fn add_lines(steps: &mut Vec<MarkStep>, pairs: &[(PlanEnd, PlanEnd)]) -> Result<(), Memory>
     ensures { OnOk result (steps.new.items ≡ steps.old.items
         ++ flat_map pair_steps pairs.entry.now) }
 {
@@ -247,7 +247,7 @@ fn add_lines(steps: &mut Vec<Step>, pairs: &[(End, End)]) -> Result<(), Memory>
     Ok(())
 }
 
-fn anchor_point(anchor: Anchor, held: &Held) -> usize
+fn anchor_point(anchor: Anchor, held: &NumberedHold) -> usize
     ensures { result ≡ anchor_point anchor held.now }
 {
     match anchor {
@@ -256,23 +256,23 @@ fn anchor_point(anchor: Anchor, held: &Held) -> usize
     }
 }
 
-fn do_touch(machine: &Machine, one: &Held, other: &Held) -> bool
+fn do_touch(machine: &Machine, one: &NumberedHold, other: &NumberedHold) -> bool
     ensures { result ≡ touches machine.now one.now other.now }
 {
     one.rule.resource == other.rule.resource && free_at(machine, one, other) == other.begin
 }
 
 fn add_hold(
-    steps: &mut Vec<Step>,
+    steps: &mut Vec<MarkStep>,
     machine: &Machine,
-    one: &Held,
-    other: &Held,
+    one: &NumberedHold,
+    other: &NumberedHold,
 ) -> Result<(), Memory>
     ensures { OnOk result (steps.new.items ≡ steps.old.items
         ++ hold_steps machine.entry.now one.entry.now other.entry.now) }
 {
     if do_touch(machine, one, other) {
-        steps.push(Step {
+        steps.push(MarkStep {
             from: anchor_point(one.rule.end, one),
             to: anchor_point(other.rule.begin, other),
         })?;
@@ -280,7 +280,11 @@ fn add_hold(
     Ok(())
 }
 
-fn add_chains(steps: &mut Vec<Step>, machine: &Machine, holds: &[Held]) -> Result<(), Memory>
+fn add_chains(
+    steps: &mut Vec<MarkStep>,
+    machine: &Machine,
+    holds: &[NumberedHold],
+) -> Result<(), Memory>
     ensures { OnOk result (steps.new.items ≡ steps.old.items
         ++ chain_steps machine.entry.now holds.entry.now) }
 {
@@ -291,7 +295,11 @@ fn add_chains(steps: &mut Vec<Step>, machine: &Machine, holds: &[Held]) -> Resul
 }
 
 /// The steps of all rules that the schedule's ticks leave no room.
-fn tight_steps(alloc: Global, machine: &Machine, schedule: &Schedule) -> Result<Vec<Step>, Memory>
+fn tight_steps(
+    alloc: Global,
+    machine: &Machine,
+    schedule: &Schedule,
+) -> Result<Vec<MarkStep>, Memory>
     requires { IsLegal machine.now schedule.now.plans }
     ensures { IfOk result (λ steps. AreTightSteps (table_of schedule.now.plans)
         (ticks_of schedule.now.plans) (plans_gaps machine.now schedule.now.plans) steps.items) }

@@ -13,7 +13,7 @@ use tp_schedule::{Goal, Kind, Plan, Schedule, SheetId};
 
 /// The last point of a plan, with its number where the points of all plans are numbered, one plan after another.
 #[derive(Clone, Copy)]
-pub(crate) struct End {
+pub(crate) struct PlanEnd {
     pub(crate) sheet: SheetId,
     pub(crate) number: usize,
     pub(crate) tick: Tick,
@@ -29,13 +29,13 @@ fn line_of(plan: &Plan) -> Option<LocId>
     }
 }
 
-fn end_of(plan: &Plan, number: usize) -> End
+fn end_of(plan: &Plan, number: usize) -> PlanEnd
     requires formed { IsFormed plan.now }
     requires fits { number + most_acts < 2 ^ 64 }
     ensures { result ≡ end_of number plan.now }
 {
     let acts = plan.acts.len();
-    End {
+    PlanEnd {
         sheet: plan.sheet,
         number: number + acts as usize,
         tick: plan.points.get(acts),
@@ -44,8 +44,8 @@ fn end_of(plan: &Plan, number: usize) -> End
 
 /// Puts the plan's end before those of later plans, and pairs it with the next one of its line.
 fn put_end(
-    next: &mut HashMap<u16, End>,
-    pairs: &mut Vec<(End, End)>,
+    next: &mut HashMap<u16, PlanEnd>,
+    pairs: &mut Vec<(PlanEnd, PlanEnd)>,
     plan: &Plan,
     number: usize,
 ) -> Result<(), Memory>
@@ -81,7 +81,10 @@ fn count_points(schedule: &Schedule) -> usize
 }
 
 /// The ends of whole plans to trays, each with the next one of its line.
-pub(crate) fn line_pairs(alloc: Global, schedule: &Schedule) -> Result<Vec<(End, End)>, Memory>
+pub(crate) fn line_pairs(
+    alloc: Global,
+    schedule: &Schedule,
+) -> Result<Vec<(PlanEnd, PlanEnd)>, Memory>
     ensures { IfOk result (λ pairs. pairs.items ≡ line_pairs 0 schedule.now.plans) }
 {
     let mut next = HashMap::new(alloc);

@@ -4,7 +4,7 @@ ghost use Rattle.tp_schedule.specs.Legality.{IsLegal};
 ghost use Rattle.tp_deciding.specs.Holds.{slot_of};
 ghost use Rattle.tp_deciding.specs.Partings.{AreOrdersKept, IsCommon, IsFirstParting, IsParting, first_resource, hold_on, is_new_of};
 
-use crate::held::{Held, sorted_holds};
+use crate::held::{NumberedHold, sorted_holds};
 use std::alloc::Global;
 use tp_base::Memory;
 use tp_machine::{Machine, ResId};
@@ -20,7 +20,7 @@ pub struct Parting {
 }
 
 /// Whether the hold is no new one of the asked copy.
-fn is_old(asked: &Option<Ask>, held: &Held) -> bool
+fn is_old(asked: &Option<Ask>, held: &NumberedHold) -> bool
     ensures { result ≡ not (is_new_of asked.now (slot_of held.now)) }
 {
     match asked {
@@ -29,14 +29,14 @@ fn is_old(asked: &Option<Ask>, held: &Held) -> bool
     }
 }
 
-fn is_same(one: &Held, other: &Held) -> bool
+fn is_same(one: &NumberedHold, other: &NumberedHold) -> bool
     ensures { IsTrue result ↔ (slot_of one.now ≡ slot_of other.now) }
 {
     one.rule == other.rule && one.hold == other.hold && one.at == other.at
 }
 
 /// The hold, if there is one and it is on the resource.
-fn hold_on(resource: ResId, held: Option<Held>) -> Option<Hold>
+fn hold_on(resource: ResId, held: Option<NumberedHold>) -> Option<Hold>
     ensures { result ≡ hold_on resource held }
 {
     match held {
@@ -46,7 +46,7 @@ fn hold_on(resource: ResId, held: Option<Held>) -> Option<Hold>
 }
 
 /// The resource of the hold that comes first in the order of resources.
-fn first_resource(stood: Option<Held>, stands: Option<Held>) -> Option<ResId>
+fn first_resource(stood: Option<NumberedHold>, stands: Option<NumberedHold>) -> Option<ResId>
     ensures { result ≡ first_resource stood stands }
 {
     match (stood, stands) {
@@ -63,7 +63,7 @@ fn first_resource(stood: Option<Held>, stands: Option<Held>) -> Option<ResId>
 }
 
 /// How many holds both lists begin with.
-fn count_common(before: &[Held], after: &[Held]) -> usize
+fn count_common(before: &[NumberedHold], after: &[NumberedHold]) -> usize
     ensures { IsCommon before.now after.now result }
 {
     let mut at = 0;
@@ -76,14 +76,14 @@ fn count_common(before: &[Held], after: &[Held]) -> usize
     at
 }
 
-fn held_at(holds: &[Held], at: usize) -> Option<Held>
+fn held_at(holds: &[NumberedHold], at: usize) -> Option<NumberedHold>
     ensures { result ≡ slice_get holds.now at }
 {
     holds.get(at).copied()
 }
 
 /// Where sorted holds part.
-fn first_parting(before: &[Held], after: &[Held]) -> Option<Parting>
+fn first_parting(before: &[NumberedHold], after: &[NumberedHold]) -> Option<Parting>
     ensures { IsFirstParting before.now after.now result }
 {
     let at = count_common(before, after);
@@ -100,7 +100,11 @@ fn first_parting(before: &[Held], after: &[Held]) -> Option<Parting>
 }
 
 /// The holds without the new ones of the asked copy.
-fn old_holds(alloc: Global, holds: &[Held], asked: &Option<Ask>) -> Result<Vec<Held>, Memory>
+fn old_holds(
+    alloc: Global,
+    holds: &[NumberedHold],
+    asked: &Option<Ask>,
+) -> Result<Vec<NumberedHold>, Memory>
     ensures { IfOk result (λ old. old.items
         ≡ filter (λ h. not (is_new_of asked.entry.now (slot_of h))) holds.now) }
 {

@@ -19,11 +19,11 @@ use Rattle.tp_log.proofs.Items.{tree_of}
 use Rattle.tp_schedule.specs.declared.records.Record.{Record}
 use Rattle.tp_script.specs.declared.event.Event.{Event as AnEvent}
 use Rattle.tp_entries.specs.Gathered.{ArePlain, IsPending, IsSame, items_of, lines_of}
-use Rattle.tp_entries.specs.declared.next.Next.{Next}
+use Rattle.tp_entries.specs.declared.next.NextEntry.{NextEntry}
 use Rattle.tp_entries.specs.declared.pending.Pending.{Pending}
 
 -- what may stand behind a line
-abbrev pub next_behind : LogLine → Next
+abbrev pub next_behind : LogLine → NextEntry
 next_behind told = record { row = takes_row told; node = takes_node told }
 
 pub pending_of : (p : Pending) (told : LogLine) → ArePlain p.items.items → AreGathered (items_of p) p.tree (behind told) → p.next ≡ next_behind told → IsPending p

@@ -7,7 +7,7 @@ use tp_schedule::Record;
 
 /// Whether a room row, and whether a node may stand behind the lines so far.
 #[derive(Clone, Copy)]
-pub(crate) struct Next {
+pub(crate) struct NextEntry {
     row: bool,
     node: bool,
 }
@@ -21,41 +21,41 @@ fn takes_tree(told: &Record) -> bool
     )
 }
 
-impl Next {
+impl NextEntry {
     /// Behind an event.
-    pub(crate) fn behind_event() -> Next
+    pub(crate) fn behind_event() -> NextEntry
         ensures { result ≡ record { row = false; node = false } }
     {
-        Next {
+        NextEntry {
             row: false,
             node: false,
         }
     }
 
     /// Behind a record.
-    pub(crate) fn behind_record(told: &Record) -> Next
+    pub(crate) fn behind_record(told: &Record) -> NextEntry
         ensures { result ≡ record { row = takes_tree told.now; node = takes_tree told.now } }
     {
         let takes = takes_tree(told);
-        Next {
+        NextEntry {
             row: takes,
             node: takes,
         }
     }
 
-    pub(crate) fn behind_row() -> Next
+    pub(crate) fn behind_row() -> NextEntry
         ensures { result ≡ record { row = true; node = true } }
     {
-        Next {
+        NextEntry {
             row: true,
             node: true,
         }
     }
 
-    pub(crate) fn behind_node() -> Next
+    pub(crate) fn behind_node() -> NextEntry
         ensures { result ≡ record { row = false; node = true } }
     {
-        Next {
+        NextEntry {
             row: false,
             node: true,
         }

@@ -13,7 +13,7 @@ ghost use Rattle.tp_log.specs.declared.item.Item.TheVariants.{Event as EventItem
 ghost use Rattle.tp_log.specs.declared.log_line.LogLine.TheVariants.{Event as EventLine, Note as NoteLine, Room as RowLine, Node as NodeLine};
 ghost use Rattle.tp_script.specs.Printed.{IsEchoed};
 
-use crate::next::Next;
+use crate::next::NextEntry;
 use std::alloc::Global;
 use std::mem;
 use tp_base::Memory;
@@ -46,7 +46,7 @@ pub struct Pending {
     /// Its records, and the trees that are ended.
     pub items: Vec<Item>,
     tree: BoundTree,
-    next: Next,
+    next: NextEntry,
 }
 
 // What becomes of its parts is proved here, once for all who let go of one.
@@ -77,7 +77,7 @@ impl Pending {
             event,
             items: Vec::new(alloc),
             tree: no_tree(alloc),
-            next: Next::behind_event(),
+            next: NextEntry::behind_event(),
         }
     }
 
@@ -121,7 +121,7 @@ impl Pending {
     {
         self.reserve(2)?;
         self.end_tree();
-        self.next = Next::behind_record(&told);
+        self.next = NextEntry::behind_record(&told);
         self.items.push_reserved(Item::Note(told));
         Ok(())
     }
@@ -144,7 +144,7 @@ impl Pending {
             return Ok(false);
         }
         self.tree.rows.push(row)?;
-        self.next = Next::behind_row();
+        self.next = NextEntry::behind_row();
         Ok(true)
     }
 
@@ -166,7 +166,7 @@ impl Pending {
             return Ok(false);
         }
         self.tree.nodes.push(node)?;
-        self.next = Next::behind_node();
+        self.next = NextEntry::behind_node();
         Ok(true)
     }
 

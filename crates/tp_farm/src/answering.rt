@@ -16,12 +16,12 @@ use tp_teller::Teller;
 
 /// A farm that answers the lines of a script, and the text of the last answer.
 #[derive(Drop)]
-struct Scripted<T: Teller> {
+struct ScriptedFarm<T: Teller> {
     farm: Farm<T>,
     text: Vec<u8>,
 }
 
-impl<T: Teller> LineTaker for Scripted<T> {
+impl<T: Teller> LineTaker for ScriptedFarm<T> {
     ghost use Rattle.tp_farm.specs.Farms.{FarmState};
 
     ghost State = { FarmState T.State };
@@ -74,7 +74,7 @@ pub fn answer_farm<T: Teller + Drop, S: Source, K: Sink>(
     ensures source_counted { IsCounted (S.faults source.old) (S.faults source.new) }
     ensures sink_counted { IsCounted (K.faults sink.old) (K.faults sink.new) }
 {
-    let mut scripted = Scripted {
+    let mut scripted = ScriptedFarm {
         farm,
         text: Vec::new(alloc),
     };

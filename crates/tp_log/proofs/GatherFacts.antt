@@ -13,7 +13,7 @@ use Rattle.tp_bounds.specs.declared.tree.Node.{Node as ANode}
 use Rattle.tp_bounds.specs.declared.tree.TreeRow.{TreeRow}
 use Rattle.tp_schedule.specs.declared.records.Record.{Record}
 use Rattle.tp_script.specs.declared.event.Event.{Event as AnEvent}
-use Rattle.tp_log.specs.declared.gathering.Next.{Next}
+use Rattle.tp_log.specs.declared.gathering.NextLine.{NextLine}
 use Rattle.tp_log.specs.declared.item.Item.{Item}
 use Rattle.tp_log.specs.declared.item.Item.TheVariants.{Event, Note, Tree}
 use Rattle.tp_log.specs.declared.log_line.LogLine.{LogLine}
@@ -76,7 +76,7 @@ closed-lines items tree = elim (cases_Bool (has_lines tree)) [
 pub closed-text : (items : List Item) (tree : BoundTree) → log_text (closed items tree) ≡ text_of (lines_with items tree)
 closed-text items tree = sym (text_of-log (closed items tree)) ∙ ap text_of (closed-lines items tree)
 
-module _ (items : List Item) (tree : BoundTree) (next : Next) (g : AreGathered items tree next) where
+module _ (items : List Item) (tree : BoundTree) (next : NextLine) (g : AreGathered items tree next) where
   with_tree : has_lines tree ≡ true → IsLog (items ++ Tree tree ∷ [])
   with_tree has = elim g.ends [
     | inl (none, bare) ↦ absurd cc
@@ -177,8 +177,8 @@ module _ (items : List Item) (tree : BoundTree) (next : Next) (g : AreGathered i
       record { before = e.before; last = e.last; are = e.are; plain = e.plain; takes = λ has. takes }
 
 -- ---- with one line more
-module _ (items : List Item) (tree : BoundTree) (next : Next) (g : AreGathered items tree next) (told : LogLine) (is : IsLogLine told) (may : allows next told ≡ true) where
-  pub with_event : (event : AnEvent) → told ≡ line.Event event → (items' mid : List Item) (tree' : BoundTree) (next' : Next) → items' ≡ mid ++ Event event ∷ [] → mid ≡ closed items tree → tree' ≡ empty_tree → next' ≡ behind told → AreGathered items' tree' next'
+module _ (items : List Item) (tree : BoundTree) (next : NextLine) (g : AreGathered items tree next) (told : LogLine) (is : IsLogLine told) (may : allows next told ≡ true) where
+  pub with_event : (event : AnEvent) → told ≡ line.Event event → (items' mid : List Item) (tree' : BoundTree) (next' : NextLine) → items' ≡ mid ++ Event event ∷ [] → mid ≡ closed items tree → tree' ≡ empty_tree → next' ≡ behind told → AreGathered items' tree' next'
   with_event event same items' mid tree' next' more mid-is tree-is next-is =
       let place = place_event (closed items tree) (closed_log items tree next g).0 in
       let new = event_or_record items tree next g (Event event) told (ap (λ t. t ∷ []) (sym same)) refl (subst IsLogLine same is) is may place in
@@ -188,7 +188,7 @@ module _ (items : List Item) (tree : BoundTree) (next : Next) (g : AreGathered i
       place_event [] h = (refl, tt)
       place_event (x ∷ xs) h = (h.0, stand_plain x xs (Event event) (λ last. tt) h.1)
 
-  pub with_record : (rec : Record) → told ≡ line.Note rec → (items' mid : List Item) (tree' : BoundTree) (next' : Next) → items' ≡ mid ++ Note rec ∷ [] → mid ≡ closed items tree → tree' ≡ empty_tree → next' ≡ behind told → AreGathered items' tree' next'
+  pub with_record : (rec : Record) → told ≡ line.Note rec → (items' mid : List Item) (tree' : BoundTree) (next' : NextLine) → items' ≡ mid ++ Note rec ∷ [] → mid ≡ closed items tree → tree' ≡ empty_tree → next' ≡ behind told → AreGathered items' tree' next'
   with_record rec same items' mid tree' next' more mid-is tree-is next-is =
       let some = some_item items tree next g told (ap (allows (next_of [])) same) may in
       let place = place_plain items tree next g (closed items tree) (Note rec) (λ last. tt) (closed_log items tree next g).0 (closed_some items tree next g some) in
@@ -221,14 +221,14 @@ module _ (items : List Item) (tree : BoundTree) (next : Next) (g : AreGathered i
       let none = no_node_before items tree next g row (ap (allows next) (sym same) ∙ may) in
       ap (λ rows. lines_with items (tree_of rows tree.nodes)) more ∙ row-lines tree.rows row tree.nodes none ∙ ap (λ t. lines_with items tree ++ t ∷ []) (sym same)
 
-  pub with_row : (row : TreeRow) → told ≡ line.Room row → (rows' : List TreeRow) (next' : Next) → rows' ≡ tree.rows ++ row ∷ [] → next' ≡ behind told → AreGathered items (tree_of rows' tree.nodes) next'
+  pub with_row : (row : TreeRow) → told ≡ line.Room row → (rows' : List TreeRow) (next' : NextLine) → rows' ≡ tree.rows ++ row ∷ [] → next' ≡ behind told → AreGathered items (tree_of rows' tree.nodes) next'
   with_row row same rows' next' more next-is =
       let of_tree : IsOfTree items tree next g told = subst (IsOfTree items tree next g) (sym same) ((λ e. refl), (λ r. refl)) in
       let ends = ends_open items tree next g told of_tree (ap (allows (next_of [])) same) may (tree_of rows' tree.nodes) in
       let known : All IsRow rows' = subst (All IsRow) (sym more) (All-last IsRow tree.rows row g.has.0 (subst IsLogLine same is)) in
       rw next-is (grown items tree next g items (tree_of rows' tree.nodes) told is may (lines_with_row row same rows' more) g.log (known, g.has.1) ends)
 
-  pub with_node : (node : ANode) → told ≡ line.Node node → (nodes' : List ANode) (next' : Next) → nodes' ≡ tree.nodes ++ node ∷ [] → next' ≡ behind told → AreGathered items (tree_of tree.rows nodes') next'
+  pub with_node : (node : ANode) → told ≡ line.Node node → (nodes' : List ANode) (next' : NextLine) → nodes' ≡ tree.nodes ++ node ∷ [] → next' ≡ behind told → AreGathered items (tree_of tree.rows nodes') next'
   with_node node same nodes' next' more next-is =
       let of_tree : IsOfTree items tree next g told = subst (IsOfTree items tree next g) (sym same) ((λ e. refl), (λ r. refl)) in
       let ends = ends_open items tree next g told of_tree (ap (allows (next_of [])) same) may (tree_of tree.rows nodes') in
@@ -237,5 +237,5 @@ module _ (items : List Item) (tree : BoundTree) (next : Next) (g : AreGathered i
       rw next-is (grown items tree next g items (tree_of tree.rows nodes') told is may lines g.log (g.has.0, known) ends)
 
 -- where a line isn't allowed, it isn't in order
-pub not_in_order : (items : List Item) (tree : BoundTree) (next : Next) (told : LogLine) → AreGathered items tree next → allows next told ≡ false → AreInOrder (lines_with items tree ++ told ∷ []) → ⊥
+pub not_in_order : (items : List Item) (tree : BoundTree) (next : NextLine) (told : LogLine) → AreGathered items tree next → allows next told ≡ false → AreInOrder (lines_with items tree ++ told ∷ []) → ⊥
 not_in_order items tree next told g bare order = (let may = ap (λ n. allows n told) g.is_next ∙ order_last (lines_with items tree) told order in cc)

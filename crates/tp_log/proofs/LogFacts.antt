@@ -8,7 +8,7 @@ use Rattle.tp_words.specs.Texts.{lines_of}
 use Rattle.tp_log.specs.declared.fault.LogFault.{LogFault}
 use Rattle.tp_log.specs.declared.fault.LogFault.TheVariants.{Bad, Memory}
 use Rattle.tp_bounds.specs.declared.tree.BoundTree.{BoundTree}
-use Rattle.tp_log.specs.declared.gathering.Next.{Next}
+use Rattle.tp_log.specs.declared.gathering.NextLine.{NextLine}
 use Rattle.tp_log.specs.declared.item.Item.{Item}
 use Rattle.tp_log.specs.declared.log_line.LogLine.{LogLine}
 use Rattle.tp_log.specs.Gathering.{AreGathered, lines_with, log_lines}
@@ -69,7 +69,7 @@ first_off lines text rest line more known order whole split off =
         let e = ends lines others line (recursion_from_All IsLogLine lines known) (recursion_from_All IsLogLine others is) same in
         off e.0 e.1 (subst AreInOrder e.2.0 in_order) e.2.1
 
-pub read_bad : (items : List Item) (tree : BoundTree) (next : Next) → AreGathered items tree next → (text rest line more : List ℕ) (n : ℕ) → n ≡ length (lines_with items tree) → text ≡ text_of (lines_with items tree) ++ rest → lines_of rest ≡ line ∷ lines_of more
+pub read_bad : (items : List Item) (tree : BoundTree) (next : NextLine) → AreGathered items tree next → (text rest line more : List ℕ) (n : ℕ) → n ≡ length (lines_with items tree) → text ≡ text_of (lines_with items tree) ++ rest → lines_of rest ≡ line ∷ lines_of more
     → StandsNowhere (lines_with items tree) line → IsFirstOff (n + 1) text
 read_bad items tree next g text rest line more n count whole split off = rw count (first_off (lines_with items tree) text rest line more g.known g.order whole split off)
 

@@ -4,7 +4,7 @@ use Rattle.std.specs.List.{All, flat_map}
 use Rattle.tp_bounds.specs.declared.tree.BoundTree.{BoundTree}
 use Rattle.tp_bounds.specs.Trees.{HasLines}
 use Rattle.tp_log.specs.declared.gathering.Gathered.{Gathered}
-use Rattle.tp_log.specs.declared.gathering.Next.{Next}
+use Rattle.tp_log.specs.declared.gathering.NextLine.{NextLine}
 use Rattle.tp_log.specs.declared.item.Item.{Item}
 use Rattle.tp_log.specs.declared.item.Item.TheVariants.{Event, Note, Tree}
 use Rattle.tp_log.specs.declared.log_line.LogLine.{LogLine}
@@ -37,20 +37,20 @@ closed items tree = if has_lines tree then items ++ Tree tree ∷ [] else items
 
 -- ---- what may stand behind lines
 
-abbrev pub allows : Next → LogLine → Bool
+abbrev pub allows : NextLine → LogLine → Bool
 allows next (line.Event event) = true
 allows next (line.Note told) = next.«record»
 allows next (line.Room row) = next.row
 allows next (line.Node node) = next.node
 
-abbrev pub behind : LogLine → Next
+abbrev pub behind : LogLine → NextLine
 behind told = record { «record» = true; row = takes_row told; node = takes_node told }
 
 abbrev pub last_from : LogLine → List LogLine → LogLine
 last_from before [] = before
 last_from before (told ∷ lines) = last_from told lines
 
-abbrev pub next_of : List LogLine → Next
+abbrev pub next_of : List LogLine → NextLine
 next_of [] = record { «record» = false; row = false; node = false }
 next_of (first ∷ lines) = behind (last_from first lines)
 
@@ -68,7 +68,7 @@ pub record EndsWith (items : List Item) (tree : BoundTree) : Type 0 where
   pub plain : is_tree last ≡ false
   pub takes : has_lines tree ≡ true → IsTrue (is_open last)
 
-pub record AreGathered (items : List Item) (tree : BoundTree) (next : Next) : Type 0 where
+pub record AreGathered (items : List Item) (tree : BoundTree) (next : NextLine) : Type 0 where
   pub log : IsLog items
   pub has : HasLines tree
   pub ends : ((items ≡ []) × (has_lines tree ≡ false)) ⊎ EndsWith items tree

@@ -14,7 +14,7 @@ use tp_schedule::Record;
 
 /// What may stand behind the lines so far, besides an event.
 #[derive(Clone, Copy)]
-pub(crate) struct Next {
+pub(crate) struct NextLine {
     record: bool,
     row: bool,
     node: bool,
@@ -29,7 +29,7 @@ fn takes_tree(told: &Record) -> bool
     )
 }
 
-impl Next {
+impl NextLine {
     fn allows(self, told: &LogLine) -> bool
         ensures { result ≡ allows self told.now }
     {
@@ -42,7 +42,7 @@ impl Next {
     }
 
     /// What may stand behind a line.
-    fn behind(told: &LogLine) -> Next
+    fn behind(told: &LogLine) -> NextLine
         ensures { result ≡ behind told.now }
     {
         let (row, node) = match told {
@@ -51,7 +51,7 @@ impl Next {
             LogLine::Room(_) => (true, true),
             LogLine::Node(_) => (false, true),
         };
-        Next {
+        NextLine {
             record: true,
             row,
             node,
@@ -74,7 +74,7 @@ pub(crate) struct Gathered {
     alloc: Global,
     items: Vec<Item>,
     tree: BoundTree,
-    next: Next,
+    next: NextLine,
 }
 
 impl Gathered {
@@ -86,7 +86,7 @@ impl Gathered {
             alloc,
             items: Vec::new(alloc),
             tree: no_tree(alloc),
-            next: Next {
+            next: NextLine {
                 record: false,
                 row: false,
                 node: false,
@@ -120,7 +120,7 @@ impl Gathered {
         if !self.next.allows(&told) {
             return Ok(false);
         }
-        self.next = Next::behind(&told);
+        self.next = NextLine::behind(&told);
         match told {
             LogLine::Event(event) => {
                 self.close()?;

@@ -39,8 +39,8 @@ use Rattle.tp_placing.specs.Growing.IsLineEnd.{line_end, no_end}
 use Rattle.tp_placing.specs.Loading.{acts_edges, point_id}
 use Rattle.tp_placing.specs.LoadedHolds.{held_by, held_from}
 use Rattle.tp_placing.specs.Standing.{AreFirsts}
-use Rattle.tp_placing.specs.declared.causes.Cause.{Cause}
-use Rattle.tp_placing.specs.declared.causes.Cause.TheVariants.{Back, Forward, Limit, Line, Resource, Stop}
+use Rattle.tp_placing.specs.declared.causes.EdgeCause.{EdgeCause}
+use Rattle.tp_placing.specs.declared.causes.EdgeCause.TheVariants.{Back, Forward, Limit, Line, Resource, Stop}
 use Rattle.tp_base.specs.declared.edges.Edge.{Edge}
 use Rattle.tp_constraints.specs.Numbers.{IsEdgeOf}
 use Rattle.tp_placing.proofs.CauseFacts.{numbered-in}
@@ -93,7 +93,7 @@ split-at xs k x at =
     let e : k + 1 ≡ suc k = omega arith in
     sym (take-append-drop k xs) ∙ ap (λ ys. take k xs ++ ys) (drop-get xs k x at ∙ ap (λ n. x ∷ drop n xs) e)
 
-module _ (plans : List Plan) (p : Plan) (firsts : List PointId) (causes : List Cause) (plain : ArePlain causes) (end : PointId)
+module _ (plans : List Plan) (p : Plan) (firsts : List PointId) (causes : List EdgeCause) (plain : ArePlain causes) (end : PointId)
     (at-end : slice_get (table_of (with_plan plans p)) end.0 ≡ Some (end_spot p)) (are : AreFirsts 0 (with_plan plans p) firsts) where
   abbrev all : List Plan
   all = with_plan plans p
@@ -123,7 +123,7 @@ module _ (plans : List Plan) (p : Plan) (firsts : List PointId) (causes : List C
       )
 
 -- all its own edges are hops
-pub own-hops : (machine : Machine) (plans : List Plan) (p : Plan) (firsts : List PointId) (causes : List Cause) (first : PointId) (o : Option PointId) → ArePlain causes → AreFirsts 0 (with_plan plans p) firsts
+pub own-hops : (machine : Machine) (plans : List Plan) (p : Plan) (firsts : List PointId) (causes : List EdgeCause) (first : PointId) (o : Option PointId) → ArePlain causes → AreFirsts 0 (with_plan plans p) firsts
     → first.0 ≡ length (table_of plans) → IsLineEnd (with_plan plans p) firsts (length plans) p o
     → (lines : List Gap) × IsLineBefore plans p lines × AreHops (with_plan plans p) causes (own_edges machine first p o) (acts_hops machine p.sheet 0 p.acts ++ map (hop line) lines)
 own-hops machine plans p firsts causes first o plain are is ends =
@@ -202,7 +202,7 @@ module _ (machine : Machine) (plans : List Plan) (p : Plan) (ask : Ask) where
     | inr past ↦ absurd (none (i - length (table_of plans)) (ap (λ o. unwrap_or o (own (i - length (table_of plans)))) (slice_get_past (table_of plans) i past)))
   ]
 
-  kind-more : length (table_of plans) ≤ length (table_of (with_plan plans p)) → (c : Option Cause) (g : Gap) → IsHop machine plans ask no_choices (hop (kind_of plans c) g) → kind_of (with_plan plans p) c ≡ kind_of plans c
+  kind-more : length (table_of plans) ≤ length (table_of (with_plan plans p)) → (c : Option EdgeCause) (g : Gap) → IsHop machine plans ask no_choices (hop (kind_of plans c) g) → kind_of (with_plan plans p) c ≡ kind_of plans c
   kind-more more None g h = refl
   kind-more more (Some Forward) g h = refl
   kind-more more (Some Back) g h = refl
@@ -217,7 +217,7 @@ module _ (machine : Machine) (plans : List Plan) (p : Plan) (ask : Ask) where
       let b = numbered-more plans p y.0 other (omega arith) in
       λ i. order r.0 (a i) (b i)
 
-  pub hop-same : (causes more : List Cause) (e : Edge) → length (table_of plans) ≤ length (table_of (with_plan plans p)) → IsEdgeOf (table_of plans) e → IsNamedHop machine plans ask no_choices causes e
+  pub hop-same : (causes more : List EdgeCause) (e : Edge) → length (table_of plans) ≤ length (table_of (with_plan plans p)) → IsEdgeOf (table_of plans) e → IsNamedHop machine plans ask no_choices causes e
       → hop_by (with_plan plans p) (causes ++ more) e ≡ hop_by plans causes e
   hop-same causes more e longer ends named =
       let same = slice_get_left causes more e.tag named.tag in

@@ -32,7 +32,7 @@ use Rattle.tp_placing.specs.Loaded.{CanLoad, IsLoaded}
 use Rattle.tp_placing.specs.Loading.{caps_of, lows_of, point_count, with_bounds}
 use Rattle.tp_placing.specs.LoadedHolds.{held_from}
 use Rattle.tp_placing.specs.Standing.{AreSlots, loaded_edges, loaded_holds}
-use Rattle.tp_placing.specs.declared.causes.Cause.{Cause}
+use Rattle.tp_placing.specs.declared.causes.EdgeCause.{EdgeCause}
 use Rattle.tp_placing.specs.declared.parts.Held.{Held}
 use Rattle.tp_placing.proofs.AddFacts.{added-gaps, held-slots, hop-same, own-hops, stands-behind}
 use Rattle.tp_placing.proofs.AddedParts.{at-firsts, caps-all, first-is, lows-all, new-held, points-all, small}
@@ -43,9 +43,9 @@ use Rattle.tp_placing.proofs.LoadTable.{length-table-of, ticks-by-number}
 use Rattle.tp_placing.proofs.LoadedTicks.{timed, times}
 
 module _ (machine : Machine) (now : ℕ) (plans : List Plan) (p : Plan) (can : CanLoad machine now (with_plan plans p)) (before : IsLoadable machine now (λ _. false) plans)
-    (n : Net) (lines : List (List ℕ)) (held : List Held) (firsts : List PointId) (causes : List Cause) (old : IsLoaded machine now plans n lines held firsts causes) (last : PointId) (at-last : last.0 ≡ point_count plans)
+    (n : Net) (lines : List (List ℕ)) (held : List Held) (firsts : List PointId) (causes : List EdgeCause) (old : IsLoaded machine now plans n lines held firsts causes) (last : PointId) (at-last : last.0 ≡ point_count plans)
     (m : Net) (wider : m ≡ with_bounds (lows_of (now + machine.lead) p) (caps_of (now + machine.window) p) n)
-    (o : Option PointId) (ends : IsLineEnd (with_plan plans p) (firsts ++ last ∷ []) (length plans) p o) (lines' : List (List ℕ)) (put-edges : List Edge) (more : List Cause)
+    (o : Option PointId) (ends : IsLineEnd (with_plan plans p) (firsts ++ last ∷ []) (length plans) p o) (lines' : List (List ℕ)) (put-edges : List Edge) (more : List EdgeCause)
     (put : HasPut machine (with_plan plans p) (slot_order machine plans) (held ++ held_from machine last.0 p.acts) lines' put-edges (causes ++ more)
     (map (slot_by (table_of (with_plan plans p))) (drop (length held) (held ++ held_from machine last.0 p.acts)))) where
   abbrev all : List Plan
@@ -57,7 +57,7 @@ module _ (machine : Machine) (now : ℕ) (plans : List Plan) (p : Plan) (can : C
   abbrev es : List Edge
   es = own_edges machine last p o ++ put-edges
 
-  abbrev new-causes : List Cause
+  abbrev new-causes : List EdgeCause
   new-causes = causes ++ more
 
   abbrev order : ℕ → List Slot

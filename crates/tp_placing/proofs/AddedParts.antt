@@ -21,7 +21,7 @@ use Rattle.tp_placing.specs.Loaded.{CanLoad, IsLoaded}
 use Rattle.tp_placing.specs.Loading.{AreIds, HasBounds, HasPoints, caps_of, firsts_from, lows_of, point_count, point_id, with_bounds}
 use Rattle.tp_placing.specs.LoadedHolds.{IsHeldWithin, IsRuleOf, held_from, ticks_in}
 use Rattle.tp_placing.specs.Standing.{AreFirsts, AreSlots, HasSmallOffsets}
-use Rattle.tp_placing.specs.declared.causes.Cause.{Cause}
+use Rattle.tp_placing.specs.declared.causes.EdgeCause.{EdgeCause}
 use Rattle.tp_placing.specs.declared.parts.Held.{Held}
 use Rattle.tp_placing.proofs.LiveFacts.{points-few}
 use Rattle.tp_placing.proofs.LoadHolds.{from-ruled, from-within}
@@ -54,7 +54,7 @@ slot-ids table held (id ∷ ids) [] are = absurd are
 slot-ids table held (id ∷ ids) (s ∷ slots) are = All-cons (λ i. i < length held) id ids (slice_get_within held id are.0.hold are.0.at) (slot-ids table held ids slots are.1)
 
 module _ (machine : Machine) (now : ℕ) (plans : List Plan) (p : Plan) (can : CanLoad machine now (with_plan plans p)) (before : IsLoadable machine now (λ _. false) plans)
-    (n : Net) (lines : List (List ℕ)) (held : List Held) (firsts : List PointId) (causes : List Cause) (old : IsLoaded machine now plans n lines held firsts causes) (last : PointId) (at-last : last.0 ≡ point_count plans) where
+    (n : Net) (lines : List (List ℕ)) (held : List Held) (firsts : List PointId) (causes : List EdgeCause) (old : IsLoaded machine now plans n lines held firsts causes) (last : PointId) (at-last : last.0 ≡ point_count plans) where
   abbrev all : List Plan
   all = with_plan plans p
 

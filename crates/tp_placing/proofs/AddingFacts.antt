@@ -18,7 +18,7 @@ use Rattle.tp_placing.specs.Loaded.{CanLoad, IsLoaded}
 use Rattle.tp_placing.specs.LoadedHolds.{IsHeldWithin, IsRuleOf, held_from, ticks_in}
 use Rattle.tp_placing.specs.Loading.{AreIds, HasBounds, HasPoints, caps_of, firsts_from, lows_of, point_count, with_bounds}
 use Rattle.tp_placing.specs.Standing.{AreSlots, HasSmallOffsets, loaded_edges, loaded_holds}
-use Rattle.tp_placing.specs.declared.causes.Cause.{Cause}
+use Rattle.tp_placing.specs.declared.causes.EdgeCause.{EdgeCause}
 use Rattle.tp_placing.specs.declared.parts.Held.{Held}
 use Rattle.tp_placing.proofs.AddedNet.{edges-in-net, edges-known, loaded, solved}
 use Rattle.tp_placing.proofs.AddedParts.{at-firsts, bounds, count-all, few-before, few-own, few-points, firsts-all, formed, ids-before, new-held, new-ruled, new-within, orders-before, points-before, small, ticks-all}
@@ -54,7 +54,7 @@ pub record AreOwn (machine : Machine) (plans : List Plan) (firsts : List PointId
   pub few : length edges ≤ 129
 
 -- these edges make of a network that has the points of all plans one that is loaded with them
-pub record LoadPlans (machine : Machine) (now : ℕ) (plans : List Plan) (m : Net) (lines : List (List ℕ)) (held : List Held) (firsts : List PointId) (causes : List Cause) (edges : List Edge) : Type 0 where
+pub record LoadPlans (machine : Machine) (now : ℕ) (plans : List Plan) (m : Net) (lines : List (List ℕ)) (held : List Held) (firsts : List PointId) (causes : List EdgeCause) (edges : List Edge) : Type 0 where
   pub known : All (IsKnown (length (ticks_in plans))) edges
   pub in_net : All (IsKnown (length m.lows)) edges
   pub solved : KeepEdges plans edges → (x : ℕ → ℕ) × IsSolution (with_edges m edges) x
@@ -77,7 +77,7 @@ own-are machine plans plans' firsts firsts' place first p earlier edges few a b 
     }
 
 module _ (machine : Machine) (now : ℕ) (plans : List Plan) (p : Plan) (can : CanLoad machine now (with_plan plans p)) (before : IsLoadable machine now (λ _. false) plans)
-    (n : Net) (lines : List (List ℕ)) (held : List Held) (firsts : List PointId) (causes : List Cause) (old : IsLoaded machine now plans n lines held firsts causes) (last : PointId) (at-last : last.0 ≡ point_count plans) where
+    (n : Net) (lines : List (List ℕ)) (held : List Held) (firsts : List PointId) (causes : List EdgeCause) (old : IsLoaded machine now plans n lines held firsts causes) (last : PointId) (at-last : last.0 ≡ point_count plans) where
   few-of : length firsts ≡ length plans → HasFewPoints machine now (with_plan plans p) n firsts last p
   few-of many =
       let most = few-before machine now plans p can before n lines held firsts causes old last at-last in
@@ -107,7 +107,7 @@ module _ (machine : Machine) (now : ℕ) (plans : List Plan) (p : Plan) (can : C
         ticks = ticks-all machine now plans p can before n lines held firsts causes old last at-last;
       }
 
-  load-of : (m : Net) (wider : m ≡ with_bounds (lows_of (now + machine.lead) p) (caps_of (now + machine.window) p) n) (o : Option PointId) (ends : IsLineEnd (with_plan plans p) (firsts ++ last ∷ []) (length plans) p o) (lines' : List (List ℕ)) (es : List Edge) (more : List Cause)
+  load-of : (m : Net) (wider : m ≡ with_bounds (lows_of (now + machine.lead) p) (caps_of (now + machine.window) p) n) (o : Option PointId) (ends : IsLineEnd (with_plan plans p) (firsts ++ last ∷ []) (length plans) p o) (lines' : List (List ℕ)) (es : List Edge) (more : List EdgeCause)
       (put : HasPut machine (with_plan plans p) (slot_order machine plans) (held ++ held_from machine last.0 p.acts) lines' es (causes ++ more) (map (slot_by (table_of (with_plan plans p))) (drop (length held) (held ++ held_from machine last.0 p.acts))))
       → LoadPlans machine now (with_plan plans p) m lines' (held ++ held_from machine last.0 p.acts) (firsts ++ last ∷ []) (causes ++ more) (own_edges machine last p o ++ es)
   load-of m wider o ends lines' es more put =
@@ -120,7 +120,7 @@ module _ (machine : Machine) (now : ℕ) (plans : List Plan) (p : Plan) (can : C
       }
 
 -- the board is loaded with all its plans but the last
-module _ (machine : Machine) (now : ℕ) (all : List Plan) (n : Net) (lines : List (List ℕ)) (held : List Held) (firsts : List PointId) (last : PointId) (causes : List Cause)
+module _ (machine : Machine) (now : ℕ) (all : List Plan) (n : Net) (lines : List (List ℕ)) (held : List Held) (firsts : List PointId) (last : PointId) (causes : List EdgeCause)
     (b : IsBehind machine now all n lines held firsts last.0 causes) (p : Plan) (at : slice_get all (length firsts) ≡ Some p) where
   with : all ≡ with_plan b.plans p
   with = with-it machine now all n lines held firsts last.0 causes b p at
@@ -141,10 +141,10 @@ module _ (machine : Machine) (now : ℕ) (all : List Plan) (n : Net) (lines : Li
       coe 1 0 (i. CanPut machine ((a ∙ with) i) (c i) (d i) lines (e i) (slot_order machine b.plans)) (can-put-new machine now b.plans p can b.loadable n lines held firsts causes b.loaded last b.last_point)
 
   -- what was put in loads all plans, whatever these are called
-  pub load-all : (m : Net) (own-edges edges : List Edge) (plans' : List Plan) (held' held'' : List Held) (firsts' : List PointId) (from : ℕ) (lines' : List (List ℕ)) (causes' : List Cause)
+  pub load-all : (m : Net) (own-edges edges : List Edge) (plans' : List Plan) (held' held'' : List Held) (firsts' : List PointId) (from : ℕ) (lines' : List (List ℕ)) (causes' : List EdgeCause)
       → m ≡ with_bounds (lows_of (now + machine.lead) p) (caps_of (now + machine.window) p) n → AreOwn machine all (firsts ++ last ∷ []) (length firsts) last p own-edges
       → (es : List Edge) × (edges ≡ own-edges ++ es) × HasPut machine plans' (slot_order machine b.plans) held' lines' es causes' (map (slot_by (table_of plans')) (drop from held'))
-      → plans' ≡ all → held' ≡ held'' → held'' ≡ held ++ held_from machine last.0 p.acts → firsts' ≡ firsts ++ last ∷ [] → from ≡ length held → (more : List Cause) × (causes' ≡ causes ++ more)
+      → plans' ≡ all → held' ≡ held'' → held'' ≡ held ++ held_from machine last.0 p.acts → firsts' ≡ firsts ++ last ∷ [] → from ≡ length held → (more : List EdgeCause) × (causes' ≡ causes ++ more)
       → LoadPlans machine now all m lines' held'' firsts' causes' edges
   load-all m own-edges edges plans' held' held'' firsts' from lines' causes' wider own put a h c d e more =
       let ends = coe 0 1 (i. IsLineEnd (with i) (firsts ++ last ∷ []) (many i) p own.end) own.is_end in

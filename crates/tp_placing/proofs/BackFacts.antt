@@ -4,7 +4,7 @@ use Rattle.std.specs.Prelude.{slice_get, take}
 use Rattle.tp_base.specs.Readings.{Reading}
 use Rattle.tp_machine.specs.declared.machine.Machine.{Machine}
 use Rattle.tp_schedule.specs.declared.parts.Ask.{Ask}
-use Rattle.tp_placing.specs.declared.causes.Cause.{Cause}
+use Rattle.tp_placing.specs.declared.causes.EdgeCause.{EdgeCause}
 use Rattle.tp_placing.specs.Boards.{BoardUntouched, BoardValue, past_of, side_by_side}
 use Rattle.tp_placing.specs.Standing.{StandsOn}
 use Rattle.tp_placing.specs.Walking.{StandsBack}
@@ -33,7 +33,7 @@ module _ {N A : Type 0} (reading : Reading N) (untouched : N → A) where
     settled = x.settled;
   }
 
-  pub stands-back : (b : BoardValue N) (n : N) (causes : List Cause) (m : Machine) (ask : Ask) → StandsOn reading b m ask → reading.past n ≡ reading.past b.net → Keeps (length b.steps) b.causes causes
+  pub stands-back : (b : BoardValue N) (n : N) (causes : List EdgeCause) (m : Machine) (ask : Ask) → StandsOn reading b m ask → reading.past n ≡ reading.past b.net → Keeps (length b.steps) b.causes causes
       → StandsBack reading untouched (record b { net = n; causes = causes; limit = None }) m
   stands-back b n causes m ask s same keeps back k there e fewer =
       let still = stands-still reading b b.net causes None m ask s refl refl keeps in

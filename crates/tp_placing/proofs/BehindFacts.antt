@@ -14,13 +14,13 @@ use Rattle.tp_placing.specs.Growing.{IsBehind, behind_edge, own_edges}
 use Rattle.tp_placing.specs.Loaded.{CanLoad}
 use Rattle.tp_placing.specs.Loading.{acts_edges, point_count, point_id}
 use Rattle.tp_placing.specs.Standing.{AreFirsts}
-use Rattle.tp_placing.specs.declared.causes.Cause.{Cause}
+use Rattle.tp_placing.specs.declared.causes.EdgeCause.{EdgeCause}
 use Rattle.tp_placing.specs.declared.parts.Held.{Held}
 use Rattle.tp_placing.proofs.LoadHops.{acts-count}
 use Rattle.tp_placing.proofs.LoadTable.{length-table-of}
 use Rattle.tp_placing.proofs.TableFacts.{begins-at, length-firsts}
 
-module _ (machine : Machine) (now : ℕ) (all : List Plan) (n : Net) (lines : List (List ℕ)) (held : List Held) (firsts : List PointId) (last : ℕ) (causes : List Cause) (b : IsBehind machine now all n lines held firsts last causes) where
+module _ (machine : Machine) (now : ℕ) (all : List Plan) (n : Net) (lines : List (List ℕ)) (held : List Held) (firsts : List PointId) (last : ℕ) (causes : List EdgeCause) (b : IsBehind machine now all n lines held firsts last causes) where
   pub as-many : length firsts ≡ length b.plans
   as-many = length-firsts 0 b.plans firsts b.loaded.at_firsts
 

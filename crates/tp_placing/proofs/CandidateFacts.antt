@@ -17,7 +17,7 @@ use Rattle.tp_placing.specs.Inside.{AreMarks, most_edges, most_holds, most_steps
 use Rattle.tp_placing.specs.Reasons.{HasReason, IsReason}
 use Rattle.tp_placing.specs.Standing.{AreCaused, IsAtWith, Stands}
 use Rattle.tp_placing.specs.declared.candidates.Candidate.{Candidate}
-use Rattle.tp_placing.specs.declared.causes.Cause.{Cause}
+use Rattle.tp_placing.specs.declared.causes.EdgeCause.{EdgeCause}
 use Rattle.tp_placing.specs.declared.neighbours.Neighbours.{Neighbours}
 use Rattle.tp_placing.specs.declared.parts.Change.TheVariants.{Place}
 use Rattle.tp_placing.specs.declared.parts.Held.{Held}
@@ -34,7 +34,7 @@ pub moved : (P : Net → List (List ℕ) → List Held → List Step → Type 0)
 moved P n n' l l' h h' s s' e f g k p =
     subst (λ x. P x l' h' s') (sym e) (subst (λ x. P n x h' s') (sym f) (subst (λ x. P n l x s') (sym g) (subst (P n l h) (sym k) p)))
 
-pub caused-moved : (P : List Cause → Net → List Step → Type 0) (cs cs' : List Cause) (n n' : Net) (s s' : List Step) → cs' ≡ cs → n' ≡ n → s' ≡ s → P cs n s → P cs' n' s'
+pub caused-moved : (P : List EdgeCause → Net → List Step → Type 0) (cs cs' : List EdgeCause) (n n' : Net) (s s' : List Step) → cs' ≡ cs → n' ≡ n → s' ≡ s → P cs n s → P cs' n' s'
 caused-moved P cs cs' n n' s s' e f g p = subst (λ x. P x n' s') (sym e) (subst (λ x. P cs x s') (sym f) (subst (P cs n) (sym g) p))
 
 -- the holds that were read are those before and behind a place of an order
@@ -67,7 +67,7 @@ module _ {N : Type 0} {reading : Reading N} {b : BoardValue N} {m : Machine} {ho
   pub none-here : ((t : Ticks) → ¬ SuffixTimes m b.plans k.ask (with_place place (suffix k)) t) → IsSomeAnd (suffix_after b.steps) (λ x. HasNoTimes m b (with_place place x))
   none-here none = and-some (suffix_after b.steps) (suffix k) _ (places k).suffix (and-some b.ask k.ask _ k.stands.asked none)
 
-  pub shown-here : (refutes : N → Net → Type 0) (n : N) (made : List Cause) → made ≡ causes_here k
+  pub shown-here : (refutes : N → Net → Type 0) (n : N) (made : List EdgeCause) → made ≡ causes_here k
       → IsReason refutes (record b { net = n; causes = causes_here k; limit = None }) m k.ask (with_place place (suffix k))
       → IsSomeAnd (suffix_after b.steps) (λ x. HasReason refutes m (record b { net = n; causes = made; limit = None }) (with_place place x))
   shown-here refutes n made e shown =
@@ -77,15 +77,15 @@ module _ {N : Type 0} {reading : Reading N} {b : BoardValue N} {m : Machine} {ho
   pub late-around : PlaceNet → BoardLate → HasNoSolution (with_edges (reading.net b.net) (edges_here k)) → IsSomeAnd (suffix_after b.steps) (λ x. HasNoTimes m b (with_place place x))
   late-around place_net late none = none-here (refused-here k place_net late none)
 
-  pub shown-around : (refutes : N → Net → Type 0) (n : N) (made : List Cause) → PlaceNet → PlaceHops → made ≡ causes_here k → refutes n (with_edges (reading.net b.net) (edges_here k))
+  pub shown-around : (refutes : N → Net → Type 0) (n : N) (made : List EdgeCause) → PlaceNet → PlaceHops → made ≡ causes_here k → refutes n (with_edges (reading.net b.net) (edges_here k))
       → IsSomeAnd (suffix_after b.steps) (λ x. HasReason refutes m (record b { net = n; causes = made; limit = None }) (with_place place x))
   shown-around refutes n made place_net law e refused = shown-here refutes n made e (reason-here k refutes n place_net law k.stands.plain k.stands.caused refused)
 
-  pub still : (n : N) (made : List Cause) → made ≡ causes_here k → reading.net n ≡ reading.net b.net → reading.past n ≡ reading.past b.net → Stands reading (record b { net = n; causes = made; limit = None }) m
+  pub still : (n : N) (made : List EdgeCause) → made ≡ causes_here k → reading.net n ≡ reading.net b.net → reading.past n ≡ reading.past b.net → Stands reading (record b { net = n; causes = made; limit = None }) m
   still n made e same past = (k.ask, stands-still reading b n made None m k.ask k.stands same past (subst (Keeps (length b.steps) b.causes) (sym e) (keeps-here k)))
 
   -- ---- where it is placed
-  module _ (n : N) (made : List Cause) (lines : Orders) (held : List Held) (steps : List Step) (p : HasInserted c.newest c.hold place b.orders lines b.held held b.steps steps) where
+  module _ (n : N) (made : List EdgeCause) (lines : Orders) (held : List Held) (steps : List Step) (p : HasInserted c.newest c.hold place b.orders lines b.held held b.steps steps) where
     pub suffix-then : (x : Suffix) → suffix_after b.steps ≡ Some x → suffix_after steps ≡ Some (with_place place x)
     suffix-then x e = ap suffix_after p.steps ∙ suffix-push b.steps (place_step c.newest place) ∙ ap (λ y. after_change y (Place place)) e
 

@@ -20,7 +20,7 @@ use Rattle.tp_placing.specs.Reasons.{HasReason}
 use Rattle.tp_placing.specs.Standing.{AreCaused, IsAtWith}
 use Rattle.tp_placing.specs.Walking.{HasNoTimesUpTo, HasReasonUpTo, IsPartReason, IsRefused, StandsBack}
 use Rattle.tp_placing.specs.declared.candidates.Candidate.{Candidate}
-use Rattle.tp_placing.specs.declared.causes.Cause.{Cause}
+use Rattle.tp_placing.specs.declared.causes.EdgeCause.{EdgeCause}
 use Rattle.tp_placing.specs.declared.neighbours.Neighbours.{Neighbours}
 use Rattle.tp_placing.specs.declared.parts.Held.{Held}
 use Rattle.tp_placing.specs.declared.parts.Step.{Step}
@@ -33,7 +33,7 @@ use Rattle.tp_placing.proofs.StandFacts.{and-some}
 use Rattle.tp_placing.proofs.WalkFacts.{can-back, caused-back, edges_back_here, placed-back, reason-back, reason-until, refused-back, shut-back}
 
 module _ {N : Type 0} {reading : Reading N} {b : BoardValue N} {m : Machine} {hold place : ℕ} {c : Candidate} (k : IsNext reading b m hold place c) where
-  pub back-still : {A : Type 0} (untouched : N → A) (n : N) (made : List Cause) → made ≡ causes_here k → reading.past n ≡ reading.past b.net → StandsBack reading untouched (record b { net = n; causes = made; limit = None }) m
+  pub back-still : {A : Type 0} (untouched : N → A) (n : N) (made : List EdgeCause) → made ≡ causes_here k → reading.past n ≡ reading.past b.net → StandsBack reading untouched (record b { net = n; causes = made; limit = None }) m
   back-still untouched n made e past = stands-back reading untouched b n made m k.ask k.stands past (subst (Keeps (length b.steps) b.causes) (sym e) (keeps-here k))
 
   -- ---- the edges to the holds next to its place
@@ -59,7 +59,7 @@ module _ {N : Type 0} {reading : Reading N} {b : BoardValue N} {m : Machine} {ho
         none-here k (refused-back k place_net late
         (subst (λ es. HasNoSolution (with_edges (reading.net b.net) es)) back-is none))
 
-    pub shown-tried : (refutes : N → Net → Type 0) (n : N) (made : List Cause) → PlaceNet → PlaceHops → made ≡ causes_here k → IsRefused refutes n (reading.net b.net) back
+    pub shown-tried : (refutes : N → Net → Type 0) (n : N) (made : List EdgeCause) → PlaceNet → PlaceHops → made ≡ causes_here k → IsRefused refutes n (reading.net b.net) back
         → IsSomeAnd (suffix_after b.steps) (λ x. HasReason refutes m (record b { net = n; causes = made; limit = None }) (with_place place x))
     shown-tried refutes n made place_net law e refused =
         shown-here k refutes n made e (reason-back k refutes n place_net law k.stands.plain k.stands.caused
@@ -71,7 +71,7 @@ module _ {N : Type 0} {reading : Reading N} {b : BoardValue N} {m : Machine} {ho
         (subst (λ es. HasNoSolution (with_edges (reading.net b.net) es)) until-is none) in
         and-some (suffix_after b.steps) (suffix k) _ (places k).suffix (and-some b.ask k.ask _ k.stands.asked shut-here)
 
-    pub shown-before : (refutes : N → Net → Type 0) (n : N) (made : List Cause) → StartNet → BeforeNet → EarlierNet → StartHops → BeforeHops → made ≡ causes_here k → refutes n (with_edges (reading.net b.net) until)
+    pub shown-before : (refutes : N → Net → Type 0) (n : N) (made : List EdgeCause) → StartNet → BeforeNet → EarlierNet → StartHops → BeforeHops → made ≡ causes_here k → refutes n (with_edges (reading.net b.net) until)
         → IsSomeAnd (suffix_after b.steps) (HasReasonUpTo refutes m (record b { net = n; causes = made; limit = None }) place)
     shown-before refutes n made start law earlier start_hops before_hops e refused =
         let shown = reason-until k refutes n start law earlier start_hops before_hops k.stands.plain k.stands.caused
@@ -80,7 +80,7 @@ module _ {N : Type 0} {reading : Reading N} {b : BoardValue N} {m : Machine} {ho
         and-some (suffix_after b.steps) (suffix k) _ (places k).suffix (and-some b.ask k.ask _ k.stands.asked there)
 
     -- ---- where it is placed
-    module _ (n : N) (made : List Cause) (lines : Orders) (held : List Held) (steps : List Step) (p : HasInserted c.newest c.hold place b.orders lines b.held held b.steps steps) where
+    module _ (n : N) (made : List EdgeCause) (lines : Orders) (held : List Held) (steps : List Step) (p : HasInserted c.newest c.hold place b.orders lines b.held held b.steps steps) where
       pub at-tried : PlaceNet → reading.net n ≡ with_edges (reading.net b.net) back → HasLeast (reading.net n) → IsAtWith m b.plans k.ask (Some (with_place place (suffix k))) steps (reading.net n) lines.orders held
       at-tried place_net e solved =
           let e' = e ∙ ap (with_edges (reading.net b.net)) back-is in

@@ -17,7 +17,7 @@ use Rattle.tp_choices.proofs.Lists.{All-map_from}
 use Rattle.tp_constraints.specs.Hops.{Hop, IsHop}
 use Rattle.tp_constraints.specs.Numbers.{table_of}
 use Rattle.tp_constraints.specs.Suffixes.{Suffix}
-use Rattle.tp_placing.specs.declared.causes.Cause.{Cause}
+use Rattle.tp_placing.specs.declared.causes.EdgeCause.{EdgeCause}
 use Rattle.tp_placing.specs.declared.parts.Held.{Held}
 use Rattle.tp_placing.specs.declared.parts.Step.{Step}
 use Rattle.tp_placing.specs.Boards.{suffix_after}
@@ -47,14 +47,14 @@ abbrev pub IsSafeTag : ℕ → ℕ → Type 0
 IsSafeTag steps tag = (tag < step_tag steps) ⊎ (step_causes ≤ tag)
 
 -- the causes of these tags stay
-pub record Keeps (steps : ℕ) (causes causes' : List Cause) : Type 0 where
+pub record Keeps (steps : ℕ) (causes causes' : List EdgeCause) : Type 0 where
   pub length_same : length causes' ≡ length causes
   pub get_same : (tag : ℕ) → IsSafeTag steps tag → slice_get causes' tag ≡ slice_get causes tag
 
-pub keeps-all : (steps : ℕ) (causes : List Cause) → Keeps steps causes causes
+pub keeps-all : (steps : ℕ) (causes : List EdgeCause) → Keeps steps causes causes
 keeps-all steps causes = record { length_same = refl; get_same = λ tag safe. refl }
 
-pub plain-kept : (steps : ℕ) (causes causes' : List Cause) → Keeps steps causes causes' → ArePlain causes → ArePlain causes'
+pub plain-kept : (steps : ℕ) (causes causes' : List EdgeCause) → Keeps steps causes causes' → ArePlain causes → ArePlain causes'
 plain-kept steps causes causes' k p =
     let l = k.length_same in
     let s = p.slots in
@@ -75,7 +75,7 @@ pub all-safe-later : (n k : ℕ) (es : List Edge) → n ≤ k → All (IsSafe n)
 all-safe-later n k es le all = λ i d w. safe-later n k (get_or es i d) le (all i d w)
 
 -- the hops stay with the causes
-pub hops-kept : (machine : Machine) (plans : List Plan) (ask : Ask) (x : Suffix) (steps : ℕ) (causes causes' : List Cause) (es : List Edge) → Keeps steps causes causes' → All (IsSafe steps) es
+pub hops-kept : (machine : Machine) (plans : List Plan) (ask : Ask) (x : Suffix) (steps : ℕ) (causes causes' : List EdgeCause) (es : List Edge) → Keeps steps causes causes' → All (IsSafe steps) es
     → All (IsNamedHop machine plans ask x causes) es → All (IsNamedHop machine plans ask x causes') es
 hops-kept machine plans ask x steps causes causes' es k safe hops i d w =
     let e = get_or es i d in
@@ -87,7 +87,7 @@ hops-kept machine plans ask x steps causes causes' es k safe hops i d w =
       is_hop = subst (λ c. IsHop machine plans ask x (record { kind = kind_of plans c; gap = (hop_by plans causes e).gap })) (sym (k.get_same e.tag (safe i d w))) h.is_hop;
     }
 
-pub caused-kept : (machine : Machine) (plans : List Plan) (ask : Ask) (count : ℕ) (causes causes' : List Cause) (steps : List Step) (n : Net) → Keeps count causes causes' → length steps ≤ count
+pub caused-kept : (machine : Machine) (plans : List Plan) (ask : Ask) (count : ℕ) (causes causes' : List EdgeCause) (steps : List Step) (n : Net) → Keeps count causes causes' → length steps ≤ count
     → AreCaused machine plans ask causes steps n → AreCaused machine plans ask causes' steps n
 caused-kept machine plans ask count causes causes' steps n k le c = record {
   hops = hops-kept machine plans ask (choices_of (suffix_after steps)) count causes causes' n.edges k (all-safe-later (length steps) count n.edges le c.safe) c.hops;
@@ -95,13 +95,13 @@ caused-kept machine plans ask count causes causes' steps n k le c = record {
 }
 
 -- edges that are these hops, with causes that are kept
-pub record AreMade (steps : ℕ) (plans : List Plan) (causes : List Cause) (es : List Edge) (hs : List Hop) : Type 0 where
+pub record AreMade (steps : ℕ) (plans : List Plan) (causes : List EdgeCause) (es : List Edge) (hs : List Hop) : Type 0 where
   pub hops : map (hop_by plans causes) es ≡ hs
   pub tags : All (λ e. e.tag < length causes) es
   pub safe : All (IsSafe steps) es
 
 -- the edges of a list, and those that a change adds, are hops of the changed list
-pub hops-more : (machine : Machine) (plans : List Plan) (ask : Ask) (x y : Suffix) (steps : ℕ) (causes : List Cause) (es new : List Edge) (hs : List Hop) → All (IsNamedHop machine plans ask x causes) es
+pub hops-more : (machine : Machine) (plans : List Plan) (ask : Ask) (x y : Suffix) (steps : ℕ) (causes : List EdgeCause) (es new : List Edge) (hs : List Hop) → All (IsNamedHop machine plans ask x causes) es
     → AreMade steps plans causes new hs → ((os : List Hop) → All (IsHop machine plans ask x) os → All (IsHop machine plans ask y) (os ++ hs)) → All (IsNamedHop machine plans ask y causes) (es ++ new)
 hops-more machine plans ask x y steps causes es new hs old made lift =
     let before : All (IsHop machine plans ask x) (map (hop_by plans causes) es) = All-map (IsHop machine plans ask x) (hop_by plans causes) es (λ i d w. (old i d w).is_hop) in
@@ -111,7 +111,7 @@ hops-more machine plans ask x y steps causes es new hs old made lift =
     λ i d w. record { tag = tags i d w; is_hop = after i d w }
 
 -- the causes after one step more
-pub caused-more : (machine : Machine) (plans : List Plan) (ask : Ask) (x y : Suffix) (causes : List Cause) (steps : List Step) (s : Step) (n n' : Net) (new : List Edge) (hs : List Hop)
+pub caused-more : (machine : Machine) (plans : List Plan) (ask : Ask) (x y : Suffix) (causes : List EdgeCause) (steps : List Step) (s : Step) (n n' : Net) (new : List Edge) (hs : List Hop)
     → choices_of (suffix_after steps) ≡ x → choices_of (suffix_after (steps ++ s ∷ [])) ≡ y → n'.edges ≡ n.edges ++ new
     → AreCaused machine plans ask causes steps n → AreMade (length steps + 1) plans causes new hs → ((os : List Hop) → All (IsHop machine plans ask x) os → All (IsHop machine plans ask y) (os ++ hs))
     → AreCaused machine plans ask causes (steps ++ s ∷ []) n'
@@ -127,12 +127,12 @@ caused-more machine plans ask x y causes steps s n n' new hs before after edges 
     }
 
 -- a cause that is written, and one that isn't
-pub set-same : (causes : List Cause) (tag : ℕ) (c : Cause) → tag < length causes → slice_get (slice_set causes tag c) tag ≡ Some c
+pub set-same : (causes : List EdgeCause) (tag : ℕ) (c : EdgeCause) → tag < length causes → slice_get (slice_set causes tag c) tag ≡ Some c
 set-same causes tag c within =
     let l = length-set causes tag c in
     slice_get-get_or (slice_set causes tag c) tag c (omega arith) ∙ ap Some (get_or-set_same causes tag c c within)
 
-pub set-other : (causes : List Cause) (tag other : ℕ) (c : Cause) → (other ≡ tag → ⊥) → slice_get (slice_set causes tag c) other ≡ slice_get causes other
+pub set-other : (causes : List EdgeCause) (tag other : ℕ) (c : EdgeCause) → (other ≡ tag → ⊥) → slice_get (slice_set causes tag c) other ≡ slice_get causes other
 set-other causes tag other c ne = elim (cases_lt other (length causes)) [
   | inl below ↦ (
       let l = length-set causes tag c in
@@ -143,23 +143,23 @@ set-other causes tag other c ne = elim (cases_lt other (length causes)) [
 ]
 
 -- the causes of a hold's neighbours are written over none that stays
-module _ (before behind : Option Held) (h : Held) (causes : List Cause) (tag : ℕ) where
-  length-after : (o : Option Held) (k : ℕ) (cs : List Cause) → length (cause_after o h k cs) ≡ length cs
+module _ (before behind : Option Held) (h : Held) (causes : List EdgeCause) (tag : ℕ) where
+  length-after : (o : Option Held) (k : ℕ) (cs : List EdgeCause) → length (cause_after o h k cs) ≡ length cs
   length-after None k cs = refl
   length-after (Some x) k cs = length-set cs k (cause_between x h)
 
-  length-until : (o : Option Held) (k : ℕ) (cs : List Cause) → length (cause_until h o k cs) ≡ length cs
+  length-until : (o : Option Held) (k : ℕ) (cs : List EdgeCause) → length (cause_until h o k cs) ≡ length cs
   length-until None k cs = refl
   length-until (Some y) k cs = length-set cs k (cause_between h y)
 
   pub length-around : length (causes_around before h behind tag causes) ≡ length causes
   length-around = length-until behind (tag + 1) (cause_after before h tag causes) ∙ length-after before tag causes
 
-  other-after : (o : Option Held) (k other : ℕ) (cs : List Cause) → (other ≡ k → ⊥) → slice_get (cause_after o h k cs) other ≡ slice_get cs other
+  other-after : (o : Option Held) (k other : ℕ) (cs : List EdgeCause) → (other ≡ k → ⊥) → slice_get (cause_after o h k cs) other ≡ slice_get cs other
   other-after None k other cs ne = refl
   other-after (Some x) k other cs ne = set-other cs k other (cause_between x h) ne
 
-  other-until : (o : Option Held) (k other : ℕ) (cs : List Cause) → (other ≡ k → ⊥) → slice_get (cause_until h o k cs) other ≡ slice_get cs other
+  other-until : (o : Option Held) (k other : ℕ) (cs : List EdgeCause) → (other ≡ k → ⊥) → slice_get (cause_until h o k cs) other ≡ slice_get cs other
   other-until None k other cs ne = refl
   other-until (Some y) k other cs ne = set-other cs k other (cause_between h y) ne
 
@@ -175,7 +175,7 @@ module _ (before behind : Option Held) (h : Held) (causes : List Cause) (tag : �
       let l = length-after before tag causes in
       ap (λ o. slice_get (cause_until h o (tag + 1) (cause_after before h tag causes)) (tag + 1)) is ∙ set-same (cause_after before h tag causes) (tag + 1) (cause_between h y) (omega arith)
 
-pub keeps-around : (before behind : Option Held) (h : Held) (causes : List Cause) (steps : ℕ) → step_tag steps + 1 < step_causes → Keeps steps causes (causes_around before h behind (step_tag steps) causes)
+pub keeps-around : (before behind : Option Held) (h : Held) (causes : List EdgeCause) (steps : ℕ) → step_tag steps + 1 < step_causes → Keeps steps causes (causes_around before h behind (step_tag steps) causes)
 keeps-around before behind h causes steps room = record {
   length_same = length-around before behind h causes (step_tag steps);
   get_same = λ other safe. other-around before behind h causes (step_tag steps) other (λ e. apart other safe 0 (omega arith) (omega (arith, e))) (apart other safe 1 (omega arith));

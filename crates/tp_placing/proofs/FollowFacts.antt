@@ -14,7 +14,7 @@ use Rattle.tp_placing.specs.Growing.{IsBehind}
 use Rattle.tp_placing.specs.Loaded.{CanLoad, IsLoaded}
 use Rattle.tp_placing.specs.Loading.{point_count}
 use Rattle.tp_placing.specs.Standing.{Stands}
-use Rattle.tp_placing.specs.declared.causes.Cause.{Cause}
+use Rattle.tp_placing.specs.declared.causes.EdgeCause.{EdgeCause}
 use Rattle.tp_placing.specs.declared.parts.BoardMark.{BoardMark}
 use Rattle.tp_placing.specs.declared.parts.Held.{Held}
 use Rattle.tp_placing.specs.declared.parts.Step.{Step}
@@ -23,7 +23,7 @@ use Rattle.tp_placing.proofs.LoadTable.{length-table-of}
 use Rattle.tp_placing.proofs.LoadedAgain.{loaded-again}
 
 -- a board on which no goal is open, at the moment of its ask
-pub record IsStill (machine : Machine) (now : ℕ) (plans : List Plan) (n : Net) (lines : List (List ℕ)) (held : List Held) (firsts : List PointId) (last : ℕ) (causes : List Cause) : Type 0 where
+pub record IsStill (machine : Machine) (now : ℕ) (plans : List Plan) (n : Net) (lines : List (List ℕ)) (held : List Held) (firsts : List PointId) (last : ℕ) (causes : List EdgeCause) : Type 0 where
   pub loadable : IsLoadable machine now (λ _. false) plans
   pub loaded : IsLoaded machine now plans n lines held firsts causes
   pub last_point : last ≡ point_count plans
@@ -48,7 +48,7 @@ one-more old new first more =
     let none : drop (suc (length old)) new ≡ [] = drop_all (suc (length old)) new (omega arith) in
     (x.0, split-at new (length old) x.0 x.1 ∙ (λ i. first i ++ x.0 ∷ none i))
 
-pub one-behind : (machine : Machine) (now : ℕ) (old new : List Plan) (n : Net) (lines : List (List ℕ)) (held : List Held) (firsts : List PointId) (last : ℕ) (causes : List Cause) → IsStill machine now old n lines held firsts last causes
+pub one-behind : (machine : Machine) (now : ℕ) (old new : List Plan) (n : Net) (lines : List (List ℕ)) (held : List Held) (firsts : List PointId) (last : ℕ) (causes : List EdgeCause) → IsStill machine now old n lines held firsts last causes
     → CanLoad machine now new → take (length old) new ≡ old → length new ≡ length old + 1 → IsBehind machine now new n lines held firsts last causes
 one-behind machine now old new n lines held firsts last causes was can first more =
     let x = one-more old new first more in

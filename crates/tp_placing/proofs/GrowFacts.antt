@@ -28,7 +28,7 @@ use Rattle.tp_placing.specs.Growing.{AreHops, HasPut, cause_before, cause_behind
 use Rattle.tp_placing.specs.Loading.{AreIds}
 use Rattle.tp_placing.specs.LoadedHolds.{IsHeldWithin}
 use Rattle.tp_placing.specs.Standing.{AreSlots, HasSmallOffsets, IsSlotOf}
-use Rattle.tp_placing.specs.declared.causes.Cause.{Cause}
+use Rattle.tp_placing.specs.declared.causes.EdgeCause.{EdgeCause}
 use Rattle.tp_placing.specs.declared.parts.Held.{Held}
 use Rattle.tp_placing.proofs.LoadHops.{hops-append, hops-none, hops-one}
 use Rattle.tp_placing.proofs.LoadOrders.{hold-can, hold-hop}
@@ -39,10 +39,10 @@ use Rattle.tp_placing.proofs.SlotFacts.AtPlace.{none, some}
 use Rattle.tp_placing.proofs.TableFacts.{get-right}
 
 -- more causes behind
-hop-grows : (plans : List Plan) (causes more : List Cause) (e : Edge) → e.tag < length causes → hop_by plans (causes ++ more) e ≡ hop_by plans causes e
+hop-grows : (plans : List Plan) (causes more : List EdgeCause) (e : Edge) → e.tag < length causes → hop_by plans (causes ++ more) e ≡ hop_by plans causes e
 hop-grows plans causes more e within = ap (λ c. hop (kind_of plans c) (gap (numbered plans e.from.0) (numbered plans e.to.0) e.weight)) (slice_get_left causes more e.tag within)
 
-pub hops-grow : (plans : List Plan) (causes more : List Cause) (es : List Edge) (hs : List Hop) → AreHops plans causes es hs → AreHops plans (causes ++ more) es hs
+pub hops-grow : (plans : List Plan) (causes more : List EdgeCause) (es : List Edge) (hs : List Hop) → AreHops plans causes es hs → AreHops plans (causes ++ more) es hs
 hops-grow plans causes more es hs are = record {
   hops = map-each (hop_by plans (causes ++ more)) (hop_by plans causes) es (λ k d inside. hop-grows plans causes more (get_or es k d) (are.tags k d inside)) ∙ are.hops;
   can = are.can;
@@ -57,7 +57,7 @@ slot-is table x q rule start end =
     let b : spot_at table x.end.0 ≡ q.to = ap spot_in end in
     λ i. record { rule = rule i; from = a i; to = b i }
 
-module _ (machine : Machine) (plans : List Plan) (causes : List Cause) (r tag : ℕ) (held : List Held) (h : Held) (s : Slot)
+module _ (machine : Machine) (plans : List Plan) (causes : List EdgeCause) (r tag : ℕ) (held : List Held) (h : Held) (s : Slot)
     (inside : IsHeldWithin (length (table_of plans)) h) (small : HasSmallOffsets h.rule) (here : h.rule.resource.0 ≡ r) (is : slot_by (table_of plans) h ≡ s) (behind : step_causes ≤ tag) where
   abbrev g : ℕ
   g = gap_at machine r
@@ -98,7 +98,7 @@ slot-before : (P : Slot → Type 0) (xs : List Slot) (place : ℕ) (y : Slot) �
 slot-before P xs zero y all e = absurd cc
 slot-before P xs (suc place) y all e = All-at P xs place y all e
 
-module _ (machine : Machine) (plans : List Plan) (before : ℕ → List Slot) (held : List Held) (lines : List (List ℕ)) (edges : List Edge) (causes : List Cause) (slots : List Slot)
+module _ (machine : Machine) (plans : List Plan) (before : ℕ → List Slot) (held : List Held) (lines : List (List ℕ)) (edges : List Edge) (causes : List EdgeCause) (slots : List Slot)
     (put : HasPut machine plans before held lines edges causes slots) (on : (r : ℕ) → All (IsOf r) (before r)) (smalls : All (λ x. HasSmallOffsets x.rule) held)
     (number place : ℕ) (h : Held) (at : slice_get held number ≡ Some h) (inside : IsHeldWithin (length (table_of plans)) h)
     (resource : h.rule.resource.0 < length machine.resources) (known : h.rule.resource.0 < length lines) (fits : place ≤ length (order_on lines h.rule.resource.0)) (base : step_causes ≤ length causes) where
@@ -123,7 +123,7 @@ module _ (machine : Machine) (plans : List Plan) (before : ℕ → List Slot) (h
   abbrev behind_held : Option Held
   behind_held = held_behind held order place
 
-  abbrev all_causes : List Cause
+  abbrev all_causes : List EdgeCause
   all_causes = causes ++ causes_for before_held h behind_held
 
   are : AreSlots table held order now
@@ -178,7 +178,7 @@ module _ (machine : Machine) (plans : List Plan) (before : ℕ → List Slot) (h
         subst (λ ids. AreSlots (table_of plans) held ids (with_put (record { slot = slot_by (table_of plans) h; place = place }) (with_puts put.puts before) q)) (sym (get_or-set_other lines h.rule.resource.0 q (insert (order_on lines h.rule.resource.0) place number) [] (λ f. ne (sym f))))
         (rw e (put.orders q below))
 
-pub put-none : (machine : Machine) (plans : List Plan) (before : ℕ → List Slot) (held : List Held) (lines : List (List ℕ)) (causes : List Cause)
+pub put-none : (machine : Machine) (plans : List Plan) (before : ℕ → List Slot) (held : List Held) (lines : List (List ℕ)) (causes : List EdgeCause)
     → ((r : ℕ) → r < length machine.resources → AreSlots (table_of plans) held (order_on lines r) (before r)) → HasPut machine plans before held lines [] causes []
 put-none machine plans before held lines causes orders = record { puts = []; holds = refl; within = tt; hops = hops-none plans causes; orders = orders }
 
@@ -204,7 +204,7 @@ slots-push table held from number h le at =
     sym (map-append (slot_by table) (take (number - from) (drop from held)) (h ∷ []))
     ∙ ap (map (slot_by table)) (ap (λ x. take (number - from) (drop from held) ++ x ∷ []) (sym read) ∙ sym more ∙ ap (λ k. take k (drop from held)) next)
 
-pub put-step : (machine : Machine) (plans : List Plan) (held : List Held) (lines lines' : List (List ℕ)) (first edges edges' : List Edge) (causes causes' : List Cause) (from number place apart : ℕ) (h : Held)
+pub put-step : (machine : Machine) (plans : List Plan) (held : List Held) (lines lines' : List (List ℕ)) (first edges edges' : List Edge) (causes causes' : List EdgeCause) (from number place apart : ℕ) (h : Held)
     → edges' ≡ edges ++ edges_around apart (held_before held (order_on lines h.rule.resource.0) place) h (held_behind held (order_on lines h.rule.resource.0) place) (length causes)
     → causes' ≡ causes ++ causes_for (held_before held (order_on lines h.rule.resource.0) place) h (held_behind held (order_on lines h.rule.resource.0) place)
     → lines' ≡ slice_set lines h.rule.resource.0 (insert (order_on lines h.rule.resource.0) place number)
@@ -226,15 +226,15 @@ put-step machine plans held lines lines' first edges edges' causes causes' from 
     )
 
 -- what one turn does to sizes and numbers
-pub record HasTurned (held : List Held) (lines lines' : List (List ℕ)) (edges edges' : List Edge) (causes causes' : List Cause) : Type 0 where
+pub record HasTurned (held : List Held) (lines lines' : List (List ℕ)) (edges edges' : List Edge) (causes causes' : List EdgeCause) : Type 0 where
   pub two_causes : length causes' ≡ length causes + 2
   pub few_edges : length edges' ≤ length edges + 2
   pub one_more : total lines' ≡ total lines + 1
   pub same_count : length lines' ≡ length lines
   pub ids : (q : ℕ) → q < length lines' → AreIds held (order_on lines' q)
-  pub behind : (base more : List Cause) → causes ≡ base ++ more → (all : List Cause) × (causes' ≡ base ++ all)
+  pub behind : (base more : List EdgeCause) → causes ≡ base ++ more → (all : List EdgeCause) × (causes' ≡ base ++ all)
 
-pub turned : (held : List Held) (lines lines' : List (List ℕ)) (edges edges' : List Edge) (causes causes' : List Cause) (number place apart : ℕ) (h : Held)
+pub turned : (held : List Held) (lines lines' : List (List ℕ)) (edges edges' : List Edge) (causes causes' : List EdgeCause) (number place apart : ℕ) (h : Held)
     → edges' ≡ edges ++ edges_around apart (held_before held (order_on lines h.rule.resource.0) place) h (held_behind held (order_on lines h.rule.resource.0) place) (length causes)
     → causes' ≡ causes ++ causes_for (held_before held (order_on lines h.rule.resource.0) place) h (held_behind held (order_on lines h.rule.resource.0) place)
     → lines' ≡ slice_set lines h.rule.resource.0 (insert (order_on lines h.rule.resource.0) place number)
@@ -278,7 +278,7 @@ slot-within table held (i ∷ ids) (s ∷ slots) are zero id h at here =
 slot-within table held (i ∷ ids) (s ∷ slots) are (suc k) id h at here = slot-within table held ids slots are.1 k id h at here
 
 -- the same with plans, holds, causes and a number by other names
-pub put-as : (machine : Machine) (plans plans' : List Plan) (before : ℕ → List Slot) (held held' : List Held) (lines : List (List ℕ)) (es : List Edge) (causes causes' : List Cause) (from from' : ℕ) → plans ≡ plans' → held ≡ held' → causes ≡ causes' → from ≡ from'
+pub put-as : (machine : Machine) (plans plans' : List Plan) (before : ℕ → List Slot) (held held' : List Held) (lines : List (List ℕ)) (es : List Edge) (causes causes' : List EdgeCause) (from from' : ℕ) → plans ≡ plans' → held ≡ held' → causes ≡ causes' → from ≡ from'
     → HasPut machine plans before held lines es causes (map (slot_by (table_of plans)) (drop from held)) → HasPut machine plans' before held' lines es causes' (map (slot_by (table_of plans')) (drop from' held'))
 put-as machine plans plans' before held held' lines es causes causes' from from' a b c d put =
     subst (λ ps. HasPut machine ps before held' lines es causes' (map (slot_by (table_of ps)) (drop from' held'))) a

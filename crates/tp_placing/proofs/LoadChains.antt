@@ -8,7 +8,7 @@ use Rattle.tp_base.proofs.SliceFacts.{found, All-at}
 use Rattle.tp_base.specs.declared.edges.Edge.{Edge}
 use Rattle.tp_placing.specs.declared.parts.Held.{Held}
 use Rattle.tp_placing.specs.Causes.{cause_between}
-use Rattle.tp_placing.specs.declared.causes.Cause.{Cause}
+use Rattle.tp_placing.specs.declared.causes.EdgeCause.{EdgeCause}
 use Rattle.tp_machine.specs.Modes.{gap_at}
 use Rattle.tp_machine.specs.declared.machine.Machine.{Machine}
 use Rattle.tp_placing.specs.Edges.{hold_edge}
@@ -64,13 +64,13 @@ module _ (hs : List Held) (place : ℕ) (x y : Held) (two : LeavesTwo hs place x
       let s : suc tag ≡ next = omega arith in
       ap (chain_edges g tag) two.from ∙ ap (λ z. z ∷ chain_edges g (suc tag) (y ∷ two.rest)) (sym (is ∙ ap (hold_edge g x y) right)) ∙ ap (λ n. e ∷ chain_edges g n (y ∷ two.rest)) s ∙ ap (λ zs. e ∷ chain_edges g next zs) (sym two.next)
 
-  pub causes-read : (causes next : List Cause) (cause : Cause) → cause ≡ cause_between x y → next ≡ causes ++ cause ∷ [] → next ++ chain_causes (drop (place + 1 - 1) hs) ≡ causes ++ chain_causes (drop (place - 1) hs)
+  pub causes-read : (causes next : List EdgeCause) (cause : EdgeCause) → cause ≡ cause_between x y → next ≡ causes ++ cause ∷ [] → next ++ chain_causes (drop (place + 1 - 1) hs) ≡ causes ++ chain_causes (drop (place - 1) hs)
   causes-read causes next cause is same =
       ap (λ zs. zs ++ chain_causes (drop (place + 1 - 1) hs)) same ∙ append_assoc causes (cause ∷ []) (chain_causes (drop (place + 1 - 1) hs)) ∙ ap (λ zs. causes ++ cause ∷ chain_causes zs) two.next
       ∙ ap (λ z. causes ++ z ∷ chain_causes (y ∷ two.rest)) is ∙ ap (λ zs. causes ++ chain_causes zs) (sym two.from)
 
   -- so there is room for the cause, where there is for all
-  pub cause-fits : (causes all : List Cause) (cause : Cause) (most : ℕ) → cause ≡ cause_between x y → causes ++ chain_causes (drop (place - 1) hs) ≡ all → length all ≤ most → length causes < most
+  pub cause-fits : (causes all : List EdgeCause) (cause : EdgeCause) (most : ℕ) → cause ≡ cause_between x y → causes ++ chain_causes (drop (place - 1) hs) ≡ all → length all ≤ most → length causes < most
   cause-fits causes all cause most is same few =
       let e = ap (λ z. length (causes ++ z ∷ chain_causes (y ∷ two.rest))) is ∙ ap (λ zs. length (causes ++ chain_causes zs)) (sym two.from) ∙ ap length same in
       let l = length-append causes (cause ∷ chain_causes (y ∷ two.rest)) in

@@ -23,7 +23,7 @@ use Rattle.tp_constraints.specs.Hops.{Hop, hop, range_hops, acts_hops, duration_
 use Rattle.tp_constraints.specs.Hops.HopKind.{forward, back, line}
 use Rattle.tp_constraints.specs.Numbers.{gap_by, spot_at, spot_in, table_of}
 use Rattle.tp_placing.specs.Causes.{ArePlain, IsSafe, forward_tag, back_tag, line_tag, hop_by, kind_of, numbered}
-use Rattle.tp_placing.specs.declared.causes.Cause.{Cause}
+use Rattle.tp_placing.specs.declared.causes.EdgeCause.{EdgeCause}
 use Rattle.tp_placing.specs.Edges.{edge_of}
 use Rattle.tp_placing.specs.Edges.{line_edge}
 use Rattle.tp_placing.specs.Loading.{point_id, act_edges, acts_edges, plans_edges, next_end, lines_edges}
@@ -32,10 +32,10 @@ use Rattle.tp_placing.proofs.CauseFacts.{numbered-in}
 use Rattle.tp_placing.proofs.LoadTable.{StandsAt, AreNumbered}
 pub use Rattle.tp_placing.specs.Growing.{AreHops}
 
-pub hops-none : (plans : List Plan) (causes : List Cause) → AreHops plans causes [] []
+pub hops-none : (plans : List Plan) (causes : List EdgeCause) → AreHops plans causes [] []
 hops-none plans causes = record { hops = refl; can = All-nil (IsKnown (length (table_of plans))); tags = All-nil (λ (e : Edge). e.tag < length causes); safe = All-nil (IsSafe 0) }
 
-pub hops-one : (plans : List Plan) (causes : List Cause) (e : Edge) (h : Hop) → hop_by plans causes e ≡ h → IsKnown (length (table_of plans)) e → e.tag < length causes → IsSafe 0 e → AreHops plans causes (e ∷ []) (h ∷ [])
+pub hops-one : (plans : List Plan) (causes : List EdgeCause) (e : Edge) (h : Hop) → hop_by plans causes e ≡ h → IsKnown (length (table_of plans)) e → e.tag < length causes → IsSafe 0 e → AreHops plans causes (e ∷ []) (h ∷ [])
 hops-one plans causes e h is can tag safe = record {
   hops = ap (λ x. x ∷ []) is;
   can = All-cons (IsKnown (length (table_of plans))) e [] can (All-nil (IsKnown (length (table_of plans))));
@@ -43,7 +43,7 @@ hops-one plans causes e h is can tag safe = record {
   safe = All-cons (IsSafe 0) e [] safe (All-nil (IsSafe 0));
 }
 
-pub hops-append : (plans : List Plan) (causes : List Cause) (es fs : List Edge) (gs hs : List Hop) → AreHops plans causes es gs → AreHops plans causes fs hs → AreHops plans causes (es ++ fs) (gs ++ hs)
+pub hops-append : (plans : List Plan) (causes : List EdgeCause) (es fs : List Edge) (gs hs : List Hop) → AreHops plans causes es gs → AreHops plans causes fs hs → AreHops plans causes (es ++ fs) (gs ++ hs)
 hops-append plans causes es fs gs hs a b =
     let p = a.hops in
     let q = b.hops in
@@ -59,7 +59,7 @@ pub number-spot : (plans : List Plan) (n : ℕ) → n < length (table_of plans) 
 number-spot plans n within = let f = found (table_of plans) n within in numbered-in plans 0 n f.0 f.1 ∙ sym (ap spot_in f.1)
 
 -- the gap of an edge is that of its hop
-pub gaps-by : (plans : List Plan) (causes : List Cause) (es : List Edge) → All (IsKnown (length (table_of plans))) es → map (gap_by (table_of plans)) es ≡ map (λ h. h.gap) (map (hop_by plans causes) es)
+pub gaps-by : (plans : List Plan) (causes : List EdgeCause) (es : List Edge) → All (IsKnown (length (table_of plans))) es → map (gap_by (table_of plans)) es ≡ map (λ h. h.gap) (map (hop_by plans causes) es)
 gaps-by plans causes [] can = refl
 gaps-by plans causes (e ∷ es) can =
     let one = All-head (IsKnown (length (table_of plans))) e es can in
@@ -69,7 +69,7 @@ gaps-by plans causes (e ∷ es) can =
     λ i. gap (sym a i) (sym b i) e.weight ∷ rest i
 
 -- the edges of plans among all plans, whose causes stand first in the table
-module _ (all : List Plan) (causes : List Cause) (plain : ArePlain causes) where
+module _ (all : List Plan) (causes : List EdgeCause) (plain : ArePlain causes) where
   few-tags : (tag : ℕ) → tag < 5 → tag < length causes
   few-tags tag few = let slots = plain.slots in omega arith
 

@@ -17,7 +17,7 @@ use Rattle.tp_placing.specs.Boards.{BoardValue}
 use Rattle.tp_placing.specs.Causes.{IsNamedHop, hop_by, numbered}
 use Rattle.tp_placing.specs.Loaded.{IsLoaded}
 use Rattle.tp_placing.specs.Standing.{AreCaused, IsAt, StandsOn}
-use Rattle.tp_placing.specs.declared.causes.Cause.{Cause}
+use Rattle.tp_placing.specs.declared.causes.EdgeCause.{EdgeCause}
 use Rattle.tp_placing.proofs.LoadHops.{number-spot}
 
 -- a point of a loaded network is no own one
@@ -30,7 +30,7 @@ no-own machine now plans n is i within k same =
     absurd (omega (arith, none))
 
 -- the edges are hops under any ask
-hops-again : (machine : Machine) (now : ℕ) (plans : List Plan) (ask other : Ask) (causes : List Cause) (n : Net) → IsLoadedNet machine now (λ _. false) plans (table_of plans) n
+hops-again : (machine : Machine) (now : ℕ) (plans : List Plan) (ask other : Ask) (causes : List EdgeCause) (n : Net) → IsLoadedNet machine now (λ _. false) plans (table_of plans) n
     → All (IsNamedHop machine plans ask no_choices causes) n.edges → All (IsNamedHop machine plans other no_choices causes) n.edges
 hops-again machine now plans ask other causes n is hops k d within =
     let e = get_or n.edges k d in

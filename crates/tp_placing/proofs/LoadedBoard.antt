@@ -15,13 +15,13 @@ use Rattle.tp_placing.specs.Loaded.{CanLoad, IsLoaded}
 use Rattle.tp_placing.specs.Loading.{point_count}
 use Rattle.tp_placing.specs.Settled.{AreSettled}
 use Rattle.tp_placing.specs.Standing.{AreCaused, IsAt, IsMadeFor, StandsOn}
-use Rattle.tp_placing.specs.declared.causes.Cause.{Cause}
+use Rattle.tp_placing.specs.declared.causes.EdgeCause.{EdgeCause}
 use Rattle.tp_placing.specs.declared.parts.Held.{Held}
 use Rattle.tp_base.specs.declared.edges.PointId.{PointId}
 use Rattle.tp_placing.proofs.LivePlans.{live-few, live-asked, live-loads}
 use Rattle.tp_placing.proofs.LoadTable.{length-table-of}
 
-at-first : (machine : Machine) (plans : List Plan) (ask : Ask) (n : Net) (lines : List (List ℕ)) (held : List Held) (firsts : List PointId) (causes : List Cause) → kept_of ask ≤ 64 → IsLoaded machine ask.now plans n lines held firsts causes → IsAt machine plans ask [] n lines held
+at-first : (machine : Machine) (plans : List Plan) (ask : Ask) (n : Net) (lines : List (List ℕ)) (held : List Held) (firsts : List PointId) (causes : List EdgeCause) → kept_of ask ≤ 64 → IsLoaded machine ask.now plans n lines held firsts causes → IsAt machine plans ask [] n lines held
 at-first machine plans ask n lines held firsts causes few l = record {
   net = l.net;
   solved = l.solved;

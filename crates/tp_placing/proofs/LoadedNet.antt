@@ -23,7 +23,7 @@ use Rattle.tp_constraints.proofs.ScheduleGaps.{gaps_law}
 use Rattle.tp_timelines.specs.Orders.{Orders, order_on, total}
 use Rattle.tp_schedule.specs.declared.parts.Ask.{Ask}
 use Rattle.tp_placing.specs.Causes.{ArePlain, IsNamedHop, IsSafe, hop_by, most_causes, step_causes}
-use Rattle.tp_placing.specs.declared.causes.Cause.{Cause}
+use Rattle.tp_placing.specs.declared.causes.EdgeCause.{EdgeCause}
 use Rattle.tp_placing.specs.declared.parts.Held.{Held}
 use Rattle.tp_placing.specs.Inside.{most_edges}
 use Rattle.tp_placing.specs.Loaded.{CanLoad, IsLoaded, all_edges}
@@ -42,7 +42,7 @@ use Rattle.tp_placing.proofs.LoadPoints.{firsts-right}
 
 module _ (machine : Machine) (now : ℕ) (plans : List Plan) (can : CanLoad machine now plans) (net : Net) (is : net ≡ with_plans (now + machine.lead) (now + machine.window) plans empty_net)
     (lines : Orders) (held : List Held) (put : AreInOrder machine plans lines held)
-    (base : List Cause) (plain : ArePlain base) (based : length base ≡ step_causes) where
+    (base : List EdgeCause) (plain : ArePlain base) (based : length base ≡ step_causes) where
   sorted : (r : ℕ) → r < length machine.resources → map (slot_by (table_of plans)) (holds_on held lines.orders r) ≡ slot_order machine plans r
   sorted r below =
       let by-number = ticks-by-number plans can.loadable.legal.in_order (λ p inside. ((timed machine now plans can) p inside).one_more) in
@@ -64,7 +64,7 @@ module _ (machine : Machine) (now : ℕ) (plans : List Plan) (can : CanLoad mach
     on = All-map_from (IsOn r) (slot_by (table_of plans)) (holds_on held lines.orders r) (subst (All (IsOn r)) (sym (sorted r below)) (order-on machine plans r));
   }
 
-  abbrev causes : List Cause
+  abbrev causes : List EdgeCause
   causes = base ++ chains_causes (holds_on held lines.orders) (length machine.resources)
 
   hops : AreHops plans causes (all_edges machine plans lines.orders held) (plans_hops machine plans)
@@ -164,7 +164,7 @@ module _ (machine : Machine) (now : ℕ) (plans : List Plan) (can : CanLoad mach
       let right = All-map_from (IsHop machine plans ask no_choices) (hop_by plans causes) (all_edges machine plans lines.orders held) (subst (All (IsHop machine plans ask no_choices)) (sym hops.hops) (load_hops machine plans ask can.loadable.legal)) in
       λ k d within. record { tag = hops.tags k d within; is_hop = right k d within }
 
-  pub loaded : (n : Net) (firsts : List PointId) (all : List Cause) → n ≡ with_edges net (all_edges machine plans lines.orders held) → HasLeast n → firsts ≡ firsts_from 0 plans
+  pub loaded : (n : Net) (firsts : List PointId) (all : List EdgeCause) → n ≡ with_edges net (all_edges machine plans lines.orders held) → HasLeast n → firsts ≡ firsts_from 0 plans
       → all ≡ base ++ chains_causes (holds_on held lines.orders) (length machine.resources) → IsLoaded machine now plans n lines.orders held firsts all
   loaded n firsts all same solved at caused =
       let edges : n.edges ≡ all_edges machine plans lines.orders held = ap (λ (m : Net). m.edges) same ∙ ap (λ es. es ++ all_edges machine plans lines.orders held) none-added in

@@ -22,7 +22,7 @@ use Rattle.tp_placing.specs.Reasons.{HasEndReason, HasReason, IsEndReason, IsRea
 use Rattle.tp_placing.specs.Settled.{AreSettled}
 use Rattle.tp_placing.specs.Standing.{AreCaused, AreFirsts, IsAt, IsMadeFor, StandsOn, table_with}
 use Rattle.tp_placing.specs.Walking.{HasReasonUpTo, IsPartReason}
-use Rattle.tp_placing.specs.declared.causes.Cause.TheVariants.{Limit}
+use Rattle.tp_placing.specs.declared.causes.EdgeCause.TheVariants.{Limit}
 use Rattle.tp_placing.proofs.StandFacts.{and-some, some-and}
 
 module _ {N A : Type 0} (reading : Reading N) (untouched : N → A) where

@@ -24,7 +24,7 @@ use Rattle.tp_placing.specs.Edges.{edges_around, held_before, held_behind}
 use Rattle.tp_placing.specs.Reasons.{IsReason, IsShown}
 use Rattle.tp_placing.specs.Standing.{AreCaused, choices_of, IsAtWith, AreSlots, table_with}
 use Rattle.tp_placing.specs.declared.candidates.Candidate.{Candidate}
-use Rattle.tp_placing.specs.declared.causes.Cause.{Cause}
+use Rattle.tp_placing.specs.declared.causes.EdgeCause.{EdgeCause}
 use Rattle.tp_placing.specs.declared.parts.Step.{Step}
 use Rattle.tp_placing.proofs.BoardFacts.{steps-room}
 use Rattle.tp_placing.proofs.CauseFacts.{AreMade, Keeps, caused-kept, caused-more, hops-more, keeps-around}
@@ -41,7 +41,7 @@ module _ {N : Type 0} {reading : Reading N} {b : BoardValue N} {m : Machine} {ho
   abbrev pub edges_here : List Edge
   edges_here = edges_around (gap_at m c.hold.rule.resource.0) (held_before b.held (order k) place) c.hold (held_behind b.held (order k) place) (step_tag (length b.steps))
 
-  abbrev pub causes_here : List Cause
+  abbrev pub causes_here : List EdgeCause
   causes_here = causes_around (held_before b.held (order k) place) c.hold (held_behind b.held (order k) place) (step_tag (length b.steps)) b.causes
 
   pub slots-here : AreSlots points b.held (order k) (order_in m b.plans (suffix k) c.hold.rule.resource.0)

@@ -27,7 +27,7 @@ use Rattle.tp_constraints.specs.Nets.{PlaceNet, BoardLate, IsBoardNet}
 use Rattle.tp_constraints.specs.Numbers.{gap_by, table_of, IsEdgeOf}
 use Rattle.tp_constraints.specs.Suffixes.{Suffix, SuffixTimes, choice_slot, order_in, place_gaps, with_place}
 use Rattle.tp_constraints.proofs.Placing.{put_places-push}
-use Rattle.tp_placing.specs.declared.causes.Cause.{Cause}
+use Rattle.tp_placing.specs.declared.causes.EdgeCause.{EdgeCause}
 use Rattle.tp_placing.specs.declared.parts.Held.{Held}
 use Rattle.tp_placing.specs.declared.parts.Step.{Step}
 use Rattle.tp_placing.specs.Causes.{ArePlain, causes_around, step_tag}
@@ -114,7 +114,7 @@ module _ (m : Machine) (plans : List Plan) (ask : Ask) (c : Choice) (choices : L
     pub place-net : PlaceNet → All (IsEdgeOf table) es → IsBoardNet m plans ask (with_place place x) table (with_edges n es)
     place-net place_net in' = place_net m plans ask x c choices rule place table n es refl is_rule within at.net in' gaps
 
-    pub place-hops : (causes : List Cause) → ArePlain causes → length steps + 1 ≤ 330 → All (IsEdgeOf table) es
+    pub place-hops : (causes : List EdgeCause) → ArePlain causes → length steps + 1 ≤ 330 → All (IsEdgeOf table) es
         → AreMade (length steps + 1) plans (causes_around (held_before holds order place) h (held_behind holds order place) (step_tag (length steps)) causes) es (place_hops m rule.resource.0 (order_in m plans x rule.resource.0) place slot)
     place-hops causes plain few in' =
         place-made m plans (suc (suc (length choices))) holds order (order_in m plans x rule.resource.0) place rule.resource.0 (length steps) h slot causes

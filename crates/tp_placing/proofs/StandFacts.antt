@@ -13,7 +13,7 @@ use Rattle.tp_constraints.specs.Nets.{BoardSolutions}
 use Rattle.tp_schedule.specs.Spots.{Ticks}
 use Rattle.tp_constraints.specs.Suffixes.{Suffix, SuffixTimes, suffix_low}
 use Rattle.tp_base.specs.declared.edges.PointId.{PointId}
-use Rattle.tp_placing.specs.declared.causes.Cause.{Cause}
+use Rattle.tp_placing.specs.declared.causes.EdgeCause.{EdgeCause}
 use Rattle.tp_placing.specs.declared.parts.Held.{Held}
 use Rattle.tp_placing.specs.declared.parts.Step.{Step}
 use Rattle.tp_placing.specs.Boards.{BoardValue, suffix_after, past_of, side_by_side}
@@ -58,11 +58,11 @@ module _ {N : Type 0} (reading : Reading N) where
   pub at-suffix : (b : BoardValue N) (m : Machine) (ask : Ask) (x : Suffix) → StandsOn reading b m ask → suffix_after b.steps ≡ Some x → IsAtWith m b.plans ask (Some x) b.steps (reading.net b.net) b.orders.orders b.held
   at-suffix b m ask x s e = subst (λ y. IsAtWith m b.plans ask y b.steps (reading.net b.net) b.orders.orders b.held) e s.now
 
-  abbrev pub grown : BoardValue N → N → Orders → List Held → List Step → List Cause → BoardValue N
+  abbrev pub grown : BoardValue N → N → Orders → List Held → List Step → List EdgeCause → BoardValue N
   grown b n orders held steps causes = record b { net = n; orders = orders; held = held; steps = steps; causes = causes; limit = None }
 
   -- the board stands after a change that leaves what stood at its marks
-  pub stands-after : (b : BoardValue N) (n : N) (orders : Orders) (held : List Held) (steps : List Step) (causes : List Cause) (m : Machine) (ask : Ask) (x : Suffix) → StandsOn reading b m ask
+  pub stands-after : (b : BoardValue N) (n : N) (orders : Orders) (held : List Held) (steps : List Step) (causes : List EdgeCause) (m : Machine) (ask : Ask) (x : Suffix) → StandsOn reading b m ask
       → past_of reading (grown b n orders held steps causes) ≡ past_of reading b → suffix_after steps ≡ Some x
       → IsAtWith m b.plans ask (Some x) steps (reading.net n) orders.orders held → Keeps (length b.steps) b.causes causes → AreCaused m b.plans ask causes steps (reading.net n)
       → StandsOn reading (grown b n orders held steps causes) m ask
@@ -89,7 +89,7 @@ module _ {N : Type 0} (reading : Reading N) where
   }
 
   -- and after a refusal, which leaves the network's net
-  pub stands-still : (b : BoardValue N) (n : N) (causes : List Cause) (limit : Option PointId) (m : Machine) (ask : Ask) → StandsOn reading b m ask
+  pub stands-still : (b : BoardValue N) (n : N) (causes : List EdgeCause) (limit : Option PointId) (m : Machine) (ask : Ask) → StandsOn reading b m ask
       → reading.net n ≡ reading.net b.net → reading.past n ≡ reading.past b.net → Keeps (length b.steps) b.causes causes → StandsOn reading (record b { net = n; causes = causes; limit = limit }) m ask
   stands-still b n causes limit m ask s same before keeps = record {
     made = s.made;

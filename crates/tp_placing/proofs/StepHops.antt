@@ -17,8 +17,8 @@ use Rattle.tp_constraints.specs.Hops.{hop, slot_hop, hop_after, hop_until, place
 use Rattle.tp_constraints.specs.Hops.HopKind.{line, order, stop}
 use Rattle.tp_constraints.specs.Numbers.{gap_by, spot_in, IsEdgeOf}
 use Rattle.tp_constraints.specs.Suffixes.{before_place}
-use Rattle.tp_placing.specs.declared.causes.Cause.{Cause}
-use Rattle.tp_placing.specs.declared.causes.Cause.TheVariants.{Line}
+use Rattle.tp_placing.specs.declared.causes.EdgeCause.{EdgeCause}
+use Rattle.tp_placing.specs.declared.causes.EdgeCause.TheVariants.{Line}
 use Rattle.tp_placing.specs.declared.parts.Held.{Held}
 use Rattle.tp_placing.specs.Causes.{ArePlain, IsSafe, cause_between, causes_around, hop_by, kind_of, line_tag, step_tag, step_causes, stop_tag}
 use Rattle.tp_placing.specs.Edges.{duration_edges, edge_of, edge_after, edge_until, edges_around, held_before, held_behind, hold_edge}
@@ -29,7 +29,7 @@ use Rattle.tp_placing.proofs.SlotFacts.AtPlace.{none, some}
 use Rattle.tp_placing.proofs.SlotResources.{IsOn}
 
 -- an edge of a table is a hop with its gap by the table
-pub hop-gap : (plans : List Plan) (count : ℕ) (causes : List Cause) (e : Edge) → IsEdgeOf (table_with plans count) e
+pub hop-gap : (plans : List Plan) (count : ℕ) (causes : List EdgeCause) (e : Edge) → IsEdgeOf (table_with plans count) e
     → hop_by plans causes e ≡ hop (kind_of plans (slice_get causes e.tag)) (gap_by (table_with plans count) e)
 hop-gap plans count causes e (from, to) =
     let table = table_with plans count in
@@ -40,7 +40,7 @@ hop-gap plans count causes e (from, to) =
     λ i. hop (kind_of plans (slice_get causes e.tag)) (gap (a i) (b i) e.weight)
 
 -- edges along a line
-pub line-hops : (plans : List Plan) (count : ℕ) (causes : List Cause) (es : List Edge) → ArePlain causes → All (λ e. e.tag ≡ line_tag) es → All (IsEdgeOf (table_with plans count)) es
+pub line-hops : (plans : List Plan) (count : ℕ) (causes : List EdgeCause) (es : List Edge) → ArePlain causes → All (λ e. e.tag ≡ line_tag) es → All (IsEdgeOf (table_with plans count)) es
     → map (hop_by plans causes) es ≡ map (hop line) (map (gap_by (table_with plans count)) es)
 line-hops plans count causes [] plain tags known = refl
 line-hops plans count causes (e ∷ es) plain tags known =
@@ -50,7 +50,7 @@ line-hops plans count causes (e ∷ es) plain tags known =
     let rest = line-hops plans count causes es plain (All-tail (λ (d : Edge). d.tag ≡ line_tag) e es tags) (All-tail (IsEdgeOf (table_with plans count)) e es known) in
     λ i. one i ∷ rest i
 
-pub lines-made : (steps : ℕ) (plans : List Plan) (count : ℕ) (causes : List Cause) (es : List Edge) (gs : List Gap) → ArePlain causes → All (λ e. e.tag ≡ line_tag) es → All (IsEdgeOf (table_with plans count)) es
+pub lines-made : (steps : ℕ) (plans : List Plan) (count : ℕ) (causes : List EdgeCause) (es : List Edge) (gs : List Gap) → ArePlain causes → All (λ e. e.tag ≡ line_tag) es → All (IsEdgeOf (table_with plans count)) es
     → map (gap_by (table_with plans count)) es ≡ gs → AreMade steps plans causes es (map (hop line) gs)
 lines-made steps plans count causes es gs plain tags known gaps = record {
   hops = line-hops plans count causes es plain tags known ∙ ap (map (hop line)) gaps;
@@ -59,7 +59,7 @@ lines-made steps plans count causes es gs plain tags known gaps = record {
 }
 
 -- an action's durations
-pub range-made : (steps : ℕ) (plans : List Plan) (count : ℕ) (causes : List Cause) (a : Action) (start end : PointId) (from to : Spot) → ArePlain causes
+pub range-made : (steps : ℕ) (plans : List Plan) (count : ℕ) (causes : List EdgeCause) (a : Action) (start end : PointId) (from to : Spot) → ArePlain causes
     → slice_get (table_with plans count) start.0 ≡ Some from → slice_get (table_with plans count) end.0 ≡ Some to → AreMade steps plans causes (duration_edges a start end) (range_hops (Some a) from to)
 range-made steps plans count causes a start end from to plain s e =
     let p = numbered-in plans count start.0 from s in
@@ -75,7 +75,7 @@ range-made steps plans count causes a start end from to plain s e =
     }
 
 -- the stop's edge
-pub stop-made : (steps : ℕ) (plans : List Plan) (count : ℕ) (causes : List Cause) (first end : PointId) (from to : Spot) → ArePlain causes
+pub stop-made : (steps : ℕ) (plans : List Plan) (count : ℕ) (causes : List EdgeCause) (first end : PointId) (from to : Spot) → ArePlain causes
     → slice_get (table_with plans count) first.0 ≡ Some from → slice_get (table_with plans count) end.0 ≡ Some to
     → AreMade steps plans causes (edge_of first end (pos 0) stop_tag ∷ []) (hop stop (gap from to (pos 0)) ∷ [])
 stop-made steps plans count causes first end from to plain s e =
@@ -91,7 +91,7 @@ stop-made steps plans count causes first end from to plain s e =
     }
 
 -- a hold is placed
-module _ (machine : Machine) (plans : List Plan) (count : ℕ) (held : List Held) (resource : ℕ) (h : Held) (s : Slot) (causes : List Cause)
+module _ (machine : Machine) (plans : List Plan) (count : ℕ) (held : List Held) (resource : ℕ) (h : Held) (s : Slot) (causes : List EdgeCause)
     (on : IsOn resource s) (rule : h.rule ≡ s.rule) (start : slice_get (table_with plans count) h.start.0 ≡ Some s.from) (end : slice_get (table_with plans count) h.end.0 ≡ Some s.to) where
   abbrev table : List Spot
   table = table_with plans count
@@ -133,7 +133,7 @@ around-tags P g before behind h tag one two = All-append (λ e. P e.tag) (edge_a
   until None = All-nil (λ e. P e.tag)
   until (Some y) = All-cons (λ e. P e.tag) (hold_edge g h y (tag + 1)) [] two (All-nil (λ e. P e.tag))
 
-pub place-made : (machine : Machine) (plans : List Plan) (count : ℕ) (held : List Held) (ids : List ℕ) (slots : List Slot) (place resource steps : ℕ) (h : Held) (s : Slot) (causes : List Cause)
+pub place-made : (machine : Machine) (plans : List Plan) (count : ℕ) (held : List Held) (ids : List ℕ) (slots : List Slot) (place resource steps : ℕ) (h : Held) (s : Slot) (causes : List EdgeCause)
     → AreSlots (table_with plans count) held ids slots → All (IsOn resource) slots → IsOn resource s → h.rule ≡ s.rule
     → slice_get (table_with plans count) h.start.0 ≡ Some s.from → slice_get (table_with plans count) h.end.0 ≡ Some s.to → step_tag steps + 1 < step_causes → step_causes ≤ length causes
     → All (IsEdgeOf (table_with plans count)) (edges_around (gap_at machine resource) (held_before held ids place) h (held_behind held ids place) (step_tag steps))

@@ -13,7 +13,7 @@ use Rattle.tp_constraints.specs.Gaps.{KeepsGap}
 use Rattle.tp_constraints.specs.Numbers.{IsEdgeOf, IsNetFor, gap_by}
 use Rattle.tp_constraints.specs.Suffixes.{Suffix}
 use Rattle.tp_constraints.proofs.Lists.{All-split, all-by}
-use Rattle.tp_placing.specs.declared.causes.Cause.{Cause}
+use Rattle.tp_placing.specs.declared.causes.EdgeCause.{EdgeCause}
 use Rattle.tp_placing.specs.declared.parts.Held.{Held}
 use Rattle.tp_placing.specs.declared.parts.Step.{Step}
 use Rattle.tp_placing.specs.Boards.{suffix_after}
@@ -88,7 +88,7 @@ module _ (n : Net) (es fs : List Edge) (there : All (Contains es) fs) (back : Al
         small = at.small;
       }
 
-  pub caused-swapped : (m : Machine) (plans : List Plan) (ask : Ask) (causes : List Cause) (steps : List Step) → AreCaused m plans ask causes steps (with_edges n es) → AreCaused m plans ask causes steps (with_edges n fs)
+  pub caused-swapped : (m : Machine) (plans : List Plan) (ask : Ask) (causes : List EdgeCause) (steps : List Step) → AreCaused m plans ask causes steps (with_edges n es) → AreCaused m plans ask causes steps (with_edges n fs)
   caused-swapped m plans ask causes steps c = record {
     hops = all-there n es fs there (IsNamedHop m plans ask (choices_of (suffix_after steps)) causes) c.hops;
     safe = all-there n es fs there (IsSafe (length steps)) c.safe;

@@ -19,7 +19,7 @@ use Rattle.tp_constraints.specs.Suffixes.{SuffixTimes, choice_slot, gap_until, o
 use Rattle.tp_constraints.specs.Walks.{BeforeHops, BeforeNet, EarlierNet, IsNextHold, IsWalkNet, StartHops, StartNet, WalkShut}
 use Rattle.tp_constraints.proofs.Lists.{All-split, all-by}
 use Rattle.tp_placing.specs.declared.candidates.Candidate.{Candidate}
-use Rattle.tp_placing.specs.declared.causes.Cause.{Cause}
+use Rattle.tp_placing.specs.declared.causes.EdgeCause.{EdgeCause}
 use Rattle.tp_placing.specs.declared.parts.Held.{Held}
 use Rattle.tp_placing.specs.declared.parts.Step.{Step}
 use Rattle.tp_placing.specs.Boards.{BoardValue, suffix_after}
@@ -128,7 +128,7 @@ module _ {N : Type 0} {reading : Reading N} {b : BoardValue N} {m : Machine} {ho
   pub shut-back : StartNet → BeforeNet → WalkShut → HasNoSolution (with_edges (reading.net b.net) until) → (earlier : ℕ) → earlier ≤ place → (t : Ticks) → ¬ SuffixTimes m b.plans k.ask (with_place earlier (suffix k)) t
   shut-back start law shut none = shut m b.plans k.ask (suffix k) slot place table (with_edges (reading.net b.net) until) next (places k).within (walk-net start law) none
 
-  abbrev causes : List Cause
+  abbrev causes : List EdgeCause
   causes = causes_here k
 
   made-until : ArePlain b.causes → AreMade (length b.steps + 1) b.plans causes until (hop_until m c.hold.rule.resource.0 slot (slice_get slots place))

@@ -7,7 +7,7 @@ use Rattle.tp_schedule.specs.declared.parts.Ask.{Ask}
 use Rattle.tp_schedule.specs.declared.parts.Plan.{Plan}
 use Rattle.tp_constraints.specs.Suffixes.{Suffix, with_goal, with_action, with_place, with_stop}
 use Rattle.tp_base.specs.declared.edges.PointId.{PointId}
-use Rattle.tp_placing.specs.declared.causes.Cause.{Cause}
+use Rattle.tp_placing.specs.declared.causes.EdgeCause.{EdgeCause}
 use Rattle.tp_placing.specs.declared.parts.BoardMark.{BoardMark}
 use Rattle.tp_placing.specs.declared.parts.Held.{Held}
 use Rattle.tp_placing.specs.declared.parts.MadeFor.{MadeFor}
@@ -30,7 +30,7 @@ pub record BoardValue (N : Type 0) : Type 0 where
   pub steps : List Step
   pub marks : List BoardMark
   pub made_for : MadeFor
-  pub causes : List Cause
+  pub causes : List EdgeCause
   pub limit : Option PointId
   pub settled : Bool
 
@@ -70,7 +70,7 @@ pub record BoardUntouched (A : Type 0) : Type 0 where
   pub horizon : ℕ
   pub ask : Option Ask
   pub made_for : MadeFor
-  pub causes : List Cause
+  pub causes : List EdgeCause
   pub limit : Option PointId
   pub settled : Bool
 

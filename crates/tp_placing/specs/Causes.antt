@@ -15,8 +15,8 @@ use Rattle.tp_constraints.specs.Hops.{HopKind, Hop, hop, IsHop}
 use Rattle.tp_constraints.specs.Hops.HopKind.{forward, back, line, order, stop, limit}
 use Rattle.tp_constraints.specs.Numbers.{table_of}
 use Rattle.tp_constraints.specs.Suffixes.{Suffix}
-use Rattle.tp_placing.specs.declared.causes.Cause.{Cause}
-use Rattle.tp_placing.specs.declared.causes.Cause.TheVariants.{Forward, Back, Line, Stop, Limit, Resource}
+use Rattle.tp_placing.specs.declared.causes.EdgeCause.{EdgeCause}
+use Rattle.tp_placing.specs.declared.causes.EdgeCause.TheVariants.{Forward, Back, Line, Stop, Limit, Resource}
 use Rattle.tp_placing.specs.declared.names.Grip.{Grip}
 use Rattle.tp_placing.specs.declared.names.Grip.TheVariants.{Own as OwnGrip, Kept as KeptGrip}
 use Rattle.tp_placing.specs.declared.names.Spot.{Spot as SpotName}
@@ -55,7 +55,7 @@ abbrev pub most_plan_causes : ℕ
 most_plan_causes = 512
 
 -- the causes without a resource stand first
-pub record ArePlain (causes : List Cause) : Type 0 where
+pub record ArePlain (causes : List EdgeCause) : Type 0 where
   pub forward : slice_get causes forward_tag ≡ Some Forward
   pub back : slice_get causes back_tag ≡ Some Back
   pub line : slice_get causes line_tag ≡ Some Line
@@ -63,24 +63,24 @@ pub record ArePlain (causes : List Cause) : Type 0 where
   pub limit : slice_get causes limit_tag ≡ Some Limit
   pub slots : step_causes ≤ length causes
 
-pub record IsCauseTable (causes : Vec Cause Global) : Type 0 where
+pub record IsCauseTable (causes : Vec EdgeCause Global) : Type 0 where
   pub plain : ArePlain causes.items
   pub few : length causes.items ≤ most_causes
   pub space : most_causes ≤ vec_capacity causes
 
-abbrev pub cause_between : Held → Held → Cause
+abbrev pub cause_between : Held → Held → EdgeCause
 cause_between x y = Resource x.rule.resource x.start y.start
 
 -- the causes of a hold's neighbours, where there are any
-abbrev pub cause_after : Option Held → Held → ℕ → List Cause → List Cause
+abbrev pub cause_after : Option Held → Held → ℕ → List EdgeCause → List EdgeCause
 cause_after None h tag causes = causes
 cause_after (Some x) h tag causes = slice_set causes tag (cause_between x h)
 
-abbrev pub cause_until : Held → Option Held → ℕ → List Cause → List Cause
+abbrev pub cause_until : Held → Option Held → ℕ → List EdgeCause → List EdgeCause
 cause_until h None tag causes = causes
 cause_until h (Some y) tag causes = slice_set causes tag (cause_between h y)
 
-abbrev pub causes_around : Option Held → Held → Option Held → ℕ → List Cause → List Cause
+abbrev pub causes_around : Option Held → Held → Option Held → ℕ → List EdgeCause → List EdgeCause
 causes_around before h behind tag causes = cause_until h behind (tag + 1) (cause_after before h tag causes)
 
 -- the point of a number: those of the plans first, and then the own ones from the end on
@@ -88,7 +88,7 @@ abbrev pub numbered : List Plan → ℕ → Spot
 numbered plans i = unwrap_or (slice_get (table_of plans) i) (own (i - length (table_of plans)))
 
 -- what a cause tells
-abbrev pub kind_of : List Plan → Option Cause → HopKind
+abbrev pub kind_of : List Plan → Option EdgeCause → HopKind
 kind_of plans None = limit
 kind_of plans (Some Forward) = forward
 kind_of plans (Some Back) = back
@@ -98,11 +98,11 @@ kind_of plans (Some Limit) = limit
 kind_of plans (Some (Resource resource before after)) = order resource.0 (numbered plans before.0) (numbered plans after.0)
 
 -- the hop of an edge with its cause
-abbrev pub hop_by : List Plan → List Cause → Edge → Hop
+abbrev pub hop_by : List Plan → List EdgeCause → Edge → Hop
 hop_by plans causes e = hop (kind_of plans (slice_get causes e.tag)) (gap (numbered plans e.from.0) (numbered plans e.to.0) e.weight)
 
 -- an edge whose cause is kept, and which is a hop with it
-pub record IsNamedHop (machine : Machine) (plans : List Plan) (ask : Ask) (x : Suffix) (causes : List Cause) (e : Edge) : Type 0 where
+pub record IsNamedHop (machine : Machine) (plans : List Plan) (ask : Ask) (x : Suffix) (causes : List EdgeCause) (e : Edge) : Type 0 where
   pub tag : e.tag < length causes
   pub is_hop : IsHop machine plans ask x (hop_by plans causes e)
 

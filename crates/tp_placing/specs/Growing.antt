@@ -20,13 +20,13 @@ use Rattle.tp_placing.specs.Loaded.{CanLoad, IsLoaded}
 use Rattle.tp_placing.specs.Loading.{acts_edges, point_count, point_id}
 use Rattle.tp_placing.specs.LoadedHolds.{ticks_in}
 use Rattle.tp_placing.specs.Standing.{AreSlots}
-use Rattle.tp_placing.specs.declared.causes.Cause.{Cause}
-use Rattle.tp_placing.specs.declared.causes.Cause.TheVariants.{Limit}
+use Rattle.tp_placing.specs.declared.causes.EdgeCause.{EdgeCause}
+use Rattle.tp_placing.specs.declared.causes.EdgeCause.TheVariants.{Limit}
 use Rattle.tp_placing.specs.declared.parts.Held.{Held}
 
 -- edges that are these hops with their causes, over which no step writes, and that may be required of a network with the
 -- points of the plans
-pub record AreHops (plans : List Plan) (causes : List Cause) (es : List Edge) (hs : List Hop) : Type 0 where
+pub record AreHops (plans : List Plan) (causes : List EdgeCause) (es : List Edge) (hs : List Hop) : Type 0 where
   pub hops : map (hop_by plans causes) es ≡ hs
   pub can : All (IsKnown (length (table_of plans))) es
   pub tags : All (λ e. e.tag < length causes) es
@@ -37,20 +37,20 @@ abbrev pub slot_by : List Spot → Held → Slot
 slot_by table h = record { rule = h.rule; from = spot_at table h.start.0; to = spot_at table h.end.0 }
 
 -- the causes of the edges to a hold's neighbours: two, whatever neighbours it has
-abbrev pub cause_before : Option Held → Held → Cause
+abbrev pub cause_before : Option Held → Held → EdgeCause
 cause_before None h = Limit
 cause_before (Some x) h = cause_between x h
 
-abbrev pub cause_behind : Held → Option Held → Cause
+abbrev pub cause_behind : Held → Option Held → EdgeCause
 cause_behind h None = Limit
 cause_behind h (Some y) = cause_between h y
 
-abbrev pub causes_for : Option Held → Held → Option Held → List Cause
+abbrev pub causes_for : Option Held → Held → Option Held → List EdgeCause
 causes_for before h behind = cause_before before h ∷ cause_behind h behind ∷ []
 
 -- holds with these slots were put in, one after another, into these orders: that is how the lines stand now, and the edges are
 -- the hops to their neighbours
-pub record HasPut (machine : Machine) (plans : List Plan) (before : ℕ → List Slot) (held : List Held) (lines : List (List ℕ)) (edges : List Edge) (causes : List Cause) (slots : List Slot) : Type 0 where
+pub record HasPut (machine : Machine) (plans : List Plan) (before : ℕ → List Slot) (held : List Held) (lines : List (List ℕ)) (edges : List Edge) (causes : List EdgeCause) (slots : List Slot) : Type 0 where
   pub puts : List Put
   pub holds : map (λ x. x.slot) puts ≡ slots
   pub within : AreWithin puts before
@@ -76,7 +76,7 @@ abbrev pub own_edges : Machine → PointId → Plan → Option PointId → List 
 own_edges machine first p before = acts_edges machine first.0 p.acts ++ behind_edge before (point_id (first.0 + length p.acts))
 
 -- the board's parts are those of all its plans but the last, which can be loaded with the others
-pub record IsBehind (machine : Machine) (now : ℕ) (all : List Plan) (n : Net) (lines : List (List ℕ)) (held : List Held) (firsts : List PointId) (last : ℕ) (causes : List Cause) : Type 0 where
+pub record IsBehind (machine : Machine) (now : ℕ) (all : List Plan) (n : Net) (lines : List (List ℕ)) (held : List Held) (firsts : List PointId) (last : ℕ) (causes : List EdgeCause) : Type 0 where
   pub plans : List Plan
   pub newest : Plan
   pub are : all ≡ with_plan plans newest

@@ -6,7 +6,7 @@ use Rattle.tp_base.specs.declared.edges.PointId.{PointId}
 use Rattle.tp_timelines.specs.Orders.{Orders}
 use Rattle.tp_schedule.specs.declared.parts.Ask.{Ask}
 use Rattle.tp_schedule.specs.declared.parts.Plan.{Plan}
-use Rattle.tp_placing.specs.declared.causes.Cause.{Cause}
+use Rattle.tp_placing.specs.declared.causes.EdgeCause.{EdgeCause}
 use Rattle.tp_placing.specs.declared.parts.Begin.{Begin}
 use Rattle.tp_placing.specs.declared.parts.BoardMark.{BoardMark}
 use Rattle.tp_placing.specs.declared.parts.Held.{Held}
@@ -14,7 +14,7 @@ use Rattle.tp_placing.specs.declared.parts.MadeFor.{MadeFor}
 use Rattle.tp_placing.specs.declared.parts.Step.{Step}
 use Rattle.tp_placing.specs.Boards.{BoardValue}
 
-abbrev pub board_of : {N : Type 0} → N → Orders → List Held → List Plan → List PointId → PointId → ℕ → ℕ → Option Ask → List Step → List BoardMark → MadeFor → List Cause → Option PointId → Bool → BoardValue N
+abbrev pub board_of : {N : Type 0} → N → Orders → List Held → List Plan → List PointId → PointId → ℕ → ℕ → Option Ask → List Step → List BoardMark → MadeFor → List EdgeCause → Option PointId → Bool → BoardValue N
 board_of net orders held plans firsts last floor horizon ask steps marks made_for causes limit settled = record {
   net = net;
   orders = orders;

@@ -16,7 +16,7 @@ use Rattle.tp_constraints.specs.Laws.{IsLoadable}
 use Rattle.tp_constraints.specs.Nets.{IsLoadedNet}
 use Rattle.tp_constraints.specs.Numbers.{table_of}
 use Rattle.tp_placing.specs.Causes.{ArePlain, IsNamedHop, IsSafe, step_causes}
-use Rattle.tp_placing.specs.declared.causes.Cause.{Cause}
+use Rattle.tp_placing.specs.declared.causes.EdgeCause.{EdgeCause}
 use Rattle.tp_placing.specs.declared.parts.Held.{Held}
 use Rattle.tp_placing.specs.Loading.{plans_edges, lines_edges, chains_edges, holds_on}
 use Rattle.tp_placing.specs.Standing.{AreFirsts, AreSlots, HasSmallOffsets, loaded_edges, loaded_holds}
@@ -33,7 +33,7 @@ abbrev pub all_edges : Machine → List Plan → List (List ℕ) → List Held �
 all_edges machine plans lines held = plans_edges machine 0 plans ++ (lines_edges 0 plans ++ chains_edges machine step_causes (holds_on held lines) (length machine.resources))
 
 -- the network is that of the plans, the orders are those of their holds, and the causes those of its edges
-pub record IsLoaded (machine : Machine) (now : ℕ) (plans : List Plan) (n : Net) (lines : List (List ℕ)) (held : List Held) (firsts : List PointId) (causes : List Cause) : Type 0 where
+pub record IsLoaded (machine : Machine) (now : ℕ) (plans : List Plan) (n : Net) (lines : List (List ℕ)) (held : List Held) (firsts : List PointId) (causes : List EdgeCause) : Type 0 where
   pub net : IsLoadedNet machine now (λ _. false) plans (table_of plans) n
   pub solved : HasLeast n
   pub hops : (ask : Ask) → All (IsNamedHop machine plans ask no_choices causes) n.edges

@@ -14,7 +14,7 @@ use Rattle.tp_schedule.specs.declared.parts.Plan.{Plan}
 use Rattle.tp_constraints.specs.Gaps.{low_of, cap_of, is_same_line}
 use Rattle.tp_timelines.specs.Orders.{order_on}
 use Rattle.tp_placing.specs.Causes.{cause_between}
-use Rattle.tp_placing.specs.declared.causes.Cause.{Cause}
+use Rattle.tp_placing.specs.declared.causes.EdgeCause.{EdgeCause}
 use Rattle.tp_placing.specs.declared.parts.Held.{Held}
 use Rattle.tp_placing.specs.Edges.{duration_edges, hold_edge, line_edge}
 
@@ -96,12 +96,12 @@ abbrev pub AreIds : List Held → List ℕ → Type 0
 AreIds held ids = All (λ id. id < length held) ids
 
 -- why each hold of an order ends by the begin of the next, and the same of the orders of all resources below a number
-abbrev pub chain_causes : List Held → List Cause
+abbrev pub chain_causes : List Held → List EdgeCause
 chain_causes [] = []
 chain_causes (x ∷ []) = []
 chain_causes (x ∷ y ∷ ys) = cause_between x y ∷ chain_causes (y ∷ ys)
 
-abbrev pub chains_causes : (ℕ → List Held) → ℕ → List Cause
+abbrev pub chains_causes : (ℕ → List Held) → ℕ → List EdgeCause
 chains_causes orders zero = []
 chains_causes orders (suc n) = chain_causes (orders n) ++ chains_causes orders n
 

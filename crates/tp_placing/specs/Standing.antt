@@ -22,7 +22,7 @@ use Rattle.tp_base.specs.declared.edges.PointId.{PointId}
 use Rattle.tp_machine.specs.Limits.{most_act_holds}
 use Rattle.tp_schedule.specs.Limits.{most_acts, most_live, most_plan_points}
 use Rattle.tp_placing.specs.Causes.{ArePlain, IsNamedHop, IsSafe}
-use Rattle.tp_placing.specs.declared.causes.Cause.{Cause}
+use Rattle.tp_placing.specs.declared.causes.EdgeCause.{EdgeCause}
 use Rattle.tp_placing.specs.declared.parts.Held.{Held}
 use Rattle.tp_placing.specs.declared.parts.MadeFor.{MadeFor}
 use Rattle.tp_placing.specs.declared.parts.Step.{Step}
@@ -141,7 +141,7 @@ abbrev pub IsAt : Machine → List Plan → Ask → List Step → Net → List (
 IsAt machine plans ask steps n lines holds = IsAtWith machine plans ask (suffix_after steps) steps n lines holds
 
 -- each edge of a network after these steps is a hop with its cause, over which no later step writes
-pub record AreCaused (machine : Machine) (plans : List Plan) (ask : Ask) (causes : List Cause) (steps : List Step) (n : Net) : Type 0 where
+pub record AreCaused (machine : Machine) (plans : List Plan) (ask : Ask) (causes : List EdgeCause) (steps : List Step) (n : Net) : Type 0 where
   pub hops : All (IsNamedHop machine plans ask (choices_of (suffix_after steps)) causes) n.edges
   pub safe : All (IsSafe (length steps)) n.edges
 

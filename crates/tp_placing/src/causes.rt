@@ -12,7 +12,7 @@ use tp_machine::ResId;
 /// Why an edge stands: the least or the most duration of an action, the line of a tray, the stop at the front's end, the
 /// limit of a claimed end, or a resource that two actions hold one after the other, each told by the point where it starts.
 #[derive(Clone, Copy)]
-pub(crate) enum Cause {
+pub(crate) enum EdgeCause {
     Forward,
     Back,
     Line,
@@ -50,10 +50,10 @@ pub(crate) fn step_tag(steps: usize) -> u32
 }
 
 /// Why a hold ends by the begin of another.
-pub(crate) fn between(before: &Held, after: &Held) -> Cause
+pub(crate) fn between(before: &Held, after: &Held) -> EdgeCause
     ensures { result ≡ cause_between before.now after.now }
 {
-    Cause::Resource {
+    EdgeCause::Resource {
         resource: before.rule.resource,
         before: before.start,
         after: after.start,
@@ -63,16 +63,16 @@ pub(crate) fn between(before: &Held, after: &Held) -> Cause
 /// The table of causes. It is made once, and an undone step leaves its causes readable until the next one.
 #[derive(Drop)]
 pub(crate) struct Causes {
-    kept: Vec<Cause>,
+    kept: Vec<EdgeCause>,
 }
 
 impl Model for Causes {
     ghost use Rattle.std.specs.Prelude.{List};
-    ghost use Rattle.tp_placing.specs.declared.causes.Cause.{Cause};
+    ghost use Rattle.tp_placing.specs.declared.causes.EdgeCause.{EdgeCause};
     ghost use Rattle.tp_placing.specs.Inside.{most_steps};
     ghost use Rattle.tp_placing.specs.Causes.{IsCauseTable};
 
-    ghost Value = { List Cause };
+    ghost Value = { List EdgeCause };
 
     ghost view = { λ c. c.kept.items };
 
@@ -82,13 +82,13 @@ impl Model for Causes {
 impl Causes {
     pub(crate) fn new(alloc: Global) -> Result<Causes, Memory> {
         let mut kept = Vec::with_capacity(alloc, CAUSES)?;
-        kept.push(Cause::Forward)?;
-        kept.push(Cause::Back)?;
-        kept.push(Cause::Line)?;
-        kept.push(Cause::Stop)?;
-        kept.push(Cause::Limit)?;
+        kept.push(EdgeCause::Forward)?;
+        kept.push(EdgeCause::Back)?;
+        kept.push(EdgeCause::Line)?;
+        kept.push(EdgeCause::Stop)?;
+        kept.push(EdgeCause::Limit)?;
         'slots: while kept.len() < STEP_CAUSES {
-            kept.push(Cause::Limit)?;
+            kept.push(EdgeCause::Limit)?;
         }
         Ok(Causes { kept })
     }
@@ -109,7 +109,7 @@ impl Causes {
     }
 
     /// Adds a cause of the loaded orders, and answers its tag.
-    pub(crate) fn push(&mut self, cause: Cause) -> u32
+    pub(crate) fn push(&mut self, cause: EdgeCause) -> u32
         requires capacity { length self.old < most_causes }
         ensures tag { result ≡ length self.old }
         ensures added { self.new ≡ self.old ++ cause ∷ [] }
@@ -122,7 +122,7 @@ impl Causes {
     }
 
     /// Writes a cause of a step.
-    pub(crate) fn set(&mut self, tag: u32, cause: Cause)
+    pub(crate) fn set(&mut self, tag: u32, cause: EdgeCause)
         requires behind { 5 ≤ tag }
         requires within { tag < step_causes }
         ensures { self.new ≡ slice_set self.old tag cause }
@@ -130,7 +130,7 @@ impl Causes {
         self.kept[tag as usize] = cause;
     }
 
-    pub(crate) fn get(&self, tag: u32) -> Cause
+    pub(crate) fn get(&self, tag: u32) -> EdgeCause
         requires { tag < length self.now }
         ensures { slice_get self.now tag ≡ Some result }
     {

@@ -10,9 +10,9 @@ ghost use Rattle.tp_placing.specs.Growing.{HasPut, causes_for, slot_by};
 ghost use Rattle.tp_placing.specs.Loading.{AreIds, HasPoints, firsts_from};
 ghost use Rattle.tp_placing.specs.LoadedHolds.{IsHeldWithin, IsRuleOf, ticks_in};
 ghost use Rattle.tp_placing.specs.Standing.{AreSlots, HasSmallOffsets};
-ghost use Rattle.tp_placing.specs.declared.causes.Cause.{Cause as CauseValue};
+ghost use Rattle.tp_placing.specs.declared.causes.EdgeCause.{EdgeCause as CauseValue};
 
-use crate::causes::{Cause, Causes, between};
+use crate::causes::{Causes, EdgeCause, between};
 use crate::edges::following;
 use crate::kept_ticks::begin_at;
 use crate::neighbours::{Neighbours, neighbours_of};
@@ -46,11 +46,11 @@ fn push_causes(causes: &mut Causes, near: &Neighbours, new: &Held) -> u32
 {
     let first = match &near.before {
         Some(before) => between(before, new),
-        None => Cause::Limit,
+        None => EdgeCause::Limit,
     };
     let second = match &near.behind {
         Some(behind) => between(new, behind),
-        None => Cause::Limit,
+        None => EdgeCause::Limit,
     };
     let tag = causes.push(first);
     causes.push(second);

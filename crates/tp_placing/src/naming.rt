@@ -6,7 +6,7 @@ ghost use Rattle.tp_placing.specs.Causes.{grip_name, kind_of, name_of_plan, name
 ghost use Rattle.tp_placing.specs.Standing.{Stands};
 
 use crate::board::Board;
-use crate::causes::Cause;
+use crate::causes::EdgeCause;
 use crate::kept_ticks::count_to;
 use crate::names::{Grip, Spot, Why};
 use tp_base::{Edge, Network, PointId};
@@ -78,12 +78,12 @@ impl<N: Network> Board<N> {
             (kind_of self.now.plans (slice_get self.now.causes edge.tag)) ≡ Some result }
     {
         match self.causes.get(edge.tag) {
-            Cause::Forward => Why::Forward,
-            Cause::Back => Why::Back,
-            Cause::Line => Why::Line,
-            Cause::Stop => Why::Stop,
-            Cause::Limit => Why::Limit,
-            Cause::Resource {
+            EdgeCause::Forward => Why::Forward,
+            EdgeCause::Back => Why::Back,
+            EdgeCause::Line => Why::Line,
+            EdgeCause::Stop => Why::Stop,
+            EdgeCause::Limit => Why::Limit,
+            EdgeCause::Resource {
                 resource,
                 before,
                 after,

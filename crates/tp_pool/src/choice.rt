@@ -13,7 +13,7 @@ pub struct Choice {
 
 /// A list of choices: its parent's with one choice more, or the choice alone.
 #[derive(Clone, Copy)]
-pub(crate) struct Node {
+pub(crate) struct ListNode {
     pub(crate) parent: Option<u32>,
     /// How many choices the list has.
     pub(crate) depth: u32,

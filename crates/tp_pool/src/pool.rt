@@ -3,7 +3,7 @@ ghost use Rattle.std.specs.Prelude.{◌≡◌, ◌+◌, ◌<◌, ◌^◌, ◌≤
 ghost use Rattle.tp_pool.specs.Entries.{choices_of, bound_of, choices_before, choice_made, IsParentOf};
 ghost use Rattle.tp_pool.specs.Nodes.{entries_of, AreNodes};
 
-use crate::choice::{Choice, Node};
+use crate::choice::{Choice, ListNode};
 use std::alloc::Global;
 use std::marker::Model;
 use tp_base::{Full, Memory, Tick};
@@ -12,7 +12,7 @@ use tp_base::{Full, Memory, Tick};
 /// parent.
 #[derive(Drop)]
 pub struct Pool {
-    nodes: Vec<Node>,
+    nodes: Vec<ListNode>,
     capacity: u32,
 }
 
@@ -82,7 +82,7 @@ impl Pool {
             return Err(Full);
         }
         let depth = depth_behind(&self.nodes, parent);
-        self.nodes.push_reserved(Node {
+        self.nodes.push_reserved(ListNode {
             parent,
             depth,
             choice,
@@ -120,7 +120,7 @@ impl Pool {
 }
 
 /// How many choices a list behind this parent has.
-fn depth_behind(nodes: &[Node], parent: Option<u32>) -> u32
+fn depth_behind(nodes: &[ListNode], parent: Option<u32>) -> u32
     requires nodes { AreNodes nodes.now }
     requires parent { IsParentOf (length nodes.now) parent }
     requires fits { length nodes.now + 1 < 2 ^ 32 }
@@ -134,7 +134,7 @@ fn depth_behind(nodes: &[Node], parent: Option<u32>) -> u32
 }
 
 /// Goes up from a node to the one of this depth.
-fn choice_up(nodes: &[Node], node: u32, depth: u32) -> Choice
+fn choice_up(nodes: &[ListNode], node: u32, depth: u32) -> Choice
     requires nodes { AreNodes nodes.now }
     requires there { node < length nodes.now }
     requires first { 1 ≤ depth }

@@ -8,8 +8,8 @@ use Rattle.tp_machine.specs.declared.parts.State.{State}
 use Rattle.tp_machine.specs.declared.machine.Machine.{Machine}
 use Rattle.tp_schedule.specs.declared.parts.Ask.{Ask}
 use Rattle.tp_routes.specs.Index.{NoneAt, IsNextAt, IsNextTo, AreIndexed, number_at, location_at}
-use Rattle.tp_routes.specs.declared.index.End.{End}
-use Rattle.tp_routes.specs.declared.index.End.TheVariants.{From, To}
+use Rattle.tp_routes.specs.declared.index.ActEnd.{ActEnd}
+use Rattle.tp_routes.specs.declared.index.ActEnd.TheVariants.{From, To}
 use Rattle.tp_routes.specs.Numbers.{state_at}
 use Rattle.tp_routes.specs.Tables.{sum_at}
 use Rattle.tp_routes.specs.Filling.{Waits, IsStepIn, IsSpreadTo, IsFilling, Lowers, left_to_fill}
@@ -79,13 +79,13 @@ some_action (x ∷ xs) zero below = (x, refl)
 some_action (x ∷ xs) (suc k) below = some_action xs k (omega arith)
 
 -- the next action at the same location
-pub next-there : (end : End) (actions : List Action) (firsts nexts : List (Option ℕ)) (loc n : ℕ) → AreIndexed end actions firsts nexts 0 → n < length actions → ((a : Action) → slice_get actions n ≡ Some a → location_at end a ≡ loc)
+pub next-there : (end : ActEnd) (actions : List Action) (firsts nexts : List (Option ℕ)) (loc n : ℕ) → AreIndexed end actions firsts nexts 0 → n < length actions → ((a : Action) → slice_get actions n ≡ Some a → location_at end a ≡ loc)
     → IsNextAt end actions loc (n + 1) (number_at nexts n)
 next-there end actions firsts nexts loc n index within at =
     let a = some_action actions n within in
     subst (λ p. IsNextAt end actions p (n + 1) (number_at nexts n)) (at a.0 a.1) (index.next n a.0 (omega arith) a.1)
 
-pub ahead-smaller : (end : End) (actions : List Action) (loc n : ℕ) (o : Option ℕ) → n < length actions → IsNextAt end actions loc (n + 1) o → ahead (length actions) o < suc (length actions - n)
+pub ahead-smaller : (end : ActEnd) (actions : List Action) (loc n : ℕ) (o : Option ℕ) → n < length actions → IsNextAt end actions loc (n + 1) o → ahead (length actions) o < suc (length actions - n)
 ahead-smaller end actions loc n None within next = omega arith
 ahead-smaller end actions loc n (Some m) within next = (let above = next.0 in omega arith)
 

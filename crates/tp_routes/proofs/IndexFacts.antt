@@ -6,7 +6,7 @@ use Rattle.std.proofs.lemmas.Option.{same_Some}
 use Rattle.std.proofs.lemmas.List.{get_or-set_same, get_or-set_other, length-set}
 use Rattle.tp_machine.specs.declared.parts.Action.{Action}
 use Rattle.tp_routes.specs.Index.{NoneAt, IsNextAt, AreIndexed, number_at, location_at}
-use Rattle.tp_routes.specs.declared.index.End.{End}
+use Rattle.tp_routes.specs.declared.index.ActEnd.{ActEnd}
 
 no_number : (n k : ℕ) → number_at (replicate n None) k ≡ None
 no_number zero k = refl
@@ -19,14 +19,14 @@ slice_get-below (y ∷ ys) zero x at = omega arith
 slice_get-below (y ∷ ys) (suc k) x at = (let below = slice_get-below ys k x at in omega arith)
 
 -- behind the last action there is none
-pub indexed-none : (end : End) (actions : List Action) (firsts nexts : List (Option ℕ)) (n : ℕ) → firsts ≡ replicate n None → AreIndexed end actions firsts nexts (length actions)
+pub indexed-none : (end : ActEnd) (actions : List Action) (firsts nexts : List (Option ℕ)) (n : ℕ) → firsts ≡ replicate n None → AreIndexed end actions firsts nexts (length actions)
 indexed-none end actions firsts nexts n empty = record {
   first = λ loc known. subst (IsNextAt end actions loc (length actions)) (sym (ap (λ f. number_at f loc) empty ∙ no_number n loc)) (λ k a low high at. absurd (omega arith));
   next = λ k a low at. (let below = slice_get-below actions k a at in absurd (omega arith));
 }
 
 -- an action that is not at the location may stand before
-earlier : (end : End) (actions : List Action) (loc at : ℕ) (a : Action) (o : Option ℕ) → slice_get actions at ≡ Some a → (location_at end a) ≢ loc → IsNextAt end actions loc (at + 1) o → IsNextAt end actions loc at o
+earlier : (end : ActEnd) (actions : List Action) (loc at : ℕ) (a : Action) (o : Option ℕ) → slice_get actions at ≡ Some a → (location_at end a) ≢ loc → IsNextAt end actions loc (at + 1) o → IsNextAt end actions loc at o
 earlier end actions loc at a None is differs none = before none
   where
     before : NoneAt end actions loc (at + 1) (length actions) → NoneAt end actions loc at (length actions)
@@ -43,7 +43,7 @@ earlier end actions loc at a (Some n) is differs (low', within, from, none) = (o
     ]
 
 -- one action more, before those that are indexed
-pub indexed-more : (end : End) (actions : List Action) (firsts nexts : List (Option ℕ)) (at : ℕ) (a : Action) → slice_get actions at ≡ Some a → (location_at end a) < length firsts → at < length nexts
+pub indexed-more : (end : ActEnd) (actions : List Action) (firsts nexts : List (Option ℕ)) (at : ℕ) (a : Action) → slice_get actions at ≡ Some a → (location_at end a) < length firsts → at < length nexts
     → AreIndexed end actions firsts nexts (at + 1) → AreIndexed end actions (slice_set firsts (location_at end a) (Some at)) (slice_set nexts at (number_at firsts (location_at end a))) at
 indexed-more end actions firsts nexts at a is known within index = record {
   first = λ loc known'. first_of loc (subst (λ n. loc < n) (length-set firsts (location_at end a) (Some at)) known');
@@ -80,12 +80,12 @@ indexed-more end actions firsts nexts at a is known within index = record {
     ]
 
 -- how far the actions are indexed
-pub record IndexedSoFar (end : End) (actions : List Action) (firsts nexts : List (Option ℕ)) (at : ℕ) : Type 0 where
+pub record IndexedSoFar (end : ActEnd) (actions : List Action) (firsts nexts : List (Option ℕ)) (at : ℕ) : Type 0 where
   pub within : at ≤ length actions
   pub indexed : AreIndexed end actions firsts nexts at
 
 -- the action of a number
-pub action-there : (end : End) (xs : List Action) (k loc : ℕ) → k < length xs → IfSome (slice_get xs k) (λ a. loc ≡ location_at end a) → (a : Action) × (slice_get xs k ≡ Some a) × (loc ≡ location_at end a)
+pub action-there : (end : ActEnd) (xs : List Action) (k loc : ℕ) → k < length xs → IfSome (slice_get xs k) (λ a. loc ≡ location_at end a) → (a : Action) × (slice_get xs k ≡ Some a) × (loc ≡ location_at end a)
 action-there end [] k loc below h = absurd (omega arith)
 action-there end (x ∷ xs) zero loc below h = (x, refl, h)
 action-there end (x ∷ xs) (suc k) loc below h = action-there end xs k loc (omega arith) h

@@ -2,7 +2,7 @@
 ghost use Rattle.std.specs.Prelude.{◌≡◌, ℕ, ◌+◌, ◌*◌, ◌<◌, ◌≤◌, [], Some, length, vec_capacity};
 ghost use Rattle.tp_machine.specs.Limits.{longest};
 ghost use Rattle.tp_routes.specs.Index.{IsIndexOf};
-ghost use Rattle.tp_routes.specs.declared.index.End.TheVariants.{From};
+ghost use Rattle.tp_routes.specs.declared.index.ActEnd.TheVariants.{From};
 ghost use Rattle.tp_routes.specs.Numbers.{number_of, state_at};
 ghost use Rattle.tp_routes.specs.Tables.{sum_at};
 ghost use Rattle.tp_routes.specs.Filling.{IsFilling, IsSpreadTo, IsSum, HasAtMost, Lowers, filled, left_to_fill};
@@ -44,7 +44,7 @@ pub(crate) fn offer(
 
 /// A state by its number, and its sum in the table.
 #[derive(Clone, Copy)]
-struct Reached {
+struct StateSum {
     number: u32,
     sum: u32,
 }
@@ -56,7 +56,7 @@ fn step_on(
     sums: &mut [Option<u32>],
     waiting: &mut Vec<u32>,
     act: ActId,
-    from: Reached,
+    from: StateSum,
 )
     requires act { act.0 < length machine.now.actions }
     requires filling { IsFilling machine.now ask.now sums.old waiting.old.items }
@@ -89,7 +89,7 @@ fn spread(
     index: &ActionIndex,
     sums: &mut [Option<u32>],
     waiting: &mut Vec<u32>,
-    from: Reached,
+    from: StateSum,
 )
     requires index { IsIndexOf From machine.now index.now.firsts.items index.now.nexts.items }
     requires filling { IsFilling machine.now ask.now sums.old waiting.old.items }
@@ -138,7 +138,7 @@ pub(crate) fn settle(
 {
     'states: while let Some(number) = waiting.pop() {
         if let Some(sum) = sums[number as usize] {
-            spread(machine, ask, index, sums, waiting, Reached { number, sum });
+            spread(machine, ask, index, sums, waiting, StateSum { number, sum });
         }
     }
 }

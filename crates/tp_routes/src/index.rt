@@ -11,7 +11,7 @@ const MOST_ACTIONS: usize = 512;
 
 /// An end of an action: where it starts, or where it leads.
 #[derive(Clone, Copy)]
-pub(crate) enum End {
+pub(crate) enum ActEnd {
     From,
     To,
 }
@@ -38,7 +38,7 @@ impl ActionIndex {
     }
 
     /// Indexes the actions of the machine by this end, in place of what was there.
-    pub(crate) fn fill(&mut self, machine: &Machine, end: End)
+    pub(crate) fn fill(&mut self, machine: &Machine, end: ActEnd)
         requires locations { length self.old.firsts.items ≡ length machine.now.locations }
         requires room { length self.old.nexts.items ≡ most_actions }
         ensures index { IsIndexOf end machine.now self.new.firsts.items self.new.nexts.items }
@@ -50,7 +50,12 @@ impl ActionIndex {
 
 /// Finds the first action at each location, and behind each action the next one at the same
 /// location: one pass over the actions, the last one first.
-fn index_actions(machine: &Machine, end: End, firsts: &mut [Option<u16>], nexts: &mut [Option<u16>])
+fn index_actions(
+    machine: &Machine,
+    end: ActEnd,
+    firsts: &mut [Option<u16>],
+    nexts: &mut [Option<u16>],
+)
     requires locations { length firsts.old ≡ length machine.now.locations }
     requires room { length machine.now.actions ≤ length nexts.old }
     ensures { AreIndexed end machine.now.actions firsts.new nexts.new 0 }
@@ -72,7 +77,7 @@ fn clear(numbers: &mut [Option<u16>])
 }
 
 /// The location at this end of an action.
-fn location_of(machine: &Machine, end: End, at: u32) -> usize
+fn location_of(machine: &Machine, end: ActEnd, at: u32) -> usize
     requires { at < length machine.now.actions }
     ensures location { IfSome (slice_get machine.now.actions at)
         (λ action. result ≡ location_at end action) }
@@ -80,7 +85,7 @@ fn location_of(machine: &Machine, end: End, at: u32) -> usize
 {
     let action = machine.actions.get(at);
     match end {
-        End::From => usize::from(action.from.0),
-        End::To => usize::from(action.to.0),
+        ActEnd::From => usize::from(action.from.0),
+        ActEnd::To => usize::from(action.to.0),
     }
 }

@@ -1,12 +1,12 @@
 //! The table of rooms: for each state the least time that any way to it takes.
 ghost use Rattle.std.specs.Prelude.{◌≡◌, ◌+◌, ◌*◌, ◌<◌, ◌≤◌, None, length, option_map, replicate, vec_capacity, IfOk};
 ghost use Rattle.tp_routes.specs.Index.{IsIndexOf, IsLeadIndex, number_at};
-ghost use Rattle.tp_routes.specs.declared.index.End.TheVariants.{From};
+ghost use Rattle.tp_routes.specs.declared.index.ActEnd.TheVariants.{From};
 ghost use Rattle.tp_routes.specs.Numbers.{number_of};
 ghost use Rattle.tp_routes.specs.Tables.{sum_at, IsMadeFor, AreRooms, IsKnownOrigin};
 
 use crate::filling::settle;
-use crate::index::{ActionIndex, End};
+use crate::index::{ActEnd, ActionIndex};
 use crate::numbering::number_of;
 use crate::starting::start;
 use std::alloc::Global;
@@ -98,8 +98,8 @@ impl Rooms {
         ensures leads { IsLeadIndex machine.now self.new.firsts self.new.nexts }
         ensures made { IsMadeFor self.new machine.now }
     {
-        self.index.fill(machine, End::From);
-        self.leads.fill(machine, End::To);
+        self.index.fill(machine, ActEnd::From);
+        self.leads.fill(machine, ActEnd::To);
         fill_table(machine, ask, &self.index, &mut self.sums, &mut self.waiting);
     }
 

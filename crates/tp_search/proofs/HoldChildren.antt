@@ -15,11 +15,11 @@ use Rattle.tp_search.specs.Following.{HasList}
 use Rattle.tp_search.specs.Holding.{HoldsList, IsOneMore}
 use Rattle.tp_search.specs.Stored.{child_by, choices_by, list_by}
 use Rattle.tp_search.specs.Stores.{StoreValue}
-use Rattle.tp_search.specs.declared.holding.Held.{Held}
+use Rattle.tp_search.specs.declared.holding.HeldList.{HeldList}
 use Rattle.tp_search.proofs.OpenSteps.{choices-carried}
 
 -- which lists wait does not matter for a held list
-pub holds-taken : {N : Type 0} (reading : Reading N) (b : BoardValue N) (machine : Machine) (ask : Ask) (s s' : StoreValue) (held : Option Held) → s'.entries ≡ s.entries → IfSome held (HoldsList reading b machine ask s)
+pub holds-taken : {N : Type 0} (reading : Reading N) (b : BoardValue N) (machine : Machine) (ask : Ask) (s s' : StoreValue) (held : Option HeldList) → s'.entries ≡ s.entries → IfSome held (HoldsList reading b machine ask s)
     → IfSome held (HoldsList reading b machine ask s')
 holds-taken reading b machine ask s s' None same holds = tt
 holds-taken reading b machine ask s s' (Some held) same holds = record {

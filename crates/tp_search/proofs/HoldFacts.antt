@@ -19,7 +19,7 @@ use Rattle.tp_search.specs.Children.{HasFound}
 use Rattle.tp_search.specs.Following.{HasList, IsSameButSteps}
 use Rattle.tp_search.specs.Holding.{IsLaidSince, IsOver}
 use Rattle.tp_search.specs.Outcomes.{HasAnswer}
-use Rattle.tp_search.specs.declared.holding.Held.{Held}
+use Rattle.tp_search.specs.declared.holding.HeldList.{HeldList}
 use Rattle.tp_search.specs.declared.holding.Root.{Root}
 use Rattle.tp_search.proofs.BoardSteps.{IsMarked, IsUndone, load-of, load-trans, ready-back, slice-at}
 use Rattle.tp_search.proofs.StepBoards.{marked-ready, stands-asked, stands-legal}
@@ -30,27 +30,27 @@ two-behind (z ∷ xs) y x = ap (λ l. z ∷ l) (two-behind xs y x)
 
 module _ {N : Type 0} (reading : Reading N) where
   -- the same is loaded
-  pub over-plans : (b b' : BoardValue N) (machine : Machine) (ask : Ask) (held : Option Held) → IsOver reading b b' machine ask held → b'.plans ≡ b.plans
+  pub over-plans : (b b' : BoardValue N) (machine : Machine) (ask : Ask) (held : Option HeldList) → IsOver reading b b' machine ask held → b'.plans ≡ b.plans
   over-plans b b' machine ask None back = back.loaded.plans
   over-plans b b' machine ask (Some held) since = since.loaded.plans
 
-  over-ask : (b b' : BoardValue N) (machine : Machine) (ask : Ask) (held : Option Held) → IsOver reading b b' machine ask held → b'.ask ≡ b.ask
+  over-ask : (b b' : BoardValue N) (machine : Machine) (ask : Ask) (held : Option HeldList) → IsOver reading b b' machine ask held → b'.ask ≡ b.ask
   over-ask b b' machine ask None back = back.loaded.ask
   over-ask b b' machine ask (Some held) since = since.loaded.ask
 
   -- the board stands on the machine
-  over-stands : (b b' : BoardValue N) (machine : Machine) (ask : Ask) (held : Option Held) → IsReady reading b machine ask → IsOver reading b b' machine ask held → Stands reading b' machine
+  over-stands : (b b' : BoardValue N) (machine : Machine) (ask : Ask) (held : Option HeldList) → IsReady reading b machine ask → IsOver reading b b' machine ask held → Stands reading b' machine
   over-stands b b' machine ask None ready back = back.stands ready.stands
   over-stands b b' machine ask (Some held) ready since = since.stands
 
   -- the plans are legal, and the ask can be put on them
-  pub over-legal : (b b' : BoardValue N) (machine : Machine) (ask : Ask) (held : Option Held) → IsReady reading b machine ask → IsOver reading b b' machine ask held → IsLegal machine b'.plans
+  pub over-legal : (b b' : BoardValue N) (machine : Machine) (ask : Ask) (held : Option HeldList) → IsReady reading b machine ask → IsOver reading b b' machine ask held → IsLegal machine b'.plans
   over-legal b b' machine ask held ready over = stands-legal reading b' machine (over-stands b b' machine ask held ready over)
 
-  pub over-asked : (b b' : BoardValue N) (machine : Machine) (ask : Ask) (held : Option Held) → IsReady reading b machine ask → IsOver reading b b' machine ask held → b'.ask ≡ Some ask
+  pub over-asked : (b b' : BoardValue N) (machine : Machine) (ask : Ask) (held : Option HeldList) → IsReady reading b machine ask → IsOver reading b b' machine ask held → b'.ask ≡ Some ask
   over-asked b b' machine ask held ready over = over-ask b b' machine ask held over ∙ ready.asked
 
-  pub over-can_ask : (b b' : BoardValue N) (machine : Machine) (ask : Ask) (held : Option Held) → IsReady reading b machine ask → IsOver reading b b' machine ask held → IsAsked machine b'.plans ask
+  pub over-can_ask : (b b' : BoardValue N) (machine : Machine) (ask : Ask) (held : Option HeldList) → IsReady reading b machine ask → IsOver reading b b' machine ask held → IsAsked machine b'.plans ask
   over-can_ask b b' machine ask held ready over = stands-asked reading b' machine ask (over-stands b b' machine ask held ready over) (over-asked b b' machine ask held ready over)
 
   -- a board that is back has a spare mark where it had one

@@ -26,7 +26,7 @@ use Rattle.tp_search.specs.Outcomes.{CanLay, CanOpen, IsAllOpened}
 use Rattle.tp_search.specs.Searching.{IsBestLater, IsNext, IsSameSpace, IsSearching, next_bound, next_list, next_node, opening_of, still_to_take}
 use Rattle.tp_search.specs.Stores.{HasBounds, StoreGrows, StoreValue}
 use Rattle.tp_search.specs.declared.goals.OpenGoal.{OpenGoal}
-use Rattle.tp_search.specs.declared.holding.Held.{Held}
+use Rattle.tp_search.specs.declared.holding.HeldList.{HeldList}
 use Rattle.tp_search.specs.declared.opening.Opening.{Opening}
 use Rattle.tp_search.specs.declared.taking.Next.{Next}
 use Rattle.tp_search.specs.declared.taking.Next.TheVariants.{Goal, Node}
@@ -149,7 +149,7 @@ module _ (machine : Machine) (plans : List Plan) (ask : Ask) (goals : List OpenG
           (searching-on machine plans ask goals s bound goals' s' next o s'' searching is-next incomplete parent_bound same all.progress not-full)
 
       -- a board that carries the list holds it: what was stored since are its children
-      pub step-holds : {N : Type 0} (reading : Reading N) (b : BoardValue N) (held : Held) → HasList reading b machine ask held.laid.first (next_list machine s' next) → held.stored ≡ length s'.entries
+      pub step-holds : {N : Type 0} (reading : Reading N) (b : BoardValue N) (held : HeldList) → HasList reading b machine ask held.laid.first (next_list machine s' next) → held.stored ≡ length s'.entries
           → HoldsList reading b machine ask s'' held
       step-holds reading b held laid stored = record {
         goal = (next_list machine s next).goal;

@@ -15,7 +15,7 @@ use Rattle.tp_search.specs.Boards.{HasMarks, IsBack}
 use Rattle.tp_search.specs.Following.{HasList, IsWayTo}
 use Rattle.tp_search.specs.Stored.{choices_by}
 use Rattle.tp_search.specs.Stores.{StoreValue}
-use Rattle.tp_search.specs.declared.holding.Held.{Held}
+use Rattle.tp_search.specs.declared.holding.HeldList.{HeldList}
 use Rattle.tp_search.specs.declared.holding.Root.{Root}
 
 -- these choices are those before and one more, for the same goal
@@ -26,7 +26,7 @@ pub record IsOneMore (goal : State) (before choices : List Stored) : Type 0 wher
 
 module _ {N : Type 0} (reading : Reading N) where
   -- the board carries the held list, and each list that was stored since is a child of it
-  pub record HoldsList (b : BoardValue N) (machine : Machine) (ask : Ask) (s : StoreValue) (held : Held) : Type 0 where
+  pub record HoldsList (b : BoardValue N) (machine : Machine) (ask : Ask) (s : StoreValue) (held : HeldList) : Type 0 where
     pub goal : State
     pub before : List Stored
     pub laid : HasList reading b machine ask held.laid.first (going goal (choices_by machine before))
@@ -59,6 +59,6 @@ module _ {N : Type 0} (reading : Reading N) where
     pub stands : Stands reading b' machine
 
   -- the second board is back where the first one was, or has a list that was laid since a mark on that one
-  abbrev pub IsOver : BoardValue N → BoardValue N → Machine → Ask → Option Held → Type 0
+  abbrev pub IsOver : BoardValue N → BoardValue N → Machine → Ask → Option HeldList → Type 0
   IsOver b b' machine ask None = IsBack reading b b' machine
   IsOver b b' machine ask (Some held) = IsLaidSince b b' machine ask held.base.0 held.root

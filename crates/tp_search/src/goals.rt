@@ -15,7 +15,7 @@ ghost use Rattle.tp_search.specs.Searching.{AreOpenGoals, list_of_goal};
 ghost use Rattle.tp_search.specs.Stores.{StoreValue};
 
 use crate::following::Laid;
-use crate::holding::{Held, mark_goal};
+use crate::holding::{HeldList, mark_goal};
 use crate::problem::Problem;
 use crate::states::goal_at;
 use tp_base::{Late, Mark, Network, Tick, Undo};
@@ -33,14 +33,14 @@ pub(crate) struct OpenGoal {
 
 /// An open goal whose list a board carries since a mark.
 #[derive(Clone, Copy)]
-struct Opened {
+struct CarriedGoal {
     goal: OpenGoal,
     base: Mark,
 }
 
 /// Opens the goal, where it is a goal state of the ask and its list is open: the board carries the list then. Else the board is
 /// as it was.
-fn open_at<N: Network>(board: &mut Board<N>, problem: Problem, state: State) -> Option<Opened>
+fn open_at<N: Network>(board: &mut Board<N>, problem: Problem, state: State) -> Option<CarriedGoal>
     requires posed { IsPosed problem }
     requires known { state.loc.0 < length problem.machine.now.locations }
     requires kept { kept_of problem.ask.now ≤ most_acts }
@@ -69,7 +69,7 @@ fn open_at<N: Network>(board: &mut Board<N>, problem: Problem, state: State) -> 
     match board.open_goal(goal.room) {
         Ok(()) => {
             let bound = board.end_bound();
-            Some(Opened {
+            Some(CarriedGoal {
                 goal: OpenGoal { state, bound },
                 base,
             })
@@ -135,7 +135,7 @@ fn find_finished<N: Network>(
     board: &mut Board<N>,
     problem: Problem,
     state: State,
-) -> Option<Held>
+) -> Option<HeldList>
     requires posed { IsPosed problem }
     requires known { state.loc.0 < length problem.machine.now.locations }
     requires kept { kept_of problem.ask.now ≤ most_acts }
@@ -159,7 +159,7 @@ fn find_finished<N: Network>(
     };
     goals.push_reserved(opened.goal);
     let root = mark_goal(board, state);
-    Some(Held {
+    Some(HeldList {
         base: opened.base,
         root,
         laid: Laid {
@@ -175,7 +175,7 @@ pub(crate) fn find_goals<N: Network>(
     goals: &mut Vec<OpenGoal>,
     board: &mut Board<N>,
     problem: Problem,
-) -> Option<Held>
+) -> Option<HeldList>
     requires posed { IsPosed problem }
     requires goal { IsKnownGoal problem.machine.now problem.ask.now.goal }
     requires kept { kept_of problem.ask.now ≤ most_acts }

@@ -31,7 +31,7 @@ pub(crate) struct Root {
 /// A list that a board carries since a mark, with the mark at its goal, if there is one, and how many lists were stored before
 /// its children.
 #[derive(Clone, Copy)]
-pub(crate) struct Held {
+pub(crate) struct HeldList {
     pub(crate) base: Mark,
     pub(crate) root: Option<Root>,
     pub(crate) laid: Laid,
@@ -39,7 +39,7 @@ pub(crate) struct Held {
 }
 
 /// Takes the held list off the board, if there is one.
-pub(crate) fn take_off<N: Network>(board: &mut Board<N>, held: Option<Held>)
+pub(crate) fn take_off<N: Network>(board: &mut Board<N>, held: Option<HeldList>)
     requires over { (b : BoardValue N) × (machine : Machine) × (ask : Ask)
         × IsOver N.reading b board.old machine ask held }
     ensures back { (b : BoardValue N) (machine : Machine) (ask : Ask)
@@ -54,7 +54,7 @@ pub(crate) fn take_off<N: Network>(board: &mut Board<N>, held: Option<Held>)
 }
 
 /// Takes the held list off the board, if there is one, and sets a mark.
-pub(crate) fn mark_anew<N: Network>(board: &mut Board<N>, held: Option<Held>) -> Mark
+pub(crate) fn mark_anew<N: Network>(board: &mut Board<N>, held: Option<HeldList>) -> Mark
     requires over { (b : BoardValue N) × (machine : Machine) × (ask : Ask)
         × HasMarks N.reading 1 b
         × IsOver N.reading b board.old machine ask held }
@@ -110,8 +110,8 @@ fn lay_anew<N: Network>(
     board: &mut Board<N>,
     problem: Problem,
     next: &Next,
-    held: Option<Held>,
-) -> Held
+    held: Option<HeldList>,
+) -> HeldList
     requires posed { IsPosed problem }
     requires over { (b : BoardValue N)
         × IsReady N.reading b problem.machine.now problem.ask.now
@@ -136,7 +136,7 @@ fn lay_anew<N: Network>(
 {
     let base = mark_anew(board, held);
     let laid = lay_list(store, board, problem, next);
-    Held {
+    HeldList {
         base,
         root: None,
         laid,
@@ -150,8 +150,8 @@ fn lay_child<N: Network>(
     board: &mut Board<N>,
     problem: Problem,
     node: u32,
-    held: Held,
-) -> Held
+    held: HeldList,
+) -> HeldList
     requires posed { IsPosed problem }
     requires holds { HoldsList N.reading board.old problem.machine.now problem.ask.now
         store.now held }
@@ -171,7 +171,7 @@ fn lay_child<N: Network>(
     let depth = store.depth(node);
     let choice = store.choice_at(node, depth);
     let first = lay(board, problem, held.laid.first, &choice);
-    Held {
+    HeldList {
         base: held.base,
         root: held.root,
         laid: Laid {
@@ -195,7 +195,12 @@ fn goal_mark(root: Option<Root>, goal: State) -> Option<Mark>
 }
 
 /// Leaves the list of this goal without choices on the board, since a mark: the one that it has, or one that is opened anew.
-fn back_to_goal<N: Network>(board: &mut Board<N>, problem: Problem, goal: State, held: Held) -> Mark
+fn back_to_goal<N: Network>(
+    board: &mut Board<N>,
+    problem: Problem,
+    goal: State,
+    held: HeldList,
+) -> Mark
     requires posed { IsPosed problem }
     requires over { (b : BoardValue N)
         × IsReady N.reading b problem.machine.now problem.ask.now
@@ -247,8 +252,8 @@ fn lay_goal<N: Network>(
     board: &mut Board<N>,
     problem: Problem,
     goal: State,
-    held: Held,
-) -> Held
+    held: HeldList,
+) -> HeldList
     requires posed { IsPosed problem }
     requires over { (b : BoardValue N)
         × IsReady N.reading b problem.machine.now problem.ask.now
@@ -270,7 +275,7 @@ fn lay_goal<N: Network>(
 {
     let base = back_to_goal(board, problem, goal, held);
     let root = mark_goal(board, goal);
-    Held {
+    HeldList {
         base,
         root,
         laid: Laid {
@@ -287,8 +292,8 @@ fn lay_over_goal<N: Network>(
     board: &mut Board<N>,
     problem: Problem,
     node: u32,
-    held: Held,
-) -> Held
+    held: HeldList,
+) -> HeldList
     requires posed { IsPosed problem }
     requires over { (b : BoardValue N)
         × IsReady N.reading b problem.machine.now problem.ask.now
@@ -316,7 +321,7 @@ fn lay_over_goal<N: Network>(
     let goal = goal_of(store, node);
     let over = lay_goal(store, board, problem, goal, held);
     let first = lay_choices(store, board, problem, node, goal);
-    Held {
+    HeldList {
         base: over.base,
         root: over.root,
         laid: Laid {
@@ -333,8 +338,8 @@ pub(crate) fn lay_next<N: Network>(
     board: &mut Board<N>,
     problem: Problem,
     next: &Next,
-    held: Option<Held>,
-) -> Held
+    held: Option<HeldList>,
+) -> HeldList
     requires posed { IsPosed problem }
     requires over { (b : BoardValue N)
         × IsReady N.reading b problem.machine.now problem.ask.now

@@ -16,7 +16,7 @@ ghost use Rattle.tp_search.specs.Stores.{StoreGrows};
 use crate::children::open_list;
 use crate::following::{Laid, follow};
 use crate::goals::OpenGoal;
-use crate::holding::{Held, lay_next, mark_anew, take_off};
+use crate::holding::{HeldList, lay_next, mark_anew, take_off};
 use crate::opening::Opening;
 use crate::problem::Problem;
 use crate::store::Store;
@@ -139,7 +139,7 @@ fn step<N: Network>(
     store: &mut Store,
     board: &mut Board<N>,
     problem: Problem,
-    held: &mut Option<Held>,
+    held: &mut Option<HeldList>,
     barred: &mut Option<Tick>,
 ) -> Option<Outcome>
     requires posed { IsPosed problem }
@@ -209,7 +209,7 @@ pub(crate) fn search<N: Network>(
     store: &mut Store,
     board: &mut Board<N>,
     problem: Problem,
-    begun: Option<Held>,
+    begun: Option<HeldList>,
 ) -> Outcome
     requires posed { IsPosed problem }
     requires goal { IsKnownGoal problem.machine.now problem.ask.now.goal }

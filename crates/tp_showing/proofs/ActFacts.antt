@@ -28,7 +28,7 @@ use Rattle.tp_trees.specs.Trees.{dead_look}
 use Rattle.tp_trees.proofs.Befores.{before-is}
 use Rattle.tp_trees.proofs.RowFacts.{state-is}
 use Rattle.tp_showing.specs.Showing.{Adds, PutsNode, Shows, branch_by}
-use Rattle.tp_showing.specs.declared.scene.Branch.{Branch}
+use Rattle.tp_showing.specs.declared.scene.ShowBranch.{ShowBranch}
 use Rattle.tp_showing.proofs.AddFacts.{adds-node, node-look}
 
 find-passes : {X : Type 0} (test : X → Bool) (xs : List X) (x : X) → find test xs ≡ Some x → test x ≡ true
@@ -73,11 +73,11 @@ allowed-is machine outs act a r e = go (slice_get machine.actions act.0) e where
   go (Some x) f h = sym h
 
 -- a branch one action deeper, from a state
-abbrev pub opened_below : Branch → ActId → State → Branch
+abbrev pub opened_below : ShowBranch → ActId → State → ShowBranch
 opened_below r act s = record { depth = r.depth + 1; first = s; count = r.count + 1; newest = Some act; places = 0 }
 
 module _ (machine : Machine) (plans : List Plan) (ask : Ask) (rows : List TreeRow) where
-  pub due-by : (r : Branch) (x : Suffix) (act : ActId) (o : Option State) → o ≡ cond (is_act_allowed machine ask.outs act) (state_before ask.want r.first (action_at machine act.0)) None
+  pub due-by : (r : ShowBranch) (x : Suffix) (act : ActId) (o : Option State) → o ≡ cond (is_act_allowed machine ask.outs act) (state_before ask.want r.first (action_at machine act.0)) None
       → action_due machine plans ask rows (branch_by r x) act ≡ due_from machine plans ask rows (branch_by r x) act o
   due-by r x act o e = go (is_act_allowed machine ask.outs act) e where
     go : (t : Bool) → o ≡ cond t (state_before ask.want r.first (action_at machine act.0)) None
@@ -85,13 +85,13 @@ module _ (machine : Machine) (plans : List Plan) (ask : Ask) (rows : List TreeRo
     go true f = ap (due_from machine plans ask rows (branch_by r x) act) (sym f)
     go false f = ap (due_from machine plans ask rows (branch_by r x) act) (sym f)
 
-  pub act-stands : (r : Branch) (x : Suffix) (act : ActId) (s : State) (name : List ℕ) (room : ℕ) → is_name_of_act machine plans ask rows name (action_at machine act.0) ≡ true → or_zero (row_of machine rows s) ≡ room
+  pub act-stands : (r : ShowBranch) (x : Suffix) (act : ActId) (s : State) (name : List ℕ) (room : ℕ) → is_name_of_act machine plans ask rows name (action_at machine act.0) ≡ true → or_zero (row_of machine rows s) ≡ room
       → stand_of machine plans ask rows (action (branch_by r x) act s) (ActHead name) ≡ Some (record { branch = branch_by (opened_below r act s) (with_action act room x); span = None })
   act-stands r x act s name room named at =
       let deeper : suc r.depth ≡ r.depth + 1 = sym (add-one r.depth) in
       rw named (λ i. Some (record { branch = record { depth = deeper i; first = s; x = with_action act (at i) x }; span = None }))
 
-module _ (machine : Machine) (plans : List Plan) (ask : Ask) (sums : List (Option ℕ)) (limit : ℕ) (old new : List Node) (r : Branch) (x : Suffix) (act : ActId) (s : State) (name : List ℕ)
+module _ (machine : Machine) (plans : List Plan) (ask : Ask) (sums : List (Option ℕ)) (limit : ℕ) (old new : List Node) (r : ShowBranch) (x : Suffix) (act : ActId) (s : State) (name : List ℕ)
     (named : (rows : List TreeRow) → is_name_of_act machine plans ask rows name (action_at machine act.0) ≡ true) (known : s.loc.0 < length machine.locations)
     (is : Some s ≡ cond (is_act_allowed machine ask.outs act) (state_before ask.want r.first (action_at machine act.0)) None) where
   pub act-shows : (room : ℕ) → sum_at sums (number_of s) ≡ Some room → (more : List TreeRow → List Due) → PutsNode machine plans ask limit old new (branch_by (opened_below r act s) (with_action act room x)) (ActHead name) more
@@ -108,6 +108,6 @@ module _ (machine : Machine) (plans : List Plan) (ask : Ask) (sums : List (Optio
       (adds-node machine plans ask rows (pos limit) (action (branch_by r x) act s) n old new []
       (node-look machine plans ask rows (pos limit) (action (branch_by r x) act s) n (branch_by (opened_below r act s) (with_action act 0 x)) [] (act-stands machine plans ask rows r x act s name 0 (named rows) (ap or_zero none)) refl (ap (dead_look true) none)) put (omega arith))
 
-pub skipped-shows : (machine : Machine) (plans : List Plan) (ask : Ask) (sums : List (Option ℕ)) (limit : ℕ) (old : List Node) (r : Branch) (x : Suffix) (act : ActId)
+pub skipped-shows : (machine : Machine) (plans : List Plan) (ask : Ask) (sums : List (Option ℕ)) (limit : ℕ) (old : List Node) (r : ShowBranch) (x : Suffix) (act : ActId)
     → None ≡ cond (is_act_allowed machine ask.outs act) (state_before ask.want r.first (action_at machine act.0)) None → Shows machine plans ask sums limit old old (λ rows. action_due machine plans ask rows (branch_by r x) act) (λ _. [])
 skipped-shows machine plans ask sums limit old r x act is rows has = subst (λ ds. Adds machine plans ask rows (pos limit) ds old old []) (sym (due-by machine plans ask rows r x act None is)) (λ start rest lead. lead)

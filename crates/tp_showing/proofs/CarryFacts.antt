@@ -33,7 +33,7 @@ use Rattle.tp_ways.specs.Ways.{IsPlaced, IsWay}
 use Rattle.tp_ways.proofs.WaySteps.{action-way, place-way}
 use Rattle.tp_showing.specs.Closes.{IsEndRefused, IsRefused, IsStopRefused}
 use Rattle.tp_showing.specs.Showing.{Carries, IsNewest, IsOpen, below, branch_by, hold_after, hold_of, kids_of, or_no_dues}
-use Rattle.tp_showing.specs.declared.scene.Branch.{Branch}
+use Rattle.tp_showing.specs.declared.scene.ShowBranch.{ShowBranch}
 use Rattle.tp_showing.proofs.TellFacts.{get-within}
 
 -- the next hold of a branch is that of its suffix
@@ -49,7 +49,7 @@ newest-act machine (Some act) places [] h = absurd h
 newest-act machine (Some act) places (c ∷ choices) h = h.2
 
 -- an open branch has its children
-pub split-closes : (machine : Machine) (plans : List Plan) (ask : Ask) (rows : List TreeRow) (limit : ℤ) (r : Branch) (x : Suffix) (head : Head) → x.stopped ≡ false → hold_of machine r ≡ rule_in machine x.choices → IsOpen machine ask r
+pub split-closes : (machine : Machine) (plans : List Plan) (ask : Ask) (rows : List TreeRow) (limit : ℤ) (r : ShowBranch) (x : Suffix) (head : Head) → x.stopped ≡ false → hold_of machine r ≡ rule_in machine x.choices → IsOpen machine ask r
     → close_look machine plans ask rows limit (record { branch = branch_by r x; span = None }) head Split ≡ due (kids_of machine plans ask rows (branch_by r x))
 split-closes machine plans ask rows limit r x head going same may =
     let c = can (rule_in machine x.choices) refl in ap split_look (some-kids (children machine plans ask rows (record { branch = branch_by r x; span = None })) c.0 c.1) where
@@ -65,14 +65,14 @@ module _ {N : Type 0} (reading : Reading N) (refutes : N → Net → Type 0) (ma
   pub suffix-same : (b b' : BoardValue N) → content_of reading b' ≡ content_of reading b → suffix_of b' ≡ suffix_of b
   suffix-same b b' e = ap (λ (k : BoardContent). suffix_after k.steps) e
 
-  pub end-refused : (b b' : BoardValue N) (r : Branch) (x : Suffix) (last : ℕ) → Carries reading machine ask b r x → content_of reading b' ≡ content_of reading b
+  pub end-refused : (b b' : BoardValue N) (r : ShowBranch) (x : Suffix) (last : ℕ) → Carries reading machine ask b r x → content_of reading b' ≡ content_of reading b
       → IsSomeAnd (suffix_of b') (λ y. HasEndReason refutes machine b' y last) → IsEndRefused refutes machine b' x last
   end-refused b b' r x last c same shown =
       let few = c.few in
       record { going = c.going; few = omega (arith, few); shown = subst (λ o. IsSomeAnd o (λ y. HasEndReason refutes machine b' y last)) (suffix-same b b' same ∙ c.carried) shown }
 
   -- ---- one place more
-  pub may-place : (b : BoardValue N) (r : Branch) (x : Suffix) (rule : HoldRule) (place : ℕ) → Carries reading machine ask b r x → hold_of machine r ≡ Some rule → place ≤ length (order_in machine b.plans x rule.resource.0)
+  pub may-place : (b : BoardValue N) (r : ShowBranch) (x : Suffix) (rule : HoldRule) (place : ℕ) → Carries reading machine ask b r x → hold_of machine r ≡ Some rule → place ≤ length (order_in machine b.plans x rule.resource.0)
       → CanPlace machine b.plans x r.places place
   may-place b r x rule place c next within = go r.newest x.choices refl refl c.newest next where
     go : (act : Option ActId) (choices : List Choice) → r.newest ≡ act → x.choices ≡ choices → IsNewest machine act r.places choices → hold_after machine act r.places ≡ Some rule → CanPlace machine b.plans x r.places place
@@ -88,7 +88,7 @@ module _ {N : Type 0} (reading : Reading N) (refutes : N → Net → Type 0) (ma
       within = within;
     }
 
-  pub carries-place : (b b' : BoardValue N) (r child : Branch) (x : Suffix) (rule : HoldRule) (place : ℕ) → Carries reading machine ask b r x → hold_of machine r ≡ Some rule
+  pub carries-place : (b b' : BoardValue N) (r child : ShowBranch) (x : Suffix) (rule : HoldRule) (place : ℕ) → Carries reading machine ask b r x → hold_of machine r ≡ Some rule
       → place ≤ length (order_in machine b.plans x rule.resource.0) → IsSameLoad b b'
       → IsSomeAnd (suffix_of b) (λ y. suffix_of b' ≡ Some (with_place place y)) → child ≡ record { depth = r.depth + 1; first = r.first; count = r.count; newest = r.newest; places = r.places + 1 }
       → Carries reading machine ask b' child (with_place place x) × (below child < below r)
@@ -96,7 +96,7 @@ module _ {N : Type 0} (reading : Reading N) (refutes : N → Net → Type 0) (ma
       let can = may-place b r x rule place c next within in
       let fresh = holds-left r.newest r.places x.choices c.newest next in
       let few = c.few_places in
-      subst (λ (k : Branch). Carries reading machine ask b' k (with_place place x) × (below k < below r)) (sym is) (
+      subst (λ (k : ShowBranch). Carries reading machine ask b' k (with_place place x) × (below k < below r)) (sym is) (
         record {
           carried = subst (λ o. IsSomeAnd o (λ y. suffix_of b' ≡ Some (with_place place y))) c.carried put;
           going = c.going;
@@ -130,14 +130,14 @@ module _ {N : Type 0} (reading : Reading N) (refutes : N → Net → Type 0) (ma
           go (Some a) u v = let w = get-within a.holds places rule v in let most = (is_machine machine).few_holds act.0 a u in omega (arith, w, most)
 
   -- ---- one action more
-  pub carries-act : (b b' : BoardValue N) (r child : Branch) (x : Suffix) (act : ActId) (room : ℕ) (state : State) → Carries reading machine ask b r x → act.0 < length machine.actions → state.loc.0 < length machine.locations
+  pub carries-act : (b b' : BoardValue N) (r child : ShowBranch) (x : Suffix) (act : ActId) (room : ℕ) (state : State) → Carries reading machine ask b r x → act.0 < length machine.actions → state.loc.0 < length machine.locations
       → kept_of ask + length x.choices < 64 → IsPlaced machine x.choices → step_by machine ask.want act state ≡ Some r.first → IsTrue (is_act_allowed machine ask.outs act) → IsRoom machine ask state room → IsSameLoad b b'
       → IsSomeAnd (suffix_of b) (λ y. suffix_of b' ≡ Some (with_action act room y)) → child ≡ record { depth = r.depth + 1; first = state; count = r.count + 1; newest = Some act; places = 0 }
       → Carries reading machine ask b' child (with_action act room x) × (below child < below r)
   carries-act b b' r child x act room state c known at fewer placed step allowed is_room load put is =
       let few = c.few_places in
       let count = c.count in
-      subst (λ (k : Branch). Carries reading machine ask b' k (with_action act room x) × (below k < below r)) (sym is) (
+      subst (λ (k : ShowBranch). Carries reading machine ask b' k (with_action act room x) × (below k < below r)) (sym is) (
         record {
           carried = subst (λ o. IsSomeAnd o (λ y. suffix_of b' ≡ Some (with_action act room y))) c.carried put;
           going = c.going;
@@ -154,7 +154,7 @@ module _ {N : Type 0} (reading : Reading N) (refutes : N → Net → Type 0) (ma
         omega (arith, few, count, fewer),
       )
 
-  pub place-refused : (b b' : BoardValue N) (r : Branch) (x : Suffix) (place : ℕ) → Carries reading machine ask b r x → IsSomeAnd (suffix_of b) (λ y. HasReason refutes machine b' (with_place place y)) → IsRefused refutes machine b' (with_place place x)
+  pub place-refused : (b b' : BoardValue N) (r : ShowBranch) (x : Suffix) (place : ℕ) → Carries reading machine ask b r x → IsSomeAnd (suffix_of b) (λ y. HasReason refutes machine b' (with_place place y)) → IsRefused refutes machine b' (with_place place x)
   place-refused b b' r x place c shown =
       let few = c.few in
       record { going = c.going; few = let l = same-length x.choices in omega (arith, few, l); shown = subst (λ o. IsSomeAnd o (λ y. HasReason refutes machine b' (with_place place y))) c.carried shown } where
@@ -162,18 +162,18 @@ module _ {N : Type 0} (reading : Reading N) (refutes : N → Net → Type 0) (ma
         same-length [] = refl
         same-length (k ∷ cs) = refl
 
-  pub stop-refused : (b b' : BoardValue N) (r : Branch) (x : Suffix) → Carries reading machine ask b r x → content_of reading b' ≡ content_of reading b
+  pub stop-refused : (b b' : BoardValue N) (r : ShowBranch) (x : Suffix) → Carries reading machine ask b r x → content_of reading b' ≡ content_of reading b
       → IsSomeAnd (suffix_of b) (λ y. HasReason refutes machine b' (with_stop y)) → IsStopRefused refutes machine b' x
   stop-refused b b' r x c same shown =
       let few = c.few in
       record { carried = suffix-same b b' same ∙ c.carried; few = omega (arith, few); shown = subst (λ o. IsSomeAnd o (λ y. HasReason refutes machine b' (with_stop y))) c.carried shown }
 
-  pub act-refused : (b b' : BoardValue N) (r : Branch) (x : Suffix) (act : ActId) (room : ℕ) → Carries reading machine ask b r x → kept_of ask + length x.choices < 64
+  pub act-refused : (b b' : BoardValue N) (r : ShowBranch) (x : Suffix) (act : ActId) (room : ℕ) → Carries reading machine ask b r x → kept_of ask + length x.choices < 64
       → IsSomeAnd (suffix_of b) (λ y. HasReason refutes machine b' (with_action act room y)) → IsRefused refutes machine b' (with_action act room x)
   act-refused b b' r x act room c fewer shown = record { going = c.going; few = omega (arith, fewer); shown = subst (λ o. IsSomeAnd o (λ y. HasReason refutes machine b' (with_action act room y))) c.carried shown }
 
 -- the resource of the next hold is one of the machine's
-pub hold-known : (machine : Machine) (r : Branch) (rule : HoldRule) → hold_of machine r ≡ Some rule → rule.resource.0 < length machine.resources
+pub hold-known : (machine : Machine) (r : ShowBranch) (rule : HoldRule) → hold_of machine r ≡ Some rule → rule.resource.0 < length machine.resources
 hold-known machine r rule e = go r.newest e where
   act-known : (act : ActId) (o : Option Action) → action_at machine act.0 ≡ o → slice_get (holds_of_act o) r.places ≡ Some rule → rule.resource.0 < length machine.resources
   act-known act None u v = absurd cc

@@ -24,7 +24,7 @@ use Rattle.tp_placing.specs.Causes.{kind_of, limit_tag}
 use Rattle.tp_placing.specs.Edges.{edge_of}
 use Rattle.tp_placing.specs.Reasons.{HasEndReason, HasReason, IsEndReason, IsReason, with_limit}
 use Rattle.tp_placing.specs.Standing.{AreFewSteps, IsNetOf, Stands, StandsOn, table_with}
-use Rattle.tp_placing.specs.declared.causes.Cause.TheVariants.{Limit}
+use Rattle.tp_placing.specs.declared.causes.EdgeCause.TheVariants.{Limit}
 use Rattle.tp_placing.proofs.StandFacts.{some-and}
 use Rattle.tp_placing.proofs.TableFacts.{length-table}
 use Rattle.tp_trees.specs.Places.{Branch}

@@ -40,7 +40,7 @@ use Rattle.tp_ways.proofs.WayEnds.{start-complete}
 use Rattle.tp_ways.proofs.WayMeets.{stop-ends}
 use Rattle.tp_ways.proofs.WaySteps.{stop-way}
 use Rattle.tp_showing.specs.Showing.{Carries, IsEarlyEnd, IsNewest, IsSet, hold_after, hold_of}
-use Rattle.tp_showing.specs.declared.scene.Branch.{Branch}
+use Rattle.tp_showing.specs.declared.scene.ShowBranch.{ShowBranch}
 use Rattle.tp_showing.specs.declared.scene.NotShown.{NotShown}
 use Rattle.tp_showing.specs.declared.scene.NotShown.TheVariants.{Memory}
 
@@ -91,7 +91,7 @@ module _ {N : Type 0} (reading : Reading N) (machine : Machine) (ask : Ask) (b :
       let at = two.there in
       record { ticks = two.ticks; are_times = two.are_times; by = omega (arith, at, le) }
 
-  module _ (set : IsSet reading machine ask b) (r : Branch) (x : Suffix) (c : Carries reading machine ask b r x) (none : hold_of machine r ≡ None) where
+  module _ (set : IsSet reading machine ask b) (r : ShowBranch) (x : Suffix) (c : Carries reading machine ask b r x) (none : hold_of machine r ≡ None) where
     pub has-places : IsPlaced machine x.choices
     has-places = branch-placed machine _ r.newest r.places x.choices c.newest none c.way.places
 

@@ -26,8 +26,8 @@ use Rattle.tp_placing.specs.Causes.{IsNamedHop, kind_of, limit_tag, numbered}
 use Rattle.tp_placing.specs.Edges.{edge_of}
 use Rattle.tp_placing.specs.Reasons.{IsPart, with_limit}
 use Rattle.tp_placing.specs.Standing.{table_with}
-use Rattle.tp_placing.specs.declared.causes.Cause.{Cause}
-use Rattle.tp_placing.specs.declared.causes.Cause.TheVariants.{Limit}
+use Rattle.tp_placing.specs.declared.causes.EdgeCause.{EdgeCause}
+use Rattle.tp_placing.specs.declared.causes.EdgeCause.TheVariants.{Limit}
 use Rattle.tp_placing.proofs.CauseFacts.{numbered-in}
 use Rattle.tp_trees.specs.Chains.{low, spot_of}
 use Rattle.tp_trees.specs.Chains.Led.{led}
@@ -59,7 +59,7 @@ index-before [] x i below = absurd (omega (arith, below))
 index-before (y ∷ xs) x zero below = refl
 index-before (y ∷ xs) x (suc i) below = index-before xs x i (omega (arith, below))
 
-module _ (machine : Machine) (plans : List Plan) (ask : Ask) (rows : List TreeRow) (b : Branch) (causes : List Cause) (final : ℕ) where
+module _ (machine : Machine) (plans : List Plan) (ask : Ask) (rows : List TreeRow) (b : Branch) (causes : List EdgeCause) (final : ℕ) where
   abbrev alone : Stand
   alone = record { branch = b; span = None }
 

@@ -26,7 +26,7 @@ use Rattle.tp_trees.proofs.Lists.{number-same}
 use Rattle.tp_ways.specs.Ends.{HasEndBy}
 use Rattle.tp_ways.specs.Ways.{IsWay}
 use Rattle.tp_showing.specs.Showing.{Adds, Carries, GoesOn, IsEarly, IsEntered, IsOpen, PutsNode, Shows, below, branch_by, kids_of}
-use Rattle.tp_showing.specs.declared.scene.Branch.{Branch}
+use Rattle.tp_showing.specs.declared.scene.ShowBranch.{ShowBranch}
 use Rattle.tp_showing.proofs.CarryFacts.{own-suffix, suffix-same}
 
 pub ok-three : {X E : Type 0} (P Q R : X → Type 0) (r : Result X E) → IfOk r P → IfOk r Q → IfOk r R → IfOk r (λ x. P x × (Q x × R x))
@@ -34,7 +34,7 @@ ok-three P Q R (Ok x) p q s = (p, (q, s))
 ok-three P Q R (Err e) p q s = tt
 
 -- a branch that the board carries is early on each board that is loaded the same
-pub early-at : {N : Type 0} → (machine : Machine) (plans : List Plan) (ask : Ask) (limit : ℕ) (b : BoardValue N) (y : Suffix) (o : Option Branch) → IfSome o (λ _. IsEarly machine ask limit b) → suffix_of b ≡ Some y → b.plans ≡ plans
+pub early-at : {N : Type 0} → (machine : Machine) (plans : List Plan) (ask : Ask) (limit : ℕ) (b : BoardValue N) (y : Suffix) (o : Option ShowBranch) → IfSome o (λ _. IsEarly machine ask limit b) → suffix_of b ≡ Some y → b.plans ≡ plans
     → IfSome o (λ _. HasEndBy machine plans ask y limit)
 early-at machine plans ask limit b y None early carried same = tt
 early-at machine plans ask limit b y (Some r) early carried same = subst (λ ps. HasEndBy machine ps ask y limit) same (early y carried)
@@ -43,14 +43,14 @@ pub early-on : {N : Type 0} → (machine : Machine) (plans : List Plan) (ask : A
 early-on machine plans ask limit b y carried same early = own-suffix (suffix_of b) y carried (λ x. HasEndBy machine b.plans ask x limit) (subst (λ ps. HasEndBy machine ps ask y limit) (sym same) early)
 
 -- a branch one place deeper
-abbrev pub placed_below : Branch → Branch
+abbrev pub placed_below : ShowBranch → ShowBranch
 placed_below r = record { depth = r.depth + 1; first = r.first; count = r.count; newest = r.newest; places = r.places + 1 }
 
 module _ (machine : Machine) (plans : List Plan) (ask : Ask) (rows : List TreeRow) where
   pub places-due : (b : places.Branch) (rule : HoldRule) (place : ℕ) → place ≤ length (order_in machine plans b.x rule.resource.0) → places_from machine plans ask rows b rule place ≡ places_due b rule place ∷ []
   places-due b rule place within = let t = le-to place (length (order_in machine plans b.x rule.resource.0)) within in rw t refl
 
-  pub place-stands : (r : Branch) (x : Suffix) (rule : HoldRule) (place : ℕ) (name : List ℕ) → is_name_of_resource machine plans ask rows name (slice_get machine.resources rule.resource.0) ≡ true → place ≤ length (order_in machine plans x rule.resource.0)
+  pub place-stands : (r : ShowBranch) (x : Suffix) (rule : HoldRule) (place : ℕ) (name : List ℕ) → is_name_of_resource machine plans ask rows name (slice_get machine.resources rule.resource.0) ≡ true → place ≤ length (order_in machine plans x rule.resource.0)
       → stand_of machine plans ask rows (places_due (branch_by r x) rule place) (AtHead name place place) ≡ Some (record { branch = branch_by (placed_below r) (with_place place x); span = None })
   place-stands r x rule place name named within =
       let a = number-same place in
@@ -60,7 +60,7 @@ module _ (machine : Machine) (plans : List Plan) (ask : Ask) (rows : List TreeRo
       rw (named, a, b, c) (ap (λ d. Some (record { branch = record { depth = d; first = r.first; x = with_place place x }; span = None })) deeper)
 
 -- the node of a place
-pub place-shows : (machine : Machine) (plans : List Plan) (ask : Ask) (sums : List (Option ℕ)) (limit : ℕ) (old new : List Node) (r : Branch) (x : Suffix) (rule : HoldRule) (place : ℕ) (name : List ℕ)
+pub place-shows : (machine : Machine) (plans : List Plan) (ask : Ask) (sums : List (Option ℕ)) (limit : ℕ) (old new : List Node) (r : ShowBranch) (x : Suffix) (rule : HoldRule) (place : ℕ) (name : List ℕ)
     → ((rows : List TreeRow) → is_name_of_resource machine plans ask rows name (slice_get machine.resources rule.resource.0) ≡ true) → place ≤ length (order_in machine plans x rule.resource.0)
     → (more : List TreeRow → List Due) → PutsNode machine plans ask limit old new (branch_by (placed_below r) (with_place place x)) (AtHead name place place) more
     → Shows machine plans ask sums limit old new (λ rows. places_from machine plans ask rows (branch_by r x) rule place) (λ rows. more rows ++ places_from machine plans ask rows (branch_by r x) rule (place + 1))
@@ -72,7 +72,7 @@ place-shows machine plans ask sums limit old new r x rule place name named withi
     (subst (λ ds. Adds machine plans ask rows (pos limit) (d ∷ []) old new (more rows ++ ds)) next adds)
 
 module _ {N : Type 0} (reading : Reading N) (machine : Machine) (plans : List Plan) (ask : Ask) (sums : List (Option ℕ)) (limit : ℕ) (old new : List Node) where
-  pub carries-same : (b b' : BoardValue N) (r : Branch) (x : Suffix) → content_of reading b' ≡ content_of reading b → b'.plans ≡ b.plans → Carries reading machine ask b r x
+  pub carries-same : (b b' : BoardValue N) (r : ShowBranch) (x : Suffix) → content_of reading b' ≡ content_of reading b → b'.plans ≡ b.plans → Carries reading machine ask b r x
       → Carries reading machine ask b' r x
   carries-same b b' r x same loaded c = record {
     carried = suffix-same reading (λ _ _. ⊥) machine ask b b' same ∙ c.carried;
@@ -88,7 +88,7 @@ module _ {N : Type 0} (reading : Reading N) (machine : Machine) (plans : List Pl
   }
 
   -- a node that is put is a way that is gone
-  pub enter-by : (o : Option Branch) (b b' : BoardValue N) (parent child : Branch) (y : Suffix) (head : Head) (ds behind : List TreeRow → List Due) → Carries reading machine ask b child y → content_of reading b' ≡ content_of reading b → b'.plans ≡ b.plans → below child < below parent
+  pub enter-by : (o : Option ShowBranch) (b b' : BoardValue N) (parent child : ShowBranch) (y : Suffix) (head : Head) (ds behind : List TreeRow → List Due) → Carries reading machine ask b child y → content_of reading b' ≡ content_of reading b → b'.plans ≡ b.plans → below child < below parent
       → ((more : List TreeRow → List Due) → PutsNode machine plans ask limit old new (branch_by child y) head more → Shows machine plans ask sums limit old new ds (λ rows. more rows ++ behind rows))
       → MatchOption o (PutsNode machine plans ask limit old new (branch_by child y) head (λ _. [])) (λ r. (r ≡ child) × PutsNode machine plans ask limit old new (branch_by child y) head (λ rows. kids_of machine plans ask rows (branch_by child y)))
       → IfSome o (λ _. IsOpen machine ask child) → IfSome o (λ _. HasEndBy machine plans ask y limit) → IsEntered reading machine plans ask sums limit old new b' parent ds behind o
@@ -104,7 +104,7 @@ module _ {N : Type 0} (reading : Reading N) (machine : Machine) (plans : List Pl
       })
 
 -- ---- the stop
-abbrev pub stopped_below : Branch → Suffix → places.Branch
+abbrev pub stopped_below : ShowBranch → Suffix → places.Branch
 stopped_below r x = record { depth = r.depth + 1; first = r.first; x = with_stop x }
 
 choice-there : (machine : Machine) (plans : List Plan) (ask : Ask) (rows : List TreeRow) (count : ℕ) (cs : List Choice) → count ≡ length cs → has_choice machine plans ask rows cs ≡ nat_lt 0 count
@@ -113,23 +113,23 @@ choice-there machine plans ask rows zero (k ∷ cs) e = absurd (omega (arith, e)
 choice-there machine plans ask rows (suc n) [] e = absurd (omega (arith, e))
 choice-there machine plans ask rows (suc n) (k ∷ cs) e = sym (lt-to 0 (suc n) (omega arith))
 
-pub stop-dues : (machine : Machine) (plans : List Plan) (ask : Ask) (rows : List TreeRow) (r : Branch) (x : Suffix) (t : Bool) → r.count ≡ length x.choices → (is_front_state ask.origin r.first && nat_lt 0 r.count) ≡ t
+pub stop-dues : (machine : Machine) (plans : List Plan) (ask : Ask) (rows : List TreeRow) (r : ShowBranch) (x : Suffix) (t : Bool) → r.count ≡ length x.choices → (is_front_state ask.origin r.first && nat_lt 0 r.count) ≡ t
     → stop_due machine plans ask rows (branch_by r x) ≡ cond t (stop (branch_by r x) ∷ []) []
 stop-dues machine plans ask rows r x t count is =
     let same : (is_front_state ask.origin r.first && has_choice machine plans ask rows x.choices) ≡ t = ap (λ c. is_front_state ask.origin r.first && c) (choice-there machine plans ask rows r.count x.choices count) ∙ is in
     ap (λ c. cond c (stop (branch_by r x) ∷ []) []) same
 
-pub stop-shows : (machine : Machine) (plans : List Plan) (ask : Ask) (sums : List (Option ℕ)) (limit : ℕ) (old new : List Node) (r : Branch) (x : Suffix) → r.count ≡ length x.choices → (is_front_state ask.origin r.first && nat_lt 0 r.count) ≡ true
+pub stop-shows : (machine : Machine) (plans : List Plan) (ask : Ask) (sums : List (Option ℕ)) (limit : ℕ) (old new : List Node) (r : ShowBranch) (x : Suffix) → r.count ≡ length x.choices → (is_front_state ask.origin r.first && nat_lt 0 r.count) ≡ true
     → PutsNode machine plans ask limit old new (stopped_below r x) StopHead (λ _. []) → Shows machine plans ask sums limit old new (λ rows. stop_due machine plans ask rows (branch_by r x)) (λ _. [])
 stop-shows machine plans ask sums limit old new r x count due put rows has =
     let deeper : suc r.depth ≡ r.depth + 1 = sym (add-one r.depth) in
     let stands : stand_of machine plans ask rows (stop (branch_by r x)) StopHead ≡ Some (record { branch = stopped_below r x; span = None }) = ap (λ d. Some (record { branch = record { depth = d; first = r.first; x = with_stop x }; span = None })) deeper in
     subst (λ ds. Adds machine plans ask rows (pos limit) ds old new []) (sym (stop-dues machine plans ask rows r x true count due)) (put rows (stop (branch_by r x)) stands)
 
-pub stop-front : (ask : Ask) (r : Branch) → (is_front_state ask.origin r.first && nat_lt 0 r.count) ≡ true → is_front_state ask.origin r.first ≡ true
+pub stop-front : (ask : Ask) (r : ShowBranch) → (is_front_state ask.origin r.first && nat_lt 0 r.count) ≡ true → is_front_state ask.origin r.first ≡ true
 stop-front ask r due = (and_parts (is_front_state ask.origin r.first) (nat_lt 0 r.count) due).0
 
-pub stop-some : (ask : Ask) (r : Branch) → (is_front_state ask.origin r.first && nat_lt 0 r.count) ≡ true → IsInFlight ask.origin × (0 < r.count)
+pub stop-some : (ask : Ask) (r : ShowBranch) → (is_front_state ask.origin r.first && nat_lt 0 r.count) ≡ true → IsInFlight ask.origin × (0 < r.count)
 stop-some ask r due =
     let both = and_parts (is_front_state ask.origin r.first) (nat_lt 0 r.count) due in
     (go ask.origin both.0, lt-is both.1) where

@@ -12,13 +12,13 @@ use Rattle.tp_schedule.specs.declared.parts.Ask.{Ask}
 use Rattle.tp_schedule.specs.declared.parts.Plan.{Plan}
 use Rattle.tp_constraints.specs.Gaps.{Gap, gap}
 use Rattle.tp_placing.specs.Causes.{numbered}
-use Rattle.tp_placing.specs.declared.causes.Cause.{Cause}
+use Rattle.tp_placing.specs.declared.causes.EdgeCause.{EdgeCause}
 use Rattle.tp_trees.specs.Chains.{Led, follow, gap_of, led_on}
 use Rattle.tp_trees.specs.Chains.Led.{led}
 use Rattle.tp_trees.specs.Places.{Stand}
 use Rattle.tp_showing.specs.Tellings.{IsTold, tell, told_then, told_until}
 
-module _ (machine : Machine) (plans : List Plan) (ask : Ask) (limit : ℤ) (s : Stand) (causes : List Cause) where
+module _ (machine : Machine) (plans : List Plan) (ask : Ask) (limit : ℤ) (s : Stand) (causes : List EdgeCause) where
   -- what is told of the edge is allowed there, and says the same
   abbrev pub IsAllowed : Edge → Type 0
   IsAllowed e = (k : TreeHop) → tell machine plans causes e ≡ Some k → gap_of machine plans ask limit s (numbered plans e.from.0) k ≡ Some (gap (numbered plans e.from.0) (numbered plans e.to.0) e.weight)

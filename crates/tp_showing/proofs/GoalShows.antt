@@ -26,12 +26,12 @@ use Rattle.tp_ways.specs.Ends.{HasEndBy}
 use Rattle.tp_ways.proofs.WaySteps.{goal-way}
 use Rattle.tp_showing.specs.RoomRows.{named}
 use Rattle.tp_showing.specs.Showing.{Adds, Carries, GoalGoesOn, IsGoalEntered, IsOpen, PutsNode, Shows, branch_by, kids_of}
-use Rattle.tp_showing.specs.declared.scene.Branch.{Branch}
+use Rattle.tp_showing.specs.declared.scene.ShowBranch.{ShowBranch}
 use Rattle.tp_showing.proofs.AddFacts.{adds-node, node-look}
 use Rattle.tp_showing.proofs.EnterFacts.{carries-same}
 use Rattle.tp_showing.proofs.RoomTables.{named-state}
 
-abbrev pub goal_below : State → Branch
+abbrev pub goal_below : State → ShowBranch
 goal_below s = record { depth = 0; first = s; count = 0; newest = None; places = 0 }
 
 module _ (machine : Machine) (plans : List Plan) (ask : Ask) (sums : List (Option ℕ)) (limit : ℕ) (old new : List Node) (s : State) (known : s.loc.0 < length machine.locations) where
@@ -58,7 +58,7 @@ module _ {N : Type 0} (reading : Reading N) (machine : Machine) (plans : List Pl
   carries-goal b s room known is_goal is_room kept carried =
       record { carried = carried; going = refl; count = refl; newest = refl; known = known; goal = s; way = goal-way machine b.plans ask s room is_goal is_room kept; few = omega (arith, kept); few_places = omega arith; deep = omega arith }
 
-  pub goal-by : (o : Option Branch) (b b' : BoardValue N) (s : State) (room : ℕ) → s.loc.0 < length machine.locations → sum_at sums (number_of s) ≡ Some room → Carries reading machine ask b (goal_below s) (with_goal room) → content_of reading b' ≡ content_of reading b → b'.plans ≡ b.plans
+  pub goal-by : (o : Option ShowBranch) (b b' : BoardValue N) (s : State) (room : ℕ) → s.loc.0 < length machine.locations → sum_at sums (number_of s) ≡ Some room → Carries reading machine ask b (goal_below s) (with_goal room) → content_of reading b' ≡ content_of reading b → b'.plans ≡ b.plans
       → MatchOption o (PutsNode machine plans ask limit old new (branch_by (goal_below s) (with_goal room)) (GoalHead (named machine s)) (λ _. []))
       (λ r. (r ≡ goal_below s) × PutsNode machine plans ask limit old new (branch_by (goal_below s) (with_goal room)) (GoalHead (named machine s)) (λ rows. kids_of machine plans ask rows (branch_by (goal_below s) (with_goal room))))
       → IfSome o (λ _. IsOpen machine ask (goal_below s)) → IfSome o (λ _. HasEndBy machine plans ask (with_goal room) limit) → IsGoalEntered reading machine plans ask sums limit old new b' s o

@@ -20,7 +20,7 @@ use Rattle.tp_trees.specs.Short.{IsOfFewHops}
 use Rattle.tp_trees.specs.Trees.{Covers, goals_due}
 use Rattle.tp_showing.specs.RoomRows.{HasRooms}
 use Rattle.tp_showing.specs.Showing.{Adds, CoversBriefly, GoalGoesOn, HasMarks, IsGoalEntered, IsSet, IsSince, LeadsTo, Shows, branch_by, kids_of}
-use Rattle.tp_showing.specs.declared.scene.Branch.{Branch}
+use Rattle.tp_showing.specs.declared.scene.ShowBranch.{ShowBranch}
 use Rattle.tp_showing.proofs.AddFacts.{adds-behind}
 use Rattle.tp_showing.proofs.CarryFacts.{suffix-same}
 use Rattle.tp_showing.proofs.MarkSteps.{IsMarked, load-of}
@@ -53,17 +53,17 @@ module _ {N A : Type 0} (reading : Reading N) (untouched : N → A) (machine : M
     abbrev pub HasGoal : List Node → List Node → Type 0
     HasGoal one two = Shows machine b.plans ask sums limit one two (λ _. goal s ∷ []) (λ _. [])
 
-    entered-here : (one two : List Node) (o : Option Branch) → IsAtGoal b b1 → IsGoalEntered reading machine b1.plans ask sums limit one two b2 s o → IsGoalEntered reading machine b.plans ask sums limit one two b2 s o
+    entered-here : (one two : List Node) (o : Option ShowBranch) → IsAtGoal b b1 → IsGoalEntered reading machine b1.plans ask sums limit one two b2 s o → IsGoalEntered reading machine b.plans ask sums limit one two b2 s o
     entered-here one two o at entered = subst (λ ps. IsGoalEntered reading machine ps ask sums limit one two b2 s o) at.plans entered
 
-    pub goal-none : (one two : List Node) (o : Option Branch) → IsAtGoal b b1 → o ≡ None → IsGoalEntered reading machine b1.plans ask sums limit one two b2 s o → HasGoal one two
+    pub goal-none : (one two : List Node) (o : Option ShowBranch) → IsAtGoal b b1 → o ≡ None → IsGoalEntered reading machine b1.plans ask sums limit one two b2 s o → HasGoal one two
     goal-none one two o at none entered = subst (IsGoalEntered reading machine b.plans ask sums limit one two b2 s) none (entered-here one two o at entered)
 
-    pub goal-goes : (one two : List Node) (o : Option Branch) (child : Branch) → IsAtGoal b b1 → o ≡ Some child → IsGoalEntered reading machine b1.plans ask sums limit one two b2 s o
+    pub goal-goes : (one two : List Node) (o : Option ShowBranch) (child : ShowBranch) → IsAtGoal b b1 → o ≡ Some child → IsGoalEntered reading machine b1.plans ask sums limit one two b2 s o
         → GoalGoesOn reading machine b.plans ask sums limit one two b2 s child
     goal-goes one two o child at some entered = subst (IsGoalEntered reading machine b.plans ask sums limit one two b2 s) some (entered-here one two o at entered)
 
-    pub goal-some : {X E : Type 0} (one two three : List Node) (o : Option Branch) (child : Branch) (result : Result X E) → IsAtGoal b b1 → IsSince reading b1 b2 machine → o ≡ Some child
+    pub goal-some : {X E : Type 0} (one two three : List Node) (o : Option ShowBranch) (child : ShowBranch) (result : Result X E) → IsAtGoal b b1 → IsSince reading b1 b2 machine → o ≡ Some child
         → IsGoalEntered reading machine b1.plans ask sums limit one two b2 s o
         → OnOk result ((y : Suffix) → suffix_of b2 ≡ Some y → Shows machine b2.plans ask sums limit two three (λ rows. kids_of machine b2.plans ask rows (branch_by child y)) (λ _. [])) → OnOk result (HasGoal one three)
     goal-some one two three o child result at since some entered shown =

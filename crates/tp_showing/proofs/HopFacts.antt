@@ -18,7 +18,7 @@ use Rattle.tp_constraints.specs.Suffixes.{Suffix, order_in}
 use Rattle.tp_constraints.proofs.HeldSlots.{IsOn, order-on, own-on, placed-All}
 use Rattle.tp_constraints.proofs.Lists.{contains-get}
 use Rattle.tp_placing.specs.Causes.{IsNamedHop, hop_by, named_point, numbered, spot_name}
-use Rattle.tp_placing.specs.declared.causes.Cause.{Cause}
+use Rattle.tp_placing.specs.declared.causes.EdgeCause.{EdgeCause}
 use Rattle.tp_trees.specs.Places.{Branch}
 use Rattle.tp_trees.specs.Told.{CanBeTold}
 use Rattle.tp_trees.proofs.AllowingLines.{hops_allowed}
@@ -57,7 +57,7 @@ module _ (machine : Machine) (plans : List Plan) (ask : Ask) where
   pub before-limit : (last : Option PointId) (l to : PointId) → last ≡ Some l → to.0 < l.0 → named_point plans last to ≡ spot_name plans (numbered plans to.0)
   before-limit last l to e below = let no : (l.0 == to.0) ≡ false = grind (arith, nat_tests) in rw (e, no) refl
 
-  module _ (b : Branch) (causes : List Cause) where
+  module _ (b : Branch) (causes : List EdgeCause) where
     pub tellable : (last : Option PointId) (e : Edge) → named_point plans last e.to ≡ spot_name plans (numbered plans e.to.0) → IsNamedHop machine plans ask b.x causes e → IsTellable machine plans causes last e
     tellable last e here n = record { tag = n.tag; can = may-tell b.x last e.to (hop_by plans causes e) here n.is_hop }
 

@@ -21,7 +21,7 @@ use Rattle.tp_constraints.specs.Suffixes.{Suffix, SuffixTimes, order_in, room_of
 use Rattle.tp_constraints.proofs.Bounds.{within-all, within-from_times}
 use Rattle.tp_constraints.proofs.Numbering.{same_spot-is}
 use Rattle.tp_placing.specs.Causes.{numbered}
-use Rattle.tp_placing.specs.declared.causes.Cause.{Cause}
+use Rattle.tp_placing.specs.declared.causes.EdgeCause.{EdgeCause}
 use Rattle.tp_trees.specs.Chains.{duration_gap, from_here, gap_in, gap_of, hold_gap, line_gap, or_else, point_gap, spot_of, start_of}
 use Rattle.tp_trees.specs.Places.{Branch, Stand}
 use Rattle.tp_trees.proofs.DurationHops.{IsKeptHop, duration-hop}
@@ -74,7 +74,7 @@ module _ (machine : Machine) (plans : List Plan) (ask : Ask) (limit : ℤ) (lega
   hop-kept from (Res name before after) g e = here-kept from _ g (hold-kept _ (start_of plans (length x.choices) before) (start_of plans (length x.choices) after)) e
 
   -- edges that are told take no more than the ticks leave
-  pub edges-kept : (causes : List Cause) (es : List Edge) (a z : ℕ) → All (IsAllowed machine plans ask limit here causes) es → All (IsTold (tell machine plans causes)) es → Leads a es z
+  pub edges-kept : (causes : List EdgeCause) (es : List Edge) (a z : ℕ) → All (IsAllowed machine plans ask limit here causes) es → All (IsTold (tell machine plans causes)) es → Leads a es z
       → (pos (t (numbered plans a)) +ℤ total_weight es) ≤ℤ pos (t (numbered plans z))
   edges-kept causes [] a z allowed told leads = subst (λ q. (pos (t (numbered plans a)) +ℤ pos 0) ≤ℤ pos (t (numbered plans q))) leads (omega (arith, ints))
   edges-kept causes (e ∷ es) a z allowed told leads =

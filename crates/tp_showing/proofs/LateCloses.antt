@@ -26,7 +26,7 @@ use Rattle.tp_constraints.proofs.Lists.{all-by, contains-get}
 use Rattle.tp_placing.specs.Causes.{IsNamedHop, numbered}
 use Rattle.tp_placing.specs.Reasons.{IsPart}
 use Rattle.tp_placing.specs.Standing.{table_with}
-use Rattle.tp_placing.specs.declared.causes.Cause.{Cause}
+use Rattle.tp_placing.specs.declared.causes.EdgeCause.{EdgeCause}
 use Rattle.tp_trees.specs.Chains.{low, spot_of}
 use Rattle.tp_trees.specs.Places.{Branch, Stand}
 use Rattle.tp_trees.specs.Trees.{chain_look, close_look, loop_look}
@@ -43,7 +43,7 @@ cut-in before behind es e parts = subst (λ xs. Contains xs e) (sym parts) (insi
   inside [] = (0, omega arith, refl)
   inside (y ∷ xs) = let h = inside xs in (suc h.0, omega (arith, h.1), h.2)
 
-module _ (machine : Machine) (plans : List Plan) (ask : Ask) (rows : List TreeRow) (limit : ℤ) (s : Stand) (causes : List Cause) (late : Net) (points : ℕ) (frame : IsFrame machine plans ask rows limit s late points) where
+module _ (machine : Machine) (plans : List Plan) (ask : Ask) (rows : List TreeRow) (limit : ℤ) (s : Stand) (causes : List EdgeCause) (late : Net) (points : ℕ) (frame : IsFrame machine plans ask rows limit s late points) where
   abbrev count : ℕ
   count = length s.branch.x.choices
 
@@ -68,7 +68,7 @@ pub circle-first : (edges : List Edge) (e : Edge) (first : ℕ) → slice_get ed
 circle-first [] e first at leads = absurd cc
 circle-first (d ∷ edges) e first at leads = let same : d ≡ e = cc in subst (λ (q : Edge). q.from.0 ≡ first) same leads.0
 
-module _ (machine : Machine) (plans : List Plan) (ask : Ask) (rows : List TreeRow) (limit : ℤ) (b : Branch) (causes : List Cause) where
+module _ (machine : Machine) (plans : List Plan) (ask : Ask) (rows : List TreeRow) (limit : ℤ) (b : Branch) (causes : List EdgeCause) where
   abbrev alone : Stand
   alone = record { branch = b; span = None }
 

@@ -24,7 +24,7 @@ use Rattle.tp_trees.proofs.Lists.{number-same}
 use Rattle.tp_showing.specs.Ranges.{ClosesRange, IsRange}
 use Rattle.tp_showing.specs.declared.range.Range.{Range}
 use Rattle.tp_showing.specs.Showing.{Adds, Carries, IsSet, Shows, branch_by}
-use Rattle.tp_showing.specs.declared.scene.Branch.{Branch}
+use Rattle.tp_showing.specs.declared.scene.ShowBranch.{ShowBranch}
 use Rattle.tp_showing.proofs.AddFacts.{adds-node}
 use Rattle.tp_showing.proofs.EnterFacts.{carries-same, places-due}
 use Rattle.tp_showing.proofs.MarkSteps.{IsMarked, load-of}
@@ -37,7 +37,7 @@ pub ok-some : {X E : Type 0} (P Q : X → Type 0) (r : Result (Option X) E) → 
 ok-some P Q (Ok o) f h = some-map P Q o f h
 ok-some P Q (Err e) f h = tt
 
-module _ (machine : Machine) (plans : List Plan) (ask : Ask) (rows : List TreeRow) (r : Branch) (x : Suffix) (rule : HoldRule) (lo hi : ℕ) (name : List ℕ) where
+module _ (machine : Machine) (plans : List Plan) (ask : Ask) (rows : List TreeRow) (r : ShowBranch) (x : Suffix) (rule : HoldRule) (lo hi : ℕ) (name : List ℕ) where
   abbrev b : places.Branch
   b = branch_by r x
 
@@ -57,7 +57,7 @@ module _ (machine : Machine) (plans : List Plan) (ask : Ask) (rows : List TreeRo
   range-depth false = refl
 
 -- the node of several places
-pub range-shows : (machine : Machine) (plans : List Plan) (ask : Ask) (sums : List (Option ℕ)) (limit : ℕ) (old new : List Node) (r : Branch) (x : Suffix) (rule : HoldRule) (lo hi : ℕ) (name : List ℕ) (close : Close)
+pub range-shows : (machine : Machine) (plans : List Plan) (ask : Ask) (sums : List (Option ℕ)) (limit : ℕ) (old new : List Node) (r : ShowBranch) (x : Suffix) (rule : HoldRule) (lo hi : ℕ) (name : List ℕ) (close : Close)
     → ((rows : List TreeRow) → is_name_of_resource machine plans ask rows name (slice_get machine.resources rule.resource.0) ≡ true) → lo ≤ hi → hi ≤ length (order_in machine plans x rule.resource.0)
     → ClosesRange machine plans ask (pos limit) x rule lo hi close → new ≡ old ++ record { depth = r.depth + 1; head = AtHead name lo hi; close = close } ∷ []
     → Shows machine plans ask sums limit old new (λ rows. places_from machine plans ask rows (branch_by r x) rule lo) (λ rows. places_from machine plans ask rows (branch_by r x) rule (hi + 1))
@@ -78,12 +78,12 @@ range-shows machine plans ask sums limit old new r x rule lo hi name close named
 
 module _ {N A : Type 0} (reading : Reading N) (untouched : N → A) (machine : Machine) (ask : Ask) where
   -- the board is marked where it carries a branch
-  pub record IsAtMark (b b' : BoardValue N) (r : Branch) (x : Suffix) : Type 0 where
+  pub record IsAtMark (b b' : BoardValue N) (r : ShowBranch) (x : Suffix) : Type 0 where
     pub set : IsSet reading machine ask b'
     pub plans : b'.plans ≡ b.plans
     pub carries : Carries reading machine ask b' r x
 
-  pub at-mark : MarkKeeps reading untouched → (b b' : BoardValue N) (r : Branch) (x : Suffix) (mark : ℕ) → IsMarked reading untouched b b' mark → IsSet reading machine ask b
+  pub at-mark : MarkKeeps reading untouched → (b b' : BoardValue N) (r : ShowBranch) (x : Suffix) (mark : ℕ) → IsMarked reading untouched b b' mark → IsSet reading machine ask b
       → Carries reading machine ask b r x → IsAtMark b b' r x
   at-mark keeps b b' r x mark m set c =
       let load = load-of reading untouched b b' m.untouched_same in

@@ -20,7 +20,7 @@ use Rattle.tp_bounds.specs.declared.tree.Close.{Close}
 use Rattle.tp_placing.specs.Reasons.{IsShown}
 use Rattle.tp_placing.proofs.PartFacts.{shown-whole}
 use Rattle.tp_schedule.specs.declared.parts.Plan.{Plan}
-use Rattle.tp_placing.specs.declared.causes.Cause.{Cause}
+use Rattle.tp_placing.specs.declared.causes.EdgeCause.{EdgeCause}
 use Rattle.tp_bounds.specs.declared.hops.Hop.{Hop as TreeHop}
 use Rattle.tp_trees.specs.Short.{hops_in, most_hops}
 use Rattle.tp_showing.specs.Tellings.{IsChainOf, IsCloseOf, IsCutOf, IsLoopOf, IsTellable, IsTellableReason, IsToldReason, tell, told_until}
@@ -76,7 +76,7 @@ ok-map P Q (Ok x) f h = f x h
 ok-map P Q (Err e) f h = tt
 
 -- a close tells no more hops than its proof has edges
-module _ (machine : Machine) (plans : List Plan) (causes : List Cause) (last : Option PointId) (edges : List Edge) (close : Close) (short : length edges ≤ most_hops) where
+module _ (machine : Machine) (plans : List Plan) (causes : List EdgeCause) (last : Option PointId) (edges : List Edge) (close : Close) (short : length edges ≤ most_hops) where
   abbrev tells : Edge → Option TreeHop
   tells = tell machine plans causes
 

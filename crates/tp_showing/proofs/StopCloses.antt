@@ -35,7 +35,7 @@ use Rattle.tp_constraints.proofs.Lists.{All-split, all-by, contains-get, get-the
 use Rattle.tp_placing.specs.Causes.{IsNamedHop, numbered}
 use Rattle.tp_placing.specs.Reasons.{IsPart}
 use Rattle.tp_placing.specs.Standing.{table_with}
-use Rattle.tp_placing.specs.declared.causes.Cause.{Cause}
+use Rattle.tp_placing.specs.declared.causes.EdgeCause.{EdgeCause}
 use Rattle.tp_placing.proofs.CauseFacts.{numbered-in}
 use Rattle.tp_trees.specs.Chains.{cap, follow, gap_of, led_on, low, spot_of}
 use Rattle.tp_trees.specs.Chains.Led.{led}
@@ -66,7 +66,7 @@ module _ (machine : Machine) (plans : List Plan) (ask : Ask) (limit : ℤ) (s : 
     go None v next = absurd cc
     go (Some g) v next = next g v
 
-module _ (machine : Machine) (plans : List Plan) (ask : Ask) (rows : List TreeRow) (limit : ℤ) (depth : ℕ) (first : State) (x : Suffix) (causes : List Cause) where
+module _ (machine : Machine) (plans : List Plan) (ask : Ask) (rows : List TreeRow) (limit : ℤ) (depth : ℕ) (first : State) (x : Suffix) (causes : List EdgeCause) where
   abbrev b : Branch
   b = record { depth = depth; first = first; x = with_stop x }
 

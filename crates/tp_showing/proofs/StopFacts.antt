@@ -25,7 +25,7 @@ use Rattle.tp_constraints.specs.Suffixes.{IsInFlight, Suffix}
 use Rattle.tp_constraints.proofs.Lists.{get-contains, index-map}
 use Rattle.tp_constraints.proofs.Numbering.{number-at}
 use Rattle.tp_placing.specs.Causes.{IsNamedHop, hop_by}
-use Rattle.tp_placing.specs.declared.causes.Cause.{Cause}
+use Rattle.tp_placing.specs.declared.causes.EdgeCause.{EdgeCause}
 use Rattle.tp_trees.specs.Chains.{low}
 use Rattle.tp_trees.specs.Places.{Branch, Stand}
 use Rattle.tp_trees.specs.Told.{CanBeTold, told}
@@ -72,7 +72,7 @@ module _ (machine : Machine) (plans : List Plan) (ask : Ask) where
   abbrev stop_hop : Suffix → Hop
   stop_hop x = hop stop (gap (own (length x.choices)) (kept ask.sheet (kept_of ask)) (pos 0))
 
-  pub stop-or-told : (b : Branch) (causes : List Cause) (e : Edge) → IsLegal machine plans → AreNamed plans → IsNamedHop machine plans ask b.x causes e
+  pub stop-or-told : (b : Branch) (causes : List EdgeCause) (e : Edge) → IsLegal machine plans → AreNamed plans → IsNamedHop machine plans ask b.x causes e
       → ((k : TreeHop) × (tell machine plans causes e ≡ Some k)) ⊎ (stop_hop b.x ≡ hop_by plans causes e)
   stop-or-told b causes e legal named n = go (hop_by plans causes e) n.is_hop (λ can. hops_told machine plans ask b (hop_by plans causes e) legal named n.is_hop can) where
     go : (h : Hop) → IsHop machine plans ask b.x h → (CanBeTold machine h.kind → (k : TreeHop) × (told machine plans h ≡ Some k)) → ((k : TreeHop) × (told machine plans h ≡ Some k)) ⊎ (stop_hop b.x ≡ h)

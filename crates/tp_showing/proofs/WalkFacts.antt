@@ -14,7 +14,7 @@ use Rattle.tp_placing.specs.Boards.{BoardValue, content_of, past_of, suffix_of}
 use Rattle.tp_placing.specs.Laws.{MarkKeeps}
 use Rattle.tp_trees.specs.Places.{Due}
 use Rattle.tp_showing.specs.Showing.{Adds, Carries, GoesOn, HasMarks, IsBack, IsEntered, IsSet, IsSince, Shows, below, branch_by, hold_of, kids_of, left_of}
-use Rattle.tp_showing.specs.declared.scene.Branch.{Branch}
+use Rattle.tp_showing.specs.declared.scene.ShowBranch.{ShowBranch}
 use Rattle.tp_showing.proofs.AddFacts.{adds-behind, adds-trans}
 use Rattle.tp_showing.proofs.CarryFacts.{own-suffix}
 use Rattle.tp_showing.proofs.EnterFacts.{carries-same}
@@ -36,7 +36,7 @@ module _ {N : Type 0} (reading : Reading N) (machine : Machine) (ask : Ask) wher
   set-since b b' since s = record { stands = since.stands s.stands; asked = since.load.ask ∙ s.asked; goal = s.goal }
 
   -- below a branch that is split all is gone
-  pub gone-deeper : (plans : List Plan) (sums : List (Option ℕ)) (limit : ℕ) (one two three : List Node) (b : BoardValue N) (parent child : Branch) (ds behind : List TreeRow → List Due) → GoesOn reading machine plans ask sums limit one two b parent ds behind child
+  pub gone-deeper : (plans : List Plan) (sums : List (Option ℕ)) (limit : ℕ) (one two three : List Node) (b : BoardValue N) (parent child : ShowBranch) (ds behind : List TreeRow → List Due) → GoesOn reading machine plans ask sums limit one two b parent ds behind child
       → ((y : Suffix) → suffix_of b ≡ Some y → Shows machine plans ask sums limit two three (λ rows. kids_of machine plans ask rows (branch_by child y)) (λ _. [])) → Shows machine plans ask sums limit one three ds behind
   gone-deeper plans sums limit one two three b parent child ds behind g sub =
       let kids = λ (rows : List TreeRow). kids_of machine plans ask rows (branch_by child g.suffix) in
@@ -48,13 +48,13 @@ module _ {N : Type 0} (reading : Reading N) (machine : Machine) (ask : Ask) wher
   marks-below b b' n k spare less since = let p = ap length since.past_same in let q = since.room in omega (arith, p, q, spare, less)
 
   -- a board that was taken back carries what it carried, and has a mark to spare
-  pub record IsStill (b b' : BoardValue N) (r : Branch) (x : Suffix) : Type 0 where
+  pub record IsStill (b b' : BoardValue N) (r : ShowBranch) (x : Suffix) : Type 0 where
     pub set : IsSet reading machine ask b'
     pub plans : b'.plans ≡ b.plans
     pub carries : Carries reading machine ask b' r x
     pub spare : HasMarks reading 1 b'
 
-  pub still : (b b' : BoardValue N) (r : Branch) (x : Suffix) → IsBack reading b b' machine → IsSet reading machine ask b → Carries reading machine ask b r x → HasMarks reading (below r + 1) b
+  pub still : (b b' : BoardValue N) (r : ShowBranch) (x : Suffix) → IsBack reading b b' machine → IsSet reading machine ask b → Carries reading machine ask b r x → HasMarks reading (below r + 1) b
       → IsStill b b' r x
   still b b' r x back set c marks = record {
     set = set-since b b' back.since set;
@@ -65,13 +65,13 @@ module _ {N : Type 0} (reading : Reading N) (machine : Machine) (ask : Ask) wher
 
 module _ {N A : Type 0} (reading : Reading N) (untouched : N → A) (machine : Machine) (ask : Ask) where
   -- the board is marked at a way of the branch that it carries
-  pub record IsAtWay (b b' : BoardValue N) (r : Branch) (x : Suffix) : Type 0 where
+  pub record IsAtWay (b b' : BoardValue N) (r : ShowBranch) (x : Suffix) : Type 0 where
     pub set : IsSet reading machine ask b'
     pub plans : b'.plans ≡ b.plans
     pub carries : Carries reading machine ask b' r x
     pub spare : length (past_of reading b') + below r ≤ reading.max_marks b'.net - 1
 
-  pub at-way : MarkKeeps reading untouched → (b b0 b1 : BoardValue N) (r : Branch) (x : Suffix) (mark : ℕ) → IsBack reading b b0 machine → IsMarked reading untouched b0 b1 mark → IsSet reading machine ask b
+  pub at-way : MarkKeeps reading untouched → (b b0 b1 : BoardValue N) (r : ShowBranch) (x : Suffix) (mark : ℕ) → IsBack reading b b0 machine → IsMarked reading untouched b0 b1 mark → IsSet reading machine ask b
       → Carries reading machine ask b r x → HasMarks reading (below r + 1) b → IsAtWay b b1 r x
   at-way keeps b b0 b1 r x mark back m set c marks =
       let load = load-of reading untouched b0 b1 m.untouched_same in
@@ -89,35 +89,35 @@ module _ {N A : Type 0} (reading : Reading N) (untouched : N → A) (machine : M
       }
 
 -- one way is gone: what was due from it on is due from the next one on
-module _ {N A : Type 0} (reading : Reading N) (untouched : N → A) (machine : Machine) (ask : Ask) (sums : List (Option ℕ)) (limit : ℕ) (b b1 b2 : BoardValue N) (r : Branch) (way : ℕ) where
+module _ {N A : Type 0} (reading : Reading N) (untouched : N → A) (machine : Machine) (ask : Ask) (sums : List (Option ℕ)) (limit : ℕ) (b b1 b2 : BoardValue N) (r : ShowBranch) (way : ℕ) where
   abbrev pub left_by : List Plan → Suffix → ℕ → List TreeRow → List Due
   left_by plans x n rows = left_of machine plans ask rows (branch_by r x) (hold_of machine r) n
 
   abbrev pub HasGone : List Node → List Node → Type 0
   HasGone one two = (x : Suffix) → suffix_of b ≡ Some x → Shows machine b.plans ask sums limit one two (left_by b.plans x way) (left_by b.plans x (suc way))
 
-  abbrev pub HasEntered : List Node → List Node → Option Branch → Type 0
+  abbrev pub HasEntered : List Node → List Node → Option ShowBranch → Type 0
   HasEntered one two o = (x : Suffix) → suffix_of b1 ≡ Some x → IsEntered reading machine b1.plans ask sums limit one two b2 r (left_by b1.plans x way) (left_by b1.plans x (suc way)) o
 
-  abbrev pub HasShown : List Node → List Node → Branch → Type 0
+  abbrev pub HasShown : List Node → List Node → ShowBranch → Type 0
   HasShown one two child = (y : Suffix) → suffix_of b2 ≡ Some y → Shows machine b2.plans ask sums limit one two (λ rows. kids_of machine b2.plans ask rows (branch_by child y)) (λ _. [])
 
-  entered-here : (one two : List Node) (o : Option Branch) (x : Suffix) → IsAtWay reading untouched machine ask b b1 r x → HasEntered one two o
+  entered-here : (one two : List Node) (o : Option ShowBranch) (x : Suffix) → IsAtWay reading untouched machine ask b b1 r x → HasEntered one two o
       → IsEntered reading machine b.plans ask sums limit one two b2 r (left_by b.plans x way) (left_by b.plans x (suc way)) o
   entered-here one two o x at entered = subst (λ ps. IsEntered reading machine ps ask sums limit one two b2 r (left_by ps x way) (left_by ps x (suc way)) o) at.plans (entered x at.carries.carried)
 
-  pub gone-none : (one two : List Node) (o : Option Branch) (x : Suffix) → suffix_of b ≡ Some x → IsAtWay reading untouched machine ask b b1 r x → o ≡ None → HasEntered one two o → HasGone one two
+  pub gone-none : (one two : List Node) (o : Option ShowBranch) (x : Suffix) → suffix_of b ≡ Some x → IsAtWay reading untouched machine ask b b1 r x → o ≡ None → HasEntered one two o → HasGone one two
   gone-none one two o x carried at none entered =
       own-suffix (suffix_of b) x carried (λ y. Shows machine b.plans ask sums limit one two (left_by b.plans y way) (left_by b.plans y (suc way)))
       (subst (IsEntered reading machine b.plans ask sums limit one two b2 r (left_by b.plans x way) (left_by b.plans x (suc way))) none (entered-here one two o x at entered))
 
   -- the branch below which the walk goes on
-  pub goes-on : (one two : List Node) (o : Option Branch) (child : Branch) (x : Suffix) → IsAtWay reading untouched machine ask b b1 r x → o ≡ Some child → HasEntered one two o
+  pub goes-on : (one two : List Node) (o : Option ShowBranch) (child : ShowBranch) (x : Suffix) → IsAtWay reading untouched machine ask b b1 r x → o ≡ Some child → HasEntered one two o
       → GoesOn reading machine b.plans ask sums limit one two b2 r (left_by b.plans x way) (left_by b.plans x (suc way)) child
   goes-on one two o child x at some entered =
       subst (IsEntered reading machine b.plans ask sums limit one two b2 r (left_by b.plans x way) (left_by b.plans x (suc way))) some (entered-here one two o x at entered)
 
-  pub gone-some : {X E : Type 0} (one two three : List Node) (o : Option Branch) (child : Branch) (x : Suffix) (result : Result X E) → suffix_of b ≡ Some x → IsAtWay reading untouched machine ask b b1 r x → IsSince reading b1 b2 machine
+  pub gone-some : {X E : Type 0} (one two three : List Node) (o : Option ShowBranch) (child : ShowBranch) (x : Suffix) (result : Result X E) → suffix_of b ≡ Some x → IsAtWay reading untouched machine ask b b1 r x → IsSince reading b1 b2 machine
       → o ≡ Some child → HasEntered one two o → OnOk result (HasShown two three child) → OnOk result (HasGone one three)
   gone-some one two three o child x result carried at since some entered shown =
       let Sub = λ (ps : List Plan). (y : Suffix) → suffix_of b2 ≡ Some y → Shows machine ps ask sums limit two three (λ rows. kids_of machine ps ask rows (branch_by child y)) (λ _. []) in

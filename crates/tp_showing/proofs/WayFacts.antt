@@ -17,7 +17,7 @@ use Rattle.tp_trees.specs.Places as places
 use Rattle.tp_trees.specs.Places.{Due, action_due, actions_below, actions_due, places_from, stop_due}
 use Rattle.tp_trees.proofs.Allowing.{lt-to}
 use Rattle.tp_showing.specs.Showing.{Adds, IsEntered, Shows, acts_from, branch_by, kids_of, left_of, ways_of}
-use Rattle.tp_showing.specs.declared.scene.Branch.{Branch}
+use Rattle.tp_showing.specs.declared.scene.ShowBranch.{ShowBranch}
 use Rattle.tp_showing.proofs.AddFacts.{adds-behind}
 
 module _ (machine : Machine) (plans : List Plan) (ask : Ask) (rows : List TreeRow) where
@@ -69,9 +69,9 @@ ways-fewer machine plans ask x k within = go (nat_lt (kept_of ask + length x.cho
   go true e w = (is-lt e, omega (arith, w))
   go false e w = absurd (omega (arith, w))
 
-module _ {N : Type 0} (reading : Reading N) (machine : Machine) (plans : List Plan) (ask : Ask) (sums : List (Option ℕ)) (limit : ℕ) (old new : List Node) (b : BoardValue N) (r : Branch) where
+module _ {N : Type 0} (reading : Reading N) (machine : Machine) (plans : List Plan) (ask : Ask) (sums : List (Option ℕ)) (limit : ℕ) (old new : List Node) (b : BoardValue N) (r : ShowBranch) where
   -- a way that is gone with more behind it
-  pub entered-behind : (o : Option Branch) (ds behind more : List TreeRow → List Due) → IsEntered reading machine plans ask sums limit old new b r ds behind o
+  pub entered-behind : (o : Option ShowBranch) (ds behind more : List TreeRow → List Due) → IsEntered reading machine plans ask sums limit old new b r ds behind o
       → IsEntered reading machine plans ask sums limit old new b r (λ rows. ds rows ++ more rows) (λ rows. behind rows ++ more rows) o
   entered-behind None ds behind more shows = λ rows has. adds-behind machine plans ask rows (pos limit) (ds rows) (behind rows) (more rows) old new (shows rows has)
   entered-behind (Some child) ds behind more g = record {
@@ -86,7 +86,7 @@ module _ {N : Type 0} (reading : Reading N) (machine : Machine) (plans : List Pl
   }
 
   -- the same dues by other names
-  pub entered-as : (o : Option Branch) (ds ds' behind behind' : List TreeRow → List Due) → ((rows : List TreeRow) → ds rows ≡ ds' rows) → ((rows : List TreeRow) → behind rows ≡ behind' rows) → IsEntered reading machine plans ask sums limit old new b r ds behind o
+  pub entered-as : (o : Option ShowBranch) (ds ds' behind behind' : List TreeRow → List Due) → ((rows : List TreeRow) → ds rows ≡ ds' rows) → ((rows : List TreeRow) → behind rows ≡ behind' rows) → IsEntered reading machine plans ask sums limit old new b r ds behind o
       → IsEntered reading machine plans ask sums limit old new b r ds' behind' o
   entered-as None ds ds' behind behind' e f shows = λ rows has. subst (λ us. Adds machine plans ask rows (pos limit) us old new (behind' rows)) (e rows) (subst (λ us. Adds machine plans ask rows (pos limit) (ds rows) old new us) (f rows) (shows rows has))
   entered-as (Some child) ds ds' behind behind' e f g = record {
@@ -100,7 +100,7 @@ module _ {N : Type 0} (reading : Reading N) (machine : Machine) (plans : List Pl
   }
 
   -- an action is gone, or the stop, or a place
-  pub act-gone : (o : Option Branch) (x : Suffix) (way k : ℕ) → way ≡ suc k → way < ways_of machine plans ask x None → IsEntered reading machine plans ask sums limit old new b r (λ rows. action_due machine plans ask rows (branch_by r x) (record { 0 = k })) (λ _. []) o
+  pub act-gone : (o : Option ShowBranch) (x : Suffix) (way k : ℕ) → way ≡ suc k → way < ways_of machine plans ask x None → IsEntered reading machine plans ask sums limit old new b r (λ rows. action_due machine plans ask rows (branch_by r x) (record { 0 = k })) (λ _. []) o
       → IsEntered reading machine plans ask sums limit old new b r (λ rows. left_of machine plans ask rows (branch_by r x) None way) (λ rows. left_of machine plans ask rows (branch_by r x) None (suc way)) o
   act-gone o x way k e within entered =
       let w = ways-fewer machine plans ask x k (subst (λ n. n < ways_of machine plans ask x None) e within) in
@@ -110,7 +110,7 @@ module _ {N : Type 0} (reading : Reading N) (machine : Machine) (plans : List Pl
       (entered-as o (λ rows. act rows ++ left (suc (suc k)) rows) (left (suc k)) (left (suc (suc k))) (left (suc (suc k))) (λ rows. sym (act-left machine plans ask rows (branch_by r x) k w.0 w.1)) (λ rows. refl)
       (entered-behind o act (λ _. []) (left (suc (suc k))) entered))
 
-  pub place-gone : (o : Option Branch) (x : Suffix) (way : ℕ) (rule : HoldRule) (h : Option HoldRule) → h ≡ Some rule
+  pub place-gone : (o : Option ShowBranch) (x : Suffix) (way : ℕ) (rule : HoldRule) (h : Option HoldRule) → h ≡ Some rule
       → IsEntered reading machine plans ask sums limit old new b r (λ rows. places_from machine plans ask rows (branch_by r x) rule way) (λ rows. places_from machine plans ask rows (branch_by r x) rule (way + 1)) o
       → IsEntered reading machine plans ask sums limit old new b r (λ rows. left_of machine plans ask rows (branch_by r x) h way) (λ rows. left_of machine plans ask rows (branch_by r x) h (suc way)) o
   place-gone o x way rule h e entered =
@@ -118,7 +118,7 @@ module _ {N : Type 0} (reading : Reading N) (machine : Machine) (plans : List Pl
       subst (λ k. IsEntered reading machine plans ask sums limit old new b r (λ rows. left_of machine plans ask rows (branch_by r x) k way) (λ rows. left_of machine plans ask rows (branch_by r x) k (suc way)) o) (sym e)
       (entered-as o (from way) (from way) (from (way + 1)) (from (suc way)) (λ rows. refl) (λ rows. ap (λ n. from n rows) (add-one way)) entered)
 
-pub stop-gone : (machine : Machine) (plans : List Plan) (ask : Ask) (sums : List (Option ℕ)) (limit : ℕ) (old new : List Node) (r : Branch) (x : Suffix) (way : ℕ) → way ≡ 0 → Shows machine plans ask sums limit old new (λ rows. stop_due machine plans ask rows (branch_by r x)) (λ _. [])
+pub stop-gone : (machine : Machine) (plans : List Plan) (ask : Ask) (sums : List (Option ℕ)) (limit : ℕ) (old new : List Node) (r : ShowBranch) (x : Suffix) (way : ℕ) → way ≡ 0 → Shows machine plans ask sums limit old new (λ rows. stop_due machine plans ask rows (branch_by r x)) (λ _. [])
     → Shows machine plans ask sums limit old new (λ rows. left_of machine plans ask rows (branch_by r x) None way) (λ rows. left_of machine plans ask rows (branch_by r x) None (suc way))
 stop-gone machine plans ask sums limit old new r x way e shows =
     subst (λ n. Shows machine plans ask sums limit old new (λ rows. left_of machine plans ask rows (branch_by r x) None n) (λ rows. left_of machine plans ask rows (branch_by r x) None (suc n))) (sym e)

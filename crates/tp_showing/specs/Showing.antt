@@ -29,7 +29,7 @@ use Rattle.tp_trees.specs.Trees.{Covers}
 use Rattle.tp_ways.specs.Ends.{EndsBy, HasEndBy}
 use Rattle.tp_ways.specs.Ways.{IsWay}
 use Rattle.tp_showing.specs.RoomRows.{HasRooms}
-use Rattle.tp_showing.specs.declared.scene.Branch.{Branch}
+use Rattle.tp_showing.specs.declared.scene.ShowBranch.{ShowBranch}
 use Rattle.tp_showing.specs.declared.scene.NotShown.{NotShown}
 use Rattle.tp_showing.specs.declared.scene.NotShown.TheVariants.{Early, Memory}
 
@@ -61,7 +61,7 @@ abbrev pub hold_after : Machine → Option ActId → ℕ → Option HoldRule
 hold_after machine None places = None
 hold_after machine (Some act) places = slice_get (holds_of_act (action_at machine act.0)) places
 
-abbrev pub hold_of : Machine → Branch → Option HoldRule
+abbrev pub hold_of : Machine → ShowBranch → Option HoldRule
 hold_of machine r = hold_after machine r.newest r.places
 
 -- the newest choice is of the action, and has so many places
@@ -72,11 +72,11 @@ IsNewest machine (Some act) places [] = ⊥
 IsNewest machine (Some act) places (c ∷ choices) = (c.act ≡ act) × (length c.places ≡ places) × (act.0 < length machine.actions)
 
 -- the branch of a tree
-abbrev pub branch_by : Branch → Suffix → places.Branch
+abbrev pub branch_by : ShowBranch → Suffix → places.Branch
 branch_by r x = record { depth = r.depth; first = r.first; x = x }
 
 -- how much may still come below a branch
-abbrev pub below : Branch → ℕ
+abbrev pub below : ShowBranch → ℕ
 below r = 5 * (most_acts - r.count) + (most_act_holds - r.places)
 
 -- how many ways go on from a suffix: the places of its next hold, or the stop and all actions
@@ -107,7 +107,7 @@ module _ (machine : Machine) (plans : List Plan) (ask : Ask) (rows : List TreeRo
 -- ---- boards
 module _ {N : Type 0} (reading : Reading N) where
   -- the board carries a branch that goes on, a way to a goal
-  pub record Carries (machine : Machine) (ask : Ask) (b : BoardValue N) (r : Branch) (x : Suffix) : Type 0 where
+  pub record Carries (machine : Machine) (ask : Ask) (b : BoardValue N) (r : ShowBranch) (x : Suffix) : Type 0 where
     pub carried : suffix_of b ≡ Some x
     pub going : IsFalse x.stopped
     pub count : r.count ≡ length x.choices
@@ -142,7 +142,7 @@ module _ {N : Type 0} (reading : Reading N) where
   HasMarks count b = length (past_of reading b) + count ≤ reading.max_marks b.net - 1
 
 -- the branch may be split: it is not complete
-abbrev pub IsOpen : Machine → Ask → Branch → Type 0
+abbrev pub IsOpen : Machine → Ask → ShowBranch → Type 0
 IsOpen machine ask r = hold_of machine r ≡ None → is_begun machine ask ask.origin r.first ≡ false
 
 -- what the board carries has times that end by the limit
@@ -156,8 +156,8 @@ IsEarlyEnd machine plans ask limit Early = EndsBy machine plans ask limit
 
 -- a way was gone: its node leaves what is due behind it, or the board carries a branch that is split, below which the walk is
 -- to go on
-module _ {N : Type 0} (reading : Reading N) (machine : Machine) (plans : List Plan) (ask : Ask) (sums : List (Option ℕ)) (limit : ℕ) (old new : List Node) (b : BoardValue N) (parent : Branch) where
-  pub record GoesOn (ds behind : List TreeRow → List Due) (child : Branch) : Type 0 where
+module _ {N : Type 0} (reading : Reading N) (machine : Machine) (plans : List Plan) (ask : Ask) (sums : List (Option ℕ)) (limit : ℕ) (old new : List Node) (b : BoardValue N) (parent : ShowBranch) where
+  pub record GoesOn (ds behind : List TreeRow → List Due) (child : ShowBranch) : Type 0 where
     pub suffix : Suffix
     pub carries : Carries reading machine ask b child suffix
     pub smaller : below child < below parent
@@ -165,17 +165,17 @@ module _ {N : Type 0} (reading : Reading N) (machine : Machine) (plans : List Pl
     pub early : HasEndBy machine plans ask suffix limit
     pub shows : Shows machine plans ask sums limit old new ds (λ rows. kids_of machine plans ask rows (branch_by child suffix) ++ behind rows)
 
-  abbrev pub IsEntered : (List TreeRow → List Due) → (List TreeRow → List Due) → Option Branch → Type 0
+  abbrev pub IsEntered : (List TreeRow → List Due) → (List TreeRow → List Due) → Option ShowBranch → Type 0
   IsEntered ds behind o = MatchOption o (Shows machine plans ask sums limit old new ds behind) (GoesOn ds behind)
 
 -- a goal was opened: its node leaves nothing due, or the board carries its branch, which is split
 module _ {N : Type 0} (reading : Reading N) (machine : Machine) (plans : List Plan) (ask : Ask) (sums : List (Option ℕ)) (limit : ℕ) (old new : List Node) (b : BoardValue N) (s : State) where
-  pub record GoalGoesOn (child : Branch) : Type 0 where
+  pub record GoalGoesOn (child : ShowBranch) : Type 0 where
     pub suffix : Suffix
     pub carries : Carries reading machine ask b child suffix
     pub is_open : IsOpen machine ask child
     pub early : HasEndBy machine plans ask suffix limit
     pub shows : Shows machine plans ask sums limit old new (λ _. goal s ∷ []) (λ rows. kids_of machine plans ask rows (branch_by child suffix))
 
-  abbrev pub IsGoalEntered : Option Branch → Type 0
+  abbrev pub IsGoalEntered : Option ShowBranch → Type 0
   IsGoalEntered o = MatchOption o (Shows machine plans ask sums limit old new (λ _. goal s ∷ []) (λ _. [])) GoalGoesOn

@@ -21,7 +21,7 @@ use Rattle.tp_constraints.specs.Hops.HopKind.{forward, back, line, order, stop, 
 use Rattle.tp_placing.specs.Boards.{BoardValue}
 use Rattle.tp_placing.specs.Causes.{hop_by, kind_of, named_point, numbered, spot_name}
 use Rattle.tp_placing.specs.Reasons.{IsShown}
-use Rattle.tp_placing.specs.declared.causes.Cause.{Cause}
+use Rattle.tp_placing.specs.declared.causes.EdgeCause.{EdgeCause}
 use Rattle.tp_placing.specs.declared.names.Grip.{Grip}
 use Rattle.tp_placing.specs.declared.names.Grip.TheVariants.{Own as OwnGrip, Kept as KeptGrip}
 use Rattle.tp_placing.specs.declared.names.Spot.{Spot as SpotName}
@@ -89,17 +89,17 @@ pub record IsFirstUntold (f : Edge → Option TreeHop) (edges : List Edge) (at :
   pub before : All (IsTold f) (take at edges)
 
 -- what a tree tells of an edge with its cause
-abbrev pub tell : Machine → List Plan → List Cause → Edge → Option TreeHop
+abbrev pub tell : Machine → List Plan → List EdgeCause → Edge → Option TreeHop
 tell machine plans causes e = told machine plans (hop_by plans causes e)
 
 abbrev pub IsNameOf : List Plan → Option PointId → PointId → TreePoint → Type 0
 IsNameOf plans last point name = option_map point_by (named_point plans last point) ≡ Some name
 
-pub record IsTellable (machine : Machine) (plans : List Plan) (causes : List Cause) (last : Option PointId) (e : Edge) : Type 0 where
+pub record IsTellable (machine : Machine) (plans : List Plan) (causes : List EdgeCause) (last : Option PointId) (e : Edge) : Type 0 where
   pub tag : e.tag < length causes
   pub can : CanTell machine plans last e.to (kind_of plans (slice_get causes e.tag))
 
-module _ (machine : Machine) (plans : List Plan) (causes : List Cause) (last : Option PointId) where
+module _ (machine : Machine) (plans : List Plan) (causes : List EdgeCause) (last : Option PointId) where
   -- all edges of a circle are told, and their loop is the close
   pub record IsLoopOf (edges : List Edge) (close : Close) : Type 0 where
     pub all : All (IsTold (tell machine plans causes)) edges

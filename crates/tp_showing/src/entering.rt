@@ -8,7 +8,7 @@ ghost use Rattle.tp_showing.specs.Showing.{Carries, IsEarly, IsEarlyEnd, IsEnter
 ghost use Rattle.tp_trees.specs.Places.{is_front_state, places_from, stop_due};
 
 use crate::putting::{is_same_state, put_carried, put_late, put_stop};
-use crate::scene::{Branch, NotShown, Scene};
+use crate::scene::{NotShown, ShowBranch, ShowScene};
 use tp_base::{Late, Memory, Network};
 use tp_bounds::{Head, Nodes};
 use tp_machine::{HoldRule, State, machine_law};
@@ -19,11 +19,11 @@ use tp_schedule::{Ask, Origin};
 pub(crate) fn enter_place<N: Network>(
     nodes: &mut Nodes,
     board: &mut Board<N>,
-    scene: Scene,
-    branch: Branch,
+    scene: ShowScene,
+    branch: ShowBranch,
     rule: HoldRule,
     place: u32,
-) -> Result<Option<Branch>, NotShown>
+) -> Result<Option<ShowBranch>, NotShown>
     requires set { IsSet N.reading scene.machine.now scene.ask.now
         board.old }
     requires named { AreNamed board.old.plans }
@@ -47,7 +47,7 @@ pub(crate) fn enter_place<N: Network>(
         scene.entry.machine.now }
 {
     machine_law(scene.machine);
-    let child = Branch {
+    let child = ShowBranch {
         depth: branch.depth + 1,
         first: branch.first,
         count: branch.count,
@@ -80,7 +80,7 @@ fn is_at_front(ask: &Ask, state: State) -> bool
 
 /// Whether the branch is to be stopped: it has a choice, and its copy in flight has come to its
 /// front's state.
-fn is_stop_due(ask: &Ask, branch: Branch) -> bool
+fn is_stop_due(ask: &Ask, branch: ShowBranch) -> bool
     ensures { result ≡ (is_front_state ask.entry.now.origin branch.first
         && nat_lt 0 branch.count) }
 {
@@ -92,8 +92,8 @@ fn is_stop_due(ask: &Ask, branch: Branch) -> bool
 pub(crate) fn enter_stop<N: Network>(
     nodes: &mut Nodes,
     board: &mut Board<N>,
-    scene: Scene,
-    branch: Branch,
+    scene: ShowScene,
+    branch: ShowBranch,
 ) -> Result<(), NotShown>
     requires set { IsSet N.reading scene.machine.now scene.ask.now
         board.old }

@@ -14,7 +14,7 @@ ghost use Rattle.tp_trees.specs.Places.{action_due, state_before};
 
 use crate::putting::{put_carried, put_dead, put_late};
 use crate::rows::named;
-use crate::scene::{Branch, NotShown, Scene};
+use crate::scene::{NotShown, ShowBranch, ShowScene};
 use tp_base::{Late, Memory, Network};
 use tp_bounds::{Head, Nodes};
 use tp_machine::{ActId, State, allowed, machine_law, regress};
@@ -22,7 +22,7 @@ use tp_placing::Board;
 use tp_schedule::action_law;
 
 /// The state from which an allowed action leads to this one.
-fn step_back(scene: Scene, state: State, act: ActId) -> Option<State>
+fn step_back(scene: ShowScene, state: State, act: ActId) -> Option<State>
     requires { act.0 < length scene.machine.now.actions }
     ensures before { result ≡ (if is_act_allowed scene.entry.machine.now scene.entry.ask.now.outs
         act then state_before scene.entry.ask.now.want state
@@ -42,10 +42,10 @@ fn step_back(scene: Scene, state: State, act: ActId) -> Option<State>
 pub(crate) fn enter_act<N: Network>(
     nodes: &mut Nodes,
     board: &mut Board<N>,
-    scene: Scene,
-    branch: Branch,
+    scene: ShowScene,
+    branch: ShowBranch,
     act: ActId,
-) -> Result<Option<Branch>, NotShown>
+) -> Result<Option<ShowBranch>, NotShown>
     requires set { IsSet N.reading scene.machine.now scene.ask.now
         board.old }
     requires named { AreNamed board.old.plans }
@@ -75,7 +75,7 @@ pub(crate) fn enter_act<N: Network>(
     let head = Head::Act {
         name: scene.machine.actions.get(u32::from(act.0)).name,
     };
-    let child = Branch {
+    let child = ShowBranch {
         depth: branch.depth + 1,
         first: state,
         count: branch.count + 1,
@@ -98,9 +98,9 @@ pub(crate) fn enter_act<N: Network>(
 pub(crate) fn enter_goal<N: Network>(
     nodes: &mut Nodes,
     board: &mut Board<N>,
-    scene: Scene,
+    scene: ShowScene,
     goal: State,
-) -> Result<Option<Branch>, NotShown>
+) -> Result<Option<ShowBranch>, NotShown>
     requires set { IsSet N.reading scene.machine.now scene.ask.now
         board.old }
     requires named { AreNamed board.old.plans }
@@ -122,7 +122,7 @@ pub(crate) fn enter_goal<N: Network>(
     let head = Head::Goal {
         state: named(scene.machine, goal),
     };
-    let branch = Branch {
+    let branch = ShowBranch {
         depth: 0,
         first: goal,
         count: 0,

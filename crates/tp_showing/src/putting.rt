@@ -15,7 +15,7 @@ ghost use Rattle.std.specs.List.{list_any};
 ghost use Rattle.std.specs.Str.{bytes_eq};
 
 use crate::closing::{close_end, close_late, close_stop};
-use crate::scene::{Branch, NotShown, Scene};
+use crate::scene::{NotShown, ShowBranch, ShowScene};
 use tp_base::{Memory, Network, Tick};
 use tp_bounds::{Close, Head, Node, Nodes};
 use tp_machine::{Feeder, Machine, State};
@@ -39,7 +39,7 @@ pub(crate) fn put_node(
 pub(crate) fn put_late<N: Network>(
     nodes: &mut Nodes,
     board: &Board<N>,
-    scene: Scene,
+    scene: ShowScene,
     depth: u32,
     head: Head,
 ) -> Result<(), Memory>
@@ -63,7 +63,7 @@ pub(crate) fn put_late<N: Network>(
 pub(crate) fn put_stop<N: Network>(
     nodes: &mut Nodes,
     board: &Board<N>,
-    scene: Scene,
+    scene: ShowScene,
     depth: u32,
     head: Head,
 ) -> Result<(), Memory>
@@ -89,7 +89,7 @@ pub(crate) fn put_stop<N: Network>(
 fn put_end<N: Network>(
     nodes: &mut Nodes,
     board: &Board<N>,
-    scene: Scene,
+    scene: ShowScene,
     depth: u32,
     head: Head,
 ) -> Result<(), Memory>
@@ -144,7 +144,7 @@ pub(crate) fn is_begun(machine: &Machine, ask: &Ask, state: State) -> bool
 }
 
 /// Whether a branch begins where a new copy does, and all its holds have places.
-fn is_complete(scene: Scene, branch: Branch) -> bool
+fn is_complete(scene: ShowScene, branch: ShowBranch) -> bool
     requires { IfSome branch.newest (λ (act : ActId). act.0
         < length scene.machine.now.actions) }
     ensures going { result ≡ false → hold_of scene.entry.machine.now branch ≡ None
@@ -165,10 +165,10 @@ fn is_complete(scene: Scene, branch: Branch) -> bool
 pub(crate) fn put_carried<N: Network>(
     nodes: &mut Nodes,
     board: &mut Board<N>,
-    scene: Scene,
-    child: Branch,
+    scene: ShowScene,
+    child: ShowBranch,
     head: Head,
-) -> Result<Option<Branch>, NotShown>
+) -> Result<Option<ShowBranch>, NotShown>
     requires set { IsSet N.reading scene.machine.now scene.ask.now
         board.old }
     requires named { AreNamed board.old.plans }
@@ -216,7 +216,7 @@ pub(crate) fn put_dead(
     nodes: &mut Nodes,
     depth: u32,
     head: Head,
-) -> Result<Option<Branch>, NotShown>
+) -> Result<Option<ShowBranch>, NotShown>
     ensures none { IfOk result (λ o. o ≡ None) }
     ensures memory { IfErr result (λ fault. fault ≡ NotShown.Memory) }
     ensures put { OnOk result (nodes.new

@@ -9,7 +9,7 @@ ghost use Rattle.tp_showing.specs.Showing.{Shows, branch_by};
 ghost use Rattle.tp_trees.specs.Places.{next_rule, places_from};
 
 use crate::putting::put_node;
-use crate::scene::{Branch, NotShown, Scene};
+use crate::scene::{NotShown, ShowBranch, ShowScene};
 use crate::side::Side;
 use tp_base::Memory;
 use tp_bounds::{Close, Head, Nodes};
@@ -35,8 +35,8 @@ impl Range {
     /// to that one, where the close doesn't rest on a hold before it, and all behind it, where it
     /// doesn't rest on a hold behind it. None where it serves for no place below it.
     pub(crate) fn of(
-        scene: Scene,
-        branch: Branch,
+        scene: ShowScene,
+        branch: ShowBranch,
         places: Places,
         place: u32,
         close: Close,
@@ -79,8 +79,8 @@ impl Range {
     pub(crate) fn put(
         self,
         nodes: &mut Nodes,
-        scene: Scene,
-        branch: Branch,
+        scene: ShowScene,
+        branch: ShowBranch,
         places: Places,
     ) -> Result<u64, NotShown>
         requires known { places.rule.resource.0 < length scene.machine.now.resources }

@@ -19,7 +19,7 @@ pub enum NotShown {
 
 /// An ask on a machine with the rooms of its states, and the last tick that is too early.
 #[derive(Clone, Copy)]
-pub(crate) struct Scene<'a> {
+pub(crate) struct ShowScene<'a> {
     pub(crate) alloc: Global,
     pub(crate) rooms: &'a Rooms,
     pub(crate) machine: &'a Machine,
@@ -30,7 +30,7 @@ pub(crate) struct Scene<'a> {
 /// What the board carries: the depth of its node, the state that the choices begin in, how many
 /// they are, and the newest with the number of its places.
 #[derive(Clone, Copy)]
-pub(crate) struct Branch {
+pub(crate) struct ShowBranch {
     pub(crate) depth: u32,
     pub(crate) first: State,
     pub(crate) count: u32,
@@ -38,7 +38,7 @@ pub(crate) struct Branch {
     pub(crate) places: u32,
 }
 
-impl Branch {
+impl ShowBranch {
     /// The hold of the newest choice that has no place yet, if there is one.
     pub(crate) fn next_hold(self, machine: &Machine) -> Option<HoldRule>
         requires { IfSome self.newest (λ (act : ActId). act.0 < length machine.now.actions) }

@@ -16,7 +16,7 @@ ghost use Rattle.tp_trees.specs.Trees.{IsBoundTree};
 use crate::goals::goal_states;
 use crate::opening::enter_goal;
 use crate::rows::rows_of;
-use crate::scene::{NotShown, Scene};
+use crate::scene::{NotShown, ShowScene};
 use crate::walking::show_below;
 use std::alloc::Global;
 use tp_base::{Memory, Network, Tick, Undo};
@@ -30,7 +30,7 @@ use tp_schedule::Ask;
 fn show_goal<N: Network>(
     nodes: &mut Nodes,
     board: &mut Board<N>,
-    scene: Scene,
+    scene: ShowScene,
     state: State,
 ) -> Result<(), NotShown>
     requires set { IsSet N.reading scene.machine.now scene.ask.now
@@ -67,7 +67,7 @@ fn show_goal<N: Network>(
 fn show_goals<N: Network>(
     nodes: &mut Nodes,
     board: &mut Board<N>,
-    scene: Scene,
+    scene: ShowScene,
     states: &[State],
 ) -> Result<(), NotShown>
     requires set { IsSet N.reading scene.machine.now scene.ask.now
@@ -129,7 +129,7 @@ pub fn show_limit<N: Network>(
     ensures back { IsBack N.reading board.old board.new
         machine.entry.now }
 {
-    let scene = Scene {
+    let scene = ShowScene {
         alloc,
         rooms,
         machine,

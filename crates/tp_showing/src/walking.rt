@@ -7,7 +7,7 @@ ghost use Rattle.tp_schedule.specs.Plans.{AreNamed};
 ghost use Rattle.tp_showing.specs.Closes.{IsLimit};
 ghost use Rattle.tp_showing.specs.Showing.{Carries, HasMarks, IsBack, IsEarly, IsEarlyEnd, IsOpen, IsSet, Shows, below, branch_by, kids_of};
 
-use crate::scene::{Branch, NotShown, Scene};
+use crate::scene::{NotShown, ShowBranch, ShowScene};
 use crate::ways::{enter, ways};
 use crate::widening::close_from;
 use tp_base::{Network, Undo};
@@ -19,8 +19,8 @@ use tp_placing::{Board, marks_keep_boards};
 pub(crate) fn show_below<N: Network>(
     nodes: &mut Nodes,
     board: &mut Board<N>,
-    scene: Scene,
-    branch: Branch,
+    scene: ShowScene,
+    branch: ShowBranch,
 ) -> Result<(), NotShown>
     requires set { IsSet N.reading scene.machine.now scene.ask.now
         board.old }

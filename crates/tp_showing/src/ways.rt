@@ -9,14 +9,14 @@ ghost use Rattle.tp_showing.specs.Showing.{Carries, IsEarly, IsEarlyEnd, IsEnter
 
 use crate::entering::{enter_place, enter_stop};
 use crate::opening::enter_act;
-use crate::scene::{Branch, NotShown, Scene};
+use crate::scene::{NotShown, ShowBranch, ShowScene};
 use tp_base::Network;
 use tp_bounds::Nodes;
 use tp_machine::{ActId, machine_law};
 use tp_placing::Board;
 
 /// How many ways go on from a branch: the places of its next hold, or the stop and all actions.
-pub(crate) fn ways<N: Network>(board: &Board<N>, scene: Scene, branch: Branch) -> u64
+pub(crate) fn ways<N: Network>(board: &Board<N>, scene: ShowScene, branch: ShowBranch) -> u64
     requires set { IsSet N.reading scene.machine.now scene.ask.now
         board.now }
     requires carries { (x : Suffix) × Carries N.reading scene.machine.now
@@ -44,10 +44,10 @@ pub(crate) fn ways<N: Network>(board: &Board<N>, scene: Scene, branch: Branch) -
 fn enter_child<N: Network>(
     nodes: &mut Nodes,
     board: &mut Board<N>,
-    scene: Scene,
-    branch: Branch,
+    scene: ShowScene,
+    branch: ShowBranch,
     way: u32,
-) -> Result<Option<Branch>, NotShown>
+) -> Result<Option<ShowBranch>, NotShown>
     requires set { IsSet N.reading scene.machine.now scene.ask.now
         board.old }
     requires named { AreNamed board.old.plans }
@@ -87,10 +87,10 @@ fn enter_child<N: Network>(
 pub(crate) fn enter<N: Network>(
     nodes: &mut Nodes,
     board: &mut Board<N>,
-    scene: Scene,
-    branch: Branch,
+    scene: ShowScene,
+    branch: ShowBranch,
     way: u32,
-) -> Result<Option<Branch>, NotShown>
+) -> Result<Option<ShowBranch>, NotShown>
     requires set { IsSet N.reading scene.machine.now scene.ask.now
         board.old }
     requires named { AreNamed board.old.plans }

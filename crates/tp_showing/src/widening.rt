@@ -9,7 +9,7 @@ ghost use Rattle.tp_showing.specs.Showing.{Carries, HasMarks, IsBack, IsEarlyEnd
 
 use crate::closing::{close_end, close_late};
 use crate::range::{Places, Range};
-use crate::scene::{Branch, NotShown, Scene};
+use crate::scene::{NotShown, ShowBranch, ShowScene};
 use tp_base::{Late, Memory, Network, Undo};
 use tp_bounds::{Close, Nodes};
 use tp_placing::{Board, marks_keep_boards};
@@ -18,8 +18,8 @@ use tp_placing::{Board, marks_keep_boards};
 /// where the board has an end by it.
 fn late_end<N: Network>(
     board: &mut Board<N>,
-    scene: Scene,
-    child: Branch,
+    scene: ShowScene,
+    child: ShowBranch,
 ) -> Result<Option<Close>, Memory>
     requires set { IsSet N.reading scene.machine.now scene.ask.now
         board.old }
@@ -49,8 +49,8 @@ fn late_end<N: Network>(
 /// the board knows nothing against it.
 fn refuse_place<N: Network>(
     board: &mut Board<N>,
-    scene: Scene,
-    branch: Branch,
+    scene: ShowScene,
+    branch: ShowBranch,
     places: Places,
     place: u32,
 ) -> Result<Option<Close>, Memory>
@@ -70,7 +70,7 @@ fn refuse_place<N: Network>(
     ensures since { IsSince N.reading board.old board.new
         scene.entry.machine.now }
 {
-    let child = Branch {
+    let child = ShowBranch {
         depth: branch.depth + 1,
         first: branch.first,
         count: branch.count,
@@ -89,8 +89,8 @@ fn refuse_place<N: Network>(
 /// The same, and the board is as it was.
 fn close_place<N: Network>(
     board: &mut Board<N>,
-    scene: Scene,
-    branch: Branch,
+    scene: ShowScene,
+    branch: ShowBranch,
     places: Places,
     place: u32,
 ) -> Result<Option<Close>, Memory>
@@ -121,8 +121,8 @@ fn close_place<N: Network>(
 /// The places from the first that is due on for which the close of a place serves.
 fn range_at<N: Network>(
     board: &mut Board<N>,
-    scene: Scene,
-    branch: Branch,
+    scene: ShowScene,
+    branch: ShowBranch,
     places: Places,
     place: u32,
 ) -> Result<Option<Range>, Memory>
@@ -156,8 +156,8 @@ fn range_at<N: Network>(
 /// finds them. None where the board knows nothing against the first.
 fn widest<N: Network>(
     board: &mut Board<N>,
-    scene: Scene,
-    branch: Branch,
+    scene: ShowScene,
+    branch: ShowBranch,
     places: Places,
 ) -> Result<Option<Range>, Memory>
     requires set { IsSet N.reading scene.machine.now scene.ask.now
@@ -201,8 +201,8 @@ fn widest<N: Network>(
 pub(crate) fn close_from<N: Network>(
     nodes: &mut Nodes,
     board: &mut Board<N>,
-    scene: Scene,
-    branch: Branch,
+    scene: ShowScene,
+    branch: ShowBranch,
     way: u64,
     count: u64,
 ) -> Result<u64, NotShown>

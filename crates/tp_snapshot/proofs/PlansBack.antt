@@ -33,7 +33,7 @@ use Rattle.tp_standing.specs.Sound.{IsReleasedBy}
 use Rattle.tp_snapshot.proofs.Back.{copy-back, unequal, want-back}
 use Rattle.tp_snapshot.proofs.ListsBack.{each-told, name-at, tray-back}
 use Rattle.tp_snapshot.proofs.PlanFacts.{plan-made}
-use Rattle.tp_snapshot.specs.declared.course.Course.{Course}
+use Rattle.tp_snapshot.specs.declared.course.TimedActs.{TimedActs}
 use Rattle.tp_snapshot.specs.declared.course.Owner.{Owner}
 use Rattle.tp_snapshot.specs.Jobs.{DoNamesDiffer}
 use Rattle.tp_snapshot.specs.Plans.{act_in, course_of, goal_in, kind_of, owner_of, plan_of, plan_with, released_of}
@@ -130,7 +130,7 @@ module _ (machine : Machine) (now : ℕ) (jobs : List Job) (p : Plan) where
   abbrev owner : Owner
   owner = record { sheet = p.sheet; want = p.want; whole = not (is_front p.kind) }
 
-  abbrev course : Course
+  abbrev course : TimedActs
   course = record { acts = p.acts; points = p.points }
 
   six : has_members 6 d ≡ true

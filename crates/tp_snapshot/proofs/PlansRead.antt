@@ -28,7 +28,7 @@ use Rattle.tp_snapshot.proofs.ReadFacts.{field-value, list-read, when_some, whol
 use Rattle.tp_snapshot.specs.Copies.{copy_in, want_in}
 use Rattle.tp_snapshot.specs.Plans.{act_in, course_of, goal_in, is_course, owner_of, plan_from, plan_of, plan_with, released_of}
 use Rattle.tp_snapshot.specs.Values.{each_of, field_of, has_members, whole_of}
-use Rattle.tp_snapshot.specs.declared.course.Course.{Course}
+use Rattle.tp_snapshot.specs.declared.course.TimedActs.{TimedActs}
 use Rattle.tp_snapshot.specs.declared.course.Owner.{Owner}
 
 -- what is known of a plan that was read, among these jobs and with the tick by which its actions are released
@@ -38,15 +38,15 @@ pub record IsPlanRead (jobs : List Job) (by : ℕ) (p : Plan) : Type 0 where
   pub points : All (λ x. x ≤ 2000000000) p.points
   pub released : p.released ≡ released_of by p.kind (take (length p.acts) p.points)
 
-points-few : (machine : Machine) (d : Data) (course : Course) → course_of machine d ≡ Some course → All (λ x. x ≤ 2000000000) course.points
+points-few : (machine : Machine) (d : Data) (course : TimedActs) → course_of machine d ≡ Some course → All (λ x. x ≤ 2000000000) course.points
 unfolding course_of
 points-few machine d course e =
     let (acts, a, more) = and_then_some (each_of 64 (codes "acts") (act_in machine) d) _ course e in
     let (points, at, made) = and_then_some (each_of 65 (codes "points") (whole_of 2000000000) d) _ course more in
-    let both : Course = record { acts = acts; points = points } in
+    let both : TimedActs = record { acts = acts; points = points } in
     let (size, is) = when_some (is_course acts points) (Some both) course made in
     let all = (list-read 65 (codes "points") (whole_of 2000000000) d points at).1 in
-    subst (λ (c : Course). All (λ x. x ≤ 2000000000) c.points) (same_Some both course is)
+    subst (λ (c : TimedActs). All (λ x. x ≤ 2000000000) c.points) (same_Some both course is)
     (λ k x low. (let (v, read) = all k x low in whole-most 2000000000 (get_or points k x) v read))
 
 owner-copy : (names : List (List ℕ)) (d : Data) (owner : Owner) → owner_of names d ≡ Some owner → IsCopy (length names) owner.sheet

@@ -18,7 +18,7 @@ use Rattle.tp_words.specs.Fields.{◌>>=◌}
 use Rattle.tp_jobs.specs.Backlogs.{names_of}
 use Rattle.tp_jobs.specs.declared.parts.Job.{Job}
 use Rattle.tp_standing.specs.Sound.{last_point}
-use Rattle.tp_snapshot.specs.declared.course.Course.{Course}
+use Rattle.tp_snapshot.specs.declared.course.TimedActs.{TimedActs}
 use Rattle.tp_snapshot.specs.declared.course.Owner.{Owner}
 use Rattle.tp_snapshot.specs.Copies.{copy_in, want_in}
 use Rattle.tp_snapshot.specs.Jobs.{tray_in}
@@ -59,7 +59,7 @@ released_of by Whole starts = prefix_len (λ start. nat_le start by) starts
 abbrev pub is_course : List ActId → List ℕ → Bool
 is_course acts points = nat_le 1 (length acts) && (length points == length acts + 1)
 
-unfoldable pub course_of : Machine → Data → Option Course
+unfoldable pub course_of : Machine → Data → Option TimedActs
 course_of machine d = do
   acts ← each_of most_acts (codes "acts") (act_in machine) d
   points ← each_of most_plan_points (codes "points") (whole_of last_point) d
@@ -72,7 +72,7 @@ owner_of names d = do
   whole ← field_of (codes "whole") as_bool d
   Some (record { sheet = sheet; want = want; whole = whole })
 
-abbrev pub plan_with : ℕ → Job → Owner → Course → Goal → Plan
+abbrev pub plan_with : ℕ → Job → Owner → TimedActs → Goal → Plan
 plan_with by job owner course goal = record {
   sheet = owner.sheet;
   name = job.name;

@@ -4,7 +4,7 @@ use tp_schedule::{Acts, Points, SheetId};
 
 /// The actions of a plan and their points.
 #[derive(Drop)]
-pub(crate) struct Course {
+pub(crate) struct TimedActs {
     pub acts: Acts,
     pub points: Points,
 }

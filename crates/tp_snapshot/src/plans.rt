@@ -15,7 +15,7 @@ ghost use Rattle.tp_snapshot.specs.Values.{few_read, field_of, whole_of};
 ghost use Rattle.tp_snapshot.specs.Written.{act_data, goal_data, is_action, is_goal_known, is_plan_known, plan_data, whole_data};
 
 use crate::copies::{copy_value, want_value};
-use crate::course::{Course, Owner};
+use crate::course::{Owner, TimedActs};
 use crate::jobs::read_tray;
 use crate::looking::{has_members, read_name, read_whole, truth_at, value_at, values_at};
 use crate::making::name_value;
@@ -98,14 +98,14 @@ fn points_in(values: &[Value]) -> Option<Points>
 
 /// The actions and points of a plan.
 #[tactic(auto, unfolding(crate::specs::Plans::course_of))]
-fn read_course(machine: &Machine, value: &Value) -> Option<Course>
+fn read_course(machine: &Machine, value: &Value) -> Option<TimedActs>
     ensures course { result ≡ course_of machine.now (view value.now) }
     ensures points { IfSome result (λ course. length course.points ≡ length course.acts + 1) }
 {
     let acts = acts_in(machine, values_at(value, "acts")?)?;
     let points = points_in(values_at(value, "points")?)?;
     if 1 <= acts.len() && points.len() == acts.len() + 1 {
-        Some(Course { acts, points })
+        Some(TimedActs { acts, points })
     } else {
         None
     }
@@ -173,7 +173,7 @@ fn released_of(by: Tick, kind: Kind, starts: &[Tick]) -> u32
     }
 }
 
-fn plan_with(by: Tick, job: &JobRow, owner: Owner, course: Course, goal: Goal) -> Plan
+fn plan_with(by: Tick, job: &JobRow, owner: Owner, course: TimedActs, goal: Goal) -> Plan
     requires few { length course.acts ≤ most_acts }
     requires points { length course.acts ≤ length course.points }
     ensures { result ≡ plan_with by job.now owner course goal }

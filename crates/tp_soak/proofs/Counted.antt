@@ -22,7 +22,7 @@ use Rattle.tp_turn.specs.Logs.{Entry}
 use Rattle.tp_soak.specs.Counting.{counts_of, tells}
 use Rattle.tp_soak.specs.Summaries.{IsCountedRun, IsLogText}
 use Rattle.tp_soak.specs.declared.counts.Counts.{Counts}
-use Rattle.tp_soak.specs.declared.counts.Kind.TheVariants as kind
+use Rattle.tp_soak.specs.declared.counts.ItemKind.TheVariants as kind
 
 count-append : (xs ys : List Item) → count_by (tells kind.Event) (xs ++ ys) ≡ count_by (tells kind.Event) xs + count_by (tells kind.Event) ys
 count-append xs ys = sum_by-append (λ x. cond (tells kind.Event x) 1 0) xs ys

@@ -5,18 +5,18 @@ use Rattle.tp_log.specs.declared.item.Item.TheVariants.{Event, Note, Tree}
 use Rattle.tp_schedule.specs.declared.records.Record.{Record}
 use Rattle.tp_schedule.specs.declared.records.Record.TheVariants.{Plan, Move, Never, Budget, Release, Done, Lost}
 use Rattle.tp_soak.specs.declared.counts.Counts.{Counts}
-use Rattle.tp_soak.specs.declared.counts.Kind.{Kind}
-use Rattle.tp_soak.specs.declared.counts.Kind.TheVariants as kind
+use Rattle.tp_soak.specs.declared.counts.ItemKind.{ItemKind}
+use Rattle.tp_soak.specs.declared.counts.ItemKind.TheVariants as kind
 
 -- ---- counts
 
 -- whether it is events that are counted
-abbrev pub is_event : Kind → Bool
+abbrev pub is_event : ItemKind → Bool
 is_event kind.Event = true
 is_event kind = false
 
 -- whether a record is of a kind
-abbrev pub is_of : Kind → Record → Bool
+abbrev pub is_of : ItemKind → Record → Bool
 is_of kind.Plan (Plan sheet place points acts) = true
 is_of kind.Move (Move sheet points) = true
 is_of kind.Release (Release sheet act name start end) = true
@@ -27,7 +27,7 @@ is_of kind.Budget (Budget sheet goal bound) = true
 is_of _ told = false
 
 -- whether an item is counted by a kind
-abbrev pub tells : Kind → Item → Bool
+abbrev pub tells : ItemKind → Item → Bool
 tells kind (Note told) = is_of kind told
 tells kind (Event event) = is_event kind
 tells kind (Tree tree) = false

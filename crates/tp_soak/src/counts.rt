@@ -8,7 +8,7 @@ use tp_schedule::Record;
 
 /// What is counted: events, and records of some kinds.
 #[derive(Clone, Copy)]
-enum Kind {
+enum ItemKind {
     Event,
     Plan,
     Move,
@@ -32,28 +32,28 @@ pub struct Counts {
     pub budgets: usize,
 }
 
-fn is_event(kind: Kind) -> bool
+fn is_event(kind: ItemKind) -> bool
     ensures { result ≡ is_event kind }
 {
-    matches!(kind, Kind::Event)
+    matches!(kind, ItemKind::Event)
 }
 
-fn is_of(kind: Kind, told: &Record) -> bool
+fn is_of(kind: ItemKind, told: &Record) -> bool
     ensures { result ≡ is_of kind told.now }
 {
     match kind {
-        Kind::Event => false,
-        Kind::Plan => matches!(told, Record::Plan { .. }),
-        Kind::Move => matches!(told, Record::Move { .. }),
-        Kind::Release => matches!(told, Record::Release { .. }),
-        Kind::Done => matches!(told, Record::Done { .. }),
-        Kind::Lost => matches!(told, Record::Lost { .. }),
-        Kind::Never => matches!(told, Record::Never { .. }),
-        Kind::Budget => matches!(told, Record::Budget { .. }),
+        ItemKind::Event => false,
+        ItemKind::Plan => matches!(told, Record::Plan { .. }),
+        ItemKind::Move => matches!(told, Record::Move { .. }),
+        ItemKind::Release => matches!(told, Record::Release { .. }),
+        ItemKind::Done => matches!(told, Record::Done { .. }),
+        ItemKind::Lost => matches!(told, Record::Lost { .. }),
+        ItemKind::Never => matches!(told, Record::Never { .. }),
+        ItemKind::Budget => matches!(told, Record::Budget { .. }),
     }
 }
 
-fn tells(kind: Kind, item: &Item) -> bool
+fn tells(kind: ItemKind, item: &Item) -> bool
     ensures { result ≡ tells kind item.now }
 {
     match item {
@@ -63,7 +63,7 @@ fn tells(kind: Kind, item: &Item) -> bool
     }
 }
 
-fn count(items: &[Item], kind: Kind) -> usize
+fn count(items: &[Item], kind: ItemKind) -> usize
     ensures { result ≡ count_by (tells kind) items.now }
 {
     items.iter().filter(|item| tells(kind, item)).count()
@@ -74,13 +74,13 @@ pub(crate) fn counts_of(items: &[Item]) -> Counts
     ensures { result ≡ counts_of items.now }
 {
     Counts {
-        events: count(items, Kind::Event),
-        plans: count(items, Kind::Plan),
-        moves: count(items, Kind::Move),
-        releases: count(items, Kind::Release),
-        dones: count(items, Kind::Done),
-        lost: count(items, Kind::Lost),
-        nones: count(items, Kind::Never),
-        budgets: count(items, Kind::Budget),
+        events: count(items, ItemKind::Event),
+        plans: count(items, ItemKind::Plan),
+        moves: count(items, ItemKind::Move),
+        releases: count(items, ItemKind::Release),
+        dones: count(items, ItemKind::Done),
+        lost: count(items, ItemKind::Lost),
+        nones: count(items, ItemKind::Never),
+        budgets: count(items, ItemKind::Budget),
     }
 }

@@ -4,7 +4,7 @@ ghost use Rattle.tp_base.specs.Net.{empty_net};
 
 use crate::marks::PlainMark;
 use crate::saving::SavedLow;
-use crate::solving::Working;
+use crate::solving::SolveSpace;
 use std::alloc::{AllocError, Global};
 use std::marker::Model;
 use tp_base::{Edge, Kept, Memory};
@@ -21,7 +21,7 @@ pub struct PlainNet {
     pub(crate) edges: Vec<Edge>,
     /// The least solution.
     pub(crate) times: Vec<u32>,
-    pub(crate) working: Working,
+    pub(crate) working: SolveSpace,
     pub(crate) kept: Kept,
     /// The edges that show why the last refused change was refused.
     pub(crate) path: Vec<Edge>,
@@ -84,7 +84,7 @@ impl PlainNet {
             caps: Vec::with_capacity(alloc, capacity)?,
             edges: Vec::with_capacity(alloc, edges as usize)?,
             times: Vec::with_capacity(alloc, capacity)?,
-            working: Working::new(alloc, capacity)?,
+            working: SolveSpace::new(alloc, capacity)?,
             kept: Kept::Nothing,
             path: Vec::with_capacity(alloc, capacity)?,
             saved: Vec::with_capacity(alloc, capacity * marks as usize)?,

@@ -12,18 +12,18 @@ use tp_base::{Edge, Kept};
 
 /// Where a solution is worked out: the times, the edge that each was raised along last, and room for a path of them.
 #[derive(Drop)]
-pub(crate) struct Working {
+pub(crate) struct SolveSpace {
     pub(crate) times: Vec<u32>,
     pub(crate) causes: Vec<Option<Edge>>,
     pub(crate) path: Vec<Edge>,
     pub(crate) places: Vec<usize>,
 }
 
-impl Working {
-    pub(crate) fn new(alloc: Global, points: usize) -> Result<Working, AllocError>
+impl SolveSpace {
+    pub(crate) fn new(alloc: Global, points: usize) -> Result<SolveSpace, AllocError>
         ensures { IfOk result (λ w. HasWorkingCapacity points w) }
     {
-        Ok(Working {
+        Ok(SolveSpace {
             times: Vec::with_capacity(alloc, points)?,
             causes: Vec::with_capacity(alloc, points)?,
             path: Vec::with_capacity(alloc, points)?,
@@ -57,7 +57,7 @@ pub(crate) fn solve(
     lows: &[u32],
     caps: &[u32],
     edges: &[Edge],
-    working: &mut Working,
+    working: &mut SolveSpace,
 ) -> Result<(), Kept>
     requires caps { length caps.now ≡ length lows.now }
     requires within { AreWithin caps.now lows.now }

@@ -11,7 +11,7 @@ use tp_schedule::{Plan, Schedule, SheetId};
 
 /// Where the points of a plan stand among the ticks.
 #[derive(Clone, Copy)]
-pub(crate) struct Span {
+pub(crate) struct PlanSpan {
     from: usize,
     till: usize,
 }
@@ -20,7 +20,7 @@ pub(crate) struct Span {
 #[derive(Drop)]
 pub struct Times {
     ticks: Vec<Tick>,
-    spans: Vec<Span>,
+    spans: Vec<PlanSpan>,
 }
 
 // Clauses see the points of each plan.
@@ -82,7 +82,7 @@ impl Times {
     {
         let from = self.ticks.len();
         self.ticks.extend_from_slice(plan.points.as_slice())?;
-        self.spans.push(Span {
+        self.spans.push(PlanSpan {
             from,
             till: self.ticks.len(),
         })?;

@@ -23,7 +23,7 @@ use crate::alone::find_in_plan;
 use crate::faults::Read;
 use crate::moving::{Moving, take_all_moves};
 use crate::planning::read_plan;
-use crate::stop::{Failure, Found, Reason, Wrong, reason_of};
+use crate::stop::{Failure, FoundReason, Reason, Wrong, reason_of};
 use crate::trees::take_tree;
 use std::alloc::Global;
 use tp_answers::{find_fault, plan_of};
@@ -39,7 +39,7 @@ fn due(left: usize) -> Failure
     ensures stops { IsTrue (is_stop result) }
     ensures from { IfStop (IsFrom left (λ reason. reason ≡ IsDue)) result }
 {
-    Failure::Stop(Found {
+    Failure::Stop(FoundReason {
         left,
         reason: Reason::Due,
     })
@@ -52,7 +52,7 @@ pub(crate) fn ahead_of(failure: Failure, count: usize) -> Failure
 {
     match failure {
         Failure::Memory => Failure::Memory,
-        Failure::Stop(found) => Failure::Stop(Found {
+        Failure::Stop(found) => Failure::Stop(FoundReason {
             left: found.left.saturating_add(count),
             reason: found.reason,
         }),
@@ -252,7 +252,7 @@ fn wrong_plan(wrong: Wrong, left: usize) -> Failure
     ensures stops { IsTrue (is_stop result) }
     ensures from { IfStop (IsFrom left (λ reason. reason ≡ reason_of wrong)) result }
 {
-    Failure::Stop(Found {
+    Failure::Stop(FoundReason {
         left,
         reason: reason_of(wrong),
     })

@@ -8,7 +8,7 @@ ghost use Rattle.tp_told.specs.Breaches.{Begins, BeginsAt, BeginsIn};
 ghost use Rattle.tp_told.specs.Reasons.{TellsFault};
 ghost use Rattle.tp_told.specs.declared.stop.Reason.TheVariants.{Due as IsDue, Illegal};
 
-use crate::stop::{Found, Reason};
+use crate::stop::{FoundReason, Reason};
 use tp_answers::{Fault, Unlike, plan_of};
 use tp_base::Tick;
 use tp_deciding::{Clash, Parting};
@@ -132,10 +132,10 @@ impl Read<'_> {
         self.left_from(one).min(self.left_from(other))
     }
 
-    fn stop_at(&self, left: usize, first: i64, second: i64) -> Found
+    fn stop_at(&self, left: usize, first: i64, second: i64) -> FoundReason
         ensures { result.reason ≡ Illegal first second }
     {
-        Found {
+        FoundReason {
             left,
             reason: Reason::Illegal { first, second },
         }
@@ -150,7 +150,7 @@ impl Read<'_> {
     }
 
     /// The begins of two holds that stand in another order than before.
-    fn parting(&self, machine: &Machine, parting: &Parting) -> Found
+    fn parting(&self, machine: &Machine, parting: &Parting) -> FoundReason
         ensures { TellsFault machine.now self.entry.now.now self.entry.now.after.now.plans
             (Order parting.now) result.reason }
     {
@@ -165,16 +165,16 @@ impl Read<'_> {
         }
     }
 
-    fn due(&self, left: usize) -> Found
+    fn due(&self, left: usize) -> FoundReason
         ensures { result.reason ≡ IsDue }
     {
-        Found {
+        FoundReason {
             left,
             reason: Reason::Due,
         }
     }
 
-    fn clash(&self, machine: &Machine, clash: &Clash) -> Found
+    fn clash(&self, machine: &Machine, clash: &Clash) -> FoundReason
         ensures { TellsFault machine.now self.entry.now.now self.entry.now.after.now.plans
             (OfClash clash.now) result.reason }
     {
@@ -200,7 +200,7 @@ impl Read<'_> {
     }
 
     /// What is wrong by the fault, and from which item on.
-    pub(crate) fn stop_of(&self, machine: &Machine, fault: &Fault) -> Found
+    pub(crate) fn stop_of(&self, machine: &Machine, fault: &Fault) -> FoundReason
         ensures { TellsFault machine.now self.entry.now.now self.entry.now.after.now.plans fault.now
             result.reason }
     {
@@ -230,7 +230,7 @@ impl Read<'_> {
                 i64::from(self.now) + i64::from(machine.window),
             ),
             Fault::Order(parting) => self.parting(machine, parting),
-            Fault::Early(early) => Found {
+            Fault::Early(early) => FoundReason {
                 left: self.left_from(early.sheet),
                 reason: Reason::NotLeast {
                     given: early.given,

@@ -11,7 +11,7 @@ ghost use Rattle.tp_told.specs.Telling.{begins_with_move};
 use crate::alone::{find_in_plan, find_unkept};
 use crate::asides::begins_with_move;
 use crate::points::points_of;
-use crate::stop::{Failure, Found, Reason, Wrong, reason_of};
+use crate::stop::{Failure, FoundReason, Reason, Wrong, reason_of};
 use std::alloc::Global;
 use tp_base::{Memory, Tick};
 use tp_deciding::is_exempt;
@@ -123,7 +123,7 @@ fn take_moves(
                 match find_in_move(alloc, machine, moving.moment, plan, &points) {
                     Err(_) => return Err(Failure::Memory),
                     Ok(Some(wrong)) => {
-                        return Err(Failure::Stop(Found {
+                        return Err(Failure::Stop(FoundReason {
                             left: items.len() - taken,
                             reason: reason_of(wrong),
                         }));
@@ -164,7 +164,7 @@ pub(crate) fn take_all_moves(
         Err(failure) => Err(failure),
         Ok(taken) => {
             if begins_with_move(&items[taken..]) {
-                Err(Failure::Stop(Found {
+                Err(Failure::Stop(FoundReason {
                     left: items.len() - taken,
                     reason: Reason::Due,
                 }))

@@ -44,7 +44,7 @@ pub struct Stop {
 
 /// What is wrong, and how many items there are from the wrong one on.
 #[derive(Clone, Copy)]
-pub(crate) struct Found {
+pub(crate) struct FoundReason {
     pub(crate) left: usize,
     pub(crate) reason: Reason,
 }
@@ -53,7 +53,7 @@ pub(crate) struct Found {
 #[derive(Clone, Copy)]
 pub(crate) enum Failure {
     Memory,
-    Stop(Found),
+    Stop(FoundReason),
 }
 
 impl From<tp_base::Memory> for Failure {

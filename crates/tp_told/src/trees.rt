@@ -7,7 +7,7 @@ ghost use Rattle.tp_told.specs.Failing.{Denies, failure_of, is_stop};
 ghost use Rattle.tp_told.specs.Reasons.{IfStop, IsFrom, IsTreeReason, reason_in};
 ghost use Rattle.tp_told.specs.Showing.{BeginsWithTree, IsTreeItem};
 
-use crate::stop::{Failure, Found, Reason};
+use crate::stop::{Failure, FoundReason, Reason};
 use std::alloc::Global;
 use tp_bound_check::check_bound;
 use tp_log::Item;
@@ -21,7 +21,7 @@ fn failure_of(flaw: TreeFlaw) -> Failure
 {
     match flaw {
         TreeFlaw::Memory => Failure::Memory,
-        _ => Failure::Stop(Found {
+        _ => Failure::Stop(FoundReason {
             left: 0,
             reason: Reason::Tree(flaw),
         }),
@@ -35,7 +35,7 @@ fn from(failure: Failure, left: usize) -> Failure
 {
     match failure {
         Failure::Memory => Failure::Memory,
-        Failure::Stop(found) => Failure::Stop(Found {
+        Failure::Stop(found) => Failure::Stop(FoundReason {
             left,
             reason: found.reason,
         }),
@@ -67,7 +67,7 @@ fn check_item(
             Ok(()) => Ok(()),
             Err(flaw) => Err(failure_of(flaw)),
         },
-        _ => Err(Failure::Stop(Found {
+        _ => Err(Failure::Stop(FoundReason {
             left: 0,
             reason: Reason::Due,
         })),
@@ -98,7 +98,7 @@ pub(crate) fn take_tree(
             Ok(()) => Ok(()),
             Err(failure) => Err(from(failure, items.len())),
         },
-        [] => Err(Failure::Stop(Found {
+        [] => Err(Failure::Stop(FoundReason {
             left: 0,
             reason: Reason::Due,
         })),

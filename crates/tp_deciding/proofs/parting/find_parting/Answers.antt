@@ -1,14 +1,14 @@
 use Rattle.std.proofs.Common.{◌∙◌, List, ap, filter, not, subst}
 use Rattle.tp_deciding.specs.Holds.{slot_of}
 use Rattle.tp_deciding.specs.Partings.{IsFirstParting, is_new_of}
-use Rattle.tp_deciding.specs.declared.held.Held.{Held}
+use Rattle.tp_deciding.specs.declared.held.NumberedHold.{NumberedHold}
 use Rattle.tp_deciding.proofs.PartingFacts.{parting-says}
 use Rattle.tp_deciding.proofs.parting.find_parting.Goals as goal
 
 pub returns : goal.returns
 returns c =
     let stand = c.in_ok-stand.stand.items in
-    let less = λ (hs : List Held). filter (λ (h : Held). not (is_new_of c.args.asked (slot_of h))) hs in
+    let less = λ (hs : List NumberedHold). filter (λ (h : NumberedHold). not (is_new_of c.args.asked (slot_of h))) hs in
     let old = c.as_slice-3.ensures.value ∙ c.in_ok-old.ensures ∙ ap less c.as_slice.ensures.value in
     parting-says c.args.machine.now c.args.asked c.args.before.now.plans c.args.after.now.plans c.requires.before c.requires.after
     c.in_ok-stood.stood.items stand c.in_ok-stood.ensures.moved c.in_ok-stood.ensures.sorted c.in_ok-stand.ensures.moved c.in_ok-stand.ensures.sorted c.first_parting.result

@@ -6,7 +6,7 @@ use Rattle.tp_timelines.specs.Orders.{order_on, total}
 use Rattle.tp_placing.specs.Growing.{HasPut, slot_by}
 use Rattle.tp_placing.specs.Loading.{AreIds}
 use Rattle.tp_placing.specs.Standing.{AreSlots}
-use Rattle.tp_placing.specs.declared.causes.Cause.{Cause}
+use Rattle.tp_placing.specs.declared.causes.EdgeCause.{EdgeCause}
 use Rattle.tp_placing.proofs.growing.put_holds.Given as goal
 
 abbrev pub invariant-loop-number : goal.invariant-loop-number
@@ -15,7 +15,7 @@ invariant-loop-number l = record {
       → ((r : ℕ) → r < length l.machine.resources → AreSlots (table_of l.look.plans.now) l.look.held.now (order_on l.fn.lines.orders r) (before r))
       → (es : List Edge) × (l.edges.items ≡ l.fn.edges.items ++ es)
       × HasPut l.machine l.look.plans.now before l.look.held.now l.lines.orders es l.causes (map (slot_by (table_of l.look.plans.now)) (take (l.number - l.from) (drop l.from l.look.held.now)));
-  causes : (more : List Cause) × (l.causes ≡ l.fn.causes ++ more);
+  causes : (more : List EdgeCause) × (l.causes ≡ l.fn.causes ++ more);
   ids : (r : ℕ) → r < length l.lines.orders → AreIds l.look.held.now (order_on l.lines.orders r);
   few : length l.causes ≡ length l.fn.causes + 2 * (l.number - l.from);
   some : vec_len l.edges ≤ vec_len l.fn.edges + 2 * (l.number - l.from);

@@ -4,7 +4,7 @@ use Rattle.tp_routes.proofs.SpreadFacts.{Lowers-refl, Lowers-then}
 use Rattle.tp_routes.proofs.AlongFacts.{along-here, along-end, next-there, ahead-smaller}
 use Rattle.tp_routes.proofs.SpreadFacts.{none_there}
 use Rattle.tp_routes.specs.Index.{IsNextAt, number_at}
-use Rattle.tp_routes.specs.declared.index.End.TheVariants.{From}
+use Rattle.tp_routes.specs.declared.index.ActEnd.TheVariants.{From}
 use Rattle.tp_routes.proofs.filling.spread.Goals as goal
 
 pub actions-init : goal.actions-init

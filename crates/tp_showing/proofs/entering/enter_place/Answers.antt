@@ -12,7 +12,7 @@ use Rattle.tp_trees.specs.Places.{places_from, is_name_of_resource}
 use Rattle.std.specs.Prelude.{IfSome, MatchOption}
 use Rattle.std.specs.Result.{IfOk}
 use Rattle.tp_schedule.specs.declared.parts.Plan.{Plan}
-use Rattle.tp_showing.specs.declared.scene.Branch.{Branch}
+use Rattle.tp_showing.specs.declared.scene.ShowBranch.{ShowBranch}
 use Rattle.tp_showing.specs.Showing.{Carries, IsEarly, IsEntered, IsOpen, PutsNode, Shows, branch_by, kids_of}
 use Rattle.tp_showing.proofs.CarryFacts.{carries-place, hold-known, may-place, own-suffix, place-refused}
 use Rattle.tp_showing.proofs.EnterFacts.{early-at, enter-by, ok-three, place-shows, placed_below}
@@ -89,11 +89,11 @@ returns-in-Ok-clause-entered g c =
     let head = AtHead c.get.result.now.name place place in
     let carried = carries-place g.N.Network.reading g.N.Network.refutes machine ask c.args.board.now c.place.new.self r child x0 c.args.rule place k c.requires.next (c.requires.within x0 k.carried) c.place.ensures.loaded c.in-Ok.ensures.suffix refl in
     let name = named g (goal.at.returns-in-Ok-clause-entered g c).After-get in
-    let Put = λ (ps : List Plan) (o : Option Branch). (z : Suffix) → Carries g.N.Network.reading machine ask c.place.new.self child z
+    let Put = λ (ps : List Plan) (o : Option ShowBranch). (z : Suffix) → Carries g.N.Network.reading machine ask c.place.new.self child z
     → MatchOption o (PutsNode machine ps ask limit old new (branch_by child z) head (λ _. [])) (λ q. (q ≡ child) × PutsNode machine ps ask limit old new (branch_by child z) head (λ rows. kids_of machine ps ask rows (branch_by child z))) in
-    let Open = λ (o : Option Branch). IfSome o (λ _. IsOpen machine ask child) in
-    let Early = λ (o : Option Branch). IfSome o (λ _. IsEarly machine ask limit c.place.new.self) in
-    let Entered = λ (o : Option Branch) (x : Suffix). IsEntered g.N.Network.reading machine plans ask sums limit old new c.put_carried.new.board r
+    let Open = λ (o : Option ShowBranch). IfSome o (λ _. IsOpen machine ask child) in
+    let Early = λ (o : Option ShowBranch). IfSome o (λ _. IsEarly machine ask limit c.place.new.self) in
+    let Entered = λ (o : Option ShowBranch) (x : Suffix). IsEntered g.N.Network.reading machine plans ask sums limit old new c.put_carried.new.board r
     (λ rows. places_from machine plans ask rows (branch_by r x) c.args.rule place) (λ rows. places_from machine plans ask rows (branch_by r x) c.args.rule (place + 1)) o in
     let put = subst (λ ps. IfOk c.put_carried.result (Put ps)) c.place.ensures.loaded.plans c.put_carried.ensures.put in
     ok-map (λ o. Put plans o × (Open o × Early o)) (λ o. (x : Suffix) → suffix_of c.args.board.now ≡ Some x → Entered o x) c.put_carried.result

@@ -13,7 +13,7 @@ use Rattle.tp_schedule.specs.Routes.{is_act_allowed}
 use Rattle.tp_schedule.specs.declared.parts.Plan.{Plan}
 use Rattle.tp_trees.specs.Places.{action_due, is_name_of_act, state_before}
 use Rattle.tp_showing.specs.Showing.{Carries, IsEarly, IsEntered, IsOpen, PutsNode, Shows, below, branch_by, kids_of}
-use Rattle.tp_showing.specs.declared.scene.Branch.{Branch}
+use Rattle.tp_showing.specs.declared.scene.ShowBranch.{ShowBranch}
 use Rattle.tp_showing.proofs.ActFacts.{act-shows, dead-shows, found-steps, opened_below, skipped-shows}
 use Rattle.tp_showing.proofs.CarryFacts.{act-refused, carries-act, own-suffix}
 use Rattle.tp_showing.proofs.EarlyFacts.{has-places, memory-early, room-is}
@@ -118,11 +118,11 @@ returns-in-Ok-clause-entered g c =
     let y = with_action act room x0 in
     let head = ActHead c.get.result.now.name in
     let carried = opened g (goal.at.returns-in-Ok-clause-entered g c).In-Ok in
-    let Put = λ (ps : List Plan) (o : Option Branch). (z : Suffix) → Carries g.N.Network.reading machine ask c.open_action.new.self child z
+    let Put = λ (ps : List Plan) (o : Option ShowBranch). (z : Suffix) → Carries g.N.Network.reading machine ask c.open_action.new.self child z
     → MatchOption o (PutsNode machine ps ask limit old new (branch_by child z) head (λ _. [])) (λ q. (q ≡ child) × PutsNode machine ps ask limit old new (branch_by child z) head (λ rows. kids_of machine ps ask rows (branch_by child z))) in
-    let Open = λ (o : Option Branch). IfSome o (λ _. IsOpen machine ask child) in
-    let Early = λ (o : Option Branch). IfSome o (λ _. IsEarly machine ask limit c.open_action.new.self) in
-    let Entered = λ (o : Option Branch) (x : Suffix). IsEntered g.N.Network.reading machine plans ask sums limit old new c.put_carried.new.board r
+    let Open = λ (o : Option ShowBranch). IfSome o (λ _. IsOpen machine ask child) in
+    let Early = λ (o : Option ShowBranch). IfSome o (λ _. IsEarly machine ask limit c.open_action.new.self) in
+    let Entered = λ (o : Option ShowBranch) (x : Suffix). IsEntered g.N.Network.reading machine plans ask sums limit old new c.put_carried.new.board r
     (λ rows. action_due machine plans ask rows (branch_by r x) act) (λ _. []) o in
     let put = subst (λ ps. IfOk c.put_carried.result (Put ps)) c.open_action.ensures.loaded.plans c.put_carried.ensures.put in
     ok-map (λ o. Put plans o × (Open o × Early o)) (λ o. (x : Suffix) → suffix_of c.args.board.now ≡ Some x → Entered o x) c.put_carried.result

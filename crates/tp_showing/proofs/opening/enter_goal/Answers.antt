@@ -10,7 +10,7 @@ use Rattle.tp_schedule.specs.declared.parts.Plan.{Plan}
 use Rattle.tp_showing.specs.Closes.{IsRefused}
 use Rattle.tp_showing.specs.RoomRows.{named}
 use Rattle.tp_showing.specs.Showing.{Carries, IsEarly, IsGoalEntered, IsOpen, PutsNode, branch_by, kids_of}
-use Rattle.tp_showing.specs.declared.scene.Branch.{Branch}
+use Rattle.tp_showing.specs.declared.scene.ShowBranch.{ShowBranch}
 use Rattle.tp_showing.proofs.EarlyFacts.{memory-early, room-is}
 use Rattle.tp_showing.proofs.EnterFacts.{early-at, ok-none, ok-three}
 use Rattle.tp_showing.proofs.GoalShows.{carries-goal, dead-goal, goal-by, goal-shows, goal_below}
@@ -60,10 +60,10 @@ returns-in-Ok-clause-entered g c =
     let child = goal_below c.args.goal in
     let is_room = room-is machine ask sums c.args.goal room c.requires.rooms c.requires.known (sym c.room.ensures ∙ c.in-Some.is) in
     let carried = carries-goal g.N.Network.reading machine plans ask sums limit old new c.open_goal.new.self c.args.goal room c.requires.known c.requires.is_goal is_room c.requires.kept c.in-Ok.ensures.suffix in
-    let Put = λ (ps : List Plan) (s : NamedState) (o : Option Branch). (z : Suffix) → Carries g.N.Network.reading machine ask c.open_goal.new.self child z
+    let Put = λ (ps : List Plan) (s : NamedState) (o : Option ShowBranch). (z : Suffix) → Carries g.N.Network.reading machine ask c.open_goal.new.self child z
     → MatchOption o (PutsNode machine ps ask limit old new (branch_by child z) (GoalHead s) (λ _. [])) (λ q. (q ≡ child) × PutsNode machine ps ask limit old new (branch_by child z) (GoalHead s) (λ rows. kids_of machine ps ask rows (branch_by child z))) in
-    let Open = λ (o : Option Branch). IfSome o (λ _. IsOpen machine ask child) in
-    let Early = λ (o : Option Branch). IfSome o (λ _. IsEarly machine ask limit c.open_goal.new.self) in
+    let Open = λ (o : Option ShowBranch). IfSome o (λ _. IsOpen machine ask child) in
+    let Early = λ (o : Option ShowBranch). IfSome o (λ _. IsEarly machine ask limit c.open_goal.new.self) in
     let put = subst (λ s. IfOk c.put_carried.result (Put plans s)) c.named.ensures (subst (λ ps. IfOk c.put_carried.result (Put ps c.named.result)) c.open_goal.ensures.loaded.plans c.put_carried.ensures.put) in
     ok-map (λ o. Put plans (named machine c.args.goal) o × (Open o × Early o)) (IsGoalEntered g.N.Network.reading machine plans ask sums limit old new c.put_carried.new.board c.args.goal) c.put_carried.result
     (λ o both. goal-by g.N.Network.reading machine plans ask sums limit old new o c.open_goal.new.self c.put_carried.new.board c.args.goal room c.requires.known (sym c.room.ensures ∙ c.in-Some.is) carried

@@ -6,7 +6,7 @@ use Rattle.tp_machine.specs.declared.parts.HoldRule.{HoldRule}
 use Rattle.tp_placing.specs.Boards.{suffix_of}
 use Rattle.tp_trees.specs.Places.{Due, places_from}
 use Rattle.tp_showing.specs.Showing.{IsEntered, branch_by, hold_of, left_of, ways_of}
-use Rattle.tp_showing.specs.declared.scene.Branch.{Branch}
+use Rattle.tp_showing.specs.declared.scene.ShowBranch.{ShowBranch}
 use Rattle.tp_showing.proofs.ReasonFacts.{ok-map}
 use Rattle.tp_showing.proofs.WayFacts.{place-gone}
 use Rattle.tp_showing.proofs.ways.enter.Goals as goal
@@ -32,7 +32,7 @@ returns-in-Some-clause-entered g c =
     let way = c.args.way in
     let rule = c.in-Some.rule in
     let hold = hold_of machine r in
-    let Entered = λ (from to : Suffix → List TreeRow → List Due) (o : Option Branch). (x : Suffix) → suffix_of c.args.board.now ≡ Some x
+    let Entered = λ (from to : Suffix → List TreeRow → List Due) (o : Option ShowBranch). (x : Suffix) → suffix_of c.args.board.now ≡ Some x
     → IsEntered g.N.Network.reading machine plans ask c.args.scene.rooms.now.sums c.args.scene.limit c.args.nodes.now c.enter_place.new.nodes c.enter_place.new.board r (from x) (to x) o in
     ok-map (Entered (λ x rows. places_from machine plans ask rows (branch_by r x) rule way) (λ x rows. places_from machine plans ask rows (branch_by r x) rule (way + 1)))
     (Entered (λ x rows. left_of machine plans ask rows (branch_by r x) hold way) (λ x rows. left_of machine plans ask rows (branch_by r x) hold (suc way))) c.enter_place.result
@@ -47,7 +47,7 @@ returns-in-None-clause-entered g c =
     let plans = c.args.board.now.plans in
     let r = c.args.branch in
     let way = c.args.way in
-    let Entered = λ (h : Option HoldRule) (o : Option Branch). (x : Suffix) → suffix_of c.args.board.now ≡ Some x
+    let Entered = λ (h : Option HoldRule) (o : Option ShowBranch). (x : Suffix) → suffix_of c.args.board.now ≡ Some x
     → IsEntered g.N.Network.reading machine plans ask c.args.scene.rooms.now.sums c.args.scene.limit c.args.nodes.now c.enter_child.new.nodes c.enter_child.new.board r
     (λ rows. left_of machine plans ask rows (branch_by r x) h way) (λ rows. left_of machine plans ask rows (branch_by r x) h (suc way)) o in
     subst (λ h. IfOk c.enter_child.result (Entered h)) (sym (sym c.next_hold.ensures ∙ c.in-None.is)) c.enter_child.ensures.entered

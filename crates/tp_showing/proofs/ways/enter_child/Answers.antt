@@ -4,7 +4,7 @@ use Rattle.tp_constraints.specs.Suffixes.{Suffix}
 use Rattle.tp_placing.specs.Boards.{suffix_of}
 use Rattle.tp_trees.specs.Places.{Due, action_due}
 use Rattle.tp_showing.specs.Showing.{IsEntered, branch_by, left_of}
-use Rattle.tp_showing.specs.declared.scene.Branch.{Branch}
+use Rattle.tp_showing.specs.declared.scene.ShowBranch.{ShowBranch}
 use Rattle.tp_showing.proofs.ReasonFacts.{ok-map}
 use Rattle.tp_showing.proofs.WayFacts.{act-gone, stop-gone}
 use Rattle.tp_showing.proofs.ways.enter_child.Goals as goal
@@ -16,7 +16,7 @@ returns-then-way-gt0-clause-entered g c =
     let plans = c.args.board.now.plans in
     let r = c.args.branch in
     let way = c.args.way in
-    let Entered = λ (from to : Suffix → List TreeRow → List Due) (o : Option Branch). (x : Suffix) → suffix_of c.args.board.now ≡ Some x
+    let Entered = λ (from to : Suffix → List TreeRow → List Due) (o : Option ShowBranch). (x : Suffix) → suffix_of c.args.board.now ≡ Some x
     → IsEntered g.N.Network.reading machine plans ask c.args.scene.rooms.now.sums c.args.scene.limit c.args.nodes.now c.enter_act.new.nodes c.enter_act.new.board r (from x) (to x) o in
     ok-map (Entered (λ x rows. action_due machine plans ask rows (branch_by r x) (record { 0 = way - 1 })) (λ x rows. []))
     (Entered (λ x rows. left_of machine plans ask rows (branch_by r x) None way) (λ x rows. left_of machine plans ask rows (branch_by r x) None (suc way))) c.enter_act.result

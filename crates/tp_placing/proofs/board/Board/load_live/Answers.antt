@@ -7,7 +7,7 @@ use Rattle.tp_base.specs.declared.edges.PointId.{PointId}
 use Rattle.tp_schedule.specs.Living.{is_live}
 use Rattle.tp_schedule.specs.declared.parts.Plan.{Plan}
 use Rattle.tp_placing.specs.Causes.{most_causes, step_causes}
-use Rattle.tp_placing.specs.declared.causes.Cause.{Cause}
+use Rattle.tp_placing.specs.declared.causes.EdgeCause.{EdgeCause}
 use Rattle.tp_placing.specs.Inside.{most_edges}
 use Rattle.tp_placing.specs.Loaded.{IsLoaded, all_edges}
 use Rattle.tp_placing.specs.LoadedHolds.{AreInOrder, ticks_in}
@@ -43,7 +43,7 @@ pub put_plans-requires-clause-ticks : goal.put_plans-requires-clause-ticks
 put_plans-requires-clause-ticks g c = subst (λ ps. length (ticks_in ps) ≡ point_count ps) (sym (c.deref-2.ensures.value ∙ c.keep_live.ensures.plans)) (ticks-count c.args.machine.now c.args.now _ c.requires.can)
 
 -- what is left of the causes are those that are always there
-only-plain : (causes rest : List Cause) → step_causes ≤ length rest → rest ≡ take step_causes causes → length rest ≡ step_causes
+only-plain : (causes rest : List EdgeCause) → step_causes ≤ length rest → rest ≡ take step_causes causes → length rest ≡ step_causes
 only-plain causes rest enough is = let l = ap length is ∙ length-take step_causes causes in omega arith
 
 -- the live plans, whose points and holds are there

@@ -1,7 +1,7 @@
 use Rattle.std.proofs.Common.{◌≡◌, ◌-◌, ◌≤◌, length, Some, vec_capacity}
 use Rattle.std.specs.Prelude.{slice_get}
 use Rattle.tp_placing.specs.Causes.{back_tag, forward_tag, limit_tag, line_tag, most_causes, step_causes, stop_tag}
-use Rattle.tp_placing.specs.declared.causes.Cause.TheVariants.{Forward, Back, Line, Stop, Limit}
+use Rattle.tp_placing.specs.declared.causes.EdgeCause.TheVariants.{Forward, Back, Line, Stop, Limit}
 use Rattle.tp_placing.proofs.causes.Causes.new.Given as goal
 
 -- the first causes are right, and there is space for all

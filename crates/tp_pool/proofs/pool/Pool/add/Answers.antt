@@ -1,7 +1,7 @@
 use Rattle.std.proofs.Common.{◌≡◌, ◌+◌, ◌≤◌, suc, refl, add-one, [], ◌∷◌, ◌++◌, length, sym, subst, ap, ◌∙◌, arith}
 use Rattle.std.proofs.lemmas.List.{length_push}
 use Rattle.std.proofs.lemmas.Bool.{false≢true}
-use Rattle.tp_pool.specs.declared.choice.Node.{Node}
+use Rattle.tp_pool.specs.declared.choice.ListNode.{ListNode}
 use Rattle.tp_pool.specs.Entries.{Entries, choices_before, IsParentOf}
 use Rattle.tp_pool.specs.Nodes.{entry_for, entries_of, AreNodes}
 use Rattle.tp_pool.proofs.NodeFacts.{entries-push, nodes-push}
@@ -10,7 +10,7 @@ use Rattle.tp_pool.proofs.pool.Pool.add.Goals as goal
 use Rattle.tp_pool.proofs.pool.Pool.add.Goals.{After-push_reserved}
 
 -- the node that was pushed
-abbrev node_of : After-push_reserved → Node
+abbrev node_of : After-push_reserved → ListNode
 node_of c = record { parent = c.args.parent; depth = c.depth_behind-depth.result; choice = c.args.choice; bound = c.args.bound }
 
 pub returns-then-node-self-clause-full : goal.returns-then-node-self-clause-full

@@ -1,5 +1,5 @@
 use Rattle.std.proofs.Common.{◌<◌, length, ap, ◌∙◌, arith}
-use Rattle.tp_pool.specs.declared.choice.Node.{Node}
+use Rattle.tp_pool.specs.declared.choice.ListNode.{ListNode}
 use Rattle.tp_pool.specs.Entries.{choices_of}
 use Rattle.tp_pool.proofs.ViewFacts.{same_entries, as_many, depth_there}
 use Rattle.tp_pool.proofs.pool.Pool.depth.Goals as goal
@@ -12,4 +12,4 @@ returns c =
     let many = as_many c.self.inside c.args.self.now c.self.view_is in
     let below : c.args.node < length c.self.inside.nodes.items = omega arith in
     let there = depth_there c.self.inside.nodes.items c.args.node c.index.result.now c.self.invariant.nodes below in
-    ap (λ (n : Node). n.depth) c.index.ensures ∙ there ∙ ap (λ es. length (choices_of es c.args.node)) (same_entries c.self.inside c.args.self.now c.self.view_is)
+    ap (λ (n : ListNode). n.depth) c.index.ensures ∙ there ∙ ap (λ es. length (choices_of es c.args.node)) (same_entries c.self.inside c.args.self.now c.self.view_is)

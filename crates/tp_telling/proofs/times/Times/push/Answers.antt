@@ -1,7 +1,7 @@
 -- One span more, over ticks that grew at their end.
 use Rattle.std.proofs.Common.{◌≡◌, ◌∙◌, ◌++◌, ◌∷◌, [], ap, length, map, rules}
 use Rattle.tp_telling.specs.Spans.{ticks_at}
-use Rattle.tp_telling.specs.declared.times.Span.{Span}
+use Rattle.tp_telling.specs.declared.times.PlanSpan.{PlanSpan}
 use Rattle.tp_telling.proofs.SpanSteps.{notes-one}
 use Rattle.tp_telling.proofs.times.Times.push.Goals as goal
 
@@ -9,7 +9,7 @@ pub returns : goal.returns
 returns c =
     let ticks = c.self.inside.ticks.items in
     let more = c.as_slice.result.now in
-    let s : Span = record { from = c.len-from.result; till = c.len.result } in
+    let s : PlanSpan = record { from = c.len-from.result; till = c.len.result } in
     let grown : c.extend_from_slice.new.self.items ≡ ticks ++ more = c.in_ok-extend_from_slice.ensures.items in
     let from : s.from ≡ length ticks = search rules in
     let till : s.till ≡ length c.extend_from_slice.new.self.items = search rules in
