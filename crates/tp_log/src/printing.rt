@@ -124,6 +124,7 @@ fn put_record(out: &mut Vec<u8>, rec: &Record) -> Result<(), Memory>
 pub fn print_record_by(rec: &Record, line: &mut Vec<u8>, out: &mut Vec<u8>) -> Result<(), Memory>
     requires { IsPrintable rec.now }
     ensures printed { OnOk result (out.new.items ≡ out.old.items ++ record_text rec.now) }
+    ensures line { OnOk result (line.new.items ≡ record_text rec.now) }
     ensures memory { OnErr result (out.new.items ≡ out.old.items) }
 {
     line.clear();
