@@ -74,29 +74,29 @@ fn end_child<N: Network>(
     opening: &mut Opening,
     board: &mut Board<N>,
     problem: Problem,
-    child: Child,
+    child: &Child,
 ) -> bool
     requires posed { IsPosed problem }
-    requires child { IsNewChild problem.machine.now problem.ask.now opening.old.goal child
-        (length (holds_of_act (action_at problem.machine.now child.act.0))) }
+    requires child { IsNewChild problem.machine.now problem.ask.now opening.old.goal child.now
+        (length (holds_of_act (action_at problem.machine.now child.now.act.0))) }
     requires laid { IsLaid N.reading board.old problem.machine.now
-        problem.ask.now opening.old.goal child.first
-        (choice_with problem.machine.now child.act child.choice.places ∷ choices_by
+        problem.ask.now opening.old.goal child.now.first
+        (choice_with problem.machine.now child.now.act child.now.choice.places ∷ choices_by
         problem.machine.now (choices_before store.old.entries opening.old.parent)) }
-    requires count { child.count ≡ suc (length (choices_by problem.machine.now
+    requires count { child.now.count ≡ suc (length (choices_by problem.machine.now
         (choices_before store.old.entries opening.old.parent))) }
     requires marks { HasMarks N.reading 1 board.old }
     requires fresh { IsFresh problem.machine.now problem.ask.now opening.old store.old }
     requires bounds { HasBounds problem.machine.now problem.ask.now store.old }
     requires progress { IsAtProgress problem.machine.now board.old.plans problem.ask.now opening.old
-        store.old (up_to child.act.0
-        (choice_with problem.machine.now child.act child.choice.places).places) }
+        store.old (up_to child.now.act.0
+        (choice_with problem.machine.now child.now.act child.now.choice.places).places) }
     ensures found { IsTrue result
         → HasFound N.reading board.old board.new
         problem.entry.machine.now problem.entry.ask.now opening.old.bound }
     ensures progress { IsFalse result → IsAtProgress problem.entry.machine.now board.old.plans
-        problem.entry.ask.now opening.new store.new (through child.act.0
-        (choice_with problem.entry.machine.now child.act child.choice.places).places) }
+        problem.entry.ask.now opening.new store.new (through child.now.act.0
+        (choice_with problem.entry.machine.now child.now.act child.now.choice.places).places) }
     ensures back { IsFalse result → IsBack N.reading board.old board.new
         problem.entry.machine.now }
     ensures same { IsSameOpening opening.old opening.new store.old store.new }
@@ -130,28 +130,29 @@ fn place_rest<N: Network>(
     opening: &mut Opening,
     board: &mut Board<N>,
     problem: Problem,
-    child: Child,
+    child: &Child,
     hold: u32,
 ) -> bool
     requires posed { IsPosed problem }
-    requires child { IsNewChild problem.machine.now problem.ask.now opening.old.goal child hold }
+    requires child { IsNewChild problem.machine.now problem.ask.now opening.old.goal child.now
+        hold }
     requires laid { IsLaid N.reading board.old problem.machine.now
-        problem.ask.now opening.old.goal child.first
-        (record { act = child.act; places = take hold child.choice.places } ∷ choices_by
+        problem.ask.now opening.old.goal child.now.first
+        (record { act = child.now.act; places = take hold child.now.choice.places } ∷ choices_by
         problem.machine.now (choices_before store.old.entries opening.old.parent)) }
-    requires count { child.count ≡ suc (length (choices_by problem.machine.now
+    requires count { child.now.count ≡ suc (length (choices_by problem.machine.now
         (choices_before store.old.entries opening.old.parent))) }
     requires marks { HasMarks N.reading (5 - hold) board.old }
     requires fresh { IsFresh problem.machine.now problem.ask.now opening.old store.old }
     requires bounds { HasBounds problem.machine.now problem.ask.now store.old }
     requires progress { IsAtProgress problem.machine.now board.old.plans problem.ask.now opening.old
-        store.old (up_to child.act.0 (take hold child.choice.places)) }
+        store.old (up_to child.now.act.0 (take hold child.now.choice.places)) }
     ensures found { IsTrue result
         → HasFound N.reading board.old board.new
         problem.entry.machine.now problem.entry.ask.now opening.old.bound }
     ensures progress { IsFalse result → IsAtProgress problem.entry.machine.now board.old.plans
         problem.entry.ask.now opening.new store.new
-        (through child.act.0 (take hold child.choice.places)) }
+        (through child.now.act.0 (take hold child.now.choice.places)) }
     ensures same { IsSameOpening opening.old opening.new store.old store.new }
     ensures back { IsFalse result → IsBack N.reading board.old board.new
         problem.entry.machine.now }
@@ -165,11 +166,11 @@ fn place_rest<N: Network>(
     let last = board.places(resource);
     for place in (0..=last).rev() {
         let mark = board.mark();
-        let mut placed = child;
+        let mut placed = *child;
         placed.choice.places[hold as usize] = place;
         match board.try_place(problem.machine, hold, place) {
             Ok(()) => {
-                if place_rest(store, opening, board, problem, placed, hold + 1) {
+                if place_rest(store, opening, board, problem, &placed, hold + 1) {
                     return true;
                 }
             }
@@ -236,7 +237,7 @@ fn open_act<N: Network>(
                 count: laid.count + 1,
                 complete,
             };
-            if place_rest(store, opening, board, problem, child, 0) {
+            if place_rest(store, opening, board, problem, &child, 0) {
                 return true;
             }
         }

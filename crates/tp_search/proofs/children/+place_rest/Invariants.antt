@@ -8,7 +8,7 @@ use Rattle.tp_search.proofs.children.+place_rest.Given as goal
 
 -- how many holds are left
 abbrev pub decreases-place_rest : goal.decreases-place_rest
-decreases-place_rest g l = length (holds_of_act (action_at l.problem.machine.now l.child.act.0)) - l.hold
+decreases-place_rest g l = length (holds_of_act (action_at l.problem.machine.now l.child.now.act.0)) - l.hold
 
 -- the children with later places were looked at, and the board is back
 abbrev pub invariant-loop-place : goal.invariant-loop-place
