@@ -4,7 +4,7 @@ ghost use Rattle.tp_placing.specs.Standing.{IsMadeFor};
 ghost use Rattle.tp_schedule.specs.Planning.{CanAsk, CanPlanOn, IsOpenGoal};
 ghost use Rattle.tp_schedule.specs.declared.parts.Origin.TheVariants.{Feeder};
 ghost use Rattle.tp_schedule.specs.declared.parts.Plan.{Plan};
-ghost use Rattle.tp_search.specs.Workspaces.{IsFor};
+ghost use Rattle.tp_search.specs.Workspaces.{IsFor, StaysFor};
 ghost use Rattle.rows_engines.specs.Trying.{IsReady};
 
 use crate::by_hand::{ask_for, board_for, goal_of, name_of};
@@ -142,7 +142,7 @@ fn tried_end<N: Network>(
     requires work { IsFor work.old machine.now }
     requires ready { (plans : List Plan)
         × IsReady N.reading board.old machine.now plans ask.now }
-    ensures work { work.new ≡ work.old }
+    ensures work { StaysFor machine.now work.old work.new }
     ensures ready { (plans : List Plan)
         → IsReady N.reading board.old machine.now plans ask.entry.now
         → OnOk result (IsReady N.reading board.new machine.now plans

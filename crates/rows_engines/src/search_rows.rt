@@ -55,7 +55,7 @@ fn answer_new<N: Network>(
     requires plan_on { CanPlanOn machine.now ask.now.now schedule.old.plans }
     requires new { ask.now.origin ≡ Feeder }
     requires goal { IsOpenGoal machine.now [] ask.now ask.now.goal }
-    ensures work { work.new ≡ work.old }
+    ensures work { IsFor work.new machine.now }
     ensures made { IsMadeFor board.new.made_for machine.now }
     ensures marks { 8 ≤ N.reading.max_marks board.new.net }
     ensures plan_on { OnOk result (CanPlanOn machine.now ask.entry.now.now schedule.new.plans) }
@@ -83,7 +83,7 @@ fn answer_sheet<N: Network>(
     requires made { IsMadeFor board.old.made_for machine.now }
     requires marks { 8 ≤ N.reading.max_marks board.old.net }
     requires plan_on { CanPlanOn machine.now 0 schedule.old.plans }
-    ensures work { work.new ≡ work.old }
+    ensures work { IsFor work.new machine.now }
     ensures made { IsMadeFor board.new.made_for machine.now }
     ensures marks { 8 ≤ N.reading.max_marks board.new.net }
     ensures plan_on { OnOk result (CanPlanOn machine.now 0 schedule.new.plans) }

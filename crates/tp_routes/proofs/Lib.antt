@@ -6,3 +6,4 @@ pub mod SpreadFacts
 pub mod StartFacts
 pub mod IndexFacts
 pub mod AlongFacts
+pub mod RoomsSame

@@ -1,9 +1,9 @@
 //! The table of rooms: for each state the least time that any way to it takes.
-ghost use Rattle.std.specs.Prelude.{◌≡◌, ◌+◌, ◌*◌, ◌<◌, ◌≤◌, None, length, option_map, replicate, vec_capacity, IfOk};
+ghost use Rattle.std.specs.Prelude.{◌≡◌, ◌+◌, ◌*◌, ◌<◌, ◌≤◌, None, length, option_map, replicate, vec_capacity, IfOk, IsSomeAnd, IsTrue, Some};
 ghost use Rattle.tp_routes.specs.Index.{IsIndexOf, IsLeadIndex, number_at};
 ghost use Rattle.tp_routes.specs.declared.index.ActEnd.TheVariants.{From};
 ghost use Rattle.tp_routes.specs.Numbers.{number_of};
-ghost use Rattle.tp_routes.specs.Tables.{sum_at, IsMadeFor, AreRooms, IsKnownOrigin};
+ghost use Rattle.tp_routes.specs.Tables.{sum_at, AreRooms, HasSameNumbers, HaveSameRooms, IsKnownOrigin, IsMadeFor};
 
 use crate::filling::settle;
 use crate::index::{ActEnd, ActionIndex};
@@ -16,7 +16,7 @@ use tp_machine::{ActId, LocId, Machine, State};
 use tp_schedule::Ask;
 
 /// For each state of a sheet the least time that any way from a start state takes: its room, in
-/// ticks. One table by state, which `fill` makes anew for an ask.
+/// ticks. One table by state, which `fill` makes anew for an ask, where the last one has other rooms.
 pub struct Rooms {
     locations: u32,
     resources: u32,
@@ -25,6 +25,8 @@ pub struct Rooms {
     waiting: Vec<u32>,
     index: ActionIndex,
     leads: ActionIndex,
+    /// The ask for which the table was filled last.
+    filled: Option<Ask>,
 }
 
 // What becomes of its parts is proved here, once for all who let go of one.
@@ -38,6 +40,7 @@ impl Drop for Rooms {
             waiting: _,
             index: _,
             leads: _,
+            filled: _,
         } = self;
     }
 }
@@ -57,6 +60,9 @@ impl Model for Rooms {
       sums = r.sums.items;
       firsts = r.leads.firsts.items;
       nexts = r.leads.nexts.items;
+      starts = r.index.firsts.items;
+      starts_behind = r.index.nexts.items;
+      filled = r.filled;
     } };
 
     ghost invariant = { λ r. (length r.sums.items ≡ 8 * r.locations)
@@ -85,12 +91,50 @@ impl Rooms {
             waiting: Vec::with_capacity(alloc, states)?,
             index: ActionIndex::new(alloc, locations)?,
             leads: ActionIndex::new(alloc, locations)?,
+            filled: None,
         })
     }
 
-    /// Finds the room of every state for the ask, by rising sums. It takes one pass over the actions,
-    /// and looks again only at the actions from the location of each state that it settles. It also
-    /// indexes the actions by where they lead.
+    /// Whether the table has the rooms for the ask: those of the last one are the same.
+    fn has_rooms_for(&self, ask: &Ask) -> bool
+        ensures { IsTrue result → IsSomeAnd self.now.filled
+            (λ last. HaveSameRooms last ask.entry.now) }
+    {
+        match &self.filled {
+            Some(last) => have_same_rooms(last, ask),
+            None => false,
+        }
+    }
+
+    /// Indexes the actions of the machine, where that wasn't done yet.
+    fn index_once(&mut self, machine: &Machine)
+        requires made { IsMadeFor self.old machine.now }
+        ensures leads { IsLeadIndex machine.now self.new.firsts self.new.nexts }
+        ensures starts { IsIndexOf From machine.now self.new.starts self.new.starts_behind }
+        ensures numbers { HasSameNumbers self.old self.new }
+    {
+        if self.filled.is_none() {
+            self.index.fill(machine, ActEnd::From);
+            self.leads.fill(machine, ActEnd::To);
+        }
+    }
+
+    /// Finds the room of every state for the ask, where the actions are indexed.
+    fn refill(&mut self, machine: &Machine, ask: &Ask)
+        requires locations { self.old.locations ≡ length machine.now.locations }
+        requires starts { IsIndexOf From machine.now self.old.starts self.old.starts_behind }
+        requires origin { IsKnownOrigin machine.now ask.now.origin }
+        ensures rooms { AreRooms machine.now ask.entry.now self.new.sums }
+        ensures rest { self.new ≡ record self.old
+            { sums = self.new.sums; filled = Some ask.entry.now } }
+    {
+        fill_table(machine, ask, &self.index, &mut self.sums, &mut self.waiting);
+        self.filled = Some(*ask);
+    }
+
+    /// Finds the room of every state for the ask, by rising sums: one pass over the actions, and then
+    /// only those from the location of each state that it settles. Where the last ask has the same
+    /// rooms, there is nothing to find. The actions are indexed once.
     pub fn fill(&mut self, machine: &Machine, ask: &Ask)
         requires made { IsMadeFor self.old machine.now }
         requires origin { IsKnownOrigin machine.now ask.now.origin }
@@ -98,9 +142,11 @@ impl Rooms {
         ensures leads { IsLeadIndex machine.now self.new.firsts self.new.nexts }
         ensures made { IsMadeFor self.new machine.now }
     {
-        self.index.fill(machine, ActEnd::From);
-        self.leads.fill(machine, ActEnd::To);
-        fill_table(machine, ask, &self.index, &mut self.sums, &mut self.waiting);
+        if self.has_rooms_for(ask) {
+            return;
+        }
+        self.index_once(machine);
+        self.refill(machine, ask);
     }
 
     /// The room of a state for the last ask, or None where no list of allowed actions leads there.
@@ -126,6 +172,16 @@ impl Rooms {
     {
         self.leads.nexts[usize::from(act.0)].map(ActId)
     }
+}
+
+/// Whether the same is wanted in both asks, which begin alike and lack the same modules.
+fn have_same_rooms(last: &Ask, ask: &Ask) -> bool
+    ensures { IsTrue result → HaveSameRooms last.entry.now ask.entry.now }
+{
+    if ask.origin != last.origin || ask.outs != last.outs || ask.empty != last.empty {
+        return false;
+    }
+    ask.want == last.want
 }
 
 fn fill_table(

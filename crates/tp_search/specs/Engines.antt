@@ -1,5 +1,5 @@
 -- A workspace and a board that answer asks together.
-use Rattle.std.specs.Prelude.{◌≡◌, ℕ, ◌≤◌, ◌==◌, ◌&&◌, Bool, false, true, IsTrue, List, [], ◌∷◌, ◌++◌, length, Option, Some, None, IsSomeAnd}
+use Rattle.std.specs.Prelude.{◌≡◌, ℕ, ◌≤◌, Bool, false, true, List, [], ◌∷◌, ◌++◌, Option, Some, None, IsSomeAnd}
 use Rattle.std.specs.Bool.{MatchBool}
 use Rattle.tp_base.specs.Readings.{Reading}
 use Rattle.tp_bounds.specs.declared.tree.BoundTree.{BoundTree}
@@ -17,9 +17,8 @@ use Rattle.tp_trees.specs.declared.claim.Claim.TheVariants.{Earliest, Never as N
 use Rattle.tp_placing.specs.Inside.{most_steps}
 use Rattle.tp_placing.specs.Boards.{BoardValue}
 use Rattle.tp_placing.specs.Following.{HoldsOthers}
-use Rattle.tp_placing.specs.declared.parts.MadeFor.{MadeFor}
 use Rattle.tp_search.specs.Boards.{IsAtRest}
-use Rattle.tp_search.specs.Workspaces.{WorkspaceValue}
+use Rattle.tp_search.specs.Workspaces.{IsFor, WorkspaceValue, numbers_of}
 
 -- what a search takes memory for, the board that it runs on, and whether that is kept from ask to ask; whether the last answer
 -- moved another plan; whether answers are shown by trees, and the trees so far
@@ -31,22 +30,15 @@ pub record EngineValue (N : Type 0) : Type 0 where
   pub bounds : Bool
   pub trees : List BoundTree
 
--- the numbers of locations and resources and the window for which a workspace was made
-abbrev pub numbers_of : WorkspaceValue → MadeFor
-numbers_of w = record { locations = w.locations; resources = w.resources; window = w.window }
-
 -- both were made for the same numbers, and the board has the marks that a search sets and a tree is made with
 pub record IsEngine {N : Type 0} (reading : Reading N) (work : WorkspaceValue) (board : BoardValue N) : Type 0 where
   pub made : board.made_for ≡ numbers_of work
   pub marks : most_steps ≤ reading.max_marks board.net
 
--- whether the machine has the numbers that it was made for
-abbrev pub is_engine_for : {N : Type 0} → EngineValue N → Machine → Bool
-is_engine_for e machine = e.work.locations == length machine.locations && e.work.resources == length machine.resources && e.work.window == machine.window
-
--- it was made for a machine with these numbers, and a board that is kept is at rest on that machine
+-- it was made for a machine with these numbers, the rooms that it keeps are of this machine, and a board that is kept is at rest
+-- on it
 pub record Serves {N : Type 0} (reading : Reading N) (e : EngineValue N) (machine : Machine) : Type 0 where
-  pub made : IsTrue (is_engine_for e machine)
+  pub made : IsFor e.work machine
   pub rests : e.kept ≡ true → IsAtRest reading e.board machine
 
 -- its board holds all plans but that of the new copy that was asked last
@@ -81,7 +73,8 @@ KeepsTrees bounds machine plans (settled now) plans' trees trees' = trees' ≡ t
 
 -- it is for the same machines, stores as many lists, and shows bounds as before
 pub record IsSameEngine {N : Type 0} (reading : Reading N) (e e' : EngineValue N) : Type 0 where
-  pub work : e'.work ≡ e.work
+  pub nodes : e'.work.nodes ≡ e.work.nodes
+  pub numbers : numbers_of e'.work ≡ numbers_of e.work
   pub made : e'.board.made_for ≡ e.board.made_for
   pub marks : reading.max_marks e'.board.net ≡ reading.max_marks e.board.net
   pub bounds : e'.bounds ≡ e.bounds

@@ -1,24 +1,33 @@
 -- The memory of a search.
-use Rattle.std.specs.Prelude.{◌≡◌, ℕ, ◌+◌, ◌*◌, ◌≤◌, List, length, Vec, vec_capacity}
+use Rattle.std.specs.Prelude.{◌≡◌, ℕ, ◌+◌, ◌*◌, ◌≤◌, List, Vec, vec_capacity}
 use Rattle.std.specs.declared.alloc.Global.{Global}
 use Rattle.tp_machine.specs.declared.machine.Machine.{Machine}
 use Rattle.tp_schedule.specs.Spending.{IsSpent}
 use Rattle.tp_schedule.specs.declared.parts.Ask.{Ask}
 use Rattle.tp_schedule.specs.declared.parts.Plan.{Plan}
-use Rattle.tp_routes.specs.Tables.{RoomTable}
+use Rattle.tp_placing.specs.declared.parts.MadeFor.{MadeFor}
+use Rattle.tp_routes.specs.Tables.{IsMadeFor, RoomTable}
 use Rattle.tp_search.specs.Stores.{StoreValue}
 use Rattle.tp_search.specs.declared.goals.OpenGoal.{OpenGoal}
 
--- the numbers of locations and resources and the window of the machine that it was made for, and how many lists it can store
+-- the table of rooms, with the numbers of the machine that it was made for, and how many lists can be stored
 pub record WorkspaceValue : Type 0 where
-  pub locations : ℕ
-  pub resources : ℕ
-  pub window : ℕ
+  pub rooms : RoomTable
   pub nodes : ℕ
 
--- it was made for a machine with these numbers
+-- it was made for a machine with these numbers, and what the table was filled with last, if it was, is of this machine
 abbrev pub IsFor : WorkspaceValue → Machine → Type 0
-IsFor w machine = (w.locations ≡ length machine.locations) × (w.resources ≡ length machine.resources) × (w.window ≡ machine.window)
+IsFor w machine = IsMadeFor w.rooms machine
+
+-- the numbers of locations and resources and the window for which it was made
+abbrev pub numbers_of : WorkspaceValue → MadeFor
+numbers_of w = record { locations = w.rooms.locations; resources = w.rooms.resources; window = w.rooms.window }
+
+-- it is for the machine as before, and stores as many lists; only the table of rooms may be another
+pub record StaysFor (machine : Machine) (w w' : WorkspaceValue) : Type 0 where
+  pub made : IsFor w' machine
+  pub numbers : numbers_of w' ≡ numbers_of w
+  pub nodes : w'.nodes ≡ w.nodes
 
 -- it keeps bounds for each tick of the window, and goals for each state
 pub record IsWorkspace (rooms : RoomTable) (store : StoreValue) (goals : Vec OpenGoal Global) : Type 0 where

@@ -12,7 +12,7 @@ ghost use Rattle.tp_placing.specs.Writing.{IsLoadedFrom};
 ghost use Rattle.tp_search.specs.Boards.{IsAtRest};
 ghost use Rattle.tp_search.specs.Engines.{HasTree};
 ghost use Rattle.tp_search.specs.Trials.{EndsEarliest, IsNoPlan};
-ghost use Rattle.tp_search.specs.Workspaces.{IsFor, IsSpentOf};
+ghost use Rattle.tp_search.specs.Workspaces.{IsFor, IsSpentOf, StaysFor};
 
 use crate::showing::show_never;
 use crate::trial::{NoPlan, plan};
@@ -51,7 +51,7 @@ pub fn answer<N: Network>(
         → IsSome (plan_of ask.entry.now.sheet schedule.old.plans)
         → schedule.new.spare ≡ schedule.old.spare }
     ensures stays { result ≢ Planned → schedule.new ≡ schedule.old }
-    ensures work { work.new ≡ work.old }
+    ensures work { StaysFor machine.now work.old work.new }
     ensures board { board.new.made_for ≡ board.old.made_for }
     ensures marks { N.reading.max_marks board.new.net ≡ N.reading.max_marks board.old.net }
     ensures rests { IsAtRest N.reading board.new machine.now }
@@ -95,7 +95,7 @@ pub(crate) fn answer_loaded<N: Network>(
     ensures stays { result.reply ≢ Planned → schedule.new ≡ schedule.old }
     ensures unmoved { result.moved ≡ false → without ask.entry.now.sheet schedule.new.plans
         ≡ without ask.entry.now.sheet schedule.old.plans }
-    ensures work { work.new ≡ work.old }
+    ensures work { StaysFor machine.now work.old work.new }
     ensures loaded { IsSameLoad board.old board.new }
     ensures marks { N.reading.max_marks board.new.net ≡ N.reading.max_marks board.old.net }
     ensures rests { IsAtRest N.reading board.new machine.now }
@@ -138,7 +138,7 @@ pub(crate) fn earliest_end<N: Network>(
     ensures none { (plans : List Plan)
         → IsLoadedFrom machine.now plans ask.entry.now board.old.plans
         → IfErr result (IsNoPlan machine.now plans ask.entry.now work.old.nodes) }
-    ensures work { work.new ≡ work.old }
+    ensures work { StaysFor machine.now work.old work.new }
     ensures board { board.new.made_for ≡ board.old.made_for }
     ensures marks { N.reading.max_marks board.new.net ≡ N.reading.max_marks board.old.net }
     ensures rests { IsAtRest N.reading board.new machine.now }
@@ -187,7 +187,7 @@ pub(crate) fn answer_with_tree<N: Network>(
         → without ask.entry.now.sheet schedule.new.plans
         ≡ without ask.entry.now.sheet schedule.old.plans) }
     ensures stays { OnErr result (schedule.new ≡ schedule.old) }
-    ensures work { work.new ≡ work.old }
+    ensures work { StaysFor machine.now work.old work.new }
     ensures loaded { IsSameLoad board.old board.new }
     ensures marks { N.reading.max_marks board.new.net ≡ N.reading.max_marks board.old.net }
     ensures rests { IsAtRest N.reading board.new machine.now }

@@ -4,7 +4,7 @@ ghost use Rattle.tp_schedule.specs.Answers.{IsAlternative, NoneBefore};
 ghost use Rattle.tp_schedule.specs.declared.parts.Plan.{Plan};
 ghost use Rattle.tp_placing.specs.Writing.{IsLoadedFrom};
 ghost use Rattle.tp_search.specs.Boards.{HasMarks, IsBack, IsReady};
-ghost use Rattle.tp_search.specs.Workspaces.{IsFor};
+ghost use Rattle.tp_search.specs.Workspaces.{IsFor, StaysFor};
 ghost use Rattle.tp_trees.specs.Short.{IsShortTreeFor};
 ghost use Rattle.tp_trees.specs.declared.claim.Claim.TheVariants.{Earliest, Never};
 
@@ -36,7 +36,7 @@ pub fn show_never<N: Network>(
         → IsLoadedFrom machine.now plans ask.entry.now board.old.plans
         → IfOk result (IsShortTreeFor machine.now plans ask.entry.now Never) }
     ensures back { IsBack N.reading board.old board.new machine.now }
-    ensures work { work.new ≡ work.old }
+    ensures work { StaysFor machine.now work.old work.new }
 {
     let horizon = ask.now + machine.window;
     match work.show(alloc, board, machine, ask, horizon) {
@@ -68,7 +68,7 @@ pub(crate) fn show_earliest<N: Network>(
         → IsLoadedFrom machine.now plans ask.entry.now board.old.plans
         → IfOk result (IsShortTreeFor machine.now plans ask.entry.now (Earliest end)) }
     ensures back { IsBack N.reading board.old board.new machine.now }
-    ensures work { work.new ≡ work.old }
+    ensures work { StaysFor machine.now work.old work.new }
 {
     match work.show(alloc, board, machine, ask, end - 1) {
         Ok(tree) => Ok(tree),

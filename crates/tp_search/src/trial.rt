@@ -11,7 +11,7 @@ ghost use Rattle.tp_placing.specs.Writing.{IsLoadedFrom};
 ghost use Rattle.tp_placing.specs.contracts.board.Board.{the_row};
 ghost use Rattle.tp_search.specs.Boards.{HasMarks, IsBack};
 ghost use Rattle.tp_search.specs.Trials.{EndsEarliest, IsEarliestTo, IsNoPlan, IsSameTrial, IsTrial, board_in, borrow_in, end_in};
-ghost use Rattle.tp_search.specs.Workspaces.{IsFor};
+ghost use Rattle.tp_search.specs.Workspaces.{IsFor, StaysFor};
 ghost use Rattle.tp_trees.specs.Short.{IsShortTreeFor};
 ghost use Rattle.tp_trees.specs.declared.claim.Claim.TheVariants.{Earliest};
 
@@ -68,7 +68,7 @@ pub fn plan<'b, N: Network>(
     ensures none { (plans : List Plan)
         → IsLoadedFrom machine.now plans ask.entry.now board.old.plans
         → IfErr result (IsNoPlan machine.now plans ask.entry.now work.old.nodes) }
-    ensures work { work.new ≡ work.old }
+    ensures work { StaysFor machine.now work.old work.new }
 {
     match work.search(board, machine, ask) {
         Outcome::Found { base } => {
@@ -110,7 +110,7 @@ impl<N: Network> Trial<'_, N> {
             → IsTrial N.reading b machine.now self.new }
         ensures same_reference { borrow_in self.new ≡ borrow_in self.old }
         ensures same { IsSameTrial self.old self.new }
-        ensures work { work.new ≡ work.old }
+        ensures work { StaysFor machine.now work.old work.new }
     {
         marks_keep_boards::<N>();
         let Some(ask) = self.board.asked() else {

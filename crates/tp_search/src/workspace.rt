@@ -6,7 +6,7 @@ ghost use Rattle.tp_placing.specs.Standing.{Stands};
 ghost use Rattle.tp_placing.specs.Writing.{IsLoadedFrom};
 ghost use Rattle.tp_search.specs.Boards.{HasMarks, IsBack, IsReady};
 ghost use Rattle.tp_search.specs.Outcomes.{IsOutcome};
-ghost use Rattle.tp_search.specs.Workspaces.{IsFor};
+ghost use Rattle.tp_search.specs.Workspaces.{IsFor, StaysFor};
 ghost use Rattle.tp_showing.specs.Closes.{IsLimit};
 ghost use Rattle.tp_showing.specs.Showing.{IsEarlyEnd};
 ghost use Rattle.tp_trees.specs.Short.{HasFewHops};
@@ -50,12 +50,7 @@ impl Model for Workspace {
 
     ghost Value = { WorkspaceValue };
 
-    ghost view = { λ w. record {
-      locations = w.rooms.locations;
-      resources = w.rooms.resources;
-      window = w.rooms.window;
-      nodes = w.store.capacity;
-    } };
+    ghost view = { λ w. record { rooms = w.rooms; nodes = w.store.capacity } };
 
     ghost invariant = { λ w. IsWorkspace w.rooms w.store w.goals };
 }
@@ -92,7 +87,7 @@ impl Workspace {
         requires marks { 8 ≤ N.reading.max_marks board.old.net }
         ensures outcome { IsOutcome N.reading board.old board.new
             machine.now ask.entry.now self.old.nodes result }
-        ensures same { self.new ≡ self.old }
+        ensures stays { StaysFor machine.now self.old self.new }
     {
         self.rooms.fill(machine, ask);
         self.store.clear(ask.now);
@@ -126,7 +121,7 @@ impl Workspace {
         ensures short { IfOk result HasFewHops }
         ensures early { IfErr result (IsEarlyEnd machine.now board.old.plans ask.entry.now limit) }
         ensures back { IsBack N.reading board.old board.new machine.now }
-        ensures same { self.new ≡ self.old }
+        ensures stays { StaysFor machine.now self.old self.new }
     {
         self.rooms.fill(machine, ask);
         show_limit(alloc, &self.rooms, board, machine, ask, limit)

@@ -22,7 +22,7 @@ returns-in-Found g c =
         end = λ plans loaded. subst (EndsEarliest c.args.machine.now plans c.args.ask.now) (sym same)
             (ends-earliest c.args.machine.now plans c.args.ask.now loaded.can_ask c.args.board.now.plans loaded.live_part a.list a.bound (is_machine c.args.machine.now) known a.complete a.is_bound a.none_before);
         none = λ plans loaded. tt;
-        work = c.search.ensures.same;
+        work = c.search.ensures.stays;
       },
     )
 
@@ -38,7 +38,7 @@ returns-in-Never g c = (
       never-whole c.args.machine.now plans c.args.ask.now loaded.can_ask c.args.board.now.plans loaded.live_part c.in-Never.ensures.outcome.0,
       few-whole c.args.machine.now plans c.args.ask.now loaded.can_ask c.args.board.now.plans loaded.live_part c.args.work.now.nodes c.in-Never.ensures.outcome.2,
     );
-    work = c.search.ensures.same;
+    work = c.search.ensures.stays;
   },
 )
 
@@ -51,6 +51,6 @@ returns-in-Spent g c = (
     trial = tt;
     end = λ plans loaded. tt;
     none = λ plans loaded. spent-whole c.args.machine.now plans c.args.ask.now loaded.can_ask c.args.board.now.plans loaded.live_part c.args.work.now.nodes c.in-Spent.bound c.in-Spent.ensures.outcome.0;
-    work = c.search.ensures.same;
+    work = c.search.ensures.stays;
   },
 )

@@ -46,7 +46,7 @@ pub returns-clause-settles : goal.returns-clause-settles
 returns-clause-settles g c machine p p' plans live now legal floors does = does.0
 
 pub returns-clause-nodes : goal.returns-clause-nodes
-returns-clause-nodes g c machine = record { counted = λ p plans ask bound h. h; same = λ p p' plans plans' deed step. ap (λ w. w.nodes) step.same.work }
+returns-clause-nodes g c machine = record { counted = λ p plans ask bound h. h; same = λ p p' plans plans' deed step. step.same.nodes }
 
 -- the trees that a deed adds are those that it takes
 taken : (bounds : Bool) (machine : Machine) (plans plans' : List Plan) (deed : Deed) (trees trees' later : List BoundTree) → KeepsTrees bounds machine plans deed plans' trees trees'

@@ -39,8 +39,8 @@ search-requires-clause-holds g c = c.find_goals-begun.ensures.holds c.clear.new.
 pub search-requires-clause-searching : goal.search-requires-clause-searching
 search-requires-clause-searching g c =
     let a = c.self.inside in
-    let window = ap (λ (w : WorkspaceValue). w.window) c.self.view_is in
-    let wide : a.store.width ≡ c.args.machine.now.window + 1 = omega (arith, c.self.invariant.wide, window, c.requires.made.2) in (
+    let window = ap (λ (w : WorkspaceValue). w.rooms.window) c.self.view_is in
+    let wide : a.store.width ≡ c.args.machine.now.window + 1 = omega (arith, c.self.invariant.wide, window, c.requires.made.window) in (
       0,
       subst (λ ps. IsSearching c.args.machine.now ps c.args.ask.now c.find_goals-begun.new.goals.items c.clear.new.self 0) (sym (over-plans g.N.Network.reading c.args.board.now c.find_goals-begun.new.board c.args.machine.now c.args.ask.now c.find_goals-begun.result c.find_goals-begun.ensures.over))
           (begins-with c.args.machine.now c.args.board.now.plans c.args.ask.now c.find_goals-begun.new.goals.items c.clear.new.self a.store.capacity a.store.width c.requires.loaded.0 c.find_goals-begun.ensures.goals c.clear.ensures wide c.requires.loaded.1.can_ask.has_time),
