@@ -17,6 +17,7 @@ use tp_schedule::Ask;
 
 /// For each state of a sheet the least time that any way from a start state takes: its room, in
 /// ticks. One table by state, which `fill` makes anew for an ask, where the last one has other rooms.
+/// Once it was filled for a machine, it is for that machine alone.
 pub struct Rooms {
     locations: u32,
     resources: u32,

@@ -24,8 +24,9 @@ use tp_placing::Board;
 use tp_schedule::{Ask, Halt, Origin, Planner, Reply, Schedule};
 
 /// A planner for machines with the same numbers of locations and resources and the same window as the one that it was made
-/// for. It stores as many lists of choices as it has nodes: the budget of an ask. With bounds it keeps a tree for each answer that
-/// is a plan or a none, in their order. Its board is kept from ask to ask where it was left at rest, and follows the schedule.
+/// for, and once it was asked, for that machine alone. It stores as many lists of choices as it has nodes: the budget of an
+/// ask. With bounds it keeps a tree for each answer that is a plan or a none, in their order. Its board is kept from ask to ask
+/// where it was left at rest, and follows the schedule.
 pub struct Engine<N: Network> {
     alloc: Global,
     work: Workspace,

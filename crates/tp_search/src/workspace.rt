@@ -27,7 +27,8 @@ use tp_schedule::Ask;
 use tp_showing::{NotShown, show_limit};
 
 /// All that a search takes memory for. It is for machines with the same numbers of locations and resources and the same
-/// window as the one that it was made for, and stores as many lists as it has nodes: the budget of an ask.
+/// window as the one that it was made for, and once it was used, for that machine alone. It stores as many lists as it has nodes:
+/// the budget of an ask.
 pub struct Workspace {
     rooms: Rooms,
     store: Store,
