@@ -1,18 +1,21 @@
 -- The parts of the lines keep what they keep.
-use Rattle.std.proofs.Common.{◌≡◌, ◌≢◌, ℕ, ◌+◌, ◌<◌, ◌^◌, List, [], ◌∷◌, ◌++◌, length, get_or, None, AllPairs, true, sym, ap, subst, ◌∙◌, arith}
+use Rattle.std.proofs.Common.{◌≡◌, ◌≢◌, ℕ, ◌+◌, ◌<◌, ◌^◌, Bool, not, List, [], ◌∷◌, ◌++◌, length, get_or, None, AllPairs, true, sym, ap, subst, ◌∙◌, arith}
 use Rattle.std.specs.List.{IsDistinct}
 use Rattle.std.specs.Str.{bytes_eq}
 use Rattle.std.proofs.lemmas.Bool.Decides.{nat_tests}
 use Rattle.std.proofs.lemmas.List.{get_or-map, map-append, length-append, length-map}
-use Rattle.std.proofs.lemmas.List.Elements.{All-append}
+use Rattle.std.proofs.lemmas.List.Elements.{All-append, All-filter}
+use Rattle.std.proofs.lemmas.List.Kept.{AllPairs-filter}
+use Rattle.std.proofs.lemmas.List.Sums.{count_by-le-length, length-filter}
 use Rattle.std.proofs.lemmas.Map.Made.{AllPairs-from_IsDistinct}
 use Rattle.std.proofs.lemmas.Slice.Eq.{bytes_eq-Decides}
 use Rattle.tp_machine.specs.declared.parts.Sheet.{Sheet}
 use Rattle.tp_schedule.proofs.Pairs.{AllPairs-append}
-use Rattle.tp_schedule.specs.Plans.{is_before}
+use Rattle.tp_schedule.specs.Plans.{is_before, is_same_copy}
+use Rattle.tp_schedule.specs.declared.parts.SheetId.{SheetId}
 use Rattle.tp_jobs.specs.Backlogs.{Backlog, IsBacklog, IsOfJob, WaitsBefore, names_of}
 use Rattle.tp_jobs.specs.Keeping.{Keeps}
-use Rattle.tp_jobs.specs.Waiting.{find_waiting, first_copies, put_waiting}
+use Rattle.tp_jobs.specs.Waiting.{find_waiting, first_copies, put_waiting, without_waiting}
 use Rattle.tp_jobs.specs.declared.parts.Job.{Job}
 use Rattle.tp_jobs.specs.declared.parts.WaitingCopy.{WaitingCopy}
 use Rattle.tp_jobs.proofs.FirstCopies.{first_copies-are_of, first_copies-in_order, length-first_copies}
@@ -26,6 +29,20 @@ keeps-put names jobs waiting w keeps known new room = record {
   of_jobs = All-put_waiting (IsOfJob jobs) w waiting known keeps.of_jobs;
   few_jobs = keeps.few_jobs;
   few_waiting = omega (arith, length-put_waiting w waiting, room);
+}
+
+abbrev stays : SheetId → WaitingCopy → Bool
+stays copy w = not (is_same_copy w.sheet copy)
+
+-- a copy waits no more
+pub keeps-without : (names : List (List ℕ)) (jobs : List Job) (waiting : List WaitingCopy) (copy : SheetId) → Keeps names jobs waiting → Keeps names jobs (without_waiting copy waiting)
+keeps-without names jobs waiting copy keeps = record {
+  of_names = keeps.of_names;
+  distinct = keeps.distinct;
+  in_order = AllPairs-filter WaitsBefore (stays copy) waiting keeps.in_order;
+  of_jobs = All-filter (stays copy) (IsOfJob jobs) waiting keeps.of_jobs;
+  few_jobs = keeps.few_jobs;
+  few_waiting = omega (arith, length-filter (stays copy) waiting, count_by-le-length (stays copy) waiting, keeps.few_waiting);
 }
 
 -- a copy of an earlier job waits before one of a later job

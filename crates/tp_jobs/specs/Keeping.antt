@@ -2,6 +2,7 @@
 use Rattle.std.specs.Prelude.{◌≡◌, ℕ, zero, suc, ◌+◌, ◌<◌, ◌≤◌, ◌^◌, false, not, List, [], ◌∷◌, length, take, count_by, vec_len, vec_capacity, All, AllPairs}
 use Rattle.std.specs.List.{IsDistinct}
 use Rattle.std.specs.Str.{bytes_eq}
+use Rattle.std.specs.VecDeque.{deque_capacity}
 use Rattle.tp_jobs.specs.Backlogs.{Backlog, names_of, WaitsBefore, IsOfJob}
 use Rattle.tp_jobs.specs.declared.lines.Lines.TheInside.{Inside}
 use Rattle.tp_jobs.specs.declared.parts.Job.{Job}
@@ -51,4 +52,4 @@ pub record KeepsMark (l : Inside) : Type 0 where
   pub then : Keeps (take l.kept_jobs l.names.keys) (jobs_then l.kept_jobs l.broken.items l.jobs.items) l.kept_waiting.items
   pub came : l.kept_jobs ≤ length l.jobs.items
   pub to_break : vec_len l.broken + whole_count l.jobs.items ≤ vec_capacity l.broken
-  pub to_wait : length l.kept_waiting.items ≤ vec_capacity l.waiting
+  pub to_wait : length l.kept_waiting.items ≤ deque_capacity l.waiting

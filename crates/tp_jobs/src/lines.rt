@@ -10,12 +10,13 @@ use crate::fault::JobFault;
 use crate::making::make_copies;
 use crate::parts::{Job, WaitingCopy};
 use crate::queueing::{first_open, has_copy_for, place_behind, place_of};
-use crate::rebuilding::{list_of, names_of};
+use crate::rebuilding::{list_of, names_of, rows_of};
 use crate::refusing::{count_sheets, find_tray, has_feeder};
 use crate::standing::{JobRows, WaitRows};
-use crate::undoing::{break_in, keep_waiting, make_whole};
+use crate::undoing::{break_in, keep_waiting, make_whole, wait_again};
 use indexmap::IndexSet;
 use std::alloc::Global;
+use std::collections::VecDeque;
 use std::marker::Model;
 use tp_base::{Memory, Name};
 use tp_machine::{LocId, Machine, Sheet};
@@ -27,14 +28,15 @@ const MOST_WAITING: u64 = 4096;
 /// The jobs that were accepted, and which of their copies wait.
 ///
 /// A name is looked up by hash and a copy by a binary search, so no call but `copy` looks at all
-/// jobs. `wait` and `taken` move the copies that wait behind the one that they put in or take out.
+/// jobs. `wait` and `taken` move the copies before the one that they put in or take out, or those
+/// behind it, whichever are fewer.
 ///
 /// `mark` remembers the lines as they are and `undo` goes back to them: what is kept of a mark is how
 /// many jobs there were, the copies that waited, and the jobs that broke since.
 pub struct Lines {
     names: IndexSet<Name>,
     jobs: Vec<Job>,
-    waiting: Vec<WaitingCopy>,
+    waiting: VecDeque<WaitingCopy>,
     kept_jobs: usize,
     kept_waiting: Vec<WaitingCopy>,
     broken: Vec<u32>,
@@ -79,7 +81,7 @@ impl Lines {
         Lines {
             names: IndexSet::new(alloc),
             jobs: Vec::new(alloc),
-            waiting: Vec::new(alloc),
+            waiting: VecDeque::new(alloc),
             kept_jobs: 0,
             kept_waiting: Vec::new(alloc),
             broken: Vec::new(alloc),
@@ -98,7 +100,7 @@ impl Lines {
         Ok(Lines {
             names: names_of(alloc, jobs)?,
             jobs: Vec::from_slice(alloc, jobs)?,
-            waiting: Vec::from_slice(alloc, waiting.as_slice())?,
+            waiting: VecDeque::from_vec(Vec::from_slice(alloc, waiting.as_slice())?),
             kept_jobs: 0,
             kept_waiting: Vec::new(alloc),
             broken,
@@ -116,7 +118,7 @@ impl Lines {
     pub fn wait_rows(&self, alloc: Global) -> Result<WaitRows, Memory>
         ensures { IfOk result (λ rows. rows ≡ self.now.waiting) }
     {
-        list_of(alloc, self.waiting.as_slice())
+        rows_of(alloc, &self.waiting)
     }
 
     /// Every value keeps this. The call does nothing.
@@ -144,7 +146,7 @@ impl Lines {
     pub fn waits_for(&self, tray: LocId) -> bool
         ensures { result ≡ has_waiting self.now.jobs self.now.waiting tray }
     {
-        has_copy_for(self.waiting.as_slice(), self.jobs.as_slice(), tray)
+        has_copy_for(&self.waiting, self.jobs.as_slice(), tray)
     }
 
     pub fn name_of(&self, job: u32) -> Name
@@ -173,21 +175,22 @@ impl Lines {
         requires { IsSome (find_waiting sheet self.now.waiting) }
         ensures { option_map (λ w. w.want) (find_waiting sheet self.now.waiting) ≡ Some result }
     {
-        self.waiting[place_of(self.waiting.as_slice(), sheet)].want
+        self.waiting[place_of(&self.waiting, sheet)].want
     }
 
     /// The same lines once more. Takes the time of all jobs.
     pub fn copy(&self, alloc: Global) -> Result<Lines, Memory>
         ensures { IfOk result (λ copy. copy ≡ self.now) }
     {
-        let mut waiting = Vec::from_slice(alloc, self.waiting.as_slice())?;
+        let mut waiting = Vec::new(alloc);
+        keep_waiting(&mut waiting, &self.waiting)?;
         waiting.reserve(self.kept_waiting.len())?;
         let mut broken = Vec::from_slice(alloc, self.broken.as_slice())?;
         broken.reserve(self.jobs.len())?;
         Ok(Lines {
             names: copy_names(&self.names)?,
             jobs: Vec::from_slice(alloc, self.jobs.as_slice())?,
-            waiting,
+            waiting: VecDeque::from_vec(waiting),
             kept_jobs: self.kept_jobs,
             kept_waiting: Vec::from_slice(alloc, self.kept_waiting.as_slice())?,
             broken,
@@ -200,7 +203,7 @@ impl Lines {
         ensures kept { OnOk result (self.new ≡ marked self.old) }
         ensures memory { OnErr result (self.new ≡ self.old) }
     {
-        keep_waiting(&mut self.kept_waiting, self.waiting.as_slice())?;
+        keep_waiting(&mut self.kept_waiting, &self.waiting)?;
         self.kept_jobs = self.jobs.len();
         self.broken.clear();
         Ok(())
@@ -215,14 +218,7 @@ impl Lines {
         self.jobs.truncate(self.kept_jobs);
         make_whole(&mut self.jobs, self.broken.as_slice());
         self.broken.clear();
-        self.waiting.clear();
-        if self
-            .waiting
-            .extend_from_slice(self.kept_waiting.as_slice())
-            .is_err()
-        {
-            unreachable!();
-        }
+        wait_again(&mut self.waiting, self.kept_waiting.as_slice());
     }
 
     /// Accepts a job: it gets the next number, and the first copies of its sheets wait behind all
@@ -247,7 +243,8 @@ impl Lines {
     {
         let tray = self.check(machine, &name, &tray, &media, groups)?;
         let number = self.jobs.len() as u32;
-        let mut copies = make_copies(*self.jobs.allocator(), number, media, groups)?;
+        let copies = make_copies(*self.jobs.allocator(), number, media, groups)?;
+        let mut copies = VecDeque::from_vec(copies);
         self.jobs.reserve(1)?;
         self.waiting.reserve(copies.len())?;
         self.broken.reserve(self.jobs.len() + 1)?;
@@ -306,7 +303,7 @@ impl Lines {
             }) }
         ensures memory { OnErr result (self.new ≡ self.old) }
     {
-        let at = place_behind(self.waiting.as_slice(), sheet);
+        let at = place_behind(&self.waiting, sheet);
         self.waiting.insert(at, WaitingCopy { sheet, want })?;
         Ok(())
     }
@@ -349,7 +346,7 @@ impl Lines {
         ensures { self.new ≡ record self.old
             { waiting = without_waiting sheet self.old.waiting } }
     {
-        let at = place_of(self.waiting.as_slice(), sheet);
+        let at = place_of(&self.waiting, sheet);
         self.waiting.remove(at);
     }
 
@@ -361,12 +358,11 @@ impl Lines {
         ensures waits { IfSome result (λ copy. IsSome (find_waiting copy self.now.waiting)) }
         ensures job { IfSome result (λ copy. copy.job < length self.now.jobs) }
     {
-        let waiting = self.waiting.as_slice();
         let from = match after {
-            Some(last) => place_behind(waiting, last),
+            Some(last) => place_behind(&self.waiting, last),
             None => 0,
         };
-        first_open(&waiting[from..], self.jobs.as_slice(), blocked)
+        first_open(&self.waiting, from, self.jobs.as_slice(), blocked)
     }
 }
 

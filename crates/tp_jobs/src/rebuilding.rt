@@ -5,9 +5,10 @@ ghost use Rattle.std.specs.List.{IsDistinct};
 ghost use Rattle.std.specs.Str.{bytes_eq};
 ghost use Rattle.tp_jobs.specs.Backlogs.{names_of};
 
-use crate::parts::Job;
+use crate::parts::{Job, WaitingCopy};
 use indexmap::IndexSet;
 use std::alloc::Global;
+use std::collections::VecDeque;
 use tp_base::{Items, Memory, Name};
 
 /// The names of the jobs, in their order.
@@ -33,4 +34,19 @@ pub(crate) fn list_of<T: Copy + Drop>(alloc: Global, items: &[T]) -> Result<Item
         list.push(*item)?;
     }
     Ok(list)
+}
+
+/// The copies that wait as a list of their own.
+pub(crate) fn rows_of(
+    alloc: Global,
+    waiting: &VecDeque<WaitingCopy>,
+) -> Result<Items<WaitingCopy>, Memory>
+    requires { length waiting.now.items < 2 ^ 32 }
+    ensures { IfOk result (λ rows. rows ≡ waiting.now.items) }
+{
+    let mut rows = Items::new(alloc);
+    for copy in waiting {
+        rows.push(*copy)?;
+    }
+    Ok(rows)
 }

@@ -1,7 +1,11 @@
-use Rattle.std.proofs.Common.{◌≡◌, ◌<◌, ℕ, false, get_or}
+use Rattle.std.proofs.Common.{◌≡◌, find, drop, All}
+use Rattle.std.specs.VecDeque.Iter.{deque_iter_rest}
+use Rattle.tp_jobs.specs.Backlogs.{IsOfJob}
 use Rattle.tp_jobs.specs.Trying.{is_open}
-use Rattle.tp_jobs.specs.declared.parts.WaitingCopy.{WaitingCopy}
 use Rattle.tp_jobs.proofs.queueing.first_open.Given as goal
 
 abbrev pub invariant-loop-copy : goal.invariant-loop-copy
-invariant-loop-copy l = (k : ℕ) (d : WaitingCopy) → k < l.copy-index → is_open l.jobs l.blocked (get_or l.waiting k d) ≡ false
+invariant-loop-copy l = record {
+  jobs : All (IsOfJob l.jobs) (deque_iter_rest l.copy-iterator);
+  found : find (is_open l.jobs l.blocked) (deque_iter_rest l.copy-iterator) ≡ find (is_open l.jobs l.blocked) (drop l.from l.waiting.items);
+}

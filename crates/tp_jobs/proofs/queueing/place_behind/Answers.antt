@@ -1,5 +1,5 @@
 -- The binary search finds the first copy behind this one.
-use Rattle.std.proofs.Common.{sym, not, rules}
+use Rattle.std.proofs.Common.{◌≤◌, length, sym, not, rules}
 use Rattle.std.proofs.lemmas.List.Sorted.{IsPartitionPoint-from_clause}
 use Rattle.tp_schedule.proofs.SearchFacts.{behind-partitioned, place-behind}
 use Rattle.tp_schedule.specs.Plans.{is_before}
@@ -8,7 +8,8 @@ use Rattle.tp_jobs.proofs.queueing.place_behind.Goals as goal
 
 pub returns-clause-place : goal.returns-clause-place
 returns-clause-place c =
+    let within : c.partition_point.result ≤ length c.args.waiting.now.items = search rules in
     sym
-    (place-behind c.args.copy (λ (w : WaitingCopy). w.sheet) c.args.waiting.now c.partition_point.result c.partition_point.ensures.bound
-    (IsPartitionPoint-from_clause (λ w. not (is_before c.args.copy w.sheet)) c.args.waiting.now c.partition_point.result c.partition_point.ensures.partitioned
-    (behind-partitioned c.args.copy (λ (w : WaitingCopy). w.sheet) c.args.waiting.now c.requires) (λ a r f' called. search rules)))
+    (place-behind c.args.copy (λ (w : WaitingCopy). w.sheet) c.args.waiting.now.items c.partition_point.result within
+    (IsPartitionPoint-from_clause (λ w. not (is_before c.args.copy w.sheet)) c.args.waiting.now.items c.partition_point.result c.partition_point.ensures.partitioned
+    (behind-partitioned c.args.copy (λ (w : WaitingCopy). w.sheet) c.args.waiting.now.items c.requires) (λ a r f' called. search rules)))

@@ -2,7 +2,6 @@
 use Rattle.std.proofs.Common.{◌≡◌, ◌<◌, length, drop, find, IsSome, All, AllPairs, ap, sym, subst, ◌∙◌}
 use Rattle.std.specs.Option.{option_map, IfSome}
 use Rattle.std.specs.List.{position_or_len}
-use Rattle.std.proofs.lemmas.List.{take_rest}
 use Rattle.tp_jobs.proofs.NextFacts.{found-from, next-of_job, next-waits}
 use Rattle.tp_jobs.proofs.PlaceFacts.{is_behind}
 use Rattle.tp_jobs.specs.Backlogs.{Backlog, IsOfJob, WaitsBefore}
@@ -16,18 +15,15 @@ use Rattle.tp_jobs.proofs.lines.Lines.next_to_try.Goals.{in-Some, in-None}
 found : (c : goal.After-first_open) → c.first_open.result ≡ option_map (λ w. w.sheet) (find (is_open c.args.self.now.jobs c.args.blocked.now) (drop c.match-after.from c.args.self.now.waiting))
 found c =
     c.first_open.ensures
-    ∙ (λ k. option_map (λ w. w.sheet) (find (is_open (c.as_slice.ensures.value k) c.args.blocked.now) (take_rest (c.as_slice-waiting.ensures.value k) c.match-after.from k)))
+    ∙ (λ k. option_map (λ w. w.sheet) (find (is_open (c.as_slice.ensures.value k) c.args.blocked.now) (drop c.match-after.from c.self.inside.waiting.items)))
     ∙ ap (λ (b : Backlog). option_map (λ w. w.sheet) (find (is_open b.jobs c.args.blocked.now) (drop c.match-after.from b.waiting))) c.self.view_is
-
-waiting-is : (c : goal.After-first_open) → c.as_slice-waiting.result.now ≡ c.args.self.now.waiting
-waiting-is c = c.as_slice-waiting.ensures.value ∙ ap (λ (b : Backlog). b.waiting) c.self.view_is
 
 is-next : (c : goal.After-first_open) → c.first_open.result ≡ next_to_try c.args.self.now c.args.after c.args.blocked.now
 is-next c = elim c.match-after.branch [
   | in-Some w ↦
       found c
       ∙ found-from c.args.self.now c.args.blocked.now w.in-Some.last c.match-after.from (subst (λ (b : Backlog). AllPairs WaitsBefore b.waiting) c.self.view_is c.self.invariant.now.in_order)
-      (w.from-is ∙ w.place_behind-from.ensures.place ∙ ap (position_or_len (is_behind w.in-Some.last)) (waiting-is c))
+      (w.from-is ∙ w.place_behind-from.ensures.place ∙ ap (λ (b : Backlog). position_or_len (is_behind w.in-Some.last) b.waiting) c.self.view_is)
       ∙ (λ k. next_to_try c.args.self.now (sym w.in-Some.is k) c.args.blocked.now)
   | in-None w ↦
       found c

@@ -12,7 +12,7 @@ pub invariant_of-result : goal.invariant_of-result
 invariant_of-result c =
     let names = c.in_ok-names_of.field-0.keys in
     let jobs : c.in_ok-from_slice.field-0.items ≡ c.args.jobs.now = search rules in
-    let waiting : c.in_ok-from_slice-2.field-0.items ≡ c.args.waiting.now = search rules in
+    let waiting : c.from_vec.result.items ≡ c.args.waiting.now = search rules in
     let broken : c.reserve.new.self.items ≡ [] = search rules in
     let none : c.new.result.items ≡ [] = search rules in
     let slice : c.as_slice-jobs.result.now ≡ c.args.jobs.now = search rules in

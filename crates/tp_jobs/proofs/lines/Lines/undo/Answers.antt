@@ -15,7 +15,7 @@ invariant_of-self c =
     let names = c.truncate.ensures.keys in
     let jobs : c.make_whole.new.jobs.items ≡ jobs_then came lines.broken.items lines.jobs.items =
     c.make_whole.ensures.jobs ∙ (λ k. mark_all_whole (c.as_slice.ensures.value k) (c.truncate-2.ensures.items k)) in
-    let waiting : c.extend_from_slice.new.self.items ≡ lines.kept_waiting.items = search rules in
+    let waiting : c.wait_again.new.waiting.items ≡ lines.kept_waiting.items = search rules in
     let none : c.clear.new.self.items ≡ [] = c.clear.ensures.items in
     let then-names = take-take came came lines.names.keys (omega arith) in
     let many = ap length jobs ∙ length-all_whole lines.broken.items (take came lines.jobs.items) ∙ length-take-le came lines.jobs.items kept.came in
@@ -27,5 +27,5 @@ invariant_of-self c =
           (sym ((λ k. jobs_then came (none k) (jobs k)) ∙ then-then came lines.broken.items lines.jobs.items kept.came)) refl kept.then;
       came = omega arith;
       to_break = omega (arith, c.clear.ensures.len, c.clear.ensures.capacity, kept.to_break, ap whole_count jobs, count-then came lines.broken.items lines.jobs.items);
-      to_wait = omega (arith, kept.to_wait, c.clear-2.ensures.capacity, c.extend_from_slice.ensures.capacity);
+      to_wait = omega (arith, kept.to_wait, c.wait_again.ensures.room);
     }

@@ -1,7 +1,6 @@
 -- The copy is put in its place.
 use Rattle.std.proofs.Common.{◌≡◌, ap, sym, subst, insert, ◌∙◌, arith}
-use Rattle.std.specs.List.{position_or_len}
-use Rattle.tp_jobs.proofs.PlaceFacts.{insert-put_waiting, is_behind}
+use Rattle.tp_jobs.proofs.PlaceFacts.{insert-put_waiting}
 use Rattle.tp_jobs.proofs.KeptFacts.{keeps-put}
 use Rattle.tp_jobs.specs.Backlogs.{Backlog}
 use Rattle.tp_jobs.specs.Keeping.{Keeps, jobs_then}
@@ -11,7 +10,7 @@ use Rattle.tp_jobs.proofs.lines.Lines.wait.Goals as goal
 put : (c : goal.In_ok-insert) → c.insert.new.self.items ≡ put_waiting c.self.inside.waiting.items (record { sheet = c.args.sheet; want = c.args.want })
 put c =
     c.in_ok-insert.ensures.items
-    ∙ ap (λ at. insert c.self.inside.waiting.items at (record { sheet = c.args.sheet; want = c.args.want })) (c.place_behind-at.ensures.place ∙ ap (position_or_len (is_behind c.args.sheet)) c.as_slice.ensures.value)
+    ∙ ap (λ at. insert c.self.inside.waiting.items at (record { sheet = c.args.sheet; want = c.args.want })) c.place_behind-at.ensures.place
     ∙ insert-put_waiting (record { sheet = c.args.sheet; want = c.args.want }) c.self.inside.waiting.items
 
 pub invariant_of-self-2 : goal.invariant_of-self-2
