@@ -147,6 +147,76 @@ fn budgets(rt: HostRuntime) -> Result<(), Fail> {
     Ok(())
 }
 
+/// Two belts lead a sheet round, a tick each, and nothing holds them: it may go round while it waits for the engine.
+const ROUND: &str = r#"format = 1
+lead = 2
+window = 600
+locations = ["f", "c", "x", "a", "b", "t"]
+modules = ["FEED", "BELT", "ENG", "OUT"]
+trays = ["t"]
+[feeders]
+f = "plain"
+[resources]
+r = "ENG"
+rt = "OUT"
+[[actions]]
+name = "back"
+module = "BELT"
+from = "x"
+to = "c"
+least = 1
+most = 1
+[[actions]]
+name = "round"
+module = "BELT"
+from = "c"
+to = "x"
+least = 1
+most = 1
+[[actions]]
+name = "feed"
+module = "FEED"
+from = "f"
+to = "c"
+least = 2
+most = 4
+[[actions]]
+name = "move"
+module = "FEED"
+from = "c"
+to = "a"
+least = 1
+most = 2
+[[actions]]
+name = "print"
+module = "ENG"
+from = "a"
+to = "b"
+least = 6
+most = 8
+prints = ["mono"]
+holds = [{ resource = "r", begin = ["start", 0], end = ["end", 0] }]
+[[actions]]
+name = "out"
+module = "OUT"
+from = "b"
+to = "t"
+least = 3
+most = 30
+holds = [{ resource = "rt", begin = ["end", -1], end = ["end", 0] }]
+"#;
+
+#[test]
+fn no_sheet_goes_round_without_need(rt: HostRuntime) -> Result<(), Fail> {
+    let log = log_of(rt.alloc(), ROUND, None, b"job j1 t plain 3*M-:F\n")?;
+    let wanted: &[u8] = b"> job j1 t plain 3*M-:F\n\
+          plan j1.1.1 t 3 feed 5 move 6 print 12 out 15\n\
+          plan j1.2.1 t 6 feed 10 move 12 print 18 out 21\n\
+          plan j1.3.1 t 12 feed 16 move 18 print 24 out 27\n";
+    assert_eq!(rt; log.as_slice(), wanted);
+    Ok(())
+}
+
 /// What is kept after a script: the moment, how many events came, and how many plans are live.
 type KeptCounts = (u32, u32, u32);
 

@@ -37,6 +37,35 @@ struct Child {
     complete: bool,
 }
 
+/// Whether a dive may come to something: the list is stored, and none failed at its bound.
+fn may_dive(opening: &Opening) -> bool {
+    opening.parent.is_some() && opening.barred != Some(opening.bound)
+}
+
+/// Dives from the list that is opened by the action that leads from nearest to a start, where that isn't the first one: so no sheet
+/// goes round without need. Answers whether the board carries an answer then.
+fn dive_nearest<N: Network>(
+    opening: &Opening,
+    board: &mut Board<N>,
+    problem: Problem,
+    laid: Laid,
+) -> bool
+    requires posed { IsPosed problem }
+    requires carries { CanDive N.reading board.old problem.machine.now
+        problem.ask.now laid }
+    requires marks { HasMarks N.reading 1 board.old }
+    ensures found { IsTrue result
+        → HasFound N.reading board.old board.new
+        problem.entry.machine.now problem.entry.ask.now opening.now.bound }
+    ensures back { IsFalse result → IsBack N.reading board.old board.new
+        problem.entry.machine.now }
+{
+    if !may_dive(opening) {
+        return false;
+    }
+    dive(board, problem, opening.bound, laid, true)
+}
+
 /// Dives from a child with the parent's bound, where the parent is stored and no dive failed at this bound. Answers whether
 /// the board carries an answer then.
 fn dive_from<N: Network>(
@@ -57,10 +86,10 @@ fn dive_from<N: Network>(
         problem.entry.machine.now }
     ensures same { opening.new ≡ record opening.old { barred = opening.new.barred } }
 {
-    if opening.parent.is_none() || bound != opening.bound || opening.barred == Some(bound) {
+    if bound != opening.bound || !may_dive(opening) {
         return false;
     }
-    if dive(board, problem, bound, child) {
+    if dive(board, problem, bound, child, false) {
         return true;
     }
     opening.barred = Some(bound);
@@ -309,7 +338,7 @@ fn open_stop<N: Network>(
 
 /// Keeps all open children of the list that the board carries, until one of them is an answer or leads to one, which the board
 /// carries then. Answers whether it does.
-pub(crate) fn open_list<N: Network>(
+fn open_all<N: Network>(
     store: &mut Store,
     opening: &mut Opening,
     board: &mut Board<N>,
@@ -349,4 +378,38 @@ pub(crate) fn open_list<N: Network>(
         next = problem.rooms.next_to(act);
     }
     false
+}
+
+/// Dives from the list that the board carries, or else keeps all its open children, until one of them is an answer or leads to one.
+/// Answers whether the board carries an answer then.
+pub(crate) fn open_list<N: Network>(
+    store: &mut Store,
+    opening: &mut Opening,
+    board: &mut Board<N>,
+    problem: Problem,
+    laid: Laid,
+) -> bool
+    requires count { laid.count
+        ≡ length (choices_by problem.machine.now
+        (choices_before store.old.entries opening.old.parent)) }
+    requires posed { IsPosed problem }
+    requires opened { CarriesOpened N.reading board.old problem.machine.now
+        problem.ask.now opening.old store.old laid.first }
+    requires marks { HasMarks N.reading 6 board.old }
+    requires progress { IsAtProgress problem.machine.now board.old.plans problem.ask.now opening.old
+        store.old nothing }
+    ensures found { IsTrue result
+        → HasFound N.reading board.old board.new
+        problem.entry.machine.now problem.entry.ask.now opening.old.bound }
+    ensures progress { IsFalse result → IsAtProgress problem.entry.machine.now board.old.plans
+        problem.entry.ask.now opening.new store.new
+        (up_to (length problem.entry.machine.now.actions) []) }
+    ensures same { IsSameOpening opening.old opening.new store.old store.new }
+    ensures back { IsFalse result → IsBack N.reading board.old board.new
+        problem.entry.machine.now }
+{
+    if dive_nearest(opening, board, problem, laid) {
+        return true;
+    }
+    open_all(store, opening, board, problem, laid)
 }

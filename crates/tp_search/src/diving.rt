@@ -10,7 +10,7 @@ ghost use Rattle.tp_search.specs.declared.following.Laid.{Laid};
 
 use crate::following::Laid;
 use crate::problem::Problem;
-use crate::states::state_before;
+use crate::states::{nearest_to, state_before};
 use tp_base::{Late, Network, Tick, Undo};
 use tp_machine::ActId;
 use tp_placing::{Board, Refused, marks_keep_boards};
@@ -118,13 +118,40 @@ fn step_by<N: Network>(
     None
 }
 
-/// The board's list with one choice more, the first that keeps the bound, actions in their order. Where there is none, the
-/// board is as before.
+/// The board's list with the action more that leads from nearest to a start, where that isn't the first one, and its holds placed
+/// in the first way that keeps the bound. Where there is none, the board is as before.
+fn step_nearest<N: Network>(
+    board: &mut Board<N>,
+    problem: Problem,
+    bound: Tick,
+    list: Laid,
+) -> Option<Laid>
+    requires posed { IsPosed problem }
+    requires carries { CanDive N.reading board.old problem.machine.now
+        problem.ask.now list }
+    requires fewer { kept_of problem.ask.now + list.count < most_acts }
+    requires marks { HasMarks N.reading 6 board.old }
+    ensures deeper { IfSome result
+        (IsDeeper N.reading board.old board.new
+        problem.entry.machine.now problem.entry.ask.now bound) }
+    ensures count { IfSome result (λ next. next.count ≡ list.count + 1) }
+    ensures back { result ≡ None → IsBack N.reading board.old board.new
+        problem.entry.machine.now }
+{
+    match nearest_to(problem, list.first) {
+        Some(act) => step_by(board, problem, bound, list, act),
+        None => None,
+    }
+}
+
+/// The board's list with one choice more, the first that keeps the bound: the action that leads from nearest to a start first, and
+/// unless it is to be that one, the others in their order. Where there is none, the board is as before.
 fn step_down<N: Network>(
     board: &mut Board<N>,
     problem: Problem,
     bound: Tick,
     list: Laid,
+    by_nearest: bool,
 ) -> Option<Laid>
     requires posed { IsPosed problem }
     requires carries { CanDive N.reading board.old problem.machine.now
@@ -139,6 +166,10 @@ fn step_down<N: Network>(
     if !can_go_on(board, problem, list) {
         return None;
     }
+    let nearest = step_nearest(board, problem, bound, list);
+    if by_nearest || nearest.is_some() {
+        return nearest;
+    }
     let mut next = problem.rooms.first_to(list.first.loc);
     'acts: while let Some(act) = next {
         if let Some(deeper) = step_by(board, problem, bound, list, act) {
@@ -150,12 +181,14 @@ fn step_down<N: Network>(
 }
 
 /// Goes on from the board's list of a new copy, by the first choice that keeps the bound at each step, until the list is
-/// complete: the board carries it then. Where it comes to no such list, the board is as before. There may be one all the same.
+/// complete: the board carries it then. The first step may have to be by the action that leads from nearest to a start. Where it
+/// comes to no such list, the board is as before. There may be one all the same.
 pub(crate) fn dive<N: Network>(
     board: &mut Board<N>,
     problem: Problem,
     bound: Tick,
     list: Laid,
+    by_nearest: bool,
 ) -> bool
     requires posed { IsPosed problem }
     requires carries { CanDive N.reading board.old problem.machine.now
@@ -173,7 +206,13 @@ pub(crate) fn dive<N: Network>(
     marks_keep_boards::<N>();
     let mark = board.mark();
     let mut reached = list;
-    'down: while let Some(next) = step_down(board, problem, bound, reached) {
+    'down: while let Some(next) = step_down(
+        board,
+        problem,
+        bound,
+        reached,
+        by_nearest && reached.count == list.count,
+    ) {
         if is_start(problem.machine, problem.ask, next.first) {
             return true;
         }

@@ -58,6 +58,33 @@ pub(crate) fn state_before(problem: Problem, state: State, act: ActId) -> Option
     })
 }
 
+/// The action that leads to the state from nearest to a start: from the state of least room of all. None where the first action
+/// that leads there does so.
+pub(crate) fn nearest_to(problem: Problem, state: State) -> Option<ActId>
+    requires posed { IsPosed problem }
+    requires known { state.loc.0 < length problem.machine.now.locations }
+    ensures { IfSome result (λ act. act.0 < length problem.entry.machine.now.actions) }
+{
+    let mut least = None;
+    let mut nearest = None;
+    let mut next = problem.rooms.first_to(state.loc);
+    'acts: while let Some(act) = next {
+        if let Some(before) = state_before(problem, state, act) {
+            match least {
+                Some(room) => {
+                    if before.room < room {
+                        least = Some(before.room);
+                        nearest = Some(act);
+                    }
+                }
+                None => least = Some(before.room),
+            }
+        }
+        next = problem.rooms.next_to(act);
+    }
+    nearest
+}
+
 /// The state with its room, where it is a goal state of the ask. None where it is no goal state or has no room.
 pub(crate) fn goal_at(problem: Problem, state: State) -> Option<Before>
     requires posed { IsPosed problem }

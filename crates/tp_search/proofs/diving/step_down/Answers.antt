@@ -1,10 +1,16 @@
-use Rattle.std.proofs.Common.{◌+◌, ◌<◌, Some, length, sym, subst, arith}
+use Rattle.std.proofs.Common.{◌≡◌, ◌+◌, ◌<◌, false, is_some, Option, Some, None, length, refl, sym, subst, ◌∙◌, arith}
+use Rattle.std.proofs.lemmas.Bool.{false≢true}
 use Rattle.tp_routes.specs.Index.{IsNextTo}
-use Rattle.tp_search.proofs.BoardSteps.{back-itself, back-trans}
+use Rattle.tp_search.proofs.BoardSteps.{back-trans}
 use Rattle.tp_routes.proofs.AlongFacts.{ahead, fewer-ahead}
+use Rattle.tp_search.specs.declared.following.Laid.{Laid}
 use Rattle.tp_search.proofs.LeadFacts.{number, laid-known, leads-first, leads-next, led-here}
 use Rattle.tp_search.proofs.diving.step_down.Goals as goal
 use Rattle.tp_search.proofs.diving.step_down.Goals.{In-Some, Start}
+
+none-there : (o : Option Laid) → is_some o ≡ false → o ≡ None
+none-there None e = refl
+none-there (Some list) e = absurd (false≢true (sym e))
 
 -- where the chain of actions stands
 here : (g : _) (c : In-Some g) → IsNextTo c.args.problem.machine.now.actions c.args.list.first.loc.0 c.acts.invariant.chain.low (Some c.in-Some.act.0)
@@ -23,7 +29,7 @@ acts-init g c = record {
     low = 0;
     leads = leads-first c.args.problem.machine.now c.args.problem.rooms.now.firsts c.args.problem.rooms.now.nexts c.args.list.first.loc.0 c.requires.posed.leads c.first_to-next.result (known g (goal.at.acts-init g c).Start) c.first_to-next.ensures;
   };
-  back = back-itself g.N.Network.reading c.args.board.now c.args.problem.machine.now;
+  back = c.step_nearest-nearest.ensures.back (none-there c.step_nearest-nearest.result (sym c.is_some.ensures ∙ c.if-is_some.false));
 }
 
 pub step_by-requires-clause-known : goal.step_by-requires-clause-known

@@ -3,7 +3,7 @@ use Rattle.tp_search.specs.Boards.{IsBack}
 use Rattle.tp_search.specs.Opening.{IsSameOpening}
 use Rattle.tp_routes.proofs.AlongFacts.{ahead}
 use Rattle.tp_search.proofs.LeadFacts.{IsLed, number}
-use Rattle.tp_search.proofs.children.open_list.Given as goal
+use Rattle.tp_search.proofs.children.open_all.Given as goal
 
 -- the children before the next action that leads to the list's first state were looked at, and the board is back
 abbrev pub invariant-acts : goal.invariant-acts
