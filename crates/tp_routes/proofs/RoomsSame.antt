@@ -10,7 +10,7 @@ use Rattle.tp_schedule.specs.declared.parts.Ask.{Ask}
 use Rattle.tp_schedule.specs.declared.parts.Origin.{Origin}
 use Rattle.tp_schedule.specs.declared.parts.Origin.TheVariants.{Feeder as FromFeeder, Front as FromFront}
 use Rattle.tp_routes.specs.Numbers.{number_of}
-use Rattle.tp_routes.specs.Tables.{AreRooms, HaveSameRooms, IsFilledFor, IsMadeFor, RoomTable, sum_at}
+use Rattle.tp_routes.specs.Tables.{AreRooms, HaveSameRooms, IsFilledFor, KeepsRooms, RoomTable, sum_at}
 
 back : (a b : Ask) → HaveSameRooms a b → HaveSameRooms b a
 back a b same = record { want = sym same.want; origin = sym same.origin; outs = sym same.outs; empty = sym same.empty }
@@ -48,8 +48,8 @@ rooms-same machine a b sums same are s known = go (sum_at sums (number_of s)) (a
   }
 
 -- a table that was filled for the one is filled for the other
-pub filled-for : (machine : Machine) (table : RoomTable) (ask : Ask) → IsMadeFor table machine → IsSomeAnd table.filled (λ last. HaveSameRooms last ask) → IsFilledFor table machine ask
-filled-for machine table ask made some = go table.filled made.filled some where
+pub filled-for : (machine : Machine) (table : RoomTable) (ask : Ask) → KeepsRooms table machine → IsSomeAnd table.filled (λ last. HaveSameRooms last ask) → IsFilledFor table machine ask
+filled-for machine table ask keeps some = go table.filled keeps some where
   go : (o : Option Ask) → IfSome o (IsFilledFor table machine) → IsSomeAnd o (λ last. HaveSameRooms last ask) → IsFilledFor table machine ask
   go None none some = absurd some
   go (Some last) filled same = record { rooms = rooms-same machine last ask table.sums same filled.rooms; leads = filled.leads; starts = filled.starts }

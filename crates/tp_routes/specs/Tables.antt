@@ -49,12 +49,15 @@ pub record IsFilledFor (table : RoomTable) (machine : Machine) (ask : Ask) : Typ
   pub leads : IsLeadIndex machine table.firsts table.nexts
   pub starts : IsIndexOf From machine table.starts table.starts_behind
 
--- the table was made for a machine with these numbers, and what it was filled with last, if it was, is of this machine
+-- the table was made for a machine with these numbers
 pub record IsMadeFor (table : RoomTable) (machine : Machine) : Type 0 where
   pub locations : table.locations ≡ length machine.locations
   pub resources : table.resources ≡ length machine.resources
   pub window : table.window ≡ machine.window
-  pub filled : IfSome table.filled (IsFilledFor table machine)
+
+-- what the table was filled with last, if it was, is of this machine
+abbrev pub KeepsRooms : RoomTable → Machine → Type 0
+KeepsRooms table machine = IfSome table.filled (IsFilledFor table machine)
 
 -- both were made for the same numbers
 pub record HasSameNumbers (table table' : RoomTable) : Type 0 where

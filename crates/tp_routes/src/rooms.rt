@@ -3,7 +3,7 @@ ghost use Rattle.std.specs.Prelude.{◌≡◌, ◌+◌, ◌*◌, ◌<◌, ◌≤
 ghost use Rattle.tp_routes.specs.Index.{IsIndexOf, IsLeadIndex, number_at};
 ghost use Rattle.tp_routes.specs.declared.index.ActEnd.TheVariants.{From};
 ghost use Rattle.tp_routes.specs.Numbers.{number_of};
-ghost use Rattle.tp_routes.specs.Tables.{sum_at, AreRooms, HasSameNumbers, HaveSameRooms, IsKnownOrigin, IsMadeFor};
+ghost use Rattle.tp_routes.specs.Tables.{sum_at, AreRooms, HasSameNumbers, HaveSameRooms, IsKnownOrigin, IsMadeFor, KeepsRooms};
 
 use crate::filling::settle;
 use crate::index::{ActEnd, ActionIndex};
@@ -16,8 +16,8 @@ use tp_machine::{ActId, LocId, Machine, State};
 use tp_schedule::Ask;
 
 /// For each state of a sheet the least time that any way from a start state takes: its room, in
-/// ticks. One table by state, which `fill` makes anew for an ask, where the last one has other rooms.
-/// Once it was filled for a machine, it is for that machine alone.
+/// ticks. One table by state for all asks: `fill` makes it anew, and `renew` leaves it where the last
+/// ask on the same machine has the same rooms.
 pub struct Rooms {
     locations: u32,
     resources: u32,
@@ -110,6 +110,7 @@ impl Rooms {
     /// Indexes the actions of the machine, where that wasn't done yet.
     fn index_once(&mut self, machine: &Machine)
         requires made { IsMadeFor self.old machine.now }
+        requires keeps { KeepsRooms self.old machine.now }
         ensures leads { IsLeadIndex machine.now self.new.firsts self.new.nexts }
         ensures starts { IsIndexOf From machine.now self.new.starts self.new.starts_behind }
         ensures numbers { HasSameNumbers self.old self.new }
@@ -133,15 +134,37 @@ impl Rooms {
         self.filled = Some(*ask);
     }
 
+    /// Forgets for which ask and machine the table was filled.
+    pub fn forget(&mut self)
+        ensures { self.new ≡ record self.old { filled = None } }
+    {
+        self.filled = None;
+    }
+
     /// Finds the room of every state for the ask, by rising sums: one pass over the actions, and then
-    /// only those from the location of each state that it settles. Where the last ask has the same
-    /// rooms, there is nothing to find. The actions are indexed once.
+    /// only those from the location of each state that it settles.
     pub fn fill(&mut self, machine: &Machine, ask: &Ask)
         requires made { IsMadeFor self.old machine.now }
         requires origin { IsKnownOrigin machine.now ask.now.origin }
         ensures rooms { AreRooms machine.now ask.entry.now self.new.sums }
         ensures leads { IsLeadIndex machine.now self.new.firsts self.new.nexts }
         ensures made { IsMadeFor self.new machine.now }
+        ensures keeps { KeepsRooms self.new machine.now }
+    {
+        self.forget();
+        self.renew(machine, ask);
+    }
+
+    /// As `fill`, for whoever knows that the table was filled last for this machine, if it was. Where
+    /// the last ask has the same rooms, there is nothing to find. The actions are indexed once.
+    pub fn renew(&mut self, machine: &Machine, ask: &Ask)
+        requires made { IsMadeFor self.old machine.now }
+        requires keeps { KeepsRooms self.old machine.now }
+        requires origin { IsKnownOrigin machine.now ask.now.origin }
+        ensures rooms { AreRooms machine.now ask.entry.now self.new.sums }
+        ensures leads { IsLeadIndex machine.now self.new.firsts self.new.nexts }
+        ensures made { IsMadeFor self.new machine.now }
+        ensures keeps { KeepsRooms self.new machine.now }
     {
         if self.has_rooms_for(ask) {
             return;

@@ -17,6 +17,7 @@ use Rattle.tp_trees.specs.declared.claim.Claim.TheVariants.{Earliest, Never as N
 use Rattle.tp_placing.specs.Inside.{most_steps}
 use Rattle.tp_placing.specs.Boards.{BoardValue}
 use Rattle.tp_placing.specs.Following.{HoldsOthers}
+use Rattle.tp_routes.specs.Tables.{KeepsRooms}
 use Rattle.tp_search.specs.Boards.{IsAtRest}
 use Rattle.tp_search.specs.Workspaces.{IsFor, WorkspaceValue, numbers_of}
 
@@ -35,11 +36,11 @@ pub record IsEngine {N : Type 0} (reading : Reading N) (work : WorkspaceValue) (
   pub made : board.made_for ≡ numbers_of work
   pub marks : most_steps ≤ reading.max_marks board.net
 
--- it was made for a machine with these numbers, the rooms that it keeps are of this machine, and a board that is kept is at rest
--- on it
+-- it was made for a machine with these numbers; where the board is kept, it is at rest on this machine, and so are the rooms of it
 pub record Serves {N : Type 0} (reading : Reading N) (e : EngineValue N) (machine : Machine) : Type 0 where
   pub made : IsFor e.work machine
   pub rests : e.kept ≡ true → IsAtRest reading e.board machine
+  pub rooms : e.kept ≡ true → KeepsRooms e.work.rooms machine
 
 -- its board holds all plans but that of the new copy that was asked last
 abbrev pub HoldsPlans : {N : Type 0} → Machine → EngineValue N → List Plan → Type 0

@@ -15,7 +15,7 @@ pub record WorkspaceValue : Type 0 where
   pub rooms : RoomTable
   pub nodes : ℕ
 
--- it was made for a machine with these numbers, and what the table was filled with last, if it was, is of this machine
+-- it was made for a machine with these numbers
 abbrev pub IsFor : WorkspaceValue → Machine → Type 0
 IsFor w machine = IsMadeFor w.rooms machine
 

@@ -9,13 +9,14 @@ ghost use Rattle.tp_placing.specs.Calls.{IsSameLoad};
 ghost use Rattle.tp_placing.specs.Inside.{most_steps};
 ghost use Rattle.tp_placing.specs.Standing.{IsMadeFor};
 ghost use Rattle.tp_placing.specs.Writing.{IsLoadedFrom};
+ghost use Rattle.tp_routes.specs.Tables.{KeepsRooms};
 ghost use Rattle.tp_search.specs.Boards.{IsAtRest};
 ghost use Rattle.tp_search.specs.Engines.{HasTree};
 ghost use Rattle.tp_search.specs.Trials.{EndsEarliest, IsNoPlan};
 ghost use Rattle.tp_search.specs.Workspaces.{IsFor, IsSpentOf, StaysFor};
 
 use crate::showing::show_never;
-use crate::trial::{NoPlan, plan};
+use crate::trial::{NoPlan, find_plan};
 use crate::workspace::Workspace;
 use std::alloc::Global;
 use tp_base::{Memory, Network, Tick, Undo};
@@ -56,6 +57,7 @@ pub fn answer<N: Network>(
     ensures marks { N.reading.max_marks board.new.net ≡ N.reading.max_marks board.old.net }
     ensures rests { IsAtRest N.reading board.new machine.now }
 {
+    work.forget();
     board.load(machine, schedule, ask);
     answer_loaded(work, board, machine, schedule, ask).reply
 }
@@ -67,7 +69,7 @@ pub(crate) struct Answered {
     pub(crate) moved: bool,
 }
 
-/// Answers the ask for which the board is loaded, as `answer` does.
+/// Answers the ask for which the board is loaded, as `answer` does. The workspace was used last on this machine, if it was.
 pub(crate) fn answer_loaded<N: Network>(
     work: &mut Workspace,
     board: &mut Board<N>,
@@ -76,6 +78,7 @@ pub(crate) fn answer_loaded<N: Network>(
     ask: &Ask,
 ) -> Answered
     requires work { IsFor work.old machine.now }
+    requires rooms { KeepsRooms work.old.rooms machine.now }
     requires marks { 8 ≤ N.reading.max_marks board.old.net }
     requires loaded { IsLoadedFrom machine.now schedule.old.plans ask.now board.old.plans }
     requires asked { board.old.ask ≡ Some ask.now }
@@ -96,11 +99,12 @@ pub(crate) fn answer_loaded<N: Network>(
     ensures unmoved { result.moved ≡ false → without ask.entry.now.sheet schedule.new.plans
         ≡ without ask.entry.now.sheet schedule.old.plans }
     ensures work { StaysFor machine.now work.old work.new }
+    ensures rooms { KeepsRooms work.new.rooms machine.now }
     ensures loaded { IsSameLoad board.old board.new }
     ensures marks { N.reading.max_marks board.new.net ≡ N.reading.max_marks board.old.net }
     ensures rests { IsAtRest N.reading board.new machine.now }
 {
-    match plan(board, work, machine, ask) {
+    match find_plan(board, work, machine, ask) {
         Ok(trial) => {
             let moved = trial.commit(machine, schedule);
             Answered {
@@ -127,6 +131,7 @@ pub(crate) fn earliest_end<N: Network>(
     ask: &Ask,
 ) -> Result<Tick, NoPlan>
     requires work { IsFor work.old machine.now }
+    requires rooms { KeepsRooms work.old.rooms machine.now }
     requires marks { 8 ≤ N.reading.max_marks board.old.net }
     requires loaded { (plans : List Plan)
         × IsLoadedFrom machine.now plans ask.now board.old.plans }
@@ -139,11 +144,12 @@ pub(crate) fn earliest_end<N: Network>(
         → IsLoadedFrom machine.now plans ask.entry.now board.old.plans
         → IfErr result (IsNoPlan machine.now plans ask.entry.now work.old.nodes) }
     ensures work { StaysFor machine.now work.old work.new }
+    ensures rooms { KeepsRooms work.new.rooms machine.now }
     ensures board { board.new.made_for ≡ board.old.made_for }
     ensures marks { N.reading.max_marks board.new.net ≡ N.reading.max_marks board.old.net }
     ensures rests { IsAtRest N.reading board.new machine.now }
 {
-    match plan(board, work, machine, ask) {
+    match find_plan(board, work, machine, ask) {
         Ok(trial) => {
             let end = trial.end();
             trial.abandon();
@@ -171,6 +177,7 @@ pub(crate) fn answer_with_tree<N: Network>(
     ask: &Ask,
 ) -> Result<Shown, Memory>
     requires work { IsFor work.old machine.now }
+    requires rooms { KeepsRooms work.old.rooms machine.now }
     requires marks { most_steps ≤ N.reading.max_marks board.old.net }
     requires loaded { IsLoadedFrom machine.now schedule.old.plans ask.now board.old.plans }
     requires asked { board.old.ask ≡ Some ask.now }
@@ -188,11 +195,12 @@ pub(crate) fn answer_with_tree<N: Network>(
         ≡ without ask.entry.now.sheet schedule.old.plans) }
     ensures stays { OnErr result (schedule.new ≡ schedule.old) }
     ensures work { StaysFor machine.now work.old work.new }
+    ensures rooms { KeepsRooms work.new.rooms machine.now }
     ensures loaded { IsSameLoad board.old board.new }
     ensures marks { N.reading.max_marks board.new.net ≡ N.reading.max_marks board.old.net }
     ensures rests { IsAtRest N.reading board.new machine.now }
 {
-    match plan(board, work, machine, ask) {
+    match find_plan(board, work, machine, ask) {
         Ok(mut trial) => match trial.show(alloc, work, machine) {
             Ok(tree) => {
                 let moved = trial.commit(machine, schedule);

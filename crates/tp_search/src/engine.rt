@@ -24,9 +24,9 @@ use tp_placing::Board;
 use tp_schedule::{Ask, Halt, Origin, Planner, Reply, Schedule};
 
 /// A planner for machines with the same numbers of locations and resources and the same window as the one that it was made
-/// for, and once it was asked, for that machine alone. It stores as many lists of choices as it has nodes: the budget of an
-/// ask. With bounds it keeps a tree for each answer that is a plan or a none, in their order. Its board is kept from ask to ask
-/// where it was left at rest, and follows the schedule.
+/// for. It stores as many lists of choices as it has nodes: the budget of an ask. With bounds it keeps a tree for each answer
+/// that is a plan or a none, in their order. Its board and its rooms are kept from ask to ask, on one machine, where the board
+/// was left at rest. The board follows the schedule then.
 pub struct Engine<N: Network> {
     alloc: Global,
     work: Workspace,
@@ -135,6 +135,7 @@ impl<N: Network> Engine<N> {
         ensures asked { self.new.board.ask ≡ Some ask.entry.now }
         ensures rests { IsAtRest N.reading self.new.board machine.now }
         ensures served { Serves N.reading self.new machine.now }
+        ensures kept { self.new.kept ≡ true }
         ensures same { IsSameEngine N.reading self.old self.new }
         ensures trees { self.new.trees ≡ self.old.trees }
     {
@@ -143,6 +144,7 @@ impl<N: Network> Engine<N> {
         if kept {
             self.board.renew(machine, schedule, ask, known);
         } else {
+            self.work.forget();
             self.board.load(machine, schedule, ask);
         }
     }
@@ -176,6 +178,7 @@ impl<N: Network> Engine<N> {
         ask: &Ask,
     ) -> Result<Answered, Halt>
         requires served { Serves N.reading self.old machine.now }
+        requires kept { self.old.kept ≡ true }
         requires loaded { IsLoadedFrom machine.now schedule.old.plans ask.now
             self.old.board.plans }
         requires asked { self.old.board.ask ≡ Some ask.now }
@@ -227,6 +230,7 @@ impl<N: Network> Engine<N> {
         ask: &Ask,
     ) -> Result<Answered, Halt>
         requires served { Serves N.reading self.old machine.now }
+        requires kept { self.old.kept ≡ true }
         requires loaded { IsLoadedFrom machine.now schedule.old.plans ask.now
             self.old.board.plans }
         requires asked { self.old.board.ask ≡ Some ask.now }

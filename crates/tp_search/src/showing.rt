@@ -3,6 +3,7 @@ ghost use Rattle.std.specs.Prelude.{◌≡◌, ◌+◌, ◌≤◌, List, IfOk};
 ghost use Rattle.tp_schedule.specs.Answers.{IsAlternative, NoneBefore};
 ghost use Rattle.tp_schedule.specs.declared.parts.Plan.{Plan};
 ghost use Rattle.tp_placing.specs.Writing.{IsLoadedFrom};
+ghost use Rattle.tp_routes.specs.Tables.{KeepsRooms};
 ghost use Rattle.tp_search.specs.Boards.{HasMarks, IsBack, IsReady};
 ghost use Rattle.tp_search.specs.Workspaces.{IsFor, StaysFor};
 ghost use Rattle.tp_trees.specs.Short.{IsShortTreeFor};
@@ -37,6 +38,7 @@ pub fn show_never<N: Network>(
         → IfOk result (IsShortTreeFor machine.now plans ask.entry.now Never) }
     ensures back { IsBack N.reading board.old board.new machine.now }
     ensures work { StaysFor machine.now work.old work.new }
+    ensures rooms { KeepsRooms work.new.rooms machine.now }
 {
     let horizon = ask.now + machine.window;
     match work.show(alloc, board, machine, ask, horizon) {
@@ -69,6 +71,7 @@ pub(crate) fn show_earliest<N: Network>(
         → IfOk result (IsShortTreeFor machine.now plans ask.entry.now (Earliest end)) }
     ensures back { IsBack N.reading board.old board.new machine.now }
     ensures work { StaysFor machine.now work.old work.new }
+    ensures rooms { KeepsRooms work.new.rooms machine.now }
 {
     match work.show(alloc, board, machine, ask, end - 1) {
         Ok(tree) => Ok(tree),

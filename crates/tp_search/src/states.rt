@@ -6,7 +6,7 @@ ghost use Rattle.tp_search.specs.Problems.{IsPosed};
 ghost use Rattle.tp_search.specs.States.{HasNoGoalAt, HasNoneBefore, IsBefore, IsGoalAt};
 
 use crate::problem::Problem;
-use tp_machine::{ActId, State, allowed, regress};
+use tp_machine::{ActId, LocId, State, allowed, regress};
 use tp_schedule::is_goal;
 
 /// A state with its room, in ticks.
@@ -58,6 +58,17 @@ pub(crate) fn state_before(problem: Problem, state: State, act: ActId) -> Option
     })
 }
 
+/// Whether more than one action leads to the location.
+fn is_joined(problem: Problem, loc: LocId) -> bool
+    requires posed { IsPosed problem }
+    requires known { loc.0 < length problem.machine.now.locations }
+{
+    match problem.rooms.first_to(loc) {
+        Some(first) => problem.rooms.next_to(first).is_some(),
+        None => false,
+    }
+}
+
 /// The action that leads to the state from nearest to a start: from the state of least room of all. None where the first action
 /// that leads there does so.
 pub(crate) fn nearest_to(problem: Problem, state: State) -> Option<ActId>
@@ -65,6 +76,9 @@ pub(crate) fn nearest_to(problem: Problem, state: State) -> Option<ActId>
     requires known { state.loc.0 < length problem.machine.now.locations }
     ensures { IfSome result (λ act. act.0 < length problem.entry.machine.now.actions) }
 {
+    if !is_joined(problem, state.loc) {
+        return None;
+    }
     let mut least = None;
     let mut nearest = None;
     let mut next = problem.rooms.first_to(state.loc);

@@ -9,6 +9,7 @@ ghost use Rattle.tp_placing.specs.Boards.{BoardValue, past_of};
 ghost use Rattle.tp_placing.specs.Standing.{Stands};
 ghost use Rattle.tp_placing.specs.Writing.{IsLoadedFrom};
 ghost use Rattle.tp_placing.specs.contracts.board.Board.{the_row};
+ghost use Rattle.tp_routes.specs.Tables.{KeepsRooms};
 ghost use Rattle.tp_search.specs.Boards.{HasMarks, IsBack};
 ghost use Rattle.tp_search.specs.Trials.{EndsEarliest, IsEarliestTo, IsNoPlan, IsSameTrial, IsTrial, board_in, borrow_in, end_in};
 ghost use Rattle.tp_search.specs.Workspaces.{IsFor, StaysFor};
@@ -70,6 +71,40 @@ pub fn plan<'b, N: Network>(
         → IfErr result (IsNoPlan machine.now plans ask.entry.now work.old.nodes) }
     ensures work { StaysFor machine.now work.old work.new }
 {
+    work.forget();
+    find_plan(board, work, machine, ask)
+}
+
+/// As `plan`, on a workspace that was used last on this machine, if it was.
+pub(crate) fn find_plan<'b, N: Network>(
+    board: &'b mut Board<N>,
+    work: &mut Workspace,
+    machine: &Machine,
+    ask: &Ask,
+) -> Result<Trial<'b, N>, NoPlan>
+    requires work { IsFor work.old machine.now }
+    requires rooms { KeepsRooms work.old.rooms machine.now }
+    requires loaded { (plans : List Plan)
+        × IsLoadedFrom machine.now plans ask.now board.old.plans }
+    requires stands { Stands N.reading board.old machine.now }
+    requires asked { board.old.ask ≡ Some ask.now }
+    requires closed { board.old.steps ≡ [] }
+    requires unmarked { past_of N.reading board.old ≡ [] }
+    requires marks { 8 ≤ N.reading.max_marks board.old.net }
+    ensures* rests { sem 𝓛
+        (RestsIfErr (the_row N.row N.Network.own N.Undo) board.entry borrow_in result
+        (λ new. IsBack N.reading board.old new machine.now)) }
+    ensures same_reference { IfOk result (λ trial. borrow_in trial ≡ board.entry.ghost_name) }
+    ensures trial { IfOk result (IsTrial N.reading board.old machine.now) }
+    ensures end { (plans : List Plan) → IsLoadedFrom machine.now plans ask.entry.now
+        board.old.plans
+        → IfOk result (λ trial. EndsEarliest machine.now plans ask.entry.now (end_in trial)) }
+    ensures none { (plans : List Plan)
+        → IsLoadedFrom machine.now plans ask.entry.now board.old.plans
+        → IfErr result (IsNoPlan machine.now plans ask.entry.now work.old.nodes) }
+    ensures work { StaysFor machine.now work.old work.new }
+    ensures rooms { KeepsRooms work.new.rooms machine.now }
+{
     match work.search(board, machine, ask) {
         Outcome::Found { base } => {
             let end = board.end_bound();
@@ -111,6 +146,8 @@ impl<N: Network> Trial<'_, N> {
         ensures same_reference { borrow_in self.new ≡ borrow_in self.old }
         ensures same { IsSameTrial self.old self.new }
         ensures work { StaysFor machine.now work.old work.new }
+        ensures rooms { KeepsRooms work.old.rooms machine.now
+            → KeepsRooms work.new.rooms machine.now }
     {
         marks_keep_boards::<N>();
         let Some(ask) = self.board.asked() else {

@@ -1,9 +1,10 @@
 //! The memory of a search, and the search for an ask on a loaded board.
-ghost use Rattle.std.specs.Prelude.{ℕ, ◌≡◌, ◌≤◌, [], pos, List, Some, IfErr, IfOk};
+ghost use Rattle.std.specs.Prelude.{ℕ, ◌≡◌, ◌≤◌, [], pos, List, None, Some, IfErr, IfOk};
 ghost use Rattle.tp_schedule.specs.declared.parts.Plan.{Plan};
 ghost use Rattle.tp_placing.specs.Boards.{past_of};
 ghost use Rattle.tp_placing.specs.Standing.{Stands};
 ghost use Rattle.tp_placing.specs.Writing.{IsLoadedFrom};
+ghost use Rattle.tp_routes.specs.Tables.{KeepsRooms};
 ghost use Rattle.tp_search.specs.Boards.{HasMarks, IsBack, IsReady};
 ghost use Rattle.tp_search.specs.Outcomes.{IsOutcome};
 ghost use Rattle.tp_search.specs.Workspaces.{IsFor, StaysFor};
@@ -27,8 +28,7 @@ use tp_schedule::Ask;
 use tp_showing::{NotShown, show_limit};
 
 /// All that a search takes memory for. It is for machines with the same numbers of locations and resources and the same
-/// window as the one that it was made for, and once it was used, for that machine alone. It stores as many lists as it has nodes:
-/// the budget of an ask.
+/// window as the one that it was made for. It stores as many lists as it has nodes: the budget of an ask.
 pub struct Workspace {
     rooms: Rooms,
     store: Store,
@@ -71,7 +71,15 @@ impl Workspace {
         })
     }
 
-    /// Searches for an earliest plan of the ask for which the board is loaded, with no goal open and no mark in force.
+    /// Forgets on which machine it was used last.
+    pub(crate) fn forget(&mut self)
+        ensures { self.new ≡ record self.old { rooms = record self.old.rooms { filled = None } } }
+    {
+        self.rooms.forget();
+    }
+
+    /// Searches for an earliest plan of the ask for which the board is loaded, with no goal open and no mark in force. The
+    /// workspace was used last on this machine, if it was.
     pub(crate) fn search<N: Network>(
         &mut self,
         board: &mut Board<N>,
@@ -79,6 +87,7 @@ impl Workspace {
         ask: &Ask,
     ) -> Outcome
         requires made { IsFor self.old machine.now }
+        requires rooms { KeepsRooms self.old.rooms machine.now }
         requires loaded { (plans : List Plan)
             × IsLoadedFrom machine.now plans ask.now board.old.plans }
         requires stands { Stands N.reading board.old machine.now }
@@ -89,8 +98,9 @@ impl Workspace {
         ensures outcome { IsOutcome N.reading board.old board.new
             machine.now ask.entry.now self.old.nodes result }
         ensures stays { StaysFor machine.now self.old self.new }
+        ensures rooms { KeepsRooms self.new.rooms machine.now }
     {
-        self.rooms.fill(machine, ask);
+        self.rooms.renew(machine, ask);
         self.store.clear(ask.now);
         let problem = Problem {
             rooms: &self.rooms,
@@ -123,6 +133,7 @@ impl Workspace {
         ensures early { IfErr result (IsEarlyEnd machine.now board.old.plans ask.entry.now limit) }
         ensures back { IsBack N.reading board.old board.new machine.now }
         ensures stays { StaysFor machine.now self.old self.new }
+        ensures rooms { KeepsRooms self.new.rooms machine.now }
     {
         self.rooms.fill(machine, ask);
         show_limit(alloc, &self.rooms, board, machine, ask, limit)

@@ -86,3 +86,12 @@ pub returns-in-Err-clause-rests : goal.returns-in-Err-clause-rests
 returns-in-Err-clause-rests g c =
     let rests = at-rest g.N.Network.reading c.args.board.now c.abandon.new.self.0 c.args.machine.now c.requires.rests (c.abandon.ensures.back c.args.board.now c.args.machine.now (c.show.ensures.trial c.args.board.now c.in-Ok.ensures.trial)) in
     search rules
+
+pub returns-in-Err-clause-loaded : goal.returns-in-Err-clause-loaded
+returns-in-Err-clause-loaded g c =
+    let same = (c.abandon.ensures.back c.args.board.now c.args.machine.now (c.show.ensures.trial c.args.board.now c.in-Ok.ensures.trial)).loaded in
+    record {
+      made_for = (let made = same.made_for in search rules);
+      plans = (let held = same.plans in search rules);
+      ask = (let asked = same.ask in search rules);
+    }

@@ -1,7 +1,6 @@
 use Rattle.std.proofs.Common.{◌≡◌, ◌+◌, ◌*◌, ◌/◌, ap, ◌≤◌, ◌∷◌, ◌++◌, [], length, vec_capacity, sym, subst, ◌∙◌, arith}
 use Rattle.tp_machine.specs.declared.parts.State.{State}
 use Rattle.tp_schedule.specs.Choices.{IsBound, IsOpen, going}
-use Rattle.tp_routes.specs.Numbers.{state_at}
 use Rattle.tp_search.specs.Searching.{list_of_goal}
 use Rattle.tp_search.proofs.BoardSteps.{back-trans, ready-back}
 use Rattle.tp_search.proofs.GoalFacts.{AreGoalsBelow, goals-all, goals-push, goals-skip}

@@ -1,5 +1,5 @@
 -- The choices are laid over the goal.
-use Rattle.std.proofs.Common.{◌≡◌, [], Some, sym, subst, ◌∙◌}
+use Rattle.std.proofs.Common.{[], Some, sym, subst, ◌∙◌}
 use Rattle.tp_pool.specs.Entries.{choices_of}
 use Rattle.tp_schedule.specs.Choices.{IsOpen, going}
 use Rattle.tp_search.specs.Searching.{list_at}

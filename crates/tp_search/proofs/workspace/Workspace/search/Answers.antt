@@ -8,14 +8,14 @@ use Rattle.tp_search.proofs.AskedFacts.{asked-known, begins-with}
 use Rattle.tp_search.proofs.HoldFacts.{over-plans}
 use Rattle.tp_search.proofs.workspace.Workspace.search.Goals as goal
 
-pub fill-requires-clause-origin : goal.fill-requires-clause-origin
-fill-requires-clause-origin g c = asked-known c.args.machine.now c.requires.loaded.0 c.args.ask.now c.requires.loaded.1.can_ask.asked
+pub renew-requires-clause-origin : goal.renew-requires-clause-origin
+renew-requires-clause-origin g c = asked-known c.args.machine.now c.requires.loaded.0 c.args.ask.now c.requires.loaded.1.can_ask.asked
 
 pub find_goals-begun-requires-clause-posed : goal.find_goals-begun-requires-clause-posed
 find_goals-begun-requires-clause-posed g c = record {
-  table = c.fill.ensures.made;
-  rooms = c.fill.ensures.rooms;
-  leads = c.fill.ensures.leads;
+  table = c.renew.ensures.made;
+  rooms = c.renew.ensures.rooms;
+  leads = c.renew.ensures.leads;
   origin = asked-known c.args.machine.now c.requires.loaded.0 c.args.ask.now c.requires.loaded.1.can_ask.asked;
 }
 
@@ -24,9 +24,9 @@ find_goals-begun-requires-clause-ready g c = record { stands = c.requires.stands
 
 pub search-requires-clause-posed : goal.search-requires-clause-posed
 search-requires-clause-posed g c = record {
-  table = c.fill.ensures.made;
-  rooms = c.fill.ensures.rooms;
-  leads = c.fill.ensures.leads;
+  table = c.renew.ensures.made;
+  rooms = c.renew.ensures.rooms;
+  leads = c.renew.ensures.leads;
   origin = asked-known c.args.machine.now c.requires.loaded.0 c.args.ask.now c.requires.loaded.1.can_ask.asked;
 }
 

@@ -4,7 +4,7 @@ use Rattle.tp_placing.specs.Boards.{suffix_after}
 use Rattle.tp_search.specs.Trials.{EndsEarliest}
 use Rattle.tp_search.proofs.AnswerFacts.{answer-ends, few-whole, known-goal, never-whole, spent-whole}
 use Rattle.tp_search.proofs.TrialFacts.{answer-trial, ends-earliest}
-use Rattle.tp_search.proofs.trial.plan.Goals as goal
+use Rattle.tp_search.proofs.trial.find_plan.Goals as goal
 
 pub returns-in-Found : goal.returns-in-Found
 returns-in-Found g c =
@@ -23,6 +23,7 @@ returns-in-Found g c =
             (ends-earliest c.args.machine.now plans c.args.ask.now loaded.can_ask c.args.board.now.plans loaded.live_part a.list a.bound (is_machine c.args.machine.now) known a.complete a.is_bound a.none_before);
         none = λ plans loaded. tt;
         work = c.search.ensures.stays;
+        rooms = c.search.ensures.rooms;
       },
     )
 
@@ -39,6 +40,7 @@ returns-in-Never g c = (
       few-whole c.args.machine.now plans c.args.ask.now loaded.can_ask c.args.board.now.plans loaded.live_part c.args.work.now.nodes c.in-Never.ensures.outcome.2,
     );
     work = c.search.ensures.stays;
+    rooms = c.search.ensures.rooms;
   },
 )
 
@@ -52,5 +54,6 @@ returns-in-Spent g c = (
     end = λ plans loaded. tt;
     none = λ plans loaded. spent-whole c.args.machine.now plans c.args.ask.now loaded.can_ask c.args.board.now.plans loaded.live_part c.args.work.now.nodes c.in-Spent.bound c.in-Spent.ensures.outcome.0;
     work = c.search.ensures.stays;
+    rooms = c.search.ensures.rooms;
   },
 )
