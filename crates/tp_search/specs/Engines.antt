@@ -36,7 +36,8 @@ pub record IsEngine {N : Type 0} (reading : Reading N) (work : WorkspaceValue) (
   pub made : board.made_for ≡ numbers_of work
   pub marks : most_steps ≤ reading.max_marks board.net
 
--- it was made for a machine with these numbers; where the board is kept, it is at rest on this machine, and so are the rooms of it
+-- it was made for a machine with these numbers; where the board is kept, it is at rest on this machine, and the rooms are of this
+-- machine too
 pub record Serves {N : Type 0} (reading : Reading N) (e : EngineValue N) (machine : Machine) : Type 0 where
   pub made : IsFor e.work machine
   pub rests : e.kept ≡ true → IsAtRest reading e.board machine
