@@ -36,20 +36,18 @@ pub record IsEngine {N : Type 0} (reading : Reading N) (work : WorkspaceValue) (
   pub made : board.made_for ≡ numbers_of work
   pub marks : most_steps ≤ reading.max_marks board.net
 
--- it was made for a machine with these numbers; where the board is kept, it is at rest on this machine, and the rooms are of this
--- machine too
+-- it was made for a machine with these numbers; where the board is kept, it is at rest on this machine
 pub record Serves {N : Type 0} (reading : Reading N) (e : EngineValue N) (machine : Machine) : Type 0 where
   pub made : IsFor e.work machine
   pub rests : e.kept ≡ true → IsAtRest reading e.board machine
-  pub rooms : e.kept ≡ true → KeepsRooms e.work.rooms machine
 
 -- its board holds all plans but that of the new copy that was asked last
 abbrev pub HoldsPlans : {N : Type 0} → Machine → EngineValue N → List Plan → Type 0
 HoldsPlans machine e plans = IsSomeAnd e.board.ask (λ ask. HoldsOthers machine ask plans e.board.plans)
 
--- so it is with the plans that its last answer left, if that moved no other plan
+-- so it is with the plans that its last answer left, if that moved no other plan, and its rooms are of this machine
 abbrev pub Follows : {N : Type 0} → Machine → EngineValue N → List Plan → Type 0
-Follows machine e plans = e.moved ≡ false → HoldsPlans machine e plans
+Follows machine e plans = e.moved ≡ false → HoldsPlans machine e plans × KeepsRooms e.work.rooms machine
 
 -- where the deed is the answer that there is no plan, no more different lists with choices are open than nodes
 abbrev pub HasFewLists : ℕ → Machine → List Plan → Deed → Type 0

@@ -7,6 +7,7 @@ ghost use Rattle.tp_schedule.specs.declared.parts.Origin.TheVariants.{Feeder};
 ghost use Rattle.tp_placing.specs.Calls.{IsSameLoad};
 ghost use Rattle.tp_placing.specs.Inside.{most_edges, most_points, most_steps};
 ghost use Rattle.tp_placing.specs.Writing.{IsLoadedFrom};
+ghost use Rattle.tp_routes.specs.Tables.{KeepsRooms};
 ghost use Rattle.tp_search.specs.Boards.{IsAtRest};
 ghost use Rattle.tp_search.specs.Engines.{AddsTree, EngineLasts, Follows, HasFewLists, HoldsPlans, IsSameEngine, KeepsTrees, Serves, StepsOn, list_of};
 ghost use Rattle.tp_search.specs.Trials.{EndsEarliest, IsNoPlan};
@@ -25,8 +26,8 @@ use tp_schedule::{Ask, Halt, Origin, Planner, Reply, Schedule};
 
 /// A planner for machines with the same numbers of locations and resources and the same window as the one that it was made
 /// for. It stores as many lists of choices as it has nodes: the budget of an ask. With bounds it keeps a tree for each answer
-/// that is a plan or a none, in their order. Its board and its rooms are kept from ask to ask, on one machine, where the board
-/// was left at rest. The board follows the schedule then.
+/// that is a plan or a none, in their order. Its board is kept from ask to ask, on one machine, where it was left at rest, and
+/// follows the schedule then. Its rooms are kept where the schedule is known to be as the last answer left it.
 pub struct Engine<N: Network> {
     alloc: Global,
     work: Workspace,
@@ -125,9 +126,10 @@ impl<N: Network> Engine<N> {
     }
 
     /// Loads the board for an ask: it follows the schedule where it is kept, without a look at the plans that it is known to
-    /// hold. It is kept from then on.
+    /// hold. It is kept from then on. The rooms are forgotten where it is not known of which machine they are.
     fn ready(&mut self, machine: &Machine, schedule: &Schedule, ask: &Ask, known: bool)
         requires known { known ≡ true → HoldsPlans machine.now self.old schedule.now.plans }
+        requires rooms { known ≡ true → KeepsRooms self.old.work.rooms machine.now }
         requires served { Serves N.reading self.old machine.now }
         requires can_ask { CanAsk machine.now schedule.now.plans ask.now }
         ensures loaded { IsLoadedFrom machine.now schedule.now.plans ask.entry.now
@@ -135,16 +137,18 @@ impl<N: Network> Engine<N> {
         ensures asked { self.new.board.ask ≡ Some ask.entry.now }
         ensures rests { IsAtRest N.reading self.new.board machine.now }
         ensures served { Serves N.reading self.new machine.now }
-        ensures kept { self.new.kept ≡ true }
+        ensures keeps { KeepsRooms self.new.work.rooms machine.now }
         ensures same { IsSameEngine N.reading self.old self.new }
         ensures trees { self.new.trees ≡ self.old.trees }
     {
+        if !known {
+            self.work.forget();
+        }
         let kept = self.kept;
         self.kept = true;
         if kept {
             self.board.renew(machine, schedule, ask, known);
         } else {
-            self.work.forget();
             self.board.load(machine, schedule, ask);
         }
     }
@@ -178,7 +182,7 @@ impl<N: Network> Engine<N> {
         ask: &Ask,
     ) -> Result<Answered, Halt>
         requires served { Serves N.reading self.old machine.now }
-        requires kept { self.old.kept ≡ true }
+        requires rooms { KeepsRooms self.old.work.rooms machine.now }
         requires loaded { IsLoadedFrom machine.now schedule.old.plans ask.now
             self.old.board.plans }
         requires asked { self.old.board.ask ≡ Some ask.now }
@@ -197,6 +201,7 @@ impl<N: Network> Engine<N> {
             → without ask.entry.now.sheet schedule.new.plans
             ≡ without ask.entry.now.sheet schedule.old.plans) }
         ensures loaded { IsSameLoad self.old.board self.new.board }
+        ensures keeps { KeepsRooms self.new.work.rooms machine.now }
         ensures still_serves { Serves N.reading self.new machine.now }
         ensures same { IsSameEngine N.reading self.old self.new }
         ensures memory { IfErr result (λ halt. halt ≡ Halt.Memory) }
@@ -230,7 +235,7 @@ impl<N: Network> Engine<N> {
         ask: &Ask,
     ) -> Result<Answered, Halt>
         requires served { Serves N.reading self.old machine.now }
-        requires kept { self.old.kept ≡ true }
+        requires rooms { KeepsRooms self.old.work.rooms machine.now }
         requires loaded { IsLoadedFrom machine.now schedule.old.plans ask.now
             self.old.board.plans }
         requires asked { self.old.board.ask ≡ Some ask.now }
@@ -250,6 +255,7 @@ impl<N: Network> Engine<N> {
             → without ask.entry.now.sheet schedule.new.plans
             ≡ without ask.entry.now.sheet schedule.old.plans) }
         ensures loaded { IsSameLoad self.old.board self.new.board }
+        ensures keeps { KeepsRooms self.new.work.rooms machine.now }
         ensures still_serves { Serves N.reading self.new machine.now }
         ensures same { IsSameEngine N.reading self.old self.new }
         ensures memory { IfErr result (λ halt. halt ≡ Halt.Memory) }

@@ -3,6 +3,7 @@ use Rattle.std.proofs.Common.{◌∙◌, ap, subst, sym}
 use Rattle.tp_placing.proofs.StandFacts.{and-some}
 use Rattle.tp_placing.specs.Calls.{IsSameLoad}
 use Rattle.tp_placing.specs.Following.{HoldsOthers}
+use Rattle.tp_routes.specs.Tables.{KeepsRooms}
 use Rattle.tp_search.proofs.EngineFacts.{holds-others}
 use Rattle.tp_search.proofs.engine.Engine.answer.Goals as goal
 
@@ -13,5 +14,7 @@ returns-clause-follows g c still =
     let new = c.answer_ready.new.schedule.plans in
     let board = c.self-2.inside.board in
     let same : IsSameLoad c.ready.new.self.board board = subst (IsSameLoad c.ready.new.self.board) (sym (ap (λ e. e.board) c.self-2.view_is)) c.answer_ready.ensures.loaded in
-    let holds = holds-others machine c.make_spare.new.schedule.plans new ask c.ready.new.self.board.plans c.ready.ensures.loaded (c.in_ok-answered.ensures.unmoved still) in
-    and-some board.ask ask (λ a. HoldsOthers machine a new board.plans) (same.ask ∙ c.ready.ensures.asked) (subst (HoldsOthers machine ask new) (sym same.plans) holds)
+    let holds = holds-others machine c.make_spare.new.schedule.plans new ask c.ready.new.self.board.plans c.ready.ensures.loaded (c.in_ok-answered.ensures.unmoved still) in (
+      and-some board.ask ask (λ a. HoldsOthers machine a new board.plans) (same.ask ∙ c.ready.ensures.asked) (subst (HoldsOthers machine ask new) (sym same.plans) holds),
+      subst (λ e. KeepsRooms e.work.rooms machine) (sym c.self-2.view_is) c.answer_ready.ensures.keeps,
+    )

@@ -52,7 +52,7 @@ pub invariant_of-self-in-Ok-1 : goal.invariant_of-self-in-Ok-1
 invariant_of-self-in-Ok-1 g c =
     let cleared = c.clear_trees.ensures in
     record {
-      serves = subst (λ e. Serves g.N.Network.reading e c.self.inside.machine) (sym cleared) (record { made = c.take_turn-result.ensures.serves.made; rests = c.take_turn-result.ensures.serves.rests; rooms = c.take_turn-result.ensures.serves.rooms });
+      serves = subst (λ e. Serves g.N.Network.reading e c.self.inside.machine) (sym cleared) (record { made = c.take_turn-result.ensures.serves.made; rests = c.take_turn-result.ensures.serves.rests });
       nodes = ap (λ e. e.work.nodes) cleared ∙ c.take_turn-result.ensures.nodes ∙ c.self.invariant.nodes;
       bounds = ap (λ e. e.bounds) cleared ∙ c.take_turn-result.ensures.bounds ∙ c.self.invariant.bounds;
       no_trees = ap (λ e. e.trees) cleared;
