@@ -71,3 +71,6 @@ pub mod NextHold
 pub mod CandidateFacts
 pub mod CandidateTried
 mod BehindCopies
+pub mod CrowdFacts
+pub mod CrowdSlots
+pub mod CrowdHere

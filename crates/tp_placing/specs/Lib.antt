@@ -15,4 +15,5 @@ pub mod Reasons
 pub mod Walking
 pub mod Growing
 pub mod Candidates
+pub mod Crowding
 pub mod Following

@@ -1,10 +1,11 @@
 -- Where a hold that is tried at a place has no times, what shows it, and what stands until it is taken back.
-use Rattle.std.specs.Prelude.{◌≡◌, ℕ, suc, ◌≤◌, List, length, take, slice_get, Some, None, All, IsSomeAnd}
+use Rattle.std.specs.Prelude.{◌≡◌, ℕ, suc, ◌<◌, ◌≤◌, List, length, take, slice_get, Some, None, All, IsSomeAnd}
 use Rattle.tp_base.specs.Readings.{Reading}
 use Rattle.tp_base.specs.Net.{Net, with_edges}
 use Rattle.tp_base.specs.declared.edges.Edge.{Edge}
 use Rattle.tp_machine.specs.declared.machine.Machine.{Machine}
 use Rattle.tp_schedule.specs.Spots.{Ticks}
+use Rattle.tp_schedule.specs.Spots.Spot.{own}
 use Rattle.tp_schedule.specs.declared.parts.Ask.{Ask}
 use Rattle.tp_constraints.specs.Nets.{IsBoardNet}
 use Rattle.tp_constraints.specs.Suffixes.{Suffix, SuffixTimes, with_place}
@@ -27,6 +28,10 @@ StandsBack {N} reading untouched b machine =
 -- the next hold has no times at a place, nor at any before
 abbrev pub HasNoTimesUpTo : {N : Type 0} → Machine → BoardValue N → ℕ → Suffix → Type 0
 HasNoTimesUpTo machine b place x = IsSomeAnd b.ask (λ ask. (earlier : ℕ) → earlier ≤ place → (t : Ticks) → ¬ SuffixTimes machine b.plans ask (with_place earlier x) t)
+
+-- with the next hold at a place, or at any before, the asked copy ends after the limit
+abbrev pub EndsAfterUpTo : {N : Type 0} → Machine → BoardValue N → ℕ → ℕ → Suffix → Type 0
+EndsAfterUpTo machine b place limit x = IsSomeAnd b.ask (λ ask. (earlier : ℕ) → earlier ≤ place → (t : Ticks) → SuffixTimes machine b.plans ask (with_place earlier x) t → limit < t (own 0))
 
 -- what is kept of the last refusal is of a part of a network of the plans and the suffix, and each edge of the part is a hop
 -- with its cause. So one refusal serves for several places

@@ -30,7 +30,7 @@ pub(crate) fn lasting(action: &Action, start: PointId, end: PointId) -> [Edge; 2
     ]
 }
 
-fn anchored(anchor: Anchor, start: PointId, end: PointId) -> PointId
+pub(crate) fn anchored(anchor: Anchor, start: PointId, end: PointId) -> PointId
     ensures { result ≡ anchor_point anchor start end }
 {
     match anchor {

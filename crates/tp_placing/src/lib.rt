@@ -7,6 +7,7 @@ mod board;
 mod candidates;
 mod causes;
 mod committing;
+mod crowding;
 mod edges;
 mod finding;
 mod following;
